@@ -1,0 +1,10 @@
+//! The outside of the gateway: ports, sources and sinks, and implementations of them in memory.
+#![tactic(auto)]
+
+mod log;
+mod ports;
+mod streams;
+
+pub use log::{Entries, LogEntry};
+pub use ports::{Accepted, End, Got, Linked, Next, Ports, Put};
+pub use streams::{Drawn, Sink, Source, Sunk, write_all};

@@ -1,0 +1,61 @@
+//! Byte strings that own their bytes.
+
+ghost use Rattle.std.specs.Prelude.{◌≡◌, ℕ, ◌+◌, ◌≤◌, List, [], ◌++◌, length, drop, IfOk, OnOk, OnErr};
+
+use crate::memory::Memory;
+use std::alloc::Global;
+use std::marker::Model;
+
+/// A byte string. Contracts see it as the list of its bytes.
+#[derive(Debug, Drop)]
+pub struct ByteText {
+    bytes: Vec<u8>,
+}
+
+impl Model for ByteText {
+    ghost Value = { List ℕ };
+
+    ghost view = { λ a. a.bytes.items };
+}
+
+impl ByteText {
+    /// The empty byte string. It takes the allocator that later growth uses, and no memory.
+    pub fn empty(alloc: Global) -> ByteText
+        ensures { result ≡ [] }
+    {
+        ByteText {
+            bytes: Vec::new(alloc),
+        }
+    }
+
+    /// A byte string with these bytes.
+    pub fn copy_of(alloc: Global, bytes: &[u8]) -> Result<ByteText, Memory>
+        ensures { IfOk result (λ text. text ≡ bytes.now) }
+    {
+        let bytes = Vec::from_slice(alloc, bytes)?;
+        Ok(ByteText { bytes })
+    }
+
+    /// The bytes, in order.
+    pub fn as_slice(&self) -> &[u8]
+        ensures { result.now ≡ self.now }
+    {
+        self.bytes.as_slice()
+    }
+
+    /// Adds bytes at the end, or leaves the string as it was.
+    pub fn append(&mut self, bytes: &[u8]) -> Result<(), Memory>
+        ensures ok { OnOk result (self.new ≡ self.old ++ bytes.now) }
+        ensures err { OnErr result (self.new ≡ self.old) }
+    {
+        self.bytes.extend_from_slice(bytes)?;
+        Ok(())
+    }
+
+    /// A byte string of its own with the same bytes.
+    pub fn copy(&self, alloc: Global) -> Result<ByteText, Memory>
+        ensures { IfOk result (λ text. text ≡ self.now) }
+    {
+        ByteText::copy_of(alloc, self.as_slice())
+    }
+}

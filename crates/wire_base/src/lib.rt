@@ -1,0 +1,14 @@
+//! Bytes and numbers: what every codec and every port of the gateway stands on.
+#![tactic(auto)]
+
+mod byte_text;
+mod item_list;
+mod memory;
+mod numbers;
+mod scan;
+
+pub use byte_text::ByteText;
+pub use item_list::ItemList;
+pub use memory::Memory;
+pub use numbers::{put_u8, put_u16, put_u32, put_u64, take_u8, take_u16, take_u32, take_u64};
+pub use scan::{At, Scan};
