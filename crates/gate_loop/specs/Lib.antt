@@ -1,1 +1,11 @@
+pub mod Due
+pub mod Events
 pub mod Form
+pub mod Frames
+pub mod Journal
+pub mod Marks
+pub mod Next
+pub mod Replies
+pub mod Report
+pub mod Stands
+pub mod Steps

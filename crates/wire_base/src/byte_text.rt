@@ -36,6 +36,14 @@ impl ByteText {
         Ok(ByteText { bytes })
     }
 
+    /// The empty byte string, with room for so many bytes.
+    pub fn with_room(alloc: Global, room: usize) -> Result<ByteText, Memory>
+        ensures { IfOk result (λ text. text ≡ []) }
+    {
+        let bytes = Vec::with_capacity(alloc, room)?;
+        Ok(ByteText { bytes })
+    }
+
     /// The bytes, in order.
     pub fn as_slice(&self) -> &[u8]
         ensures { result.now ≡ self.now }
@@ -50,6 +58,16 @@ impl ByteText {
     {
         self.bytes.extend_from_slice(bytes)?;
         Ok(())
+    }
+
+    /// Drops the first `n` bytes; the room that they took stays.
+    pub fn discard(&mut self, n: usize)
+        requires { n ≤ length self.old }
+        ensures { self.new ≡ drop n self.old }
+    {
+        let left = self.bytes.len() - n;
+        self.bytes.rotate_left(n);
+        self.bytes.truncate(left);
     }
 
     /// A byte string of its own with the same bytes.

@@ -1,0 +1,43 @@
+-- The bytes that the gateway writes, in the standard's terms.
+use Rattle.std.specs.Prelude.{ℕ, List, [], ◌∷◌, ◌++◌, length, codes}
+use Rattle.std.specs.Int.{w32, to_be_bytes}
+
+-- the protocol header of AMQP 0-9-1 (AMQP 0-9-1 4.2.2)
+abbrev pub header_bytes : List ℕ
+header_bytes = 65 ∷ 77 ∷ 81 ∷ 80 ∷ 0 ∷ 0 ∷ 9 ∷ 1 ∷ []
+
+-- a short and a long string (AMQP 0-9-1 4.2.5.3)
+abbrev pub short_string : List ℕ → List ℕ
+short_string text = length text ∷ text
+
+abbrev pub long_string : List ℕ → List ℕ
+long_string text = to_be_bytes w32 (length text) ++ text
+
+-- a field of a table: its name, and a value of type long string, table or boolean (AMQP 0-9-1 4.2.5.5)
+abbrev pub text_field : List ℕ → List ℕ → List ℕ
+text_field name text = short_string name ++ codes "S" ++ long_string text
+
+abbrev pub table_field : List ℕ → List ℕ → List ℕ
+table_field name fields = short_string name ++ codes "F" ++ long_string fields
+
+abbrev pub true_field : List ℕ → List ℕ
+true_field name = short_string name ++ codes "t" ++ 1 ∷ []
+
+-- a method frame on channel 0 (AMQP 0-9-1 4.2.3 and 4.2.4)
+abbrev pub method_frame : List ℕ → List ℕ
+method_frame payload = 1 ∷ 0 ∷ 0 ∷ [] ++ long_string payload ++ 206 ∷ []
+
+abbrev pub capabilities : List ℕ
+capabilities =
+    true_field (codes "publisher_confirms") ++ true_field (codes "basic.nack") ++ true_field (codes "per_consumer_qos")
+
+abbrev pub properties : List ℕ
+properties =
+    text_field (codes "product") (codes "amqp-gate") ++ text_field (codes "version") (codes "1")
+      ++ table_field (codes "capabilities") capabilities
+
+-- connection.start: class 10, method 10, version 0-9, properties, mechanisms, locales (AMQP 0-9-1 1.4.2.1)
+unfoldable pub start_frame : List ℕ
+start_frame =
+    method_frame (0 ∷ 10 ∷ 0 ∷ 10 ∷ 0 ∷ 9 ∷ []
+      ++ long_string properties ++ long_string (codes "PLAIN ANONYMOUS") ++ long_string (codes "en_US"))

@@ -1,0 +1,81 @@
+//! The lines of the report.
+
+ghost use Rattle.std.specs.Prelude.{◌≡◌, ◌+◌, ◌≤◌, ◌++◌, true, false, length, codes, decimal, if◌then◌else◌};
+ghost use Rattle.gate_outside.specs.Counts.{Rose};
+ghost use Rattle.gate_outside.specs.Streams.{Appends, AppendsFront};
+ghost use Rattle.gate_loop.specs.Report.{pair_line, memory_line, closed_line, count_line, last_line, lines_of};
+
+use crate::config::{Outside, Served};
+use gate_outside::{Sink, write_all};
+use itoa::Buffer;
+
+/// Writes a number in decimal.
+fn tell_decimal<K: Sink>(report: &mut K, number: u32) -> bool
+    ensures later { K.faults report.old ≤ K.faults report.new }
+    ensures cause { result ≡ false → Rose (K.faults report.old) (K.faults report.new) }
+    ensures whole { result ≡ true → Appends (K.held report.old) (K.held report.new) (decimal number) }
+    ensures part { AppendsFront (K.held report.old) (K.held report.new) (decimal number) }
+{
+    let mut buffer = Buffer::new();
+    write_all(report, buffer.format(number).as_bytes())
+}
+
+/// Writes a number and a text.
+fn tell_count<K: Sink>(report: &mut K, number: u32, after: &[u8]) -> bool
+    ensures later { K.faults report.old ≤ K.faults report.new }
+    ensures cause { result ≡ false → Rose (K.faults report.old) (K.faults report.new) }
+    ensures whole { result ≡ true → Appends (K.held report.old) (K.held report.new) (decimal number ++ after.now) }
+    ensures part { AppendsFront (K.held report.old) (K.held report.new) (decimal number ++ after.now) }
+{
+    if !tell_decimal(report, number) {
+        return false;
+    }
+    write_all(report, after)
+}
+
+/// Writes a text, a number and a text.
+fn tell_number<K: Sink>(report: &mut K, before: &[u8], number: u32, after: &[u8]) -> bool
+    ensures later { K.faults report.old ≤ K.faults report.new }
+    ensures cause { result ≡ false → Rose (K.faults report.old) (K.faults report.new) }
+    ensures whole { result ≡ true
+        → Appends (K.held report.old) (K.held report.new) (before.now ++ (decimal number ++ after.now)) }
+    ensures part { AppendsFront (K.held report.old) (K.held report.new) (before.now ++ (decimal number ++ after.now)) }
+{
+    if !write_all(report, before) {
+        return false;
+    }
+    tell_count(report, number, after)
+}
+
+/// Writes the lines of a pair that was shut, after want of memory or not.
+pub fn tell_closed<K: Sink>(report: &mut K, number: u32, strained: bool) -> bool
+    ensures later { K.faults report.old ≤ K.faults report.new }
+    ensures cause { result ≡ false → Rose (K.faults report.old) (K.faults report.new) }
+    ensures whole { result ≡ true → Appends (K.held report.old) (K.held report.new) (lines_of number strained) }
+    ensures part { AppendsFront (K.held report.old) (K.held report.new) (lines_of number strained) }
+{
+    if !strained {
+        return tell_number(report, b"pair ", number, b" closed\n");
+    }
+    if !tell_number(report, b"pair ", number, b" memory\n") {
+        return false;
+    }
+    tell_number(report, b"pair ", number, b" closed\n")
+}
+
+/// Writes the last line: how the service ended, after so many pairs were accepted.
+pub fn tell_last<K: Sink>(report: &mut K, how: Served, accepted: u32) -> bool
+    ensures later { K.faults report.old ≤ K.faults report.new }
+    ensures cause { result ≡ false → Rose (K.faults report.old) (K.faults report.new) }
+    ensures whole { result ≡ true → Appends (K.held report.old) (K.held report.new) (last_line how accepted) }
+    ensures part { AppendsFront (K.held report.old) (K.held report.new) (last_line how accepted) }
+{
+    match how {
+        Served::Stopped => tell_number(report, b"stopped: ", accepted, b" pairs\n"),
+        Served::PairsDone => tell_number(report, b"done: ", accepted, b" pairs\n"),
+        Served::TurnLimit => tell_number(report, b"turn limit: ", accepted, b" pairs\n"),
+        Served::Fault(Outside::Accept) => write_all(report, b"fault: accept\n"),
+        Served::Fault(Outside::Out) => true,
+        Served::Memory => write_all(report, b"memory\n"),
+    }
+}

@@ -1,0 +1,220 @@
+//! One pair's part of a turn: it is read, written to and shut, each where that is due.
+
+ghost use Rattle.std.specs.Prelude.{◌≡◌, ◌+◌, ◌<◌, ◌≤◌, ◌^◌, true, false, length, Option, Some, Result, Ok, Err};
+ghost use Rattle.std.specs.Option.{option_map};
+ghost use Rattle.gate_outside.specs.Counts.{Rose};
+ghost use Rattle.gate_outside.specs.Ends.{is_open, closed};
+ghost use Rattle.gate_loop.specs.Due.{is_awaited, shut_by};
+ghost use Rattle.gate_loop.specs.Replies.{offered};
+ghost use Rattle.gate_loop.specs.Marks.{Goes};
+ghost use Rattle.gate_loop.specs.Next.{Reading, Writing, Shutting, read_room};
+ghost use Rattle.gate_loop.specs.Steps.{Adds, Steps, Offers, Turns, after_read, put_moved, ends_after};
+ghost use Rattle.gate_outside.specs.declared.log.LogEntry.TheVariants as entry;
+
+use crate::pair::Pair;
+use crate::report::tell_closed;
+use crate::service::{Progress, Visit};
+use crate::units::Loss;
+use gate_outside::{End, Got, Ports, Put, Sink};
+use wire_base::Memory;
+
+/// Reads the client's end once, and takes up the unit that the bytes complete.
+fn hear<P: Ports>(ports: &mut P, pair: &mut Pair, room: &mut [u8]) -> Progress
+    requires awaited { is_awaited pair.old.bridge.unit pair.old.bridge.lost pair.old.bridge.strained ≡ true }
+    requires open { is_open pair.old.number End.Client (P.ends ports.old) ≡ true }
+    requires room { length room.old ≡ read_room }
+    requires some { 0 < length room.old }
+    requires small { length room.old < 2 ^ 32 }
+    ensures number { pair.new.number ≡ pair.old.number }
+    ensures later { P.faults ports.old ≤ P.faults ports.new }
+    ensures pairs { P.pairs ports.new ≡ P.pairs ports.old }
+    ensures ends { P.ends ports.new ≡ P.ends ports.old }
+    ensures log { Goes (P.log ports.old) (P.log ports.new)
+        (Steps pair.old.number Reading (after_read result.strained) pair.old pair.new result.moved result.strained) }
+    ensures shut { result.strained ≡ true
+        → shut_by pair.new.bridge.lost pair.new.bridge.strained pair.new.bridge.unit pair.new.bridge.sent ≡ true }
+{
+    match ports.read(pair.number, End::Client, room) {
+        Got::Bytes(n) => {
+            let (bytes, _) = room.split_at(n);
+            match pair.came_in(bytes) {
+                Ok(()) => Progress {
+                    moved: true,
+                    strained: false,
+                },
+                Err(Memory) => Progress {
+                    moved: true,
+                    strained: true,
+                },
+            }
+        }
+        Got::NotYet => Progress {
+            moved: false,
+            strained: false,
+        },
+        Got::Ended => {
+            pair.lose(Loss::Ended);
+            Progress {
+                moved: true,
+                strained: false,
+            }
+        }
+        Got::Failed => {
+            pair.lose(Loss::Failed);
+            Progress {
+                moved: true,
+                strained: false,
+            }
+        }
+    }
+}
+
+/// Offers bytes to the client once.
+fn offer<P: Ports>(ports: &mut P, pair: &mut Pair, bytes: &[u8]) -> Put
+    requires offered { offered pair.old.bridge.lost pair.old.bridge.strained pair.old.bridge.sent pair.old.at pair.old.bridge.unit
+        ≡ Some bytes.now }
+    requires open { is_open pair.old.number End.Client (P.ends ports.old) ≡ true }
+    requires some { 0 < length bytes.now }
+    requires small { length bytes.now < 2 ^ 32 }
+    ensures number { pair.new.number ≡ pair.old.number }
+    ensures later { P.faults ports.old ≤ P.faults ports.new }
+    ensures pairs { P.pairs ports.new ≡ P.pairs ports.old }
+    ensures ends { P.ends ports.new ≡ P.ends ports.old }
+    ensures log { Goes (P.log ports.old) (P.log ports.new) (Offers pair.old.number result pair.old pair.new) }
+{
+    match ports.write(pair.number, End::Client, bytes) {
+        Put::Took(n) => {
+            pair.took(n);
+            Put::Took(n)
+        }
+        Put::NotYet => Put::NotYet,
+        Put::Failed => {
+            pair.lose(Loss::Failed);
+            Put::Failed
+        }
+    }
+}
+
+/// Reads the client's end once, unless it is held.
+fn listen<P: Ports>(ports: &mut P, pair: &mut Pair, room: &mut [u8]) -> Progress
+    requires open { is_open pair.old.number End.Client (P.ends ports.old) ≡ true }
+    requires room { length room.old ≡ read_room }
+    requires some { 0 < length room.old }
+    requires small { length room.old < 2 ^ 32 }
+    ensures number { pair.new.number ≡ pair.old.number }
+    ensures later { P.faults ports.old ≤ P.faults ports.new }
+    ensures pairs { P.pairs ports.new ≡ P.pairs ports.old }
+    ensures ends { P.ends ports.new ≡ P.ends ports.old }
+    ensures log { Goes (P.log ports.old) (P.log ports.new)
+        (Steps pair.old.number Reading (after_read result.strained) pair.old pair.new result.moved result.strained) }
+    ensures shut { result.strained ≡ true
+        → shut_by pair.new.bridge.lost pair.new.bridge.strained pair.new.bridge.unit pair.new.bridge.sent ≡ true }
+{
+    if pair.is_read() {
+        hear(ports, pair, room)
+    } else {
+        Progress {
+            moved: false,
+            strained: false,
+        }
+    }
+}
+
+/// Writes to the client until nothing is ready, a write takes nothing, or 4,096 writes were made; whether a byte was taken or
+/// the end was met.
+fn write_out<P: Ports>(ports: &mut P, pair: &mut Pair) -> bool
+    requires open { is_open pair.old.number End.Client (P.ends ports.old) ≡ true }
+    ensures number { pair.new.number ≡ pair.old.number }
+    ensures later { P.faults ports.old ≤ P.faults ports.new }
+    ensures pairs { P.pairs ports.new ≡ P.pairs ports.old }
+    ensures ends { P.ends ports.new ≡ P.ends ports.old }
+    ensures log { Goes (P.log ports.old) (P.log ports.new)
+        (Steps pair.old.number (Writing 0) Shutting pair.old pair.new result false) }
+{
+    let mut moved = false;
+    for _ in 0..4096u32 {
+        let Some(bytes) = pair.offered() else {
+            return moved;
+        };
+        match offer(ports, pair, bytes) {
+            Put::Took(_) => moved = true,
+            Put::NotYet => return moved,
+            Put::Failed => return true,
+        }
+    }
+    moved
+}
+
+/// Reads the client's end and writes to it.
+fn exchange<P: Ports>(ports: &mut P, pair: &mut Pair, room: &mut [u8]) -> Progress
+    requires open { is_open pair.old.number End.Client (P.ends ports.old) ≡ true }
+    requires room { length room.old ≡ read_room }
+    requires some { 0 < length room.old }
+    requires small { length room.old < 2 ^ 32 }
+    ensures number { pair.new.number ≡ pair.old.number }
+    ensures later { P.faults ports.old ≤ P.faults ports.new }
+    ensures pairs { P.pairs ports.new ≡ P.pairs ports.old }
+    ensures ends { P.ends ports.new ≡ P.ends ports.old }
+    ensures log { Goes (P.log ports.old) (P.log ports.new)
+        (Steps pair.old.number Reading Shutting pair.old pair.new result.moved result.strained) }
+    ensures shut { result.strained ≡ true
+        → shut_by pair.new.bridge.lost pair.new.bridge.strained pair.new.bridge.unit pair.new.bridge.sent ≡ true }
+{
+    let heard = listen(ports, pair, room);
+    if heard.strained {
+        return heard;
+    }
+    let wrote = write_out(ports, pair);
+    Progress {
+        moved: heard.moved | wrote,
+        strained: false,
+    }
+}
+
+/// Shuts the client's end of a pair.
+fn shut<P: Ports>(ports: &mut P, number: u32)
+    ensures later { P.faults ports.old ≤ P.faults ports.new }
+    ensures pairs { P.pairs ports.new ≡ P.pairs ports.old }
+    ensures ends { P.ends ports.new ≡ closed number End.Client (P.ends ports.old) }
+    ensures log { Goes (P.log ports.old) (P.log ports.new) (Adds (entry.Shut number End.Client)) }
+{
+    ports.shut(number, End::Client);
+}
+
+/// One pair's part of a turn. It is shut where that is due, and the lines of that are told.
+pub fn turn<P: Ports, K: Sink>(ports: &mut P, report: &mut K, pair: &mut Pair, room: &mut [u8]) -> Visit
+    requires open { is_open pair.old.number End.Client (P.ends ports.old) ≡ true }
+    requires room { length room.old ≡ read_room }
+    requires some { 0 < length room.old }
+    requires small { length room.old < 2 ^ 32 }
+    ensures number { pair.new.number ≡ pair.old.number }
+    ensures later { P.faults ports.old ≤ P.faults ports.new }
+    ensures pairs { P.pairs ports.new ≡ P.pairs ports.old }
+    ensures ends { P.ends ports.new ≡ ends_after result.closed pair.old.number (P.ends ports.old) }
+    ensures strained { result.progress.strained ≡ true → result.closed ≡ true }
+    ensures told { result.closed ≡ false → result.told ≡ true }
+    ensures out { K.faults report.old ≤ K.faults report.new }
+    ensures mute { result.told ≡ false → Rose (K.faults report.old) (K.faults report.new) }
+    ensures log { Goes (P.log ports.old) (P.log ports.new)
+        (Turns pair.old.number pair.old pair.new result (K.held report.old) (K.held report.new)) }
+{
+    let number = pair.number;
+    let progress = exchange(ports, pair, room);
+    if !pair.shut_due() {
+        return Visit {
+            progress,
+            closed: false,
+            told: true,
+        };
+    }
+    shut(ports, number);
+    let told = tell_closed(report, number, progress.strained);
+    Visit {
+        progress: Progress {
+            moved: true,
+            strained: progress.strained,
+        },
+        closed: true,
+        told,
+    }
+}
