@@ -1,11 +1,13 @@
 //! The ports over sockets and the system's clock.
 
-ghost use Rattle.std.specs.Prelude.{◌≡◌, ℕ, ◌<◌, ◌↔◌, [], IfOk, IsTrue, None, vec_len};
-ghost use Rattle.gate_edge.specs.Held.{ends_of, clients_of};
+ghost use Rattle.std.specs.Prelude.{◌≡◌, ℕ, ◌≤◌, [], IfOk, None, vec_len, vec_capacity};
+ghost use Rattle.gate_edge.specs.Held.{ends_of};
+ghost use Rattle.gate_edge.specs.declared.held.TheConstants.{ENDS};
+ghost use Rattle.gate_edge.specs.declared.pieces.TheConstants.{PIECE};
 
 use crate::answers::{is_waiting, is_waiting_to_accept};
 use crate::faults::raise;
-use crate::held::{Held, let_go, stream_of, take_in};
+use crate::held::{ENDS, Held, has_room, let_go, stream_of, take_in};
 use crate::pieces::{PIECE, copy_front, read_front};
 use gate_outside::{Accepted, End, Got, Linked, Next, Ports, Put};
 use mio::net::{TcpListener, TcpStream};
@@ -17,16 +19,11 @@ use std::rt::Clock;
 use std::time::Instant;
 use wire_base::Memory;
 
-/// The pairs for which room is kept.
-const PAIRS: usize = 256;
-
-/// The open ends of that many pairs.
-const ENDS: usize = 512;
-
 /// Ports over non-blocking sockets. They tell no log.
 ///
-/// Room for 256 pairs is taken when the ports are made. Where the listening address is not given or cannot be bound each
-/// accept fails, and without an upstream address each connect.
+/// Room for 256 pairs is taken when the ports are made, and accept answers NotYet while that many clients are open, or as
+/// many ends as those pairs have. Where the listening address is not given or cannot be bound each accept fails, and
+/// without an upstream address each connect.
 #[derive(Drop)]
 pub struct RealPorts<'a, R: Net + Clock> {
     runtime: &'a R,
@@ -38,6 +35,9 @@ pub struct RealPorts<'a, R: Net + Clock> {
     faults: u64,
     pairs: u32,
     last: u64,
+    // A read into no room would look like the end of the stream.
+    ghost has_piece: { vec_len piece ≡ PIECE },
+    ghost keeps_room: { ENDS ≤ vec_capacity held },
 }
 
 impl<'a, R: Net + Clock> RealPorts<'a, R> {
@@ -77,14 +77,6 @@ fn address_of(net: &impl Net, text: &str) -> Option<SocketAddr> {
     text.to_socket_addrs(net).ok()?.next()
 }
 
-/// Whether one more pair fits in the room that was taken.
-fn has_room(held: &Vec<Held>) -> bool
-    ensures { IsTrue result ↔ (clients_of held.now.items < PAIRS) × (vec_len held.now < ENDS) }
-{
-    let clients = held.iter().filter(|one| one.end == End::Client).count();
-    clients < PAIRS && held.len() < ENDS
-}
-
 /// The next client's stream. Small frames are not held back.
 fn next_client(listener: &TcpListener) -> io::Result<TcpStream> {
     let (stream, _) = listener.accept()?;
@@ -117,13 +109,13 @@ impl<'a, R: Net + Clock> Ports for RealPorts<'a, R> {
     ghost log = { λ _. None };
 
     fn accept(&mut self) -> Accepted {
-        if !has_room(&self.held) {
-            return Accepted::NotYet;
-        }
         let Some(listener) = &self.listener else {
             raise(&mut self.faults);
             return Accepted::Failed;
         };
+        if !has_room(&self.held) {
+            return Accepted::NotYet;
+        }
         match next_client(listener) {
             Ok(stream) => {
                 let pair = self.pairs;

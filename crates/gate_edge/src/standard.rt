@@ -1,6 +1,7 @@
 //! Sources and sinks over files and standard streams. They tell nothing of what is left or held.
 
-ghost use Rattle.std.specs.Prelude.{◌≡◌, ℕ, ◌≤◌, length, IfOk, IfSome, None};
+ghost use Rattle.std.specs.Prelude.{◌≡◌, ℕ, ◌≤◌, length, IfOk, IfSome, None, vec_len};
+ghost use Rattle.gate_edge.specs.declared.pieces.TheConstants.{PIECE};
 
 use crate::faults::raise;
 use crate::pieces::{PIECE, copy_front, read_front};
@@ -18,6 +19,8 @@ pub struct ReaderSource<R: Read> {
     reader: R,
     piece: Vec<u8>,
     faults: u64,
+    // A read into no room would look like the end of the input.
+    ghost has_piece: { vec_len piece ≡ PIECE },
 }
 
 impl<R: Read + Drop> ReaderSource<R> {
