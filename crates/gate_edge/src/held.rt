@@ -31,6 +31,7 @@ pub(crate) fn has_room(held: &Vec<Held>) -> bool
     clients < PAIRS && held.len() < ENDS
 }
 
+/// An end with its stream, if it is open.
 fn find_held(held: &Vec<Held>, pair: u32, end: End) -> Option<&Held>
     ensures { option_copied result ≡ find (λ one. is_end pair end (end_of one)) held.now.items }
 {

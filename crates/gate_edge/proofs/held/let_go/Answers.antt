@@ -1,7 +1,7 @@
 use Rattle.std.proofs.Common.{rules, ap, ◌∙◌}
 use Rattle.std.proofs.lemmas.Fn.{filter_same}
 use Rattle.gate_edge.specs.Held.{ends_of}
-use Rattle.gate_edge.proofs.Ending.{is_other, ends_of-filter}
+use Rattle.gate_edge.proofs.OpenEnds.{is_other, ends_of-filter}
 use Rattle.gate_edge.proofs.held.let_go.Goals as goal
 
 pub returns-clause-ends : goal.returns-clause-ends

@@ -1,5 +1,5 @@
 use Rattle.std.proofs.Common.{arith}
-use Rattle.gate_edge.proofs.Ending.{is_open-not_found}
+use Rattle.gate_edge.proofs.OpenEnds.{is_open-not_found}
 use Rattle.gate_edge.proofs.held.stream_of.Goals as goal
 
 pub returns : goal.returns
