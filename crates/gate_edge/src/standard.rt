@@ -1,0 +1,120 @@
+//! Sources and sinks over files and standard streams. They tell nothing of what is left or held.
+
+ghost use Rattle.std.specs.Prelude.{◌≡◌, ℕ, ◌≤◌, length, IfOk, IfSome, None, vec_len};
+ghost use Rattle.gate_edge.specs.declared.pieces.TheConstants.{PIECE};
+
+use crate::faults::raise;
+use crate::pieces::{PIECE, copy_front, read_front};
+use gate_outside::{Drawn, Sink, Source, Sunk};
+use std::alloc::Global;
+use std::io::{ErrorKind, Read, Write};
+use wire_base::Memory;
+
+/// A first call, and 1,000 more where each was interrupted.
+const CALLS: u32 = 1_001;
+
+/// A source over a reader.
+#[derive(Drop)]
+pub struct ReaderSource<R: Read> {
+    reader: R,
+    piece: Vec<u8>,
+    faults: u64,
+    // A read into no room would look like the end of the input.
+    ghost has_piece: { vec_len piece ≡ PIECE },
+}
+
+impl<R: Read + Drop> ReaderSource<R> {
+    /// A source that has not failed. Without memory the reader is dropped.
+    pub fn new(alloc: Global, reader: R) -> Result<ReaderSource<R>, Memory>
+        ensures faults { IfOk result (λ source. ⟦<ReaderSource<R> as Source>⟧.faults source ≡ 0) }
+        ensures left { IfOk result (λ source. ⟦<ReaderSource<R> as Source>⟧.left source ≡ None) }
+    {
+        Ok(ReaderSource {
+            reader,
+            piece: vec![in alloc; 0; PIECE]?,
+            faults: 0,
+        })
+    }
+}
+
+impl<R: Read> Source for ReaderSource<R> {
+    ghost faults = { λ source. source.faults };
+
+    ghost left = { λ _. None };
+
+    fn read(&mut self, buf: &mut [u8]) -> Drawn {
+        match read_some(&mut self.reader, &mut self.piece, buf.len()) {
+            Some(0) => Drawn::Ended,
+            Some(n) => {
+                copy_front(&self.piece, buf, n);
+                Drawn::Bytes(n)
+            }
+            None => {
+                raise(&mut self.faults);
+                Drawn::Failed
+            }
+        }
+    }
+}
+
+/// The count of the bytes that one read gave.
+fn read_some<R: Read>(reader: &mut R, piece: &mut [u8], room: usize) -> Option<usize>
+    ensures room { IfSome result (λ n. n ≤ room) }
+    ensures piece { IfSome result (λ n. n ≤ length piece.new) }
+{
+    for _ in 0..CALLS {
+        match read_front(reader, piece, room) {
+            Ok(n) => return Some(n),
+            Err(error) if error.kind() == ErrorKind::Interrupted => {}
+            Err(_) => return None,
+        }
+    }
+    None
+}
+
+/// A sink over a writer.
+#[derive(Drop)]
+pub struct WriterSink<W: Write> {
+    writer: W,
+    faults: u64,
+}
+
+impl<W: Write> WriterSink<W> {
+    /// A sink that has not failed.
+    pub fn new(writer: W) -> WriterSink<W>
+        ensures faults { ⟦<WriterSink<W> as Sink>⟧.faults result ≡ 0 }
+        ensures held { ⟦<WriterSink<W> as Sink>⟧.held result ≡ None }
+    {
+        WriterSink { writer, faults: 0 }
+    }
+}
+
+impl<W: Write> Sink for WriterSink<W> {
+    ghost faults = { λ sink. sink.faults };
+
+    ghost held = { λ _. None };
+
+    fn write(&mut self, bytes: &[u8]) -> Sunk {
+        match write_some(&mut self.writer, bytes) {
+            Some(n) if n > 0 => Sunk::Took(n),
+            Some(_) | None => {
+                raise(&mut self.faults);
+                Sunk::Failed
+            }
+        }
+    }
+}
+
+/// The count of the bytes that one write took.
+fn write_some<W: Write>(writer: &mut W, bytes: &[u8]) -> Option<usize>
+    ensures { IfSome result (λ n. n ≤ length bytes.now) }
+{
+    for _ in 0..CALLS {
+        match writer.write(bytes) {
+            Ok(n) => return Some(n),
+            Err(error) if error.kind() == ErrorKind::Interrupted => {}
+            Err(_) => return None,
+        }
+    }
+    None
+}
