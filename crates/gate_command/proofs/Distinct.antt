@@ -3,7 +3,8 @@ use Rattle.std.proofs.Common.{◌≡◌, ◌≢◌, true, List, [], ◌∷◌, r
 use Rattle.std.specs.List.{AllByRecursion}
 use Rattle.gate_command.specs.declared.options.OptionName.{OptionName}
 use Rattle.gate_command.specs.declared.options.OptionName.TheVariants.{Listen, Pairs, Turns}
-use Rattle.gate_command.specs.Command.{Setting, listen_at, pair_count, turn_count, Given, setting_of, option_of, Settings, nothing_given, with_setting, is_free, AreDistinct}
+use Rattle.gate_command.specs.Command.{Setting, listen_at, pair_count, turn_count, Given, setting_of, option_of, Settings, nothing_given, with_setting, AreDistinct}
+use Rattle.gate_command.specs.Reading.{is_free}
 use Rattle.gate_command.proofs.WordLaws.{EachNew}
 
 -- none of the options is given by these settings

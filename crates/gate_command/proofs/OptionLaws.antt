@@ -7,8 +7,8 @@ use Rattle.std.proofs.lemmas.Bool.Decides.{nat_tests}
 use Rattle.std.proofs.lemmas.Slice.Eq.{bytes_eq-Decides}
 use Rattle.gate_command.specs.declared.options.OptionName.{OptionName}
 use Rattle.gate_command.specs.declared.options.OptionName.TheVariants.{Listen, Pairs, Turns}
-use Rattle.gate_command.specs.Command.{Setting, listen_at, pair_count, turn_count, option_of, option_text, value_text, IsSettable, Settings, with_setting, is_free}
-use Rattle.gate_command.specs.Reading.{State, between, awaiting, cut, option_named, number_in, setting_in, set_in, opened, option_in}
+use Rattle.gate_command.specs.Command.{Setting, listen_at, pair_count, turn_count, option_of, option_text, value_text, IsSettable, Settings, with_setting}
+use Rattle.gate_command.specs.Reading.{is_free, State, between, awaiting, cut, option_named, number_in, setting_in, set_in, opened, option_in}
 use Rattle.gate_command.proofs.Numbers.{number_in-decimal, number_in-is}
 
 -- a value that may be set is read as the setting that it spells

@@ -6,8 +6,8 @@ use Rattle.std.proofs.lemmas.Bool.Decides.{nat_tests}
 use Rattle.std.proofs.lemmas.Fmt.{first_decimal}
 use Rattle.gate_command.specs.declared.options.OptionName.{OptionName}
 use Rattle.gate_command.specs.declared.options.OptionName.TheVariants.{Listen, Pairs, Turns}
-use Rattle.gate_command.specs.Command.{Setting, listen_at, pair_count, turn_count, Given, joined, apart, setting_of, spelling, IsInForm, option_of, option_text, value_text, IsSettable, Settings, with_setting, is_free, settings_with, begins_with_minus}
-use Rattle.gate_command.specs.Reading.{State, between, awaiting, set_in, step, ended}
+use Rattle.gate_command.specs.Command.{Setting, listen_at, pair_count, turn_count, Given, joined, apart, setting_of, spelling, IsInForm, option_of, option_text, value_text, IsSettable, Settings, with_setting, settings_with, begins_with_minus}
+use Rattle.gate_command.specs.Reading.{is_free, State, between, awaiting, set_in, step, ended}
 use Rattle.gate_command.proofs.OptionLaws.{option_in-apart, option_in-joined, option_in-is, IsOption, by_name, with_value, set_in-is, set_in-value}
 
 -- each option of the list is one that neither those before it nor the settings give

@@ -1,5 +1,5 @@
 -- The command line: which lists of words there are, and what each asks for. A word is the list of its bytes.
-use Rattle.std.specs.Prelude.{◌≡◌, ◌≢◌, ℕ, ◌-◌, ◌≤◌, ◌<◌, ◌==◌, Bool, false, ⊤, List, [], ◌∷◌, ◌++◌, length, take, drop, sum_by, slice_index, slice_index_or, Option, Some, None, is_none, unwrap_or, codes, decimal}
+use Rattle.std.specs.Prelude.{◌≡◌, ◌≢◌, ℕ, ◌-◌, ◌≤◌, ◌<◌, ◌==◌, Bool, false, ⊤, List, [], ◌∷◌, ◌++◌, length, take, drop, sum_by, slice_index, slice_index_or, Option, Some, None, unwrap_or, codes, decimal}
 use Rattle.std.specs.List.{flat_map, list_any, AllByRecursion}
 use Rattle.gate_loop.specs.declared.config.Config.{Config}
 use Rattle.gate_command.specs.declared.options.OptionName.{OptionName}
@@ -72,12 +72,6 @@ pub record Settings : Type 0 where
 -- no option is given
 abbrev pub nothing_given : Settings
 nothing_given = record { listen = None; pairs = None; turns = None }
-
--- the option isn't given
-abbrev pub is_free : OptionName → Settings → Bool
-is_free Listen s = is_none s.listen
-is_free Pairs s = is_none s.pairs
-is_free Turns s = is_none s.turns
 
 -- the same and one option more
 abbrev pub with_setting : Setting → Settings → Settings

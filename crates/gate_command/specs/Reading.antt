@@ -1,5 +1,5 @@
 -- The reading of the words, one after another, as the code does it.
-use Rattle.std.specs.Prelude.{ℕ, ◌+◌, ◌-◌, ◌==◌, ◌||◌, ◌&&◌, nat_lt, nat_le, Bool, if◌then◌else◌, List, [], ◌∷◌, length, Option, Some, None, option_map, Result, Ok, Err, codes, slice_index, bytes_eq}
+use Rattle.std.specs.Prelude.{ℕ, ◌+◌, ◌-◌, ◌==◌, ◌||◌, ◌&&◌, nat_lt, nat_le, Bool, if◌then◌else◌, List, [], ◌∷◌, length, Option, Some, None, is_none, option_map, Result, Ok, Err, codes, slice_index, bytes_eq}
 use Rattle.std.specs.Option.{option_and_then, option_map_or}
 use Rattle.std.specs.Str.{all_ascii_digits}
 use Rattle.std.specs.Str.Parse.{digits_value}
@@ -7,12 +7,18 @@ use Rattle.gate_command.specs.declared.options.OptionName.{OptionName}
 use Rattle.gate_command.specs.declared.options.OptionName.TheVariants.{Listen, Pairs, Turns}
 use Rattle.gate_command.specs.declared.words.Misplaced.{Misplaced}
 use Rattle.gate_command.specs.declared.words.Misplaced.TheVariants.{Word, End}
-use Rattle.gate_command.specs.Command.{Setting, listen_at, pair_count, turn_count, Settings, with_setting, is_free, nothing_given, begins_with_minus, has_line_feed}
+use Rattle.gate_command.specs.Command.{Setting, listen_at, pair_count, turn_count, Settings, with_setting, nothing_given, begins_with_minus, has_line_feed}
 
 -- where the reading stands: between options, or after an option's name, whose value is the next word
 pub data State : Type 0 where
   between : Settings → State
   awaiting : OptionName → Settings → State
+
+-- the option isn't given yet
+abbrev pub is_free : OptionName → Settings → Bool
+is_free Listen s = is_none s.listen
+is_free Pairs s = is_none s.pairs
+is_free Turns s = is_none s.turns
 
 -- what stands before the first `=` of a word, and what stands after it, where there is one
 abbrev pub cut : List ℕ → List ℕ × Option (List ℕ)

@@ -1,8 +1,8 @@
 //! The options of `serve`, read word by word.
 
 ghost use Rattle.std.specs.Prelude.{◌≡◌, ◌≤◌, ℕ, List, IfSome, option_map, option_copied};
-ghost use Rattle.gate_command.specs.Command.{is_free, nothing_given};
-ghost use Rattle.gate_command.specs.Reading.{cut, option_named, number_in, set_in, option_in, step, word_in, ended};
+ghost use Rattle.gate_command.specs.Command.{nothing_given};
+ghost use Rattle.gate_command.specs.Reading.{is_free, cut, option_named, number_in, set_in, option_in, step, word_in, ended};
 ghost use Rattle.gate_command.specs.View.{settings_of, state_of, answer_of};
 
 use crate::words::Misplaced;
@@ -109,6 +109,7 @@ impl<'a> Gathered<'a> {
         }
     }
 
+    /// An address is any text but the empty one.
     #[tactic(auto, unfolding(crate::specs::Reading::set_in))]
     fn with_listen(self, value: &'a str) -> Option<Gathered<'a>>
         ensures { option_map settings_of result ≡ set_in OptionName.Listen value.now (settings_of self.entry) }
@@ -122,6 +123,7 @@ impl<'a> Gathered<'a> {
         })
     }
 
+    /// A count of pairs is any number of its type but 0.
     #[tactic(auto, unfolding(crate::specs::Reading::set_in))]
     fn with_pairs(self, value: &str) -> Option<Gathered<'a>>
         ensures { option_map settings_of result ≡ set_in OptionName.Pairs value.now (settings_of self.entry) }
@@ -133,6 +135,7 @@ impl<'a> Gathered<'a> {
         })
     }
 
+    /// A count of turns is from 1 to 2^47.
     #[tactic(auto, unfolding(crate::specs::Reading::set_in))]
     fn with_turns(self, value: &str) -> Option<Gathered<'a>>
         ensures { option_map settings_of result ≡ set_in OptionName.Turns value.now (settings_of self.entry) }

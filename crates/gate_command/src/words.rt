@@ -86,6 +86,8 @@ fn asked_for(alloc: Global, gathered: Gathered) -> Result<Asked, Memory>
 }
 
 /// Reads the words of the command line, which are those after the program's name.
+///
+/// Only a copy of the address to listen at takes memory; `Err(Memory)` where there is none for it.
 pub fn read_words(alloc: Global, words: &Vec<String>) -> Result<Result<Asked, Misplaced>, Memory>
     ensures found { IfOk result (λ answer. IfOk answer (λ asked. Asks (map string_bytes words.now.items) asked)) }
     ensures only { (asked : Asked) → Asks (map string_bytes words.now.items) asked
