@@ -1,0 +1,76 @@
+-- Options are new one after another exactly where they are distinct and none is given before.
+use Rattle.std.proofs.Common.{◌≡◌, ◌≢◌, true, List, [], ◌∷◌, refl}
+use Rattle.std.specs.List.{AllByRecursion}
+use Rattle.gate_command.specs.declared.options.OptionName.{OptionName}
+use Rattle.gate_command.specs.declared.options.OptionName.TheVariants.{Listen, Pairs, Turns}
+use Rattle.gate_command.specs.Command.{Setting, listen_at, pair_count, turn_count, Given, setting_of, option_of, Settings, nothing_given, with_setting, AreDistinct}
+use Rattle.gate_command.specs.Reading.{is_free}
+use Rattle.gate_command.proofs.WordLaws.{EachNew}
+
+-- none of the options is given by these settings
+abbrev AreFree : Settings → List Given → Type 0
+AreFree s gs = AllByRecursion (λ g. is_free (option_of (setting_of g)) s ≡ true) gs
+
+-- another option that isn't given still isn't
+still_free : (name : OptionName) (setting : Setting) (s : Settings) → name ≢ option_of setting → is_free name s ≡ true → is_free name (with_setting setting s) ≡ true
+still_free Listen (listen_at address) s other free = absurd (other refl)
+still_free Listen (pair_count n) s other free = free
+still_free Listen (turn_count n) s other free = free
+still_free Pairs (listen_at address) s other free = free
+still_free Pairs (pair_count n) s other free = absurd (other refl)
+still_free Pairs (turn_count n) s other free = free
+still_free Turns (listen_at address) s other free = free
+still_free Turns (pair_count n) s other free = free
+still_free Turns (turn_count n) s other free = absurd (other refl)
+
+-- an option that isn't given with one more is another, and wasn't given without it
+was_free : (name : OptionName) (setting : Setting) (s : Settings) → is_free name (with_setting setting s) ≡ true → (name ≢ option_of setting) × (is_free name s ≡ true)
+was_free Listen (listen_at address) s free = absurd cc
+was_free Listen (pair_count n) s free = (λ e. absurd cc, free)
+was_free Listen (turn_count n) s free = (λ e. absurd cc, free)
+was_free Pairs (listen_at address) s free = (λ e. absurd cc, free)
+was_free Pairs (pair_count n) s free = absurd cc
+was_free Pairs (turn_count n) s free = (λ e. absurd cc, free)
+was_free Turns (listen_at address) s free = (λ e. absurd cc, free)
+was_free Turns (pair_count n) s free = (λ e. absurd cc, free)
+was_free Turns (turn_count n) s free = absurd cc
+
+all_still_free : (setting : Setting) (s : Settings) (gs : List Given) → AllByRecursion (λ g. option_of (setting_of g) ≢ option_of setting) gs → AreFree s gs → AreFree (with_setting setting s) gs
+all_still_free setting s [] others free = tt
+all_still_free setting s (g ∷ gs) others free =
+    (still_free (option_of (setting_of g)) setting s others.0 free.0, all_still_free setting s gs others.1 free.1)
+
+all_were_free : (setting : Setting) (s : Settings) (gs : List Given) → AreFree (with_setting setting s) gs → AllByRecursion (λ g. option_of (setting_of g) ≢ option_of setting) gs × AreFree s gs
+all_were_free setting s [] free = (tt, tt)
+all_were_free setting s (g ∷ gs) free =
+    let first = was_free (option_of (setting_of g)) setting s free.0 in
+    let others = all_were_free setting s gs free.1 in
+    ((first.0, others.0), (first.1, others.1))
+
+new_from_distinct : (s : Settings) (gs : List Given) → AreDistinct gs → AreFree s gs → EachNew s gs
+new_from_distinct s [] distinct free = tt
+new_from_distinct s (g ∷ gs) distinct free =
+    (free.0, new_from_distinct (with_setting (setting_of g) s) gs distinct.1 (all_still_free (setting_of g) s gs distinct.0 free.1))
+
+distinct_from_new : (s : Settings) (gs : List Given) → EachNew s gs → AreDistinct gs × AreFree s gs
+distinct_from_new s [] new = (tt, tt)
+distinct_from_new s (g ∷ gs) new =
+    let others = distinct_from_new (with_setting (setting_of g) s) gs new.1 in
+    let free = all_were_free (setting_of g) s gs others.1 in
+    ((free.0, others.0), (new.0, free.1))
+
+nothing_is_given : (name : OptionName) → is_free name nothing_given ≡ true
+nothing_is_given Listen = refl
+nothing_is_given Pairs = refl
+nothing_is_given Turns = refl
+
+all_free : (gs : List Given) → AreFree nothing_given gs
+all_free [] = tt
+all_free (g ∷ gs) = (nothing_is_given (option_of (setting_of g)), all_free gs)
+
+-- from the beginning on
+pub new_if_distinct : (gs : List Given) → AreDistinct gs → EachNew nothing_given gs
+new_if_distinct gs distinct = new_from_distinct nothing_given gs distinct (all_free gs)
+
+pub distinct_if_new : (gs : List Given) → EachNew nothing_given gs → AreDistinct gs
+distinct_if_new gs new = (distinct_from_new nothing_given gs new).0

@@ -1,0 +1,140 @@
+-- The command line: which lists of words there are, and what each asks for. A word is the list of its bytes.
+use Rattle.std.specs.Prelude.{◌≡◌, ◌≢◌, ℕ, ◌-◌, ◌≤◌, ◌<◌, ◌==◌, Bool, false, ⊤, List, [], ◌∷◌, ◌++◌, length, take, drop, sum_by, slice_index, slice_index_or, Option, Some, None, unwrap_or, codes, decimal}
+use Rattle.std.specs.List.{flat_map, list_any, AllByRecursion}
+use Rattle.gate_loop.specs.declared.config.Config.{Config}
+use Rattle.gate_command.specs.declared.options.OptionName.{OptionName}
+use Rattle.gate_command.specs.declared.options.OptionName.TheVariants.{Listen, Pairs, Turns}
+use Rattle.gate_command.specs.declared.words.Asked.{Asked}
+use Rattle.gate_command.specs.declared.words.Asked.TheVariants.{Serve}
+use Rattle.gate_command.specs.declared.words.Misplaced.{Misplaced}
+use Rattle.gate_command.specs.declared.words.Misplaced.TheVariants.{Word, End}
+
+-- what one option says
+pub data Setting : Type 0 where
+  listen_at : List ℕ → Setting
+  pair_count : ℕ → Setting
+  turn_count : ℕ → Setting
+
+-- the option that says it
+abbrev pub option_of : Setting → OptionName
+option_of (listen_at address) = Listen
+option_of (pair_count n) = Pairs
+option_of (turn_count n) = Turns
+
+-- how the option's name is spelled
+abbrev pub option_text : OptionName → List ℕ
+option_text Listen = codes "--listen"
+option_text Pairs = codes "--pairs"
+option_text Turns = codes "--turns"
+
+-- how the option's value is spelled
+abbrev pub value_text : Setting → List ℕ
+value_text (listen_at address) = address
+value_text (pair_count n) = decimal n
+value_text (turn_count n) = decimal n
+
+-- an address isn't empty, and a number is from 1 to the option's most
+abbrev pub IsSettable : Setting → Type 0
+IsSettable (listen_at address) = address ≢ []
+IsSettable (pair_count n) = (1 ≤ n) × (n ≤ 4294967295)
+IsSettable (turn_count n) = (1 ≤ n) × (n ≤ 140737488355328)
+
+-- an option given, as the one word `--opt=VALUE` or as the two words `--opt VALUE`
+pub data Given : Type 0 where
+  joined : Setting → Given
+  apart : Setting → Given
+
+-- what it says
+abbrev pub setting_of : Given → Setting
+setting_of (joined setting) = setting
+setting_of (apart setting) = setting
+
+-- its words
+abbrev pub spelling : Given → List (List ℕ)
+spelling (joined setting) = (option_text (option_of setting) ++ codes "=" ++ value_text setting) ∷ []
+spelling (apart setting) = option_text (option_of setting) ∷ value_text setting ∷ []
+
+-- a text begins with `-`
+abbrev pub begins_with_minus : List ℕ → Bool
+begins_with_minus text = slice_index text 0 == 45
+
+-- the value may be set, and in a word of its own it doesn't begin with `-`
+abbrev pub IsInForm : Given → Type 0
+IsInForm (joined setting) = IsSettable setting
+IsInForm (apart setting) = IsSettable setting × (begins_with_minus (value_text setting) ≡ false)
+
+-- what the options say together, each of them where it is given
+pub record Settings : Type 0 where
+  pub listen : Option (List ℕ)
+  pub pairs : Option ℕ
+  pub turns : Option ℕ
+
+-- no option is given
+abbrev pub nothing_given : Settings
+nothing_given = record { listen = None; pairs = None; turns = None }
+
+-- the same and one option more
+abbrev pub with_setting : Setting → Settings → Settings
+with_setting (listen_at address) s = record s { listen = Some address }
+with_setting (pair_count n) s = record s { pairs = Some n }
+with_setting (turn_count n) s = record s { turns = Some n }
+
+-- no option is given twice
+abbrev pub AreDistinct : List Given → Type 0
+AreDistinct [] = ⊤
+AreDistinct (g ∷ gs) =
+    AllByRecursion (λ other. option_of (setting_of other) ≢ option_of (setting_of g)) gs × AreDistinct gs
+
+-- the settings and what the list gives
+abbrev pub settings_with : Settings → List Given → Settings
+settings_with s [] = s
+settings_with s (g ∷ gs) = settings_with (with_setting (setting_of g) s) gs
+
+-- what is asked for, with the defaults of what isn't given
+abbrev pub asked_of : Settings → Asked
+asked_of s = Serve (record { pairs = s.pairs; turns = unwrap_or s.turns 140737488355328 }) (unwrap_or s.listen (codes "127.0.0.1:5672"))
+
+-- the limits of the run that is asked for
+abbrev pub config_of : Asked → Config
+config_of (Serve config address) = config
+
+-- line feeds and sizes aside, the words are `serve` and options that ask for this
+pub record IsCommand (words : List (List ℕ)) (asked : Asked) : Type 0 where
+  pub given : List Given
+  pub spelled : words ≡ codes "serve" ∷ flat_map spelling given
+  pub in_form : AllByRecursion IsInForm given
+  pub once : AreDistinct given
+  pub meant : asked ≡ asked_of (settings_with nothing_given given)
+
+-- some byte is a line feed
+abbrev pub has_line_feed : List ℕ → Bool
+has_line_feed word = list_any (λ byte. byte == 10) word
+
+-- no word has a line feed, and those after the first have at most 65,536 bytes together
+pub record IsWithin (words : List (List ℕ)) : Type 0 where
+  pub one_line : AllByRecursion (λ word. has_line_feed word ≡ false) words
+  pub short : sum_by length (drop 1 words) ≤ 65536
+
+-- the words are a command line, which asks for this
+pub record Asks (words : List (List ℕ)) (asked : Asked) : Type 0 where
+  pub command : IsCommand words asked
+  pub within : IsWithin words
+
+-- line feeds and sizes aside, some command line begins with these words
+pub record Begins (words : List (List ℕ)) : Type 0 where
+  pub more : List (List ℕ)
+  pub asked : Asked
+  pub whole : IsCommand (words ++ more) asked
+
+-- word k, counted from 1, can stand where it does
+pub record CanStand (k : ℕ) (words : List (List ℕ)) : Type 0 where
+  pub begins : Begins (take k words)
+  pub one_line : has_line_feed (slice_index_or words (k - 1) []) ≡ false
+  pub short : sum_by length (drop 1 (take k words)) ≤ 65536
+
+-- the first word that can't stand, or the end where each can and the words aren't a command line
+abbrev pub CeasesAt : List (List ℕ) → Misplaced → Type 0
+CeasesAt words (Word k) =
+    (1 ≤ k) × (k ≤ length words) × (¬ CanStand k words) × ((j : ℕ) → 1 ≤ j → j < k → CanStand j words)
+CeasesAt words End =
+    ((j : ℕ) → 1 ≤ j → j ≤ length words → CanStand j words) × ((asked : Asked) → ¬ Asks words asked)

@@ -1,0 +1,86 @@
+-- The reading of the words, one after another, as the code does it.
+use Rattle.std.specs.Prelude.{ℕ, ◌+◌, ◌-◌, ◌==◌, ◌||◌, ◌&&◌, nat_lt, nat_le, Bool, if◌then◌else◌, List, [], ◌∷◌, length, Option, Some, None, is_none, option_map, Result, Ok, Err, codes, slice_index, bytes_eq}
+use Rattle.std.specs.Option.{option_and_then, option_map_or}
+use Rattle.std.specs.Str.{all_ascii_digits}
+use Rattle.std.specs.Str.Parse.{digits_value}
+use Rattle.gate_command.specs.declared.options.OptionName.{OptionName}
+use Rattle.gate_command.specs.declared.options.OptionName.TheVariants.{Listen, Pairs, Turns}
+use Rattle.gate_command.specs.declared.words.Misplaced.{Misplaced}
+use Rattle.gate_command.specs.declared.words.Misplaced.TheVariants.{Word, End}
+use Rattle.gate_command.specs.Command.{Setting, listen_at, pair_count, turn_count, Settings, with_setting, nothing_given, begins_with_minus, has_line_feed}
+
+-- where the reading stands: between options, or after an option's name, whose value is the next word
+pub data State : Type 0 where
+  between : Settings → State
+  awaiting : OptionName → Settings → State
+
+-- the option isn't given yet
+abbrev pub is_free : OptionName → Settings → Bool
+is_free Listen s = is_none s.listen
+is_free Pairs s = is_none s.pairs
+is_free Turns s = is_none s.turns
+
+-- what stands before the first `=` of a word, and what stands after it, where there is one
+abbrev pub cut : List ℕ → List ℕ × Option (List ℕ)
+cut [] = ([], None)
+cut (byte ∷ bytes) = if byte == 61 then ([], Some bytes) else (byte ∷ (cut bytes).0, (cut bytes).1)
+
+-- the option with this name
+unfoldable pub option_named : List ℕ → Option OptionName
+option_named text =
+    if bytes_eq text (codes "--listen") then Some Listen
+    else (if bytes_eq text (codes "--pairs") then Some Pairs
+    else (if bytes_eq text (codes "--turns") then Some Turns else None))
+
+-- the text is digits, and the first of them isn't 0
+abbrev pub is_numeral : List ℕ → Bool
+is_numeral text = nat_lt 48 (slice_index text 0) && all_ascii_digits text
+
+-- the number from 1 to `most` that the text writes
+unfoldable pub number_in : ℕ → List ℕ → Option ℕ
+number_in most text = if is_numeral text && nat_le (digits_value 10 text) most then Some (digits_value 10 text) else None
+
+-- what the option says with this value
+abbrev pub setting_in : OptionName → List ℕ → Option Setting
+setting_in Listen value = if length value == 0 then None else Some (listen_at value)
+setting_in Pairs value = option_map pair_count (number_in 4294967295 value)
+setting_in Turns value = option_map turn_count (number_in 140737488355328 value)
+
+-- the settings and this option's value
+unfoldable pub set_in : OptionName → List ℕ → Settings → Option Settings
+set_in name value s = option_map (λ setting. with_setting setting s) (setting_in name value)
+
+-- after an option's name, and the value that follows it in the same word, where one does
+abbrev pub opened : OptionName → Option (List ℕ) → Settings → Option State
+opened name None s = Some (awaiting name s)
+opened name (Some value) s = option_map between (set_in name value s)
+
+-- after an option's first word
+unfoldable pub option_in : List ℕ → Settings → Option State
+option_in word s =
+    option_and_then (λ name. if is_free name s then opened name (cut word).1 s else None) (option_named (cut word).0)
+
+-- after a word, `None` where it can't stand
+abbrev pub step : State → List ℕ → Option State
+step (between s) word = option_in word s
+step (awaiting name s) word = if begins_with_minus word then None else option_map between (set_in name word s)
+
+-- the same where line feeds, and more bytes than there is room for, can't stand
+unfoldable pub word_in : ℕ → State → List ℕ → Option State
+word_in room state word = if has_line_feed word || nat_lt room (length word) then None else step state word
+
+-- at the end of the words
+abbrev pub ended : State → Result Settings Misplaced
+ended (between s) = Ok s
+ended (awaiting name s) = Err End
+
+-- the words from word k on, with room for so many bytes
+unfoldable pub words_in : ℕ → ℕ → State → List (List ℕ) → Result Settings Misplaced
+words_in k room state [] = ended state
+words_in k room state (word ∷ words) =
+    option_map_or (λ next. words_in (k + 1) (room - length word) next words) (word_in room state word) (Err (Word k))
+
+-- all words
+unfoldable pub command_in : List (List ℕ) → Result Settings Misplaced
+command_in [] = Err End
+command_in (word ∷ words) = if bytes_eq word (codes "serve") then words_in 2 65536 (between nothing_given) words else Err (Word 1)

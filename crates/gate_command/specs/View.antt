@@ -1,0 +1,22 @@
+-- What the specifications see of the code's own types.
+use Rattle.std.specs.Prelude.{option_copied, Result, Ok, Err}
+use Rattle.gate_command.specs.declared.options.Gathered.{Gathered}
+use Rattle.gate_command.specs.declared.options.Progress.{Progress}
+use Rattle.gate_command.specs.declared.options.Progress.TheVariants.{Between, Awaiting}
+use Rattle.gate_command.specs.declared.words.Misplaced.{Misplaced}
+use Rattle.gate_command.specs.Command.{Settings}
+use Rattle.gate_command.specs.Reading.{State, between, awaiting}
+
+-- what the options say that were read
+abbrev pub settings_of : Gathered → Settings
+settings_of g = record { listen = option_copied g.listen; pairs = g.pairs; turns = g.turns }
+
+-- where the reading stands
+abbrev pub state_of : Progress → State
+state_of (Between g) = between (settings_of g)
+state_of (Awaiting name g) = awaiting name (settings_of g)
+
+-- what the reading of all options answers
+abbrev pub answer_of : Result Gathered Misplaced → Result Settings Misplaced
+answer_of (Ok g) = Ok (settings_of g)
+answer_of (Err misplaced) = Err misplaced
