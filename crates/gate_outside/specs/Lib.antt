@@ -1,4 +1,6 @@
 pub mod Counts
 pub mod Ends
 pub mod History
+pub mod LogState
+pub mod Marks
 pub mod Streams

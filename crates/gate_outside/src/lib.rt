@@ -3,8 +3,9 @@
 
 mod log;
 mod ports;
+mod reserved;
 mod streams;
 
-pub use log::{Entries, LogEntry};
+pub use log::{Call, Entries, Log, LogEntry};
 pub use ports::{Accepted, End, Got, Linked, Next, Ports, Put};
 pub use streams::{Drawn, Sink, Source, Sunk, write_all};
