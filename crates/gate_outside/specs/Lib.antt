@@ -1,3 +1,4 @@
+pub mod CallCounts
 pub mod Counts
 pub mod Ends
 pub mod History
