@@ -4,4 +4,5 @@ pub mod Ends
 pub mod History
 pub mod LogState
 pub mod Marks
+pub mod MemoryStreams
 pub mod Streams

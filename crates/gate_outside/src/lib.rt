@@ -2,12 +2,15 @@
 #![tactic(auto)]
 
 mod calls;
+mod copying;
 mod log;
+mod memory_streams;
 mod ports;
 mod reserved;
 mod streams;
 
 pub use calls::{CallList, Calls};
 pub use log::{Call, Entries, Log, LogEntry};
+pub use memory_streams::{MemorySink, MemorySource};
 pub use ports::{Accepted, End, Got, Linked, Next, Ports, Put};
 pub use streams::{Drawn, Sink, Source, Sunk, write_all};
