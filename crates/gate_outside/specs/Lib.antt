@@ -5,4 +5,7 @@ pub mod History
 pub mod LogState
 pub mod Marks
 pub mod MemoryStreams
+pub mod OpenEnds
+pub mod Reserved
+pub mod Script
 pub mod Streams

@@ -2,15 +2,21 @@
 #![tactic(auto)]
 
 mod calls;
+mod clock;
 mod copying;
 mod log;
 mod memory_streams;
+mod pairs;
+mod pieces;
 mod ports;
 mod reserved;
+mod rooms;
 mod streams;
 
 pub use calls::{CallList, Calls};
 pub use log::{Call, Entries, Log, LogEntry};
 pub use memory_streams::{MemorySink, MemorySource};
+pub use pieces::{Piece, Pieces};
 pub use ports::{Accepted, End, Got, Linked, Next, Ports, Put};
+pub use rooms::{Room, Rooms};
 pub use streams::{Drawn, Sink, Source, Sunk, write_all};
