@@ -23,9 +23,10 @@ same_end_swapped Up Client = refl
 same_end_swapped Up Up = refl
 
 nat_eq_swapped : (a b : ℕ) → nat_eq a b ≡ nat_eq b a
-nat_eq_swapped a b = elim (nat_eq a b) as (λ x. nat_eq a b ≡ x → x ≡ nat_eq b a)
-    [ true ↦ (λ q. sym (eq-eqb b a (sym (eqb-true a b q))))
-    | false ↦ (λ q. sym (ne_eqb b a (λ e. eqb-false a b q (sym e)))) ] refl
+nat_eq_swapped a b = elim (nat_eq a b) as (λ x. nat_eq a b ≡ x → x ≡ nat_eq b a) [
+  | true ↦ (λ q. sym (eq-eqb b a (sym (eqb-true a b q))))
+  | false ↦ (λ q. sym (ne_eqb b a (λ e. eqb-false a b q (sym e))))
+] refl
 
 is_end_swapped : (p q : ℕ) (e f : End) → is_end p e (q, f) ≡ is_end q f (p, e)
 is_end_swapped p q e f =
@@ -105,12 +106,13 @@ length_closed : (p : ℕ) (e : End) (xs : List (ℕ × End)) → AreDistinct xs 
 length_closed p e [] h = omega arith
 length_closed p e (x ∷ xs) h =
     let rest = length_closed p e xs h.1 in
-    elim (is_end p e x) as (λ b. is_end p e x ≡ b → suc (length xs) ≤ suc (length (cond (not b) (x ∷ closed p e xs) (closed p e xs))))
-    [ true ↦ (λ q.
-        let which = is_end-true p e x q in
-        let free : is_open p e xs ≡ false = cc (which.0, which.1, h.0) in
-        let same = length_free p e xs free in omega arith)
-    | false ↦ (λ q. omega arith) ] refl
+    elim (is_end p e x) as (λ b. is_end p e x ≡ b → suc (length xs) ≤ suc (length (cond (not b) (x ∷ closed p e xs) (closed p e xs)))) [
+      | true ↦ (λ q.
+          let which = is_end-true p e x q in
+          let free : is_open p e xs ≡ false = cc (which.0, which.1, h.0) in
+          let same = length_free p e xs free in omega arith)
+      | false ↦ (λ q. omega arith)
+    ] refl
 
 one_of_both : (m : ℕ) (x : ℕ × End) → is_end m Client x ≡ false → is_end m Up x ≡ false → x.0 ≡ m → ⊥
 one_of_both m (p, Client) c u e = let at = eq-eqb p m e in cc
@@ -122,12 +124,14 @@ below_less m [] h = tt
 below_less m (x ∷ xs) h =
     let rest = below_less m xs h.1 in
     let kept = closed m Client xs in
-    elim (is_end m Client x) as (λ b. is_end m Client x ≡ b → AreBelow m (closed m Up (cond (not b) (x ∷ closed m Client xs) (closed m Client xs))))
-    [ true ↦ λ q. rest
-    | false ↦ λ q. elim (is_end m Up x) as (λ b. is_end m Up x ≡ b
-            → AreBelow m (cond (not b) (x ∷ closed m Up (closed m Client xs)) (closed m Up (closed m Client xs))))
-        [ true ↦ λ r. rest
-        | false ↦ λ r. (let apart : x.0 ≡ m → ⊥ = one_of_both m x q r in omega (arith, apart, h.0), rest) ] refl ] refl
+    elim (is_end m Client x) as (λ b. is_end m Client x ≡ b → AreBelow m (closed m Up (cond (not b) (x ∷ closed m Client xs) (closed m Client xs)))) [
+      | true ↦ λ q. rest
+      | false ↦ λ q. elim (is_end m Up x) as (λ b. is_end m Up x ≡ b
+          → AreBelow m (cond (not b) (x ∷ closed m Up (closed m Client xs)) (closed m Up (closed m Client xs)))) [
+            | true ↦ λ r. rest
+            | false ↦ λ r. (let apart : x.0 ≡ m → ⊥ = one_of_both m x q r in omega (arith, apart, h.0), rest)
+          ] refl
+    ] refl
 
 -- there are two ends of each pair
 pub distinct_fit : (n : ℕ) (xs : List (ℕ × End)) → AreBelow n xs → AreDistinct xs → length xs ≤ 2 * n

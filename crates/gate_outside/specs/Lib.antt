@@ -8,4 +8,6 @@ pub mod MemoryStreams
 pub mod OpenEnds
 pub mod Reserved
 pub mod Script
+pub mod ScriptState
 pub mod Streams
+pub mod Telling

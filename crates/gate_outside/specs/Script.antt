@@ -82,10 +82,17 @@ abbrev pub pieces_answer : ℕ → ℕ → Option Piece → Got
 pieces_answer room taken None = got.NotYet
 pieces_answer room taken (Some piece) = piece_answer room taken piece
 
--- the bytes that came are no longer left, and an end that was told is told once
+-- the bytes that came are no longer left
+abbrev pub without_front : ℕ → Piece → Piece
+without_front n piece = record piece { bytes = drop n piece.bytes }
+
+-- an end that was told is not told again
+abbrev pub without_end : Piece → Piece
+without_end piece = record piece { ends = false }
+
 abbrev pub piece_after : Got → Piece → Piece
-piece_after (got.Bytes n) piece = record piece { bytes = drop n piece.bytes }
-piece_after got.Ended piece = record piece { ends = false }
+piece_after (got.Bytes n) piece = without_front n piece
+piece_after got.Ended piece = without_end piece
 piece_after got.NotYet piece = piece
 piece_after got.Failed piece = piece
 
@@ -98,8 +105,12 @@ abbrev pub first_changed : {X : Type 0} → (X → Bool) → (X → X) → List 
 first_changed test change [] = []
 first_changed test change (x ∷ xs) = if test x then change x ∷ xs else x ∷ first_changed test change xs
 
+-- a read that gives nothing uses no piece
 abbrev pub pieces_after : ℕ → End → Got → List Piece → List Piece
-pieces_after pair end answer pieces = first_changed (is_left pair end) (piece_after answer) pieces
+pieces_after pair end (got.Bytes n) pieces = first_changed (is_left pair end) (without_front n) pieces
+pieces_after pair end got.Ended pieces = first_changed (is_left pair end) without_end pieces
+pieces_after pair end got.NotYet pieces = pieces
+pieces_after pair end got.Failed pieces = pieces
 
 -- Rooms: what writes take.
 abbrev pub is_room_of : ℕ → End → Room → Bool

@@ -11,12 +11,15 @@ mod pieces;
 mod ports;
 mod reserved;
 mod rooms;
+mod script;
 mod streams;
+mod telling;
 
-pub use calls::{CallList, Calls};
+pub use calls::CallList;
 pub use log::{Call, Entries, Log, LogEntry};
 pub use memory_streams::{MemorySink, MemorySource};
 pub use pieces::{Piece, Pieces};
 pub use ports::{Accepted, End, Got, Linked, Next, Ports, Put};
 pub use rooms::{Room, Rooms};
+pub use script::{Script, ScriptPorts};
 pub use streams::{Drawn, Sink, Source, Sunk, write_all};

@@ -97,7 +97,10 @@ impl MemorySink {
     /// A sink with room for so many bytes. It fails at the calls with these numbers, which count from 0.
     pub fn new(alloc: Global, room: usize, fails: CallList) -> Result<MemorySink, Memory>
         ensures { IfOk result (λ sink. sink ≡ record {
-            held = []; room = room; calls = record { fails = fails; call = 0; faults = 0 } }) }
+          held = [];
+          room = room;
+          calls = record { fails = fails; call = 0; faults = 0 };
+        }) }
     {
         let bytes = Vec::with_capacity(alloc, room)?;
         Ok(MemorySink {

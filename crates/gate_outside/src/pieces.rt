@@ -42,7 +42,12 @@ impl Model for PieceLeft {
     ghost Value = { Piece };
 
     ghost view = { λ a. record {
-        pair = a.pair; end = a.end; after = a.after; bytes = drop a.used a.bytes; ends = a.ends } };
+      pair = a.pair;
+      end = a.end;
+      after = a.after;
+      bytes = drop a.used a.bytes;
+      ends = a.ends;
+    } };
 
     ghost invariant = { λ a. a.used ≤ length a.bytes };
 }
@@ -140,6 +145,8 @@ impl PiecesLeft {
     fn current(&self, pair: u32, end: End) -> Option<usize>
         ensures { result ≡ position (is_left pair end) self.now }
     {
-        self.pieces.iter().position(|piece| piece.is_left(pair, end))
+        self.pieces
+            .iter()
+            .position(|piece| piece.is_left(pair, end))
     }
 }

@@ -66,7 +66,9 @@ impl RoomsLeft {
     fn first(&self, pair: u32, end: End) -> Option<usize>
         ensures { result ≡ position (is_room_of pair end) self.now }
     {
-        self.rooms.iter().position(|room| is_room_of(room, pair, end))
+        self.rooms
+            .iter()
+            .position(|room| is_room_of(room, pair, end))
     }
 }
 

@@ -7,7 +7,7 @@ use Rattle.gate_outside.proofs.pairs.Pairs.close.Goals as goal
 pub invariant_of-self : goal.invariant_of-self
 invariant_of-self c =
     let kept : c.retain.new.self.items ≡ closed c.args.pair c.args.end c.self.inside.ends.items =
-        filter_same _ (λ x. not (is_end c.args.pair c.args.end x)) _ (λ x b q t. (search rules, search rules)) _ _ c.retain.ensures.filtered in
+    filter_same _ (λ x. not (is_end c.args.pair c.args.end x)) _ (λ x b q t. (search rules, search rules)) _ _ c.retain.ensures.filtered in
     record {
       accepted = c.self.invariant.accepted;
       pairs = c.self.invariant.pairs;
@@ -19,5 +19,5 @@ invariant_of-self c =
 pub returns : goal.returns
 returns c =
     let kept : c.retain.new.self.items ≡ closed c.args.pair c.args.end c.self.inside.ends.items =
-        filter_same _ (λ x. not (is_end c.args.pair c.args.end x)) _ (λ x b q t. (search rules, search rules)) _ _ c.retain.ensures.filtered in
+    filter_same _ (λ x. not (is_end c.args.pair c.args.end x)) _ (λ x b q t. (search rules, search rules)) _ _ c.retain.ensures.filtered in
     rw (← c.self.view_is, kept)

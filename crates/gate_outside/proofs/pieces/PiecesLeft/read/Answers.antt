@@ -1,7 +1,6 @@
-use Rattle.std.proofs.Common.{◌≡◌, Some, None, position, refl}
-use Rattle.gate_outside.specs.declared.pieces.Piece.{Piece}
+use Rattle.std.proofs.Common.{◌≡◌, Some, None, position, ◌∙◌}
 use Rattle.gate_outside.specs.Script.{is_left, piece_after, current_piece}
-use Rattle.gate_outside.proofs.FirstLemmas.{find_found, find_none, changed_found, changed_same}
+use Rattle.gate_outside.proofs.FirstLemmas.{find_found, find_none, changed_found, piece_changed}
 use Rattle.gate_outside.proofs.pieces.PiecesLeft.read.Goals as goal
 
 pub returns-in-Some-clause-answer : goal.returns-in-Some-clause-answer
@@ -12,7 +11,9 @@ returns-in-Some-clause-answer c =
 pub returns-in-Some-clause-goes : goal.returns-in-Some-clause-goes
 returns-in-Some-clause-goes c =
     let at : position (is_left c.args.pair c.args.end) c.self.inside.pieces.items ≡ Some c.in-Some.at = cc in
-    rw (← c.self.view_is) (changed_found _ (piece_after c.read.result) _ _ _ _ at c.index_mut-piece.ensures.value c.read.ensures.goes)
+    rw (← c.self.view_is)
+    (changed_found _ (piece_after c.read.result) _ _ _ _ at c.index_mut-piece.ensures.value c.read.ensures.goes
+    ∙ piece_changed c.args.pair c.args.end c.read.result c.self.inside.pieces.items)
 
 pub returns-in-Some-clause-came : goal.returns-in-Some-clause-came
 returns-in-Some-clause-came c =
@@ -23,6 +24,3 @@ pub returns-in-None-clause-answer : goal.returns-in-None-clause-answer
 returns-in-None-clause-answer c =
     let at : position (is_left c.args.pair c.args.end) c.self.inside.pieces.items ≡ None = cc in
     rw (← c.self.view_is, find_none _ _ at)
-
-pub returns-in-None-clause-goes : goal.returns-in-None-clause-goes
-returns-in-None-clause-goes c = rw (changed_same _ _ (λ (piece : Piece). refl) c.args.self.now)

@@ -5,7 +5,8 @@ use Rattle.gate_outside.proofs.rooms.RoomsLeft.new.Goals.{in-Some+in_ok-push, in
 
 pub loop-k-preserved : goal.loop-k-preserved
 loop-k-preserved c =
-    elim c.match-get.branch
-    [ in-Some+in_ok-push w ↦ rw (w.copies-is, w.in_ok-push.ensures.items)
-        (one_more_copy _ _ _ _ c.loop-k.invariant w.in-Some.ensures)
-    | in_default w ↦ absurd (not_past c.args.rooms.now c.loop-k.k (omega arith) w.in_default.ensures) ]
+    elim c.match-get.branch [
+      | in-Some+in_ok-push w ↦ rw (w.copies-is, w.in_ok-push.ensures.items)
+          (one_more_copy _ _ _ _ c.loop-k.invariant w.in-Some.ensures)
+      | in_default w ↦ absurd (not_past c.args.rooms.now c.loop-k.k (omega arith) w.in_default.ensures)
+    ]
