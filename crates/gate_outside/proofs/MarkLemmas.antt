@@ -1,5 +1,5 @@
 -- The marks of a log, as its byte string grows.
-use Rattle.std.proofs.Common.{◌≡◌, ℕ, ◌+◌, ◌≤◌, Option, Some, slice_get, List, [], ◌∷◌, ◌++◌, length, take, drop, map, ap, sym, ◌∙◌, subst, arith, length-append, get_or, refl, ◌<◌, zero, suc}
+use Rattle.std.proofs.Common.{◌≡◌, ℕ, ◌+◌, ◌≤◌, Some, slice_get, List, [], ◌∷◌, ◌++◌, length, take, drop, map, ap, ◌∙◌, subst, arith, get_or, refl, ◌<◌, zero, suc}
 use Rattle.std.proofs.lemmas.Option.{slice_get_within, get_or_from_slice_get}
 use Rattle.gate_outside.specs.declared.log.Mark.{Mark}
 use Rattle.gate_outside.specs.declared.log.Call.{Call}

@@ -1,5 +1,5 @@
 -- The numbers of calls, and the calls that are to fail.
-use Rattle.std.specs.Prelude.{ℕ, ◌+◌, ◌==◌, Bool, if◌then◌else◌, List, min}
+use Rattle.std.specs.Prelude.{ℕ, ◌+◌, ◌==◌, Bool, if◌then◌else◌, min}
 use Rattle.std.specs.List.{list_any}
 use Rattle.gate_outside.specs.declared.calls.Calls.{Calls}
 

@@ -1,5 +1,5 @@
 -- How a source and a sink in memory answer.
-use Rattle.std.specs.Prelude.{◌≡◌, ℕ, ◌-◌, ◌==◌, Bool, true, if◌then◌else◌, List, [], ◌∷◌, ◌++◌, length, drop, min}
+use Rattle.std.specs.Prelude.{ℕ, ◌-◌, ◌==◌, Bool, true, if◌then◌else◌, List, [], ◌∷◌, ◌++◌, length, drop, min}
 use Rattle.gate_outside.specs.declared.calls.Calls.{Calls}
 use Rattle.gate_outside.specs.declared.streams.Drawn.{Drawn}
 use Rattle.gate_outside.specs.declared.streams.Drawn.TheVariants as drawn

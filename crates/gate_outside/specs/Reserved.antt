@@ -1,5 +1,5 @@
 -- What pairs have reserved.
-use Rattle.std.specs.Prelude.{ℕ, ◌*◌, ◌≤◌, length, vec_len, vec_capacity}
+use Rattle.std.specs.Prelude.{◌*◌, ◌≤◌, vec_len, vec_capacity}
 use Rattle.gate_outside.specs.declared.pairs.Pairs.TheInside.{Inside}
 use Rattle.gate_outside.specs.OpenEnds.{AreBelow, AreDistinct}
 

@@ -1,5 +1,5 @@
 -- How scripted ports answer, and what each answer does to what is left of their script.
-use Rattle.std.specs.Prelude.{ℕ, ◌+◌, ◌-◌, ◌==◌, Bool, true, false, not, ◌&&◌, if◌then◌else◌, nat_lt, List, [], ◌∷◌, ◌++◌, length, drop, min, remove, reverse, Option, None, Some, slice_index_or, slice_set}
+use Rattle.std.specs.Prelude.{ℕ, ◌+◌, ◌==◌, Bool, true, false, not, ◌&&◌, if◌then◌else◌, nat_lt, List, [], ◌∷◌, ◌++◌, length, drop, min, remove, Option, None, Some, slice_index_or, slice_set}
 use Rattle.std.specs.List.{find, position_or_len}
 use Rattle.gate_outside.specs.declared.ports.End.{End}
 use Rattle.gate_outside.specs.declared.ports.End.TheVariants.{Client, Up}
@@ -12,7 +12,6 @@ use Rattle.gate_outside.specs.declared.ports.Put.TheVariants as put
 use Rattle.gate_outside.specs.declared.pieces.Piece.{Piece}
 use Rattle.gate_outside.specs.declared.rooms.Room.{Room}
 use Rattle.gate_outside.specs.declared.pairs.Taken.{Taken}
-use Rattle.gate_outside.specs.CallCounts.{one_more}
 use Rattle.gate_outside.specs.Ends.{is_end, ends_accepted}
 
 -- Pairs: how many are accepted in all, the bytes taken at the ends of those accepted, and the open ends.

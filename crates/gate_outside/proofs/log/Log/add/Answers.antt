@@ -1,4 +1,4 @@
-use Rattle.std.proofs.Common.{◌≡◌, ℕ, ◌+◌, ◌-◌, ◌≤◌, List, ap, length, arith, rules, length-append, vec_len}
+use Rattle.std.proofs.Common.{◌≡◌, ℕ, ◌-◌, List, ap, length, arith, rules, length-append, vec_len}
 use Rattle.gate_outside.specs.declared.log.LogEntry.{LogEntry}
 use Rattle.gate_outside.specs.LogState.{LogState}
 use Rattle.gate_outside.proofs.MarkLemmas.{AreWithin-more, AreWithin-push, entries-push}

@@ -1,4 +1,4 @@
-use Rattle.std.proofs.Common.{◌≡◌, ◌+◌, length, arith, rules, Some, None, slice_get}
+use Rattle.std.proofs.Common.{◌≡◌, Some, None, slice_get}
 use Rattle.std.proofs.lemmas.Option.{slice_get-map}
 use Rattle.gate_outside.specs.Marks.{entry_at}
 use Rattle.gate_outside.proofs.MarkLemmas.{AreWithin-get}

@@ -1,4 +1,3 @@
-use Rattle.std.proofs.Common.{◌≡◌, ◌+◌, take, drop, ◌++◌}
 use Rattle.gate_outside.proofs.Appending.{front_and_rest}
 use Rattle.gate_outside.proofs.memory_streams.MemorySourceSource.read.Goals as goal
 

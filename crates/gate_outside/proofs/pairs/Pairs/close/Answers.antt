@@ -1,4 +1,4 @@
-use Rattle.std.proofs.Common.{◌≡◌, ℕ, ◌≤◌, ◌*◌, not, arith, rules}
+use Rattle.std.proofs.Common.{◌≡◌, not, arith, rules}
 use Rattle.std.proofs.lemmas.Fn.{filter_same}
 use Rattle.gate_outside.specs.Ends.{is_end, closed}
 use Rattle.gate_outside.proofs.OpenEndLemmas.{distinct_closed, below_closed}

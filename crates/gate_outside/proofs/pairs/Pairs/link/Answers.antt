@@ -1,8 +1,7 @@
-use Rattle.std.proofs.Common.{◌≡◌, ◌<◌, ◌≤◌, ◌*◌, ◌∷◌, [], ◌++◌, length, false, arith, rules, vec_len}
+use Rattle.std.proofs.Common.{◌≡◌, ◌<◌, length, false, arith, rules, vec_len}
 use Rattle.std.proofs.lemmas.List.{length_push}
 use Rattle.gate_outside.specs.declared.ports.End.TheVariants.{Up}
 use Rattle.gate_outside.specs.Ends.{is_open}
-use Rattle.gate_outside.specs.OpenEnds.{AreBelow, AreDistinct}
 use Rattle.gate_outside.proofs.OpenEndLemmas.{distinct_push, below_push, distinct_fit}
 use Rattle.gate_outside.proofs.pairs.Pairs.link.Goals as goal
 

@@ -1,5 +1,5 @@
 use Rattle.std.proofs.Common.{◌≡◌, Some, None, position, ◌∙◌}
-use Rattle.gate_outside.specs.Script.{is_left, piece_after, current_piece}
+use Rattle.gate_outside.specs.Script.{is_left, piece_after}
 use Rattle.gate_outside.proofs.FirstLemmas.{find_found, find_none, changed_found, piece_changed}
 use Rattle.gate_outside.proofs.pieces.PiecesLeft.read.Goals as goal
 

@@ -1,4 +1,4 @@
-use Rattle.std.proofs.Common.{◌≡◌, arith}
+use Rattle.std.proofs.Common.{arith}
 use Rattle.gate_outside.proofs.CopyLemmas.{one_more_copy, not_past}
 use Rattle.gate_outside.proofs.rooms.RoomsLeft.new.Goals as goal
 use Rattle.gate_outside.proofs.rooms.RoomsLeft.new.Goals.{in-Some+in_ok-push, in_default}

@@ -1,5 +1,4 @@
 use Rattle.std.proofs.Common.{◌≡◌, Some, None, position}
-use Rattle.std.specs.List.{find}
 use Rattle.gate_outside.specs.Script.{is_room_of}
 use Rattle.gate_outside.proofs.FirstLemmas.{find_found, find_none}
 use Rattle.gate_outside.proofs.rooms.RoomsLeft.write.Goals as goal
