@@ -1,6 +1,6 @@
 //! The numbers of calls, by which a script or a stream in memory fails.
 
-ghost use Rattle.std.specs.Prelude.{◌≡◌, ℕ, ◌+◌, ◌<◌, ◌≤◌, ◌==◌, List, true, false, take, min, length, slice_index};
+ghost use Rattle.std.specs.Prelude.{◌≡◌, ◌<◌, ◌≤◌, ◌==◌, true, length, slice_index};
 ghost use Rattle.std.specs.List.{list_any};
 ghost use Rattle.gate_outside.specs.CallCounts.{is_to_fail, counted, tried, one_more};
 ghost use Rattle.gate_outside.specs.Counts.{Rose};

@@ -1,6 +1,6 @@
 //! The clock of a script.
 
-ghost use Rattle.std.specs.Prelude.{◌≡◌, ℕ, ◌≤◌};
+ghost use Rattle.std.specs.Prelude.{◌≡◌, ◌≤◌};
 ghost use Rattle.gate_outside.specs.Script.{ClockState, clock_after};
 
 use std::marker::Model;

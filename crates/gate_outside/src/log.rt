@@ -1,6 +1,6 @@
 //! The log of ports: one entry for each call, with its answer.
 
-ghost use Rattle.std.specs.Prelude.{◌≡◌, ℕ, ◌+◌, ◌≤◌, [], length, IfOk, slice_get};
+ghost use Rattle.std.specs.Prelude.{◌≡◌, ◌+◌, ◌≤◌, [], length, IfOk, slice_get};
 ghost use Rattle.std.specs.Bool.{OnTrue, OnFalse};
 ghost use Rattle.gate_outside.specs.LogState.{LogState, finds_room, added};
 ghost use Rattle.gate_outside.specs.Marks.{entry_at};

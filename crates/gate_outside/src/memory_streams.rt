@@ -1,6 +1,6 @@
 //! A source and a sink in memory, which fail at the calls that a list names.
 
-ghost use Rattle.std.specs.Prelude.{◌≡◌, ℕ, ◌+◌, ◌<◌, ◌≤◌, List, [], length, true, false, Option, IfOk};
+ghost use Rattle.std.specs.Prelude.{◌≡◌, ◌+◌, ◌<◌, ◌≤◌, [], length, IfOk};
 ghost use Rattle.gate_outside.specs.Counts.{Rose};
 ghost use Rattle.gate_outside.specs.Streams.{Appends, SinksSome, sunk_bytes, DrawsInto, Draws};
 ghost use Rattle.gate_outside.specs.MemoryStreams.{draw_answer, after_draw, sink_answer, after_sink};

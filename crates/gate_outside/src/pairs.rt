@@ -1,6 +1,6 @@
 //! The pairs of a script, with their open ends and the bytes taken there.
 
-ghost use Rattle.std.specs.Prelude.{◌≡◌, ℕ, ◌<◌, List, [], ◌∷◌, ◌++◌, false, length, IfOk};
+ghost use Rattle.std.specs.Prelude.{◌≡◌, ◌<◌, [], ◌∷◌, ◌++◌, false, length, IfOk};
 ghost use Rattle.gate_outside.specs.declared.ports.End.{End};
 ghost use Rattle.gate_outside.specs.Ends.{is_end, is_open, closed};
 ghost use Rattle.gate_outside.specs.Script.{PairsState, pair_answer, pairs_accepted, taken_at, taken_at_end, more_taken, more_at_end};

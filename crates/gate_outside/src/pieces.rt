@@ -1,6 +1,6 @@
 //! The pieces of a script: what reads give.
 
-ghost use Rattle.std.specs.Prelude.{◌≡◌, ℕ, ◌<◌, List, length, take, IfOk, position};
+ghost use Rattle.std.specs.Prelude.{◌≡◌, ◌<◌, length, IfOk, position};
 ghost use Rattle.gate_outside.specs.Ends.{ReadsInto, got_bytes};
 ghost use Rattle.gate_outside.specs.Script.{is_left, current_piece, piece_answer, piece_after, pieces_answer, pieces_after, bytes_of};
 

@@ -1,6 +1,6 @@
 //! The rooms of a script: what writes take.
 
-ghost use Rattle.std.specs.Prelude.{◌≡◌, ℕ, ◌<◌, List, Some, IfOk, position};
+ghost use Rattle.std.specs.Prelude.{◌≡◌, ◌<◌, Some, IfOk, position};
 ghost use Rattle.std.specs.List.{find};
 ghost use Rattle.gate_outside.specs.Ends.{TakesSome};
 ghost use Rattle.gate_outside.specs.Script.{is_room_of, room_answer, rooms_after};

@@ -1,6 +1,6 @@
 //! Ports that answer by a script.
 
-ghost use Rattle.std.specs.Prelude.{◌≡◌, ℕ, ◌+◌, ◌<◌, ◌≤◌, ◌^◌, List, [], length, Option, true, false, IfOk};
+ghost use Rattle.std.specs.Prelude.{◌≡◌, ◌<◌, ◌≤◌, ◌^◌, [], length, true, false, IfOk};
 ghost use Rattle.gate_outside.specs.Counts.{Rose};
 ghost use Rattle.gate_outside.specs.declared.ports.End.{End};
 ghost use Rattle.gate_outside.specs.declared.log.LogEntry.{LogEntry};

@@ -1,6 +1,6 @@
 //! A log that is told until an entry finds no room.
 
-ghost use Rattle.std.specs.Prelude.{◌≡◌, ℕ, [], true, IfOk};
+ghost use Rattle.std.specs.Prelude.{◌≡◌, [], true, IfOk};
 ghost use Rattle.gate_outside.specs.History.{Tells};
 ghost use Rattle.gate_outside.specs.LogState.{entry_of};
 ghost use Rattle.gate_outside.specs.Telling.{told, told_log};
