@@ -3,9 +3,12 @@ use Rattle.std.specs.Prelude.{ℕ, ◌+◌, ◌==◌, Bool, if◌then◌else◌,
 use Rattle.std.specs.List.{list_any}
 use Rattle.gate_outside.specs.declared.calls.Calls.{Calls}
 
--- a count with one more, which stands still at the end of its type
+-- counts and moments stand still at the largest number of 64 bits
+abbrev pub capped : ℕ → ℕ
+capped n = min n 18446744073709551615
+
 abbrev pub one_more : ℕ → ℕ
-one_more count = min (count + 1) 18446744073709551615
+one_more count = capped (count + 1)
 
 -- the number of the next call stands among those that are to fail
 abbrev pub is_to_fail : Calls → Bool

@@ -18,6 +18,7 @@ abbrev pub drawn_from : List ℕ → ℕ → Drawn
 drawn_from [] room = drawn.Ended
 drawn_from (x ∷ xs) room = drawn.Bytes (min room (length (x ∷ xs)))
 
+-- a source fails where the number of the call says so
 abbrev pub draw_answer : ℕ → SourceState → Drawn
 draw_answer room source = if is_to_fail source.calls then drawn.Failed else drawn_from source.left room
 

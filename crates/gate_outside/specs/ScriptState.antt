@@ -49,16 +49,20 @@ fresh script entries bytes = record {
 abbrev pub logged : Call → List ℕ → ScriptState → ScriptState
 logged call bytes script = record script { telling = told call bytes script.telling }
 
+-- each call fails where its number says so; else accept gives the next pair
 abbrev pub accept_answer : ScriptState → Accepted
 accept_answer script = if is_to_fail script.calls then accepted.Failed else pair_answer script.pairs
 
+-- a failed accept uses no pair
 abbrev pub after_accept : Accepted → ScriptState → ScriptState
 after_accept answer script =
     record script { calls = tried script.calls; pairs = pairs_accepted answer script.pairs }
 
+-- a connect that does not fail opens the upstream end
 abbrev pub connect_answer : ScriptState → Linked
 connect_answer script = if is_to_fail script.calls then linked.Failed else linked.Ok
 
+-- the pair's upstream end is open where the answer is Ok
 abbrev pub after_connect : ℕ → Linked → ScriptState → ScriptState
 after_connect pair answer script = record script {
   calls = tried script.calls;
@@ -71,6 +75,7 @@ read_answer pair end room script =
     if is_to_fail script.calls then got.Failed
     else pieces_answer room (taken_at pair end script.pairs) (current_piece pair end script.pieces)
 
+-- a read uses what came of its piece
 abbrev pub after_read : ℕ → End → Got → ScriptState → ScriptState
 after_read pair end answer script =
     record script { calls = tried script.calls; pieces = pieces_after pair end answer script.pieces }
@@ -93,11 +98,13 @@ rooms_written pair end (put.Took n) rooms = rooms_after pair end rooms
 rooms_written pair end put.NotYet rooms = rooms_after pair end rooms
 rooms_written pair end put.Failed rooms = rooms
 
+-- the bytes that were taken are counted
 abbrev pub pairs_written : ℕ → End → Put → PairsState → PairsState
 pairs_written pair end (put.Took n) pairs = more_taken pair end n pairs
 pairs_written pair end put.NotYet pairs = pairs
 pairs_written pair end put.Failed pairs = pairs
 
+-- a write uses one room
 abbrev pub after_write : ℕ → End → Put → ScriptState → ScriptState
 after_write pair end answer script = record script {
   calls = tried script.calls;
@@ -105,17 +112,21 @@ after_write pair end answer script = record script {
   pairs = pairs_written pair end answer script.pairs;
 }
 
+-- a shut closes its end
 abbrev pub after_shut : ℕ → End → ScriptState → ScriptState
 after_shut pair end script = record script {
   calls = counted script.calls;
   pairs = record script.pairs { ends = closed pair end script.pairs.ends };
 }
 
+-- Go as often as the script says, and then Stop
 abbrev pub idle_answer : ScriptState → Next
 idle_answer script = if script.idles == 0 then next.Stop else next.Go
 
+-- one Go less is left
 abbrev pub after_idle : ScriptState → ScriptState
 after_idle script = record script { calls = counted script.calls; idles = script.idles - 1 }
 
+-- the moment was given
 abbrev pub after_now : ScriptState → ScriptState
 after_now script = record script { calls = counted script.calls; clock = clock_after script.clock }
