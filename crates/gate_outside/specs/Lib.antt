@@ -1,4 +1,13 @@
+pub mod CallCounts
 pub mod Counts
 pub mod Ends
 pub mod History
+pub mod LogState
+pub mod Marks
+pub mod MemoryStreams
+pub mod OpenEnds
+pub mod Reserved
+pub mod Script
+pub mod ScriptState
 pub mod Streams
+pub mod Telling
