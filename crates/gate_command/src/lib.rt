@@ -2,6 +2,8 @@
 #![tactic(auto)]
 
 mod options;
+mod top_call;
 mod words;
 
+pub use top_call::{Status, gateway};
 pub use words::{Asked, Misplaced, read_words};

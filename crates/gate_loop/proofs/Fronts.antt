@@ -1,5 +1,5 @@
 -- What a sink holds after two texts were offered in turn.
-use Rattle.std.proofs.Common.{◌≡◌, ℕ, List, [], ◌++◌, Option, None, Some, append_assoc, append-nil, refl, sym, ap, ◌∙◌}
+use Rattle.std.proofs.Common.{ℕ, List, [], ◌++◌, Option, None, Some, append_assoc, append-nil, sym, ap, ◌∙◌}
 use Rattle.gate_outside.specs.Streams.{Appends, AppendsFront}
 use Rattle.gate_outside.proofs.Appending.{appends_then}
 
@@ -9,7 +9,7 @@ front_more a b xs ys f = record {
   front = f.front;
   back = f.back ++ ys;
   parts = ap (λ (s : List ℕ). s ++ ys) f.parts ∙ append_assoc f.front f.back ys;
-  added = f.added
+  added = f.added;
 }
 
 -- the first text, and a front part of the second
@@ -18,7 +18,7 @@ front_then a b c xs ys p f = record {
   front = xs ++ f.front;
   back = f.back;
   parts = ap (λ (s : List ℕ). xs ++ s) f.parts ∙ sym (append_assoc xs f.front f.back);
-  added = appends_then a b c xs f.front p f.added
+  added = appends_then a b c xs f.front p f.added;
 }
 
 -- a whole text is a front part of itself

@@ -1,8 +1,8 @@
 -- How marked histories are made: by calls, by notes between them, and one after the other.
-use Rattle.std.proofs.Common.{◌≡◌, ℕ, List, [], ◌∷◌, ◌++◌, Option, None, Some, refl, sym, ap, ◌∙◌, subst}
+use Rattle.std.proofs.Common.{◌≡◌, List, [], ◌∷◌, ◌++◌, Option, None, Some, sym, ap, ◌∙◌}
 use Rattle.gate_outside.specs.declared.log.LogEntry.{LogEntry}
 use Rattle.gate_outside.specs.History.{Tells}
-use Rattle.gate_loop.specs.Marks.{Mark, Call, Strain, Finish, calls, Goes, Told}
+use Rattle.gate_loop.specs.Marks.{Mark, Call, calls, Goes, Told}
 
 -- one call
 pub goes_call : (a b : Option (List LogEntry)) (entry : LogEntry) (R : List Mark → List Mark → Type 0) → Tells a b entry

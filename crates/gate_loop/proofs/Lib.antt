@@ -1,6 +1,13 @@
+pub mod Accepts
+pub mod Closings
+pub mod Crews
 pub mod Fronts
 pub mod Goes
 pub mod OneMark
+pub mod Openings
 pub mod PairLemmas
 pub mod Places
+pub mod Rounds
+pub mod Runnings
 pub mod TurnLemmas
+pub mod Worlds

@@ -1,5 +1,5 @@
 -- A mark of one pair changes that pair's journal alone.
-use Rattle.std.proofs.Common.{◌≡◌, ◌≢◌, ℕ, ◌+◌, ◌==◌, Bool, true, false, ◌||◌, if◌then◌else◌, List, [], ◌∷◌, ◌++◌, refl, sym, ap, ◌∙◌, subst, inl, inr}
+use Rattle.std.proofs.Common.{◌≡◌, ◌≢◌, ℕ, ◌==◌, Bool, true, false, ◌||◌, if◌then◌else◌, List, ◌∷◌, refl, sym, ap, ◌∙◌, inl, inr}
 use Rattle.std.proofs.lemmas.Bool.Decides.{eqb_tells}
 use Rattle.gate_outside.specs.declared.ports.End.{End}
 use Rattle.gate_outside.specs.declared.ports.End.TheVariants.{Client}
@@ -7,10 +7,10 @@ use Rattle.gate_outside.specs.declared.ports.Got.{Got}
 use Rattle.gate_outside.specs.declared.ports.Got.TheVariants as got
 use Rattle.gate_outside.specs.declared.ports.Put.{Put}
 use Rattle.gate_outside.specs.declared.ports.Put.TheVariants as put
-use Rattle.gate_outside.specs.declared.log.LogEntry.TheVariants.{Accept, Connect, Read, Write, Shut, Idle, Now}
-use Rattle.gate_loop.specs.Marks.{Mark, Call, Strain, Finish}
-use Rattle.gate_loop.specs.Events.{Strained, Lost}
-use Rattle.gate_loop.specs.Journal.{Journal, journal, read_at, write_at, noted}
+use Rattle.gate_outside.specs.declared.log.LogEntry.TheVariants.{Read, Write}
+use Rattle.gate_loop.specs.Marks.{Mark, Call, Strain}
+use Rattle.gate_loop.specs.Events.{Strained}
+use Rattle.gate_loop.specs.Journal.{journal, read_at, write_at, noted}
 use Rattle.gate_loop.specs.Steps.{Moves, put_moved}
 
 -- a test of a number with itself, and with another
@@ -48,7 +48,13 @@ pub moves_strain : (p room n : ℕ) (bytes : List ℕ) (m : List Mark)
     → Moves p true true m (Strain p ∷ Call (Read p Client room (got.Bytes n) bytes) ∷ m)
 moves_strain p room n bytes m = record {
   others = λ q ne. if_other p q _ _ (flip p q ne) ∙ if_other p q _ _ (flip p q ne);
-  live = refl; accepts = refl; turn = refl; motion = refl; strain = refl; line = refl; finish = refl
+  live = refl;
+  accepts = refl;
+  turn = refl;
+  motion = refl;
+  strain = refl;
+  line = refl;
+  finish = refl;
 }
 
 pub moves_write : (p : ℕ) (bytes : List ℕ) (answer : Put) (m : List Mark)
@@ -75,7 +81,7 @@ moves_then p a b strained m n k x y = record {
   motion = y.motion ∙ ap (λ (t : Bool). b || t) x.motion ∙ or_assoc a b _;
   strain = y.strain ∙ x.strain;
   line = y.line ∙ x.line;
-  finish = y.finish ∙ x.finish
+  finish = y.finish ∙ x.finish;
 }
 
 -- what a pair's own marks add to its journal

@@ -1,12 +1,12 @@
 -- What a pair's own calls do to its journal.
-use Rattle.std.proofs.Common.{◌≡◌, ℕ, ◌+◌, ◌<◌, ◌≤◌, ◌-◌, Bool, true, false, List, [], ◌∷◌, ◌++◌, length, drop, refl, sym, ap, subst, ◌∙◌, Option, None, Some, is_some, ◌&&◌, if◌then◌else◌, arith}
+use Rattle.std.proofs.Common.{◌≡◌, ℕ, ◌+◌, ◌<◌, ◌≤◌, Bool, true, false, List, [], ◌∷◌, ◌++◌, length, drop, refl, sym, ap, subst, ◌∙◌, Option, None, Some, is_some, ◌&&◌, if◌then◌else◌, arith}
 use Rattle.std.proofs.lemmas.List.{length-drop, drop-drop}
 use Rattle.gate_outside.specs.declared.ports.End.TheVariants.{Client}
 use Rattle.gate_outside.specs.declared.ports.Put.TheVariants as put
 use Rattle.gate_loop.specs.declared.bridge.Bridge.{Bridge}
 use Rattle.gate_loop.specs.declared.pair.Pair.{Pair}
 use Rattle.gate_loop.specs.declared.units.Opening.{Opening}
-use Rattle.gate_loop.specs.declared.units.Opening.TheVariants.{Right, Short, Wrong}
+use Rattle.gate_loop.specs.declared.units.Opening.TheVariants.{Wrong}
 use Rattle.gate_loop.specs.declared.units.Reply.{Reply}
 use Rattle.gate_loop.specs.declared.units.Reply.TheVariants as reply
 use Rattle.gate_loop.specs.declared.units.Unit91.{Unit91}
@@ -17,8 +17,8 @@ use Rattle.gate_loop.specs.declared.units.Sent.{Sent}
 use Rattle.gate_loop.specs.declared.units.Sent.TheVariants as sent
 use Rattle.gate_loop.specs.Frames.{header_bytes, start_frame}
 use Rattle.gate_loop.specs.Due.{reply_bytes, reply_to, is_awaited, is_unsent, takes_bytes, first, pick}
-use Rattle.gate_loop.specs.Events.{Event, Heard, Dry, Offered, first_unit, reply_sent, client_loss, is_strained}
-use Rattle.gate_loop.specs.Journal.{Journal, is_empty, came_in, cut_by, opening, noted, begin_unit, with_rest, write_at, rest_or_pick, awaits, offer}
+use Rattle.gate_loop.specs.Events.{Moment, Heard, Dry, Offered, first_unit, reply_sent, client_loss, is_strained}
+use Rattle.gate_loop.specs.Journal.{Journal, is_empty, noted_unless, noted_since, came_in, cut_by, opening, noted, begin_unit, with_rest, write_at, rest_or_pick, awaits, offer}
 use Rattle.gate_loop.specs.Replies.{rest_begun, rest_by, offered}
 use Rattle.gate_loop.specs.Stands.{Stands}
 
@@ -62,12 +62,12 @@ stands_cut-wrong old new j bridge at unread awaited wrong s =
       unit = λ h. ap (λ (b : Bridge). b.unit) bridge;
       unread = λ h. unread ∙ s.unread h;
       begun = λ h.
-        let none : old.bridge.unit ≡ None = is_unit_none old.bridge.unit old.bridge.lost old.bridge.strained awaited in
-        let before : rest_begun old.bridge.sent old.at old.bridge.unit ≡ [] = none_begun old.bridge.sent old.at old.bridge.unit old.bridge.unit none old.part in
-        let sent_same : new.bridge.sent ≡ old.bridge.sent = ap (λ (b : Bridge). b.sent) bridge in
-        let after : rest_begun old.bridge.sent new.at new.bridge.unit ≡ [] =
+          let none : old.bridge.unit ≡ None = is_unit_none old.bridge.unit old.bridge.lost old.bridge.strained awaited in
+          let before : rest_begun old.bridge.sent old.at old.bridge.unit ≡ [] = none_begun old.bridge.sent old.at old.bridge.unit old.bridge.unit none old.part in
+          let sent_same : new.bridge.sent ≡ old.bridge.sent = ap (λ (b : Bridge). b.sent) bridge in
+          let after : rest_begun old.bridge.sent new.at new.bridge.unit ≡ [] =
           subst (λ (n : ℕ). rest_begun old.bridge.sent n new.bridge.unit ≡ []) (sym at) (none_begun old.bridge.sent old.at old.bridge.unit new.bridge.unit none old.part) in
-        ap (λ (x : Sent). rest_begun x new.at new.bridge.unit) sent_same ∙ after ∙ sym before ∙ s.begun h
+          ap (λ (x : Sent). rest_begun x new.at new.bridge.unit) sent_same ∙ after ∙ sym before ∙ s.begun h;
     })
 
 -- a pair that is to be read is awaited by its journal
@@ -95,7 +95,7 @@ stands_heard old new j bytes bridge at unread s = record {
   sent = ap (λ (b : Bridge). b.sent) bridge ∙ s.sent;
   unit = λ h. ap (λ (b : Bridge). b.unit) bridge ∙ s.unit h;
   unread = λ h. unread;
-  begun = λ h. rw (bridge, at) (s.begun h)
+  begun = λ h. rw (bridge, at) (s.begun h);
 }
 
 -- the reply is begun
@@ -137,9 +137,9 @@ is_begun : (b : Pair) (j : Journal) (bytes : List ℕ) → offered b.bridge.lost
     → IsBegun j (begin_unit j.begun (pick j.events Client) (noted (Offered Client j.begun bytes) j))
 is_begun b j bytes offer some d well s =
     begin_is j.begun bytes (pick j.events Client) j
-      (λ none. rw (← s.lost, ← s.strained, ← s.sent, ← s.unit well)
-        (is_due (takes_bytes b.bridge.lost b.bridge.strained) b.bridge.sent b.at b.bridge.unit bytes offer some d (s.begun well ∙ none)))
-      (λ begun. sym s.sent ∙ is_part b.bridge.sent b.at b.bridge.unit j.begun (s.begun well) begun)
+    (λ none. rw (← s.lost, ← s.strained, ← s.sent, ← s.unit well)
+    (is_due (takes_bytes b.bridge.lost b.bridge.strained) b.bridge.sent b.at b.bridge.unit bytes offer some d (s.begun well ∙ none)))
+    (λ begun. sym s.sent ∙ is_part b.bridge.sent b.at b.bridge.unit j.begun (s.begun well) begun)
 
 -- an end that takes bytes isn't strained
 is_well : (lost : Option Loss) (strained : Bool) (s : Sent) (at : ℕ) (unit : Option Unit91) (bytes : List ℕ)
@@ -164,16 +164,16 @@ stands_took old new j n bytes d offer less bridge at unread s =
     let well : is_strained j.events ≡ false = sym s.strained ∙ is_well _ _ _ _ _ bytes offer in
     let left : 0 < length (drop n bytes) = omega (arith, length-drop n bytes) in
     let b : IsBegun j (begin_unit j.begun (pick j.events Client) (noted (Offered Client j.begun bytes) j)) =
-      is_begun old j bytes offer (omega arith) d well s in
+    is_begun old j bytes offer (omega arith) d well s in
     let back : drop n bytes ≡ drop (old.at + n) (reply_bytes old.bridge.unit) =
-      ap (λ (x : List ℕ). drop n x) d ∙ drop-drop n old.at (reply_bytes old.bridge.unit) in
+    ap (λ (x : List ℕ). drop n x) d ∙ drop-drop n old.at (reply_bytes old.bridge.unit) in
     subst (λ (k : Journal). Stands new k) (sym (rest_is (drop n bytes) _ left)) (record {
       lost = ap (λ (x : Bridge). x.lost) bridge ∙ s.lost ∙ sym b.lost;
       strained = ap (λ (x : Bridge). x.strained) bridge ∙ s.strained ∙ sym b.strained;
       sent = ap (λ (x : Bridge). x.sent) bridge ∙ sym b.sent;
       unit = λ h. ap (λ (x : Bridge). x.unit) bridge ∙ s.unit well ∙ sym b.unit;
       unread = λ h. unread ∙ s.unread well ∙ sym b.unread;
-      begun = λ h. rw (bridge, at) (sym back)
+      begun = λ h. rw (bridge, at) (sym back);
     })
 
 -- what is offered is what is left of the reply
@@ -203,7 +203,7 @@ stands_offered b j bytes s = record { lost = s.lost; strained = s.strained; sent
 offers_by : (takes : Bool) (s : Sent) (at : ℕ) (unit : Option Unit91) (x : List ℕ) → (s ≡ sent.Part → at < length (reply_bytes unit))
     → (s ≡ sent.Nothing → at ≡ 0) → rest_begun s at unit ≡ x
     → (if takes then rest_by s at unit else None)
-      ≡ (if takes then rest_or_pick x (first (if takes && is_unsent s then reply_to unit else [])) else None)
+    ≡ (if takes then rest_or_pick x (first (if takes && is_unsent s then reply_to unit else [])) else None)
 offers_by false s at unit x part unsent b = refl
 offers_by true sent.Nothing at None x part unsent b = ap (λ (y : List ℕ). rest_or_pick y None) b
 offers_by true sent.Nothing at (Some unit91.Protocol) x part unsent b =
@@ -222,4 +222,12 @@ pub offers_journal : (b : Pair) (j : Journal) (bytes : List ℕ) → offered b.b
 offers_journal b j bytes e s =
     let well : is_strained j.events ≡ false = sym s.strained ∙ is_well _ _ _ _ _ bytes e in
     rw (← s.lost, ← s.strained, ← s.sent, ← s.unit well)
-      (sym (offers_by (takes_bytes b.bridge.lost b.bridge.strained) b.bridge.sent b.at b.bridge.unit j.begun b.part b.unsent (s.begun well)) ∙ e)
+    (sym (offers_by (takes_bytes b.bridge.lost b.bridge.strained) b.bridge.sent b.at b.bridge.unit j.begun b.part b.unsent (s.begun well)) ∙ e)
+
+-- a moment
+pub stands_since : (b : Pair) (j : Journal) (ms : ℕ) → Stands b j → Stands b (noted_since (Moment ms) j)
+stands_since b j ms s = by (is_empty j.events) s
+  where
+    by : (t : Bool) → Stands b j → Stands b (noted_unless t (Moment ms) j)
+    by true s = s
+    by false s = record { lost = s.lost; strained = s.strained; sent = s.sent; unit = s.unit; unread = s.unread; begun = s.begun }

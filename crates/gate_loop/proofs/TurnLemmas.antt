@@ -1,16 +1,14 @@
 -- The parts of a pair's turn: what each call, and each part without a call, does to a marked history.
-use Rattle.std.proofs.Common.{◌≡◌, ◌≢◌, ℕ, ◌+◌, ◌<◌, ◌≤◌, nat_lt, Bool, true, false, ◌||◌, List, [], ◌∷◌, ◌++◌, append_assoc, append-nil, if◌then◌else◌, Option, None, Some, length, refl, sym, ap, ◌∙◌, subst, arith}
+use Rattle.std.proofs.Common.{◌≡◌, ℕ, ◌+◌, ◌<◌, ◌≤◌, Bool, true, false, not, ◌||◌, List, [], ◌∷◌, ◌++◌, append_assoc, append-nil, if◌then◌else◌, Option, None, Some, refl, sym, ap, ◌∙◌, subst, arith}
 use Rattle.std.proofs.lemmas.Bool.Decides.{nat_tests}
 use Rattle.gate_outside.specs.declared.ports.End.TheVariants.{Client}
 use Rattle.gate_outside.specs.declared.ports.Got.{Got}
 use Rattle.gate_outside.specs.declared.ports.Got.TheVariants as got
 use Rattle.gate_outside.specs.declared.ports.Put.{Put}
 use Rattle.gate_outside.specs.declared.ports.Put.TheVariants as put
-use Rattle.gate_outside.specs.declared.log.LogEntry.TheVariants.{Accept, Connect, Read, Write, Shut, Idle, Now}
-use Rattle.gate_loop.specs.declared.config.Config.{Config}
+use Rattle.gate_outside.specs.declared.log.LogEntry.TheVariants.{Read, Write, Shut}
 use Rattle.gate_loop.specs.declared.pair.Pair.{Pair}
 use Rattle.gate_loop.specs.Due.{is_awaited}
-use Rattle.gate_loop.specs.Replies.{offered}
 use Rattle.gate_loop.specs.Marks.{Mark, Call, Strain}
 use Rattle.gate_loop.specs.Events.{Strained}
 use Rattle.gate_loop.specs.Journal.{Journal, journal, shut_due, read_at, write_at, came_in, noted, awaits, offer}
@@ -20,8 +18,8 @@ use Rattle.gate_outside.specs.Streams.{Appends, AppendsFront}
 use Rattle.gate_loop.specs.declared.service.Progress.{Progress}
 use Rattle.gate_loop.specs.Report.{report, memory_line, closed_line, lines_of}
 use Rattle.gate_loop.proofs.Fronts.{appends_none, front_whole}
-use Rattle.gate_loop.specs.Steps.{Adds, Moves, Keeps, GoesOn, Steps, Offers, Turns, At, put_moved, after_put}
-use Rattle.gate_loop.proofs.OneMark.{got_moved, moves_read, moves_strain, moves_write, moves_none, moves_then, own_read, own_write, own_strain, if_same, if_other}
+use Rattle.gate_loop.specs.Steps.{Adds, Steps, Offers, Turns, put_moved, after_put}
+use Rattle.gate_loop.proofs.OneMark.{got_moved, moves_read, moves_strain, moves_write, moves_none, moves_then, own_read, own_write, own_strain, if_other}
 use Rattle.gate_loop.proofs.PairLemmas.{awaits_is}
 use Rattle.gate_loop.proofs.Places.{at_held, at_read, at_strain, at_write, at_none, at_full, at_face, face_stay, face_shut}
 
@@ -33,7 +31,7 @@ heard_here : (old new : Pair) (answer : Got) (bytes : List ℕ) → is_awaited o
 heard_here old new answer bytes awaited answered keeps m = record {
   moves = moves_read old.number read_room Client answer bytes m;
   keeps = λ s. subst (λ (j : Journal). Stands new j) (sym (own_read old.number read_room Client answer bytes m)) (keeps (journal old.number m) s);
-  goes = λ c ps s a. at_read c old.number ps m answer bytes (awaits_is old (journal old.number m) awaited s) (answered m) a
+  goes = λ c ps s a. at_read c old.number ps m answer bytes (awaits_is old (journal old.number m) awaited s) (answered m) a;
 }
 
 pub step_read : (old new : Pair) (room : ℕ) (answer : Got) (bytes : List ℕ) → room ≡ read_room
@@ -43,7 +41,7 @@ pub step_read : (old new : Pair) (room : ℕ) (answer : Got) (bytes : List ℕ) 
     → (m : List Mark) → Steps old.number Reading (Writing 0) old new (got_moved answer) false m (Call (Read old.number Client room answer bytes) ∷ m)
 step_read old new room answer bytes e awaited answered keeps m =
     subst (λ (r : ℕ). Steps old.number Reading (Writing 0) old new (got_moved answer) false m (Call (Read old.number Client r answer bytes) ∷ m)) (sym e)
-      (heard_here old new answer bytes awaited answered keeps m)
+    (heard_here old new answer bytes awaited answered keeps m)
 
 -- the client was read, and want of memory was met
 strain_here : (old new : Pair) (n : ℕ) (bytes : List ℕ) → is_awaited old.bridge.unit old.bridge.lost old.bridge.strained ≡ true
@@ -54,11 +52,11 @@ strain_here old new n bytes awaited answered keeps m =
     let p : ℕ = old.number in
     let read : List Mark = Call (Read p Client read_room (got.Bytes n) bytes) ∷ m in
     let own : journal p (Strain p ∷ read) ≡ noted Strained (came_in bytes (journal p m)) =
-      own_strain p read ∙ ap (λ (j : Journal). noted Strained j) (own_read p read_room Client (got.Bytes n) bytes m) in
+    own_strain p read ∙ ap (λ (j : Journal). noted Strained j) (own_read p read_room Client (got.Bytes n) bytes m) in
     record {
       moves = moves_strain p read_room n bytes m;
       keeps = λ s. subst (λ (j : Journal). Stands new j) (sym own) (keeps (journal p m) s);
-      goes = λ c ps s a. at_strain c p ps m n bytes (at_read c p ps m (got.Bytes n) bytes (awaits_is old (journal p m) awaited s) (answered m) a)
+      goes = λ c ps s a. at_strain c p ps m n bytes (at_read c p ps m (got.Bytes n) bytes (awaits_is old (journal p m) awaited s) (answered m) a);
     }
 
 pub step_strain : (old new : Pair) (room n : ℕ) (bytes : List ℕ) → room ≡ read_room
@@ -68,14 +66,14 @@ pub step_strain : (old new : Pair) (room n : ℕ) (bytes : List ℕ) → room �
     → (m : List Mark) → Steps old.number Reading Shutting old new true true m (Strain old.number ∷ Call (Read old.number Client room (got.Bytes n) bytes) ∷ m)
 step_strain old new room n bytes e awaited answered keeps m =
     subst (λ (r : ℕ). Steps old.number Reading Shutting old new true true m (Strain old.number ∷ Call (Read old.number Client r (got.Bytes n) bytes) ∷ m)) (sym e)
-      (strain_here old new n bytes awaited answered keeps m)
+    (strain_here old new n bytes awaited answered keeps m)
 
 -- the client isn't read
 pub step_held : (b : Pair) → ((j : Journal) → Stands b j → awaits j ≡ false) → (m : List Mark) → Steps b.number Reading (Writing 0) b b false false m m
 step_held b held m = record {
   moves = moves_none b.number m;
   keeps = λ s. s;
-  goes = λ c ps s a. at_held c b.number ps m (held (journal b.number m) s) a
+  goes = λ c ps s a. at_held c b.number ps m (held (journal b.number m) s) a;
 }
 
 -- one write
@@ -87,7 +85,7 @@ pub offer_write : (old new : Pair) (bytes : List ℕ) (answer : Put)
 offer_write old new bytes answer offers answered keeps m = record {
   moves = moves_write old.number bytes answer m;
   keeps = λ s. subst (λ (j : Journal). Stands new j) (sym (own_write old.number Client bytes answer m)) (keeps (journal old.number m) s);
-  goes = λ k few c ps s a. at_write c old.number k ps m bytes answer (grind (arith, nat_tests, few)) (offers (journal old.number m) s) (answered m) a
+  goes = λ k few c ps s a. at_write c old.number k ps m bytes answer (grind (arith, nat_tests, few)) (offers (journal old.number m) s) (answered m) a;
 }
 
 -- one part after another
@@ -96,7 +94,7 @@ pub steps_then : (p : ℕ) (from over to : Stage) (old mid new : Pair) (a b stra
 steps_then p from over to old mid new a b strained m n k x y = record {
   moves = moves_then p a b strained m n k x.moves y.moves;
   keeps = λ s. y.keeps (x.keeps s);
-  goes = λ c ps s at. y.goes c ps (x.keeps s) (x.goes c ps s at)
+  goes = λ c ps s at. y.goes c ps (x.keeps s) (x.goes c ps s at);
 }
 
 -- writes, and one more
@@ -106,7 +104,7 @@ offers_then : (p k : ℕ) (old mid new : Pair) (a : Bool) (answer : Put) (m n l 
 offers_then p k old mid new a answer m n l few x y = record {
   moves = moves_then p a (put_moved answer) false m n l x.moves y.moves;
   keeps = λ s. y.keeps (x.keeps s);
-  goes = λ c ps s at. y.goes k few c ps (x.keeps s) (x.goes c ps s at)
+  goes = λ c ps s at. y.goes k few c ps (x.keeps s) (x.goes c ps s at);
 }
 
 or_true : (a : Bool) → (a || true) ≡ true
@@ -145,7 +143,7 @@ pub offers_none : (p k : ℕ) (old new : Pair) (a : Bool) (m n : List Mark) → 
 offers_none p k old new a m n few none x = record {
   moves = x.moves;
   keeps = x.keeps;
-  goes = λ c ps s at. at_none c p k ps n (grind (arith, nat_tests, few)) (sym (none (journal p n) (x.keeps s))) (x.goes c ps s at)
+  goes = λ c ps s at. at_none c p k ps n (grind (arith, nat_tests, few)) (sym (none (journal p n) (x.keeps s))) (x.goes c ps s at);
 }
 
 -- all the writes were made
@@ -154,7 +152,7 @@ pub offers_all : (p k : ℕ) (old new : Pair) (a : Bool) (m n : List Mark) → 4
 offers_all p k old new a m n full x = record {
   moves = x.moves;
   keeps = x.keeps;
-  goes = λ c ps s at. at_full c p k ps n (grind (arith, nat_tests, full)) (x.goes c ps s at)
+  goes = λ c ps s at. at_full c p k ps n (grind (arith, nat_tests, full)) (x.goes c ps s at);
 }
 
 -- the pair stays
@@ -174,11 +172,11 @@ turn_stays p old new progress held m n calm stays x = record {
     lines = [];
     line = x.moves.line ∙ ap (λ (b : Bool). if b then report m ++ memory_line p else report m) calm ∙ sym (append-nil (report m));
     whole = λ h. appends_none held;
-    part = front_whole held held [] (appends_none held)
+    part = front_whole held held [] (appends_none held);
   };
   keeps = λ still. x.keeps;
   goes = λ c ps behind others s f.
-    face_stay c p ps n (sym (stays (journal p n) (x.keeps s))) (x.goes c ps s (at_face c p ps m behind others f))
+      face_stay c p ps n (sym (stays (journal p n) (x.keeps s))) (x.goes c ps s (at_face c p ps m behind others f));
 }
 
 -- the lines of a pair that was shut
@@ -204,11 +202,11 @@ shuts_here p old new moved strained told held held' m n due whole part x = recor
     lines = lines_of p strained;
     line = ap (λ (r : List ℕ). r ++ closed_line p) x.moves.line ∙ lines_then p strained (report m);
     whole = whole;
-    part = part
+    part = part;
   };
   keeps = λ still. absurd cc;
   goes = λ c ps behind others s f.
-    face_shut c p ps n (sym (due (journal p n) (x.keeps s))) (x.goes c ps s (at_face c p ps m behind others f))
+      face_shut c p ps n (sym (due (journal p n) (x.keeps s))) (x.goes c ps s (at_face c p ps m behind others f));
 }
 
 pub turn_shuts : (p : ℕ) (old new : Pair) (moved strained told : Bool) (held held' : Option (List ℕ)) (m n l : List Mark)
@@ -218,9 +216,18 @@ pub turn_shuts : (p : ℕ) (old new : Pair) (moved strained told : Bool) (held h
     → Turns p old new (record { progress = record { moved = true; strained = strained }; closed = true; told = told }) held held' m l
 turn_shuts p old new moved strained told held held' m n l due whole part x y =
     subst (λ (k : List Mark). Turns p old new (record { progress = record { moved = true; strained = strained }; closed = true; told = told }) held held' m k) (sym y.one)
-      (shuts_here p old new moved strained told held held' m n due whole part x)
+    (shuts_here p old new moved strained told held held' m n due whole part x)
 
 -- a pair that isn't to be shut met no want of memory
 pub is_calm : (strained due : Bool) → (strained ≡ true → due ≡ true) → due ≡ false → strained ≡ false
 is_calm true due f e = absurd (let t : due ≡ true = f refl in cc)
 is_calm false due f e = refl
+
+-- what a test of a field that is negated says
+pub is_false : (b : Bool) → not b ≡ true → b ≡ false
+is_false true e = absurd cc
+is_false false e = refl
+
+pub is_true : (b : Bool) → not b ≡ false → b ≡ true
+is_true true e = refl
+is_true false e = absurd cc

@@ -1,13 +1,12 @@
 -- The entries of one pair's journal, and what they amount to. All lists are newest first.
 use Rattle.std.specs.Prelude.{ℕ, Bool, true, false, List, [], ◌∷◌, Option, None, Some}
 use Rattle.gate_outside.specs.declared.ports.End.{End}
-use Rattle.gate_outside.specs.declared.ports.End.TheVariants.{Client, Up}
+use Rattle.gate_outside.specs.declared.ports.End.TheVariants.{Client}
 use Rattle.gate_outside.specs.declared.ports.Linked.{Linked}
 use Rattle.gate_loop.specs.declared.config.Served.{Served}
 use Rattle.gate_loop.specs.declared.units.Unit91.{Unit91}
 use Rattle.gate_loop.specs.declared.units.Reply.{Reply}
 use Rattle.gate_loop.specs.declared.units.Loss.{Loss}
-use Rattle.gate_loop.specs.declared.units.Loss.TheVariants as loss
 use Rattle.gate_loop.specs.declared.units.Sent.{Sent}
 use Rattle.gate_loop.specs.declared.units.Sent.TheVariants as sent
 

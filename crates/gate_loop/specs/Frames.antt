@@ -34,10 +34,10 @@ capabilities =
 abbrev pub properties : List ℕ
 properties =
     text_field (codes "product") (codes "amqp-gate") ++ text_field (codes "version") (codes "1")
-      ++ table_field (codes "capabilities") capabilities
+    ++ table_field (codes "capabilities") capabilities
 
 -- connection.start: class 10, method 10, version 0-9, properties, mechanisms, locales (AMQP 0-9-1 1.4.2.1)
 unfoldable pub start_frame : List ℕ
 start_frame =
     method_frame (0 ∷ 10 ∷ 0 ∷ 10 ∷ 0 ∷ 9 ∷ []
-      ++ long_string properties ++ long_string (codes "PLAIN ANONYMOUS") ++ long_string (codes "en_US"))
+    ++ long_string properties ++ long_string (codes "PLAIN ANONYMOUS") ++ long_string (codes "en_US"))

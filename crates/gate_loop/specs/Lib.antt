@@ -7,5 +7,6 @@ pub mod Marks
 pub mod Next
 pub mod Replies
 pub mod Report
+pub mod Serving
 pub mod Stands
 pub mod Steps

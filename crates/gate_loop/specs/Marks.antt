@@ -28,4 +28,4 @@ abbrev pub Goes : Option (List LogEntry) → Option (List LogEntry) → (List Ma
 Goes old None R = Unit {0}
 Goes None (Some new) R = ⊥
 Goes (Some old) (Some new) R = (m : List Mark) (base : List LogEntry) → old ≡ calls m ++ base →
-  (n : List Mark) × (new ≡ calls n ++ base) × R m n
+    (n : List Mark) × (new ≡ calls n ++ base) × R m n

@@ -1,10 +1,9 @@
 -- The calls of a run are determined: each is a function of the calls before it. All histories are newest first.
-use Rattle.std.specs.Prelude.{◌≡◌, ℕ, ◌+◌, ◌==◌, ◌<◌, ◌≤◌, nat_lt, Bool, true, false, not, ◌&&◌, ◌||◌, if◌then◌else◌, List, [], ◌∷◌, ◌++◌, length, filter, Option, None, Some, unwrap_or}
+use Rattle.std.specs.Prelude.{◌≡◌, ℕ, ◌+◌, ◌==◌, ◌≤◌, nat_lt, Bool, true, false, not, ◌&&◌, if◌then◌else◌, List, [], ◌∷◌, ◌++◌, length, filter, Option, None, Some, unwrap_or}
 use Rattle.gate_outside.specs.declared.ports.End.{End}
-use Rattle.gate_outside.specs.declared.ports.End.TheVariants.{Client, Up}
+use Rattle.gate_outside.specs.declared.ports.End.TheVariants.{Client}
 use Rattle.gate_outside.specs.declared.ports.Accepted.{Accepted}
 use Rattle.gate_outside.specs.declared.ports.Accepted.TheVariants as accepted
-use Rattle.gate_outside.specs.declared.ports.Got.{Got}
 use Rattle.gate_outside.specs.declared.ports.Got.TheVariants as got
 use Rattle.gate_outside.specs.declared.ports.Put.{Put}
 use Rattle.gate_outside.specs.declared.ports.Put.TheVariants as put

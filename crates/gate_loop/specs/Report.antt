@@ -1,11 +1,11 @@
 -- The report of a run: its lines, each at the mark that causes it, and one last line.
-use Rattle.std.specs.Prelude.{◌≡◌, ℕ, Bool, true, false, List, [], ◌∷◌, ◌++◌, codes, decimal}
-use Rattle.gate_outside.specs.declared.ports.End.TheVariants.{Client, Up}
-use Rattle.gate_outside.specs.declared.log.LogEntry.TheVariants.{Accept, Connect, Read, Write, Shut, Idle, Now}
+use Rattle.std.specs.Prelude.{ℕ, Bool, true, false, List, [], ◌∷◌, ◌++◌, codes, decimal}
+use Rattle.gate_outside.specs.declared.ports.End.TheVariants.{Client}
+use Rattle.gate_outside.specs.declared.log.LogEntry.TheVariants.{Shut}
 use Rattle.gate_loop.specs.declared.config.Served.{Served}
 use Rattle.gate_loop.specs.declared.config.Served.TheVariants.{Stopped, PairsDone, TurnLimit, Fault, Memory}
 use Rattle.gate_loop.specs.declared.config.Outside.TheVariants as outside
-use Rattle.gate_loop.specs.Marks.{Mark, Call, Strain, Finish}
+use Rattle.gate_loop.specs.Marks.{Mark, Call, Strain}
 
 -- a line about a pair
 abbrev pub pair_line : ℕ → List ℕ → List ℕ

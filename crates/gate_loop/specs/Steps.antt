@@ -1,27 +1,29 @@
 -- What the parts of a turn do to a marked history. These words are of the loop's own functions.
-use Rattle.std.specs.Prelude.{◌≡◌, ◌≢◌, ℕ, ◌+◌, ◌<◌, ◌≤◌, Bool, true, false, ◌||◌, if◌then◌else◌, List, [], ◌∷◌, ◌++◌, map, drop, length, Option, None, Some, Result, Ok, Err}
+use Rattle.std.specs.Prelude.{◌≡◌, ◌≢◌, ℕ, ◌+◌, ◌<◌, ◌≤◌, Bool, true, false, ◌||◌, if◌then◌else◌, List, [], ◌∷◌, ◌++◌, map, drop, Option, None, Some, Result, Ok, Err, IfOk, MatchResult}
 use Rattle.std.specs.List.{AllByRecursion}
 use Rattle.gate_outside.specs.declared.ports.End.{End}
 use Rattle.gate_outside.specs.declared.ports.End.TheVariants.{Client}
 use Rattle.gate_outside.specs.declared.ports.Put.{Put}
 use Rattle.gate_outside.specs.declared.ports.Put.TheVariants as put
 use Rattle.gate_outside.specs.declared.log.LogEntry.{LogEntry}
-use Rattle.gate_outside.specs.declared.log.LogEntry.TheVariants.{Shut}
+use Rattle.gate_outside.specs.declared.log.LogEntry.TheVariants.{Now}
 use Rattle.gate_outside.specs.Ends.{closed}
 use Rattle.gate_outside.specs.Streams.{Appends, AppendsFront}
 use Rattle.gate_loop.specs.declared.config.Config.{Config}
 use Rattle.gate_loop.specs.declared.config.Outside.{Outside}
 use Rattle.gate_loop.specs.declared.config.Outside.TheVariants as outside
 use Rattle.gate_loop.specs.declared.config.Served.{Served}
-use Rattle.gate_loop.specs.declared.config.Served.TheVariants.{Fault}
+use Rattle.gate_loop.specs.declared.config.Served.TheVariants.{Stopped, PairsDone, TurnLimit, Fault, Memory}
 use Rattle.gate_loop.specs.declared.pair.Pair.{Pair}
 use Rattle.gate_loop.specs.declared.service.Service.{Service}
 use Rattle.gate_loop.specs.declared.service.Visit.{Visit}
-use Rattle.gate_loop.specs.Marks.{Mark, Call, Strain, Finish}
-use Rattle.gate_loop.specs.Journal.{Journal, journal, shut_due}
+use Rattle.wire_base.specs.declared.memory.Memory.{Memory as Wanting}
+use Rattle.gate_loop.specs.Marks.{Mark, Call}
+use Rattle.gate_loop.specs.Journal.{journal, came}
 use Rattle.gate_loop.specs.Stands.{Stands}
-use Rattle.gate_loop.specs.Report.{report, memory_line, lines_of}
-use Rattle.gate_loop.specs.Next.{Upcoming, Do, EndBy, AskNow, AskIdle, AskShut, Stage, Reading, Writing, Shutting, Place, Begin, Greet, Round, Refuse, Beyond, Stopping, Closing, place, writes_of, visit, round, rest, begin, beyond, without, next, is_closing, is_done, EndsBy, Follows, lives, accepted_count, turns_begun, has_moved, strain_count, finish_of}
+use Rattle.gate_loop.specs.Report.{report, memory_line, last_line}
+use Rattle.gate_loop.specs.Serving.{IsTold}
+use Rattle.gate_loop.specs.Next.{Do, EndBy, Done, AskAccept, AskNow, Stage, Reading, Writing, Shutting, Place, Begin, Refuse, Stopping, Closing, place, writes_of, visit, round, rest, begin, beyond, without, next, is_closing, is_done, EndsBy, Follows, lives, accepted_count, turns_begun, has_moved, strain_count, finish_of}
 
 -- one call was made
 pub record Adds (entry : LogEntry) (m n : List Mark) : Type 0 where
@@ -142,7 +144,7 @@ pub record Turns (p : ℕ) (old new : Pair) (visit : Visit) (held held' : Option
   pub reports : Reports visit.told held held' m n
   pub keeps : visit.closed ≡ false → Keeps p old new m n
   pub goes : (c : Config) (ps : List ℕ) → beyond p (lives m) ≡ ps → AreOthers p ps → Stands old (journal p m)
-    → Facing c (p ∷ ps) m → Facing c ps n
+      → Facing c (p ∷ ps) m → Facing c ps n
 
 -- the numbers of the live pairs
 abbrev pub numbers : List Pair → List ℕ
@@ -171,3 +173,165 @@ pub record Crew (s : Service) (pairs : ℕ) (ends : List (ℕ × End)) : Type 0 
   pub rising : IsRising 0 s.live.items
   pub below : AllByRecursion (λ (b : Pair). b.number < pairs) s.live.items
   pub open_ends : ends ≡ client_ends s.live.items
+
+-- the place in the list of the next pair, after the turn of the pair at one
+abbrev pub place_after : Bool → ℕ → ℕ
+place_after true at = at
+place_after false at = at + 1
+
+-- the numbers of the live pairs from a place in the list on
+abbrev pub numbers_from : ℕ → Service → List ℕ
+numbers_from at s = numbers (drop at s.live.items)
+
+-- the turn of the pair at a place in the list
+pub record VisitsAt (at : ℕ) (old new : Service) (visit : Visit) (held held' : Option (List ℕ)) (m n : List Mark) : Type 0 where
+  pub world : World old m → World new n
+  pub turn : turns_begun n ≡ turns_begun m
+  pub motion : has_moved n ≡ visit.progress.moved || has_moved m
+  pub reports : Reports visit.told held held' m n
+  pub goes : (c : Config) → World old m → Facing c (numbers_from at old) m → Facing c (numbers_from (place_after visit.closed at) new) n
+
+-- the turns of the pairs up to a place in the list
+pub record Toured (at : ℕ) (old new : Service) (moved : Bool) (held held' : Option (List ℕ)) (m n : List Mark) : Type 0 where
+  pub world : World old m → World new n
+  pub turn : turns_begun n ≡ turns_begun m
+  pub motion : has_moved n ≡ moved || has_moved m
+  pub reports : Reports true held held' m n
+  pub goes : (c : Config) → World old m → Facing c (numbers_from 0 old) m → Facing c (numbers_from at new) n
+
+-- the turns of all the pairs; where the report failed, of some of them
+pub record Tours (old new : Service) (moved told : Bool) (held held' : Option (List ℕ)) (m n : List Mark) : Type 0 where
+  pub world : World old m → World new n
+  pub turn : turns_begun n ≡ turns_begun m
+  pub motion : has_moved n ≡ moved || has_moved m
+  pub reports : Reports told held held' m n
+  pub follows : (c : Config) → World old m → Facing c (numbers_from 0 old) m → Follows c n
+  pub inside : (c : Config) → World old m → Facing c (numbers_from 0 old) m → is_inside (place n) ≡ true
+  pub goes : told ≡ true → (c : Config) → World old m → Facing c (numbers_from 0 old) m → next c n ≡ rest c n
+
+-- the clock was read
+pub record Ticks (m n : List Mark) : Type 0 where
+  pub ms : ℕ
+  pub one : n ≡ Call (Now ms) ∷ m
+
+-- what comes after the accept's part of a turn: the pairs' turns; or the end, where accept or the report failed
+abbrev pub IsWelcomed : Config → Result Bool Outside → Service → List Mark → Type 0
+IsWelcomed c (Ok moved) s n = Facing c (numbers_from 0 s) n
+IsWelcomed c (Err outside.Accept) s n = (next c n ≡ EndBy (Fault outside.Accept)) × (is_closing (place n) ≡ false) × Follows c n
+IsWelcomed c (Err outside.Out) s n = (is_closing (place n) ≡ false) × Follows c n
+
+-- the turn moved, where it goes on
+abbrev pub HasMoved : Result Bool Outside → List Mark → List Mark → Type 0
+HasMoved (Ok moved) m n = has_moved n ≡ moved || has_moved m
+HasMoved (Err how) m n = Unit {0}
+
+-- the report took its lines, unless it is what failed
+abbrev pub is_told : {A : Type 0} → Result A Outside → Bool
+is_told (Ok x) = true
+is_told (Err outside.Accept) = true
+is_told (Err outside.Out) = false
+
+-- the accept's part of a turn
+pub record Welcomes (result : Result Bool Outside) (old new : Service) (held held' : Option (List ℕ)) (m n : List Mark) : Type 0 where
+  pub world : World old m → World new n
+  pub turn : turns_begun n ≡ turns_begun m
+  pub motion : HasMoved result m n
+  pub reports : Reports (is_told result) held held' m n
+  pub goes : (c : Config) → World old m → next c m ≡ Do AskAccept → Follows c m → IsWelcomed c result new n
+
+-- the beginning of a turn, up to the pairs' turns
+pub record Opens (c : Config) (result : Result Bool Outside) (old new : Service) (held held' : Option (List ℕ)) (m n : List Mark) : Type 0 where
+  pub world : World old m → World new n
+  pub turn : turns_begun n ≡ turns_begun m + 1
+  pub motion : IfOk result (λ moved. has_moved n ≡ moved)
+  pub reports : Reports (is_told result) held held' m n
+  pub goes : World old m → next c m ≡ Do AskNow → Follows c m → IsWelcomed c result new n
+
+-- the report took its lines, unless it is what ended the service
+abbrev pub is_heard : Served → Bool
+is_heard Stopped = true
+is_heard PairsDone = true
+is_heard TurnLimit = true
+is_heard (Fault outside.Accept) = true
+is_heard (Fault outside.Out) = false
+is_heard Memory = true
+
+-- the service ends so
+pub record EndsSo (c : Config) (how : Served) (n : List Mark) : Type 0 where
+  pub ends : EndsBy how (next c n)
+  pub open_still : is_closing (place n) ≡ false
+  pub follows : Follows c n
+
+-- a turn is over
+pub record TurnsOver (c : Config) (n : List Mark) : Type 0 where
+  pub coming : next c n ≡ begin c n
+  pub undone : is_done c n ≡ false
+  pub follows : Follows c n
+
+-- the end of a turn, after the turns of the pairs: idle, where nothing moved, and what comes then
+pub record EndsTurn (c : Config) (moved : Bool) (result : Result (Unit {0}) Served) (s : Service) (m n : List Mark) : Type 0 where
+  pub world : World s m → World s n
+  pub turn : turns_begun n ≡ turns_begun m
+  pub line : report n ≡ report m
+  pub goes : World s m → has_moved m ≡ moved → next c m ≡ rest c m → is_inside (place m) ≡ true → Follows c m
+      → MatchResult result (λ done. TurnsOver c n) (λ how. EndsSo c how n)
+
+-- a whole turn, or one that ended the service
+pub record OneTurn (c : Config) (result : Result (Unit {0}) Served) (old new : Service) (held held' : Option (List ℕ)) (m n : List Mark) : Type 0 where
+  pub world : World old m → World new n
+  pub turn : turns_begun n ≡ turns_begun m + 1
+  pub reports : MatchResult result (λ done. Reports true held held' m n) (λ how. Reports (is_heard how) held held' m n)
+  pub goes : World old m → next c m ≡ Do AskNow → Follows c m → MatchResult result (λ done. TurnsOver c n) (λ how. EndsSo c how n)
+
+-- so many turns
+pub record Ran (c : Config) (turns : ℕ) (old new : Service) (held held' : Option (List ℕ)) (m n : List Mark) : Type 0 where
+  pub world : World old m → World new n
+  pub turn : turns_begun n ≡ turns_begun m + turns
+  pub reports : Reports true held held' m n
+  pub goes : World old m → TurnsOver c m → turns_begun m ≡ 0 → TurnsOver c n
+
+-- all the turns
+pub record Runs (c : Config) (how : Served) (old new : Service) (held held' : Option (List ℕ)) (m n : List Mark) : Type 0 where
+  pub world : World old m → World new n
+  pub reports : Reports (is_heard how) held held' m n
+  pub goes : World old m → TurnsOver c m → turns_begun m ≡ 0 → EndsSo c how n
+
+-- the service has ended, and these pairs are yet to be shut
+pub record IsClosing (ps : List ℕ) (m : List Mark) : Type 0 where
+  pub here : place m ≡ Closing
+  pub left : lives m ≡ ps
+
+-- the pairs before some were shut at the end
+pub record Closes (left : List ℕ) (told : Bool) (live : List Pair) (held held' : Option (List ℕ)) (m n : List Mark) : Type 0 where
+  pub closing : IsClosing (numbers live) m → IsClosing left n
+  pub follows : (c : Config) → IsClosing (numbers live) m → Follows c m → Follows c n
+  pub accepts : accepted_count n ≡ accepted_count m
+  pub strain : strain_count n ≡ strain_count m
+  pub finish : finish_of n ≡ finish_of m
+  pub reports : Reports told held held' m n
+
+-- the service is over
+pub record IsOver (c : Config) (why : Served) (s : Service) (n : List Mark) : Type 0 where
+  pub follows : Follows c n
+  pub over : next c n ≡ Done
+  pub shut : lives n ≡ []
+  pub ended : finish_of n ≡ Some why
+  pub count : strain_count n ≡ s.strained
+  pub accepts : accepted_count n ≡ s.accepted
+
+-- the end of the service: the live pairs are shut, and the last line is told
+pub record Concludes (why answer : Served) (s : Service) (held held' : Option (List ℕ)) (m n : List Mark) : Type 0 where
+  pub lines : List ℕ
+  pub line : report n ≡ report m ++ lines
+  pub told : IsTold why answer held held' (lines ++ last_line why s.accepted)
+  pub goes : (c : Config) → World s m → EndsSo c why m → IsOver c why s n
+
+-- a pair that was accepted lives, or met want of memory
+abbrev pub AdmitsAs : Result (Unit {0}) Wanting → ℕ → Service → Service → Type 0
+AdmitsAs (Ok done) p old new =
+    ((b : Pair) × (new.live.items ≡ old.live.items ++ b ∷ []) × (b.number ≡ p) × ((ms : ℕ) → Stands b (came ms))) × (new.strained ≡ old.strained)
+AdmitsAs (Err wanting) p old new = (new.live.items ≡ old.live.items) × (new.strained ≡ old.strained + 1)
+
+pub record Admits (result : Result (Unit {0}) Wanting) (p : ℕ) (old new : Service) : Type 0 where
+  pub accepts : new.accepted ≡ old.accepted + 1
+  pub by : AdmitsAs result p old new

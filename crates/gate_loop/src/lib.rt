@@ -4,13 +4,18 @@
 ghost use Rattle.gate_loop.specs.Next.{Follows};
 ghost use Rattle.gate_loop.specs.Report.{report};
 ghost use Rattle.gate_loop.specs.Steps.{Crew};
+
 mod bridge;
 mod config;
 mod frames;
 mod pair;
 mod report;
+mod round;
+mod running;
 mod service;
 mod turn;
 mod units;
+mod welcome;
 
 pub use config::{Config, Outside, Served};
+pub use running::serve;

@@ -6,6 +6,7 @@ ghost use Rattle.gate_loop.specs.declared.units.Sent.TheVariants as sent;
 ghost use Rattle.gate_loop.specs.Due.{reply_bytes, is_awaited, takes_bytes, shut_by};
 ghost use Rattle.gate_loop.specs.Replies.{rest_by, offered};
 ghost use Rattle.gate_loop.specs.Journal.{opening};
+
 use crate::bridge::Bridge;
 use crate::frames::{HEADER, header};
 use crate::units::{Loss, Opening, Sent, Unit91};

@@ -172,7 +172,7 @@ fn exchange<P: Ports>(ports: &mut P, pair: &mut Pair, room: &mut [u8]) -> Progre
 }
 
 /// Shuts the client's end of a pair.
-fn shut<P: Ports>(ports: &mut P, number: u32)
+pub fn shut<P: Ports>(ports: &mut P, number: u32)
     ensures later { P.faults ports.old ≤ P.faults ports.new }
     ensures pairs { P.pairs ports.new ≡ P.pairs ports.old }
     ensures ends { P.ends ports.new ≡ closed number End.Client (P.ends ports.old) }
@@ -182,7 +182,12 @@ fn shut<P: Ports>(ports: &mut P, number: u32)
 }
 
 /// One pair's part of a turn. It is shut where that is due, and the lines of that are told.
-pub fn turn<P: Ports, K: Sink>(ports: &mut P, report: &mut K, pair: &mut Pair, room: &mut [u8]) -> Visit
+pub fn turn<P: Ports, K: Sink>(
+    ports: &mut P,
+    report: &mut K,
+    pair: &mut Pair,
+    room: &mut [u8],
+) -> Visit
     requires open { is_open pair.old.number End.Client (P.ends ports.old) ≡ true }
     requires room { length room.old ≡ read_room }
     requires some { 0 < length room.old }

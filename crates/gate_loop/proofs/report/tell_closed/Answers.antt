@@ -7,4 +7,4 @@ returns-then-not-tell_number-clause-part g c = rw c.if-not-strained.false (front
 pub returns-clause-part : goal.returns-clause-part
 returns-clause-part g c =
     rw c.if-not-strained.false
-      (front_then _ _ _ _ _ (c.tell_number-2.ensures.whole c.if-not-tell_number.false) c.tell_number-3.ensures.part)
+    (front_then _ _ _ _ _ (c.tell_number-2.ensures.whole c.if-not-tell_number.false) c.tell_number-3.ensures.part)

@@ -6,7 +6,7 @@ use Rattle.gate_loop.proofs.turn.turn.Goals as goal
 pub returns-then-not-shut_due-clause-log : goal.returns-then-not-shut_due-clause-log
 returns-then-not-shut_due-clause-log g c = goes_map _ _ _ _ c.exchange-progress.ensures.log
     (λ m n x. turn_stays _ _ _ c.exchange-progress.result _ m n
-      (is_calm _ _ c.exchange-progress.ensures.shut (sym c.if-not-shut_due.ensures.value)) c.if-not-shut_due.ensures.journal x)
+    (is_calm _ _ c.exchange-progress.ensures.shut (sym c.if-not-shut_due.ensures.value)) c.if-not-shut_due.ensures.journal x)
 
 pub returns-clause-log : goal.returns-clause-log
 returns-clause-log g c = goes_then _ _ _ _ _ _ c.exchange-progress.ensures.log c.shut.ensures.log

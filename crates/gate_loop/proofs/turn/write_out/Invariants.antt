@@ -12,5 +12,5 @@ invariant-loop g l = record {
   pairs : g.P.Ports.pairs l.ports ≡ g.P.Ports.pairs l.fn.ports;
   ends : g.P.Ports.ends l.ports ≡ g.P.Ports.ends l.fn.ports;
   log : Goes (g.P.Ports.log l.fn.ports) (g.P.Ports.log l.ports)
-    (Steps l.fn.pair.number (Writing 0) (Writing l.counter) l.fn.pair l.pair l.moved false)
+      (Steps l.fn.pair.number (Writing 0) (Writing l.counter) l.fn.pair l.pair l.moved false);
 }
