@@ -1,3 +1,4 @@
 pub mod Command
+pub mod Outcome
 pub mod Reading
 pub mod View

@@ -1,30 +1,43 @@
 //! The top call: a command line, ports, and out.
 
+ghost use Rattle.std.specs.Prelude.{◌≡◌, ℕ, ◌≤◌, ◌⊎◌, List, [], map, true, false, Option, Some};
+ghost use Rattle.std.specs.String.{string_bytes};
+ghost use Rattle.gate_outside.specs.Counts.{Rose};
+ghost use Rattle.gate_outside.specs.Streams.{Appends, AppendsFront};
+ghost use Rattle.gate_outside.specs.declared.log.LogEntry.{LogEntry};
+ghost use Rattle.gate_loop.specs.declared.config.Outside.TheVariants as Fault;
+ghost use Rattle.gate_loop.specs.Form.{IsInForm};
+ghost use Rattle.gate_loop.specs.Marks.{Told};
+ghost use Rattle.gate_loop.specs.Serving.{IsServed};
+ghost use Rattle.gate_command.specs.Command.{config_of};
+ghost use Rattle.gate_command.specs.Outcome.{number_of, status_of, usage_line, Outcome};
+
 use crate::words::{Asked, Misplaced, read_words};
-use gate_loop::{Served, serve};
+use gate_loop::{Served, serve, tell_number};
 use gate_outside::{Ports, Sink, write_all};
-use itoa::Buffer;
 use std::alloc::Global;
 use wire_base::Memory;
 
 /// The status with which the program ends.
 #[derive(Clone, Copy, Debug, PartialEq, Eq)]
 pub enum Status {
-    /// Number 0: `idle` answered `Stop`, or the pairs asked for were accepted and have closed.
+    /// 0: `idle` answered `Stop`, or the pairs asked for were accepted and have closed.
     Ok,
-    /// Number 2: the words aren't a command line.
+    /// 2: the words aren't a command line.
     Usage,
-    /// Number 4: accept or out failed.
+    /// 4: accept or out failed.
     Outside,
-    /// Number 5: memory was wanted outside of any pair.
+    /// 5: memory was wanted outside of any pair.
     Memory,
-    /// Number 6: the turns asked for were made.
+    /// 6: the turns asked for were made.
     TurnLimit,
 }
 
 impl Status {
     /// The number of the status.
-    pub fn number(self) -> u8 {
+    pub fn number(self) -> u8
+        ensures { result ≡ number_of self }
+    {
         match self {
             Status::Ok => 0,
             Status::Usage => 2,
@@ -36,20 +49,22 @@ impl Status {
 }
 
 /// Writes the place at which the words cease to be a command line.
-fn tell_usage<K: Sink>(out: &mut K, misplaced: Misplaced) -> bool {
+fn tell_usage<K: Sink>(out: &mut K, misplaced: Misplaced) -> bool
+    ensures later { K.faults out.old ≤ K.faults out.new }
+    ensures cause { result ≡ false → Rose (K.faults out.old) (K.faults out.new) }
+    ensures whole { result ≡ true → Appends (K.held out.old) (K.held out.new) (usage_line misplaced) }
+    ensures part { AppendsFront (K.held out.old) (K.held out.new) (usage_line misplaced) }
+{
     match misplaced {
-        Misplaced::Word(place) => {
-            let mut buffer = Buffer::new();
-            write_all(out, b"usage at word ")
-                && write_all(out, buffer.format(place).as_bytes())
-                && write_all(out, b"\n")
-        }
+        Misplaced::Word(place) => tell_number(out, b"usage at word ", place, b"\n"),
         Misplaced::End => write_all(out, b"usage at end\n"),
     }
 }
 
 /// The status of a run of the service.
-fn status_of(served: Served) -> Status {
+fn status_of(served: Served) -> Status
+    ensures { result ≡ status_of served }
+{
     match served {
         Served::Stopped | Served::PairsDone => Status::Ok,
         Served::TurnLimit => Status::TurnLimit,
@@ -58,11 +73,50 @@ fn status_of(served: Served) -> Status {
     }
 }
 
-/// Does what the words ask for: serves over the ports, and writes the report to out.
-pub fn gateway<P: Ports, K: Sink>(alloc: Global, words: &Vec<String>, ports: &mut P, out: &mut K) -> Status {
+/// Serves as asked; how that ended, and the count of the pairs that met want of memory.
+fn serve_as_asked<P: Ports, K: Sink>(
+    alloc: Global,
+    asked: &Asked,
+    ports: &mut P,
+    out: &mut K,
+) -> (Served, u32)
+    requires pairs { P.pairs ports.old ≡ 0 }
+    requires ends { P.ends ports.old ≡ [] }
+    requires form { IsInForm (config_of asked.now) }
+    ensures ends { P.ends ports.new ≡ [] }
+    ensures accept { result.0 ≡ Served.Fault Fault.Accept → Rose (P.faults ports.old) (P.faults ports.new) }
+    ensures report { result.0 ≡ Served.Fault Fault.Out → Rose (K.faults out.old) (K.faults out.new) }
+    ensures served { (base : List LogEntry) → P.log ports.old ≡ Some base
+        → Told base (P.log ports.new) (IsServed (config_of asked.now) result.0 result.1 (K.held out.old) (K.held out.new)) }
+{
+    let Asked::Serve { config, listen: _ } = asked;
+    serve(alloc, ports, config, out)
+}
+
+/// Does what the words ask for: serves over the ports, and writes the report to out. Where the words aren't a command line,
+/// it writes the place instead.
+pub fn gateway<P: Ports, K: Sink>(
+    alloc: Global,
+    words: &Vec<String>,
+    ports: &mut P,
+    out: &mut K,
+) -> Status
+    requires pairs { P.pairs ports.old ≡ 0 }
+    requires ends { P.ends ports.old ≡ [] }
+
+    // All ends are shut.
+    ensures ends { P.ends ports.new ≡ [] }
+
+    // Accept or out failed, and its count of faults rose.
+    ensures outside { result ≡ Status.Outside
+        → Rose (P.faults ports.old) (P.faults ports.new) ⊎ Rose (K.faults out.old) (K.faults out.new) }
+
+    // What the words ask for was done, or out holds the place at which they cease to be a command line.
+    ensures outcome { Outcome (map string_bytes words.now.items) result (K.held out.old) (K.held out.new) (P.log ports.old) (P.log ports.new) }
+{
     match read_words(alloc, words) {
-        Ok(Ok(Asked::Serve { config, listen: _ })) => {
-            let (served, _strained) = serve(alloc, ports, &config, out);
+        Ok(Ok(asked)) => {
+            let (served, _strained) = serve_as_asked(alloc, &asked, ports, out);
             status_of(served)
         }
         Ok(Err(misplaced)) => {

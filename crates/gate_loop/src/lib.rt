@@ -18,4 +18,5 @@ mod units;
 mod welcome;
 
 pub use config::{Config, Outside, Served};
+pub use report::tell_number;
 pub use running::serve;

@@ -33,8 +33,9 @@ fn tell_count<K: Sink>(report: &mut K, number: u32, after: &[u8]) -> bool
     write_all(report, after)
 }
 
-/// Writes a text, a number and a text.
-fn tell_number<K: Sink>(report: &mut K, before: &[u8], number: u32, after: &[u8]) -> bool
+/// Writes a text, a number in decimal and a text. `false` comes only where the sink's count of faults rose; a front part was
+/// then taken.
+pub fn tell_number<K: Sink>(report: &mut K, before: &[u8], number: u32, after: &[u8]) -> bool
     ensures later { K.faults report.old ≤ K.faults report.new }
     ensures cause { result ≡ false → Rose (K.faults report.old) (K.faults report.new) }
     ensures whole { result ≡ true

@@ -1,0 +1,56 @@
+-- What the top call does with its words, its ports and out.
+use Rattle.std.specs.Prelude.{◌≡◌, ℕ, ◌⊎◌, List, ◌++◌, Option, Some, codes, decimal}
+use Rattle.gate_outside.specs.declared.log.LogEntry.{LogEntry}
+use Rattle.gate_outside.specs.Streams.{Appends, AppendsFront}
+use Rattle.gate_loop.specs.declared.config.Served.{Served}
+use Rattle.gate_loop.specs.declared.config.Served.TheVariants as served
+use Rattle.gate_loop.specs.Marks.{Told}
+use Rattle.gate_loop.specs.Serving.{IsServed}
+use Rattle.gate_command.specs.declared.top_call.Status.{Status}
+use Rattle.gate_command.specs.declared.top_call.Status.TheVariants as status
+use Rattle.gate_command.specs.declared.words.Asked.{Asked}
+use Rattle.gate_command.specs.declared.words.Misplaced.{Misplaced}
+use Rattle.gate_command.specs.declared.words.Misplaced.TheVariants.{Word, End}
+use Rattle.gate_command.specs.Command.{Asks, CeasesAt, config_of}
+
+-- the number of a status
+abbrev pub number_of : Status → ℕ
+number_of status.Ok = 0
+number_of status.Usage = 2
+number_of status.Outside = 4
+number_of status.Memory = 5
+number_of status.TurnLimit = 6
+
+-- the status of a run of the service
+abbrev pub status_of : Served → Status
+status_of served.Stopped = status.Ok
+status_of served.PairsDone = status.Ok
+status_of served.TurnLimit = status.TurnLimit
+status_of (served.Fault what) = status.Outside
+status_of served.Memory = status.Memory
+
+-- the line for words that aren't a command line
+abbrev pub usage_line : Misplaced → List ℕ
+usage_line (Word k) = codes "usage at word " ++ (decimal k ++ codes "\n")
+usage_line End = codes "usage at end\n"
+
+-- the words aren't a command line, and the place was told; or out failed at that
+pub record IsMisread (words : List (List ℕ)) (answer : Status) (held held' : Option (List ℕ)) : Type 0 where
+  pub misplaced : Misplaced
+  pub place : CeasesAt words misplaced
+  pub told : ((answer ≡ status.Usage) × Appends held held' (usage_line misplaced))
+      ⊎ ((answer ≡ status.Outside) × AppendsFront held held' (usage_line misplaced))
+
+-- the words ask for a run of the service, and it was made
+pub record IsRun (words : List (List ℕ)) (answer : Status) (held held' : Option (List ℕ)) (log log' : Option (List LogEntry)) : Type 0 where
+  pub asked : Asked
+  pub asks : Asks words asked
+  pub how : Served
+  pub strained : ℕ
+  pub status : answer ≡ status_of how
+  pub served : (base : List LogEntry) → log ≡ Some base → Told base log' (IsServed (config_of asked) how strained held held')
+
+-- one of these; or memory was wanted to read the words
+abbrev pub Outcome : List (List ℕ) → Status → Option (List ℕ) → Option (List ℕ) → Option (List LogEntry) → Option (List LogEntry) → Type 0
+Outcome words answer held held' log log' =
+    IsMisread words answer held held' ⊎ IsRun words answer held held' log log' ⊎ (answer ≡ status.Memory)
