@@ -1,0 +1,9 @@
+pub mod Asks
+pub mod Bytes
+pub mod Ends
+pub mod Lawful
+pub mod Limits
+pub mod Log
+pub mod Pairs
+pub mod Quiet
+pub mod Strains
