@@ -1,5 +1,6 @@
 pub mod Cutting
 pub mod Numbers
+pub mod RunLaws
 pub mod Steps
 pub mod OptionLaws
 pub mod WordLaws

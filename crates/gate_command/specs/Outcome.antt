@@ -4,8 +4,10 @@ use Rattle.gate_outside.specs.declared.log.LogEntry.{LogEntry}
 use Rattle.gate_outside.specs.Streams.{Appends, AppendsFront}
 use Rattle.gate_loop.specs.declared.config.Served.{Served}
 use Rattle.gate_loop.specs.declared.config.Served.TheVariants as served
-use Rattle.gate_loop.specs.Marks.{Told}
+use Rattle.gate_loop.specs.declared.config.Config.{Config}
+use Rattle.gate_loop.specs.Marks.{Mark, Told}
 use Rattle.gate_loop.specs.Serving.{IsServed}
+use Rattle.gate_laws.specs.Laws.{IsLawfulRun}
 use Rattle.gate_command.specs.declared.top_call.Status.{Status}
 use Rattle.gate_command.specs.declared.top_call.Status.TheVariants as status
 use Rattle.gate_command.specs.declared.words.Asked.{Asked}
@@ -41,6 +43,11 @@ pub record IsMisread (words : List (List ℕ)) (answer : Status) (held held' : O
   pub told : ((answer ≡ status.Usage) × Appends held held' (usage_line misplaced))
       ⊎ ((answer ≡ status.Outside) × AppendsFront held held' (usage_line misplaced))
 
+-- the calls are a run of the service, and all its laws hold of it
+pub record IsRunOf (c : Config) (how : Served) (strained : ℕ) (held held' : Option (List ℕ)) (m : List Mark) : Type 0 where
+  pub served : IsServed c how strained held held' m
+  pub lawful : IsLawfulRun c m
+
 -- the words ask for a run of the service, and it was made
 pub record IsRun (words : List (List ℕ)) (answer : Status) (held held' : Option (List ℕ)) (log log' : Option (List LogEntry)) : Type 0 where
   pub asked : Asked
@@ -48,7 +55,7 @@ pub record IsRun (words : List (List ℕ)) (answer : Status) (held held' : Optio
   pub how : Served
   pub strained : ℕ
   pub status : answer ≡ status_of how
-  pub served : (base : List LogEntry) → log ≡ Some base → Told base log' (IsServed (config_of asked) how strained held held')
+  pub served : (base : List LogEntry) → log ≡ Some base → Told base log' (IsRunOf (config_of asked) how strained held held')
 
 -- one of these; or memory was wanted to read the words
 abbrev pub Outcome : List (List ℕ) → Status → Option (List ℕ) → Option (List ℕ) → Option (List LogEntry) → Option (List LogEntry) → Type 0

@@ -8,12 +8,12 @@ ghost use Rattle.gate_outside.specs.declared.log.LogEntry.{LogEntry};
 ghost use Rattle.gate_loop.specs.declared.config.Outside.TheVariants as Fault;
 ghost use Rattle.gate_loop.specs.Form.{IsInForm};
 ghost use Rattle.gate_loop.specs.Marks.{Told};
-ghost use Rattle.gate_loop.specs.Serving.{IsServed};
 ghost use Rattle.gate_command.specs.Command.{config_of};
-ghost use Rattle.gate_command.specs.Outcome.{number_of, status_of, usage_line, Outcome};
+ghost use Rattle.gate_command.specs.Outcome.{number_of, status_of, usage_line, IsRunOf, Outcome};
 
 use crate::words::{Asked, Misplaced, read_words};
-use gate_loop::{Served, serve, tell_number};
+use gate_laws::runs_are_lawful;
+use gate_loop::{Config, Served, serve, tell_number};
 use gate_outside::{Ports, Sink, write_all};
 use std::alloc::Global;
 use wire_base::Memory;
@@ -73,6 +73,26 @@ fn status_of(served: Served) -> Status
     }
 }
 
+/// Serves. All laws of a run hold of the calls that were made.
+fn serve_lawfully<P: Ports, K: Sink>(
+    alloc: Global,
+    config: &Config,
+    ports: &mut P,
+    out: &mut K,
+) -> (Served, u32)
+    requires pairs { P.pairs ports.old ≡ 0 }
+    requires ends { P.ends ports.old ≡ [] }
+    requires form { IsInForm config.now }
+    ensures ends { P.ends ports.new ≡ [] }
+    ensures accept { result.0 ≡ Served.Fault Fault.Accept → Rose (P.faults ports.old) (P.faults ports.new) }
+    ensures report { result.0 ≡ Served.Fault Fault.Out → Rose (K.faults out.old) (K.faults out.new) }
+    ensures served { (base : List LogEntry) → P.log ports.old ≡ Some base
+        → Told base (P.log ports.new) (IsRunOf config.now result.0 result.1 (K.held out.old) (K.held out.new)) }
+{
+    runs_are_lawful();
+    serve(alloc, ports, config, out)
+}
+
 /// Serves as asked; how that ended, and the count of the pairs that met want of memory.
 fn serve_as_asked<P: Ports, K: Sink>(
     alloc: Global,
@@ -87,10 +107,10 @@ fn serve_as_asked<P: Ports, K: Sink>(
     ensures accept { result.0 ≡ Served.Fault Fault.Accept → Rose (P.faults ports.old) (P.faults ports.new) }
     ensures report { result.0 ≡ Served.Fault Fault.Out → Rose (K.faults out.old) (K.faults out.new) }
     ensures served { (base : List LogEntry) → P.log ports.old ≡ Some base
-        → Told base (P.log ports.new) (IsServed (config_of asked.now) result.0 result.1 (K.held out.old) (K.held out.new)) }
+        → Told base (P.log ports.new) (IsRunOf (config_of asked.now) result.0 result.1 (K.held out.old) (K.held out.new)) }
 {
     let Asked::Serve { config, listen: _ } = asked;
-    serve(alloc, ports, config, out)
+    serve_lawfully(alloc, config, ports, out)
 }
 
 /// Does what the words ask for: serves over the ports, and writes the report to out. Where the words aren't a command line,

@@ -2,6 +2,7 @@ pub mod Asks
 pub mod Bytes
 pub mod Ends
 pub mod Lawful
+pub mod Laws
 pub mod Limits
 pub mod Log
 pub mod Pairs

@@ -11,6 +11,7 @@ ghost use Rattle.gate_laws.specs.Asks.{AsksLive};
 ghost use Rattle.gate_laws.specs.Bytes.{IsAnswered};
 ghost use Rattle.gate_laws.specs.Ends.{EndsOnce, TurnsDid};
 ghost use Rattle.gate_laws.specs.Lawful.{IsLawful};
+ghost use Rattle.gate_laws.specs.Laws.{IsLawfulRun};
 ghost use Rattle.gate_laws.specs.Limits.{IsWithin};
 ghost use Rattle.gate_laws.specs.Log.{FollowsLog, is_plain_end, marked, next_call, with_end};
 ghost use Rattle.gate_laws.specs.Pairs.{AreOrdered, LivesOrShut};
@@ -82,3 +83,19 @@ pub fn calls_determine_all()
     ensures last { (c : Config) (m : List Mark) → Follows c m → strain_count m ≡ 0 → is_plain_end (finish_of m) ≡ true → next c m ≡ Done → next_call c (calls m) ≡ None }
     ensures marks { (c : Config) (m : List Mark) → Follows c m → strain_count m ≡ 0 → is_plain_end (finish_of m) ≡ true → with_end c m ≡ marked c (calls m) }
 {}
+
+/// All the laws together.
+pub fn runs_are_lawful()
+    ensures { (c : Config) (m : List Mark) → Follows c m → IsLawfulRun c m }
+{
+    entries_are_lawful();
+    clients_are_answered();
+    live_pairs_are_asked();
+    pairs_live_or_are_shut();
+    idle_is_at_rest();
+    service_ends_once();
+    turns_did_something();
+    runs_are_limited();
+    strains_are_counted();
+    calls_determine_all();
+}
