@@ -1,0 +1,301 @@
+//! Byte strings, numbers, lists, streams in memory, and scripted ports.
+
+ghost use Rattle.std.specs.Prelude.{◌≡◌, [], ◌∷◌, true};
+ghost use Rattle.gate_outside.specs.declared.ports.End.{End};
+ghost use Rattle.gate_outside.specs.Ends.{is_open};
+
+use crate::plays::{only, quiet};
+use gate_outside::{
+    Accepted, Call, CallList, Drawn, End, Got, Linked, Log, LogEntry, MemorySink, MemorySource,
+    Next, Piece, Ports, Put, Room, Script, ScriptPorts, Sink, Source, Sunk, write_all,
+};
+use std::alloc::{AllocError, Global};
+use std::process::Abort;
+use std::test::Fail;
+use wire_base::{
+    ByteText, ItemList, Memory, put_u8, put_u16, put_u32, put_u64, take_u8, take_u16, take_u32,
+    take_u64,
+};
+
+/// Byte strings and lists, each call once.
+fn texts(rt: &(impl Abort + AllocGlobal)) -> Result<(), Fail> {
+    let mut text = ByteText::with_room(rt.alloc(), 16)?;
+    assert_eq!(rt; text.as_slice(), b"".as_slice());
+    text.append(b"AM")?;
+    text.append(b"QP")?;
+    let before = text.copy(rt.alloc())?;
+    assert_eq!(rt; text.as_slice(), b"AMQP".as_slice());
+    let mut text = ByteText::copy_of(rt.alloc(), b"connection")?;
+    text.discard(7);
+    assert_eq!(rt; text.as_slice(), b"ion".as_slice());
+    assert_eq!(rt; before.as_slice(), b"AMQP".as_slice());
+    let mut list = ItemList::empty(rt.alloc());
+    list.push(7u64)?;
+    list.push(9)?;
+    assert_eq!(rt; list.len(), 2);
+    assert_eq!(rt; list.get(1), Some(&9));
+    assert_eq!(rt; list.get(2), None);
+    Ok(())
+}
+
+#[test]
+fn numbers_go_high_byte_first(rt: HostRuntime) -> Result<(), Fail> {
+    texts(&rt)?;
+    let mut text = ByteText::empty(rt.alloc());
+    put_u8(&mut text, 0xF0)?;
+    put_u16(&mut text, 0x0102)?;
+    put_u32(&mut text, 0x0102_0304)?;
+    put_u64(&mut text, 0x0102_0304_0506_0708)?;
+    let want = [0xF0, 1, 2, 1, 2, 3, 4, 1, 2, 3, 4, 5, 6, 7, 8];
+    let bytes = text.as_slice();
+    assert_eq!(rt; bytes, want.as_slice());
+    assert_eq!(rt; take_u8(bytes, 0), Some(0xF0));
+    assert_eq!(rt; take_u16(bytes, 1), Some(0x0102));
+    assert_eq!(rt; take_u32(bytes, 3), Some(0x0102_0304));
+    assert_eq!(rt; take_u64(bytes, 7), Some(0x0102_0304_0506_0708));
+    assert_eq!(rt; take_u8(bytes, 15), None);
+    assert_eq!(rt; take_u16(bytes, 14), None);
+    assert_eq!(rt; take_u32(bytes, 12), None);
+    assert_eq!(rt; take_u64(bytes, 8), None);
+    assert_eq!(rt; take_u64(bytes, 18_446_744_073_709_551_615), None);
+    Ok(())
+}
+
+/// A source gives `amqp` by at most three bytes at a read, and fails at its second call.
+fn source_is_read(rt: &(impl Abort + AllocGlobal)) -> Result<(), Fail> {
+    let bytes = ByteText::copy_of(rt.alloc(), b"amqp")?;
+    let mut source = MemorySource::new(bytes, only(rt.alloc(), 1)?);
+    let mut buf = [0u8; 3];
+    assert_eq!(rt; source.read(&mut buf), Drawn::Bytes(3));
+    assert_eq!(rt; buf, *b"amq");
+    assert_eq!(rt; source.read(&mut buf), Drawn::Failed);
+    assert_eq!(rt; buf, *b"amq");
+    assert_eq!(rt; source.read(&mut buf), Drawn::Bytes(1));
+    assert_eq!(rt; buf, *b"pmq");
+    assert_eq!(rt; source.read(&mut buf), Drawn::Ended);
+    assert_eq!(rt; buf, *b"pmq");
+    Ok(())
+}
+
+#[test]
+fn streams_hold_their_bytes(rt: HostRuntime) -> Result<(), Fail> {
+    source_is_read(&rt)?;
+    let mut sink = MemorySink::new(rt.alloc(), 6, only(rt.alloc(), 1)?)?;
+    assert_eq!(rt; sink.held(), b"".as_slice());
+    assert_eq!(rt; sink.write(b"am"), Sunk::Took(2));
+    assert_eq!(rt; sink.write(b"qp"), Sunk::Failed);
+    assert!(rt; write_all(&mut sink, b"qp"));
+    assert_eq!(rt; sink.held(), b"amqp".as_slice());
+    assert!(rt; write_all(&mut sink, b""));
+    assert!(rt;
+        !write_all(&mut sink, b"101"),
+        "there is room for two of the three"
+    );
+    assert_eq!(rt; sink.held(), b"amqp10".as_slice());
+    Ok(())
+}
+
+/// What reads at the ends of pair 0 give.
+fn two_ends(alloc: Global, fails: CallList) -> Result<Script, Memory> {
+    let mut script = quiet(alloc, 1);
+    script.idles = 1;
+    script.step = 40;
+    script.fails = fails;
+    let pieces = [
+        (End::Client, 0, b"abc".as_slice(), false),
+        (End::Client, 2, b"de".as_slice(), true),
+        (End::Up, 0, b"".as_slice(), true),
+    ];
+    for (end, after, bytes, ends) in pieces {
+        script.pieces.push(Piece {
+            pair: 0,
+            end,
+            after,
+            bytes: ByteText::copy_of(alloc, bytes)?,
+            ends,
+        })?;
+    }
+    for (end, most) in [(End::Up, 0), (End::Client, 1), (End::Up, 1)] {
+        script.rooms.push(Room { pair: 0, end, most })?;
+    }
+    Ok(script)
+}
+
+/// An entry of a log as a line.
+fn line_of(alloc: Global, entry: &LogEntry) -> Result<String, AllocError> {
+    match entry {
+        LogEntry::Accept { answer } => format!(in alloc; "accept: {answer:?}"),
+        LogEntry::Connect { pair, answer } => format!(in alloc; "connect {pair}: {answer:?}"),
+        LogEntry::Read {
+            pair,
+            end,
+            room,
+            answer,
+            bytes,
+        } => {
+            let bytes = bytes.as_slice();
+            format!(in alloc; "read {pair} {end:?} {room}: {answer:?} {bytes:?}")
+        }
+        LogEntry::Write {
+            pair,
+            end,
+            bytes,
+            answer,
+        } => {
+            let bytes = bytes.as_slice();
+            format!(in alloc; "write {pair} {end:?} {bytes:?}: {answer:?}")
+        }
+        LogEntry::Shut { pair, end } => format!(in alloc; "shut {pair} {end:?}"),
+        LogEntry::Idle { answer } => format!(in alloc; "idle: {answer:?}"),
+        LogEntry::Now { ms } => format!(in alloc; "now: {ms}"),
+    }
+}
+
+/// The entries of a log, as lines.
+fn log_says(rt: &(impl Abort + AllocGlobal), log: &Log, lines: &[&str]) -> Result<(), Fail> {
+    assert_eq!(rt; log.len(), lines.len());
+    let mut k = 0usize;
+    for want in lines {
+        match log.copy(rt.alloc(), k)? {
+            Some(entry) => {
+                let line = line_of(rt.alloc(), &entry)?;
+                assert_eq!(rt; line.as_str(), *want, "entry {k}");
+            }
+            None => panic!(rt; "no entry {k}"),
+        }
+        k = k.saturating_add(1);
+    }
+    assert!(rt; log.copy(rt.alloc(), k)?.is_none());
+    Ok(())
+}
+
+/// The clock and the opening of both ends of pair 0.
+fn opens<P: Ports>(rt: &impl Abort, ports: &mut P)
+    requires pairs { P.pairs ports.old ≡ 0 }
+    requires ends { P.ends ports.old ≡ [] }
+    ensures { P.ends ports.new ≡ (0, End.Client) ∷ (0, End.Up) ∷ [] }
+{
+    assert_eq!(rt; ports.now(), 0);
+    assert_eq!(rt; ports.accept(), Accepted::Pair(0));
+    assert_eq!(rt; ports.accept(), Accepted::NotYet);
+    assert_eq!(rt; ports.connect(0), Linked::Ok);
+}
+
+/// A read at an end of pair 0 into a buffer of two bytes, the answer, and what the buffer then holds.
+fn reads<P: Ports>(rt: &impl Abort, ports: &mut P, end: End, answer: Got, held: &[u8])
+    requires open { is_open 0 end (P.ends ports.old) ≡ true }
+    requires ends { P.ends ports.old ≡ (0, End.Client) ∷ (0, End.Up) ∷ [] }
+    ensures { P.ends ports.new ≡ (0, End.Client) ∷ (0, End.Up) ∷ [] }
+{
+    let mut buf = *b"--";
+    assert_eq!(rt; ports.read(0, end, &mut buf), answer);
+    assert_eq!(rt; buf.as_slice(), held);
+}
+
+/// A write of two bytes at an end of pair 0, and the answer.
+fn writes<P: Ports>(rt: &impl Abort, ports: &mut P, end: End, answer: Put)
+    requires open { is_open 0 end (P.ends ports.old) ≡ true }
+    requires ends { P.ends ports.old ≡ (0, End.Client) ∷ (0, End.Up) ∷ [] }
+    ensures { P.ends ports.new ≡ (0, End.Client) ∷ (0, End.Up) ∷ [] }
+{
+    assert_eq!(rt; ports.write(0, end, b"xy"), answer);
+}
+
+/// The shut of an end, the idles, and the clock.
+fn closes<P: Ports>(rt: &impl Abort, ports: &mut P) {
+    ports.shut(0, End::Up);
+    assert_eq!(rt; ports.idle(), Next::Go);
+    assert_eq!(rt; ports.idle(), Next::Stop);
+    assert_eq!(rt; ports.now(), 40);
+}
+
+#[test]
+fn ports_play_a_script(rt: HostRuntime) -> Result<(), Fail> {
+    let script = two_ends(rt.alloc(), only(rt.alloc(), 4)?)?;
+    let mut ports = ScriptPorts::new(rt.alloc(), script, 100, 100)?;
+    opens(&rt, &mut ports);
+    reads(&rt, &mut ports, End::Client, Got::Failed, b"--");
+    reads(&rt, &mut ports, End::Client, Got::Bytes(2), b"ab");
+    reads(&rt, &mut ports, End::Client, Got::Bytes(1), b"c-");
+    reads(&rt, &mut ports, End::Client, Got::NotYet, b"--");
+    reads(&rt, &mut ports, End::Up, Got::Ended, b"--");
+    reads(&rt, &mut ports, End::Up, Got::NotYet, b"--");
+    writes(&rt, &mut ports, End::Client, Put::Took(1));
+    writes(&rt, &mut ports, End::Client, Put::Took(2));
+    reads(&rt, &mut ports, End::Client, Got::Bytes(2), b"de");
+    reads(&rt, &mut ports, End::Client, Got::Ended, b"--");
+    writes(&rt, &mut ports, End::Up, Put::NotYet);
+    writes(&rt, &mut ports, End::Up, Put::Took(1));
+    closes(&rt, &mut ports);
+    log_says(&rt, ports.log(), SCRIPT_LINES.as_slice())
+}
+
+/// The log of the script above.
+const SCRIPT_LINES: [&str; 20] = [
+    "now: 0",
+    "accept: Pair(0)",
+    "accept: NotYet",
+    "connect 0: Ok",
+    "read 0 Client 2: Failed []",
+    "read 0 Client 2: Bytes(2) [97, 98]",
+    "read 0 Client 2: Bytes(1) [99]",
+    "read 0 Client 2: NotYet []",
+    "read 0 Up 2: Ended []",
+    "read 0 Up 2: NotYet []",
+    "write 0 Client [120, 121]: Took(1)",
+    "write 0 Client [120, 121]: Took(2)",
+    "read 0 Client 2: Bytes(2) [100, 101]",
+    "read 0 Client 2: Ended []",
+    "write 0 Up [120, 121]: NotYet",
+    "write 0 Up [120, 121]: Took(1)",
+    "shut 0 Up",
+    "idle: Go",
+    "idle: Stop",
+    "now: 40",
+];
+
+/// A log by itself takes what it has room for.
+fn log_fills(rt: &(impl Abort + AllocGlobal)) -> Result<(), Fail> {
+    let mut log = Log::new(rt.alloc(), 2, 3)?;
+    let write = Call::Write {
+        pair: 7,
+        end: End::Up,
+        answer: Put::NotYet,
+    };
+    assert!(rt; !log.add(write, b"abcd"), "no room for four bytes");
+    assert!(rt; log.add(write, b"abc"));
+    assert!(rt; log.add(Call::Now { ms: 9 }, b""));
+    assert!(rt;
+        !log.add(Call::Now { ms: 9 }, b""),
+        "no room for a third entry"
+    );
+    log_says(rt, &log, &["write 7 Up [97, 98, 99]: NotYet", "now: 9"])
+}
+
+/// Ports whose log has room for one entry.
+fn one_entry(rt: &(impl Abort + AllocGlobal)) -> Result<(), Fail> {
+    let script = quiet(rt.alloc(), 0);
+    let mut ports = ScriptPorts::new(rt.alloc(), script, 1, 100)?;
+    assert_eq!(rt; ports.accept(), Accepted::NotYet);
+    assert_eq!(rt; ports.idle(), Next::Stop);
+    log_says(rt, ports.log(), &["accept: NotYet"])
+}
+
+#[test]
+fn log_ends_where_room_does(rt: HostRuntime) -> Result<(), Fail> {
+    log_fills(&rt)?;
+    one_entry(&rt)?;
+    // the log of ports is told up to the first call that finds no room
+    let script = two_ends(rt.alloc(), ItemList::empty(rt.alloc()))?;
+    let mut ports = ScriptPorts::new(rt.alloc(), script, 100, 3)?;
+    let mut buf = [0u8; 2];
+    assert_eq!(rt; ports.accept(), Accepted::Pair(0));
+    assert_eq!(rt; ports.read(0, End::Client, &mut buf), Got::Bytes(2));
+    assert_eq!(rt; ports.write(0, End::Client, b"xy"), Put::Took(1));
+    assert_eq!(rt; ports.now(), 0);
+    log_says(
+        &rt,
+        ports.log(),
+        &["accept: Pair(0)", "read 0 Client 2: Bytes(2) [97, 98]"],
+    )
+}
