@@ -36,12 +36,13 @@ abbrev pub usage_line : Misplaced → List ℕ
 usage_line (Word k) = codes "usage at word " ++ (decimal k ++ codes "\n")
 usage_line End = codes "usage at end\n"
 
--- the words aren't a command line, and the place was told; or out failed at that
-pub record IsMisread (words : List (List ℕ)) (answer : Status) (held held' : Option (List ℕ)) : Type 0 where
+-- the words aren't a command line, and the place was told; or out failed at that. Nothing was asked of the ports
+pub record IsMisread (words : List (List ℕ)) (answer : Status) (held held' : Option (List ℕ)) (log log' : Option (List LogEntry)) : Type 0 where
   pub misplaced : Misplaced
   pub place : CeasesAt words misplaced
   pub told : ((answer ≡ status.Usage) × Appends held held' (usage_line misplaced))
       ⊎ ((answer ≡ status.Outside) × AppendsFront held held' (usage_line misplaced))
+  pub silent : log' ≡ log
 
 -- the calls are a run of the service, and all its laws hold of it
 pub record IsRunOf (c : Config) (how : Served) (strained : ℕ) (held held' : Option (List ℕ)) (m : List Mark) : Type 0 where
@@ -57,7 +58,13 @@ pub record IsRun (words : List (List ℕ)) (answer : Status) (held held' : Optio
   pub status : answer ≡ status_of how
   pub served : (base : List LogEntry) → log ≡ Some base → Told base log' (IsRunOf (config_of asked) how strained held held')
 
--- one of these; or memory was wanted to read the words
+-- memory was wanted to read the words, and nothing was done
+pub record IsUnread (answer : Status) (held held' : Option (List ℕ)) (log log' : Option (List LogEntry)) : Type 0 where
+  pub status : answer ≡ status.Memory
+  pub unwritten : held' ≡ held
+  pub silent : log' ≡ log
+
+-- one of these
 abbrev pub Outcome : List (List ℕ) → Status → Option (List ℕ) → Option (List ℕ) → Option (List LogEntry) → Option (List LogEntry) → Type 0
 Outcome words answer held held' log log' =
-    IsMisread words answer held held' ⊎ IsRun words answer held held' log log' ⊎ (answer ≡ status.Memory)
+    IsMisread words answer held held' log log' ⊎ IsRun words answer held held' log log' ⊎ IsUnread answer held held' log log'

@@ -131,6 +131,9 @@ pub fn gateway<P: Ports, K: Sink>(
     ensures outside { result ≡ Status.Outside
         → Rose (P.faults ports.old) (P.faults ports.new) ⊎ Rose (K.faults out.old) (K.faults out.new) }
 
+    // Words that aren't a command line call no port.
+    ensures usage { result ≡ Status.Usage → ports.new ≡ ports.old }
+
     // What the words ask for was done, or out holds the place at which they cease to be a command line.
     ensures outcome { Outcome (map string_bytes words.now.items) result (K.held out.old) (K.held out.new) (P.log ports.old) (P.log ports.new) }
 {

@@ -115,7 +115,7 @@ ends_up c m up f e = elim (cover_at c m (place m) up (ordered c m f).rising (pla
   | closes x a ↦ closing_ends c m (lives m) up a
 ]
 
-ends_as : (c : Config) (m : List Mark) (how : Served) → Follows c m → EndsBy how (next c m) → EndsAs c m how
+ends_as : (c : Config) (m : List Mark) (how : Served) → Follows c m → EndsBy how m (next c m) → EndsAs c m how
 ends_as c m Stopped f e = ends_up c m (EndBy Stopped) f e
 ends_as c m PairsDone f e = ends_up c m (EndBy PairsDone) f e
 ends_as c m TurnLimit f e = ends_up c m (EndBy TurnLimit) f e

@@ -14,13 +14,13 @@ closing_stays : (ps : List ℕ) (m : List Mark) → ended (closing ps) m ≡ m
 closing_stays [] m = refl
 closing_stays (p ∷ ps) m = refl
 
-plain_ends_by : (how : Served) (up : Upcoming) → is_plain_end (Some how) ≡ true → EndsBy how up → up ≡ EndBy how
-plain_ends_by Stopped up t e = e
-plain_ends_by PairsDone up t e = e
-plain_ends_by TurnLimit up t e = e
-plain_ends_by (Fault outside.Accept) up t e = e
-plain_ends_by (Fault outside.Out) up t e = absurd cc
-plain_ends_by Memory up t e = absurd cc
+plain_ends_by : (how : Served) (m : List Mark) (up : Upcoming) → is_plain_end (Some how) ≡ true → EndsBy how m up → up ≡ EndBy how
+plain_ends_by Stopped m up t e = e
+plain_ends_by PairsDone m up t e = e
+plain_ends_by TurnLimit m up t e = e
+plain_ends_by (Fault outside.Accept) m up t e = e
+plain_ends_by (Fault outside.Out) m up t e = absurd cc
+plain_ends_by Memory m up t e = absurd cc
 
 -- the marks are those that the calls tell
 pub marks_by_calls : (c : Config) (m : List Mark) → Follows c m → strain_count m ≡ 0 → is_plain_end (finish_of m) ≡ true → with_end c m ≡ marked c (calls m)
@@ -32,7 +32,7 @@ marks_by_calls c (Strain p ∷ m) f s t = absurd (omega (arith, s))
 marks_by_calls c (Finish how ∷ m) f s t =
     let none : finish_of m ≡ None = none_is (finish_of m) (finish_is c m f.2 ∙ f.1) in
     closing_stays (lives m) (Finish how ∷ m)
-    ∙ sym (ap (λ (up : Upcoming). ended up m) (plain_ends_by how (next c m) t f.0))
+    ∙ sym (ap (λ (up : Upcoming). ended up m) (plain_ends_by how m (next c m) t f.0))
     ∙ marks_by_calls c m f.2 s (ap is_plain_end none)
 
 -- what comes after the calls

@@ -179,7 +179,7 @@ pub turns_begin : (c : Config) → IsInForm c → TurnsOver c []
 turns_begin c form = record { coming = refl; undone = ap (λ (b : Bool). b && true) (limit_some c.pairs form.pairs); follows = tt }
 
 pub ends_at_once : (c : Config) → EndsSo c Memory []
-ends_at_once c = record { ends = tt; open_still = refl; follows = tt }
+ends_at_once c = record { ends = refl; open_still = refl; follows = tt }
 
 -- only a failed report isn't told
 is_mute : (why : Served) → is_heard why ≡ false → why ≡ Fault outside.Out

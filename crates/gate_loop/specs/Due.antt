@@ -69,7 +69,7 @@ is_turned_away (Some unit91.Bad) sent.Nothing = false
 is_turned_away (Some unit91.Bad) sent.Part = false
 is_turned_away (Some unit91.Bad) sent.Whole = true
 
--- the client's end is to be shut, row by row: it failed; it ended; a wrong header was answered; want of memory
+-- the client's end is to be shut: it failed; it ended; a wrong header was answered; want of memory
 abbrev pub shut_by : Option Loss → Bool → Option Unit91 → Sent → Bool
 shut_by (Some loss.Shut) strained unit s = false
 shut_by (Some loss.Failed) strained unit s = true

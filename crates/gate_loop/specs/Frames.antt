@@ -36,7 +36,7 @@ properties =
     text_field (codes "product") (codes "amqp-gate") ++ text_field (codes "version") (codes "1")
     ++ table_field (codes "capabilities") capabilities
 
--- connection.start: class 10, method 10, version 0-9, properties, mechanisms, locales (AMQP 0-9-1 1.4.2.1)
+-- connection.start: class 10, method 10, version 0-9, properties, mechanisms, locales (AMQP 0-9-1 reference 1.4.2.1)
 unfoldable pub start_frame : List ℕ
 start_frame =
     method_frame (0 ∷ 10 ∷ 0 ∷ 10 ∷ 0 ∷ 9 ∷ []

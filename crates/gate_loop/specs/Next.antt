@@ -251,14 +251,14 @@ StrainsAt p (Call (Accept (accepted.Pair q)) ∷ m) = q ≡ p
 StrainsAt p (Call (Read q end room (got.Bytes n) bytes) ∷ m) = q ≡ p
 StrainsAt p m = ⊥
 
--- the service ends as comes next; want of memory outside any pair and a failed out come at any time
-abbrev pub EndsBy : Served → Upcoming → Type 0
-EndsBy Memory up = Unit {0}
-EndsBy (Fault outside.Out) up = Unit {0}
-EndsBy (Fault outside.Accept) up = up ≡ EndBy (Fault outside.Accept)
-EndsBy Stopped up = up ≡ EndBy Stopped
-EndsBy PairsDone up = up ≡ EndBy PairsDone
-EndsBy TurnLimit up = up ≡ EndBy TurnLimit
+-- the service ends as comes next; for want of memory before the first call alone; and for a failed out at any time
+abbrev pub EndsBy : Served → List Mark → Upcoming → Type 0
+EndsBy Memory m up = m ≡ []
+EndsBy (Fault outside.Out) m up = Unit {0}
+EndsBy (Fault outside.Accept) m up = up ≡ EndBy (Fault outside.Accept)
+EndsBy Stopped m up = up ≡ EndBy Stopped
+EndsBy PairsDone m up = up ≡ EndBy PairsDone
+EndsBy TurnLimit m up = up ≡ EndBy TurnLimit
 
 abbrev pub is_closing : Place → Bool
 is_closing Closing = true
@@ -268,4 +268,4 @@ abbrev pub Follows : Config → List Mark → Type 0
 Follows c [] = Unit {0}
 Follows c (Call entry ∷ m) = (next c m ≡ Do (asked entry)) × Answered m entry × Follows c m
 Follows c (Strain p ∷ m) = StrainsAt p m × Follows c m
-Follows c (Finish how ∷ m) = EndsBy how (next c m) × (is_closing (place m) ≡ false) × Follows c m
+Follows c (Finish how ∷ m) = EndsBy how m (next c m) × (is_closing (place m) ≡ false) × Follows c m

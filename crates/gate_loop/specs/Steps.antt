@@ -258,7 +258,7 @@ is_heard Memory = true
 
 -- the service ends so
 pub record EndsSo (c : Config) (how : Served) (n : List Mark) : Type 0 where
-  pub ends : EndsBy how (next c n)
+  pub ends : EndsBy how n (next c n)
   pub open_still : is_closing (place n) ≡ false
   pub follows : Follows c n
 

@@ -14,7 +14,7 @@ pub fn header() -> &'static [u8]
     &HEADER
 }
 
-/// connection.start (AMQP 0-9-1 1.4.2.1): versions 0-9, the gateway's properties, mechanisms and locales.
+/// connection.start (AMQP 0-9-1 reference 1.4.2.1): versions 0-9, the gateway's properties, mechanisms and locales.
 #[tactic(auto, unfolding(crate::specs::Frames::start_frame))]
 pub fn start() -> &'static [u8]
     ensures bytes { result.now ≡ start_frame }

@@ -1,10 +1,6 @@
 //! The loop of the gateway: `serve`, over any ports.
 #![tactic(auto)]
 
-ghost use Rattle.gate_loop.specs.Next.{Follows};
-ghost use Rattle.gate_loop.specs.Report.{report};
-ghost use Rattle.gate_loop.specs.Steps.{Crew};
-
 mod bridge;
 mod config;
 mod frames;
