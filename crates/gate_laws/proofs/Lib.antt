@@ -3,6 +3,7 @@ pub mod Bytes
 pub mod Causes
 pub mod Cover
 pub mod Ends
+mod Examples
 pub mod Lawful
 pub mod Limits
 pub mod Lists
