@@ -77,8 +77,8 @@ stop_ends c m Stopped s = s
 stop_ends c m PairsDone s = absurd s
 stop_ends c m TurnLimit s = absurd s
 stop_ends c m (Fault outside.Accept) s = s
-stop_ends c m (Fault outside.Out) s = tt
-stop_ends c m Memory s = tt
+stop_ends c m (Fault outside.Out) s = absurd s
+stop_ends c m Memory s = absurd s
 
 empty_is : (ps : List ℕ) → is_empty ps ≡ true → ps ≡ []
 empty_is [] e = refl
@@ -120,8 +120,8 @@ ends_as c m Stopped f e = ends_up c m (EndBy Stopped) f e
 ends_as c m PairsDone f e = ends_up c m (EndBy PairsDone) f e
 ends_as c m TurnLimit f e = ends_up c m (EndBy TurnLimit) f e
 ends_as c m (Fault outside.Accept) f e = ends_up c m (EndBy (Fault outside.Accept)) f e
-ends_as c m (Fault outside.Out) f e = tt
-ends_as c m Memory f e = tt
+ends_as c m (Fault outside.Out) f e = e
+ends_as c m Memory f e = e
 
 -- the service ends at most once
 pub ends_once : (c : Config) (m : List Mark) → Follows c m → EndsOnce c m

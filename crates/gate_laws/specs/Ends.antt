@@ -11,7 +11,7 @@ use Rattle.gate_loop.specs.declared.config.Served.TheVariants.{Stopped, PairsDon
 use Rattle.gate_loop.specs.declared.config.Outside.TheVariants as outside
 use Rattle.gate_loop.specs.Marks.{Mark, Call, Strain, Finish}
 use Rattle.gate_loop.specs.Due.{first}
-use Rattle.gate_loop.specs.Next.{accepted_count, pair_limit, lives, turns_begun, is_done, has_moved, finish_of}
+use Rattle.gate_loop.specs.Next.{accepted_count, pair_limit, lives, turns_begun, is_done, has_moved, finish_of, HasShutLast}
 
 -- the newest mark is a call whose answer ends the service
 abbrev pub is_stopped : List Mark → Bool
@@ -20,14 +20,14 @@ is_stopped (Call (Idle Stop) ∷ m) = true
 is_stopped (Call (Accept accepted.Failed) ∷ m) = true
 is_stopped (x ∷ m) = false
 
--- why the service ends so after m; want of memory outside any pair and a failed out come at any time
+-- why the service ends so after m; want of memory outside any pair comes before the first call alone
 abbrev pub EndsAs : Config → List Mark → Served → Type 0
 EndsAs c m Stopped = first m ≡ Some (Call (Idle Stop))
 EndsAs c m PairsDone = (accepted_count m ≡ pair_limit c) × (lives m ≡ [])
 EndsAs c m TurnLimit = (turns_begun m ≡ c.turns) × (is_done c m ≡ false)
 EndsAs c m (Fault outside.Accept) = first m ≡ Some (Call (Accept accepted.Failed))
-EndsAs c m (Fault outside.Out) = Unit {0}
-EndsAs c m Memory = Unit {0}
+EndsAs c m (Fault outside.Out) = HasShutLast m
+EndsAs c m Memory = m ≡ []
 
 -- a call comes while the service runs, and not after an answer that ends it; or it shuts a client's end after the end
 pub data ComesAfter (m : List Mark) (entry : LogEntry) : Type 0 where

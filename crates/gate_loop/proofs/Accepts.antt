@@ -21,7 +21,9 @@ use Rattle.gate_loop.specs.Steps.{Adds, IsRising, numbers, numbers_from, client_
 use Rattle.gate_loop.proofs.OneMark.{is_same, is_other, if_same, if_other}
 use Rattle.gate_loop.proofs.Places.{all_fresh}
 use Rattle.gate_loop.proofs.Crews.{StandsIn}
+use Rattle.gate_loop.specs.Serving.{CutShort}
 use Rattle.gate_loop.proofs.Rounds.{reports_same_lines}
+use Rattle.gate_loop.proofs.Cuts.{cut_here}
 
 -- a pair lives, or met want of memory
 pub admits : (r : Result (Unit {0}) Wanting) (b : Pair) (p : ℕ) (old new : Service) → new.accepted ≡ old.accepted + 1
@@ -192,6 +194,11 @@ world_refused p old new wanting m below a w = record {
   finish = w.finish;
 }
 
+-- out failed at the lines of that
+cut_refused : (p : ℕ) (held held' : Option (List ℕ)) (m : List Mark) → AppendsFront held held' (lines_of p true) → CutShort held held' m (refused p m) (lines_of p true)
+cut_refused p held held' m part = cut_here held held' m (Call (Accept (accepted.Pair p)) ∷ m) (refused p m) (lines_of p true) part refl
+    (record { after = Call (Shut p Client) ∷ Strain p ∷ []; parts = refl; shuts = (refl, (refl, tt)) })
+
 pub welcome_refused : (p : ℕ) (old new : Service) (wanting : Wanting) (result : Result Bool Outside) (pairs : ℕ) (ends : List (ℕ × End)) (held held' : Option (List ℕ)) (m n k : List Mark) → p ≡ pairs
     → Admits (Err wanting) p old new → Crew old pairs ends → MatchResult result (λ moved. moved ≡ true) (λ how. how ≡ outside.Out)
     → OnOk result (Appends held held' (lines_of p true)) → AppendsFront held held' (lines_of p true)
@@ -207,7 +214,7 @@ welcome_refused p old new wanting (Ok moved) pairs ends held held' m n k e a c a
         lines = lines_of p true;
         line = append_assoc (report m) (memory_line p) (closed_line p);
         whole = λ h. whole;
-        part = part;
+        part = cut_refused p held held' m part;
       };
       goes = λ c' w asks f. record {
         coming = ap (λ (ps : List ℕ). round c' (refused p m) ps) (lives_refused p old new m below a.by.0 w);
@@ -228,7 +235,7 @@ welcome_refused p old new wanting (Err how) pairs ends held held' m n k e a c an
         lines = lines_of p true;
         line = append_assoc (report m) (memory_line p) (closed_line p);
         whole = λ h. absurd cc;
-        part = part;
+        part = cut_refused p held held' m part;
       };
-      goes = λ c' w asks f. (refl, (refl, tt, (refl, (asks, e ∙ sym c.accepts ∙ sym w.accepts, f))));
+      goes = λ c' w asks f. (tt, refl, (refl, tt, (refl, (asks, e ∙ sym c.accepts ∙ sym w.accepts, f))));
     }))

@@ -1,5 +1,5 @@
 -- The end of the service.
-use Rattle.std.proofs.Common.{◌≡◌, ℕ, zero, suc, add-one, ◌==◌, unwrap_or, ◌+◌, ◌<◌, ◌≤◌, Bool, true, false, List, [], ◌∷◌, ◌++◌, length, drop, get_or, append_assoc, refl, sym, ap, ◌∙◌, subst, arith, Option, None, Some, IfSome, ◌&&◌, inl, inr}
+use Rattle.std.proofs.Common.{◌≡◌, ℕ, zero, suc, add-one, ◌==◌, unwrap_or, ◌+◌, ◌<◌, ◌≤◌, Bool, true, false, List, [], ◌∷◌, ◌++◌, length, drop, get_or, append_assoc, append-nil, refl, sym, ap, ◌∙◌, subst, arith, Option, None, Some, IfSome, ◌&&◌, inl, inr}
 use Rattle.std.proofs.lemmas.Bool.Decides.{nat_tests}
 use Rattle.std.proofs.Math.ListN.{drop_of_length-le}
 use Rattle.std.proofs.Math.Seq.{drop-cons}
@@ -18,13 +18,13 @@ use Rattle.gate_loop.specs.declared.service.Service.{Service}
 use Rattle.gate_loop.specs.Form.{IsInForm}
 use Rattle.gate_loop.specs.Marks.{Mark, Call, Finish}
 use Rattle.gate_loop.specs.Report.{report, closed_line, last_line}
-use Rattle.gate_loop.specs.Serving.{IsTold, IsServed}
+use Rattle.gate_loop.specs.Serving.{OnlyShutSince, CutShort, IsTold, IsServed}
 use Rattle.gate_loop.specs.Next.{Place, ahead, closing, without, after_shut, accepted_count}
 use Rattle.gate_loop.specs.Steps.{Adds, IsClosing, Closes, Concludes, IsOver, EndsSo, World, TurnsOver, Reports, IsRising, numbers, client_ends, is_heard}
 use Rattle.gate_loop.proofs.OneMark.{is_same}
 use Rattle.gate_loop.proofs.Crews.{none_without, none_closed}
-use Rattle.gate_loop.proofs.Fronts.{front_then, front_more}
-use Rattle.gate_loop.proofs.Rounds.{reports_none}
+use Rattle.gate_loop.proofs.Fronts.{appends_none}
+use Rattle.gate_loop.proofs.Cuts.{shut_none, shut_more, shut_then, cut_whole, cut_here, cut_then, cut_on, cut_from}
 use Rattle.gate_outside.proofs.Appending.{appends_then}
 
 -- what is left of a rising list rises
@@ -59,8 +59,17 @@ closes_begin told live held m = record {
   accepts = refl;
   strain = refl;
   finish = refl;
-  reports = record { lines = (reports_none held m).lines; line = (reports_none held m).line; whole = λ h. (reports_none held m).whole refl; part = (reports_none held m).part };
+  reports = record {
+    lines = [];
+    line = sym (append-nil (report m));
+    whole = λ h. appends_none held;
+    part = cut_whole held held m m [] (appends_none held) (sym (append-nil (report m)));
+  };
+  since = shut_none m;
 }
+
+one_shut : (p : ℕ) (n : List Mark) → OnlyShutSince n (Call (Shut p Client) ∷ n)
+one_shut p n = shut_more _ n n refl (shut_none n)
 
 -- one line more, unless the report failed before
 reports_more : (told result : Bool) (p : ℕ) (a b d : Option (List ℕ)) (m n : List Mark) → (told ≡ false → result ≡ false) → (told ≡ false → d ≡ b)
@@ -70,13 +79,14 @@ reports_more true result p a b d m n still quiet whole part x = record {
   lines = x.lines ++ closed_line p;
   line = ap (λ (r : List ℕ). r ++ closed_line p) x.line ∙ append_assoc (report m) x.lines (closed_line p);
   whole = λ h. appends_then a b d x.lines (closed_line p) (x.whole refl) (whole h);
-  part = front_then a b d x.lines (closed_line p) (x.whole refl) part;
+  part = cut_then a b d m n (Call (Shut p Client) ∷ n) x.lines (closed_line p) (x.whole refl) x.line (cut_here b d n n _ _ part refl (one_shut p n));
 }
 reports_more false result p a b d m n still quiet whole part x = record {
   lines = x.lines ++ closed_line p;
   line = ap (λ (r : List ℕ). r ++ closed_line p) x.line ∙ append_assoc (report m) x.lines (closed_line p);
   whole = λ h. absurd (let never : result ≡ false = still refl in cc);
-  part = subst (λ (o : Option (List ℕ)). AppendsFront a o (x.lines ++ closed_line p)) (sym (quiet refl)) (front_more a b x.lines (closed_line p) x.part);
+  part = subst (λ (o : Option (List ℕ)). CutShort a o m (Call (Shut p Client) ∷ n) (x.lines ++ closed_line p)) (sym (quiet refl))
+      (cut_on a b m n _ x.lines (closed_line p) x.part (one_shut p n));
 }
 
 -- one pair more was shut
@@ -98,6 +108,7 @@ closes_here live at b told result held over held' m n rest rising r x = record {
   strain = x.strain;
   finish = x.finish;
   reports = r;
+  since = shut_more _ m n refl x.since;
 }
 
 pub closes_on : (live : List Pair) (at : ℕ) (b : Pair) (told result : Bool) (held over held' : Option (List ℕ)) (m n k : List Mark)
@@ -136,29 +147,36 @@ over_now c why told s held held' m k x w e =
       accepts = x.accepts ∙ w.accepts;
     }
 
+-- what is said of a history that ends with the mark of the end holds from before that mark too
+told_at : (m n k : List Mark) (why answer how : Served) (held held' : Option (List ℕ)) (text : List ℕ) → n ≡ Finish how ∷ m
+    → IsTold why answer held held' n k text → IsTold why answer held held' m k text
+told_at m n k why answer how held held' text e (inl t) = inl t
+told_at m n k why answer how held held' text e (inr t) = inr (t.0, cut_from held held' n m k text (ap report e) t.1)
+
 -- the end, where the report failed at a pair's line, or at the last line, or took all
 pub concludes : (why answer : Served) (told : Bool) (s : Service) (held over held' : Option (List ℕ)) (m n k : List Mark) → n ≡ Finish why ∷ m
-    → (x : Closes [] told s.live.items held over n k) → IsTold why answer held held' (x.reports.lines ++ last_line why s.accepted)
+    → (x : Closes [] told s.live.items held over n k) → IsTold why answer held held' n k (x.reports.lines ++ last_line why s.accepted)
     → Concludes why answer s held held' m k
 concludes why answer told s held over held' m n k e x t = record {
   lines = x.reports.lines;
   line = x.reports.line ∙ ap (λ (l : List Mark). report l ++ x.reports.lines) e;
-  told = t;
+  told = told_at m n k why answer why held held' _ e t;
+  since = shut_then m (Finish why ∷ m) k (shut_more _ m m refl (shut_none m)) (subst (λ (l : List Mark). OnlyShutSince l k) e x.since);
   goes = λ c w ends. over_now c why told s held over m k (subst (λ (l : List Mark). Closes [] told s.live.items held over l k) e x) w ends;
 }
 
 pub told_mute : (why : Served) (told : Bool) (s : Service) (held over : Option (List ℕ)) (n k : List Mark)
-    → (x : Closes [] told s.live.items held over n k) → IsTold why (Fault outside.Out) held over (x.reports.lines ++ last_line why s.accepted)
-told_mute why told s held over n k x = inr (refl, front_more held over x.reports.lines (last_line why s.accepted) x.reports.part)
+    → (x : Closes [] told s.live.items held over n k) → IsTold why (Fault outside.Out) held over n k (x.reports.lines ++ last_line why s.accepted)
+told_mute why told s held over n k x = inr (refl, cut_on held over n k k x.reports.lines (last_line why s.accepted) x.reports.part (shut_none k))
 
 pub told_failed : (why : Served) (told : Bool) (s : Service) (held over held' : Option (List ℕ)) (n k : List Mark) → told ≡ true
     → AppendsFront over held' (last_line why s.accepted)
-    → (x : Closes [] told s.live.items held over n k) → IsTold why (Fault outside.Out) held held' (x.reports.lines ++ last_line why s.accepted)
-told_failed why told s held over held' n k all part x = inr (refl, front_then held over held' x.reports.lines (last_line why s.accepted) (x.reports.whole all) part)
+    → (x : Closes [] told s.live.items held over n k) → IsTold why (Fault outside.Out) held held' n k (x.reports.lines ++ last_line why s.accepted)
+told_failed why told s held over held' n k all part x = inr (refl, cut_then held over held' n k k x.reports.lines (last_line why s.accepted) (x.reports.whole all) x.reports.line (cut_here over held' k k k _ part refl (shut_none k)))
 
 pub told_whole : (why : Served) (told : Bool) (s : Service) (held over held' : Option (List ℕ)) (n k : List Mark) → told ≡ true
     → Appends over held' (last_line why s.accepted)
-    → (x : Closes [] told s.live.items held over n k) → IsTold why why held held' (x.reports.lines ++ last_line why s.accepted)
+    → (x : Closes [] told s.live.items held over n k) → IsTold why why held held' n k (x.reports.lines ++ last_line why s.accepted)
 told_whole why told s held over held' n k all whole x = inl (refl, appends_then held over held' x.reports.lines (last_line why s.accepted) (x.reports.whole all) whole)
 
 -- no call yet
@@ -190,14 +208,14 @@ is_mute (Fault outside.Accept) e = absurd cc
 is_mute (Fault outside.Out) e = refl
 is_mute Memory e = absurd cc
 
-told_then : (heard : Bool) (why answer : Served) (held over held' : Option (List ℕ)) (first more : List ℕ)
-    → (heard ≡ true → Appends held over first) → AppendsFront held over first
-    → (heard ≡ false → answer ≡ Fault outside.Out) → (heard ≡ false → held' ≡ over)
-    → IsTold why answer over held' more → IsTold why answer held held' (first ++ more)
-told_then true why answer held over held' first more whole part mute quiet (inl t) = inl (t.0, appends_then held over held' first more (whole refl) t.1)
-told_then true why answer held over held' first more whole part mute quiet (inr t) = inr (t.0, front_then held over held' first more (whole refl) t.1)
-told_then false why answer held over held' first more whole part mute quiet t =
-    inr (mute refl, subst (λ (o : Option (List ℕ)). AppendsFront held o (first ++ more)) (sym (quiet refl)) (front_more held over first more part))
+told_then : (heard : Bool) (why answer : Served) (held over held' : Option (List ℕ)) (m n k : List Mark) (more : List ℕ)
+    → (heard ≡ false → answer ≡ Fault outside.Out) → (heard ≡ false → held' ≡ over) → OnlyShutSince n k
+    → (r : Reports heard held over m n) → IsTold why answer over held' n k more → IsTold why answer held held' m k (r.lines ++ more)
+told_then true why answer held over held' m n k more mute quiet since r (inl t) = inl (t.0, appends_then held over held' r.lines more (r.whole refl) t.1)
+told_then true why answer held over held' m n k more mute quiet since r (inr t) =
+    inr (t.0, cut_then held over held' m n k r.lines more (r.whole refl) r.line t.1)
+told_then false why answer held over held' m n k more mute quiet since r t =
+    inr (mute refl, subst (λ (o : Option (List ℕ)). CutShort held o m k (r.lines ++ more)) (sym (quiet refl)) (cut_on held over m n k r.lines more r.part since))
 
 -- the whole run
 pub served : (c : Config) (why answer : Served) (s : Service) (held over held' : Option (List ℕ)) (n k : List Mark)
@@ -217,9 +235,9 @@ served c why answer s held over held' n k still quiet r w e x =
       why = why;
       ended = o.ended;
       count = o.count;
-      told = subst (λ (t : List ℕ). IsTold why answer held held' t) (sym text)
-          (told_then (is_heard why) why answer held over held' r.lines (x.lines ++ last_line why s.accepted) r.whole r.part
-          (λ h. still h ∙ is_mute why h) quiet x.told);
+      told = subst (λ (t : List ℕ). IsTold why answer held held' [] k t) (sym text)
+          (told_then (is_heard why) why answer held over held' [] n k (x.lines ++ last_line why s.accepted)
+          (λ h. still h ∙ is_mute why h) quiet x.since r x.told);
     }
 
 -- a count that rose has risen since before

@@ -1,6 +1,7 @@
 pub mod Accepts
 pub mod Closings
 pub mod Crews
+pub mod Cuts
 pub mod Fronts
 pub mod Goes
 pub mod OneMark

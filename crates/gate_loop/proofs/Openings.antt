@@ -13,6 +13,7 @@ use Rattle.gate_loop.specs.Steps.{Ticks, numbers, numbers_from, World, Welcomes,
 use Rattle.gate_loop.proofs.PairLemmas.{stands_since}
 use Rattle.gate_loop.proofs.Places.{all_fresh}
 use Rattle.gate_loop.proofs.Crews.{StandsIn}
+use Rattle.gate_loop.proofs.Cuts.{cut_from}
 use Rattle.gate_loop.proofs.Rounds.{reports_same_lines}
 
 -- the clock leaves the pairs as they were
@@ -51,7 +52,7 @@ opens_room c result old new room held held' m n k e fits t w =
       world = λ v. x.world (world_ticks old t.ms m v);
       turn = x.turn;
       motion = moved_since result t.ms m k x.motion;
-      reports = record { lines = x.reports.lines; line = x.reports.line; whole = x.reports.whole; part = x.reports.part };
+      reports = record { lines = x.reports.lines; line = x.reports.line; whole = x.reports.whole; part = cut_from held held' (Call (Now t.ms) ∷ m) m k x.reports.lines refl x.reports.part };
       goes = λ v asks f.
           let now : World old (Call (Now t.ms) ∷ m) = world_ticks old t.ms m v in
           x.goes c now

@@ -8,7 +8,8 @@ use Rattle.gate_loop.specs.Marks.{Mark}
 use Rattle.gate_loop.specs.Report.{report}
 use Rattle.gate_loop.specs.Next.{has_moved}
 use Rattle.gate_loop.specs.Steps.{VisitsAt, Toured, Tours, Reports, Facing, place_after, numbers, numbers_from}
-use Rattle.gate_loop.proofs.Fronts.{front_then, front_whole, appends_none}
+use Rattle.gate_loop.proofs.Fronts.{appends_none}
+use Rattle.gate_loop.proofs.Cuts.{cut_then, cut_whole}
 
 -- lines, and then more
 pub reports_then : (told : Bool) (a b d : Option (List ℕ)) (m n k : List Mark) → Reports true a b m n → Reports told b d n k → Reports told a d m k
@@ -16,12 +17,17 @@ reports_then told a b d m n k x y = record {
   lines = x.lines ++ y.lines;
   line = y.line ∙ ap (λ (r : List ℕ). r ++ y.lines) x.line ∙ append_assoc (report m) x.lines y.lines;
   whole = λ h. appends_then a b d x.lines y.lines (x.whole refl) (y.whole h);
-  part = front_then a b d x.lines y.lines (x.whole refl) y.part;
+  part = cut_then a b d m n k x.lines y.lines (x.whole refl) x.line y.part;
 }
 
 -- a step without a line
 pub reports_same_lines : (a : Option (List ℕ)) (m n : List Mark) → report n ≡ report m → Reports true a a m n
-reports_same_lines a m n e = record { lines = []; line = e ∙ sym (append-nil (report m)); whole = λ h. appends_none a; part = front_whole a a [] (appends_none a) }
+reports_same_lines a m n e = record {
+  lines = [];
+  line = e ∙ sym (append-nil (report m));
+  whole = λ h. appends_none a;
+  part = cut_whole a a m n [] (appends_none a) (e ∙ sym (append-nil (report m)));
+}
 
 -- no line
 pub reports_none : (a : Option (List ℕ)) (m : List Mark) → Reports true a a m m
@@ -67,6 +73,7 @@ tour_fails at a b d moved visit held mid held' m n k told x y = record {
   turn = y.turn ∙ x.turn;
   motion = y.motion ∙ ap (λ (t : Bool). visit.progress.moved || t) x.motion ∙ or_swap visit.progress.moved moved (has_moved m);
   reports = reports_same visit.told false held held' m k told (reports_then visit.told held mid held' m n k x.reports y.reports);
+  last = λ h. y.last told;
   follows = λ c w f. (y.goes c (x.world w) (x.goes c w f)).follows;
   inside = λ c w f. (y.goes c (x.world w) (x.goes c w f)).inside;
   goes = λ never. absurd cc;
@@ -82,6 +89,7 @@ tour_ends at a b moved held held' m n full x =
       turn = x.turn;
       motion = x.motion;
       reports = x.reports;
+      last = λ never. absurd cc;
       follows = λ c w f. (x.goes c w f).follows;
       inside = λ c w f. (x.goes c w f).inside;
       goes = λ h c w f. (subst (λ (ps : List ℕ). Facing c ps n) none (x.goes c w f)).coming;

@@ -39,7 +39,7 @@ turn_fails c accepted moved told old mid new held over held' m n k failed x tour
       goes = λ w asks f.
           let facing : _ = x.goes w asks f in
           record {
-            ends = tt;
+            ends = y.last refl;
             open_still = inside_open (place k) (y.inside c (x.world w) facing);
             follows = y.follows c (x.world w) facing;
           };

@@ -17,8 +17,10 @@ use Rattle.gate_loop.specs.Next.{Reading, Writing, Shutting, Stage, Answered, re
 use Rattle.gate_outside.specs.Streams.{Appends, AppendsFront}
 use Rattle.gate_loop.specs.declared.service.Progress.{Progress}
 use Rattle.gate_loop.specs.Report.{report, memory_line, closed_line, lines_of}
-use Rattle.gate_loop.proofs.Fronts.{appends_none, front_whole}
-use Rattle.gate_loop.specs.Steps.{Adds, Steps, Offers, Turns, put_moved, after_put}
+use Rattle.gate_loop.specs.Serving.{CutShort}
+use Rattle.gate_loop.proofs.Fronts.{appends_none}
+use Rattle.gate_loop.proofs.Cuts.{cut_here, cut_whole, shut_none, shut_more}
+use Rattle.gate_loop.specs.Steps.{Adds, Moves, StrainsLast, Steps, Offers, Turns, put_moved, after_put}
 use Rattle.gate_loop.proofs.OneMark.{got_moved, moves_read, moves_strain, moves_write, moves_none, moves_then, own_read, own_write, own_strain, if_other}
 use Rattle.gate_loop.proofs.PairLemmas.{awaits_is}
 use Rattle.gate_loop.proofs.Places.{at_held, at_read, at_strain, at_write, at_none, at_full, at_face, face_stay, face_shut}
@@ -89,10 +91,10 @@ offer_write old new bytes answer offers answered keeps m = record {
 }
 
 -- one part after another
-pub steps_then : (p : ℕ) (from over to : Stage) (old mid new : Pair) (a b strained : Bool) (m n k : List Mark)
-    → Steps p from over old mid a strained m n → Steps p over to mid new b false n k → Steps p from to old new (a || b) strained m k
-steps_then p from over to old mid new a b strained m n k x y = record {
-  moves = moves_then p a b strained m n k x.moves y.moves;
+pub steps_then : (p : ℕ) (from over to : Stage) (old mid new : Pair) (a b : Bool) (m n k : List Mark)
+    → Steps p from over old mid a false m n → Steps p over to mid new b false n k → Steps p from to old new (a || b) false m k
+steps_then p from over to old mid new a b m n k x y = record {
+  moves = moves_then p a b m n k x.moves y.moves;
   keeps = λ s. y.keeps (x.keeps s);
   goes = λ c ps s at. y.goes c ps (x.keeps s) (x.goes c ps s at);
 }
@@ -102,7 +104,7 @@ offers_then : (p k : ℕ) (old mid new : Pair) (a : Bool) (answer : Put) (m n l 
     → Steps p (Writing 0) (Writing k) old mid a false m n → Offers p answer mid new n l
     → Steps p (Writing 0) (after_put k answer) old new (a || put_moved answer) false m l
 offers_then p k old mid new a answer m n l few x y = record {
-  moves = moves_then p a (put_moved answer) false m n l x.moves y.moves;
+  moves = moves_then p a (put_moved answer) m n l x.moves y.moves;
   keeps = λ s. y.keeps (x.keeps s);
   goes = λ c ps s at. y.goes k few c ps (x.keeps s) (x.goes c ps s at);
 }
@@ -172,8 +174,10 @@ turn_stays p old new progress held m n calm stays x = record {
     lines = [];
     line = x.moves.line ∙ ap (λ (b : Bool). if b then report m ++ memory_line p else report m) calm ∙ sym (append-nil (report m));
     whole = λ h. appends_none held;
-    part = front_whole held held [] (appends_none held);
+    part = cut_whole held held m n [] (appends_none held)
+        (x.moves.line ∙ ap (λ (b : Bool). if b then report m ++ memory_line p else report m) calm ∙ sym (append-nil (report m)));
   };
+  last = λ never. absurd cc;
   keeps = λ still. x.keeps;
   goes = λ c ps behind others s f.
       face_stay c p ps n (sym (stays (journal p n) (x.keeps s))) (x.goes c ps s (at_face c p ps m behind others f));
@@ -183,6 +187,15 @@ turn_stays p old new progress held m n calm stays x = record {
 lines_then : (p : ℕ) (strained : Bool) (r : List ℕ) → (if strained then r ++ memory_line p else r) ++ closed_line p ≡ r ++ lines_of p strained
 lines_then p true r = append_assoc r (memory_line p) (closed_line p)
 lines_then p false r = refl
+
+-- out failed at these lines
+cut_at : (p : ℕ) (strained moved : Bool) (held held' : Option (List ℕ)) (m n : List Mark) → AppendsFront held held' (lines_of p strained)
+    → Moves p moved strained m n → CutShort held held' m (Call (Shut p Client) ∷ n) (lines_of p strained)
+cut_at p true moved held held' m n part x =
+    let strain : StrainsLast p m n = x.last refl in
+    cut_here held held' m strain.before _ _ part strain.line
+    (record { after = Call (Shut p Client) ∷ Strain p ∷ []; parts = ap (λ (k : List Mark). Call (Shut p Client) ∷ k) strain.parts; shuts = (refl, (refl, tt)) })
+cut_at p false moved held held' m n part x = cut_here held held' m n _ _ part x.line (shut_more _ n n refl (shut_none n))
 
 -- the pair is shut
 shuts_here : (p : ℕ) (old new : Pair) (moved strained told : Bool) (held held' : Option (List ℕ)) (m n : List Mark)
@@ -202,8 +215,9 @@ shuts_here p old new moved strained told held held' m n due whole part x = recor
     lines = lines_of p strained;
     line = ap (λ (r : List ℕ). r ++ closed_line p) x.moves.line ∙ lines_then p strained (report m);
     whole = whole;
-    part = part;
+    part = cut_at p strained moved held held' m n part x.moves;
   };
+  last = λ h. tt;
   keeps = λ still. absurd cc;
   goes = λ c ps behind others s f.
       face_shut c p ps n (sym (due (journal p n) (x.keeps s))) (x.goes c ps s (at_face c p ps m behind others f));

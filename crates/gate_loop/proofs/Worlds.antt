@@ -148,6 +148,7 @@ visit_stays at front b new back s t visit held held' m n y rising still calm x =
       turn = x.turn;
       motion = x.motion;
       reports = x.reports;
+      last = x.last;
       goes = λ c w f. subst (λ (ps : List ℕ). Facing c ps n) (sym (behind_stays at front b new back s t visit.closed y still))
           (faces at front b new back s visit held held' m n y.old rising x c w f);
     }
@@ -173,6 +174,7 @@ visit_leaves at front b new back s t visit held held' m n y rising gone x =
       turn = x.turn;
       motion = x.motion;
       reports = x.reports;
+      last = x.last;
       goes = λ c w f. subst (λ (ps : List ℕ). Facing c ps n) (sym (behind_leaves at front b back s t visit.progress.strained visit.closed y gone))
           (faces at front b new back s visit held held' m n y.old rising x c w f);
     }

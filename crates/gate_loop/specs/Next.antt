@@ -251,10 +251,16 @@ StrainsAt p (Call (Accept (accepted.Pair q)) ∷ m) = q ≡ p
 StrainsAt p (Call (Read q end room (got.Bytes n) bytes) ∷ m) = q ≡ p
 StrainsAt p m = ⊥
 
--- the service ends as comes next; for want of memory before the first call alone; and for a failed out at any time
+-- the last call shut a client's end
+abbrev pub HasShutLast : List Mark → Type 0
+HasShutLast (Call (Shut p Client) ∷ m) = Unit {0}
+HasShutLast m = ⊥
+
+-- the service ends as comes next; for want of memory before the first call alone; and for a failed out where an end was shut
+-- last, whose lines out refused
 abbrev pub EndsBy : Served → List Mark → Upcoming → Type 0
 EndsBy Memory m up = m ≡ []
-EndsBy (Fault outside.Out) m up = Unit {0}
+EndsBy (Fault outside.Out) m up = HasShutLast m
 EndsBy (Fault outside.Accept) m up = up ≡ EndBy (Fault outside.Accept)
 EndsBy Stopped m up = up ≡ EndBy Stopped
 EndsBy PairsDone m up = up ≡ EndBy PairsDone

@@ -18,12 +18,12 @@ use Rattle.gate_loop.specs.declared.pair.Pair.{Pair}
 use Rattle.gate_loop.specs.declared.service.Service.{Service}
 use Rattle.gate_loop.specs.declared.service.Visit.{Visit}
 use Rattle.wire_base.specs.declared.memory.Memory.{Memory as Wanting}
-use Rattle.gate_loop.specs.Marks.{Mark, Call}
+use Rattle.gate_loop.specs.Marks.{Mark, Call, Strain}
 use Rattle.gate_loop.specs.Journal.{journal, came}
 use Rattle.gate_loop.specs.Stands.{Stands}
 use Rattle.gate_loop.specs.Report.{report, memory_line, last_line}
-use Rattle.gate_loop.specs.Serving.{IsTold}
-use Rattle.gate_loop.specs.Next.{Do, EndBy, Done, AskAccept, AskNow, Stage, Reading, Writing, Shutting, Place, Begin, Refuse, Stopping, Closing, place, writes_of, visit, round, rest, begin, beyond, without, next, is_closing, is_done, EndsBy, Follows, lives, accepted_count, turns_begun, has_moved, strain_count, finish_of}
+use Rattle.gate_loop.specs.Serving.{OnlyShutSince, CutShort, IsTold}
+use Rattle.gate_loop.specs.Next.{Do, EndBy, Done, AskAccept, AskNow, Stage, Reading, Writing, Shutting, Place, Begin, Refuse, Stopping, Closing, place, writes_of, visit, round, rest, begin, beyond, without, next, is_closing, is_done, EndsBy, HasShutLast, Follows, lives, accepted_count, turns_begun, has_moved, strain_count, finish_of}
 
 -- one call was made
 pub record Adds (entry : LogEntry) (m n : List Mark) : Type 0 where
@@ -68,6 +68,12 @@ pub record Facing (c : Config) (ps : List ℕ) (m : List Mark) : Type 0 where
   pub inside : is_inside (place m) ≡ true
   pub follows : Follows c m
 
+-- the last that happened was that the pair met want of memory, and before it nothing was reported
+pub record StrainsLast (p : ℕ) (m n : List Mark) : Type 0 where
+  pub before : List Mark
+  pub parts : n ≡ Strain p ∷ before
+  pub line : report before ≡ report m
+
 -- what a part of a pair's turn leaves as it was: all but that pair's journal
 pub record Moves (p : ℕ) (moved strained : Bool) (m n : List Mark) : Type 0 where
   pub others : (q : ℕ) → q ≢ p → journal q n ≡ journal q m
@@ -78,6 +84,7 @@ pub record Moves (p : ℕ) (moved strained : Bool) (m n : List Mark) : Type 0 wh
   pub strain : strain_count n ≡ (if strained then strain_count m + 1 else strain_count m)
   pub line : report n ≡ (if strained then report m ++ memory_line p else report m)
   pub finish : finish_of n ≡ finish_of m
+  pub last : strained ≡ true → StrainsLast p m n
 
 -- the pair's state follows its journal
 abbrev pub Keeps : ℕ → Pair → Pair → List Mark → List Mark → Type 0
@@ -115,12 +122,12 @@ pub record Offers (p : ℕ) (answer : Put) (old new : Pair) (m n : List Mark) : 
   pub keeps : Keeps p old new m n
   pub goes : (k : ℕ) → k < 4096 → GoesOn p (Writing k) (after_put k answer) old m n
 
--- what was told of a list of lines: all of it, or a front part
+-- what was told of a list of lines: all of it, or a front part, where out failed
 pub record Reports (told : Bool) (held held' : Option (List ℕ)) (m n : List Mark) : Type 0 where
   pub lines : List ℕ
   pub line : report n ≡ report m ++ lines
   pub whole : told ≡ true → Appends held held' lines
-  pub part : AppendsFront held held' lines
+  pub part : CutShort held held' m n lines
 
 -- the pairs that live after a pair's turn
 abbrev pub lives_after : Bool → ℕ → List ℕ → List ℕ
@@ -142,6 +149,7 @@ pub record Turns (p : ℕ) (old new : Pair) (visit : Visit) (held held' : Option
   pub strain : strain_count n ≡ (if visit.progress.strained then strain_count m + 1 else strain_count m)
   pub finish : finish_of n ≡ finish_of m
   pub reports : Reports visit.told held held' m n
+  pub last : visit.told ≡ false → HasShutLast n
   pub keeps : visit.closed ≡ false → Keeps p old new m n
   pub goes : (c : Config) (ps : List ℕ) → beyond p (lives m) ≡ ps → AreOthers p ps → Stands old (journal p m)
       → Facing c (p ∷ ps) m → Facing c ps n
@@ -189,6 +197,7 @@ pub record VisitsAt (at : ℕ) (old new : Service) (visit : Visit) (held held' :
   pub turn : turns_begun n ≡ turns_begun m
   pub motion : has_moved n ≡ visit.progress.moved || has_moved m
   pub reports : Reports visit.told held held' m n
+  pub last : visit.told ≡ false → HasShutLast n
   pub goes : (c : Config) → World old m → Facing c (numbers_from at old) m → Facing c (numbers_from (place_after visit.closed at) new) n
 
 -- the turns of the pairs up to a place in the list
@@ -205,6 +214,7 @@ pub record Tours (old new : Service) (moved told : Bool) (held held' : Option (L
   pub turn : turns_begun n ≡ turns_begun m
   pub motion : has_moved n ≡ moved || has_moved m
   pub reports : Reports told held held' m n
+  pub last : told ≡ false → HasShutLast n
   pub follows : (c : Config) → World old m → Facing c (numbers_from 0 old) m → Follows c n
   pub inside : (c : Config) → World old m → Facing c (numbers_from 0 old) m → is_inside (place n) ≡ true
   pub goes : told ≡ true → (c : Config) → World old m → Facing c (numbers_from 0 old) m → next c n ≡ rest c n
@@ -218,7 +228,7 @@ pub record Ticks (m n : List Mark) : Type 0 where
 abbrev pub IsWelcomed : Config → Result Bool Outside → Service → List Mark → Type 0
 IsWelcomed c (Ok moved) s n = Facing c (numbers_from 0 s) n
 IsWelcomed c (Err outside.Accept) s n = (next c n ≡ EndBy (Fault outside.Accept)) × (is_closing (place n) ≡ false) × Follows c n
-IsWelcomed c (Err outside.Out) s n = (is_closing (place n) ≡ false) × Follows c n
+IsWelcomed c (Err outside.Out) s n = HasShutLast n × (is_closing (place n) ≡ false) × Follows c n
 
 -- the turn moved, where it goes on
 abbrev pub HasMoved : Result Bool Outside → List Mark → List Mark → Type 0
@@ -309,6 +319,7 @@ pub record Closes (left : List ℕ) (told : Bool) (live : List Pair) (held held'
   pub strain : strain_count n ≡ strain_count m
   pub finish : finish_of n ≡ finish_of m
   pub reports : Reports told held held' m n
+  pub since : OnlyShutSince m n
 
 -- the service is over
 pub record IsOver (c : Config) (why : Served) (s : Service) (n : List Mark) : Type 0 where
@@ -323,7 +334,8 @@ pub record IsOver (c : Config) (why : Served) (s : Service) (n : List Mark) : Ty
 pub record Concludes (why answer : Served) (s : Service) (held held' : Option (List ℕ)) (m n : List Mark) : Type 0 where
   pub lines : List ℕ
   pub line : report n ≡ report m ++ lines
-  pub told : IsTold why answer held held' (lines ++ last_line why s.accepted)
+  pub told : IsTold why answer held held' m n (lines ++ last_line why s.accepted)
+  pub since : OnlyShutSince m n
   pub goes : (c : Config) → World s m → EndsSo c why m → IsOver c why s n
 
 -- a pair that was accepted lives, or met want of memory

@@ -163,12 +163,32 @@ fn each_call_fails_in_turn(rt: HostRuntime) -> Result<(), Fail> {
     Ok(())
 }
 
-/// What a report that failed holds is a front part of the whole report.
+/// After the shut whose line the report refused, ends are shut and nothing else is called.
+fn stops_at_once(rt: &impl Abort, run: &Run, case: &str) {
+    let told = run
+        .report
+        .as_slice()
+        .iter()
+        .filter(|b| **b == b'\n')
+        .count();
+    let mut shut = 0usize;
+    for k in 0..run.calls.len() {
+        if let Some(entry) = run.calls.get(k) {
+            let shuts = kind_of(entry) == Kind::Shut;
+            assert!(rt; shuts || shut <= told, "call {k}, {case}");
+            shut = shut.saturating_add(usize::from(shuts));
+        }
+    }
+    assert!(rt; shut > told || told == 2, "{case}");
+}
+
+/// What a report that failed holds is a front part of the whole report, and the service ended with its failure.
 fn is_front(rt: &(impl Abort + AllocGlobal), run: &Run, case: &str) -> Result<(), Fail> {
     let held = run.report.as_slice();
     assert_eq!(rt; run.served, Served::Fault(Outside::Out), "{case}");
     assert!(rt; held.len() < plain_report().len(), "{case}");
     assert_eq!(rt; held, part(plain_report(), 0, held.len()), "{case}");
+    stops_at_once(rt, run, case);
     is_all_shut(rt, run, case)
 }
 

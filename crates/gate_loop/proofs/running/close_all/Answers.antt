@@ -1,8 +1,20 @@
-use Rattle.std.proofs.Common.{◌≡◌, ◌<◌, ◌∙◌, List, length, get_or, arith, ap, subst}
+use Rattle.std.proofs.Common.{◌≡◌, ◌<◌, ◌∙◌, List, length, get_or, arith, refl, ap, subst}
 use Rattle.gate_loop.specs.declared.pair.Pair.{Pair}
-use Rattle.gate_loop.proofs.Goes.{goes_then}
-use Rattle.gate_loop.proofs.Closings.{closes_on, ends_on, mute_on}
+use Rattle.gate_loop.proofs.Goes.{goes_none, goes_then}
+use Rattle.gate_loop.proofs.Closings.{closes_begin, closes_on, ends_on, mute_on}
 use Rattle.gate_loop.proofs.running.close_all.Goals as goal
+
+pub loop-pair-init : goal.loop-pair-init
+loop-pair-init g c = record {
+  items = c.deref-pair-items.ensures.value;
+  later = omega arith;
+  ends = c.requires.open_ends;
+  out = omega arith;
+  mute = λ tells mute. absurd cc;
+  still = λ h. h;
+  quiet = λ h. refl;
+  log = goes_none _ _ (λ m. closes_begin _ _ _ m);
+}
 
 pub loop-pair-preserved : goal.loop-pair-preserved
 loop-pair-preserved g c =
