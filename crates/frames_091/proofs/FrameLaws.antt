@@ -1,15 +1,15 @@
 -- The laws of the grammar of frames and of its scan.
-use Rattle.std.proofs.Common.{◌≡◌, ◌≢◌, ℕ, ◌+◌, ◌-◌, ◌*◌, ◌^◌, ◌<◌, ◌≤◌, zero, suc, List, [], ◌∷◌, ◌++◌, length, get_or, take, drop, replicate, Option, Some, None, refl, sym, ◌∙◌, ap, subst, arith}
-use Rattle.std.specs.Int.{w16, w32, to_be_bytes, from_be_bytes}
+use Rattle.std.proofs.Common.{◌≡◌, ℕ, ◌+◌, ◌-◌, ◌^◌, ◌<◌, ◌≤◌, zero, suc, List, [], ◌∷◌, ◌++◌, length, get_or, take, drop, replicate, refl, sym, ◌∙◌, ap, subst, arith}
+use Rattle.std.specs.Int.{w16, w32, to_be_bytes}
 use Rattle.std.proofs.lemmas.Nat.{from_be_bytes-to_be_bytes_2, from_be_bytes-to_be_bytes_4}
 use Rattle.std.proofs.lemmas.List.{get_or-append-add, get_or_append_left, get_or_at, take_at, take_all, append_assoc, length-append, length-drop, length-take-le, length-replicate}
 use Rattle.wire_base.specs.Bytes.{IsBytes}
 use Rattle.wire_base.specs.Scans.{Scans, AreApart, IfBad}
 use Rattle.wire_base.specs.declared.scan.At.{At}
 use Rattle.wire_base.specs.declared.scan.Scan.{Scan}
-use Rattle.wire_base.specs.declared.scan.Scan.TheVariants.{Whole, More, Bad}
-use Rattle.wire_base.proofs.ByteLemmas.{IsBytes-drop, IsBytes-append}
-use Rattle.wire_base.proofs.ScanLemmas.{IsScanner, apart_by, bad_by}
+use Rattle.wire_base.specs.declared.scan.Scan.TheVariants.{Whole, More}
+use Rattle.wire_base.proofs.Bytes.{IsBytes-drop, IsBytes-append}
+use Rattle.wire_base.proofs.Scans.{IsScanner, apart_by, bad_by}
 use Rattle.frames_091.specs.declared.frame.Kind91.{Kind91}
 use Rattle.frames_091.specs.declared.frame.Kind91.TheVariants.{Heartbeat}
 use Rattle.frames_091.specs.declared.frame.Frame91.{Frame91}
@@ -54,8 +54,8 @@ unfolding frame_text frame_in after
 frame_text_in frame rest h g =
     let channel = from_be_bytes-to_be_bytes_2 frame.channel h in
     let payload : take (stated_size (frame_text frame ++ rest)) (after frame rest) ≡ frame.payload =
-        ap (λ (n : ℕ). take n (after frame rest)) (size_text frame rest g)
-        ∙ ap (take (length frame.payload)) (after_is frame rest) ∙ take_at frame.payload (206 ∷ rest) (length frame.payload) refl in
+    ap (λ (n : ℕ). take n (after frame rest)) (size_text frame rest g)
+    ∙ ap (take (length frame.payload)) (after_is frame rest) ∙ take_at frame.payload (206 ∷ rest) (length frame.payload) refl in
     let Of : ℕ → List ℕ → Frame91 = λ c p. record { kind = frame.kind; channel = c; payload = p } in
     ap (λ (c : ℕ). Of c (take (stated_size (frame_text frame ++ rest)) (after frame rest))) channel ∙ ap (Of frame.channel) payload
 
@@ -135,11 +135,11 @@ begun limit kind bytes small k fits short =
     let shape : padded ++ 206 ∷ [] ≡ full = append_assoc bytes (replicate n 0) (206 ∷ []) in
     let long : length padded ≡ stated_size bytes + 7 = omega (arith, length-append bytes (replicate n 0), length-replicate {A = ℕ} n 0) in
     let places : (i : ℕ) → i < stated_size bytes + 7 → get_or full i 0 ≡ get_or bytes i 0 =
-        λ i l. ap (λ (t : List ℕ). get_or t i 0) (sym shape) ∙ get_or_append_left padded (206 ∷ []) 0 i (omega arith) ∙ zeros_keep bytes n i in
+    λ i l. ap (λ (t : List ℕ). get_or t i 0) (sym shape) ∙ get_or_append_left padded (206 ∷ []) 0 i (omega arith) ∙ zeros_keep bytes n i in
     let size : stated_size full ≡ stated_size bytes = size_same bytes full (λ i l. places i (omega arith)) in
     let whole : length full ≡ stated_size bytes + 8 = omega (arith, ap length shape, length-append padded (206 ∷ [])) in
     let ends : get_or full (7 + stated_size full) 0 ≡ 206 =
-        ap (λ (t : List ℕ). get_or t (7 + stated_size full) 0) (sym shape) ∙ get_or_at padded 206 [] 0 (7 + stated_size full) (omega arith) in
+    ap (λ (t : List ℕ). get_or t (7 + stated_size full) 0) (sym shape) ∙ get_or_at padded 206 [] 0 (7 + stated_size full) (omega arith) in
     let bytes_full = IsBytes-append bytes rest small (IsBytes-append (replicate n 0) (206 ∷ []) (zeros_are_bytes n) end_is_byte) in
     let starts : Begins kind full = record { some = omega arith; known = ap kind_of (places 0 (omega arith)) ∙ k.known } in
     let unit = found limit kind full bytes_full starts (omega arith) (omega arith) ends in
@@ -152,9 +152,12 @@ heartbeat = record { kind = Heartbeat; channel = 0; payload = [] }
 
 not_begun : (limit : ℕ) → 8 ≤ limit → Scans {T = Frame91} {F = At FrameFault} (IsFrame limit) [] More
 unfolding heartbeat
-not_begun limit h =
-    (heartbeat, frame_text heartbeat, (λ e. absurd (omega (arith, ap length e, length_alone heartbeat))),
-     record { channel_fits = omega arith; within_limit = h; payload_fits = omega arith; spelled = refl })
+not_begun limit h = (
+  heartbeat,
+  frame_text heartbeat,
+  (λ e. absurd (omega (arith, ap length e, length_alone heartbeat))),
+  record { channel_fits = omega arith; within_limit = h; payload_fits = omega arith; spelled = refl },
+)
 
 -- the scan answers what the grammar says
 pub scans : (limit : ℕ) (bytes : List ℕ) → 8 ≤ limit → IsBytes bytes → Scans (IsFrame limit) bytes (scan_of limit bytes)
@@ -176,3 +179,13 @@ faults limit bytes = by_cases limit bytes (λ s. IfBad s (IsFrameFault limit byt
     (λ kind k fits short. tt)
     (λ kind k fits there end. tt)
     (λ kind k fits there end. (refl, (k.some, kind, kind_is _ kind k.known), fits, omega arith, end))
+
+pub scans_by : (limit : ℕ) (bytes : List ℕ) (answer : Scan Frame91 (At FrameFault)) → 8 ≤ limit → IsBytes bytes
+    → answer ≡ scan_of limit bytes → Scans (IsFrame limit) bytes answer
+scans_by limit bytes answer h small is =
+    let Answers : Scan Frame91 (At FrameFault) → Type 0 = Scans (IsFrame limit) bytes in subst Answers (sym is) (scans limit bytes h small)
+
+pub faults_by : (limit : ℕ) (bytes : List ℕ) (answer : Scan Frame91 (At FrameFault)) → answer ≡ scan_of limit bytes
+    → IfBad answer (IsFrameFault limit bytes)
+faults_by limit bytes answer is =
+    let Told : Scan Frame91 (At FrameFault) → Type 0 = λ s. IfBad s (IsFrameFault limit bytes) in subst Told (sym is) (faults limit bytes)

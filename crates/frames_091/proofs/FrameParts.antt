@@ -1,15 +1,15 @@
 -- The bytes of a frame, part by part.
-use Rattle.std.proofs.Common.{◌≡◌, ◌≢◌, ℕ, ◌+◌, ◌^◌, ◌<◌, ◌≤◌, zero, suc, cond, nat_eq, List, [], ◌∷◌, ◌++◌, length, get_or, take, drop, Option, Some, None, refl, sym, ◌∙◌, ap, subst, arith}
+use Rattle.std.proofs.Common.{◌≡◌, ℕ, ◌+◌, ◌<◌, ◌≤◌, suc, cond, nat_eq, List, [], ◌∷◌, ◌++◌, length, get_or, take, drop, Option, Some, refl, sym, ◌∙◌, ap, arith}
 use Rattle.std.specs.Int.{w16, w32, to_be_bytes, from_be_bytes}
 use Rattle.std.proofs.lemmas.Bool.{eqb-true, cond_both}
-use Rattle.std.proofs.lemmas.Nat.{be_bytes_2, be_bytes_4, from_be_bytes-to_be_bytes_2, from_be_bytes-to_be_bytes_4}
-use Rattle.std.proofs.lemmas.List.{get_or-append-add, get_or_at, take_at, take_more, take-append-drop, append_assoc, length-append, length-take-le}
-use Rattle.wire_base.proofs.ByteLemmas.{IsBytes-drop, IsBytes-take}
+use Rattle.std.proofs.lemmas.Nat.{be_bytes_2, be_bytes_4}
+use Rattle.std.proofs.lemmas.List.{get_or-append-add, take_more, take-append-drop, length-take-le}
+use Rattle.wire_base.proofs.Bytes.{IsBytes-take}
 use Rattle.wire_base.specs.Bytes.{IsBytes}
 use Rattle.frames_091.specs.declared.frame.Kind91.{Kind91}
 use Rattle.frames_091.specs.declared.frame.Kind91.TheVariants.{Method, Header, Body, Heartbeat}
 use Rattle.frames_091.specs.declared.frame.Frame91.{Frame91}
-use Rattle.frames_091.specs.Frames.{kind_byte, frame_text, IsFrame}
+use Rattle.frames_091.specs.Frames.{kind_byte, frame_text}
 use Rattle.frames_091.specs.FrameScan.{kind_of, stated_size, frame_in}
 use Rattle.frames_091.proofs.FrameScanning.{Begins}
 

@@ -27,9 +27,9 @@ fn agreed_len(bytes: &[u8], header: &[u8]) -> usize
     most
 }
 
-/// Scans the protocol header (AMQP 0-9-1 4.2.2), which is eight bytes. A fault is at the first byte that differs.
+/// The scan, as a function of the bytes.
 #[tactic(auto, unfolding(crate::specs::Headers::header_scan))]
-pub fn scan_header(bytes: &[u8]) -> Scan<(), At<NotHeader>>
+fn first_header(bytes: &[u8]) -> Scan<(), At<NotHeader>>
     ensures { result ≡ header_scan bytes.now }
 {
     let agreed = agreed_len(bytes, &HEADER);
@@ -43,4 +43,14 @@ pub fn scan_header(bytes: &[u8]) -> Scan<(), At<NotHeader>>
         fault: NotHeader,
         at: agreed,
     })
+}
+
+/// Scans the protocol header (AMQP 0-9-1 4.2.2), which has eight bytes. A fault is at the first byte that differs.
+#[tactic(auto, using(crate::proofs::HeaderLaws::scans_by, crate::proofs::HeaderLaws::faults_by))]
+pub fn scan_header(bytes: &[u8]) -> Scan<(), At<NotHeader>>
+    ensures exact { result ≡ header_scan bytes.now }
+    ensures scans { Scans IsHeader bytes.now result }
+    ensures fault { IfBad result (IsHeaderFault bytes.now) }
+{
+    first_header(bytes)
 }

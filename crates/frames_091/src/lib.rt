@@ -3,11 +3,12 @@
 
 mod frame;
 mod header;
-
+mod laws;
 mod scanning;
 mod writing;
 
 pub use frame::{Frame91, FrameFault, Kind91};
 pub use header::{NotHeader, scan_header};
-
+pub use laws::frame_laws;
+pub use scanning::scan_frame;
 pub use writing::put_frame;

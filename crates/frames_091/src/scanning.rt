@@ -48,7 +48,7 @@ fn size_of(bytes: &[u8]) -> u32
 #[tactic(auto, unfolding(crate::specs::FrameScan::frame_in))]
 fn frame_of(alloc: Global, kind: Kind91, size: usize, bytes: &[u8]) -> Result<Frame91, Memory>
     requires stated { size ≡ stated_size bytes.now }
-    requires whole { size + 8 ≤ length bytes.now }
+    requires there { size + 7 ≤ length bytes.now }
     ensures { IfOk result (λ frame. frame ≡ frame_in kind bytes.now) }
 {
     let channel = u16::from_be_bytes([byte_or_zero(bytes, 1), byte_or_zero(bytes, 2)]);
@@ -68,7 +68,11 @@ fn bad(fault: FrameFault, at: usize) -> Scan<Frame91, At<FrameFault>>
 
 /// The scan, as a function of the bytes.
 #[tactic(auto, unfolding(crate::specs::FrameScan::scan_of))]
-fn first_frame(alloc: Global, bytes: &[u8], limit: u32) -> Result<Scan<Frame91, At<FrameFault>>, Memory>
+fn first_frame(
+    alloc: Global,
+    bytes: &[u8],
+    limit: u32,
+) -> Result<Scan<Frame91, At<FrameFault>>, Memory>
     ensures { IfOk result (λ scan. scan ≡ scan_of limit bytes.now) }
 {
     let Some(first) = bytes.first() else {
@@ -90,4 +94,21 @@ fn first_frame(alloc: Global, bytes: &[u8], limit: u32) -> Result<Scan<Frame91, 
     }
     let frame = frame_of(alloc, kind, size, bytes)?;
     Ok(Scan::Whole(frame, whole))
+}
+
+/// Scans the first frame of a stream (AMQP 0-9-1 4.2.3). `frame_max` bounds a whole frame, in bytes. A size is told as
+/// too large as soon as the bytes of it that came, with zeros for the others, say so. Of the faults the first of `Kind`,
+/// `Size` and `End` is told, with its offset.
+#[tactic(auto, using(crate::proofs::FrameLaws::scans_by, crate::proofs::FrameLaws::faults_by))]
+pub fn scan_frame(
+    alloc: Global,
+    bytes: &[u8],
+    frame_max: u32,
+) -> Result<Scan<Frame91, At<FrameFault>>, Memory>
+    requires { 4096 ≤ frame_max }
+    ensures exact { IfOk result (λ scan. scan ≡ scan_of frame_max bytes.now) }
+    ensures scans { IfOk result (Scans (IsFrame frame_max) bytes.now) }
+    ensures fault { IfOk result (λ scan. IfBad scan (IsFrameFault frame_max bytes.now)) }
+{
+    first_frame(alloc, bytes, frame_max)
 }

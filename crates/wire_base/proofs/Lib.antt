@@ -1,2 +1,2 @@
-pub mod ByteLemmas
-pub mod ScanLemmas
+pub mod Bytes
+pub mod Scans

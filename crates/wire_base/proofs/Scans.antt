@@ -36,18 +36,18 @@ parts bytes more n = ap (λ (t : List ℕ). t ++ more) (sym (take-append-drop n 
 
 -- a whole unit is the only answer, whatever bytes follow it
 pub whole_stays : {T F : Type 0} (IsUnit : T → List ℕ → Type 0) (bytes more : List ℕ) (x : T) (n : ℕ) (t : Scan T F)
-    → AreApart IsUnit → n ≤ length bytes → IsUnit x (take n bytes) → Scans IsUnit (bytes ++ more) t → t ≡ Whole x n
-whole_stays IsUnit bytes more x n (Whole y m) apart h u v =
+    → AreApart IsUnit → Scans {T = T} {F = F} IsUnit bytes (Whole x n) → Scans IsUnit (bytes ++ more) t → t ≡ Whole x n
+whole_stays IsUnit bytes more x n (Whole y m) apart h v =
     let all = parts bytes more n in
     let front = sym (take-append-drop m (bytes ++ more)) in
-    let one = one_unit IsUnit x y (take n bytes) (take m (bytes ++ more)) _ _ apart u v.1 (sym all ∙ front) in
-    let size = sym (length-take-le n bytes h) ∙ one.1 ∙ length-take-le m (bytes ++ more) v.0 in
+    let one = one_unit IsUnit x y (take n bytes) (take m (bytes ++ more)) _ _ apart h.1 v.1 (sym all ∙ front) in
+    let size = sym (length-take-le n bytes h.0) ∙ one.1 ∙ length-take-le m (bytes ++ more) v.0 in
     cc (one.0, size)
-whole_stays IsUnit bytes more x n More apart h u v =
+whole_stays IsUnit bytes more x n More apart h v =
     let all = ap (λ (t : List ℕ). t ++ v.1) (parts bytes more n) ∙ append_assoc (take n bytes) (drop n bytes ++ more) v.1 in
-    absurd (v.2 (no_end (drop n bytes ++ more) v.1 (apart x v.0 _ _ _ u v.3 all).0))
-whole_stays IsUnit bytes more x n (Bad fault) apart h u v =
-    absurd (v x (take n bytes) [] (drop n bytes ++ more) u (append-nil (bytes ++ more) ∙ parts bytes more n))
+    absurd (v.2 (no_end (drop n bytes ++ more) v.1 (apart x v.0 _ _ _ h.1 v.3 all).0))
+whole_stays IsUnit bytes more x n (Bad fault) apart h v =
+    absurd (v x (take n bytes) [] (drop n bytes ++ more) h.1 (append-nil (bytes ++ more) ∙ parts bytes more n))
 
 -- where no continuation begins with a unit, none does after more bytes
 pub bad_stays : {T F : Type 0} (IsUnit : T → List ℕ → Type 0) (bytes more : List ℕ) (fault : F) (t : Scan T F)
@@ -60,10 +60,10 @@ bad_stays IsUnit bytes more fault (Bad other) h v = (other, refl)
 
 -- the three answers exclude each other, and there is one whole unit at most
 pub whole_alone : {T F : Type 0} (IsUnit : T → List ℕ → Type 0) (bytes : List ℕ) (x : T) (n : ℕ) (t : Scan T F)
-    → AreApart IsUnit → n ≤ length bytes → IsUnit x (take n bytes) → Scans IsUnit bytes t → t ≡ Whole x n
-whole_alone {T} {F} IsUnit bytes x n t apart h u v =
+    → AreApart IsUnit → Scans {T = T} {F = F} IsUnit bytes (Whole x n) → Scans IsUnit bytes t → t ≡ Whole x n
+whole_alone {T} {F} IsUnit bytes x n t apart h v =
     let Answers : List ℕ → Type 0 = λ text. Scans {T = T} {F = F} IsUnit text t in
-    whole_stays IsUnit bytes [] x n t apart h u (subst Answers (sym (append-nil bytes)) v)
+    whole_stays IsUnit bytes [] x n t apart h (subst Answers (sym (append-nil bytes)) v)
 
 pub bad_alone : {T F : Type 0} (IsUnit : T → List ℕ → Type 0) (bytes : List ℕ) (fault : F) (t : Scan T F)
     → Scans {T = T} {F = F} IsUnit bytes (Bad fault) → Scans IsUnit bytes t → (other : F) × (t ≡ Bad other)
@@ -73,7 +73,7 @@ bad_alone {T} {F} IsUnit bytes fault t h v =
 
 pub more_alone : {T F : Type 0} (IsUnit : T → List ℕ → Type 0) (bytes : List ℕ) (t : Scan T F)
     → AreApart IsUnit → Scans {T = T} {F = F} IsUnit bytes More → Scans IsUnit bytes t → t ≡ More
-more_alone {T} {F} IsUnit bytes (Whole x n) apart h v = cc (whole_alone {F = F} IsUnit bytes x n More apart v.0 v.1 h)
+more_alone {T} {F} IsUnit bytes (Whole x n) apart h v = cc (whole_alone {F = F} IsUnit bytes x n More apart v h)
 more_alone IsUnit bytes More apart h v = refl
 more_alone {T} {F} IsUnit bytes (Bad fault) apart h v = let other = bad_alone IsUnit bytes fault More v h in cc (other.1)
 
