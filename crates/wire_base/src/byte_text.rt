@@ -1,6 +1,6 @@
 //! Byte strings that own their bytes.
 
-ghost use Rattle.std.specs.Prelude.{◌≡◌, ℕ, ◌+◌, ◌≤◌, List, [], ◌++◌, length, drop, IfOk, OnOk, OnErr};
+ghost use Rattle.std.specs.Prelude.{◌≡◌, ℕ, ◌+◌, ◌≤◌, List, [], ◌++◌, length, take, drop, IfOk, OnOk, OnErr};
 
 use crate::memory::Memory;
 use std::alloc::Global;
@@ -68,6 +68,13 @@ impl ByteText {
         let left = self.bytes.len() - n;
         self.bytes.rotate_left(n);
         self.bytes.truncate(left);
+    }
+
+    /// Keeps the first `n` bytes, or all where there are fewer; the room stays.
+    pub fn truncate(&mut self, n: usize)
+        ensures { self.new ≡ take n self.old }
+    {
+        self.bytes.truncate(n);
     }
 
     /// A byte string of its own with the same bytes.

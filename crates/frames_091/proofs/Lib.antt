@@ -1,0 +1,5 @@
+pub mod Agreeing
+pub mod FrameLaws
+pub mod FrameParts
+pub mod FrameScanning
+pub mod HeaderLaws

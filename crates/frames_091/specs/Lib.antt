@@ -1,0 +1,4 @@
+pub mod Frames
+pub mod FrameFaults
+pub mod FrameScan
+pub mod Headers
