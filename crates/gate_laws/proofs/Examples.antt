@@ -1,5 +1,5 @@
 -- What the definitions come to on two short runs, computed: a client with a wrong header, and one with the right header in two
--- pieces, whose answer goes in two writes. The bytes are written down here apart from the definitions.
+-- pieces, whose answer goes in two writes, and then a frame. The bytes are written down here apart from the definitions.
 use Rattle.std.proofs.Common.{◌≡◌, ℕ, List, [], ◌∷◌, refl, Some}
 use Rattle.gate_outside.specs.declared.ports.End.TheVariants.{Client}
 use Rattle.gate_outside.specs.declared.ports.Accepted.TheVariants as accepted
@@ -10,6 +10,9 @@ use Rattle.gate_loop.specs.declared.config.Config.{Config}
 use Rattle.gate_loop.specs.declared.config.Served.TheVariants.{PairsDone}
 use Rattle.gate_loop.specs.Frames as frames
 use Rattle.gate_loop.specs.Journal as pieces
+use Rattle.frames_091.specs.Headers as headers
+use Rattle.frames_091.specs.Frames as spelling
+use Rattle.frames_091.specs.FrameScan as scanning
 use Rattle.gate_loop.specs.Marks.{Mark, Call, Finish}
 use Rattle.gate_loop.specs.Next as limits
 use Rattle.gate_loop.specs.Next.{next, Do, EndBy, Done, AskRead, AskWrite, AskShut, AskNow, AskAccept}
@@ -56,11 +59,11 @@ abbrev parted : List Mark
 parted = Call (Shut 0 Client) ∷ answered
 
 the_own_header_answers : next one_pair misread ≡ Do (AskWrite 0 Client own_header)
-unfolding pieces.opening
+unfolding headers.header_scan
 the_own_header_answers = refl
 
 then_the_end_is_shut : next one_pair answered ≡ Do (AskShut 0 Client)
-unfolding pieces.opening
+unfolding headers.header_scan
 then_the_end_is_shut = refl
 
 then_the_pairs_are_done : next one_pair parted ≡ EndBy PairsDone
@@ -81,13 +84,35 @@ abbrev most_went : List Mark
 most_went = Call (Write 0 Client start (put.Took 150)) ∷ second_piece
 
 a_front_has_no_answer : next two_pairs first_piece ≡ Do AskNow
-unfolding pieces.opening
+unfolding headers.header_scan
 a_front_has_no_answer = refl
 
 start_answers : next two_pairs second_piece ≡ Do (AskWrite 0 Client start)
-unfolding pieces.opening frames.start_frame
+unfolding headers.header_scan frames.start_frame spelling.frame_text scanning.scan_of
 start_answers = refl
 
 then_its_rest : next two_pairs most_went ≡ Do (AskWrite 0 Client (85 ∷ 83 ∷ 206 ∷ []))
-unfolding pieces.opening frames.start_frame
+unfolding headers.header_scan frames.start_frame spelling.frame_text scanning.scan_of
 then_its_rest = refl
+
+-- then a frame, a heartbeat
+
+abbrev start_went : List Mark
+start_went = Call (Write 0 Client (85 ∷ 83 ∷ 206 ∷ []) (put.Took 3)) ∷ most_went
+
+abbrev framed : List Mark
+framed = Call (Read 0 Client 65536 (got.Bytes 8) (8 ∷ 0 ∷ 0 ∷ 0 ∷ 0 ∷ 0 ∷ 0 ∷ 206 ∷ [])) ∷ Call (Accept accepted.NotYet) ∷ Call (Now 2) ∷ start_went
+
+abbrev close : List ℕ
+close = 1 ∷ 0 ∷ 0 ∷ 0 ∷ 0 ∷ 0 ∷ 26 ∷ 0 ∷ 10 ∷ 0 ∷ 50 ∷ 2 ∷ 28 ∷ 15 ∷ 78 ∷ 79 ∷ 84 ∷ 95 ∷ 73 ∷ 77 ∷ 80 ∷ 76 ∷ 69 ∷ 77 ∷ 69 ∷ 78 ∷ 84 ∷ 69 ∷ 68 ∷ 0 ∷ 0 ∷ 0 ∷ 0 ∷ 206 ∷ []
+
+abbrev closed : List Mark
+closed = Call (Write 0 Client close (put.Took 34)) ∷ framed
+
+then_close_answers : next two_pairs framed ≡ Do (AskWrite 0 Client close)
+unfolding headers.header_scan frames.start_frame frames.close_frame spelling.frame_text scanning.scan_of scanning.stated_size scanning.frame_in pieces.first_frame_max
+then_close_answers = refl
+
+then_its_end_is_shut : next two_pairs closed ≡ Do (AskShut 0 Client)
+unfolding headers.header_scan frames.start_frame frames.close_frame spelling.frame_text scanning.scan_of scanning.stated_size scanning.frame_in pieces.first_frame_max
+then_its_end_is_shut = refl

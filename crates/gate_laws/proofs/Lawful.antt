@@ -1,5 +1,5 @@
 -- The entries of each journal are lawful.
-use Rattle.std.proofs.Common.{◌≡◌, ℕ, Bool, true, ◌&&◌, if◌then◌else◌, List, [], ◌∷◌, drop, Option, None, Some, ◌⊎◌, refl, sym, ap, ◌∙◌, subst, inl, inr}
+use Rattle.std.proofs.Common.{◌≡◌, ℕ, ◌+◌, Bool, true, if◌then◌else◌, List, [], ◌∷◌, drop, Option, None, Some, ◌⊎◌, refl, sym, ap, ◌∙◌, subst, inl, inr}
 use Rattle.std.specs.Option.{option_map}
 use Rattle.gate_outside.specs.declared.ports.End.TheVariants.{Client}
 use Rattle.gate_outside.specs.declared.ports.Got.{Got}
@@ -7,38 +7,71 @@ use Rattle.gate_outside.specs.declared.ports.Got.TheVariants as got
 use Rattle.gate_outside.specs.declared.ports.Put.{Put}
 use Rattle.gate_outside.specs.declared.ports.Put.TheVariants as put
 use Rattle.gate_loop.specs.declared.config.Config.{Config}
-use Rattle.gate_loop.specs.declared.units.Opening.{Opening}
-use Rattle.gate_loop.specs.declared.units.Opening.TheVariants.{Right, Short, Wrong}
+use Rattle.wire_base.specs.declared.scan.Scan.{Scan}
+use Rattle.wire_base.specs.declared.scan.Scan.TheVariants.{Whole, More, Bad}
+use Rattle.wire_base.specs.declared.scan.At.{At}
+use Rattle.frames_091.specs.declared.frame.Frame91.{Frame91}
+use Rattle.frames_091.specs.declared.frame.FrameFault.{FrameFault}
+use Rattle.frames_091.specs.declared.header.NotHeader.{NotHeader}
+use Rattle.frames_091.specs.FrameScan.{scan_of}
+use Rattle.frames_091.specs.Headers.{header_scan}
+use Rattle.gate_loop.specs.declared.units.Unit91.{Unit91}
+use Rattle.gate_loop.specs.declared.units.Unit91.TheVariants as unit91
+use Rattle.gate_loop.specs.declared.units.Phase.{Phase}
+use Rattle.gate_loop.specs.declared.units.Phase.TheVariants.{Header, Started, Refused, Closing}
 use Rattle.gate_loop.specs.declared.units.Reply.{Reply}
-use Rattle.gate_loop.specs.declared.units.Sent.{Sent}
-use Rattle.gate_loop.specs.declared.units.Sent.TheVariants as sent
 use Rattle.gate_loop.specs.Marks.{Mark}
-use Rattle.gate_loop.specs.Events.{Event, Offered, first_unit, reply_sent}
-use Rattle.gate_loop.specs.Due.{pick, spelling, reply_to, first, is_unsent}
-use Rattle.gate_loop.specs.Journal.{Journal, journal, cut_by, read_at, write_at, begin_unit, with_rest, awaits, offer, rest_or_pick, shut_due}
+use Rattle.gate_loop.specs.Events.{Event, Offered, phase, begun_count, gone_count}
+use Rattle.gate_loop.specs.Due.{pick, spelling, is_listening}
+use Rattle.gate_loop.specs.Journal.{Journal, journal, first_frame_max, as_unit, unit_scan, taken_up, read_at, write_at, begin_unit, with_rest, awaits, offer, rest_or_pick, shut_due}
 use Rattle.gate_loop.specs.Next.{Follows, Closing, place}
 use Rattle.gate_laws.specs.Asks.{is_live}
-use Rattle.gate_laws.specs.Lawful.{is_awaiting, is_taking, is_over, IsOffer, Offers, Shuts, IsLawful}
-use Rattle.gate_laws.proofs.Lists.{is_or_isnt, some_or_none, or_left, or_right, and_parts}
-use Rattle.gate_laws.proofs.Steps.{is_waiting, heard, came_in_by, stays, comes, reads, writes, shuts, strains, moments, overs, does}
+use Rattle.gate_laws.specs.Lawful.{is_awaiting, is_taking, MayCome, is_over, IsOffer, Offers, Shuts, IsLawful}
+use Rattle.gate_laws.proofs.Lists.{is_or_isnt, some_or_none, or_left, or_right}
+use Rattle.gate_laws.proofs.Steps.{is_waiting, came_in_by, stays, comes, reads, writes, shuts, strains, moments, overs, does}
 use Rattle.gate_laws.proofs.Living.{live_open, follows_tail, closing_over}
 
--- where bytes of a unit are left, it is part gone
-abbrev pub IsPart : List ℕ → Sent → Type 0
-IsPart [] s = Unit {0}
-IsPart (b ∷ rest) s = s ≡ sent.Part
+-- where bytes of a unit are left it was begun, and else every unit that was begun went wholly
+abbrev pub IsPart : List ℕ → ℕ → ℕ → Type 0
+IsPart [] begun gone = begun ≡ gone
+IsPart (b ∷ rest) begun gone = begun ≡ gone + 1
 
 pub record IsKept (j : Journal) : Type 0 where
   pub lawful : IsLawful j.events
-  pub part : IsPart j.begun (reply_sent j.events)
+  pub part : IsPart j.begun (begun_count j.events) (gone_count j.events)
 
-kept_cut_by : (o : Opening) (bytes : List ℕ) (j : Journal) → awaits j ≡ true → IsKept j → IsKept (cut_by o (heard bytes j))
-kept_cut_by Right bytes j a k = record { lawful = ((is_waiting _ _ _ a).none, (a, k.lawful)); part = k.part }
-kept_cut_by Short bytes j a k = record { lawful = (a, k.lawful); part = k.part }
-kept_cut_by Wrong bytes j a k = record { lawful = ((is_waiting _ _ _ a).none, (a, k.lawful)); part = k.part }
+-- a scan finds a unit that may come
+abbrev FindsOne : Phase → Scan Unit91 (Unit {0}) → Type 0
+FindsOne stream (Whole unit n) = MayCome stream unit
+FindsOne stream More = Unit {0}
+FindsOne stream (Bad fault) = MayCome stream unit91.Bad
+
+finds_header : (found : Scan (Unit {0}) (At NotHeader)) → FindsOne Header (as_unit (λ header. unit91.Protocol) found)
+finds_header (Whole header n) = tt
+finds_header More = tt
+finds_header (Bad fault) = tt
+
+finds_frame : (found : Scan Frame91 (At FrameFault)) → FindsOne Started (as_unit unit91.Frame found)
+finds_frame (Whole frame n) = tt
+finds_frame More = tt
+finds_frame (Bad fault) = tt
+
+finds_one : (stream : Phase) (bytes : List ℕ) → is_listening stream ≡ true → FindsOne stream (unit_scan stream bytes)
+finds_one Header bytes l = finds_header (header_scan bytes)
+finds_one Started bytes l = finds_frame (scan_of first_frame_max bytes)
+finds_one Refused bytes l = absurd cc
+finds_one Closing bytes l = absurd cc
+
+kept_taken_up : (found : Scan Unit91 (Unit {0})) (k : Journal) → FindsOne (phase k.events) found → IsKept k → IsKept (taken_up found k)
+kept_taken_up (Whole unit n) k f x = record { lawful = (f, x.lawful); part = x.part }
+kept_taken_up More k f x = x
+kept_taken_up (Bad fault) k f x = record { lawful = (f, x.lawful); part = x.part }
+
+kept_cut : (k : Journal) → awaits k ≡ true → IsKept k → IsKept (taken_up (unit_scan (phase k.events) k.unread) k)
+kept_cut k a x = kept_taken_up (unit_scan (phase k.events) k.unread) k (finds_one (phase k.events) k.unread (is_waiting _ _ _ a).listens) x
 
 kept_read : (answer : Got) (bytes : List ℕ) (j : Journal) → awaits j ≡ true → IsKept j → IsKept (read_at Client answer bytes j)
-kept_read (got.Bytes n) bytes j a k = came_in_by IsKept bytes j (λ o. kept_cut_by o bytes j a k)
+kept_read (got.Bytes n) bytes j a k = came_in_by IsKept bytes j kept_cut (record { lawful = (a, k.lawful); part = k.part })
 kept_read got.NotYet bytes j a k = record { lawful = (a, k.lawful); part = k.part }
 kept_read got.Ended bytes j a k = record { lawful = (a, k.lawful); part = k.part }
 kept_read got.Failed bytes j a k = record { lawful = (or_left (is_awaiting j.events) (is_taking j.events) a, k.lawful); part = k.part }
@@ -58,34 +91,19 @@ offered j bytes e = elim (is_or_isnt (is_taking j.events)) [
   | inr f ↦ let clash : None ≡ Some bytes = sym (ap (λ (b : Bool). if b then rest_or_pick j.begun (pick j.events Client) else None) f) ∙ e in absurd cc
 ]
 
--- nothing of a unit that is due has gone
-unsent_is : (s : Sent) → is_unsent s ≡ true → s ≡ sent.Nothing
-unsent_is sent.Nothing e = refl
-unsent_is sent.Part e = absurd cc
-unsent_is sent.Whole e = absurd cc
-
-unsent_by : (takes : Bool) (s : Sent) (units : List Reply) (unit : Reply) → first (if takes && is_unsent s then units else []) ≡ Some unit → s ≡ sent.Nothing
-unsent_by takes s units unit e = elim (is_or_isnt (takes && is_unsent s)) [
-  | inl t ↦ unsent_is s (and_parts takes (is_unsent s) t).1
-  | inr f ↦ let clash : None ≡ Some unit = sym (ap (λ (b : Bool). first (if b then units else [])) f) ∙ e in absurd cc
-]
-
-pub unsent : (h : List Event) (unit : Reply) → pick h Client ≡ Some unit → reply_sent h ≡ sent.Nothing
-unsent h unit e = unsent_by (is_taking h) (reply_sent h) (reply_to (first_unit h)) unit e
-
--- once a byte was taken, the unit is part gone
+-- once a byte was taken, the unit was begun
 pub record IsGoing (j : Journal) : Type 0 where
   pub lawful : IsLawful j.events
-  pub part : reply_sent j.events ≡ sent.Part
+  pub part : begun_count j.events ≡ gone_count j.events + 1
 
-going : (h : List Event) (unread begun bytes : List ℕ) (unit : Option Reply) → pick h Client ≡ unit → Offers h begun bytes → IsLawful h → IsPart begun (reply_sent h)
+going : (h : List Event) (unread begun bytes : List ℕ) (unit : Option Reply) → pick h Client ≡ unit → Offers h begun bytes → IsLawful h → IsPart begun (begun_count h) (gone_count h)
     → IsGoing (begin_unit begun unit (record { events = Offered Client begun bytes ∷ h; unread = unread; begun = begun }))
 going h unread [] bytes None e o l p = let u : IsOffer h [] bytes = o.offer in let clash : None ≡ Some u.0 = sym e ∙ u.1 in absurd cc
-going h unread [] bytes (Some unit) e o l p = record { lawful = ((refl, e, unsent h unit e), (o, l)); part = refl }
+going h unread [] bytes (Some unit) e o l p = record { lawful = ((refl, e, p), (o, l)); part = ap (λ (n : ℕ). n + 1) p }
 going h unread (b ∷ rest) bytes unit e o l p = record { lawful = (o, l); part = p }
 
 kept_rest : (rest : List ℕ) (j : Journal) → IsGoing j → IsKept (with_rest rest j)
-kept_rest [] j g = record { lawful = (g.part, g.lawful); part = tt }
+kept_rest [] j g = record { lawful = (g.part, g.lawful); part = g.part }
 kept_rest (b ∷ rest) j g = record { lawful = g.lawful; part = g.part }
 
 kept_write : (answer : Put) (bytes : List ℕ) (j : Journal) → Offers j.events j.begun bytes → IsKept j → IsKept (write_at Client bytes answer j)
@@ -101,10 +119,10 @@ shut_allowed c p m f live (inr over) = record {
 }
 
 pub kept : (c : Config) (p : ℕ) (m : List Mark) → Follows c m → IsKept (journal p m)
-kept c p [] f = record { lawful = tt; part = tt }
+kept c p [] f = record { lawful = tt; part = refl }
 kept c p (x ∷ m) f = let g : Follows c m = follows_tail c x m f in let k : IsKept (journal p m) = kept c p m g in elim (does c p m x f) [
   | stays e s ↦ subst IsKept (sym e) k
-  | comes ms none e s ↦ subst IsKept (sym e) (record { lawful = (refl, tt); part = tt })
+  | comes ms none e s ↦ subst IsKept (sym e) (record { lawful = (refl, tt); part = refl })
   | reads answer bytes live a e s ↦ subst IsKept (sym e) (kept_read answer bytes (journal p m) a k)
   | writes bytes answer live o e s ↦ subst IsKept (sym e) (kept_write answer bytes (journal p m) (offered (journal p m) bytes o) k)
   | shuts live cause e s ↦ subst IsKept (sym e) (record { lawful = (shut_allowed c p m g live cause, k.lawful); part = k.part })

@@ -4,6 +4,7 @@ pub mod Causes
 pub mod Cover
 pub mod Ends
 mod Examples
+pub mod Heard
 pub mod Lawful
 pub mod Limits
 pub mod Lists
@@ -13,5 +14,6 @@ pub mod Order
 pub mod Pairs
 pub mod Places
 pub mod Quiet
+pub mod Said
 pub mod Steps
 pub mod Strains

@@ -10,15 +10,16 @@ use Rattle.gate_outside.specs.declared.ports.Put.{Put}
 use Rattle.gate_outside.specs.declared.log.LogEntry.TheVariants.{Accept, Connect, Read, Write, Shut, Idle, Now}
 use Rattle.gate_loop.specs.declared.config.Config.{Config}
 use Rattle.gate_loop.specs.declared.config.Served.{Served}
-use Rattle.gate_loop.specs.declared.units.Opening.{Opening}
-use Rattle.gate_loop.specs.declared.units.Opening.TheVariants.{Right, Short, Wrong}
+use Rattle.wire_base.specs.declared.scan.Scan.{Scan}
+use Rattle.wire_base.specs.declared.scan.Scan.TheVariants.{Whole, More, Bad}
 use Rattle.gate_loop.specs.declared.units.Unit91.{Unit91}
+use Rattle.gate_loop.specs.declared.units.Phase.{Phase}
 use Rattle.gate_loop.specs.declared.units.Loss.{Loss}
 use Rattle.gate_loop.specs.declared.units.Loss.TheVariants as loss
 use Rattle.gate_loop.specs.Marks.{Mark, Call, Strain, Finish}
-use Rattle.gate_loop.specs.Events.{Heard, Moment, Over, Lost, Strained, client_loss, is_strained, first_unit}
-use Rattle.gate_loop.specs.Due.{is_awaited}
-use Rattle.gate_loop.specs.Journal.{Journal, journal, nothing, came, came_in, cut_by, opening, noted, noted_unless, is_empty, read_at, write_at, moment, awaits, offer, shut_due}
+use Rattle.gate_loop.specs.Events.{Heard, Moment, Over, Lost, Strained, client_loss, is_strained, phase}
+use Rattle.gate_loop.specs.Due.{is_awaited, is_listening}
+use Rattle.gate_loop.specs.Journal.{Journal, journal, nothing, came, came_in, cut, taken_up, unit_scan, noted, noted_unless, is_empty, read_at, write_at, moment, awaits, offer, shut_due}
 use Rattle.gate_loop.specs.Next.{Do, Place, Refuse, Closing, lives, accepted_count, without, place, asked, StrainsAt, Follows}
 use Rattle.gate_loop.proofs.OneMark.{if_same, if_other}
 use Rattle.gate_laws.specs.Asks.{is_among, is_live, IsLiveEnd}
@@ -27,36 +28,41 @@ use Rattle.gate_laws.proofs.Asks.{Asks, asks, strain_lives, place_lives}
 use Rattle.gate_laws.proofs.Pairs.{no_journal}
 use Rattle.gate_laws.proofs.Causes.{LedTo, led_to}
 
--- a unit that is awaited wasn't met, by an end that is open, of a pair that isn't strained
-pub record IsWaiting (unit : Option Unit91) (lost : Option Loss) (strained : Bool) : Type 0 where
-  pub none : unit ≡ None
+-- where a unit is awaited one more may come, by an end that is open, of a pair that isn't strained
+pub record IsWaiting (stream : Phase) (lost : Option Loss) (strained : Bool) : Type 0 where
+  pub listens : is_listening stream ≡ true
   pub open_end : lost ≡ None
   pub calm : strained ≡ false
 
-pub is_waiting : (unit : Option Unit91) (lost : Option Loss) (strained : Bool) → is_awaited unit lost strained ≡ true → IsWaiting unit lost strained
-is_waiting None None true e = absurd cc
-is_waiting None None false e = record { none = refl; open_end = refl; calm = refl }
-is_waiting None (Some how) strained e = absurd cc
-is_waiting (Some unit) lost strained e = absurd cc
+pub is_waiting : (stream : Phase) (lost : Option Loss) (strained : Bool) → is_awaited stream lost strained ≡ true → IsWaiting stream lost strained
+is_waiting stream None true e = absurd cc
+is_waiting stream None false e = record { listens = e; open_end = refl; calm = refl }
+is_waiting stream (Some how) strained e = absurd cc
 
 -- the journal after bytes came, before they are cut
 abbrev pub heard : List ℕ → Journal → Journal
 heard bytes j = record { events = Heard Client ∷ j.events; unread = j.unread ++ bytes; begun = j.begun }
 
--- bytes that came are cut, by some opening
-pub came_in_by : (P : Journal → Type 0) (bytes : List ℕ) (j : Journal) → ((o : Opening) → P (cut_by o (heard bytes j))) → P (came_in bytes j)
-came_in_by P bytes j f = elim (is_or_isnt (awaits j)) [
-  | inl t ↦ subst (λ (b : Bool). P (if b then cut_by (opening (j.unread ++ bytes)) (heard bytes j) else heard bytes j)) (sym t) (f (opening (j.unread ++ bytes)))
-  | inr n ↦ subst (λ (b : Bool). P (if b then cut_by (opening (j.unread ++ bytes)) (heard bytes j) else heard bytes j)) (sym n) (f Short)
+-- what holds of the journal before its bytes are cut, and stays where a unit is taken up, holds after it
+pub cut_by : (P : Journal → Type 0) → ((k : Journal) → awaits k ≡ true → P k → P (taken_up (unit_scan (phase k.events) k.unread) k))
+    → (k : Journal) → P k → P (cut k)
+cut_by P f k p = elim (is_or_isnt (awaits k)) [
+  | inl t ↦ subst (λ (b : Bool). P (if b then taken_up (unit_scan (phase k.events) k.unread) k else k)) (sym t) (f k t p)
+  | inr n ↦ subst (λ (b : Bool). P (if b then taken_up (unit_scan (phase k.events) k.unread) k else k)) (sym n) p
 ]
 
-calm_cut_by : (o : Opening) (j : Journal) → is_strained (cut_by o j).events ≡ is_strained j.events
-calm_cut_by Right j = refl
-calm_cut_by Short j = refl
-calm_cut_by Wrong j = refl
+pub came_in_by : (P : Journal → Type 0) (bytes : List ℕ) (j : Journal)
+    → ((k : Journal) → awaits k ≡ true → P k → P (taken_up (unit_scan (phase k.events) k.unread) k)) → P (heard bytes j) → P (came_in bytes j)
+came_in_by P bytes j f p = cut_by P f (cut (heard bytes j)) (cut_by P f (heard bytes j) p)
+
+calm_taken_up : (found : Scan Unit91 (Unit {0})) (k : Journal) → is_strained (taken_up found k).events ≡ is_strained k.events
+calm_taken_up (Whole unit n) k = refl
+calm_taken_up More k = refl
+calm_taken_up (Bad fault) k = refl
 
 pub calm_came_in : (bytes : List ℕ) (j : Journal) → is_strained (came_in bytes j).events ≡ is_strained j.events
-calm_came_in bytes j = came_in_by (λ (k : Journal). is_strained k.events ≡ is_strained j.events) bytes j (λ o. calm_cut_by o (heard bytes j))
+calm_came_in bytes j = came_in_by (λ (k : Journal). is_strained k.events ≡ is_strained j.events) bytes j
+    (λ k a p. calm_taken_up (unit_scan (phase k.events) k.unread) k ∙ p) refl
 
 -- what the mark x does to the pair p
 pub data Does (p : ℕ) (m : List Mark) (x : Mark) : Type 0 where
@@ -79,7 +85,7 @@ calm_at c p (Call (Accept (accepted.Pair q)) ∷ m) s f =
     subst (λ (x : ℕ). is_strained (journal p (Call (Accept (accepted.Pair x)) ∷ m)).events ≡ false) (sym s) (ap (λ (j : Journal). is_strained j.events) (if_same p (came (moment m)) (journal p m)))
 calm_at c p (Call (Read q end room (got.Bytes n) bytes) ∷ m) s f =
     let a : IsLiveEnd q end m × (awaits (journal q m) ≡ true) = asks c m _ f.2 f.0 in
-    let w : IsWaiting (first_unit (journal q m).events) (client_loss (journal q m).events) (is_strained (journal q m).events) = is_waiting _ _ _ a.1 in
+    let w : IsWaiting (phase (journal q m).events) (client_loss (journal q m).events) (is_strained (journal q m).events) = is_waiting _ _ _ a.1 in
     subst (λ (x : ℕ). is_strained (journal x (Call (Read q end room (got.Bytes n) bytes) ∷ m)).events ≡ false) s
     (subst (λ (e : End). is_strained (journal q (Call (Read q e room (got.Bytes n) bytes) ∷ m)).events ≡ false) (sym a.0.client)
     (ap (λ (j : Journal). is_strained j.events) (if_same q (came_in bytes (journal q m)) (journal q m)) ∙ calm_came_in bytes (journal q m) ∙ w.calm))

@@ -18,6 +18,8 @@ ghost use Rattle.gate_laws.specs.Pairs.{AreOrdered, LivesOrShut};
 ghost use Rattle.gate_laws.specs.Quiet.{IdlesAtRest};
 ghost use Rattle.gate_laws.specs.Strains.{CountsStrains};
 
+use frames_091::frame_laws;
+
 /// The entries of each pair's journal are lawful: what is offered is due, nothing is answered twice, and an end is shut
 /// where that is due.
 #[tactic(auto, using(crate::proofs::Lawful::lawful))]
@@ -25,11 +27,14 @@ pub fn entries_are_lawful()
     ensures { (c : Config) (m : List Mark) → Follows c m → (p : ℕ) → IsLawful (journal p m).events }
 {}
 
-/// What a client took is a front of the reply to what it sent: to the protocol header connection.start, to bytes that
-/// begin no header the gateway's own header, and nothing before it can be told.
+/// A client's units are those with which its bytes begin, and what it took is a front of the replies to them: to the protocol
+/// header connection.start, to bytes that begin no header the gateway's own header, to the first frame or bad bytes after the
+/// header connection.close.
 pub fn clients_are_answered()
     ensures { (c : Config) (m : List Mark) → Follows c m → (p : ℕ) → IsAnswered p m }
-{}
+{
+    frame_laws();
+}
 
 /// Reads, writes and shuts are asked of the clients' ends of pairs that live. No connection is asked for.
 #[tactic(auto, using(crate::proofs::Asks::asks_live))]

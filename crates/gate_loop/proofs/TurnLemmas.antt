@@ -26,7 +26,7 @@ use Rattle.gate_loop.proofs.PairLemmas.{awaits_is}
 use Rattle.gate_loop.proofs.Places.{at_held, at_read, at_strain, at_write, at_none, at_full, at_face, face_stay, face_shut}
 
 -- the client was read
-heard_here : (old new : Pair) (answer : Got) (bytes : List ℕ) → is_awaited old.bridge.unit old.bridge.lost old.bridge.strained ≡ true
+heard_here : (old new : Pair) (answer : Got) (bytes : List ℕ) → is_awaited old.bridge.phase old.bridge.lost old.bridge.strained ≡ true
     → ((m : List Mark) → Answered m (Read old.number Client read_room answer bytes))
     → ((j : Journal) → Stands old j → Stands new (read_at Client answer bytes j))
     → (m : List Mark) → Steps old.number Reading (Writing 0) old new (got_moved answer) false m (Call (Read old.number Client read_room answer bytes) ∷ m)
@@ -37,7 +37,7 @@ heard_here old new answer bytes awaited answered keeps m = record {
 }
 
 pub step_read : (old new : Pair) (room : ℕ) (answer : Got) (bytes : List ℕ) → room ≡ read_room
-    → is_awaited old.bridge.unit old.bridge.lost old.bridge.strained ≡ true
+    → is_awaited old.bridge.phase old.bridge.lost old.bridge.strained ≡ true
     → ((m : List Mark) → Answered m (Read old.number Client read_room answer bytes))
     → ((j : Journal) → Stands old j → Stands new (read_at Client answer bytes j))
     → (m : List Mark) → Steps old.number Reading (Writing 0) old new (got_moved answer) false m (Call (Read old.number Client room answer bytes) ∷ m)
@@ -46,7 +46,7 @@ step_read old new room answer bytes e awaited answered keeps m =
     (heard_here old new answer bytes awaited answered keeps m)
 
 -- the client was read, and want of memory was met
-strain_here : (old new : Pair) (n : ℕ) (bytes : List ℕ) → is_awaited old.bridge.unit old.bridge.lost old.bridge.strained ≡ true
+strain_here : (old new : Pair) (n : ℕ) (bytes : List ℕ) → is_awaited old.bridge.phase old.bridge.lost old.bridge.strained ≡ true
     → ((m : List Mark) → Answered m (Read old.number Client read_room (got.Bytes n) bytes))
     → ((j : Journal) → Stands old j → Stands new (noted Strained (came_in bytes j)))
     → (m : List Mark) → Steps old.number Reading Shutting old new true true m (Strain old.number ∷ Call (Read old.number Client read_room (got.Bytes n) bytes) ∷ m)
@@ -62,7 +62,7 @@ strain_here old new n bytes awaited answered keeps m =
     }
 
 pub step_strain : (old new : Pair) (room n : ℕ) (bytes : List ℕ) → room ≡ read_room
-    → is_awaited old.bridge.unit old.bridge.lost old.bridge.strained ≡ true
+    → is_awaited old.bridge.phase old.bridge.lost old.bridge.strained ≡ true
     → ((m : List Mark) → Answered m (Read old.number Client read_room (got.Bytes n) bytes))
     → ((j : Journal) → Stands old j → Stands new (noted Strained (came_in bytes j)))
     → (m : List Mark) → Steps old.number Reading Shutting old new true true m (Strain old.number ∷ Call (Read old.number Client room (got.Bytes n) bytes) ∷ m)

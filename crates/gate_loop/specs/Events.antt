@@ -1,14 +1,15 @@
 -- The entries of one pair's journal, and what they amount to. All lists are newest first.
-use Rattle.std.specs.Prelude.{ℕ, Bool, true, false, List, [], ◌∷◌, Option, None, Some}
+use Rattle.std.specs.Prelude.{ℕ, ◌+◌, Bool, true, false, List, [], ◌∷◌, Option, None, Some}
 use Rattle.gate_outside.specs.declared.ports.End.{End}
 use Rattle.gate_outside.specs.declared.ports.End.TheVariants.{Client}
 use Rattle.gate_outside.specs.declared.ports.Linked.{Linked}
 use Rattle.gate_loop.specs.declared.config.Served.{Served}
 use Rattle.gate_loop.specs.declared.units.Unit91.{Unit91}
+use Rattle.gate_loop.specs.declared.units.Unit91.TheVariants as unit91
+use Rattle.gate_loop.specs.declared.units.Phase.{Phase}
+use Rattle.gate_loop.specs.declared.units.Phase.TheVariants.{Header, Started, Refused, Closing}
 use Rattle.gate_loop.specs.declared.units.Reply.{Reply}
 use Rattle.gate_loop.specs.declared.units.Loss.{Loss}
-use Rattle.gate_loop.specs.declared.units.Sent.{Sent}
-use Rattle.gate_loop.specs.declared.units.Sent.TheVariants as sent
 
 pub data Event : Type 0 where
   -- the pair was accepted at this moment
@@ -17,7 +18,7 @@ pub data Event : Type 0 where
   Moment : ℕ → Event
   -- a read gave bytes
   Heard : End → Event
-  -- the client's stream had a whole unit, or its first bad one
+  -- the client's stream had a whole unit, or bytes with which none begins
   Came : Unit91 → Event
   -- a read gave nothing yet
   Dry : End → Event
@@ -38,18 +39,41 @@ pub data Event : Type 0 where
   -- the service ended
   Over : Served → Event
 
--- the first unit of the client
-abbrev pub first_unit : List Event → Option Unit91
-first_unit [] = None
-first_unit (Came unit ∷ h) = Some unit
-first_unit (x ∷ h) = first_unit h
+-- how far the client's stream is once one more unit came: the protocol header comes first, then a frame
+abbrev pub phase_after : Phase → Unit91 → Phase
+phase_after Header unit91.Protocol = Started
+phase_after Header (unit91.Frame frame) = Refused
+phase_after Header unit91.Bad = Refused
+phase_after Started unit = Closing
+phase_after Refused unit = Refused
+phase_after Closing unit = Closing
 
--- how far the reply went
-abbrev pub reply_sent : List Event → Sent
-reply_sent [] = sent.Nothing
-reply_sent (Went unit ∷ h) = sent.Part
-reply_sent (Taken ∷ h) = sent.Whole
-reply_sent (x ∷ h) = reply_sent h
+-- the units of the client that came
+abbrev pub units : List Event → List Unit91
+units [] = []
+units (Came unit ∷ h) = unit ∷ units h
+units (x ∷ h) = units h
+
+-- how far a stream with these units has come
+abbrev pub stream_of : List Unit91 → Phase
+stream_of [] = Header
+stream_of (unit ∷ us) = phase_after (stream_of us) unit
+
+-- how far the client's stream has come
+abbrev pub phase : List Event → Phase
+phase h = stream_of (units h)
+
+-- the count of the units to the client of which the first byte was taken
+abbrev pub begun_count : List Event → ℕ
+begun_count [] = 0
+begun_count (Went unit ∷ h) = begun_count h + 1
+begun_count (x ∷ h) = begun_count h
+
+-- the count of those of which the last byte was taken
+abbrev pub gone_count : List Event → ℕ
+gone_count [] = 0
+gone_count (Taken ∷ h) = gone_count h + 1
+gone_count (x ∷ h) = gone_count h
 
 -- how the client's end was lost
 abbrev pub client_loss : List Event → Option Loss

@@ -1,10 +1,8 @@
 -- The bytes that the gateway writes, in the standard's terms.
 use Rattle.std.specs.Prelude.{ℕ, List, [], ◌∷◌, ◌++◌, length, codes}
-use Rattle.std.specs.Int.{w32, to_be_bytes}
-
--- the protocol header of AMQP 0-9-1 (AMQP 0-9-1 4.2.2)
-abbrev pub header_bytes : List ℕ
-header_bytes = 65 ∷ 77 ∷ 81 ∷ 80 ∷ 0 ∷ 0 ∷ 9 ∷ 1 ∷ []
+use Rattle.std.specs.Int.{w16, w32, to_be_bytes}
+use Rattle.frames_091.specs.declared.frame.Kind91.TheVariants.{Method}
+use Rattle.frames_091.specs.Frames.{frame_text}
 
 -- a short and a long string (AMQP 0-9-1 4.2.5.3)
 abbrev pub short_string : List ℕ → List ℕ
@@ -23,9 +21,9 @@ table_field name fields = short_string name ++ codes "F" ++ long_string fields
 abbrev pub true_field : List ℕ → List ℕ
 true_field name = short_string name ++ codes "t" ++ 1 ∷ []
 
--- a method frame on channel 0 (AMQP 0-9-1 4.2.3 and 4.2.4)
+-- a method frame on channel 0 (AMQP 0-9-1 4.2.4)
 abbrev pub method_frame : List ℕ → List ℕ
-method_frame payload = 1 ∷ 0 ∷ 0 ∷ [] ++ long_string payload ++ 206 ∷ []
+method_frame payload = frame_text (record { kind = Method; channel = 0; payload = payload })
 
 abbrev pub capabilities : List ℕ
 capabilities =
@@ -41,3 +39,13 @@ unfoldable pub start_frame : List ℕ
 start_frame =
     method_frame (0 ∷ 10 ∷ 0 ∷ 10 ∷ 0 ∷ 9 ∷ []
     ++ long_string properties ++ long_string (codes "PLAIN ANONYMOUS") ++ long_string (codes "en_US"))
+
+-- connection.close: class 10, method 50, the reply code, its text, and the class and method that it is about, none here
+-- (AMQP 0-9-1 reference 1.4.2.8)
+abbrev pub close_with : ℕ → List ℕ → List ℕ
+close_with code text =
+    method_frame (0 ∷ 10 ∷ 0 ∷ 50 ∷ [] ++ to_be_bytes w16 code ++ short_string text ++ to_be_bytes w16 0 ++ to_be_bytes w16 0)
+
+-- not implemented (AMQP 0-9-1 reference 1.1)
+unfoldable pub close_frame : List ℕ
+close_frame = close_with 540 (codes "NOT_IMPLEMENTED")

@@ -1,6 +1,5 @@
 -- The journal of a pair: what a marked history says of it. All lists are newest first.
-use Rattle.std.specs.Prelude.{ℕ, ◌==◌, nat_eq, Bool, true, false, if◌then◌else◌, List, [], ◌∷◌, ◌++◌, drop, Option, None, Some}
-use Rattle.std.specs.List.{starts_with}
+use Rattle.std.specs.Prelude.{ℕ, ◌==◌, ◌≤◌, Bool, true, false, if◌then◌else◌, List, [], ◌∷◌, ◌++◌, length, drop, Option, None, Some}
 use Rattle.std.specs.Option.{option_map}
 use Rattle.gate_outside.specs.declared.ports.End.{End}
 use Rattle.gate_outside.specs.declared.ports.End.TheVariants.{Client, Up}
@@ -10,14 +9,18 @@ use Rattle.gate_outside.specs.declared.ports.Got.TheVariants as got
 use Rattle.gate_outside.specs.declared.ports.Put.{Put}
 use Rattle.gate_outside.specs.declared.ports.Put.TheVariants as put
 use Rattle.gate_outside.specs.declared.log.LogEntry.TheVariants.{Accept, Connect, Read, Write, Shut, Idle, Now}
+use Rattle.wire_base.specs.declared.scan.Scan.{Scan}
+use Rattle.wire_base.specs.declared.scan.Scan.TheVariants.{Whole, More, Bad}
+use Rattle.frames_091.specs.FrameScan.{scan_of}
+use Rattle.frames_091.specs.Headers.{header_scan}
+use Rattle.gate_loop.specs.declared.units.Unit91.{Unit91}
 use Rattle.gate_loop.specs.declared.units.Unit91.TheVariants as unit91
-use Rattle.gate_loop.specs.declared.units.Opening.{Opening}
-use Rattle.gate_loop.specs.declared.units.Opening.TheVariants.{Right, Short, Wrong}
+use Rattle.gate_loop.specs.declared.units.Phase.{Phase}
+use Rattle.gate_loop.specs.declared.units.Phase.TheVariants.{Header, Started, Refused, Closing}
 use Rattle.gate_loop.specs.declared.units.Reply.{Reply}
 use Rattle.gate_loop.specs.declared.units.Loss.TheVariants as loss
-use Rattle.gate_loop.specs.Frames.{header_bytes}
 use Rattle.gate_loop.specs.Marks.{Mark, Call, Strain, Finish}
-use Rattle.gate_loop.specs.Events.{Event, Began, Moment, Heard, Came, Dry, Stuck, Lost, Offered, Went, Taken, Joined, Strained, Over, first_unit, client_loss, is_strained}
+use Rattle.gate_loop.specs.Events.{Event, Began, Moment, Heard, Came, Dry, Stuck, Lost, Offered, Went, Taken, Joined, Strained, Over, phase, client_loss, is_strained}
 use Rattle.gate_loop.specs.Due.{is_awaited, takes_bytes, pick, spelling, is_shut_due}
 
 pub record Journal : Type 0 where
@@ -49,21 +52,45 @@ moment (x ∷ m) = moment m
 abbrev pub came : ℕ → Journal
 came ms = record { events = Began ms ∷ []; unread = []; begun = [] }
 
--- the protocol header stands at the front, or the bytes are a proper prefix of it, or neither
-unfoldable pub opening : List ℕ → Opening
-opening bytes = if starts_with nat_eq bytes header_bytes then Right else (if starts_with nat_eq header_bytes bytes then Short else Wrong)
+-- the most bytes of a client's frame before connection.tune was answered
+unfoldable pub first_frame_max : ℕ
+first_frame_max = 131072
 
-abbrev pub cut_by : Opening → Journal → Journal
-cut_by Right j = record { events = Came unit91.Protocol ∷ j.events; unread = drop 8 j.unread; begun = j.begun }
-cut_by Short j = j
-cut_by Wrong j = noted (Came unit91.Bad) j
+-- what a scan of a stream finds, as a unit
+abbrev pub as_unit : {A F : Type 0} → (A → Unit91) → Scan A F → Scan Unit91 (Unit {0})
+as_unit make (Whole x n) = Whole (make x) n
+as_unit make More = More
+as_unit make (Bad fault) = Bad tt
 
--- the client's bytes are cut into units, while one is awaited
+-- the unit with which bytes begin: first the protocol header, then frames (AMQP 0-9-1 4.2.2 and 4.2.3)
+abbrev pub unit_scan : Phase → List ℕ → Scan Unit91 (Unit {0})
+unit_scan Header bytes = as_unit (λ header. unit91.Protocol) (header_scan bytes)
+unit_scan Started bytes = as_unit unit91.Frame (scan_of first_frame_max bytes)
+unit_scan Refused bytes = More
+unit_scan Closing bytes = More
+
+-- no more bytes are cut off than there are
+abbrev pub IsWithin : List ℕ → Scan Unit91 (Unit {0}) → Type 0
+IsWithin bytes (Whole unit n) = n ≤ length bytes
+IsWithin bytes More = Unit {0}
+IsWithin bytes (Bad fault) = Unit {0}
+
+-- the unit that was found is taken up
+abbrev pub taken_up : Scan Unit91 (Unit {0}) → Journal → Journal
+taken_up (Whole unit n) j = record { events = Came unit ∷ j.events; unread = drop n j.unread; begun = j.begun }
+taken_up More j = j
+taken_up (Bad fault) j = noted (Came unit91.Bad) j
+
+abbrev pub awaits : Journal → Bool
+awaits j = is_awaited (phase j.events) (client_loss j.events) (is_strained j.events)
+
+-- the unit with which the client's bytes begin is cut off, where one is awaited
 abbrev pub cut : Journal → Journal
-cut j = if is_awaited (first_unit j.events) (client_loss j.events) (is_strained j.events) then cut_by (opening j.unread) j else j
+cut j = if awaits j then taken_up (unit_scan (phase j.events) j.unread) j else j
 
+-- bytes came: they may make the protocol header whole, and then a frame
 abbrev pub came_in : List ℕ → Journal → Journal
-came_in bytes j = cut (record { events = Heard Client ∷ j.events; unread = j.unread ++ bytes; begun = j.begun })
+came_in bytes j = cut (cut (record { events = Heard Client ∷ j.events; unread = j.unread ++ bytes; begun = j.begun }))
 
 abbrev pub read_at : End → Got → List ℕ → Journal → Journal
 read_at Client (got.Bytes n) bytes j = came_in bytes j
@@ -124,10 +151,8 @@ abbrev pub journal : ℕ → List Mark → Journal
 journal p [] = nothing
 journal p (x ∷ m) = step p (moment m) x (journal p m)
 
--- the three words of the loop: whether the client is read, what is offered to it, and whether its end is to be shut
-abbrev pub awaits : Journal → Bool
-awaits j = is_awaited (first_unit j.events) (client_loss j.events) (is_strained j.events)
-
+-- the words of the loop are `awaits`, whether the client is read, and these: what is offered to it, and whether its end is
+-- to be shut
 abbrev pub rest_or_pick : List ℕ → Option Reply → Option (List ℕ)
 rest_or_pick [] unit = option_map spelling unit
 rest_or_pick (b ∷ rest) unit = Some (b ∷ rest)

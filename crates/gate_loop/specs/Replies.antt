@@ -1,25 +1,33 @@
--- What a pair's state says of its reply. No word here names the pair's own type.
-use Rattle.std.specs.Prelude.{ℕ, if◌then◌else◌, List, [], drop, Option, None, Some}
-use Rattle.gate_loop.specs.declared.units.Unit91.{Unit91}
+-- What a pair's state says of its replies. No word here names the pair's own type.
+use Rattle.std.specs.Prelude.{ℕ, ◌==◌, Bool, true, false, if◌then◌else◌, List, [], drop, Option, None, Some}
+use Rattle.std.specs.Option.{option_map}
+use Rattle.gate_loop.specs.declared.units.Phase.{Phase}
+use Rattle.gate_loop.specs.declared.units.Phase.TheVariants.{Header, Started, Refused, Closing}
+use Rattle.gate_loop.specs.declared.units.Reply.{Reply}
+use Rattle.gate_loop.specs.declared.units.Reply.TheVariants as reply
 use Rattle.gate_loop.specs.declared.units.Loss.{Loss}
-use Rattle.gate_loop.specs.declared.units.Sent.{Sent}
-use Rattle.gate_loop.specs.declared.units.Sent.TheVariants as sent
-use Rattle.std.specs.Prelude.{Bool}
-use Rattle.gate_loop.specs.Due.{takes_bytes, reply_bytes}
+use Rattle.gate_loop.specs.Due.{spelling, takes_bytes}
+
+-- the reply after so many
+abbrev pub reply_after : Phase → ℕ → Option Reply
+reply_after Header gone = None
+reply_after Started gone = if gone == 0 then Some reply.Start else None
+reply_after Refused gone = if gone == 0 then Some reply.Protocol else None
+reply_after Closing gone = if gone == 0 then Some reply.Start else (if gone == 1 then Some reply.Close else None)
+
+abbrev pub bytes_of : Option Reply → List ℕ
+bytes_of None = []
+bytes_of (Some unit) = spelling unit
+
+-- the bytes of the reply after so many, none where there is none
+abbrev pub reply_bytes : Phase → ℕ → List ℕ
+reply_bytes stream gone = bytes_of (reply_after stream gone)
 
 -- what is left of the reply that was begun
-abbrev pub rest_begun : Sent → ℕ → Option Unit91 → List ℕ
-rest_begun sent.Nothing at unit = []
-rest_begun sent.Part at unit = drop at (reply_bytes unit)
-rest_begun sent.Whole at unit = []
+abbrev pub rest_begun : Bool → ℕ → List ℕ → List ℕ
+rest_begun true at bytes = drop at bytes
+rest_begun false at bytes = []
 
--- what is left of the reply, begun or not
-abbrev pub rest_by : Sent → ℕ → Option Unit91 → Option (List ℕ)
-rest_by sent.Nothing at None = None
-rest_by sent.Nothing at (Some unit) = Some (drop at (reply_bytes (Some unit)))
-rest_by sent.Part at unit = Some (drop at (reply_bytes unit))
-rest_by sent.Whole at unit = None
-
--- what is offered to the client
-abbrev pub offered : Option Loss → Bool → Sent → ℕ → Option Unit91 → Option (List ℕ)
-offered lost strained s at unit = if takes_bytes lost strained then rest_by s at unit else None
+-- what is offered to the client: what is left of a reply of which so many bytes went
+abbrev pub offered : Option Loss → Bool → ℕ → Option Reply → Option (List ℕ)
+offered lost strained at unit = if takes_bytes lost strained then option_map (λ u. drop at (spelling u)) unit else None

@@ -8,7 +8,7 @@ use Rattle.gate_outside.specs.declared.ports.Put.TheVariants as put
 use Rattle.gate_outside.specs.declared.log.LogEntry.{LogEntry}
 use Rattle.gate_outside.specs.declared.log.LogEntry.TheVariants.{Now}
 use Rattle.gate_outside.specs.Ends.{closed}
-use Rattle.gate_outside.specs.Streams.{Appends, AppendsFront}
+use Rattle.gate_outside.specs.Streams.{Appends}
 use Rattle.gate_loop.specs.declared.config.Config.{Config}
 use Rattle.gate_loop.specs.declared.config.Outside.{Outside}
 use Rattle.gate_loop.specs.declared.config.Outside.TheVariants as outside

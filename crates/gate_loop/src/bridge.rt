@@ -1,52 +1,90 @@
-//! What one pair owes: which reply its client gets, how far that went, and whether its end is to be shut.
+//! What one pair owes: how far its client's stream has come, which replies that gets, how far they went, and whether its
+//! end is to be shut.
 
-ghost use Rattle.std.specs.Prelude.{◌≡◌, ◌≤◌, ◌<◌, ◌^◌, true, false, not, ◌&&◌, ◌||◌, is_some, Some, None, length};
-ghost use Rattle.gate_loop.specs.Due.{is_awaited, takes_bytes, is_unsent, shut_by, is_turned_away, reply_bytes};
+ghost use Rattle.std.specs.Prelude.{◌≡◌, ◌+◌, ◌≤◌, ◌<◌, ◌^◌, true, false, not, ◌&&◌, ◌||◌, is_some, Some, None, length};
+ghost use Rattle.gate_loop.specs.Events.{phase_after};
+ghost use Rattle.gate_loop.specs.Due.{is_awaited, is_listening, takes_bytes, shut_by, is_all_said, spelling};
+ghost use Rattle.gate_loop.specs.Replies.{reply_after, bytes_of};
 
-use crate::frames::{header, start};
-use crate::units::{Loss, Sent, Unit91};
+use crate::frames::{close, header, start};
+use crate::units::{Loss, Phase, Reply, Unit91};
 
 /// The state of one pair.
 #[derive(Clone, Copy, Debug)]
 pub struct Bridge {
-    /// The first unit of the client's stream, once it came.
-    pub unit: Option<Unit91>,
-    /// How far the reply to it went.
-    pub sent: Sent,
+    /// How far the client's stream has come.
+    pub phase: Phase,
+    /// The count of the replies that went wholly.
+    pub gone: u32,
+    /// The first byte of the reply after those was taken.
+    pub begun: bool,
     /// How the client's end was lost, once it was.
     pub lost: Option<Loss>,
     /// Want of memory was met for the pair.
     pub strained: bool,
 }
 
+/// The bytes of a reply.
+fn spelled(reply: Reply) -> &'static [u8]
+    ensures bytes { result.now ≡ spelling reply }
+    ensures small { length result.now ≤ 153 }
+    ensures some { 0 < length result.now }
+{
+    match reply {
+        Reply::Protocol => header(),
+        Reply::Start => start(),
+        Reply::Close => close(),
+    }
+}
+
 impl Bridge {
     /// A pair that was accepted just now.
     pub fn new() -> Bridge
-        ensures unit { result.unit ≡ None }
-        ensures sent { result.sent ≡ Sent.Nothing }
+        ensures phase { result.phase ≡ Phase.Header }
+        ensures gone { result.gone ≡ 0 }
+        ensures begun { result.begun ≡ false }
         ensures lost { result.lost ≡ None }
         ensures strained { result.strained ≡ false }
     {
         Bridge {
-            unit: None,
-            sent: Sent::Nothing,
+            phase: Phase::Header,
+            gone: 0,
+            begun: false,
             lost: None,
             strained: false,
         }
     }
 
+    /// A unit of the client is awaited by how far its stream has come.
+    fn is_listening(&self) -> bool
+        ensures { result ≡ is_listening self.now.phase }
+    {
+        match self.phase {
+            Phase::Header | Phase::Started => true,
+            Phase::Refused | Phase::Closing => false,
+        }
+    }
+
     /// The client isn't to be read.
     pub fn client_held(&self) -> bool
-        ensures { result ≡ not (is_awaited self.now.unit self.now.lost self.now.strained) }
+        ensures { result ≡ not (is_awaited self.now.phase self.now.lost self.now.strained) }
     {
-        self.unit.is_some() || self.lost.is_some() || self.strained
+        self.lost.is_some() || self.strained || !self.is_listening()
     }
 
     /// A unit of the client was taken up.
     pub fn client_unit(&mut self, unit: Unit91)
-        ensures { self.new ≡ record self.old { unit = Some unit } }
+        ensures { self.new ≡ record self.old { phase = phase_after self.old.phase unit } }
     {
-        self.unit = Some(unit);
+        self.phase = match self.phase {
+            Phase::Header => match unit {
+                Unit91::Protocol => Phase::Started,
+                Unit91::Frame(_) | Unit91::Bad => Phase::Refused,
+            },
+            Phase::Started => Phase::Closing,
+            Phase::Refused => Phase::Refused,
+            Phase::Closing => Phase::Closing,
+        };
     }
 
     /// The client's end was lost.
@@ -73,55 +111,75 @@ impl Bridge {
         }
     }
 
+    /// The reply after those that went wholly, if there is one.
+    fn reply(&self) -> Option<Reply>
+        ensures { result ≡ reply_after self.now.phase self.now.gone }
+    {
+        match self.phase {
+            Phase::Header => None,
+            Phase::Started if self.gone == 0 => Some(Reply::Start),
+            Phase::Refused if self.gone == 0 => Some(Reply::Protocol),
+            Phase::Closing if self.gone == 0 => Some(Reply::Start),
+            Phase::Closing if self.gone == 1 => Some(Reply::Close),
+            Phase::Started | Phase::Refused | Phase::Closing => None,
+        }
+    }
+
     /// A unit that wasn't begun is due to the client.
     pub fn peek(&self) -> bool
-        ensures { result ≡ takes_bytes self.now.lost self.now.strained && is_unsent self.now.sent && is_some self.now.unit }
+        ensures { result ≡ takes_bytes self.now.lost self.now.strained && not self.now.begun
+            && is_some (reply_after self.now.phase self.now.gone) }
     {
-        self.takes_bytes() && matches!(self.sent, Sent::Nothing) && self.unit.is_some()
+        self.takes_bytes() && !self.begun && self.reply().is_some()
     }
 
     /// The bytes of the unit that is due or begun, none where there is none.
     pub fn bytes(&self) -> &'static [u8]
-        ensures bytes { result.now ≡ reply_bytes self.now.unit }
+        ensures bytes { result.now ≡ bytes_of (reply_after self.now.phase self.now.gone) }
         ensures small { length result.now ≤ 153 }
-        ensures some { is_some self.now.unit ≡ true → 0 < length result.now }
+        ensures some { is_some (reply_after self.now.phase self.now.gone) ≡ true → 0 < length result.now }
     {
-        match self.unit {
+        match self.reply() {
             None => &[],
-            Some(Unit91::Protocol) => start(),
-            Some(Unit91::Bad) => header(),
+            Some(reply) => spelled(reply),
         }
     }
 
     /// The first byte of the unit that was due was taken.
     pub fn commit(&mut self)
-        ensures { self.new ≡ record self.old { sent = Sent.Part } }
+        ensures { self.new ≡ record self.old { begun = true } }
     {
-        self.sent = Sent::Part;
+        self.begun = true;
     }
 
     /// The last byte of the unit that was begun was taken.
     pub fn wrote_all(&mut self)
-        ensures { self.new ≡ record self.old { sent = Sent.Whole } }
+        requires { self.old.gone < 2 }
+        ensures { self.new ≡ record self.old { gone = self.old.gone + 1; begun = false } }
     {
-        self.sent = Sent::Whole;
+        self.gone += 1;
+        self.begun = false;
     }
 
     /// The client's end is to be shut.
     pub fn shut_due(&self) -> bool
-        ensures { result ≡ shut_by self.now.lost self.now.strained self.now.unit self.now.sent }
+        ensures { result ≡ shut_by self.now.lost self.now.strained self.now.phase self.now.gone }
     {
         match self.lost {
             Some(Loss::Shut) => false,
             Some(Loss::Failed) | Some(Loss::Ended) => true,
-            None => self.strained || self.is_turned_away(),
+            None => self.strained || self.is_all_said(),
         }
     }
 
-    /// The gateway's own header went wholly, after a wrong one.
-    fn is_turned_away(&self) -> bool
-        ensures { result ≡ is_turned_away self.now.unit self.now.sent }
+    /// No unit is awaited any more, and the replies to those that came went wholly.
+    fn is_all_said(&self) -> bool
+        ensures { result ≡ is_all_said self.now.phase self.now.gone }
     {
-        matches!(self.unit, Some(Unit91::Bad)) && matches!(self.sent, Sent::Whole)
+        match self.phase {
+            Phase::Header | Phase::Started => false,
+            Phase::Refused => self.gone == 1,
+            Phase::Closing => self.gone == 2,
+        }
     }
 }

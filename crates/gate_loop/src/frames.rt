@@ -1,10 +1,11 @@
 //! The bytes of the frames that the gateway writes as they stand.
 
 ghost use Rattle.std.specs.Prelude.{◌≡◌, length};
-ghost use Rattle.gate_loop.specs.Frames.{header_bytes, start_frame};
+ghost use Rattle.frames_091.specs.Headers.{header_bytes};
+ghost use Rattle.gate_loop.specs.Frames.{start_frame, close_frame};
 
 /// The protocol header of AMQP 0-9-1 (AMQP 0-9-1 4.2.2).
-pub const HEADER: [u8; 8] = [b'A', b'M', b'Q', b'P', 0, 0, 9, 1];
+const HEADER: [u8; 8] = [b'A', b'M', b'Q', b'P', 0, 0, 9, 1];
 
 /// The protocol header.
 pub fn header() -> &'static [u8]
@@ -15,7 +16,7 @@ pub fn header() -> &'static [u8]
 }
 
 /// connection.start (AMQP 0-9-1 reference 1.4.2.1): versions 0-9, the gateway's properties, mechanisms and locales.
-#[tactic(auto, unfolding(crate::specs::Frames::start_frame))]
+#[tactic(auto, unfolding(crate::specs::Frames::start_frame, frames_091::specs::Frames::frame_text))]
 pub fn start() -> &'static [u8]
     ensures bytes { result.now ≡ start_frame }
     ensures len { length result.now ≡ 153 }
@@ -32,5 +33,18 @@ pub fn start() -> &'static [u8]
         0x6F, 0x73, 0x74, 0x01, 0x00, 0x00, 0x00, 0x0F, 0x50, 0x4C, 0x41, 0x49, 0x4E, 0x20, 0x41,
         0x4E, 0x4F, 0x4E, 0x59, 0x4D, 0x4F, 0x55, 0x53, 0x00, 0x00, 0x00, 0x05, 0x65, 0x6E, 0x5F,
         0x55, 0x53, 0xCE,
+    ]
+}
+
+/// connection.close (AMQP 0-9-1 reference 1.4.2.8) with the reply code 540, not implemented, and no method that it is about.
+#[tactic(auto, unfolding(crate::specs::Frames::close_frame, frames_091::specs::Frames::frame_text))]
+pub fn close() -> &'static [u8]
+    ensures bytes { result.now ≡ close_frame }
+    ensures len { length result.now ≡ 34 }
+{
+    &[
+        0x01, 0x00, 0x00, 0x00, 0x00, 0x00, 0x1A, 0x00, 0x0A, 0x00, 0x32, 0x02, 0x1C, 0x0F, 0x4E,
+        0x4F, 0x54, 0x5F, 0x49, 0x4D, 0x50, 0x4C, 0x45, 0x4D, 0x45, 0x4E, 0x54, 0x45, 0x44, 0x00,
+        0x00, 0x00, 0x00, 0xCE,
     ]
 }

@@ -10,9 +10,11 @@ ghost use Rattle.gate_loop.specs.Steps.{Crew, VisitsAt, Tours, place_after};
 use crate::service::{Service, Visit};
 use crate::turn::turn;
 use gate_outside::{Ports, Sink};
+use std::alloc::Global;
 
 /// The turn of the live pair at a place in the list. Where it was shut, the next pair takes its place.
 fn turn_at<P: Ports, K: Sink>(
+    alloc: Global,
     ports: &mut P,
     report: &mut K,
     service: &mut Service,
@@ -35,7 +37,7 @@ fn turn_at<P: Ports, K: Sink>(
         (VisitsAt at service.old service.new result (K.held report.old) (K.held report.new)) }
 {
     let pair = &mut service.live[at];
-    let visit = turn(ports, report, pair, room);
+    let visit = turn(alloc, ports, report, pair, room);
     if !visit.closed {
         return visit;
     }
@@ -62,6 +64,7 @@ fn place_after(closed: bool, at: usize) -> usize
 
 /// The turns of the live pairs.
 pub fn turn_all<P: Ports, K: Sink>(
+    alloc: Global,
     ports: &mut P,
     report: &mut K,
     service: &mut Service,
@@ -82,7 +85,7 @@ pub fn turn_all<P: Ports, K: Sink>(
     let mut at = 0;
     let mut moved = false;
     while at < service.live.len() {
-        let visit = turn_at(ports, report, service, at, room);
+        let visit = turn_at(alloc, ports, report, service, at, room);
         moved |= visit.progress.moved;
         if !visit.told {
             return Tour { moved, told: false };

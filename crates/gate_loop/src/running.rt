@@ -104,7 +104,7 @@ fn one_turn<P: Ports, K: Sink>(
         Ok(accepted) => accepted,
         Err(outside) => return Err(Served::Fault(outside)),
     };
-    let tour = turn_all(ports, report, service, room);
+    let tour = turn_all(alloc, ports, report, service, room);
     if !tour.told {
         return Err(Served::Fault(Outside::Out));
     }

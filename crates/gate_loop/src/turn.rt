@@ -5,7 +5,7 @@ ghost use Rattle.std.specs.Option.{option_map};
 ghost use Rattle.gate_outside.specs.Counts.{Rose};
 ghost use Rattle.gate_outside.specs.Ends.{is_open, closed};
 ghost use Rattle.gate_loop.specs.Due.{is_awaited, shut_by};
-ghost use Rattle.gate_loop.specs.Replies.{offered};
+ghost use Rattle.gate_loop.specs.Replies.{offered, reply_after};
 ghost use Rattle.gate_loop.specs.Marks.{Goes};
 ghost use Rattle.gate_loop.specs.Next.{Reading, Writing, Shutting, read_room};
 ghost use Rattle.gate_loop.specs.Steps.{Adds, Steps, Offers, Turns, after_read, put_moved, ends_after};
@@ -16,11 +16,12 @@ use crate::report::tell_closed;
 use crate::service::{Progress, Visit};
 use crate::units::Loss;
 use gate_outside::{End, Got, Ports, Put, Sink};
+use std::alloc::Global;
 use wire_base::Memory;
 
 /// Reads the client's end once, and takes up the unit that the bytes complete.
-fn hear<P: Ports>(ports: &mut P, pair: &mut Pair, room: &mut [u8]) -> Progress
-    requires awaited { is_awaited pair.old.bridge.unit pair.old.bridge.lost pair.old.bridge.strained ≡ true }
+fn hear<P: Ports>(alloc: Global, ports: &mut P, pair: &mut Pair, room: &mut [u8]) -> Progress
+    requires awaited { is_awaited pair.old.bridge.phase pair.old.bridge.lost pair.old.bridge.strained ≡ true }
     requires open { is_open pair.old.number End.Client (P.ends ports.old) ≡ true }
     requires room { length room.old ≡ read_room }
     requires some { 0 < length room.old }
@@ -32,12 +33,12 @@ fn hear<P: Ports>(ports: &mut P, pair: &mut Pair, room: &mut [u8]) -> Progress
     ensures log { Goes (P.log ports.old) (P.log ports.new)
         (Steps pair.old.number Reading (after_read result.strained) pair.old pair.new result.moved result.strained) }
     ensures shut { result.strained ≡ true
-        → shut_by pair.new.bridge.lost pair.new.bridge.strained pair.new.bridge.unit pair.new.bridge.sent ≡ true }
+        → shut_by pair.new.bridge.lost pair.new.bridge.strained pair.new.bridge.phase pair.new.bridge.gone ≡ true }
 {
     match ports.read(pair.number, End::Client, room) {
         Got::Bytes(n) => {
             let (bytes, _) = room.split_at(n);
-            match pair.came_in(bytes) {
+            match pair.came_in(alloc, bytes) {
                 Ok(()) => Progress {
                     moved: true,
                     strained: false,
@@ -71,7 +72,7 @@ fn hear<P: Ports>(ports: &mut P, pair: &mut Pair, room: &mut [u8]) -> Progress
 
 /// Offers bytes to the client once.
 fn offer<P: Ports>(ports: &mut P, pair: &mut Pair, bytes: &[u8]) -> Put
-    requires offered { offered pair.old.bridge.lost pair.old.bridge.strained pair.old.bridge.sent pair.old.at pair.old.bridge.unit
+    requires offered { offered pair.old.bridge.lost pair.old.bridge.strained pair.old.at (reply_after pair.old.bridge.phase pair.old.bridge.gone)
         ≡ Some bytes.now }
     requires open { is_open pair.old.number End.Client (P.ends ports.old) ≡ true }
     requires some { 0 < length bytes.now }
@@ -96,7 +97,7 @@ fn offer<P: Ports>(ports: &mut P, pair: &mut Pair, bytes: &[u8]) -> Put
 }
 
 /// Reads the client's end once, unless it is held.
-fn listen<P: Ports>(ports: &mut P, pair: &mut Pair, room: &mut [u8]) -> Progress
+fn listen<P: Ports>(alloc: Global, ports: &mut P, pair: &mut Pair, room: &mut [u8]) -> Progress
     requires open { is_open pair.old.number End.Client (P.ends ports.old) ≡ true }
     requires room { length room.old ≡ read_room }
     requires some { 0 < length room.old }
@@ -108,10 +109,10 @@ fn listen<P: Ports>(ports: &mut P, pair: &mut Pair, room: &mut [u8]) -> Progress
     ensures log { Goes (P.log ports.old) (P.log ports.new)
         (Steps pair.old.number Reading (after_read result.strained) pair.old pair.new result.moved result.strained) }
     ensures shut { result.strained ≡ true
-        → shut_by pair.new.bridge.lost pair.new.bridge.strained pair.new.bridge.unit pair.new.bridge.sent ≡ true }
+        → shut_by pair.new.bridge.lost pair.new.bridge.strained pair.new.bridge.phase pair.new.bridge.gone ≡ true }
 {
     if pair.is_read() {
-        hear(ports, pair, room)
+        hear(alloc, ports, pair, room)
     } else {
         Progress {
             moved: false,
@@ -146,7 +147,7 @@ fn write_out<P: Ports>(ports: &mut P, pair: &mut Pair) -> bool
 }
 
 /// Reads the client's end and writes to it.
-fn exchange<P: Ports>(ports: &mut P, pair: &mut Pair, room: &mut [u8]) -> Progress
+fn exchange<P: Ports>(alloc: Global, ports: &mut P, pair: &mut Pair, room: &mut [u8]) -> Progress
     requires open { is_open pair.old.number End.Client (P.ends ports.old) ≡ true }
     requires room { length room.old ≡ read_room }
     requires some { 0 < length room.old }
@@ -158,9 +159,9 @@ fn exchange<P: Ports>(ports: &mut P, pair: &mut Pair, room: &mut [u8]) -> Progre
     ensures log { Goes (P.log ports.old) (P.log ports.new)
         (Steps pair.old.number Reading Shutting pair.old pair.new result.moved result.strained) }
     ensures shut { result.strained ≡ true
-        → shut_by pair.new.bridge.lost pair.new.bridge.strained pair.new.bridge.unit pair.new.bridge.sent ≡ true }
+        → shut_by pair.new.bridge.lost pair.new.bridge.strained pair.new.bridge.phase pair.new.bridge.gone ≡ true }
 {
-    let heard = listen(ports, pair, room);
+    let heard = listen(alloc, ports, pair, room);
     if heard.strained {
         return heard;
     }
@@ -183,6 +184,7 @@ pub fn shut<P: Ports>(ports: &mut P, number: u32)
 
 /// One pair's part of a turn. It is shut where that is due, and the lines of that are told.
 pub fn turn<P: Ports, K: Sink>(
+    alloc: Global,
     ports: &mut P,
     report: &mut K,
     pair: &mut Pair,
@@ -204,7 +206,7 @@ pub fn turn<P: Ports, K: Sink>(
         (Turns pair.old.number pair.old pair.new result (K.held report.old) (K.held report.new)) }
 {
     let number = pair.number;
-    let progress = exchange(ports, pair, room);
+    let progress = exchange(alloc, ports, pair, room);
     if !pair.shut_due() {
         return Visit {
             progress,

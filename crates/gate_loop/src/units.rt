@@ -1,12 +1,28 @@
 //! The units of a pair: what comes from its client, what goes to it, and how an end is lost.
 
+use frames_091::Frame91;
+
 /// A unit of the client's stream.
-#[derive(Clone, Copy, Debug, PartialEq, Eq)]
+#[derive(Debug, Drop)]
 pub enum Unit91 {
     /// The protocol header of AMQP 0-9-1.
     Protocol,
-    /// The first bytes of the stream with which no unit begins. The stream ends there.
+    Frame(Frame91),
+    /// Bytes with which no unit begins. The stream ends there.
     Bad,
+}
+
+/// How far the client's stream has come.
+#[derive(Clone, Copy, Debug, PartialEq, Eq)]
+pub enum Phase {
+    /// The protocol header is awaited.
+    Header,
+    /// The protocol header came, and a frame is awaited.
+    Started,
+    /// Bytes came with which no protocol header begins. No unit is awaited any more.
+    Refused,
+    /// After the header a frame came, or bytes with which none begins. No unit is awaited any more.
+    Closing,
 }
 
 /// A unit to the client.
@@ -16,14 +32,8 @@ pub enum Reply {
     Protocol,
     /// connection.start
     Start,
-}
-
-/// How far the reply of a pair went.
-#[derive(Clone, Copy, Debug, PartialEq, Eq)]
-pub enum Sent {
-    Nothing,
-    Part,
-    Whole,
+    /// connection.close with the reply code 540, not implemented
+    Close,
 }
 
 /// How an end was lost.
@@ -32,15 +42,4 @@ pub enum Loss {
     Ended,
     Failed,
     Shut,
-}
-
-/// What the first bytes of a client's stream are.
-#[derive(Clone, Copy, Debug, PartialEq, Eq)]
-pub enum Opening {
-    /// The protocol header stands at the front.
-    Right,
-    /// The bytes are a proper prefix of the header.
-    Short,
-    /// No continuation of the bytes begins with the header.
-    Wrong,
 }

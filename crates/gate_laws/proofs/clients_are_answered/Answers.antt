@@ -3,4 +3,5 @@ use Rattle.gate_laws.proofs.Bytes.{answered}
 use Rattle.gate_laws.proofs.clients_are_answered.Goals as goal
 
 pub returns : goal.returns
-returns c = λ config m f p. answered config p m f
+returns c = λ config m f p.
+    answered (record { settled = c.frame_laws.ensures.header_settled; scans = c.frame_laws.ensures.header_scans }) config p m f
