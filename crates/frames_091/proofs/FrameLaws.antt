@@ -1,5 +1,5 @@
 -- The laws of the grammar of frames and of its scan.
-use Rattle.std.proofs.Common.{◌≡◌, ℕ, ◌+◌, ◌-◌, ◌^◌, ◌<◌, ◌≤◌, zero, suc, List, [], ◌∷◌, ◌++◌, length, get_or, take, drop, replicate, refl, sym, ◌∙◌, ap, subst, arith}
+use Rattle.std.proofs.Common.{◌≡◌, ℕ, ◌+◌, ◌-◌, ◌^◌, ◌<◌, ◌≤◌, List, [], ◌∷◌, ◌++◌, length, get_or, take, drop, replicate, refl, sym, ◌∙◌, ap, subst, arith}
 use Rattle.std.specs.Int.{w16, w32, to_be_bytes}
 use Rattle.std.proofs.lemmas.Nat.{from_be_bytes-to_be_bytes_2, from_be_bytes-to_be_bytes_4}
 use Rattle.std.proofs.lemmas.List.{get_or-append-add, get_or_append_left, get_or_at, take_at, take_all, append_assoc, length-append, length-drop, length-take-le, length-replicate}
@@ -8,7 +8,7 @@ use Rattle.wire_base.specs.Scans.{Scans, AreApart, IfBad}
 use Rattle.wire_base.specs.declared.scan.At.{At}
 use Rattle.wire_base.specs.declared.scan.Scan.{Scan}
 use Rattle.wire_base.specs.declared.scan.Scan.TheVariants.{Whole, More}
-use Rattle.wire_base.proofs.Bytes.{IsBytes-drop, IsBytes-append}
+use Rattle.wire_base.proofs.Bytes.{IsBytes-drop, IsBytes-append, IsBytes-replicate, IsBytes-one, zeros_keep}
 use Rattle.wire_base.proofs.Scans.{IsScanner, apart_by, bad_by}
 use Rattle.frames_091.specs.declared.frame.Kind91.{Kind91}
 use Rattle.frames_091.specs.declared.frame.Kind91.TheVariants.{Heartbeat}
@@ -111,20 +111,6 @@ pub apart : (limit : ℕ) → AreApart (IsFrame limit)
 apart limit = apart_by (IsFrame limit) (scan_of limit) (scanner limit)
 
 -- a frame that is begun, with zeros in place of what is missing and the end byte
-zeros_keep : (text : List ℕ) (n i : ℕ) → get_or (text ++ replicate n 0) i 0 ≡ get_or text i 0
-zeros_keep [] zero i = refl
-zeros_keep [] (suc n) zero = refl
-zeros_keep [] (suc n) (suc i) = zeros_keep [] n i
-zeros_keep (b ∷ text) n zero = refl
-zeros_keep (b ∷ text) n (suc i) = zeros_keep text n i
-
-zeros_are_bytes : (n : ℕ) → IsBytes (replicate n 0)
-zeros_are_bytes n i = omega (arith, zeros_keep [] n i)
-
-end_is_byte : IsBytes (206 ∷ [])
-end_is_byte zero = omega arith
-end_is_byte (suc i) = omega arith
-
 begun : (limit : ℕ) (kind : Kind91) (bytes : List ℕ) → IsBytes bytes → Begins kind bytes → stated_size bytes + 8 ≤ limit
     → length bytes < stated_size bytes + 8 → Scans {T = Frame91} {F = At FrameFault} (IsFrame limit) bytes More
 begun limit kind bytes small k fits short =
@@ -140,7 +126,7 @@ begun limit kind bytes small k fits short =
     let whole : length full ≡ stated_size bytes + 8 = omega (arith, ap length shape, length-append padded (206 ∷ [])) in
     let ends : get_or full (7 + stated_size full) 0 ≡ 206 =
     ap (λ (t : List ℕ). get_or t (7 + stated_size full) 0) (sym shape) ∙ get_or_at padded 206 [] 0 (7 + stated_size full) (omega arith) in
-    let bytes_full = IsBytes-append bytes rest small (IsBytes-append (replicate n 0) (206 ∷ []) (zeros_are_bytes n) end_is_byte) in
+    let bytes_full = IsBytes-append bytes rest small (IsBytes-append (replicate n 0) (206 ∷ []) (IsBytes-replicate n) (IsBytes-one 206 (omega arith))) in
     let starts : Begins kind full = record { some = omega arith; known = ap kind_of (places 0 (omega arith)) ∙ k.known } in
     let unit = found limit kind full bytes_full starts (omega arith) (omega arith) ends in
     let Is : List ℕ → Type 0 = IsFrame limit (frame_in kind full) in
