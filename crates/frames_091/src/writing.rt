@@ -35,7 +35,8 @@ fn append_frame(out: &mut ByteText, frame: &Frame91) -> Result<(), Memory>
     put_u8(out, FRAME_END)
 }
 
-/// Writes a frame at the end of the output (AMQP 0-9-1 4.2.3), or leaves the output as it was.
+/// Writes a frame at the end of the output (AMQP 0-9-1 4.2.3), 8 bytes and the payload, or answers `Memory` and leaves
+/// the output as it was.
 pub fn put_frame(out: &mut ByteText, frame: &Frame91) -> Result<(), Memory>
     requires { length frame.now.payload + 8 < 2 ^ 32 }
     ensures ok { OnOk result (out.new ≡ out.old ++ frame_text frame.now) }
