@@ -28,6 +28,7 @@ frame_in kind bytes = record {
   payload = take (stated_size bytes) (drop 7 bytes);
 }
 
+-- a fault, and the place of its first byte
 abbrev pub bad : FrameFault → ℕ → Scan Frame91 (At FrameFault)
 bad fault at = Bad (record { fault = fault; at = at })
 
