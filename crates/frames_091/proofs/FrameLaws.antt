@@ -1,23 +1,25 @@
 -- The laws of the grammar of frames and of its scan.
-use Rattle.std.proofs.Common.{◌≡◌, ℕ, ◌+◌, ◌-◌, ◌^◌, ◌<◌, ◌≤◌, zero, suc, List, [], ◌∷◌, ◌++◌, length, get_or, take, drop, replicate, refl, sym, ◌∙◌, ap, subst, arith}
+use Rattle.std.proofs.Common.{◌≡◌, ◌≢◌, ◌↔◌, ℕ, ◌+◌, ◌-◌, ◌^◌, ◌<◌, ◌≤◌, List, [], ◌∷◌, ◌++◌, length, get_or, take, drop, replicate, Some, None, refl, sym, ◌∙◌, ap, subst, arith}
 use Rattle.std.specs.Int.{w16, w32, to_be_bytes}
 use Rattle.std.proofs.lemmas.Nat.{from_be_bytes-to_be_bytes_2, from_be_bytes-to_be_bytes_4}
 use Rattle.std.proofs.lemmas.List.{get_or-append-add, get_or_append_left, get_or_at, take_at, take_all, append_assoc, length-append, length-drop, length-take-le, length-replicate}
+use Rattle.std.proofs.lemmas.Bool.{ne_eqb}
 use Rattle.wire_base.specs.Bytes.{IsBytes}
 use Rattle.wire_base.specs.Scans.{Scans, AreApart, IfBad}
 use Rattle.wire_base.specs.declared.scan.At.{At}
 use Rattle.wire_base.specs.declared.scan.Scan.{Scan}
-use Rattle.wire_base.specs.declared.scan.Scan.TheVariants.{Whole, More}
-use Rattle.wire_base.proofs.Bytes.{IsBytes-drop, IsBytes-append}
+use Rattle.wire_base.specs.declared.scan.Scan.TheVariants.{Whole, More, Bad}
+use Rattle.wire_base.proofs.Bytes.{IsBytes-drop, IsBytes-append, IsBytes-replicate, IsBytes-one, zeros_keep}
 use Rattle.wire_base.proofs.Scans.{IsScanner, apart_by, bad_by}
 use Rattle.frames_091.specs.declared.frame.Kind91.{Kind91}
 use Rattle.frames_091.specs.declared.frame.Kind91.TheVariants.{Heartbeat}
 use Rattle.frames_091.specs.declared.frame.Frame91.{Frame91}
 use Rattle.frames_091.specs.declared.frame.FrameFault.{FrameFault}
 use Rattle.frames_091.specs.Frames.{kind_byte, frame_text, IsFrame}
-use Rattle.frames_091.specs.FrameScan.{kind_of, stated_size, frame_in, scan_of}
-use Rattle.frames_091.specs.FrameFaults.{IsFrameFault}
-use Rattle.frames_091.proofs.FrameScanning.{Begins, by_cases, answers_whole, size_places, size_same, stays}
+use Rattle.frames_091.specs.FrameScan.{kind_of, stated_size, frame_in, bad, scan_of}
+use Rattle.frames_091.specs.declared.frame.FrameFault.TheVariants.{Kind, Size, End}
+use Rattle.frames_091.specs.FrameFaults.{BeginsWithKind, IsFaultOf, IsFrameFault}
+use Rattle.frames_091.proofs.FrameScanning.{Begins, by_cases, answers_kind, answers_large, answers_there, answers_whole, size_places, size_same, stays}
 use Rattle.frames_091.proofs.FrameParts.{kind_again, kind_is, frame_parts}
 
 -- what follows the seven bytes before a payload
@@ -111,20 +113,6 @@ pub apart : (limit : ℕ) → AreApart (IsFrame limit)
 apart limit = apart_by (IsFrame limit) (scan_of limit) (scanner limit)
 
 -- a frame that is begun, with zeros in place of what is missing and the end byte
-zeros_keep : (text : List ℕ) (n i : ℕ) → get_or (text ++ replicate n 0) i 0 ≡ get_or text i 0
-zeros_keep [] zero i = refl
-zeros_keep [] (suc n) zero = refl
-zeros_keep [] (suc n) (suc i) = zeros_keep [] n i
-zeros_keep (b ∷ text) n zero = refl
-zeros_keep (b ∷ text) n (suc i) = zeros_keep text n i
-
-zeros_are_bytes : (n : ℕ) → IsBytes (replicate n 0)
-zeros_are_bytes n i = omega (arith, zeros_keep [] n i)
-
-end_is_byte : IsBytes (206 ∷ [])
-end_is_byte zero = omega arith
-end_is_byte (suc i) = omega arith
-
 begun : (limit : ℕ) (kind : Kind91) (bytes : List ℕ) → IsBytes bytes → Begins kind bytes → stated_size bytes + 8 ≤ limit
     → length bytes < stated_size bytes + 8 → Scans {T = Frame91} {F = At FrameFault} (IsFrame limit) bytes More
 begun limit kind bytes small k fits short =
@@ -140,7 +128,7 @@ begun limit kind bytes small k fits short =
     let whole : length full ≡ stated_size bytes + 8 = omega (arith, ap length shape, length-append padded (206 ∷ [])) in
     let ends : get_or full (7 + stated_size full) 0 ≡ 206 =
     ap (λ (t : List ℕ). get_or t (7 + stated_size full) 0) (sym shape) ∙ get_or_at padded 206 [] 0 (7 + stated_size full) (omega arith) in
-    let bytes_full = IsBytes-append bytes rest small (IsBytes-append (replicate n 0) (206 ∷ []) (zeros_are_bytes n) end_is_byte) in
+    let bytes_full = IsBytes-append bytes rest small (IsBytes-append (replicate n 0) (206 ∷ []) (IsBytes-replicate n) (IsBytes-one 206 (omega arith))) in
     let starts : Begins kind full = record { some = omega arith; known = ap kind_of (places 0 (omega arith)) ∙ k.known } in
     let unit = found limit kind full bytes_full starts (omega arith) (omega arith) ends in
     let Is : List ℕ → Type 0 = IsFrame limit (frame_in kind full) in
@@ -179,6 +167,28 @@ faults limit bytes = by_cases limit bytes (λ s. IfBad s (IsFrameFault limit byt
     (λ kind k fits short. tt)
     (λ kind k fits there end. tt)
     (λ kind k fits there end. (refl, (k.some, kind, kind_is _ kind k.known), fits, omega arith, end))
+
+-- a byte of no kind
+no_kind : (byte : ℕ) → ((kind : Kind91) → byte ≢ kind_byte kind) → kind_of byte ≡ None
+no_kind byte none = elim (kind_of byte) as (λ o. kind_of byte ≡ o → o ≡ None)
+    [ None ↦ (λ e. refl) | Some kind ↦ (λ e. absurd (none kind (kind_is byte kind e))) ] refl
+
+begins_with : (bytes : List ℕ) (h : BeginsWithKind bytes) → Begins h.1 bytes
+begins_with bytes h = record { some = h.0; known = ap kind_of h.2 ∙ kind_again h.1 }
+
+-- and a fault that is there is told
+told : (limit : ℕ) (fault : FrameFault) (at : ℕ) (bytes : List ℕ) → IsFaultOf fault at limit bytes → scan_of limit bytes ≡ bad fault at
+told limit Kind at bytes h = answers_kind limit bytes None h.1 (no_kind _ h.2) ∙ ap (bad Kind) (sym h.0)
+told limit Size at bytes h = answers_large limit bytes h.1.1 (begins_with bytes h.1) h.2 ∙ ap (bad Size) (sym h.0)
+told limit End at bytes h =
+    let Differs : ℕ → Type 0 = λ n. get_or bytes n 0 ≢ 206 in
+    answers_there limit bytes h.1.1 (begins_with bytes h.1) h.2 (omega (arith, h.3, h.0))
+    ∙ rw (ne_eqb (get_or bytes (7 + stated_size bytes) 0) 206 (subst Differs h.0 h.4)) (ap (bad End) (sym h.0))
+
+pub faults_are : (limit : ℕ) (bytes : List ℕ) (at : At FrameFault) → (scan_of limit bytes ≡ Bad at) ↔ IsFrameFault limit bytes at
+faults_are limit bytes at =
+    let Told : Scan Frame91 (At FrameFault) → Type 0 = λ s. IfBad s (IsFrameFault limit bytes) in
+    ((λ is. subst Told is (faults limit bytes)), told limit at.fault at.at bytes)
 
 pub scans_by : (limit : ℕ) (bytes : List ℕ) (answer : Scan Frame91 (At FrameFault)) → 8 ≤ limit → IsBytes bytes
     → answer ≡ scan_of limit bytes → Scans (IsFrame limit) bytes answer

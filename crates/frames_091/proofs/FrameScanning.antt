@@ -69,17 +69,17 @@ by_cases limit (b ∷ bytes) P none unknown large short whole ends = at (kind_of
         (λ g. whole kind k fits there (eqb-true _ _ g)) (λ g. ends kind k fits there (eqb-false _ _ g))))
 
 -- and what is answered there
-answers_kind : (limit : ℕ) (bytes : List ℕ) (o : Option Kind91) → 0 < length bytes → kind_of (get_or bytes 0 0) ≡ o
+pub answers_kind : (limit : ℕ) (bytes : List ℕ) (o : Option Kind91) → 0 < length bytes → kind_of (get_or bytes 0 0) ≡ o
     → scan_of limit bytes ≡ scan_kind limit o bytes
 unfolding scan_of
 answers_kind limit [] o h k = absurd (omega arith)
 answers_kind limit (b ∷ bytes) o h k = ap (λ (o : Option Kind91). scan_kind limit o (b ∷ bytes)) k
 
-answers_large : (limit : ℕ) (bytes : List ℕ) (kind : Kind91) → Begins kind bytes → limit < stated_size bytes + 8
+pub answers_large : (limit : ℕ) (bytes : List ℕ) (kind : Kind91) → Begins kind bytes → limit < stated_size bytes + 8
     → scan_of limit bytes ≡ bad fault.Size 3
 answers_large limit bytes kind k h = answers_kind limit bytes (Some kind) k.some k.known ∙ rw (lt-ltb limit (stated_size bytes + 8) h) refl
 
-answers_there : (limit : ℕ) (bytes : List ℕ) (kind : Kind91) → Begins kind bytes → stated_size bytes + 8 ≤ limit
+pub answers_there : (limit : ℕ) (bytes : List ℕ) (kind : Kind91) → Begins kind bytes → stated_size bytes + 8 ≤ limit
     → stated_size bytes + 8 ≤ length bytes
     → scan_of limit bytes ≡ cond (nat_eq (get_or bytes (7 + stated_size bytes) 0) 206)
     (Whole (frame_in kind bytes) (stated_size bytes + 8)) (bad fault.End (7 + stated_size bytes))

@@ -1,5 +1,5 @@
 -- The laws of the protocol header and of its scan.
-use Rattle.std.proofs.Common.{◌≡◌, ◌≢◌, ℕ, ◌+◌, ◌<◌, nat_eq, Bool, true, false, suc, cond, List, [], ◌∷◌, ◌++◌, length, get_or, take, drop, refl, sym, ◌∙◌, ap, subst, arith}
+use Rattle.std.proofs.Common.{◌≡◌, ◌≢◌, ◌↔◌, ℕ, ◌+◌, ◌<◌, nat_eq, Bool, true, false, zero, suc, cond, List, [], ◌∷◌, ◌++◌, length, get_or, take, drop, refl, sym, ◌∙◌, ap, subst, arith}
 use Rattle.std.proofs.lemmas.Bool.{eqb-true, eqb-false, eq-eqb, ne_eqb, cond_both}
 use Rattle.std.proofs.lemmas.List.{take_all, take-append-drop, length-append, length-drop}
 use Rattle.std.proofs.lemmas.List.Sums.{common_prefix_len-le}
@@ -128,6 +128,24 @@ faults bytes =
     by_cases n bytes (λ s. IfBad s (IsHeaderFault bytes)) (λ e. tt) (λ e h. tt)
     (λ e h. let in_bytes : n < length bytes = omega (arith, bound.0) in let in_header : n < 8 = omega (arith, bound.1) in
     (in_bytes, in_header, agreed_front header_bytes bytes, parted header_bytes bytes in_bytes in_header))
+
+-- where texts agree before a place and differ there, they agree so far
+agrees_so_far : (header bytes : List ℕ) (n : ℕ) → n < length bytes → n < length header → take n bytes ≡ take n header
+    → get_or bytes n 0 ≢ get_or header n 0 → agreed_with header bytes ≡ n
+agrees_so_far header [] n h g e d = absurd (omega arith)
+agrees_so_far [] (b ∷ bytes) n h g e d = absurd (omega arith)
+agrees_so_far (h ∷ header) (b ∷ bytes) zero l g e d = rw (ne_eqb b h d) refl
+agrees_so_far (h ∷ header) (b ∷ bytes) (suc n) l g e d =
+    let same : b ≡ h = cc in let rest : take n bytes ≡ take n header = cc in
+    let more = agrees_so_far header bytes n (omega arith) (omega arith) rest d in
+    rw (eq-eqb b h same) (omega (arith, more))
+
+pub faults_are : (bytes : List ℕ) (at : At NotHeader) → (header_scan bytes ≡ Bad at) ↔ IsHeaderFault bytes at
+faults_are bytes at =
+    let Told : Scan (Unit {0}) (At NotHeader) → Type 0 = λ s. IfBad s (IsHeaderFault bytes) in (
+      (λ is. subst Told is (faults bytes)),
+      (λ h. answers_bad bytes at.at (agrees_so_far header_bytes bytes at.at h.0 h.1 h.2 h.3) (omega (arith, h.1)) (omega (arith, h.0))),
+    )
 
 pub scans_by : (bytes : List ℕ) (answer : Scan (Unit {0}) (At NotHeader)) → answer ≡ header_scan bytes → Scans IsHeader bytes answer
 scans_by bytes answer is =

@@ -21,5 +21,6 @@ IsFaultOf End at limit bytes =
     (at ≡ 7 + stated_size bytes) × BeginsWithKind bytes × (stated_size bytes + 8 ≤ limit)
     × (at < length bytes) × (slice_index bytes at ≢ 206)
 
+-- the same of a fault and its place together
 abbrev pub IsFrameFault : ℕ → List ℕ → At FrameFault → Type 0
 IsFrameFault limit bytes at = IsFaultOf at.fault at.at limit bytes

@@ -28,10 +28,11 @@ frame_in kind bytes = record {
   payload = take (stated_size bytes) (drop 7 bytes);
 }
 
+-- a fault, and the place of its first byte
 abbrev pub bad : FrameFault → ℕ → Scan Frame91 (At FrameFault)
 bad fault at = Bad (record { fault = fault; at = at })
 
--- the size counts before the end byte, and the size is told as soon as it can only pass the limit
+-- after the first byte: a size that passes the limit is told before more bytes are asked for, and the end byte comes last
 abbrev pub scan_kind : ℕ → Option Kind91 → List ℕ → Scan Frame91 (At FrameFault)
 scan_kind limit None bytes = bad fault.Kind 0
 scan_kind limit (Some kind) bytes =

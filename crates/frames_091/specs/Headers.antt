@@ -18,6 +18,7 @@ IsHeader unit bytes = bytes ≡ header_bytes
 abbrev pub agreed_with : List ℕ → List ℕ → ℕ
 agreed_with header bytes = common_prefix_len nat_eq bytes header
 
+-- by that number: the header is whole, or the bytes end within it, or they part from it
 abbrev pub scan_agreed : ℕ → List ℕ → Scan (Unit {0}) (At NotHeader)
 scan_agreed agreed bytes =
     if agreed == 8 then Whole tt 8 else

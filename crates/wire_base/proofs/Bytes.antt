@@ -1,5 +1,5 @@
 -- Parts and continuations of lists of bytes.
-use Rattle.std.proofs.Common.{ℕ, ◌+◌, ◌≤◌, List, ◌++◌, get_or, take, drop, arith, zero, suc, [], ◌∷◌}
+use Rattle.std.proofs.Common.{◌≡◌, ℕ, ◌+◌, ◌<◌, ◌≤◌, zero, suc, List, [], ◌∷◌, ◌++◌, get_or, take, drop, replicate, refl, arith}
 use Rattle.std.proofs.lemmas.List.{get_or-drop}
 use Rattle.wire_base.specs.Bytes.{IsBytes}
 
@@ -22,3 +22,18 @@ pub get_or-append-le : (text more : List ℕ) (i : ℕ) → get_or text i 0 ≤ 
 get_or-append-le [] more i = omega arith
 get_or-append-le (b ∷ text) more zero = omega arith
 get_or-append-le (b ∷ text) more (suc i) = get_or-append-le text more i
+
+-- zeros behind a text are what stands past its end
+pub zeros_keep : (text : List ℕ) (n i : ℕ) → get_or (text ++ replicate n 0) i 0 ≡ get_or text i 0
+zeros_keep [] zero i = refl
+zeros_keep [] (suc n) zero = refl
+zeros_keep [] (suc n) (suc i) = zeros_keep [] n i
+zeros_keep (b ∷ text) n zero = refl
+zeros_keep (b ∷ text) n (suc i) = zeros_keep text n i
+
+pub IsBytes-replicate : (n : ℕ) → IsBytes (replicate n 0)
+IsBytes-replicate n i = omega (arith, zeros_keep [] n i)
+
+pub IsBytes-one : (b : ℕ) → b < 256 → IsBytes (b ∷ [])
+IsBytes-one b h zero = h
+IsBytes-one b h (suc i) = omega arith

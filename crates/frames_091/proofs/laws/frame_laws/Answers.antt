@@ -10,7 +10,7 @@ pub returns-clause-scans : goal.returns-clause-scans
 returns-clause-scans c = frames.scans
 
 pub returns-clause-fault : goal.returns-clause-fault
-returns-clause-fault c = frames.faults
+returns-clause-fault c = frames.faults_are
 
 pub returns-clause-apart : goal.returns-clause-apart
 returns-clause-apart c = frames.apart
@@ -25,7 +25,7 @@ pub returns-clause-header_scans : goal.returns-clause-header_scans
 returns-clause-header_scans c = headers.scans
 
 pub returns-clause-header_fault : goal.returns-clause-header_fault
-returns-clause-header_fault c = headers.faults
+returns-clause-header_fault c = headers.faults_are
 
 pub returns-clause-header_apart : goal.returns-clause-header_apart
 returns-clause-header_apart c = headers.apart

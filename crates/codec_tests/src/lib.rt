@@ -1,0 +1,5 @@
+//! Tests of the codecs, against spellings that stand in the standards or are counted out by hand.
+#![tactic(auto)]
+
+#[cfg(test)]
+mod frames;
