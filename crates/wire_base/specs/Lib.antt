@@ -1,1 +1,4 @@
+pub mod Bytes
 pub mod Numbers
+pub mod Reading
+pub mod Spelling
