@@ -20,48 +20,40 @@ pub fn place(end: usize, bytes: &[u8]) -> usize
 pub fn u8_in(end: usize, bytes: &[u8]) -> Result<(u8, &[u8]), Stop<usize>>
     ensures { Gives (λ x. (x.0, x.1.now)) result (number_in offset w8 end bytes.now) }
 {
-    if bytes.len() < 1 {
+    let Some((first, rest)) = bytes.split_first() else {
         return Err(Stop::Fault(place(end, bytes)));
-    }
-    let (front, rest) = bytes.split_at(1);
-    Ok((front[0], rest))
+    };
+    Ok((*first, rest))
 }
 
 /// A number of two bytes.
 pub fn u16_in(end: usize, bytes: &[u8]) -> Result<(u16, &[u8]), Stop<usize>>
     ensures { Gives (λ x. (x.0, x.1.now)) result (number_in offset w16 end bytes.now) }
 {
-    if bytes.len() < 2 {
+    let Some((front, rest)) = bytes.split_first_chunk::<2>() else {
         return Err(Stop::Fault(place(end, bytes)));
-    }
-    let (front, rest) = bytes.split_at(2);
-    Ok((u16::from_be_bytes([front[0], front[1]]), rest))
+    };
+    Ok((u16::from_be_bytes(*front), rest))
 }
 
 /// A number of four bytes.
 pub fn u32_in(end: usize, bytes: &[u8]) -> Result<(u32, &[u8]), Stop<usize>>
     ensures { Gives (λ x. (x.0, x.1.now)) result (number_in offset w32 end bytes.now) }
 {
-    if bytes.len() < 4 {
+    let Some((front, rest)) = bytes.split_first_chunk::<4>() else {
         return Err(Stop::Fault(place(end, bytes)));
-    }
-    let (front, rest) = bytes.split_at(4);
-    let number = u32::from_be_bytes([front[0], front[1], front[2], front[3]]);
-    Ok((number, rest))
+    };
+    Ok((u32::from_be_bytes(*front), rest))
 }
 
 /// A number of eight bytes.
 pub fn u64_in(end: usize, bytes: &[u8]) -> Result<(u64, &[u8]), Stop<usize>>
     ensures { Gives (λ x. (x.0, x.1.now)) result (number_in offset w64 end bytes.now) }
 {
-    if bytes.len() < 8 {
+    let Some((front, rest)) = bytes.split_first_chunk::<8>() else {
         return Err(Stop::Fault(place(end, bytes)));
-    }
-    let (front, rest) = bytes.split_at(8);
-    let number = u64::from_be_bytes([
-        front[0], front[1], front[2], front[3], front[4], front[5], front[6], front[7],
-    ]);
-    Ok((number, rest))
+    };
+    Ok((u64::from_be_bytes(*front), rest))
 }
 
 /// A short string: a length of one byte, and so many bytes.
