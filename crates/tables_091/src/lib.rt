@@ -1,0 +1,6 @@
+//! Field tables of AMQP 0-9-1 (4.2.5.5), both ways.
+#![tactic(auto)]
+
+mod field;
+
+pub use field::{Field, FieldList, Table};
