@@ -2,5 +2,7 @@
 #![tactic(auto)]
 
 mod field;
+mod kind;
+mod reading;
 
 pub use field::{Field, FieldList, Table};

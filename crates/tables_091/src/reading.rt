@@ -1,0 +1,201 @@
+//! Reading tables (AMQP 0-9-1 4.2.5.5).
+//!
+//! Each function takes `end`, the offset at which its bytes end in the whole input, and answers its value and the bytes after it.
+
+ghost use Rattle.std.specs.Prelude.{◌≡◌, ℕ, ◌+◌, ◌-◌, ◌≤◌, ◌++◌, List, length, take, drop, Ok, Err, IfOk, IfErr};
+ghost use Rattle.std.specs.Int.{w8, w32};
+ghost use Rattle.wire_base.specs.Reading.{Gives, made, number_in, text_in, container_in, all_items, offset};
+ghost use Rattle.tables_091.specs.Tree.{Tree, scalar};
+ghost use Rattle.tables_091.specs.View.{field_tree};
+ghost use Rattle.tables_091.specs.Kinds.{octet_scalar, wide_scalar, wide_width, text_scalar};
+ghost use Rattle.tables_091.specs.Reading.{single_in, flat_in, deep_in, member_in, field_in, table_in, table_at};
+
+use crate::field::{Field, FieldList, Table};
+use crate::kind::{kind_at, Kind, Octet, Single, Text, Wide};
+use std::alloc::Global;
+use wire_base::{long_in, place, short_in, u16_in, u32_in, u64_in, u8_in, At, ByteText, Memory, Stop};
+
+fn octet_of(kind: Octet, end: usize, content: &[u8]) -> Result<(Field, &[u8]), Stop<usize>>
+    ensures { Gives (λ x. (field_tree x.0, x.1.now)) result (made scalar (made (octet_scalar kind) (number_in offset w8 end content.now))) }
+{
+    let (n, rest) = u8_in(end, content)?;
+    let field = match kind {
+        Octet::Bool => Field::Bool(n != 0),
+        Octet::I8 => Field::I8(n.cast_signed()),
+        Octet::U8 => Field::U8(n),
+    };
+    Ok((field, rest))
+}
+
+fn wide_of(kind: Wide, end: usize, content: &[u8]) -> Result<(Field, &[u8]), Stop<usize>>
+    ensures { Gives (λ x. (field_tree x.0, x.1.now)) result (made scalar (made (wide_scalar kind) (number_in offset (wide_width kind) end content.now))) }
+{
+    match kind {
+        Wide::I16 => {
+            let (n, rest) = u16_in(end, content)?;
+            Ok((Field::I16(n.cast_signed()), rest))
+        }
+        Wide::U16 => {
+            let (n, rest) = u16_in(end, content)?;
+            Ok((Field::U16(n), rest))
+        }
+        Wide::I32 => {
+            let (n, rest) = u32_in(end, content)?;
+            Ok((Field::I32(n.cast_signed()), rest))
+        }
+        Wide::U32 => {
+            let (n, rest) = u32_in(end, content)?;
+            Ok((Field::U32(n), rest))
+        }
+        Wide::I64 => {
+            let (n, rest) = u64_in(end, content)?;
+            Ok((Field::I64(n.cast_signed()), rest))
+        }
+        Wide::F32 => {
+            let (n, rest) = u32_in(end, content)?;
+            Ok((Field::F32(n), rest))
+        }
+        Wide::F64 => {
+            let (n, rest) = u64_in(end, content)?;
+            Ok((Field::F64(n), rest))
+        }
+        Wide::Time => {
+            let (n, rest) = u64_in(end, content)?;
+            Ok((Field::Time(n), rest))
+        }
+    }
+}
+
+fn text_of(alloc: Global, kind: Text, end: usize, content: &[u8]) -> Result<(Field, &[u8]), Stop<usize>>
+    ensures { Gives (λ x. (field_tree x.0, x.1.now)) result (made scalar (made (text_scalar kind) (text_in offset w32 end content.now))) }
+{
+    let (text, rest) = long_in(end, content)?;
+    let text = ByteText::copy_of(alloc, text)?;
+    let field = match kind {
+        Text::Long => Field::Long(text),
+        Text::Bytes => Field::Bytes(text),
+    };
+    Ok((field, rest))
+}
+
+fn single_of(alloc: Global, kind: Single, end: usize, content: &[u8]) -> Result<(Field, &[u8]), Stop<usize>>
+    ensures { Gives (λ x. (field_tree x.0, x.1.now)) result (made scalar (single_in kind end content.now)) }
+{
+    match kind {
+        Single::Octet(kind) => octet_of(kind, end, content),
+        Single::Wide(kind) => wide_of(kind, end, content),
+        Single::Text(kind) => text_of(alloc, kind, end, content),
+        Single::Decimal => {
+            let (scale, rest) = u8_in(end, content)?;
+            let (number, rest) = u32_in(end, rest)?;
+            Ok((Field::Decimal(scale, number), rest))
+        }
+        Single::Void => Ok((Field::Void, content)),
+    }
+}
+
+/// The value of a field that may hold no other, whose type byte stands at `at`.
+fn flat_of(alloc: Global, kind: Kind, at: usize, end: usize, content: &[u8]) -> Result<(Field, &[u8]), Stop<usize>>
+    ensures { Gives (λ x. (field_tree x.0, x.1.now)) result (flat_in kind at end content.now) }
+{
+    match kind {
+        Kind::Single(kind) => single_of(alloc, kind, end, content),
+        Kind::Array | Kind::Table => Err(Stop::Fault(at)),
+    }
+}
+
+/// A field of at most this depth.
+#[cycle(nested)]
+#[tactic(auto, using(crate::proofs::Depth::field_in_is))]
+fn field_of(alloc: Global, depth: u8, end: usize, bytes: &[u8]) -> Result<(Field, &[u8]), Stop<usize>>
+    ensures { Gives (λ x. (field_tree x.0, x.1.now)) result (field_in depth end bytes.now) }
+{
+    let at = place(end, bytes);
+    let (byte, content) = u8_in(end, bytes)?;
+    let Some(kind) = kind_at(byte) else {
+        return Err(Stop::Fault(at));
+    };
+    if depth == 0 {
+        flat_of(alloc, kind, at, end, content)
+    } else {
+        deep_of(alloc, kind, depth - 1, end, content)
+    }
+}
+
+/// The value of a field that may hold fields of at most this depth.
+#[cycle(nested)]
+fn deep_of(alloc: Global, kind: Kind, depth: u8, end: usize, content: &[u8]) -> Result<(Field, &[u8]), Stop<usize>>
+    ensures { Gives (λ x. (field_tree x.0, x.1.now)) result (deep_in (field_in depth) kind end content.now) }
+{
+    match kind {
+        Kind::Single(kind) => single_of(alloc, kind, end, content),
+        Kind::Array => {
+            let (list, rest) = list_of(alloc, depth, end, content)?;
+            Ok((Field::Array(list), rest))
+        }
+        Kind::Table => {
+            let (table, rest) = table_of(alloc, depth, end, content)?;
+            Ok((Field::Table(table), rest))
+        }
+    }
+}
+
+/// The fields of an array behind their length, each of at most this depth.
+#[cycle(nested)]
+fn list_of(alloc: Global, depth: u8, end: usize, content: &[u8]) -> Result<(FieldList, &[u8]), Stop<usize>>
+    ensures { Gives (λ x. (x.0, x.1.now)) result (container_in offset w32 (field_in depth) end content.now) }
+{
+    let (body, rest) = long_in(end, content)?;
+    let list = fields_of(alloc, depth, place(end, rest), body)?;
+    Ok((list, rest))
+}
+
+/// The fields that fill these bytes, each of at most this depth.
+#[cycle(nested)]
+fn fields_of(alloc: Global, depth: u8, end: usize, body: &[u8]) -> Result<FieldList, Stop<usize>>
+    ensures { Gives (λ list. list) result (all_items (field_in depth end) body.now) }
+{
+    let mut list = FieldList::empty(alloc);
+    let mut rest = body;
+    while !rest.is_empty() {
+        let (field, after) = field_of(alloc, depth, end, rest)?;
+        list.push(field)?;
+        rest = after;
+    }
+    Ok(list)
+}
+
+/// The entries of a table behind their length, with fields of at most this depth.
+#[cycle(nested)]
+fn table_of(alloc: Global, depth: u8, end: usize, content: &[u8]) -> Result<(Table, &[u8]), Stop<usize>>
+    ensures { Gives (λ x. (x.0, x.1.now)) result (container_in offset w32 (member_in (field_in depth)) end content.now) }
+{
+    let (body, rest) = long_in(end, content)?;
+    let table = entries_of(alloc, depth, place(end, rest), body)?;
+    Ok((table, rest))
+}
+
+/// The entries that fill these bytes, with fields of at most this depth.
+#[cycle(nested)]
+fn entries_of(alloc: Global, depth: u8, end: usize, body: &[u8]) -> Result<Table, Stop<usize>>
+    ensures { Gives (λ table. table) result (all_items (member_in (field_in depth) end) body.now) }
+{
+    let mut table = Table::empty(alloc);
+    let mut rest = body;
+    while !rest.is_empty() {
+        let ((name, field), after) = entry_of(alloc, depth, end, rest)?;
+        table.push(name, field)?;
+        rest = after;
+    }
+    Ok(table)
+}
+
+/// An entry of a table: a name behind its length, and a field of at most this depth.
+#[cycle(nested)]
+fn entry_of(alloc: Global, depth: u8, end: usize, bytes: &[u8]) -> Result<((ByteText, Field), &[u8]), Stop<usize>>
+    ensures { Gives (λ x. ((x.0.0, field_tree x.0.1), x.1.now)) result (member_in (field_in depth) end bytes.now) }
+{
+    let (name, rest) = short_in(end, bytes)?;
+    let (field, rest) = field_of(alloc, depth, end, rest)?;
+    Ok(((ByteText::copy_of(alloc, name)?, field), rest))
+}
