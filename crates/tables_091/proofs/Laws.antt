@@ -1,17 +1,17 @@
 -- The readers of fields against their spellings, by the laws of their parts.
-use Rattle.std.proofs.Common.{◌≡◌, ℕ, zero, suc, ◌+◌, ◌-◌, ◌<◌, Bool, true, false, cond, eqb, List, [], ◌∷◌, ◌++◌, length, Option, Some, None, Result, Ok, Err, refl, sym, ap, subst, ◌∙◌, append_assoc, arith}
+use Rattle.std.proofs.Common.{◌≡◌, ℕ, zero, suc, ◌+◌, ◌-◌, ◌<◌, ◌≤◌, take, drop, Bool, true, false, cond, eqb, List, [], ◌∷◌, ◌++◌, length, Option, Some, None, Result, Ok, Err, refl, sym, ap, subst, ◌∙◌, append_assoc, arith}
 use Rattle.std.proofs.lemmas.Bool.{eqb-true}
-use Rattle.std.proofs.lemmas.List.{length-append}
+use Rattle.std.proofs.lemmas.List.{length-append, length-drop, take_at}
 use Rattle.std.specs.Int.{Width, w8, w32, byte_len, to_be_bytes}
 use Rattle.wire_base.specs.Bytes.{IsBytes}
 use Rattle.wire_base.specs.Spelling.{IsNumber, IsText, IsMade, IsPair, IsContainer}
 use Rattle.wire_base.specs.Reading.{Reads, ◌>>=◌, offset, made, pair_in, number_in, text_in, container_in}
-use Rattle.wire_base.proofs.Laws.{IsReader, Finds, IsWide, wide8, wide16, wide32, wide64, bind_is, ok_is, made_reader, pair_reader, number_reader, text_reader}
+use Rattle.wire_base.proofs.Laws.{IsReader, Finds, IsWide, wide8, wide16, wide32, wide64, IsBytes-drop, bind_is, ok_is, made_reader, pair_reader, number_reader, text_reader}
 use Rattle.wire_base.proofs.Items.{Shrinks, reader_shrinks, container_reader}
 use Rattle.tables_091.specs.Tree.{Scalar, decimal, void, Tree, scalar, array, table, trees_of, members_of}
 use Rattle.tables_091.specs.Kinds.{kind_byte, kind_of, octet_scalar, wide_width, wide_scalar, text_scalar}
 use Rattle.tables_091.specs.Grammar.{IsSingle, IsMember, IsFlat, IsDeep, IsTyped, IsField, IsTable}
-use Rattle.tables_091.specs.Reading.{single_in, member_in, flat_in, deep_in, kinded_in, typed_in, field_in, table_in}
+use Rattle.tables_091.specs.Reading.{single_in, member_in, flat_in, deep_in, kinded_in, typed_in, field_in, table_in, table_at}
 use Rattle.tables_091.specs.declared.kind.Kind.{Kind}
 use Rattle.tables_091.specs.declared.kind.Kind.TheVariants as kind
 use Rattle.tables_091.specs.declared.kind.Single.{Single}
@@ -186,3 +186,27 @@ member_shrinks d end = reader_shrinks (IsMember (IsField d)) (member_in (field_i
 -- a table
 pub table_reader : IsReader IsTable table_in
 table_reader = container_reader offset w32 wide32 (IsMember (IsField 15)) (member_in (field_in 15)) (member_reader (IsField 15) (field_in 15) (field_reader 15)) (member_filled (IsField 15))
+
+-- ---- the table at an offset
+
+table_filled : (ms : List (List ℕ × Tree)) (text : List ℕ) → IsTable ms text → 0 < length text
+table_filled ms text h = omega (arith, ap length h.2.1, length-append (to_be_bytes w32 (length h.0)) h.0)
+
+-- what is read is spelled so, up to the offset that is told
+pub read_is_spelled : (bytes : List ℕ) (at : ℕ) (x : List (List ℕ × Tree) × ℕ) → IsBytes bytes → table_at bytes at ≡ Ok x → (x.1 ≤ length bytes) × IsTable x.0 (take (x.1 - at) (drop at bytes))
+read_is_spelled bytes at x fits e =
+    let end = length bytes in
+    let b = bind_is (table_in end (drop at bytes)) (λ x. Ok (x.0, end - length x.1)) x e in
+    let f = table_reader.finds end (drop at bytes) b.0 (IsBytes-drop at bytes fits) b.1 in
+    let long : length f.front ≡ (end - length b.0.1) - at = omega (arith, ap length f.parts, length-append f.front b.0.1, length-drop at bytes) in
+    let front : take ((end - length b.0.1) - at) (drop at bytes) ≡ f.front = ap (take ((end - length b.0.1) - at)) f.parts ∙ take_at f.front b.0.1 ((end - length b.0.1) - at) long in
+    subst (λ (y : List (List ℕ × Tree) × ℕ). (y.1 ≤ end) × IsTable y.0 (take (y.1 - at) (drop at bytes))) (ok_is {F = ℕ} (b.0.0, end - length b.0.1) x b.2) (omega arith, rw front f.spelled)
+
+-- what is spelled so is read, whatever follows
+pub spelled_is_read : (bytes : List ℕ) (at : ℕ) (ms : List (List ℕ × Tree)) (text rest : List ℕ) → IsTable ms text → drop at bytes ≡ text ++ rest → table_at bytes at ≡ Ok (ms, at + length text)
+spelled_is_read bytes at ms text rest h parts =
+    let end = length bytes in
+    let some = table_filled ms text h in
+    let place : end - length rest ≡ at + length text = omega (arith, ap length parts, length-append text rest, length-drop at bytes) in
+    let read : table_in end (drop at bytes) ≡ Ok (ms, rest) = ap (table_in end) parts ∙ table_reader.again end ms text rest h in
+    rw (read, place) refl

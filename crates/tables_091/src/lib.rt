@@ -6,3 +6,4 @@ mod kind;
 mod reading;
 
 pub use field::{Field, FieldList, Table};
+pub use reading::{read_table, Syntax};

@@ -8,12 +8,20 @@ ghost use Rattle.wire_base.specs.Reading.{Gives, made, number_in, text_in, conta
 ghost use Rattle.tables_091.specs.Tree.{Tree, scalar};
 ghost use Rattle.tables_091.specs.View.{field_tree};
 ghost use Rattle.tables_091.specs.Kinds.{octet_scalar, wide_scalar, wide_width, text_scalar};
+ghost use Rattle.tables_091.specs.Grammar.{IsTable};
 ghost use Rattle.tables_091.specs.Reading.{single_in, flat_in, deep_in, member_in, field_in, table_in, table_at};
 
 use crate::field::{Field, FieldList, Table};
 use crate::kind::{kind_at, Kind, Octet, Single, Text, Wide};
 use std::alloc::Global;
 use wire_base::{long_in, place, short_in, u16_in, u32_in, u64_in, u8_in, At, ByteText, Memory, Stop};
+
+/// Why bytes are no table: a type byte that is unknown or passes the depth, a length that passes what holds it, or a value that is cut off.
+#[derive(Clone, Copy, Debug, PartialEq, Eq)]
+pub struct Syntax;
+
+/// The greatest depth of a field inside a table, whose own depth is at most 16.
+const DEPTH_INSIDE: u8 = 15;
 
 fn octet_of(kind: Octet, end: usize, content: &[u8]) -> Result<(Field, &[u8]), Stop<usize>>
     ensures { Gives (λ x. (field_tree x.0, x.1.now)) result (made scalar (made (octet_scalar kind) (number_in offset w8 end content.now))) }
@@ -198,4 +206,36 @@ fn entry_of(alloc: Global, depth: u8, end: usize, bytes: &[u8]) -> Result<((Byte
     let (name, rest) = short_in(end, bytes)?;
     let (field, rest) = field_of(alloc, depth, end, rest)?;
     Ok(((ByteText::copy_of(alloc, name)?, field), rest))
+}
+
+/// The table that stands at `at`, and the offset after it.
+fn table_from(alloc: Global, bytes: &[u8], at: usize) -> Result<(Table, usize), Stop<usize>>
+    ensures { Gives (λ x. (x.0, x.1)) result (table_at bytes.now at) }
+{
+    let left = bytes.get(at..).unwrap_or(&[]);
+    let (table, rest) = table_of(alloc, DEPTH_INSIDE, bytes.len(), left)?;
+    Ok((table, place(bytes.len(), rest)))
+}
+
+/// The table that stands at `at`, and the offset after it.
+///
+/// # Errors
+///
+/// `Syntax` exactly where no table stands at `at`. Its offset is that of the first type byte that is unknown or passes the depth of 16,
+/// length that passes what holds it, or value that is cut off; where `at` is past the end, it is the length of the bytes.
+/// `Memory` where the allocator has no room.
+pub fn read_table(alloc: Global, bytes: &[u8], at: usize) -> Result<Result<(Table, usize), At<Syntax>>, Memory>
+    // What is read is spelled so.
+    ensures found { IfOk result (λ read. IfOk read (λ x. (x.1 ≤ length bytes.now) × IsTable x.0 (take (x.1 - at) (drop at bytes.now)))) }
+    // What is spelled so is read, whatever follows.
+    ensures only { (ms : List (List ℕ × Tree)) (text rest : List ℕ) → IsTable ms text → drop at bytes.now ≡ text ++ rest
+        → IfOk result (λ read. read ≡ Ok (ms, at + length text)) }
+    // Where the first fault is.
+    ensures fault { IfOk result (λ read. IfErr read (λ e. table_at bytes.now at ≡ Err e.at)) }
+{
+    match table_from(alloc, bytes, at) {
+        Ok(read) => Ok(Ok(read)),
+        Err(Stop::Memory) => Err(Memory),
+        Err(Stop::Fault(at)) => Ok(Err(At { fault: Syntax, at })),
+    }
 }
