@@ -5,3 +5,4 @@ pub mod Reading
 pub mod Tree
 pub mod TreeCode
 pub mod View
+pub mod Writing

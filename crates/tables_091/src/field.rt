@@ -51,14 +51,14 @@ pub enum Field {
 #[derive(Debug, Drop)]
 #[cycle(field)]
 pub struct FieldList {
-    items: Vec<Field>,
+    pub(crate) items: Vec<Field>,
 }
 
 /// The entries of a table, in order: names and fields. Contracts see it as the list of them.
 #[derive(Debug, Drop)]
 #[cycle(field)]
 pub struct Table {
-    entries: Vec<(ByteText, Field)>,
+    pub(crate) entries: Vec<(ByteText, Field)>,
 }
 
 impl Model for FieldList {

@@ -4,6 +4,8 @@
 mod field;
 mod kind;
 mod reading;
+mod writing;
 
 pub use field::{Field, FieldList, Table};
 pub use reading::{read_table, Syntax};
+pub use writing::put_table;

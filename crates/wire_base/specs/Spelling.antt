@@ -8,8 +8,12 @@ abbrev pub IsNumber : Width → ℕ → List ℕ → Type 0
 IsNumber w n text = (n < 256 ^ byte_len w) × (text ≡ to_be_bytes w n)
 
 -- the length of a text in this width, and the text
+abbrev pub text_of : Width → List ℕ → List ℕ
+text_of w s = to_be_bytes w (length s) ++ s
+
+-- a text whose length fits the width, behind that length
 abbrev pub IsText : Width → List ℕ → List ℕ → Type 0
-IsText w s text = (length s < 256 ^ byte_len w) × (text ≡ to_be_bytes w (length s) ++ s)
+IsText w s text = (length s < 256 ^ byte_len w) × (text ≡ text_of w s)
 
 -- a value that is made of one that is spelled so
 abbrev pub IsMade : {A B : Type 0} → (A → B) → (A → List ℕ → Type 0) → B → List ℕ → Type 0
