@@ -1,3 +1,4 @@
 pub mod Depth
-pub mod Laws
 pub mod Lists
+pub mod ReaderLaws
+pub mod Written

@@ -3,9 +3,11 @@
 
 mod field;
 mod kind;
+mod laws;
 mod reading;
 mod writing;
 
 pub use field::{Field, FieldList, Table};
+pub use laws::table_laws;
 pub use reading::{read_table, Syntax};
 pub use writing::put_table;

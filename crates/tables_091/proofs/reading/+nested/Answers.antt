@@ -8,7 +8,7 @@ use Rattle.tables_091.specs.Kinds.{kind_of}
 use Rattle.tables_091.proofs.Depth.{deep_gives}
 use Rattle.tables_091.specs.View.{field_tree}
 use Rattle.tables_091.specs.Reading.{field_in, member_in}
-use Rattle.tables_091.proofs.Laws.{field_shrinks, member_shrinks}
+use Rattle.tables_091.proofs.ReaderLaws.{field_shrinks, member_shrinks}
 use Rattle.tables_091.proofs.reading.+nested.Goals as goal
 
 pub fields_of-returns-in_err-field : goal.fields_of-returns-in_err-field

@@ -1,5 +1,5 @@
 use Rattle.std.proofs.Common.{arith}
-use Rattle.tables_091.proofs.Laws.{read_is_spelled, spelled_is_read}
+use Rattle.tables_091.proofs.ReaderLaws.{read_is_spelled, spelled_is_read}
 use Rattle.tables_091.proofs.reading.read_table.Goals as goal
 
 pub returns-in-Ok-clause-found : goal.returns-in-Ok-clause-found

@@ -210,3 +210,9 @@ spelled_is_read bytes at ms text rest h parts =
     let place : end - length rest ≡ at + length text = omega (arith, ap length parts, length-append text rest, length-drop at bytes) in
     let read : table_in end (drop at bytes) ≡ Ok (ms, rest) = ap (table_in end) parts ∙ table_reader.again end ms text rest h in
     rw (read, place) refl
+
+-- bytes spell at most one table
+pub one_table : (ms ns : List (List ℕ × Tree)) (text : List ℕ) → IsTable ms text → IsTable ns text → ms ≡ ns
+one_table ms ns text h k =
+    let same = ok_is {F = ℕ} (ms, []) (ns, []) (sym (table_reader.again 0 ms text [] h) ∙ table_reader.again 0 ns text [] k) in
+    ap (λ (x : List (List ℕ × Tree) × List ℕ). x.0) same
