@@ -10,7 +10,8 @@ use Rattle.tables_091.specs.Kinds.{kind_byte}
 use Rattle.tables_091.specs.Grammar.{IsSingle, IsMember, IsField, IsTable}
 use Rattle.tables_091.specs.Reading.{table_at}
 use Rattle.tables_091.proofs.ReaderLaws.{spelled_is_read}
-use Rattle.tables_091.specs.Writing.{scalar_text, tree_text, trees_text, members_text, table_text, EachInside, EachInTrees, EachInMembers, IsShort, HasSpelling, IsInRange, AreRanged}
+use Rattle.tables_091.specs.Writing.{scalar_text, tree_text, trees_text, members_text, table_text, IsShort, HasSpelling}
+use Rattle.tables_091.specs.Ranges.{EachInside, EachInTrees, EachInMembers, IsInRange, AreRanged}
 use Rattle.tables_091.specs.declared.kind.Kind.TheVariants as kind
 use Rattle.tables_091.specs.declared.kind.Single.{Single}
 use Rattle.tables_091.specs.declared.kind.Single.TheVariants as single

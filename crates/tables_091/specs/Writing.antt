@@ -3,6 +3,7 @@ use Rattle.std.specs.Prelude.{ℕ, ◌<◌, ◌≤◌, ◌^◌, Bool, List, [], 
 use Rattle.std.specs.Int.{w8, w16, w32, w64, to_be_bytes, cast_unsigned}
 use Rattle.std.specs.Int.RustNames.{FitsSigned}
 use Rattle.wire_base.specs.Spelling.{text_of}
+use Rattle.tables_091.specs.Ranges.{EachInside, EachInTrees, EachInMembers}
 use Rattle.tables_091.specs.Tree.{Scalar, boolean, int8, uint8, int16, uint16, int32, uint32, int64, float32, float64, decimal, longstr, timestamp, void, blob, Tree, scalar, array, table, Trees, no_trees, tree, Members, no_members, member, members_of, depth}
 use Rattle.tables_091.specs.View.{field_tree}
 use Rattle.tables_091.specs.declared.field.Field.{Field}
@@ -51,21 +52,6 @@ field_text f = tree_text (field_tree f)
 abbrev pub entry_text : List ℕ × Field → List ℕ
 entry_text e = text_of w8 e.0 ++ field_text e.1
 
--- such is each field inside that holds no other, and such each name inside
-abbrev mutual
-  pub EachInside : (Scalar → Type 0) → (List ℕ → Type 0) → Tree → Type 0
-  EachInside P Q (scalar s) = P s
-  EachInside P Q (array ts) = EachInTrees P Q ts
-  EachInside P Q (table ms) = EachInMembers P Q ms
-
-  pub EachInTrees : (Scalar → Type 0) → (List ℕ → Type 0) → Trees → Type 0
-  EachInTrees P Q no_trees = Unit {0}
-  EachInTrees P Q (tree t ts) = EachInside P Q t × EachInTrees P Q ts
-
-  pub EachInMembers : (Scalar → Type 0) → (List ℕ → Type 0) → Members → Type 0
-  EachInMembers P Q no_members = Unit {0}
-  EachInMembers P Q (member name t ms) = Q name × EachInside P Q t × EachInMembers P Q ms
-
 -- a name that can be written
 abbrev pub IsShort : List ℕ → Type 0
 IsShort name = length name ≤ 255
@@ -91,25 +77,3 @@ pub record HasSpelling (ms : List (List ℕ × Tree)) : Type 0 where
   pub names : MembersNamesAreShort (members_of ms)
   pub size : length (members_text (members_of ms)) < 2 ^ 32
   pub depth : depth (table (members_of ms)) ≤ 16
-
--- a number is one of its type
-abbrev pub IsInRange : Scalar → Type 0
-IsInRange (boolean b) = Unit {0}
-IsInRange (int8 z) = FitsSigned w8 z
-IsInRange (uint8 n) = n < 2 ^ 8
-IsInRange (int16 z) = FitsSigned w16 z
-IsInRange (uint16 n) = n < 2 ^ 16
-IsInRange (int32 z) = FitsSigned w32 z
-IsInRange (uint32 n) = n < 2 ^ 32
-IsInRange (int64 z) = FitsSigned w64 z
-IsInRange (float32 n) = n < 2 ^ 32
-IsInRange (float64 n) = n < 2 ^ 64
-IsInRange (decimal scale n) = (scale < 2 ^ 8) × (n < 2 ^ 32)
-IsInRange (longstr s) = Unit {0}
-IsInRange (timestamp n) = n < 2 ^ 64
-IsInRange void = Unit {0}
-IsInRange (blob s) = Unit {0}
-
--- the numbers of a table are of their types, as those of each table of the program are
-abbrev pub AreRanged : List (List ℕ × Tree) → Type 0
-AreRanged ms = EachInMembers IsInRange (λ name. Unit {0}) (members_of ms)

@@ -2,6 +2,7 @@
 
 ghost use Rattle.std.specs.Prelude.{◌≡◌, ℕ, ◌+◌, List, [], ◌∷◌, ◌++◌, length, option_map, slice_get, OnOk, OnErr};
 ghost use Rattle.tables_091.specs.View.{field_tree};
+ghost use Rattle.tables_091.specs.Ranges.{IsRanged, AreRanged};
 
 use std::alloc::Global;
 use std::marker::Model;
@@ -74,6 +75,10 @@ impl Model for FieldList {
 
     ghost view = { λ a. map field_tree a.items.items };
 
+    ghost use Rattle.tables_091.specs.Ranges.{FieldsAreRanged};
+
+    ghost invariant = { λ a. FieldsAreRanged (map field_tree a.items.items) };
+
     ghost size = { list_depth };
 
     ghost use Rattle.tables_091.specs.Falls.{list_falls};
@@ -94,11 +99,57 @@ impl Model for Table {
 
     ghost view = { λ a. map entry_member a.entries.items };
 
+    ghost use Rattle.tables_091.specs.Ranges.{AreRanged};
+
+    ghost invariant = { λ a. AreRanged (map entry_member a.entries.items) };
+
     ghost size = { entries_depth };
 
     ghost use Rattle.tables_091.specs.Falls.{entries_fall};
 
     ghost size_decreases = { λ a h. entries_fall a.entries.items };
+}
+
+/// Tells proofs that the numbers inside a field are of their types. The call does nothing.
+fn field_is_ranged(field: &Field)
+    ensures { IsRanged (field_tree field.now) }
+{
+    match field {
+        Field::I8(n) => {
+            let _known = *n;
+        }
+        Field::U8(n) => {
+            let _known = *n;
+        }
+        Field::I16(n) => {
+            let _known = *n;
+        }
+        Field::U16(n) => {
+            let _known = *n;
+        }
+        Field::I32(n) => {
+            let _known = *n;
+        }
+        Field::U32(n) | Field::F32(n) => {
+            let _known = *n;
+        }
+        Field::I64(n) => {
+            let _known = *n;
+        }
+        Field::F64(n) | Field::Time(n) => {
+            let _known = *n;
+        }
+        Field::Decimal(scale, n) => {
+            let _known = (*scale, *n);
+        }
+        Field::Array(list) => {
+            let _known = &list.items;
+        }
+        Field::Table(table) => {
+            let _known = &table.entries;
+        }
+        Field::Bool(_) | Field::Long(_) | Field::Void | Field::Bytes(_) => {}
+    }
 }
 
 impl FieldList {
@@ -116,10 +167,9 @@ impl FieldList {
         ensures ok { OnOk result (self.new ≡ self.old ++ field_tree field ∷ []) }
         ensures err { OnErr result (self.new ≡ self.old) }
     {
-        match self.items.push(field) {
-            Ok(()) => Ok(()),
-            Err(_) => Err(Memory),
-        }
+        field_is_ranged(&field);
+        self.items.push(field)?;
+        Ok(())
     }
 
     /// The count of the fields.
@@ -153,10 +203,16 @@ impl Table {
         ensures ok { OnOk result (self.new ≡ self.old ++ (name, field_tree field) ∷ []) }
         ensures err { OnErr result (self.new ≡ self.old) }
     {
-        match self.entries.push((name, field)) {
-            Ok(()) => Ok(()),
-            Err(_) => Err(Memory),
-        }
+        field_is_ranged(&field);
+        self.entries.push((name, field))?;
+        Ok(())
+    }
+
+    /// Tells proofs that the numbers inside a table are of their types. The call does nothing.
+    pub fn is_ranged(&self)
+        ensures { AreRanged self.now }
+    {
+        let _known = &self.entries;
     }
 
     /// The count of the entries.

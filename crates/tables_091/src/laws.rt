@@ -4,7 +4,8 @@ ghost use Rattle.std.specs.Prelude.{◌≡◌, ℕ, ◌+◌, List, ◌++◌, len
 ghost use Rattle.tables_091.specs.Tree.{Tree};
 ghost use Rattle.tables_091.specs.Grammar.{IsTable};
 ghost use Rattle.tables_091.specs.Reading.{table_at};
-ghost use Rattle.tables_091.specs.Writing.{table_text, HasSpelling, AreRanged};
+ghost use Rattle.tables_091.specs.Writing.{table_text, HasSpelling};
+ghost use Rattle.tables_091.specs.Ranges.{AreRanged};
 
 /// The laws of tables, for proofs to cite; the call does nothing.
 pub fn table_laws()

@@ -7,6 +7,7 @@ ghost use Rattle.std.specs.Int.{w8, w16, w32, w64, to_be_bytes};
 ghost use Rattle.wire_base.specs.Spelling.{text_of};
 ghost use Rattle.tables_091.specs.Tree.{trees_of, members_of};
 ghost use Rattle.tables_091.specs.View.{field_tree, entry_member};
+ghost use Rattle.tables_091.specs.Grammar.{IsTable};
 ghost use Rattle.tables_091.specs.Writing.{trees_text, members_text, table_text, field_text, entry_text, TreesNamesAreShort, MembersNamesAreShort, FieldIsShort, EntryIsShort, HasSpelling};
 
 use crate::field::{Field, FieldList, Table};
@@ -175,7 +176,10 @@ pub fn put_table(out: &mut ByteText, table: &Table) -> Result<(), Memory>
     requires { HasSpelling table.now }
     ensures ok { OnOk result (out.new ≡ out.old ++ table_text table.now) }
     ensures err { OnErr result (out.new ≡ out.old) }
+    // What is written is in the grammar.
+    ensures spelled { IsTable table.now (table_text table.now) }
 {
+    table.is_ranged();
     let start = out.as_slice().len();
     let written = put_body(out, table);
     if written.is_err() {
