@@ -5,8 +5,8 @@ use Rattle.std.proofs.lemmas.List.{length-append, length-drop, take_at}
 use Rattle.std.specs.Int.{Width, w8, w32, byte_len, to_be_bytes}
 use Rattle.wire_base.specs.Bytes.{IsBytes}
 use Rattle.wire_base.specs.Spelling.{IsNumber, IsText, IsMade, IsPair, IsContainer}
-use Rattle.wire_base.specs.Reading.{Reads, ◌>>=◌, offset, made, pair_in, number_in, text_in, container_in}
-use Rattle.wire_base.proofs.Laws.{IsReader, Finds, IsWide, wide8, wide16, wide32, wide64, IsBytes-drop, bind_is, ok_is, made_reader, pair_reader, number_reader, text_reader}
+use Rattle.wire_base.specs.Reading.{Reads, ◌>>=◌, offset, made, pair_in, number_in, text_in, whole_in, container_in}
+use Rattle.wire_base.proofs.Laws.{IsReader, Finds, IsWide, wide8, wide16, wide32, wide64, IsBytes-drop, bind_is, ok_is, made_reader, pair_reader, whole_reader, number_reader, text_reader}
 use Rattle.wire_base.proofs.Items.{Shrinks, reader_shrinks, container_reader}
 use Rattle.tables_091.specs.Tree.{Scalar, decimal, void, Tree, scalar, array, table, trees_of, members_of}
 use Rattle.tables_091.specs.Kinds.{kind_byte, kind_of, octet_scalar, wide_width, wide_scalar, text_scalar}
@@ -44,8 +44,10 @@ single_reader (single.Octet k) = made_reader (octet_scalar k) (IsNumber w8) (num
 single_reader (single.Wide k) = made_reader (wide_scalar k) (IsNumber (wide_width k)) (number_in offset (wide_width k)) (number_reader offset (wide_width k) (wide_is k))
 single_reader (single.Text k) = made_reader (text_scalar k) (IsText w32) (text_in offset w32) (text_reader offset w32 wide32)
 single_reader single.Decimal =
-    made_reader (λ p. decimal p.0 p.1) (IsPair (IsNumber w8) (IsNumber w32)) (pair_in (number_in offset w8) (number_in offset w32))
+    made_reader (λ p. decimal p.0 p.1) (IsPair (IsNumber w8) (IsNumber w32)) (whole_in offset 5 (pair_in (number_in offset w8) (number_in offset w32)))
+    (whole_reader offset 5 (IsPair (IsNumber w8) (IsNumber w32)) (pair_in (number_in offset w8) (number_in offset w32))
     (pair_reader (IsNumber w8) (IsNumber w32) (number_in offset w8) (number_in offset w32) (number_reader offset w8 wide8) (number_reader offset w32 wide32))
+    (λ p text h. omega (arith, ap length h.4, length-append h.0 h.1, ap length h.2.1, ap length h.3.1)))
 single_reader single.Void = void_reader
 
 -- ---- values by their kind, at any offset of their type byte

@@ -2,7 +2,7 @@
 -- a length that passes what holds it, or a value that is cut off (AMQP 0-9-1 4.2.5.5).
 use Rattle.std.specs.Prelude.{ℕ, zero, suc, ◌-◌, List, length, drop, Option, Some, None, Ok, Err, Result}
 use Rattle.std.specs.Int.{w8, w32}
-use Rattle.wire_base.specs.Reading.{Reads, ◌>>=◌, offset, made, pair_in, number_in, text_in, container_in}
+use Rattle.wire_base.specs.Reading.{Reads, ◌>>=◌, offset, made, pair_in, number_in, text_in, whole_in, container_in}
 use Rattle.tables_091.specs.Tree.{Scalar, decimal, void, Tree, scalar, array, table, trees_of, members_of}
 use Rattle.tables_091.specs.Kinds.{kind_of, octet_scalar, wide_width, wide_scalar, text_scalar}
 use Rattle.tables_091.specs.declared.kind.Kind.{Kind}
@@ -15,7 +15,7 @@ abbrev pub single_in : Single → ℕ → List ℕ → Reads Scalar ℕ
 single_in (single.Octet k) end bytes = made (octet_scalar k) (number_in offset w8 end bytes)
 single_in (single.Wide k) end bytes = made (wide_scalar k) (number_in offset (wide_width k) end bytes)
 single_in (single.Text k) end bytes = made (text_scalar k) (text_in offset w32 end bytes)
-single_in single.Decimal end bytes = made (λ p. decimal p.0 p.1) (pair_in (number_in offset w8) (number_in offset w32) end bytes)
+single_in single.Decimal end bytes = made (λ p. decimal p.0 p.1) (whole_in offset 5 (pair_in (number_in offset w8) (number_in offset w32)) end bytes)
 single_in single.Void end bytes = Ok (void, bytes)
 
 -- an entry of a table: a name behind its length, and a field

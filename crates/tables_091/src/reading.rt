@@ -94,6 +94,9 @@ fn single_of(alloc: Global, kind: Single, end: usize, content: &[u8]) -> Result<
         Single::Wide(kind) => wide_of(kind, end, content),
         Single::Text(kind) => text_of(alloc, kind, end, content),
         Single::Decimal => {
+            if content.len() < 5 {
+                return Err(Stop::Fault(place(end, content)));
+            }
             let (scale, rest) = u8_in(end, content)?;
             let (number, rest) = u32_in(end, rest)?;
             Ok((Field::Decimal(scale, number), rest))

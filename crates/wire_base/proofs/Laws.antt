@@ -6,7 +6,7 @@ use Rattle.std.proofs.lemmas.Bool.{cases_lt, ltb-false, le-ltb}
 use Rattle.std.proofs.lemmas.List.{take_at, drop_at, take-append-drop, length-append, length-take, get_or-drop, get_or-take, get_or_past}
 use Rattle.std.proofs.lemmas.Nat.{be_bytes_2, be_bytes_4, be_bytes_8, from_be_bytes-to_be_bytes_2, from_be_bytes-to_be_bytes_4, from_be_bytes-to_be_bytes_8}
 use Rattle.wire_base.specs.Bytes.{IsBytes}
-use Rattle.wire_base.specs.Reading.{Reads, ◌>>=◌, made, pair_in, number_in, text_in}
+use Rattle.wire_base.specs.Reading.{Reads, ◌>>=◌, made, pair_in, number_in, text_in, whole_in}
 use Rattle.wire_base.specs.Spelling.{IsNumber, IsText, IsMade, IsPair}
 
 -- ---- bytes
@@ -86,6 +86,22 @@ pair_reader {A} {B} {F} R S read more r s = record { finds = finds; again = agai
     again end p front rest h =
         let regrouped : front ++ rest ≡ h.0 ++ (h.1 ++ rest) = ap (λ (t : List ℕ). t ++ rest) h.4 ∙ append_assoc h.0 h.1 rest in
         ap (pair_in read more end) regrouped ∙ rw (r.again end p.0 h.0 (h.1 ++ rest) h.2, s.again end p.1 h.1 rest h.3) refl
+
+-- ---- values of at least so many bytes
+
+unguarded : {A F : Type 0} (b : Bool) (d : F) (r : Result A F) (y : A) → cond b (Err d) r ≡ Ok y → r ≡ Ok y
+unguarded true d r y e = absurd cc
+unguarded false d r y e = e
+
+pub whole_reader : {A F : Type 0} (fault : ℕ → F) (n : ℕ) (R : A → List ℕ → Type 0) (read : ℕ → List ℕ → Reads A F) → IsReader R read → ((a : A) (text : List ℕ) → R a text → n ≤ length text) → IsReader R (whole_in fault n read)
+whole_reader {A} {F} fault n R read r long = record { finds = finds; again = again }
+  where
+    finds : (end : ℕ) (text : List ℕ) (x : A × List ℕ) → IsBytes text → whole_in fault n read end text ≡ Ok x → Finds R text x
+    finds end text x fits e = r.finds end text x fits (unguarded (ltb (length text) n) (fault (end - length text)) (read end text) x e)
+    again : (end : ℕ) (a : A) (front rest : List ℕ) → R a front → whole_in fault n read end (front ++ rest) ≡ Ok (a, rest)
+    again end a front rest h =
+        let there : ltb (length (front ++ rest)) n ≡ false = le-ltb _ _ (omega (arith, long a front h, length-append front rest)) in
+        rw there (r.again end a front rest h)
 
 -- ---- numbers
 

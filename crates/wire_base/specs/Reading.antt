@@ -42,6 +42,10 @@ text_in fault w end bytes = do
   n ← number_in fault w end bytes
   if nat_lt (length n.1) n.0 then Err (fault (end - length bytes)) else Ok (take n.0 n.1, drop n.0 n.1)
 
+-- a value of at least so many bytes; where fewer are there, the fault at its first byte
+abbrev pub whole_in : {A F : Type 0} → (ℕ → F) → ℕ → (ℕ → List ℕ → Reads A F) → ℕ → List ℕ → Reads A F
+whole_in fault n read end bytes = if nat_lt (length bytes) n then Err (fault (end - length bytes)) else read end bytes
+
 -- items until nothing is left, at most so many
 abbrev pub many : {A F : Type 0} → (List ℕ → Reads A F) → ℕ → List ℕ → Result (List A) F
 many read fuel [] = Ok []
