@@ -1,8 +1,6 @@
 -- What is said of the values in a list or a table, said of the list's fields and the table's entries one by one.
 use Rattle.std.proofs.Common.{◌≡◌, ℕ, List, [], ◌∷◌, ◌++◌, length, take, get_or, ◌<◌, ◌≤◌, ◌^◌, map, All, refl, sym, ap, ◌∙◌, arith}
 use Rattle.std.specs.List.{flat_map, AllByRecursion}
-use Rattle.std.specs.Int.{w8}
-use Rattle.wire_base.specs.Spelling.{text_of}
 use Rattle.std.proofs.lemmas.List.{length-append, take-take, take_at}
 use Rattle.std.proofs.lemmas.List.Folds.{length-flat_map-take}
 use Rattle.std.proofs.lemmas.List.Elements.{All-from_recursion}

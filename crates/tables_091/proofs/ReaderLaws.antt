@@ -1,11 +1,11 @@
 -- The readers of fields against their spellings, by the laws of their parts.
-use Rattle.std.proofs.Common.{◌≡◌, ℕ, zero, suc, ◌+◌, ◌-◌, ◌<◌, ◌≤◌, take, drop, Bool, true, false, cond, eqb, List, [], ◌∷◌, ◌++◌, length, Option, Some, None, Result, Ok, Err, refl, sym, ap, subst, ◌∙◌, append_assoc, arith}
+use Rattle.std.proofs.Common.{◌≡◌, ℕ, zero, suc, ◌+◌, ◌-◌, ◌<◌, ◌≤◌, take, drop, Bool, true, false, cond, eqb, List, [], ◌∷◌, ◌++◌, length, Option, Some, None, Ok, Err, refl, sym, ap, subst, ◌∙◌, arith}
 use Rattle.std.proofs.lemmas.Bool.{eqb-true}
 use Rattle.std.proofs.lemmas.List.{length-append, length-drop, take_at}
-use Rattle.std.specs.Int.{Width, w8, w32, byte_len, to_be_bytes}
+use Rattle.std.specs.Int.{w8, w32, to_be_bytes}
 use Rattle.wire_base.specs.Bytes.{IsBytes}
-use Rattle.wire_base.specs.Spelling.{IsNumber, IsText, IsMade, IsPair, IsContainer}
-use Rattle.wire_base.specs.Reading.{Reads, ◌>>=◌, offset, made, pair_in, number_in, text_in, whole_in, container_in}
+use Rattle.wire_base.specs.Spelling.{IsNumber, IsText, IsPair, IsContainer}
+use Rattle.wire_base.specs.Reading.{Reads, offset, pair_in, number_in, text_in, whole_in, container_in}
 use Rattle.wire_base.proofs.Laws.{IsReader, Finds, IsWide, wide8, wide16, wide32, wide64, IsBytes-drop, bind_is, ok_is, made_reader, pair_reader, whole_reader, number_reader, text_reader}
 use Rattle.wire_base.proofs.Items.{Shrinks, reader_shrinks, container_reader}
 use Rattle.tables_091.specs.Tree.{Scalar, decimal, void, Tree, scalar, array, table, trees_of, members_of}
@@ -141,11 +141,13 @@ typed_reader R value r = record { finds = finds; again = again }
   where
     octets : IsReader (IsNumber w8) (number_in offset w8)
     octets = number_reader offset w8 wide8
+
     found : (b at end : ℕ) (o : Option Kind) (text : List ℕ) (x : Tree × List ℕ) → IsBytes text → kind_of b ≡ o → kinded_in value o at end text ≡ Ok x → Finds (λ t front. IsTyped R t (b ∷ front)) text x
     found b at end None text x fits k e = absurd cc
     found b at end (Some k) text x fits is e =
         let f = (r k at).finds end text x fits e in
         record { front = f.front; spelled = (k, f.front, f.spelled, ap (λ (c : ℕ). c ∷ f.front) (sym (kind_is b k is))); parts = f.parts; rest_fits = f.rest_fits }
+
     finds : (end : ℕ) (text : List ℕ) (x : Tree × List ℕ) → IsBytes text → typed_in value end text ≡ Ok x → Finds (IsTyped R) text x
     finds end text x fits e =
         let b = bind_is (number_in offset w8 end text) (λ b. kinded_in value (kind_of b.0) (end - length text) end b.1) x e in
@@ -158,6 +160,7 @@ typed_reader R value r = record { finds = finds; again = again }
           parts = f.parts ∙ ap (λ (t : List ℕ). t ++ b.0.1) octet ∙ ap (λ (t : List ℕ). b.0.0 ∷ t) g.parts;
           rest_fits = g.rest_fits;
         }
+
     again : (end : ℕ) (t : Tree) (front rest : List ℕ) → IsTyped R t front → typed_in value end (front ++ rest) ≡ Ok (t, rest)
     again end t front rest h =
         let k = h.0 in

@@ -1,10 +1,9 @@
 -- What is written is in the grammar.
-use Rattle.std.proofs.Common.{◌≡◌, ℕ, zero, suc, ◌+◌, ◌^◌, ◌<◌, ◌≤◌, max, Bool, true, false, List, [], ◌∷◌, ◌++◌, length, Ok, refl, sym, ap, ◌∙◌, arith}
+use Rattle.std.proofs.Common.{◌≡◌, ℕ, zero, suc, ◌+◌, ◌^◌, ◌<◌, ◌≤◌, true, false, List, [], ◌∷◌, ◌++◌, length, Ok, refl, sym, ap, arith}
 use Rattle.std.proofs.lemmas.Int.{ints, to_z-of_z}
 use Rattle.std.proofs.lemmas.List.{length-append, drop_at}
-use Rattle.std.specs.Int.{Width, w8, w16, w32, w64, byte_len, to_be_bytes, cast_unsigned, cast_signed}
-use Rattle.std.specs.Int.RustNames.{FitsSigned}
-use Rattle.wire_base.specs.Spelling.{IsNumber, IsText, IsMade, IsPair, IsItems, IsContainer, text_of}
+use Rattle.std.specs.Int.{w8, w16, w32, w64, to_be_bytes, cast_unsigned}
+use Rattle.wire_base.specs.Spelling.{IsItems, text_of}
 use Rattle.tables_091.specs.Tree.{Scalar, boolean, int8, uint8, int16, uint16, int32, uint32, int64, float32, float64, decimal, longstr, timestamp, void, blob, Tree, scalar, array, table, Trees, no_trees, tree, Members, no_members, member, trees_of, members_of, depth, trees_depth, members_depth}
 use Rattle.tables_091.specs.Kinds.{kind_byte}
 use Rattle.tables_091.specs.Grammar.{IsSingle, IsMember, IsField, IsTable}
@@ -74,6 +73,7 @@ Short = EachInside (λ s. Unit {0}) IsShort
 
 mutual
   unfolding IsField list_of entries_of
+
   tree_written : (d : ℕ) (t : Tree) → depth t ≤ d → Short t → Ranged t → length (tree_text t) < 2 ^ 32 → IsField d t (tree_text t)
   tree_written zero (scalar s) deep short ranged size = let w = scalar_written s ranged size in (kind.Single w.0, w.1, (s, refl, w.2), w.3)
   tree_written (suc d) (scalar s) deep short ranged size = let w = scalar_written s ranged size in (kind.Single w.0, w.1, (s, refl, w.2), w.3)
@@ -97,10 +97,13 @@ mutual
   members_written d no_members deep short ranged size = refl
   members_written d (member name t ms) deep short ranged size =
       let entry = length-append (text_of w8 name) (tree_text t) in
-      let both = length-append (text_of w8 name ++ tree_text t) (members_text ms) in
-      (text_of w8 name ++ tree_text t, members_text ms,
-      (text_of w8 name, tree_text t, (omega (arith, short.0), refl), tree_written d t (omega arith) short.1 ranged.1 (omega (arith, both, entry)), refl),
-      members_written d ms (omega arith) short.2 ranged.2 (omega (arith, both)), refl)
+      let both = length-append (text_of w8 name ++ tree_text t) (members_text ms) in (
+        text_of w8 name ++ tree_text t,
+        members_text ms,
+        (text_of w8 name, tree_text t, (omega (arith, short.0), refl), tree_written d t (omega arith) short.1 ranged.1 (omega (arith, both, entry)), refl),
+        members_written d ms (omega arith) short.2 ranged.2 (omega (arith, both)),
+        refl,
+      )
 
 pub written_is_spelled : (ms : List (List ℕ × Tree)) → HasSpelling ms → AreRanged ms → IsTable ms (table_text ms)
 written_is_spelled ms has ranged =

@@ -1,5 +1,5 @@
 -- What an array or a table holds is less deep than it is itself: what the models of these types have to show.
-use Rattle.std.specs.Prelude.{ℕ, ◌+◌, ◌≤◌, max, List, [], ◌∷◌, map}
+use Rattle.std.specs.Prelude.{ℕ, ◌≤◌, max, List, [], ◌∷◌, map}
 use Rattle.std.proofs.Common.{arith}
 use denote.Param.Weighed.{most}
 use Rattle.tables_091.specs.Tree.{depth, list_depth, entries_depth}

@@ -1,7 +1,6 @@
 -- The one spelling of a table that is written (AMQP 0-9-1 4.2.5.5), and which tables have one.
-use Rattle.std.specs.Prelude.{ℕ, ◌<◌, ◌≤◌, ◌^◌, Bool, List, [], ◌∷◌, ◌++◌, length, if◌then◌else◌}
+use Rattle.std.specs.Prelude.{ℕ, ◌<◌, ◌≤◌, ◌^◌, List, [], ◌∷◌, ◌++◌, length, if◌then◌else◌}
 use Rattle.std.specs.Int.{w8, w16, w32, w64, to_be_bytes, cast_unsigned}
-use Rattle.std.specs.Int.RustNames.{FitsSigned}
 use Rattle.wire_base.specs.Spelling.{text_of}
 use Rattle.tables_091.specs.Ranges.{EachInside, EachInTrees, EachInMembers}
 use Rattle.tables_091.specs.Tree.{Scalar, boolean, int8, uint8, int16, uint16, int32, uint32, int64, float32, float64, decimal, longstr, timestamp, void, blob, Tree, scalar, array, table, Trees, no_trees, tree, Members, no_members, member, members_of, depth}

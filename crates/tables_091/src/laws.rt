@@ -16,5 +16,4 @@ pub fn table_laws()
         → table_at (before ++ (table_text ms ++ rest)) (length before) ≡ Ok (ms, length before + length (table_text ms)) }
     // Bytes spell at most one table.
     ensures one { (ms ns : List (List ℕ × Tree)) (text : List ℕ) → IsTable ms text → IsTable ns text → ms ≡ ns }
-{
-}
+{}

@@ -9,5 +9,5 @@ mod writing;
 
 pub use field::{Field, FieldList, Table};
 pub use laws::table_laws;
-pub use reading::{read_table, Syntax};
+pub use reading::{Syntax, read_table};
 pub use writing::put_table;

@@ -12,9 +12,11 @@ ghost use Rattle.tables_091.specs.Grammar.{IsTable};
 ghost use Rattle.tables_091.specs.Reading.{single_in, flat_in, deep_in, member_in, field_in, table_in, table_at};
 
 use crate::field::{Field, FieldList, Table};
-use crate::kind::{kind_at, Kind, Octet, Single, Text, Wide};
+use crate::kind::{Kind, Octet, Single, Text, Wide, kind_at};
 use std::alloc::Global;
-use wire_base::{long_in, place, short_in, u16_in, u32_in, u64_in, u8_in, At, ByteText, Memory, Stop};
+use wire_base::{
+    At, ByteText, Memory, Stop, long_in, place, short_in, u8_in, u16_in, u32_in, u64_in,
+};
 
 /// Why bytes are no table: a type byte that is unknown or passes the depth, a length that passes what holds it, or a value that is cut off.
 #[derive(Clone, Copy, Debug, PartialEq, Eq)]
@@ -74,7 +76,12 @@ fn wide_of(kind: Wide, end: usize, content: &[u8]) -> Result<(Field, &[u8]), Sto
     }
 }
 
-fn text_of(alloc: Global, kind: Text, end: usize, content: &[u8]) -> Result<(Field, &[u8]), Stop<usize>>
+fn text_of(
+    alloc: Global,
+    kind: Text,
+    end: usize,
+    content: &[u8],
+) -> Result<(Field, &[u8]), Stop<usize>>
     ensures { Gives (λ x. (field_tree x.0, x.1.now)) result (made scalar (made (text_scalar kind) (text_in offset w32 end content.now))) }
 {
     let (text, rest) = long_in(end, content)?;
@@ -86,7 +93,12 @@ fn text_of(alloc: Global, kind: Text, end: usize, content: &[u8]) -> Result<(Fie
     Ok((field, rest))
 }
 
-fn single_of(alloc: Global, kind: Single, end: usize, content: &[u8]) -> Result<(Field, &[u8]), Stop<usize>>
+fn single_of(
+    alloc: Global,
+    kind: Single,
+    end: usize,
+    content: &[u8],
+) -> Result<(Field, &[u8]), Stop<usize>>
     ensures { Gives (λ x. (field_tree x.0, x.1.now)) result (made scalar (single_in kind end content.now)) }
 {
     match kind {
@@ -106,7 +118,13 @@ fn single_of(alloc: Global, kind: Single, end: usize, content: &[u8]) -> Result<
 }
 
 /// The value of a field that may hold no other, whose type byte stands at `at`.
-fn flat_of(alloc: Global, kind: Kind, at: usize, end: usize, content: &[u8]) -> Result<(Field, &[u8]), Stop<usize>>
+fn flat_of(
+    alloc: Global,
+    kind: Kind,
+    at: usize,
+    end: usize,
+    content: &[u8],
+) -> Result<(Field, &[u8]), Stop<usize>>
     ensures { Gives (λ x. (field_tree x.0, x.1.now)) result (flat_in kind at end content.now) }
 {
     match kind {
@@ -118,7 +136,12 @@ fn flat_of(alloc: Global, kind: Kind, at: usize, end: usize, content: &[u8]) -> 
 /// A field of at most this depth.
 #[cycle(nested)]
 #[tactic(auto, using(crate::proofs::Depth::field_in_is))]
-fn field_of(alloc: Global, depth: u8, end: usize, bytes: &[u8]) -> Result<(Field, &[u8]), Stop<usize>>
+fn field_of(
+    alloc: Global,
+    depth: u8,
+    end: usize,
+    bytes: &[u8],
+) -> Result<(Field, &[u8]), Stop<usize>>
     ensures { Gives (λ x. (field_tree x.0, x.1.now)) result (field_in depth end bytes.now) }
 {
     let at = place(end, bytes);
@@ -135,7 +158,13 @@ fn field_of(alloc: Global, depth: u8, end: usize, bytes: &[u8]) -> Result<(Field
 
 /// The value of a field that may hold fields of at most this depth.
 #[cycle(nested)]
-fn deep_of(alloc: Global, kind: Kind, depth: u8, end: usize, content: &[u8]) -> Result<(Field, &[u8]), Stop<usize>>
+fn deep_of(
+    alloc: Global,
+    kind: Kind,
+    depth: u8,
+    end: usize,
+    content: &[u8],
+) -> Result<(Field, &[u8]), Stop<usize>>
     ensures { Gives (λ x. (field_tree x.0, x.1.now)) result (deep_in (field_in depth) kind end content.now) }
 {
     match kind {
@@ -153,11 +182,16 @@ fn deep_of(alloc: Global, kind: Kind, depth: u8, end: usize, content: &[u8]) -> 
 
 /// The fields of an array behind their length, each of at most this depth.
 #[cycle(nested)]
-fn list_of(alloc: Global, depth: u8, end: usize, content: &[u8]) -> Result<(FieldList, &[u8]), Stop<usize>>
+fn list_of(
+    alloc: Global,
+    depth: u8,
+    end: usize,
+    content: &[u8],
+) -> Result<(FieldList, &[u8]), Stop<usize>>
     ensures { Gives (λ x. (x.0, x.1.now)) result (container_in offset w32 (field_in depth) end content.now) }
 {
-    let (body, rest) = long_in(end, content)?;
-    let list = fields_of(alloc, depth, place(end, rest), body)?;
+    let (items, rest) = long_in(end, content)?;
+    let list = fields_of(alloc, depth, place(end, rest), items)?;
     Ok((list, rest))
 }
 
@@ -178,11 +212,16 @@ fn fields_of(alloc: Global, depth: u8, end: usize, body: &[u8]) -> Result<FieldL
 
 /// The entries of a table behind their length, with fields of at most this depth.
 #[cycle(nested)]
-fn table_of(alloc: Global, depth: u8, end: usize, content: &[u8]) -> Result<(Table, &[u8]), Stop<usize>>
+fn table_of(
+    alloc: Global,
+    depth: u8,
+    end: usize,
+    content: &[u8],
+) -> Result<(Table, &[u8]), Stop<usize>>
     ensures { Gives (λ x. (x.0, x.1.now)) result (container_in offset w32 (member_in (field_in depth)) end content.now) }
 {
-    let (body, rest) = long_in(end, content)?;
-    let table = entries_of(alloc, depth, place(end, rest), body)?;
+    let (entries, rest) = long_in(end, content)?;
+    let table = entries_of(alloc, depth, place(end, rest), entries)?;
     Ok((table, rest))
 }
 
@@ -203,7 +242,12 @@ fn entries_of(alloc: Global, depth: u8, end: usize, body: &[u8]) -> Result<Table
 
 /// An entry of a table: a name behind its length, and a field of at most this depth.
 #[cycle(nested)]
-fn entry_of(alloc: Global, depth: u8, end: usize, bytes: &[u8]) -> Result<((ByteText, Field), &[u8]), Stop<usize>>
+fn entry_of(
+    alloc: Global,
+    depth: u8,
+    end: usize,
+    bytes: &[u8],
+) -> Result<((ByteText, Field), &[u8]), Stop<usize>>
     ensures { Gives (λ x. ((x.0.0, field_tree x.0.1), x.1.now)) result (member_in (field_in depth) end bytes.now) }
 {
     let (name, rest) = short_in(end, bytes)?;
@@ -227,7 +271,11 @@ fn table_from(alloc: Global, bytes: &[u8], at: usize) -> Result<(Table, usize), 
 /// `Syntax` exactly where no table stands at `at`. Its offset is that of the first type byte that is unknown or passes the depth of 16,
 /// length that passes what holds it, or value that is cut off; where `at` is past the end, it is the length of the bytes.
 /// `Memory` where the allocator has no room.
-pub fn read_table(alloc: Global, bytes: &[u8], at: usize) -> Result<Result<(Table, usize), At<Syntax>>, Memory>
+pub fn read_table(
+    alloc: Global,
+    bytes: &[u8],
+    at: usize,
+) -> Result<Result<(Table, usize), At<Syntax>>, Memory>
     // What is read is spelled so.
     ensures found { IfOk result (λ read. IfOk read (λ x. (x.1 ≤ length bytes.now) × IsTable x.0 (take (x.1 - at) (drop at bytes.now)))) }
     // What is spelled so is read, whatever follows.

@@ -11,7 +11,7 @@ ghost use Rattle.tables_091.specs.Grammar.{IsTable};
 ghost use Rattle.tables_091.specs.Writing.{trees_text, members_text, table_text, field_text, entry_text, TreesNamesAreShort, MembersNamesAreShort, FieldIsShort, EntryIsShort, HasSpelling};
 
 use crate::field::{Field, FieldList, Table};
-use wire_base::{put_u16, put_u32, put_u64, put_u8, ByteText, Memory};
+use wire_base::{ByteText, Memory, put_u8, put_u16, put_u32, put_u64};
 
 fn put_octet(out: &mut ByteText, kind: u8, n: u8) -> Result<(), Memory>
     ensures ok { OnOk result (out.new ≡ out.old ++ (to_be_bytes w8 kind ++ to_be_bytes w8 n)) }

@@ -98,6 +98,7 @@ whole_reader {A} {F} fault n R read r long = record { finds = finds; again = aga
   where
     finds : (end : ℕ) (text : List ℕ) (x : A × List ℕ) → IsBytes text → whole_in fault n read end text ≡ Ok x → Finds R text x
     finds end text x fits e = r.finds end text x fits (unguarded (ltb (length text) n) (fault (end - length text)) (read end text) x e)
+
     again : (end : ℕ) (a : A) (front rest : List ℕ) → R a front → whole_in fault n read end (front ++ rest) ≡ Ok (a, rest)
     again end a front rest h =
         let there : ltb (length (front ++ rest)) n ≡ false = le-ltb _ _ (omega (arith, long a front h, length-append front rest)) in

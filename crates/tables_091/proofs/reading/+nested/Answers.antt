@@ -1,9 +1,8 @@
-use Rattle.std.proofs.Common.{◌≡◌, ◌<◌, ◌+◌, ◌++◌, ◌∷◌, [], length, Some, arith}
+use Rattle.std.proofs.Common.{◌≡◌, ◌<◌, ◌++◌, ◌∷◌, [], length, Some, arith}
 use Rattle.std.proofs.lemmas.Bool.Decides.{nat_tests}
 use Rattle.std.proofs.lemmas.Result.{err_from_is_err_and}
-use Rattle.wire_base.specs.Bytes.{IsBytes}
 use Rattle.wire_base.specs.Reading.{all_items}
-use Rattle.wire_base.proofs.Items.{with_front, goes_on, ends, is_done}
+use Rattle.wire_base.proofs.Items.{goes_on, ends, is_done}
 use Rattle.tables_091.specs.Kinds.{kind_of}
 use Rattle.tables_091.proofs.Depth.{deep_gives}
 use Rattle.tables_091.specs.View.{field_tree}

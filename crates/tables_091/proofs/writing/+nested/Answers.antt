@@ -1,4 +1,4 @@
-use Rattle.std.proofs.Common.{◌≡◌, ℕ, ◌<◌, ◌^◌, List, get_or, length, take, subst, sym, ap, arith}
+use Rattle.std.proofs.Common.{ℕ, ◌<◌, ◌^◌, List, length, subst, sym, ap, arith}
 use Rattle.std.proofs.lemmas.Result.{err_from_is_err_and}
 use Rattle.std.proofs.lemmas.Grind.{common_steps}
 use denote.Param.Weighed.{at_most}
@@ -13,10 +13,13 @@ pub put_fields-put_field-requires : goal.put_fields-put_field-requires
 put_fields-put_field-requires t c =
     let fs = c.args.fields.now in
     let i = c.loop-field.field-index in
-    let f = c.field-item.result in
-    (omega (arith, c.decreases, at_most size-Field fs i f c.loop-field-test.true, ap size-Field c.field-item.is),
-    (subst FieldIsShort (sym c.field-item.is) (fields_are_short fs c.requires.names i f c.loop-field-test.true),
-    subst (λ (g : Field). length (field_text g) < 2 ^ 32) (sym c.field-item.is) (field_fits fs i f c.loop-field-test.true c.requires.size)))
+    let f = c.field-item.result in (
+      omega (arith, c.decreases, at_most size-Field fs i f c.loop-field-test.true, ap size-Field c.field-item.is),
+      (
+        subst FieldIsShort (sym c.field-item.is) (fields_are_short fs c.requires.names i f c.loop-field-test.true),
+        subst (λ (g : Field). length (field_text g) < 2 ^ 32) (sym c.field-item.is) (field_fits fs i f c.loop-field-test.true c.requires.size),
+      ),
+    )
 
 pub put_fields-returns-in_err-put_field-clause-err : goal.put_fields-returns-in_err-put_field-clause-err
 put_fields-returns-in_err-put_field-clause-err t c =
@@ -27,10 +30,13 @@ pub put_entries-put_entry-requires : goal.put_entries-put_entry-requires
 put_entries-put_entry-requires t c =
     let es = c.args.entries.now in
     let i = c.loop-entry.entry-index in
-    let e = c.entry-item.result in
-    (omega (arith, c.decreases, at_most (weighed-Table-entries-at-2.weight Field size-Field) es i e c.loop-entry-test.true, ap (weighed-Table-entries-at-2.weight Field size-Field) c.entry-item.is),
-    (subst EntryIsShort (sym c.entry-item.is) (entries_are_short es c.requires.names i e c.loop-entry-test.true),
-    subst (λ (g : List ℕ × Field). length (entry_text g) < 2 ^ 32) (sym c.entry-item.is) (entry_fits es i e c.loop-entry-test.true c.requires.size)))
+    let e = c.entry-item.result in (
+      omega (arith, c.decreases, at_most (weighed-Table-entries-at-2.weight Field size-Field) es i e c.loop-entry-test.true, ap (weighed-Table-entries-at-2.weight Field size-Field) c.entry-item.is),
+      (
+        subst EntryIsShort (sym c.entry-item.is) (entries_are_short es c.requires.names i e c.loop-entry-test.true),
+        subst (λ (g : List ℕ × Field). length (entry_text g) < 2 ^ 32) (sym c.entry-item.is) (entry_fits es i e c.loop-entry-test.true c.requires.size),
+      ),
+    )
 
 pub put_entries-returns-in_err-put_entry-clause-err : goal.put_entries-returns-in_err-put_entry-clause-err
 put_entries-returns-in_err-put_entry-clause-err t c =

@@ -1,5 +1,4 @@
 use Rattle.std.proofs.lemmas.List.{map_push}
-use Rattle.tables_091.specs.View.{field_tree}
 use Rattle.tables_091.proofs.Ranges.{fields_push}
 use Rattle.tables_091.proofs.field.FieldList.push.Goals as goal
 

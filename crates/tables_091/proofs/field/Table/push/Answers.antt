@@ -1,5 +1,4 @@
 use Rattle.std.proofs.lemmas.List.{map_push}
-use Rattle.tables_091.specs.View.{entry_member}
 use Rattle.tables_091.proofs.Ranges.{entries_push}
 use Rattle.tables_091.proofs.field.Table.push.Goals as goal
 
