@@ -194,7 +194,8 @@ table_reader = container_reader offset w32 wide32 (IsMember (IsField 15)) (membe
 
 -- ---- the table at an offset
 
-table_filled : (ms : List (List ℕ × Tree)) (text : List ℕ) → IsTable ms text → 0 < length text
+-- a table takes a byte at least
+pub table_filled : (ms : List (List ℕ × Tree)) (text : List ℕ) → IsTable ms text → 0 < length text
 table_filled ms text h = omega (arith, ap length h.2.1, length-append (to_be_bytes w32 (length h.0)) h.0)
 
 -- what is read is spelled so, up to the offset that is told

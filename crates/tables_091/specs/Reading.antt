@@ -7,15 +7,31 @@ use Rattle.tables_091.specs.Tree.{Scalar, decimal, void, Tree, scalar, array, ta
 use Rattle.tables_091.specs.Kinds.{kind_of, octet_scalar, wide_width, wide_scalar, text_scalar}
 use Rattle.tables_091.specs.declared.kind.Kind.{Kind}
 use Rattle.tables_091.specs.declared.kind.Kind.TheVariants as kind
+use Rattle.tables_091.specs.declared.kind.Octet.{Octet}
+use Rattle.tables_091.specs.declared.kind.Wide.{Wide}
+use Rattle.tables_091.specs.declared.kind.Text.{Text}
 use Rattle.tables_091.specs.declared.kind.Single.{Single}
 use Rattle.tables_091.specs.declared.kind.Single.TheVariants as single
 
+-- a number of one byte, a wider number, bytes behind a length of four bytes, and a decimal: a scale and a number of four bytes
+abbrev pub octet_in : Octet → ℕ → List ℕ → Reads Scalar ℕ
+octet_in k end bytes = made (octet_scalar k) (number_in offset w8 end bytes)
+
+abbrev pub wide_in : Wide → ℕ → List ℕ → Reads Scalar ℕ
+wide_in k end bytes = made (wide_scalar k) (number_in offset (wide_width k) end bytes)
+
+abbrev pub bytes_in : Text → ℕ → List ℕ → Reads Scalar ℕ
+bytes_in k end bytes = made (text_scalar k) (text_in offset w32 end bytes)
+
+abbrev pub decimal_in : ℕ → List ℕ → Reads Scalar ℕ
+decimal_in end bytes = made (λ p. decimal p.0 p.1) (whole_in offset 5 (pair_in (number_in offset w8) (number_in offset w32)) end bytes)
+
 -- the value of a field that holds no other
 abbrev pub single_in : Single → ℕ → List ℕ → Reads Scalar ℕ
-single_in (single.Octet k) end bytes = made (octet_scalar k) (number_in offset w8 end bytes)
-single_in (single.Wide k) end bytes = made (wide_scalar k) (number_in offset (wide_width k) end bytes)
-single_in (single.Text k) end bytes = made (text_scalar k) (text_in offset w32 end bytes)
-single_in single.Decimal end bytes = made (λ p. decimal p.0 p.1) (whole_in offset 5 (pair_in (number_in offset w8) (number_in offset w32)) end bytes)
+single_in (single.Octet k) end bytes = octet_in k end bytes
+single_in (single.Wide k) end bytes = wide_in k end bytes
+single_in (single.Text k) end bytes = bytes_in k end bytes
+single_in single.Decimal end bytes = decimal_in end bytes
 single_in single.Void end bytes = Ok (void, bytes)
 
 -- an entry of a table: a name behind its length, and a field
@@ -34,11 +50,12 @@ deep_in read (kind.Single k) end bytes = made scalar (single_in k end bytes)
 deep_in read kind.Array end bytes = made (λ ts. array (trees_of ts)) (container_in offset w32 read end bytes)
 deep_in read kind.Table end bytes = made (λ ms. table (members_of ms)) (container_in offset w32 (member_in read) end bytes)
 
--- a type byte, and the value that it announces
+-- the value that a type byte announces; where it announces none, the fault at the type byte
 abbrev pub kinded_in : (Kind → ℕ → ℕ → List ℕ → Reads Tree ℕ) → Option Kind → ℕ → ℕ → List ℕ → Reads Tree ℕ
 kinded_in value None at end bytes = Err at
 kinded_in value (Some k) at end bytes = value k at end bytes
 
+-- a type byte, and the value that it announces
 abbrev pub typed_in : (Kind → ℕ → ℕ → List ℕ → Reads Tree ℕ) → ℕ → List ℕ → Reads Tree ℕ
 typed_in value end bytes = do
   b ← number_in offset w8 end bytes

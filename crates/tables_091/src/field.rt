@@ -111,7 +111,7 @@ impl Model for Table {
 }
 
 /// Tells proofs that the numbers inside a field are of their types. The call does nothing.
-fn field_is_ranged(field: &Field)
+fn tell_field_ranges(field: &Field)
     ensures { IsRanged (field_tree field.now) }
 {
     match field {
@@ -167,7 +167,7 @@ impl FieldList {
         ensures ok { OnOk result (self.new ≡ self.old ++ field_tree field ∷ []) }
         ensures err { OnErr result (self.new ≡ self.old) }
     {
-        field_is_ranged(&field);
+        tell_field_ranges(&field);
         self.items.push(field)?;
         Ok(())
     }
@@ -203,13 +203,13 @@ impl Table {
         ensures ok { OnOk result (self.new ≡ self.old ++ (name, field_tree field) ∷ []) }
         ensures err { OnErr result (self.new ≡ self.old) }
     {
-        field_is_ranged(&field);
+        tell_field_ranges(&field);
         self.entries.push((name, field))?;
         Ok(())
     }
 
     /// Tells proofs that the numbers inside a table are of their types. The call does nothing.
-    pub fn is_ranged(&self)
+    pub fn tell_ranges(&self)
         ensures { AreRanged self.now }
     {
         let _known = &self.entries;

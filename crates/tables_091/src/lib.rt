@@ -9,5 +9,5 @@ mod writing;
 
 pub use field::{Field, FieldList, Table};
 pub use laws::table_laws;
-pub use reading::{Syntax, read_table};
+pub use reading::{Syntax, next_table, read_table};
 pub use writing::put_table;

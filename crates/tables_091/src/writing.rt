@@ -13,6 +13,7 @@ ghost use Rattle.tables_091.specs.Writing.{trees_text, members_text, table_text,
 use crate::field::{Field, FieldList, Table};
 use wire_base::{ByteText, Memory, put_u8, put_u16, put_u32, put_u64};
 
+/// A type byte, and a number of one byte.
 fn put_octet(out: &mut ByteText, kind: u8, n: u8) -> Result<(), Memory>
     ensures ok { OnOk result (out.new ≡ out.old ++ (to_be_bytes w8 kind ++ to_be_bytes w8 n)) }
     ensures err { OnErr result (take (length out.old) out.new ≡ out.old) }
@@ -21,6 +22,7 @@ fn put_octet(out: &mut ByteText, kind: u8, n: u8) -> Result<(), Memory>
     put_u8(out, n)
 }
 
+/// A type byte, and a number of two bytes.
 fn put_short(out: &mut ByteText, kind: u8, n: u16) -> Result<(), Memory>
     ensures ok { OnOk result (out.new ≡ out.old ++ (to_be_bytes w8 kind ++ to_be_bytes w16 n)) }
     ensures err { OnErr result (take (length out.old) out.new ≡ out.old) }
@@ -29,6 +31,7 @@ fn put_short(out: &mut ByteText, kind: u8, n: u16) -> Result<(), Memory>
     put_u16(out, n)
 }
 
+/// A type byte, and a number of four bytes.
 fn put_long(out: &mut ByteText, kind: u8, n: u32) -> Result<(), Memory>
     ensures ok { OnOk result (out.new ≡ out.old ++ (to_be_bytes w8 kind ++ to_be_bytes w32 n)) }
     ensures err { OnErr result (take (length out.old) out.new ≡ out.old) }
@@ -37,6 +40,7 @@ fn put_long(out: &mut ByteText, kind: u8, n: u32) -> Result<(), Memory>
     put_u32(out, n)
 }
 
+/// A type byte, and a number of eight bytes.
 fn put_longlong(out: &mut ByteText, kind: u8, n: u64) -> Result<(), Memory>
     ensures ok { OnOk result (out.new ≡ out.old ++ (to_be_bytes w8 kind ++ to_be_bytes w64 n)) }
     ensures err { OnErr result (take (length out.old) out.new ≡ out.old) }
@@ -45,6 +49,7 @@ fn put_longlong(out: &mut ByteText, kind: u8, n: u64) -> Result<(), Memory>
     put_u64(out, n)
 }
 
+/// A type byte, a length of four bytes, and so many bytes.
 fn put_text(out: &mut ByteText, kind: u8, text: &ByteText) -> Result<(), Memory>
     requires { length text.now < 2 ^ 32 }
     ensures ok { OnOk result (out.new ≡ out.old ++ (to_be_bytes w8 kind ++ text_of w32 text.now)) }
@@ -56,6 +61,7 @@ fn put_text(out: &mut ByteText, kind: u8, text: &ByteText) -> Result<(), Memory>
     out.append(text)
 }
 
+/// A type byte, and the value of a field.
 #[cycle(nested)]
 fn put_field(out: &mut ByteText, field: &Field) -> Result<(), Memory>
     requires names { FieldIsShort field.now }
@@ -107,6 +113,7 @@ fn put_list(out: &mut ByteText, list: &FieldList) -> Result<(), Memory>
     Ok(())
 }
 
+/// Fields, one after another.
 #[cycle(nested)]
 fn put_fields(out: &mut ByteText, fields: &[Field]) -> Result<(), Memory>
     requires names { TreesNamesAreShort (trees_of (map field_tree fields.now)) }
@@ -136,11 +143,13 @@ fn put_body(out: &mut ByteText, table: &Table) -> Result<(), Memory>
     Ok(())
 }
 
+/// Entries, one after another.
 #[cycle(nested)]
 fn put_entries(out: &mut ByteText, entries: &[(ByteText, Field)]) -> Result<(), Memory>
     requires names { MembersNamesAreShort (members_of (map entry_member entries.now)) }
     requires size { length (members_text (members_of (map entry_member entries.now))) < 2 ^ 32 }
-    ensures ok { OnOk result (out.new ≡ out.old ++ members_text (members_of (map entry_member entries.now))) }
+    ensures ok { OnOk result
+        (out.new ≡ out.old ++ members_text (members_of (map entry_member entries.now))) }
     ensures err { OnErr result (take (length out.old) out.new ≡ out.old) }
 {
     for entry in entries {
@@ -179,7 +188,7 @@ pub fn put_table(out: &mut ByteText, table: &Table) -> Result<(), Memory>
     // What is written is in the grammar.
     ensures spelled { IsTable table.now (table_text table.now) }
 {
-    table.is_ranged();
+    table.tell_ranges();
     let start = out.as_slice().len();
     let written = put_body(out, table);
     if written.is_err() {
