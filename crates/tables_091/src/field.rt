@@ -75,6 +75,7 @@ impl Model for FieldList {
 
     ghost view = { λ a. map field_tree a.items.items };
 
+    // The list in a clause is one of numbers without bounds, so the invariant keeps those of the types.
     ghost use Rattle.tables_091.specs.Ranges.{FieldsAreRanged};
 
     ghost invariant = { λ a. FieldsAreRanged (map field_tree a.items.items) };
@@ -99,6 +100,7 @@ impl Model for Table {
 
     ghost view = { λ a. map entry_member a.entries.items };
 
+    // As for the fields of an array.
     ghost use Rattle.tables_091.specs.Ranges.{AreRanged};
 
     ghost invariant = { λ a. AreRanged (map entry_member a.entries.items) };
