@@ -1,2 +1,4 @@
 pub mod Bytes
+pub mod Items
+pub mod Laws
 pub mod Scans

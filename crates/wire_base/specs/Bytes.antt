@@ -1,4 +1,4 @@
--- Lists of bytes.
+-- Facts about lists of numbers that are bytes.
 use Rattle.std.specs.Prelude.{ℕ, ◌<◌, List, slice_index}
 
 -- each number of the list is a byte

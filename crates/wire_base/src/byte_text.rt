@@ -1,6 +1,7 @@
 //! Byte strings that own their bytes.
 
 ghost use Rattle.std.specs.Prelude.{◌≡◌, ℕ, ◌+◌, ◌≤◌, List, [], ◌++◌, length, take, drop, IfOk, OnOk, OnErr};
+ghost use Rattle.std.specs.Int.{w32, to_be_bytes};
 
 use crate::memory::Memory;
 use std::alloc::Global;
@@ -75,6 +76,14 @@ impl ByteText {
         ensures { self.new ≡ take n self.old }
     {
         self.bytes.truncate(n);
+    }
+
+    /// Writes a number of four bytes, most significant byte first, over the four bytes from `at` on.
+    pub fn set_u32(&mut self, at: usize, n: u32)
+        requires { at + 4 ≤ length self.old }
+        ensures { self.new ≡ take at self.old ++ to_be_bytes w32 n ++ drop (at + 4) self.old }
+    {
+        self.bytes[at..at + 4].copy_from_slice(&n.to_be_bytes());
     }
 
     /// A byte string of its own with the same bytes.

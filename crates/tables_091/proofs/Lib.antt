@@ -1,0 +1,5 @@
+pub mod Depth
+pub mod Lists
+pub mod Ranges
+pub mod ReaderLaws
+pub mod Written

@@ -1,0 +1,12 @@
+use Rattle.tables_091.proofs.ReaderLaws.{one_table}
+use Rattle.tables_091.proofs.Written.{written_is_spelled, written_is_read}
+use Rattle.tables_091.proofs.laws.table_laws.Goals as goal
+
+pub returns-clause-spelled : goal.returns-clause-spelled
+returns-clause-spelled c = written_is_spelled
+
+pub returns-clause-back : goal.returns-clause-back
+returns-clause-back c = written_is_read
+
+pub returns-clause-one : goal.returns-clause-one
+returns-clause-one c = one_table

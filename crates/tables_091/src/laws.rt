@@ -1,0 +1,21 @@
+//! What holds of the grammar of tables and of the spelling that is written.
+
+ghost use Rattle.std.specs.Prelude.{◌≡◌, ℕ, ◌+◌, List, ◌++◌, length, Ok};
+ghost use Rattle.tables_091.specs.Tree.{Tree};
+ghost use Rattle.tables_091.specs.Grammar.{IsTable};
+ghost use Rattle.tables_091.specs.Reading.{table_at};
+ghost use Rattle.tables_091.specs.Writing.{table_text, HasSpelling};
+ghost use Rattle.tables_091.specs.Ranges.{AreRanged};
+
+/// The laws of tables, for proofs to cite; the call does nothing.
+pub fn table_laws()
+    // What is written is in the grammar.
+    ensures spelled { (ms : List (List ℕ × Tree)) → HasSpelling ms → AreRanged ms
+        → IsTable ms (table_text ms) }
+    // What is written is read back, wherever it stands and whatever follows.
+    ensures back { (ms : List (List ℕ × Tree)) (before rest : List ℕ) → HasSpelling ms → AreRanged ms
+        → table_at (before ++ (table_text ms ++ rest)) (length before)
+        ≡ Ok (ms, length before + length (table_text ms)) }
+    // Bytes spell at most one table.
+    ensures one { (ms ns : List (List ℕ × Tree)) (text : List ℕ) → IsTable ms text → IsTable ns text → ms ≡ ns }
+{}
