@@ -1,4 +1,4 @@
--- What is true of each field inside another, and that the numbers of fields are those of their types.
+-- What is true of each field inside another, and that the numbers of fields are those of their types (AMQP 0-9-1 4.2.5.5).
 use Rattle.std.specs.Prelude.{ℕ, ◌<◌, ◌^◌, List}
 use Rattle.std.specs.Int.{w8, w16, w32, w64}
 use Rattle.std.specs.Int.RustNames.{FitsSigned}
