@@ -1,8 +1,6 @@
-//! Tests of the gateway, over ports that answer by a script.
+//! Tests of the service, over ports that answer by a script.
 #![tactic(auto)]
 
-#[cfg(test)]
-mod command_line;
 #[cfg(test)]
 mod ends;
 #[cfg(test)]
@@ -11,7 +9,3 @@ mod faults;
 mod headers;
 #[cfg(test)]
 mod limits;
-#[cfg(test)]
-mod outside;
-#[cfg(test)]
-mod plays;
