@@ -1,9 +1,7 @@
 //! Clients that end.
 
-use crate::plays::{
-    HEADER, Kind, Run, limited, part, play, quiet, sends, sends_last, start, turns,
-};
 use gate_loop::Served;
+use gate_plays::{HEADER, Kind, Run, limited, part, play, quiet, sends, sends_last, start, turns};
 use std::process::Abort;
 use std::test::Fail;
 
@@ -42,7 +40,7 @@ fn ended_client_is_shut(rt: HostRuntime) -> Result<(), Fail> {
         ends_after(&rt, count, false)?;
         ends_after(&rt, count, true)?;
     }
-    // after the whole header the client isn't read, so that its end isn't met
+    // after the whole header the client is read on, so that its end is met once connection.start went
     let mut script = quiet(rt.alloc(), 1);
     script.idles = 3;
     sends_last(rt.alloc(), &mut script, 0, &HEADER)?;
@@ -53,8 +51,14 @@ fn ended_client_is_shut(rt: HostRuntime) -> Result<(), Fail> {
     let got = run.got(rt.alloc(), 0)?;
     assert_eq!(rt; got.as_slice(), start());
     let reads = run.places(rt.alloc(), Kind::Read)?;
-    assert_eq!(rt; reads.len(), 1);
+    assert_eq!(rt; reads.len(), 2);
     let shuts = run.places(rt.alloc(), Kind::Shut)?;
-    assert_eq!(rt; shuts.as_slice(), [run.last()].as_slice());
+    let next = reads.last().map(|k| k.saturating_add(1));
+    assert_eq!(rt;
+        shuts.first().copied(),
+        next,
+        "it is shut right after its end was met"
+    );
+    assert_eq!(rt; shuts.len(), 1);
     Ok(())
 }

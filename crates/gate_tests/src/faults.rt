@@ -1,10 +1,10 @@
 //! Runs in which a call on the outside fails.
 
-use crate::plays::{
-    HEADER, Kind, Run, WRONG, kind_of, only, part, play, play_into, quiet, sends, takes, turns,
-};
 use gate_loop::{Outside, Served};
 use gate_outside::{Accepted, CallList, Got, LogEntry, MemorySink, Put, Script};
+use gate_plays::{
+    HEADER, Kind, Run, WRONG, kind_of, only, part, play, play_into, quiet, sends, takes, turns,
+};
 use std::alloc::Global;
 use std::process::Abort;
 use std::test::Fail;

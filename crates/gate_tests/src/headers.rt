@@ -1,11 +1,11 @@
 //! The first bytes of clients, and what each client gets for them.
 
-use crate::plays::{
-    HEADER, Kind, Run, WRONG, limited, part, play, quiet, sends, sends_last, sends_singly, start,
-    takes, turns,
-};
 use gate_loop::Served;
-use gate_outside::{LogEntry, Put, Script};
+use gate_outside::{LogEntry, Script};
+use gate_plays::{
+    HEADER, Kind, Run, WRONG, count_after, limited, part, play, quiet, sends, sends_last,
+    sends_singly, start, takes, turns,
+};
 use std::alloc::Global;
 use std::process::Abort;
 use std::test::Fail;
@@ -72,8 +72,8 @@ fn right_header_gets_start(rt: HostRuntime) -> Result<(), Fail> {
     let reads = run.places(rt.alloc(), Kind::Read)?;
     assert_eq!(rt;
         reads.len(),
-        8,
-        "one read for each byte, and none after them"
+        9,
+        "one read for each byte, and one for a frame, which gives nothing"
     );
     Ok(())
 }
@@ -178,14 +178,6 @@ fn pairs_are_kept_apart(rt: HostRuntime) -> Result<(), Fail> {
     is_apart(&rt, [&WRONG, &HEADER], [&HEADER, start()], [0, 1], report)
 }
 
-/// The count of bytes taken so far, after an answer.
-fn place_after(at: usize, answer: Put) -> usize {
-    match answer {
-        Put::Took(count) => at.saturating_add(count),
-        Put::NotYet | Put::Failed => at,
-    }
-}
-
 /// Each write offered the rest of a unit, and all of it was taken in the end.
 fn goes_on(rt: &(impl Abort + AllocGlobal), run: &Run, unit: &[u8], case: &str) {
     let mut at = 0;
@@ -193,7 +185,7 @@ fn goes_on(rt: &(impl Abort + AllocGlobal), run: &Run, unit: &[u8], case: &str) 
         if let Some(LogEntry::Write { bytes, answer, .. }) = run.calls.get(k) {
             let rest = part(unit, at, unit.len());
             assert_eq!(rt; bytes.as_slice(), rest, "call {k}, {case}");
-            at = place_after(at, *answer);
+            at = count_after(at, *answer);
         }
     }
     assert_eq!(rt; at, unit.len(), "{case}");

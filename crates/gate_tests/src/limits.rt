@@ -2,9 +2,9 @@
 
 ghost use Rattle.gate_loop.specs.Form.{IsInForm};
 
-use crate::plays::{Kind, Run, limited, only, play, quiet, sends, sends_last, turns};
 use gate_loop::{Config, Outside, Served};
 use gate_outside::{Accepted, LogEntry, Script};
+use gate_plays::{Kind, Run, limited, only, play, quiet, sends, sends_last, turns};
 use std::alloc::Global;
 use std::process::Abort;
 use std::test::Fail;

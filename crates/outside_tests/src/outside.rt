@@ -4,11 +4,11 @@ ghost use Rattle.std.specs.Prelude.{◌≡◌, [], ◌∷◌, true};
 ghost use Rattle.gate_outside.specs.declared.ports.End.{End};
 ghost use Rattle.gate_outside.specs.Ends.{is_open};
 
-use crate::plays::{only, quiet};
 use gate_outside::{
     Accepted, Call, CallList, Drawn, End, Got, Linked, Log, LogEntry, MemorySink, MemorySource,
     Next, Piece, Ports, Put, Room, Script, ScriptPorts, Sink, Source, Sunk, write_all,
 };
+use gate_plays::{only, quiet};
 use std::alloc::{AllocError, Global};
 use std::process::Abort;
 use std::test::Fail;

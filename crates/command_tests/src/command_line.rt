@@ -1,8 +1,8 @@
 //! Command lines, and what the gateway does for them.
 
-use crate::plays::{WRONG, only, quiet, sends};
 use gate_command::{Asked, Misplaced, Status, gateway, read_words};
 use gate_outside::{MemorySink, Script, ScriptPorts};
+use gate_plays::{WRONG, only, quiet, sends};
 use std::alloc::{AllocError, Global};
 use std::process::Abort;
 use std::test::Fail;

@@ -1,136 +1,16 @@
 //! Runs of the service over scripted ports, and what they did.
 
-ghost use Rattle.std.specs.Prelude.{◌≡◌, ◌≤◌, IfSome};
+ghost use Rattle.std.specs.Prelude.{◌≡◌, ◌-◌, length};
 ghost use Rattle.gate_loop.specs.Form.{IsInForm};
 
+use crate::bytes::part;
 use gate_loop::{Config, Served, serve};
-use gate_outside::{
-    Accepted, CallList, End, Entries, Log, LogEntry, MemorySink, Piece, Put, Room, Script,
-    ScriptPorts,
-};
+use gate_outside::{Accepted, End, Entries, Log, LogEntry, MemorySink, Put, Script, ScriptPorts};
 use std::alloc::Global;
 use wire_base::{ByteText, ItemList, Memory};
 
-/// The protocol header of AMQP 0-9-1, which is also the gateway's own.
-pub const HEADER: [u8; 8] = [0x41, 0x4D, 0x51, 0x50, 0x00, 0x00, 0x09, 0x01];
-
-/// A protocol header of AMQP 0-9.
-pub const WRONG: [u8; 8] = [0x41, 0x4D, 0x51, 0x50, 0x01, 0x01, 0x00, 0x09];
-
 /// The most entries of a log, and the most bytes of them.
 const LOG_ROOM: usize = 262_144;
-
-/// connection.start
-pub fn start() -> &'static [u8] {
-    &[
-        0x01, 0x00, 0x00, 0x00, 0x00, 0x00, 0x91, 0x00, 0x0A, 0x00, 0x0A, 0x00, 0x09, 0x00, 0x00,
-        0x00, 0x6B, 0x07, 0x70, 0x72, 0x6F, 0x64, 0x75, 0x63, 0x74, 0x53, 0x00, 0x00, 0x00, 0x09,
-        0x61, 0x6D, 0x71, 0x70, 0x2D, 0x67, 0x61, 0x74, 0x65, 0x07, 0x76, 0x65, 0x72, 0x73, 0x69,
-        0x6F, 0x6E, 0x53, 0x00, 0x00, 0x00, 0x01, 0x31, 0x0C, 0x63, 0x61, 0x70, 0x61, 0x62, 0x69,
-        0x6C, 0x69, 0x74, 0x69, 0x65, 0x73, 0x46, 0x00, 0x00, 0x00, 0x35, 0x12, 0x70, 0x75, 0x62,
-        0x6C, 0x69, 0x73, 0x68, 0x65, 0x72, 0x5F, 0x63, 0x6F, 0x6E, 0x66, 0x69, 0x72, 0x6D, 0x73,
-        0x74, 0x01, 0x0A, 0x62, 0x61, 0x73, 0x69, 0x63, 0x2E, 0x6E, 0x61, 0x63, 0x6B, 0x74, 0x01,
-        0x10, 0x70, 0x65, 0x72, 0x5F, 0x63, 0x6F, 0x6E, 0x73, 0x75, 0x6D, 0x65, 0x72, 0x5F, 0x71,
-        0x6F, 0x73, 0x74, 0x01, 0x00, 0x00, 0x00, 0x0F, 0x50, 0x4C, 0x41, 0x49, 0x4E, 0x20, 0x41,
-        0x4E, 0x4F, 0x4E, 0x59, 0x4D, 0x4F, 0x55, 0x53, 0x00, 0x00, 0x00, 0x05, 0x65, 0x6E, 0x5F,
-        0x55, 0x53, 0xCE,
-    ]
-}
-
-/// The bytes from one place to another, none where they aren't all there.
-pub fn part(bytes: &[u8], from: usize, to: usize) -> &[u8] {
-    bytes.get(from..to).unwrap_or(&[])
-}
-
-/// A script with so many pairs and nothing else: `idle` answers `Stop` at once.
-pub fn quiet(alloc: Global, pairs: u32) -> Script {
-    Script {
-        pairs,
-        pieces: ItemList::empty(alloc),
-        rooms: ItemList::empty(alloc),
-        fails: ItemList::empty(alloc),
-        idles: 0,
-        step: 1,
-    }
-}
-
-/// Has a client send bytes in one piece.
-pub fn sends(alloc: Global, script: &mut Script, pair: u32, bytes: &[u8]) -> Result<(), Memory> {
-    script.pieces.push(Piece {
-        pair,
-        end: End::Client,
-        after: 0,
-        bytes: ByteText::copy_of(alloc, bytes)?,
-        ends: false,
-    })
-}
-
-/// Has a client send bytes in one piece, and then end.
-pub fn sends_last(
-    alloc: Global,
-    script: &mut Script,
-    pair: u32,
-    bytes: &[u8],
-) -> Result<(), Memory> {
-    script.pieces.push(Piece {
-        pair,
-        end: End::Client,
-        after: 0,
-        bytes: ByteText::copy_of(alloc, bytes)?,
-        ends: true,
-    })
-}
-
-/// Has a client send bytes, each in a piece of its own.
-pub fn sends_singly(
-    alloc: Global,
-    script: &mut Script,
-    pair: u32,
-    bytes: &[u8],
-) -> Result<(), Memory> {
-    for byte in bytes {
-        sends(alloc, script, pair, &[*byte])?;
-    }
-    Ok(())
-}
-
-/// A client's next write takes at most so many bytes, or none where that is 0.
-pub fn takes(script: &mut Script, pair: u32, most: u32) -> Result<(), Memory> {
-    script.rooms.push(Room {
-        pair,
-        end: End::Client,
-        most,
-    })
-}
-
-/// A list with one number.
-pub fn only(alloc: Global, number: u64) -> Result<CallList, Memory> {
-    let mut list = ItemList::empty(alloc);
-    list.push(number)?;
-    Ok(list)
-}
-
-/// So many turns, at least 1, and pairs without limit.
-pub fn turns(turns: u16) -> Config
-    ensures { IsInForm result }
-{
-    let turns = turns as u64;
-    Config {
-        pairs: None,
-        turns: turns.max(1),
-    }
-}
-
-/// So many pairs and so many turns, at least 1 of each.
-pub fn limited(pairs: u32, turns: u16) -> Config
-    ensures { IsInForm result }
-{
-    let turns = turns as u64;
-    Config {
-        pairs: Some(pairs.max(1)),
-        turns: turns.max(1),
-    }
-}
 
 /// A kind of calls.
 #[derive(Clone, Copy, Debug, PartialEq, Eq)]
@@ -144,6 +24,7 @@ pub enum Kind {
     Now,
 }
 
+/// The kind of a call.
 pub fn kind_of(entry: &LogEntry) -> Kind {
     match entry {
         LogEntry::Accept { .. } => Kind::Accept,
@@ -153,6 +34,14 @@ pub fn kind_of(entry: &LogEntry) -> Kind {
         LogEntry::Shut { .. } => Kind::Shut,
         LogEntry::Idle { .. } => Kind::Idle,
         LogEntry::Now { .. } => Kind::Now,
+    }
+}
+
+/// The count of bytes taken so far, after the answer of one more write.
+pub fn count_after(count: usize, answer: Put) -> usize {
+    match answer {
+        Put::Took(more) => count.saturating_add(more),
+        Put::NotYet | Put::Failed => count,
     }
 }
 
@@ -172,10 +61,13 @@ fn taken_of(entry: &LogEntry, number: u32) -> &[u8] {
 /// What a run of the service did.
 #[derive(Drop)]
 pub struct Run {
+    /// How the service ended.
     pub served: Served,
+    /// The count of the pairs that met want of memory.
     pub strained: u32,
     /// What the sink holds.
     pub report: ByteText,
+    /// The calls with their answers, in order.
     pub calls: Entries,
 }
 
@@ -274,8 +166,10 @@ impl Run {
         Ok(places)
     }
 
-    /// The place of the last call.
-    pub fn last(&self) -> usize {
+    /// The place of the last call; 0 where there is none.
+    pub fn last(&self) -> usize
+        ensures { result ≡ length self.now.calls - 1 }
+    {
         self.calls.len().saturating_sub(1)
     }
 
