@@ -1,0 +1,85 @@
+//! The reply code for an error condition of AMQP 1.0.
+
+ghost use Rattle.std.specs.Prelude.{◌≡◌};
+ghost use Rattle.std.specs.Option.{option_map};
+ghost use Rattle.std.specs.Str.{bytes_eq};
+ghost use Rattle.close_translate.specs.Conditions.{code_by, codes_of};
+
+/// What closes.
+#[derive(Clone, Copy, Debug, PartialEq, Eq)]
+pub enum Scope {
+    Channel,
+    Connection,
+}
+
+/// The reply codes of a channel and of a connection for one condition.
+#[derive(Clone, Copy, Debug)]
+struct Replies {
+    channel: u16,
+    connection: u16,
+}
+
+fn pair_of(channel: u16, connection: u16) -> Replies
+    ensures { result ≡ record { channel = channel; connection = connection } }
+{
+    Replies {
+        channel,
+        connection,
+    }
+}
+
+fn is_named(condition: &[u8], name: &[u8]) -> bool
+    ensures { result ≡ bytes_eq condition.now name.now }
+{
+    condition == name
+}
+
+/// The codes for a condition by its name.
+fn codes_of(condition: &[u8]) -> Replies
+    ensures { result ≡ codes_of condition.now }
+{
+    if is_named(condition, b"amqp:unauthorized-access") {
+        pair_of(403, 530)
+    } else if is_named(condition, b"amqp:not-allowed") {
+        pair_of(403, 530)
+    } else if is_named(condition, b"amqp:not-found") {
+        pair_of(404, 541)
+    } else if is_named(condition, b"amqp:resource-deleted") {
+        pair_of(404, 541)
+    } else if is_named(condition, b"amqp:resource-locked") {
+        pair_of(405, 541)
+    } else if is_named(condition, b"amqp:connection:forced") {
+        pair_of(406, 320)
+    } else if is_named(condition, b"amqp:connection:redirect") {
+        pair_of(406, 320)
+    } else if is_named(condition, b"amqp:connection:framing-error") {
+        pair_of(406, 501)
+    } else if is_named(condition, b"amqp:frame-size-too-small") {
+        pair_of(406, 501)
+    } else if is_named(condition, b"amqp:decode-error") {
+        pair_of(406, 502)
+    } else if is_named(condition, b"amqp:invalid-field") {
+        pair_of(406, 502)
+    } else if is_named(condition, b"amqp:resource-limit-exceeded") {
+        pair_of(406, 506)
+    } else if is_named(condition, b"amqp:not-implemented") {
+        pair_of(406, 540)
+    } else {
+        pair_of(406, 541)
+    }
+}
+
+/// The reply code with which a channel or a connection of AMQP 0-9-1 closes where its session or connection of AMQP 1.0 ended
+/// with this error condition (AMQP 1.0 2.8.15 to 2.8.18), or without one.
+pub fn code_of(condition: Option<&[u8]>, scope: Scope) -> u16
+    ensures { result ≡ code_by (option_map (λ name. name.now) condition.entry) scope }
+{
+    let codes = match condition {
+        None => pair_of(406, 320),
+        Some(name) => codes_of(name),
+    };
+    match scope {
+        Scope::Channel => codes.channel,
+        Scope::Connection => codes.connection,
+    }
+}
