@@ -5,3 +5,5 @@
 mod closes;
 #[cfg(test)]
 mod frames;
+#[cfg(test)]
+mod tables;

@@ -3,3 +3,4 @@ pub mod Lists
 pub mod Ranges
 pub mod ReaderLaws
 pub mod Written
+pub mod Writable

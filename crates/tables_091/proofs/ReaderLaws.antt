@@ -24,7 +24,7 @@ use Rattle.tables_091.specs.declared.kind.Text.TheVariants as text
 
 -- ---- values that hold no other
 
-wide_is : (k : Wide) → IsWide (wide_width k)
+pub wide_is : (k : Wide) → IsWide (wide_width k)
 wide_is wide.I16 = wide16
 wide_is wide.U16 = wide16
 wide_is wide.I32 = wide32

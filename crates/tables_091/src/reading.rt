@@ -8,6 +8,7 @@ ghost use Rattle.wire_base.specs.Reading.{Gives, made, container_in, all_items, 
 ghost use Rattle.tables_091.specs.Tree.{Tree, scalar};
 ghost use Rattle.tables_091.specs.View.{field_tree};
 ghost use Rattle.tables_091.specs.Grammar.{IsTable};
+ghost use Rattle.tables_091.specs.Writing.{HasSpelling};
 ghost use Rattle.tables_091.specs.Reading.{octet_in, wide_in, bytes_in, decimal_in, single_in, flat_in, deep_in, member_in, field_in, table_in, table_at};
 
 use crate::field::{Field, FieldList, Table};
@@ -315,6 +316,8 @@ pub fn read_table(
     ensures only { (ms : List (List ℕ × Tree)) (text rest : List ℕ)
         → IsTable ms text → drop at bytes.now ≡ text ++ rest
         → IfOk result (λ read. read ≡ Ok (ms, at + length text)) }
+    // What is read can be written.
+    ensures writable { IfOk result (λ read. IfOk read (λ x. HasSpelling x.0)) }
     // Where the first fault is.
     ensures fault { IfOk result (λ read. IfErr read (λ e. table_at bytes.now at ≡ Err e.at)) }
 {

@@ -1,4 +1,5 @@
 use Rattle.tables_091.proofs.ReaderLaws.{one_table}
+use Rattle.tables_091.proofs.Writable.{spelled_is_writable}
 use Rattle.tables_091.proofs.Written.{written_is_spelled, written_is_read}
 use Rattle.tables_091.proofs.laws.table_laws.Goals as goal
 
@@ -7,6 +8,9 @@ returns-clause-spelled c = written_is_spelled
 
 pub returns-clause-back : goal.returns-clause-back
 returns-clause-back c = written_is_read
+
+pub returns-clause-writable : goal.returns-clause-writable
+returns-clause-writable c = spelled_is_writable
 
 pub returns-clause-one : goal.returns-clause-one
 returns-clause-one c = one_table
