@@ -1,0 +1,5 @@
+pub mod ArgumentLaws
+pub mod FaultLaws
+pub mod KindLaws
+pub mod MethodLaws
+pub mod Rebuilding

@@ -1,0 +1,7 @@
+pub mod Arguments
+pub mod Faults
+pub mod Grammar
+pub mod Reading
+pub mod Rows
+pub mod View
+pub mod Writing

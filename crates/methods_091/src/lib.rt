@@ -1,0 +1,18 @@
+//! The methods of AMQP 0-9-1 (1.3 to 1.8, with the additions of RabbitMQ), both ways.
+#![tactic(auto)]
+
+mod arguments;
+mod basic;
+mod channel;
+mod confirm;
+mod connection;
+mod exchange;
+mod kind;
+mod method;
+mod queue;
+mod reading;
+mod writing;
+
+pub use method::{Method91, ids};
+pub use reading::{MethodFault, read_method};
+pub use writing::put_method;
