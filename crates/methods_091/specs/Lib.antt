@@ -1,4 +1,5 @@
 pub mod Arguments
+pub mod Closing
 pub mod Faults
 pub mod Grammar
 pub mod Reading

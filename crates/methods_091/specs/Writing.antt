@@ -65,7 +65,7 @@ CanPutAll (arg.reserved k ∷ xs) = CanPutAll xs
 abbrev pub CanPut : Method91 → Type 0
 CanPut m = CanPutAll (args_of m)
 
--- the numbers are of their types, those inside tables too
+-- a number is of its type, also inside a table, and flags fit an octet
 abbrev pub IsInRange : Arg → Type 0
 IsInRange (arg.octet n) = n < 2 ^ 8
 IsInRange (arg.short n) = n < 2 ^ 16
@@ -74,5 +74,13 @@ IsInRange (arg.longlong n) = n < 2 ^ 64
 IsInRange (arg.shortstr s) = Unit {0}
 IsInRange (arg.longstr s) = Unit {0}
 IsInRange (arg.fields ms) = AreRanged ms
-IsInRange (arg.bits bs) = Unit {0}
+IsInRange (arg.bits bs) = length bs ≤ 8
 IsInRange (arg.reserved k) = Unit {0}
+
+abbrev pub AreInRange : List Arg → Type 0
+AreInRange [] = Unit {0}
+AreInRange (x ∷ xs) = IsInRange x × AreInRange xs
+
+-- what is true of each value of the type: its numbers are of their types
+abbrev pub HasRanges : Method91 → Type 0
+HasRanges m = AreInRange (args_of m)
