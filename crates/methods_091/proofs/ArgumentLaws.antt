@@ -1,5 +1,5 @@
 -- The readers of arguments against their spellings, by the laws of their parts.
-use Rattle.std.proofs.Common.{◌≡◌, ℕ, List, [], ◌∷◌, Ok, refl, subst}
+use Rattle.std.proofs.Common.{ℕ, List, [], ◌∷◌, refl, subst}
 use Rattle.std.specs.Int.{w8, w16, w32, w64}
 use Rattle.wire_base.specs.Spelling.{IsNumber, IsText, IsMade, IsPair}
 use Rattle.wire_base.specs.Reading.{offset, pair_in, number_in, text_in}

@@ -1,5 +1,5 @@
 -- The answers of a reading of methods, in the words of the grammar.
-use Rattle.std.proofs.Common.{◌≡◌, ℕ, ◌-◌, ◌/◌, ◌%◌, ◌<◌, ◌≤◌, ltb, false, List, [], ◌∷◌, ◌++◌, length, take, drop, get_or, Option, Some, None, Result, Ok, Err, IfOk, IfErr, refl, sym, ap, subst, ◌∙◌, inl, inr, arith}
+use Rattle.std.proofs.Common.{◌≡◌, ℕ, ◌-◌, ◌/◌, ◌%◌, ltb, false, List, [], ◌∷◌, length, take, drop, get_or, Option, Some, None, Result, Ok, Err, IfOk, IfErr, refl, sym, ap, subst, ◌∙◌, inl, inr, arith}
 use Rattle.std.proofs.lemmas.Bool.{le-ltb}
 use Rattle.std.specs.Int.{w16, from_be_bytes}
 use Rattle.wire_base.specs.Bytes.{IsBytes}
@@ -9,7 +9,7 @@ use Rattle.methods_091.specs.Rows.{class_of, id_of, shape, kind_with}
 use Rattle.methods_091.specs.Arguments.{Arg}
 use Rattle.methods_091.specs.Grammar.{IsMethod, ids_text}
 use Rattle.methods_091.specs.Reading.{args_in, whole, known_in, payload_in, told, method_in, seen}
-use Rattle.methods_091.specs.Faults.{IsUnknown, IsBroken, IsLonger, IsFault}
+use Rattle.methods_091.specs.Faults.{IsUnknown, IsFault}
 use Rattle.methods_091.specs.View.{parts_of}
 use Rattle.methods_091.specs.declared.kind.MethodKind.{MethodKind}
 use Rattle.methods_091.specs.declared.method.Method91.{Method91}

@@ -1,5 +1,5 @@
 -- Reading methods against their spellings.
-use Rattle.std.proofs.Common.{◌≡◌, ℕ, ◌<◌, List, [], ◌∷◌, ◌++◌, length, Option, Some, None, Result, Ok, refl, sym, ap, subst, ◌∙◌, append_assoc, arith}
+use Rattle.std.proofs.Common.{◌≡◌, ℕ, List, [], ◌∷◌, ◌++◌, length, Option, Some, None, Ok, refl, sym, ap, subst, ◌∙◌, append_assoc}
 use Rattle.std.proofs.lemmas.List.{append-nil}
 use Rattle.std.specs.Int.{w16, to_be_bytes}
 use Rattle.wire_base.specs.Bytes.{IsBytes}
@@ -8,9 +8,9 @@ use Rattle.wire_base.specs.Reading.{◌>>=◌, offset, number_in}
 use Rattle.wire_base.proofs.Laws.{IsReader, wide16, bind_is, ok_is, number_reader}
 use Rattle.methods_091.specs.Rows.{class_of, id_of, shape, kind_with}
 use Rattle.methods_091.specs.Arguments.{Arg}
-use Rattle.methods_091.specs.Grammar.{IsArgs, IsPayload, IsMethod, ids_text}
+use Rattle.methods_091.specs.Grammar.{IsArgs, IsPayload, IsMethod}
 use Rattle.methods_091.specs.Reading.{row_in, whole, known_in, payload_in}
-use Rattle.methods_091.specs.View.{kind_of, args_of, parts_of}
+use Rattle.methods_091.specs.View.{parts_of}
 use Rattle.methods_091.specs.declared.kind.MethodKind.{MethodKind}
 use Rattle.methods_091.specs.declared.method.Method91.{Method91}
 use Rattle.methods_091.proofs.KindLaws.{kind_is, kind_known}

@@ -1,8 +1,5 @@
 -- What is written is in the grammar.
-use Rattle.std.proofs.Common.{◌≡◌, ℕ, ◌+◌, ◌<◌, ◌≤◌, ◌^◌, List, [], ◌∷◌, ◌++◌, length, map, Ok, refl, ap, subst, sym, arith}
-use Rattle.std.specs.Int.{w8, w16, w32, w64, to_be_bytes}
-use Rattle.wire_base.specs.Spelling.{text_of}
-use Rattle.tables_091.specs.Writing.{table_text}
+use Rattle.std.proofs.Common.{◌≡◌, List, [], ◌∷◌, length, map, Ok, refl, ap, subst, sym, arith}
 use Rattle.tables_091.proofs.Written as tables
 use Rattle.methods_091.specs.Rows.{ArgKind, shape}
 use Rattle.methods_091.specs.Rows as kind

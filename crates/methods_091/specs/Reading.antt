@@ -1,5 +1,5 @@
 -- Reading a method from left to right, with the first fault that is met (AMQP 0-9-1 2.3.5.2 and 4.2.5).
-use Rattle.std.specs.Prelude.{ℕ, ◌-◌, ◌<◌, ◌==◌, if◌then◌else◌, List, [], ◌∷◌, length, Option, Some, None, Ok, Err, Result}
+use Rattle.std.specs.Prelude.{ℕ, ◌-◌, List, [], ◌∷◌, length, Option, Some, None, Ok, Err, Result}
 use Rattle.std.specs.Int.{w8, w16, w32, w64}
 use Rattle.wire_base.specs.Reading.{Reads, ◌>>=◌, offset, made, pair_in, number_in, text_in}
 use Rattle.wire_base.specs.declared.scan.At.{At}

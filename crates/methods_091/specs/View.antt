@@ -1,6 +1,5 @@
 -- A method as its kind and its arguments.
-use Rattle.std.specs.Prelude.{ℕ, Bool, List, [], ◌∷◌}
-use Rattle.tables_091.specs.Tree.{Tree}
+use Rattle.std.specs.Prelude.{List, [], ◌∷◌}
 use Rattle.methods_091.specs.Rows as rows
 use Rattle.methods_091.specs.Arguments.{Arg}
 use Rattle.methods_091.specs.Arguments as arg

@@ -3,6 +3,7 @@
 ghost use Rattle.std.specs.Prelude.{◌≡◌};
 ghost use Rattle.methods_091.specs.Rows.{class_of, id_of};
 ghost use Rattle.methods_091.specs.View.{kind_of};
+ghost use Rattle.methods_091.specs.Writing.{HasRanges};
 
 use tables_091::Table;
 use wire_base::ByteText;
@@ -336,5 +337,94 @@ pub fn ids(method: &Method91) -> (u16, u16)
         Method91::TxCommitOk => (90, 21),
         Method91::TxRollback => (90, 30),
         Method91::TxRollbackOk => (90, 31),
+    }
+}
+
+impl Method91 {
+    /// Tells proofs that the numbers of a method are of their types. The call does nothing.
+    pub fn tell_ranges(&self)
+        ensures { HasRanges self.now }
+    {
+        match self {
+            Method91::ConnectionStart {
+                version_major,
+                version_minor,
+                server_properties,
+                ..
+            } => {
+                let _known = (*version_major, *version_minor);
+                server_properties.tell_ranges();
+            }
+            Method91::ConnectionStartOk {
+                client_properties,
+                ..
+            } => client_properties.tell_ranges(),
+            Method91::ConnectionTune {
+                channel_max,
+                frame_max,
+                heartbeat,
+            }
+            | Method91::ConnectionTuneOk {
+                channel_max,
+                frame_max,
+                heartbeat,
+            } => {
+                let _known = (*channel_max, *frame_max, *heartbeat);
+            }
+            Method91::ConnectionClose {
+                reply_code,
+                class_id,
+                method_id,
+                ..
+            }
+            | Method91::ChannelClose {
+                reply_code,
+                class_id,
+                method_id,
+                ..
+            } => {
+                let _known = (*reply_code, *class_id, *method_id);
+            }
+            Method91::ExchangeDeclare { arguments, .. }
+            | Method91::QueueDeclare { arguments, .. }
+            | Method91::QueueBind { arguments, .. }
+            | Method91::QueueUnbind { arguments, .. }
+            | Method91::BasicConsume { arguments, .. } => arguments.tell_ranges(),
+            Method91::QueueDeclareOk {
+                message_count,
+                consumer_count,
+                ..
+            } => {
+                let _known = (*message_count, *consumer_count);
+            }
+            Method91::QueuePurgeOk { message_count } | Method91::QueueDeleteOk { message_count } =>
+                {
+                    let _known = *message_count;
+                }
+            Method91::BasicQos {
+                prefetch_size,
+                prefetch_count,
+                ..
+            } => {
+                let _known = (*prefetch_size, *prefetch_count);
+            }
+            Method91::BasicReturn { reply_code, .. } => {
+                let _known = *reply_code;
+            }
+            Method91::BasicDeliver { delivery_tag, .. }
+            | Method91::BasicAck { delivery_tag, .. }
+            | Method91::BasicReject { delivery_tag, .. }
+            | Method91::BasicNack { delivery_tag, .. } => {
+                let _known = *delivery_tag;
+            }
+            Method91::BasicGetOk {
+                delivery_tag,
+                message_count,
+                ..
+            } => {
+                let _known = (*delivery_tag, *message_count);
+            }
+            _ => {}
+        }
     }
 }

@@ -4,6 +4,7 @@
 
 ghost use Rattle.std.specs.Prelude.{◌≡◌, ℕ, ◌++◌, List, length, take, OnOk, OnErr};
 ghost use Rattle.methods_091.specs.View.{args_of};
+ghost use Rattle.methods_091.specs.Grammar.{IsMethod};
 ghost use Rattle.methods_091.specs.Writing.{args_text, method_text, CanPut};
 
 use crate::arguments::{
@@ -269,11 +270,15 @@ fn append_method(out: &mut ByteText, method: &Method91) -> Result<(), Memory>
 /// # Errors
 ///
 /// `Memory` where the allocator has no room.
+#[tactic(auto, using(crate::proofs::Written::written_is_spelled))]
 pub fn put_method(out: &mut ByteText, method: &Method91) -> Result<(), Memory>
     requires { CanPut method.now }
     ensures ok { OnOk result (out.new ≡ out.old ++ method_text method.now) }
     ensures err { OnErr result (out.new ≡ out.old) }
+    // What is written is in the grammar.
+    ensures spelled { IsMethod method.now (method_text method.now) }
 {
+    method.tell_ranges();
     let start = out.as_slice().len();
     let written = append_method(out, method);
     if written.is_err() {

@@ -1,5 +1,5 @@
-use Rattle.std.proofs.Common.{◌≡◌, ℕ, List, [], ◌∷◌, ◌++◌, length, refl, subst}
-use Rattle.methods_091.specs.Closing.{close_text, IsWrittenOver}
+use Rattle.std.proofs.Common.{ℕ, List, [], ◌∷◌, ◌++◌, length, refl, subst}
+use Rattle.methods_091.specs.Closing.{IsWrittenOver}
 use Rattle.methods_091.proofs.Placing.{close_is}
 use Rattle.methods_091.proofs.closing.put_close.Goals as goal
 
