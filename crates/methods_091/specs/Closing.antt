@@ -14,6 +14,7 @@ control_text m = frame_text (record { kind = Method; channel = 0; payload = meth
 abbrev pub close_text : ℕ → List ℕ → ℕ → ℕ → List ℕ
 close_text code text class method = control_text (ConnectionClose code text class method)
 
+-- the frame of a connection.close-ok
 abbrev pub close_ok_text : List ℕ
 close_ok_text = control_text ConnectionCloseOk
 

@@ -90,6 +90,7 @@ row (class.Tx in_tx.CommitOk) = (90, 21, [])
 row (class.Tx in_tx.Rollback) = (90, 30, [])
 row (class.Tx in_tx.RollbackOk) = (90, 31, [])
 
+-- the columns of the table
 abbrev pub class_of : MethodKind → ℕ
 class_of k = (row k).0
 
@@ -126,6 +127,7 @@ abbrev pub first_with : {K : Type 0} → (K → ℕ) → List K → ℕ → Opti
 first_with id_in [] id = None
 first_with id_in (k ∷ ks) id = if id == id_in k then Some k else first_with id_in ks id
 
+-- the method of a class that has this id
 abbrev pub connection_with : ℕ → Option ConnectionKind
 connection_with id = first_with (λ k. id_of (class.Connection k)) connection_kinds id
 

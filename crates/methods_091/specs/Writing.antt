@@ -29,6 +29,7 @@ blank kind.fields = table_text []
 blank (kind.bits count) = to_be_bytes w8 0
 blank (kind.reserved k) = blank k
 
+-- an argument: a number most significant byte first, a text behind its length, a table, or flags in an octet
 abbrev pub arg_text : Arg → List ℕ
 arg_text (arg.octet n) = to_be_bytes w8 n
 arg_text (arg.short n) = to_be_bytes w16 n
@@ -62,6 +63,7 @@ CanPutAll (arg.fields ms ∷ xs) = HasSpelling ms × CanPutAll xs
 CanPutAll (arg.bits bs ∷ xs) = CanPutAll xs
 CanPutAll (arg.reserved k ∷ xs) = CanPutAll xs
 
+-- a method whose arguments have a spelling
 abbrev pub CanPut : Method91 → Type 0
 CanPut m = CanPutAll (args_of m)
 
@@ -77,6 +79,7 @@ IsInRange (arg.fields ms) = AreRanged ms
 IsInRange (arg.bits bs) = length bs ≤ 8
 IsInRange (arg.reserved k) = Unit {0}
 
+-- the same of each argument
 abbrev pub AreInRange : List Arg → Type 0
 AreInRange [] = Unit {0}
 AreInRange (x ∷ xs) = IsInRange x × AreInRange xs
