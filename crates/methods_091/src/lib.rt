@@ -1,0 +1,22 @@
+//! The methods of AMQP 0-9-1 (1.3 to 1.8, with the additions of RabbitMQ), both ways.
+#![tactic(auto)]
+
+mod arguments;
+mod basic;
+mod channel;
+mod closing;
+mod confirm;
+mod connection;
+mod exchange;
+mod kind;
+mod laws;
+mod method;
+mod queue;
+mod reading;
+mod writing;
+
+pub use closing::{put_close, put_close_ok};
+pub use laws::method_laws;
+pub use method::{Method91, ids};
+pub use reading::{MethodFault, read_method};
+pub use writing::put_method;
