@@ -1,6 +1,6 @@
 //! Scripts of clients, and the limits of runs.
 
-ghost use Rattle.std.specs.Prelude.{◌≡◌, [], ◌∷◌, ◌++◌, IfOk, OnOk, OnErr, false, true};
+ghost use Rattle.std.specs.Prelude.{◌≡◌, ◌≤◌, [], ◌∷◌, ◌++◌, IfOk, OnOk, OnErr, false, true};
 ghost use Rattle.gate_loop.specs.Form.{IsInForm};
 ghost use Rattle.gate_outside.specs.declared.ports.End.TheVariants.{Client};
 
