@@ -1,0 +1,4 @@
+pub mod Falls
+pub mod Tree
+pub mod TreeCode
+pub mod View
