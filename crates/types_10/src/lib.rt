@@ -1,6 +1,9 @@
 //! Values of AMQP 1.0 (1.6), both ways.
 #![tactic(auto)]
 
+mod fault;
+mod kind;
 mod value;
 
+pub use fault::TypeFault;
 pub use value::{Inner, PairList, Value10, ValueList};
