@@ -1,1 +1,5 @@
+pub mod Depth
+pub mod Depths
+pub mod ReaderLaws
 pub mod Texts
+pub mod ValueLaws

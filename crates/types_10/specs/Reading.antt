@@ -83,15 +83,19 @@ coded_in read cut end bytes = do
   b ← count_in cut w8 bytes
   known_in read (kind_of b.0) (end - length bytes) cut end b.1
 
--- the constructor of an array: the descriptors that all of its elements have, and their code with its offset
+-- a code, and its offset
+abbrev pub code_in : Fault → ℕ → List ℕ → Reads (Kind × ℕ) Fault
+code_in = coded_in (λ k at cut end bytes. Ok ((k, at), bytes))
+
+-- the constructor of an array: the descriptors that all of its elements have, and the kind of what they describe
 abbrev pub Shape : Type 0
-Shape = List Tree × (Kind × ℕ)
+Shape = List Tree × Kind
 
 -- readers of what stands inside a value: contents, constructors, and elements behind a constructor
 pub record Inside : Type 0 where
   pub contents : Contents
   pub shape : Fault → ℕ → List ℕ → Reads Shape Fault
-  pub element : Shape → Fault → ℕ → List ℕ → Reads Tree Fault
+  pub element : Shape → ℕ → Fault → ℕ → List ℕ → Reads Tree Fault
 
 -- ---- lists, maps and arrays
 
@@ -114,12 +118,12 @@ entries_in w read cut end bytes = do
   n ← count_in cut w bytes
   if n.0 % 2 == 0 then times (pair_in (read cut) (read cut) end) (n.0 / 2) n.1 else Err cut
 
--- a count, a constructor and so many elements; of elements without bytes there are at most 65,536
+-- a count, a constructor and so many elements, whose code is the last byte before them; of elements without bytes there are at most 65,536
 abbrev pub elements_in : Width → Inside → Fault → ℕ → List ℕ → Reads (List Tree) Fault
 elements_in w inside cut end bytes = do
   n ← count_in cut w bytes
   c ← inside.shape cut end n.1
-  if is_bare c.0.1.0 && nat_lt 65536 n.0 then Err cut else times (inside.element c.0 cut end) n.0 c.1
+  if is_bare c.0.1 && nat_lt 65536 n.0 then Err cut else times (inside.element c.0 ((end - length c.1) - 1) cut end) n.0 c.1
 
 -- ---- contents by depth
 
@@ -147,11 +151,11 @@ deep_in inside kind.Described at cut end bytes = made (λ p. described p.0 p.1) 
 
 -- a constructor whose elements are described, or of the kind that the code announces
 abbrev pub shape_by : (Fault → ℕ → ℕ → List ℕ → Reads Shape Fault) → Kind → ℕ → Fault → ℕ → List ℕ → Reads Shape Fault
-shape_by more (kind.Single k) at cut end bytes = Ok (([], (kind.Single k, at)), bytes)
-shape_by more kind.EmptyList at cut end bytes = Ok (([], (kind.EmptyList, at)), bytes)
-shape_by more (kind.List s) at cut end bytes = Ok (([], (kind.List s, at)), bytes)
-shape_by more (kind.Map s) at cut end bytes = Ok (([], (kind.Map s, at)), bytes)
-shape_by more (kind.Array s) at cut end bytes = Ok (([], (kind.Array s, at)), bytes)
+shape_by more (kind.Single k) at cut end bytes = Ok (([], kind.Single k), bytes)
+shape_by more kind.EmptyList at cut end bytes = Ok (([], kind.EmptyList), bytes)
+shape_by more (kind.List s) at cut end bytes = Ok (([], kind.List s), bytes)
+shape_by more (kind.Map s) at cut end bytes = Ok (([], kind.Map s), bytes)
+shape_by more (kind.Array s) at cut end bytes = Ok (([], kind.Array s), bytes)
 shape_by more kind.Described at cut end bytes = more cut at end bytes
 
 -- a descriptor, and the constructor of what it describes
@@ -160,22 +164,35 @@ described_shape inside cut at end bytes =
     made (λ p. (p.0 ∷ p.1.0, p.1.1)) (pair_in (value_by inside cut) (inside.shape cut) end bytes)
 
 -- an element behind its constructor, whose content is read so
-abbrev pub element_by : Contents → (Shape → Fault → ℕ → List ℕ → Reads Tree Fault) → Shape → Fault → ℕ → List ℕ → Reads Tree Fault
-element_by contents more ([], code) cut end bytes = contents code.0 code.1 cut end bytes
-element_by contents more (d ∷ ds, code) cut end bytes = made (described d) (more (ds, code) cut end bytes)
+abbrev pub element_by : Contents → (Shape → ℕ → Fault → ℕ → List ℕ → Reads Tree Fault) → Shape → ℕ → Fault → ℕ → List ℕ → Reads Tree Fault
+element_by contents more ([], k) at cut end bytes = contents k at cut end bytes
+element_by contents more (d ∷ ds, k) at cut end bytes = made (described d) (more (ds, k) at cut end bytes)
 
 -- readers of values of at most this depth
 unfoldable pub level : ℕ → Inside
 level zero = record {
   contents = flat_in;
   shape = coded_in (shape_by (λ cut at end bytes. Err (fault_at fault.Depth at)));
-  element = element_by flat_in (λ c cut end bytes. Err (fault_at fault.Depth c.1.1));
+  element = element_by flat_in (λ c at cut end bytes. Err (fault_at fault.Depth at));
 }
 level (suc d) = record {
   contents = deep_in (level d);
   shape = coded_in (shape_by (described_shape (level d)));
   element = element_by (deep_in (level d)) (level d).element;
 }
+
+abbrev pub contents_in : ℕ → Contents
+contents_in d = (level d).contents
+
+abbrev pub shape_in : ℕ → Fault → ℕ → List ℕ → Reads Shape Fault
+shape_in d = (level d).shape
+
+-- a constructor of described elements of at most this depth, whose code stands at this offset
+abbrev pub described_in : ℕ → Fault → ℕ → ℕ → List ℕ → Reads Shape Fault
+described_in d cut at end bytes = if d == 0 then Err (fault_at fault.Depth at) else described_shape (level (d - 1)) cut at end bytes
+
+abbrev pub element_in : ℕ → Shape → ℕ → Fault → ℕ → List ℕ → Reads Tree Fault
+element_in d = (level d).element
 
 -- a value of at most this depth
 abbrev pub value_in : ℕ → Fault → ℕ → List ℕ → Reads Tree Fault
