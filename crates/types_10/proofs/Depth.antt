@@ -1,11 +1,10 @@
 -- Contents, constructors and elements of some depth, where the depth is no numeral.
-use Rattle.std.proofs.Common.{◌≡◌, ℕ, zero, suc, ◌-◌, false, cond, eqb, ◌<◌, length, List, [], Option, Some, None, Result, Ok, Err, refl, ap, ◌∙◌, arith, rules, tests}
+use Rattle.std.proofs.Common.{◌≡◌, ℕ, zero, suc, ◌-◌, false, cond, eqb, ◌<◌, length, List, [], Option, Some, None, Ok, Err, refl, ap, ◌∙◌, arith, rules, tests}
 use Rattle.std.specs.Int.{w8}
 use Rattle.wire_base.specs.Reading.{Reads, ◌>>=◌}
 use Rattle.wire_base.proofs.Laws.{ok_is}
-use Rattle.types_10.specs.Tree.{Tree}
 use Rattle.types_10.specs.Kinds.{kind_of}
-use Rattle.types_10.specs.Reading.{Fault, fault_at, Shape, Inside, count_in, known_in, code_in, flat_in, deep_in, shape_by, described_shape, coded_in, element_by, level, contents_in, shape_in, described_in, element_in}
+use Rattle.types_10.specs.Reading.{Fault, fault_at, Shape, count_in, known_in, code_in, flat_in, deep_in, shape_by, described_shape, coded_in, element_by, level, contents_in, shape_in, described_in, element_in}
 use Rattle.types_10.specs.declared.fault.TypeFault.TheVariants as fault
 use Rattle.types_10.specs.declared.kind.Kind.{Kind}
 use Rattle.types_10.specs.declared.kind.Kind.TheVariants as kind

@@ -1,7 +1,7 @@
 -- What is spelled at some depth is no deeper.
-use Rattle.std.proofs.Common.{◌≡◌, ℕ, zero, suc, ◌+◌, ◌≤◌, List, [], ◌∷◌, ap, subst, arith}
+use Rattle.std.proofs.Common.{ℕ, zero, suc, ◌≤◌, List, [], ◌∷◌, ap, subst, arith}
 use Rattle.wire_base.specs.Spelling.{IsItems, IsPair}
-use Rattle.types_10.specs.Tree.{Tree, described, depth, trees_depth, pairs_depth, trees_of, pairs_of}
+use Rattle.types_10.specs.Tree.{Tree, depth, trees_depth, pairs_depth, trees_of, pairs_of}
 use Rattle.types_10.specs.Grammar.{Elements, Spelled, IsCoded, IsFlat, IsDeep, IsShape, IsDescriptor, IsElement, spelled, IsValue}
 use Rattle.types_10.specs.declared.kind.Kind.{Kind}
 use Rattle.types_10.specs.declared.kind.Kind.TheVariants as kind

@@ -3,17 +3,17 @@ use Rattle.std.proofs.Common.{◌≡◌, ℕ, zero, suc, ◌+◌, ◌-◌, ◌*�
 use Rattle.std.specs.Bool.{IsTrue}
 use Rattle.std.proofs.lemmas.Bool.{eqb-true, ltb-false, le-ltb}
 use Rattle.std.proofs.lemmas.List.{length-append, length-drop, take_at}
-use Rattle.std.specs.Int.{Width, w8, w16, w32, w64, to_be_bytes}
+use Rattle.std.specs.Int.{Width, w8, w32, to_be_bytes}
 use Rattle.wire_base.specs.Bytes.{IsBytes}
-use Rattle.wire_base.specs.Spelling.{IsNumber, IsText, IsMade, IsPair, IsItems}
-use Rattle.wire_base.specs.Reading.{Reads, ◌>>=◌, made, pair_in, times}
+use Rattle.wire_base.specs.Spelling.{IsNumber, IsText, IsPair, IsItems}
+use Rattle.wire_base.specs.Reading.{Reads, ◌>>=◌, pair_in, times}
 use Rattle.wire_base.proofs.Bytes.{IsBytes-drop}
 use Rattle.wire_base.proofs.Laws.{IsReader, Finds, IsWide, wide8, wide16, wide32, wide64, bind_is, ok_is, made_reader, pair_reader}
 use Rattle.wire_base.proofs.Items.{times_reader}
-use Rattle.types_10.specs.Tree.{Scalar, boolean, char, Tree, scalar, list, mapping, array, described, no_trees, trees_of, pairs_of}
+use Rattle.types_10.specs.Tree.{boolean, char, Tree, scalar, list, mapping, array, described, no_trees, trees_of, pairs_of}
 use Rattle.types_10.specs.Kinds.{kind_byte, kind_of, is_bare, bare_scalar, octet_scalar, wide_width, wide_scalar, sixteen_scalar, text_scalar, is_text, is_character, size_width}
-use Rattle.types_10.specs.Grammar.{IsSuch, IsSixteen, IsSingle, IsCoded, IsFilled, IsThen, IsTimes, IsItemList, IsPairList, Elements, Spelled, IsElementList, IsFlat, IsDeep, IsShape, IsDescriptor, IsElement, spelled, IsValueOf, IsValue}
-use Rattle.types_10.specs.Reading.{Fault, fault_at, count_in, bytes_in, sixteen_in, tested, text_fault, single_in, known_in, coded_in, Shape, Inside, Contents, filled_in, items_in, entries_in, elements_in, value_by, flat_in, deep_in, shape_by, described_shape, element_by, level, value_in, value_at}
+use Rattle.types_10.specs.Grammar.{IsSixteen, IsSingle, IsCoded, IsThen, IsTimes, IsItemList, IsPairList, Elements, Spelled, IsElementList, IsFlat, IsDeep, IsShape, IsDescriptor, IsElement, spelled, IsValueOf, IsValue}
+use Rattle.types_10.specs.Reading.{Fault, fault_at, count_in, bytes_in, sixteen_in, text_fault, single_in, known_in, coded_in, Shape, Inside, Contents, items_in, entries_in, elements_in, value_by, flat_in, deep_in, shape_by, described_shape, element_by, level, value_in, value_at}
 use Rattle.types_10.proofs.ReaderLaws.{size_is, count_reader, bytes_reader, sixteen_reader, tested_reader, then_reader, filled_reader}
 use Rattle.types_10.specs.declared.fault.TypeFault.TheVariants as fault
 use Rattle.types_10.specs.declared.kind.Kind.{Kind}
@@ -26,7 +26,6 @@ use Rattle.types_10.specs.declared.kind.Wide.{Wide}
 use Rattle.types_10.specs.declared.kind.Wide.TheVariants as wide
 use Rattle.types_10.specs.declared.kind.Sixteen.TheVariants as sixteen
 use Rattle.types_10.specs.declared.kind.Text.TheVariants as text
-use Rattle.types_10.specs.declared.kind.Size.{Size}
 use Rattle.types_10.specs.declared.kind.Size.TheVariants as size
 
 -- ---- values that hold no other

@@ -1,5 +1,5 @@
 -- What a list, a map or a described value holds is less deep than it is itself: what the models of these types have to show.
-use Rattle.std.specs.Prelude.{ℕ, ◌≤◌, max, List, [], ◌∷◌, map}
+use Rattle.std.specs.Prelude.{◌≤◌, max, List, [], ◌∷◌, map}
 use Rattle.std.proofs.Common.{arith}
 use denote.Param.Weighed.{most}
 use Rattle.types_10.specs.Tree.{depth, list_depth, pairs_depth_of}

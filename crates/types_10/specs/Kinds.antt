@@ -4,10 +4,9 @@ use Rattle.std.specs.Int.{Width, w8, w16, w32, w64, cast_signed}
 use Rattle.std.specs.Char.{is_ascii}
 use Rattle.std.specs.Str.{is_utf8}
 use Rattle.std.specs.List.{list_all}
-use Rattle.types_10.specs.Tree.{Scalar, null, boolean, ubyte, byte, ushort, short, uint, int, ulong, long, float, double, decimal32, decimal64, decimal128, char, timestamp, uuid, binary, string, symbol}
+use Rattle.types_10.specs.Tree.{Scalar, null, boolean, ubyte, byte, ushort, short, uint, int, ulong, long, float, double, decimal32, decimal64, decimal128, timestamp, uuid, binary, string, symbol}
 use Rattle.types_10.specs.declared.kind.Kind.{Kind}
 use Rattle.types_10.specs.declared.kind.Kind.TheVariants as kind
-use Rattle.types_10.specs.declared.kind.Single.{Single}
 use Rattle.types_10.specs.declared.kind.Single.TheVariants as single
 use Rattle.types_10.specs.declared.kind.Bare.{Bare}
 use Rattle.types_10.specs.declared.kind.Bare.TheVariants as bare

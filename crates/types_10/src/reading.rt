@@ -352,7 +352,10 @@ fn code_in(bounds: Bounds, bytes: &[u8]) -> Result<(Code, &[u8]), Stop<Fault>>
 fn bounds_inside(at: usize, end: usize, rest: &[u8]) -> Bounds
     ensures { result ≡ record { cut = fault_at fault.Count at; end = end - length rest.now } }
 {
-    let cut = At { fault: TypeFault::Count, at };
+    let cut = At {
+        fault: TypeFault::Count,
+        at,
+    };
     let end = place(end, rest);
     Bounds { cut, end }
 }
@@ -676,7 +679,14 @@ fn shaped_of<'a>(
 {
     let descriptors = &shape.descriptors.items;
     let kind = shape.kind;
-    element_of(alloc, depth, descriptors, Code { kind, at }, bounds, content)
+    element_of(
+        alloc,
+        depth,
+        descriptors,
+        Code { kind, at },
+        bounds,
+        content,
+    )
 }
 
 /// An element behind these descriptors, the outermost first, and this code.
