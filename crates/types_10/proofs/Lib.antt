@@ -3,3 +3,4 @@ pub mod Depths
 pub mod ReaderLaws
 pub mod Texts
 pub mod ValueLaws
+pub mod Written

@@ -6,3 +6,4 @@ pub mod Shapes
 pub mod Tree
 pub mod TreeCode
 pub mod View
+pub mod Writing
