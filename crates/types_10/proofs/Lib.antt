@@ -1,0 +1,6 @@
+pub mod Depth
+pub mod Depths
+pub mod ReaderLaws
+pub mod Texts
+pub mod ValueLaws
+pub mod Written

@@ -1,0 +1,379 @@
+-- The readers of values against their spellings, by the laws of their parts.
+use Rattle.std.proofs.Common.{◌≡◌, ℕ, zero, suc, ◌+◌, ◌-◌, ◌*◌, ◌/◌, ◌%◌, ◌<◌, ◌≤◌, Bool, true, false, cond, eqb, ltb, ◌&&◌, List, [], ◌∷◌, ◌++◌, length, take, drop, Option, Some, None, Result, Ok, Err, refl, sym, ap, subst, ◌∙◌, arith}
+use Rattle.std.specs.Bool.{IsTrue}
+use Rattle.std.proofs.lemmas.Bool.{eqb-true, ltb-false, le-ltb}
+use Rattle.std.proofs.lemmas.List.{length-append, length-drop, take_at}
+use Rattle.std.specs.Int.{Width, w8, w32, to_be_bytes}
+use Rattle.wire_base.specs.Bytes.{IsBytes}
+use Rattle.wire_base.specs.Spelling.{IsNumber, IsText, IsPair, IsItems}
+use Rattle.wire_base.specs.Reading.{Reads, ◌>>=◌, pair_in, times}
+use Rattle.wire_base.proofs.Bytes.{IsBytes-drop}
+use Rattle.wire_base.proofs.Laws.{IsReader, Finds, IsWide, wide8, wide16, wide32, wide64, bind_is, ok_is, made_reader, pair_reader}
+use Rattle.wire_base.proofs.Items.{times_reader}
+use Rattle.types_10.specs.Tree.{boolean, char, Tree, scalar, list, mapping, array, described, no_trees, trees_of, pairs_of}
+use Rattle.types_10.specs.Kinds.{kind_byte, kind_of, is_bare, bare_scalar, octet_scalar, wide_width, wide_scalar, sixteen_scalar, text_scalar, is_text, is_character, size_width}
+use Rattle.types_10.specs.Grammar.{IsSixteen, IsSingle, IsCoded, IsThen, IsTimes, IsItemList, IsPairList, Elements, Spelled, IsElementList, IsFlat, IsDeep, IsShape, IsDescriptor, IsElement, spelled, IsValueOf, IsValue}
+use Rattle.types_10.specs.Reading.{Fault, fault_at, count_in, bytes_in, sixteen_in, text_fault, single_in, known_in, coded_in, Shape, Inside, Contents, items_in, entries_in, elements_in, value_by, flat_in, deep_in, shape_by, described_shape, element_by, level, value_in, value_at}
+use Rattle.types_10.proofs.ReaderLaws.{size_is, count_reader, bytes_reader, sixteen_reader, tested_reader, then_reader, filled_reader}
+use Rattle.types_10.specs.declared.fault.TypeFault.TheVariants as fault
+use Rattle.types_10.specs.declared.kind.Kind.{Kind}
+use Rattle.types_10.specs.declared.kind.Kind.TheVariants as kind
+use Rattle.types_10.specs.declared.kind.Single.{Single}
+use Rattle.types_10.specs.declared.kind.Single.TheVariants as single
+use Rattle.types_10.specs.declared.kind.Bare.TheVariants as bare
+use Rattle.types_10.specs.declared.kind.Octet.TheVariants as octet
+use Rattle.types_10.specs.declared.kind.Wide.{Wide}
+use Rattle.types_10.specs.declared.kind.Wide.TheVariants as wide
+use Rattle.types_10.specs.declared.kind.Sixteen.TheVariants as sixteen
+use Rattle.types_10.specs.declared.kind.Text.TheVariants as text
+use Rattle.types_10.specs.declared.kind.Size.TheVariants as size
+
+-- ---- values that hold no other
+
+wide_is : (k : Wide) → IsWide (wide_width k)
+wide_is wide.Ushort = wide16
+wide_is wide.Short = wide16
+wide_is wide.Uint = wide32
+wide_is wide.Int = wide32
+wide_is wide.Float = wide32
+wide_is wide.Decimal32 = wide32
+wide_is wide.Ulong = wide64
+wide_is wide.Long = wide64
+wide_is wide.Double = wide64
+wide_is wide.Timestamp = wide64
+wide_is wide.Decimal64 = wide64
+
+-- what has no content
+none_reader : {A : Type 0} (a : A) → IsReader {A = A} {F = Fault} (λ b text. (b ≡ a) × (text ≡ [])) (λ end text. Ok (a, text))
+none_reader {A} a = record {
+  finds = λ end text x fits e. subst (λ (y : A × List ℕ). Finds (λ b text. (b ≡ a) × (text ≡ [])) text y) (ok_is {F = Fault} (a, text) x e) (record { front = []; spelled = (refl, refl); parts = refl; rest_fits = fits });
+  again = λ end s front rest h. rw (h.0, h.1) refl;
+}
+
+no_reader : {A : Type 0} (f : Fault) → IsReader {A = A} (λ t text. ⊥) (λ end text. Err f)
+no_reader f = record { finds = λ end text x fits e. absurd cc; again = λ end t front rest h. absurd h }
+
+single_reader : (k : Single) (cut : Fault) → IsReader (IsSingle k) (single_in k cut)
+single_reader (single.Bare k) cut = none_reader (bare_scalar k)
+single_reader single.Boolean cut =
+    let number = count_reader cut w8 wide8 in
+    made_reader (λ n. boolean (eqb n 1)) _ _ (tested_reader (λ n. ltb n 2) (λ n after. fault_at fault.UnknownCode (after - 1)) (IsNumber w8) (λ end text. count_in cut w8 text) number)
+single_reader (single.Octet k) cut = made_reader (octet_scalar k) (IsNumber w8) (λ end text. count_in cut w8 text) (count_reader cut w8 wide8)
+single_reader (single.Wide k) cut = made_reader (wide_scalar k) (IsNumber (wide_width k)) (λ end text. count_in cut (wide_width k) text) (count_reader cut (wide_width k) (wide_is k))
+single_reader single.Char cut =
+    made_reader char _ _ (tested_reader is_character (λ n after. fault_at fault.NotUtf8 (after - 4)) (IsNumber w32) (λ end text. count_in cut w32 text) (count_reader cut w32 wide32))
+single_reader (single.Sixteen k) cut = made_reader (sixteen_scalar k) IsSixteen (λ end text. sixteen_in cut text) (sixteen_reader cut)
+single_reader (single.Text k s) cut =
+    made_reader (text_scalar k) _ _ (tested_reader (is_text k) (text_fault k) (IsText (size_width s)) (λ end text. bytes_in cut (size_width s) text) (bytes_reader cut (size_width s) (size_is s)))
+
+-- ---- codes
+
+-- the code of a kind is a byte, and announces it
+kind_known : (k : Kind) → (kind_byte k < 256) × (kind_of (kind_byte k) ≡ Some k)
+kind_known kind.Described = (omega arith, refl)
+kind_known (kind.Single (single.Bare bare.Null)) = (omega arith, refl)
+kind_known (kind.Single (single.Bare bare.True)) = (omega arith, refl)
+kind_known (kind.Single (single.Bare bare.False)) = (omega arith, refl)
+kind_known (kind.Single (single.Bare bare.Uint)) = (omega arith, refl)
+kind_known (kind.Single (single.Bare bare.Ulong)) = (omega arith, refl)
+kind_known kind.EmptyList = (omega arith, refl)
+kind_known (kind.Single (single.Octet octet.Ubyte)) = (omega arith, refl)
+kind_known (kind.Single (single.Octet octet.Byte)) = (omega arith, refl)
+kind_known (kind.Single (single.Octet octet.Uint)) = (omega arith, refl)
+kind_known (kind.Single (single.Octet octet.Ulong)) = (omega arith, refl)
+kind_known (kind.Single (single.Octet octet.Int)) = (omega arith, refl)
+kind_known (kind.Single (single.Octet octet.Long)) = (omega arith, refl)
+kind_known (kind.Single single.Boolean) = (omega arith, refl)
+kind_known (kind.Single (single.Wide wide.Ushort)) = (omega arith, refl)
+kind_known (kind.Single (single.Wide wide.Short)) = (omega arith, refl)
+kind_known (kind.Single (single.Wide wide.Uint)) = (omega arith, refl)
+kind_known (kind.Single (single.Wide wide.Int)) = (omega arith, refl)
+kind_known (kind.Single (single.Wide wide.Float)) = (omega arith, refl)
+kind_known (kind.Single single.Char) = (omega arith, refl)
+kind_known (kind.Single (single.Wide wide.Decimal32)) = (omega arith, refl)
+kind_known (kind.Single (single.Wide wide.Ulong)) = (omega arith, refl)
+kind_known (kind.Single (single.Wide wide.Long)) = (omega arith, refl)
+kind_known (kind.Single (single.Wide wide.Double)) = (omega arith, refl)
+kind_known (kind.Single (single.Wide wide.Timestamp)) = (omega arith, refl)
+kind_known (kind.Single (single.Wide wide.Decimal64)) = (omega arith, refl)
+kind_known (kind.Single (single.Sixteen sixteen.Decimal128)) = (omega arith, refl)
+kind_known (kind.Single (single.Sixteen sixteen.Uuid)) = (omega arith, refl)
+kind_known (kind.Single (single.Text text.Binary size.Short)) = (omega arith, refl)
+kind_known (kind.Single (single.Text text.String size.Short)) = (omega arith, refl)
+kind_known (kind.Single (single.Text text.Symbol size.Short)) = (omega arith, refl)
+kind_known (kind.Single (single.Text text.Binary size.Long)) = (omega arith, refl)
+kind_known (kind.Single (single.Text text.String size.Long)) = (omega arith, refl)
+kind_known (kind.Single (single.Text text.Symbol size.Long)) = (omega arith, refl)
+kind_known (kind.List size.Short) = (omega arith, refl)
+kind_known (kind.Map size.Short) = (omega arith, refl)
+kind_known (kind.List size.Long) = (omega arith, refl)
+kind_known (kind.Map size.Long) = (omega arith, refl)
+kind_known (kind.Array size.Short) = (omega arith, refl)
+kind_known (kind.Array size.Long) = (omega arith, refl)
+
+-- one link of the chain of codes
+next_kind : (b n : ℕ) (x : Kind) (rest : Option Kind) (k : Kind) → kind_byte x ≡ n → cond (eqb b n) (Some x) rest ≡ Some k → (rest ≡ Some k → kind_byte k ≡ b) → kind_byte k ≡ b
+next_kind b n x rest k here e later = at (eqb b n) refl e
+  where
+    at : (t : Bool) → eqb b n ≡ t → cond t (Some x) rest ≡ Some k → kind_byte k ≡ b
+    at true p e = let same : x ≡ k = cc in ap kind_byte (sym same) ∙ here ∙ sym (eqb-true b n p)
+    at false p e = later e
+
+-- a byte that announces a kind is its code
+kind_is : (b : ℕ) (k : Kind) → kind_of b ≡ Some k → kind_byte k ≡ b
+kind_is b k e =
+    next_kind b 0 _ _ k refl e (λ e.
+    next_kind b 64 _ _ k refl e (λ e.
+    next_kind b 65 _ _ k refl e (λ e.
+    next_kind b 66 _ _ k refl e (λ e.
+    next_kind b 67 _ _ k refl e (λ e.
+    next_kind b 68 _ _ k refl e (λ e.
+    next_kind b 69 _ _ k refl e (λ e.
+    next_kind b 80 _ _ k refl e (λ e.
+    next_kind b 81 _ _ k refl e (λ e.
+    next_kind b 82 _ _ k refl e (λ e.
+    next_kind b 83 _ _ k refl e (λ e.
+    next_kind b 84 _ _ k refl e (λ e.
+    next_kind b 85 _ _ k refl e (λ e.
+    next_kind b 86 _ _ k refl e (λ e.
+    next_kind b 96 _ _ k refl e (λ e.
+    next_kind b 97 _ _ k refl e (λ e.
+    next_kind b 112 _ _ k refl e (λ e.
+    next_kind b 113 _ _ k refl e (λ e.
+    next_kind b 114 _ _ k refl e (λ e.
+    next_kind b 115 _ _ k refl e (λ e.
+    next_kind b 116 _ _ k refl e (λ e.
+    next_kind b 128 _ _ k refl e (λ e.
+    next_kind b 129 _ _ k refl e (λ e.
+    next_kind b 130 _ _ k refl e (λ e.
+    next_kind b 131 _ _ k refl e (λ e.
+    next_kind b 132 _ _ k refl e (λ e.
+    next_kind b 148 _ _ k refl e (λ e.
+    next_kind b 152 _ _ k refl e (λ e.
+    next_kind b 160 _ _ k refl e (λ e.
+    next_kind b 161 _ _ k refl e (λ e.
+    next_kind b 163 _ _ k refl e (λ e.
+    next_kind b 176 _ _ k refl e (λ e.
+    next_kind b 177 _ _ k refl e (λ e.
+    next_kind b 179 _ _ k refl e (λ e.
+    next_kind b 192 _ _ k refl e (λ e.
+    next_kind b 193 _ _ k refl e (λ e.
+    next_kind b 208 _ _ k refl e (λ e.
+    next_kind b 209 _ _ k refl e (λ e.
+    next_kind b 224 _ _ k refl e (λ e.
+    next_kind b 240 _ _ k refl e (λ e. absurd cc))))))))))))))))))))))))))))))))))))))))
+
+octet_text : (n : ℕ) → n < 256 → n ∷ [] ≡ to_be_bytes w8 n
+octet_text n below = ap (λ (m : ℕ). m ∷ []) (omega arith)
+
+-- a code, and what it announces
+coded_reader : {A : Type 0} (R : Kind → A → List ℕ → Type 0) (read : Kind → ℕ → Fault → ℕ → List ℕ → Reads A Fault)
+    → ((k : Kind) (at : ℕ) (cut : Fault) → IsReader (R k) (read k at cut)) → (cut : Fault) → IsReader (IsCoded R) (coded_in read cut)
+coded_reader {A} R read r cut = record { finds = finds; again = again }
+  where
+    octets : IsReader (IsNumber w8) (λ end text. count_in cut w8 text)
+    octets = count_reader cut w8 wide8
+
+    found : (b at end : ℕ) (o : Option Kind) (text : List ℕ) (x : A × List ℕ) → IsBytes text → kind_of b ≡ o → known_in read o at cut end text ≡ Ok x → Finds (λ t front. IsCoded R t (b ∷ front)) text x
+    found b at end None text x fits is e = absurd cc
+    found b at end (Some k) text x fits is e =
+        let f = (r k at cut).finds end text x fits e in
+        record { front = f.front; spelled = (k, f.front, f.spelled, ap (λ (c : ℕ). c ∷ f.front) (sym (kind_is b k is))); parts = f.parts; rest_fits = f.rest_fits }
+
+    finds : (end : ℕ) (text : List ℕ) (x : A × List ℕ) → IsBytes text → coded_in read cut end text ≡ Ok x → Finds (IsCoded R) text x
+    finds end text x fits e =
+        let b = bind_is (count_in cut w8 text) (λ b. known_in read (kind_of b.0) (end - length text) cut end b.1) x e in
+        let f = octets.finds end text b.0 fits b.1 in
+        let g = found b.0.0 (end - length text) end (kind_of b.0.0) b.0.1 x f.rest_fits refl b.2 in
+        let octet : f.front ≡ b.0.0 ∷ [] = f.spelled.1 ∙ ap (λ (c : ℕ). c ∷ []) (omega (arith, f.spelled.0)) in
+        record {
+          front = b.0.0 ∷ g.front;
+          spelled = g.spelled;
+          parts = f.parts ∙ ap (λ (t : List ℕ). t ++ b.0.1) octet ∙ ap (λ (t : List ℕ). b.0.0 ∷ t) g.parts;
+          rest_fits = g.rest_fits;
+        }
+
+    again : (end : ℕ) (t : A) (front rest : List ℕ) → IsCoded R t front → coded_in read cut end (front ++ rest) ≡ Ok (t, rest)
+    again end t front rest h =
+        let k = h.0 in
+        ap (λ (s : List ℕ). coded_in read cut end (s ++ rest)) h.3
+        ∙ rw (octets.again end (kind_byte k) (kind_byte k ∷ []) (h.1 ++ rest) ((kind_known k).0, octet_text (kind_byte k) (kind_known k).0), (kind_known k).1) ((r k (end - length (kind_byte k ∷ (h.1 ++ rest))) cut).again end t h.1 rest h.2)
+
+-- ---- lists, maps and arrays
+
+-- a reader of values, whatever the fault of one that is cut off
+abbrev IsEachReader : {A : Type 0} → (A → List ℕ → Type 0) → (Fault → ℕ → List ℕ → Reads A Fault) → Type 0
+IsEachReader R read = (cut : Fault) → IsReader R (read cut)
+
+items_reader : (w : Width) → IsWide w → (R : Tree → List ℕ → Type 0) (read : Fault → ℕ → List ℕ → Reads Tree Fault) → IsEachReader R read → IsEachReader (IsItemList w R) (items_in w read)
+items_reader w wide R read r cut =
+    then_reader (IsNumber w) (λ n. IsTimes R n) (λ end text. count_in cut w text) (λ n end text. times (read cut end) n text) (count_reader cut w wide) (λ n. times_reader R (read cut) (r cut) n)
+
+chosen : {A : Type 0} (b : Bool) (r : Result A Fault) (y : A) (d : Fault) → cond b r (Err d) ≡ Ok y → (b ≡ true) × (r ≡ Ok y)
+chosen true r y d e = (refl, e)
+chosen false r y d e = absurd cc
+
+avoided : {A : Type 0} (b : Bool) (r : Result A Fault) (y : A) (d : Fault) → cond b (Err d) r ≡ Ok y → (b ≡ false) × (r ≡ Ok y)
+avoided true r y d e = absurd cc
+avoided false r y d e = (refl, e)
+
+halves_reader : (R : Tree × Tree → List ℕ → Type 0) (read : ℕ → List ℕ → Reads (Tree × Tree) Fault) (cut : Fault) → IsReader R read → (n : ℕ)
+    → IsReader (λ ps text. (n ≡ 2 * length ps) × IsItems R ps text) (λ end text. cond (eqb (n % 2) 0) (times (read end) (n / 2) text) (Err cut))
+halves_reader R read cut r n = record { finds = finds; again = again }
+  where
+    finds : (end : ℕ) (text : List ℕ) (x : List (Tree × Tree) × List ℕ) → IsBytes text → cond (eqb (n % 2) 0) (times (read end) (n / 2) text) (Err cut) ≡ Ok x → Finds (λ ps text. (n ≡ 2 * length ps) × IsItems R ps text) text x
+    finds end text x fits e =
+        let g = chosen (eqb (n % 2) 0) (times (read end) (n / 2) text) x cut e in
+        let even : n % 2 ≡ 0 = eqb-true _ _ g.0 in
+        let f = (times_reader R read r (n / 2)).finds end text x fits g.1 in
+        let count : length x.0 ≡ n / 2 = f.spelled.0 in
+        record { front = f.front; spelled = (omega arith, f.spelled.1); parts = f.parts; rest_fits = f.rest_fits }
+
+    again : (end : ℕ) (ps : List (Tree × Tree)) (front rest : List ℕ) → (n ≡ 2 * length ps) × IsItems R ps front → cond (eqb (n % 2) 0) (times (read end) (n / 2) (front ++ rest)) (Err cut) ≡ Ok (ps, rest)
+    again end ps front rest h =
+        let twice : n ≡ 2 * length ps = h.0 in
+        let even : n % 2 ≡ 0 = omega arith in
+        let half : length ps ≡ n / 2 = omega arith in
+        rw even ((times_reader R read r (n / 2)).again end ps front rest (half, h.1))
+
+entries_reader : (w : Width) → IsWide w → (R : Tree → List ℕ → Type 0) (read : Fault → ℕ → List ℕ → Reads Tree Fault) → IsEachReader R read → IsEachReader (IsPairList w R) (entries_in w read)
+entries_reader w wide R read r cut =
+    then_reader (IsNumber w) (λ n ps text. (n ≡ 2 * length ps) × IsItems (IsPair R R) ps text) (λ end text. count_in cut w text)
+    (λ n end text. cond (eqb (n % 2) 0) (times (pair_in (read cut) (read cut) end) (n / 2) text) (Err cut)) (count_reader cut w wide)
+    (λ n. halves_reader (IsPair R R) (pair_in (read cut) (read cut)) cut (pair_reader R R (read cut) (read cut) (r cut) (r cut)) n)
+
+-- readers of what stands inside a value, against its spellings
+record IsInside (s : Spelled) (i : Inside) : Type 0 where
+  contents : (k : Kind) (at : ℕ) (cut : Fault) → IsReader (s.content k) (i.contents k at cut)
+  shape : (cut : Fault) → IsReader s.constructor (i.shape cut)
+  element : (c : Shape) (at : ℕ) (cut : Fault) → IsReader (s.element c) (i.element c at cut)
+
+few : (b : Bool) (n : ℕ) → (IsTrue b → n ≤ 65536) → (b && ltb 65536 n) ≡ false
+few true n h = le-ltb _ _ (h refl)
+few false n h = refl
+
+few_back : (b : Bool) (n : ℕ) → (b && ltb 65536 n) ≡ false → IsTrue b → n ≤ 65536
+few_back true n e h = ltb-false _ _ e
+few_back false n e h = absurd cc
+
+bare_reader : (s : Spelled) (i : Inside) → IsInside s i → (cut : Fault) (n : ℕ) (c : Shape)
+    → IsReader (λ ts text. (IsTrue (is_bare c.1) → n ≤ 65536) × IsTimes (s.element c) n ts text)
+    (λ end text. cond (is_bare c.1 && ltb 65536 n) (Err cut) (times (i.element c ((end - length text) - 1) cut end) n text))
+bare_reader s i r cut n c = record { finds = finds; again = again }
+  where
+    finds : (end : ℕ) (text : List ℕ) (x : List Tree × List ℕ) → IsBytes text → cond (is_bare c.1 && ltb 65536 n) (Err cut) (times (i.element c ((end - length text) - 1) cut end) n text) ≡ Ok x
+        → Finds (λ ts text. (IsTrue (is_bare c.1) → n ≤ 65536) × IsTimes (s.element c) n ts text) text x
+    finds end text x fits e =
+        let at = (end - length text) - 1 in
+        let g = avoided (is_bare c.1 && ltb 65536 n) (times (i.element c at cut end) n text) x cut e in
+        let f = (times_reader (s.element c) (i.element c at cut) (r.element c at cut) n).finds end text x fits g.1 in
+        record { front = f.front; spelled = (few_back (is_bare c.1) n g.0, f.spelled); parts = f.parts; rest_fits = f.rest_fits }
+
+    again : (end : ℕ) (ts : List Tree) (front rest : List ℕ) → (IsTrue (is_bare c.1) → n ≤ 65536) × IsTimes (s.element c) n ts front
+        → cond (is_bare c.1 && ltb 65536 n) (Err cut) (times (i.element c ((end - length (front ++ rest)) - 1) cut end) n (front ++ rest)) ≡ Ok (ts, rest)
+    again end ts front rest h =
+        let at = (end - length (front ++ rest)) - 1 in
+        rw (few (is_bare c.1) n h.0) ((times_reader (s.element c) (i.element c at cut) (r.element c at cut) n).again end ts front rest h.1)
+
+elements_reader : (w : Width) → IsWide w → (s : Spelled) (i : Inside) → IsInside s i → IsEachReader (IsElementList w s) (elements_in w i)
+elements_reader w wide s i r cut =
+    then_reader (IsNumber w) (λ n. IsThen s.constructor (λ c ts text. (IsTrue (is_bare c.1) → n ≤ 65536) × IsTimes (s.element c) n ts text)) (λ end text. count_in cut w text)
+    (λ n end text. i.shape cut end text >>= λ c. cond (is_bare c.0.1 && ltb 65536 n) (Err cut) (times (i.element c.0 ((end - length c.1) - 1) cut end) n c.1)) (count_reader cut w wide)
+    (λ n. then_reader s.constructor (λ c ts text. (IsTrue (is_bare c.1) → n ≤ 65536) × IsTimes (s.element c) n ts text) (i.shape cut)
+    (λ c end text. cond (is_bare c.1 && ltb 65536 n) (Err cut) (times (i.element c ((end - length text) - 1) cut end) n text)) (r.shape cut) (bare_reader s i r cut n))
+
+-- ---- contents by depth
+
+flat_reader : (k : Kind) (at : ℕ) (cut : Fault) → IsReader (IsFlat k) (flat_in k at cut)
+flat_reader (kind.Single k) at cut = made_reader scalar (IsSingle k) (single_in k cut) (single_reader k cut)
+flat_reader kind.EmptyList at cut = no_reader (fault_at fault.Depth at)
+flat_reader (kind.List s) at cut = no_reader (fault_at fault.Depth at)
+flat_reader (kind.Map s) at cut = no_reader (fault_at fault.Depth at)
+flat_reader (kind.Array s) at cut = no_reader (fault_at fault.Depth at)
+flat_reader kind.Described at cut = no_reader (fault_at fault.Depth at)
+
+values_reader : (s : Spelled) (i : Inside) → IsInside s i → IsEachReader (IsCoded s.content) (value_by i)
+values_reader s i r = coded_reader s.content i.contents r.contents
+
+deep_reader : (s : Spelled) (i : Inside) → IsInside s i → (k : Kind) (at : ℕ) (cut : Fault) → IsReader (IsDeep s k) (deep_in i k at cut)
+deep_reader s i r (kind.Single k) at cut = made_reader scalar (IsSingle k) (single_in k cut) (single_reader k cut)
+deep_reader s i r kind.EmptyList at cut = none_reader (list no_trees)
+deep_reader s i r (kind.List z) at cut =
+    made_reader (λ ts. list (trees_of ts)) _ _ (filled_reader (size_width z) at cut (size_is z) (IsItemList (size_width z) (IsCoded s.content)) (items_in (size_width z) (value_by i))
+    (items_reader (size_width z) (size_is z) (IsCoded s.content) (value_by i) (values_reader s i r)))
+deep_reader s i r (kind.Map z) at cut =
+    made_reader (λ ps. mapping (pairs_of ps)) _ _ (filled_reader (size_width z) at cut (size_is z) (IsPairList (size_width z) (IsCoded s.content)) (entries_in (size_width z) (value_by i))
+    (entries_reader (size_width z) (size_is z) (IsCoded s.content) (value_by i) (values_reader s i r)))
+deep_reader s i r (kind.Array z) at cut =
+    made_reader (λ ts. array (trees_of ts)) _ _ (filled_reader (size_width z) at cut (size_is z) (IsElementList (size_width z) s) (elements_in (size_width z) i)
+    (elements_reader (size_width z) (size_is z) s i r))
+deep_reader s i r kind.Described at cut =
+    made_reader (λ p. described p.0 p.1) _ _ (pair_reader (IsCoded s.content) (IsCoded s.content) (value_by i cut) (value_by i cut) (values_reader s i r cut) (values_reader s i r cut))
+
+shapes_reader : (More : Elements → List ℕ → Type 0) (more : Fault → ℕ → ℕ → List ℕ → Reads Shape Fault) → ((cut : Fault) (at : ℕ) → IsReader More (more cut at))
+    → (k : Kind) (at : ℕ) (cut : Fault) → IsReader (IsShape More k) (shape_by more k at cut)
+shapes_reader More more r (kind.Single k) at cut = none_reader ([], kind.Single k)
+shapes_reader More more r kind.EmptyList at cut = none_reader ([], kind.EmptyList)
+shapes_reader More more r (kind.List s) at cut = none_reader ([], kind.List s)
+shapes_reader More more r (kind.Map s) at cut = none_reader ([], kind.Map s)
+shapes_reader More more r (kind.Array s) at cut = none_reader ([], kind.Array s)
+shapes_reader More more r kind.Described at cut = r cut at
+
+described_reader : (s : Spelled) (i : Inside) → IsInside s i → (cut : Fault) (at : ℕ) → IsReader (IsDescriptor s) (described_shape i cut at)
+described_reader s i r cut at =
+    made_reader (λ p. (p.0 ∷ p.1.0, p.1.1)) _ _ (pair_reader (IsCoded s.content) s.constructor (value_by i cut) (i.shape cut) (values_reader s i r cut) (r.shape cut))
+
+element_reader : (C : Kind → Tree → List ℕ → Type 0) (contents : Contents) (More : Elements → Tree → List ℕ → Type 0) (more : Shape → ℕ → Fault → ℕ → List ℕ → Reads Tree Fault)
+    → ((k : Kind) (at : ℕ) (cut : Fault) → IsReader (C k) (contents k at cut)) → ((c : Shape) (at : ℕ) (cut : Fault) → IsReader (More c) (more c at cut))
+    → (c : Shape) (at : ℕ) (cut : Fault) → IsReader (IsElement C More c) (element_by contents more c at cut)
+element_reader C contents More more r m ([], k) at cut = r k at cut
+element_reader C contents More more r m (d ∷ ds, k) at cut = made_reader (described d) (More (ds, k)) (more (ds, k) at cut) (m (ds, k) at cut)
+
+level_reader : (d : ℕ) → IsInside (spelled d) (level d)
+unfolding spelled level
+level_reader zero = record {
+  contents = flat_reader;
+  shape = coded_reader (IsShape (λ c text. ⊥)) (shape_by (λ cut at end bytes. Err (fault_at fault.Depth at))) (shapes_reader (λ c text. ⊥) (λ cut at end bytes. Err (fault_at fault.Depth at)) (λ cut at. no_reader (fault_at fault.Depth at)));
+  element = element_reader IsFlat flat_in (λ c t text. ⊥) (λ c at cut end bytes. Err (fault_at fault.Depth at)) flat_reader (λ c at cut. no_reader (fault_at fault.Depth at));
+}
+level_reader (suc d) =
+    let r = level_reader d in
+    record {
+      contents = deep_reader (spelled d) (level d) r;
+      shape = coded_reader (IsShape (IsDescriptor (spelled d))) (shape_by (described_shape (level d))) (shapes_reader (IsDescriptor (spelled d)) (described_shape (level d)) (described_reader (spelled d) (level d) r));
+      element = element_reader (IsDeep (spelled d)) (deep_in (level d)) (spelled d).element (level d).element (deep_reader (spelled d) (level d) r) r.element;
+    }
+
+-- a value of at most this depth
+pub value_reader : (d : ℕ) → IsEachReader (IsValueOf d) (value_in d)
+value_reader d = values_reader (spelled d) (level d) (level_reader d)
+
+-- ---- the value at an offset
+
+-- what is read is spelled so, up to the offset that is told
+pub read_is_spelled : (bytes : List ℕ) (at : ℕ) (x : Tree × ℕ) → IsBytes bytes → value_at bytes at ≡ Ok x → (x.1 ≤ length bytes) × IsValue x.0 (take (x.1 - at) (drop at bytes))
+read_is_spelled bytes at x fits e =
+    let end = length bytes in
+    let cut = fault_at fault.Cut end in
+    let b = bind_is (value_in 16 cut end (drop at bytes)) (λ x. Ok (x.0, end - length x.1)) x e in
+    let f = (value_reader 16 cut).finds end (drop at bytes) b.0 (IsBytes-drop at bytes fits) b.1 in
+    let long : length f.front ≡ (end - length b.0.1) - at = omega (arith, ap length f.parts, length-append f.front b.0.1, length-drop at bytes) in
+    let front : take ((end - length b.0.1) - at) (drop at bytes) ≡ f.front = ap (take ((end - length b.0.1) - at)) f.parts ∙ take_at f.front b.0.1 ((end - length b.0.1) - at) long in
+    subst (λ (y : Tree × ℕ). (y.1 ≤ end) × IsValue y.0 (take (y.1 - at) (drop at bytes))) (ok_is {F = Fault} (b.0.0, end - length b.0.1) x b.2) (omega arith, rw front f.spelled)
+
+-- what is spelled so is read, whatever follows
+pub spelled_is_read : (bytes : List ℕ) (at : ℕ) (t : Tree) (text rest : List ℕ) → IsValue t text → drop at bytes ≡ text ++ rest → value_at bytes at ≡ Ok (t, at + length text)
+spelled_is_read bytes at t text rest h parts =
+    let end = length bytes in
+    let cut = fault_at fault.Cut end in
+    let some : 0 < length text = omega (arith, ap length h.3) in
+    let place : end - length rest ≡ at + length text = omega (arith, ap length parts, length-append text rest, length-drop at bytes) in
+    let read : value_in 16 cut end (drop at bytes) ≡ Ok (t, rest) = ap (value_in 16 cut end) parts ∙ (value_reader 16 cut).again end t text rest h in
+    rw (read, place) refl
+
+-- bytes spell at most one value
+pub one_value : (t u : Tree) (text : List ℕ) → IsValue t text → IsValue u text → t ≡ u
+one_value t u text h k =
+    let r = value_reader 16 (fault_at fault.Cut 0) in
+    let same = ok_is {F = Fault} (t, []) (u, []) (sym (r.again 0 t text [] h) ∙ r.again 0 u text [] k) in
+    ap (λ (x : Tree × List ℕ). x.0) same

@@ -1,0 +1,126 @@
+-- How values are spelled (AMQP 1.0 1.6): a relation between a value and the bytes that spell it, all of the bytes, one case for each
+-- format code. A value is its code and a content; the size of a list, a map or an array is exactly that of what stands in it; an
+-- array is a constructor and contents without codes; the depth of a value is at most 16.
+use Rattle.std.specs.Prelude.{◌≡◌, ℕ, zero, suc, ◌*◌, ◌≤◌, ◌==◌, nat_lt, IsTrue, List, [], ◌∷◌, ◌++◌, length}
+use Rattle.std.specs.Int.{Width, w8, w32}
+use Rattle.wire_base.specs.Spelling.{IsNumber, IsText, IsMade, IsPair, IsItems}
+use Rattle.types_10.specs.Tree.{Scalar, boolean, char, Tree, scalar, list, mapping, array, described, no_trees, trees_of, pairs_of}
+use Rattle.types_10.specs.Kinds.{kind_byte, is_bare, bare_scalar, octet_scalar, wide_width, wide_scalar, sixteen_scalar, text_scalar, is_text, is_character, size_width}
+use Rattle.types_10.specs.declared.kind.Kind.{Kind}
+use Rattle.types_10.specs.declared.kind.Kind.TheVariants as kind
+use Rattle.types_10.specs.declared.kind.Single.{Single}
+use Rattle.types_10.specs.declared.kind.Single.TheVariants as single
+
+-- a spelling of one that is such
+abbrev pub IsSuch : {A : Type 0} → (A → Type 0) → (A → List ℕ → Type 0) → A → List ℕ → Type 0
+IsSuch P R x text = P x × R x text
+
+-- sixteen bytes as they are
+abbrev pub IsSixteen : List ℕ → List ℕ → Type 0
+IsSixteen s text = (length s ≡ 16) × (text ≡ s)
+
+-- the content of a value that holds no other: nothing, a number, sixteen bytes, or bytes behind their length.
+-- A boolean is 0 or 1, a char a Unicode scalar value, a string UTF-8 and a symbol ASCII.
+abbrev pub IsSingle : Single → Scalar → List ℕ → Type 0
+IsSingle (single.Bare k) = λ s text. (s ≡ bare_scalar k) × (text ≡ [])
+IsSingle single.Boolean = IsMade (λ n. boolean (n == 1)) (IsSuch (λ n. IsTrue (nat_lt n 2)) (IsNumber w8))
+IsSingle (single.Octet k) = IsMade (octet_scalar k) (IsNumber w8)
+IsSingle (single.Wide k) = IsMade (wide_scalar k) (IsNumber (wide_width k))
+IsSingle single.Char = IsMade char (IsSuch (λ n. IsTrue (is_character n)) (IsNumber w32))
+IsSingle (single.Sixteen k) = IsMade (sixteen_scalar k) IsSixteen
+IsSingle (single.Text k s) = IsMade (text_scalar k) (IsSuch (λ s. IsTrue (is_text k s)) (IsText (size_width s)))
+
+-- the code of a kind, and a content of that kind
+abbrev pub IsCoded : {A : Type 0} → (Kind → A → List ℕ → Type 0) → A → List ℕ → Type 0
+IsCoded IsContent t text = (k : Kind) × (content : List ℕ) × IsContent k t content × (text ≡ kind_byte k ∷ content)
+
+-- a size in this width, and so many bytes
+abbrev pub IsFilled : {A : Type 0} → Width → (A → List ℕ → Type 0) → A → List ℕ → Type 0
+IsFilled w R x text = (body : List ℕ) × R x body × IsText w body text
+
+-- a number and then, depending on it, what follows
+abbrev pub IsThen : {A B : Type 0} → (A → List ℕ → Type 0) → (A → B → List ℕ → Type 0) → B → List ℕ → Type 0
+IsThen {A} R S y text = (x : A) × (front : List ℕ) × (back : List ℕ) × R x front × S x y back × (text ≡ front ++ back)
+
+-- so many items, one after another
+abbrev pub IsTimes : {A : Type 0} → (A → List ℕ → Type 0) → ℕ → List A → List ℕ → Type 0
+IsTimes R count xs text = (length xs ≡ count) × IsItems R xs text
+
+-- the count of the values, and the values
+abbrev pub IsItemList : Width → (Tree → List ℕ → Type 0) → List Tree → List ℕ → Type 0
+IsItemList w IsValue = IsThen (IsNumber w) (λ n. IsTimes IsValue n)
+
+-- the count of keys and values together, and the pairs of a key and a value
+abbrev pub IsPairList : Width → (Tree → List ℕ → Type 0) → List (Tree × Tree) → List ℕ → Type 0
+IsPairList w IsValue = IsThen (IsNumber w) (λ n ps text. (n ≡ 2 * length ps) × IsItems (IsPair IsValue IsValue) ps text)
+
+-- a constructor: the descriptors that all elements have, and the kind of what they describe
+abbrev pub Elements : Type 0
+Elements = List Tree × Kind
+
+-- what stands inside a value: contents, constructors, and elements behind a constructor
+pub record Spelled : Type 1 where
+  pub content : Kind → Tree → List ℕ → Type 0
+  pub constructor : Elements → List ℕ → Type 0
+  pub element : Elements → Tree → List ℕ → Type 0
+
+-- the count of the elements, their constructor, and the elements; there are at most 65,536 of those that have no bytes
+abbrev pub IsElementList : Width → Spelled → List Tree → List ℕ → Type 0
+IsElementList w inside = IsThen (IsNumber w) (λ n. IsThen inside.constructor (λ c ts text. (IsTrue (is_bare c.1) → n ≤ 65536) × IsTimes (inside.element c) n ts text))
+
+-- the content of a value that may hold no other
+abbrev pub IsFlat : Kind → Tree → List ℕ → Type 0
+IsFlat (kind.Single k) = IsMade scalar (IsSingle k)
+IsFlat kind.EmptyList = λ t text. ⊥
+IsFlat (kind.List s) = λ t text. ⊥
+IsFlat (kind.Map s) = λ t text. ⊥
+IsFlat (kind.Array s) = λ t text. ⊥
+IsFlat kind.Described = λ t text. ⊥
+
+-- the content of a value that may hold such
+abbrev pub IsDeep : Spelled → Kind → Tree → List ℕ → Type 0
+IsDeep inside (kind.Single k) = IsMade scalar (IsSingle k)
+IsDeep inside kind.EmptyList = λ t text. (t ≡ list no_trees) × (text ≡ [])
+IsDeep inside (kind.List s) = IsMade (λ ts. list (trees_of ts)) (IsFilled (size_width s) (IsItemList (size_width s) (IsCoded inside.content)))
+IsDeep inside (kind.Map s) = IsMade (λ ps. mapping (pairs_of ps)) (IsFilled (size_width s) (IsPairList (size_width s) (IsCoded inside.content)))
+IsDeep inside (kind.Array s) = IsMade (λ ts. array (trees_of ts)) (IsFilled (size_width s) (IsElementList (size_width s) inside))
+IsDeep inside kind.Described = IsMade (λ p. described p.0 p.1) (IsPair (IsCoded inside.content) (IsCoded inside.content))
+
+-- what a code of a constructor announces: elements of that kind, or described ones
+abbrev pub IsShape : (Elements → List ℕ → Type 0) → Kind → Elements → List ℕ → Type 0
+IsShape More (kind.Single k) = λ c text. (c ≡ ([], kind.Single k)) × (text ≡ [])
+IsShape More kind.EmptyList = λ c text. (c ≡ ([], kind.EmptyList)) × (text ≡ [])
+IsShape More (kind.List s) = λ c text. (c ≡ ([], kind.List s)) × (text ≡ [])
+IsShape More (kind.Map s) = λ c text. (c ≡ ([], kind.Map s)) × (text ≡ [])
+IsShape More (kind.Array s) = λ c text. (c ≡ ([], kind.Array s)) × (text ≡ [])
+IsShape More kind.Described = More
+
+-- a descriptor, and the constructor of what it describes
+abbrev pub IsDescriptor : Spelled → Elements → List ℕ → Type 0
+IsDescriptor inside = IsMade (λ p. (p.0 ∷ p.1.0, p.1.1)) (IsPair (IsCoded inside.content) inside.constructor)
+
+-- an element behind its constructor
+abbrev pub IsElement : (Kind → Tree → List ℕ → Type 0) → (Elements → Tree → List ℕ → Type 0) → Elements → Tree → List ℕ → Type 0
+IsElement IsContent Inner ([], k) = IsContent k
+IsElement IsContent Inner (d ∷ ds, k) = IsMade (described d) (Inner (ds, k))
+
+-- values of at most this depth
+unfoldable pub spelled : ℕ → Spelled
+spelled zero = record {
+  content = IsFlat;
+  constructor = IsCoded (IsShape (λ c text. ⊥));
+  element = IsElement IsFlat (λ c t text. ⊥);
+}
+spelled (suc d) = record {
+  content = IsDeep (spelled d);
+  constructor = IsCoded (IsShape (IsDescriptor (spelled d)));
+  element = IsElement (IsDeep (spelled d)) (spelled d).element;
+}
+
+-- a value of at most this depth
+abbrev pub IsValueOf : ℕ → Tree → List ℕ → Type 0
+IsValueOf d = IsCoded (spelled d).content
+
+-- a value
+abbrev pub IsValue : Tree → List ℕ → Type 0
+IsValue = IsValueOf 16

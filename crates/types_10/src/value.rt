@@ -1,0 +1,220 @@
+//! Values, and the lists and maps of them (AMQP 1.0 1.6).
+
+ghost use Rattle.std.specs.Prelude.{◌≡◌, ℕ, ◌+◌, List, [], ◌∷◌, ◌++◌, length, option_map, slice_get, IfOk, OnOk, OnErr};
+ghost use Rattle.types_10.specs.View.{value_tree, pair_trees};
+
+use std::alloc::Global;
+use std::marker::Model;
+use wire_base::{ByteText, Memory};
+
+/// A value. A float, a double or a decimal is the pattern of its bits, most significant first.
+#[derive(Debug, Drop)]
+#[cycle(value)]
+pub enum Value10 {
+    Null,
+    Boolean(bool),
+    Ubyte(u8),
+    Byte(i8),
+    Ushort(u16),
+    Short(i16),
+    Uint(u32),
+    Int(i32),
+    Ulong(u64),
+    Long(i64),
+    Float(u32),
+    Double(u64),
+    Decimal32(u32),
+    Decimal64(u64),
+    Decimal128([u8; 16]),
+    /// The number of a Unicode character
+    Char(u32),
+    /// Milliseconds since 1970-01-01 00:00 UTC
+    Timestamp(i64),
+    Uuid([u8; 16]),
+    Binary(ByteText),
+    /// A text in UTF-8
+    String(ByteText),
+    /// A text in ASCII
+    Symbol(ByteText),
+    List(ValueList),
+    Map(PairList),
+    /// Values of one type
+    Array(ValueList),
+    /// A descriptor, and the value that it describes
+    Described(Inner, Inner),
+}
+
+/// The values of a list or an array, in order. Contracts see it as the list of them.
+#[derive(Debug, Drop)]
+#[cycle(value)]
+pub struct ValueList {
+    pub(crate) items: Vec<Value10>,
+}
+
+/// The pairs of a map, in order: keys and values. Contracts see it as the list of them.
+#[derive(Debug, Drop)]
+#[cycle(value)]
+pub struct PairList {
+    pub(crate) pairs: Vec<(Value10, Value10)>,
+}
+
+/// A value inside a described one. Contracts see it as that value.
+#[derive(Debug, Drop)]
+#[cycle(value)]
+pub struct Inner {
+    pub(crate) value: Box<Value10>,
+}
+
+impl Model for ValueList {
+    ghost use Rattle.std.specs.Prelude.{List, map};
+    ghost use Rattle.types_10.specs.Tree.{Tree, list_depth};
+    ghost use Rattle.types_10.specs.TreeCode.{trees_code};
+
+    ghost Value = { List Tree };
+
+    ghost coded = { trees_code };
+
+    ghost use Rattle.types_10.specs.View.{value_tree};
+
+    ghost view = { λ a. map value_tree a.items.items };
+
+    ghost size = { list_depth };
+
+    ghost use Rattle.types_10.specs.Falls.{list_falls};
+
+    ghost size_decreases = { λ a h. list_falls a.items.items };
+}
+
+impl Model for PairList {
+    ghost use Rattle.std.specs.Prelude.{List, map};
+    ghost use Rattle.types_10.specs.Tree.{Tree, pairs_depth_of};
+    ghost use Rattle.types_10.specs.TreeCode.{pairs_code};
+
+    ghost Value = { List (Tree × Tree) };
+
+    ghost coded = { pairs_code };
+
+    ghost use Rattle.types_10.specs.View.{pair_trees};
+
+    ghost view = { λ a. map pair_trees a.pairs.items };
+
+    ghost size = { pairs_depth_of };
+
+    ghost use Rattle.types_10.specs.Falls.{pairs_fall};
+
+    ghost size_decreases = { λ a h. pairs_fall a.pairs.items };
+}
+
+impl Model for Inner {
+    ghost use Rattle.types_10.specs.Tree.{Tree, depth};
+    ghost use Rattle.types_10.specs.TreeCode.{tree_code};
+
+    ghost Value = { Tree };
+
+    ghost coded = { tree_code };
+
+    ghost use Rattle.types_10.specs.View.{value_tree};
+
+    ghost view = { λ a. value_tree a.value.value };
+
+    ghost size = { depth };
+
+    ghost use Rattle.types_10.specs.Falls.{inner_falls};
+
+    ghost size_decreases = { λ a h. inner_falls a.value.value };
+}
+
+impl ValueList {
+    /// The empty list. It takes the allocator that later growth uses, and no memory.
+    pub fn empty(alloc: Global) -> ValueList
+        ensures { result ≡ [] }
+    {
+        ValueList {
+            items: Vec::new(alloc),
+        }
+    }
+
+    /// Adds a value at the end, or leaves the list as it was and drops the value.
+    pub fn push(&mut self, value: Value10) -> Result<(), Memory>
+        ensures ok { OnOk result (self.new ≡ self.old ++ value_tree value ∷ []) }
+        ensures err { OnErr result (self.new ≡ self.old) }
+    {
+        self.items.push(value)?;
+        Ok(())
+    }
+
+    /// Adds a value at the front, or leaves the list as it was and drops the value.
+    pub(crate) fn push_front(&mut self, value: Value10) -> Result<(), Memory>
+        ensures ok { OnOk result (self.new ≡ value_tree value ∷ self.old) }
+        ensures err { OnErr result (self.new ≡ self.old) }
+    {
+        self.items.insert(0, value)?;
+        Ok(())
+    }
+
+    /// The count of the values.
+    pub fn len(&self) -> usize
+        ensures { result ≡ length self.now }
+    {
+        self.items.len()
+    }
+
+    /// Value `k`, counted from 0; `None` exactly where there is none.
+    pub fn get(&self, k: usize) -> Option<&Value10>
+        ensures { option_map (λ v. value_tree v.now) result ≡ slice_get self.now k }
+    {
+        self.items.get(k)
+    }
+}
+
+impl PairList {
+    /// The empty list of pairs. It takes the allocator that later growth uses, and no memory.
+    pub fn empty(alloc: Global) -> PairList
+        ensures { result ≡ [] }
+    {
+        PairList {
+            pairs: Vec::new(alloc),
+        }
+    }
+
+    /// Adds a pair at the end, or leaves the list as it was and drops the pair.
+    pub fn push(&mut self, key: Value10, value: Value10) -> Result<(), Memory>
+        ensures ok { OnOk result (self.new ≡ self.old ++ (value_tree key, value_tree value) ∷ []) }
+        ensures err { OnErr result (self.new ≡ self.old) }
+    {
+        self.pairs.push((key, value))?;
+        Ok(())
+    }
+
+    /// The count of the pairs.
+    pub fn len(&self) -> usize
+        ensures { result ≡ length self.now }
+    {
+        self.pairs.len()
+    }
+
+    /// The key and the value of pair `k`, counted from 0; `None` exactly where there is none.
+    pub fn get(&self, k: usize) -> Option<(&Value10, &Value10)>
+        ensures { option_map (λ p. (value_tree p.0.now, value_tree p.1.now)) result ≡ slice_get self.now k }
+    {
+        let (key, value) = self.pairs.get(k)?;
+        Some((key, value))
+    }
+}
+
+impl Inner {
+    /// The value, as a part of a described one.
+    pub fn new(alloc: Global, value: Value10) -> Result<Inner, Memory>
+        ensures { IfOk result (λ inner. inner ≡ value_tree value) }
+    {
+        let value = Box::new(alloc, value)?;
+        Ok(Inner { value })
+    }
+
+    /// The value itself.
+    pub fn get(&self) -> &Value10
+        ensures { value_tree result.now ≡ self.now }
+    {
+        &self.value
+    }
+}
