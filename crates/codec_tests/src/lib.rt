@@ -6,4 +6,6 @@ mod closes;
 #[cfg(test)]
 mod frames;
 #[cfg(test)]
+mod methods;
+#[cfg(test)]
 mod tables;
