@@ -33,7 +33,7 @@ fn options(rt: &(impl Abort + AllocGlobal)) -> Result<Table, Fail>
     ensures { IfOk result HasSpelling }
 {
     let mut table = Table::empty(rt.alloc());
-    table.push(ByteText::copy_of(rt.alloc(), b"k")?, Field::U8(7))?;
+    table.push((ByteText::copy_of(rt.alloc(), b"k")?, Field::U8(7)))?;
     Ok(table)
 }
 

@@ -220,7 +220,7 @@ fn table_of(alloc: Global, field: Field) -> Result<Table, Memory>
 {
     let name = ByteText::copy_of(alloc, b"a")?;
     let mut table = Table::empty(alloc);
-    table.push(name, field)?;
+    table.push((name, field))?;
     Ok(table)
 }
 
@@ -289,8 +289,8 @@ fn nested_table(alloc: Global) -> Result<Field, Memory>
         ≡ table (member [] (table no_members) (member (107 ∷ []) (scalar void) no_members))) }
 {
     let mut inside = Table::empty(alloc);
-    inside.push(ByteText::empty(alloc), Field::Table(Table::empty(alloc)))?;
-    inside.push(ByteText::copy_of(alloc, b"k")?, Field::Void)?;
+    inside.push((ByteText::empty(alloc), Field::Table(Table::empty(alloc))))?;
+    inside.push((ByteText::copy_of(alloc, b"k")?, Field::Void))?;
     Ok(Field::Table(inside))
 }
 

@@ -1,7 +1,7 @@
 //! Fields, and the lists and tables of them (AMQP 0-9-1 4.2.5.5).
 
 ghost use Rattle.std.specs.Prelude.{◌≡◌, ℕ, ◌+◌, List, [], ◌∷◌, ◌++◌, length, option_map, slice_get, OnOk, OnErr};
-ghost use Rattle.tables_091.specs.View.{field_tree};
+ghost use Rattle.tables_091.specs.View.{entry_member, field_tree};
 ghost use Rattle.tables_091.specs.Ranges.{IsRanged, AreRanged};
 
 use std::alloc::Global;
@@ -201,12 +201,12 @@ impl Table {
 
     /// Adds an entry at the end, or leaves the table as it was and drops the entry.
     /// A name may have any length here; only to write the table does it need at most 255 bytes.
-    pub fn push(&mut self, name: ByteText, field: Field) -> Result<(), Memory>
-        ensures ok { OnOk result (self.new ≡ self.old ++ (name, field_tree field) ∷ []) }
+    pub fn push(&mut self, entry: (ByteText, Field)) -> Result<(), Memory>
+        ensures ok { OnOk result (self.new ≡ self.old ++ entry_member entry ∷ []) }
         ensures err { OnErr result (self.new ≡ self.old) }
     {
-        tell_field_ranges(&field);
-        self.entries.push((name, field))?;
+        tell_field_ranges(&entry.1);
+        self.entries.push(entry)?;
         Ok(())
     }
 
@@ -225,10 +225,9 @@ impl Table {
     }
 
     /// The name and the field of entry `k`, counted from 0; `None` exactly where there is none.
-    pub fn get(&self, k: usize) -> Option<(&ByteText, &Field)>
-        ensures { option_map (λ e. (e.0.now, field_tree e.1.now)) result ≡ slice_get self.now k }
+    pub fn get(&self, k: usize) -> Option<&(ByteText, Field)>
+        ensures { option_map (λ e. entry_member e.now) result ≡ slice_get self.now k }
     {
-        let (name, field) = self.entries.get(k)?;
-        Some((name, field))
+        self.entries.get(k)
     }
 }

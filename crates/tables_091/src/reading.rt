@@ -252,7 +252,7 @@ fn entries_of(alloc: Global, depth: u8, end: usize, body: &[u8]) -> Result<Table
     let mut rest = body;
     while !rest.is_empty() {
         let ((name, field), after) = entry_of(alloc, depth, end, rest)?;
-        table.push(name, field)?;
+        table.push((name, field))?;
         rest = after;
     }
     Ok(table)
