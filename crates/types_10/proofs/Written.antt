@@ -1,8 +1,7 @@
 -- Values that hold no other: what is written is in the grammar, and by the first code that can spell it.
-use Rattle.std.proofs.Common.{◌≡◌, ℕ, ◌+◌, ◌^◌, ◌<◌, ◌≤◌, Bool, true, false, cond, eqb, ltb, ◌&&◌, List, [], ◌∷◌, ◌++◌, length, ℤ, pos, negsuc, refl, sym, ap, subst, ◌∙◌, arith}
+use Rattle.std.proofs.Common.{◌≡◌, ℕ, ◌^◌, ◌<◌, ◌≤◌, Bool, true, false, cond, eqb, ltb, List, [], ◌∷◌, length, ℤ, refl, sym, ap, ◌∙◌, arith}
 use Rattle.std.specs.Bool.{IsTrue}
-use Rattle.std.proofs.lemmas.Bool.{eqb-true, eq-eqb, ltb-true, ltb-false, le-ltb}
-use Rattle.std.proofs.lemmas.Bool.Decides.{nat_tests}
+use Rattle.std.proofs.lemmas.Bool.{eqb-true, ltb-true, ltb-false}
 use Rattle.std.proofs.lemmas.Int.{ints, to_z-of_z}
 use Rattle.std.specs.Int.{w8, w16, w32, w64, to_be_bytes, cast_unsigned, cast_signed}
 use Rattle.std.specs.Int.RustNames.{FitsSigned}
@@ -10,6 +9,7 @@ use Rattle.wire_base.specs.Spelling.{text_of}
 use Rattle.types_10.specs.Tree.{Scalar, null, boolean, ubyte, byte, ushort, short, uint, int, ulong, long, float, double, decimal32, decimal64, decimal128, char, timestamp, uuid, binary, string, symbol}
 use Rattle.types_10.specs.Kinds.{kind_byte, text_scalar, is_text}
 use Rattle.types_10.specs.Grammar.{IsSingle}
+use Rattle.types_10.specs.Ranges.{IsInRange}
 use Rattle.types_10.specs.Writing.{is_small, sized_text, uint_text, ulong_text, int_text, long_text, scalar_text, CanPutScalar, IsCanonicalScalar}
 use Rattle.types_10.specs.declared.kind.Kind.TheVariants as kind
 use Rattle.types_10.specs.declared.kind.Single.{Single}
@@ -169,32 +169,32 @@ text_written k s brief full fits good p q = at (ltb (length s) 256) refl
     at true e = let fewer : length s < 256 = ltb-true _ _ e in (single.Text k size.Short, text_of w8 s, (s, refl, (good, (omega arith, refl))), ap (λ (c : ℕ). c ∷ text_of w8 s) (sym p), sym p)
     at false e = (single.Text k size.Long, text_of w32 s, (s, refl, (good, (omega arith, refl))), ap (λ (c : ℕ). c ∷ text_of w32 s) (sym q), sym q)
 
-scalar_written : (s : Scalar) → CanPutScalar s → IsWritten s (scalar_text s)
-scalar_written null can = (single.Bare bare.Null, [], (refl, refl), refl, refl)
-scalar_written (boolean true) can = (single.Bare bare.True, [], (refl, refl), refl, refl)
-scalar_written (boolean false) can = (single.Bare bare.False, [], (refl, refl), refl, refl)
-scalar_written (ubyte n) can = (single.Octet octet.Ubyte, _, (n, refl, (can, refl)), refl, refl)
-scalar_written (ushort n) can = (single.Wide wide.Ushort, _, (n, refl, (can, refl)), refl, refl)
-scalar_written (float n) can = (single.Wide wide.Float, _, (n, refl, (can, refl)), refl, refl)
-scalar_written (double n) can = (single.Wide wide.Double, _, (n, refl, (can, refl)), refl, refl)
-scalar_written (decimal32 n) can = (single.Wide wide.Decimal32, _, (n, refl, (can, refl)), refl, refl)
-scalar_written (decimal64 n) can = (single.Wide wide.Decimal64, _, (n, refl, (can, refl)), refl, refl)
-scalar_written (byte z) can = (single.Octet octet.Byte, _, (cast_unsigned w8 z, ap byte (sym (to_z-of_z w8 z can)), (omega (arith, ints), refl)), refl, refl)
-scalar_written (short z) can = (single.Wide wide.Short, _, (cast_unsigned w16 z, ap short (sym (to_z-of_z w16 z can)), (omega (arith, ints), refl)), refl, refl)
-scalar_written (timestamp z) can = (single.Wide wide.Timestamp, _, (cast_unsigned w64 z, ap timestamp (sym (to_z-of_z w64 z can)), (omega (arith, ints), refl)), refl, refl)
-scalar_written (uint n) can = uint_written n can
-scalar_written (ulong n) can = ulong_written n can
-scalar_written (int z) can = int_written z can
-scalar_written (long z) can = long_written z can
-scalar_written (char n) can = (single.Char, _, (n, refl, (can.1, (can.0, refl))), refl, refl)
-scalar_written (decimal128 s) can = (single.Sixteen sixteen.Decimal128, s, (s, refl, (can, refl)), refl, refl)
-scalar_written (uuid s) can = (single.Sixteen sixteen.Uuid, s, (s, refl, (can, refl)), refl, refl)
-scalar_written (binary s) can = text_written text.Binary s 160 176 can refl refl refl
-scalar_written (string s) can = text_written text.String s 161 177 can.0 can.1 refl refl
-scalar_written (symbol s) can = text_written text.Symbol s 163 179 can.0 can.1 refl refl
+scalar_written : (s : Scalar) → IsInRange s → CanPutScalar s → IsWritten s (scalar_text s)
+scalar_written null fits can = (single.Bare bare.Null, [], (refl, refl), refl, refl)
+scalar_written (boolean true) fits can = (single.Bare bare.True, [], (refl, refl), refl, refl)
+scalar_written (boolean false) fits can = (single.Bare bare.False, [], (refl, refl), refl, refl)
+scalar_written (ubyte n) fits can = (single.Octet octet.Ubyte, _, (n, refl, (fits, refl)), refl, refl)
+scalar_written (ushort n) fits can = (single.Wide wide.Ushort, _, (n, refl, (fits, refl)), refl, refl)
+scalar_written (float n) fits can = (single.Wide wide.Float, _, (n, refl, (fits, refl)), refl, refl)
+scalar_written (double n) fits can = (single.Wide wide.Double, _, (n, refl, (fits, refl)), refl, refl)
+scalar_written (decimal32 n) fits can = (single.Wide wide.Decimal32, _, (n, refl, (fits, refl)), refl, refl)
+scalar_written (decimal64 n) fits can = (single.Wide wide.Decimal64, _, (n, refl, (fits, refl)), refl, refl)
+scalar_written (byte z) fits can = (single.Octet octet.Byte, _, (cast_unsigned w8 z, ap byte (sym (to_z-of_z w8 z fits)), (omega (arith, ints), refl)), refl, refl)
+scalar_written (short z) fits can = (single.Wide wide.Short, _, (cast_unsigned w16 z, ap short (sym (to_z-of_z w16 z fits)), (omega (arith, ints), refl)), refl, refl)
+scalar_written (timestamp z) fits can = (single.Wide wide.Timestamp, _, (cast_unsigned w64 z, ap timestamp (sym (to_z-of_z w64 z fits)), (omega (arith, ints), refl)), refl, refl)
+scalar_written (uint n) fits can = uint_written n fits
+scalar_written (ulong n) fits can = ulong_written n fits
+scalar_written (int z) fits can = int_written z fits
+scalar_written (long z) fits can = long_written z fits
+scalar_written (char n) fits can = (single.Char, _, (n, refl, (can, (fits, refl))), refl, refl)
+scalar_written (decimal128 s) fits can = (single.Sixteen sixteen.Decimal128, s, (s, refl, (fits, refl)), refl, refl)
+scalar_written (uuid s) fits can = (single.Sixteen sixteen.Uuid, s, (s, refl, (fits, refl)), refl, refl)
+scalar_written (binary s) fits can = text_written text.Binary s 160 176 can refl refl refl
+scalar_written (string s) fits can = text_written text.String s 161 177 can.0 can.1 refl refl
+scalar_written (symbol s) fits can = text_written text.Symbol s 163 179 can.0 can.1 refl refl
 
 -- what is written is canonical
-pub scalar_is_canonical : (s : Scalar) → CanPutScalar s → IsCanonicalScalar s (scalar_text s)
-scalar_is_canonical s can =
-    let w = scalar_written s can in
+pub scalar_is_canonical : (s : Scalar) → IsInRange s → CanPutScalar s → IsCanonicalScalar s (scalar_text s)
+scalar_is_canonical s fits can =
+    let w = scalar_written s fits can in
     (w.0, w.1, w.2, w.3, λ j other h. let k : code_of s ≤ kind_byte (kind.Single j) = first_code s j other h in omega (arith, w.4))

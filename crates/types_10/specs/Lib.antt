@@ -1,6 +1,7 @@
 pub mod Falls
 pub mod Grammar
 pub mod Kinds
+pub mod Ranges
 pub mod Reading
 pub mod Shapes
 pub mod Tree

@@ -2,7 +2,6 @@
 -- Here stand the values that hold no other.
 use Rattle.std.specs.Prelude.{◌≡◌, ℕ, ◌<◌, ◌≤◌, ◌^◌, Bool, ◌==◌, ◌&&◌, nat_lt, if◌then◌else◌, IsTrue, List, [], ◌∷◌, length, ℤ, pos, negsuc}
 use Rattle.std.specs.Int.{w8, w16, w32, w64, to_be_bytes, cast_unsigned}
-use Rattle.std.specs.Int.RustNames.{FitsSigned}
 use Rattle.std.specs.Int.Signed.{le_z, lt_z}
 use Rattle.wire_base.specs.Spelling.{text_of}
 use Rattle.types_10.specs.Tree.{Scalar, null, boolean, ubyte, byte, ushort, short, uint, int, ulong, long, float, double, decimal32, decimal64, decimal128, char, timestamp, uuid, binary, string, symbol, Tree, scalar, list, mapping, array, described}
@@ -58,26 +57,26 @@ scalar_text (binary s) = sized_text 160 176 s
 scalar_text (string s) = sized_text 161 177 s
 scalar_text (symbol s) = sized_text 163 179 s
 
--- a value that can be written: numbers of their types, lengths that fit 32 bits, chars Unicode scalar values, strings UTF-8, symbols ASCII
+-- a value that can be written: lengths fit 32 bits, a char is a Unicode scalar value, a string UTF-8, and a symbol ASCII
 abbrev pub CanPutScalar : Scalar → Type 0
 CanPutScalar null = Unit {0}
 CanPutScalar (boolean b) = Unit {0}
-CanPutScalar (ubyte n) = n < 2 ^ 8
-CanPutScalar (byte z) = FitsSigned w8 z
-CanPutScalar (ushort n) = n < 2 ^ 16
-CanPutScalar (short z) = FitsSigned w16 z
-CanPutScalar (uint n) = n < 2 ^ 32
-CanPutScalar (int z) = FitsSigned w32 z
-CanPutScalar (ulong n) = n < 2 ^ 64
-CanPutScalar (long z) = FitsSigned w64 z
-CanPutScalar (float n) = n < 2 ^ 32
-CanPutScalar (double n) = n < 2 ^ 64
-CanPutScalar (decimal32 n) = n < 2 ^ 32
-CanPutScalar (decimal64 n) = n < 2 ^ 64
-CanPutScalar (decimal128 s) = length s ≡ 16
-CanPutScalar (char n) = (n < 2 ^ 32) × IsTrue (is_character n)
-CanPutScalar (timestamp z) = FitsSigned w64 z
-CanPutScalar (uuid s) = length s ≡ 16
+CanPutScalar (ubyte n) = Unit {0}
+CanPutScalar (byte z) = Unit {0}
+CanPutScalar (ushort n) = Unit {0}
+CanPutScalar (short z) = Unit {0}
+CanPutScalar (uint n) = Unit {0}
+CanPutScalar (int z) = Unit {0}
+CanPutScalar (ulong n) = Unit {0}
+CanPutScalar (long z) = Unit {0}
+CanPutScalar (float n) = Unit {0}
+CanPutScalar (double n) = Unit {0}
+CanPutScalar (decimal32 n) = Unit {0}
+CanPutScalar (decimal64 n) = Unit {0}
+CanPutScalar (decimal128 s) = Unit {0}
+CanPutScalar (char n) = IsTrue (is_character n)
+CanPutScalar (timestamp z) = Unit {0}
+CanPutScalar (uuid s) = Unit {0}
 CanPutScalar (binary s) = length s < 2 ^ 32
 CanPutScalar (string s) = (length s < 2 ^ 32) × IsTrue (is_text text.String s)
 CanPutScalar (symbol s) = (length s < 2 ^ 32) × IsTrue (is_text text.Symbol s)

@@ -1,6 +1,7 @@
 //! Values, and the lists and maps of them (AMQP 1.0 1.6).
 
 ghost use Rattle.std.specs.Prelude.{◌≡◌, ℕ, ◌+◌, List, [], ◌∷◌, ◌++◌, length, option_map, slice_get, IfOk, OnOk, OnErr};
+ghost use Rattle.types_10.specs.Ranges.{IsRanged};
 ghost use Rattle.types_10.specs.View.{value_tree, pair_trees};
 
 use std::alloc::Global;
@@ -78,6 +79,11 @@ impl Model for ValueList {
 
     ghost view = { λ a. map value_tree a.items.items };
 
+    // The list in a clause is one of numbers without bounds, so the invariant keeps those of the types.
+    ghost use Rattle.types_10.specs.Ranges.{ListIsRanged};
+
+    ghost invariant = { λ a. ListIsRanged (map value_tree a.items.items) };
+
     ghost size = { list_depth };
 
     ghost use Rattle.types_10.specs.Falls.{list_falls};
@@ -98,6 +104,11 @@ impl Model for PairList {
 
     ghost view = { λ a. map pair_trees a.pairs.items };
 
+    // As for the values of a list.
+    ghost use Rattle.types_10.specs.Ranges.{PairsAreRanged};
+
+    ghost invariant = { λ a. PairsAreRanged (map pair_trees a.pairs.items) };
+
     ghost size = { pairs_depth_of };
 
     ghost use Rattle.types_10.specs.Falls.{pairs_fall};
@@ -117,11 +128,71 @@ impl Model for Inner {
 
     ghost view = { λ a. value_tree a.value.value };
 
+    // As for the values of a list.
+    ghost use Rattle.types_10.specs.Ranges.{IsRanged};
+
+    ghost invariant = { λ a. IsRanged (value_tree a.value.value) };
+
     ghost size = { depth };
 
     ghost use Rattle.types_10.specs.Falls.{inner_falls};
 
     ghost size_decreases = { λ a h. inner_falls a.value.value };
+}
+
+/// Tells proofs that sixteen bytes are sixteen. The call does nothing.
+fn tell_length(bytes: &[u8; 16])
+    ensures { length bytes.now ≡ 16 }
+{
+    let _known = *bytes;
+}
+
+/// Tells proofs that the numbers inside a value are of their types. The call does nothing.
+pub fn tell_ranges(value: &Value10)
+    ensures { IsRanged (value_tree value.now) }
+{
+    match value {
+        Value10::Ubyte(n) => {
+            let _known = *n;
+        }
+        Value10::Byte(n) => {
+            let _known = *n;
+        }
+        Value10::Ushort(n) => {
+            let _known = *n;
+        }
+        Value10::Short(n) => {
+            let _known = *n;
+        }
+        Value10::Uint(n) | Value10::Float(n) | Value10::Decimal32(n) | Value10::Char(n) => {
+            let _known = *n;
+        }
+        Value10::Int(n) => {
+            let _known = *n;
+        }
+        Value10::Ulong(n) | Value10::Double(n) | Value10::Decimal64(n) => {
+            let _known = *n;
+        }
+        Value10::Long(n) | Value10::Timestamp(n) => {
+            let _known = *n;
+        }
+        Value10::Decimal128(bytes) | Value10::Uuid(bytes) => tell_length(bytes),
+        Value10::List(list) | Value10::Array(list) => {
+            let _known = &list.items;
+        }
+        Value10::Map(list) => {
+            let _known = &list.pairs;
+        }
+        Value10::Described(descriptor, value) => {
+            let _known = &descriptor.value;
+            let _known = &value.value;
+        }
+        Value10::Null
+        | Value10::Boolean(_)
+        | Value10::Binary(_)
+        | Value10::String(_)
+        | Value10::Symbol(_) => {}
+    }
 }
 
 impl ValueList {
@@ -139,6 +210,7 @@ impl ValueList {
         ensures ok { OnOk result (self.new ≡ self.old ++ value_tree value ∷ []) }
         ensures err { OnErr result (self.new ≡ self.old) }
     {
+        tell_ranges(&value);
         self.items.push(value)?;
         Ok(())
     }
@@ -148,6 +220,7 @@ impl ValueList {
         ensures ok { OnOk result (self.new ≡ value_tree value ∷ self.old) }
         ensures err { OnErr result (self.new ≡ self.old) }
     {
+        tell_ranges(&value);
         self.items.insert(0, value)?;
         Ok(())
     }
@@ -182,6 +255,8 @@ impl PairList {
         ensures ok { OnOk result (self.new ≡ self.old ++ (value_tree key, value_tree value) ∷ []) }
         ensures err { OnErr result (self.new ≡ self.old) }
     {
+        tell_ranges(&key);
+        tell_ranges(&value);
         self.pairs.push((key, value))?;
         Ok(())
     }
@@ -207,6 +282,7 @@ impl Inner {
     pub fn new(alloc: Global, value: Value10) -> Result<Inner, Memory>
         ensures { IfOk result (λ inner. inner ≡ value_tree value) }
     {
+        tell_ranges(&value);
         let value = Box::new(alloc, value)?;
         Ok(Inner { value })
     }
