@@ -6,6 +6,4 @@ mod closes;
 #[cfg(test)]
 mod frames;
 #[cfg(test)]
-mod methods;
-#[cfg(test)]
 mod tables;

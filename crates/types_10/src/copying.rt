@@ -66,7 +66,7 @@ fn copy_pairs(alloc: Global, pairs: &[(Value10, Value10)]) -> Result<PairList, M
     let mut list = PairList::empty(alloc);
     for pair in pairs {
         let (key, value) = copy_pair(alloc, pair)?;
-        list.push(key, value)?;
+        list.push((key, value))?;
     }
     Ok(list)
 }

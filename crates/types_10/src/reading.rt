@@ -541,7 +541,7 @@ fn pairs_of(
     let mut done = 0;
     while done < count {
         let ((key, value), after) = pair_of(alloc, depth, bounds, rest)?;
-        list.push(key, value)?;
+        list.push((key, value))?;
         rest = after;
         done += 1;
     }

@@ -75,7 +75,7 @@ impl Model for ValueList {
 
     ghost coded = { trees_code };
 
-    ghost use Rattle.types_10.specs.View.{value_tree};
+    ghost use Rattle.types_10.specs.View.{pair_trees, value_tree};
 
     ghost view = { λ a. map value_tree a.items.items };
 
@@ -251,13 +251,13 @@ impl PairList {
     }
 
     /// Adds a pair at the end, or leaves the list as it was and drops the pair.
-    pub fn push(&mut self, key: Value10, value: Value10) -> Result<(), Memory>
-        ensures ok { OnOk result (self.new ≡ self.old ++ (value_tree key, value_tree value) ∷ []) }
+    pub fn push(&mut self, pair: (Value10, Value10)) -> Result<(), Memory>
+        ensures ok { OnOk result (self.new ≡ self.old ++ pair_trees pair ∷ []) }
         ensures err { OnErr result (self.new ≡ self.old) }
     {
-        tell_ranges(&key);
-        tell_ranges(&value);
-        self.pairs.push((key, value))?;
+        tell_ranges(&pair.0);
+        tell_ranges(&pair.1);
+        self.pairs.push(pair)?;
         Ok(())
     }
 
@@ -269,11 +269,10 @@ impl PairList {
     }
 
     /// The key and the value of pair `k`, counted from 0; `None` exactly where there is none.
-    pub fn get(&self, k: usize) -> Option<(&Value10, &Value10)>
-        ensures { option_map (λ p. (value_tree p.0.now, value_tree p.1.now)) result ≡ slice_get self.now k }
+    pub fn get(&self, k: usize) -> Option<&(Value10, Value10)>
+        ensures { option_map (λ p. pair_trees p.now) result ≡ slice_get self.now k }
     {
-        let (key, value) = self.pairs.get(k)?;
-        Some((key, value))
+        self.pairs.get(k)
     }
 }
 
