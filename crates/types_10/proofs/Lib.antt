@@ -4,4 +4,3 @@ pub mod RangeLaws
 pub mod ReaderLaws
 pub mod Texts
 pub mod ValueLaws
-pub mod Written

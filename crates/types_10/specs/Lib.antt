@@ -1,3 +1,4 @@
+pub mod Canonical
 pub mod Falls
 pub mod Grammar
 pub mod Kinds

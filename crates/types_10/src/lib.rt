@@ -7,7 +7,6 @@ mod kind;
 mod laws;
 mod reading;
 mod value;
-mod writing;
 
 pub use fault::TypeFault;
 pub use laws::value_laws;
