@@ -2,6 +2,7 @@ pub mod Canonical
 pub mod Falls
 pub mod Grammar
 pub mod Kinds
+pub mod Measures
 pub mod Ranges
 pub mod Reading
 pub mod Shapes

@@ -1,0 +1,68 @@
+-- How many bytes are written of a value (AMQP 1.0 1.6): those of a content that its kind alone decides, and the others.
+use Rattle.std.specs.Prelude.{◌≡◌, ℕ, ◌+◌, ◌-◌, ◌*◌, ◌^◌, min, List, length}
+use Rattle.std.specs.Int.{byte_len}
+use Rattle.types_10.specs.Tree.{Scalar, null, boolean, ubyte, byte, ushort, short, uint, int, ulong, long, float, double, decimal32, decimal64, decimal128, char, timestamp, uuid, binary, string, symbol, Tree, scalar, list, mapping, array, described, Trees, no_trees, tree}
+use Rattle.types_10.specs.Kinds.{wide_width, size_width}
+use Rattle.types_10.specs.Writing.{written_each, written_pairs, array_body}
+use Rattle.types_10.specs.declared.kind.Kind.{Kind}
+use Rattle.types_10.specs.declared.kind.Kind.TheVariants as kind
+use Rattle.types_10.specs.declared.kind.Single.{Single}
+use Rattle.types_10.specs.declared.kind.Single.TheVariants as single
+
+-- a length as the program has it: no higher than a usize goes
+abbrev pub capped : ℕ → ℕ
+capped n = min n (2 ^ 64 - 1)
+
+-- the bytes that the kind decides: a number, the length of a text, or a size and a count
+abbrev pub single_head : Single → ℕ
+single_head (single.Bare k) = 0
+single_head single.Boolean = 1
+single_head (single.Octet k) = 1
+single_head (single.Wide k) = byte_len (wide_width k)
+single_head single.Char = 4
+single_head (single.Sixteen k) = 0
+single_head (single.Text k z) = byte_len (size_width z)
+
+abbrev pub head_len : Kind → ℕ
+head_len (kind.Single k) = single_head k
+head_len kind.EmptyList = 0
+head_len (kind.List z) = 2 * byte_len (size_width z)
+head_len (kind.Map z) = 2 * byte_len (size_width z)
+head_len (kind.Array z) = 2 * byte_len (size_width z)
+head_len kind.Described = 0
+
+-- the other bytes of a content: sixteen that are one number, a text, or what a value holds
+abbrev pub scalar_body : Scalar → ℕ
+scalar_body null = 0
+scalar_body (boolean b) = 0
+scalar_body (ubyte n) = 0
+scalar_body (byte z) = 0
+scalar_body (ushort n) = 0
+scalar_body (short z) = 0
+scalar_body (uint n) = 0
+scalar_body (int z) = 0
+scalar_body (ulong n) = 0
+scalar_body (long z) = 0
+scalar_body (float n) = 0
+scalar_body (double n) = 0
+scalar_body (decimal32 n) = 0
+scalar_body (decimal64 n) = 0
+scalar_body (decimal128 s) = length s
+scalar_body (char n) = 0
+scalar_body (timestamp z) = 0
+scalar_body (uuid s) = length s
+scalar_body (binary s) = length s
+scalar_body (string s) = length s
+scalar_body (symbol s) = length s
+
+abbrev pub body_len : Tree → ℕ
+body_len (scalar s) = scalar_body s
+body_len (list ts) = length (written_each ts).text
+body_len (mapping ps) = length (written_pairs ps).1
+body_len (array ts) = length (array_body (written_each ts))
+body_len (described d t) = body_len t
+
+-- those of values together
+abbrev pub bodies_len : Trees → ℕ
+bodies_len no_trees = 0
+bodies_len (tree t ts) = body_len t + bodies_len ts
