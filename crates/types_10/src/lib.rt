@@ -5,6 +5,7 @@ mod copying;
 mod fault;
 mod kind;
 mod laws;
+mod measure;
 mod reading;
 mod value;
 
