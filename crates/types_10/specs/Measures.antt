@@ -1,13 +1,19 @@
 -- How many bytes are written of a value (AMQP 1.0 1.6): those of a content that its kind alone decides, and the others.
-use Rattle.std.specs.Prelude.{◌≡◌, ℕ, ◌+◌, ◌-◌, ◌*◌, ◌^◌, min, List, length}
+use Rattle.std.specs.Prelude.{◌≡◌, ℕ, ◌+◌, ◌-◌, ◌*◌, ◌^◌, min, List, ◌++◌, length, if◌then◌else◌}
 use Rattle.std.specs.Int.{byte_len}
 use Rattle.types_10.specs.Tree.{Scalar, null, boolean, ubyte, byte, ushort, short, uint, int, ulong, long, float, double, decimal32, decimal64, decimal128, char, timestamp, uuid, binary, string, symbol, Tree, scalar, list, mapping, array, described, Trees, no_trees, tree}
 use Rattle.types_10.specs.Kinds.{wide_width, size_width}
-use Rattle.types_10.specs.Writing.{written_each, written_pairs, array_body}
+use Rattle.types_10.specs.Writing.{is_brief, written, written_each, written_pairs, array_body, value_text}
 use Rattle.types_10.specs.declared.kind.Kind.{Kind}
 use Rattle.types_10.specs.declared.kind.Kind.TheVariants as kind
 use Rattle.types_10.specs.declared.kind.Single.{Single}
 use Rattle.types_10.specs.declared.kind.Single.TheVariants as single
+use Rattle.types_10.specs.declared.kind.Size.{Size}
+use Rattle.types_10.specs.declared.kind.Size.TheVariants as size
+use Rattle.types_10.specs.View.{value_tree}
+use Rattle.types_10.specs.declared.value.Value10.{Value10}
+use Rattle.types_10.specs.declared.measure.Measure.{Measure}
+use Rattle.types_10.specs.declared.measure.EachMeasure.{EachMeasure}
 
 -- a length as the program has it: no higher than a usize goes
 abbrev pub capped : ℕ → ℕ
@@ -66,3 +72,24 @@ body_len (described d t) = body_len t
 abbrev pub bodies_len : Trees → ℕ
 bodies_len no_trees = 0
 bodies_len (tree t ts) = body_len t + bodies_len ts
+
+-- what the program knows of a value before it is written
+pub record IsMeasure (m : Measure) (t : Tree) : Type 0 where
+  pub kind : m.kind ≡ (written t).kind
+  pub front : m.front ≡ capped (length (written t).front)
+  pub body : m.body ≡ capped (body_len t)
+
+-- and of values together
+pub record IsEachMeasure (m : EachMeasure) (ts : Trees) : Type 0 where
+  pub text : m.text ≡ capped (length (written_each ts).text)
+  pub front : m.front ≡ capped (length (written_each ts).front)
+  pub kind : m.kind ≡ (written_each ts).kind
+  pub bodies : m.bodies ≡ capped (bodies_len ts)
+
+-- how wide the size and the count of what a value holds are, where it stands alone
+abbrev pub held_size : ℕ → List ℕ → Size
+held_size count body = if is_brief count body then size.Short else size.Long
+
+-- a pair of a map: the key, and then the value
+abbrev pub pair_text : Value10 × Value10 → List ℕ
+pair_text p = value_text (value_tree p.0) ++ value_text (value_tree p.1)
