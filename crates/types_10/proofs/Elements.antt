@@ -1,0 +1,72 @@
+-- What is said of the values in a list or a map, said of a slice's values and pairs one by one.
+use Rattle.std.proofs.Common.{◌≡◌, ℕ, ◌+◌, ◌-◌, ◌*◌, ◌<◌, ◌^◌, min, Bool, true, false, cond, List, [], ◌∷◌, ◌++◌, length, get_or, map, All, refl, sym, ap, ◌∙◌, append_assoc, arith}
+use Rattle.std.specs.List.{flat_map, AllByRecursion}
+use Rattle.std.proofs.lemmas.List.Elements.{All-from_recursion}
+use Rattle.types_10.specs.Tree.{Trees, trees_of, pairs_of}
+use Rattle.types_10.specs.View.{value_tree, pair_trees}
+use Rattle.types_10.specs.Writing.{is_brief, map_kind, array_kind, array_body, written_each, written_pairs, value_text, AreOfOneType, IsWritable, EachIsWritable, PairsAreWritable}
+use Rattle.types_10.specs.Measures.{capped, head_len, bodies_len, held_size, pair_text, IsEachMeasure}
+use Rattle.types_10.specs.declared.kind.Kind.{Kind}
+use Rattle.types_10.specs.declared.kind.Kind.TheVariants as kind
+use Rattle.types_10.specs.declared.kind.Size.{Size}
+use Rattle.types_10.specs.declared.kind.Size.TheVariants as size
+use Rattle.types_10.specs.declared.measure.EachMeasure.{EachMeasure}
+use Rattle.types_10.specs.declared.value.Value10.{Value10}
+use Rattle.types_10.proofs.Measures.{elements_len}
+
+-- ---- counts
+
+pub each_count : (vs : List Value10) → (written_each (trees_of (map value_tree vs))).count ≡ length vs
+each_count [] = refl
+each_count (v ∷ vs) = omega (arith, each_count vs)
+
+pub pairs_count : (ps : List (Value10 × Value10)) → (written_pairs (pairs_of (map pair_trees ps))).0 ≡ 2 * length ps
+pairs_count [] = refl
+pairs_count (p ∷ ps) = omega (arith, pairs_count ps)
+
+-- ---- texts
+
+pub pairs_text : (ps : List (Value10 × Value10)) → (written_pairs (pairs_of (map pair_trees ps))).1 ≡ flat_map pair_text ps
+pairs_text [] = refl
+pairs_text (p ∷ ps) = ap (λ (more : List ℕ). pair_text p ++ more) (pairs_text ps)
+
+-- ---- which values can be written
+
+abbrev pub ValueIsWritable : Value10 → Type 0
+ValueIsWritable v = IsWritable (value_tree v)
+
+abbrev pub PairIsWritable : Value10 × Value10 → Type 0
+PairIsWritable p = ValueIsWritable p.0 × ValueIsWritable p.1
+
+values_writable : (vs : List Value10) → EachIsWritable (trees_of (map value_tree vs)) → AllByRecursion ValueIsWritable vs
+values_writable [] h = tt
+values_writable (v ∷ vs) h = (h.0, values_writable vs h.1)
+
+pub values_are_writable : (vs : List Value10) → EachIsWritable (trees_of (map value_tree vs)) → All ValueIsWritable vs
+values_are_writable vs h = All-from_recursion ValueIsWritable vs (values_writable vs h)
+
+pairs_writable : (ps : List (Value10 × Value10)) → PairsAreWritable (pairs_of (map pair_trees ps)) → AllByRecursion PairIsWritable ps
+pairs_writable [] h = tt
+pairs_writable (p ∷ ps) h = ((h.0, h.1), pairs_writable ps h.2)
+
+pub pairs_are_writable : (ps : List (Value10 × Value10)) → PairsAreWritable (pairs_of (map pair_trees ps)) → All PairIsWritable ps
+pairs_are_writable ps h = All-from_recursion PairIsWritable ps (pairs_writable ps h)
+
+-- ---- kinds and lengths, as the program finds them
+
+sized : (f : Size → Kind) (b : Bool) → f (cond b size.Short size.Long) ≡ cond b (f size.Short) (f size.Long)
+sized f true = refl
+sized f false = refl
+
+pub map_sized : (count : ℕ) (body : List ℕ) → kind.Map (held_size count body) ≡ map_kind count body
+map_sized count body = sized kind.Map (is_brief count body)
+
+pub array_sized : (count : ℕ) (body : List ℕ) → kind.Array (held_size count body) ≡ array_kind count body
+array_sized count body = sized kind.Array (is_brief count body)
+
+pub array_capped : (m : EachMeasure) (ts : Trees) (n h : ℕ) → IsEachMeasure m ts → AreOfOneType ts → n ≡ (written_each ts).count → h ≡ head_len m.kind
+    → min (min (m.front + 1) (2 ^ 64 - 1) + min (min (n * h) (2 ^ 64 - 1) + m.bodies) (2 ^ 64 - 1)) (2 ^ 64 - 1) ≡ capped (length (array_body (written_each ts)))
+array_capped m ts n h each alike count head =
+    let w = written_each ts in
+    let heads : n * h ≡ w.count * head_len w.kind = ap (λ (n : ℕ). n * h) count ∙ ap (λ (h : ℕ). w.count * h) (head ∙ ap head_len each.kind) in
+    omega (arith, heads, elements_len ts alike, each.front, each.bodies)
