@@ -8,6 +8,7 @@ mod laws;
 mod measure;
 mod reading;
 mod value;
+mod writing;
 
 pub use fault::TypeFault;
 pub use laws::value_laws;
