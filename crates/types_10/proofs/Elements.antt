@@ -4,7 +4,7 @@ use Rattle.std.specs.List.{flat_map, AllByRecursion}
 use Rattle.std.proofs.lemmas.List.Elements.{All-from_recursion}
 use Rattle.types_10.specs.Tree.{Trees, trees_of, pairs_of}
 use Rattle.types_10.specs.View.{value_tree, pair_trees}
-use Rattle.types_10.specs.Writing.{is_brief, map_kind, array_kind, array_body, written_each, written_pairs, value_text, AreOfOneType, IsWritable, EachIsWritable, PairsAreWritable}
+use Rattle.types_10.specs.Writing.{is_brief, map_kind, array_kind, array_body, written, written_each, written_pairs, value_text, AreOfOneType, IsWritable, EachIsWritable, PairsAreWritable}
 use Rattle.types_10.specs.Measures.{capped, head_len, bodies_len, held_size, pair_text, IsEachMeasure}
 use Rattle.types_10.specs.declared.kind.Kind.{Kind}
 use Rattle.types_10.specs.declared.kind.Kind.TheVariants as kind
@@ -25,6 +25,21 @@ pairs_count [] = refl
 pairs_count (p ∷ ps) = omega (arith, pairs_count ps)
 
 -- ---- texts
+
+-- of a value, all that is written where it stands alone, and its content as an element
+abbrev pub whole_text : Value10 → List ℕ
+whole_text v = value_text (value_tree v)
+
+abbrev pub content_text : Kind → Value10 → List ℕ
+content_text k v = (written (value_tree v)).content k
+
+pub each_text : (vs : List Value10) → (written_each (trees_of (map value_tree vs))).text ≡ flat_map whole_text vs
+each_text [] = refl
+each_text (v ∷ vs) = ap (λ (more : List ℕ). whole_text v ++ more) (each_text vs)
+
+pub contents_text : (k : Kind) (vs : List Value10) → (written_each (trees_of (map value_tree vs))).contents k ≡ flat_map (content_text k) vs
+contents_text k [] = refl
+contents_text k (v ∷ vs) = ap (λ (more : List ℕ). content_text k v ++ more) (contents_text k vs)
 
 pub pairs_text : (ps : List (Value10 × Value10)) → (written_pairs (pairs_of (map pair_trees ps))).1 ≡ flat_map pair_text ps
 pairs_text [] = refl

@@ -13,4 +13,5 @@ mod writing;
 pub use fault::TypeFault;
 pub use laws::value_laws;
 pub use reading::read_value;
+pub use writing::put_value;
 pub use value::{Inner, PairList, Value10, ValueList, tell_ranges};
