@@ -5,12 +5,11 @@
 
 ghost use Rattle.std.specs.Prelude.{◌≡◌, ℕ, ◌+◌, ◌*◌, ◌<◌, ◌^◌, List, [], ◌∷◌, ◌++◌, length, take, map, OnOk, OnErr};
 ghost use Rattle.std.specs.Int.{w8, w16, w32, w64, to_be_bytes};
-ghost use Rattle.wire_base.specs.Spelling.{text_of};
-ghost use Rattle.types_10.specs.Tree.{trees_of, pairs_of};
+ghost use Rattle.types_10.specs.Tree.{list, mapping, array, trees_of, pairs_of};
 ghost use Rattle.types_10.specs.View.{value_tree, pair_trees};
 ghost use Rattle.types_10.specs.Kinds.{size_width};
 ghost use Rattle.types_10.specs.Writing.{number_content, text_content, array_body, written, written_each, written_pairs, value_text, AreOfOneType, IsWritable, EachIsWritable, PairsAreWritable, HasSpelling};
-ghost use Rattle.types_10.specs.Measures.{capped, body_len, pair_text};
+ghost use Rattle.types_10.specs.Measures.{capped, body_len, head_text, pair_text};
 
 use crate::kind::{Kind, Single, Size};
 use crate::measure::{measure_each, measure_value};
@@ -115,8 +114,7 @@ fn put_text(out: &mut ByteText, single: Single, text: &ByteText) -> Result<(), M
 /// The size, which counts the count too, and the count before so many bytes.
 fn put_head(out: &mut ByteText, size: Size, count: usize, body: usize) -> Result<(), Memory>
     requires { body < 2 ^ 32 }
-    ensures ok { OnOk result ((text : List ℕ) → body ≡ length text
-        → out.new ++ text ≡ out.old ++ text_of (size_width size) (to_be_bytes (size_width size) count ++ text)) }
+    ensures ok { OnOk result (out.new ≡ out.old ++ head_text size count body) }
     ensures err { OnErr result (take (length out.old) out.new ≡ out.old) }
 {
     put_size(out, size, size.width() + body)?;
@@ -228,7 +226,7 @@ fn put_list(out: &mut ByteText, size: Size, body: usize, values: &[Value10]) -> 
     requires writable { EachIsWritable (trees_of (map value_tree values.now)) }
     requires size { length (written_each (trees_of (map value_tree values.now))).text < 2 ^ 32 }
     requires measured { body ≡ length (written_each (trees_of (map value_tree values.now))).text }
-    ensures ok { OnOk result (out.new ≡ out.old ++ text_of (size_width size) (to_be_bytes (size_width size) (length values.now) ++ (written_each (trees_of (map value_tree values.now))).text)) }
+    ensures ok { OnOk result (out.new ≡ out.old ++ (written (list (trees_of (map value_tree values.now)))).content (Kind.List size)) }
     ensures err { OnErr result (take (length out.old) out.new ≡ out.old) }
 {
     put_head(out, size, values.len(), body)?;
@@ -241,7 +239,7 @@ fn put_map(out: &mut ByteText, size: Size, body: usize, pairs: &[(Value10, Value
     requires writable { PairsAreWritable (pairs_of (map pair_trees pairs.now)) }
     requires size { length (written_pairs (pairs_of (map pair_trees pairs.now))).1 < 2 ^ 32 }
     requires measured { body ≡ length (written_pairs (pairs_of (map pair_trees pairs.now))).1 }
-    ensures ok { OnOk result (out.new ≡ out.old ++ text_of (size_width size) (to_be_bytes (size_width size) (2 * length pairs.now) ++ (written_pairs (pairs_of (map pair_trees pairs.now))).1)) }
+    ensures ok { OnOk result (out.new ≡ out.old ++ (written (mapping (pairs_of (map pair_trees pairs.now)))).content (Kind.Map size)) }
     ensures err { OnErr result (take (length out.old) out.new ≡ out.old) }
 {
     put_head(out, size, 2 * pairs.len(), body)?;
@@ -255,7 +253,7 @@ fn put_array(out: &mut ByteText, size: Size, body: usize, values: &[Value10]) ->
     requires alike { AreOfOneType (trees_of (map value_tree values.now)) }
     requires size { length (array_body (written_each (trees_of (map value_tree values.now)))) < 2 ^ 32 }
     requires measured { body ≡ length (array_body (written_each (trees_of (map value_tree values.now)))) }
-    ensures ok { OnOk result (out.new ≡ out.old ++ text_of (size_width size) (to_be_bytes (size_width size) (length values.now) ++ array_body (written_each (trees_of (map value_tree values.now))))) }
+    ensures ok { OnOk result (out.new ≡ out.old ++ (written (array (trees_of (map value_tree values.now)))).content (Kind.Array size)) }
     ensures err { OnErr result (take (length out.old) out.new ≡ out.old) }
 {
     put_head(out, size, values.len(), body)?;
