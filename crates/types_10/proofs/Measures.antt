@@ -8,7 +8,7 @@ use Rattle.wire_base.proofs.Laws.{IsWide, wide8, wide16, wide32, wide64}
 use Rattle.types_10.specs.Tree.{Scalar, null, boolean, ubyte, byte, ushort, short, uint, int, ulong, long, float, double, decimal32, decimal64, decimal128, char, timestamp, uuid, binary, string, symbol, Tree, scalar, list, mapping, array, described, Trees, no_trees, tree}
 use Rattle.types_10.specs.Kinds.{kind_byte, kind_of, wide_width, size_width}
 use Rattle.types_10.specs.Writing.{is_small, single_kind, number_content, text_content, single_content, scalar_content, is_brief, list_kind, held_content, shared, array_body, written, written_each, written_pairs, scalar_type, type_of, EachIsAlike, AreOfOneType}
-use Rattle.types_10.specs.Measures.{capped, single_head, head_len, scalar_body, body_len, bodies_len}
+use Rattle.types_10.specs.Measures.{single_head, head_len, scalar_body, body_len, bodies_len}
 use Rattle.types_10.specs.declared.kind.Kind.{Kind}
 use Rattle.types_10.specs.declared.kind.Kind.TheVariants as kind
 use Rattle.types_10.specs.declared.kind.Single.{Single}
@@ -127,7 +127,7 @@ shared_is P j k both later first =
 shared_type : (j k : Kind) → kind_type k ≡ kind_type j → kind_type (shared j k) ≡ kind_type j
 shared_type j k e = shared_is (λ (s : Kind). kind_type s ≡ kind_type j) j k (λ h. sym (flag_type j h.0 h.1)) (λ h. e) (λ h. refl)
 
-pub shared_first : (j k : Kind) → kind_byte j ≤ kind_byte (shared j k)
+shared_first : (j k : Kind) → kind_byte j ≤ kind_byte (shared j k)
 shared_first j k = shared_is (λ (s : Kind). kind_byte j ≤ kind_byte s) j k (λ h. omega arith) (λ h. omega arith) (λ h. omega arith)
 
 shared_later : (j k : Kind) → kind_byte k ≤ kind_byte (shared j k)
@@ -372,8 +372,3 @@ elements_len no_trees alike = refl
 elements_len (tree t ts) alike =
     let w = written_each (tree t ts) in
     omega (arith, length-append w.front (kind_byte w.kind ∷ w.contents w.kind), contents_len t (tree t ts) w.kind ((refl, refl), alike) (elements_type t t ts refl alike) (omega arith))
-
--- ---- lengths that saturate
-
-pub capped_sum : (a b m n : ℕ) → m ≡ capped a → n ≡ capped b → min (m + n) (2 ^ 64 - 1) ≡ capped (a + b)
-capped_sum a b m n h k = omega arith

@@ -1,6 +1,6 @@
-//! How long values are, known before they are written (AMQP 1.0 1.6).
+//! What is known of values before they are written: their kinds, and how long they are (AMQP 1.0 1.6).
 //!
-//! Lengths are in bytes. They saturate, so that no sum of them overflows.
+//! Lengths are in bytes. They saturate, so that no sum of them overflows. A measure is one pass over a value.
 
 ghost use Rattle.std.specs.Prelude.{◌≡◌, ℕ, ◌+◌, ◌*◌, List, ◌++◌, length, map};
 ghost use Rattle.types_10.specs.Tree.{uint, int, ulong, long, Tree, list, mapping, array, described, Trees, tree, trees_of, pairs_of};
@@ -83,7 +83,10 @@ impl Measure {
     fn whole_len(self) -> usize
         ensures { (t : Tree) → IsMeasure self t → result ≡ capped (length (value_text t)) }
     {
-        let head = self.front.saturating_add(1).saturating_add(self.kind.head_len());
+        let head = self
+            .front
+            .saturating_add(1)
+            .saturating_add(self.kind.head_len());
         head.saturating_add(self.body)
     }
 
@@ -91,7 +94,10 @@ impl Measure {
     fn described(self, descriptor: Measure) -> Measure
         ensures { (d t : Tree) → IsMeasure descriptor d → IsMeasure self t → IsMeasure result (described d t) }
     {
-        let front = descriptor.whole_len().saturating_add(1).saturating_add(self.front);
+        let front = descriptor
+            .whole_len()
+            .saturating_add(1)
+            .saturating_add(self.front);
         Measure {
             kind: self.kind,
             front,
@@ -120,7 +126,11 @@ impl Size {
         ensures { (text : List ℕ) → body ≡ capped (length text) → result ≡ held_size count text }
     {
         // The size is that of the count too.
-        if count < 256 && body < 255 { Size::Short } else { Size::Long }
+        if count < 256 && body < 255 {
+            Size::Short
+        } else {
+            Size::Long
+        }
     }
 }
 

@@ -1,4 +1,5 @@
-//! Writing values (AMQP 1.0 1.6).
+//! Writing values (AMQP 1.0 1.6): from the numbers up to `put_value`. What is known before, as lengths and kinds,
+//! is in `measure`.
 //!
 //! Where a function of this module but `put_value` answers `Memory`, what stood in `out` before still stands at
 //! its front.
@@ -80,7 +81,7 @@ fn put_longlong(out: &mut ByteText, single: Single, n: u64) -> Result<(), Memory
     }
 }
 
-/// A length, a size or a count: the lowest bytes of it, which are all wherever the kind is chosen by it.
+/// A length, a size or a count: its lowest bytes, which hold all of it wherever the kind was chosen for the value.
 fn put_size(out: &mut ByteText, size: Size, n: usize) -> Result<(), Memory>
     ensures ok { OnOk result (out.new ≡ out.old ++ to_be_bytes (size_width size) n) }
     ensures err { OnErr result (take (length out.old) out.new ≡ out.old) }
@@ -235,7 +236,12 @@ fn put_list(out: &mut ByteText, size: Size, body: usize, values: &[Value10]) -> 
 
 /// The size, the count and the keys and values of a map.
 #[cycle(whole)]
-fn put_map(out: &mut ByteText, size: Size, body: usize, pairs: &[(Value10, Value10)]) -> Result<(), Memory>
+fn put_map(
+    out: &mut ByteText,
+    size: Size,
+    body: usize,
+    pairs: &[(Value10, Value10)],
+) -> Result<(), Memory>
     requires writable { PairsAreWritable (pairs_of (map pair_trees pairs.now)) }
     requires size { length (written_pairs (pairs_of (map pair_trees pairs.now))).1 < 2 ^ 32 }
     requires measured { body ≡ length (written_pairs (pairs_of (map pair_trees pairs.now))).1 }

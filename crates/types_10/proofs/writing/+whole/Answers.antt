@@ -74,7 +74,7 @@ put_array-returns-clause-err t c =
     let new = c.put_contents.new.out in
     on_err_weaker c.put_contents.result
     (λ h. still_there c.args.out.now c.put_head.new.out new _ c.in_ok-put_head.ensures.ok
-      (still_there c.put_head.new.out c.put_first_front.new.out new _ c.in_ok-put_first_front.ensures.ok (still_there c.put_first_front.new.out c.put_u8.new.out new _ c.in_ok-put_u8.ensures.ok h)))
+    (still_there c.put_head.new.out c.put_first_front.new.out new _ c.in_ok-put_first_front.ensures.ok (still_there c.put_first_front.new.out c.put_u8.new.out new _ c.in_ok-put_u8.ensures.ok h)))
     c.put_contents.ensures.err
 
 -- ---- values in turn
@@ -135,7 +135,7 @@ put_contents-put_content-requires t c =
         subst ValueIsWritable (sym c.value-item.is) (values_are_writable vs c.requires.writable i v c.loop-value-test.true),
         (
           subst (λ (v : Value10). length (content_text k v) < 2 ^ 32) (sym c.value-item.is)
-          (part_fits (content_text k) vs ((written_each (trees_of (map value_tree vs))).contents k) i v (contents_text k vs) c.loop-value-test.true c.requires.size),
+              (part_fits (content_text k) vs ((written_each (trees_of (map value_tree vs))).contents k) i v (contents_text k vs) c.loop-value-test.true c.requires.size),
           c.measure_value-body.ensures.body,
         ),
       ),
