@@ -1,5 +1,5 @@
 -- What is said of the values in a list or a map, said of a slice's values and pairs one by one.
-use Rattle.std.proofs.Common.{◌≡◌, ℕ, ◌+◌, ◌-◌, ◌*◌, ◌<◌, ◌≤◌, ◌^◌, min, Bool, true, false, cond, List, [], ◌∷◌, ◌++◌, length, take, get_or, map, All, ◌⊎◌, inl, inr, refl, sym, ap, ◌∙◌, append_assoc, arith}
+use Rattle.std.proofs.Common.{◌≡◌, ℕ, ◌+◌, ◌-◌, ◌*◌, ◌<◌, ◌≤◌, ◌^◌, min, Bool, true, false, cond, List, [], ◌∷◌, ◌++◌, length, take, get_or, map, All, ◌⊎◌, inl, inr, refl, sym, ap, ◌∙◌, arith}
 use Rattle.std.specs.List.{flat_map, AllByRecursion}
 use Rattle.std.proofs.lemmas.List.{length-append, take-take, take_at}
 use Rattle.std.proofs.lemmas.List.Folds.{length-flat_map-take}
@@ -8,7 +8,7 @@ use Rattle.types_10.specs.Kinds.{kind_byte}
 use Rattle.types_10.specs.Tree.{Tree, scalar, list, mapping, array, described, Trees, trees_of, pairs_of}
 use Rattle.types_10.specs.View.{value_tree, pair_trees}
 use Rattle.types_10.specs.Writing.{is_brief, map_kind, array_kind, array_body, written, written_each, written_pairs, value_text, AreOfOneType, IsWritable, EachIsWritable, PairsAreWritable}
-use Rattle.types_10.specs.Measures.{capped, head_len, bodies_len, held_size, pair_text, IsEachMeasure}
+use Rattle.types_10.specs.Measures.{capped, head_len, held_size, pair_text, IsEachMeasure}
 use Rattle.types_10.specs.declared.kind.Kind.{Kind}
 use Rattle.types_10.specs.declared.kind.Kind.TheVariants as kind
 use Rattle.types_10.specs.declared.kind.Size.{Size}

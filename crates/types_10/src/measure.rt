@@ -2,7 +2,7 @@
 //!
 //! Lengths are in bytes. They saturate, so that no sum of them overflows. A measure is one pass over a value.
 
-ghost use Rattle.std.specs.Prelude.{◌≡◌, ℕ, ◌+◌, ◌*◌, List, ◌++◌, length, map};
+ghost use Rattle.std.specs.Prelude.{◌≡◌, ℕ, List, length, map};
 ghost use Rattle.types_10.specs.Tree.{uint, int, ulong, long, Tree, list, mapping, array, described, Trees, tree, trees_of, pairs_of};
 ghost use Rattle.types_10.specs.View.{value_tree, pair_trees};
 ghost use Rattle.types_10.specs.Writing.{text_kind, single_kind, list_kind, EachIsWritable, PairsAreWritable, AreOfOneType, IsWritable, written_pairs, value_text};

@@ -1,10 +1,10 @@
-//! Writing values (AMQP 1.0 1.6): from the numbers up to `put_value`. What is known before, as lengths and kinds,
-//! is in `measure`.
+//! Writing values (AMQP 1.0 1.6), from the numbers up to `put_value`. Lengths and kinds come from `measure`: what a
+//! value holds is measured at most three times for it, so the work grows with the depth times the number of values.
 //!
 //! Where a function of this module but `put_value` answers `Memory`, what stood in `out` before still stands at
 //! its front.
 
-ghost use Rattle.std.specs.Prelude.{◌≡◌, ℕ, ◌+◌, ◌*◌, ◌<◌, ◌^◌, List, [], ◌∷◌, ◌++◌, length, take, map, OnOk, OnErr};
+ghost use Rattle.std.specs.Prelude.{◌≡◌, ◌<◌, ◌^◌, ◌++◌, length, take, map, OnOk, OnErr};
 ghost use Rattle.std.specs.Int.{w8, w16, w32, w64, to_be_bytes};
 ghost use Rattle.types_10.specs.Tree.{list, mapping, array, trees_of, pairs_of};
 ghost use Rattle.types_10.specs.View.{value_tree, pair_trees};

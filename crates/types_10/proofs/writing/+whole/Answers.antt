@@ -1,4 +1,4 @@
-use Rattle.std.proofs.Common.{◌≡◌, ℕ, ◌<◌, ◌≤◌, ◌^◌, List, ◌++◌, length, map, subst, sym, ap, ◌∙◌, arith}
+use Rattle.std.proofs.Common.{ℕ, ◌<◌, ◌^◌, List, ◌++◌, length, map, subst, sym, ap, ◌∙◌, arith}
 use Rattle.std.proofs.lemmas.Result.{err_from_is_err_and, on_ok_weaker, on_err_weaker}
 use Rattle.std.proofs.lemmas.List.{append-nil}
 use Rattle.std.proofs.lemmas.Grind.{common_steps}
@@ -6,7 +6,7 @@ use denote.Param.Weighed.{at_most}
 use Rattle.types_10.specs.Tree.{trees_of, pairs_of}
 use Rattle.types_10.specs.View.{value_tree, pair_trees}
 use Rattle.types_10.specs.Writing.{written, written_each, written_pairs}
-use Rattle.types_10.specs.Measures.{capped, body_len, pair_text}
+use Rattle.types_10.specs.Measures.{pair_text}
 use Rattle.types_10.specs.declared.kind.Kind.{Kind}
 use Rattle.types_10.specs.declared.value.Value10.{Value10}
 use Rattle.types_10.specs.declared.value.Inner.TheDeep.{size-Value10}
