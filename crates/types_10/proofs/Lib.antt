@@ -1,7 +1,8 @@
 pub mod Depth
 pub mod Depths
+pub mod Elements
+pub mod Measures
 pub mod RangeLaws
 pub mod ReaderLaws
 pub mod Texts
 pub mod ValueLaws
-pub mod Written
