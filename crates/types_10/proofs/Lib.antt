@@ -1,6 +1,6 @@
 pub mod Depth
 pub mod Depths
-pub mod Elements
+pub mod Slices
 pub mod Measures
 pub mod RangeLaws
 pub mod ReaderLaws

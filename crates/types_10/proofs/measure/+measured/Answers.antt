@@ -9,7 +9,7 @@ use Rattle.types_10.specs.declared.kind.Kind.TheVariants as kind
 use Rattle.types_10.specs.declared.value.Value10.{Value10}
 use Rattle.types_10.specs.declared.value.Inner.TheDeep.{size-Value10}
 use Rattle.types_10.specs.declared.value.Inner.TheShapes.{weighed-PairList-pairs-at-2}
-use Rattle.types_10.proofs.Elements.{each_count, pairs_count, pairs_text, ValueIsWritable, PairIsWritable, values_are_writable, pairs_are_writable, map_sized, array_sized, array_capped}
+use Rattle.types_10.proofs.Slices.{each_count, pairs_count, pairs_text, ValueIsWritable, PairIsWritable, values_are_writable, pairs_are_writable, map_sized, array_sized, array_capped}
 use Rattle.types_10.proofs.measure.+measured.Goals as goal
 
 pub measure_each-measure_value-requires : goal.measure_each-measure_value-requires

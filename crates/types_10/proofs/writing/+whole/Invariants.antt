@@ -1,7 +1,7 @@
 use Rattle.std.proofs.Common.{◌≡◌, ◌+◌, ◌*◌, ◌++◌, take}
 use Rattle.std.specs.List.{flat_map}
 use Rattle.types_10.specs.Measures.{pair_text}
-use Rattle.types_10.proofs.Elements.{whole_text, content_text}
+use Rattle.types_10.proofs.Slices.{whole_text, content_text}
 use Rattle.types_10.proofs.writing.+whole.Given as goal
 
 abbrev pub invariant-put_each-loop-value : goal.invariant-put_each-loop-value
