@@ -4,3 +4,4 @@ pub mod RangeLaws
 pub mod ReaderLaws
 pub mod Texts
 pub mod ValueLaws
+pub mod Within
