@@ -4,4 +4,5 @@ pub mod RangeLaws
 pub mod ReaderLaws
 pub mod Texts
 pub mod ValueLaws
+pub mod Wider
 pub mod Within
