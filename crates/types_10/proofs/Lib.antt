@@ -6,3 +6,4 @@ pub mod Texts
 pub mod ValueLaws
 pub mod Wider
 pub mod Within
+pub mod Written

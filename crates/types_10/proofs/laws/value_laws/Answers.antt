@@ -1,6 +1,6 @@
 use Rattle.types_10.proofs.ValueLaws.{one_value}
 use Rattle.types_10.proofs.Within.{canonical_is_spelled}
-use Rattle.types_10.proofs.Wider.{same_wider}
+use Rattle.types_10.proofs.Written.{single_is}
 use Rattle.types_10.proofs.laws.value_laws.Goals as goal
 
 pub returns-clause-one : goal.returns-clause-one
