@@ -1,11 +1,12 @@
 -- A value has one canonical spelling at most.
 use Rattle.std.proofs.Common.{◌≡◌, ℕ, zero, suc, ◌≤◌, List, [], ◌∷◌, ◌++◌, length, refl, sym, ap, subst, ◌∙◌, arith}
+use Rattle.std.specs.Bool.{IsTrue}
 use Rattle.std.specs.Int.{Width, to_be_bytes}
 use Rattle.std.proofs.lemmas.List.{nil_from_length}
 use Rattle.wire_base.specs.Spelling.{text_of, IsMade, IsNumber, IsText, IsPair, IsItems}
 use Rattle.types_10.specs.Tree.{Scalar, Tree, scalar, list, mapping, array, described, Trees, tree, trees_of, Pairs, pair, pairs_of}
-use Rattle.types_10.specs.Kinds.{kind_byte, size_width}
-use Rattle.types_10.specs.Grammar.{Elements, Spelled, IsSingle, IsCoded, IsFilled, IsItemList, IsPairList, IsFlat, IsDeepOf, IsShape, IsDescriptorOf, IsElement}
+use Rattle.types_10.specs.Kinds.{kind_byte, is_bare, size_width}
+use Rattle.types_10.specs.Grammar.{Elements, Spelled, IsSingle, IsCoded, IsFilled, IsThen, IsTimes, IsItemList, IsPairList, IsFlat, IsDeepOf, IsShape, IsDescriptorOf, IsElement}
 use Rattle.types_10.specs.Canonical.{IsFirstCode, IsFirstConstructor, IsFirstElements, canonical, IsCanonicalOf, IsCanonical}
 use Rattle.types_10.specs.Writing.{descriptors, single_content}
 use Rattle.types_10.proofs.Wider.{same_kind}
@@ -18,7 +19,7 @@ use Rattle.types_10.specs.declared.kind.Single.TheVariants as single
 use Rattle.types_10.specs.declared.kind.Bare.TheVariants as bare
 
 -- one spelling at most
-abbrev IsAlone : {A : Type 0} → (A → List ℕ → Type 0) → Type 0
+abbrev pub IsAlone : {A : Type 0} → (A → List ℕ → Type 0) → Type 0
 IsAlone {A} R = (x : A) (a b : List ℕ) → R x a → R x b → a ≡ b
 
 items_alone : {A : Type 0} (R : A → List ℕ → Type 0) → IsAlone R → IsAlone (IsItems R)
@@ -38,7 +39,7 @@ filled_alone : {A : Type 0} (w : Width) (R : A → List ℕ → Type 0) → IsAl
 filled_alone w R r x a b h g = h.2.1 ∙ ap (text_of w) (r x h.0 g.0 h.1 g.1) ∙ sym g.2.1
 
 -- a list as a value holds it, and the pairs of a map
-trees_same : (ts us : List Tree) → trees_of ts ≡ trees_of us → ts ≡ us
+pub trees_same : (ts us : List Tree) → trees_of ts ≡ trees_of us → ts ≡ us
 trees_same [] [] e = refl
 trees_same [] (u ∷ us) e = absurd cc
 trees_same (t ∷ ts) [] e = absurd cc
@@ -46,10 +47,10 @@ trees_same (t ∷ ts) (u ∷ us) e =
     let rest : ts ≡ us = trees_same ts us cc in
     cc
 
-same_pair : {A B : Type 0} (p q : A × B) → p.0 ≡ q.0 → p.1 ≡ q.1 → p ≡ q
+pub same_pair : {A B : Type 0} (p q : A × B) → p.0 ≡ q.0 → p.1 ≡ q.1 → p ≡ q
 same_pair {A} {B} p q e f = ap (λ (x : A). (x, p.1)) e ∙ ap (λ (y : B). (q.0, y)) f
 
-pairs_same : (ps qs : List (Tree × Tree)) → pairs_of ps ≡ pairs_of qs → ps ≡ qs
+pub pairs_same : (ps qs : List (Tree × Tree)) → pairs_of ps ≡ pairs_of qs → ps ≡ qs
 pairs_same [] [] e = refl
 pairs_same [] (q ∷ qs) e = absurd cc
 pairs_same (p ∷ ps) [] e = absurd cc
@@ -185,17 +186,24 @@ record AreAlone (s : Spelled) : Type 0 where
   constructor : IsAlone s.constructor
   element : (c : Elements) → IsAlone (s.element c)
 
-elements_alone : (d : ℕ) → AreAlone (canonical d) → (w : Width) → IsAlone (IsFirstElements (canonical d) w)
-elements_alone d r w ts a b h g =
-    let x = h.4 in
-    let y = g.4 in
+-- what stands behind the count of an array
+abbrev pub IsFirstBody : Spelled → ℕ → List Tree → List ℕ → Type 0
+IsFirstBody inside n = IsThen inside.constructor (λ c ts text. IsFirstConstructor inside c ts × (IsTrue (is_bare c.1) → n ≤ 65536) × IsTimes (inside.element c) n ts text)
+
+body_alone : (d n : ℕ) → AreAlone (canonical d) → IsAlone (IsFirstBody (canonical d) n)
+body_alone d n r ts a b x y =
     let p : IsBehind d ts x.0 = record { front = x.1; text = x.2; told = x.3; items = x.4.2.1; first = x.4.0 } in
     let q : IsBehind d ts y.0 = record { front = y.1; text = y.2; told = y.3; items = y.4.2.1; first = y.4.0 } in
     let same : y.0 ≡ x.0 = sym (same_constructor d ts x.0 y.0 p q) in
     let front : x.1 ≡ y.1 = r.constructor x.0 x.1 y.1 x.3 (subst (λ (c : Elements). (canonical d).constructor c y.1) same y.3) in
     let items : x.2 ≡ y.2 = items_alone ((canonical d).element x.0) (r.element x.0) ts x.2 y.2 x.4.2.1 (subst (λ (c : Elements). IsItems ((canonical d).element c) ts y.2) same y.4.2.1) in
-    let rest : h.2 ≡ g.2 = cc in
-    h.5 ∙ count_alone w h.0 g.0 h.1 g.1 h.2 g.2 h.3 g.3 (sym x.4.2.0 ∙ y.4.2.0) rest ∙ sym g.5
+    cc
+
+elements_alone : (d : ℕ) → AreAlone (canonical d) → (w : Width) → IsAlone (IsFirstElements (canonical d) w)
+elements_alone d r w ts a b h g =
+    let count : h.0 ≡ g.0 = sym h.4.4.2.0 ∙ g.4.4.2.0 in
+    let rest : h.2 ≡ g.2 = body_alone d h.0 r ts h.2 g.2 h.4 (subst (λ (n : ℕ). IsFirstBody (canonical d) n ts g.2) (sym count) g.4) in
+    h.5 ∙ count_alone w h.0 g.0 h.1 g.1 h.2 g.2 h.3 g.3 count rest ∙ sym g.5
 
 level_alone : (d : ℕ) → AreAlone (canonical d)
 unfolding canonical
@@ -217,6 +225,15 @@ level_alone (suc d) =
 
 pub value_alone : (d : ℕ) → IsAlone (IsCanonicalOf d)
 value_alone d = first_alone (canonical d).content (level_alone d).content
+
+pub values_alone : (d : ℕ) → IsAlone (IsItems (IsCanonicalOf d))
+values_alone d = items_alone (IsCanonicalOf d) (value_alone d)
+
+pub entries_alone : (d : ℕ) → IsAlone (IsItems (IsPair (IsCanonicalOf d) (IsCanonicalOf d)))
+entries_alone d = items_alone (IsPair (IsCanonicalOf d) (IsCanonicalOf d)) (pair_alone (IsCanonicalOf d) (IsCanonicalOf d) (value_alone d) (value_alone d))
+
+pub bodies_alone : (d n : ℕ) → IsAlone (IsFirstBody (canonical d) n)
+bodies_alone d n = body_alone d n (level_alone d)
 
 pub canonical_alone : (t : Tree) (a b : List ℕ) → IsCanonical t a → IsCanonical t b → a ≡ b
 canonical_alone = value_alone 16

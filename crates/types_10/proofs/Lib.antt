@@ -2,6 +2,7 @@ pub mod Alone
 pub mod Depth
 pub mod Depths
 pub mod Elements
+pub mod Held
 pub mod RangeLaws
 pub mod ReaderLaws
 pub mod Texts

@@ -1,3 +1,4 @@
+use Rattle.types_10.proofs.Held.{IsHeld}
 use Rattle.types_10.proofs.Alone.{canonical_alone}
 use Rattle.types_10.proofs.ValueLaws.{one_value}
 use Rattle.types_10.proofs.Within.{canonical_is_spelled}
