@@ -22,7 +22,7 @@ pub record IsHeld (z : Size) (n : ℕ) (body : List ℕ) : Type 0 where
   pub size : length (to_be_bytes (size_width z) n ++ body) < 256 ^ byte_len (size_width z)
 
 -- a body by whether it is brief
-by_brief : (P : Kind → Type 0) (n : ℕ) (body : List ℕ) (a b : Kind) → (IsHeld size.Short n body → P a) → ((IsHeld size.Short n body → ⊥) → P b) → P (cond (is_brief n body) a b)
+pub by_brief : (P : Kind → Type 0) (n : ℕ) (body : List ℕ) (a b : Kind) → (IsHeld size.Short n body → P a) → ((IsHeld size.Short n body → ⊥) → P b) → P (cond (is_brief n body) a b)
 by_brief P n body a b x y = at (ltb n 256) (ltb (length body) 255) refl refl
   where
     at : (s t : Bool) → ltb n 256 ≡ s → ltb (length body) 255 ≡ t → P (cond (s && t) a b)
@@ -33,7 +33,7 @@ by_brief P n body a b x y = at (ltb n 256) (ltb (length body) 255) refl refl
     at true false e f = let long : 255 ≤ length body = ltb-false _ _ f in y (λ h. omega (arith, h.size))
     at false t e f = let many : 256 ≤ n = ltb-false _ _ e in y (λ h. omega (arith, h.count))
 
-by_list : (P : Kind → Type 0) (n : ℕ) (body : List ℕ) → (n ≡ 0 → P kind.EmptyList) → (IsHeld size.Short n body → P (kind.List size.Short)) → ((IsHeld size.Short n body → ⊥) → n ≢ 0 → P (kind.List size.Long)) → P (list_kind n body)
+pub by_list : (P : Kind → Type 0) (n : ℕ) (body : List ℕ) → (n ≡ 0 → P kind.EmptyList) → (IsHeld size.Short n body → P (kind.List size.Short)) → ((IsHeld size.Short n body → ⊥) → n ≢ 0 → P (kind.List size.Long)) → P (list_kind n body)
 by_list P n body x y z = at (eqb n 0) refl
   where
     at : (t : Bool) → eqb n 0 ≡ t → P (cond t kind.EmptyList (cond (is_brief n body) (kind.List size.Short) (kind.List size.Long)))

@@ -1,4 +1,5 @@
 pub mod Alone
+pub mod Canonical
 pub mod Depth
 pub mod Depths
 pub mod Elements

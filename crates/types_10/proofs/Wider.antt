@@ -4,6 +4,7 @@ use Rattle.std.proofs.Common.{◌≡◌, ℕ, ◌<◌, ◌≤◌, Bool, true, fa
 use Rattle.std.proofs.lemmas.Bool.{eqb-true, ltb-true, ltb-false}
 use Rattle.std.proofs.lemmas.Bool.Decides.{nat_tests}
 use mathlib.Core.Logic.{◌⊎◌, inl, inr}
+use Rattle.types_10.specs.Tree.{Scalar, null}
 use Rattle.types_10.specs.Kinds.{kind_byte, kind_of, bare_scalar, octet_scalar, wide_scalar, sixteen_scalar, text_scalar}
 use Rattle.types_10.specs.Writing.{scalar_type, shared}
 use Rattle.types_10.proofs.ValueLaws.{kind_known}
@@ -16,6 +17,7 @@ use Rattle.types_10.specs.declared.kind.Octet.TheVariants as octet
 use Rattle.types_10.specs.declared.kind.Wide.TheVariants as wide
 use Rattle.types_10.specs.declared.kind.Sixteen.TheVariants as sixteen
 use Rattle.types_10.specs.declared.kind.Text.TheVariants as text
+use Rattle.types_10.specs.declared.kind.Size.{Size}
 
 -- the type of the values that a kind has contents for; a described value's type is that of what it describes
 abbrev pub single_type : Single → ℕ
@@ -34,6 +36,20 @@ kind_type (kind.List z) = 208
 kind_type (kind.Map z) = 209
 kind_type (kind.Array z) = 240
 kind_type kind.Described = 0
+
+-- the types of values that hold others are no types of those that hold none
+pub scalar_type_is : (s : Scalar) → (1 ≤ scalar_type s) × (scalar_type s < 208)
+scalar_type_is null = (omega arith, omega arith)
+scalar_type_is s = (omega arith, omega arith)
+
+pub single_type_is : (k : Single) → (1 ≤ single_type k) × (single_type k < 208)
+single_type_is (single.Bare k) = scalar_type_is (bare_scalar k)
+single_type_is single.Boolean = (omega arith, omega arith)
+single_type_is (single.Octet k) = scalar_type_is (octet_scalar k 0)
+single_type_is (single.Wide k) = scalar_type_is (wide_scalar k 0)
+single_type_is single.Char = (omega arith, omega arith)
+single_type_is (single.Sixteen k) = scalar_type_is (sixteen_scalar k [])
+single_type_is (single.Text k z) = scalar_type_is (text_scalar k [])
 
 -- no earlier code; and of a boolean without content the same code, or the boolean in a byte
 pub record IsUpTo (j k : Kind) : Type 0 where
@@ -135,3 +151,29 @@ booleans_first j k m a b h =
 -- and no earlier kind has contents for all
 pub shared_first : (j k m : Kind) → IsUpTo j m → IsUpTo k m → IsUpTo (shared j k) m
 shared_first j k m a b = shared_by (λ s. IsUpTo s m) j k (booleans_first j k m a b) (λ n l. b) (λ n l. a)
+
+-- ---- the kinds of each type that holds others
+
+pub of_list : (P : Kind → Type 0) → P kind.EmptyList → ((z : Size) → P (kind.List z)) → (k : Kind) → kind_type k ≡ 208 → P k
+of_list P x y (kind.Single j) e = absurd (omega (arith, single_type_is j))
+of_list P x y kind.EmptyList e = x
+of_list P x y (kind.List z) e = y z
+of_list P x y (kind.Map z) e = absurd (omega arith)
+of_list P x y (kind.Array z) e = absurd (omega arith)
+of_list P x y kind.Described e = absurd (omega arith)
+
+pub of_map : (P : Kind → Type 0) → ((z : Size) → P (kind.Map z)) → (k : Kind) → kind_type k ≡ 209 → P k
+of_map P x (kind.Single j) e = absurd (omega (arith, single_type_is j))
+of_map P x kind.EmptyList e = absurd (omega arith)
+of_map P x (kind.List z) e = absurd (omega arith)
+of_map P x (kind.Map z) e = x z
+of_map P x (kind.Array z) e = absurd (omega arith)
+of_map P x kind.Described e = absurd (omega arith)
+
+pub of_array : (P : Kind → Type 0) → ((z : Size) → P (kind.Array z)) → (k : Kind) → kind_type k ≡ 240 → P k
+of_array P x (kind.Single j) e = absurd (omega (arith, single_type_is j))
+of_array P x kind.EmptyList e = absurd (omega arith)
+of_array P x (kind.List z) e = absurd (omega arith)
+of_array P x (kind.Map z) e = absurd (omega arith)
+of_array P x (kind.Array z) e = x z
+of_array P x kind.Described e = absurd (omega arith)

@@ -110,7 +110,7 @@ by_length P k s x y = at (ltb (length s) 256) refl
     at false e = y (ltb-false _ _ e)
 
 -- the first kind of a value has its type
-first_type : (s : Scalar) → single_type (single_kind s) ≡ scalar_type s
+pub first_type : (s : Scalar) → single_type (single_kind s) ≡ scalar_type s
 first_type null = refl
 first_type (boolean true) = refl
 first_type (boolean false) = refl
