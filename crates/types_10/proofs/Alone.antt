@@ -1,17 +1,17 @@
 -- A value has one canonical spelling at most.
-use Rattle.std.proofs.Common.{◌≡◌, ℕ, zero, suc, ◌≤◌, List, [], ◌∷◌, ◌++◌, length, refl, sym, ap, subst, ◌∙◌, arith}
+use Rattle.std.proofs.Common.{◌≡◌, ℕ, zero, suc, ◌≤◌, List, [], ◌∷◌, ◌++◌, refl, sym, ap, subst, ◌∙◌, arith}
 use Rattle.std.specs.Bool.{IsTrue}
 use Rattle.std.specs.Int.{Width, to_be_bytes}
 use Rattle.std.proofs.lemmas.List.{nil_from_length}
-use Rattle.wire_base.specs.Spelling.{text_of, IsMade, IsNumber, IsText, IsPair, IsItems}
-use Rattle.types_10.specs.Tree.{Scalar, Tree, scalar, list, mapping, array, described, Trees, tree, trees_of, Pairs, pair, pairs_of}
-use Rattle.types_10.specs.Kinds.{kind_byte, is_bare, size_width}
+use Rattle.wire_base.specs.Spelling.{text_of, IsMade, IsNumber, IsPair, IsItems}
+use Rattle.types_10.specs.Tree.{Tree, scalar, list, mapping, array, described, trees_of, pairs_of}
+use Rattle.types_10.specs.Kinds.{is_bare, size_width}
 use Rattle.types_10.specs.Grammar.{Elements, Spelled, IsSingle, IsCoded, IsFilled, IsThen, IsTimes, IsItemList, IsPairList, IsFlat, IsDeepOf, IsShape, IsDescriptorOf, IsElement}
 use Rattle.types_10.specs.Canonical.{IsFirstCode, IsFirstConstructor, IsFirstElements, canonical, IsCanonicalOf, IsCanonical}
-use Rattle.types_10.specs.Writing.{descriptors, single_content}
+use Rattle.types_10.specs.Writing.{descriptors}
 use Rattle.types_10.proofs.Wider.{same_kind}
 use Rattle.types_10.proofs.Written.{single_is}
-use Rattle.types_10.proofs.Elements.{constructor_late, plain_constructor, element_told, single_late, list_late, map_late, array_late}
+use Rattle.types_10.proofs.Elements.{constructor_late, plain_constructor, element_told}
 use Rattle.types_10.specs.declared.kind.Kind.{Kind}
 use Rattle.types_10.specs.declared.kind.Kind.TheVariants as kind
 use Rattle.types_10.specs.declared.kind.Single.{Single}
@@ -47,7 +47,7 @@ trees_same (t ∷ ts) (u ∷ us) e =
     let rest : ts ≡ us = trees_same ts us cc in
     cc
 
-pub same_pair : {A B : Type 0} (p q : A × B) → p.0 ≡ q.0 → p.1 ≡ q.1 → p ≡ q
+same_pair : {A B : Type 0} (p q : A × B) → p.0 ≡ q.0 → p.1 ≡ q.1 → p ≡ q
 same_pair {A} {B} p q e f = ap (λ (x : A). (x, p.1)) e ∙ ap (λ (y : B). (q.0, y)) f
 
 pub pairs_same : (ps qs : List (Tree × Tree)) → pairs_of ps ≡ pairs_of qs → ps ≡ qs
@@ -223,7 +223,7 @@ level_alone (suc d) =
       element = element_alone (IsDeepOf (IsFirstCode s.content) (IsFirstElements s)) s.element deep r.element;
     }
 
-pub value_alone : (d : ℕ) → IsAlone (IsCanonicalOf d)
+value_alone : (d : ℕ) → IsAlone (IsCanonicalOf d)
 value_alone d = first_alone (canonical d).content (level_alone d).content
 
 pub values_alone : (d : ℕ) → IsAlone (IsItems (IsCanonicalOf d))

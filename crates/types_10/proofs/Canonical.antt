@@ -1,23 +1,22 @@
 -- What is written of a value is its canonical spelling.
-use Rattle.std.proofs.Common.{◌≡◌, ◌≢◌, ℕ, zero, suc, ◌+◌, ◌*◌, ◌^◌, ◌<◌, ◌≤◌, Bool, true, false, List, [], ◌∷◌, ◌++◌, length, refl, sym, ap, subst, ◌∙◌, append_assoc, arith}
+use Rattle.std.proofs.Common.{◌≡◌, ℕ, zero, suc, ◌*◌, ◌^◌, ◌<◌, ◌≤◌, Bool, true, false, List, [], ◌∷◌, ◌++◌, length, refl, sym, ap, subst, ◌∙◌, append_assoc, arith}
 use Rattle.std.specs.Bool.{IsTrue}
 use mathlib.Core.Logic.{◌⊎◌, inl, inr}
-use Rattle.std.proofs.lemmas.List.{length-append, append-nil, nil_from_length}
+use Rattle.std.proofs.lemmas.List.{length-append, nil_from_length}
 use Rattle.wire_base.specs.Spelling.{IsPair, IsItems}
 use Rattle.types_10.specs.Tree.{Scalar, Tree, scalar, list, mapping, array, described, Trees, no_trees, tree, trees_of, Pairs, no_pairs, pair, pairs_of, depth, trees_depth, pairs_depth}
-use Rattle.types_10.specs.Kinds.{kind_byte, is_bare, size_width}
-use Rattle.types_10.specs.Grammar.{Elements, IsSingle, IsTimes}
-use Rattle.types_10.specs.Canonical.{IsFirstCode, IsFirstConstructor, IsFirstElements, canonical, IsCanonicalOf, IsCanonical}
+use Rattle.types_10.specs.Kinds.{kind_byte, is_bare}
+use Rattle.types_10.specs.Grammar.{Elements, IsTimes}
+use Rattle.types_10.specs.Canonical.{IsFirstConstructor, canonical, IsCanonicalOf, IsCanonical}
 use Rattle.types_10.specs.Ranges.{IsInRange, IsRanged, EachInTrees, EachInPairs}
-use Rattle.types_10.specs.Writing.{single_kind, single_content, scalar_content, scalar_type, type_of, descriptors, Written, WrittenEach, plain, array_body, list_kind, map_kind, array_kind, held_content, shared, written, written_each, written_pairs, value_text, IsProper, EachIsAlike, AreOfOneType, IsWritable, EachIsWritable, PairsAreWritable, HasSpelling}
-use Rattle.types_10.proofs.Wider.{of_list, of_map, of_array, scalar_type_is, single_type_is, single_type, kind_type, IsUpTo, IsWider, same_wider, later_wider, wider_trans, first_shares, rest_shares, last_shares, shared_first}
+use Rattle.types_10.specs.Writing.{single_kind, single_content, scalar_content, type_of, descriptors, Written, plain, array_body, list_kind, map_kind, array_kind, held_content, shared, written, written_each, written_pairs, value_text, IsProper, EachIsAlike, AreOfOneType, IsWritable, EachIsWritable, PairsAreWritable, HasSpelling}
+use Rattle.types_10.proofs.Wider.{of_list, of_map, of_array, scalar_type_is, kind_type, IsUpTo, IsWider, same_wider, later_wider, wider_trans, first_shares, rest_shares, last_shares, shared_first}
 use Rattle.types_10.proofs.Written.{first_type, single_first, single_has_content}
-use Rattle.types_10.proofs.Elements.{single_late, list_late, map_late, array_late, constructor_late, plain_constructor, element_told, plain_in, plain_out, content_late, scalar_in, scalar_out, element_some, items_count}
+use Rattle.types_10.proofs.Elements.{single_late, constructor_late, plain_constructor, element_told, plain_in, plain_out, scalar_in, scalar_out, element_some, items_count}
 use Rattle.types_10.proofs.Alone.{IsFirstBody, trees_same, pairs_same, values_alone, entries_alone, bodies_alone}
 use Rattle.types_10.proofs.Held.{IsHeld, by_brief, by_list, list_for, empty_for, list_empty, list_held, sized_for, sized_held, filled_is, filled_has, body_short}
 use Rattle.types_10.specs.declared.kind.Kind.{Kind}
 use Rattle.types_10.specs.declared.kind.Kind.TheVariants as kind
-use Rattle.types_10.specs.declared.kind.Single.{Single}
 use Rattle.types_10.specs.declared.kind.Single.TheVariants as single
 use Rattle.types_10.specs.declared.kind.Bare.TheVariants as bare
 use Rattle.types_10.specs.declared.kind.Size.{Size}
@@ -116,9 +115,13 @@ entries_are d no_pairs h l = refl
 entries_are d (pair k t ps) h l =
     let front = (written k).text ++ (written t).text in
     let parts = length-append front (written_pairs ps).1 in
-    let more = length-append (written k).text (written t).text in
-    (front, (written_pairs ps).1, ((written k).text, (written t).text, h.0.text (omega (arith, parts, more)), h.1.text (omega (arith, parts, more)), refl),
-    entries_are d ps h.2 (omega (arith, parts)), refl)
+    let more = length-append (written k).text (written t).text in (
+      front,
+      (written_pairs ps).1,
+      ((written k).text, (written t).text, h.0.text (omega (arith, parts, more)), h.1.text (omega (arith, parts, more)), refl),
+      entries_are d ps h.2 (omega (arith, parts)),
+      refl,
+    )
 
 list_count : (ts : Trees) → length (tree_list ts) ≡ (written_each ts).count
 list_count no_trees = refl
@@ -342,8 +345,8 @@ body_is d (tree t ts) h a f l =
     let short : length (w.contents w.kind) < 2 ^ 32 = omega (arith, parts) in
     let told = h.0.front w.kind late (omega (arith, parts)) in
     let first : IsFirstConstructor (canonical d) (descriptors t, w.kind) (t ∷ tree_list ts) = λ e front text told i.
-        let known = constructor_late d e front told in
-        (omega (arith, ap length (element_told d e known t i.0 i.2)), (elements_first d (tree t ts) w.kind h wide short e known text i).later) in
+    let known = constructor_late d e front told in
+    (omega (arith, ap length (element_told d e known t i.0 i.2)), (elements_first d (tree t ts) w.kind h wide short e known text i).later) in
     let items = elements_are d (descriptors t) (tree t ts) w.kind h wide (refl, each_described t ts a) short in
     ((descriptors t, w.kind), w.front ++ kind_byte w.kind ∷ [], w.contents w.kind, told, (first, f, (list_count (tree t ts), items)), sym (append_assoc w.front (kind_byte w.kind ∷ []) (w.contents w.kind)))
 

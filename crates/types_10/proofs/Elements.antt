@@ -1,13 +1,12 @@
 -- Constructors and elements of canonical spellings: no constructor tells the kind of described values, and the descriptors that it
 -- tells are those of the elements.
-use Rattle.std.proofs.Common.{◌≡◌, ℕ, zero, suc, ◌≤◌, Bool, false, List, [], ◌∷◌, ◌++◌, length, refl, sym, ap, subst, ◌∙◌, arith}
+use Rattle.std.proofs.Common.{◌≡◌, ℕ, zero, suc, ◌≤◌, false, List, [], ◌∷◌, length, refl, sym, ap, subst, ◌∙◌, arith}
 use Rattle.std.proofs.lemmas.List.{length-append}
 use Rattle.std.specs.Int.{Width, byte_len}
 use Rattle.wire_base.specs.Spelling.{IsMade, IsText, IsItems}
-use Rattle.wire_base.proofs.Laws.{IsWide}
-use Rattle.types_10.specs.Tree.{Scalar, Tree, scalar, described}
+use Rattle.types_10.specs.Tree.{Scalar, Tree, scalar}
 use Rattle.types_10.specs.Kinds.{kind_byte, is_bare, wide_width, size_width}
-use Rattle.types_10.specs.Grammar.{Elements, IsSingle, IsFlat, IsDeepOf, IsCoded, IsShape, IsDescriptorOf, IsElement}
+use Rattle.types_10.specs.Grammar.{Elements, IsSingle, IsFlat, IsDeepOf, IsShape}
 use Rattle.types_10.specs.Canonical.{IsFirstCode, IsFirstElements, canonical}
 use Rattle.types_10.specs.Writing.{descriptors}
 use Rattle.types_10.proofs.ValueLaws.{wide_is}
@@ -115,28 +114,6 @@ plain_out zero k t text h = h
 plain_out (suc d) k t text h = h
 
 -- ---- contents
-
-flat_late : (k : Kind) (t : Tree) (text : List ℕ) → IsFlat k t text → 64 ≤ kind_byte k
-flat_late (kind.Single k) t text h = single_late k
-flat_late kind.EmptyList t text h = absurd h
-flat_late (kind.List z) t text h = absurd h
-flat_late (kind.Map z) t text h = absurd h
-flat_late (kind.Array z) t text h = absurd h
-flat_late kind.Described t text h = absurd h
-
-deep_late : (R : Tree → List ℕ → Type 0) (E : Width → List Tree → List ℕ → Type 0) (k : Kind) (t : Tree) (text : List ℕ) → descriptors t ≡ [] → IsDeepOf R E k t text → 64 ≤ kind_byte k
-deep_late R E (kind.Single k) t text e h = single_late k
-deep_late R E kind.EmptyList t text e h = omega arith
-deep_late R E (kind.List z) t text e h = list_late z
-deep_late R E (kind.Map z) t text e h = map_late z
-deep_late R E (kind.Array z) t text e h = array_late z
-deep_late R E kind.Described t text e h = let some : h.0.0 ∷ descriptors h.0.1 ≡ [] = sym (ap descriptors h.1) ∙ e in absurd cc
-
--- a value that is not described has no content under the kind of described ones
-pub content_late : (d : ℕ) (k : Kind) (t : Tree) (text : List ℕ) → descriptors t ≡ [] → (canonical d).content k t text → 64 ≤ kind_byte k
-unfolding canonical
-content_late zero k t text e h = flat_late k t text h
-content_late (suc d) k t text e h = deep_late (IsFirstCode (canonical d).content) (IsFirstElements (canonical d)) k t text e h
 
 -- values that hold no other, at each depth
 pub scalar_in : (d : ℕ) (k : Single) (s : Scalar) (text : List ℕ) → IsSingle k s text → (canonical d).content (kind.Single k) (scalar s) text

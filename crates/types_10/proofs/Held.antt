@@ -1,15 +1,12 @@
 -- Lists, maps and arrays: which sizes fit, the first of their kinds, and the size, the count and the body that fill a content.
-use Rattle.std.proofs.Common.{◌≡◌, ◌≢◌, ℕ, ◌+◌, ◌^◌, ◌<◌, ◌≤◌, Bool, true, false, cond, eqb, ltb, ◌&&◌, List, [], ◌∷◌, ◌++◌, length, refl, sym, ap, subst, ◌∙◌, arith}
+use Rattle.std.proofs.Common.{◌≡◌, ◌≢◌, ℕ, ◌^◌, ◌<◌, ◌≤◌, Bool, true, false, cond, eqb, ltb, ◌&&◌, List, ◌++◌, length, refl, ap, subst, ◌∙◌, arith}
 use Rattle.std.proofs.lemmas.Bool.{eqb-true, eqb-false, ltb-true, ltb-false}
-use Rattle.std.proofs.lemmas.Bool.Decides.{nat_tests}
 use Rattle.std.proofs.lemmas.List.{length-append}
-use Rattle.std.specs.Int.{Width, byte_len, to_be_bytes}
-use Rattle.wire_base.specs.Spelling.{text_of, IsNumber, IsText}
-use Rattle.wire_base.proofs.Laws.{IsWide}
+use Rattle.std.specs.Int.{byte_len, to_be_bytes}
+use Rattle.wire_base.specs.Spelling.{text_of, IsNumber}
 use Rattle.types_10.specs.Kinds.{kind_byte, size_width}
 use Rattle.types_10.specs.Grammar.{IsFilled, IsThen}
-use Rattle.types_10.specs.Writing.{is_brief, list_kind, map_kind, array_kind, held_content}
-use Rattle.types_10.proofs.ReaderLaws.{size_is}
+use Rattle.types_10.specs.Writing.{is_brief, list_kind, held_content}
 use Rattle.types_10.proofs.Wider.{IsWider, same_wider, later_wider}
 use Rattle.types_10.specs.declared.kind.Kind.{Kind}
 use Rattle.types_10.specs.declared.kind.Kind.TheVariants as kind
