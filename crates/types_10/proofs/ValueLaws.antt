@@ -30,7 +30,7 @@ use Rattle.types_10.specs.declared.kind.Size.TheVariants as size
 
 -- ---- values that hold no other
 
-wide_is : (k : Wide) → IsWide (wide_width k)
+pub wide_is : (k : Wide) → IsWide (wide_width k)
 wide_is wide.Ushort = wide16
 wide_is wide.Short = wide16
 wide_is wide.Uint = wide32

@@ -1,9 +1,9 @@
 -- The canonical spelling of a value (AMQP 1.0 1.6): of the codes that have a content for the value it takes the first, an array takes
 -- the first constructor that has contents for all its elements, and so does every value inside.
-use Rattle.std.specs.Prelude.{◌≡◌, ℕ, zero, suc, ◌≤◌, IsTrue, List, [], ◌∷◌, length}
+use Rattle.std.specs.Prelude.{◌≡◌, ℕ, zero, suc, ◌≤◌, IsTrue, List, ◌∷◌, length}
 use Rattle.std.specs.Int.{Width}
 use Rattle.wire_base.specs.Spelling.{IsNumber, IsItems}
-use Rattle.types_10.specs.Tree.{Tree, depth}
+use Rattle.types_10.specs.Tree.{Tree}
 use Rattle.types_10.specs.Kinds.{kind_byte, is_bare}
 use Rattle.types_10.specs.Grammar.{Spelled, Elements, IsCoded, IsThen, IsTimes, IsFlat, IsDeepOf, IsShape, IsDescriptorOf, IsElement}
 use Rattle.types_10.specs.declared.kind.Kind.{Kind}
