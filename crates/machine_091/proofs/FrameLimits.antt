@@ -57,6 +57,7 @@ frame_fits c f fits none = by f.kind none
     method phase.Open none = fits
     method phase.Closing none = fits
     method phase.Closed none = fits
+
     by : (k : Kind91) → kind_code c.phase c.limits f k ≡ None → 4096 ≤ (frame_brings c f.payload k).0.limits.frame_max
     by frame.Method none = method c.phase none
     by frame.Header none = fits
@@ -70,6 +71,7 @@ up_fits c u fits = by (first_fault c u) refl
     brings unit.Protocol e = fits
     brings (unit.Bad code) e = fits
     brings (unit.Frame f) e = frame_fits c f fits (not_refused f _ e)
+
     by : (r : Option Refusal) → first_fault c u ≡ r → 4096 ≤ (judged c u r).0.limits.frame_max
     by None e = brings u e
     by (Some r) e = fits
@@ -81,13 +83,16 @@ frames_fit c u fits = by c.phase
     header unit.Protocol = fits
     header (unit.Frame f) = fits
     header (unit.Bad code) = fits
+
     closing : (s t : Bool) (x y : Taken) → x.0.limits ≡ c.limits → y.0.limits ≡ c.limits → 4096 ≤ (cond {A = Taken} s x (cond {A = Taken} t y (c, want.Nothing))).0.limits.frame_max
     closing true t x y p q = rw p fits
     closing false true x y p q = rw q fits
     closing false false x y p q = fits
+
     closed : (s : Bool) → 4096 ≤ (cond {A = Taken} s (c, want.CloseOk) (c, want.Nothing)).0.limits.frame_max
     closed true = fits
     closed false = fits
+
     by : (p : Phase91) → 4096 ≤ (taken_in p c u).0.limits.frame_max
     by phase.Header = header u
     by phase.Start = up_fits c u fits

@@ -4,12 +4,11 @@ ghost use Rattle.std.specs.Prelude.{◌≡◌, IfOk, OnOk, OnErr};
 ghost use Rattle.machine_091.specs.Phases.{new_connection, closing_phase};
 ghost use Rattle.machine_091.specs.Transitions.{taken};
 
+use crate::transitions::{taken_closed, taken_closing, taken_header, taken_up};
+use crate::unit::{Unit91, Want91};
 use close_translate::Scope;
 use std::alloc::Global;
 use wire_base::Memory;
-
-use crate::transitions::{taken_closed, taken_closing, taken_header, taken_up};
-use crate::unit::{Unit91, Want91};
 
 /// How far a connection has come (AMQP 0-9-1 2.2.4).
 #[derive(Clone, Copy, Debug, PartialEq, Eq)]

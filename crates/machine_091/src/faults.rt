@@ -6,14 +6,13 @@ ghost use Rattle.methods_091.specs.View.{kind_of, args_of, parts_of};
 ghost use Rattle.machine_091.specs.Judged.{IsJudged};
 ghost use Rattle.machine_091.specs.Faults.{class_in, id_in, heartbeat_code, content_code, expected, is_expected, channel_code, is_login, is_agreed, own_code, fault_code, reading_code, first, method_rows, refusal, refusal_with};
 
+use crate::connection::{Limits, Phase91};
+use crate::unit::Refusal;
 use close_translate::Scope;
 use frames_091::{Frame91, Kind91};
 use methods_091::{Method91, MethodFault, ids, read_method};
 use std::alloc::Global;
 use wire_base::{At, ByteText, Memory};
-
-use crate::connection::{Limits, Phase91};
-use crate::unit::Refusal;
 
 /// The greatest response of a login, in bytes.
 const MOST_RESPONSE: usize = 300;
@@ -50,11 +49,7 @@ fn heartbeat_fault(frame: &Frame91) -> Option<u16>
 fn content_code(frame: &Frame91) -> u16
     ensures { Some result ≡ content_code frame.now }
 {
-    if frame.channel == 0 {
-        504
-    } else {
-        505
-    }
+    if frame.channel == 0 { 504 } else { 505 }
 }
 
 /// The id of the method of the class connection that is expected; 0 for none.
@@ -133,20 +128,11 @@ fn own_fault(phase: Phase91, method: &Method91) -> Option<u16>
         } => is_agreed(*channel_max, *frame_max),
         _ => return Some(540),
     };
-    if accepted {
-        None
-    } else {
-        Some(530)
-    }
+    if accepted { None } else { Some(530) }
 }
 
 /// The first fault of a method frame whose method was read.
-fn method_fault(
-    phase: Phase91,
-    limits: Limits,
-    frame: &Frame91,
-    method: &Method91,
-) -> Option<u16>
+fn method_fault(phase: Phase91, limits: Limits, frame: &Frame91, method: &Method91) -> Option<u16>
     ensures { result ≡ first (method_rows phase limits frame.now (Ok (parts_of method.now))) }
 {
     if !is_expected(phase, method) {

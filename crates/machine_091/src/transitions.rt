@@ -8,14 +8,13 @@ ghost use Rattle.machine_091.specs.Transitions.{agreed, expected_brings, taken_u
 ghost use Rattle.machine_091.specs.declared.connection.Phase91.TheVariants as phase;
 ghost use Rattle.machine_091.specs.declared.unit.Want91.TheVariants as want;
 
+use crate::connection::{Conn91, Limits, Phase91};
+use crate::faults::{bare_refusal, judged, refusal};
+use crate::unit::{Refusal, Unit91, Want91};
 use frames_091::{Frame91, Kind91};
 use methods_091::{Method91, ids, read_method};
 use std::alloc::Global;
 use wire_base::Memory;
-
-use crate::connection::{Conn91, Limits, Phase91};
-use crate::faults::{bare_refusal, judged, refusal};
-use crate::unit::{Refusal, Unit91, Want91};
 
 /// The unit is refused.
 fn refused(conn: Conn91, refusal: Refusal) -> (Conn91, Want91)
@@ -101,11 +100,7 @@ fn connection_id(method: &Method91) -> u16
     ensures { result ≡ connection_id (Ok (parts_of method.now)) }
 {
     let (class, id) = ids(method);
-    if class == 10 {
-        id
-    } else {
-        0
-    }
+    if class == 10 { id } else { 0 }
 }
 
 /// The id of a method of the class connection on channel 0 that can be read; 0 for any other unit.
