@@ -7,7 +7,8 @@ use Rattle.std.specs.Int.{Width, to_be_bytes}
 use Rattle.wire_base.specs.Bytes.{IsBytes}
 use Rattle.wire_base.specs.Spelling.{IsNumber, IsText}
 use Rattle.wire_base.specs.Reading.{Reads, ◌>>=◌, number_in, text_in}
-use Rattle.wire_base.proofs.Bytes.{IsBytes-drop, IsBytes-take}
+use Rattle.wire_base.proofs.Bytes.{IsBytes-drop}
+use Rattle.wire_base.proofs.Items.{text_bytes}
 use Rattle.wire_base.proofs.Laws.{IsReader, Finds, IsWide, wide8, wide32, bind_is, ok_is, number_reader, text_reader}
 use Rattle.types_10.specs.Reading.{Fault, fault_at, count_in, bytes_in, sixteen_in, tested, filled_in}
 use Rattle.types_10.specs.Kinds.{size_width}
@@ -15,14 +16,6 @@ use Rattle.types_10.specs.Grammar.{IsSuch, IsSixteen, IsFilled, IsThen}
 use Rattle.types_10.specs.declared.fault.TypeFault.TheVariants as fault
 use Rattle.types_10.specs.declared.kind.Size.{Size}
 use Rattle.types_10.specs.declared.kind.Size.TheVariants as size
-
--- the bytes of a text that stands among bytes are bytes
-content_bytes : (w : Width) (s front rest : List ℕ) → IsBytes (front ++ rest) → IsText w s front → IsBytes s
-content_bytes w s front rest fits h =
-    let whole : front ++ rest ≡ to_be_bytes w (length s) ++ (s ++ rest) = ap (λ (t : List ℕ). t ++ rest) h.1 ∙ append_assoc (to_be_bytes w (length s)) s rest in
-    let behind : drop (length (to_be_bytes w (length s))) (front ++ rest) ≡ s ++ rest = ap (drop (length (to_be_bytes w (length s)))) whole ∙ drop_at (to_be_bytes w (length s)) (s ++ rest) (length (to_be_bytes w (length s))) refl in
-    let inside : IsBytes (s ++ rest) = subst IsBytes behind (IsBytes-drop (length (to_be_bytes w (length s))) (front ++ rest) fits) in
-    subst IsBytes (take_at s rest (length s) refl) (IsBytes-take (length s) (s ++ rest) inside)
 
 pub size_is : (s : Size) → IsWide (size_width s)
 size_is size.Short = wide8
@@ -116,7 +109,7 @@ filled_reader {A} w at cut wide R inner r = record { finds = finds; again = agai
         let g = passed (eqb (length c.0.1) 0) (c.0.0, b.0.1) x (fault_at fault.Count at) c.2 in
         let none : c.0.1 ≡ [] = nil_from_length c.0.1 (eqb-true _ _ g.0) in
         let f = texts.finds end text b.0 fits b.1 in
-        let body = content_bytes w b.0.0 f.front b.0.1 (subst IsBytes f.parts fits) f.spelled in
+        let body = text_bytes w b.0.0 f.front b.0.1 (subst IsBytes f.parts fits) f.spelled in
         let h = (r (fault_at fault.Count at)).finds (end - length b.0.1) b.0.0 c.0 body c.1 in
         let whole : h.front ≡ b.0.0 = sym (h.parts ∙ ap (λ (t : List ℕ). h.front ++ t) none ∙ append-nil h.front) in
         subst (λ (y : A × List ℕ). Finds (IsFilled w R) text y) g.1

@@ -145,7 +145,7 @@ unfolding all_items
 items_again R read r filled end xs text h = many_again R read r filled end (length text) xs text (omega arith) h
 
 -- the bytes of a text that stands among bytes are bytes
-text_bytes : (w : Width) (s front rest : List ℕ) → IsBytes (front ++ rest) → IsText w s front → IsBytes s
+pub text_bytes : (w : Width) (s front rest : List ℕ) → IsBytes (front ++ rest) → IsText w s front → IsBytes s
 text_bytes w s front rest fits h =
     let whole : front ++ rest ≡ to_be_bytes w (length s) ++ (s ++ rest) = ap (λ (t : List ℕ). t ++ rest) h.1 ∙ append_assoc (to_be_bytes w (length s)) s rest in
     let behind : drop (length (to_be_bytes w (length s))) (front ++ rest) ≡ s ++ rest = ap (drop (length (to_be_bytes w (length s)))) whole ∙ drop_at (to_be_bytes w (length s)) (s ++ rest) (length (to_be_bytes w (length s))) refl in
