@@ -79,10 +79,7 @@ pub(crate) fn is_fault(
 }
 
 /// Each proper part of these bytes at their front is cut off at its length.
-pub(crate) fn is_cut_everywhere(
-    rt: &(impl Abort + AllocGlobal),
-    bytes: &[u8],
-) -> Result<(), Fail> {
+pub(crate) fn is_cut_everywhere(rt: &(impl Abort + AllocGlobal), bytes: &[u8]) -> Result<(), Fail> {
     for count in 0..bytes.len() {
         is_fault(rt, front(bytes, count), TypeFault::Cut, count)?;
     }

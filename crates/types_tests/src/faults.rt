@@ -1,6 +1,6 @@
 //! Faults: which one is told of bytes that are no value, and where.
 
-use crate::checks::{front, is_fault, is_fault_from};
+use crate::checks::{front, is_fault, is_fault_from, is_whole};
 use crate::parts::filled;
 use std::process::Abort;
 use std::test::Fail;
@@ -115,7 +115,11 @@ static OTHER_COUNTS: [Fault; 31] = [
     (b"\xE0\x03\x02\x50\x07\x07", TypeFault::Count, 0),
     (b"\xE0\x04\x01\x70\0\0\0\0", TypeFault::Count, 0),
     (b"\xE0\x03\x01\xA1\x01a", TypeFault::Count, 0),
-    (b"\xF0\0\0\0\x06\xFF\xFF\xFF\xFF\x50\x07", TypeFault::Count, 0),
+    (
+        b"\xF0\0\0\0\x06\xFF\xFF\xFF\xFF\x50\x07",
+        TypeFault::Count,
+        0,
+    ),
     // bytes left over
     (b"\xE0\x03\0\x40\x40", TypeFault::Count, 0),
     (b"\xE0\x03\x01\x40\x40", TypeFault::Count, 0),
@@ -220,7 +224,8 @@ fn first_faults_are_told(rt: HostRuntime) -> Result<(), Fail> {
 }
 
 /// Each format code.
-const CODES: &[u8] = b"\0\x40\x41\x42\x43\x44\x45\x50\x51\x52\x53\x54\x55\x56\x60\x61\x70\x71\x72\x73\x74\
+const CODES: &[u8] =
+    b"\0\x40\x41\x42\x43\x44\x45\x50\x51\x52\x53\x54\x55\x56\x60\x61\x70\x71\x72\x73\x74\
     \x80\x81\x82\x83\x84\x94\x98\xA0\xA1\xA3\xB0\xB1\xB3\xC0\xC1\xD0\xD1\xE0\xF0";
 
 #[test]
@@ -230,7 +235,12 @@ fn other_codes_are_unknown(rt: HostRuntime) -> Result<(), Fail> {
         if !CODES.contains(&code) {
             let bytes = filled(rt.alloc(), &[code], 0, 40)?;
             for count in [1usize, 2, 41] {
-                is_fault(&rt, front(bytes.as_slice(), count), TypeFault::UnknownCode, 0)?;
+                is_fault(
+                    &rt,
+                    front(bytes.as_slice(), count),
+                    TypeFault::UnknownCode,
+                    0,
+                )?;
             }
         }
     }
@@ -241,6 +251,56 @@ fn other_codes_are_unknown(rt: HostRuntime) -> Result<(), Fail> {
 fn offsets_past_the_end_are_cut(rt: HostRuntime) -> Result<(), Fail> {
     for from in [2usize, 3, 1_000_000, usize::MAX] {
         is_fault_from(&rt, b"\x40\x40", from, TypeFault::Cut, 2)?;
+    }
+    Ok(())
+}
+
+/// Lists, maps and arrays whose size and count have one byte and are right. Their elements have bytes.
+static RIGHT: [&[u8]; 9] = [
+    b"\xC0\x02\x01\x40",
+    b"\xC0\x05\x02\x52\x05\xA1\0",
+    b"\xC0\x06\x02\x45\xC0\x02\x01\x45",
+    b"\xC1\x06\x02\xA1\x01a\x54\x01",
+    b"\xC1\x08\x04\xA3\x01k\x40\x54\x01\x41",
+    b"\xE0\x04\x02\x52\0\xFF",
+    b"\xE0\x06\x02\xA1\0\x02ab",
+    b"\xE0\x08\x02\0\xA3\x01d\x54\x01\x02",
+    b"\xE0\x09\x02\xE0\x02\0\x40\x03\x01\x50\x07",
+];
+
+/// The same bytes with another size and another count, and a null behind them.
+fn changed(rt: &impl AllocGlobal, bytes: &[u8], size: u8, count: u8) -> Result<Vec<u8>, Fail> {
+    let mut other = bytes.to_vec(rt.alloc())?;
+    other.push(0x40)?;
+    if let [_, size_byte, count_byte, ..] = other.as_mut_slice() {
+        *size_byte = size;
+        *count_byte = count;
+    }
+    Ok(other)
+}
+
+#[test]
+fn sizes_and_counts_agree(rt: HostRuntime) -> Result<(), Fail> {
+    for bytes in &RIGHT {
+        is_whole(&rt, bytes)?;
+        let [_, size, count, ..] = bytes else {
+            panic!(rt; "{bytes:?}");
+        };
+        let (size, count) = (*size, *count);
+        for (size, count) in [
+            (size.wrapping_sub(1), count),
+            (size.wrapping_add(1), count),
+            (size, count.wrapping_sub(1)),
+            (size, count.wrapping_add(1)),
+            (size, count.wrapping_sub(2)),
+            (size, count.wrapping_add(2)),
+            (size, 255),
+        ] {
+            let other = changed(&rt, bytes, size, count)?;
+            is_fault(&rt, other.as_slice(), TypeFault::Count, 0)?;
+        }
+        let longer = changed(&rt, bytes, size.wrapping_add(2), count)?;
+        is_fault(&rt, longer.as_slice(), TypeFault::Cut, longer.len())?;
     }
     Ok(())
 }

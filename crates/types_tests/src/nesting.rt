@@ -1,7 +1,6 @@
 //! Values inside values, to the greatest depth and one further.
 
 use crate::checks::{is_fault, is_whole};
-use crate::parts::filled;
 use std::process::Abort;
 use std::test::Fail;
 use types_10::TypeFault;
@@ -51,11 +50,7 @@ fn before(rt: &(impl Abort + AllocGlobal), holder: Holder, len: usize) -> Result
 fn behind(holder: Holder) -> &'static [u8] {
     match holder {
         Holder::Key | Holder::Descriptor => b"\x40",
-        Holder::List
-        | Holder::LongList
-        | Holder::Value
-        | Holder::Array
-        | Holder::Described => b"",
+        Holder::List | Holder::LongList | Holder::Value | Holder::Array | Holder::Described => b"",
     }
 }
 
@@ -158,7 +153,8 @@ fn described_array(rt: &impl AllocGlobal, count: u8) -> Result<Vec<u8>, Fail> {
     for _ in 0..count {
         bytes.extend_from_slice(b"\0\x43")?;
     }
-    filled(rt.alloc(), bytes.as_slice(), 0x40, 1)
+    bytes.push(0x40)?;
+    Ok(bytes)
 }
 
 #[test]

@@ -1,6 +1,9 @@
 //! Values and bytes built from parts.
 
-ghost use Rattle.std.specs.Prelude.{◌≡◌, IfOk};
+ghost use Rattle.std.specs.Prelude.{◌≡◌, length, IsTrue, IfOk};
+ghost use Rattle.std.specs.Char.{is_ascii};
+ghost use Rattle.std.specs.Str.{is_utf8};
+ghost use Rattle.std.specs.List.{list_all};
 ghost use Rattle.types_10.specs.Tree.{scalar, binary, string, symbol, list, mapping, array, described, no_trees, tree, no_pairs, pair};
 ghost use Rattle.types_10.specs.View.{value_tree};
 
@@ -9,17 +12,24 @@ use std::test::Fail;
 use types_10::{Inner, PairList, Value10, ValueList};
 use wire_base::{ByteText, Memory};
 
+/// One byte so many times.
+pub(crate) fn repeated(alloc: Global, byte: u8, count: usize) -> Result<Vec<u8>, Memory>
+    ensures { IfOk result (λ v. length v.items ≡ count) }
+{
+    let mut bytes = Vec::new(alloc);
+    bytes.resize(count, byte)?;
+    Ok(bytes)
+}
+
 /// A front, and one byte so many times behind it.
 pub(crate) fn filled(
     alloc: Global,
     front: &[u8],
     byte: u8,
     count: usize,
-) -> Result<Vec<u8>, Fail> {
+) -> Result<Vec<u8>, Memory> {
     let mut bytes = front.to_vec(alloc)?;
-    for _ in 0..count {
-        bytes.push(byte)?;
-    }
+    bytes.extend_from_slice(repeated(alloc, byte, count)?.as_slice())?;
     Ok(bytes)
 }
 
@@ -29,16 +39,36 @@ pub(crate) fn binary(alloc: Global, bytes: &[u8]) -> Result<Value10, Memory>
     Ok(Value10::Binary(ByteText::copy_of(alloc, bytes)?))
 }
 
-pub(crate) fn string(alloc: Global, text: &[u8]) -> Result<Value10, Memory>
-    ensures { IfOk result (λ v. value_tree v ≡ scalar (string text.now)) }
+/// A string of this text, which fails where it isn't UTF-8.
+pub(crate) fn string(alloc: Global, text: &[u8]) -> Result<Value10, Fail>
+    ensures is { IfOk result (λ v. value_tree v ≡ scalar (string text.now)) }
+    ensures proper { IfOk result (λ v. IsTrue (is_utf8 text.now)) }
 {
-    Ok(Value10::String(ByteText::copy_of(alloc, text)?))
+    match std::str::from_utf8(text) {
+        Ok(_) => {
+            let text = ByteText::copy_of(alloc, text)?;
+            Ok(Value10::String(text))
+        }
+        Err(error) => Err(Fail::from(error)),
+    }
 }
 
-pub(crate) fn symbol(alloc: Global, text: &[u8]) -> Result<Value10, Memory>
-    ensures { IfOk result (λ v. value_tree v ≡ scalar (symbol text.now)) }
+fn is_ascii(text: &[u8]) -> bool
+    ensures { result ≡ list_all is_ascii text.now }
 {
-    Ok(Value10::Symbol(ByteText::copy_of(alloc, text)?))
+    text.iter().all(|byte| byte.is_ascii())
+}
+
+/// A symbol of this text, which fails where it isn't ASCII.
+pub(crate) fn symbol(alloc: Global, text: &[u8]) -> Result<Value10, Fail>
+    ensures is { IfOk result (λ v. value_tree v ≡ scalar (symbol text.now)) }
+    ensures proper { IfOk result (λ v. IsTrue (list_all is_ascii text.now)) }
+{
+    if !is_ascii(text) {
+        return Err(Fail::from("not ASCII"));
+    }
+    let text = ByteText::copy_of(alloc, text)?;
+    Ok(Value10::Symbol(text))
 }
 
 pub(crate) fn list_of_1(alloc: Global, only: Value10) -> Result<Value10, Memory>
@@ -66,7 +96,6 @@ pub(crate) fn map_of_1(alloc: Global, key: Value10, value: Value10) -> Result<Va
     pairs.push((key, value))?;
     Ok(Value10::Map(pairs))
 }
-
 
 pub(crate) fn map_of_2(
     alloc: Global,

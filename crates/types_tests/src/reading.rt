@@ -2,7 +2,7 @@
 
 use crate::checks::{is_fault, is_read_as, is_spelling, read_at};
 use crate::parts::{
-    array_of_1, array_of_2, described, filled, list_of_1, map_of_1, string, symbol,
+    array_of_1, array_of_2, described, filled, list_of_1, map_of_1, repeated, string, symbol,
 };
 use crate::rows::rows;
 use crate::scalars::{LONGER_SAMPLES, SAMPLES, value_of};
@@ -120,7 +120,10 @@ fn longer_elements_are_read(rt: HostRuntime) -> Result<(), Fail> {
     )?;
     are_read_as(
         &rt,
-        array_of_1(alloc, described(alloc, symbol(alloc, b"d")?, Value10::Uint(0))?)?,
+        array_of_1(
+            alloc,
+            described(alloc, symbol(alloc, b"d")?, Value10::Uint(0))?,
+        )?,
         &[
             b"\xE0\x07\x01\0\xA3\x01d\x52\0",
             b"\xF0\0\0\0\x0D\0\0\0\x01\0\xB3\0\0\0\x01d\x52\0",
@@ -129,11 +132,7 @@ fn longer_elements_are_read(rt: HostRuntime) -> Result<(), Fail> {
 }
 
 /// The array that these bytes are has so many elements.
-fn has_elements(
-    rt: &(impl Abort + AllocGlobal),
-    bytes: &[u8],
-    count: usize,
-) -> Result<(), Fail> {
+fn has_elements(rt: &(impl Abort + AllocGlobal), bytes: &[u8], count: usize) -> Result<(), Fail> {
     let (value, after) = read_at(rt, bytes, 0)?;
     assert_eq!(rt; after, bytes.len());
     match value {
@@ -183,10 +182,10 @@ fn elements_without_bytes_have_a_limit(rt: HostRuntime) -> Result<(), Fail> {
 #[test]
 fn texts_may_be_longer_than_they_need(rt: HostRuntime) -> Result<(), Fail> {
     let alloc = rt.alloc();
-    let text = filled(alloc, b"", b'x', 255)?;
+    let text = repeated(alloc, b'x', 255)?;
     let bytes = filled(alloc, b"\xB1\0\0\0\xFF", b'x', 255)?;
     is_read_as(&rt, &string(alloc, text.as_slice())?, bytes.as_slice())?;
-    let text = filled(alloc, b"", b'x', 65_536)?;
+    let text = repeated(alloc, b'x', 65_536)?;
     let bytes = filled(alloc, b"\xB3\0\x01\0\0", b'x', 65_536)?;
     is_read_as(&rt, &symbol(alloc, text.as_slice())?, bytes.as_slice())
 }

@@ -3,7 +3,7 @@
 use crate::checks::is_spelling;
 use crate::parts::{
     array_of_1, array_of_2, binary, described, filled, list_of_1, list_of_2, map_of_1, map_of_2,
-    string, symbol,
+    repeated, string, symbol,
 };
 use std::process::Abort;
 use std::test::Fail;
@@ -285,14 +285,14 @@ fn described_rows(rt: &(impl Abort + AllocGlobal)) -> Result<(), Fail> {
 /// Texts whose lengths are the last one of one byte and the first one of four.
 fn text_rows(rt: &(impl Abort + AllocGlobal)) -> Result<(), Fail> {
     let alloc = rt.alloc();
-    let text = filled(alloc, b"", b'x', 255)?;
+    let text = repeated(alloc, b'x', 255)?;
     let bytes = filled(alloc, b"\xA0\xFF", b'x', 255)?;
     is_row(rt, binary(alloc, text.as_slice())?, bytes.as_slice())?;
     let bytes = filled(alloc, b"\xA1\xFF", b'x', 255)?;
     is_row(rt, string(alloc, text.as_slice())?, bytes.as_slice())?;
     let bytes = filled(alloc, b"\xA3\xFF", b'x', 255)?;
     is_row(rt, symbol(alloc, text.as_slice())?, bytes.as_slice())?;
-    let text = filled(alloc, b"", b'x', 256)?;
+    let text = repeated(alloc, b'x', 256)?;
     let bytes = filled(alloc, b"\xB0\0\0\x01\0", b'x', 256)?;
     is_row(rt, binary(alloc, text.as_slice())?, bytes.as_slice())?;
     let bytes = filled(alloc, b"\xB1\0\0\x01\0", b'x', 256)?;
@@ -306,28 +306,28 @@ fn size_rows(rt: &(impl Abort + AllocGlobal)) -> Result<(), Fail> {
     let alloc = rt.alloc();
     // of the 255 bytes one is the count, and two are the binary's code and length
     let bytes = filled(alloc, b"\xC0\xFF\x01\xA0\xFC", b'x', 252)?;
-    let value = filled(alloc, b"", b'x', 252)?;
+    let value = repeated(alloc, b'x', 252)?;
     let value = list_of_1(alloc, binary(alloc, value.as_slice())?)?;
     is_row(rt, value, bytes.as_slice())?;
     let bytes = filled(alloc, b"\xD0\0\0\x01\x03\0\0\0\x01\xA0\xFD", b'x', 253)?;
-    let value = filled(alloc, b"", b'x', 253)?;
+    let value = repeated(alloc, b'x', 253)?;
     let value = list_of_1(alloc, binary(alloc, value.as_slice())?)?;
     is_row(rt, value, bytes.as_slice())?;
     // one more is the key
     let bytes = filled(alloc, b"\xC1\xFF\x02\x40\xA0\xFB", b'x', 251)?;
-    let value = filled(alloc, b"", b'x', 251)?;
+    let value = repeated(alloc, b'x', 251)?;
     let value = map_of_1(alloc, Value10::Null, binary(alloc, value.as_slice())?)?;
     is_row(rt, value, bytes.as_slice())?;
     let bytes = filled(alloc, b"\xD1\0\0\x01\x03\0\0\0\x02\x40\xA0\xFC", b'x', 252)?;
-    let value = filled(alloc, b"", b'x', 252)?;
+    let value = repeated(alloc, b'x', 252)?;
     let value = map_of_1(alloc, Value10::Null, binary(alloc, value.as_slice())?)?;
     is_row(rt, value, bytes.as_slice())?;
     let bytes = filled(alloc, b"\xE0\xFF\x01\xA0\xFC", b'x', 252)?;
-    let value = filled(alloc, b"", b'x', 252)?;
+    let value = repeated(alloc, b'x', 252)?;
     let value = array_of_1(alloc, binary(alloc, value.as_slice())?)?;
     is_row(rt, value, bytes.as_slice())?;
     let bytes = filled(alloc, b"\xF0\0\0\x01\x03\0\0\0\x01\xA0\xFD", b'x', 253)?;
-    let value = filled(alloc, b"", b'x', 253)?;
+    let value = repeated(alloc, b'x', 253)?;
     let value = array_of_1(alloc, binary(alloc, value.as_slice())?)?;
     is_row(rt, value, bytes.as_slice())
 }
@@ -335,7 +335,7 @@ fn size_rows(rt: &(impl Abort + AllocGlobal)) -> Result<(), Fail> {
 /// Arrays of texts of which one needs a length of four bytes.
 fn long_element_rows(rt: &(impl Abort + AllocGlobal)) -> Result<(), Fail> {
     let alloc = rt.alloc();
-    let text = filled(alloc, b"", b'x', 256)?;
+    let text = repeated(alloc, b'x', 256)?;
     let bytes = filled(
         alloc,
         b"\xF0\0\0\x01\x0D\0\0\0\x02\xB1\0\0\0\0\0\0\x01\0",

@@ -1,9 +1,12 @@
 //! Values that hold no other, with their bytes: tables for both directions.
 
+ghost use Rattle.std.specs.Prelude.{IsTrue};
+ghost use Rattle.types_10.specs.Kinds.{is_character};
+
+use crate::parts::{binary, string, symbol};
 use std::process::Abort;
 use std::test::Fail;
 use types_10::Value10;
-use wire_base::ByteText;
 
 /// A value that holds no other.
 #[derive(Clone, Copy, Debug)]
@@ -41,7 +44,7 @@ const SIXTEEN: [u8; 16] = *b"\0\x11\x22\x33\x44\x55\x66\x77\x88\x99\xAA\xBB\xCC\
 const DECIMAL_1: [u8; 16] = *b"\x30\x40\0\0\0\0\0\0\0\0\0\0\0\0\0\x01";
 
 /// Values at their edges, each by the first code whose range fits: what is read, and what is written.
-pub(crate) static SAMPLES: [Sample; 75] = [
+pub(crate) static SAMPLES: [Sample; 76] = [
     (Scalar::Null, b"\x40"),
     (Scalar::Boolean(true), b"\x41"),
     (Scalar::Boolean(false), b"\x42"),
@@ -59,6 +62,7 @@ pub(crate) static SAMPLES: [Sample; 75] = [
     (Scalar::Short(32_767), b"\x61\x7F\xFF"),
     (Scalar::Uint(0), b"\x43"),
     (Scalar::Uint(1), b"\x52\x01"),
+    (Scalar::Uint(5), b"\x52\x05"),
     (Scalar::Uint(255), b"\x52\xFF"),
     (Scalar::Uint(256), b"\x70\0\0\x01\0"),
     (Scalar::Uint(0x0102_0304), b"\x70\x01\x02\x03\x04"),
@@ -164,10 +168,7 @@ pub(crate) static SAMPLES: [Sample; 75] = [
     (Scalar::String("\u{FEFF}"), b"\xA1\x03\xEF\xBB\xBF"),
     (Scalar::Symbol(""), b"\xA3\0"),
     (Scalar::Symbol("\0\x7F"), b"\xA3\x02\0\x7F"),
-    (
-        Scalar::Symbol("amqp:not-found"),
-        b"\xA3\x0Eamqp:not-found",
-    ),
+    (Scalar::Symbol("amqp:not-found"), b"\xA3\x0Eamqp:not-found"),
     (Scalar::Symbol("PLAIN"), b"\xA3\x05PLAIN"),
     (Scalar::Symbol("a b"), b"\xA3\x03a b"),
 ];
@@ -193,7 +194,10 @@ pub(crate) static LONGER_SAMPLES: [Sample; 26] = [
     (Scalar::Long(127), b"\x81\0\0\0\0\0\0\0\x7F"),
     (Scalar::Binary(b""), b"\xB0\0\0\0\0"),
     (Scalar::Binary(b"\0"), b"\xB0\0\0\0\x01\0"),
-    (Scalar::Binary(b"\xFF\xC3\x28"), b"\xB0\0\0\0\x03\xFF\xC3\x28"),
+    (
+        Scalar::Binary(b"\xFF\xC3\x28"),
+        b"\xB0\0\0\0\x03\xFF\xC3\x28",
+    ),
     (Scalar::String(""), b"\xB1\0\0\0\0"),
     (Scalar::String("hello"), b"\xB1\0\0\0\x05hello"),
     (Scalar::String("\u{E9}"), b"\xB1\0\0\0\x02\xC3\xA9"),
@@ -201,6 +205,15 @@ pub(crate) static LONGER_SAMPLES: [Sample; 26] = [
     (Scalar::Symbol("PLAIN"), b"\xB3\0\0\0\x05PLAIN"),
     (Scalar::Symbol("\x7F"), b"\xB3\0\0\0\x01\x7F"),
 ];
+
+/// The number of a character.
+fn number_of(rt: &impl Abort, c: char) -> u32
+    ensures { IsTrue (is_character result) }
+{
+    let n = u32::from(c);
+    assert!(rt; n < 0xD800 || (n >= 0xE000 && n < 0x11_0000));
+    n
+}
 
 /// The value of a sample. A text has at most 100 bytes.
 pub(crate) fn value_of(rt: &(impl Abort + AllocGlobal), scalar: Scalar) -> Result<Value10, Fail> {
@@ -220,20 +233,20 @@ pub(crate) fn value_of(rt: &(impl Abort + AllocGlobal), scalar: Scalar) -> Resul
         Scalar::Decimal32(bits) => Value10::Decimal32(bits),
         Scalar::Decimal64(bits) => Value10::Decimal64(bits),
         Scalar::Decimal128(bytes) => Value10::Decimal128(bytes),
-        Scalar::Char(c) => Value10::Char(u32::from(c)),
+        Scalar::Char(c) => Value10::Char(number_of(rt, c)),
         Scalar::Timestamp(milliseconds) => Value10::Timestamp(milliseconds),
         Scalar::Uuid(bytes) => Value10::Uuid(bytes),
         Scalar::Binary(bytes) => {
             assert!(rt; bytes.len() <= 100);
-            Value10::Binary(ByteText::copy_of(rt.alloc(), bytes)?)
+            binary(rt.alloc(), bytes)?
         }
         Scalar::String(text) => {
             assert!(rt; text.len() <= 100);
-            Value10::String(ByteText::copy_of(rt.alloc(), text.as_bytes())?)
+            string(rt.alloc(), text.as_bytes())?
         }
         Scalar::Symbol(text) => {
-            assert!(rt; text.len() <= 100 && text.is_ascii());
-            Value10::Symbol(ByteText::copy_of(rt.alloc(), text.as_bytes())?)
+            assert!(rt; text.len() <= 100);
+            symbol(rt.alloc(), text.as_bytes())?
         }
     };
     Ok(value)

@@ -88,7 +88,7 @@ fn described_values_are_read(rt: HostRuntime) -> Result<(), Fail> {
 }
 
 /// An array of the numbers from 0 on, each described by this symbol if there is one.
-fn numbers(alloc: Global, count: i32, descriptor: Option<&[u8]>) -> Result<Value10, Memory> {
+fn numbers(alloc: Global, count: i32, descriptor: Option<&[u8]>) -> Result<Value10, Fail> {
     let mut values = ValueList::empty(alloc);
     for n in 0..count {
         let value = match descriptor {
@@ -113,7 +113,11 @@ fn number_bytes(alloc: Global, front: &[u8], count: i32) -> Result<Vec<u8>, Fail
 #[test]
 fn described_arrays_are_read(rt: HostRuntime) -> Result<(), Fail> {
     let alloc = rt.alloc();
-    let bytes = number_bytes(alloc, b"\xF0\0\0\0\x39\0\0\0\x0A\0\xA3\x09int-array\x71", 10)?;
+    let bytes = number_bytes(
+        alloc,
+        b"\xF0\0\0\0\x39\0\0\0\x0A\0\xA3\x09int-array\x71",
+        10,
+    )?;
     assert_eq!(rt; bytes.len(), 62);
     let value = numbers(alloc, 10, Some(b"int-array"))?;
     is_sequence(&rt, &[value], bytes.as_slice())
@@ -147,11 +151,12 @@ fn lists_are_read(rt: HostRuntime) -> Result<(), Fail> {
     list.push(Value10::Int(32))?;
     list.push(string(alloc, b"foo")?)?;
     list.push(Value10::Boolean(true))?;
-    let values = [
-        Value10::List(list),
-        Value10::List(ValueList::empty(alloc)),
-    ];
-    is_sequence(&rt, &values, b"\xD0\0\0\0\x0C\0\0\0\x03\x54\x20\xA1\x03foo\x41\x45")
+    let values = [Value10::List(list), Value10::List(ValueList::empty(alloc))];
+    is_sequence(
+        &rt,
+        &values,
+        b"\xD0\0\0\0\x0C\0\0\0\x03\x54\x20\xA1\x03foo\x41\x45",
+    )
 }
 
 /// maps.amqp: of words to numbers, of numbers to words, and without a pair.
