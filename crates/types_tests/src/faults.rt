@@ -299,8 +299,8 @@ fn sizes_and_counts_agree(rt: HostRuntime) -> Result<(), Fail> {
             let other = changed(&rt, bytes, size, count)?;
             is_fault(&rt, other.as_slice(), TypeFault::Count, 0)?;
         }
-        let longer = changed(&rt, bytes, size.wrapping_add(2), count)?;
-        is_fault(&rt, longer.as_slice(), TypeFault::Cut, longer.len())?;
+        let larger = changed(&rt, bytes, size.wrapping_add(2), count)?;
+        is_fault(&rt, larger.as_slice(), TypeFault::Cut, larger.len())?;
     }
     Ok(())
 }
