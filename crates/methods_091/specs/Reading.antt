@@ -62,11 +62,15 @@ told (Ok (Some x)) = Ok x
 told (Ok None) = Err (record { fault = UnknownMethod; at = 0 })
 told (Err at) = Err (record { fault = Syntax; at = at })
 
+-- what is read of a method: its kind and its arguments, or the first fault
+abbrev pub Read : Type 0
+Read = Result (MethodKind × List Arg) (At MethodFault)
+
 -- the kind and the arguments of the method that fills these bytes, or the first fault
-abbrev pub method_in : List ℕ → Result (MethodKind × List Arg) (At MethodFault)
+abbrev pub method_in : List ℕ → Read
 method_in bytes = told (payload_in bytes)
 
 -- a method that was read, as its kind and its arguments
-abbrev pub seen : Result Method91 (At MethodFault) → Result (MethodKind × List Arg) (At MethodFault)
+abbrev pub seen : Result Method91 (At MethodFault) → Read
 seen (Ok m) = Ok (parts_of m)
 seen (Err e) = Err e

@@ -18,6 +18,10 @@ use Rattle.methods_091.specs.declared.kind.ConfirmKind.TheVariants as in_confirm
 use Rattle.methods_091.specs.declared.kind.TxKind.{TxKind}
 use Rattle.methods_091.specs.declared.kind.TxKind.TheVariants as in_tx
 
+-- the kind of a method, under a name for other crates
+abbrev pub Kind : Type 0
+Kind = MethodKind
+
 -- the kind of an argument (AMQP 0-9-1 4.2.5): a number of one, two, four or eight bytes, a text behind a length of one or four bytes,
 -- a table, so many flags in one octet, or a reserved argument of some kind
 pub data ArgKind : Type 0 where

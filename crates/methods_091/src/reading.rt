@@ -114,8 +114,8 @@ pub fn read_method(
     ensures found { IfOk result (λ read. IfOk read (λ m. IsMethod m payload.now)) }
     // What is spelled so is read.
     ensures only { (m : Method91) → IsMethod m payload.now → IfOk result (λ read. read ≡ Ok m) }
-    // Which fault is told, and where; an unknown method is told exactly where it is one.
-    ensures exact { IfOk result (λ read. IfErr read (λ e. method_in payload.now ≡ Err e)) }
+    // Which kind and arguments are read, or which fault is told, and where; an unknown method is told exactly where it is one.
+    ensures exact { IfOk result (λ read. seen read ≡ method_in payload.now) }
     ensures fault { IfOk result (λ read. IfErr read (IsFault payload.now)) }
     ensures unknown { IsUnknown payload.now
         → IfOk result (λ read. read ≡ Err (record { fault = MethodFault.UnknownMethod; at = 0 })) }

@@ -1,7 +1,15 @@
+pub mod Alone
+pub mod Canonical
 pub mod Depth
 pub mod Depths
+pub mod Elements
+pub mod Held
+pub mod Measures
 pub mod RangeLaws
 pub mod ReaderLaws
+pub mod Slices
 pub mod Texts
 pub mod ValueLaws
+pub mod Wider
+pub mod Within
 pub mod Written

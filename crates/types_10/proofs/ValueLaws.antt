@@ -30,7 +30,7 @@ use Rattle.types_10.specs.declared.kind.Size.TheVariants as size
 
 -- ---- values that hold no other
 
-wide_is : (k : Wide) → IsWide (wide_width k)
+pub wide_is : (k : Wide) → IsWide (wide_width k)
 wide_is wide.Ushort = wide16
 wide_is wide.Short = wide16
 wide_is wide.Uint = wide32
@@ -69,7 +69,7 @@ single_reader (single.Text k s) cut =
 -- ---- codes
 
 -- the code of a kind is a byte, and announces it
-kind_known : (k : Kind) → (kind_byte k < 256) × (kind_of (kind_byte k) ≡ Some k)
+pub kind_known : (k : Kind) → (kind_byte k < 256) × (kind_of (kind_byte k) ≡ Some k)
 kind_known kind.Described = (omega arith, refl)
 kind_known (kind.Single (single.Bare bare.Null)) = (omega arith, refl)
 kind_known (kind.Single (single.Bare bare.True)) = (omega arith, refl)

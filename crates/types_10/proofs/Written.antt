@@ -1,16 +1,17 @@
--- Values that hold no other: what is written is in the grammar, and by the first code that can spell it.
-use Rattle.std.proofs.Common.{◌≡◌, ℕ, ◌^◌, ◌<◌, ◌≤◌, Bool, true, false, cond, eqb, ltb, List, [], ◌∷◌, length, ℤ, refl, sym, ap, ◌∙◌, arith}
-use Rattle.std.specs.Bool.{IsTrue}
-use Rattle.std.proofs.lemmas.Bool.{eqb-true, ltb-true, ltb-false}
-use Rattle.std.proofs.lemmas.Int.{ints, to_z-of_z}
+-- Values that hold no other: their contents under each kind that has one for them, and the kind with the first code.
+use Rattle.std.proofs.Common.{◌≡◌, ◌≢◌, ℕ, ◌^◌, ◌<◌, ◌≤◌, ◌%◌, Bool, true, false, cond, eqb, ltb, List, [], length, ℤ, pos, negsuc, refl, sym, ap, subst, ◌∙◌, arith}
+use Rattle.std.proofs.lemmas.Bool.{eqb-true, eqb-false, ltb-true, ltb-false}
+use Rattle.std.proofs.lemmas.Bool.Decides.{nat_tests}
+use Rattle.std.proofs.lemmas.Int.{ints, to_z-of_z, of_z-to_z}
+use Rattle.std.proofs.lemmas.List.{length-append}
 use Rattle.std.specs.Int.{w8, w16, w32, w64, to_be_bytes, cast_unsigned, cast_signed}
 use Rattle.std.specs.Int.RustNames.{FitsSigned}
-use Rattle.wire_base.specs.Spelling.{text_of}
 use Rattle.types_10.specs.Tree.{Scalar, null, boolean, ubyte, byte, ushort, short, uint, int, ulong, long, float, double, decimal32, decimal64, decimal128, char, timestamp, uuid, binary, string, symbol}
-use Rattle.types_10.specs.Kinds.{kind_byte, text_scalar, is_text}
+use Rattle.types_10.specs.Kinds.{text_scalar}
 use Rattle.types_10.specs.Grammar.{IsSingle}
 use Rattle.types_10.specs.Ranges.{IsInRange}
-use Rattle.types_10.specs.Writing.{is_small, sized_text, uint_text, ulong_text, int_text, long_text, scalar_text, CanPutScalar, IsCanonicalScalar}
+use Rattle.types_10.specs.Writing.{is_small, text_kind, single_kind, single_content, scalar_type, IsProper}
+use Rattle.types_10.proofs.Wider.{single_type, IsWider, same_wider, later_wider}
 use Rattle.types_10.specs.declared.kind.Kind.TheVariants as kind
 use Rattle.types_10.specs.declared.kind.Single.{Single}
 use Rattle.types_10.specs.declared.kind.Single.TheVariants as single
@@ -22,179 +23,301 @@ use Rattle.types_10.specs.declared.kind.Text.{Text}
 use Rattle.types_10.specs.declared.kind.Text.TheVariants as text
 use Rattle.types_10.specs.declared.kind.Size.TheVariants as size
 
--- the code of a value that holds no other
-abbrev number_code : ℕ → ℕ → ℕ → ℕ → ℕ
-number_code n zero_code small large = cond (eqb n 0) zero_code (cond (ltb n 256) small large)
+-- ---- contents of a kind are those that are written
 
-abbrev code_of : Scalar → ℕ
-code_of null = 64
-code_of (boolean b) = cond b 65 66
-code_of (ubyte n) = 80
-code_of (byte z) = 81
-code_of (ushort n) = 96
-code_of (short z) = 97
-code_of (uint n) = number_code n 67 82 112
-code_of (int z) = cond (is_small z) 84 113
-code_of (ulong n) = number_code n 68 83 128
-code_of (long z) = cond (is_small z) 85 129
-code_of (float n) = 114
-code_of (double n) = 130
-code_of (decimal32 n) = 116
-code_of (decimal64 n) = 132
-code_of (decimal128 s) = 148
-code_of (char n) = 115
-code_of (timestamp z) = 131
-code_of (uuid s) = 152
-code_of (binary s) = cond (ltb (length s) 256) 160 176
-code_of (string s) = cond (ltb (length s) 256) 161 177
-code_of (symbol s) = cond (ltb (length s) 256) 163 179
+-- the lowest byte of an integer that fits one
+low_32 : (z : ℤ) → FitsSigned w8 z → cast_unsigned w32 z % 256 ≡ cast_unsigned w8 z
+low_32 (pos n) h = omega (arith, ints)
+low_32 (negsuc n) h = omega (arith, ints)
 
--- a choice between codes is no later than the last of them
-last_code : (n a b c : ℕ) → a ≤ c → b ≤ c → number_code n a b c ≤ c
-last_code n a b c p q = at (eqb n 0) (ltb n 256)
+low_64 : (z : ℤ) → FitsSigned w8 z → cast_unsigned w64 z % 256 ≡ cast_unsigned w8 z
+low_64 (pos n) h = omega (arith, ints)
+low_64 (negsuc n) h = omega (arith, ints)
+
+octet_fits : (m : ℕ) → m < 256 → FitsSigned w8 (cast_signed w8 m)
+octet_fits m h = grind (arith, ints)
+
+byte_again : (m : ℕ) → m < 256 → m ≡ cast_unsigned w8 (cast_signed w8 m) % 256
+byte_again m h = omega (arith, of_z-to_z w8 m h)
+
+int_again : (m : ℕ) → m < 256 → m ≡ cast_unsigned w32 (cast_signed w8 m) % 256
+int_again m h = sym (low_32 (cast_signed w8 m) (octet_fits m h) ∙ of_z-to_z w8 m h)
+
+long_again : (m : ℕ) → m < 256 → m ≡ cast_unsigned w64 (cast_signed w8 m) % 256
+long_again m h = sym (low_64 (cast_signed w8 m) (octet_fits m h) ∙ of_z-to_z w8 m h)
+
+boolean_again : (m : ℕ) → ltb m 2 ≡ true → m ≡ cond (eqb m 1) 1 0
+boolean_again m h = grind (arith, nat_tests)
+
+-- the content that a kind has for a value is the one that is written
+pub single_is : (k : Single) (s : Scalar) (bytes : List ℕ) → IsSingle k s bytes → bytes ≡ single_content k s
+single_is (single.Bare bare.Null) s bytes h = h.1 ∙ sym (ap (single_content (single.Bare bare.Null)) h.0)
+single_is (single.Bare bare.True) s bytes h = h.1 ∙ sym (ap (single_content (single.Bare bare.True)) h.0)
+single_is (single.Bare bare.False) s bytes h = h.1 ∙ sym (ap (single_content (single.Bare bare.False)) h.0)
+single_is (single.Bare bare.Uint) s bytes h = h.1 ∙ sym (ap (single_content (single.Bare bare.Uint)) h.0)
+single_is (single.Bare bare.Ulong) s bytes h = h.1 ∙ sym (ap (single_content (single.Bare bare.Ulong)) h.0)
+single_is single.Boolean s bytes h = h.2.1.1 ∙ ap (to_be_bytes w8) (boolean_again h.0 h.2.0) ∙ sym (ap (single_content single.Boolean) h.1)
+single_is (single.Octet octet.Ubyte) s bytes h = h.2.1 ∙ ap (to_be_bytes w8) (omega (arith, h.2.0)) ∙ sym (ap (single_content (single.Octet octet.Ubyte)) h.1)
+single_is (single.Octet octet.Byte) s bytes h = h.2.1 ∙ ap (to_be_bytes w8) (byte_again h.0 (omega (arith, h.2.0))) ∙ sym (ap (single_content (single.Octet octet.Byte)) h.1)
+single_is (single.Octet octet.Uint) s bytes h = h.2.1 ∙ ap (to_be_bytes w8) (omega (arith, h.2.0)) ∙ sym (ap (single_content (single.Octet octet.Uint)) h.1)
+single_is (single.Octet octet.Int) s bytes h = h.2.1 ∙ ap (to_be_bytes w8) (int_again h.0 (omega (arith, h.2.0))) ∙ sym (ap (single_content (single.Octet octet.Int)) h.1)
+single_is (single.Octet octet.Ulong) s bytes h = h.2.1 ∙ ap (to_be_bytes w8) (omega (arith, h.2.0)) ∙ sym (ap (single_content (single.Octet octet.Ulong)) h.1)
+single_is (single.Octet octet.Long) s bytes h = h.2.1 ∙ ap (to_be_bytes w8) (long_again h.0 (omega (arith, h.2.0))) ∙ sym (ap (single_content (single.Octet octet.Long)) h.1)
+single_is (single.Wide wide.Ushort) s bytes h = h.2.1 ∙ sym (ap (single_content (single.Wide wide.Ushort)) h.1)
+single_is (single.Wide wide.Short) s bytes h = h.2.1 ∙ ap (to_be_bytes w16) (sym (of_z-to_z w16 h.0 (omega (arith, h.2.0)))) ∙ sym (ap (single_content (single.Wide wide.Short)) h.1)
+single_is (single.Wide wide.Uint) s bytes h = h.2.1 ∙ sym (ap (single_content (single.Wide wide.Uint)) h.1)
+single_is (single.Wide wide.Int) s bytes h = h.2.1 ∙ ap (to_be_bytes w32) (sym (of_z-to_z w32 h.0 (omega (arith, h.2.0)))) ∙ sym (ap (single_content (single.Wide wide.Int)) h.1)
+single_is (single.Wide wide.Float) s bytes h = h.2.1 ∙ sym (ap (single_content (single.Wide wide.Float)) h.1)
+single_is (single.Wide wide.Decimal32) s bytes h = h.2.1 ∙ sym (ap (single_content (single.Wide wide.Decimal32)) h.1)
+single_is (single.Wide wide.Ulong) s bytes h = h.2.1 ∙ sym (ap (single_content (single.Wide wide.Ulong)) h.1)
+single_is (single.Wide wide.Long) s bytes h = h.2.1 ∙ ap (to_be_bytes w64) (sym (of_z-to_z w64 h.0 (omega (arith, h.2.0)))) ∙ sym (ap (single_content (single.Wide wide.Long)) h.1)
+single_is (single.Wide wide.Double) s bytes h = h.2.1 ∙ sym (ap (single_content (single.Wide wide.Double)) h.1)
+single_is (single.Wide wide.Timestamp) s bytes h = h.2.1 ∙ ap (to_be_bytes w64) (sym (of_z-to_z w64 h.0 (omega (arith, h.2.0)))) ∙ sym (ap (single_content (single.Wide wide.Timestamp)) h.1)
+single_is (single.Wide wide.Decimal64) s bytes h = h.2.1 ∙ sym (ap (single_content (single.Wide wide.Decimal64)) h.1)
+single_is single.Char s bytes h = h.2.1.1 ∙ sym (ap (single_content single.Char) h.1)
+single_is (single.Sixteen sixteen.Decimal128) s bytes h = h.2.1 ∙ sym (ap (single_content (single.Sixteen sixteen.Decimal128)) h.1)
+single_is (single.Sixteen sixteen.Uuid) s bytes h = h.2.1 ∙ sym (ap (single_content (single.Sixteen sixteen.Uuid)) h.1)
+single_is (single.Text text.Binary z) s bytes h = h.2.1.1 ∙ sym (ap (single_content (single.Text text.Binary z)) h.1)
+single_is (single.Text text.String z) s bytes h = h.2.1.1 ∙ sym (ap (single_content (single.Text text.String z)) h.1)
+single_is (single.Text text.Symbol z) s bytes h = h.2.1.1 ∙ sym (ap (single_content (single.Text text.Symbol z)) h.1)
+
+-- ---- the first kind
+
+-- a number by how large it is, an integer by whether it fits one byte, and a text by whether its length does
+by_number : (P : Single → Type 0) (n : ℕ) (a b c : Single) → (n ≡ 0 → P a) → (n < 256 → P b) → (n ≢ 0 → 256 ≤ n → P c) → P (cond (eqb n 0) a (cond (ltb n 256) b c))
+by_number P n a b c x y z = at (eqb n 0) (ltb n 256) refl refl
   where
-    at : (x y : Bool) → cond x a (cond y b c) ≤ c
-    at true y = p
-    at false true = q
-    at false false = omega arith
+    at : (s t : Bool) → eqb n 0 ≡ s → ltb n 256 ≡ t → P (cond s a (cond t b c))
+    at true t e f = x (eqb-true _ _ e)
+    at false true e f = y (ltb-true _ _ f)
+    at false false e f = z (λ g. eqb-false _ _ e g) (ltb-false _ _ f)
 
-small_code : (n a b c : ℕ) → n < 256 → a ≤ b → number_code n a b c ≤ b
-small_code n a b c h p = at (eqb n 0) (ltb n 256) refl
+by_small : (P : Single → Type 0) (z : ℤ) (a b : Single) → (FitsSigned w8 z → P a) → (is_small z ≡ false → P b) → P (cond (is_small z) a b)
+by_small P z a b x y = at (is_small z) refl
   where
-    at : (x y : Bool) → ltb n 256 ≡ y → cond x a (cond y b c) ≤ b
-    at true y e = p
-    at false true e = omega arith
-    at false false e = let k : 256 ≤ n = ltb-false _ _ e in absurd (omega arith)
+    at : (t : Bool) → is_small z ≡ t → P (cond t a b)
+    at true e = x (grind (arith, ints))
+    at false e = y e
 
-one_of : (x : Bool) (a b c : ℕ) → a ≤ c → b ≤ c → cond x a b ≤ c
-one_of true a b c p q = p
-one_of false a b c p q = q
+by_length : (P : Single → Type 0) (k : Text) (s : List ℕ) → (length s < 256 → P (single.Text k size.Short)) → (256 ≤ length s → P (single.Text k size.Long)) → P (text_kind k s)
+by_length P k s x y = at (ltb (length s) 256) refl
+  where
+    at : (t : Bool) → ltb (length s) 256 ≡ t → P (cond t (single.Text k size.Short) (single.Text k size.Long))
+    at true e = x (ltb-true _ _ e)
+    at false e = y (ltb-false _ _ e)
+
+-- the first kind of a value has its type
+pub first_type : (s : Scalar) → single_type (single_kind s) ≡ scalar_type s
+first_type null = refl
+first_type (boolean true) = refl
+first_type (boolean false) = refl
+first_type (ubyte n) = refl
+first_type (byte z) = refl
+first_type (ushort n) = refl
+first_type (short z) = refl
+first_type (uint n) = by_number (λ k. single_type k ≡ 112) n _ _ _ (λ e. refl) (λ e. refl) (λ e f. refl)
+first_type (int z) = by_small (λ k. single_type k ≡ 113) z _ _ (λ e. refl) (λ e. refl)
+first_type (ulong n) = by_number (λ k. single_type k ≡ 128) n _ _ _ (λ e. refl) (λ e. refl) (λ e f. refl)
+first_type (long z) = by_small (λ k. single_type k ≡ 129) z _ _ (λ e. refl) (λ e. refl)
+first_type (float n) = refl
+first_type (double n) = refl
+first_type (decimal32 n) = refl
+first_type (decimal64 n) = refl
+first_type (decimal128 s) = refl
+first_type (char n) = refl
+first_type (timestamp z) = refl
+first_type (uuid s) = refl
+first_type (binary s) = by_length (λ k. single_type k ≡ 176) text.Binary s (λ e. refl) (λ e. refl)
+first_type (string s) = by_length (λ k. single_type k ≡ 177) text.String s (λ e. refl) (λ e. refl)
+first_type (symbol s) = by_length (λ k. single_type k ≡ 179) text.Symbol s (λ e. refl) (λ e. refl)
+
+-- the second kind has contents for what has the first kind
+abbrev IsUnder : Single → Single → Type 0
+IsUnder j k = IsWider (kind.Single k) (kind.Single j)
+
+-- the kind has contents for the value
+abbrev IsFor : Single → Scalar → Type 0
+IsFor j s = IsUnder j (single_kind s)
+
+boolean_for : (b : Bool) → IsFor single.Boolean (boolean b)
+boolean_for true = later_wider _ _ refl refl refl
+boolean_for false = later_wider _ _ refl refl refl
 
 small_number : (m : ℕ) → m < 256 → is_small (cast_signed w8 m) ≡ true
 small_number m h = grind (arith, ints)
 
-short_length : (n a b : ℕ) → n < 256 ^ 1 → cond (ltb n 256) a b ≡ a
-short_length n a b h = at (ltb n 256) refl
+small_for : (m : ℕ) → m < 256 → IsFor (single.Octet octet.Int) (int (cast_signed w8 m)) × IsFor (single.Octet octet.Long) (long (cast_signed w8 m))
+small_for m h = rw (small_number m h) (same_wider _, same_wider _)
+
+text_kind_is : (k : Text) (s : List ℕ) → single_kind (text_scalar k s) ≡ text_kind k s
+text_kind_is text.Binary s = refl
+text_kind_is text.String s = refl
+text_kind_is text.Symbol s = refl
+
+short_for : (k : Text) (s : List ℕ) → length s < 256 → IsFor (single.Text k size.Short) (text_scalar k s)
+short_for k s h = rw (text_kind_is k s) (by_length (IsUnder (single.Text k size.Short)) k s (λ e. same_wider _) (λ e. absurd (omega arith)))
+
+long_wider : (k : Text) → IsUnder (single.Text k size.Long) (single.Text k size.Short)
+long_wider text.Binary = later_wider _ _ refl refl refl
+long_wider text.String = later_wider _ _ refl refl refl
+long_wider text.Symbol = later_wider _ _ refl refl refl
+
+long_for : (k : Text) (s : List ℕ) → IsFor (single.Text k size.Long) (text_scalar k s)
+long_for k s = rw (text_kind_is k s) (by_length (IsUnder (single.Text k size.Long)) k s (λ e. long_wider k) (λ e. same_wider _))
+
+uint_octet : (n : ℕ) → n < 256 → IsFor (single.Octet octet.Uint) (uint n)
+uint_octet n h = by_number (IsUnder (single.Octet octet.Uint)) n _ _ _ (λ e. later_wider _ _ refl refl refl) (λ e. same_wider _) (λ e f. absurd (omega arith))
+
+ulong_octet : (n : ℕ) → n < 256 → IsFor (single.Octet octet.Ulong) (ulong n)
+ulong_octet n h = by_number (IsUnder (single.Octet octet.Ulong)) n _ _ _ (λ e. later_wider _ _ refl refl refl) (λ e. same_wider _) (λ e f. absurd (omega arith))
+
+uint_wide : (n : ℕ) → IsFor (single.Wide wide.Uint) (uint n)
+uint_wide n = by_number (IsUnder (single.Wide wide.Uint)) n _ _ _ (λ e. later_wider _ _ refl refl refl) (λ e. later_wider _ _ refl refl refl) (λ e f. same_wider _)
+
+ulong_wide : (n : ℕ) → IsFor (single.Wide wide.Ulong) (ulong n)
+ulong_wide n = by_number (IsUnder (single.Wide wide.Ulong)) n _ _ _ (λ e. later_wider _ _ refl refl refl) (λ e. later_wider _ _ refl refl refl) (λ e f. same_wider _)
+
+int_wide : (z : ℤ) → IsFor (single.Wide wide.Int) (int z)
+int_wide z = by_small (IsUnder (single.Wide wide.Int)) z _ _ (λ e. later_wider _ _ refl refl refl) (λ e. same_wider _)
+
+long_wide : (z : ℤ) → IsFor (single.Wide wide.Long) (long z)
+long_wide z = by_small (IsUnder (single.Wide wide.Long)) z _ _ (λ e. later_wider _ _ refl refl refl) (λ e. same_wider _)
+
+-- a kind that has a content for a value is no earlier than its first kind
+pub single_first : (j : Single) (s : Scalar) (bytes : List ℕ) → IsSingle j s bytes → IsFor j s
+single_first (single.Bare bare.Null) s bytes h = subst (IsFor _) (sym h.0) (same_wider _)
+single_first (single.Bare bare.True) s bytes h = subst (IsFor _) (sym h.0) (same_wider _)
+single_first (single.Bare bare.False) s bytes h = subst (IsFor _) (sym h.0) (same_wider _)
+single_first (single.Bare bare.Uint) s bytes h = subst (IsFor _) (sym h.0) (same_wider _)
+single_first (single.Bare bare.Ulong) s bytes h = subst (IsFor _) (sym h.0) (same_wider _)
+single_first single.Boolean s bytes h = subst (IsFor _) (sym h.1) (boolean_for (eqb h.0 1))
+single_first (single.Octet octet.Ubyte) s bytes h = subst (IsFor _) (sym h.1) (same_wider _)
+single_first (single.Octet octet.Byte) s bytes h = subst (IsFor _) (sym h.1) (same_wider _)
+single_first (single.Octet octet.Uint) s bytes h = subst (IsFor _) (sym h.1) (uint_octet h.0 (omega (arith, h.2.0)))
+single_first (single.Octet octet.Ulong) s bytes h = subst (IsFor _) (sym h.1) (ulong_octet h.0 (omega (arith, h.2.0)))
+single_first (single.Octet octet.Int) s bytes h = subst (IsFor _) (sym h.1) (small_for h.0 (omega (arith, h.2.0))).0
+single_first (single.Octet octet.Long) s bytes h = subst (IsFor _) (sym h.1) (small_for h.0 (omega (arith, h.2.0))).1
+single_first (single.Wide wide.Uint) s bytes h = subst (IsFor _) (sym h.1) (uint_wide h.0)
+single_first (single.Wide wide.Ulong) s bytes h = subst (IsFor _) (sym h.1) (ulong_wide h.0)
+single_first (single.Wide wide.Int) s bytes h = subst (IsFor _) (sym h.1) (int_wide (cast_signed w32 h.0))
+single_first (single.Wide wide.Long) s bytes h = subst (IsFor _) (sym h.1) (long_wide (cast_signed w64 h.0))
+single_first (single.Wide k) s bytes h = subst (IsFor _) (sym h.1) (same_wider _)
+single_first single.Char s bytes h = subst (IsFor _) (sym h.1) (same_wider _)
+single_first (single.Sixteen sixteen.Decimal128) s bytes h = subst (IsFor _) (sym h.1) (same_wider _)
+single_first (single.Sixteen sixteen.Uuid) s bytes h = subst (IsFor _) (sym h.1) (same_wider _)
+single_first (single.Text k size.Short) s bytes h = subst (IsFor _) (sym h.1) (short_for k h.0 (omega (arith, h.2.1.0)))
+single_first (single.Text k size.Long) s bytes h = subst (IsFor _) (sym h.1) (long_for k h.0)
+
+-- ---- every value has a content under each kind for it
+
+-- the value of this type with such a boolean, number, integer or bytes
+abbrev scalar_at : ℕ → Bool → ℕ → ℤ → List ℕ → Scalar
+scalar_at type b n z s =
+    cond (eqb type 64) null (cond (eqb type 86) (boolean b) (cond (eqb type 80) (ubyte n) (cond (eqb type 81) (byte z)
+    (cond (eqb type 96) (ushort n) (cond (eqb type 97) (short z) (cond (eqb type 112) (uint n) (cond (eqb type 113) (int z)
+    (cond (eqb type 128) (ulong n) (cond (eqb type 129) (long z) (cond (eqb type 114) (float n) (cond (eqb type 130) (double n)
+    (cond (eqb type 116) (decimal32 n) (cond (eqb type 132) (decimal64 n) (cond (eqb type 148) (decimal128 s) (cond (eqb type 115) (char n)
+    (cond (eqb type 131) (timestamp z) (cond (eqb type 152) (uuid s) (cond (eqb type 176) (binary s) (cond (eqb type 177) (string s) (symbol s))))))))))))))))))))
+
+abbrev IsAt : Scalar → Type 0
+IsAt s = (b : Bool) × (n : ℕ) × (z : ℤ) × (bytes : List ℕ) × (s ≡ scalar_at (scalar_type s) b n z bytes)
+
+is_at : (s : Scalar) → IsAt s
+is_at null = (true, 0, pos 0, [], refl)
+is_at (boolean b) = (b, 0, pos 0, [], refl)
+is_at (ubyte n) = (true, n, pos 0, [], refl)
+is_at (byte z) = (true, 0, z, [], refl)
+is_at (ushort n) = (true, n, pos 0, [], refl)
+is_at (short z) = (true, 0, z, [], refl)
+is_at (uint n) = (true, n, pos 0, [], refl)
+is_at (int z) = (true, 0, z, [], refl)
+is_at (ulong n) = (true, n, pos 0, [], refl)
+is_at (long z) = (true, 0, z, [], refl)
+is_at (float n) = (true, n, pos 0, [], refl)
+is_at (double n) = (true, n, pos 0, [], refl)
+is_at (decimal32 n) = (true, n, pos 0, [], refl)
+is_at (decimal64 n) = (true, n, pos 0, [], refl)
+is_at (decimal128 s) = (true, 0, pos 0, s, refl)
+is_at (char n) = (true, n, pos 0, [], refl)
+is_at (timestamp z) = (true, 0, z, [], refl)
+is_at (uuid s) = (true, 0, pos 0, s, refl)
+is_at (binary s) = (true, 0, pos 0, s, refl)
+is_at (string s) = (true, 0, pos 0, s, refl)
+is_at (symbol s) = (true, 0, pos 0, s, refl)
+
+abbrev HasContent : Single → Scalar → Type 0
+HasContent k s = IsFor k s → IsInRange s → IsProper s → length (single_content k s) < 2 ^ 32 → IsSingle k s (single_content k s)
+
+-- a value that a narrow kind is for fits that kind
+uint_zero : (n : ℕ) → IsFor (single.Bare bare.Uint) (uint n) → n ≡ 0
+uint_zero n = by_number (λ k. IsUnder (single.Bare bare.Uint) k → n ≡ 0) n _ _ _ (λ e w. e) (λ e w. absurd (omega (arith, w.up.later))) (λ e f w. absurd (omega (arith, w.up.later)))
+
+ulong_zero : (n : ℕ) → IsFor (single.Bare bare.Ulong) (ulong n) → n ≡ 0
+ulong_zero n = by_number (λ k. IsUnder (single.Bare bare.Ulong) k → n ≡ 0) n _ _ _ (λ e w. e) (λ e w. absurd (omega (arith, w.up.later))) (λ e f w. absurd (omega (arith, w.up.later)))
+
+uint_below : (n : ℕ) → IsFor (single.Octet octet.Uint) (uint n) → n < 256
+uint_below n = by_number (λ k. IsUnder (single.Octet octet.Uint) k → n < 256) n _ _ _ (λ e w. omega arith) (λ e w. e) (λ e f w. absurd (omega (arith, w.up.later)))
+
+ulong_below : (n : ℕ) → IsFor (single.Octet octet.Ulong) (ulong n) → n < 256
+ulong_below n = by_number (λ k. IsUnder (single.Octet octet.Ulong) k → n < 256) n _ _ _ (λ e w. omega arith) (λ e w. e) (λ e f w. absurd (omega (arith, w.up.later)))
+
+int_small : (z : ℤ) → IsFor (single.Octet octet.Int) (int z) → FitsSigned w8 z
+int_small z = by_small (λ k. IsUnder (single.Octet octet.Int) k → FitsSigned w8 z) z _ _ (λ e w. e) (λ e w. absurd (omega (arith, w.up.later)))
+
+long_small : (z : ℤ) → IsFor (single.Octet octet.Long) (long z) → FitsSigned w8 z
+long_small z = by_small (λ k. IsUnder (single.Octet octet.Long) k → FitsSigned w8 z) z _ _ (λ e w. e) (λ e w. absurd (omega (arith, w.up.later)))
+
+text_short : (k : Text) (s : List ℕ) → IsUnder (single.Text k size.Short) (text_kind k s) → length s < 256
+text_short k s = by_length (λ j. IsUnder (single.Text k size.Short) j → length s < 256) k s (λ e w. e) (λ e w. absurd (long_later k w))
   where
-    at : (x : Bool) → ltb n 256 ≡ x → cond x a b ≡ a
-    at true e = refl
-    at false e = let k : 256 ≤ n = ltb-false _ _ e in absurd (omega arith)
+    long_later : (k : Text) → IsUnder (single.Text k size.Short) (single.Text k size.Long) → ⊥
+    long_later text.Binary w = omega (arith, w.up.later)
+    long_later text.String w = omega (arith, w.up.later)
+    long_later text.Symbol w = omega (arith, w.up.later)
 
--- no earlier code spells the value
-first_code : (s : Scalar) (j : Single) (other : List ℕ) → IsSingle j s other → code_of s ≤ kind_byte (kind.Single j)
-first_code s (single.Bare bare.Null) other h = omega (arith, ap code_of h.0)
-first_code s (single.Bare bare.True) other h = omega (arith, ap code_of h.0)
-first_code s (single.Bare bare.False) other h = omega (arith, ap code_of h.0)
-first_code s (single.Bare bare.Uint) other h = omega (arith, ap code_of h.0)
-first_code s (single.Bare bare.Ulong) other h = omega (arith, ap code_of h.0)
-first_code s single.Boolean other h = omega (arith, ap code_of h.1, one_of (eqb h.0 1) 65 66 86 (omega arith) (omega arith))
-first_code s (single.Octet octet.Ubyte) other h = omega (arith, ap code_of h.1)
-first_code s (single.Octet octet.Byte) other h = omega (arith, ap code_of h.1)
-first_code s (single.Octet octet.Uint) other h = omega (arith, ap code_of h.1, small_code h.0 67 82 112 (omega (arith, h.2.0)) (omega arith))
-first_code s (single.Octet octet.Ulong) other h = omega (arith, ap code_of h.1, small_code h.0 68 83 128 (omega (arith, h.2.0)) (omega arith))
-first_code s (single.Octet octet.Int) other h =
-    let small = small_number h.0 (omega (arith, h.2.0)) in
-    omega (arith, ap code_of h.1 ∙ ap (λ (x : Bool). cond x 84 113) small)
-first_code s (single.Octet octet.Long) other h =
-    let small = small_number h.0 (omega (arith, h.2.0)) in
-    omega (arith, ap code_of h.1 ∙ ap (λ (x : Bool). cond x 85 129) small)
-first_code s (single.Wide wide.Ushort) other h = omega (arith, ap code_of h.1)
-first_code s (single.Wide wide.Short) other h = omega (arith, ap code_of h.1)
-first_code s (single.Wide wide.Float) other h = omega (arith, ap code_of h.1)
-first_code s (single.Wide wide.Decimal32) other h = omega (arith, ap code_of h.1)
-first_code s (single.Wide wide.Double) other h = omega (arith, ap code_of h.1)
-first_code s (single.Wide wide.Timestamp) other h = omega (arith, ap code_of h.1)
-first_code s (single.Wide wide.Decimal64) other h = omega (arith, ap code_of h.1)
-first_code s (single.Wide wide.Uint) other h = omega (arith, ap code_of h.1, last_code h.0 67 82 112 (omega arith) (omega arith))
-first_code s (single.Wide wide.Ulong) other h = omega (arith, ap code_of h.1, last_code h.0 68 83 128 (omega arith) (omega arith))
-first_code s (single.Wide wide.Int) other h = omega (arith, ap code_of h.1, one_of (is_small (cast_signed w32 h.0)) 84 113 113 (omega arith) (omega arith))
-first_code s (single.Wide wide.Long) other h = omega (arith, ap code_of h.1, one_of (is_small (cast_signed w64 h.0)) 85 129 129 (omega arith) (omega arith))
-first_code s single.Char other h = omega (arith, ap code_of h.1)
-first_code s (single.Sixteen sixteen.Decimal128) other h = omega (arith, ap code_of h.1)
-first_code s (single.Sixteen sixteen.Uuid) other h = omega (arith, ap code_of h.1)
-first_code s (single.Text text.Binary size.Short) other h = omega (arith, ap code_of h.1, short_length (length h.0) 160 176 h.2.1.0)
-first_code s (single.Text text.Binary size.Long) other h = omega (arith, ap code_of h.1, one_of (ltb (length h.0) 256) 160 176 176 (omega arith) (omega arith))
-first_code s (single.Text text.String size.Short) other h = omega (arith, ap code_of h.1, short_length (length h.0) 161 177 h.2.1.0)
-first_code s (single.Text text.String size.Long) other h = omega (arith, ap code_of h.1, one_of (ltb (length h.0) 256) 161 177 177 (omega arith) (omega arith))
-first_code s (single.Text text.Symbol size.Short) other h = omega (arith, ap code_of h.1, short_length (length h.0) 163 179 h.2.1.0)
-first_code s (single.Text text.Symbol size.Long) other h = omega (arith, ap code_of h.1, one_of (ltb (length h.0) 256) 163 179 179 (omega arith) (omega arith))
+content_at : (k : Single) (b : Bool) (n : ℕ) (z : ℤ) (s : List ℕ) → HasContent k (scalar_at (single_type k) b n z s)
+content_at (single.Bare bare.Null) b n z s w r p l = (refl, refl)
+content_at (single.Bare bare.True) true n z s w r p l = (refl, refl)
+content_at (single.Bare bare.True) false n z s w r p l = absurd (omega (arith, w.up.later))
+content_at (single.Bare bare.False) true n z s w r p l = absurd (omega (arith, w.up.only refl))
+content_at (single.Bare bare.False) false n z s w r p l = (refl, refl)
+content_at (single.Bare bare.Uint) b n z s w r p l = (ap uint (uint_zero n w), refl)
+content_at (single.Bare bare.Ulong) b n z s w r p l = (ap ulong (ulong_zero n w), refl)
+content_at single.Boolean true n z s w r p l = (1, refl, (refl, (omega arith, refl)))
+content_at single.Boolean false n z s w r p l = (0, refl, (refl, (omega arith, refl)))
+content_at (single.Octet octet.Ubyte) b n z s w r p l = (n, refl, (omega arith, ap (to_be_bytes w8) (omega arith)))
+content_at (single.Octet octet.Byte) b n z s w r p l = (cast_unsigned w8 z, ap byte (sym (to_z-of_z w8 z r)), (omega (arith, ints), ap (to_be_bytes w8) (omega (arith, ints))))
+content_at (single.Octet octet.Uint) b n z s w r p l = let h : n < 256 = uint_below n w in (n, refl, (h, ap (to_be_bytes w8) (omega arith)))
+content_at (single.Octet octet.Int) b n z s w r p l =
+    let h : FitsSigned w8 z = int_small z w in
+    (cast_unsigned w8 z, ap int (sym (to_z-of_z w8 z h)), (omega (arith, ints), ap (to_be_bytes w8) (low_32 z h)))
+content_at (single.Octet octet.Ulong) b n z s w r p l = let h : n < 256 = ulong_below n w in (n, refl, (h, ap (to_be_bytes w8) (omega arith)))
+content_at (single.Octet octet.Long) b n z s w r p l =
+    let h : FitsSigned w8 z = long_small z w in
+    (cast_unsigned w8 z, ap long (sym (to_z-of_z w8 z h)), (omega (arith, ints), ap (to_be_bytes w8) (low_64 z h)))
+content_at (single.Wide wide.Ushort) b n z s w r p l = (n, refl, (omega arith, refl))
+content_at (single.Wide wide.Uint) b n z s w r p l = (n, refl, (omega arith, refl))
+content_at (single.Wide wide.Float) b n z s w r p l = (n, refl, (omega arith, refl))
+content_at (single.Wide wide.Decimal32) b n z s w r p l = (n, refl, (omega arith, refl))
+content_at (single.Wide wide.Ulong) b n z s w r p l = (n, refl, (omega arith, refl))
+content_at (single.Wide wide.Double) b n z s w r p l = (n, refl, (omega arith, refl))
+content_at (single.Wide wide.Decimal64) b n z s w r p l = (n, refl, (omega arith, refl))
+content_at (single.Wide wide.Short) b n z s w r p l = (cast_unsigned w16 z, ap short (sym (to_z-of_z w16 z r)), (omega (arith, ints), refl))
+content_at (single.Wide wide.Int) b n z s w r p l = (cast_unsigned w32 z, ap int (sym (to_z-of_z w32 z r)), (omega (arith, ints), refl))
+content_at (single.Wide wide.Long) b n z s w r p l = (cast_unsigned w64 z, ap long (sym (to_z-of_z w64 z r)), (omega (arith, ints), refl))
+content_at (single.Wide wide.Timestamp) b n z s w r p l = (cast_unsigned w64 z, ap timestamp (sym (to_z-of_z w64 z r)), (omega (arith, ints), refl))
+content_at single.Char b n z s w r p l = (n, refl, (p, (omega arith, refl)))
+content_at (single.Sixteen sixteen.Decimal128) b n z s w r p l = (s, refl, (r, refl))
+content_at (single.Sixteen sixteen.Uuid) b n z s w r p l = (s, refl, (r, refl))
+content_at (single.Text text.Binary size.Short) b n z s w r p l = (s, refl, (refl, (text_short text.Binary s w, refl)))
+content_at (single.Text text.String size.Short) b n z s w r p l = (s, refl, (p, (text_short text.String s w, refl)))
+content_at (single.Text text.Symbol size.Short) b n z s w r p l = (s, refl, (p, (text_short text.Symbol s w, refl)))
+content_at (single.Text text.Binary size.Long) b n z s w r p l = (s, refl, (refl, (omega (arith, length-append (to_be_bytes w32 (length s)) s), refl)))
+content_at (single.Text text.String size.Long) b n z s w r p l = (s, refl, (p, (omega (arith, length-append (to_be_bytes w32 (length s)) s), refl)))
+content_at (single.Text text.Symbol size.Long) b n z s w r p l = (s, refl, (p, (omega (arith, length-append (to_be_bytes w32 (length s)) s), refl)))
 
--- a kind whose code is the value's, and a content
-abbrev IsWritten : Scalar → List ℕ → Type 0
-IsWritten s t = (k : Single) × (content : List ℕ) × IsSingle k s content × (t ≡ kind_byte (kind.Single k) ∷ content) × (code_of s ≡ kind_byte (kind.Single k))
-
-uint_written : (n : ℕ) → n < 2 ^ 32 → IsWritten (uint n) (uint_text n)
-uint_written n fits = at (eqb n 0) (ltb n 256) refl refl
-  where
-    at : (x y : Bool) → eqb n 0 ≡ x → ltb n 256 ≡ y
-        → (k : Single) × (content : List ℕ) × IsSingle k (uint n) content × (cond x (67 ∷ []) (cond y (82 ∷ to_be_bytes w8 n) (112 ∷ to_be_bytes w32 n)) ≡ kind_byte (kind.Single k) ∷ content) × (cond x 67 (cond y 82 112) ≡ kind_byte (kind.Single k))
-    at true y e f = (single.Bare bare.Uint, [], (ap uint (eqb-true _ _ e), refl), refl, refl)
-    at false true e f = let k : n < 256 = ltb-true _ _ f in (single.Octet octet.Uint, _, (n, refl, (omega arith, refl)), refl, refl)
-    at false false e f = (single.Wide wide.Uint, _, (n, refl, (omega arith, refl)), refl, refl)
-
-ulong_written : (n : ℕ) → n < 2 ^ 64 → IsWritten (ulong n) (ulong_text n)
-ulong_written n fits = at (eqb n 0) (ltb n 256) refl refl
-  where
-    at : (x y : Bool) → eqb n 0 ≡ x → ltb n 256 ≡ y
-        → (k : Single) × (content : List ℕ) × IsSingle k (ulong n) content × (cond x (68 ∷ []) (cond y (83 ∷ to_be_bytes w8 n) (128 ∷ to_be_bytes w64 n)) ≡ kind_byte (kind.Single k) ∷ content) × (cond x 68 (cond y 83 128) ≡ kind_byte (kind.Single k))
-    at true y e f = (single.Bare bare.Ulong, [], (ap ulong (eqb-true _ _ e), refl), refl, refl)
-    at false true e f = let k : n < 256 = ltb-true _ _ f in (single.Octet octet.Ulong, _, (n, refl, (omega arith, refl)), refl, refl)
-    at false false e f = (single.Wide wide.Ulong, _, (n, refl, (omega arith, refl)), refl, refl)
-
-small_fits : (z : ℤ) → is_small z ≡ true → FitsSigned w8 z
-small_fits z e = grind (arith, ints)
-
-int_written : (z : ℤ) → FitsSigned w32 z → IsWritten (int z) (int_text z)
-int_written z fits = at (is_small z) refl
-  where
-    at : (x : Bool) → is_small z ≡ x
-        → (k : Single) × (content : List ℕ) × IsSingle k (int z) content × (cond x (84 ∷ to_be_bytes w8 (cast_unsigned w8 z)) (113 ∷ to_be_bytes w32 (cast_unsigned w32 z)) ≡ kind_byte (kind.Single k) ∷ content) × (cond x 84 113 ≡ kind_byte (kind.Single k))
-    at true e = let small : FitsSigned w8 z = small_fits z e in (single.Octet octet.Int, _, (cast_unsigned w8 z, ap int (sym (to_z-of_z w8 z small)), (omega (arith, ints), refl)), refl, refl)
-    at false e = (single.Wide wide.Int, _, (cast_unsigned w32 z, ap int (sym (to_z-of_z w32 z fits)), (omega (arith, ints), refl)), refl, refl)
-
-long_written : (z : ℤ) → FitsSigned w64 z → IsWritten (long z) (long_text z)
-long_written z fits = at (is_small z) refl
-  where
-    at : (x : Bool) → is_small z ≡ x
-        → (k : Single) × (content : List ℕ) × IsSingle k (long z) content × (cond x (85 ∷ to_be_bytes w8 (cast_unsigned w8 z)) (129 ∷ to_be_bytes w64 (cast_unsigned w64 z)) ≡ kind_byte (kind.Single k) ∷ content) × (cond x 85 129 ≡ kind_byte (kind.Single k))
-    at true e = let small : FitsSigned w8 z = small_fits z e in (single.Octet octet.Long, _, (cast_unsigned w8 z, ap long (sym (to_z-of_z w8 z small)), (omega (arith, ints), refl)), refl, refl)
-    at false e = (single.Wide wide.Long, _, (cast_unsigned w64 z, ap long (sym (to_z-of_z w64 z fits)), (omega (arith, ints), refl)), refl, refl)
-
-text_written : (k : Text) (s : List ℕ) (brief full : ℕ) → length s < 2 ^ 32 → IsTrue (is_text k s) → kind_byte (kind.Single (single.Text k size.Short)) ≡ brief → kind_byte (kind.Single (single.Text k size.Long)) ≡ full
-    → (j : Single) × (content : List ℕ) × IsSingle j (text_scalar k s) content × (sized_text brief full s ≡ kind_byte (kind.Single j) ∷ content) × (cond (ltb (length s) 256) brief full ≡ kind_byte (kind.Single j))
-text_written k s brief full fits good p q = at (ltb (length s) 256) refl
-  where
-    at : (x : Bool) → ltb (length s) 256 ≡ x
-        → (j : Single) × (content : List ℕ) × IsSingle j (text_scalar k s) content × (cond x (brief ∷ text_of w8 s) (full ∷ text_of w32 s) ≡ kind_byte (kind.Single j) ∷ content) × (cond x brief full ≡ kind_byte (kind.Single j))
-    at true e = let fewer : length s < 256 = ltb-true _ _ e in (single.Text k size.Short, text_of w8 s, (s, refl, (good, (omega arith, refl))), ap (λ (c : ℕ). c ∷ text_of w8 s) (sym p), sym p)
-    at false e = (single.Text k size.Long, text_of w32 s, (s, refl, (good, (omega arith, refl))), ap (λ (c : ℕ). c ∷ text_of w32 s) (sym q), sym q)
-
-scalar_written : (s : Scalar) → IsInRange s → CanPutScalar s → IsWritten s (scalar_text s)
-scalar_written null fits can = (single.Bare bare.Null, [], (refl, refl), refl, refl)
-scalar_written (boolean true) fits can = (single.Bare bare.True, [], (refl, refl), refl, refl)
-scalar_written (boolean false) fits can = (single.Bare bare.False, [], (refl, refl), refl, refl)
-scalar_written (ubyte n) fits can = (single.Octet octet.Ubyte, _, (n, refl, (fits, refl)), refl, refl)
-scalar_written (ushort n) fits can = (single.Wide wide.Ushort, _, (n, refl, (fits, refl)), refl, refl)
-scalar_written (float n) fits can = (single.Wide wide.Float, _, (n, refl, (fits, refl)), refl, refl)
-scalar_written (double n) fits can = (single.Wide wide.Double, _, (n, refl, (fits, refl)), refl, refl)
-scalar_written (decimal32 n) fits can = (single.Wide wide.Decimal32, _, (n, refl, (fits, refl)), refl, refl)
-scalar_written (decimal64 n) fits can = (single.Wide wide.Decimal64, _, (n, refl, (fits, refl)), refl, refl)
-scalar_written (byte z) fits can = (single.Octet octet.Byte, _, (cast_unsigned w8 z, ap byte (sym (to_z-of_z w8 z fits)), (omega (arith, ints), refl)), refl, refl)
-scalar_written (short z) fits can = (single.Wide wide.Short, _, (cast_unsigned w16 z, ap short (sym (to_z-of_z w16 z fits)), (omega (arith, ints), refl)), refl, refl)
-scalar_written (timestamp z) fits can = (single.Wide wide.Timestamp, _, (cast_unsigned w64 z, ap timestamp (sym (to_z-of_z w64 z fits)), (omega (arith, ints), refl)), refl, refl)
-scalar_written (uint n) fits can = uint_written n fits
-scalar_written (ulong n) fits can = ulong_written n fits
-scalar_written (int z) fits can = int_written z fits
-scalar_written (long z) fits can = long_written z fits
-scalar_written (char n) fits can = (single.Char, _, (n, refl, (can, (fits, refl))), refl, refl)
-scalar_written (decimal128 s) fits can = (single.Sixteen sixteen.Decimal128, s, (s, refl, (fits, refl)), refl, refl)
-scalar_written (uuid s) fits can = (single.Sixteen sixteen.Uuid, s, (s, refl, (fits, refl)), refl, refl)
-scalar_written (binary s) fits can = text_written text.Binary s 160 176 can refl refl refl
-scalar_written (string s) fits can = text_written text.String s 161 177 can.0 can.1 refl refl
-scalar_written (symbol s) fits can = text_written text.Symbol s 163 179 can.0 can.1 refl refl
-
--- what is written is canonical
-pub scalar_is_canonical : (s : Scalar) → IsInRange s → CanPutScalar s → IsCanonicalScalar s (scalar_text s)
-scalar_is_canonical s fits can =
-    let w = scalar_written s fits can in
-    (w.0, w.1, w.2, w.3, λ j other h. let k : code_of s ≤ kind_byte (kind.Single j) = first_code s j other h in omega (arith, w.4))
+pub single_has_content : (k : Single) (s : Scalar) → HasContent k s
+single_has_content k s w =
+    let at = is_at s in
+    let type : single_type k ≡ scalar_type s = sym w.alike ∙ first_type s in
+    subst (HasContent k) (sym (at.4 ∙ ap (λ (t : ℕ). scalar_at t at.0 at.1 at.2 at.3) (sym type))) (content_at k at.0 at.1 at.2 at.3) w

@@ -77,14 +77,18 @@ IsFlat (kind.Map s) = λ t text. ⊥
 IsFlat (kind.Array s) = λ t text. ⊥
 IsFlat kind.Described = λ t text. ⊥
 
--- the content of a value that may hold such
+-- the content of a value that may hold such: values are spelled so, and what stands in an array so
+abbrev pub IsDeepOf : (Tree → List ℕ → Type 0) → (Width → List Tree → List ℕ → Type 0) → Kind → Tree → List ℕ → Type 0
+IsDeepOf IsValue IsElements (kind.Single k) = IsMade scalar (IsSingle k)
+IsDeepOf IsValue IsElements kind.EmptyList = λ t text. (t ≡ list no_trees) × (text ≡ [])
+IsDeepOf IsValue IsElements (kind.List s) = IsMade (λ ts. list (trees_of ts)) (IsFilled (size_width s) (IsItemList (size_width s) IsValue))
+IsDeepOf IsValue IsElements (kind.Map s) = IsMade (λ ps. mapping (pairs_of ps)) (IsFilled (size_width s) (IsPairList (size_width s) IsValue))
+IsDeepOf IsValue IsElements (kind.Array s) = IsMade (λ ts. array (trees_of ts)) (IsFilled (size_width s) (IsElements (size_width s)))
+IsDeepOf IsValue IsElements kind.Described = IsMade (λ p. described p.0 p.1) (IsPair IsValue IsValue)
+
+-- the content of a value that may hold those inside
 abbrev pub IsDeep : Spelled → Kind → Tree → List ℕ → Type 0
-IsDeep inside (kind.Single k) = IsMade scalar (IsSingle k)
-IsDeep inside kind.EmptyList = λ t text. (t ≡ list no_trees) × (text ≡ [])
-IsDeep inside (kind.List s) = IsMade (λ ts. list (trees_of ts)) (IsFilled (size_width s) (IsItemList (size_width s) (IsCoded inside.content)))
-IsDeep inside (kind.Map s) = IsMade (λ ps. mapping (pairs_of ps)) (IsFilled (size_width s) (IsPairList (size_width s) (IsCoded inside.content)))
-IsDeep inside (kind.Array s) = IsMade (λ ts. array (trees_of ts)) (IsFilled (size_width s) (IsElementList (size_width s) inside))
-IsDeep inside kind.Described = IsMade (λ p. described p.0 p.1) (IsPair (IsCoded inside.content) (IsCoded inside.content))
+IsDeep inside = IsDeepOf (IsCoded inside.content) (λ w. IsElementList w inside)
 
 -- what a code of a constructor announces: elements of that kind, or described ones
 abbrev pub IsShape : (Elements → List ℕ → Type 0) → Kind → Elements → List ℕ → Type 0
@@ -96,8 +100,11 @@ IsShape More (kind.Array s) = λ c text. (c ≡ ([], kind.Array s)) × (text ≡
 IsShape More kind.Described = More
 
 -- a descriptor, and the constructor of what it describes
+abbrev pub IsDescriptorOf : (Tree → List ℕ → Type 0) → (Elements → List ℕ → Type 0) → Elements → List ℕ → Type 0
+IsDescriptorOf IsValue More = IsMade (λ p. (p.0 ∷ p.1.0, p.1.1)) (IsPair IsValue More)
+
 abbrev pub IsDescriptor : Spelled → Elements → List ℕ → Type 0
-IsDescriptor inside = IsMade (λ p. (p.0 ∷ p.1.0, p.1.1)) (IsPair (IsCoded inside.content) inside.constructor)
+IsDescriptor inside = IsDescriptorOf (IsCoded inside.content) inside.constructor
 
 -- an element behind its constructor
 abbrev pub IsElement : (Kind → Tree → List ℕ → Type 0) → (Elements → Tree → List ℕ → Type 0) → Elements → Tree → List ℕ → Type 0

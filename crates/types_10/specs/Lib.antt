@@ -1,6 +1,8 @@
+pub mod Canonical
 pub mod Falls
 pub mod Grammar
 pub mod Kinds
+pub mod Measures
 pub mod Ranges
 pub mod Reading
 pub mod Shapes

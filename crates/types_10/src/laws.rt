@@ -1,15 +1,25 @@
-//! What holds of the grammar of values.
+//! What holds of the grammar of values, and of the spelling that is written.
 
-ghost use Rattle.std.specs.Prelude.{◌≡◌, ℕ, List};
-ghost use Rattle.types_10.specs.Tree.{Scalar, Tree};
+ghost use Rattle.std.specs.Prelude.{◌≡◌, ℕ, ◌+◌, List, ◌++◌, length, Ok};
+ghost use Rattle.types_10.specs.Tree.{Tree};
 ghost use Rattle.types_10.specs.Grammar.{IsValue};
-ghost use Rattle.types_10.specs.Ranges.{IsInRange};
-ghost use Rattle.types_10.specs.Writing.{CanPutScalar, IsCanonicalScalar, scalar_text};
+ghost use Rattle.types_10.specs.Canonical.{IsCanonical};
+ghost use Rattle.types_10.specs.Reading.{value_at};
+ghost use Rattle.types_10.specs.Ranges.{IsRanged};
+ghost use Rattle.types_10.specs.Writing.{value_text, HasSpelling};
 
 /// The laws of values, for proofs to cite; the call does nothing.
 pub fn value_laws()
     // Bytes spell at most one value.
     ensures one { (t u : Tree) (text : List ℕ) → IsValue t text → IsValue u text → t ≡ u }
-    // What is written of a value that holds no other is in the grammar, by the first code that can spell it.
-    ensures single { (s : Scalar) → IsInRange s → CanPutScalar s → IsCanonicalScalar s (scalar_text s) }
+    // What is written is the canonical spelling.
+    ensures canonical { (t : Tree) → IsRanged t → HasSpelling t → IsCanonical t (value_text t) }
+    // The canonical spelling is in the grammar.
+    ensures spelled { (t : Tree) (text : List ℕ) → IsCanonical t text → IsValue t text }
+    // A value has one canonical spelling at most.
+    ensures alone { (t : Tree) (a b : List ℕ) → IsCanonical t a → IsCanonical t b → a ≡ b }
+    // What is written is read back, wherever it stands and whatever follows.
+    ensures back { (t : Tree) (before rest : List ℕ) → IsRanged t → HasSpelling t
+        → value_at (before ++ (value_text t ++ rest)) (length before)
+        ≡ Ok (t, length before + length (value_text t)) }
 {}

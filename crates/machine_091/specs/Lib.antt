@@ -1,0 +1,4 @@
+pub mod Faults
+pub mod Judged
+pub mod Phases
+pub mod Transitions

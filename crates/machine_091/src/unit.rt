@@ -1,0 +1,49 @@
+//! The units of a client, what they want, and why one is refused.
+
+use close_translate::Scope;
+use frames_091::Frame91;
+use wire_base::ByteText;
+
+/// A unit of the client's stream.
+#[derive(Debug, Drop)]
+pub enum Unit91 {
+    /// The protocol header of AMQP 0-9-1.
+    Protocol,
+    Frame(Frame91),
+    /// Bytes with which no unit begins, and the reply code that they get: the stream ends there. Where the protocol header is
+    /// awaited they are those of no header, which has no code.
+    Bad(u16),
+}
+
+/// Why a unit is refused, in the terms of the close that follows (AMQP 0-9-1 1.4.2.9).
+#[derive(Clone, Copy, Debug, PartialEq, Eq)]
+pub struct Refusal {
+    /// The reply code.
+    pub code: u16,
+    /// What closes.
+    pub scope: Scope,
+    /// The channel that closes; 0 where the connection does.
+    pub channel: u16,
+    /// The class id of the refused method, 0 where no method was refused or the ids are cut off.
+    pub class: u16,
+    /// The method id, in the same way.
+    pub method: u16,
+}
+
+/// What a unit of the client wants.
+#[derive(Debug, Drop)]
+pub enum Want91 {
+    Nothing,
+    /// connection.start is due.
+    Start,
+    /// The mechanism and the response of a connection.start-ok. connection.tune is due.
+    Login(ByteText, ByteText),
+    /// The limits are agreed.
+    Tuned,
+    /// The client closes the connection. connection.close-ok is due.
+    Close,
+    /// The client answered the gateway's connection.close.
+    CloseOk,
+    /// The unit is refused. connection.close is due.
+    Refuse(Refusal),
+}

@@ -1,0 +1,87 @@
+-- The canonical spelling is in the grammar: contents, constructors and elements of the one are ones of the other.
+use Rattle.std.proofs.Common.{ℕ, zero, suc, List, [], ◌∷◌}
+use Rattle.std.specs.Int.{Width}
+use Rattle.wire_base.specs.Spelling.{IsPair, IsItems}
+use Rattle.types_10.specs.Tree.{Tree}
+use Rattle.types_10.specs.Kinds.{size_width}
+use Rattle.types_10.specs.Grammar.{Elements, Spelled, IsCoded, IsElementList, IsDeepOf, IsShape, IsDescriptorOf, IsElement, spelled, IsValue}
+use Rattle.types_10.specs.Canonical.{IsFirstCode, IsFirstElements, canonical, IsCanonical}
+use Rattle.types_10.specs.declared.kind.Kind.{Kind}
+use Rattle.types_10.specs.declared.kind.Kind.TheVariants as kind
+
+-- what one relation spells, the other spells
+abbrev IsIn : {A : Type 0} → (A → List ℕ → Type 0) → (A → List ℕ → Type 0) → Type 0
+IsIn {A} R S = (x : A) (text : List ℕ) → R x text → S x text
+
+items_in : {A : Type 0} (R S : A → List ℕ → Type 0) → IsIn R S → IsIn (IsItems R) (IsItems S)
+items_in R S h [] text i = i
+items_in R S h (x ∷ xs) text i = (i.0, i.1, h x i.0 i.2, items_in R S h xs i.1 i.3, i.4)
+
+pair_in : {A B : Type 0} (R S : A → List ℕ → Type 0) (T U : B → List ℕ → Type 0) → IsIn R S → IsIn T U → IsIn (IsPair R T) (IsPair S U)
+pair_in R S T U h k p text i = (i.0, i.1, h p.0 i.0 i.2, k p.1 i.1 i.3, i.4)
+
+-- contents, by what values and the insides of arrays are
+deep_in : (R S : Tree → List ℕ → Type 0) (E F : Width → List Tree → List ℕ → Type 0) → IsIn R S → ((w : Width) → IsIn (E w) (F w)) → (k : Kind) → IsIn (IsDeepOf R E k) (IsDeepOf S F k)
+deep_in R S E F h e (kind.Single k) t text i = i
+deep_in R S E F h e kind.EmptyList t text i = i
+deep_in R S E F h e (kind.List z) t text i =
+    let n = i.2.1 in
+    (i.0, i.1, (i.2.0, (n.0, n.1, n.2, n.3, (n.4.0, items_in R S h i.0 n.2 n.4.1), n.5), i.2.2))
+deep_in R S E F h e (kind.Map z) t text i =
+    let n = i.2.1 in
+    (i.0, i.1, (i.2.0, (n.0, n.1, n.2, n.3, (n.4.0, items_in (IsPair R R) (IsPair S S) (pair_in R S R S h h) i.0 n.2 n.4.1), n.5), i.2.2))
+deep_in R S E F h e (kind.Array z) t text i = (i.0, i.1, (i.2.0, e (size_width z) i.0 i.2.0 i.2.1, i.2.2))
+deep_in R S E F h e kind.Described t text i = (i.0, i.1, pair_in R S R S h h i.0 text i.2)
+
+shape_in : (M N : Elements → List ℕ → Type 0) → IsIn M N → (k : Kind) → IsIn (IsShape M k) (IsShape N k)
+shape_in M N h (kind.Single k) c text i = i
+shape_in M N h kind.EmptyList c text i = i
+shape_in M N h (kind.List z) c text i = i
+shape_in M N h (kind.Map z) c text i = i
+shape_in M N h (kind.Array z) c text i = i
+shape_in M N h kind.Described c text i = h c text i
+
+descriptor_in : (R S : Tree → List ℕ → Type 0) (M N : Elements → List ℕ → Type 0) → IsIn R S → IsIn M N → IsIn (IsDescriptorOf R M) (IsDescriptorOf S N)
+descriptor_in R S M N h m c text i = (i.0, i.1, pair_in R S M N h m i.0 text i.2)
+
+element_in : (C D : Kind → Tree → List ℕ → Type 0) (I J : Elements → Tree → List ℕ → Type 0) → ((k : Kind) → IsIn (C k) (D k)) → ((c : Elements) → IsIn (I c) (J c)) → (c : Elements) → IsIn (IsElement C I c) (IsElement D J c)
+element_in C D I J h m ([], k) t text i = h k t text i
+element_in C D I J h m (d ∷ ds, k) t text i = (i.0, i.1, m (ds, k) i.0 text i.2)
+
+-- what stands inside a value, of the one and of the other
+record IsWithin (s g : Spelled) : Type 0 where
+  content : (k : Kind) → IsIn (s.content k) (g.content k)
+  constructor : IsIn s.constructor g.constructor
+  element : (c : Elements) → IsIn (s.element c) (g.element c)
+
+value_within : (s g : Spelled) → IsWithin s g → IsIn (IsFirstCode s.content) (IsCoded g.content)
+value_within s g r t text h = (h.0, h.1, r.content h.0 t h.1 h.2, h.3)
+
+elements_within : (s g : Spelled) → IsWithin s g → (w : Width) → IsIn (IsFirstElements s w) (IsElementList w g)
+elements_within s g r w ts text h =
+    let c = h.4 in
+    let items = items_in (s.element c.0) (g.element c.0) (r.element c.0) ts c.2 c.4.2.1 in
+    (h.0, h.1, h.2, h.3, (c.0, c.1, c.2, r.constructor c.0 c.1 c.3, (c.4.1, (c.4.2.0, items)), c.5), h.5)
+
+level_within : (d : ℕ) → IsWithin (canonical d) (spelled d)
+unfolding canonical spelled
+level_within zero = record {
+  content = λ k t text h. h;
+  constructor = λ c text h. h;
+  element = λ c t text h. h;
+}
+level_within (suc d) =
+    let s = canonical d in
+    let g = spelled d in
+    let r = level_within d in
+    let v = value_within s g r in
+    let deep = deep_in (IsFirstCode s.content) (IsCoded g.content) (IsFirstElements s) (λ w. IsElementList w g) v (elements_within s g r) in
+    let descriptor = descriptor_in (IsFirstCode s.content) (IsCoded g.content) s.constructor g.constructor v r.constructor in
+    record {
+      content = deep;
+      constructor = λ c text h. (h.0, h.1, shape_in (IsDescriptorOf (IsFirstCode s.content) s.constructor) (IsDescriptorOf (IsCoded g.content) g.constructor) descriptor h.0 c h.1 h.2, h.3);
+      element = element_in _ _ s.element g.element deep r.element;
+    }
+
+pub canonical_is_spelled : (t : Tree) (text : List ℕ) → IsCanonical t text → IsValue t text
+canonical_is_spelled = value_within (canonical 16) (spelled 16) (level_within 16)
