@@ -18,3 +18,5 @@ mod rows;
 mod scalars;
 #[cfg(test)]
 mod vectors;
+#[cfg(test)]
+mod writing;

@@ -1,17 +1,24 @@
 //! Values that hold others, and values whose sizes are at an edge, with their bytes: rows for both directions.
 
+ghost use Rattle.types_10.specs.View.{value_tree};
+ghost use Rattle.types_10.specs.Writing.{HasSpelling};
+
 use crate::checks::is_spelling;
 use crate::parts::{
     array_of_1, array_of_2, binary, described, filled, list_of_1, list_of_2, map_of_1, map_of_2,
     repeated, string, symbol,
 };
+use crate::writing::is_written;
 use std::process::Abort;
 use std::test::Fail;
 use types_10::{PairList, Value10, ValueList};
 
 /// These bytes are the shortest spelling of this value.
-fn is_row(rt: &(impl Abort + AllocGlobal), value: Value10, bytes: &[u8]) -> Result<(), Fail> {
-    is_spelling(rt, &value, bytes)
+fn is_row(rt: &(impl Abort + AllocGlobal), value: Value10, bytes: &[u8]) -> Result<(), Fail>
+    requires { HasSpelling (value_tree value) }
+{
+    is_spelling(rt, &value, bytes)?;
+    is_written(rt, &value, bytes)
 }
 
 fn list_rows(rt: &(impl Abort + AllocGlobal)) -> Result<(), Fail> {

@@ -1,7 +1,10 @@
 //! Values that hold no other, with their bytes: tables for both directions.
 
-ghost use Rattle.std.specs.Prelude.{IsTrue};
+ghost use Rattle.std.specs.Prelude.{◌≡◌, ◌<◌, length, IsTrue, IfOk};
 ghost use Rattle.types_10.specs.Kinds.{is_character};
+ghost use Rattle.types_10.specs.Tree.{depth};
+ghost use Rattle.types_10.specs.View.{value_tree};
+ghost use Rattle.types_10.specs.Writing.{value_text, IsWritable};
 
 use crate::parts::{binary, string, symbol};
 use std::process::Abort;
@@ -216,7 +219,11 @@ fn number_of(rt: &impl Abort, c: char) -> u32
 }
 
 /// The value of a sample. A text has at most 100 bytes.
-pub(crate) fn value_of(rt: &(impl Abort + AllocGlobal), scalar: Scalar) -> Result<Value10, Fail> {
+pub(crate) fn value_of(rt: &(impl Abort + AllocGlobal), scalar: Scalar) -> Result<Value10, Fail>
+    ensures flat { IfOk result (λ value. depth (value_tree value) ≡ 0) }
+    ensures proper { IfOk result (λ value. IsWritable (value_tree value)) }
+    ensures size { IfOk result (λ value. length (value_text (value_tree value)) < 1000) }
+{
     let value = match scalar {
         Scalar::Null => Value10::Null,
         Scalar::Boolean(truth) => Value10::Boolean(truth),
