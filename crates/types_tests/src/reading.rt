@@ -102,6 +102,23 @@ fn longer_elements_are_read(rt: HostRuntime) -> Result<(), Fail> {
     )?;
     are_read_as(
         &rt,
+        array_of_1(
+            alloc,
+            described(alloc, symbol(alloc, b"d")?, Value10::Uint(0))?,
+        )?,
+        &[
+            b"\xE0\x07\x01\0\xA3\x01d\x52\0",
+            b"\xF0\0\0\0\x0D\0\0\0\x01\0\xB3\0\0\0\x01d\x52\0",
+        ],
+    )
+}
+
+/// The same of elements that hold others.
+#[test]
+fn longer_compounds_are_read(rt: HostRuntime) -> Result<(), Fail> {
+    let alloc = rt.alloc();
+    are_read_as(
+        &rt,
         array_of_1(alloc, Value10::List(ValueList::empty(alloc)))?,
         &[
             b"\xE0\x04\x01\xC0\x01\0",
@@ -117,17 +134,6 @@ fn longer_elements_are_read(rt: HostRuntime) -> Result<(), Fail> {
         &rt,
         array_of_1(alloc, Value10::Array(ValueList::empty(alloc)))?,
         &[b"\xE0\x0B\x01\xF0\0\0\0\x05\0\0\0\0\x40"],
-    )?;
-    are_read_as(
-        &rt,
-        array_of_1(
-            alloc,
-            described(alloc, symbol(alloc, b"d")?, Value10::Uint(0))?,
-        )?,
-        &[
-            b"\xE0\x07\x01\0\xA3\x01d\x52\0",
-            b"\xF0\0\0\0\x0D\0\0\0\x01\0\xB3\0\0\0\x01d\x52\0",
-        ],
     )
 }
 

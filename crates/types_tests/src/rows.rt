@@ -79,8 +79,8 @@ fn map_rows(rt: &(impl Abort + AllocGlobal)) -> Result<(), Fail> {
     )
 }
 
-/// Arrays whose constructor has the first code that fits each element.
-fn array_rows_1(rt: &(impl Abort + AllocGlobal)) -> Result<(), Fail> {
+/// Arrays of no value, of nulls and of booleans. Of true and false together only the boolean in a byte fits both.
+fn boolean_array_rows(rt: &(impl Abort + AllocGlobal)) -> Result<(), Fail> {
     let alloc = rt.alloc();
     is_row(
         rt,
@@ -106,7 +106,12 @@ fn array_rows_1(rt: &(impl Abort + AllocGlobal)) -> Result<(), Fail> {
         rt,
         array_of_2(alloc, Value10::Boolean(true), Value10::Boolean(false))?,
         b"\xE0\x04\x02\x56\x01\0",
-    )?;
+    )
+}
+
+/// Arrays of numbers without a sign, whose constructor has the first code that fits each element.
+fn unsigned_array_rows(rt: &(impl Abort + AllocGlobal)) -> Result<(), Fail> {
+    let alloc = rt.alloc();
     is_row(
         rt,
         array_of_2(alloc, Value10::Uint(0), Value10::Uint(0))?,
@@ -121,11 +126,21 @@ fn array_rows_1(rt: &(impl Abort + AllocGlobal)) -> Result<(), Fail> {
         rt,
         array_of_2(alloc, Value10::Uint(0), Value10::Uint(256))?,
         b"\xE0\x0A\x02\x70\0\0\0\0\0\0\x01\0",
+    )?;
+    is_row(
+        rt,
+        array_of_2(alloc, Value10::Ulong(0), Value10::Ulong(0))?,
+        b"\xE0\x02\x02\x44",
+    )?;
+    is_row(
+        rt,
+        array_of_2(alloc, Value10::Ulong(256), Value10::Ulong(0))?,
+        b"\xE0\x12\x02\x80\0\0\0\0\0\0\x01\0\0\0\0\0\0\0\0\0",
     )
 }
 
-/// The same of signed and of longer numbers.
-fn array_rows_2(rt: &(impl Abort + AllocGlobal)) -> Result<(), Fail> {
+/// The same of numbers with a sign, and of a char.
+fn signed_array_rows(rt: &(impl Abort + AllocGlobal)) -> Result<(), Fail> {
     let alloc = rt.alloc();
     is_row(
         rt,
@@ -139,16 +154,6 @@ fn array_rows_2(rt: &(impl Abort + AllocGlobal)) -> Result<(), Fail> {
     )?;
     is_row(
         rt,
-        array_of_2(alloc, Value10::Ulong(0), Value10::Ulong(0))?,
-        b"\xE0\x02\x02\x44",
-    )?;
-    is_row(
-        rt,
-        array_of_2(alloc, Value10::Ulong(256), Value10::Ulong(0))?,
-        b"\xE0\x12\x02\x80\0\0\0\0\0\0\x01\0\0\0\0\0\0\0\0\0",
-    )?;
-    is_row(
-        rt,
         array_of_2(alloc, Value10::Long(-1), Value10::Long(128))?,
         b"\xE0\x12\x02\x81\xFF\xFF\xFF\xFF\xFF\xFF\xFF\xFF\0\0\0\0\0\0\0\x80",
     )?;
@@ -159,8 +164,22 @@ fn array_rows_2(rt: &(impl Abort + AllocGlobal)) -> Result<(), Fail> {
     )
 }
 
-/// Arrays of texts, and of values that hold others.
-fn array_rows_3(rt: &(impl Abort + AllocGlobal)) -> Result<(), Fail> {
+fn text_array_rows(rt: &(impl Abort + AllocGlobal)) -> Result<(), Fail> {
+    let alloc = rt.alloc();
+    is_row(
+        rt,
+        array_of_2(alloc, string(alloc, b"")?, string(alloc, b"ab")?)?,
+        b"\xE0\x06\x02\xA1\0\x02ab",
+    )?;
+    is_row(
+        rt,
+        array_of_2(alloc, symbol(alloc, b"a")?, symbol(alloc, b"b")?)?,
+        b"\xE0\x06\x02\xA3\x01a\x01b",
+    )
+}
+
+/// Arrays of lists, of maps and of arrays.
+fn compound_array_rows(rt: &(impl Abort + AllocGlobal)) -> Result<(), Fail> {
     let alloc = rt.alloc();
     let empty = Value10::List(ValueList::empty(alloc));
     let other = Value10::List(ValueList::empty(alloc));
@@ -173,16 +192,6 @@ fn array_rows_3(rt: &(impl Abort + AllocGlobal)) -> Result<(), Fail> {
             list_of_1(alloc, Value10::Null)?,
         )?,
         b"\xE0\x07\x02\xC0\x01\0\x02\x01\x40",
-    )?;
-    is_row(
-        rt,
-        array_of_2(alloc, string(alloc, b"")?, string(alloc, b"ab")?)?,
-        b"\xE0\x06\x02\xA1\0\x02ab",
-    )?;
-    is_row(
-        rt,
-        array_of_2(alloc, symbol(alloc, b"a")?, symbol(alloc, b"b")?)?,
-        b"\xE0\x06\x02\xA3\x01a\x01b",
     )?;
     is_row(
         rt,
@@ -205,7 +214,7 @@ fn array_rows_3(rt: &(impl Abort + AllocGlobal)) -> Result<(), Fail> {
 }
 
 /// Arrays of described values, whose descriptors stand once.
-fn array_rows_4(rt: &(impl Abort + AllocGlobal)) -> Result<(), Fail> {
+fn described_array_rows(rt: &(impl Abort + AllocGlobal)) -> Result<(), Fail> {
     let alloc = rt.alloc();
     is_row(
         rt,
@@ -224,7 +233,12 @@ fn array_rows_4(rt: &(impl Abort + AllocGlobal)) -> Result<(), Fail> {
             described(alloc, Value10::Ulong(24), Value10::Null)?,
         )?,
         b"\xE0\x05\x02\0\x53\x18\x40",
-    )?;
+    )
+}
+
+/// The same where a descriptor stands behind another one, or is described itself.
+fn twice_described_array_rows(rt: &(impl Abort + AllocGlobal)) -> Result<(), Fail> {
+    let alloc = rt.alloc();
     // Two descriptors, the outer one first
     is_row(
         rt,
@@ -357,10 +371,13 @@ fn long_element_rows(rt: &(impl Abort + AllocGlobal)) -> Result<(), Fail> {
 pub(crate) fn rows(rt: &(impl Abort + AllocGlobal)) -> Result<(), Fail> {
     list_rows(rt)?;
     map_rows(rt)?;
-    array_rows_1(rt)?;
-    array_rows_2(rt)?;
-    array_rows_3(rt)?;
-    array_rows_4(rt)?;
+    boolean_array_rows(rt)?;
+    unsigned_array_rows(rt)?;
+    signed_array_rows(rt)?;
+    text_array_rows(rt)?;
+    compound_array_rows(rt)?;
+    described_array_rows(rt)?;
+    twice_described_array_rows(rt)?;
     described_rows(rt)?;
     text_rows(rt)?;
     size_rows(rt)?;
