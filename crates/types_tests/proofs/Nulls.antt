@@ -1,7 +1,6 @@
 -- Arrays of nulls: their elements have no bytes, so that up to 65,536 of them have a spelling.
-use Rattle.std.proofs.Common.{◌≡◌, ℕ, zero, suc, ◌+◌, ◌<◌, ◌≤◌, ◌^◌, Bool, true, false, List, [], ◌∷◌, ◌++◌, length, max, replicate, refl, sym, ap, ◌∙◌, arith}
+use Rattle.std.proofs.Common.{◌≡◌, ℕ, zero, suc, ◌+◌, ◌<◌, ◌≤◌, ◌^◌, Bool, true, false, List, [], ◌∷◌, ◌++◌, length, max, replicate, refl, ap, ◌∙◌, arith}
 use Rattle.std.specs.Prelude.{if◌then◌else◌}
-use Rattle.std.proofs.lemmas.List.{length-append}
 use Rattle.types_10.specs.Tree.{null, scalar, array, Tree, Trees, no_trees, trees_of, trees_depth}
 use Rattle.types_10.specs.Kinds.{kind_byte}
 use Rattle.types_10.specs.Writing.{shared, written_each, value_text, is_brief, array_body, array_kind, held_content, EachIsAlike, AreOfOneType, EachIsWritable, HasSpelling}
