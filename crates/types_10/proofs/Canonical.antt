@@ -9,19 +9,18 @@ use Rattle.types_10.specs.Kinds.{kind_byte, is_bare}
 use Rattle.types_10.specs.Grammar.{Elements, IsTimes}
 use Rattle.types_10.specs.Canonical.{IsFirstConstructor, canonical, IsCanonicalOf, IsCanonical}
 use Rattle.types_10.specs.Ranges.{IsInRange, IsRanged, EachInTrees, EachInPairs}
-use Rattle.types_10.specs.Writing.{single_kind, single_content, scalar_content, type_of, descriptors, Written, plain, array_body, list_kind, map_kind, array_kind, held_content, shared, written, written_each, written_pairs, value_text, IsProper, EachIsAlike, AreOfOneType, IsWritable, EachIsWritable, PairsAreWritable, HasSpelling}
-use Rattle.types_10.proofs.Wider.{of_list, of_map, of_array, scalar_type_is, kind_type, IsUpTo, IsWider, same_wider, later_wider, wider_trans, first_shares, rest_shares, last_shares, shared_first}
+use Rattle.types_10.specs.Writing.{single_kind, single_content, scalar_content, descriptors, Written, plain, array_body, list_kind, map_kind, array_kind, held_content, written, written_each, written_pairs, value_text, IsProper, EachIsAlike, AreOfOneType, IsWritable, EachIsWritable, PairsAreWritable, HasSpelling}
+use Rattle.types_10.proofs.Wider.{of_list, of_map, of_array, scalar_type_is, IsUpTo, IsWider, same_wider, later_wider, shared_first}
 use Rattle.types_10.proofs.Written.{first_type, single_first, single_has_content}
-use Rattle.types_10.proofs.Elements.{single_late, constructor_late, plain_constructor, element_told, plain_in, plain_out, scalar_in, scalar_out, element_some, items_count}
+use Rattle.types_10.proofs.Elements.{constructor_late, plain_constructor, element_told, plain_in, plain_out, scalar_in, scalar_out, element_some, items_count}
 use Rattle.types_10.proofs.Alone.{IsFirstBody, trees_same, pairs_same, values_alone, entries_alone, bodies_alone}
-use Rattle.types_10.proofs.Types.{list_type, map_type, array_type, tree_type, tree_late, EachIsWider, shared_wide, none_text}
-use Rattle.types_10.proofs.Held.{IsHeld, by_brief, by_list, list_for, empty_for, list_empty, list_held, sized_for, sized_held, filled_is, filled_has, body_short}
+use Rattle.types_10.proofs.Types.{list_type, map_type, array_type, tree_late, EachIsWider, shared_wide, none_text}
+use Rattle.types_10.proofs.Held.{IsHeld, list_for, empty_for, list_empty, list_held, sized_for, sized_held, filled_is, filled_has, body_short}
 use Rattle.types_10.specs.declared.kind.Kind.{Kind}
 use Rattle.types_10.specs.declared.kind.Kind.TheVariants as kind
 use Rattle.types_10.specs.declared.kind.Single.TheVariants as single
 use Rattle.types_10.specs.declared.kind.Bare.TheVariants as bare
 use Rattle.types_10.specs.declared.kind.Size.{Size}
-use Rattle.types_10.specs.declared.kind.Size.TheVariants as size
 
 -- what is written of a value of at most this depth: the canonical spelling where it stands alone; the constructor and the element
 -- under each kind for it; and no earlier kind has an element
