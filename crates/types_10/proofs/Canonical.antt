@@ -9,18 +9,18 @@ use Rattle.types_10.specs.Kinds.{kind_byte, is_bare}
 use Rattle.types_10.specs.Grammar.{Elements, IsTimes}
 use Rattle.types_10.specs.Canonical.{IsFirstConstructor, canonical, IsCanonicalOf, IsCanonical}
 use Rattle.types_10.specs.Ranges.{IsInRange, IsRanged, EachInTrees, EachInPairs}
-use Rattle.types_10.specs.Writing.{single_kind, single_content, scalar_content, type_of, descriptors, Written, plain, array_body, list_kind, map_kind, array_kind, held_content, shared, written, written_each, written_pairs, value_text, IsProper, EachIsAlike, AreOfOneType, IsWritable, EachIsWritable, PairsAreWritable, HasSpelling}
-use Rattle.types_10.proofs.Wider.{of_list, of_map, of_array, scalar_type_is, kind_type, IsUpTo, IsWider, same_wider, later_wider, wider_trans, first_shares, rest_shares, last_shares, shared_first}
+use Rattle.types_10.specs.Writing.{single_kind, single_content, scalar_content, descriptors, Written, plain, array_body, list_kind, map_kind, array_kind, held_content, written, written_each, written_pairs, value_text, IsProper, EachIsAlike, AreOfOneType, IsWritable, EachIsWritable, PairsAreWritable, HasSpelling}
+use Rattle.types_10.proofs.Wider.{of_list, of_map, of_array, scalar_type_is, IsUpTo, IsWider, same_wider, later_wider, shared_first}
 use Rattle.types_10.proofs.Written.{first_type, single_first, single_has_content}
-use Rattle.types_10.proofs.Elements.{single_late, constructor_late, plain_constructor, element_told, plain_in, plain_out, scalar_in, scalar_out, element_some, items_count}
+use Rattle.types_10.proofs.Elements.{constructor_late, plain_constructor, element_told, plain_in, plain_out, scalar_in, scalar_out, element_some, items_count}
 use Rattle.types_10.proofs.Alone.{IsFirstBody, trees_same, pairs_same, values_alone, entries_alone, bodies_alone}
-use Rattle.types_10.proofs.Held.{IsHeld, by_brief, by_list, list_for, empty_for, list_empty, list_held, sized_for, sized_held, filled_is, filled_has, body_short}
+use Rattle.types_10.proofs.Types.{list_type, map_type, array_type, tree_late, EachIsWider, shared_wide, none_text}
+use Rattle.types_10.proofs.Held.{IsHeld, list_for, empty_for, list_empty, list_held, sized_for, sized_held, filled_is, filled_has, body_short}
 use Rattle.types_10.specs.declared.kind.Kind.{Kind}
 use Rattle.types_10.specs.declared.kind.Kind.TheVariants as kind
 use Rattle.types_10.specs.declared.kind.Single.TheVariants as single
 use Rattle.types_10.specs.declared.kind.Bare.TheVariants as bare
 use Rattle.types_10.specs.declared.kind.Size.{Size}
-use Rattle.types_10.specs.declared.kind.Size.TheVariants as size
 
 -- what is written of a value of at most this depth: the canonical spelling where it stands alone; the constructor and the element
 -- under each kind for it; and no earlier kind has an element
@@ -143,9 +143,6 @@ pairs_few d (p ∷ ps) text h =
 
 -- ---- lists
 
-list_type : (n : ℕ) (body : List ℕ) → kind_type (list_kind n body) ≡ 208
-list_type n body = by_list (λ k. kind_type k ≡ 208) n body (λ e. refl) (λ h. refl) (λ h e. refl)
-
 -- a list's count and its values
 record IsListed (d : ℕ) (ts : List Tree) (n : ℕ) (body : List ℕ) : Type 0 where
   count : length ts ≡ n
@@ -195,10 +192,6 @@ list_first d ts n body h l kind.Described other g = absurd cc
 list_contents : (d : ℕ) (ts : List Tree) (n : ℕ) (body : List ℕ) → IsListed d ts n body → HasContents (suc d) (list (trees_of ts)) (list_kind n body) (λ k. held_content k n body)
 list_contents d ts n body h = record { has = list_has d ts n body h; first = λ k w l. list_first d ts n body h (list_short d ts n body h k w l) }
 
-none_text : (ts : Trees) → (written_each ts).count ≡ 0 → (written_each ts).text ≡ []
-none_text no_trees e = refl
-none_text (tree t ts) e = absurd (omega arith)
-
 list_well : (d : ℕ) (ts : Trees) → EachIsWell d ts → IsWell (suc d) (list ts) (written (list ts))
 list_well d ts h =
     let n = (written_each ts).count in
@@ -208,9 +201,6 @@ list_well d ts h =
     (subst (λ (us : Trees). HasContents (suc d) (list us) (list_kind n body) (λ k. held_content k n body)) (sym (trees_again ts)) (list_contents d (tree_list ts) n body listed))
 
 -- ---- maps
-
-map_type : (n : ℕ) (body : List ℕ) → kind_type (map_kind n body) ≡ 209
-map_type n body = by_brief (λ k. kind_type k ≡ 209) n body (kind.Map size.Short) (kind.Map size.Long) (λ h. refl) (λ h. refl)
 
 -- a map's count of keys and values, and its pairs
 record IsMapped (d : ℕ) (ps : List (Tree × Tree)) (n : ℕ) (body : List ℕ) : Type 0 where
@@ -264,44 +254,6 @@ map_well d ps h =
     (subst (λ (qs : Pairs). HasContents (suc d) (mapping qs) (map_kind n body) (λ k. held_content k n body)) (sym (pairs_again ps)) (map_contents d (pair_list ps) n body mapped))
 
 -- ---- elements of one type
-
-array_type : (n : ℕ) (body : List ℕ) → kind_type (array_kind n body) ≡ 240
-array_type n body = by_brief (λ k. kind_type k ≡ 240) n body (kind.Array size.Short) (kind.Array size.Long) (λ h. refl) (λ h. refl)
-
--- the kind of a value is of its type, and not that of described values
-tree_type : (t : Tree) → kind_type (written t).kind ≡ type_of t
-tree_type (scalar s) = first_type s
-tree_type (list ts) = list_type (written_each ts).count (written_each ts).text
-tree_type (mapping ps) = map_type (written_pairs ps).0 (written_pairs ps).1
-tree_type (array ts) = array_type (written_each ts).count (array_body (written_each ts))
-tree_type (described d t) = tree_type t
-
-tree_late : (t : Tree) → 64 ≤ kind_byte (written t).kind
-tree_late (scalar s) = single_late (single_kind s)
-tree_late (list ts) = by_list (λ k. 64 ≤ kind_byte k) (written_each ts).count (written_each ts).text (λ e. omega arith) (λ h. omega arith) (λ h e. omega arith)
-tree_late (mapping ps) = by_brief (λ k. 64 ≤ kind_byte k) (written_pairs ps).0 (written_pairs ps).1 (kind.Map size.Short) (kind.Map size.Long) (λ h. omega arith) (λ h. omega arith)
-tree_late (array ts) = by_brief (λ k. 64 ≤ kind_byte k) (written_each ts).count (array_body (written_each ts)) (kind.Array size.Short) (kind.Array size.Long) (λ h. omega arith) (λ h. omega arith)
-tree_late (described d t) = tree_late t
-
--- a kind under which each has an element
-abbrev EachIsWider : Trees → Kind → Type 0
-EachIsWider no_trees k = Unit {0}
-EachIsWider (tree t ts) k = IsWider (written t).kind k × EachIsWider ts k
-
-each_wider : (ts : Trees) (j k : Kind) → IsWider j k → EachIsWider ts j → EachIsWider ts k
-each_wider no_trees j k w h = tt
-each_wider (tree t ts) j k w h = (wider_trans (written t).kind j k h.0 w, each_wider ts j k w h.1)
-
--- such is the kind that those of one type share
-shared_wide : (t u : Tree) (ts : Trees) → type_of u ≡ type_of t → EachIsAlike t ts → (kind_type (written_each (tree u ts)).kind ≡ type_of t) × EachIsWider (tree u ts) (written_each (tree u ts)).kind
-shared_wide t u no_trees e h = rw (last_shares (written u).kind (tree_late u)) (tree_type u ∙ e, (same_wider (written u).kind, tt))
-shared_wide t u (tree v ts) e h =
-    let j = (written u).kind in
-    let k = (written_each (tree v ts)).kind in
-    let rest = shared_wide t v ts h.0.1 h.1 in
-    let alike : kind_type j ≡ kind_type k = tree_type u ∙ e ∙ sym rest.0 in
-    let wide = rest_shares j k alike in
-    (sym wide.alike ∙ rest.0, (first_shares j k alike, each_wider (tree v ts) k (shared j k) wide rest.1))
 
 -- the elements behind their constructor
 abbrev EachIsDescribed : List Tree → Trees → Type 0

@@ -1,6 +1,6 @@
 -- Lists, maps and arrays: which sizes fit, the first of their kinds, and the size, the count and the body that fill a content.
 use Rattle.std.proofs.Common.{◌≡◌, ◌≢◌, ℕ, ◌^◌, ◌<◌, ◌≤◌, Bool, true, false, cond, eqb, ltb, ◌&&◌, List, ◌++◌, length, refl, ap, subst, ◌∙◌, arith}
-use Rattle.std.proofs.lemmas.Bool.{eqb-true, eqb-false, ltb-true, ltb-false}
+use Rattle.std.proofs.lemmas.Bool.{cond_both, eqb-true, eqb-false, ltb-true, ltb-false}
 use Rattle.std.proofs.lemmas.List.{length-append}
 use Rattle.std.specs.Int.{byte_len, to_be_bytes}
 use Rattle.wire_base.specs.Spelling.{text_of, IsNumber}
@@ -31,11 +31,7 @@ by_brief P n body a b x y = at (ltb n 256) (ltb (length body) 255) refl refl
     at false t e f = let many : 256 ≤ n = ltb-false _ _ e in y (λ h. omega (arith, h.count))
 
 pub by_list : (P : Kind → Type 0) (n : ℕ) (body : List ℕ) → (n ≡ 0 → P kind.EmptyList) → (IsHeld size.Short n body → P (kind.List size.Short)) → ((IsHeld size.Short n body → ⊥) → n ≢ 0 → P (kind.List size.Long)) → P (list_kind n body)
-by_list P n body x y z = at (eqb n 0) refl
-  where
-    at : (t : Bool) → eqb n 0 ≡ t → P (cond t kind.EmptyList (cond (is_brief n body) (kind.List size.Short) (kind.List size.Long)))
-    at true e = x (eqb-true _ _ e)
-    at false e = by_brief P n body (kind.List size.Short) (kind.List size.Long) y (λ h. z h (eqb-false _ _ e))
+by_list P n body x y z = cond_both (eqb n 0) kind.EmptyList _ P (λ e. x (eqb-true _ _ e)) (λ e. by_brief P n body (kind.List size.Short) (kind.List size.Long) y (λ h. z h (eqb-false _ _ e)))
 
 -- ---- the first kind, against the sizes that fit
 

@@ -9,6 +9,7 @@ pub mod RangeLaws
 pub mod ReaderLaws
 pub mod Slices
 pub mod Texts
+pub mod Types
 pub mod ValueLaws
 pub mod Wider
 pub mod Within

@@ -1,4 +1,5 @@
--- What is said of the values in a list or a map, said of a slice's values and pairs one by one.
+-- Slices against trees: what is said of the trees in a list or a map, said of a slice's values and pairs one by one. Then the parts
+-- of a value that are written in turn, and its kind and its length as the program finds them.
 use Rattle.std.proofs.Common.{◌≡◌, ℕ, ◌+◌, ◌-◌, ◌*◌, ◌<◌, ◌≤◌, ◌^◌, min, Bool, true, false, cond, List, [], ◌∷◌, ◌++◌, length, take, get_or, map, All, ◌⊎◌, inl, inr, refl, sym, ap, ◌∙◌, arith}
 use Rattle.std.specs.List.{flat_map, AllByRecursion}
 use Rattle.std.proofs.lemmas.List.{length-append, take-take, take_at}

@@ -1,7 +1,7 @@
 -- Which kinds have contents for the values of which others: those of the same type with a later code. Of the booleans' kinds without
 -- content neither has one for the values of the other.
-use Rattle.std.proofs.Common.{◌≡◌, ℕ, ◌<◌, ◌≤◌, Bool, true, false, cond, eqb, ltb, ◌&&◌, ◌||◌, Some, [], refl, sym, ap, subst, ◌∙◌, arith}
-use Rattle.std.proofs.lemmas.Bool.{ltb-true, ltb-false}
+use Rattle.std.proofs.Common.{◌≡◌, ℕ, ◌<◌, ◌≤◌, true, false, eqb, ltb, ◌&&◌, ◌||◌, Some, [], refl, sym, ap, subst, ◌∙◌, arith}
+use Rattle.std.proofs.lemmas.Bool.{cond_both, ltb-true, ltb-false}
 use Rattle.std.proofs.lemmas.Bool.Decides.{nat_tests}
 use mathlib.Core.Logic.{◌⊎◌, inl, inr}
 use Rattle.types_10.specs.Tree.{Scalar, null}
@@ -96,12 +96,10 @@ not_booleans m n e h = grind (arith, nat_tests)
 -- what kinds share: the boolean in a byte for the two booleans, or the kind with the later code
 shared_by : (P : Kind → Type 0) (j k : Kind) → (AreBooleans (kind_byte j) (kind_byte k) → P (kind.Single single.Boolean))
     → ((AreBooleans (kind_byte j) (kind_byte k) → ⊥) → kind_byte j ≤ kind_byte k → P k) → ((AreBooleans (kind_byte j) (kind_byte k) → ⊥) → kind_byte k ≤ kind_byte j → P j) → P (shared j k)
-shared_by P j k a b c = at _ (ltb (kind_byte j) (kind_byte k)) refl refl
-  where
-    at : (s t : Bool) → (eqb (kind_byte j) 65 && eqb (kind_byte k) 66) || (eqb (kind_byte j) 66 && eqb (kind_byte k) 65) ≡ s → ltb (kind_byte j) (kind_byte k) ≡ t → P (cond s (kind.Single single.Boolean) (cond t k j))
-    at true t e h = a (are_booleans (kind_byte j) (kind_byte k) e)
-    at false true e h = let l : kind_byte j < kind_byte k = ltb-true _ _ h in b (not_booleans (kind_byte j) (kind_byte k) e) (omega arith)
-    at false false e h = c (not_booleans (kind_byte j) (kind_byte k) e) (ltb-false _ _ h)
+shared_by P j k a b c =
+    cond_both ((eqb (kind_byte j) 65 && eqb (kind_byte k) 66) || (eqb (kind_byte j) 66 && eqb (kind_byte k) 65)) (kind.Single single.Boolean) _ P
+    (λ e. a (are_booleans (kind_byte j) (kind_byte k) e))
+    (λ e. let apart = not_booleans (kind_byte j) (kind_byte k) e in cond_both (ltb (kind_byte j) (kind_byte k)) k j P (λ h. b apart (omega (arith, ltb-true _ _ h))) (λ h. c apart (ltb-false _ _ h)))
 
 -- the booleans' kinds are three
 boolean_code : (k : Kind) → kind_type k ≡ 86 → kind_byte k < 86 → (kind_byte k ≡ 65) ⊎ (kind_byte k ≡ 66)

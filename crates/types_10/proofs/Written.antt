@@ -1,6 +1,6 @@
 -- Values that hold no other: their contents under each kind that has one for them, and the kind with the first code.
 use Rattle.std.proofs.Common.{◌≡◌, ◌≢◌, ℕ, ◌^◌, ◌<◌, ◌≤◌, ◌%◌, Bool, true, false, cond, eqb, ltb, List, [], length, ℤ, pos, negsuc, refl, sym, ap, subst, ◌∙◌, arith}
-use Rattle.std.proofs.lemmas.Bool.{eqb-true, eqb-false, ltb-true, ltb-false}
+use Rattle.std.proofs.lemmas.Bool.{cond_both, eqb-true, eqb-false, ltb-true, ltb-false}
 use Rattle.std.proofs.lemmas.Bool.Decides.{nat_tests}
 use Rattle.std.proofs.lemmas.Int.{ints, to_z-of_z, of_z-to_z}
 use Rattle.std.proofs.lemmas.List.{length-append}
@@ -85,26 +85,13 @@ single_is (single.Text text.Symbol z) s bytes h = h.2.1.1 ∙ sym (ap (single_co
 
 -- a number by how large it is, an integer by whether it fits one byte, and a text by whether its length does
 by_number : (P : Single → Type 0) (n : ℕ) (a b c : Single) → (n ≡ 0 → P a) → (n < 256 → P b) → (n ≢ 0 → 256 ≤ n → P c) → P (cond (eqb n 0) a (cond (ltb n 256) b c))
-by_number P n a b c x y z = at (eqb n 0) (ltb n 256) refl refl
-  where
-    at : (s t : Bool) → eqb n 0 ≡ s → ltb n 256 ≡ t → P (cond s a (cond t b c))
-    at true t e f = x (eqb-true _ _ e)
-    at false true e f = y (ltb-true _ _ f)
-    at false false e f = z (λ g. eqb-false _ _ e g) (ltb-false _ _ f)
+by_number P n a b c x y z = cond_both (eqb n 0) a _ P (λ e. x (eqb-true _ _ e)) (λ e. cond_both (ltb n 256) b c P (λ f. y (ltb-true _ _ f)) (λ f. z (eqb-false _ _ e) (ltb-false _ _ f)))
 
 by_small : (P : Single → Type 0) (z : ℤ) (a b : Single) → (FitsSigned w8 z → P a) → (is_small z ≡ false → P b) → P (cond (is_small z) a b)
-by_small P z a b x y = at (is_small z) refl
-  where
-    at : (t : Bool) → is_small z ≡ t → P (cond t a b)
-    at true e = x (grind (arith, ints))
-    at false e = y e
+by_small P z a b x y = cond_both (is_small z) a b P (λ e. x (grind (arith, ints))) y
 
 by_length : (P : Single → Type 0) (k : Text) (s : List ℕ) → (length s < 256 → P (single.Text k size.Short)) → (256 ≤ length s → P (single.Text k size.Long)) → P (text_kind k s)
-by_length P k s x y = at (ltb (length s) 256) refl
-  where
-    at : (t : Bool) → ltb (length s) 256 ≡ t → P (cond t (single.Text k size.Short) (single.Text k size.Long))
-    at true e = x (ltb-true _ _ e)
-    at false e = y (ltb-false _ _ e)
+by_length P k s x y = cond_both (ltb (length s) 256) _ _ P (λ e. x (ltb-true _ _ e)) (λ e. y (ltb-false _ _ e))
 
 -- the first kind of a value has its type
 pub first_type : (s : Scalar) → single_type (single_kind s) ≡ scalar_type s
@@ -208,10 +195,10 @@ single_first (single.Sixteen sixteen.Uuid) s bytes h = subst (IsFor _) (sym h.1)
 single_first (single.Text k size.Short) s bytes h = subst (IsFor _) (sym h.1) (short_for k h.0 (omega (arith, h.2.1.0)))
 single_first (single.Text k size.Long) s bytes h = subst (IsFor _) (sym h.1) (long_for k h.0)
 
--- ---- every value has a content under each kind for it
+-- ---- values by their type
 
 -- the value of this type with such a boolean, number, integer or bytes
-abbrev scalar_at : ℕ → Bool → ℕ → ℤ → List ℕ → Scalar
+abbrev pub scalar_at : ℕ → Bool → ℕ → ℤ → List ℕ → Scalar
 scalar_at type b n z s =
     cond (eqb type 64) null (cond (eqb type 86) (boolean b) (cond (eqb type 80) (ubyte n) (cond (eqb type 81) (byte z)
     (cond (eqb type 96) (ushort n) (cond (eqb type 97) (short z) (cond (eqb type 112) (uint n) (cond (eqb type 113) (int z)
@@ -244,6 +231,14 @@ is_at (uuid s) = (true, 0, pos 0, s, refl)
 is_at (binary s) = (true, 0, pos 0, s, refl)
 is_at (string s) = (true, 0, pos 0, s, refl)
 is_at (symbol s) = (true, 0, pos 0, s, refl)
+
+-- what holds of each kind and the values of its type
+pub by_type : (P : Single → Scalar → Type 0) → ((k : Single) (b : Bool) (n : ℕ) (z : ℤ) (s : List ℕ) → P k (scalar_at (single_type k) b n z s)) → (k : Single) (s : Scalar) → single_type k ≡ scalar_type s → P k s
+by_type P p k s type =
+    let at = is_at s in
+    subst (P k) (sym (at.4 ∙ ap (λ (t : ℕ). scalar_at t at.0 at.1 at.2 at.3) (sym type))) (p k at.0 at.1 at.2 at.3)
+
+-- ---- every value has a content under each kind for it
 
 abbrev HasContent : Single → Scalar → Type 0
 HasContent k s = IsFor k s → IsInRange s → IsProper s → length (single_content k s) < 2 ^ 32 → IsSingle k s (single_content k s)
@@ -317,7 +312,4 @@ content_at (single.Text text.String size.Long) b n z s w r p l = (s, refl, (p, (
 content_at (single.Text text.Symbol size.Long) b n z s w r p l = (s, refl, (p, (omega (arith, length-append (to_be_bytes w32 (length s)) s), refl)))
 
 pub single_has_content : (k : Single) (s : Scalar) → HasContent k s
-single_has_content k s w =
-    let at = is_at s in
-    let type : single_type k ≡ scalar_type s = sym w.alike ∙ first_type s in
-    subst (HasContent k) (sym (at.4 ∙ ap (λ (t : ℕ). scalar_at t at.0 at.1 at.2 at.3) (sym type))) (content_at k at.0 at.1 at.2 at.3) w
+single_has_content k s w = by_type HasContent content_at k s (sym w.alike ∙ first_type s) w

@@ -1,4 +1,4 @@
-//! What holds of the grammar of values, and of the spelling that is written.
+//! What holds of the grammar of values (AMQP 1.0 1.6), and of the spelling that is written. Only laws stand here.
 
 ghost use Rattle.std.specs.Prelude.{◌≡◌, ℕ, ◌+◌, List, ◌++◌, length, Ok};
 ghost use Rattle.types_10.specs.Tree.{Tree};
@@ -9,6 +9,10 @@ ghost use Rattle.types_10.specs.Ranges.{IsRanged};
 ghost use Rattle.types_10.specs.Writing.{value_text, HasSpelling};
 
 /// The laws of values, for proofs to cite; the call does nothing.
+///
+/// Bytes are numbers below 256, and offsets and lengths are in bytes. `IsRanged` says that the numbers inside are of
+/// their types, which `tell_ranges` tells of any value; `HasSpelling` is the condition of `put_value`. No law says that
+/// what is read can be written: see the head of the crate.
 pub fn value_laws()
     // Bytes spell at most one value.
     ensures one { (t u : Tree) (text : List ℕ) → IsValue t text → IsValue u text → t ≡ u }

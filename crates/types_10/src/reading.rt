@@ -731,7 +731,8 @@ fn value_from(alloc: Global, bytes: &[u8], at: usize) -> Result<(Value10, usize)
     Ok((value, place(end, rest)))
 }
 
-/// The value that stands at `at`, and the offset after it.
+/// The value that stands at `at` (AMQP 1.0 1.6), and the offset after it; offsets are in bytes from the front of `bytes`.
+/// Any of a type's encodings is taken.
 ///
 /// # Errors
 ///

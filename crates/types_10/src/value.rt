@@ -8,7 +8,11 @@ use std::alloc::Global;
 use std::marker::Model;
 use wire_base::{ByteText, Memory};
 
-/// A value. A float, a double or a decimal is the pattern of its bits, most significant first.
+/// A value of each type of AMQP 1.0 1.6. A float, a double or a decimal is the pattern of its bits, most significant
+/// first.
+///
+/// The type holds more than `put_value` takes: what a variant says of its texts, its char or its elements is so of each
+/// value that `read_value` answers, and is for the caller to see to in others.
 #[derive(Debug, Drop)]
 #[cycle(value)]
 pub enum Value10 {
@@ -27,7 +31,7 @@ pub enum Value10 {
     Decimal32(u32),
     Decimal64(u64),
     Decimal128([u8; 16]),
-    /// The number of a Unicode character
+    /// The number of a Unicode character: at most 10FFFF, and no surrogate (D800 to DFFF)
     Char(u32),
     /// Milliseconds since 1970-01-01 00:00 UTC
     Timestamp(i64),
@@ -39,27 +43,28 @@ pub enum Value10 {
     Symbol(ByteText),
     List(ValueList),
     Map(PairList),
-    /// Values of one type
+    /// Values of one type, described ones by equal descriptors
     Array(ValueList),
     /// A descriptor, and the value that it describes
     Described(Inner, Inner),
 }
 
-/// The values of a list or an array, in order. Contracts see it as the list of them.
+/// The values of a list or an array (AMQP 1.0 1.6.22, 1.6.24), in order. Contracts see it as the list of them.
 #[derive(Debug, Drop)]
 #[cycle(value)]
 pub struct ValueList {
     pub(crate) items: Vec<Value10>,
 }
 
-/// The pairs of a map, in order: keys and values. Contracts see it as the list of them.
+/// The pairs of a map (AMQP 1.0 1.6.23), in order: keys and values. Keys aren't compared, so two may be equal. Contracts
+/// see it as the list of them.
 #[derive(Debug, Drop)]
 #[cycle(value)]
 pub struct PairList {
     pub(crate) pairs: Vec<(Value10, Value10)>,
 }
 
-/// A value inside a described one. Contracts see it as that value.
+/// A value inside a described one: the descriptor, or what it describes (AMQP 1.0 1.1.2). Contracts see it as that value.
 #[derive(Debug, Drop)]
 #[cycle(value)]
 pub struct Inner {
@@ -206,6 +211,10 @@ impl ValueList {
     }
 
     /// Adds a value at the end, or leaves the list as it was and drops the value.
+    ///
+    /// # Errors
+    ///
+    /// `Memory` where the allocator has no room.
     pub fn push(&mut self, value: Value10) -> Result<(), Memory>
         ensures ok { OnOk result (self.new ≡ self.old ++ value_tree value ∷ []) }
         ensures err { OnErr result (self.new ≡ self.old) }
@@ -250,7 +259,11 @@ impl PairList {
         }
     }
 
-    /// Adds a pair at the end, or leaves the list as it was and drops the pair.
+    /// Adds a pair, a key and its value, at the end, or leaves the list as it was and drops the pair.
+    ///
+    /// # Errors
+    ///
+    /// `Memory` where the allocator has no room.
     pub fn push(&mut self, pair: (Value10, Value10)) -> Result<(), Memory>
         ensures ok { OnOk result (self.new ≡ self.old ++ pair_trees pair ∷ []) }
         ensures err { OnErr result (self.new ≡ self.old) }
@@ -261,7 +274,7 @@ impl PairList {
         Ok(())
     }
 
-    /// The count of the pairs.
+    /// The count of the pairs: half of what is written as the map's count, which is of keys and values together.
     pub fn len(&self) -> usize
         ensures { result ≡ length self.now }
     {
@@ -278,6 +291,10 @@ impl PairList {
 
 impl Inner {
     /// The value, as a part of a described one.
+    ///
+    /// # Errors
+    ///
+    /// `Memory` where the allocator has no room. The value is dropped then.
     pub fn new(alloc: Global, value: Value10) -> Result<Inner, Memory>
         ensures { IfOk result (λ inner. inner ≡ value_tree value) }
     {

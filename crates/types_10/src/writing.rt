@@ -340,11 +340,20 @@ fn put_contents(out: &mut ByteText, kind: Kind, values: &[Value10]) -> Result<()
     Ok(())
 }
 
-/// Adds the shortest spelling of the value, or leaves `out` as it was.
+/// Adds the shortest spelling of the value (AMQP 1.0 1.6), or leaves `out` as it was.
 ///
-/// Each value has the shortest of its type's encodings, the elements of an array the shortest that all of them
-/// have. The value's depth is at most 16, what is written of it is shorter than 2^32 bytes, its texts and chars
-/// are valid, and the elements of each array inside are of one type, and at most 65,536 where they have no bytes.
+/// Each value has the shortest of its type's encodings, and the elements of an array the shortest that all of them
+/// have; an array without elements has the constructor of null.
+///
+/// The value must have a spelling: its depth is at most 16, what is written of it is shorter than 2^32 bytes, and, of the
+/// value and of each one inside it,
+///
+/// - a string is UTF-8, a symbol is ASCII, and a char is a Unicode scalar value (at most 10FFFF, not D800 to DFFF);
+/// - the elements of an array are of one type, all of them described by equal descriptors or none described, and what
+///   the descriptors describe is of one type;
+/// - the elements of an array are at most 65,536 where their shortest encoding has no bytes: nulls, booleans that are
+///   all true or all false, uints or ulongs that are all 0, and lists that are all empty, described or not. An array
+///   with more is read where a longer encoding was sent, as 65,537 zeros behind the code 70, but can't be put.
 ///
 /// # Errors
 ///
