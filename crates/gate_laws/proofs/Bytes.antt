@@ -1,31 +1,29 @@
 -- What a client sent and what it took, by the calls alone.
-use Rattle.std.proofs.Common.{◌≡◌, ℕ, ◌==◌, ◌≤◌, Bool, true, false, if◌then◌else◌, List, [], ◌∷◌, ◌++◌, length, take, drop, Option, None, Some, refl, sym, ap, ◌∙◌, subst, inl, inr, arith}
+use Rattle.std.proofs.Common.{◌≡◌, ℕ, ◌==◌, ◌≤◌, Bool, true, false, if◌then◌else◌, List, [], ◌∷◌, ◌++◌, take, drop, Option, None, Some, sym, subst, inl, inr, arith}
 use Rattle.std.proofs.lemmas.Bool.Decides.{eqb_tells}
 use Rattle.gate_outside.specs.declared.ports.End.TheVariants.{Client, Up}
 use Rattle.gate_outside.specs.declared.ports.Accepted.TheVariants as accepted
 use Rattle.gate_outside.specs.declared.ports.Got.TheVariants as got
 use Rattle.gate_outside.specs.declared.ports.Put.TheVariants as put
 use Rattle.gate_outside.specs.declared.log.LogEntry.TheVariants.{Accept, Connect, Read, Write, Shut, Idle, Now}
-use Rattle.wire_base.specs.declared.scan.Scan.TheVariants.{More}
-use Rattle.frames_091.specs.Headers as headers
 use Rattle.gate_loop.specs.declared.config.Config.{Config}
 use Rattle.gate_loop.specs.declared.config.Served.{Served}
 use Rattle.gate_loop.specs.declared.units.Loss.TheVariants as loss
 use Rattle.gate_loop.specs.declared.units.Reply.{Reply}
-use Rattle.gate_loop.specs.declared.units.Unit91.{Unit91}
 use Rattle.gate_loop.specs.Marks.{Mark, Call, Strain, Finish}
-use Rattle.gate_loop.specs.Events.{Dry, Moment, Over, Offered, Lost, Strained, phase, stream_of, begun_count, gone_count}
-use Rattle.gate_loop.specs.Due.{first, pick, replies}
+use Rattle.gate_loop.specs.Events.{Dry, Moment, Over, Offered, Lost, Strained, talk}
+use Rattle.gate_loop.specs.Due.{pick}
+use Rattle.gate_loop.specs.Talks.{dues, first}
 use Rattle.gate_loop.specs.Journal.{Journal, journal, nothing, came, came_in, begin_unit, with_rest, noted, noted_unless, is_empty, write_at, awaits, offer, rest_or_pick, moment}
 use Rattle.gate_loop.specs.Next.{accepted_count, Follows}
 use Rattle.gate_laws.specs.Asks.{IsLiveEnd}
 use Rattle.gate_laws.specs.Lawful.{is_taking, IsOffer}
-use Rattle.gate_laws.specs.Bytes.{bytes_heard, bytes_taken, spelled, replies_to, IsAnswered}
+use Rattle.gate_laws.specs.Bytes.{bytes_heard, bytes_taken, IsAnswered}
 use Rattle.gate_laws.proofs.Asks.{asks}
 use Rattle.gate_laws.proofs.Pairs.{no_journal}
 use Rattle.gate_laws.proofs.Lawful.{offered}
-use Rattle.gate_laws.proofs.Heard.{HeaderScans, HearsOf, hears_came, hears_none}
-use Rattle.gate_laws.proofs.Said.{SaysOf, says_none, says_came, says_took, Left, left_by}
+use Rattle.gate_laws.proofs.Heard.{AreSettled, HearsOf, hears_came, hears_none, hears_strain}
+use Rattle.gate_laws.proofs.Said.{SaysOf, says_none, says_came, says_strain, says_took, are_replies, none_owed}
 
 -- what a journal says of the bytes that came and of those that went
 abbrev TellsOf : Journal → List ℕ → List ℕ → Type 0
@@ -43,16 +41,14 @@ tells_over : (b : Bool) (how : Served) (j : Journal) (bytes taken : List ℕ) �
 tells_over true how j bytes taken t = t
 tells_over false how j bytes taken t = t
 
--- no bytes are the front of a header
-header_none : headers.header_scan [] ≡ More
-unfolding headers.header_scan
-header_none = refl
+tells_none : TellsOf nothing [] []
+tells_none = (hears_none, says_none)
 
-tells_none : HeaderScans → TellsOf nothing [] []
-tells_none s = (hears_none s header_none, says_none)
-
-tells_came : HeaderScans → (j : Journal) (more bytes taken : List ℕ) → awaits j ≡ true → TellsOf j bytes taken → TellsOf (came_in more j) (bytes ++ more) taken
+tells_came : AreSettled → (j : Journal) (more bytes taken : List ℕ) → awaits j ≡ true → TellsOf j bytes taken → TellsOf (came_in more j) (bytes ++ more) taken
 tells_came s j more bytes taken a t = (hears_came s j bytes more a t.0, says_came j more taken t.1)
+
+tells_strain : (j : Journal) (bytes taken : List ℕ) → TellsOf j bytes taken → TellsOf (noted Strained j) bytes taken
+tells_strain j bytes taken t = (hears_strain j bytes t.0, says_strain j taken t.1)
 
 -- a write says nothing of what came
 hears_begin : (begun : List ℕ) (unit : Option Reply) (k : Journal) (bytes : List ℕ) → HearsOf k bytes → HearsOf (begin_unit begun unit k) bytes
@@ -81,7 +77,7 @@ tells_accept c p q m bytes taken f t = elim (eqb_tells q p) [
   | inr n ↦ subst (λ (b : Bool). TellsOf (if b then came (moment m) else journal p m) bytes taken) (sym n.0) t
 ]
 
-tells_read : HeaderScans → (p q n room : ℕ) (bytes : List ℕ) (m : List Mark) → awaits (journal q m) ≡ true → TellsOf (journal p m) (bytes_heard p m) (bytes_taken p m)
+tells_read : AreSettled → (p q n room : ℕ) (bytes : List ℕ) (m : List Mark) → awaits (journal q m) ≡ true → TellsOf (journal p m) (bytes_heard p m) (bytes_taken p m)
     → let x : Mark = Call (Read q Client room (got.Bytes n) bytes) in TellsOf (journal p (x ∷ m)) (bytes_heard p (x ∷ m)) (bytes_taken p m)
 tells_read hs p q n room bytes m a t = elim (eqb_tells q p) [
   | inl s ↦
@@ -107,8 +103,8 @@ tells_write p q n bytes m a t = elim (eqb_tells q p) [
 client_only : (p : ℕ) (m : List Mark) → IsLiveEnd p Up m → ⊥
 client_only p m l = let clash : Up ≡ Client = l.client in cc
 
-tells : HeaderScans → (c : Config) (p : ℕ) (m : List Mark) → Follows c m → TellsOf (journal p m) (bytes_heard p m) (bytes_taken p m)
-tells s c p [] f = tells_none s
+tells : AreSettled → (c : Config) (p : ℕ) (m : List Mark) → Follows c m → TellsOf (journal p m) (bytes_heard p m) (bytes_taken p m)
+tells s c p [] f = tells_none
 tells s c p (Call (Accept (accepted.Pair q)) ∷ m) f = tells_accept c p q m (bytes_heard p m) (bytes_taken p m) f (tells s c p m f.2)
 tells s c p (Call (Accept accepted.NotYet) ∷ m) f = tells s c p m f.2
 tells s c p (Call (Accept accepted.Failed) ∷ m) f = tells s c p m f.2
@@ -125,24 +121,22 @@ tells s c p (Call (Write q Up bytes answer) ∷ m) f = absurd (client_only q m (
 tells s c p (Call (Shut q end) ∷ m) f = tells_if (q == p) (noted (Lost end loss.Shut) (journal p m)) (journal p m) _ _ (tells s c p m f.2) (tells s c p m f.2)
 tells s c p (Call (Idle answer) ∷ m) f = tells s c p m f.2
 tells s c p (Call (Now ms) ∷ m) f = tells_moment (is_empty (journal p m).events) ms (journal p m) _ _ (tells s c p m f.2)
-tells s c p (Strain q ∷ m) f = tells_if (q == p) (noted Strained (journal p m)) (journal p m) _ _ (tells s c p m f.1) (tells s c p m f.1)
+tells s c p (Strain q ∷ m) f = let t : TellsOf (journal p m) (bytes_heard p m) (bytes_taken p m) = tells s c p m f.1 in
+    tells_if (q == p) (noted Strained (journal p m)) (journal p m) _ _ (tells_strain (journal p m) _ _ t) t
 tells s c p (Finish how ∷ m) f = tells_over (is_empty (journal p m).events) how (journal p m) _ _ (tells s c p m f.2)
 
--- where the end takes bytes and none are offered, none are left of a unit and none is due
-none_offered : (j : Journal) → is_taking j.events ≡ true → offer j ≡ None → rest_or_pick j.begun (first (drop (begun_count j.events) (replies (phase j.events)))) ≡ None
-none_offered j t e =
-    subst (λ (b : Bool). (if b then rest_or_pick j.begun (first (if b then drop (begun_count j.events) (replies (phase j.events)) else [])) else None) ≡ None) t e
+-- where the end takes bytes and none are offered, none are left of a unit and none is due, nor is a heartbeat
+none_offered : (j : Journal) → is_taking j.events ≡ true → offer j ≡ None → rest_or_pick j.begun (first (dues (talk j.events))) ≡ None
+none_offered j t e = subst (λ (b : Bool). (if b then rest_or_pick j.begun (first (if b then dues (talk j.events) else [])) else None) ≡ None) t e
 
-pub answered : HeaderScans → (c : Config) (p : ℕ) (m : List Mark) → Follows c m → IsAnswered p m
+pub answered : AreSettled → (c : Config) (p : ℕ) (m : List Mark) → Follows c m → IsAnswered p m
 answered s c p m f =
     let j : Journal = journal p m in
     let t : TellsOf j (bytes_heard p m) (bytes_taken p m) = tells s c p m f in
-    let l : Left (replies (phase j.events)) (begun_count j.events) (gone_count j.events) j.begun (bytes_taken p m) = left_by _ _ _ _ _ t.1.most t.1.all t.1.idle t.1.busy in
-    let same : replies (phase j.events) ≡ replies_to p m = ap (λ (us : List Unit91). replies (stream_of us)) t.0.units_are in
     record {
       units_are = t.0.units_are;
-      left = l.left;
-      front = l.front ∙ ap spelled same;
-      whole = λ e. l.whole (e ∙ ap length (sym same));
-      owed = λ takes e. l.owed (none_offered j takes e);
+      went = t.1.bytes;
+      answers = λ calm. are_replies (talk j.events).conn.phase (talk j.events).dues _ _ (t.1.said calm);
+      strained = t.1.ending;
+      owed = λ takes e. none_owed j.begun (dues (talk j.events)) (none_offered j takes e);
     }

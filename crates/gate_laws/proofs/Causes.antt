@@ -10,11 +10,12 @@ use Rattle.gate_loop.specs.declared.config.Served.{Served}
 use Rattle.gate_loop.specs.declared.config.Served.TheVariants.{Stopped, PairsDone, TurnLimit, Fault, Memory}
 use Rattle.gate_loop.specs.declared.config.Outside.TheVariants as outside
 use Rattle.gate_loop.specs.Marks.{Mark, Call, Strain, Finish}
-use Rattle.gate_loop.specs.Events.{Strained}
-use Rattle.gate_loop.specs.Due.{first}
+use Rattle.gate_loop.specs.Events.{Strained, talk}
+use Rattle.gate_loop.specs.Talks.{first, is_done}
 use Rattle.gate_loop.specs.Journal.{journal, came, noted, moment, shut_due}
 use Rattle.gate_loop.specs.Next.{Place, Begin, Greet, Round, Refuse, Visit, Beyond, Stopping, Closing, place, after_strain, StrainsAt, Follows}
 use Rattle.gate_loop.proofs.OneMark.{if_same}
+use Rattle.gate_laws.proofs.Lists.{or_right}
 use Rattle.gate_laws.proofs.Places.{after_shut_by}
 use Rattle.gate_laws.proofs.Asks.{asks}
 
@@ -39,10 +40,13 @@ LedTo m (Stopping how) = StopMark m how
 LedTo m Closing = Unit {0}
 
 -- a pair that met want of memory right after its accept is to be shut
+silenced_at : (ms : ℕ) → shut_due (noted Strained (came ms)) ≡ true
+silenced_at ms = or_right (is_done (talk (noted Strained (came ms)).events)) true refl
+
 strain_led : (p : ℕ) (m : List Mark) → StrainsAt p m → LedTo (Strain p ∷ m) (after_strain p (place m))
 strain_led p (Call (Accept (accepted.Pair q)) ∷ m) s =
     subst (λ (x : ℕ). shut_due (journal p (Strain p ∷ Call (Accept (accepted.Pair x)) ∷ m)) ≡ true) (sym s)
-    (ap shut_due (if_same p _ _ ∙ ap (noted Strained) (if_same p (came (moment m)) (journal p m))))
+    (ap shut_due (if_same p _ _ ∙ ap (noted Strained) (if_same p (came (moment m)) (journal p m))) ∙ silenced_at (moment m))
 strain_led p (Call (Read q end room (got.Bytes n) bytes) ∷ m) s = tt
 strain_led p m s = absurd s
 

@@ -1,6 +1,8 @@
--- What the definitions come to on two short runs, computed: a client with a wrong header, and one with the right header in two
--- pieces, whose answer goes in two writes, and then a frame. The bytes are written down here apart from the definitions.
-use Rattle.std.proofs.Common.{◌≡◌, ℕ, List, [], ◌∷◌, refl, Some}
+-- What the definitions come to on short runs, computed: a client with a wrong header; and one with the right header in two pieces,
+-- whose answer goes in two writes, and then a heartbeat and a byte with which no frame begins, or a login and two closes, or a login
+-- with heartbeats each second; a silent client; and want of memory.
+-- The bytes are written down here apart from the definitions.
+use Rattle.std.proofs.Common.{◌≡◌, ℕ, List, [], ◌∷◌, ◌++◌, refl, Some}
 use Rattle.gate_outside.specs.declared.ports.End.TheVariants.{Client}
 use Rattle.gate_outside.specs.declared.ports.Accepted.TheVariants as accepted
 use Rattle.gate_outside.specs.declared.ports.Got.TheVariants as got
@@ -9,13 +11,13 @@ use Rattle.gate_outside.specs.declared.log.LogEntry.TheVariants.{Accept, Read, W
 use Rattle.gate_loop.specs.declared.config.Config.{Config}
 use Rattle.gate_loop.specs.declared.config.Served.TheVariants.{PairsDone}
 use Rattle.gate_loop.specs.Frames as frames
-use Rattle.gate_loop.specs.Journal as pieces
 use Rattle.frames_091.specs.Headers as headers
+use Rattle.wire_base.specs.Reading as reading
 use Rattle.frames_091.specs.Frames as spelling
 use Rattle.frames_091.specs.FrameScan as scanning
-use Rattle.gate_loop.specs.Marks.{Mark, Call, Finish}
+use Rattle.gate_loop.specs.Marks.{Mark, Call, Strain, Finish}
 use Rattle.gate_loop.specs.Next as limits
-use Rattle.gate_loop.specs.Next.{next, Do, EndBy, Done, AskRead, AskWrite, AskShut, AskNow, AskAccept}
+use Rattle.gate_loop.specs.Next.{next, Do, EndBy, Done, AskRead, AskWrite, AskShut, AskNow, AskAccept, AskIdle}
 
 abbrev one_pair : Config
 one_pair = record { pairs = Some 1; turns = 10 }
@@ -95,24 +97,129 @@ then_its_rest : next two_pairs most_went ≡ Do (AskWrite 0 Client (85 ∷ 83 �
 unfolding headers.header_scan frames.start_frame spelling.frame_text scanning.scan_of
 then_its_rest = refl
 
--- then a frame, a heartbeat
+-- then a heartbeat, which has no answer, and behind it a byte with which no frame begins
 
 abbrev start_went : List Mark
 start_went = Call (Write 0 Client (85 ∷ 83 ∷ 206 ∷ []) (put.Took 3)) ∷ most_went
 
-abbrev framed : List Mark
-framed = Call (Read 0 Client 65536 (got.Bytes 8) (8 ∷ 0 ∷ 0 ∷ 0 ∷ 0 ∷ 0 ∷ 0 ∷ 206 ∷ [])) ∷ Call (Accept accepted.NotYet) ∷ Call (Now 2) ∷ start_went
+abbrev beaten : List Mark
+beaten = Call (Read 0 Client 65536 (got.Bytes 8) (8 ∷ 0 ∷ 0 ∷ 0 ∷ 0 ∷ 0 ∷ 0 ∷ 206 ∷ [])) ∷ Call (Accept accepted.NotYet) ∷ Call (Now 2) ∷ start_went
+
+abbrev broken : List Mark
+broken = Call (Read 0 Client 65536 (got.Bytes 9) (8 ∷ 0 ∷ 0 ∷ 0 ∷ 0 ∷ 0 ∷ 0 ∷ 206 ∷ 9 ∷ [])) ∷ Call (Accept accepted.NotYet) ∷ Call (Now 2) ∷ start_went
 
 abbrev close : List ℕ
-close = 1 ∷ 0 ∷ 0 ∷ 0 ∷ 0 ∷ 0 ∷ 26 ∷ 0 ∷ 10 ∷ 0 ∷ 50 ∷ 2 ∷ 28 ∷ 15 ∷ 78 ∷ 79 ∷ 84 ∷ 95 ∷ 73 ∷ 77 ∷ 80 ∷ 76 ∷ 69 ∷ 77 ∷ 69 ∷ 78 ∷ 84 ∷ 69 ∷ 68 ∷ 0 ∷ 0 ∷ 0 ∷ 0 ∷ 206 ∷ []
+close = 1 ∷ 0 ∷ 0 ∷ 0 ∷ 0 ∷ 0 ∷ 22 ∷ 0 ∷ 10 ∷ 0 ∷ 50 ∷ 1 ∷ 245 ∷ 11 ∷ 70 ∷ 82 ∷ 65 ∷ 77 ∷ 69 ∷ 95 ∷ 69 ∷ 82 ∷ 82 ∷ 79 ∷ 82 ∷ 0 ∷ 0 ∷ 0 ∷ 0 ∷ 206 ∷ []
 
 abbrev closed : List Mark
-closed = Call (Write 0 Client close (put.Took 34)) ∷ framed
+closed = Call (Write 0 Client close (put.Took 30)) ∷ broken
 
-then_close_answers : next two_pairs framed ≡ Do (AskWrite 0 Client close)
-unfolding headers.header_scan frames.start_frame frames.close_frame spelling.frame_text scanning.scan_of scanning.stated_size scanning.frame_in pieces.first_frame_max
+a_heartbeat_has_no_answer : next two_pairs beaten ≡ Do AskNow
+unfolding headers.header_scan frames.start_frame spelling.frame_text scanning.scan_of scanning.stated_size scanning.frame_in
+a_heartbeat_has_no_answer = refl
+
+then_close_answers : next two_pairs broken ≡ Do (AskWrite 0 Client close)
+unfolding headers.header_scan frames.start_frame spelling.frame_text scanning.scan_of scanning.stated_size scanning.frame_in
 then_close_answers = refl
 
 then_its_end_is_shut : next two_pairs closed ≡ Do (AskShut 0 Client)
-unfolding headers.header_scan frames.start_frame frames.close_frame spelling.frame_text scanning.scan_of scanning.stated_size scanning.frame_in pieces.first_frame_max
+unfolding headers.header_scan frames.start_frame spelling.frame_text scanning.scan_of scanning.stated_size scanning.frame_in
 then_its_end_is_shut = refl
+
+-- or a login and two closes in one read: the first close is refused, since a tune-ok is awaited, and the gateway's own close isn't
+-- sent, since the second comes before any byte of it went
+
+abbrev login : List ℕ
+login = 1 ∷ 0 ∷ 0 ∷ 0 ∷ 0 ∷ 0 ∷ 28 ∷ 0 ∷ 10 ∷ 0 ∷ 11 ∷ 0 ∷ 0 ∷ 0 ∷ 0 ∷ 5 ∷ 80 ∷ 76 ∷ 65 ∷ 73 ∷ 78 ∷ 0 ∷ 0 ∷ 0 ∷ 4 ∷ 0 ∷ 97 ∷ 0 ∷ 98 ∷ 5 ∷ 101 ∷ 110 ∷ 95 ∷ 85 ∷ 83 ∷ 206 ∷ []
+
+abbrev client_close : List ℕ
+client_close = 1 ∷ 0 ∷ 0 ∷ 0 ∷ 0 ∷ 0 ∷ 11 ∷ 0 ∷ 10 ∷ 0 ∷ 50 ∷ 0 ∷ 200 ∷ 0 ∷ 0 ∷ 0 ∷ 0 ∷ 0 ∷ 206 ∷ []
+
+abbrev tune : List ℕ
+tune = 1 ∷ 0 ∷ 0 ∷ 0 ∷ 0 ∷ 0 ∷ 12 ∷ 0 ∷ 10 ∷ 0 ∷ 30 ∷ 0 ∷ 255 ∷ 0 ∷ 2 ∷ 0 ∷ 0 ∷ 0 ∷ 60 ∷ 206 ∷ []
+
+abbrev close_ok : List ℕ
+close_ok = 1 ∷ 0 ∷ 0 ∷ 0 ∷ 0 ∷ 0 ∷ 4 ∷ 0 ∷ 10 ∷ 0 ∷ 51 ∷ 206 ∷ []
+
+abbrev crossed : List Mark
+crossed = Call (Read 0 Client 65536 (got.Bytes 74) (login ++ client_close ++ client_close)) ∷ Call (Accept accepted.NotYet) ∷ Call (Now 2) ∷ start_went
+
+abbrev tune_went : List Mark
+tune_went = Call (Write 0 Client tune (put.Took 20)) ∷ crossed
+
+abbrev close_ok_went : List Mark
+close_ok_went = Call (Write 0 Client close_ok (put.Took 12)) ∷ tune_went
+
+tune_answers : next two_pairs crossed ≡ Do (AskWrite 0 Client tune)
+unfolding headers.header_scan frames.start_frame frames.tune_frame spelling.frame_text scanning.scan_of scanning.stated_size scanning.frame_in reading.text_in reading.all_items
+tune_answers = refl
+
+then_close_ok_alone : next two_pairs tune_went ≡ Do (AskWrite 0 Client close_ok)
+unfolding headers.header_scan frames.start_frame frames.tune_frame spelling.frame_text scanning.scan_of scanning.stated_size scanning.frame_in reading.text_in reading.all_items
+then_close_ok_alone = refl
+
+then_all_is_said : next two_pairs close_ok_went ≡ Do (AskShut 0 Client)
+unfolding headers.header_scan frames.start_frame frames.tune_frame spelling.frame_text scanning.scan_of scanning.stated_size scanning.frame_in reading.text_in reading.all_items
+then_all_is_said = refl
+
+-- or a login and tune-ok with heartbeats each second, and then silence: after half of it a heartbeat goes, and no second one at once
+
+abbrev tune_ok : List ℕ
+tune_ok = 1 ∷ 0 ∷ 0 ∷ 0 ∷ 0 ∷ 0 ∷ 12 ∷ 0 ∷ 10 ∷ 0 ∷ 31 ∷ 0 ∷ 255 ∷ 0 ∷ 2 ∷ 0 ∷ 0 ∷ 0 ∷ 1 ∷ 206 ∷ []
+
+abbrev heartbeat : List ℕ
+heartbeat = 8 ∷ 0 ∷ 0 ∷ 0 ∷ 0 ∷ 0 ∷ 0 ∷ 206 ∷ []
+
+abbrev tuned : List Mark
+tuned =
+    Call (Read 0 Client 65536 (got.Bytes 20) tune_ok) ∷ Call (Accept accepted.NotYet) ∷ Call (Now 3)
+    ∷ Call (Write 0 Client tune (put.Took 20)) ∷ Call (Read 0 Client 65536 (got.Bytes 36) login) ∷ Call (Accept accepted.NotYet) ∷ Call (Now 2) ∷ start_went
+
+-- nothing came by this moment
+abbrev silent : ℕ → List Mark → List Mark
+silent ms m = Call (Read 0 Client 65536 got.NotYet []) ∷ Call (Accept accepted.NotYet) ∷ Call (Now ms) ∷ m
+
+no_heartbeat_yet : next two_pairs (silent 501 tuned) ≡ Do AskIdle
+unfolding headers.header_scan frames.start_frame frames.tune_frame spelling.frame_text scanning.scan_of scanning.stated_size scanning.frame_in reading.text_in reading.all_items
+no_heartbeat_yet = refl
+
+then_a_heartbeat : next two_pairs (silent 502 tuned) ≡ Do (AskWrite 0 Client heartbeat)
+unfolding headers.header_scan frames.start_frame frames.tune_frame spelling.frame_text scanning.scan_of scanning.stated_size scanning.frame_in reading.text_in reading.all_items
+then_a_heartbeat = refl
+
+then_the_clock : next two_pairs (Call (Write 0 Client heartbeat (put.Took 8)) ∷ silent 502 tuned) ≡ Do AskNow
+unfolding headers.header_scan frames.start_frame frames.tune_frame spelling.frame_text scanning.scan_of scanning.stated_size scanning.frame_in reading.text_in reading.all_items
+then_the_clock = refl
+
+-- a client that sends nothing has 10,000 milliseconds
+
+abbrev mute : List Mark
+mute = Call (Read 0 Client 65536 got.NotYet []) ∷ joined
+
+not_late_yet : next two_pairs (silent 9999 mute) ≡ Do AskIdle
+not_late_yet = refl
+
+then_late : next two_pairs (silent 10000 mute) ≡ Do (AskShut 0 Client)
+then_late = refl
+
+-- want of memory at the accept, or at the read with which the header is whole: nothing was said, and nothing is
+
+refused_at_once : next two_pairs (Strain 0 ∷ joined) ≡ Do (AskShut 0 Client)
+refused_at_once = refl
+
+silent_before_the_header : next two_pairs (Strain 0 ∷ second_piece) ≡ Do (AskShut 0 Client)
+unfolding headers.header_scan scanning.scan_of
+silent_before_the_header = refl
+
+-- or at a later read, whose units are passed over
+
+abbrev no_memory : List ℕ
+no_memory = 1 ∷ 0 ∷ 0 ∷ 0 ∷ 0 ∷ 0 ∷ 20 ∷ 0 ∷ 10 ∷ 0 ∷ 50 ∷ 1 ∷ 250 ∷ 9 ∷ 78 ∷ 79 ∷ 95 ∷ 77 ∷ 69 ∷ 77 ∷ 79 ∷ 82 ∷ 89 ∷ 0 ∷ 0 ∷ 0 ∷ 0 ∷ 206 ∷ []
+
+then_no_memory : next two_pairs (Strain 0 ∷ crossed) ≡ Do (AskWrite 0 Client no_memory)
+unfolding headers.header_scan frames.start_frame frames.tune_frame spelling.frame_text scanning.scan_of scanning.stated_size scanning.frame_in reading.text_in reading.all_items
+then_no_memory = refl
+
+then_the_strained_is_shut : next two_pairs (Call (Write 0 Client no_memory (put.Took 28)) ∷ Strain 0 ∷ crossed) ≡ Do (AskShut 0 Client)
+unfolding headers.header_scan frames.start_frame frames.tune_frame spelling.frame_text scanning.scan_of scanning.stated_size scanning.frame_in reading.text_in reading.all_items
+then_the_strained_is_shut = refl

@@ -5,6 +5,7 @@ pub mod Cover
 pub mod Ends
 mod Examples
 pub mod Heard
+pub mod Intervals
 pub mod Lawful
 pub mod Limits
 pub mod Lists
@@ -12,8 +13,10 @@ pub mod Living
 pub mod Log
 pub mod Order
 pub mod Pairs
+pub mod PassedOver
 pub mod Places
 pub mod Quiet
 pub mod Said
 pub mod Steps
 pub mod Strains
+pub mod Times

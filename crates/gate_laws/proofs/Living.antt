@@ -14,14 +14,13 @@ use Rattle.gate_loop.specs.declared.config.Config.{Config}
 use Rattle.gate_loop.specs.declared.config.Served.{Served}
 use Rattle.wire_base.specs.declared.scan.Scan.{Scan}
 use Rattle.wire_base.specs.declared.scan.Scan.TheVariants.{Whole, More, Bad}
-use Rattle.gate_loop.specs.declared.units.Unit91.{Unit91}
-use Rattle.gate_loop.specs.Events.{phase}
+use Rattle.machine_091.specs.declared.unit.Unit91.{Unit91}
 use Rattle.gate_loop.specs.declared.units.Reply.{Reply}
 use Rattle.gate_loop.specs.declared.units.Loss.TheVariants as loss
 use Rattle.gate_loop.specs.Marks.{Mark, Call, Strain, Finish}
 use Rattle.gate_loop.specs.Events.{Over, Lost, client_loss}
 use Rattle.gate_loop.specs.Due.{pick}
-use Rattle.gate_loop.specs.Journal.{came, moment, Journal, journal, taken_up, unit_scan, noted, noted_unless, is_empty, read_at, write_at, begin_unit, with_rest}
+use Rattle.gate_loop.specs.Journal.{came, moment, Journal, journal, taken_up, noted, noted_unless, is_empty, read_at, write_at, begin_unit, with_rest}
 use Rattle.gate_loop.specs.Next.{accepted_count, Place, Closing, lives, place, without, Follows}
 use Rattle.gate_loop.proofs.OneMark.{if_same, if_other}
 use Rattle.gate_laws.specs.Asks.{is_among, is_live}
@@ -30,20 +29,20 @@ use Rattle.gate_laws.specs.Pairs.{LivesOrShut, Lives, NotCome, IsShut}
 use Rattle.gate_laws.proofs.Lists.{is_or_isnt, among_without, among_without-other}
 use Rattle.gate_laws.proofs.Pairs.{no_journal}
 use Rattle.gate_laws.proofs.Places.{after_strain_by, call_closing}
-use Rattle.gate_laws.proofs.Steps.{came_in_by, stays, comes, reads, writes, shuts, strains, moments, overs, does}
+use Rattle.gate_laws.proofs.Steps.{scan_at, came_in_by, stays, comes, reads, writes, shuts, strains, moments, overs, does}
 
 -- a journal that has begun, with its client's end not shut
 pub record IsOpen (j : Journal) : Type 0 where
   pub begun : is_empty j.events ≡ false
   pub unshut : client_loss j.events ≢ Some loss.Shut
 
-open_taken_up : (found : Scan Unit91 (Unit {0})) (j : Journal) → IsOpen j → IsOpen (taken_up found j)
+open_taken_up : (found : Scan Unit91 ℕ) (j : Journal) → IsOpen j → IsOpen (taken_up found j)
 open_taken_up (Whole unit n) j k = record { begun = refl; unshut = k.unshut }
 open_taken_up More j k = k
-open_taken_up (Bad fault) j k = record { begun = refl; unshut = k.unshut }
+open_taken_up (Bad code) j k = record { begun = refl; unshut = k.unshut }
 
 open_read : (answer : Got) (bytes : List ℕ) (j : Journal) → IsOpen j → IsOpen (read_at Client answer bytes j)
-open_read (got.Bytes n) bytes j k = came_in_by IsOpen bytes j (λ l a p. open_taken_up (unit_scan (phase l.events) l.unread) l p) (record { begun = refl; unshut = k.unshut })
+open_read (got.Bytes n) bytes j k = came_in_by IsOpen bytes j (λ l a p. open_taken_up (scan_at l) l p) (record { begun = refl; unshut = k.unshut })
 open_read got.NotYet bytes j k = record { begun = refl; unshut = k.unshut }
 open_read got.Ended bytes j k = record { begun = refl; unshut = λ e. cc }
 open_read got.Failed bytes j k = record { begun = refl; unshut = λ e. cc }

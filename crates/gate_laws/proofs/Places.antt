@@ -9,7 +9,7 @@ use Rattle.gate_outside.specs.declared.log.LogEntry.{LogEntry}
 use Rattle.gate_outside.specs.declared.log.LogEntry.TheVariants.{Accept, Connect, Read, Write, Shut, Idle, Now}
 use Rattle.gate_loop.specs.declared.config.Config.{Config}
 use Rattle.gate_loop.specs.Marks.{Mark, Call}
-use Rattle.gate_loop.specs.Next.{AskShut, Do, Place, Begin, Greet, Round, Refuse, Visit, Beyond, Stopping, Closing, Shutting, lives, place, after, after_shut, after_strain, ahead, next, asked, closing, is_closing, StrainsAt, Follows}
+use Rattle.gate_loop.specs.Next.{AskShut, Do, Place, Begin, Greet, Round, Refuse, Visit, Beyond, Stopping, Closing, Writing, lives, place, after, after_shut, after_strain, ahead, next, asked, closing, is_closing, StrainsAt, Follows}
 use Rattle.gate_laws.proofs.Lists.{is_or_isnt}
 
 -- the place after a shut, and after want of memory
@@ -23,7 +23,7 @@ after_shut_by P p (Beyond q) r b o = b
 after_shut_by P p (Stopping how) r b o = b
 after_shut_by P p Closing r b o = o refl
 
-pub after_strain_by : (P : Place → Type 0) (p : ℕ) (x : Place) → P (Refuse p) → P (Visit p Shutting) → P (after_strain p x)
+pub after_strain_by : (P : Place → Type 0) (p : ℕ) (x : Place) → P (Refuse p) → P (Visit p (Writing 0)) → P (after_strain p x)
 after_strain_by P p Begin r v = v
 after_strain_by P p Greet r v = v
 after_strain_by P p Round r v = r

@@ -1,176 +1,435 @@
--- What a client took is a front of the replies to its units.
-use Rattle.std.proofs.Common.{◌≡◌, ℕ, zero, suc, add-one, ◌+◌, ◌≤◌, Bool, true, false, if◌then◌else◌, List, [], ◌∷◌, ◌++◌, length, take, drop, Option, None, Some, append_assoc, append-nil, refl, sym, ap, ◌∙◌, inl, inr, arith}
-use Rattle.std.specs.Option.{option_map}
+-- What went to a client, but for heartbeats, and then what is due to it, are the replies to its units; after want of memory what went
+-- since, and then what is due, are at most one unit, which ends the connection.
+use Rattle.std.proofs.Common.{◌≡◌, ℕ, ◌==◌, Bool, true, false, ◌||◌, if◌then◌else◌, List, [], ◌∷◌, ◌++◌, take, drop, Option, None, Some, append_assoc, append-nil, refl, sym, ap, ◌∙◌, subst, inl, inr}
 use Rattle.std.proofs.lemmas.List.{take-append-drop}
-use Rattle.std.proofs.Math.ListN.{drop_of_length-le}
+use Rattle.std.proofs.lemmas.List.Elements.{filter-append}
 use Rattle.gate_outside.specs.declared.ports.End.TheVariants.{Client}
 use Rattle.gate_outside.specs.declared.ports.Put.TheVariants as put
 use Rattle.wire_base.specs.declared.scan.Scan.{Scan}
 use Rattle.wire_base.specs.declared.scan.Scan.TheVariants.{Whole, More, Bad}
-use Rattle.gate_loop.specs.declared.units.Phase.{Phase}
-use Rattle.gate_loop.specs.declared.units.Phase.TheVariants.{Header, Started, Refused, Closing}
+use Rattle.frames_091.specs.declared.frame.Kind91.{Kind91}
+use Rattle.frames_091.specs.declared.frame.Kind91.TheVariants as frame
+use Rattle.machine_091.specs.Phases.{new_connection}
+use Rattle.machine_091.specs.Transitions.{Taken, closing_id, first_fault, frame_brings, judged, taken}
+use Rattle.machine_091.specs.declared.connection.Conn91.{Conn91}
+use Rattle.machine_091.specs.declared.connection.Limits.{Limits}
+use Rattle.machine_091.specs.declared.connection.Phase91.{Phase91}
+use Rattle.machine_091.specs.declared.connection.Phase91.TheVariants as phase
+use Rattle.machine_091.specs.declared.unit.Refusal.{Refusal}
+use Rattle.machine_091.specs.declared.unit.Unit91.{Unit91}
+use Rattle.machine_091.specs.declared.unit.Unit91.TheVariants as unit91
+use Rattle.machine_091.specs.declared.unit.Want91.TheVariants as want
+use Rattle.gate_loop.specs.declared.talk.Dues.{Dues}
+use Rattle.gate_loop.specs.declared.talk.Talk.{Talk}
 use Rattle.gate_loop.specs.declared.units.Reply.{Reply}
-use Rattle.gate_loop.specs.declared.units.Unit91.{Unit91}
-use Rattle.gate_loop.specs.declared.units.Unit91.TheVariants as unit91
-use Rattle.gate_loop.specs.Events.{Event, Offered, phase, phase_after, begun_count, gone_count}
-use Rattle.gate_loop.specs.Due.{first, is_listening, pick, replies, spelling}
-use Rattle.gate_loop.specs.Journal.{Journal, begin_unit, came_in, is_empty, noted, rest_or_pick, taken_up, unit_scan, with_rest, write_at}
+use Rattle.gate_loop.specs.declared.units.Reply.TheVariants as reply
+use Rattle.gate_loop.specs.Events.{Event, Came, Offered, Strained, is_strained, units, sent, talk, talk_by}
+use Rattle.gate_loop.specs.Due.{pick, spelling}
+use Rattle.gate_loop.specs.Journal.{Journal, begin_unit, came_in, noted, rest_or_pick, taken_up, with_rest, write_at}
+use Rattle.gate_loop.specs.Talks.{dues, first, is_beat_due, is_foreign, no_dues, rows, strained_dues, when, with_header, with_want, without}
 use Rattle.gate_laws.specs.Lawful.{is_taking, IsOffer}
-use Rattle.gate_laws.specs.Bytes.{spelled}
+use Rattle.gate_laws.specs.Bytes.{AreReplies, IsEnding, answers_of, is_answer, replies, reply_to, sent_since, spelled}
+use Rattle.gate_laws.specs.Times.{conn_after}
 use Rattle.gate_laws.proofs.Lists.{is_or_isnt}
-use Rattle.gate_laws.proofs.Steps.{is_waiting, came_in_by}
+use Rattle.gate_laws.proofs.Steps.{waits, scan_at, came_in_by}
 
--- what was taken, by the replies that were begun and those that went wholly
-pub record Says (stream : Phase) (went gone : ℕ) (begun taken : List ℕ) : Type 0 where
-  pub most : went ≤ length (replies stream)
-  pub all : taken ++ begun ≡ spelled (take went (replies stream))
-  pub idle : begun ≡ [] → went ≡ gone
-  pub busy : is_empty begun ≡ false → went ≡ gone + 1
+-- ---- the replies to one unit more
+
+pub conn_after_next : (c : Conn91) (us : List Unit91) (unit : Unit91) → conn_after c (us ++ unit ∷ []) ≡ (taken (conn_after c us) unit).0
+conn_after_next c [] unit = refl
+conn_after_next c (u ∷ us) unit = conn_after_next (taken c u).0 us unit
+
+-- the connection after one unit more
+pub conn_next : (c : Conn91) (us : List Unit91) (unit : Unit91) → c ≡ conn_after new_connection us → (taken c unit).0 ≡ conn_after new_connection (us ++ unit ∷ [])
+conn_next c us unit e = ap (λ (x : Conn91). (taken x unit).0) e ∙ sym (conn_after_next new_connection us unit)
+
+abbrev reply_of : Conn91 → Unit91 → List Reply
+reply_of c unit = when (is_foreign c.phase unit) reply.Protocol ++ reply_to (taken c unit).1
+
+replies_next : (c : Conn91) (us : List Unit91) (unit : Unit91) → replies c (us ++ unit ∷ []) ≡ replies c us ++ reply_of (conn_after c us) unit
+replies_next c [] unit = append-nil (reply_of c unit)
+replies_next c (u ∷ us) unit =
+    ap (λ (rs : List Reply). reply_of c u ++ rs) (replies_next (taken c u).0 us unit)
+    ∙ sym (append_assoc (reply_of c u) (replies (taken c u).0 us) (reply_of (conn_after (taken c u).0 us) unit))
+
+-- ---- what is due, by the phase of the connection
+
+-- no close-ok and no close is due
+pub record Runs (d : Dues) (said all : List Reply) : Type 0 where
+  pub ok : d.close_ok ≡ false
+  pub none : d.close ≡ None
+  pub calm : d.no_memory ≡ false
+  pub same : said ++ rows d ≡ all
+
+-- what went and what is due are all replies; once the connection is closed, but for a close that close-ok overtook
+abbrev pub IsSaid : Phase91 → Dues → List Reply → List Reply → Type 0
+IsSaid phase.Header d said all = (d ≡ no_dues) × (said ≡ all)
+IsSaid phase.Start d said all = (d.tune ≡ false) × Runs d said all
+IsSaid phase.Tune d said all = Runs d said all
+IsSaid phase.Open d said all = Runs d said all
+IsSaid phase.Closing d said all = (d.close_ok ≡ false) × (d.no_memory ≡ false) × (said ++ rows d ≡ all)
+IsSaid phase.Closed d said all = AreReplies (said ++ rows d) all
+
+pub are_replies : (p : Phase91) (d : Dues) (said all : List Reply) → IsSaid p d said all → AreReplies (said ++ rows d) all
+are_replies phase.Header d said all s = inl (ap (λ (x : Dues). said ++ rows x) s.0 ∙ append-nil said ∙ s.1)
+are_replies phase.Start d said all s = inl s.1.same
+are_replies phase.Tune d said all s = inl s.same
+are_replies phase.Open d said all s = inl s.same
+are_replies phase.Closing d said all s = inl s.2
+are_replies phase.Closed d said all s = s
+
+-- ---- a unit makes its replies due
+
+-- one reply more behind the others
+one_due : (said all old new : List Reply) (r : Reply) → new ≡ old ++ r ∷ [] → said ++ old ≡ all → said ++ new ≡ all ++ r ∷ []
+one_due said all old new r e same = ap (λ (x : List Reply). said ++ x) e ∙ sym (append_assoc said old (r ∷ [])) ∙ ap (λ (x : List Reply). x ++ r ∷ []) same
+
+tune_due : (d : Dues) → d.tune ≡ false → d.close_ok ≡ false → d.close ≡ None → d.no_memory ≡ false
+    → rows (record d { tune = true }) ≡ rows d ++ reply.Tune ∷ []
+tune_due d t ok none calm = rw (t, ok, none, calm) (simp append_assoc)
+
+close_due : (d : Dues) (r : Refusal) → d.close ≡ None → d.no_memory ≡ false → rows (record d { close = Some r }) ≡ rows d ++ reply.Close r ∷ []
+close_due d r none calm = rw (none, calm) (simp (append_assoc, append-nil))
+
+close_ok_due : (d : Dues) → d.close_ok ≡ false → d.close ≡ None → d.no_memory ≡ false
+    → rows (record d { close_ok = true; close = None }) ≡ rows d ++ reply.CloseOk ∷ []
+close_ok_due d ok none calm = rw (ok, none, calm) (simp append_assoc)
+
+abbrev After : Dues → List Reply → List Reply → Taken → Type 0
+After d said all x = IsSaid x.0.phase (with_want x.1 d) said (all ++ reply_to x.1)
+
+after_nothing : (p : Phase91) (d : Dues) (said all : List Reply) → IsSaid p d said all → IsSaid p d said (all ++ [])
+after_nothing p d said all s = subst (λ (x : List Reply). IsSaid p d said x) (sym (append-nil all)) s
+
+abbrev connection : Phase91 → Limits → Conn91
+connection p l = record { phase = p; limits = l }
+
+-- a unit is expected that isn't the first
+abbrev is_running : Phase91 → Bool
+is_running phase.Header = false
+is_running phase.Start = true
+is_running phase.Tune = true
+is_running phase.Open = true
+is_running phase.Closing = false
+is_running phase.Closed = false
+
+runs_in : (p : Phase91) (d : Dues) (said all : List Reply) → is_running p ≡ true → IsSaid p d said all → Runs d said all
+runs_in phase.Header d said all e s = absurd cc
+runs_in phase.Start d said all e s = s.1
+runs_in phase.Tune d said all e s = s
+runs_in phase.Open d said all e s = s
+runs_in phase.Closing d said all e s = absurd cc
+runs_in phase.Closed d said all e s = absurd cc
+
+after_frame : (p : Phase91) (l : Limits) (payload : List ℕ) (kind : Kind91) (d : Dues) (said all : List Reply) → is_running p ≡ true → IsSaid p d said all
+    → After d said all (frame_brings (connection p l) payload kind)
+after_frame phase.Header l payload frame.Method d said all e s = absurd cc
+after_frame phase.Start l payload frame.Method d said all e s =
+    record {
+      ok = s.1.ok;
+      none = s.1.none;
+      calm = s.1.calm;
+      same = one_due said all (rows d) (rows (record d { tune = true })) reply.Tune (tune_due d s.0 s.1.ok s.1.none s.1.calm) s.1.same;
+    }
+after_frame phase.Tune l payload frame.Method d said all e s = after_nothing phase.Open d said all s
+after_frame phase.Open l payload frame.Method d said all e s = after_nothing phase.Open d said all s
+after_frame phase.Closing l payload frame.Method d said all e s = absurd cc
+after_frame phase.Closed l payload frame.Method d said all e s = absurd cc
+after_frame p l payload frame.Header d said all e s = after_nothing p d said all s
+after_frame p l payload frame.Body d said all e s = after_nothing p d said all s
+after_frame p l payload frame.Heartbeat d said all e s = after_nothing p d said all s
+
+after_judged : (p : Phase91) (l : Limits) (unit : Unit91) (refused : Option Refusal) (d : Dues) (said all : List Reply) → is_running p ≡ true → IsSaid p d said all
+    → After d said all (judged (connection p l) unit refused)
+after_judged p l unit (Some r) d said all e s =
+    let x : Runs d said all = runs_in p d said all e s in
+    (x.ok, x.calm, one_due said all (rows d) (rows (record d { close = Some r })) (reply.Close r) (close_due d r x.none x.calm) x.same)
+after_judged p l unit91.Protocol None d said all e s = after_nothing p d said all s
+after_judged p l (unit91.Bad code) None d said all e s = after_nothing p d said all s
+after_judged p l (unit91.Frame f) None d said all e s = after_frame p l f.payload f.kind d said all e s
+
+-- the client closed: a close of which nothing went is due no more
+after_close : (d : Dues) (said all : List Reply) (close : Option Refusal) → d.close ≡ close → IsSaid phase.Closing d said all
+    → AreReplies (said ++ rows (record d { close_ok = true; close = None })) (all ++ reply.CloseOk ∷ [])
+after_close d said all None e s =
+    inl (one_due said all (rows d) (rows (record d { close_ok = true; close = None })) reply.CloseOk (close_ok_due d s.0 e s.1) s.2)
+after_close d said all (Some r) e s =
+    let old : Dues = record d { close = None } in
+    let rest : rows d ≡ rows old ++ reply.Close r ∷ [] = rw e (close_due (record d { close = None }) r refl s.1) in
+    let before : said ++ rows d ≡ (said ++ rows old) ++ reply.Close r ∷ [] = one_due said (said ++ rows old) (rows old) (rows d) (reply.Close r) rest refl in
+    inr (
+      said ++ rows old,
+      r,
+      one_due said (said ++ rows old) (rows old) (rows (record d { close_ok = true; close = None })) reply.CloseOk (close_ok_due old s.0 refl s.1) refl,
+      ap (λ (x : List Reply). x ++ reply.CloseOk ∷ []) (sym s.2 ∙ before) ∙ append_assoc (said ++ rows old) (reply.Close r ∷ []) (reply.CloseOk ∷ []),
+    )
+
+after_closing : (l : Limits) (closes answers : Bool) (d : Dues) (said all : List Reply) → IsSaid phase.Closing d said all
+    → After d said all (if closes then (connection phase.Closed l, want.Close) else (if answers then (connection phase.Closed l, want.CloseOk) else (connection phase.Closing l, want.Nothing)))
+after_closing l true answers d said all s = after_close d said all d.close refl s
+after_closing l false true d said all s = inl (s.2 ∙ sym (append-nil all))
+after_closing l false false d said all s = after_nothing phase.Closing d said all s
+
+after_closed : (l : Limits) (answers : Bool) (d : Dues) (said all : List Reply) → IsSaid phase.Closed d said all
+    → After d said all (if answers then (connection phase.Closed l, want.CloseOk) else (connection phase.Closed l, want.Nothing))
+after_closed l true d said all s = after_nothing phase.Closed d said all s
+after_closed l false d said all s = after_nothing phase.Closed d said all s
+
+-- no header of the gateway becomes due
+no_header : (d : Dues) → with_header false d ≡ d
+no_header d = ap (λ (b : Bool). record d { protocol = b }) (or_false d.protocol)
+  where
+    or_false : (b : Bool) → (b || false) ≡ b
+    or_false true = refl
+    or_false false = refl
+
+-- a unit was taken up
+abbrev Next : Conn91 → Unit91 → Dues → List Reply → List Reply → Type 0
+Next c unit d said all = IsSaid (taken c unit).0.phase (with_header (is_foreign c.phase unit) (with_want (taken c unit).1 d)) said (all ++ reply_of c unit)
+
+next_by : (d : Dues) (said all : List Reply) (x : Taken) → After d said all x → IsSaid x.0.phase (with_header false (with_want x.1 d)) said (all ++ reply_to x.1)
+next_by d said all x a = subst (λ (e : Dues). IsSaid x.0.phase e said (all ++ reply_to x.1)) (sym (no_header (with_want x.1 d))) a
+
+said_header : (l : Limits) (unit : Unit91) (d : Dues) (said all : List Reply) → IsSaid phase.Header d said all → Next (connection phase.Header l) unit d said all
+said_header l unit91.Protocol d said all s =
+    subst (λ (x : Dues). Next (connection phase.Header l) unit91.Protocol x said all) (sym s.0)
+    (refl, record { ok = refl; none = refl; calm = refl; same = ap (λ (rs : List Reply). rs ++ reply.Start ∷ []) s.1 })
+said_header l (unit91.Frame f) d said all s =
+    subst (λ (x : Dues). Next (connection phase.Header l) (unit91.Frame f) x said all) (sym s.0) (inl (ap (λ (rs : List Reply). rs ++ []) s.1))
+said_header l (unit91.Bad code) d said all s =
+    subst (λ (x : Dues). Next (connection phase.Header l) (unit91.Bad code) x said all) (sym s.0) (inl (ap (λ (rs : List Reply). rs ++ reply.Protocol ∷ []) s.1))
+
+said_next : (p : Phase91) (l : Limits) (unit : Unit91) (d : Dues) (said all : List Reply) → IsSaid p d said all → Next (connection p l) unit d said all
+said_next phase.Header l unit d said all s = said_header l unit d said all s
+said_next phase.Start l unit d said all s = next_by d said all (taken (connection phase.Start l) unit) (after_judged phase.Start l unit (first_fault (connection phase.Start l) unit) d said all refl s)
+said_next phase.Tune l unit d said all s = next_by d said all (taken (connection phase.Tune l) unit) (after_judged phase.Tune l unit (first_fault (connection phase.Tune l) unit) d said all refl s)
+said_next phase.Open l unit d said all s = next_by d said all (taken (connection phase.Open l) unit) (after_judged phase.Open l unit (first_fault (connection phase.Open l) unit) d said all refl s)
+said_next phase.Closing l unit d said all s = next_by d said all (taken (connection phase.Closing l) unit) (after_closing l (closing_id unit == 50) (closing_id unit == 51) d said all s)
+said_next phase.Closed l unit d said all s = next_by d said all (taken (connection phase.Closed l) unit) (after_closed l (closing_id unit == 51) d said all s)
+
+-- ---- a reply goes
+
+abbrev dues_of : (protocol start tune ok : Bool) (close : Option Refusal) (no_memory : Bool) → Dues
+dues_of protocol start tune ok close no_memory = record { protocol = protocol; start = start; tune = tune; close_ok = ok; close = close; no_memory = no_memory }
+
+-- the first that is due is no heartbeat; it goes, and the others stay
+pub record Leads (r : Reply) (d : Dues) : Type 0 where
+  pub answers : is_answer r ≡ true
+  pub parts : rows d ≡ r ∷ rows (without r d)
+
+pub first_due : (d : Dues) (r : Reply) → first (rows d) ≡ Some r → Leads r d
+first_due d r e = by d.protocol d.start d.tune d.close_ok d.close d.no_memory e
+  where
+    is_it : (all : Dues) (it : Reply) → Some it ≡ Some r → Leads it all → Leads r all
+    is_it all it same is = let here : it ≡ r = cc in subst (λ (x : Reply). Leads x all) here is
+
+    by : (protocol start tune ok : Bool) (close : Option Refusal) (wanting : Bool) → first (rows (dues_of protocol start tune ok close wanting)) ≡ Some r
+        → Leads r (dues_of protocol start tune ok close wanting)
+    by true start tune ok close wanting same = is_it (dues_of true start tune ok close wanting) reply.Protocol same (record { answers = refl; parts = refl })
+    by false true tune ok close wanting same = is_it (dues_of false true tune ok close wanting) reply.Start same (record { answers = refl; parts = refl })
+    by false false true ok close wanting same = is_it (dues_of false false true ok close wanting) reply.Tune same (record { answers = refl; parts = refl })
+    by false false false true close wanting same = is_it (dues_of false false false true close wanting) reply.CloseOk same (record { answers = refl; parts = refl })
+    by false false false false (Some c) wanting same = is_it (dues_of false false false false (Some c) wanting) (reply.Close c) same (record { answers = refl; parts = refl })
+    by false false false false None true same = is_it (dues_of false false false false None true) reply.NoMemory same (record { answers = refl; parts = refl })
+    by false false false false None false same = absurd cc
+
+no_tune : (r : Reply) (d : Dues) → d.tune ≡ false → (without r d).tune ≡ false
+no_tune reply.Protocol d e = e
+no_tune reply.Start d e = e
+no_tune reply.Tune d e = refl
+no_tune reply.CloseOk d e = e
+no_tune (reply.Close c) d e = e
+no_tune reply.NoMemory d e = e
+no_tune reply.Heartbeat d e = e
+
+no_close_ok : (r : Reply) (d : Dues) → d.close_ok ≡ false → (without r d).close_ok ≡ false
+no_close_ok reply.Protocol d e = e
+no_close_ok reply.Start d e = e
+no_close_ok reply.Tune d e = e
+no_close_ok reply.CloseOk d e = refl
+no_close_ok (reply.Close c) d e = e
+no_close_ok reply.NoMemory d e = e
+no_close_ok reply.Heartbeat d e = e
+
+no_close : (r : Reply) (d : Dues) → d.close ≡ None → (without r d).close ≡ None
+no_close reply.Protocol d e = e
+no_close reply.Start d e = e
+no_close reply.Tune d e = e
+no_close reply.CloseOk d e = e
+no_close (reply.Close c) d e = refl
+no_close reply.NoMemory d e = e
+no_close reply.Heartbeat d e = e
+
+no_wanting : (r : Reply) (d : Dues) → d.no_memory ≡ false → (without r d).no_memory ≡ false
+no_wanting reply.Protocol d e = e
+no_wanting reply.Start d e = e
+no_wanting reply.Tune d e = e
+no_wanting reply.CloseOk d e = e
+no_wanting (reply.Close c) d e = e
+no_wanting reply.NoMemory d e = refl
+no_wanting reply.Heartbeat d e = e
+
+said_went : (p : Phase91) (d : Dues) (r : Reply) (said all : List Reply) → first (rows d) ≡ Some r → IsSaid p d said all → IsSaid p (without r d) (said ++ r ∷ []) all
+said_went p d r said all e s = by p s
+  where
+    same : (said ++ r ∷ []) ++ rows (without r d) ≡ said ++ rows d
+    same = append_assoc said (r ∷ []) (rows (without r d)) ∙ ap (λ (x : List Reply). said ++ x) (sym (first_due d r e).parts)
+
+    runs : Runs d said all → Runs (without r d) (said ++ r ∷ []) all
+    runs s = record { ok = no_close_ok r d s.ok; none = no_close r d s.none; calm = no_wanting r d s.calm; same = same ∙ s.same }
+
+    by : (p : Phase91) → IsSaid p d said all → IsSaid p (without r d) (said ++ r ∷ []) all
+    by phase.Header s = let clash : None ≡ Some r = sym (ap (λ (x : Dues). first (rows x)) s.0) ∙ e in absurd cc
+    by phase.Start s = (no_tune r d s.0, runs s.1)
+    by phase.Tune s = runs s
+    by phase.Open s = runs s
+    by phase.Closing s = (no_close_ok r d s.0, no_wanting r d s.1, same ∙ s.2)
+    by phase.Closed s = subst (λ (x : List Reply). AreReplies x all) (sym same) s
+
+-- ---- what a journal says of what went
+
+-- the connection is that after the units, and what went without heartbeats, and what is due, are the replies to them; or, after want
+-- of memory, what went since without heartbeats, and what is due, are at most one unit, which ends the connection. What was taken and
+-- what is left of the unit that was begun are the bytes of what went
+pub record Says (strained : Bool) (c : Conn91) (d : Dues) (went since : List Reply) (us : List Unit91) (left taken : List ℕ) : Type 0 where
+  pub conn : strained ≡ false → c ≡ conn_after new_connection us
+  pub said : strained ≡ false → IsSaid c.phase d (answers_of went) (replies new_connection us)
+  pub ending : strained ≡ true → IsEnding (answers_of since ++ rows d)
+  pub bytes : taken ++ left ≡ spelled went
+
+abbrev pub SaysIn : List Event → List ℕ → List ℕ → Type 0
+SaysIn h left taken = Says (is_strained h) (talk h).conn (talk h).dues (sent h) (sent_since h) (units h) left taken
 
 abbrev pub SaysOf : Journal → List ℕ → Type 0
-SaysOf j taken = Says (phase j.events) (begun_count j.events) (gone_count j.events) j.begun taken
+SaysOf j taken = SaysIn j.events j.begun taken
 
-pub says_none : Says Header 0 0 [] []
-says_none = record { most = omega arith; all = refl; idle = λ e. refl; busy = λ e. absurd cc }
+pub says_none : SaysIn [] [] []
+says_none = record { conn = λ e. refl; said = λ e. (refl, refl); ending = λ e. absurd cc; bytes = refl }
 
--- a further unit leaves the replies before it as they were
-fewer_after : (stream : Phase) (unit : Unit91) (went : ℕ) → is_listening stream ≡ true → went ≤ length (replies stream) → went ≤ length (replies (phase_after stream unit))
-fewer_after Header unit91.Protocol went l le = omega (arith, le)
-fewer_after Header (unit91.Frame frame) went l le = omega (arith, le)
-fewer_after Header unit91.Bad went l le = omega (arith, le)
-fewer_after Started unit went l le = omega (arith, le)
-fewer_after Refused unit went l le = absurd cc
-fewer_after Closing unit went l le = absurd cc
+-- what want of memory makes due
+strained_ending : (p : Phase91) (d : Dues) → IsEnding (rows (strained_dues p d))
+strained_ending phase.Header d = tt
+strained_ending phase.Start d = refl
+strained_ending phase.Tune d = refl
+strained_ending phase.Open d = refl
+strained_ending phase.Closing d = by d.close
+  where
+    by : (close : Option Refusal) → IsEnding (rows (record no_dues { close = close }))
+    by None = tt
+    by (Some r) = refl
+strained_ending phase.Closed d = by d.close_ok
+  where
+    by : (ok : Bool) → IsEnding (rows (record no_dues { close_ok = ok }))
+    by true = refl
+    by false = tt
 
-same_before : (stream : Phase) (unit : Unit91) (went : ℕ) → is_listening stream ≡ true → went ≤ length (replies stream)
-    → take went (replies stream) ≡ take went (replies (phase_after stream unit))
-same_before Header unit zero l le = refl
-same_before Header unit (suc went) l le = absurd (omega (arith, le))
-same_before Started unit zero l le = refl
-same_before Started unit (suc zero) l le = refl
-same_before Started unit (suc (suc went)) l le = absurd (omega (arith, le))
-same_before Refused unit went l le = absurd cc
-same_before Closing unit went l le = absurd cc
-
-says_more : (stream : Phase) (unit : Unit91) (went gone : ℕ) (begun taken : List ℕ) → is_listening stream ≡ true → Says stream went gone begun taken
-    → Says (phase_after stream unit) went gone begun taken
-says_more stream unit went gone begun taken l s = record {
-  most = fewer_after stream unit went l s.most;
-  all = s.all ∙ ap spelled (same_before stream unit went l s.most);
-  idle = s.idle;
-  busy = s.busy;
+pub says_strain : (j : Journal) (taken : List ℕ) → SaysOf j taken → SaysOf (noted Strained j) taken
+says_strain j taken s = record {
+  conn = λ e. absurd cc;
+  said = λ e. absurd cc;
+  ending = λ e. strained_ending (talk_by j.events true).conn.phase (talk_by j.events true).dues;
+  bytes = s.bytes;
 }
 
-says_taken_up : (found : Scan Unit91 (Unit {0})) (k : Journal) (taken : List ℕ) → is_listening (phase k.events) ≡ true → SaysOf k taken → SaysOf (taken_up found k) taken
-says_taken_up (Whole unit n) k taken l s = says_more (phase k.events) unit (begun_count k.events) (gone_count k.events) k.begun taken l s
-says_taken_up More k taken l s = s
-says_taken_up (Bad fault) k taken l s = says_more (phase k.events) unit91.Bad (begun_count k.events) (gone_count k.events) k.begun taken l s
+-- a unit comes before want of memory alone
+says_unit : (h : List Event) (unit : Unit91) (left taken : List ℕ) → is_strained h ≡ false → SaysIn h left taken → SaysIn (Came unit ∷ h) left taken
+says_unit h unit left taken calm s =
+    let all : List Reply = replies new_connection (units h) in
+    let more : replies new_connection (units h ++ unit ∷ []) ≡ all ++ reply_of (talk h).conn unit =
+    replies_next new_connection (units h) unit ∙ ap (λ (c : Conn91). all ++ reply_of c unit) (sym (s.conn calm)) in
+    record {
+      conn = λ e. conn_next (talk h).conn (units h) unit (s.conn e);
+      said = λ e. subst (λ (x : List Reply). IsSaid (talk (Came unit ∷ h)).conn.phase (talk (Came unit ∷ h)).dues (answers_of (sent h)) x) (sym more)
+          (said_next (talk h).conn.phase (talk h).conn.limits unit (talk h).dues (answers_of (sent h)) all (s.said e));
+      ending = λ e. let clash : false ≡ true = sym calm ∙ e in absurd cc;
+      bytes = s.bytes;
+    }
+
+says_taken_up : (found : Scan Unit91 ℕ) (k : Journal) (taken : List ℕ) → is_strained k.events ≡ false → SaysOf k taken → SaysOf (taken_up found k) taken
+says_taken_up (Whole unit n) k taken calm s = says_unit k.events unit k.begun taken calm s
+says_taken_up More k taken calm s = s
+says_taken_up (Bad code) k taken calm s = says_unit k.events (unit91.Bad code) k.begun taken calm s
 
 pub says_came : (j : Journal) (bytes taken : List ℕ) → SaysOf j taken → SaysOf (came_in bytes j) taken
-says_came j bytes taken s = came_in_by (λ (k : Journal). SaysOf k taken) bytes j
-    (λ k a p. says_taken_up (unit_scan (phase k.events) k.unread) k taken (is_waiting _ _ _ a).listens p) s
+says_came j bytes taken s = came_in_by (λ (k : Journal). SaysOf k taken) bytes j (λ k a p. says_taken_up (scan_at k) k taken (waits k a).calm p) s
 
--- one unit more
-first_is : {A : Type 0} (n : ℕ) (xs : List A) (x : A) → first (drop n xs) ≡ Some x → take (suc n) xs ≡ take n xs ++ x ∷ []
-first_is zero [] x e = absurd cc
-first_is {A} zero (y ∷ ys) x e = ap (λ (z : A). z ∷ []) (let same : y ≡ x = cc in same)
-first_is (suc n) [] x e = absurd cc
-first_is {A} (suc n) (y ∷ ys) x e = ap (λ (zs : List A). y ∷ zs) (first_is n ys x e)
+spelled_next : (rs : List Reply) (r : Reply) → spelled (rs ++ r ∷ []) ≡ spelled rs ++ spelling r
+spelled_next [] r = append-nil (spelling r)
+spelled_next (x ∷ rs) r = ap (λ (b : List ℕ). spelling x ++ b) (spelled_next rs r) ∙ sym (append_assoc (spelling x) (spelled rs) (spelling r))
 
-first_within : {A : Type 0} (n : ℕ) (xs : List A) (x : A) → first (drop n xs) ≡ Some x → suc n ≤ length xs
-first_within zero [] x e = absurd cc
-first_within zero (y ∷ ys) x e = omega arith
-first_within (suc n) [] x e = absurd cc
-first_within (suc n) (y ∷ ys) x e = omega (arith, first_within n ys x e)
+-- the unit that is picked is the first of those that are due, or a heartbeat where none is
+pub data Picked (t : Talk) (r : Reply) : Type 0 where
+  answers : first (rows t.dues) ≡ Some r → Picked t r
+  beats : rows t.dues ≡ [] → is_beat_due t ≡ true → r ≡ reply.Heartbeat → Picked t r
 
-spelled_both : (xs ys : List Reply) → spelled (xs ++ ys) ≡ spelled xs ++ spelled ys
-spelled_both [] ys = refl
-spelled_both (x ∷ xs) ys = ap (λ (r : List ℕ). spelling x ++ r) (spelled_both xs ys) ∙ sym (append_assoc (spelling x) (spelled xs) (spelled ys))
+picked_by : (t : Talk) (r : Reply) (rs : List Reply) (beats_now : Bool) → rows t.dues ≡ rs → is_beat_due t ≡ beats_now
+    → first (rs ++ when beats_now reply.Heartbeat) ≡ Some r → Picked t r
+picked_by t r [] true due beat e = beats due beat (let here : reply.Heartbeat ≡ r = cc in sym here)
+picked_by t r [] false due beat e = absurd cc
+picked_by t r (x ∷ rs) beats_now due beat e = answers (ap first due ∙ e)
 
--- a unit is under way, with so much of it left
-record UnderWay (stream : Phase) (went gone : ℕ) (taken left : List ℕ) : Type 0 where
-  most : went ≤ length (replies stream)
-  all : taken ++ left ≡ spelled (take went (replies stream))
-  one : went ≡ gone + 1
-
--- the unit that is picked is the first of which nothing went
-picked : (h : List Event) (unit : Reply) → pick h Client ≡ Some unit → first (drop (begun_count h) (replies (phase h))) ≡ Some unit
-picked h unit e = elim (is_or_isnt (is_taking h)) [
-  | inl t ↦ sym (ap (λ (b : Bool). first (if b then drop (begun_count h) (replies (phase h)) else [])) t) ∙ e
-  | inr n ↦ let clash : None ≡ Some unit = sym (ap (λ (b : Bool). first (if b then drop (begun_count h) (replies (phase h)) else [])) n) ∙ e in absurd cc
+pub picked : (h : List Event) (r : Reply) → pick h Client ≡ Some r → Picked (talk h) r
+picked h r e = elim (is_or_isnt (is_taking h)) [
+  | inl t ↦ picked_by (talk h) r (rows (talk h).dues) (is_beat_due (talk h)) refl refl (sym (ap (λ (b : Bool). first (if b then dues (talk h) else [])) t) ∙ e)
+  | inr n ↦ let clash : None ≡ Some r = sym (ap (λ (b : Bool). first (if b then dues (talk h) else [])) n) ∙ e in absurd cc
 ]
 
-begin_goes : (h : List Event) (unread begun offered taken : List ℕ) (unit : Option Reply) → pick h Client ≡ unit → IsOffer h begun offered
-    → Says (phase h) (begun_count h) (gone_count h) begun taken
-    → let j : Journal = begin_unit begun unit (record { events = Offered Client begun offered ∷ h; unread = unread; begun = begun }) in
-    UnderWay (phase j.events) (begun_count j.events) (gone_count j.events) taken offered
-begin_goes h unread [] offered taken None p o s = let clash : None ≡ Some o.0 = sym p ∙ o.1 in absurd cc
-begin_goes h unread [] offered taken (Some unit) p o s =
-    let same : o.0 ≡ unit = let e : Some o.0 ≡ Some unit = sym o.1 ∙ p in cc in
-    let next : first (drop (begun_count h) (replies (phase h))) ≡ Some unit = picked h unit p in
-    let more : take (suc (begun_count h)) (replies (phase h)) ≡ take (begun_count h) (replies (phase h)) ++ unit ∷ [] = first_is (begun_count h) (replies (phase h)) unit next in
+answers_next : (rs : List Reply) (r : Reply) → answers_of (rs ++ r ∷ []) ≡ answers_of rs ++ answers_of (r ∷ [])
+answers_next rs r = filter-append is_answer rs (r ∷ [])
+
+-- a reply that went is due no more, and a heartbeat is no reply
+said_picked : (t : Talk) (r : Reply) (went all : List Reply) → Picked t r → IsSaid t.conn.phase t.dues (answers_of went) all
+    → IsSaid t.conn.phase (without r t.dues) (answers_of (went ++ r ∷ [])) all
+said_picked t r went all (answers e) s =
+    let more : answers_of (went ++ r ∷ []) ≡ answers_of went ++ r ∷ [] =
+    answers_next went r ∙ ap (λ (b : Bool). answers_of went ++ (if b then r ∷ [] else [])) (first_due t.dues r e).answers in
+    subst (λ (x : List Reply). IsSaid t.conn.phase (without r t.dues) x all) (sym more) (said_went t.conn.phase t.dues r (answers_of went) all e s)
+said_picked t r went all (beats none due e) s =
+    subst (λ (x : Reply). IsSaid t.conn.phase (without x t.dues) (answers_of (went ++ x ∷ [])) all) (sym e)
+    (subst (λ (x : List Reply). IsSaid t.conn.phase t.dues x all) (sym (answers_next went reply.Heartbeat ∙ append-nil (answers_of went))) s)
+
+-- so what went and what is due stay the same together
+picked_same : (t : Talk) (r : Reply) (went : List Reply) → Picked t r → answers_of (went ++ r ∷ []) ++ rows (without r t.dues) ≡ answers_of went ++ rows t.dues
+picked_same t r went (answers e) =
+    ap (λ (x : List Reply). x ++ rows (without r t.dues)) (answers_next went r ∙ ap (λ (b : Bool). answers_of went ++ (if b then r ∷ [] else [])) (first_due t.dues r e).answers)
+    ∙ append_assoc (answers_of went) (r ∷ []) (rows (without r t.dues))
+    ∙ ap (λ (x : List Reply). answers_of went ++ x) (sym (first_due t.dues r e).parts)
+picked_same t r went (beats none due e) =
+    subst (λ (x : Reply). answers_of (went ++ x ∷ []) ++ rows (without x t.dues) ≡ answers_of went ++ rows t.dues) (sym e)
+    (ap (λ (x : List Reply). x ++ rows t.dues) (answers_next went reply.Heartbeat ∙ append-nil (answers_of went)))
+
+-- once a byte was taken, the unit is one that went
+says_begun : (h : List Event) (unread begun offered taken : List ℕ) (unit : Option Reply) → pick h Client ≡ unit → IsOffer h begun offered → SaysIn h begun taken
+    → SaysIn (begin_unit begun unit (record { events = Offered Client begun offered ∷ h; unread = unread; begun = begun })).events offered taken
+says_begun h unread [] offered taken None p o s = let clash : None ≡ Some o.0 = sym p ∙ o.1 in absurd cc
+says_begun h unread [] offered taken (Some r) p o s =
+    let same : o.0 ≡ r = let e : Some o.0 ≡ Some r = sym o.1 ∙ p in cc in
     record {
-      most = omega (arith, first_within (begun_count h) (replies (phase h)) unit next);
-      all = ap (λ (x : List ℕ). x ++ offered) (sym (append-nil taken) ∙ s.all)
-          ∙ ap (λ (x : List ℕ). spelled (take (begun_count h) (replies (phase h))) ++ x) (o.2 ∙ ap spelling same ∙ sym (append-nil (spelling unit)))
-          ∙ sym (spelled_both (take (begun_count h) (replies (phase h))) (unit ∷ []))
-          ∙ ap spelled (sym more)
-          ∙ ap (λ (n : ℕ). spelled (take n (replies (phase h)))) (sym (add-one (begun_count h)));
-      one = ap (λ (n : ℕ). n + 1) (s.idle refl);
+      conn = s.conn;
+      said = λ e. said_picked (talk h) r (sent h) (replies new_connection (units h)) (picked h r p) (s.said e);
+      ending = λ e. subst IsEnding (sym (picked_same (talk h) r (sent_since h) (picked h r p))) (s.ending e);
+      bytes = ap (λ (b : List ℕ). b ++ offered) (sym (append-nil taken) ∙ s.bytes) ∙ ap (λ (b : List ℕ). spelled (sent h) ++ b) (o.2 ∙ ap spelling same) ∙ sym (spelled_next (sent h) r);
     }
-begin_goes h unread (b ∷ rest) offered taken unit p o s = record {
-  most = s.most;
-  all = ap (λ (x : List ℕ). taken ++ x) o ∙ s.all;
-  one = s.busy refl;
-}
+says_begun h unread (b ∷ rest) offered taken unit p o s = record { conn = s.conn; said = s.said; ending = s.ending; bytes = ap (λ (x : List ℕ). taken ++ x) o ∙ s.bytes }
 
-goes_on : (stream : Phase) (went gone n : ℕ) (taken offered : List ℕ) → UnderWay stream went gone taken offered → UnderWay stream went gone (taken ++ take n offered) (drop n offered)
-goes_on stream went gone n taken offered g = record {
-  most = g.most;
-  all = append_assoc taken (take n offered) (drop n offered) ∙ ap (λ (x : List ℕ). taken ++ x) (take-append-drop n offered) ∙ g.all;
-  one = g.one;
-}
-
-rest_says : (rest : List ℕ) (j : Journal) (taken : List ℕ) → UnderWay (phase j.events) (begun_count j.events) (gone_count j.events) taken rest → SaysOf (with_rest rest j) taken
-rest_says [] j taken g = record { most = g.most; all = g.all; idle = λ e. g.one; busy = λ e. absurd cc }
-rest_says (b ∷ rest) j taken g = record { most = g.most; all = g.all; idle = λ e. absurd cc; busy = λ e. g.one }
+says_rest : (rest : List ℕ) (j : Journal) (taken : List ℕ) → SaysIn j.events rest taken → SaysOf (with_rest rest j) taken
+says_rest [] j taken s = s
+says_rest (b ∷ rest) j taken s = s
 
 pub says_took : (j : Journal) (offered : List ℕ) (n : ℕ) (taken : List ℕ) → IsOffer j.events j.begun offered → SaysOf j taken
     → SaysOf (write_at Client offered (put.Took n) j) (taken ++ take n offered)
 says_took j offered n taken o s =
     let k : Journal = begin_unit j.begun (pick j.events Client) (noted (Offered Client j.begun offered) j) in
-    rest_says (drop n offered) k (taken ++ take n offered)
-    (goes_on (phase k.events) (begun_count k.events) (gone_count k.events) n taken offered
-    (begin_goes j.events j.unread j.begun offered taken (pick j.events Client) refl o s))
+    let x : SaysIn k.events offered taken = says_begun j.events j.unread j.begun offered taken (pick j.events Client) refl o s in
+    says_rest (drop n offered) k (taken ++ take n offered) (record {
+      conn = x.conn;
+      said = x.said;
+      ending = x.ending;
+      bytes = append_assoc taken (take n offered) (drop n offered) ∙ ap (λ (b : List ℕ). taken ++ b) (take-append-drop n offered) ∙ x.bytes;
+    })
 
--- what is left of the replies
-pub record Left (rs : List Reply) (went gone : ℕ) (begun taken : List ℕ) : Type 0 where
-  pub left : List ℕ
-  pub front : taken ++ left ≡ spelled rs
-  pub whole : gone ≡ length rs → left ≡ []
-  pub owed : rest_or_pick begun (first (drop went rs)) ≡ None → left ≡ []
-
-none_left : (rs : List Reply) (went : ℕ) (begun : List ℕ) → rest_or_pick begun (first (drop went rs)) ≡ None → begun ++ spelled (drop went rs) ≡ []
-none_left rs went (b ∷ rest) e = absurd cc
-none_left rs went [] e = by (drop went rs) e
-  where
-    by : (us : List Reply) → option_map spelling (first us) ≡ None → spelled us ≡ []
-    by [] e = refl
-    by (u ∷ us) e = absurd cc
-
-all_gone : (rs : List Reply) (went gone : ℕ) (begun : List ℕ) → went ≤ length rs → (begun ≡ [] → went ≡ gone) → (is_empty begun ≡ false → went ≡ gone + 1)
-    → gone ≡ length rs → begun ++ spelled (drop went rs) ≡ []
-all_gone rs went gone (b ∷ rest) most idle busy e = let one : went ≡ gone + 1 = busy refl in absurd (omega (arith, most, one, e))
-all_gone rs went gone [] most idle busy e = ap spelled (drop_of_length-le rs (let same : went ≡ gone = idle refl in omega (arith, same, e)))
-
-pub left_by : (rs : List Reply) (went gone : ℕ) (begun taken : List ℕ) → went ≤ length rs → taken ++ begun ≡ spelled (take went rs)
-    → (begun ≡ [] → went ≡ gone) → (is_empty begun ≡ false → went ≡ gone + 1) → Left rs went gone begun taken
-left_by rs went gone begun taken most all idle busy = record {
-  left = begun ++ spelled (drop went rs);
-  front = sym (append_assoc taken begun (spelled (drop went rs)))
-      ∙ ap (λ (x : List ℕ). x ++ spelled (drop went rs)) all
-      ∙ sym (spelled_both (take went rs) (drop went rs))
-      ∙ ap spelled (take-append-drop went rs);
-  whole = λ e. all_gone rs went gone begun most idle busy e;
-  owed = λ e. none_left rs went begun e;
-}
+-- where nothing is offered, nothing is left of a unit and none is due
+pub none_owed : (begun : List ℕ) (rs : List Reply) → rest_or_pick begun (first rs) ≡ None → (begun ≡ []) × (rs ≡ [])
+none_owed [] [] e = (refl, refl)
+none_owed [] (r ∷ rs) e = absurd cc
+none_owed (b ∷ begun) rs e = absurd cc

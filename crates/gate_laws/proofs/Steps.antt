@@ -1,5 +1,5 @@
 -- What a mark does to the journal of a pair, and to whether the pair lives.
-use Rattle.std.proofs.Common.{◌≡◌, ℕ, ◌==◌, Bool, true, false, if◌then◌else◌, List, ◌∷◌, ◌++◌, Option, None, Some, ◌⊎◌, refl, sym, ap, ◌∙◌, subst, inl, inr, arith}
+use Rattle.std.proofs.Common.{◌≡◌, ℕ, zero, suc, ◌==◌, Bool, true, false, if◌then◌else◌, List, ◌∷◌, length, Option, None, Some, ◌⊎◌, refl, sym, ap, ◌∙◌, subst, inl, inr, arith}
 use Rattle.std.proofs.lemmas.Bool.Decides.{eqb_tells}
 use Rattle.gate_outside.specs.declared.ports.End.{End}
 use Rattle.gate_outside.specs.declared.ports.End.TheVariants.{Client, Up}
@@ -12,57 +12,70 @@ use Rattle.gate_loop.specs.declared.config.Config.{Config}
 use Rattle.gate_loop.specs.declared.config.Served.{Served}
 use Rattle.wire_base.specs.declared.scan.Scan.{Scan}
 use Rattle.wire_base.specs.declared.scan.Scan.TheVariants.{Whole, More, Bad}
-use Rattle.gate_loop.specs.declared.units.Unit91.{Unit91}
-use Rattle.gate_loop.specs.declared.units.Phase.{Phase}
+use Rattle.machine_091.specs.declared.unit.Unit91.{Unit91}
+use Rattle.gate_loop.specs.declared.talk.Talk.{Talk}
 use Rattle.gate_loop.specs.declared.units.Loss.{Loss}
 use Rattle.gate_loop.specs.declared.units.Loss.TheVariants as loss
 use Rattle.gate_loop.specs.Marks.{Mark, Call, Strain, Finish}
-use Rattle.gate_loop.specs.Events.{Heard, Moment, Over, Lost, Strained, client_loss, is_strained, phase}
-use Rattle.gate_loop.specs.Due.{is_awaited, is_listening}
-use Rattle.gate_loop.specs.Journal.{Journal, journal, nothing, came, came_in, cut, taken_up, unit_scan, noted, noted_unless, is_empty, read_at, write_at, moment, awaits, offer, shut_due}
+use Rattle.gate_loop.specs.Events.{Moment, Over, Lost, Strained, client_loss, is_strained, talk}
+use Rattle.gate_loop.specs.Due.{is_awaited}
+use Rattle.gate_loop.specs.Journal.{Journal, journal, nothing, came, came_in, heard, cut, cuts, taken_up, unit_scan, noted, noted_unless, is_empty, read_at, write_at, moment, awaits, offer, shut_due}
 use Rattle.gate_loop.specs.Next.{Do, Place, Refuse, Closing, lives, accepted_count, without, place, asked, StrainsAt, Follows}
 use Rattle.gate_loop.proofs.OneMark.{if_same, if_other}
 use Rattle.gate_laws.specs.Asks.{is_among, is_live, IsLiveEnd}
-use Rattle.gate_laws.proofs.Lists.{is_or_isnt, or_right, among_push, among_push-other, among_without, among_without-other}
+use Rattle.gate_laws.proofs.Lists.{is_or_isnt, is_not, or_right, among_push, among_push-other, among_without, among_without-other}
 use Rattle.gate_laws.proofs.Asks.{Asks, asks, strain_lives, place_lives}
 use Rattle.gate_laws.proofs.Pairs.{no_journal}
 use Rattle.gate_laws.proofs.Causes.{LedTo, led_to}
 
--- where a unit is awaited one more may come, by an end that is open, of a pair that isn't strained
-pub record IsWaiting (stream : Phase) (lost : Option Loss) (strained : Bool) : Type 0 where
-  pub listens : is_listening stream ≡ true
+-- where a unit is awaited the stream didn't end in bad bytes, the end is open, and the pair isn't strained
+pub record IsWaiting (t : Talk) (lost : Option Loss) (strained : Bool) : Type 0 where
+  pub sound : t.bad ≡ false
   pub open_end : lost ≡ None
   pub calm : strained ≡ false
 
-pub is_waiting : (stream : Phase) (lost : Option Loss) (strained : Bool) → is_awaited stream lost strained ≡ true → IsWaiting stream lost strained
-is_waiting stream None true e = absurd cc
-is_waiting stream None false e = record { listens = e; open_end = refl; calm = refl }
-is_waiting stream (Some how) strained e = absurd cc
+is_waiting : (t : Talk) (lost : Option Loss) (strained : Bool) → is_awaited t lost strained ≡ true → IsWaiting t lost strained
+is_waiting t None true e = absurd cc
+is_waiting t None false e = record { sound = is_not t.bad e; open_end = refl; calm = refl }
+is_waiting t (Some how) strained e = absurd cc
 
--- the journal after bytes came, before they are cut
-abbrev pub heard : List ℕ → Journal → Journal
-heard bytes j = record { events = Heard Client ∷ j.events; unread = j.unread ++ bytes; begun = j.begun }
+pub waits : (k : Journal) → awaits k ≡ true → IsWaiting (talk k.events) (client_loss k.events) (is_strained k.events)
+waits k a = is_waiting (talk k.events) (client_loss k.events) (is_strained k.events) a
+
+-- the unit with which the bytes of a journal begin
+abbrev pub scan_at : Journal → Scan Unit91 ℕ
+scan_at k = unit_scan (talk k.events).conn k.unread
 
 -- what holds of the journal before its bytes are cut, and stays where a unit is taken up, holds after it
-pub cut_by : (P : Journal → Type 0) → ((k : Journal) → awaits k ≡ true → P k → P (taken_up (unit_scan (phase k.events) k.unread) k))
-    → (k : Journal) → P k → P (cut k)
+pub cut_by : (P : Journal → Type 0) → ((k : Journal) → awaits k ≡ true → P k → P (taken_up (scan_at k) k)) → (k : Journal) → P k → P (cut k)
 cut_by P f k p = elim (is_or_isnt (awaits k)) [
-  | inl t ↦ subst (λ (b : Bool). P (if b then taken_up (unit_scan (phase k.events) k.unread) k else k)) (sym t) (f k t p)
-  | inr n ↦ subst (λ (b : Bool). P (if b then taken_up (unit_scan (phase k.events) k.unread) k else k)) (sym n) p
+  | inl t ↦ subst (λ (b : Bool). P (if b then taken_up (scan_at k) k else k)) (sym t) (f k t p)
+  | inr n ↦ subst (λ (b : Bool). P (if b then taken_up (scan_at k) k else k)) (sym n) p
 ]
 
-pub came_in_by : (P : Journal → Type 0) (bytes : List ℕ) (j : Journal)
-    → ((k : Journal) → awaits k ≡ true → P k → P (taken_up (unit_scan (phase k.events) k.unread) k)) → P (heard bytes j) → P (came_in bytes j)
-came_in_by P bytes j f p = cut_by P f (cut (heard bytes j)) (cut_by P f (heard bytes j) p)
+pub cuts_by : (P : Journal → Type 0) → ((k : Journal) → awaits k ≡ true → P k → P (taken_up (scan_at k) k)) → (n : ℕ) (k : Journal) → P k → P (cuts n k)
+cuts_by P f zero k p = p
+cuts_by P f (suc n) k p = cuts_by P f n (cut k) (cut_by P f k p)
 
-calm_taken_up : (found : Scan Unit91 (Unit {0})) (k : Journal) → is_strained (taken_up found k).events ≡ is_strained k.events
+pub came_in_by : (P : Journal → Type 0) (bytes : List ℕ) (j : Journal)
+    → ((k : Journal) → awaits k ≡ true → P k → P (taken_up (scan_at k) k)) → P (heard bytes j) → P (came_in bytes j)
+came_in_by P bytes j f p = cuts_by P f (length (heard bytes j).unread) (heard bytes j) p
+
+calm_taken_up : (found : Scan Unit91 ℕ) (k : Journal) → is_strained (taken_up found k).events ≡ is_strained k.events
 calm_taken_up (Whole unit n) k = refl
 calm_taken_up More k = refl
-calm_taken_up (Bad fault) k = refl
+calm_taken_up (Bad code) k = refl
 
 pub calm_came_in : (bytes : List ℕ) (j : Journal) → is_strained (came_in bytes j).events ≡ is_strained j.events
-calm_came_in bytes j = came_in_by (λ (k : Journal). is_strained k.events ≡ is_strained j.events) bytes j
-    (λ k a p. calm_taken_up (unit_scan (phase k.events) k.unread) k ∙ p) refl
+calm_came_in bytes j = came_in_by (λ (k : Journal). is_strained k.events ≡ is_strained j.events) bytes j (λ k a p. calm_taken_up (scan_at k) k ∙ p) refl
+
+open_taken_up : (found : Scan Unit91 ℕ) (k : Journal) → client_loss (taken_up found k).events ≡ client_loss k.events
+open_taken_up (Whole unit n) k = refl
+open_taken_up More k = refl
+open_taken_up (Bad code) k = refl
+
+pub open_came_in : (bytes : List ℕ) (j : Journal) → client_loss (came_in bytes j).events ≡ client_loss j.events
+open_came_in bytes j = came_in_by (λ (k : Journal). client_loss k.events ≡ client_loss j.events) bytes j (λ k a p. open_taken_up (scan_at k) k ∙ p) refl
 
 -- what the mark x does to the pair p
 pub data Does (p : ℕ) (m : List Mark) (x : Mark) : Type 0 where
@@ -85,10 +98,9 @@ calm_at c p (Call (Accept (accepted.Pair q)) ∷ m) s f =
     subst (λ (x : ℕ). is_strained (journal p (Call (Accept (accepted.Pair x)) ∷ m)).events ≡ false) (sym s) (ap (λ (j : Journal). is_strained j.events) (if_same p (came (moment m)) (journal p m)))
 calm_at c p (Call (Read q end room (got.Bytes n) bytes) ∷ m) s f =
     let a : IsLiveEnd q end m × (awaits (journal q m) ≡ true) = asks c m _ f.2 f.0 in
-    let w : IsWaiting (phase (journal q m).events) (client_loss (journal q m).events) (is_strained (journal q m).events) = is_waiting _ _ _ a.1 in
     subst (λ (x : ℕ). is_strained (journal x (Call (Read q end room (got.Bytes n) bytes) ∷ m)).events ≡ false) s
     (subst (λ (e : End). is_strained (journal q (Call (Read q e room (got.Bytes n) bytes) ∷ m)).events ≡ false) (sym a.0.client)
-    (ap (λ (j : Journal). is_strained j.events) (if_same q (came_in bytes (journal q m)) (journal q m)) ∙ calm_came_in bytes (journal q m) ∙ w.calm))
+    (ap (λ (j : Journal). is_strained j.events) (if_same q (came_in bytes (journal q m)) (journal q m)) ∙ calm_came_in bytes (journal q m) ∙ (waits (journal q m) a.1).calm))
 calm_at c p m s f = absurd s
 
 -- one of two journals, by a test

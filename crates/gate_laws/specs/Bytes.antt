@@ -1,24 +1,25 @@
 -- What a client sent and what it took: by the calls alone, the one answers the other.
-use Rattle.std.specs.Prelude.{◌≡◌, ℕ, ◌==◌, true, if◌then◌else◌, List, [], ◌∷◌, ◌++◌, length, take, drop, None}
+use Rattle.std.specs.Prelude.{◌≡◌, ◌⊎◌, ℕ, ◌==◌, Bool, true, false, if◌then◌else◌, List, [], ◌∷◌, ◌++◌, take, drop, filter, None}
 use Rattle.gate_outside.specs.declared.ports.End.TheVariants.{Client}
 use Rattle.gate_outside.specs.declared.ports.Got.TheVariants as got
 use Rattle.gate_outside.specs.declared.ports.Put.TheVariants as put
 use Rattle.gate_outside.specs.declared.log.LogEntry.TheVariants.{Read, Write}
-use Rattle.wire_base.specs.declared.scan.At.{At}
-use Rattle.wire_base.specs.declared.scan.Scan.{Scan}
 use Rattle.wire_base.specs.declared.scan.Scan.TheVariants.{Whole, More, Bad}
-use Rattle.frames_091.specs.declared.frame.Frame91.{Frame91}
-use Rattle.frames_091.specs.declared.frame.FrameFault.{FrameFault}
-use Rattle.frames_091.specs.declared.header.NotHeader.{NotHeader}
-use Rattle.frames_091.specs.FrameScan.{scan_of}
-use Rattle.frames_091.specs.Headers.{header_scan}
+use Rattle.machine_091.specs.Phases.{new_connection}
+use Rattle.machine_091.specs.Transitions.{taken}
+use Rattle.machine_091.specs.declared.connection.Conn91.{Conn91}
+use Rattle.machine_091.specs.declared.unit.Refusal.{Refusal}
+use Rattle.machine_091.specs.declared.unit.Unit91.{Unit91}
+use Rattle.machine_091.specs.declared.unit.Unit91.TheVariants as unit91
+use Rattle.machine_091.specs.declared.unit.Want91.{Want91}
+use Rattle.machine_091.specs.declared.unit.Want91.TheVariants as want
 use Rattle.gate_loop.specs.declared.units.Reply.{Reply}
-use Rattle.gate_loop.specs.declared.units.Unit91.{Unit91}
-use Rattle.gate_loop.specs.declared.units.Unit91.TheVariants as unit91
+use Rattle.gate_loop.specs.declared.units.Reply.TheVariants as reply
 use Rattle.gate_loop.specs.Marks.{Mark, Call}
-use Rattle.gate_loop.specs.Events.{units, stream_of, gone_count}
-use Rattle.gate_loop.specs.Due.{spelling, replies}
-use Rattle.gate_loop.specs.Journal.{first_frame_max, journal, offer}
+use Rattle.gate_loop.specs.Events.{Event, Strained, Went, units, sent, talk, is_strained}
+use Rattle.gate_loop.specs.Due.{spelling}
+use Rattle.gate_loop.specs.Journal.{journal, offer, unit_scan}
+use Rattle.gate_loop.specs.Talks.{dues, is_foreign, rows, when}
 use Rattle.gate_laws.specs.Lawful.{is_taking}
 
 -- the bytes that were read of the client of p, in their order
@@ -33,35 +34,83 @@ bytes_taken p [] = []
 bytes_taken p (Call (Write q Client bytes (put.Took n)) ∷ m) = if q == p then bytes_taken p m ++ take n bytes else bytes_taken p m
 bytes_taken p (x ∷ m) = bytes_taken p m
 
--- the units with which a client's bytes begin, the newest first: the protocol header and then the first frame, each with bad
--- bytes in its place where it can't begin with those that came (AMQP 0-9-1 4.2.2 and 4.2.3)
-abbrev pub frame_units : Scan Frame91 (At FrameFault) → List Unit91
-frame_units (Whole frame n) = unit91.Frame frame ∷ []
-frame_units More = []
-frame_units (Bad fault) = unit91.Bad ∷ []
-
-abbrev pub header_units : Scan (Unit {0}) (At NotHeader) → List ℕ → List Unit91
-header_units (Whole header n) bytes = frame_units (scan_of first_frame_max (drop n bytes)) ++ unit91.Protocol ∷ []
-header_units More bytes = []
-header_units (Bad fault) bytes = unit91.Bad ∷ []
-
-abbrev pub units_in : List ℕ → List Unit91
-units_in bytes = header_units (header_scan bytes) bytes
+-- a client's bytes begin with these units, and with no further one: the protocol header, and then frames within the limit that is
+-- agreed with those before (AMQP 0-9-1 4.2.2 and 4.2.3); bad bytes end them
+abbrev pub BeginWith : Conn91 → List Unit91 → List ℕ → Type 0
+BeginWith c [] bytes = unit_scan c bytes ≡ More
+BeginWith c (unit91.Bad code ∷ us) bytes = (unit_scan c bytes ≡ Bad code) × (us ≡ [])
+BeginWith c (unit91.Protocol ∷ us) bytes =
+    (n : ℕ) × (unit_scan c bytes ≡ Whole unit91.Protocol n) × BeginWith (taken c unit91.Protocol).0 us (drop n bytes)
+BeginWith c (unit91.Frame frame ∷ us) bytes =
+    (n : ℕ) × (unit_scan c bytes ≡ Whole (unit91.Frame frame) n) × BeginWith (taken c (unit91.Frame frame)).0 us (drop n bytes)
 
 -- the bytes of units to the client
 abbrev pub spelled : List Reply → List ℕ
 spelled [] = []
 spelled (unit ∷ us) = spelling unit ++ spelled us
 
--- the replies to what the client of p sent
-abbrev pub replies_to : ℕ → List Mark → List Reply
-replies_to p m = replies (stream_of (units_in (bytes_heard p m)))
+-- the reply to what a unit wants: to the protocol header connection.start, to start-ok connection.tune, to the client's close its
+-- close-ok, and to a refused unit the gateway's close
+abbrev pub reply_to : Want91 → List Reply
+reply_to want.Nothing = []
+reply_to want.Start = reply.Start ∷ []
+reply_to (want.Login mechanism response) = reply.Tune ∷ []
+reply_to want.Tuned = []
+reply_to want.Close = reply.CloseOk ∷ []
+reply_to want.CloseOk = []
+reply_to (want.Refuse r) = reply.Close r ∷ []
 
--- the client's units are those with which its bytes begin, however they were cut; and what it took is a front of the replies
--- to them: all of it where as many went wholly as there are, and where its end takes bytes and none are offered
+-- the replies to units, in their order; bytes that begin no protocol header get the gateway's own
+abbrev pub replies : Conn91 → List Unit91 → List Reply
+replies c [] = []
+replies c (unit ∷ us) = when (is_foreign c.phase unit) reply.Protocol ++ reply_to (taken c unit).1 ++ replies (taken c unit).0 us
+
+-- a unit that answers one of the client's; a heartbeat answers none
+abbrev pub is_answer : Reply → Bool
+is_answer reply.Heartbeat = false
+is_answer unit = true
+
+-- units without the heartbeats among them
+abbrev pub answers_of : List Reply → List Reply
+answers_of us = filter is_answer us
+
+-- replies, but for a close of the gateway that the client's own overtook before any byte of it went
+abbrev pub AreReplies : List Reply → List Reply → Type 0
+AreReplies said all =
+    (said ≡ all) ⊎ ((front : List Reply) × (r : Refusal) × (said ≡ front ++ reply.CloseOk ∷ []) × (all ≡ front ++ reply.Close r ∷ reply.CloseOk ∷ []))
+
+-- the units that went since want of memory was met, in their order
+abbrev pub sent_since : List Event → List Reply
+sent_since [] = []
+sent_since (Strained ∷ h) = []
+sent_since (Went unit ∷ h) = sent_since h ++ unit ∷ []
+sent_since (x ∷ h) = sent_since h
+
+-- a unit that ends the connection after want of memory: a close of the gateway, or the close-ok of the client's
+abbrev pub is_ending : Reply → Bool
+is_ending reply.Protocol = false
+is_ending reply.Start = false
+is_ending reply.Tune = false
+is_ending reply.CloseOk = true
+is_ending (reply.Close r) = true
+is_ending reply.NoMemory = true
+is_ending reply.Heartbeat = false
+
+-- at most one unit, which is such a one
+abbrev pub IsEnding : List Reply → Type 0
+IsEnding [] = Unit {0}
+IsEnding (unit ∷ []) = is_ending unit ≡ true
+IsEnding (unit ∷ other ∷ us) = ⊥
+
+-- the client's units are those with which its bytes begin, however they were cut; what it took are the bytes of the units that
+-- went to it, but for what is left of the last. Where no want of memory was met, these without heartbeats, and the ones that are
+-- due, are the replies to its units; where it was met, those that went since without heartbeats, and the ones that are due, are at
+-- most one, which ends the connection. Where its end takes bytes and none are offered, all of them went, and no heartbeat is due
 pub record IsAnswered (p : ℕ) (m : List Mark) : Type 0 where
-  pub units_are : units (journal p m).events ≡ units_in (bytes_heard p m)
-  pub left : List ℕ
-  pub front : bytes_taken p m ++ left ≡ spelled (replies_to p m)
-  pub whole : gone_count (journal p m).events ≡ length (replies_to p m) → left ≡ []
-  pub owed : is_taking (journal p m).events ≡ true → offer (journal p m) ≡ None → left ≡ []
+  pub units_are : BeginWith new_connection (units (journal p m).events) (bytes_heard p m)
+  pub went : bytes_taken p m ++ (journal p m).begun ≡ spelled (sent (journal p m).events)
+  pub answers : is_strained (journal p m).events ≡ false
+      → AreReplies (answers_of (sent (journal p m).events) ++ rows (talk (journal p m).events).dues) (replies new_connection (units (journal p m).events))
+  pub strained : is_strained (journal p m).events ≡ true → IsEnding (answers_of (sent_since (journal p m).events) ++ rows (talk (journal p m).events).dues)
+  pub owed : is_taking (journal p m).events ≡ true → offer (journal p m) ≡ None
+      → ((journal p m).begun ≡ []) × (dues (talk (journal p m).events) ≡ [])

@@ -10,8 +10,8 @@ use Rattle.gate_loop.specs.declared.config.Served.{Served}
 use Rattle.gate_loop.specs.declared.config.Served.TheVariants.{Stopped, PairsDone, TurnLimit, Fault, Memory}
 use Rattle.gate_loop.specs.declared.config.Outside.TheVariants as outside
 use Rattle.gate_loop.specs.Marks.{Mark, Call, Strain, Finish}
-use Rattle.gate_loop.specs.Due.{first}
-use Rattle.gate_loop.specs.Next.{accepted_count, pair_limit, lives, turns_begun, is_done, has_moved, finish_of, HasShutLast}
+use Rattle.gate_loop.specs.Talks.{first}
+use Rattle.gate_loop.specs.Next.{accepted_count, pair_limit, lives, turns_begun, is_done, has_moved, finish_of, HasLineLast}
 
 -- the newest mark is a call whose answer ends the service
 abbrev pub is_stopped : List Mark → Bool
@@ -20,13 +20,14 @@ is_stopped (Call (Idle Stop) ∷ m) = true
 is_stopped (Call (Accept accepted.Failed) ∷ m) = true
 is_stopped (x ∷ m) = false
 
--- why the service ends so after m; want of memory outside any pair comes before the first call alone
+-- why the service ends so after m: out fails right after what has a line in the report, a shut or want of memory for a pair; want of
+-- memory outside any pair comes before the first call alone
 abbrev pub EndsAs : Config → List Mark → Served → Type 0
 EndsAs c m Stopped = first m ≡ Some (Call (Idle Stop))
 EndsAs c m PairsDone = (accepted_count m ≡ pair_limit c) × (lives m ≡ [])
 EndsAs c m TurnLimit = (turns_begun m ≡ c.turns) × (is_done c m ≡ false)
 EndsAs c m (Fault outside.Accept) = first m ≡ Some (Call (Accept accepted.Failed))
-EndsAs c m (Fault outside.Out) = HasShutLast m
+EndsAs c m (Fault outside.Out) = HasLineLast m
 EndsAs c m Memory = m ≡ []
 
 -- a call comes while the service runs, and not after an answer that ends it; or it shuts a client's end after the end

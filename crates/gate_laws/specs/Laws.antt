@@ -13,6 +13,7 @@ use Rattle.gate_laws.specs.Log.{FollowsLog, is_plain_end, next_call}
 use Rattle.gate_laws.specs.Pairs.{AreOrdered, LivesOrShut}
 use Rattle.gate_laws.specs.Quiet.{IdlesAtRest}
 use Rattle.gate_laws.specs.Strains.{CountsStrains}
+use Rattle.gate_laws.specs.Times.{BeatsWhenDue, ShutsForCause}
 
 -- the calls alone say which comes next, and that none comes after the last
 pub record IsByCalls (c : Config) (m : List Mark) : Type 0 where
@@ -23,6 +24,9 @@ pub record IsLawfulRun (c : Config) (m : List Mark) : Type 0 where
   -- every pair's journal is lawful, and its client took what answers what it sent
   pub entries : (p : ℕ) → IsLawful (journal p m).events
   pub answers : (p : ℕ) → IsAnswered p m
+  -- heartbeats go, and ends are shut, where time or another cause makes that due
+  pub beats : (p : ℕ) → BeatsWhenDue (journal p m).events
+  pub shuts : (p : ℕ) → ShutsForCause (journal p m).events
   -- only pairs that live are asked, and each that came lives or was shut
   pub asks : AsksLive m
   pub pairs : (p : ℕ) → LivesOrShut p m

@@ -8,3 +8,4 @@ pub mod Log
 pub mod Pairs
 pub mod Quiet
 pub mod Strains
+pub mod Times

@@ -17,6 +17,7 @@ ghost use Rattle.gate_laws.specs.Log.{FollowsLog, is_plain_end, marked, next_cal
 ghost use Rattle.gate_laws.specs.Pairs.{AreOrdered, LivesOrShut};
 ghost use Rattle.gate_laws.specs.Quiet.{IdlesAtRest};
 ghost use Rattle.gate_laws.specs.Strains.{CountsStrains};
+ghost use Rattle.gate_laws.specs.Times.{BeatsWhenDue, ShutsForCause};
 
 use frames_091::frame_laws;
 
@@ -27,14 +28,27 @@ pub fn entries_are_lawful()
     ensures { (c : Config) (m : List Mark) → Follows c m → (p : ℕ) → IsLawful (journal p m).events }
 {}
 
-/// A client's units are those with which its bytes begin, and what it took is a front of the replies to them: to the protocol
-/// header connection.start, to bytes that begin no header the gateway's own header, to the first frame or bad bytes after the
-/// header connection.close.
+/// A client's units are those with which its bytes begin, however these were cut. Where no want of memory was met, what it took,
+/// without heartbeats, and what is still due are the replies to them, in their order: to the protocol header connection.start, to
+/// bytes that begin no header the gateway's own header, to a connection.start-ok connection.tune, to the client's
+/// connection.close a close-ok, and to a refused unit connection.close, unless the client's close came before its first byte
+/// went. Where it was met, what went since, without heartbeats, and what is still due are at most one unit, a connection.close or
+/// a close-ok. Where the client's end takes bytes and none are offered, all of them went, and no heartbeat is due.
 pub fn clients_are_answered()
     ensures { (c : Config) (m : List Mark) → Follows c m → (p : ℕ) → IsAnswered p m }
 {
     frame_laws();
 }
+
+/// A heartbeat goes where an interval was agreed to, and for half of it no unit went wholly, not all is said, no other unit is due
+/// and none is begun. A client's end is shut where the service ended, or the end did, or it failed, or memory was wanting and the
+/// gateway's close went wholly or the client's header didn't come before, or all is said, or no connection.open came within
+/// 10,000 ms of the accept, or the closing event is 10,000 ms old.
+#[tactic(auto, using(crate::proofs::Times::beats_when_due, crate::proofs::Times::shuts_for_cause))]
+pub fn times_are_kept()
+    ensures beats { (c : Config) (m : List Mark) → Follows c m → (p : ℕ) → BeatsWhenDue (journal p m).events }
+    ensures shuts { (c : Config) (m : List Mark) → Follows c m → (p : ℕ) → ShutsForCause (journal p m).events }
+{}
 
 /// Reads, writes and shuts are asked of the clients' ends of pairs that live. No connection is asked for.
 #[tactic(auto, using(crate::proofs::Asks::asks_live))]
@@ -95,6 +109,7 @@ pub fn runs_are_lawful()
 {
     entries_are_lawful();
     clients_are_answered();
+    times_are_kept();
     live_pairs_are_asked();
     pairs_live_or_are_shut();
     idle_is_at_rest();

@@ -15,7 +15,7 @@ use Rattle.wire_base.specs.declared.memory.Memory.{Memory as Wanting}
 use Rattle.gate_loop.specs.Marks.{Mark, Call, Strain}
 use Rattle.gate_loop.specs.Journal.{Journal, journal, came, moment}
 use Rattle.gate_loop.specs.Stands.{Stands}
-use Rattle.gate_loop.specs.Report.{report, memory_line, closed_line, lines_of}
+use Rattle.gate_loop.specs.Report.{report, memory_line, closed_line, refused_lines}
 use Rattle.gate_loop.specs.Next.{Round, lives, without, round, has_moved}
 use Rattle.gate_loop.specs.Steps.{Adds, IsRising, numbers, numbers_from, client_ends, Crew, World, Admits, Welcomes}
 use Rattle.gate_loop.proofs.OneMark.{is_same, is_other, if_same, if_other}
@@ -26,11 +26,11 @@ use Rattle.gate_loop.proofs.Rounds.{reports_same_lines}
 use Rattle.gate_loop.proofs.Cuts.{cut_here}
 
 -- a pair lives, or met want of memory
-pub admits : (r : Result (Unit {0}) Wanting) (b : Pair) (p : ℕ) (old new : Service) → new.accepted ≡ old.accepted + 1
+pub admits : (r : Result (Unit {0}) Wanting) (b : Pair) (p ms : ℕ) (old new : Service) → new.accepted ≡ old.accepted + 1
     → OnOk r (new.live.items ≡ old.live.items ++ b ∷ []) → OnErr r (new.live.items ≡ old.live.items)
-    → new.strained ≡ (if is_ok r then old.strained else old.strained + 1) → b.number ≡ p → ((ms : ℕ) → Stands b (came ms)) → Admits r p old new
-admits (Ok done) b p old new a ok err s n st = record { accepts = a; by = ((b, ok, n, st), s) }
-admits (Err wanting) b p old new a ok err s n st = record { accepts = a; by = (err, s) }
+    → new.strained ≡ (if is_ok r then old.strained else old.strained + 1) → b.number ≡ p → Stands b (came ms) → Admits r p ms old new
+admits (Ok done) b p ms old new a ok err s n st = record { accepts = a; by = ((b, ok, n, st), s) }
+admits (Err wanting) b p ms old new a ok err s n st = record { accepts = a; by = (err, s) }
 
 -- one pair more
 numbers-push : (bs : List Pair) (b : Pair) → numbers (bs ++ b ∷ []) ≡ numbers bs ++ b.number ∷ []
@@ -83,9 +83,9 @@ closed-push p (x ∷ bs) below =
     rw no (ap (λ (es : List (ℕ × End)). (x.number, Client) ∷ es) (closed-push p bs below.1))
 
 -- the crew with a new pair, and without one that was turned away
-pub crew_admits : (p : ℕ) (old new : Service) (pairs : ℕ) (ends : List (ℕ × End)) → p ≡ pairs → Admits (Ok tt) p old new → Crew old pairs ends
+pub crew_admits : (p ms : ℕ) (old new : Service) (pairs : ℕ) (ends : List (ℕ × End)) → p ≡ pairs → Admits (Ok tt) p ms old new → Crew old pairs ends
     → Crew new (pairs + 1) (ends ++ (p, Client) ∷ [])
-crew_admits p old new pairs ends e a c =
+crew_admits p ms old new pairs ends e a c =
     let b : Pair = a.by.0.0 in
     let same : new.live.items ≡ old.live.items ++ b ∷ [] = a.by.0.1 in
     let number : b.number ≡ p = a.by.0.2 in
@@ -98,9 +98,9 @@ crew_admits p old new pairs ends e a c =
           ∙ sym (ends-push old.live.items b) ∙ sym (ap client_ends same);
     }
 
-pub crew_refuses : (p : ℕ) (old new : Service) (wanting : Wanting) (pairs : ℕ) (ends : List (ℕ × End)) → p ≡ pairs → Admits (Err wanting) p old new → Crew old pairs ends
+pub crew_refuses : (p ms : ℕ) (old new : Service) (wanting : Wanting) (pairs : ℕ) (ends : List (ℕ × End)) → p ≡ pairs → Admits (Err wanting) p ms old new → Crew old pairs ends
     → Crew new (pairs + 1) (closed p Client (ends ++ (p, Client) ∷ []))
-crew_refuses p old new wanting pairs ends e a c =
+crew_refuses p ms old new wanting pairs ends e a c =
     let same : new.live.items ≡ old.live.items = a.by.0 in
     let below : AreBelow p old.live.items = rw e c.below in
     record {
@@ -116,21 +116,22 @@ others_accept : (p : ℕ) (m : List Mark) (q : ℕ) → q ≢ p → journal q (C
 others_accept p m q ne = if_other p q _ _ (λ e. ne (sym e))
 
 -- a pair was accepted, and lives
-pub welcome_pair : (p : ℕ) (old new : Service) (pairs : ℕ) (ends : List (ℕ × End)) (held : Option (List ℕ)) (m n : List Mark) → p ≡ pairs
-    → Admits (Ok tt) p old new → Crew old pairs ends → Adds (Accept (accepted.Pair p)) m n → Welcomes (Ok true) old new held held m n
-welcome_pair p old new pairs ends held m n e a c x = subst (λ (k : List Mark). Welcomes (Ok true) old new held held m k) (sym x.one) (
+pub welcome_pair : (p ms : ℕ) (old new : Service) (pairs : ℕ) (ends : List (ℕ × End)) (held : Option (List ℕ)) (m n : List Mark) → p ≡ pairs
+    → Admits (Ok tt) p ms old new → Crew old pairs ends → Adds (Accept (accepted.Pair p)) m n → Welcomes (Ok true) ms old new held held m n
+welcome_pair p ms old new pairs ends held m n e a c x = subst (λ (k : List Mark). Welcomes (Ok true) ms old new held held m k) (sym x.one) (
     let b : Pair = a.by.0.0 in
     let same : new.live.items ≡ old.live.items ++ b ∷ [] = a.by.0.1 in
     let number : b.number ≡ p = a.by.0.2 in
     let now : List Mark = Call (Accept (accepted.Pair p)) ∷ m in
-    let here : StandsIn now b =
-    subst (λ (q : ℕ). Stands b (journal q now)) (sym number) (subst (λ (j : Journal). Stands b j) (sym (if_same p (came (moment m)) (journal p m))) (a.by.0.3 (moment m))) in
+    let here : moment m ≡ ms → StandsIn now b =
+    λ same. subst (λ (q : ℕ). Stands b (journal q now)) (sym number)
+    (subst (λ (j : Journal). Stands b j) (sym (if_same p (came (moment m)) (journal p m))) (subst (λ (i : ℕ). Stands b (came i)) (sym same) a.by.0.3)) in
     let alive : (w : World old m) → lives now ≡ numbers new.live.items =
     λ w. ap (λ (ps : List ℕ). ps ++ p ∷ []) w.live ∙ ap (λ (q : ℕ). numbers old.live.items ++ q ∷ []) (sym number)
     ∙ sym (numbers-push old.live.items b) ∙ sym (ap numbers same) in
     record {
-      world = λ w. record {
-        stands = rw same (stand-push p old.live.items b m now (others_accept p m) (rw e c.below) w.stands here);
+      world = λ time w. record {
+        stands = rw same (stand-push p old.live.items b m now (others_accept p m) (rw e c.below) w.stands (here time));
         live = alive w;
         accepts = ap (λ (k : ℕ). k + 1) w.accepts ∙ sym a.accepts;
         strain = w.strain ∙ sym a.by.1;
@@ -148,9 +149,9 @@ welcome_pair p old new pairs ends held m n e a c x = subst (λ (k : List Mark). 
     })
 
 -- no client waits
-pub welcome_none : (s : Service) (held : Option (List ℕ)) (m n : List Mark) → Adds (Accept accepted.NotYet) m n → Welcomes (Ok false) s s held held m n
-welcome_none s held m n x = subst (λ (k : List Mark). Welcomes (Ok false) s s held held m k) (sym x.one) (record {
-  world = λ w. record { stands = w.stands; live = w.live; accepts = w.accepts; strain = w.strain; finish = w.finish };
+pub welcome_none : (ms : ℕ) (s : Service) (held : Option (List ℕ)) (m n : List Mark) → Adds (Accept accepted.NotYet) m n → Welcomes (Ok false) ms s s held held m n
+welcome_none ms s held m n x = subst (λ (k : List Mark). Welcomes (Ok false) ms s s held held m k) (sym x.one) (record {
+  world = λ time w. record { stands = w.stands; live = w.live; accepts = w.accepts; strain = w.strain; finish = w.finish };
   turn = refl;
   motion = refl;
   reports = reports_same_lines held m _ refl;
@@ -163,9 +164,9 @@ welcome_none s held m n x = subst (λ (k : List Mark). Welcomes (Ok false) s s h
 })
 
 -- accept failed
-pub welcome_failed : (s : Service) (held : Option (List ℕ)) (m n : List Mark) → Adds (Accept accepted.Failed) m n → Welcomes (Err outside.Accept) s s held held m n
-welcome_failed s held m n x = subst (λ (k : List Mark). Welcomes (Err outside.Accept) s s held held m k) (sym x.one) (record {
-  world = λ w. record { stands = w.stands; live = w.live; accepts = w.accepts; strain = w.strain; finish = w.finish };
+pub welcome_failed : (ms : ℕ) (s : Service) (held : Option (List ℕ)) (m n : List Mark) → Adds (Accept accepted.Failed) m n → Welcomes (Err outside.Accept) ms s s held held m n
+welcome_failed ms s held m n x = subst (λ (k : List Mark). Welcomes (Err outside.Accept) ms s s held held m k) (sym x.one) (record {
+  world = λ time w. record { stands = w.stands; live = w.live; accepts = w.accepts; strain = w.strain; finish = w.finish };
   turn = refl;
   motion = tt;
   reports = reports_same_lines held m _ refl;
@@ -184,9 +185,9 @@ lives_refused : (p : ℕ) (s t : Service) (m : List Mark) → AreBelow p s.live.
 lives_refused p s t m below same w =
     ap (λ (ps : List ℕ). without p (ps ++ p ∷ [])) w.live ∙ without-push p s.live.items below ∙ sym (ap numbers same)
 
-world_refused : (p : ℕ) (old new : Service) (wanting : Wanting) (m : List Mark) → AreBelow p old.live.items → Admits (Err wanting) p old new
+world_refused : (p ms : ℕ) (old new : Service) (wanting : Wanting) (m : List Mark) → AreBelow p old.live.items → Admits (Err wanting) p ms old new
     → World old m → World new (refused p m)
-world_refused p old new wanting m below a w = record {
+world_refused p ms old new wanting m below a w = record {
   stands = rw a.by.0 (stand-same p old.live.items m (refused p m) (others_refused p m) below w.stands);
   live = lives_refused p old new m below a.by.0 w;
   accepts = ap (λ (k : ℕ). k + 1) w.accepts ∙ sym a.accepts;
@@ -195,23 +196,23 @@ world_refused p old new wanting m below a w = record {
 }
 
 -- out failed at the lines of that
-cut_refused : (p : ℕ) (held held' : Option (List ℕ)) (m : List Mark) → AppendsFront held held' (lines_of p true) → CutShort held held' m (refused p m) (lines_of p true)
-cut_refused p held held' m part = cut_here held held' m (Call (Accept (accepted.Pair p)) ∷ m) (refused p m) (lines_of p true) part refl
+cut_refused : (p : ℕ) (held held' : Option (List ℕ)) (m : List Mark) → AppendsFront held held' (refused_lines p) → CutShort held held' m (refused p m) (refused_lines p)
+cut_refused p held held' m part = cut_here held held' m (Call (Accept (accepted.Pair p)) ∷ m) (refused p m) (refused_lines p) part refl
     (record { after = Call (Shut p Client) ∷ Strain p ∷ []; parts = refl; shuts = (refl, (refl, tt)) })
 
-pub welcome_refused : (p : ℕ) (old new : Service) (wanting : Wanting) (result : Result Bool Outside) (pairs : ℕ) (ends : List (ℕ × End)) (held held' : Option (List ℕ)) (m n k : List Mark) → p ≡ pairs
-    → Admits (Err wanting) p old new → Crew old pairs ends → MatchResult result (λ moved. moved ≡ true) (λ how. how ≡ outside.Out)
-    → OnOk result (Appends held held' (lines_of p true)) → AppendsFront held held' (lines_of p true)
-    → n ≡ Strain p ∷ Call (Accept (accepted.Pair p)) ∷ m → Adds (Shut p Client) n k → Welcomes result old new held held' m k
-welcome_refused p old new wanting (Ok moved) pairs ends held held' m n k e a c answer whole part x y =
+pub welcome_refused : (p ms : ℕ) (old new : Service) (wanting : Wanting) (result : Result Bool Outside) (pairs : ℕ) (ends : List (ℕ × End)) (held held' : Option (List ℕ)) (m n k : List Mark) → p ≡ pairs
+    → Admits (Err wanting) p ms old new → Crew old pairs ends → MatchResult result (λ moved. moved ≡ true) (λ how. how ≡ outside.Out)
+    → OnOk result (Appends held held' (refused_lines p)) → AppendsFront held held' (refused_lines p)
+    → n ≡ Strain p ∷ Call (Accept (accepted.Pair p)) ∷ m → Adds (Shut p Client) n k → Welcomes result ms old new held held' m k
+welcome_refused p ms old new wanting (Ok moved) pairs ends held held' m n k e a c answer whole part x y =
     let below : AreBelow p old.live.items = rw e c.below in
     let all : k ≡ refused p m = y.one ∙ ap (λ (xs : List Mark). Call (Shut p Client) ∷ xs) x in
-    subst (λ (l : List Mark). Welcomes (Ok moved) old new held held' m l) (sym all) (record {
-      world = world_refused p old new wanting m below a;
+    subst (λ (l : List Mark). Welcomes (Ok moved) ms old new held held' m l) (sym all) (record {
+      world = λ time. world_refused p ms old new wanting m below a;
       turn = refl;
       motion = ap (λ (b : Bool). b || has_moved m) (sym answer);
       reports = record {
-        lines = lines_of p true;
+        lines = refused_lines p;
         line = append_assoc (report m) (memory_line p) (closed_line p);
         whole = λ h. whole;
         part = cut_refused p held held' m part;
@@ -223,16 +224,16 @@ welcome_refused p old new wanting (Ok moved) pairs ends held held' m n k e a c a
         follows = (refl, tt, (refl, (asks, e ∙ sym c.accepts ∙ sym w.accepts, f)));
       };
     })
-welcome_refused p old new wanting (Err how) pairs ends held held' m n k e a c answer whole part x y =
+welcome_refused p ms old new wanting (Err how) pairs ends held held' m n k e a c answer whole part x y =
     let below : AreBelow p old.live.items = rw e c.below in
     let all : k ≡ refused p m = y.one ∙ ap (λ (xs : List Mark). Call (Shut p Client) ∷ xs) x in
-    subst (λ (o : Outside). Welcomes (Err o) old new held held' m k) (sym answer)
-    (subst (λ (l : List Mark). Welcomes (Err outside.Out) old new held held' m l) (sym all) (record {
-      world = world_refused p old new wanting m below a;
+    subst (λ (o : Outside). Welcomes (Err o) ms old new held held' m k) (sym answer)
+    (subst (λ (l : List Mark). Welcomes (Err outside.Out) ms old new held held' m l) (sym all) (record {
+      world = λ time. world_refused p ms old new wanting m below a;
       turn = refl;
       motion = tt;
       reports = record {
-        lines = lines_of p true;
+        lines = refused_lines p;
         line = append_assoc (report m) (memory_line p) (closed_line p);
         whole = λ h. absurd cc;
         part = cut_refused p held held' m part;

@@ -10,5 +10,8 @@ pub mod PairLemmas
 pub mod Places
 pub mod Rounds
 pub mod Runnings
+pub mod Spelled
+pub mod Tellings
 pub mod TurnLemmas
 pub mod Worlds
+pub mod Within

@@ -38,10 +38,10 @@ got_moved got.Failed = true
 
 pub moves_read : (p room : ℕ) (end : End) (answer : Got) (bytes : List ℕ) (m : List Mark)
     → Moves p (got_moved answer) false m (Call (Read p end room answer bytes) ∷ m)
-moves_read p room end (got.Bytes n) bytes m = record { others = λ q ne. if_other p q _ _ (flip p q ne); live = refl; accepts = refl; turn = refl; motion = refl; strain = refl; line = refl; finish = refl; last = λ never. absurd cc }
-moves_read p room end got.NotYet bytes m = record { others = λ q ne. if_other p q _ _ (flip p q ne); live = refl; accepts = refl; turn = refl; motion = refl; strain = refl; line = refl; finish = refl; last = λ never. absurd cc }
-moves_read p room end got.Ended bytes m = record { others = λ q ne. if_other p q _ _ (flip p q ne); live = refl; accepts = refl; turn = refl; motion = refl; strain = refl; line = refl; finish = refl; last = λ never. absurd cc }
-moves_read p room end got.Failed bytes m = record { others = λ q ne. if_other p q _ _ (flip p q ne); live = refl; accepts = refl; turn = refl; motion = refl; strain = refl; line = refl; finish = refl; last = λ never. absurd cc }
+moves_read p room end (got.Bytes n) bytes m = record { others = λ q ne. if_other p q _ _ (flip p q ne); live = refl; accepts = refl; turn = refl; motion = refl; strain = refl; line = refl; finish = refl }
+moves_read p room end got.NotYet bytes m = record { others = λ q ne. if_other p q _ _ (flip p q ne); live = refl; accepts = refl; turn = refl; motion = refl; strain = refl; line = refl; finish = refl }
+moves_read p room end got.Ended bytes m = record { others = λ q ne. if_other p q _ _ (flip p q ne); live = refl; accepts = refl; turn = refl; motion = refl; strain = refl; line = refl; finish = refl }
+moves_read p room end got.Failed bytes m = record { others = λ q ne. if_other p q _ _ (flip p q ne); live = refl; accepts = refl; turn = refl; motion = refl; strain = refl; line = refl; finish = refl }
 
 -- want of memory after a read that gave bytes
 pub moves_strain : (p room n : ℕ) (bytes : List ℕ) (m : List Mark)
@@ -55,17 +55,16 @@ moves_strain p room n bytes m = record {
   strain = refl;
   line = refl;
   finish = refl;
-  last = λ h. record { before = Call (Read p Client room (got.Bytes n) bytes) ∷ m; parts = refl; line = refl };
 }
 
 pub moves_write : (p : ℕ) (bytes : List ℕ) (answer : Put) (m : List Mark)
     → Moves p (put_moved answer) false m (Call (Write p Client bytes answer) ∷ m)
-moves_write p bytes (put.Took n) m = record { others = λ q ne. if_other p q _ _ (flip p q ne); live = refl; accepts = refl; turn = refl; motion = refl; strain = refl; line = refl; finish = refl; last = λ never. absurd cc }
-moves_write p bytes put.NotYet m = record { others = λ q ne. if_other p q _ _ (flip p q ne); live = refl; accepts = refl; turn = refl; motion = refl; strain = refl; line = refl; finish = refl; last = λ never. absurd cc }
-moves_write p bytes put.Failed m = record { others = λ q ne. if_other p q _ _ (flip p q ne); live = refl; accepts = refl; turn = refl; motion = refl; strain = refl; line = refl; finish = refl; last = λ never. absurd cc }
+moves_write p bytes (put.Took n) m = record { others = λ q ne. if_other p q _ _ (flip p q ne); live = refl; accepts = refl; turn = refl; motion = refl; strain = refl; line = refl; finish = refl }
+moves_write p bytes put.NotYet m = record { others = λ q ne. if_other p q _ _ (flip p q ne); live = refl; accepts = refl; turn = refl; motion = refl; strain = refl; line = refl; finish = refl }
+moves_write p bytes put.Failed m = record { others = λ q ne. if_other p q _ _ (flip p q ne); live = refl; accepts = refl; turn = refl; motion = refl; strain = refl; line = refl; finish = refl }
 
 pub moves_none : (p : ℕ) (m : List Mark) → Moves p false false m m
-moves_none p m = record { others = λ q ne. refl; live = refl; accepts = refl; turn = refl; motion = refl; strain = refl; line = refl; finish = refl; last = λ never. absurd cc }
+moves_none p m = record { others = λ q ne. refl; live = refl; accepts = refl; turn = refl; motion = refl; strain = refl; line = refl; finish = refl }
 
 or_assoc : (a b c : Bool) → (b || (a || c)) ≡ ((a || b) || c)
 or_assoc true true c = refl
@@ -73,8 +72,8 @@ or_assoc true false c = refl
 or_assoc false b c = refl
 
 -- a part in which want of memory may come, and then one in which none comes
-pub moves_then : (p : ℕ) (a b : Bool) (m n k : List Mark) → Moves p a false m n → Moves p b false n k → Moves p (a || b) false m k
-moves_then p a b m n k x y = record {
+pub moves_then : (p : ℕ) (a b strained : Bool) (m n k : List Mark) → Moves p a strained m n → Moves p b false n k → Moves p (a || b) strained m k
+moves_then p a b strained m n k x y = record {
   others = λ q ne. y.others q ne ∙ x.others q ne;
   live = y.live ∙ x.live;
   accepts = y.accepts ∙ x.accepts;
@@ -83,7 +82,6 @@ moves_then p a b m n k x y = record {
   strain = y.strain ∙ x.strain;
   line = y.line ∙ x.line;
   finish = y.finish ∙ x.finish;
-  last = λ never. absurd cc;
 }
 
 -- what a pair's own marks add to its journal

@@ -81,12 +81,12 @@ at_read c p ps m answer bytes awaited answered a = record {
 -- it met want of memory after the read
 pub at_strain : (c : Config) (p : ℕ) (ps : List ℕ) (m : List Mark) (n : ℕ) (bytes : List ℕ)
     → At c p (Writing 0) ps (Call (Read p Client read_room (got.Bytes n) bytes) ∷ m)
-    → At c p Shutting ps (Strain p ∷ Call (Read p Client read_room (got.Bytes n) bytes) ∷ m)
+    → At c p (Writing 0) ps (Strain p ∷ Call (Read p Client read_room (got.Bytes n) bytes) ∷ m)
 at_strain c p ps m n bytes a = record {
-  coming = ap (λ (qs : List ℕ). visit p Shutting (journal p (Strain p ∷ Call (Read p Client read_room (got.Bytes n) bytes) ∷ m)) (round c (Strain p ∷ Call (Read p Client read_room (got.Bytes n) bytes) ∷ m) qs)) a.behind;
+  coming = ap (λ (qs : List ℕ). visit p (Writing 0) (journal p (Strain p ∷ Call (Read p Client read_room (got.Bytes n) bytes) ∷ m)) (round c (Strain p ∷ Call (Read p Client read_room (got.Bytes n) bytes) ∷ m) qs)) a.behind;
   behind = a.behind;
-  written = tt;
-  fresh = others_fresh p Shutting ps a.others;
+  written = if_same p 0 0;
+  fresh = others_fresh p (Writing 0) ps a.others;
   others = a.others;
   inside = refl;
   follows = (refl, a.follows);

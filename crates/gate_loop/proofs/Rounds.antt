@@ -61,7 +61,7 @@ tour_on at a b d moved visit held mid held' m n k told x y = record {
   turn = y.turn ∙ x.turn;
   motion = y.motion ∙ ap (λ (t : Bool). visit.progress.moved || t) x.motion ∙ or_swap visit.progress.moved moved (has_moved m);
   reports = reports_same visit.told true held held' m k told (reports_then visit.told held mid held' m n k x.reports y.reports);
-  goes = λ c w f. y.goes c (x.world w) (x.goes c w f);
+  goes = λ c w f. y.goes told c (x.world w) (x.goes c w f);
 }
 
 -- the report failed
@@ -74,8 +74,8 @@ tour_fails at a b d moved visit held mid held' m n k told x y = record {
   motion = y.motion ∙ ap (λ (t : Bool). visit.progress.moved || t) x.motion ∙ or_swap visit.progress.moved moved (has_moved m);
   reports = reports_same visit.told false held held' m k told (reports_then visit.told held mid held' m n k x.reports y.reports);
   last = λ h. y.last told;
-  follows = λ c w f. (y.goes c (x.world w) (x.goes c w f)).follows;
-  inside = λ c w f. (y.goes c (x.world w) (x.goes c w f)).inside;
+  follows = λ c w f. (y.rests c (x.world w) (x.goes c w f)).1;
+  inside = λ c w f. (y.rests c (x.world w) (x.goes c w f)).0;
   goes = λ never. absurd cc;
 }
 

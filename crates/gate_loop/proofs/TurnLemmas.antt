@@ -13,20 +13,20 @@ use Rattle.gate_loop.specs.Marks.{Mark, Call, Strain}
 use Rattle.gate_loop.specs.Events.{Strained}
 use Rattle.gate_loop.specs.Journal.{Journal, journal, shut_due, read_at, write_at, came_in, noted, awaits, offer}
 use Rattle.gate_loop.specs.Stands.{Stands}
-use Rattle.gate_loop.specs.Next.{Reading, Writing, Shutting, Stage, Answered, read_room, without}
+use Rattle.gate_loop.specs.Next.{Reading, Writing, Shutting, Stage, Answered, HasLineLast, read_room, without, beyond, lives}
 use Rattle.gate_outside.specs.Streams.{Appends, AppendsFront}
 use Rattle.gate_loop.specs.declared.service.Progress.{Progress}
-use Rattle.gate_loop.specs.Report.{report, memory_line, closed_line, lines_of}
-use Rattle.gate_loop.specs.Serving.{CutShort}
-use Rattle.gate_loop.proofs.Fronts.{appends_none}
-use Rattle.gate_loop.proofs.Cuts.{cut_here, cut_whole, shut_none, shut_more}
-use Rattle.gate_loop.specs.Steps.{Adds, Moves, StrainsLast, Steps, Offers, Turns, put_moved, after_put}
+use Rattle.gate_loop.specs.Report.{report, memory_line, closed_line, heard_lines}
+use Rattle.gate_outside.proofs.Appending.{appends_then}
+use Rattle.gate_loop.specs.declared.config.Config.{Config}
+use Rattle.gate_loop.proofs.Cuts.{cut_here, cut_then, cut_whole, shut_none, shut_more}
+use Rattle.gate_loop.specs.Steps.{Adds, At, AreOthers, Facing, StrainsLast, Steps, Hears, Offers, Turns, put_moved, after_put}
 use Rattle.gate_loop.proofs.OneMark.{got_moved, moves_read, moves_strain, moves_write, moves_none, moves_then, own_read, own_write, own_strain, if_other}
 use Rattle.gate_loop.proofs.PairLemmas.{awaits_is}
 use Rattle.gate_loop.proofs.Places.{at_held, at_read, at_strain, at_write, at_none, at_full, at_face, face_stay, face_shut}
 
 -- the client was read
-heard_here : (old new : Pair) (answer : Got) (bytes : List ℕ) → is_awaited old.bridge.phase old.bridge.lost old.bridge.strained ≡ true
+heard_here : (old new : Pair) (answer : Got) (bytes : List ℕ) → is_awaited old.bridge.talk old.bridge.lost old.bridge.strained ≡ true
     → ((m : List Mark) → Answered m (Read old.number Client read_room answer bytes))
     → ((j : Journal) → Stands old j → Stands new (read_at Client answer bytes j))
     → (m : List Mark) → Steps old.number Reading (Writing 0) old new (got_moved answer) false m (Call (Read old.number Client read_room answer bytes) ∷ m)
@@ -36,20 +36,20 @@ heard_here old new answer bytes awaited answered keeps m = record {
   goes = λ c ps s a. at_read c old.number ps m answer bytes (awaits_is old (journal old.number m) awaited s) (answered m) a;
 }
 
-pub step_read : (old new : Pair) (room : ℕ) (answer : Got) (bytes : List ℕ) → room ≡ read_room
-    → is_awaited old.bridge.phase old.bridge.lost old.bridge.strained ≡ true
+pub hears_read : (old new : Pair) (room : ℕ) (answer : Got) (bytes : List ℕ) → room ≡ read_room
+    → is_awaited old.bridge.talk old.bridge.lost old.bridge.strained ≡ true
     → ((m : List Mark) → Answered m (Read old.number Client read_room answer bytes))
     → ((j : Journal) → Stands old j → Stands new (read_at Client answer bytes j))
-    → (m : List Mark) → Steps old.number Reading (Writing 0) old new (got_moved answer) false m (Call (Read old.number Client room answer bytes) ∷ m)
-step_read old new room answer bytes e awaited answered keeps m =
-    subst (λ (r : ℕ). Steps old.number Reading (Writing 0) old new (got_moved answer) false m (Call (Read old.number Client r answer bytes) ∷ m)) (sym e)
-    (heard_here old new answer bytes awaited answered keeps m)
+    → (m : List Mark) → Hears old.number old new (got_moved answer) false m (Call (Read old.number Client room answer bytes) ∷ m)
+hears_read old new room answer bytes e awaited answered keeps m =
+    subst (λ (r : ℕ). Hears old.number old new (got_moved answer) false m (Call (Read old.number Client r answer bytes) ∷ m)) (sym e)
+    (record { steps = heard_here old new answer bytes awaited answered keeps m; last = λ never. absurd cc })
 
 -- the client was read, and want of memory was met
-strain_here : (old new : Pair) (n : ℕ) (bytes : List ℕ) → is_awaited old.bridge.phase old.bridge.lost old.bridge.strained ≡ true
+strain_here : (old new : Pair) (n : ℕ) (bytes : List ℕ) → is_awaited old.bridge.talk old.bridge.lost old.bridge.strained ≡ true
     → ((m : List Mark) → Answered m (Read old.number Client read_room (got.Bytes n) bytes))
     → ((j : Journal) → Stands old j → Stands new (noted Strained (came_in bytes j)))
-    → (m : List Mark) → Steps old.number Reading Shutting old new true true m (Strain old.number ∷ Call (Read old.number Client read_room (got.Bytes n) bytes) ∷ m)
+    → (m : List Mark) → Steps old.number Reading (Writing 0) old new true true m (Strain old.number ∷ Call (Read old.number Client read_room (got.Bytes n) bytes) ∷ m)
 strain_here old new n bytes awaited answered keeps m =
     let p : ℕ = old.number in
     let read : List Mark = Call (Read p Client read_room (got.Bytes n) bytes) ∷ m in
@@ -61,21 +61,26 @@ strain_here old new n bytes awaited answered keeps m =
       goes = λ c ps s a. at_strain c p ps m n bytes (at_read c p ps m (got.Bytes n) bytes (awaits_is old (journal p m) awaited s) (answered m) a);
     }
 
-pub step_strain : (old new : Pair) (room n : ℕ) (bytes : List ℕ) → room ≡ read_room
-    → is_awaited old.bridge.phase old.bridge.lost old.bridge.strained ≡ true
+pub hears_strain : (old new : Pair) (room n : ℕ) (bytes : List ℕ) → room ≡ read_room
+    → is_awaited old.bridge.talk old.bridge.lost old.bridge.strained ≡ true
     → ((m : List Mark) → Answered m (Read old.number Client read_room (got.Bytes n) bytes))
     → ((j : Journal) → Stands old j → Stands new (noted Strained (came_in bytes j)))
-    → (m : List Mark) → Steps old.number Reading Shutting old new true true m (Strain old.number ∷ Call (Read old.number Client room (got.Bytes n) bytes) ∷ m)
-step_strain old new room n bytes e awaited answered keeps m =
-    subst (λ (r : ℕ). Steps old.number Reading Shutting old new true true m (Strain old.number ∷ Call (Read old.number Client r (got.Bytes n) bytes) ∷ m)) (sym e)
-    (strain_here old new n bytes awaited answered keeps m)
+    → (m : List Mark) → Hears old.number old new true true m (Strain old.number ∷ Call (Read old.number Client room (got.Bytes n) bytes) ∷ m)
+hears_strain old new room n bytes e awaited answered keeps m =
+    subst (λ (r : ℕ). Hears old.number old new true true m (Strain old.number ∷ Call (Read old.number Client r (got.Bytes n) bytes) ∷ m)) (sym e) (record {
+      steps = strain_here old new n bytes awaited answered keeps m;
+      last = λ h. record { before = Call (Read old.number Client read_room (got.Bytes n) bytes) ∷ m; parts = refl; line = refl };
+    })
 
 -- the client isn't read
-pub step_held : (b : Pair) → ((j : Journal) → Stands b j → awaits j ≡ false) → (m : List Mark) → Steps b.number Reading (Writing 0) b b false false m m
-step_held b held m = record {
-  moves = moves_none b.number m;
-  keeps = λ s. s;
-  goes = λ c ps s a. at_held c b.number ps m (held (journal b.number m) s) a;
+pub hears_held : (b : Pair) → ((j : Journal) → Stands b j → awaits j ≡ false) → (m : List Mark) → Hears b.number b b false false m m
+hears_held b held m = record {
+  steps = record {
+    moves = moves_none b.number m;
+    keeps = λ s. s;
+    goes = λ c ps s a. at_held c b.number ps m (held (journal b.number m) s) a;
+  };
+  last = λ never. absurd cc;
 }
 
 -- one write
@@ -91,20 +96,28 @@ offer_write old new bytes answer offers answered keeps m = record {
 }
 
 -- one part after another
-pub steps_then : (p : ℕ) (from over to : Stage) (old mid new : Pair) (a b : Bool) (m n k : List Mark)
-    → Steps p from over old mid a false m n → Steps p over to mid new b false n k → Steps p from to old new (a || b) false m k
-steps_then p from over to old mid new a b m n k x y = record {
-  moves = moves_then p a b m n k x.moves y.moves;
+pub steps_then : (p : ℕ) (from over to : Stage) (old mid new : Pair) (a b strained : Bool) (m n k : List Mark)
+    → Steps p from over old mid a strained m n → Steps p over to mid new b false n k → Steps p from to old new (a || b) strained m k
+steps_then p from over to old mid new a b strained m n k x y = record {
+  moves = moves_then p a b strained m n k x.moves y.moves;
   keeps = λ s. y.keeps (x.keeps s);
   goes = λ c ps s at. y.goes c ps (x.keeps s) (x.goes c ps s at);
 }
+
+-- a read, and the writes after it
+pub exchanged : (p : ℕ) (old mid new : Pair) (a b strained : Bool) (m n k : List Mark) → mid.number ≡ p
+    → Hears p old mid a strained m n → Steps mid.number (Writing 0) Shutting mid new b false n k
+    → Steps p Reading Shutting old new (a || b) strained m k
+exchanged p old mid new a b strained m n k e x y =
+    steps_then p Reading (Writing 0) Shutting old mid new a b strained m n k x.steps
+    (subst (λ (q : ℕ). Steps q (Writing 0) Shutting mid new b false n k) e y)
 
 -- writes, and one more
 offers_then : (p k : ℕ) (old mid new : Pair) (a : Bool) (answer : Put) (m n l : List Mark) → k < 4096
     → Steps p (Writing 0) (Writing k) old mid a false m n → Offers p answer mid new n l
     → Steps p (Writing 0) (after_put k answer) old new (a || put_moved answer) false m l
 offers_then p k old mid new a answer m n l few x y = record {
-  moves = moves_then p a (put_moved answer) m n l x.moves y.moves;
+  moves = moves_then p a (put_moved answer) false m n l x.moves y.moves;
   keeps = λ s. y.keeps (x.keeps s);
   goes = λ c ps s at. y.goes k few c ps (x.keeps s) (x.goes c ps s at);
 }
@@ -157,85 +170,112 @@ offers_all p k old new a m n full x = record {
   goes = λ c ps s at. at_full c p k ps n (grind (arith, nat_tests, full)) (x.goes c ps s at);
 }
 
+-- the line of a read
+heard_line : (p : ℕ) (strained : Bool) (r : List ℕ) → (if strained then r ++ memory_line p else r) ≡ r ++ heard_lines p strained
+heard_line p true r = refl
+heard_line p false r = sym (append-nil r)
+
+-- the report refused the line of want of memory, and nothing more was done
+pub turn_refused : (p : ℕ) (old new : Pair) (heard : Progress) (held held' : Option (List ℕ)) (m n : List Mark)
+    → heard.strained ≡ true → AppendsFront held held' (heard_lines p heard.strained) → Hears p old new heard.moved heard.strained m n
+    → Turns p old new (record { progress = heard; closed = false; told = false }) held held' m n
+turn_refused p old new heard held held' m n met part x =
+    let strain : StrainsLast p m n = x.last met in
+    record {
+      others = x.steps.moves.others;
+      live = x.steps.moves.live;
+      accepts = x.steps.moves.accepts;
+      turn = x.steps.moves.turn;
+      motion = x.steps.moves.motion;
+      strain = x.steps.moves.strain;
+      finish = x.steps.moves.finish;
+      reports = record {
+        lines = heard_lines p heard.strained;
+        line = x.steps.moves.line ∙ heard_line p heard.strained (report m);
+        whole = λ never. absurd cc;
+        part = cut_here held held' m strain.before n _ part strain.line
+            (record { after = Strain p ∷ []; parts = strain.parts; shuts = (refl, tt) });
+      };
+      last = λ h. subst (λ (k : List Mark). HasLineLast k) (sym strain.parts) tt;
+      keeps = λ still. x.steps.keeps;
+      goes = λ never. absurd cc;
+      rests = λ c ps behind others s f.
+          let a : At c p (Writing 0) ps n = x.steps.goes c ps s (at_face c p ps m behind others f) in
+          (a.inside, a.follows);
+    }
+
 -- the pair stays
-pub turn_stays : (p : ℕ) (old new : Pair) (progress : Progress) (held : Option (List ℕ)) (m n : List Mark)
-    → progress.strained ≡ false → ((j : Journal) → Stands new j → false ≡ shut_due j)
+pub turn_stays : (p : ℕ) (old new : Pair) (progress : Progress) (held held' : Option (List ℕ)) (m n : List Mark)
+    → Appends held held' (heard_lines p progress.strained) → ((j : Journal) → Stands new j → false ≡ shut_due j)
     → Steps p Reading Shutting old new progress.moved progress.strained m n
-    → Turns p old new (record { progress = progress; closed = false; told = true }) held held m n
-turn_stays p old new progress held m n calm stays x = record {
-  others = x.moves.others;
-  live = x.moves.live;
-  accepts = x.moves.accepts;
-  turn = x.moves.turn;
-  motion = x.moves.motion;
-  strain = x.moves.strain;
-  finish = x.moves.finish;
-  reports = record {
-    lines = [];
-    line = x.moves.line ∙ ap (λ (b : Bool). if b then report m ++ memory_line p else report m) calm ∙ sym (append-nil (report m));
-    whole = λ h. appends_none held;
-    part = cut_whole held held m n [] (appends_none held)
-        (x.moves.line ∙ ap (λ (b : Bool). if b then report m ++ memory_line p else report m) calm ∙ sym (append-nil (report m)));
-  };
-  last = λ never. absurd cc;
-  keeps = λ still. x.keeps;
-  goes = λ c ps behind others s f.
-      face_stay c p ps n (sym (stays (journal p n) (x.keeps s))) (x.goes c ps s (at_face c p ps m behind others f));
-}
-
--- the lines of a pair that was shut
-lines_then : (p : ℕ) (strained : Bool) (r : List ℕ) → (if strained then r ++ memory_line p else r) ++ closed_line p ≡ r ++ lines_of p strained
-lines_then p true r = append_assoc r (memory_line p) (closed_line p)
-lines_then p false r = refl
-
--- out failed at these lines
-cut_at : (p : ℕ) (strained moved : Bool) (held held' : Option (List ℕ)) (m n : List Mark) → AppendsFront held held' (lines_of p strained)
-    → Moves p moved strained m n → CutShort held held' m (Call (Shut p Client) ∷ n) (lines_of p strained)
-cut_at p true moved held held' m n part x =
-    let strain : StrainsLast p m n = x.last refl in
-    cut_here held held' m strain.before _ _ part strain.line
-    (record { after = Call (Shut p Client) ∷ Strain p ∷ []; parts = ap (λ (k : List Mark). Call (Shut p Client) ∷ k) strain.parts; shuts = (refl, (refl, tt)) })
-cut_at p false moved held held' m n part x = cut_here held held' m n _ _ part x.line (shut_more _ n n refl (shut_none n))
+    → Turns p old new (record { progress = progress; closed = false; told = true }) held held' m n
+turn_stays p old new progress held held' m n whole stays x =
+    let line : report n ≡ report m ++ heard_lines p progress.strained = x.moves.line ∙ heard_line p progress.strained (report m) in
+    let facing : (c : Config) (ps : List ℕ) → beyond p (lives m) ≡ ps → AreOthers p ps → Stands old (journal p m) → Facing c (p ∷ ps) m → Facing c ps n =
+    λ c ps behind others s f. face_stay c p ps n (sym (stays (journal p n) (x.keeps s))) (x.goes c ps s (at_face c p ps m behind others f)) in
+    record {
+      others = x.moves.others;
+      live = x.moves.live;
+      accepts = x.moves.accepts;
+      turn = x.moves.turn;
+      motion = x.moves.motion;
+      strain = x.moves.strain;
+      finish = x.moves.finish;
+      reports = record {
+        lines = heard_lines p progress.strained;
+        line = line;
+        whole = λ h. whole;
+        part = cut_whole held held' m n _ whole line;
+      };
+      last = λ never. absurd cc;
+      keeps = λ still. x.keeps;
+      goes = λ told. facing;
+      rests = λ c ps behind others s f.
+          let a : Facing c ps n = facing c ps behind others s f in
+          (a.inside, a.follows);
+    }
 
 -- the pair is shut
-shuts_here : (p : ℕ) (old new : Pair) (moved strained told : Bool) (held held' : Option (List ℕ)) (m n : List Mark)
-    → ((j : Journal) → Stands new j → true ≡ shut_due j)
-    → (told ≡ true → Appends held held' (lines_of p strained)) → AppendsFront held held' (lines_of p strained)
+shuts_here : (p : ℕ) (old new : Pair) (moved strained told : Bool) (held mid held' : Option (List ℕ)) (m n : List Mark)
+    → ((j : Journal) → Stands new j → true ≡ shut_due j) → Appends held mid (heard_lines p strained)
+    → (told ≡ true → Appends mid held' (closed_line p)) → AppendsFront mid held' (closed_line p)
     → Steps p Reading Shutting old new moved strained m n
     → Turns p old new (record { progress = record { moved = true; strained = strained }; closed = true; told = told }) held held' m (Call (Shut p Client) ∷ n)
-shuts_here p old new moved strained told held held' m n due whole part x = record {
-  others = λ q ne. if_other p q _ _ (λ e. ne (sym e)) ∙ x.moves.others q ne;
-  live = ap (λ (ps : List ℕ). without p ps) x.moves.live;
-  accepts = x.moves.accepts;
-  turn = x.moves.turn;
-  motion = refl;
-  strain = x.moves.strain;
-  finish = x.moves.finish;
-  reports = record {
-    lines = lines_of p strained;
-    line = ap (λ (r : List ℕ). r ++ closed_line p) x.moves.line ∙ lines_then p strained (report m);
-    whole = whole;
-    part = cut_at p strained moved held held' m n part x.moves;
-  };
-  last = λ h. tt;
-  keeps = λ still. absurd cc;
-  goes = λ c ps behind others s f.
-      face_shut c p ps n (sym (due (journal p n) (x.keeps s))) (x.goes c ps s (at_face c p ps m behind others f));
-}
+shuts_here p old new moved strained told held mid held' m n due first whole part x =
+    let line : report n ≡ report m ++ heard_lines p strained = x.moves.line ∙ heard_line p strained (report m) in
+    let facing : (c : Config) (ps : List ℕ) → beyond p (lives m) ≡ ps → AreOthers p ps → Stands old (journal p m) → Facing c (p ∷ ps) m
+    → Facing c ps (Call (Shut p Client) ∷ n) =
+    λ c ps behind others s f. face_shut c p ps n (sym (due (journal p n) (x.keeps s))) (x.goes c ps s (at_face c p ps m behind others f)) in
+    record {
+      others = λ q ne. if_other p q _ _ (λ e. ne (sym e)) ∙ x.moves.others q ne;
+      live = ap (λ (ps : List ℕ). without p ps) x.moves.live;
+      accepts = x.moves.accepts;
+      turn = x.moves.turn;
+      motion = refl;
+      strain = x.moves.strain;
+      finish = x.moves.finish;
+      reports = record {
+        lines = heard_lines p strained ++ closed_line p;
+        line = ap (λ (r : List ℕ). r ++ closed_line p) line ∙ append_assoc (report m) (heard_lines p strained) (closed_line p);
+        whole = λ h. appends_then held mid held' _ _ first (whole h);
+        part = cut_then held mid held' m n _ _ _ first line (cut_here mid held' n n _ _ part refl (shut_more _ n n refl (shut_none n)));
+      };
+      last = λ h. tt;
+      keeps = λ still. absurd cc;
+      goes = λ h. facing;
+      rests = λ c ps behind others s f.
+          let a : Facing c ps (Call (Shut p Client) ∷ n) = facing c ps behind others s f in
+          (a.inside, a.follows);
+    }
 
-pub turn_shuts : (p : ℕ) (old new : Pair) (moved strained told : Bool) (held held' : Option (List ℕ)) (m n l : List Mark)
-    → ((j : Journal) → Stands new j → true ≡ shut_due j)
-    → (told ≡ true → Appends held held' (lines_of p strained)) → AppendsFront held held' (lines_of p strained)
+pub turn_shuts : (p : ℕ) (old new : Pair) (moved strained told : Bool) (held mid held' : Option (List ℕ)) (m n l : List Mark)
+    → ((j : Journal) → Stands new j → true ≡ shut_due j) → Appends held mid (heard_lines p strained)
+    → (told ≡ true → Appends mid held' (closed_line p)) → AppendsFront mid held' (closed_line p)
     → Steps p Reading Shutting old new moved strained m n → Adds (Shut p Client) n l
     → Turns p old new (record { progress = record { moved = true; strained = strained }; closed = true; told = told }) held held' m l
-turn_shuts p old new moved strained told held held' m n l due whole part x y =
+turn_shuts p old new moved strained told held mid held' m n l due first whole part x y =
     subst (λ (k : List Mark). Turns p old new (record { progress = record { moved = true; strained = strained }; closed = true; told = told }) held held' m k) (sym y.one)
-    (shuts_here p old new moved strained told held held' m n due whole part x)
-
--- a pair that isn't to be shut met no want of memory
-pub is_calm : (strained due : Bool) → (strained ≡ true → due ≡ true) → due ≡ false → strained ≡ false
-is_calm true due f e = absurd (let t : due ≡ true = f refl in cc)
-is_calm false due f e = refl
+    (shuts_here p old new moved strained told held mid held' m n due first whole part x)
 
 -- what a test of a field that is negated says
 pub is_false : (b : Bool) → not b ≡ true → b ≡ false

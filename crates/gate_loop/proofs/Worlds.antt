@@ -13,10 +13,10 @@ use Rattle.gate_loop.specs.declared.pair.Pair.{Pair}
 use Rattle.gate_loop.specs.declared.service.Service.{Service}
 use Rattle.gate_loop.specs.declared.service.Visit.{Visit}
 use Rattle.gate_loop.specs.Marks.{Mark}
-use Rattle.gate_loop.specs.Next.{beyond, without, lives, strain_count}
+use Rattle.gate_loop.specs.Next.{Follows, place, beyond, without, lives}
 use Rattle.gate_loop.specs.Journal.{journal}
 use Rattle.gate_loop.specs.Stands.{Stands}
-use Rattle.gate_loop.specs.Steps.{IsRising, AreOthers, numbers, numbers_from, client_ends, ends_after, Crew, World, Turns, VisitsAt, Facing, place_after, lives_after}
+use Rattle.gate_loop.specs.Steps.{is_inside, IsRising, AreOthers, numbers, numbers_from, client_ends, ends_after, Crew, World, Turns, VisitsAt, Facing, place_after, lives_after}
 use Rattle.gate_loop.proofs.Crews.{StandsIn, split_beyond, split_without, split_set, split_back, set_ends, set_rising, remove_rising, all_set, all_remove, all_middle, all_others, split_open, split_closed, stand_set, stand_remove}
 
 -- b stands in the list behind so many others
@@ -44,12 +44,12 @@ from_next at front b back e =
     subst (λ (n : ℕ). drop (n + 1) (front ++ b ∷ back) ≡ back) e (drop-append-add front (b ∷ back) 1)
 
 -- what the lists of the live pairs and of the numbers are
-pub record Stays (at : ℕ) (front : List Pair) (b new : Pair) (back : List Pair) (s t : Service) : Type 0 where
+pub record Stays (at : ℕ) (front : List Pair) (b new : Pair) (back : List Pair) (strained : Bool) (s t : Service) : Type 0 where
   pub old : IsAt s.live.items at front b back
   pub new_is : t.live.items ≡ front ++ new ∷ back
   pub number : new.number ≡ b.number
   pub accepts : t.accepted ≡ s.accepted
-  pub strain : t.strained ≡ s.strained
+  pub strain : t.strained ≡ (if strained then s.strained + 1 else s.strained)
 
 pub record Leaves (at : ℕ) (front : List Pair) (b : Pair) (back : List Pair) (strained : Bool) (s t : Service) : Type 0 where
   pub old : IsAt s.live.items at front b back
@@ -58,9 +58,9 @@ pub record Leaves (at : ℕ) (front : List Pair) (b : Pair) (back : List Pair) (
   pub strain : t.strained ≡ (if strained then s.strained + 1 else s.strained)
 
 -- the open ends are still those of the live pairs
-pub crew_stays : (at : ℕ) (front : List Pair) (b new : Pair) (back : List Pair) (s t : Service) (pairs : ℕ) (ends : List (ℕ × End))
-    → Stays at front b new back s t → Crew s pairs ends → Crew t pairs ends
-crew_stays at front b new back s t pairs ends y c = record {
+pub crew_stays : (at : ℕ) (front : List Pair) (b new : Pair) (back : List Pair) (strained : Bool) (s t : Service) (pairs : ℕ) (ends : List (ℕ × End))
+    → Stays at front b new back strained s t → Crew s pairs ends → Crew t pairs ends
+crew_stays at front b new back strained s t pairs ends y c = record {
   accepts = y.accepts ∙ c.accepts;
   rising = rw y.new_is (set_rising 0 front back b new y.number (subst (λ (xs : List Pair). IsRising 0 xs) y.old.whole c.rising));
   below =
@@ -99,9 +99,10 @@ others_ready at front b back live i rising =
     all_others b.number (b.number + 1) back (omega arith) (split_back 0 front back b (subst (λ (xs : List Pair). IsRising 0 xs) i.whole rising))
 
 -- the numbers behind the pair, where it stays and where it leaves
-behind_stays : (at : ℕ) (front : List Pair) (b new : Pair) (back : List Pair) (s t : Service) (closed : Bool) → Stays at front b new back s t → closed ≡ false
+behind_stays : (at : ℕ) (front : List Pair) (b new : Pair) (back : List Pair) (s t : Service) (strained closed : Bool) → Stays at front b new back strained s t
+    → closed ≡ false
     → numbers_from (place_after closed at) t ≡ numbers back
-behind_stays at front b new back s t closed y still =
+behind_stays at front b new back s t strained closed y still =
     ap (λ (c : Bool). numbers_from (place_after c at) t) still
     ∙ ap (λ (xs : List Pair). numbers (drop (at + 1) xs)) y.new_is
     ∙ ap numbers (from_next at front new back y.old.before)
@@ -117,20 +118,36 @@ behind_leaves at front b back s t strained closed y gone =
 middle_stands : (at : ℕ) (front : List Pair) (b : Pair) (back : List Pair) (s : Service) (m : List Mark) → IsAt s.live.items at front b back → World s m → StandsIn m b
 middle_stands at front b back s m i w = all_middle (StandsIn m) front back b (subst (λ (xs : List Pair). AllByRecursion (StandsIn m) xs) i.whole w.stands)
 
+-- what the turn of the pair asks before it
+record Ready (b : Pair) (back : List Pair) (c : Config) (m : List Mark) : Type 0 where
+  behind : beyond b.number (lives m) ≡ numbers back
+  others : AreOthers b.number (numbers back)
+  stands : StandsIn m b
+  facing : Facing c (b.number ∷ numbers back) m
+
+ready : (at : ℕ) (front : List Pair) (b : Pair) (back : List Pair) (s : Service) (m : List Mark) → IsAt s.live.items at front b back
+    → IsRising 0 s.live.items → (c : Config) → World s m → Facing c (numbers_from at s) m → Ready b back c m
+ready at front b back s m i rising c w f = record {
+  behind = turn_ready at front b back s m i rising w;
+  others = others_ready at front b back s.live.items i rising;
+  stands = middle_stands at front b back s m i w;
+  facing = subst (λ (xs : List Pair). Facing c (numbers xs) m) (from_here s.live.items at front b back i) f;
+}
+
 -- the places go on
-faces : (at : ℕ) (front : List Pair) (b new : Pair) (back : List Pair) (s : Service) (visit : Visit) (held held' : Option (List ℕ)) (m n : List Mark)
-    → IsAt s.live.items at front b back → IsRising 0 s.live.items → Turns b.number b new visit held held' m n
-    → (c : Config) → World s m → Facing c (numbers_from at s) m → Facing c (numbers back) n
-faces at front b new back s visit held held' m n i rising x c w f =
-    x.goes c (numbers back) (turn_ready at front b back s m i rising w) (others_ready at front b back s.live.items i rising)
-    (middle_stands at front b back s m i w)
-    (subst (λ (xs : List Pair). Facing c (numbers xs) m) (from_here s.live.items at front b back i) f)
+faces : (b new : Pair) (back : List Pair) (visit : Visit) (held held' : Option (List ℕ)) (m n : List Mark) → Turns b.number b new visit held held' m n
+    → visit.told ≡ true → (c : Config) → Ready b back c m → Facing c (numbers back) n
+faces b new back visit held held' m n x told c y = x.goes told c (numbers back) y.behind y.others y.stands y.facing
+
+rests_after : (b new : Pair) (back : List Pair) (visit : Visit) (held held' : Option (List ℕ)) (m n : List Mark) → Turns b.number b new visit held held' m n
+    → (c : Config) → Ready b back c m → (is_inside (place n) ≡ true) × Follows c n
+rests_after b new back visit held held' m n x c y = x.rests c (numbers back) y.behind y.others y.stands y.facing
 
 -- the turn of a pair that stays
 pub visit_stays : (at : ℕ) (front : List Pair) (b new : Pair) (back : List Pair) (s t : Service) (visit : Visit) (held held' : Option (List ℕ)) (m n : List Mark)
-    → Stays at front b new back s t → IsRising 0 s.live.items → visit.closed ≡ false → visit.progress.strained ≡ false
+    → Stays at front b new back visit.progress.strained s t → IsRising 0 s.live.items → visit.closed ≡ false
     → Turns b.number b new visit held held' m n → VisitsAt at s t visit held held' m n
-visit_stays at front b new back s t visit held held' m n y rising still calm x =
+visit_stays at front b new back s t visit held held' m n y rising still x =
     let split : IsRising 0 (front ++ b ∷ back) = subst (λ (xs : List Pair). IsRising 0 xs) y.old.whole rising in
     record {
       world = λ w.
@@ -142,15 +159,16 @@ visit_stays at front b new back s t visit held held' m n y rising still calm x =
             live = x.live ∙ ap (λ (c : Bool). lives_after c b.number (lives m)) still ∙ w.live ∙ ap numbers y.old.whole
                 ∙ sym (split_set front back b new y.number) ∙ sym (ap numbers y.new_is);
             accepts = x.accepts ∙ w.accepts ∙ sym y.accepts;
-            strain = x.strain ∙ ap (λ (b : Bool). if b then strain_count m + 1 else strain_count m) calm ∙ w.strain ∙ sym y.strain;
+            strain = x.strain ∙ ap (λ (k : ℕ). if visit.progress.strained then k + 1 else k) w.strain ∙ sym y.strain;
             finish = x.finish ∙ w.finish;
           };
       turn = x.turn;
       motion = x.motion;
       reports = x.reports;
       last = x.last;
-      goes = λ c w f. subst (λ (ps : List ℕ). Facing c ps n) (sym (behind_stays at front b new back s t visit.closed y still))
-          (faces at front b new back s visit held held' m n y.old rising x c w f);
+      goes = λ told c w f. subst (λ (ps : List ℕ). Facing c ps n) (sym (behind_stays at front b new back s t visit.progress.strained visit.closed y still))
+          (faces b new back visit held held' m n x told c (ready at front b back s m y.old rising c w f));
+      rests = λ c w f. rests_after b new back visit held held' m n x c (ready at front b back s m y.old rising c w f);
     }
 
 -- the turn of a pair that is shut
@@ -175,15 +193,16 @@ visit_leaves at front b new back s t visit held held' m n y rising gone x =
       motion = x.motion;
       reports = x.reports;
       last = x.last;
-      goes = λ c w f. subst (λ (ps : List ℕ). Facing c ps n) (sym (behind_leaves at front b back s t visit.progress.strained visit.closed y gone))
-          (faces at front b new back s visit held held' m n y.old rising x c w f);
+      goes = λ told c w f. subst (λ (ps : List ℕ). Facing c ps n) (sym (behind_leaves at front b back s t visit.progress.strained visit.closed y gone))
+          (faces b new back visit held held' m n x told c (ready at front b back s m y.old rising c w f));
+      rests = λ c w f. rests_after b new back visit held held' m n x c (ready at front b back s m y.old rising c w f);
     }
 
 -- the pair at a place was changed, or taken out
-pub stays_of : (at : ℕ) (b new : Pair) (s t : Service) → at < length s.live.items → b ≡ get_or s.live.items at b
-    → t.live.items ≡ set s.live.items at new → new.number ≡ b.number → t.accepted ≡ s.accepted → t.strained ≡ s.strained
-    → Stays at (take at s.live.items) b new (drop (suc at) s.live.items) s t
-stays_of at b new s t lt here e number accepts strain = record {
+pub stays_of : (at : ℕ) (b new : Pair) (strained : Bool) (s t : Service) → at < length s.live.items → b ≡ get_or s.live.items at b
+    → t.live.items ≡ set s.live.items at new → new.number ≡ b.number → t.accepted ≡ s.accepted → t.strained ≡ (if strained then s.strained + 1 else s.strained)
+    → Stays at (take at s.live.items) b new (drop (suc at) s.live.items) strained s t
+stays_of at b new strained s t lt here e number accepts strain = record {
   old = is_at s.live.items at b lt here;
   new_is = e ∙ set_split s.live.items at new lt;
   number = number;

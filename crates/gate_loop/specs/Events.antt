@@ -1,15 +1,14 @@
 -- The entries of one pair's journal, and what they amount to. All lists are newest first.
-use Rattle.std.specs.Prelude.{ℕ, ◌+◌, Bool, true, false, List, [], ◌∷◌, Option, None, Some}
+use Rattle.std.specs.Prelude.{ℕ, Bool, true, false, List, [], ◌∷◌, ◌++◌, Option, None, Some}
 use Rattle.gate_outside.specs.declared.ports.End.{End}
 use Rattle.gate_outside.specs.declared.ports.End.TheVariants.{Client}
 use Rattle.gate_outside.specs.declared.ports.Linked.{Linked}
 use Rattle.gate_loop.specs.declared.config.Served.{Served}
-use Rattle.gate_loop.specs.declared.units.Unit91.{Unit91}
-use Rattle.gate_loop.specs.declared.units.Unit91.TheVariants as unit91
-use Rattle.gate_loop.specs.declared.units.Phase.{Phase}
-use Rattle.gate_loop.specs.declared.units.Phase.TheVariants.{Header, Started, Refused, Closing}
+use Rattle.machine_091.specs.declared.unit.Unit91.{Unit91}
+use Rattle.gate_loop.specs.declared.talk.Talk.{Talk}
 use Rattle.gate_loop.specs.declared.units.Reply.{Reply}
 use Rattle.gate_loop.specs.declared.units.Loss.{Loss}
+use Rattle.gate_loop.specs.Talks.{new_talk, after_unit, after_moment, after_strain, after_begun, after_gone}
 
 pub data Event : Type 0 where
   -- the pair was accepted at this moment
@@ -39,41 +38,32 @@ pub data Event : Type 0 where
   -- the service ended
   Over : Served → Event
 
--- how far the client's stream is once one more unit came: the protocol header comes first, then a frame
-abbrev pub phase_after : Phase → Unit91 → Phase
-phase_after Header unit91.Protocol = Started
-phase_after Header (unit91.Frame frame) = Refused
-phase_after Header unit91.Bad = Refused
-phase_after Started unit = Closing
-phase_after Refused unit = Refused
-phase_after Closing unit = Closing
-
--- the units of the client that came
+-- the units of the client that came, in their order
 abbrev pub units : List Event → List Unit91
 units [] = []
-units (Came unit ∷ h) = unit ∷ units h
+units (Came unit ∷ h) = units h ++ unit ∷ []
 units (x ∷ h) = units h
 
--- how far a stream with these units has come
-abbrev pub stream_of : List Unit91 → Phase
-stream_of [] = Header
-stream_of (unit ∷ us) = phase_after (stream_of us) unit
+-- the units to the client of which the first byte was taken, in their order
+abbrev pub sent : List Event → List Reply
+sent [] = []
+sent (Went unit ∷ h) = sent h ++ unit ∷ []
+sent (x ∷ h) = sent h
 
--- how far the client's stream has come
-abbrev pub phase : List Event → Phase
-phase h = stream_of (units h)
+-- what was said between the gateway and the client; where `over` is true the units of the last read are passed over
+abbrev pub talk_by : List Event → Bool → Talk
+talk_by [] over = new_talk 0
+talk_by (Came unit ∷ h) true = talk_by h true
+talk_by (Came unit ∷ h) false = after_unit (talk_by h false) unit
+talk_by (Began ms ∷ h) over = new_talk ms
+talk_by (Moment ms ∷ h) over = after_moment ms (talk_by h false)
+talk_by (Strained ∷ h) over = after_strain (talk_by h true)
+talk_by (Went unit ∷ h) over = after_begun unit (talk_by h false)
+talk_by (Taken ∷ h) over = after_gone (talk_by h false)
+talk_by (x ∷ h) over = talk_by h false
 
--- the count of the units to the client of which the first byte was taken
-abbrev pub begun_count : List Event → ℕ
-begun_count [] = 0
-begun_count (Went unit ∷ h) = begun_count h + 1
-begun_count (x ∷ h) = begun_count h
-
--- the count of those of which the last byte was taken
-abbrev pub gone_count : List Event → ℕ
-gone_count [] = 0
-gone_count (Taken ∷ h) = gone_count h + 1
-gone_count (x ∷ h) = gone_count h
+abbrev pub talk : List Event → Talk
+talk h = talk_by h false
 
 -- how the client's end was lost
 abbrev pub client_loss : List Event → Option Loss

@@ -1,8 +1,10 @@
 -- The bytes that the gateway writes, in the standard's terms.
 use Rattle.std.specs.Prelude.{ℕ, List, [], ◌∷◌, ◌++◌, length, codes}
-use Rattle.std.specs.Int.{w16, w32, to_be_bytes}
-use Rattle.frames_091.specs.declared.frame.Kind91.TheVariants.{Method}
+use Rattle.std.specs.Int.{w32, to_be_bytes}
+use Rattle.frames_091.specs.declared.frame.Kind91.TheVariants.{Method, Heartbeat}
 use Rattle.frames_091.specs.Frames.{frame_text}
+use Rattle.methods_091.specs.Closing.{control_text}
+use Rattle.methods_091.specs.declared.method.Method91.TheVariants.{ConnectionTune}
 
 -- a short and a long string (AMQP 0-9-1 4.2.5.3)
 abbrev pub short_string : List ℕ → List ℕ
@@ -40,12 +42,11 @@ start_frame =
     method_frame (0 ∷ 10 ∷ 0 ∷ 10 ∷ 0 ∷ 9 ∷ []
     ++ long_string properties ++ long_string (codes "PLAIN ANONYMOUS") ++ long_string (codes "en_US"))
 
--- connection.close: class 10, method 50, the reply code, its text, and the class and method that it is about, none here
--- (AMQP 0-9-1 reference 1.4.2.8)
-abbrev pub close_with : ℕ → List ℕ → List ℕ
-close_with code text =
-    method_frame (0 ∷ 10 ∷ 0 ∷ 50 ∷ [] ++ to_be_bytes w16 code ++ short_string text ++ to_be_bytes w16 0 ++ to_be_bytes w16 0)
+-- connection.tune: the greatest number of a channel, the greatest size of a frame, and the interval of heartbeats in seconds
+-- (AMQP 0-9-1 reference 1.4.2.5)
+unfoldable pub tune_frame : List ℕ
+tune_frame = control_text (ConnectionTune 255 131072 60)
 
--- not implemented (AMQP 0-9-1 reference 1.1)
-unfoldable pub close_frame : List ℕ
-close_frame = close_with 540 (codes "NOT_IMPLEMENTED")
+-- a heartbeat (AMQP 0-9-1 4.2.7)
+abbrev pub heartbeat_frame : List ℕ
+heartbeat_frame = frame_text (record { kind = Heartbeat; channel = 0; payload = [] })

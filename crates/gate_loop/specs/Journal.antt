@@ -1,5 +1,5 @@
 -- The journal of a pair: what a marked history says of it. All lists are newest first.
-use Rattle.std.specs.Prelude.{ℕ, ◌==◌, ◌≤◌, Bool, true, false, if◌then◌else◌, List, [], ◌∷◌, ◌++◌, length, drop, Option, None, Some}
+use Rattle.std.specs.Prelude.{ℕ, zero, suc, ◌==◌, ◌≤◌, Bool, true, false, if◌then◌else◌, List, [], ◌∷◌, ◌++◌, length, drop, Option, None, Some}
 use Rattle.std.specs.Option.{option_map}
 use Rattle.gate_outside.specs.declared.ports.End.{End}
 use Rattle.gate_outside.specs.declared.ports.End.TheVariants.{Client, Up}
@@ -13,14 +13,15 @@ use Rattle.wire_base.specs.declared.scan.Scan.{Scan}
 use Rattle.wire_base.specs.declared.scan.Scan.TheVariants.{Whole, More, Bad}
 use Rattle.frames_091.specs.FrameScan.{scan_of}
 use Rattle.frames_091.specs.Headers.{header_scan}
-use Rattle.gate_loop.specs.declared.units.Unit91.{Unit91}
-use Rattle.gate_loop.specs.declared.units.Unit91.TheVariants as unit91
-use Rattle.gate_loop.specs.declared.units.Phase.{Phase}
-use Rattle.gate_loop.specs.declared.units.Phase.TheVariants.{Header, Started, Refused, Closing}
+use Rattle.machine_091.specs.declared.connection.Conn91.{Conn91}
+use Rattle.machine_091.specs.declared.connection.Phase91.{Phase91}
+use Rattle.machine_091.specs.declared.connection.Phase91.TheVariants as phase
+use Rattle.machine_091.specs.declared.unit.Unit91.{Unit91}
+use Rattle.machine_091.specs.declared.unit.Unit91.TheVariants as unit91
 use Rattle.gate_loop.specs.declared.units.Reply.{Reply}
 use Rattle.gate_loop.specs.declared.units.Loss.TheVariants as loss
 use Rattle.gate_loop.specs.Marks.{Mark, Call, Strain, Finish}
-use Rattle.gate_loop.specs.Events.{Event, Began, Moment, Heard, Came, Dry, Stuck, Lost, Offered, Went, Taken, Joined, Strained, Over, phase, client_loss, is_strained}
+use Rattle.gate_loop.specs.Events.{Event, Began, Moment, Heard, Came, Dry, Stuck, Lost, Offered, Went, Taken, Joined, Strained, Over, talk, client_loss, is_strained}
 use Rattle.gate_loop.specs.Due.{is_awaited, takes_bytes, pick, spelling, is_shut_due}
 
 pub record Journal : Type 0 where
@@ -52,45 +53,62 @@ moment (x ∷ m) = moment m
 abbrev pub came : ℕ → Journal
 came ms = record { events = Began ms ∷ []; unread = []; begun = [] }
 
--- the most bytes of a client's frame before connection.tune was answered
-unfoldable pub first_frame_max : ℕ
-first_frame_max = 131072
+-- the reply code of bytes with which no frame begins (AMQP 0-9-1 reference 1.1); the protocol header has none
+abbrev pub frame_error : ℕ
+frame_error = 501
 
--- what a scan of a stream finds, as a unit
-abbrev pub as_unit : {A F : Type 0} → (A → Unit91) → Scan A F → Scan Unit91 (Unit {0})
-as_unit make (Whole x n) = Whole (make x) n
-as_unit make More = More
-as_unit make (Bad fault) = Bad tt
+-- what a scan of a stream finds, as a unit, or the reply code of bad bytes
+abbrev pub as_unit : {A F : Type 0} → (A → Unit91) → ℕ → Scan A F → Scan Unit91 ℕ
+as_unit make code (Whole x n) = Whole (make x) n
+as_unit make code More = More
+as_unit make code (Bad fault) = Bad code
 
--- the unit with which bytes begin: first the protocol header, then frames (AMQP 0-9-1 4.2.2 and 4.2.3)
-abbrev pub unit_scan : Phase → List ℕ → Scan Unit91 (Unit {0})
-unit_scan Header bytes = as_unit (λ header. unit91.Protocol) (header_scan bytes)
-unit_scan Started bytes = as_unit unit91.Frame (scan_of first_frame_max bytes)
-unit_scan Refused bytes = More
-unit_scan Closing bytes = More
+-- the unit with which bytes begin: first the protocol header, then frames within the limit that is agreed (AMQP 0-9-1 4.2.2 and 4.2.3)
+abbrev pub scan_in : Phase91 → ℕ → List ℕ → Scan Unit91 ℕ
+scan_in phase.Header limit bytes = as_unit (λ header. unit91.Protocol) 0 (header_scan bytes)
+scan_in phase.Start limit bytes = as_unit unit91.Frame frame_error (scan_of limit bytes)
+scan_in phase.Tune limit bytes = as_unit unit91.Frame frame_error (scan_of limit bytes)
+scan_in phase.Open limit bytes = as_unit unit91.Frame frame_error (scan_of limit bytes)
+scan_in phase.Closing limit bytes = as_unit unit91.Frame frame_error (scan_of limit bytes)
+scan_in phase.Closed limit bytes = as_unit unit91.Frame frame_error (scan_of limit bytes)
 
--- no more bytes are cut off than there are
-abbrev pub IsWithin : List ℕ → Scan Unit91 (Unit {0}) → Type 0
-IsWithin bytes (Whole unit n) = n ≤ length bytes
+abbrev pub unit_scan : Conn91 → List ℕ → Scan Unit91 ℕ
+unit_scan c bytes = scan_in c.phase c.limits.frame_max bytes
+
+-- of a unit that was found some bytes are cut off, and no more than there are
+abbrev pub IsWithin : List ℕ → Scan Unit91 ℕ → Type 0
+IsWithin bytes (Whole unit n) = (1 ≤ n) × (n ≤ length bytes)
 IsWithin bytes More = Unit {0}
-IsWithin bytes (Bad fault) = Unit {0}
+IsWithin bytes (Bad code) = Unit {0}
 
 -- the unit that was found is taken up
-abbrev pub taken_up : Scan Unit91 (Unit {0}) → Journal → Journal
+abbrev pub taken_up : Scan Unit91 ℕ → Journal → Journal
 taken_up (Whole unit n) j = record { events = Came unit ∷ j.events; unread = drop n j.unread; begun = j.begun }
 taken_up More j = j
-taken_up (Bad fault) j = noted (Came unit91.Bad) j
+taken_up (Bad code) j = noted (Came (unit91.Bad code)) j
 
 abbrev pub awaits : Journal → Bool
-awaits j = is_awaited (phase j.events) (client_loss j.events) (is_strained j.events)
+awaits j = is_awaited (talk j.events) (client_loss j.events) (is_strained j.events)
 
 -- the unit with which the client's bytes begin is cut off, where one is awaited
 abbrev pub cut : Journal → Journal
-cut j = if awaits j then taken_up (unit_scan (phase j.events) j.unread) j else j
+cut j = if awaits j then taken_up (unit_scan (talk j.events).conn j.unread) j else j
 
--- bytes came: they may make the protocol header whole, and then a frame
+-- so many are
+abbrev pub cuts : ℕ → Journal → Journal
+cuts zero j = j
+cuts (suc n) j = cuts n (cut j)
+
+-- all are: there are no more units than bytes
+abbrev pub cut_all : Journal → Journal
+cut_all j = cuts (length j.unread) j
+
+-- bytes came, and the units that they make whole
+abbrev pub heard : List ℕ → Journal → Journal
+heard bytes j = record { events = Heard Client ∷ j.events; unread = j.unread ++ bytes; begun = j.begun }
+
 abbrev pub came_in : List ℕ → Journal → Journal
-came_in bytes j = cut (cut (record { events = Heard Client ∷ j.events; unread = j.unread ++ bytes; begun = j.begun }))
+came_in bytes j = cut_all (heard bytes j)
 
 abbrev pub read_at : End → Got → List ℕ → Journal → Journal
 read_at Client (got.Bytes n) bytes j = came_in bytes j
@@ -158,7 +176,7 @@ rest_or_pick [] unit = option_map spelling unit
 rest_or_pick (b ∷ rest) unit = Some (b ∷ rest)
 
 abbrev pub offer : Journal → Option (List ℕ)
-offer j = if takes_bytes (client_loss j.events) (is_strained j.events) then rest_or_pick j.begun (pick j.events Client) else None
+offer j = if takes_bytes (client_loss j.events) then rest_or_pick j.begun (pick j.events Client) else None
 
 abbrev pub shut_due : Journal → Bool
 shut_due j = is_shut_due j.events

@@ -10,3 +10,4 @@ pub mod Report
 pub mod Serving
 pub mod Stands
 pub mod Steps
+pub mod Talks

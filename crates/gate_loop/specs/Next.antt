@@ -150,7 +150,7 @@ after_shut p x = Beyond p
 
 abbrev pub after_strain : ℕ → Place → Place
 after_strain p Round = Refuse p
-after_strain p x = Visit p Shutting
+after_strain p x = Visit p (Writing 0)
 
 -- the place after a call
 abbrev pub after : LogEntry → Place → Place
@@ -251,16 +251,17 @@ StrainsAt p (Call (Accept (accepted.Pair q)) ∷ m) = q ≡ p
 StrainsAt p (Call (Read q end room (got.Bytes n) bytes) ∷ m) = q ≡ p
 StrainsAt p m = ⊥
 
--- the last call shut a client's end
-abbrev pub HasShutLast : List Mark → Type 0
-HasShutLast (Call (Shut p Client) ∷ m) = Unit {0}
-HasShutLast m = ⊥
+-- the last that happened has a line in the report: a client's end was shut, or want of memory was met for a pair
+abbrev pub HasLineLast : List Mark → Type 0
+HasLineLast (Call (Shut p Client) ∷ m) = Unit {0}
+HasLineLast (Strain p ∷ m) = Unit {0}
+HasLineLast m = ⊥
 
--- the service ends as comes next; for want of memory before the first call alone; and for a failed out where an end was shut
--- last, whose lines out refused
+-- the service ends as comes next; for want of memory before the first call alone; and for a failed out where the last
+-- that happened has a line, which out refused
 abbrev pub EndsBy : Served → List Mark → Upcoming → Type 0
 EndsBy Memory m up = m ≡ []
-EndsBy (Fault outside.Out) m up = HasShutLast m
+EndsBy (Fault outside.Out) m up = HasLineLast m
 EndsBy (Fault outside.Accept) m up = up ≡ EndBy (Fault outside.Accept)
 EndsBy Stopped m up = up ≡ EndBy Stopped
 EndsBy PairsDone m up = up ≡ EndBy PairsDone

@@ -36,7 +36,11 @@ last_line (Fault outside.Accept) accepted = codes "fault: accept\n"
 last_line (Fault outside.Out) accepted = []
 last_line Memory accepted = codes "memory\n"
 
--- the lines of a pair that was shut, after want of memory or not
-abbrev pub lines_of : ℕ → Bool → List ℕ
-lines_of p true = memory_line p ++ closed_line p
-lines_of p false = closed_line p
+-- the lines of a pair that was turned away: it met want of memory at its accept, and was shut
+abbrev pub refused_lines : ℕ → List ℕ
+refused_lines p = memory_line p ++ closed_line p
+
+-- the lines of a read, after want of memory or not
+abbrev pub heard_lines : ℕ → Bool → List ℕ
+heard_lines p true = memory_line p
+heard_lines p false = []

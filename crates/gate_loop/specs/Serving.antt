@@ -12,7 +12,7 @@ use Rattle.gate_loop.specs.Marks.{Mark, Call, Strain, Finish}
 use Rattle.gate_loop.specs.Next.{Follows, Done, next, lives, accepted_count, strain_count, finish_of}
 use Rattle.gate_loop.specs.Report.{report, last_line}
 
--- what may come after out failed: a client's end is shut, or the service ends; a pair's want of memory is told once it is shut
+-- what may stand behind the marks whose lines out took: want of memory, whose line it refused; an end is shut; the service ends
 abbrev pub is_shutting : Mark → Bool
 is_shutting (Call (Shut p Client)) = true
 is_shutting (Strain p) = true

@@ -19,11 +19,11 @@ use Rattle.gate_loop.specs.declared.service.Service.{Service}
 use Rattle.gate_loop.specs.declared.service.Visit.{Visit}
 use Rattle.wire_base.specs.declared.memory.Memory.{Memory as Wanting}
 use Rattle.gate_loop.specs.Marks.{Mark, Call, Strain}
-use Rattle.gate_loop.specs.Journal.{journal, came}
-use Rattle.gate_loop.specs.Stands.{Stands}
+use Rattle.gate_loop.specs.Journal.{journal, came, moment}
+use Rattle.gate_loop.specs.Stands.{Stands, AreTold}
 use Rattle.gate_loop.specs.Report.{report, memory_line, last_line}
 use Rattle.gate_loop.specs.Serving.{OnlyShutSince, CutShort, IsTold}
-use Rattle.gate_loop.specs.Next.{Do, EndBy, Done, AskAccept, AskNow, Stage, Reading, Writing, Shutting, Place, Begin, Refuse, Stopping, Closing, place, writes_of, visit, round, rest, begin, beyond, without, next, is_closing, is_done, EndsBy, HasShutLast, Follows, lives, accepted_count, turns_begun, has_moved, strain_count, finish_of}
+use Rattle.gate_loop.specs.Next.{Do, EndBy, Done, AskAccept, AskNow, Stage, Reading, Writing, Shutting, Place, Begin, Refuse, Stopping, Closing, place, writes_of, visit, round, rest, begin, beyond, without, next, is_closing, is_done, EndsBy, HasLineLast, Follows, lives, accepted_count, turns_begun, has_moved, strain_count, finish_of}
 
 -- one call was made
 pub record Adds (entry : LogEntry) (m n : List Mark) : Type 0 where
@@ -84,7 +84,6 @@ pub record Moves (p : ℕ) (moved strained : Bool) (m n : List Mark) : Type 0 wh
   pub strain : strain_count n ≡ (if strained then strain_count m + 1 else strain_count m)
   pub line : report n ≡ (if strained then report m ++ memory_line p else report m)
   pub finish : finish_of n ≡ finish_of m
-  pub last : strained ≡ true → StrainsLast p m n
 
 -- the pair's state follows its journal
 abbrev pub Keeps : ℕ → Pair → Pair → List Mark → List Mark → Type 0
@@ -100,10 +99,10 @@ pub record Steps (p : ℕ) (from to : Stage) (old new : Pair) (moved strained : 
   pub keeps : Keeps p old new m n
   pub goes : GoesOn p from to old m n
 
--- after its read a pair is written to, or shut where it met want of memory
-abbrev pub after_read : Bool → Stage
-after_read true = Shutting
-after_read false = Writing 0
+-- the read of a pair's turn, if there is one: where want of memory was met, nothing happened since
+pub record Hears (p : ℕ) (old new : Pair) (moved strained : Bool) (m n : List Mark) : Type 0 where
+  pub steps : Steps p Reading (Writing 0) old new moved strained m n
+  pub last : strained ≡ true → StrainsLast p m n
 
 -- a write moves the turn unless it took nothing yet
 abbrev pub put_moved : Put → Bool
@@ -149,10 +148,12 @@ pub record Turns (p : ℕ) (old new : Pair) (visit : Visit) (held held' : Option
   pub strain : strain_count n ≡ (if visit.progress.strained then strain_count m + 1 else strain_count m)
   pub finish : finish_of n ≡ finish_of m
   pub reports : Reports visit.told held held' m n
-  pub last : visit.told ≡ false → HasShutLast n
+  pub last : visit.told ≡ false → HasLineLast n
   pub keeps : visit.closed ≡ false → Keeps p old new m n
-  pub goes : (c : Config) (ps : List ℕ) → beyond p (lives m) ≡ ps → AreOthers p ps → Stands old (journal p m)
+  pub goes : visit.told ≡ true → (c : Config) (ps : List ℕ) → beyond p (lives m) ≡ ps → AreOthers p ps → Stands old (journal p m)
       → Facing c (p ∷ ps) m → Facing c ps n
+  pub rests : (c : Config) (ps : List ℕ) → beyond p (lives m) ≡ ps → AreOthers p ps → Stands old (journal p m)
+      → Facing c (p ∷ ps) m → (is_inside (place n) ≡ true) × Follows c n
 
 -- the numbers of the live pairs
 abbrev pub numbers : List Pair → List ℕ
@@ -197,8 +198,9 @@ pub record VisitsAt (at : ℕ) (old new : Service) (visit : Visit) (held held' :
   pub turn : turns_begun n ≡ turns_begun m
   pub motion : has_moved n ≡ visit.progress.moved || has_moved m
   pub reports : Reports visit.told held held' m n
-  pub last : visit.told ≡ false → HasShutLast n
-  pub goes : (c : Config) → World old m → Facing c (numbers_from at old) m → Facing c (numbers_from (place_after visit.closed at) new) n
+  pub last : visit.told ≡ false → HasLineLast n
+  pub goes : visit.told ≡ true → (c : Config) → World old m → Facing c (numbers_from at old) m → Facing c (numbers_from (place_after visit.closed at) new) n
+  pub rests : (c : Config) → World old m → Facing c (numbers_from at old) m → (is_inside (place n) ≡ true) × Follows c n
 
 -- the turns of the pairs up to a place in the list
 pub record Toured (at : ℕ) (old new : Service) (moved : Bool) (held held' : Option (List ℕ)) (m n : List Mark) : Type 0 where
@@ -214,21 +216,26 @@ pub record Tours (old new : Service) (moved told : Bool) (held held' : Option (L
   pub turn : turns_begun n ≡ turns_begun m
   pub motion : has_moved n ≡ moved || has_moved m
   pub reports : Reports told held held' m n
-  pub last : told ≡ false → HasShutLast n
+  pub last : told ≡ false → HasLineLast n
   pub follows : (c : Config) → World old m → Facing c (numbers_from 0 old) m → Follows c n
   pub inside : (c : Config) → World old m → Facing c (numbers_from 0 old) m → is_inside (place n) ≡ true
   pub goes : told ≡ true → (c : Config) → World old m → Facing c (numbers_from 0 old) m → next c n ≡ rest c n
 
--- the clock was read
-pub record Ticks (m n : List Mark) : Type 0 where
-  pub ms : ℕ
+-- the clock gave this moment
+pub record Ticks (ms : ℕ) (m n : List Mark) : Type 0 where
   pub one : n ≡ Call (Now ms) ∷ m
+
+-- all live pairs were told a moment, and nothing else changed
+pub record Tells (ms : ℕ) (old new : Service) : Type 0 where
+  pub accepts : new.accepted ≡ old.accepted
+  pub strain : new.strained ≡ old.strained
+  pub told : AreTold ms old.live.items new.live.items
 
 -- what comes after the accept's part of a turn: the pairs' turns; or the end, where accept or the report failed
 abbrev pub IsWelcomed : Config → Result Bool Outside → Service → List Mark → Type 0
 IsWelcomed c (Ok moved) s n = Facing c (numbers_from 0 s) n
 IsWelcomed c (Err outside.Accept) s n = (next c n ≡ EndBy (Fault outside.Accept)) × (is_closing (place n) ≡ false) × Follows c n
-IsWelcomed c (Err outside.Out) s n = HasShutLast n × (is_closing (place n) ≡ false) × Follows c n
+IsWelcomed c (Err outside.Out) s n = HasLineLast n × (is_closing (place n) ≡ false) × Follows c n
 
 -- the turn moved, where it goes on
 abbrev pub HasMoved : Result Bool Outside → List Mark → List Mark → Type 0
@@ -242,8 +249,8 @@ is_told (Err outside.Accept) = true
 is_told (Err outside.Out) = false
 
 -- the accept's part of a turn
-pub record Welcomes (result : Result Bool Outside) (old new : Service) (held held' : Option (List ℕ)) (m n : List Mark) : Type 0 where
-  pub world : World old m → World new n
+pub record Welcomes (result : Result Bool Outside) (ms : ℕ) (old new : Service) (held held' : Option (List ℕ)) (m n : List Mark) : Type 0 where
+  pub world : moment m ≡ ms → World old m → World new n
   pub turn : turns_begun n ≡ turns_begun m
   pub motion : HasMoved result m n
   pub reports : Reports (is_told result) held held' m n
@@ -339,11 +346,11 @@ pub record Concludes (why answer : Served) (s : Service) (held held' : Option (L
   pub goes : (c : Config) → World s m → EndsSo c why m → IsOver c why s n
 
 -- a pair that was accepted lives, or met want of memory
-abbrev pub AdmitsAs : Result (Unit {0}) Wanting → ℕ → Service → Service → Type 0
-AdmitsAs (Ok done) p old new =
-    ((b : Pair) × (new.live.items ≡ old.live.items ++ b ∷ []) × (b.number ≡ p) × ((ms : ℕ) → Stands b (came ms))) × (new.strained ≡ old.strained)
-AdmitsAs (Err wanting) p old new = (new.live.items ≡ old.live.items) × (new.strained ≡ old.strained + 1)
+abbrev pub AdmitsAs : Result (Unit {0}) Wanting → ℕ → ℕ → Service → Service → Type 0
+AdmitsAs (Ok done) p ms old new =
+    ((b : Pair) × (new.live.items ≡ old.live.items ++ b ∷ []) × (b.number ≡ p) × Stands b (came ms)) × (new.strained ≡ old.strained)
+AdmitsAs (Err wanting) p ms old new = (new.live.items ≡ old.live.items) × (new.strained ≡ old.strained + 1)
 
-pub record Admits (result : Result (Unit {0}) Wanting) (p : ℕ) (old new : Service) : Type 0 where
+pub record Admits (result : Result (Unit {0}) Wanting) (p ms : ℕ) (old new : Service) : Type 0 where
   pub accepts : new.accepted ≡ old.accepted + 1
-  pub by : AdmitsAs result p old new
+  pub by : AdmitsAs result p ms old new

@@ -1,14 +1,25 @@
-//! The bytes of the frames that the gateway writes as they stand.
+//! The bytes of the units that the gateway writes to a client.
 
-ghost use Rattle.std.specs.Prelude.{◌≡◌, length};
+ghost use Rattle.std.specs.Prelude.{◌≡◌, ◌<◌, ◌≤◌, length};
 ghost use Rattle.frames_091.specs.Headers.{header_bytes};
-ghost use Rattle.gate_loop.specs.Frames.{start_frame, close_frame};
+ghost use Rattle.methods_091.specs.Closing.{IsWrittenOver};
+ghost use Rattle.gate_loop.specs.Due.{spelling};
+ghost use Rattle.gate_loop.specs.Frames.{start_frame, tune_frame, heartbeat_frame};
+ghost use Rattle.gate_loop.specs.declared.units.Reply.TheVariants as reply;
+
+use crate::units::Reply;
+use close_translate::code_name;
+use machine_091::Refusal;
+use methods_091::{put_close, put_close_ok};
 
 /// The protocol header of AMQP 0-9-1 (AMQP 0-9-1 4.2.2).
 const HEADER: [u8; 8] = [b'A', b'M', b'Q', b'P', 0, 0, 9, 1];
 
+/// The reply code of a close for want of memory (AMQP 0-9-1 reference 1.1).
+const RESOURCE_ERROR: u16 = 506;
+
 /// The protocol header.
-pub fn header() -> &'static [u8]
+fn header() -> &'static [u8]
     ensures bytes { result.now ≡ header_bytes }
     ensures len { length result.now ≡ 8 }
 {
@@ -17,7 +28,7 @@ pub fn header() -> &'static [u8]
 
 /// connection.start (AMQP 0-9-1 reference 1.4.2.1): versions 0-9, the gateway's properties, mechanisms and locales.
 #[tactic(auto, unfolding(crate::specs::Frames::start_frame, frames_091::specs::Frames::frame_text))]
-pub fn start() -> &'static [u8]
+fn start() -> &'static [u8]
     ensures bytes { result.now ≡ start_frame }
     ensures len { length result.now ≡ 153 }
 {
@@ -36,15 +47,68 @@ pub fn start() -> &'static [u8]
     ]
 }
 
-/// connection.close (AMQP 0-9-1 reference 1.4.2.8) with the reply code 540, not implemented, and no method that it is about.
-#[tactic(auto, unfolding(crate::specs::Frames::close_frame, frames_091::specs::Frames::frame_text))]
-pub fn close() -> &'static [u8]
-    ensures bytes { result.now ≡ close_frame }
-    ensures len { length result.now ≡ 34 }
+/// connection.tune (AMQP 0-9-1 reference 1.4.2.5): channels up to 255, frames up to 131,072 bytes, a heartbeat each 60 seconds.
+#[tactic(auto, unfolding(crate::specs::Frames::tune_frame, frames_091::specs::Frames::frame_text))]
+fn tune() -> &'static [u8]
+    ensures bytes { result.now ≡ tune_frame }
+    ensures len { length result.now ≡ 20 }
 {
     &[
-        0x01, 0x00, 0x00, 0x00, 0x00, 0x00, 0x1A, 0x00, 0x0A, 0x00, 0x32, 0x02, 0x1C, 0x0F, 0x4E,
-        0x4F, 0x54, 0x5F, 0x49, 0x4D, 0x50, 0x4C, 0x45, 0x4D, 0x45, 0x4E, 0x54, 0x45, 0x44, 0x00,
-        0x00, 0x00, 0x00, 0xCE,
+        0x01, 0x00, 0x00, 0x00, 0x00, 0x00, 0x0C, 0x00, 0x0A, 0x00, 0x1E, 0x00, 0xFF, 0x00, 0x02,
+        0x00, 0x00, 0x00, 0x3C, 0xCE,
     ]
+}
+
+/// A heartbeat (AMQP 0-9-1 4.2.7).
+#[tactic(auto, unfolding(frames_091::specs::Frames::frame_text))]
+fn heartbeat() -> &'static [u8]
+    ensures bytes { result.now ≡ heartbeat_frame }
+    ensures len { length result.now ≡ 8 }
+{
+    &[0x08, 0x00, 0x00, 0x00, 0x00, 0x00, 0x00, 0xCE]
+}
+
+/// Writes bytes over the first ones of a room, and answers their count.
+fn write_over(room: &mut [u8; 512], bytes: &[u8]) -> usize
+    requires { length bytes.now ≤ 512 }
+    ensures { IsWrittenOver bytes.now room.old room.new result }
+{
+    let count = bytes.len();
+    room[..count].copy_from_slice(bytes);
+    count
+}
+
+/// Writes a connection.close for a refusal, with the name of its code as text.
+fn write_close(room: &mut [u8; 512], refusal: Refusal) -> usize
+    ensures { IsWrittenOver (spelling (reply.Close refusal)) room.old room.new result }
+{
+    let name = code_name(refusal.code);
+    put_close(room, refusal.code, name, refusal.class, refusal.method)
+}
+
+/// Writes the bytes of a unit to the client over the first ones of a room, and answers their count.
+fn spell(room: &mut [u8; 512], reply: Reply) -> usize
+    ensures { IsWrittenOver (spelling reply) room.old room.new result }
+{
+    match reply {
+        Reply::Protocol => write_over(room, header()),
+        Reply::Start => write_over(room, start()),
+        Reply::Tune => write_over(room, tune()),
+        Reply::CloseOk => put_close_ok(room),
+        Reply::Close(refusal) => write_close(room, refusal),
+        Reply::Heartbeat => write_over(room, heartbeat()),
+        Reply::NoMemory => put_close(room, RESOURCE_ERROR, b"NO_MEMORY", 0, 0),
+    }
+}
+
+/// The bytes of a unit to the client, in a room that is lent for them.
+#[tactic(auto, using(std::proofs::lemmas::List::take_at, crate::proofs::Spelled::spelled_some))]
+pub fn spelled(room: &mut [u8; 512], reply: Reply) -> &[u8]
+    ensures bytes { result.now ≡ spelling reply }
+    ensures some { 0 < length result.now }
+    ensures small { length result.now ≤ 512 }
+{
+    let count = spell(room, reply);
+    let (bytes, _) = room.as_slice().split_at(count);
+    bytes
 }

@@ -9,6 +9,7 @@ mod report;
 mod round;
 mod running;
 mod service;
+mod talk;
 mod turn;
 mod units;
 mod welcome;

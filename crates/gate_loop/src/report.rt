@@ -3,7 +3,7 @@
 ghost use Rattle.std.specs.Prelude.{◌≡◌, ◌+◌, ◌≤◌, ◌++◌, true, false, length, codes, decimal, if◌then◌else◌};
 ghost use Rattle.gate_outside.specs.Counts.{Rose};
 ghost use Rattle.gate_outside.specs.Streams.{Appends, AppendsFront};
-ghost use Rattle.gate_loop.specs.Report.{pair_line, memory_line, closed_line, count_line, last_line, lines_of};
+ghost use Rattle.gate_loop.specs.Report.{pair_line, memory_line, closed_line, count_line, last_line, heard_lines, refused_lines};
 
 use crate::config::{Outside, Served};
 use gate_outside::{Sink, write_all};
@@ -48,20 +48,51 @@ pub fn tell_number<K: Sink>(report: &mut K, before: &[u8], number: u32, after: &
     tell_count(report, number, after)
 }
 
-/// Writes the lines of a pair that was shut, after want of memory or not.
-pub fn tell_closed<K: Sink>(report: &mut K, number: u32, strained: bool) -> bool
+/// Writes the line of a pair that met want of memory.
+pub fn tell_memory<K: Sink>(report: &mut K, number: u32) -> bool
     ensures later { K.faults report.old ≤ K.faults report.new }
     ensures cause { result ≡ false → Rose (K.faults report.old) (K.faults report.new) }
-    ensures whole { result ≡ true → Appends (K.held report.old) (K.held report.new) (lines_of number strained) }
-    ensures part { AppendsFront (K.held report.old) (K.held report.new) (lines_of number strained) }
+    ensures whole { result ≡ true → Appends (K.held report.old) (K.held report.new) (memory_line number) }
+    ensures part { AppendsFront (K.held report.old) (K.held report.new) (memory_line number) }
+{
+    tell_number(report, b"pair ", number, b" memory\n")
+}
+
+/// Writes the line of a pair that met want of memory at its read, where it did.
+pub fn tell_heard<K: Sink>(report: &mut K, number: u32, strained: bool) -> bool
+    ensures later { K.faults report.old ≤ K.faults report.new }
+    ensures cause { result ≡ false → Rose (K.faults report.old) (K.faults report.new) }
+    ensures whole { result ≡ true → Appends (K.held report.old) (K.held report.new) (heard_lines number strained) }
+    ensures part { AppendsFront (K.held report.old) (K.held report.new) (heard_lines number strained) }
+    ensures met { result ≡ false → strained ≡ true }
 {
     if !strained {
-        return tell_number(report, b"pair ", number, b" closed\n");
+        return true;
     }
-    if !tell_number(report, b"pair ", number, b" memory\n") {
+    tell_memory(report, number)
+}
+
+/// Writes the line of a pair that was shut.
+pub fn tell_closed<K: Sink>(report: &mut K, number: u32) -> bool
+    ensures later { K.faults report.old ≤ K.faults report.new }
+    ensures cause { result ≡ false → Rose (K.faults report.old) (K.faults report.new) }
+    ensures whole { result ≡ true → Appends (K.held report.old) (K.held report.new) (closed_line number) }
+    ensures part { AppendsFront (K.held report.old) (K.held report.new) (closed_line number) }
+{
+    tell_number(report, b"pair ", number, b" closed\n")
+}
+
+/// Writes the lines of a pair that was turned away: it met want of memory at its accept, and was shut.
+pub fn tell_refused<K: Sink>(report: &mut K, number: u32) -> bool
+    ensures later { K.faults report.old ≤ K.faults report.new }
+    ensures cause { result ≡ false → Rose (K.faults report.old) (K.faults report.new) }
+    ensures whole { result ≡ true → Appends (K.held report.old) (K.held report.new) (refused_lines number) }
+    ensures part { AppendsFront (K.held report.old) (K.held report.new) (refused_lines number) }
+{
+    if !tell_memory(report, number) {
         return false;
     }
-    tell_number(report, b"pair ", number, b" closed\n")
+    tell_closed(report, number)
 }
 
 /// Writes the last line: how the service ended, after so many pairs were accepted.

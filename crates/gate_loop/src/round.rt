@@ -30,7 +30,6 @@ fn turn_at<P: Ports, K: Sink>(
     ensures live { vec_len service.new.live + (if result.closed then 1 else 0) ≡ vec_len service.old.live }
     ensures pairs { P.pairs ports.new ≡ P.pairs ports.old }
     ensures later { P.faults ports.old ≤ P.faults ports.new }
-    ensures told { result.closed ≡ false → result.told ≡ true }
     ensures out { K.faults report.old ≤ K.faults report.new }
     ensures mute { result.told ≡ false → Rose (K.faults report.old) (K.faults report.new) }
     ensures log { Goes (P.log ports.old) (P.log ports.new)
@@ -38,10 +37,11 @@ fn turn_at<P: Ports, K: Sink>(
 {
     let pair = &mut service.live[at];
     let visit = turn(alloc, ports, report, pair, room);
+    service.note_strain(visit.progress.strained);
     if !visit.closed {
         return visit;
     }
-    service.retire(at, visit.progress.strained);
+    service.retire(at);
     visit
 }
 

@@ -159,7 +159,7 @@ fn tell_more<K: Sink>(report: &mut K, told: bool, number: u32) -> bool
     if !told {
         return false;
     }
-    tell_closed(report, number, false)
+    tell_closed(report, number)
 }
 
 /// Shuts the live pairs, and tells their lines while the report takes them; whether it took all.

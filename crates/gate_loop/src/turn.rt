@@ -1,18 +1,19 @@
 //! One pair's part of a turn: it is read, written to and shut, each where that is due.
 
-ghost use Rattle.std.specs.Prelude.{◌≡◌, ◌+◌, ◌<◌, ◌≤◌, ◌^◌, true, false, length, Option, Some, Result, Ok, Err};
+ghost use Rattle.std.specs.Prelude.{◌≡◌, ◌+◌, ◌<◌, ◌≤◌, ◌^◌, true, false, length, if◌then◌else◌, Option, Some, Result, Ok, Err};
 ghost use Rattle.std.specs.Option.{option_map};
 ghost use Rattle.gate_outside.specs.Counts.{Rose};
 ghost use Rattle.gate_outside.specs.Ends.{is_open, closed};
-ghost use Rattle.gate_loop.specs.Due.{is_awaited, shut_by};
-ghost use Rattle.gate_loop.specs.Replies.{offered, reply_after};
+ghost use Rattle.gate_loop.specs.Due.{is_awaited};
+ghost use Rattle.gate_loop.specs.Replies.{bytes_of, offered};
+ghost use Rattle.gate_loop.specs.Talks.{current};
 ghost use Rattle.gate_loop.specs.Marks.{Goes};
 ghost use Rattle.gate_loop.specs.Next.{Reading, Writing, Shutting, read_room};
-ghost use Rattle.gate_loop.specs.Steps.{Adds, Steps, Offers, Turns, after_read, put_moved, ends_after};
+ghost use Rattle.gate_loop.specs.Steps.{Adds, Steps, Hears, Offers, Turns, ends_after};
 ghost use Rattle.gate_outside.specs.declared.log.LogEntry.TheVariants as entry;
 
 use crate::pair::Pair;
-use crate::report::tell_closed;
+use crate::report::{tell_closed, tell_heard};
 use crate::service::{Progress, Visit};
 use crate::units::Loss;
 use gate_outside::{End, Got, Ports, Put, Sink};
@@ -21,7 +22,7 @@ use wire_base::Memory;
 
 /// Reads the client's end once, and takes up the unit that the bytes complete.
 fn hear<P: Ports>(alloc: Global, ports: &mut P, pair: &mut Pair, room: &mut [u8]) -> Progress
-    requires awaited { is_awaited pair.old.bridge.phase pair.old.bridge.lost pair.old.bridge.strained ≡ true }
+    requires awaited { is_awaited pair.old.bridge.talk pair.old.bridge.lost pair.old.bridge.strained ≡ true }
     requires open { is_open pair.old.number End.Client (P.ends ports.old) ≡ true }
     requires room { length room.old ≡ read_room }
     requires some { 0 < length room.old }
@@ -31,9 +32,9 @@ fn hear<P: Ports>(alloc: Global, ports: &mut P, pair: &mut Pair, room: &mut [u8]
     ensures pairs { P.pairs ports.new ≡ P.pairs ports.old }
     ensures ends { P.ends ports.new ≡ P.ends ports.old }
     ensures log { Goes (P.log ports.old) (P.log ports.new)
-        (Steps pair.old.number Reading (after_read result.strained) pair.old pair.new result.moved result.strained) }
-    ensures shut { result.strained ≡ true
-        → shut_by pair.new.bridge.lost pair.new.bridge.strained pair.new.bridge.phase pair.new.bridge.gone ≡ true }
+        (Hears pair.old.number pair.old pair.new result.moved result.strained) }
+    ensures calm { result.strained ≡ true → pair.old.bridge.strained ≡ false }
+    ensures strained { pair.new.bridge.strained ≡ (if result.strained then true else pair.old.bridge.strained) }
 {
     match ports.read(pair.number, End::Client, room) {
         Got::Bytes(n) => {
@@ -72,8 +73,9 @@ fn hear<P: Ports>(alloc: Global, ports: &mut P, pair: &mut Pair, room: &mut [u8]
 
 /// Offers bytes to the client once.
 fn offer<P: Ports>(ports: &mut P, pair: &mut Pair, bytes: &[u8]) -> Put
-    requires offered { offered pair.old.bridge.lost pair.old.bridge.strained pair.old.at (reply_after pair.old.bridge.phase pair.old.bridge.gone)
+    requires offered { offered pair.old.bridge.lost pair.old.at (current pair.old.bridge.talk)
         ≡ Some bytes.now }
+    requires fits { length (bytes_of (current pair.old.bridge.talk)) ≤ 512 }
     requires open { is_open pair.old.number End.Client (P.ends ports.old) ≡ true }
     requires some { 0 < length bytes.now }
     requires small { length bytes.now < 2 ^ 32 }
@@ -82,10 +84,11 @@ fn offer<P: Ports>(ports: &mut P, pair: &mut Pair, bytes: &[u8]) -> Put
     ensures pairs { P.pairs ports.new ≡ P.pairs ports.old }
     ensures ends { P.ends ports.new ≡ P.ends ports.old }
     ensures log { Goes (P.log ports.old) (P.log ports.new) (Offers pair.old.number result pair.old pair.new) }
+    ensures strained { pair.new.bridge.strained ≡ pair.old.bridge.strained }
 {
     match ports.write(pair.number, End::Client, bytes) {
         Put::Took(n) => {
-            pair.took(n);
+            pair.took(n, n == bytes.len());
             Put::Took(n)
         }
         Put::NotYet => Put::NotYet,
@@ -107,9 +110,9 @@ fn listen<P: Ports>(alloc: Global, ports: &mut P, pair: &mut Pair, room: &mut [u
     ensures pairs { P.pairs ports.new ≡ P.pairs ports.old }
     ensures ends { P.ends ports.new ≡ P.ends ports.old }
     ensures log { Goes (P.log ports.old) (P.log ports.new)
-        (Steps pair.old.number Reading (after_read result.strained) pair.old pair.new result.moved result.strained) }
-    ensures shut { result.strained ≡ true
-        → shut_by pair.new.bridge.lost pair.new.bridge.strained pair.new.bridge.phase pair.new.bridge.gone ≡ true }
+        (Hears pair.old.number pair.old pair.new result.moved result.strained) }
+    ensures calm { result.strained ≡ true → pair.old.bridge.strained ≡ false }
+    ensures strained { pair.new.bridge.strained ≡ (if result.strained then true else pair.old.bridge.strained) }
 {
     if pair.is_read() {
         hear(alloc, ports, pair, room)
@@ -131,10 +134,12 @@ fn write_out<P: Ports>(ports: &mut P, pair: &mut Pair) -> bool
     ensures ends { P.ends ports.new ≡ P.ends ports.old }
     ensures log { Goes (P.log ports.old) (P.log ports.new)
         (Steps pair.old.number (Writing 0) Shutting pair.old pair.new result false) }
+    ensures strained { pair.new.bridge.strained ≡ pair.old.bridge.strained }
 {
     let mut moved = false;
+    let mut room = [0; 512];
     for _ in 0..4096u32 {
-        let Some(bytes) = pair.offered() else {
+        let Some(bytes) = pair.offered(&mut room) else {
             return moved;
         };
         match offer(ports, pair, bytes) {
@@ -144,32 +149,6 @@ fn write_out<P: Ports>(ports: &mut P, pair: &mut Pair) -> bool
         }
     }
     moved
-}
-
-/// Reads the client's end and writes to it.
-fn exchange<P: Ports>(alloc: Global, ports: &mut P, pair: &mut Pair, room: &mut [u8]) -> Progress
-    requires open { is_open pair.old.number End.Client (P.ends ports.old) ≡ true }
-    requires room { length room.old ≡ read_room }
-    requires some { 0 < length room.old }
-    requires small { length room.old < 2 ^ 32 }
-    ensures number { pair.new.number ≡ pair.old.number }
-    ensures later { P.faults ports.old ≤ P.faults ports.new }
-    ensures pairs { P.pairs ports.new ≡ P.pairs ports.old }
-    ensures ends { P.ends ports.new ≡ P.ends ports.old }
-    ensures log { Goes (P.log ports.old) (P.log ports.new)
-        (Steps pair.old.number Reading Shutting pair.old pair.new result.moved result.strained) }
-    ensures shut { result.strained ≡ true
-        → shut_by pair.new.bridge.lost pair.new.bridge.strained pair.new.bridge.phase pair.new.bridge.gone ≡ true }
-{
-    let heard = listen(alloc, ports, pair, room);
-    if heard.strained {
-        return heard;
-    }
-    let wrote = write_out(ports, pair);
-    Progress {
-        moved: heard.moved | wrote,
-        strained: false,
-    }
 }
 
 /// Shuts the client's end of a pair.
@@ -182,7 +161,8 @@ pub fn shut<P: Ports>(ports: &mut P, number: u32)
     ports.shut(number, End::Client);
 }
 
-/// One pair's part of a turn. It is shut where that is due, and the lines of that are told.
+/// One pair's part of a turn: it is read, written to, and shut where that is due. Want of memory at the read and the shut are
+/// told, each right after it; where the report refuses the line of want of memory, nothing more is done.
 pub fn turn<P: Ports, K: Sink>(
     alloc: Global,
     ports: &mut P,
@@ -198,28 +178,39 @@ pub fn turn<P: Ports, K: Sink>(
     ensures later { P.faults ports.old ≤ P.faults ports.new }
     ensures pairs { P.pairs ports.new ≡ P.pairs ports.old }
     ensures ends { P.ends ports.new ≡ ends_after result.closed pair.old.number (P.ends ports.old) }
-    ensures strained { result.progress.strained ≡ true → result.closed ≡ true }
-    ensures told { result.closed ≡ false → result.told ≡ true }
+    ensures calm { result.progress.strained ≡ true → pair.old.bridge.strained ≡ false }
+    ensures strained { pair.new.bridge.strained ≡ (if result.progress.strained then true else pair.old.bridge.strained) }
     ensures out { K.faults report.old ≤ K.faults report.new }
     ensures mute { result.told ≡ false → Rose (K.faults report.old) (K.faults report.new) }
     ensures log { Goes (P.log ports.old) (P.log ports.new)
         (Turns pair.old.number pair.old pair.new result (K.held report.old) (K.held report.new)) }
 {
     let number = pair.number;
-    let progress = exchange(alloc, ports, pair, room);
+    let heard = listen(alloc, ports, pair, room);
+    if !tell_heard(report, number, heard.strained) {
+        return Visit {
+            progress: heard,
+            closed: false,
+            told: false,
+        };
+    }
+    let wrote = write_out(ports, pair);
     if !pair.shut_due() {
         return Visit {
-            progress,
+            progress: Progress {
+                moved: heard.moved | wrote,
+                strained: heard.strained,
+            },
             closed: false,
             told: true,
         };
     }
     shut(ports, number);
-    let told = tell_closed(report, number, progress.strained);
+    let told = tell_closed(report, number);
     Visit {
         progress: Progress {
             moved: true,
-            strained: progress.strained,
+            strained: heard.strained,
         },
         closed: true,
         told,

@@ -1,29 +1,6 @@
-//! The units of a pair: what comes from its client, what goes to it, and how an end is lost.
+//! The units of a pair: what goes to its client, and how an end is lost. What comes from the client is of `machine_091`.
 
-use frames_091::Frame91;
-
-/// A unit of the client's stream.
-#[derive(Debug, Drop)]
-pub enum Unit91 {
-    /// The protocol header of AMQP 0-9-1.
-    Protocol,
-    Frame(Frame91),
-    /// Bytes with which no unit begins. The stream ends there.
-    Bad,
-}
-
-/// How far the client's stream has come.
-#[derive(Clone, Copy, Debug, PartialEq, Eq)]
-pub enum Phase {
-    /// The protocol header is awaited.
-    Header,
-    /// The protocol header came, and a frame is awaited.
-    Started,
-    /// Bytes came with which no protocol header begins. No unit is awaited any more.
-    Refused,
-    /// After the header a frame came, or bytes with which none begins. No unit is awaited any more.
-    Closing,
-}
+use machine_091::Refusal;
 
 /// A unit to the client.
 #[derive(Clone, Copy, Debug, PartialEq, Eq)]
@@ -32,8 +9,16 @@ pub enum Reply {
     Protocol,
     /// connection.start
     Start,
-    /// connection.close with the reply code 540, not implemented
-    Close,
+    /// connection.tune
+    Tune,
+    /// connection.close-ok
+    CloseOk,
+    /// connection.close, for this refusal
+    Close(Refusal),
+    /// A heartbeat
+    Heartbeat,
+    /// connection.close, for want of memory
+    NoMemory,
 }
 
 /// How an end was lost.

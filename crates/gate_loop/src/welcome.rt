@@ -7,12 +7,12 @@ ghost use Rattle.gate_outside.specs.Streams.{Appends, AppendsFront};
 ghost use Rattle.gate_outside.specs.declared.log.LogEntry.TheVariants as entry;
 ghost use Rattle.gate_loop.specs.Marks.{Goes};
 ghost use Rattle.gate_loop.specs.Next.{pair_limit};
-ghost use Rattle.gate_loop.specs.Report.{lines_of};
+ghost use Rattle.gate_loop.specs.Report.{refused_lines};
 ghost use Rattle.gate_loop.specs.Steps.{Adds, Crew, Ticks, Welcomes, Opens, Admits};
 
 use crate::config::{Config, Outside};
 use crate::pair::Pair;
-use crate::report::tell_closed;
+use crate::report::tell_refused;
 use crate::service::Service;
 use crate::turn::shut;
 use gate_outside::{Accepted, End, Ports, Sink};
@@ -31,14 +31,14 @@ fn has_room(config: &Config, service: &Service) -> bool
     service.live.len() < MOST_LIVE && service.accepted < limit
 }
 
-/// Reads the clock.
-fn clock<P: Ports>(ports: &mut P)
+/// Reads the clock: the moment, in milliseconds.
+fn clock<P: Ports>(ports: &mut P) -> u64
     ensures later { P.faults ports.old ≤ P.faults ports.new }
     ensures pairs { P.pairs ports.new ≡ P.pairs ports.old }
     ensures ends { P.ends ports.new ≡ P.ends ports.old }
-    ensures log { Goes (P.log ports.old) (P.log ports.new) Ticks }
+    ensures log { Goes (P.log ports.old) (P.log ports.new) (Ticks result) }
 {
-    let _ms = ports.now();
+    ports.now()
 }
 
 /// Accepts the next client, if one waits.
@@ -55,11 +55,11 @@ fn accept<P: Ports>(ports: &mut P) -> Accepted
 }
 
 /// Takes in a pair that was accepted just now; `Memory` where there is none for it.
-fn admit(alloc: Global, service: &mut Service, number: u32) -> Result<(), Memory>
+fn admit(alloc: Global, service: &mut Service, number: u32, moment: u64) -> Result<(), Memory>
     requires { service.old.accepted < 4294967295 }
-    ensures { Admits result number service.old service.new }
+    ensures { Admits result number moment service.old service.new }
 {
-    match Pair::new(alloc, number) {
+    match Pair::new(alloc, number, moment) {
         Ok(pair) => service.admit(pair),
         Err(Memory) => {
             service.refuse();
@@ -76,12 +76,12 @@ fn turn_away<P: Ports, K: Sink>(ports: &mut P, report: &mut K, number: u32) -> R
     ensures ends { P.ends ports.new ≡ closed number End.Client (P.ends ports.old) }
     ensures out { K.faults report.old ≤ K.faults report.new }
     ensures mute { result ≡ Err Outside.Out → Rose (K.faults report.old) (K.faults report.new) }
-    ensures whole { OnOk result (Appends (K.held report.old) (K.held report.new) (lines_of number true)) }
-    ensures part { AppendsFront (K.held report.old) (K.held report.new) (lines_of number true) }
+    ensures whole { OnOk result (Appends (K.held report.old) (K.held report.new) (refused_lines number)) }
+    ensures part { AppendsFront (K.held report.old) (K.held report.new) (refused_lines number) }
     ensures log { Goes (P.log ports.old) (P.log ports.new) (Adds (entry.Shut number End.Client)) }
 {
     shut(ports, number);
-    if tell_closed(report, number, true) {
+    if tell_refused(report, number) {
         Ok(true)
     } else {
         Err(Outside::Out)
@@ -94,6 +94,7 @@ fn welcome<P: Ports, K: Sink>(
     ports: &mut P,
     report: &mut K,
     service: &mut Service,
+    moment: u64,
 ) -> Result<bool, Outside>
     requires crew { Crew service.old (P.pairs ports.old) (P.ends ports.old) }
     requires limit { service.old.accepted < 4294967295 }
@@ -103,10 +104,10 @@ fn welcome<P: Ports, K: Sink>(
     ensures out { K.faults report.old ≤ K.faults report.new }
     ensures mute { result ≡ Err Outside.Out → Rose (K.faults report.old) (K.faults report.new) }
     ensures log { Goes (P.log ports.old) (P.log ports.new)
-        (Welcomes result service.old service.new (K.held report.old) (K.held report.new)) }
+        (Welcomes result moment service.old service.new (K.held report.old) (K.held report.new)) }
 {
     match accept(ports) {
-        Accepted::Pair(number) => match admit(alloc, service, number) {
+        Accepted::Pair(number) => match admit(alloc, service, number, moment) {
             Ok(()) => Ok(true),
             Err(Memory) => turn_away(ports, report, number),
         },
@@ -115,7 +116,7 @@ fn welcome<P: Ports, K: Sink>(
     }
 }
 
-/// Begins a turn: reads the clock, and accepts where another pair may be; whether one was accepted.
+/// Begins a turn: reads the clock, tells the live pairs the moment, and accepts where another pair may be; whether one was accepted.
 pub fn open_turn<P: Ports, K: Sink>(
     alloc: Global,
     ports: &mut P,
@@ -132,9 +133,10 @@ pub fn open_turn<P: Ports, K: Sink>(
     ensures log { Goes (P.log ports.old) (P.log ports.new)
         (Opens config.now result service.old service.new (K.held report.old) (K.held report.new)) }
 {
-    clock(ports);
+    let moment = clock(ports);
+    service.tell(moment);
     if !has_room(config, service) {
         return Ok(false);
     }
-    welcome(alloc, ports, report, service)
+    welcome(alloc, ports, report, service, moment)
 }

@@ -5,7 +5,9 @@ ghost use Rattle.gate_loop.specs.Form.{IsInForm};
 
 use crate::bytes::part;
 use gate_loop::{Config, Served, serve};
-use gate_outside::{Accepted, End, Entries, Log, LogEntry, MemorySink, Put, Script, ScriptPorts};
+use gate_outside::{
+    Accepted, End, Entries, Got, Log, LogEntry, MemorySink, Put, Script, ScriptPorts,
+};
 use std::alloc::Global;
 use wire_base::{ByteText, ItemList, Memory};
 
@@ -37,6 +39,17 @@ pub fn kind_of(entry: &LogEntry) -> Kind {
     }
 }
 
+/// The pair that a call is about.
+pub fn pair_of(entry: &LogEntry) -> Option<u32> {
+    match entry {
+        LogEntry::Connect { pair, .. }
+        | LogEntry::Read { pair, .. }
+        | LogEntry::Write { pair, .. }
+        | LogEntry::Shut { pair, .. } => Some(*pair),
+        LogEntry::Accept { .. } | LogEntry::Idle { .. } | LogEntry::Now { .. } => None,
+    }
+}
+
 /// The count of bytes taken so far, after the answer of one more write.
 pub fn count_after(count: usize, answer: Put) -> usize {
     match answer {
@@ -55,6 +68,17 @@ fn taken_of(entry: &LogEntry, number: u32) -> &[u8] {
             answer: Put::Took(count),
         } if *pair == number => part(bytes.as_slice(), 0, *count),
         _ => &[],
+    }
+}
+
+/// The pairs that live after a call, where so many did before it.
+fn live_after(entry: &LogEntry, live: u32) -> u32 {
+    match entry {
+        LogEntry::Accept {
+            answer: Accepted::Pair(_),
+        } => live.saturating_add(1),
+        LogEntry::Shut { .. } => live.saturating_sub(1),
+        _ => live,
     }
 }
 
@@ -164,6 +188,55 @@ impl Run {
             }
         }
         Ok(places)
+    }
+
+    /// The moment of the last turn, in milliseconds; 0 where there is none.
+    pub fn last_moment(&self) -> u64 {
+        let mut moment = 0;
+        for k in 0..self.calls.len() {
+            if let Some(LogEntry::Now { ms }) = self.calls.get(k) {
+                moment = *ms;
+            }
+        }
+        moment
+    }
+
+    /// No turn began since a byte last came or went, or an end was met.
+    pub fn is_at_once(&self) -> bool {
+        let mut at_once = false;
+        for k in 0..self.calls.len() {
+            match self.calls.get(k) {
+                Some(LogEntry::Now { .. }) => at_once = false,
+                Some(LogEntry::Read { answer, .. }) => at_once |= *answer != Got::NotYet,
+                Some(LogEntry::Write { answer, .. }) => at_once |= *answer != Put::NotYet,
+                _ => {}
+            }
+        }
+        at_once
+    }
+
+    /// How many bytes were read, of all pairs.
+    pub fn read_count(&self) -> usize {
+        let mut count = 0usize;
+        for k in 0..self.calls.len() {
+            if let Some(LogEntry::Read { bytes, .. }) = self.calls.get(k) {
+                count = count.saturating_add(bytes.as_slice().len());
+            }
+        }
+        count
+    }
+
+    /// The most pairs that lived at once.
+    pub fn most_live(&self) -> u32 {
+        let mut live = 0;
+        let mut most = 0;
+        for k in 0..self.calls.len() {
+            if let Some(entry) = self.calls.get(k) {
+                live = live_after(entry, live);
+                most = live.max(most);
+            }
+        }
+        most
     }
 
     /// The place of the last call; 0 where there is none.

@@ -1,6 +1,6 @@
 //! Scripts of clients, and the limits of runs.
 
-ghost use Rattle.std.specs.Prelude.{◌≡◌, ◌≤◌, [], ◌∷◌, ◌++◌, IfOk, OnOk, OnErr, false, true};
+ghost use Rattle.std.specs.Prelude.{◌≡◌, [], ◌∷◌, ◌++◌, IfOk, OnOk, OnErr, false, true};
 ghost use Rattle.gate_loop.specs.Form.{IsInForm};
 ghost use Rattle.gate_outside.specs.declared.ports.End.TheVariants.{Client};
 
@@ -23,24 +23,25 @@ pub fn quiet(alloc: Global, pairs: u32) -> Script
     }
 }
 
-/// Adds a piece that a client's reads give at once, and whether the client ends after it.
+/// Adds a piece that a client's reads give once it took so many bytes, and whether the client ends after it.
 fn add_piece(
     alloc: Global,
     script: &mut Script,
     pair: u32,
+    after: u64,
     bytes: &[u8],
     ends: bool,
 ) -> Result<(), Memory>
     ensures ok { OnOk result (script.new ≡ record script.old {
       pieces = script.old.pieces
-          ++ record { pair = pair; end = Client; after = 0; bytes = bytes.now; ends = ends } ∷ [];
+          ++ record { pair = pair; end = Client; after = after; bytes = bytes.now; ends = ends } ∷ [];
     }) }
     ensures err { OnErr result (script.new ≡ script.old) }
 {
     script.pieces.push(Piece {
         pair,
         end: End::Client,
-        after: 0,
+        after,
         bytes: ByteText::copy_of(alloc, bytes)?,
         ends,
     })
@@ -54,7 +55,24 @@ pub fn sends(alloc: Global, script: &mut Script, pair: u32, bytes: &[u8]) -> Res
     }) }
     ensures err { OnErr result (script.new ≡ script.old) }
 {
-    add_piece(alloc, script, pair, bytes, false)
+    add_piece(alloc, script, pair, 0, bytes, false)
+}
+
+/// Has a client send bytes in one piece once it took so many bytes.
+pub fn sends_after(
+    alloc: Global,
+    script: &mut Script,
+    pair: u32,
+    after: u64,
+    bytes: &[u8],
+) -> Result<(), Memory>
+    ensures ok { OnOk result (script.new ≡ record script.old {
+      pieces = script.old.pieces
+          ++ record { pair = pair; end = Client; after = after; bytes = bytes.now; ends = false } ∷ [];
+    }) }
+    ensures err { OnErr result (script.new ≡ script.old) }
+{
+    add_piece(alloc, script, pair, after, bytes, false)
 }
 
 /// Has a client send bytes in one piece, and then end.
@@ -65,7 +83,7 @@ pub fn sends_last(alloc: Global, script: &mut Script, pair: u32, bytes: &[u8]) -
     }) }
     ensures err { OnErr result (script.new ≡ script.old) }
 {
-    add_piece(alloc, script, pair, bytes, true)
+    add_piece(alloc, script, pair, 0, bytes, true)
 }
 
 /// Has a client send bytes, each in a piece of its own.

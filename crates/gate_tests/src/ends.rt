@@ -1,37 +1,27 @@
 //! Clients that end.
 
+use crate::talks::{Ending, goes_by_units, is_answered, is_ended};
 use gate_loop::Served;
-use gate_plays::{HEADER, Kind, Run, limited, part, play, quiet, sends, sends_last, start, turns};
+use gate_plays::{
+    Answer, HEADER, Kind, OPEN, START_OK, Way, limited, one_client, part, play, quiet, sends_last,
+    start, turns,
+};
 use std::process::Abort;
 use std::test::Fail;
 
-/// The one client ended before its header was whole: it got nothing, and its end was shut.
-fn is_left(rt: &(impl Abort + AllocGlobal), run: &Run, case: &str) -> Result<(), Fail> {
-    let report = b"pair 0 closed\ndone: 1 pairs\n".as_slice();
-    assert_eq!(rt; run.served, Served::PairsDone, "{case}");
-    assert_eq!(rt; run.report.as_slice(), report, "{case}");
-    let got = run.got(rt.alloc(), 0)?;
-    assert_eq!(rt; got.as_slice(), [].as_slice(), "{case}");
-    let shuts = run.places(rt.alloc(), Kind::Shut)?;
-    let reads = run.places(rt.alloc(), Kind::Read)?;
-    assert_eq!(rt; shuts.as_slice(), [run.last()].as_slice(), "{case}");
-    assert!(rt; reads.last() < shuts.first(), "{case}");
-    Ok(())
-}
-
-/// The end of one client after so many bytes of the header, in a piece with the last of them or in one of its own.
+/// The end of one client after so many bytes of the header, in a piece with the last of them or in one of its own: it gets
+/// nothing, and its end is shut.
 fn ends_after(rt: &(impl Abort + AllocGlobal), count: usize, apart: bool) -> Result<(), Fail> {
     let case = format!(in rt.alloc(); "after {count} bytes, apart: {apart}")?;
     let bytes = part(&HEADER, 0, count);
-    let mut script = quiet(rt.alloc(), 1);
-    if apart {
-        sends(rt.alloc(), &mut script, 0, bytes)?;
-        sends_last(rt.alloc(), &mut script, 0, &[])?;
+    let (first, last) = if apart {
+        (bytes, [].as_slice())
     } else {
-        sends_last(rt.alloc(), &mut script, 0, bytes)?;
-    }
-    let run = play(rt.alloc(), script, &limited(1, 1000))?;
-    is_left(rt, &run, case.as_str())
+        ([].as_slice(), bytes)
+    };
+    let mut script = one_client(rt.alloc(), Way::Units, &[first], &[], &[])?;
+    sends_last(rt.alloc(), &mut script, 0, last)?;
+    is_answered(rt, script, &[], Ending::Shut, case.as_str())
 }
 
 #[test]
@@ -60,5 +50,41 @@ fn ended_client_is_shut(rt: HostRuntime) -> Result<(), Fail> {
         "it is shut right after its end was met"
     );
     assert_eq!(rt; shuts.len(), 1);
+    Ok(())
+}
+
+/// What a client says before it ends, how much its writes take, and how many units, and bytes of the next one, go to it.
+type Lost = (&'static [&'static [u8]], &'static [u32], usize, usize);
+
+/// A connection.start-ok without its last byte.
+const HALF: &[u8] =
+    b"\x01\0\0\0\0\0\x24\0\x0A\0\x0B\0\0\0\0\x05PLAIN\0\0\0\x0C\0guest\0guest\x05en_US";
+
+/// Clients that end after the header, within a frame, and after a refused one. What is due is offered once more then.
+static LOST: [Lost; 10] = [
+    (&[&HEADER], &[], 1, 0),
+    (&[&HEADER], &[100, 0, 20, 0], 0, 120),
+    (&[&HEADER], &[0, 0, 0], 0, 0),
+    (&[&HEADER], &[0], 1, 0),
+    (&[&HEADER, HALF], &[], 1, 0),
+    (&[&HEADER, HALF], &[50, 0, 50, 0, 50, 0], 0, 150),
+    (&[&HEADER, &OPEN], &[], 2, 0),
+    (&[&HEADER, &OPEN], &[153, 20, 0, 5, 0], 1, 25),
+    (&[&HEADER, &OPEN], &[153, 20, 0], 2, 0),
+    (&[&HEADER, &OPEN, &START_OK], &[0, 0, 0, 153, 0], 1, 0),
+];
+
+#[test]
+fn lost_client_gets_what_it_takes(rt: HostRuntime) -> Result<(), Fail> {
+    let units = [Answer::Start, Answer::Close(503, 10, 40)];
+    for (says, rooms, whole, next) in LOST {
+        let case = format!(in rt.alloc(); "{says:?}, {rooms:?}")?;
+        let mut script = one_client(rt.alloc(), Way::Units, says, &[], rooms)?;
+        sends_last(rt.alloc(), &mut script, 0, &[])?;
+        let run = play(rt.alloc(), script, &limited(1, 1000))?;
+        is_ended(&rt, &run, Ending::Shut, case.as_str())?;
+        let gone = goes_by_units(&rt, &run, &units, case.as_str())?;
+        assert_eq!(rt; (gone.moments.len(), gone.next), (whole, next), "{case}");
+    }
     Ok(())
 }

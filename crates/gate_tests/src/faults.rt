@@ -3,20 +3,25 @@
 use gate_loop::{Outside, Served};
 use gate_outside::{Accepted, CallList, Got, LogEntry, MemorySink, Put, Script};
 use gate_plays::{
-    HEADER, Kind, Run, WRONG, kind_of, only, part, play, play_into, quiet, sends, takes, turns,
+    HEADER, Kind, OPEN, Run, START_OK, TUNE_OK, WRONG, kind_of, only, pair_of, part, play,
+    play_into, quiet, sends, takes, turns,
 };
 use std::alloc::Global;
 use std::process::Abort;
 use std::test::Fail;
 use wire_base::{ItemList, Memory};
 
-/// One client with the right header in two pieces, and one with a wrong one, which both take their answers in parts.
+/// One client with the whole opening, whose header comes in two pieces, and one with a wrong header. Both take their answers
+/// in parts.
 fn two_clients(alloc: Global, fails: CallList) -> Result<Script, Memory> {
     let mut script = quiet(alloc, 2);
     script.idles = 1;
     script.fails = fails;
     sends(alloc, &mut script, 0, part(&HEADER, 0, 3))?;
     sends(alloc, &mut script, 0, part(&HEADER, 3, 8))?;
+    for unit in [START_OK.as_slice(), &TUNE_OK, &OPEN] {
+        sends(alloc, &mut script, 0, unit)?;
+    }
     sends(alloc, &mut script, 1, &WRONG)?;
     takes(&mut script, 0, 100)?;
     takes(&mut script, 0, 0)?;
@@ -64,17 +69,6 @@ fn accept_failed(
         }
     }
     Ok(())
-}
-
-/// The pair that a call is about.
-fn pair_of(entry: &LogEntry) -> Option<u32> {
-    match entry {
-        LogEntry::Connect { pair, .. }
-        | LogEntry::Read { pair, .. }
-        | LogEntry::Write { pair, .. }
-        | LogEntry::Shut { pair, .. } => Some(*pair),
-        LogEntry::Accept { .. } | LogEntry::Idle { .. } | LogEntry::Now { .. } => None,
-    }
 }
 
 /// After a failed read or write of a pair, that pair is shut at once, and nothing else is called for it.

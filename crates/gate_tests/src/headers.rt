@@ -1,10 +1,11 @@
 //! The first bytes of clients, and what each client gets for them.
 
+use crate::talks::{Ending, is_answered};
 use gate_loop::Served;
-use gate_outside::{LogEntry, Script};
+use gate_outside::Script;
 use gate_plays::{
-    HEADER, Kind, Run, WRONG, count_after, limited, part, play, quiet, sends, sends_last,
-    sends_singly, start, takes, turns,
+    Answer, HEADER, Kind, Run, WRONG, Way, one_client, part, play, quiet, sends_last, sends_singly,
+    start, takes, turns,
 };
 use std::alloc::Global;
 use std::process::Abort;
@@ -29,67 +30,40 @@ fn cuts(alloc: Global) -> Result<Vec<Cut>, Memory> {
     Ok(cuts)
 }
 
-/// One client, which sends a header in pieces.
-fn in_pieces(alloc: Global, header: &[u8], cut: Cut) -> Result<Script, Memory> {
-    let mut script = quiet(alloc, 1);
-    sends(alloc, &mut script, 0, part(header, 0, cut.from))?;
-    sends(alloc, &mut script, 0, part(header, cut.from, cut.to))?;
-    sends(alloc, &mut script, 0, part(header, cut.to, 8))?;
-    Ok(script)
-}
-
-/// The one client got connection.start, and its end was shut only as the service ended.
-fn is_greeted(rt: &(impl Abort + AllocGlobal), run: &Run, case: &str) -> Result<(), Fail> {
-    let report = b"pair 0 closed\nstopped: 1 pairs\n".as_slice();
-    assert_eq!(rt; run.served, Served::Stopped, "{case}");
-    assert_eq!(rt; run.strained, 0, "{case}");
-    assert_eq!(rt; run.report.as_slice(), report, "{case}");
-    let got = run.got(rt.alloc(), 0)?;
-    assert_eq!(rt; got.as_slice(), start(), "{case}");
-    let shuts = run.places(rt.alloc(), Kind::Shut)?;
-    assert_eq!(rt; shuts.as_slice(), [run.last()].as_slice(), "{case}");
-    Ok(())
-}
-
-/// The right header in pieces.
-fn right_in_pieces(rt: &(impl Abort + AllocGlobal), cut: Cut) -> Result<(), Fail> {
-    let case = format!(in rt.alloc(); "{cut:?}")?;
-    let script = in_pieces(rt.alloc(), &HEADER, cut)?;
-    let run = play(rt.alloc(), script, &turns(1000))?;
-    is_greeted(rt, &run, case.as_str())
+/// A header in pieces, whose answer goes by these rooms.
+fn is_answered_in_pieces(
+    rt: &(impl Abort + AllocGlobal),
+    header: &[u8],
+    cut: Cut,
+    rooms: &[u32],
+    answer: Answer,
+    ending: Ending,
+) -> Result<(), Fail> {
+    let case = format!(in rt.alloc(); "{header:?}, {cut:?}")?;
+    let pieces = [
+        part(header, 0, cut.from),
+        part(header, cut.from, cut.to),
+        part(header, cut.to, 8),
+    ];
+    let script = one_client(rt.alloc(), Way::Units, &pieces, &[], rooms)?;
+    is_answered(rt, script, &[answer], ending, case.as_str())
 }
 
 #[test]
 fn right_header_gets_start(rt: HostRuntime) -> Result<(), Fail> {
     assert_eq!(rt; start().len(), 153);
     for cut in cuts(rt.alloc())? {
-        right_in_pieces(&rt, cut)?;
+        is_answered_in_pieces(&rt, &HEADER, cut, &[], Answer::Start, Ending::Stays)?;
     }
-    let mut script = quiet(rt.alloc(), 1);
-    sends_singly(rt.alloc(), &mut script, 0, &HEADER)?;
+    let mut script = one_client(rt.alloc(), Way::Bytes, &[&HEADER], &[], &[])?;
+    script.idles = 0;
     let run = play(rt.alloc(), script, &turns(1000))?;
-    is_greeted(&rt, &run, "byte by byte")?;
     let reads = run.places(rt.alloc(), Kind::Read)?;
     assert_eq!(rt;
         reads.len(),
         9,
         "one read for each byte, and one for a frame, which gives nothing"
     );
-    Ok(())
-}
-
-/// The one client got the gateway's own header, and then its end was shut.
-fn is_turned_away(rt: &(impl Abort + AllocGlobal), run: &Run, case: &str) -> Result<(), Fail> {
-    let report = b"pair 0 closed\ndone: 1 pairs\n".as_slice();
-    assert_eq!(rt; run.served, Served::PairsDone, "{case}");
-    assert_eq!(rt; run.strained, 0, "{case}");
-    assert_eq!(rt; run.report.as_slice(), report, "{case}");
-    let got = run.got(rt.alloc(), 0)?;
-    assert_eq!(rt; got.as_slice(), HEADER.as_slice(), "{case}");
-    let shuts = run.places(rt.alloc(), Kind::Shut)?;
-    let writes = run.places(rt.alloc(), Kind::Write)?;
-    assert_eq!(rt; shuts.as_slice(), [run.last()].as_slice(), "{case}");
-    assert!(rt; writes.last() < shuts.first(), "{case}");
     Ok(())
 }
 
@@ -104,28 +78,17 @@ const WRONG_HEADERS: [[u8; 8]; 6] = [
     [0x47, 0x45, 0x54, 0x20, 0x2F, 0x20, 0x48, 0x54],
 ];
 
-/// A wrong header in pieces, whose answer goes in parts.
-fn wrong_in_pieces(rt: &(impl Abort + AllocGlobal), header: &[u8], cut: Cut) -> Result<(), Fail> {
-    let case = format!(in rt.alloc(); "{header:?}, {cut:?}")?;
-    let mut script = in_pieces(rt.alloc(), header, cut)?;
-    takes(&mut script, 0, 3)?;
-    takes(&mut script, 0, 0)?;
-    takes(&mut script, 0, 4)?;
-    let run = play(rt.alloc(), script, &limited(1, 1000))?;
-    is_turned_away(rt, &run, case.as_str())
-}
-
 #[test]
 fn wrong_header_gets_own_header(rt: HostRuntime) -> Result<(), Fail> {
     for cut in cuts(rt.alloc())? {
         for header in WRONG_HEADERS {
-            wrong_in_pieces(&rt, &header, cut)?;
+            let rooms = [3, 0, 4];
+            is_answered_in_pieces(&rt, &header, cut, &rooms, Answer::Header, Ending::Shut)?;
         }
     }
     let mut script = quiet(rt.alloc(), 1);
     sends_last(rt.alloc(), &mut script, 0, &WRONG)?;
-    let run = play(rt.alloc(), script, &limited(1, 1000))?;
-    is_turned_away(&rt, &run, "all at once, and the end")
+    is_answered(&rt, script, &[Answer::Header], Ending::Shut, "its end")
 }
 
 /// Two clients, which send their headers byte by byte.
@@ -176,68 +139,4 @@ fn pairs_are_kept_apart(rt: HostRuntime) -> Result<(), Fail> {
     is_apart(&rt, [&HEADER, &WRONG], [start(), &HEADER], [1, 0], report)?;
     let report = "pair 0 closed\npair 1 closed\nstopped: 2 pairs\n";
     is_apart(&rt, [&WRONG, &HEADER], [&HEADER, start()], [0, 1], report)
-}
-
-/// Each write offered the rest of a unit, and all of it was taken in the end.
-fn goes_on(rt: &(impl Abort + AllocGlobal), run: &Run, unit: &[u8], case: &str) {
-    let mut at = 0;
-    for k in 0..run.calls.len() {
-        if let Some(LogEntry::Write { bytes, answer, .. }) = run.calls.get(k) {
-            let rest = part(unit, at, unit.len());
-            assert_eq!(rt; bytes.as_slice(), rest, "call {k}, {case}");
-            at = count_after(at, *answer);
-        }
-    }
-    assert_eq!(rt; at, unit.len(), "{case}");
-}
-
-/// One client, whose first writes take what the rooms say, over and over.
-fn with_rooms(alloc: Global, header: &[u8], rooms: &[u32]) -> Result<Script, Memory> {
-    let mut script = quiet(alloc, 1);
-    script.idles = 400;
-    sends(alloc, &mut script, 0, header)?;
-    for _ in 0..153u32 {
-        for most in rooms {
-            takes(&mut script, 0, *most)?;
-        }
-    }
-    Ok(script)
-}
-
-/// A unit goes by so many writes, which take what the rooms say.
-fn goes_by_rooms(
-    rt: &(impl Abort + AllocGlobal),
-    header: &[u8],
-    unit: &[u8],
-    rooms: &[u32],
-    writes: usize,
-) -> Result<(), Fail> {
-    let case = format!(in rt.alloc(); "{rooms:?}")?;
-    let script = with_rooms(rt.alloc(), header, rooms)?;
-    let run = play(rt.alloc(), script, &turns(1000))?;
-    goes_on(rt, &run, unit, case.as_str());
-    let got = run.got(rt.alloc(), 0)?;
-    assert_eq!(rt; got.as_slice(), unit, "{case}");
-    let made = run.places(rt.alloc(), Kind::Write)?;
-    assert_eq!(rt; made.len(), writes, "{case}");
-    Ok(())
-}
-
-#[test]
-fn writes_go_on_where_they_stopped(rt: HostRuntime) -> Result<(), Fail> {
-    // the rooms, and how many writes it takes to send connection.start and the header
-    let cases = [
-        ([1, 0].as_slice(), 305, 15),
-        ([0, 1].as_slice(), 306, 16),
-        ([0, 0, 1].as_slice(), 459, 24),
-        ([7, 0].as_slice(), 43, 3),
-        ([152].as_slice(), 2, 1),
-        ([153].as_slice(), 1, 1),
-        ([4_294_967_295].as_slice(), 1, 1),
-    ];
-    for (rooms, for_start, for_header) in cases {
-        goes_by_rooms(&rt, &HEADER, start(), rooms, for_start)?;
-        goes_by_rooms(&rt, &WRONG, &HEADER, rooms, for_header)?;
-    }
-    Ok(())
 }

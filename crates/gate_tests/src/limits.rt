@@ -3,7 +3,7 @@
 ghost use Rattle.gate_loop.specs.Form.{IsInForm};
 
 use gate_loop::{Config, Outside, Served};
-use gate_outside::{Accepted, LogEntry, Script};
+use gate_outside::Script;
 use gate_plays::{Kind, Run, limited, only, play, quiet, sends, sends_last, turns};
 use std::alloc::Global;
 use std::process::Abort;
@@ -40,17 +40,34 @@ fn refused(alloc: Global) -> Result<Script, Memory> {
     Ok(script)
 }
 
-/// A run ends so, reports this, and makes so many calls.
+/// The report of a run in which so many pairs were accepted, and shut in the order of their numbers.
+fn told(alloc: Global, served: Served, accepted: u32) -> Result<String, Memory> {
+    let mut report = String::new(alloc);
+    for pair in 0..accepted {
+        write!(report, "pair {pair} closed\n")?;
+    }
+    match served {
+        Served::PairsDone => write!(report, "done: {accepted} pairs\n")?,
+        Served::TurnLimit => write!(report, "turn limit: {accepted} pairs\n")?,
+        Served::Stopped => write!(report, "stopped: {accepted} pairs\n")?,
+        Served::Fault(_) => report.push_str("fault: accept\n")?,
+        Served::Memory => report.push_str("memory\n")?,
+    }
+    Ok(report)
+}
+
+/// A run ends so, with so many pairs that were accepted, and makes so many calls.
 fn ends(
     rt: &(impl Abort + AllocGlobal),
     script: Script,
     config: &Config,
     served: Served,
-    report: &str,
+    accepted: u32,
     calls: usize,
 ) -> Result<(), Fail>
     requires { IsInForm config.now }
 {
+    let report = told(rt.alloc(), served, accepted)?;
     let run = play(rt.alloc(), script, config)?;
     assert_eq!(rt; run.report.as_slice(), report.as_bytes(), "{report}");
     assert_eq!(rt; run.served, served, "{report}");
@@ -59,130 +76,20 @@ fn ends(
     Ok(())
 }
 
-/// Runs without a pair.
-fn without_pairs(rt: &(impl Abort + AllocGlobal)) -> Result<(), Fail> {
-    let script = refused(rt.alloc())?;
-    let fault = Served::Fault(Outside::Accept);
-    ends(rt, script, &limited(1, 9), fault, "fault: accept\n", 2)?;
-    let script = nobody(rt.alloc(), 1);
-    ends(
-        rt,
-        script,
-        &turns(1),
-        Served::TurnLimit,
-        "turn limit: 0 pairs\n",
-        3,
-    )?;
-    let script = nobody(rt.alloc(), 0);
-    ends(
-        rt,
-        script,
-        &turns(1),
-        Served::Stopped,
-        "stopped: 0 pairs\n",
-        3,
-    )
-}
-
-/// A run with pairs that end at once.
-fn with_leaving(
-    rt: &(impl Abort + AllocGlobal),
-    count: u32,
-    config: &Config,
-    served: Served,
-    report: &str,
-    calls: usize,
-) -> Result<(), Fail>
-    requires { IsInForm config.now }
-{
-    let script = leaving(rt.alloc(), count)?;
-    ends(rt, script, config, served, report, calls)
-}
-
-/// Runs with pairs that end at once.
-fn with_each_leaving(rt: &(impl Abort + AllocGlobal)) -> Result<(), Fail> {
-    let (done, limit, stopped) = (Served::PairsDone, Served::TurnLimit, Served::Stopped);
-    with_leaving(
-        rt,
-        1,
-        &limited(1, 1),
-        done,
-        "pair 0 closed\ndone: 1 pairs\n",
-        4,
-    )?;
-    with_leaving(
-        rt,
-        1,
-        &limited(2, 1),
-        limit,
-        "pair 0 closed\nturn limit: 1 pairs\n",
-        4,
-    )?;
-    with_leaving(
-        rt,
-        1,
-        &limited(2, 1000),
-        stopped,
-        "pair 0 closed\nstopped: 1 pairs\n",
-        7,
-    )?;
-    with_leaving(
-        rt,
-        3,
-        &limited(2, 1000),
-        done,
-        "pair 0 closed\npair 1 closed\ndone: 2 pairs\n",
-        8,
-    )
-}
-
 #[test]
 fn runs_end(rt: HostRuntime) -> Result<(), Fail> {
-    without_pairs(&rt)?;
-    let (limit, stopped) = (Served::TurnLimit, Served::Stopped);
-    let script = silent(rt.alloc(), 5);
-    ends(
-        &rt,
-        script,
-        &turns(3),
-        limit,
-        "pair 0 closed\nturn limit: 1 pairs\n",
-        12,
-    )?;
-    let script = silent(rt.alloc(), 1);
-    ends(
-        &rt,
-        script,
-        &limited(1, 1000),
-        stopped,
-        "pair 0 closed\nstopped: 1 pairs\n",
-        10,
-    )?;
-    with_each_leaving(&rt)
-}
-
-/// The pairs that live after a call, where so many did before it.
-fn live_after(entry: &LogEntry, live: u32) -> u32 {
-    match entry {
-        LogEntry::Accept {
-            answer: Accepted::Pair(_),
-        } => live.saturating_add(1),
-        LogEntry::Shut { .. } => live.saturating_sub(1),
-        _ => live,
-    }
-}
-
-/// No more than 256 pairs live at once, and 256 do at some time.
-fn is_full_house(rt: &(impl Abort + AllocGlobal), run: &Run) {
-    let mut live = 0;
-    let mut most = 0;
-    for k in 0..run.calls.len() {
-        if let Some(entry) = run.calls.get(k) {
-            live = live_after(entry, live);
-            most = live.max(most);
-        }
-    }
-    assert_eq!(rt; most, 256);
+    let (done, limit, stop) = (Served::PairsDone, Served::TurnLimit, Served::Stopped);
+    let fault = Served::Fault(Outside::Accept);
+    let alloc = rt.alloc();
+    ends(&rt, refused(alloc)?, &limited(1, 9), fault, 0, 2)?;
+    ends(&rt, nobody(alloc, 1), &turns(1), limit, 0, 3)?;
+    ends(&rt, nobody(alloc, 0), &turns(1), stop, 0, 3)?;
+    ends(&rt, silent(alloc, 5), &turns(3), limit, 1, 12)?;
+    ends(&rt, silent(alloc, 1), &limited(1, 1000), stop, 1, 10)?;
+    ends(&rt, leaving(alloc, 1)?, &limited(1, 1), done, 1, 4)?;
+    ends(&rt, leaving(alloc, 1)?, &limited(2, 1), limit, 1, 4)?;
+    ends(&rt, leaving(alloc, 1)?, &limited(2, 1000), stop, 1, 7)?;
+    ends(&rt, leaving(alloc, 3)?, &limited(2, 1000), done, 2, 8)
 }
 
 /// The numbers count from 0 on, and are so many.
@@ -202,7 +109,7 @@ fn takes_in(
     count: usize,
     last: &str,
 ) -> Result<(), Fail> {
-    is_full_house(rt, run);
+    assert_eq!(rt; run.most_live(), 256);
     let lines = run.lines_and(rt.alloc(), last)?;
     assert_eq!(rt; run.report.as_slice(), lines.as_bytes());
     let accepts = run.places(rt.alloc(), Kind::Accept)?;

@@ -4,4 +4,4 @@ use Rattle.gate_laws.proofs.clients_are_answered.Goals as goal
 
 pub returns : goal.returns
 returns c = λ config m f p.
-    answered (record { settled = c.frame_laws.ensures.header_settled; scans = c.frame_laws.ensures.header_scans }) config p m f
+    answered (record { frame = c.frame_laws.ensures.settled; header = c.frame_laws.ensures.header_settled }) config p m f

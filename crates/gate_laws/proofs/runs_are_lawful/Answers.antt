@@ -5,6 +5,8 @@ pub returns : goal.returns
 returns c = λ config m f. record {
   entries = c.entries_are_lawful.ensures config m f;
   answers = c.clients_are_answered.ensures config m f;
+  beats = c.times_are_kept.ensures.beats config m f;
+  shuts = c.times_are_kept.ensures.shuts config m f;
   asks = c.live_pairs_are_asked.ensures config m f;
   pairs = c.pairs_live_or_are_shut.ensures.each config m f;
   ordered = c.pairs_live_or_are_shut.ensures.ordered config m f;

@@ -18,6 +18,7 @@ returns-in-Failed-clause-log g c = goes_then _ _ _ _ _ _ c.loop.invariant.log c.
 pub loop-preserved : goal.loop-preserved
 loop-preserved g c = record {
   number = search rules;
+  strained = search rules;
   later = omega arith;
   pairs = search rules;
   ends = search rules;

@@ -8,6 +8,7 @@ use Rattle.gate_loop.proofs.turn.write_out.Given as goal
 abbrev pub invariant-loop : goal.invariant-loop
 invariant-loop g l = record {
   number : l.pair.number ≡ l.fn.pair.number;
+  strained : l.pair.bridge.strained ≡ l.fn.pair.bridge.strained;
   later : g.P.Ports.faults l.fn.ports ≤ g.P.Ports.faults l.ports;
   pairs : g.P.Ports.pairs l.ports ≡ g.P.Ports.pairs l.fn.ports;
   ends : g.P.Ports.ends l.ports ≡ g.P.Ports.ends l.fn.ports;

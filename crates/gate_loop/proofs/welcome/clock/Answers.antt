@@ -4,4 +4,4 @@ use Rattle.gate_loop.proofs.Goes.{goes_call}
 use Rattle.gate_loop.proofs.welcome.clock.Goals as goal
 
 pub returns-clause-log : goal.returns-clause-log
-returns-clause-log g c = goes_call _ _ _ Ticks c.now-ms.ensures.log (λ m. record { ms = c.now-ms.result; one = refl })
+returns-clause-log g c = goes_call _ _ _ (Ticks c.now.result) c.now.ensures.log (λ m. record { one = refl })

@@ -1,0 +1,127 @@
+-- The interval of heartbeats, once agreed to, stays; so it is that after all the units, also where some were passed over.
+use Rattle.std.proofs.Common.{◌≡◌, ℕ, ◌<◌, ◌==◌, Bool, true, false, if◌then◌else◌, List, [], ◌∷◌, Option, None, Some, refl, sym, ap, subst, arith}
+use Rattle.frames_091.specs.declared.frame.Kind91.{Kind91}
+use Rattle.frames_091.specs.declared.frame.Kind91.TheVariants as frame
+use Rattle.machine_091.specs.Phases.{new_connection}
+use Rattle.machine_091.specs.Transitions.{Taken, closing_id, first_fault, frame_brings, judged, taken}
+use Rattle.machine_091.specs.declared.connection.Conn91.{Conn91}
+use Rattle.machine_091.specs.declared.connection.Limits.{Limits}
+use Rattle.machine_091.specs.declared.connection.Phase91.{Phase91}
+use Rattle.machine_091.specs.declared.connection.Phase91.TheVariants as phase
+use Rattle.machine_091.specs.declared.unit.Refusal.{Refusal}
+use Rattle.machine_091.specs.declared.unit.Unit91.{Unit91}
+use Rattle.machine_091.specs.declared.unit.Unit91.TheVariants as unit91
+use Rattle.machine_091.specs.declared.unit.Want91.TheVariants as want
+use Rattle.gate_loop.specs.Events.{Event, Began, Came, Strained, is_strained, talk, talk_by, units}
+use Rattle.gate_laws.specs.Lawful.{IsLawful}
+use Rattle.gate_laws.specs.Times.{conn_after, connection_at}
+use Rattle.gate_laws.proofs.PassedOver.{ComesCalm}
+use Rattle.gate_laws.proofs.Said.{conn_after_next, conn_next}
+
+-- before connection.tune-ok none is agreed to
+abbrev Stated : Phase91 → ℕ → Type 0
+Stated phase.Header interval = interval ≡ 0
+Stated phase.Start interval = interval ≡ 0
+Stated phase.Tune interval = interval ≡ 0
+Stated phase.Open interval = Unit {0}
+Stated phase.Closing interval = Unit {0}
+Stated phase.Closed interval = Unit {0}
+
+-- the interval of the connection is n, where n is one
+record Holds (n : ℕ) (p : Phase91) (interval : ℕ) : Type 0 where
+  stated : Stated p interval
+  same : 0 < n → interval ≡ n
+
+abbrev HoldsOf : ℕ → Conn91 → Type 0
+HoldsOf n c = Holds n c.phase c.limits.heartbeat
+
+-- a connection that ends keeps it
+closing : (n : ℕ) (p : Phase91) (interval : ℕ) → Holds n p interval → Holds n phase.Closing interval
+closing n p interval h = record { stated = tt; same = h.same }
+
+closed : (n : ℕ) (p : Phase91) (interval : ℕ) → Holds n p interval → Holds n phase.Closed interval
+closed n p interval h = record { stated = tt; same = h.same }
+
+-- where none was agreed to, any may be
+opened : (n interval : ℕ) (new : ℕ) → Holds n phase.Tune interval → Holds n phase.Open new
+opened n interval new h = record { stated = tt; same = λ one. let none : interval ≡ 0 = h.stated in let here : interval ≡ n = h.same one in absurd (omega arith) }
+
+abbrev connection : Phase91 → Limits → Conn91
+connection p l = record { phase = p; limits = l }
+
+holds_frame : (n : ℕ) (p : Phase91) (l : Limits) (payload : List ℕ) (kind : Kind91) → Holds n p l.heartbeat → HoldsOf n (frame_brings (connection p l) payload kind).0
+holds_frame n phase.Header l payload frame.Method h = h
+holds_frame n phase.Start l payload frame.Method h = record { stated = h.stated; same = h.same }
+holds_frame n phase.Tune l payload frame.Method h = opened n l.heartbeat _ h
+holds_frame n phase.Open l payload frame.Method h = h
+holds_frame n phase.Closing l payload frame.Method h = h
+holds_frame n phase.Closed l payload frame.Method h = h
+holds_frame n p l payload frame.Header h = h
+holds_frame n p l payload frame.Body h = h
+holds_frame n p l payload frame.Heartbeat h = h
+
+holds_judged : (n : ℕ) (p : Phase91) (l : Limits) (unit : Unit91) (refused : Option Refusal) → Holds n p l.heartbeat → HoldsOf n (judged (connection p l) unit refused).0
+holds_judged n p l unit (Some r) h = closing n p l.heartbeat h
+holds_judged n p l unit91.Protocol None h = h
+holds_judged n p l (unit91.Bad code) None h = h
+holds_judged n p l (unit91.Frame f) None h = holds_frame n p l f.payload f.kind h
+
+holds_header : (n : ℕ) (l : Limits) (unit : Unit91) → Holds n phase.Header l.heartbeat → HoldsOf n (taken (connection phase.Header l) unit).0
+holds_header n l unit91.Protocol h = record { stated = h.stated; same = h.same }
+holds_header n l (unit91.Frame f) h = closed n phase.Header l.heartbeat h
+holds_header n l (unit91.Bad code) h = closed n phase.Header l.heartbeat h
+
+holds_if : (n : ℕ) (b : Bool) (x y : Taken) → HoldsOf n x.0 → HoldsOf n y.0 → HoldsOf n (if b then x else y).0
+holds_if n true x y h g = h
+holds_if n false x y h g = g
+
+-- a unit more
+holds_unit : (n : ℕ) (p : Phase91) (l : Limits) (unit : Unit91) → Holds n p l.heartbeat → HoldsOf n (taken (connection p l) unit).0
+holds_unit n phase.Header l unit h = holds_header n l unit h
+holds_unit n phase.Start l unit h = holds_judged n phase.Start l unit (first_fault (connection phase.Start l) unit) h
+holds_unit n phase.Tune l unit h = holds_judged n phase.Tune l unit (first_fault (connection phase.Tune l) unit) h
+holds_unit n phase.Open l unit h = holds_judged n phase.Open l unit (first_fault (connection phase.Open l) unit) h
+holds_unit n phase.Closing l unit h =
+    holds_if n (closing_id unit == 50) (connection phase.Closed l, want.Close) _ (closed n phase.Closing l.heartbeat h)
+    (holds_if n (closing_id unit == 51) (connection phase.Closed l, want.CloseOk) (connection phase.Closing l, want.Nothing) (closed n phase.Closing l.heartbeat h) h)
+holds_unit n phase.Closed l unit h =
+    holds_if n (closing_id unit == 51) (connection phase.Closed l, want.CloseOk) (connection phase.Closed l, want.Nothing) h h
+
+holds_all : (n : ℕ) (c : Conn91) (us : List Unit91) → HoldsOf n c → HoldsOf n (conn_after c us)
+holds_all n c [] h = h
+holds_all n c (unit ∷ us) h = holds_all n (taken c unit).0 us (holds_unit n c.phase c.limits unit h)
+
+-- ---- the connection of what was said
+
+-- nothing comes before the accept, so before want of memory the connection is that after the units
+pub conn_is : (h : List Event) → IsLawful h → is_strained h ≡ false → (talk h).conn ≡ connection_at h
+conn_is [] l calm = refl
+conn_is (Began ms ∷ h) l calm = sym (ap connection_at l.0)
+conn_is (Came unit ∷ h) l calm = conn_next (talk h).conn (units h) unit (conn_is h l.1 calm)
+conn_is (Strained ∷ h) l calm = absurd cc
+conn_is (x ∷ h) l calm = conn_is h l.1 calm
+
+-- it holds its own interval
+holds_own : (h : List Event) (c : Conn91) → c ≡ connection_at h → HoldsOf c.limits.heartbeat (connection_at h)
+holds_own h c e = record {
+  stated = (holds_all 0 new_connection (units h) (record { stated = refl; same = λ one. refl })).stated;
+  same = λ one. ap (λ (x : Conn91). x.limits.heartbeat) (sym e);
+}
+
+-- and that of the connection before the units of the last read
+holds_over : (h : List Event) → IsLawful h → is_strained h ≡ false → HoldsOf (talk_by h true).conn.limits.heartbeat (connection_at h)
+holds_over [] l calm = record { stated = refl; same = λ one. refl }
+holds_over (Came unit ∷ h) l calm =
+    let interval : ℕ = (talk_by h true).conn.limits.heartbeat in
+    let c : Conn91 = connection_at h in
+    subst (HoldsOf interval) (sym (conn_after_next new_connection (units h) unit)) (holds_unit interval c.phase c.limits unit (holds_over h l.1 calm))
+holds_over (Strained ∷ h) l calm = absurd cc
+holds_over (x ∷ h) l calm = holds_own (x ∷ h) (talk (x ∷ h)).conn (conn_is (x ∷ h) l calm)
+
+-- so an interval of what was said is that after all the units
+pub interval_is : (h : List Event) → IsLawful h → ComesCalm h → 0 < (talk h).conn.limits.heartbeat → (connection_at h).limits.heartbeat ≡ (talk h).conn.limits.heartbeat
+interval_is [] l calm one = refl
+interval_is (Began ms ∷ h) l calm one = absurd (omega arith)
+interval_is (Came unit ∷ h) l calm one = ap (λ (c : Conn91). c.limits.heartbeat) (sym (conn_is (Came unit ∷ h) l calm.0))
+interval_is (Strained ∷ h) l calm one = (holds_over h l.1 l.0).same one
+interval_is (x ∷ h) l calm one = interval_is h l.1 calm one

@@ -1,0 +1,83 @@
+-- A unit that is found in bytes takes some of them, and no more than there are.
+use Rattle.std.proofs.Common.{◌≡◌, ℕ, ◌+◌, Bool, true, false, cond, ltb, eqb, nat_eq, List, [], ◌∷◌, length, Option, None, Some, refl, ap, arith}
+use Rattle.std.proofs.lemmas.Bool.{eqb-true, ltb-false}
+use Rattle.std.proofs.lemmas.List.Sums.{common_prefix_len-le}
+use Rattle.std.specs.List.{slice_index}
+use Rattle.wire_base.specs.declared.scan.Scan.{Scan}
+use Rattle.wire_base.specs.declared.scan.Scan.TheVariants.{Whole, More, Bad}
+use Rattle.wire_base.specs.declared.scan.At.{At}
+use Rattle.frames_091.specs.declared.frame.Frame91.{Frame91}
+use Rattle.frames_091.specs.declared.frame.FrameFault.{FrameFault}
+use Rattle.frames_091.specs.declared.frame.FrameFault.TheVariants as fault
+use Rattle.frames_091.specs.declared.frame.Kind91.{Kind91}
+use Rattle.frames_091.specs.declared.header.NotHeader.{NotHeader}
+use Rattle.frames_091.specs.FrameScan.{bad, frame_in, kind_of, scan_of, scan_kind, stated_size}
+use Rattle.frames_091.specs.Headers.{agreed_with, header_bytes, header_scan}
+use Rattle.machine_091.specs.declared.connection.Conn91.{Conn91}
+use Rattle.machine_091.specs.declared.connection.Phase91.{Phase91}
+use Rattle.machine_091.specs.declared.connection.Phase91.TheVariants as phase
+use Rattle.machine_091.specs.declared.unit.Unit91.TheVariants as unit91
+use Rattle.gate_loop.specs.Journal.{IsWithin, as_unit, frame_error, scan_in, unit_scan}
+
+frame_within : (limit : ℕ) (bytes : List ℕ) → IsWithin bytes (as_unit unit91.Frame frame_error (scan_of limit bytes))
+unfolding scan_of
+frame_within limit [] = tt
+frame_within limit (b ∷ bs) = kind (kind_of b)
+  where
+    tests : (k : Kind91) (x y z : Bool) → ltb (length (b ∷ bs)) (stated_size (b ∷ bs) + 8) ≡ y
+        → IsWithin (b ∷ bs) (as_unit unit91.Frame frame_error (cond {A = Scan Frame91 (At FrameFault)} x (bad fault.Size 3) (cond {A = Scan Frame91 (At FrameFault)} y More (cond {A = Scan Frame91 (At FrameFault)} z (Whole (frame_in k (b ∷ bs)) (stated_size (b ∷ bs) + 8)) (bad fault.End (7 + stated_size (b ∷ bs)))))))
+    tests k true y z e = tt
+    tests k false true z e = tt
+    tests k false false false e = tt
+    tests k false false true e = (omega arith, ltb-false _ _ e)
+
+    kind : (k : Option Kind91) → IsWithin (b ∷ bs) (as_unit unit91.Frame frame_error (scan_kind limit k (b ∷ bs)))
+    kind None = tt
+    kind (Some k) = tests k (ltb limit (stated_size (b ∷ bs) + 8)) (ltb (length (b ∷ bs)) (stated_size (b ∷ bs) + 8)) (eqb (slice_index (b ∷ bs) (7 + stated_size (b ∷ bs))) 206) refl
+
+-- a header that agrees in eight places has as many bytes
+header_within : (bytes : List ℕ) → IsWithin bytes (as_unit (λ header. unit91.Protocol) 0 (header_scan bytes))
+unfolding header_scan
+header_within bytes = tests (eqb (agreed_with header_bytes bytes) 8) (eqb (agreed_with header_bytes bytes) (length bytes)) refl
+  where
+    tests : (x y : Bool) → eqb (agreed_with header_bytes bytes) 8 ≡ x
+        → IsWithin bytes (as_unit (λ header. unit91.Protocol) 0 (cond {A = Scan (Unit {0}) (At NotHeader)} x (Whole tt 8) (cond {A = Scan (Unit {0}) (At NotHeader)} y More (Bad (record { fault = record {}; at = agreed_with header_bytes bytes })))))
+    tests true y e =
+        let eight : agreed_with header_bytes bytes ≡ 8 = eqb-true _ _ e in
+        (omega arith, omega (arith, (common_prefix_len-le nat_eq bytes header_bytes).0))
+    tests false true e = tt
+    tests false false e = tt
+
+pub within : (c : Conn91) (bytes : List ℕ) → IsWithin bytes (unit_scan c bytes)
+within c bytes = by c.phase
+  where
+    by : (p : Phase91) → IsWithin bytes (scan_in p c.limits.frame_max bytes)
+    by phase.Header = header_within bytes
+    by phase.Start = frame_within c.limits.frame_max bytes
+    by phase.Tune = frame_within c.limits.frame_max bytes
+    by phase.Open = frame_within c.limits.frame_max bytes
+    by phase.Closing = frame_within c.limits.frame_max bytes
+    by phase.Closed = frame_within c.limits.frame_max bytes
+
+-- no unit begins where there are no bytes
+no_frame : (limit : ℕ) → scan_of limit [] ≡ More
+unfolding scan_of
+no_frame limit = refl
+
+no_header : header_scan [] ≡ More
+unfolding header_scan
+no_header = refl
+
+pub none_found : (c : Conn91) → unit_scan c [] ≡ More
+none_found c = by c.phase
+  where
+    frame : as_unit unit91.Frame frame_error (scan_of c.limits.frame_max []) ≡ More
+    frame = ap (as_unit unit91.Frame frame_error) (no_frame c.limits.frame_max)
+
+    by : (p : Phase91) → scan_in p c.limits.frame_max [] ≡ More
+    by phase.Header = ap (as_unit (λ header. unit91.Protocol) 0) no_header
+    by phase.Start = frame
+    by phase.Tune = frame
+    by phase.Open = frame
+    by phase.Closing = frame
+    by phase.Closed = frame
