@@ -38,14 +38,17 @@ def parts(text):
     return [part.strip() for part in re.split(r" ∷ (?![^(]*\))", text)][:-1]
 
 
+def lines_of(name, pattern):
+    """The groups of each line of a file of the specs that has the pattern."""
+    for line in (SPECS / name).read_text().splitlines():
+        if match := pattern.match(line):
+            yield match.groups()
+
+
 def of_rows():
     """From Rows.antt: name of the method to ids and kinds, one for each bit, with its place in its octet."""
     rows = {}
-    for line in (SPECS / "Rows.antt").read_text().splitlines():
-        match = ROW.match(line)
-        if not match:
-            continue
-        class_name, method, class_id, method_id, shape = match.groups()
+    for class_name, method, class_id, method_id, shape in lines_of("Rows.antt", ROW):
         kinds = []
         for kind in parts(shape):
             reserved = kind.startswith("reserved ")
@@ -60,11 +63,7 @@ def of_rows():
 def of_view():
     """From View.antt: name of the variant to the names of its arguments in order, None for a reserved one."""
     views = {}
-    for line in (SPECS / "View.antt").read_text().splitlines():
-        match = VIEW.match(line)
-        if not match:
-            continue
-        variant, _fields, values = match.groups()
+    for variant, _fields, values in lines_of("View.antt", VIEW):
         names = []
         for value in parts(values):
             if value.startswith("arg.reserved"):
