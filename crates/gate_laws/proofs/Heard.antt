@@ -40,6 +40,7 @@ by_phase P limit header frame phase.Header = header
 by_phase P limit header frame phase.Start = frame
 by_phase P limit header frame phase.Tune = frame
 by_phase P limit header frame phase.Open = frame
+by_phase P limit header frame phase.Running = frame
 by_phase P limit header frame phase.Closing = frame
 by_phase P limit header frame phase.Closed = frame
 

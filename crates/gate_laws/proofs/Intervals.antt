@@ -5,7 +5,6 @@ use Rattle.frames_091.specs.declared.frame.Kind91.TheVariants as frame
 use Rattle.machine_091.specs.Phases.{new_connection}
 use Rattle.machine_091.specs.Transitions.{Taken, closing_id, first_fault, frame_brings, judged, taken}
 use Rattle.machine_091.specs.declared.connection.Conn91.{Conn91}
-use Rattle.machine_091.specs.declared.connection.Limits.{Limits}
 use Rattle.machine_091.specs.declared.connection.Phase91.{Phase91}
 use Rattle.machine_091.specs.declared.connection.Phase91.TheVariants as phase
 use Rattle.machine_091.specs.declared.unit.Refusal.{Refusal}
@@ -18,12 +17,13 @@ use Rattle.gate_laws.specs.Times.{conn_after, connection_at}
 use Rattle.gate_laws.proofs.PassedOver.{ComesCalm}
 use Rattle.gate_laws.proofs.Said.{conn_after_next, conn_next}
 
--- before connection.tune-ok none is agreed to
+-- before connection.tune-ok none is agreed to, and no connection runs
 abbrev Stated : Phase91 → ℕ → Type 0
 Stated phase.Header interval = interval ≡ 0
 Stated phase.Start interval = interval ≡ 0
 Stated phase.Tune interval = interval ≡ 0
 Stated phase.Open interval = Unit {0}
+Stated phase.Running interval = ⊥
 Stated phase.Closing interval = Unit {0}
 Stated phase.Closed interval = Unit {0}
 
@@ -46,50 +46,52 @@ closed n p interval h = record { stated = tt; same = h.same }
 opened : (n interval : ℕ) (new : ℕ) → Holds n phase.Tune interval → Holds n phase.Open new
 opened n interval new h = record { stated = tt; same = λ one. let none : interval ≡ 0 = h.stated in let here : interval ≡ n = h.same one in absurd (omega arith) }
 
-abbrev connection : Phase91 → Limits → Conn91
-connection p l = record { phase = p; limits = l }
+abbrev connection : Phase91 → Conn91 → Conn91
+connection p c = record c { phase = p }
 
-holds_frame : (n : ℕ) (p : Phase91) (l : Limits) (payload : List ℕ) (kind : Kind91) → Holds n p l.heartbeat → HoldsOf n (frame_brings (connection p l) payload kind).0
-holds_frame n phase.Header l payload frame.Method h = h
-holds_frame n phase.Start l payload frame.Method h = record { stated = h.stated; same = h.same }
-holds_frame n phase.Tune l payload frame.Method h = opened n l.heartbeat _ h
-holds_frame n phase.Open l payload frame.Method h = h
-holds_frame n phase.Closing l payload frame.Method h = h
-holds_frame n phase.Closed l payload frame.Method h = h
-holds_frame n p l payload frame.Header h = h
-holds_frame n p l payload frame.Body h = h
-holds_frame n p l payload frame.Heartbeat h = h
+holds_frame : (n : ℕ) (p : Phase91) (c : Conn91) (payload : List ℕ) (kind : Kind91) → Holds n p c.limits.heartbeat → HoldsOf n (frame_brings (connection p c) payload kind).0
+holds_frame n phase.Header c payload frame.Method h = h
+holds_frame n phase.Start c payload frame.Method h = record { stated = h.stated; same = h.same }
+holds_frame n phase.Tune c payload frame.Method h = opened n c.limits.heartbeat _ h
+holds_frame n phase.Open c payload frame.Method h = h
+holds_frame n phase.Running c payload frame.Method h = absurd h.stated
+holds_frame n phase.Closing c payload frame.Method h = h
+holds_frame n phase.Closed c payload frame.Method h = h
+holds_frame n p c payload frame.Header h = h
+holds_frame n p c payload frame.Body h = h
+holds_frame n p c payload frame.Heartbeat h = h
 
-holds_judged : (n : ℕ) (p : Phase91) (l : Limits) (unit : Unit91) (refused : Option Refusal) → Holds n p l.heartbeat → HoldsOf n (judged (connection p l) unit refused).0
-holds_judged n p l unit (Some r) h = closing n p l.heartbeat h
-holds_judged n p l unit91.Protocol None h = h
-holds_judged n p l (unit91.Bad code) None h = h
-holds_judged n p l (unit91.Frame f) None h = holds_frame n p l f.payload f.kind h
+holds_judged : (n : ℕ) (p : Phase91) (c : Conn91) (unit : Unit91) (refused : Option Refusal) → Holds n p c.limits.heartbeat → HoldsOf n (judged (connection p c) unit refused).0
+holds_judged n p c unit (Some r) h = closing n p c.limits.heartbeat h
+holds_judged n p c unit91.Protocol None h = h
+holds_judged n p c (unit91.Bad code) None h = h
+holds_judged n p c (unit91.Frame f) None h = holds_frame n p c f.payload f.kind h
 
-holds_header : (n : ℕ) (l : Limits) (unit : Unit91) → Holds n phase.Header l.heartbeat → HoldsOf n (taken (connection phase.Header l) unit).0
-holds_header n l unit91.Protocol h = record { stated = h.stated; same = h.same }
-holds_header n l (unit91.Frame f) h = closed n phase.Header l.heartbeat h
-holds_header n l (unit91.Bad code) h = closed n phase.Header l.heartbeat h
+holds_header : (n : ℕ) (c : Conn91) (unit : Unit91) → Holds n phase.Header c.limits.heartbeat → HoldsOf n (taken (connection phase.Header c) unit).0
+holds_header n c unit91.Protocol h = record { stated = h.stated; same = h.same }
+holds_header n c (unit91.Frame f) h = closed n phase.Header c.limits.heartbeat h
+holds_header n c (unit91.Bad code) h = closed n phase.Header c.limits.heartbeat h
 
 holds_if : (n : ℕ) (b : Bool) (x y : Taken) → HoldsOf n x.0 → HoldsOf n y.0 → HoldsOf n (if b then x else y).0
 holds_if n true x y h g = h
 holds_if n false x y h g = g
 
 -- a unit more
-holds_unit : (n : ℕ) (p : Phase91) (l : Limits) (unit : Unit91) → Holds n p l.heartbeat → HoldsOf n (taken (connection p l) unit).0
-holds_unit n phase.Header l unit h = holds_header n l unit h
-holds_unit n phase.Start l unit h = holds_judged n phase.Start l unit (first_fault (connection phase.Start l) unit) h
-holds_unit n phase.Tune l unit h = holds_judged n phase.Tune l unit (first_fault (connection phase.Tune l) unit) h
-holds_unit n phase.Open l unit h = holds_judged n phase.Open l unit (first_fault (connection phase.Open l) unit) h
-holds_unit n phase.Closing l unit h =
-    holds_if n (closing_id unit == 50) (connection phase.Closed l, want.Close) _ (closed n phase.Closing l.heartbeat h)
-    (holds_if n (closing_id unit == 51) (connection phase.Closed l, want.CloseOk) (connection phase.Closing l, want.Nothing) (closed n phase.Closing l.heartbeat h) h)
-holds_unit n phase.Closed l unit h =
-    holds_if n (closing_id unit == 51) (connection phase.Closed l, want.CloseOk) (connection phase.Closed l, want.Nothing) h h
+holds_unit : (n : ℕ) (p : Phase91) (c : Conn91) (unit : Unit91) → Holds n p c.limits.heartbeat → HoldsOf n (taken (connection p c) unit).0
+holds_unit n phase.Header c unit h = holds_header n c unit h
+holds_unit n phase.Start c unit h = holds_judged n phase.Start c unit (first_fault (connection phase.Start c) unit) h
+holds_unit n phase.Tune c unit h = holds_judged n phase.Tune c unit (first_fault (connection phase.Tune c) unit) h
+holds_unit n phase.Open c unit h = holds_judged n phase.Open c unit (first_fault (connection phase.Open c) unit) h
+holds_unit n phase.Running c unit h = absurd h.stated
+holds_unit n phase.Closing c unit h =
+    holds_if n (closing_id unit == 50) (connection phase.Closed c, want.Close) _ (closed n phase.Closing c.limits.heartbeat h)
+    (holds_if n (closing_id unit == 51) (connection phase.Closed c, want.CloseOk) (connection phase.Closing c, want.Nothing) (closed n phase.Closing c.limits.heartbeat h) h)
+holds_unit n phase.Closed c unit h =
+    holds_if n (closing_id unit == 51) (connection phase.Closed c, want.CloseOk) (connection phase.Closed c, want.Nothing) h h
 
 holds_all : (n : ℕ) (c : Conn91) (us : List Unit91) → HoldsOf n c → HoldsOf n (conn_after c us)
 holds_all n c [] h = h
-holds_all n c (unit ∷ us) h = holds_all n (taken c unit).0 us (holds_unit n c.phase c.limits unit h)
+holds_all n c (unit ∷ us) h = holds_all n (taken c unit).0 us (holds_unit n c.phase c unit h)
 
 -- ---- the connection of what was said
 

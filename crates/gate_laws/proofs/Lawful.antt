@@ -64,6 +64,7 @@ finds_one c bytes = by c.phase
     by phase.Start = finds_frame (scan_of c.limits.frame_max bytes)
     by phase.Tune = finds_frame (scan_of c.limits.frame_max bytes)
     by phase.Open = finds_frame (scan_of c.limits.frame_max bytes)
+    by phase.Running = finds_frame (scan_of c.limits.frame_max bytes)
     by phase.Closing = finds_frame (scan_of c.limits.frame_max bytes)
     by phase.Closed = finds_frame (scan_of c.limits.frame_max bytes)
 

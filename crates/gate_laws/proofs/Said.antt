@@ -12,7 +12,6 @@ use Rattle.frames_091.specs.declared.frame.Kind91.TheVariants as frame
 use Rattle.machine_091.specs.Phases.{new_connection}
 use Rattle.machine_091.specs.Transitions.{Taken, closing_id, first_fault, frame_brings, judged, taken}
 use Rattle.machine_091.specs.declared.connection.Conn91.{Conn91}
-use Rattle.machine_091.specs.declared.connection.Limits.{Limits}
 use Rattle.machine_091.specs.declared.connection.Phase91.{Phase91}
 use Rattle.machine_091.specs.declared.connection.Phase91.TheVariants as phase
 use Rattle.machine_091.specs.declared.unit.Refusal.{Refusal}
@@ -61,12 +60,13 @@ pub record Runs (d : Dues) (said all : List Reply) : Type 0 where
   pub calm : d.no_memory ≡ false
   pub same : said ++ rows d ≡ all
 
--- what went and what is due are all replies; once the connection is closed, but for a close that close-ok overtook
+-- what went and what is due are all replies; once the connection is closed, but for a close that close-ok overtook. No connection runs
 abbrev pub IsSaid : Phase91 → Dues → List Reply → List Reply → Type 0
 IsSaid phase.Header d said all = (d ≡ no_dues) × (said ≡ all)
 IsSaid phase.Start d said all = (d.tune ≡ false) × Runs d said all
 IsSaid phase.Tune d said all = Runs d said all
 IsSaid phase.Open d said all = Runs d said all
+IsSaid phase.Running d said all = ⊥
 IsSaid phase.Closing d said all = (d.close_ok ≡ false) × (d.no_memory ≡ false) × (said ++ rows d ≡ all)
 IsSaid phase.Closed d said all = AreReplies (said ++ rows d) all
 
@@ -75,6 +75,7 @@ are_replies phase.Header d said all s = inl (ap (λ (x : Dues). said ++ rows x) 
 are_replies phase.Start d said all s = inl s.1.same
 are_replies phase.Tune d said all s = inl s.same
 are_replies phase.Open d said all s = inl s.same
+are_replies phase.Running d said all s = absurd s
 are_replies phase.Closing d said all s = inl s.2
 are_replies phase.Closed d said all s = s
 
@@ -101,8 +102,8 @@ After d said all x = IsSaid x.0.phase (with_want x.1 d) said (all ++ reply_to x.
 after_nothing : (p : Phase91) (d : Dues) (said all : List Reply) → IsSaid p d said all → IsSaid p d said (all ++ [])
 after_nothing p d said all s = subst (λ (x : List Reply). IsSaid p d said x) (sym (append-nil all)) s
 
-abbrev connection : Phase91 → Limits → Conn91
-connection p l = record { phase = p; limits = l }
+abbrev connection : Phase91 → Conn91 → Conn91
+connection p c = record c { phase = p }
 
 -- a unit is expected that isn't the first
 abbrev is_running : Phase91 → Bool
@@ -110,6 +111,7 @@ is_running phase.Header = false
 is_running phase.Start = true
 is_running phase.Tune = true
 is_running phase.Open = true
+is_running phase.Running = false
 is_running phase.Closing = false
 is_running phase.Closed = false
 
@@ -118,35 +120,37 @@ runs_in phase.Header d said all e s = absurd cc
 runs_in phase.Start d said all e s = s.1
 runs_in phase.Tune d said all e s = s
 runs_in phase.Open d said all e s = s
+runs_in phase.Running d said all e s = absurd cc
 runs_in phase.Closing d said all e s = absurd cc
 runs_in phase.Closed d said all e s = absurd cc
 
-after_frame : (p : Phase91) (l : Limits) (payload : List ℕ) (kind : Kind91) (d : Dues) (said all : List Reply) → is_running p ≡ true → IsSaid p d said all
-    → After d said all (frame_brings (connection p l) payload kind)
-after_frame phase.Header l payload frame.Method d said all e s = absurd cc
-after_frame phase.Start l payload frame.Method d said all e s =
+after_frame : (p : Phase91) (c : Conn91) (payload : List ℕ) (kind : Kind91) (d : Dues) (said all : List Reply) → is_running p ≡ true → IsSaid p d said all
+    → After d said all (frame_brings (connection p c) payload kind)
+after_frame phase.Header c payload frame.Method d said all e s = absurd cc
+after_frame phase.Start c payload frame.Method d said all e s =
     record {
       ok = s.1.ok;
       none = s.1.none;
       calm = s.1.calm;
       same = one_due said all (rows d) (rows (record d { tune = true })) reply.Tune (tune_due d s.0 s.1.ok s.1.none s.1.calm) s.1.same;
     }
-after_frame phase.Tune l payload frame.Method d said all e s = after_nothing phase.Open d said all s
-after_frame phase.Open l payload frame.Method d said all e s = after_nothing phase.Open d said all s
-after_frame phase.Closing l payload frame.Method d said all e s = absurd cc
-after_frame phase.Closed l payload frame.Method d said all e s = absurd cc
-after_frame p l payload frame.Header d said all e s = after_nothing p d said all s
-after_frame p l payload frame.Body d said all e s = after_nothing p d said all s
-after_frame p l payload frame.Heartbeat d said all e s = after_nothing p d said all s
+after_frame phase.Tune c payload frame.Method d said all e s = after_nothing phase.Open d said all s
+after_frame phase.Open c payload frame.Method d said all e s = after_nothing phase.Open d said all s
+after_frame phase.Running c payload frame.Method d said all e s = absurd cc
+after_frame phase.Closing c payload frame.Method d said all e s = absurd cc
+after_frame phase.Closed c payload frame.Method d said all e s = absurd cc
+after_frame p c payload frame.Header d said all e s = after_nothing p d said all s
+after_frame p c payload frame.Body d said all e s = after_nothing p d said all s
+after_frame p c payload frame.Heartbeat d said all e s = after_nothing p d said all s
 
-after_judged : (p : Phase91) (l : Limits) (unit : Unit91) (refused : Option Refusal) (d : Dues) (said all : List Reply) → is_running p ≡ true → IsSaid p d said all
-    → After d said all (judged (connection p l) unit refused)
-after_judged p l unit (Some r) d said all e s =
+after_judged : (p : Phase91) (c : Conn91) (unit : Unit91) (refused : Option Refusal) (d : Dues) (said all : List Reply) → is_running p ≡ true → IsSaid p d said all
+    → After d said all (judged (connection p c) unit refused)
+after_judged p c unit (Some r) d said all e s =
     let x : Runs d said all = runs_in p d said all e s in
     (x.ok, x.calm, one_due said all (rows d) (rows (record d { close = Some r })) (reply.Close r) (close_due d r x.none x.calm) x.same)
-after_judged p l unit91.Protocol None d said all e s = after_nothing p d said all s
-after_judged p l (unit91.Bad code) None d said all e s = after_nothing p d said all s
-after_judged p l (unit91.Frame f) None d said all e s = after_frame p l f.payload f.kind d said all e s
+after_judged p c unit91.Protocol None d said all e s = after_nothing p d said all s
+after_judged p c (unit91.Bad code) None d said all e s = after_nothing p d said all s
+after_judged p c (unit91.Frame f) None d said all e s = after_frame p c f.payload f.kind d said all e s
 
 -- the client closed: a close of which nothing went is due no more
 after_close : (d : Dues) (said all : List Reply) (close : Option Refusal) → d.close ≡ close → IsSaid phase.Closing d said all
@@ -164,16 +168,16 @@ after_close d said all (Some r) e s =
       ap (λ (x : List Reply). x ++ reply.CloseOk ∷ []) (sym s.2 ∙ before) ∙ append_assoc (said ++ rows old) (reply.Close r ∷ []) (reply.CloseOk ∷ []),
     )
 
-after_closing : (l : Limits) (closes answers : Bool) (d : Dues) (said all : List Reply) → IsSaid phase.Closing d said all
-    → After d said all (if closes then (connection phase.Closed l, want.Close) else (if answers then (connection phase.Closed l, want.CloseOk) else (connection phase.Closing l, want.Nothing)))
-after_closing l true answers d said all s = after_close d said all d.close refl s
-after_closing l false true d said all s = inl (s.2 ∙ sym (append-nil all))
-after_closing l false false d said all s = after_nothing phase.Closing d said all s
+after_closing : (c : Conn91) (closes answers : Bool) (d : Dues) (said all : List Reply) → IsSaid phase.Closing d said all
+    → After d said all (if closes then (connection phase.Closed c, want.Close) else (if answers then (connection phase.Closed c, want.CloseOk) else (connection phase.Closing c, want.Nothing)))
+after_closing c true answers d said all s = after_close d said all d.close refl s
+after_closing c false true d said all s = inl (s.2 ∙ sym (append-nil all))
+after_closing c false false d said all s = after_nothing phase.Closing d said all s
 
-after_closed : (l : Limits) (answers : Bool) (d : Dues) (said all : List Reply) → IsSaid phase.Closed d said all
-    → After d said all (if answers then (connection phase.Closed l, want.CloseOk) else (connection phase.Closed l, want.Nothing))
-after_closed l true d said all s = after_nothing phase.Closed d said all s
-after_closed l false d said all s = after_nothing phase.Closed d said all s
+after_closed : (c : Conn91) (answers : Bool) (d : Dues) (said all : List Reply) → IsSaid phase.Closed d said all
+    → After d said all (if answers then (connection phase.Closed c, want.CloseOk) else (connection phase.Closed c, want.Nothing))
+after_closed c true d said all s = after_nothing phase.Closed d said all s
+after_closed c false d said all s = after_nothing phase.Closed d said all s
 
 -- no header of the gateway becomes due
 no_header : (d : Dues) → with_header false d ≡ d
@@ -190,22 +194,23 @@ Next c unit d said all = IsSaid (taken c unit).0.phase (with_header (is_foreign 
 next_by : (d : Dues) (said all : List Reply) (x : Taken) → After d said all x → IsSaid x.0.phase (with_header false (with_want x.1 d)) said (all ++ reply_to x.1)
 next_by d said all x a = subst (λ (e : Dues). IsSaid x.0.phase e said (all ++ reply_to x.1)) (sym (no_header (with_want x.1 d))) a
 
-said_header : (l : Limits) (unit : Unit91) (d : Dues) (said all : List Reply) → IsSaid phase.Header d said all → Next (connection phase.Header l) unit d said all
-said_header l unit91.Protocol d said all s =
-    subst (λ (x : Dues). Next (connection phase.Header l) unit91.Protocol x said all) (sym s.0)
+said_header : (c : Conn91) (unit : Unit91) (d : Dues) (said all : List Reply) → IsSaid phase.Header d said all → Next (connection phase.Header c) unit d said all
+said_header c unit91.Protocol d said all s =
+    subst (λ (x : Dues). Next (connection phase.Header c) unit91.Protocol x said all) (sym s.0)
     (refl, record { ok = refl; none = refl; calm = refl; same = ap (λ (rs : List Reply). rs ++ reply.Start ∷ []) s.1 })
-said_header l (unit91.Frame f) d said all s =
-    subst (λ (x : Dues). Next (connection phase.Header l) (unit91.Frame f) x said all) (sym s.0) (inl (ap (λ (rs : List Reply). rs ++ []) s.1))
-said_header l (unit91.Bad code) d said all s =
-    subst (λ (x : Dues). Next (connection phase.Header l) (unit91.Bad code) x said all) (sym s.0) (inl (ap (λ (rs : List Reply). rs ++ reply.Protocol ∷ []) s.1))
+said_header c (unit91.Frame f) d said all s =
+    subst (λ (x : Dues). Next (connection phase.Header c) (unit91.Frame f) x said all) (sym s.0) (inl (ap (λ (rs : List Reply). rs ++ []) s.1))
+said_header c (unit91.Bad code) d said all s =
+    subst (λ (x : Dues). Next (connection phase.Header c) (unit91.Bad code) x said all) (sym s.0) (inl (ap (λ (rs : List Reply). rs ++ reply.Protocol ∷ []) s.1))
 
-said_next : (p : Phase91) (l : Limits) (unit : Unit91) (d : Dues) (said all : List Reply) → IsSaid p d said all → Next (connection p l) unit d said all
-said_next phase.Header l unit d said all s = said_header l unit d said all s
-said_next phase.Start l unit d said all s = next_by d said all (taken (connection phase.Start l) unit) (after_judged phase.Start l unit (first_fault (connection phase.Start l) unit) d said all refl s)
-said_next phase.Tune l unit d said all s = next_by d said all (taken (connection phase.Tune l) unit) (after_judged phase.Tune l unit (first_fault (connection phase.Tune l) unit) d said all refl s)
-said_next phase.Open l unit d said all s = next_by d said all (taken (connection phase.Open l) unit) (after_judged phase.Open l unit (first_fault (connection phase.Open l) unit) d said all refl s)
-said_next phase.Closing l unit d said all s = next_by d said all (taken (connection phase.Closing l) unit) (after_closing l (closing_id unit == 50) (closing_id unit == 51) d said all s)
-said_next phase.Closed l unit d said all s = next_by d said all (taken (connection phase.Closed l) unit) (after_closed l (closing_id unit == 51) d said all s)
+said_next : (p : Phase91) (c : Conn91) (unit : Unit91) (d : Dues) (said all : List Reply) → IsSaid p d said all → Next (connection p c) unit d said all
+said_next phase.Header c unit d said all s = said_header c unit d said all s
+said_next phase.Start c unit d said all s = next_by d said all (taken (connection phase.Start c) unit) (after_judged phase.Start c unit (first_fault (connection phase.Start c) unit) d said all refl s)
+said_next phase.Tune c unit d said all s = next_by d said all (taken (connection phase.Tune c) unit) (after_judged phase.Tune c unit (first_fault (connection phase.Tune c) unit) d said all refl s)
+said_next phase.Open c unit d said all s = next_by d said all (taken (connection phase.Open c) unit) (after_judged phase.Open c unit (first_fault (connection phase.Open c) unit) d said all refl s)
+said_next phase.Running c unit d said all s = absurd s
+said_next phase.Closing c unit d said all s = next_by d said all (taken (connection phase.Closing c) unit) (after_closing c (closing_id unit == 50) (closing_id unit == 51) d said all s)
+said_next phase.Closed c unit d said all s = next_by d said all (taken (connection phase.Closed c) unit) (after_closed c (closing_id unit == 51) d said all s)
 
 -- ---- a reply goes
 
@@ -283,6 +288,7 @@ said_went p d r said all e s = by p s
     by phase.Start s = (no_tune r d s.0, runs s.1)
     by phase.Tune s = runs s
     by phase.Open s = runs s
+    by phase.Running s = absurd s
     by phase.Closing s = (no_close_ok r d s.0, no_wanting r d s.1, same ∙ s.2)
     by phase.Closed s = subst (λ (x : List Reply). AreReplies x all) (sym same) s
 
@@ -312,6 +318,7 @@ strained_ending phase.Header d = tt
 strained_ending phase.Start d = refl
 strained_ending phase.Tune d = refl
 strained_ending phase.Open d = refl
+strained_ending phase.Running d = refl
 strained_ending phase.Closing d = by d.close
   where
     by : (close : Option Refusal) → IsEnding (rows (record no_dues { close = close }))
@@ -340,7 +347,7 @@ says_unit h unit left taken calm s =
     record {
       conn = λ e. conn_next (talk h).conn (units h) unit (s.conn e);
       said = λ e. subst (λ (x : List Reply). IsSaid (talk (Came unit ∷ h)).conn.phase (talk (Came unit ∷ h)).dues (answers_of (sent h)) x) (sym more)
-          (said_next (talk h).conn.phase (talk h).conn.limits unit (talk h).dues (answers_of (sent h)) all (s.said e));
+          (said_next (talk h).conn.phase (talk h).conn unit (talk h).dues (answers_of (sent h)) all (s.said e));
       ending = λ e. let clash : false ≡ true = sym calm ∙ e in absurd cc;
       bytes = s.bytes;
     }

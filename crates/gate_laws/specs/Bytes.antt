@@ -50,12 +50,14 @@ spelled [] = []
 spelled (unit ∷ us) = spelling unit ++ spelled us
 
 -- the reply to what a unit wants: to the protocol header connection.start, to start-ok connection.tune, to the client's close its
--- close-ok, and to a refused unit the gateway's close
+-- close-ok, and to a refused unit the gateway's close. connection.open is refused, so no method of a channel wants anything
 abbrev pub reply_to : Want91 → List Reply
 reply_to want.Nothing = []
 reply_to want.Start = reply.Start ∷ []
 reply_to (want.Login mechanism response) = reply.Tune ∷ []
 reply_to want.Tuned = []
+reply_to (want.Method n method) = []
+reply_to (want.ChannelCloseOk n) = []
 reply_to want.Close = reply.CloseOk ∷ []
 reply_to want.CloseOk = []
 reply_to (want.Refuse r) = reply.Close r ∷ []

@@ -33,6 +33,7 @@ MayComeIn phase.Header (unit91.Bad code) = code ≡ 0
 MayComeIn phase.Start unit = IsFrameOrBad unit
 MayComeIn phase.Tune unit = IsFrameOrBad unit
 MayComeIn phase.Open unit = IsFrameOrBad unit
+MayComeIn phase.Running unit = IsFrameOrBad unit
 MayComeIn phase.Closing unit = IsFrameOrBad unit
 MayComeIn phase.Closed unit = IsFrameOrBad unit
 

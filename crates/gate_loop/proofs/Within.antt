@@ -56,6 +56,7 @@ within c bytes = by c.phase
     by phase.Start = frame_within c.limits.frame_max bytes
     by phase.Tune = frame_within c.limits.frame_max bytes
     by phase.Open = frame_within c.limits.frame_max bytes
+    by phase.Running = frame_within c.limits.frame_max bytes
     by phase.Closing = frame_within c.limits.frame_max bytes
     by phase.Closed = frame_within c.limits.frame_max bytes
 
@@ -79,5 +80,6 @@ none_found c = by c.phase
     by phase.Start = frame
     by phase.Tune = frame
     by phase.Open = frame
+    by phase.Running = frame
     by phase.Closing = frame
     by phase.Closed = frame

@@ -69,6 +69,7 @@ scan_in phase.Header limit bytes = as_unit (λ header. unit91.Protocol) 0 (heade
 scan_in phase.Start limit bytes = as_unit unit91.Frame frame_error (scan_of limit bytes)
 scan_in phase.Tune limit bytes = as_unit unit91.Frame frame_error (scan_of limit bytes)
 scan_in phase.Open limit bytes = as_unit unit91.Frame frame_error (scan_of limit bytes)
+scan_in phase.Running limit bytes = as_unit unit91.Frame frame_error (scan_of limit bytes)
 scan_in phase.Closing limit bytes = as_unit unit91.Frame frame_error (scan_of limit bytes)
 scan_in phase.Closed limit bytes = as_unit unit91.Frame frame_error (scan_of limit bytes)
 

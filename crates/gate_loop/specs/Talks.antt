@@ -48,6 +48,8 @@ with_want want.Nothing d = d
 with_want want.Start d = record d { start = true }
 with_want (want.Login mechanism response) d = record d { tune = true }
 with_want want.Tuned d = d
+with_want (want.Method n method) d = d
+with_want (want.ChannelCloseOk n) d = d
 with_want want.Close d = record d { close_ok = true; close = None }
 with_want want.CloseOk d = d
 with_want (want.Refuse r) d = record d { close = Some r }
@@ -64,6 +66,7 @@ is_foreign phase.Header u = is_bad u
 is_foreign phase.Start u = false
 is_foreign phase.Tune u = false
 is_foreign phase.Open u = false
+is_foreign phase.Running u = false
 is_foreign phase.Closing u = false
 is_foreign phase.Closed u = false
 
@@ -75,6 +78,8 @@ is_close_ok want.Nothing = false
 is_close_ok want.Start = false
 is_close_ok (want.Login mechanism response) = false
 is_close_ok want.Tuned = false
+is_close_ok (want.Method n method) = false
+is_close_ok (want.ChannelCloseOk n) = false
 is_close_ok want.Close = false
 is_close_ok want.CloseOk = true
 is_close_ok (want.Refuse r) = false
@@ -85,6 +90,8 @@ is_open_refused want.Nothing = false
 is_open_refused want.Start = false
 is_open_refused (want.Login mechanism response) = false
 is_open_refused want.Tuned = false
+is_open_refused (want.Method n method) = false
+is_open_refused (want.ChannelCloseOk n) = false
 is_open_refused want.Close = false
 is_open_refused want.CloseOk = false
 is_open_refused (want.Refuse r) = r.code == 540 && (r.class == 10 && r.method == 40)
@@ -96,6 +103,7 @@ closes_at None phase.Header ms = None
 closes_at None phase.Start ms = None
 closes_at None phase.Tune ms = None
 closes_at None phase.Open ms = None
+closes_at None phase.Running ms = None
 closes_at None phase.Closing ms = Some ms
 closes_at None phase.Closed ms = Some ms
 
@@ -125,6 +133,7 @@ strained_dues phase.Header d = no_dues
 strained_dues phase.Start d = record no_dues { no_memory = true }
 strained_dues phase.Tune d = record no_dues { no_memory = true }
 strained_dues phase.Open d = record no_dues { no_memory = true }
+strained_dues phase.Running d = record no_dues { no_memory = true }
 strained_dues phase.Closing d = record no_dues { close = d.close }
 strained_dues phase.Closed d = record no_dues { close_ok = d.close_ok }
 
@@ -134,6 +143,7 @@ strained_phase phase.Header = phase.Header
 strained_phase phase.Start = phase.Closing
 strained_phase phase.Tune = phase.Closing
 strained_phase phase.Open = phase.Closing
+strained_phase phase.Running = phase.Closing
 strained_phase phase.Closing = phase.Closing
 strained_phase phase.Closed = phase.Closed
 
@@ -154,6 +164,7 @@ is_silenced t = t.gone.close || is_unheard t.conn.phase
     is_unheard phase.Start = false
     is_unheard phase.Tune = false
     is_unheard phase.Open = false
+    is_unheard phase.Running = false
     is_unheard phase.Closing = false
     is_unheard phase.Closed = false
 

@@ -64,7 +64,11 @@ fn with_want(dues: Dues, want: Want91) -> Dues
     ensures { result ≡ with_want want dues }
 {
     match want {
-        Want91::Nothing | Want91::Tuned | Want91::CloseOk => dues,
+        Want91::Nothing
+        | Want91::Tuned
+        | Want91::Method(_, _)
+        | Want91::ChannelCloseOk(_)
+        | Want91::CloseOk => dues,
         Want91::Start => Dues {
             start: true,
             ..dues
@@ -126,7 +130,11 @@ fn closes_at(closing: Option<u64>, phase: Phase91, moment: u64) -> Option<u64>
         Some(at) => Some(at),
         None => match phase {
             Phase91::Closing | Phase91::Closed => Some(moment),
-            Phase91::Header | Phase91::Start | Phase91::Tune | Phase91::Open => None,
+            Phase91::Header
+            | Phase91::Start
+            | Phase91::Tune
+            | Phase91::Open
+            | Phase91::Running => None,
         },
     }
 }
@@ -152,7 +160,7 @@ fn strained_dues(phase: Phase91, dues: Dues) -> Dues
     let none = no_dues();
     match phase {
         Phase91::Header => none,
-        Phase91::Start | Phase91::Tune | Phase91::Open => Dues {
+        Phase91::Start | Phase91::Tune | Phase91::Open | Phase91::Running => Dues {
             no_memory: true,
             ..none
         },
@@ -173,7 +181,11 @@ fn strained_phase(phase: Phase91) -> Phase91
 {
     match phase {
         Phase91::Header => Phase91::Header,
-        Phase91::Start | Phase91::Tune | Phase91::Open | Phase91::Closing => Phase91::Closing,
+        Phase91::Start
+        | Phase91::Tune
+        | Phase91::Open
+        | Phase91::Running
+        | Phase91::Closing => Phase91::Closing,
         Phase91::Closed => Phase91::Closed,
     }
 }

@@ -58,6 +58,7 @@ expected phase.Header = 0
 expected phase.Start = 11
 expected phase.Tune = 31
 expected phase.Open = 40
+expected phase.Running = 0
 expected phase.Closing = 0
 expected phase.Closed = 0
 
@@ -100,6 +101,7 @@ own_code phase.Header args = None
 own_code phase.Start args = if is_login (text_at 1 args) (text_at 2 args) then None else Some 530
 own_code phase.Tune args = if is_agreed (number_at 0 args) (number_at 1 args) then None else Some 530
 own_code phase.Open args = Some 540
+own_code phase.Running args = None
 own_code phase.Closing args = None
 own_code phase.Closed args = None
 
@@ -123,9 +125,6 @@ kind_code p l f frame.Heartbeat = heartbeat_code f
 kind_code p l f frame.Header = content_code f
 kind_code p l f frame.Body = content_code f
 kind_code p l f frame.Method = first (method_rows p l f (method_in f.payload))
-
-abbrev pub frame_code : Phase91 → Limits → Frame91 → Option ℕ
-frame_code p l f = kind_code p l f f.kind
 
 -- the refusal of a connection, with these ids
 abbrev pub refusal_with : ℕ → ℕ → ℕ → Refusal

@@ -1,4 +1,4 @@
--- The transitions of a connection (AMQP 0-9-1 2.2.4): for each phase and each unit the state after it, and what the unit wants.
+-- The transitions of a connection (AMQP 0-9-1 2.2.4 and 1.5): for each phase and each unit the state after it, and what the unit wants.
 use Rattle.std.specs.Prelude.{ℕ, ◌==◌, if◌then◌else◌, List, [], Option, Some, None, Ok, Err}
 use Rattle.frames_091.specs.declared.frame.Frame91.{Frame91}
 use Rattle.frames_091.specs.declared.frame.Kind91.{Kind91}
@@ -6,7 +6,11 @@ use Rattle.frames_091.specs.declared.frame.Kind91.TheVariants as frame
 use Rattle.methods_091.specs.Rows.{class_of, id_of}
 use Rattle.methods_091.specs.Arguments.{Arg}
 use Rattle.methods_091.specs.Reading.{Read, method_in}
-use Rattle.machine_091.specs.Faults.{text_at, number_at, frame_code, refusal, refusal_with}
+use Rattle.methods_091.specs.declared.method.Method91.TheVariants as method
+use Rattle.machine_091.specs.Channels.{channel_at, with_channel}
+use Rattle.machine_091.specs.Faults.{text_at, number_at, kind_code, refusal, refusal_with}
+use Rattle.machine_091.specs.Running.{is_active, is_passed_over, running_code}
+use Rattle.machine_091.specs.declared.connection.Channel91.TheVariants as channel
 use Rattle.machine_091.specs.declared.connection.Conn91.{Conn91}
 use Rattle.machine_091.specs.declared.connection.Limits.{Limits}
 use Rattle.machine_091.specs.declared.connection.Phase91.{Phase91}
@@ -33,7 +37,7 @@ refused_by f (Some code) = Some (refusal code f)
 abbrev pub first_fault : Conn91 → Unit91 → Option Refusal
 first_fault c unit.Protocol = Some (refusal_with 501 0 0)
 first_fault c (unit.Bad code) = Some (refusal_with code 0 0)
-first_fault c (unit.Frame f) = refused_by f (frame_code c.phase c.limits f)
+first_fault c (unit.Frame f) = refused_by f (kind_code c.phase c.limits f f.kind)
 
 -- the arguments that were read
 abbrev pub arguments : Read → List Arg
@@ -52,12 +56,13 @@ agreed args = record {
 abbrev pub expected_brings : Conn91 → List Arg → Phase91 → Taken
 expected_brings c args phase.Header = (c, want.Nothing)
 expected_brings c args phase.Start = (record c { phase = phase.Tune }, want.Login (text_at 1 args) (text_at 2 args))
-expected_brings c args phase.Tune = (record { phase = phase.Open; limits = agreed args }, want.Tuned)
+expected_brings c args phase.Tune = (record c { phase = phase.Open; limits = agreed args }, want.Tuned)
 expected_brings c args phase.Open = (c, want.Nothing)
+expected_brings c args phase.Running = (c, want.Nothing)
 expected_brings c args phase.Closing = (c, want.Nothing)
 expected_brings c args phase.Closed = (c, want.Nothing)
 
--- a frame that isn't refused: a heartbeat wants nothing, and a method is the expected one
+-- a frame that isn't refused before that: a heartbeat wants nothing, and a method is the expected one
 abbrev pub frame_brings : Conn91 → List ℕ → Kind91 → Taken
 frame_brings c payload frame.Method = expected_brings c (arguments (method_in payload)) c.phase
 frame_brings c payload frame.Header = (c, want.Nothing)
@@ -71,12 +76,56 @@ unit_brings c unit.Protocol = (c, want.Nothing)
 unit_brings c (unit.Bad code) = (c, want.Nothing)
 
 -- the refusal that comes first, or else what the unit brings
+abbrev pub or_refused : Conn91 → Taken → Option Refusal → Taken
+or_refused c brings None = brings
+or_refused c brings (Some r) = (record c { phase = phase.Closing }, want.Refuse r)
+
 abbrev pub judged : Conn91 → Unit91 → Option Refusal → Taken
-judged c u None = unit_brings c u
-judged c u (Some r) = (record c { phase = phase.Closing }, want.Refuse r)
+judged c u = or_refused c (unit_brings c u)
 
 abbrev pub taken_up : Conn91 → Unit91 → Taken
 taken_up c u = judged c u (first_fault c u)
+
+-- ---- once the connection runs
+
+-- the first fault of a unit
+abbrev pub running_fault : Conn91 → Unit91 → Option Refusal
+running_fault c unit.Protocol = Some (refusal_with 501 0 0)
+running_fault c (unit.Bad code) = Some (refusal_with code 0 0)
+running_fault c (unit.Frame f) = refused_by f (running_code c f f.kind)
+
+-- a method of a channel that isn't refused, by its id: channel.open, flow, close and close-ok
+abbrev pub channel_brings : Conn91 → ℕ → ℕ → List Arg → Taken
+channel_brings c n id args =
+    if id == 10 then (with_channel c n channel.Open, want.Method n method.ChannelOpen)
+    else if id == 20 then (c, want.Method n (method.ChannelFlow (is_active args)))
+    else if id == 40 then (with_channel c n channel.Closing, want.Method n (method.ChannelClose (number_at 0 args) (text_at 1 args) (number_at 2 args) (number_at 3 args)))
+    else (c, want.ChannelCloseOk n)
+
+abbrev pub read_brings : Conn91 → ℕ → Read → Taken
+read_brings c n (Ok m) = channel_brings c n (id_of m.0) m.1
+read_brings c n (Err e) = (c, want.Nothing)
+
+-- a method on channel 0 is connection.close; on another channel it counts, unless it is passed over
+abbrev pub method_brings : Conn91 → ℕ → List ℕ → Taken
+method_brings c n payload =
+    if n == 0 then (record c { phase = phase.Closed }, want.Close)
+    else if is_passed_over (channel_at c n) payload then (c, want.Nothing)
+    else read_brings c n (method_in payload)
+
+abbrev pub running_brings : Conn91 → ℕ → List ℕ → Kind91 → Taken
+running_brings c n payload frame.Method = method_brings c n payload
+running_brings c n payload frame.Header = (c, want.Nothing)
+running_brings c n payload frame.Body = (c, want.Nothing)
+running_brings c n payload frame.Heartbeat = (c, want.Nothing)
+
+abbrev pub running_unit : Conn91 → Unit91 → Taken
+running_unit c (unit.Frame f) = running_brings c f.channel f.payload f.kind
+running_unit c unit.Protocol = (c, want.Nothing)
+running_unit c (unit.Bad code) = (c, want.Nothing)
+
+abbrev pub taken_running : Conn91 → Unit91 → Taken
+taken_running c u = or_refused c (running_unit c u) (running_fault c u)
 
 -- ---- before and after that
 
@@ -121,6 +170,7 @@ taken_in phase.Header = taken_header
 taken_in phase.Start = taken_up
 taken_in phase.Tune = taken_up
 taken_in phase.Open = taken_up
+taken_in phase.Running = taken_running
 taken_in phase.Closing = taken_closing
 taken_in phase.Closed = taken_closed
 

@@ -1,10 +1,11 @@
 //! The state of a client's connection, and the calls on it.
 
 ghost use Rattle.std.specs.Prelude.{◌≡◌, IfOk, OnOk, OnErr};
-ghost use Rattle.machine_091.specs.Phases.{new_connection, closing_phase};
+ghost use Rattle.machine_091.specs.Channels.{channel_at, is_open, with_channel, after_closing, after_closed};
+ghost use Rattle.machine_091.specs.Phases.{new_connection, opened_phase};
 ghost use Rattle.machine_091.specs.Transitions.{taken};
 
-use crate::transitions::{taken_closed, taken_closing, taken_header, taken_up};
+use crate::transitions::{taken_closed, taken_closing, taken_header, taken_running, taken_up};
 use crate::unit::{Unit91, Want91};
 use close_translate::Scope;
 use std::alloc::Global;
@@ -21,6 +22,8 @@ pub enum Phase91 {
     Tune,
     /// connection.open is awaited.
     Open,
+    /// Channels may be opened.
+    Running,
     /// A closing event came. connection.close and connection.close-ok alone still count.
     Closing,
     /// The client closed, or answered the gateway's close, or its first bytes were no protocol header. connection.close-ok alone
@@ -39,15 +42,28 @@ pub struct Limits {
     pub heartbeat: u16,
 }
 
+/// The state of a channel (AMQP 0-9-1 1.5).
+#[derive(Clone, Copy, Debug, PartialEq, Eq)]
+pub enum Channel91 {
+    /// It isn't open.
+    Free,
+    Open,
+    /// A closing event of it came. channel.close and channel.close-ok alone still count.
+    Closing,
+}
+
 /// The connection of one client.
 #[derive(Clone, Copy, Debug, PartialEq, Eq)]
 pub struct Conn91 {
     pub phase: Phase91,
     pub limits: Limits,
+    /// By their numbers.
+    pub channels: [Channel91; 256],
 }
 
 impl Conn91 {
     /// A connection of which nothing was read yet.
+    #[tactic(auto, unfolding(crate::specs::Phases::no_channels))]
     pub fn new() -> Conn91
         ensures { result ≡ new_connection }
     {
@@ -56,8 +72,11 @@ impl Conn91 {
             channel_max: 255,
             heartbeat: 0,
         };
-        let phase = Phase91::Header;
-        Conn91 { phase, limits }
+        Conn91 {
+            phase: Phase91::Header,
+            limits,
+            channels: [Channel91::Free; 256],
+        }
     }
 
     /// Takes the client's next unit, and answers what it wants, or that it is refused: by the first row of the order of
@@ -74,6 +93,7 @@ impl Conn91 {
         let (next, want) = match self.phase {
             Phase91::Header => taken_header(*self, &unit),
             Phase91::Start | Phase91::Tune | Phase91::Open => taken_up(alloc, *self, &unit)?,
+            Phase91::Running => taken_running(alloc, *self, &unit)?,
             Phase91::Closing => taken_closing(alloc, *self, &unit)?,
             Phase91::Closed => taken_closed(alloc, *self, &unit)?,
         };
@@ -81,17 +101,69 @@ impl Conn91 {
         Ok(want)
     }
 
-    /// A closing event came that no unit told. One of a channel changes nothing, since no channel is open yet.
-    pub fn closing(&mut self, scope: Scope)
-        ensures { self.new ≡ record self.old { phase = closing_phase scope self.old.phase } }
+    /// The container upstream opened, for a connection.open that was taken up: channels may be opened from now on.
+    pub fn opened(&mut self)
+        ensures { self.new ≡ record self.old { phase = opened_phase self.old.phase } }
     {
-        self.phase = match scope {
-            Scope::Channel => self.phase,
-            Scope::Connection => match self.phase {
-                Phase91::Closed => Phase91::Closed,
-                _ => Phase91::Closing,
-            },
-        };
+        if self.phase == Phase91::Open {
+            self.phase = Phase91::Running;
+        }
+    }
+
+    /// A closing event came that no unit told: of the connection, or of this channel, where it is open.
+    pub fn closing(&mut self, scope: Scope, channel: u16)
+        ensures { self.new ≡ after_closing scope channel self.old }
+    {
+        match scope {
+            Scope::Channel => {
+                if self.state(channel) == Channel91::Open {
+                    self.set(channel, Channel91::Closing);
+                }
+            }
+            Scope::Connection => {
+                if self.phase != Phase91::Closed {
+                    self.phase = Phase91::Closing;
+                }
+            }
+        }
+    }
+
+    /// The life of a closing channel ended: the gateway's channel.close-ok went, or the client answered the gateway's channel.close.
+    /// Its number is free again.
+    pub fn closed(&mut self, channel: u16)
+        ensures { self.new ≡ after_closed channel self.old }
+    {
+        if self.state(channel) == Channel91::Closing {
+            self.set(channel, Channel91::Free);
+        }
+    }
+
+    /// Whether this channel is open, and neither it nor the connection is closing.
+    pub fn is_open(&self, channel: u16) -> bool
+        ensures { result ≡ is_open self.now channel }
+    {
+        self.phase == Phase91::Running && self.state(channel) == Channel91::Open
+    }
+
+    /// The state of a channel; one above the last is never open.
+    pub(crate) fn state(&self, channel: u16) -> Channel91
+        ensures { result ≡ channel_at self.now channel }
+    {
+        match self.channels.get(usize::from(channel)) {
+            Some(state) => *state,
+            None => Channel91::Free,
+        }
+    }
+
+    /// Sets the state of a channel.
+    #[tactic(auto, using(std::proofs::lemmas::List::set_past))]
+    pub(crate) fn set(&mut self, channel: u16, state: Channel91)
+        ensures { self.new ≡ with_channel self.old channel state }
+    {
+        let at = usize::from(channel);
+        if at < self.channels.len() {
+            self.channels[at] = state;
+        }
     }
 
     /// The greatest size of a frame of this connection, in bytes.

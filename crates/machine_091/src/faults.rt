@@ -1,4 +1,4 @@
-//! The order of refusals, row by row: the reply code of a frame that is refused.
+//! The order of refusals before a connection runs, row by row: the reply code of a frame that is refused.
 
 ghost use Rattle.std.specs.Prelude.{◌≡◌, [], ◌∷◌, true, Some, None, Ok, Err, IfOk};
 ghost use Rattle.std.specs.Str.{bytes_eq};
@@ -24,7 +24,7 @@ fn is_named(text: &ByteText, name: &[u8]) -> bool
 }
 
 /// The class id and the method id of a method frame, 0 where they are cut off.
-fn ids_in(payload: &[u8]) -> (u16, u16)
+pub(crate) fn ids_in(payload: &[u8]) -> (u16, u16)
     ensures { result ≡ (class_in payload.now, id_in payload.now) }
 {
     let Some((class, rest)) = payload.split_first_chunk::<2>() else {
@@ -36,7 +36,7 @@ fn ids_in(payload: &[u8]) -> (u16, u16)
     (u16::from_be_bytes(*class), u16::from_be_bytes(*id))
 }
 
-fn heartbeat_fault(frame: &Frame91) -> Option<u16>
+pub(crate) fn heartbeat_fault(frame: &Frame91) -> Option<u16>
     ensures { result ≡ heartbeat_code frame.now }
 {
     if frame.channel == 0 && frame.payload.as_slice().is_empty() {
@@ -60,7 +60,7 @@ fn expected(phase: Phase91) -> u16
         Phase91::Start => 11,
         Phase91::Tune => 31,
         Phase91::Open => 40,
-        Phase91::Header | Phase91::Closing | Phase91::Closed => 0,
+        Phase91::Header | Phase91::Running | Phase91::Closing | Phase91::Closed => 0,
     }
 }
 
@@ -88,7 +88,7 @@ fn channel_fault(limits: Limits, frame: &Frame91) -> Option<u16>
     }
 }
 
-fn reading_code(fault: MethodFault) -> u16
+pub(crate) fn reading_code(fault: MethodFault) -> u16
     ensures { result ≡ fault_code fault }
 {
     match fault {

@@ -4,12 +4,13 @@ ghost use Rattle.std.specs.Prelude.{◌≡◌, [], ◌∷◌, true, Ok, IfOk};
 ghost use Rattle.methods_091.specs.View.{kind_of, args_of, parts_of};
 ghost use Rattle.methods_091.specs.Arguments.{short, long};
 ghost use Rattle.machine_091.specs.Faults.{is_expected};
-ghost use Rattle.machine_091.specs.Transitions.{agreed, expected_brings, taken_up, taken_header, connection_id, closing_id, taken_closing, taken_closed};
+ghost use Rattle.machine_091.specs.Transitions.{agreed, expected_brings, taken_up, taken_running, taken_header, connection_id, closing_id, taken_closing, taken_closed};
 ghost use Rattle.machine_091.specs.declared.connection.Phase91.TheVariants as phase;
 ghost use Rattle.machine_091.specs.declared.unit.Want91.TheVariants as want;
 
 use crate::connection::{Conn91, Limits, Phase91};
 use crate::faults::{bare_refusal, judged, refusal};
+use crate::running::answer;
 use crate::unit::{Refusal, Unit91, Want91};
 use frames_091::{Frame91, Kind91};
 use methods_091::{Method91, ids, read_method};
@@ -58,7 +59,12 @@ fn expected_brings(conn: Conn91, method: Method91) -> (Conn91, Want91)
         } => {
             let phase = Phase91::Open;
             let limits = agreed(channel_max, frame_max, heartbeat);
-            (Conn91 { phase, limits }, Want91::Tuned)
+            let next = Conn91 {
+                phase,
+                limits,
+                ..conn
+            };
+            (next, Want91::Tuned)
         }
         _ => (conn, Want91::Nothing),
     }
@@ -92,6 +98,25 @@ pub(crate) fn taken_up(
         Err(code) => Ok(refused(conn, refusal(code, frame))),
         Ok(None) => Ok((conn, Want91::Nothing)),
         Ok(Some(method)) => Ok(expected_brings(conn, method)),
+    }
+}
+
+/// A unit once the connection runs.
+pub(crate) fn taken_running(
+    alloc: Global,
+    conn: Conn91,
+    unit: &Unit91,
+) -> Result<(Conn91, Want91), Memory>
+    ensures { IfOk result (λ t. t ≡ taken_running conn unit.now) }
+{
+    let frame = match unit {
+        Unit91::Protocol => return Ok(refused(conn, bare_refusal(501))),
+        Unit91::Bad(code) => return Ok(refused(conn, bare_refusal(*code))),
+        Unit91::Frame(frame) => frame,
+    };
+    match answer(alloc, conn, frame)? {
+        Err(code) => Ok(refused(conn, refusal(code, frame))),
+        Ok(taken) => Ok(taken),
     }
 }
 

@@ -2,6 +2,7 @@
 
 use close_translate::Scope;
 use frames_091::Frame91;
+use methods_091::Method91;
 use wire_base::ByteText;
 
 /// A unit of the client's stream.
@@ -40,6 +41,10 @@ pub enum Want91 {
     Login(ByteText, ByteText),
     /// The limits are agreed.
     Tuned,
+    /// A method of this channel: channel.open, channel.flow or channel.close. Its answer is due.
+    Method(u16, Method91),
+    /// The client answered the gateway's channel.close of this channel.
+    ChannelCloseOk(u16),
     /// The client closes the connection. connection.close-ok is due.
     Close,
     /// The client answered the gateway's connection.close.
