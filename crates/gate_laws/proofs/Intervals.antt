@@ -116,7 +116,7 @@ holds_over [] l calm = record { stated = refl; same = λ one. refl }
 holds_over (Came unit ∷ h) l calm =
     let interval : ℕ = (talk_by h true).conn.limits.heartbeat in
     let c : Conn91 = connection_at h in
-    subst (HoldsOf interval) (sym (conn_after_next new_connection (units h) unit)) (holds_unit interval c.phase c.limits unit (holds_over h l.1 calm))
+    subst (HoldsOf interval) (sym (conn_after_next new_connection (units h) unit)) (holds_unit interval c.phase c unit (holds_over h l.1 calm))
 holds_over (Strained ∷ h) l calm = absurd cc
 holds_over (x ∷ h) l calm = holds_own (x ∷ h) (talk (x ∷ h)).conn (conn_is (x ∷ h) l calm)
 
