@@ -85,9 +85,9 @@ fn a_close_is_answered(rt: HostRuntime) -> Result<(), Fail> {
 fn other_events_close(rt: HostRuntime) -> Result<(), Fail> {
     for phase in PHASES {
         let mut conn = connection_in(phase);
-        conn.closing(Scope::Channel);
+        conn.closing(Scope::Channel, 1);
         assert_eq!(rt; conn, connection_in(phase));
-        conn.closing(Scope::Connection);
+        conn.closing(Scope::Connection, 0);
         let wanted = match phase {
             Phase91::Closed => Phase91::Closed,
             _ => Phase91::Closing,

@@ -9,4 +9,6 @@ mod opening;
 #[cfg(test)]
 mod refusals;
 #[cfg(test)]
+mod running;
+#[cfg(test)]
 mod units;

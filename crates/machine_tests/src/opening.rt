@@ -63,8 +63,11 @@ fn is_tuned(
 ) -> Result<(), Fail> {
     let want = conn.take(rt.alloc(), unit)?;
     assert!(rt; matches!(want, Want91::Tuned), "{want:?}");
-    let phase = Phase91::Open;
-    assert_eq!(rt; *conn, Conn91 { phase, limits });
+    let wanted = Conn91 {
+        limits,
+        ..connection_in(Phase91::Open)
+    };
+    assert_eq!(rt; *conn, wanted);
     assert_eq!(rt; conn.frame_max(), limits.frame_max);
     assert_eq!(rt; conn.channel_max(), limits.channel_max);
     assert_eq!(rt; conn.heartbeat(), limits.heartbeat);

@@ -12,11 +12,12 @@ use std::test::Fail;
 use wire_base::{ByteText, Scan};
 
 /// Each phase once.
-pub(crate) const PHASES: [Phase91; 6] = [
+pub(crate) const PHASES: [Phase91; 7] = [
     Phase91::Header,
     Phase91::Start,
     Phase91::Tune,
     Phase91::Open,
+    Phase91::Running,
     Phase91::Closing,
     Phase91::Closed,
 ];
@@ -97,19 +98,19 @@ pub(crate) fn is_passed_over(
     Ok(())
 }
 
-/// The unit is refused, and the connection is closing with the limits that it had.
+/// The unit is refused, and the connection is closing with the limits and the channels that it had.
 pub(crate) fn is_refused(
     rt: &(impl Abort + AllocGlobal),
     mut conn: Conn91,
     unit: Unit91,
     wanted: Refusal,
 ) -> Result<(), Fail> {
-    let limits = conn.limits;
+    let before = conn;
     match conn.take(rt.alloc(), unit)? {
         Want91::Refuse(found) => assert_eq!(rt; found, wanted),
         other => panic!(rt; "{other:?} for {wanted:?}"),
     }
     let phase = Phase91::Closing;
-    assert_eq!(rt; conn, Conn91 { phase, limits }, "{wanted:?}");
+    assert_eq!(rt; conn, Conn91 { phase, ..before }, "{wanted:?}");
     Ok(())
 }
