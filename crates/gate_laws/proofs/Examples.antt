@@ -16,8 +16,10 @@ use Rattle.wire_base.specs.Reading as reading
 use Rattle.frames_091.specs.Frames as spelling
 use Rattle.frames_091.specs.FrameScan as scanning
 use Rattle.gate_loop.specs.Marks.{Mark, Call, Strain, Finish}
+use Rattle.gate_loop.specs.Journal.{journal}
 use Rattle.gate_loop.specs.Next as limits
 use Rattle.gate_loop.specs.Next.{next, Do, EndBy, Done, AskRead, AskWrite, AskShut, AskNow, AskAccept, AskIdle}
+use Rattle.gate_laws.specs.Frames.{limit}
 
 abbrev one_pair : Config
 one_pair = record { pairs = Some 1; turns = 10 }
@@ -223,3 +225,17 @@ then_no_memory = refl
 then_the_strained_is_shut : next two_pairs (Call (Write 0 Client no_memory (put.Took 28)) ∷ Strain 0 ∷ crossed) ≡ Do (AskShut 0 Client)
 unfolding headers.header_scan frames.start_frame frames.tune_frame spelling.frame_text scanning.scan_of scanning.stated_size scanning.frame_in reading.text_in reading.all_items
 then_the_strained_is_shut = refl
+
+-- the greatest frame that a client takes: the least that it can agree to, and then what it agreed to, unless its tune-ok was passed over
+
+the_least_at_first : limit (journal 0 crossed).events ≡ 4096
+unfolding headers.header_scan frames.start_frame frames.tune_frame spelling.frame_text scanning.scan_of scanning.stated_size scanning.frame_in reading.text_in reading.all_items
+the_least_at_first = refl
+
+then_the_agreed : limit (journal 0 tuned).events ≡ 131072
+unfolding headers.header_scan frames.start_frame frames.tune_frame spelling.frame_text scanning.scan_of scanning.stated_size scanning.frame_in reading.text_in reading.all_items
+then_the_agreed = refl
+
+still_the_least : limit (journal 0 (Strain 0 ∷ tuned)).events ≡ 4096
+unfolding headers.header_scan frames.start_frame frames.tune_frame spelling.frame_text scanning.scan_of scanning.stated_size scanning.frame_in reading.text_in reading.all_items
+still_the_least = refl

@@ -4,6 +4,7 @@ pub mod Causes
 pub mod Cover
 pub mod Ends
 mod Examples
+pub mod Frames
 pub mod Heard
 pub mod Intervals
 pub mod Lawful

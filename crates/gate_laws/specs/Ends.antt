@@ -20,8 +20,8 @@ is_stopped (Call (Idle Stop) ∷ m) = true
 is_stopped (Call (Accept accepted.Failed) ∷ m) = true
 is_stopped (x ∷ m) = false
 
--- why the service ends so after m: out fails right after what has a line in the report, a shut or want of memory for a pair; want of
--- memory outside any pair comes before the first call alone
+-- why the service ends so after m: out fails right after what has its line told at once, a shut or want of memory at a read; want
+-- of memory outside any pair comes before the first call alone
 abbrev pub EndsAs : Config → List Mark → Served → Type 0
 EndsAs c m Stopped = first m ≡ Some (Call (Idle Stop))
 EndsAs c m PairsDone = (accepted_count m ≡ pair_limit c) × (lives m ≡ [])

@@ -7,6 +7,7 @@ use Rattle.gate_loop.specs.Next.{Done, finish_of, next, strain_count}
 use Rattle.gate_laws.specs.Asks.{AsksLive}
 use Rattle.gate_laws.specs.Bytes.{IsAnswered}
 use Rattle.gate_laws.specs.Ends.{EndsOnce, TurnsDid}
+use Rattle.gate_laws.specs.Frames.{FitsClients}
 use Rattle.gate_laws.specs.Lawful.{IsLawful}
 use Rattle.gate_laws.specs.Limits.{IsWithin}
 use Rattle.gate_laws.specs.Log.{FollowsLog, is_plain_end, next_call}
@@ -24,6 +25,8 @@ pub record IsLawfulRun (c : Config) (m : List Mark) : Type 0 where
   -- every pair's journal is lawful, and its client took what answers what it sent
   pub entries : (p : ℕ) → IsLawful (journal p m).events
   pub answers : (p : ℕ) → IsAnswered p m
+  -- no frame that goes to a client passes its limit
+  pub frames : (p : ℕ) → FitsClients (journal p m).events
   -- heartbeats go, and ends are shut, where time or another cause makes that due
   pub beats : (p : ℕ) → BeatsWhenDue (journal p m).events
   pub shuts : (p : ℕ) → ShutsForCause (journal p m).events

@@ -1,6 +1,7 @@
 pub mod Asks
 pub mod Bytes
 pub mod Ends
+pub mod Frames
 pub mod Lawful
 pub mod Laws
 pub mod Limits

@@ -10,6 +10,7 @@ ghost use Rattle.gate_loop.specs.Next.{Done, Follows, finish_of, next, strain_co
 ghost use Rattle.gate_laws.specs.Asks.{AsksLive};
 ghost use Rattle.gate_laws.specs.Bytes.{IsAnswered};
 ghost use Rattle.gate_laws.specs.Ends.{EndsOnce, TurnsDid};
+ghost use Rattle.gate_laws.specs.Frames.{FitsClients};
 ghost use Rattle.gate_laws.specs.Lawful.{IsLawful};
 ghost use Rattle.gate_laws.specs.Laws.{IsLawfulRun};
 ghost use Rattle.gate_laws.specs.Limits.{IsWithin};
@@ -20,6 +21,8 @@ ghost use Rattle.gate_laws.specs.Strains.{CountsStrains};
 ghost use Rattle.gate_laws.specs.Times.{BeatsWhenDue, ShutsForCause};
 
 use frames_091::frame_laws;
+use gate_loop::unit_laws;
+use machine_091::connection_laws;
 
 /// The entries of each pair's journal are lawful: what is offered is due, nothing is answered twice, and an end is shut
 /// where that is due.
@@ -38,6 +41,15 @@ pub fn clients_are_answered()
     ensures { (c : Config) (m : List Mark) → Follows c m → (p : ℕ) → IsAnswered p m }
 {
     frame_laws();
+}
+
+/// No frame that goes to a client passes the client's limit when its first byte goes: 4,096 bytes until a connection.tune-ok that is
+/// neither refused nor passed over, and from then on the frame-max of that one, or the one that was stated where it named none.
+pub fn frames_fit_clients()
+    ensures { (c : Config) (m : List Mark) → Follows c m → (p : ℕ) → FitsClients (journal p m).events }
+{
+    connection_laws();
+    unit_laws();
 }
 
 /// A heartbeat goes where an interval was agreed to, and for half of it no unit went wholly, not all is said, no other unit is due
@@ -109,6 +121,7 @@ pub fn runs_are_lawful()
 {
     entries_are_lawful();
     clients_are_answered();
+    frames_fit_clients();
     times_are_kept();
     live_pairs_are_asked();
     pairs_live_or_are_shut();

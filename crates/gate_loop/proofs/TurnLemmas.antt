@@ -13,7 +13,7 @@ use Rattle.gate_loop.specs.Marks.{Mark, Call, Strain}
 use Rattle.gate_loop.specs.Events.{Strained}
 use Rattle.gate_loop.specs.Journal.{Journal, journal, shut_due, read_at, write_at, came_in, noted, awaits, offer}
 use Rattle.gate_loop.specs.Stands.{Stands}
-use Rattle.gate_loop.specs.Next.{Reading, Writing, Shutting, Stage, Answered, HasLineLast, read_room, without, beyond, lives}
+use Rattle.gate_loop.specs.Next.{Reading, Writing, Shutting, Stage, Answered, read_room, without, beyond, lives}
 use Rattle.gate_outside.specs.Streams.{Appends, AppendsFront}
 use Rattle.gate_loop.specs.declared.service.Progress.{Progress}
 use Rattle.gate_loop.specs.Report.{report, memory_line, closed_line, heard_lines}
@@ -69,7 +69,7 @@ pub hears_strain : (old new : Pair) (room n : ℕ) (bytes : List ℕ) → room �
 hears_strain old new room n bytes e awaited answered keeps m =
     subst (λ (r : ℕ). Hears old.number old new true true m (Strain old.number ∷ Call (Read old.number Client r (got.Bytes n) bytes) ∷ m)) (sym e) (record {
       steps = strain_here old new n bytes awaited answered keeps m;
-      last = λ h. record { before = Call (Read old.number Client read_room (got.Bytes n) bytes) ∷ m; parts = refl; line = refl };
+      last = λ h. record { before = Call (Read old.number Client read_room (got.Bytes n) bytes) ∷ m; parts = refl; line = refl; last = tt };
     })
 
 -- the client isn't read
@@ -196,7 +196,7 @@ turn_refused p old new heard held held' m n met part x =
         part = cut_here held held' m strain.before n _ part strain.line
             (record { after = Strain p ∷ []; parts = strain.parts; shuts = (refl, tt) });
       };
-      last = λ h. subst (λ (k : List Mark). HasLineLast k) (sym strain.parts) tt;
+      last = λ h. strain.last;
       keeps = λ still. x.steps.keeps;
       goes = λ never. absurd cc;
       rests = λ c ps behind others s f.

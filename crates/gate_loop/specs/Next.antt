@@ -251,14 +251,15 @@ StrainsAt p (Call (Accept (accepted.Pair q)) ∷ m) = q ≡ p
 StrainsAt p (Call (Read q end room (got.Bytes n) bytes) ∷ m) = q ≡ p
 StrainsAt p m = ⊥
 
--- the last that happened has a line in the report: a client's end was shut, or want of memory was met for a pair
+-- the last that happened has a line in the report that is told at once: a client's end was shut, or want of memory was met at a
+-- read; where it was met at an accept, its line comes after the shut
 abbrev pub HasLineLast : List Mark → Type 0
 HasLineLast (Call (Shut p Client) ∷ m) = Unit {0}
-HasLineLast (Strain p ∷ m) = Unit {0}
+HasLineLast (Strain p ∷ Call (Read q Client room answer bytes) ∷ m) = Unit {0}
 HasLineLast m = ⊥
 
 -- the service ends as comes next; for want of memory before the first call alone; and for a failed out where the last
--- that happened has a line, which out refused
+-- that happened has a line that is told at once, which out refused
 abbrev pub EndsBy : Served → List Mark → Upcoming → Type 0
 EndsBy Memory m up = m ≡ []
 EndsBy (Fault outside.Out) m up = HasLineLast m

@@ -68,11 +68,12 @@ pub record Facing (c : Config) (ps : List ℕ) (m : List Mark) : Type 0 where
   pub inside : is_inside (place m) ≡ true
   pub follows : Follows c m
 
--- the last that happened was that the pair met want of memory, and before it nothing was reported
+-- the last that happened was that the pair met want of memory, whose line is told at once, and before it nothing was reported
 pub record StrainsLast (p : ℕ) (m n : List Mark) : Type 0 where
   pub before : List Mark
   pub parts : n ≡ Strain p ∷ before
   pub line : report before ≡ report m
+  pub last : HasLineLast n
 
 -- what a part of a pair's turn leaves as it was: all but that pair's journal
 pub record Moves (p : ℕ) (moved strained : Bool) (m n : List Mark) : Type 0 where

@@ -112,3 +112,10 @@ pub fn spelled(room: &mut [u8; 512], reply: Reply) -> &[u8]
     let (bytes, _) = room.as_slice().split_at(count);
     bytes
 }
+
+/// The law of the units to a client, for proofs to cite; the call does nothing.
+#[tactic(auto, using(crate::proofs::Spelled::spelled_small))]
+pub fn unit_laws()
+    // No unit has over 512 bytes, an eighth of the least frame-max.
+    ensures small { (unit : Reply) → length (spelling unit) ≤ 512 }
+{}

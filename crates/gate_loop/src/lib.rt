@@ -15,5 +15,6 @@ mod units;
 mod welcome;
 
 pub use config::{Config, Outside, Served};
+pub use frames::unit_laws;
 pub use report::tell_number;
 pub use running::serve;

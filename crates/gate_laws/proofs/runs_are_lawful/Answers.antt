@@ -5,6 +5,7 @@ pub returns : goal.returns
 returns c = λ config m f. record {
   entries = c.entries_are_lawful.ensures config m f;
   answers = c.clients_are_answered.ensures config m f;
+  frames = c.frames_fit_clients.ensures config m f;
   beats = c.times_are_kept.ensures.beats config m f;
   shuts = c.times_are_kept.ensures.shuts config m f;
   asks = c.live_pairs_are_asked.ensures config m f;
