@@ -1,6 +1,7 @@
 //! The opening of a connection: the header, connection.start-ok, tune-ok and open, and what may stand in them.
 
 use crate::talks::{Ending, is_answered, is_answered_in_each_way};
+use gate_loop::unit_laws;
 use gate_plays::{
     Answer, CLOSE_OK, HEADER, OPEN, OPENING, START_OK, TUNE_OK, Way, one_client, part, quiet,
     sends, sends_after, start_ok, tune_ok, whole,
@@ -16,6 +17,7 @@ const ANSWERS: [Answer; 3] = [Answer::Start, Answer::Tune, Answer::Close(540, 10
 /// Frames that were counted out, against what the helpers make of their parts.
 #[test]
 fn frames_are_made_right(rt: HostRuntime) -> Result<(), Fail> {
+    unit_laws();
     let cases = [
         (
             Answer::Close(530, 10, 31).bytes(rt.alloc())?,
