@@ -58,14 +58,20 @@ fn is_close_ok(
     Ok(())
 }
 
+/// The unit is the client's close, and the connection is closed then.
+fn is_close(rt: &(impl Abort + AllocGlobal), conn: &mut Conn91, unit: Unit91) -> Result<(), Fail> {
+    let want = conn.take(rt.alloc(), unit)?;
+    assert!(rt; matches!(want, Want91::Close), "{want:?}");
+    assert_eq!(rt; *conn, connection_in(Phase91::Closed));
+    Ok(())
+}
+
 #[test]
 fn a_close_counts_once(rt: HostRuntime) -> Result<(), Fail> {
     let rt = &rt;
     let mut conn = connection_in(Phase91::Closing);
     others_are_passed_over(rt, &mut conn)?;
-    let want = conn.take(rt.alloc(), frame_in(rt, CLOSE)?)?;
-    assert!(rt; matches!(want, Want91::Close), "{want:?}");
-    assert_eq!(rt; conn, connection_in(Phase91::Closed));
+    is_close(rt, &mut conn, frame_in(rt, CLOSE)?)?;
     others_are_passed_over(rt, &mut conn)?;
     is_passed_over(rt, &mut conn, frame_in(rt, CLOSE)?)?;
     is_close_ok(rt, &mut conn, frame_in(rt, CLOSE_OK)?)
