@@ -9,7 +9,7 @@ use Rattle.methods_091.specs.Reading.{Read, method_in}
 use Rattle.machine_091.specs.Faults.{number_at, is_agreed, order_code, channel_code, reading_code, own_code, first, method_rows, kind_code}
 use Rattle.machine_091.specs.Channels.{channel_at}
 use Rattle.machine_091.specs.Running.{is_passed_over}
-use Rattle.machine_091.specs.Transitions.{Taken, agreed, taken, taken_in, taken_header, taken_up, closing_id, judged, first_fault, running_fault, refused_by, or_refused, arguments, expected_brings, frame_brings, channel_brings, read_brings, method_brings, running_brings, running_unit, taken_running, unit_brings}
+use Rattle.machine_091.specs.Transitions.{Taken, agreed, taken, taken_in, taken_header, taken_up, closing_id, judged, first_fault, running_fault, refused_by, or_refused, arguments, expected_brings, frame_brings, read_brings, running_brings, running_unit, taken_running, unit_brings}
 use Rattle.machine_091.specs.declared.connection.Conn91.{Conn91}
 use Rattle.machine_091.specs.declared.connection.Limits.{Limits}
 use Rattle.machine_091.specs.declared.connection.Phase91.{Phase91}

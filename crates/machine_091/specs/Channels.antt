@@ -1,5 +1,5 @@
 -- The channels of a connection by their numbers (AMQP 0-9-1 1.5): which are open, and which are closing.
-use Rattle.std.specs.Prelude.{ℕ, Bool, true, false, ◌&&◌, List, replicate, slice_get, slice_set, Option, None, Some}
+use Rattle.std.specs.Prelude.{ℕ, Bool, true, false, ◌&&◌, slice_get, slice_set, Option, None, Some}
 use Rattle.close_translate.specs.declared.conditions.Scope.{Scope}
 use Rattle.close_translate.specs.declared.conditions.Scope.TheVariants as scope
 use Rattle.machine_091.specs.Phases.{is_running, shut_phase}

@@ -5,7 +5,7 @@ use Rattle.std.specs.Prelude.{ℕ, Bool, true, false, ◌&&◌, ◌||◌, ◌==�
 use Rattle.frames_091.specs.declared.frame.Frame91.{Frame91}
 use Rattle.frames_091.specs.declared.frame.Kind91.{Kind91}
 use Rattle.frames_091.specs.declared.frame.Kind91.TheVariants as frame
-use Rattle.methods_091.specs.Rows.{Kind, class_of, id_of}
+use Rattle.methods_091.specs.Rows.{class_of, id_of}
 use Rattle.methods_091.specs.Arguments.{Arg}
 use Rattle.methods_091.specs.Arguments as arg
 use Rattle.methods_091.specs.Reading.{Read, method_in}
