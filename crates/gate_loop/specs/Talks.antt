@@ -42,7 +42,8 @@ new_talk ms = record {
 
 -- ---- a unit of the client
 
--- what becomes due by what it wants: the gateway's close is due no more once the client closed
+-- what becomes due by what it wants: the gateway's close is due no more once the client closed. No connection runs, so no unit is of a
+-- channel
 abbrev pub with_want : Want91 → Dues → Dues
 with_want want.Nothing d = d
 with_want want.Start d = record d { start = true }

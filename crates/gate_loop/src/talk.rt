@@ -59,7 +59,7 @@ const HANDSHAKE_LIMIT: u64 = 10_000;
 /// So many milliseconds after the closing event the end is shut in any case.
 const CLOSING_LIMIT: u64 = 10_000;
 
-/// The units that are due once a unit of the client wants this.
+/// The units that are due once a unit of the client wants this. No connection runs, so none is of a channel.
 fn with_want(dues: Dues, want: Want91) -> Dues
     ensures { result ≡ with_want want dues }
 {
@@ -130,11 +130,8 @@ fn closes_at(closing: Option<u64>, phase: Phase91, moment: u64) -> Option<u64>
         Some(at) => Some(at),
         None => match phase {
             Phase91::Closing | Phase91::Closed => Some(moment),
-            Phase91::Header
-            | Phase91::Start
-            | Phase91::Tune
-            | Phase91::Open
-            | Phase91::Running => None,
+            Phase91::Header | Phase91::Start | Phase91::Tune | Phase91::Open | Phase91::Running =>
+                None,
         },
     }
 }
@@ -181,11 +178,8 @@ fn strained_phase(phase: Phase91) -> Phase91
 {
     match phase {
         Phase91::Header => Phase91::Header,
-        Phase91::Start
-        | Phase91::Tune
-        | Phase91::Open
-        | Phase91::Running
-        | Phase91::Closing => Phase91::Closing,
+        Phase91::Start | Phase91::Tune | Phase91::Open | Phase91::Running | Phase91::Closing =>
+            Phase91::Closing,
         Phase91::Closed => Phase91::Closed,
     }
 }

@@ -1,7 +1,6 @@
 -- What is said of the values in a list or a table, said of the list's fields and the table's entries one by one.
-use Rattle.std.proofs.Common.{◌≡◌, ℕ, List, [], ◌∷◌, ◌++◌, length, take, get_or, ◌<◌, ◌≤◌, ◌^◌, map, All, refl, sym, ap, ◌∙◌, arith}
+use Rattle.std.proofs.Common.{◌≡◌, ℕ, List, [], ◌∷◌, ◌++◌, length, get_or, ◌<◌, ◌^◌, map, All, refl, ap, arith}
 use Rattle.std.specs.List.{flat_map, AllByRecursion}
-use Rattle.std.proofs.lemmas.List.{length-append, take-take, take_at}
 use Rattle.std.proofs.lemmas.List.Folds.{length-flat_map-take}
 use Rattle.std.proofs.lemmas.List.Elements.{All-from_recursion}
 use Rattle.tables_091.specs.declared.field.Field.{Field}
@@ -37,9 +36,3 @@ field_fits fs i d within size = omega (arith, length-flat_map-take field_text fs
 
 pub entry_fits : (es : List (List ℕ × Field)) (i : ℕ) (d : List ℕ × Field) → i < length es → length (members_text (members_of (map entry_member es))) < 2 ^ 32 → length (entry_text (get_or es i d)) < 2 ^ 32
 entry_fits es i d within size = omega (arith, length-flat_map-take entry_text es i d within, ap length (entries_text es))
-
--- after a failure, what stood there is there
-pub still_there : (old mid new more : List ℕ) → mid ≡ old ++ more → take (length mid) new ≡ mid → take (length old) new ≡ old
-still_there old mid new more e h =
-    let shorter : length old ≤ length mid = omega (arith, ap length e, length-append old more) in
-    sym (take-take (length old) (length mid) new shorter) ∙ ap (take (length old)) (h ∙ e) ∙ take_at old more (length old) refl

@@ -1,4 +1,5 @@
 pub mod Bytes
 pub mod Items
 pub mod Laws
+pub mod Outputs
 pub mod Scans
