@@ -55,7 +55,7 @@ IsItemList w IsValue = IsThen (IsNumber w) (λ n. IsTimes IsValue n)
 abbrev pub IsPairList : Width → (Tree → List ℕ → Type 0) → List (Tree × Tree) → List ℕ → Type 0
 IsPairList w IsValue = IsThen (IsNumber w) (λ n ps text. (n ≡ 2 * length ps) × IsItems (IsPair IsValue IsValue) ps text)
 
--- what a constructor tells of the elements: the descriptors that all of them have, the outermost first, and the kind of what they describe
+-- what a constructor tells: the descriptors that all elements have, the outermost first, and the kind of what they describe
 abbrev pub Elements : Type 0
 Elements = List Tree × Kind
 

@@ -87,7 +87,7 @@ coded_in read cut end bytes = do
 abbrev pub code_in : Fault → ℕ → List ℕ → Reads (Kind × ℕ) Fault
 code_in = coded_in (λ k at cut end bytes. Ok ((k, at), bytes))
 
--- the constructor of an array: the descriptors that all of its elements have, the outermost first, and the kind of what they describe
+-- what a constructor tells: the descriptors that all elements have, the outermost first, and the kind of what they describe
 abbrev pub Shape : Type 0
 Shape = List Tree × Kind
 
@@ -95,7 +95,7 @@ Shape = List Tree × Kind
 abbrev pub with_descriptor : Tree × Shape → Shape
 with_descriptor p = (p.0 ∷ p.1.0, p.1.1)
 
--- the constructor of an array, whose descriptors are read so: at most so many codes
+-- a constructor of at most so many codes, whose descriptors are read so
 unfoldable pub constructor_in : (Fault → ℕ → List ℕ → Reads Tree Fault) → ℕ → Fault → ℕ → List ℕ → Reads Shape Fault
 constructor_in read zero cut end bytes = Err cut
 constructor_in read (suc most) cut end bytes = do
@@ -136,8 +136,8 @@ entries_in w read cut end bytes = do
   n ← count_in cut w bytes
   if n.0 % 2 == 0 then times (pair_in (read cut) (read cut) end) (n.0 / 2) n.1 else Err cut
 
--- a count, a constructor, whatever the count, and so many elements; the last code of the constructor is the byte before them. Of elements
--- without bytes there are at most 65,536
+-- a count, a constructor, whatever the count is, and so many elements, before which its last code is the last byte; of elements without
+-- bytes there are at most 65,536
 abbrev pub elements_in : Width → Inside → Fault → ℕ → List ℕ → Reads (List Tree) Fault
 elements_in w inside cut end bytes = do
   n ← count_in cut w bytes
@@ -164,7 +164,8 @@ deep_in inside (kind.Map s) at cut end bytes = made (λ ps. mapping (pairs_of ps
 deep_in inside (kind.Array s) at cut end bytes = made (λ ts. array (trees_of ts)) (filled_in (size_width s) at (elements_in (size_width s) inside) cut end bytes)
 deep_in inside kind.Described at cut end bytes = made (λ p. described p.0 p.1) (pair_in (value_by inside cut) (value_by inside cut) end bytes)
 
--- an element behind its constructor, whose content is read so; where its descriptor is deeper than this, a fault at the constructor's last code
+-- an element behind its constructor, whose content is read so; where its descriptor is deeper than this, a fault at the
+-- constructor's last code
 abbrev pub element_by : ℕ → Contents → (Shape → ℕ → Fault → ℕ → List ℕ → Reads Tree Fault) → Shape → ℕ → Fault → ℕ → List ℕ → Reads Tree Fault
 element_by d contents more ([], k) at cut end bytes = contents k at cut end bytes
 element_by d contents more (x ∷ xs, k) at cut end bytes =
