@@ -1,4 +1,4 @@
-//! Whether a value is no deeper than this.
+//! Whether values are no deeper than they may be.
 
 ghost use Rattle.std.specs.Prelude.{◌≡◌, nat_le, map};
 ghost use Rattle.types_10.specs.Tree.{depth, list_depth, pairs_depth_of};

@@ -722,10 +722,10 @@ fn value_from(alloc: Global, bytes: &[u8], at: usize) -> Result<(Value10, usize)
 ///
 /// A `TypeFault` exactly where no value of depth 16 or less stands at `at`, and where it is: `UnknownCode` at the code, or at
 /// the byte of a boolean; `Cut` at the length of the input; `NotUtf8` and `NotAscii` at the first byte of the content; `Depth`
-/// at the code, of an element at the last code of its array's constructor; `Count` at the code of the list, the map or the array.
-/// The faults of a value are looked for in the order `UnknownCode`, `Depth`, `Cut`, `Count` for a wrong count, the fault of its
-/// text or those of what it holds in order, and `Count` for bytes left over. The constructor of an array, descriptors and all, is
-/// read before the count is tested, and its descriptors count only in the depth of the elements.
+/// at the code, which is the last one of the constructor for an element of an array; `Count` at the code of the list, the map or
+/// the array. The faults of a value are looked for in the order `UnknownCode`, `Depth`, `Cut`, `Count` for a wrong count, the
+/// fault of its text or those of what it holds in order, and `Count` for bytes left over. The constructor of an array,
+/// descriptors and all, is read before the count is tested, and its descriptors count in the depth of the elements alone.
 ///
 /// `Memory` where the allocator has no room.
 pub fn read_value(

@@ -17,7 +17,8 @@ enum Holder {
     Described,
 }
 
-/// Holders of which each one holds the one before it, and the first one the last. No array holds a described value.
+/// Holders of which each one holds the one before it, and the first one the last. No array holds a described value, since
+/// the depth of such an element is told at another place.
 static HOLDERS: [Holder; 8] = [
     Holder::List,
     Holder::Described,
