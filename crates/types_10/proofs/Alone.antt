@@ -6,7 +6,7 @@ use Rattle.std.proofs.lemmas.List.{nil_from_length}
 use Rattle.wire_base.specs.Spelling.{text_of, IsMade, IsNumber, IsPair, IsItems}
 use Rattle.types_10.specs.Tree.{Tree, scalar, list, mapping, array, described, trees_of, pairs_of}
 use Rattle.types_10.specs.Kinds.{is_bare, size_width}
-use Rattle.types_10.specs.Grammar.{Elements, Spelled, IsSingle, IsCoded, IsFilled, IsThen, IsTimes, IsItemList, IsPairList, IsFlat, IsDeepOf, IsShape, IsDescriptorOf, IsElement}
+use Rattle.types_10.specs.Grammar.{Elements, Spelled, IsDescriptorOf, IsPlainCode, IsConstructorOf, IsSingle, IsFilled, IsThen, IsTimes, IsItemList, IsPairList, IsFlat, IsDeepOf, IsElement}
 use Rattle.types_10.specs.Canonical.{IsFirstCode, IsFirstConstructor, IsFirstElements, canonical, IsCanonicalOf, IsCanonical}
 use Rattle.types_10.specs.Writing.{descriptors}
 use Rattle.types_10.proofs.Wider.{same_kind}
@@ -110,47 +110,17 @@ first_alone C r t a b h g =
     let rest : h.1 ≡ g.1 = r h.0 t h.1 g.1 h.2 (subst (λ (k : Kind). C k t g.1) k g.2) in
     cc
 
-element_alone : (C : Kind → Tree → List ℕ → Type 0) (I : Elements → Tree → List ℕ → Type 0) → ((k : Kind) → IsAlone (C k)) → ((c : Elements) → IsAlone (I c)) → (c : Elements) → IsAlone (IsElement C I c)
-element_alone C I r m ([], k) = r k
-element_alone C I r m (d ∷ ds, k) = made_alone (described d) (I (ds, k)) (λ x y e. cc) (m (ds, k))
-
--- the code that a constructor begins with
-abbrev code_of : Elements → Kind
-code_of ([], k) = k
-code_of (d ∷ ds, k) = kind.Described
-
-shape_code : (More : Elements → List ℕ → Type 0) → ((c : Elements) (text : List ℕ) → More c text → code_of c ≡ kind.Described) → (k : Kind) (c : Elements) (text : List ℕ) → IsShape More k c text → code_of c ≡ k
-shape_code More m (kind.Single k) c text h = ap code_of h.0
-shape_code More m kind.EmptyList c text h = ap code_of h.0
-shape_code More m (kind.List z) c text h = ap code_of h.0
-shape_code More m (kind.Map z) c text h = ap code_of h.0
-shape_code More m (kind.Array z) c text h = ap code_of h.0
-shape_code More m kind.Described c text h = m c text h
-
-shape_alone : (More : Elements → List ℕ → Type 0) → IsAlone More → (k : Kind) → IsAlone (IsShape More k)
-shape_alone More m (kind.Single k) c a b h g = h.1 ∙ sym g.1
-shape_alone More m kind.EmptyList c a b h g = h.1 ∙ sym g.1
-shape_alone More m (kind.List z) c a b h g = h.1 ∙ sym g.1
-shape_alone More m (kind.Map z) c a b h g = h.1 ∙ sym g.1
-shape_alone More m (kind.Array z) c a b h g = h.1 ∙ sym g.1
-shape_alone More m kind.Described c a b h g = m c a b h g
-
-constructor_alone : (More : Elements → List ℕ → Type 0) → ((c : Elements) (text : List ℕ) → More c text → code_of c ≡ kind.Described) → IsAlone More → IsAlone (IsCoded (IsShape More))
-constructor_alone More m r c a b h g =
-    let k : g.0 ≡ h.0 = sym (shape_code More m g.0 c g.1 g.2) ∙ shape_code More m h.0 c h.1 h.2 in
-    let rest : h.1 ≡ g.1 = shape_alone More r h.0 c h.1 g.1 h.2 (subst (λ (k : Kind). IsShape More k c g.1) k g.2) in
+descriptor_alone : (R : Tree → List ℕ → Type 0) → IsAlone R → IsAlone (IsDescriptorOf R)
+descriptor_alone R r t a b h g =
+    let body : h.0 ≡ g.0 = r t h.0 g.0 h.1 g.1 in
     cc
 
-descriptor_alone : (R : Tree → List ℕ → Type 0) (M : Elements → List ℕ → Type 0) → IsAlone R → IsAlone M → IsAlone (IsDescriptorOf R M)
-descriptor_alone R M r m = made_alone behind _ same (pair_alone R M r m)
-  where
-    behind : Tree × Elements → Elements
-    behind p = (p.0 ∷ p.1.0, p.1.1)
+constructor_alone : (R : Tree → List ℕ → Type 0) → IsAlone R → IsAlone (IsConstructorOf R)
+constructor_alone R r = pair_alone (IsItems (IsDescriptorOf R)) IsPlainCode (items_alone (IsDescriptorOf R) (descriptor_alone R r)) (λ k a b h g. h.1 ∙ sym g.1)
 
-    same : (x y : Tree × Elements) → behind x ≡ behind y → x ≡ y
-    same x y e =
-        let ds : x.0 ∷ x.1.0 ≡ y.0 ∷ y.1.0 = ap (λ (c : Elements). c.0) e in
-        same_pair x y (cc) (same_pair x.1 y.1 (cc) (ap (λ (c : Elements). c.1) e))
+element_alone : (d : ℕ) (C : Kind → Tree → List ℕ → Type 0) (I : Elements → Tree → List ℕ → Type 0) → ((k : Kind) → IsAlone (C k)) → ((c : Elements) → IsAlone (I c)) → (c : Elements) → IsAlone (IsElement d C I c)
+element_alone d C I r m ([], k) = r k
+element_alone d C I r m (x ∷ xs, k) = λ t a b h g. made_alone (described x) (I (xs, k)) (λ x y e. cc) (m (xs, k)) t a b h.1 g.1
 
 -- ---- what stands in an array
 
@@ -158,17 +128,17 @@ descriptor_alone R M r m = made_alone behind _ same (pair_alone R M r m)
 record IsBehind (d : ℕ) (ts : List Tree) (c : Elements) : Type 0 where
   front : List ℕ
   text : List ℕ
-  told : (canonical d).constructor c front
+  told : IsConstructorOf (IsCanonicalOf d) c front
   items : IsItems ((canonical d).element c) ts text
   first : IsFirstConstructor (canonical d) c ts
 
 behind_none : (d : ℕ) (c : Elements) → IsBehind d [] c → c.0 ≡ []
 behind_none d c h =
-    let none = plain_constructor d (kind.Single (single.Bare bare.Null)) (omega arith) in
+    let none = plain_constructor (IsCanonicalOf d) (kind.Single (single.Bare bare.Null)) (omega arith) in
     nil_from_length c.0 (omega (arith, (h.first ([], kind.Single (single.Bare bare.Null)) _ [] none refl).0))
 
 behind_told : (d : ℕ) (t : Tree) (ts : List Tree) (c : Elements) → IsBehind d (t ∷ ts) c → c.0 ≡ descriptors t
-behind_told d t ts c h = element_told d c (constructor_late d c h.front h.told) t h.items.0 h.items.2
+behind_told d t ts c h = element_told d c (constructor_late (IsCanonicalOf d) c h.front h.told) t h.items.0 h.items.2
 
 same_descriptors : (d : ℕ) (ts : List Tree) (c e : Elements) → IsBehind d ts c → IsBehind d ts e → c.0 ≡ e.0
 same_descriptors d [] c e h g = behind_none d c h ∙ sym (behind_none d e g)
@@ -183,19 +153,19 @@ same_constructor d ts c e h g =
 -- each level's spellings are alone
 record AreAlone (s : Spelled) : Type 0 where
   content : (k : Kind) → IsAlone (s.content k)
-  constructor : IsAlone s.constructor
   element : (c : Elements) → IsAlone (s.element c)
 
 -- what stands behind the count of an array
 abbrev pub IsFirstBody : Spelled → ℕ → List Tree → List ℕ → Type 0
-IsFirstBody inside n = IsThen inside.constructor (λ c ts text. IsFirstConstructor inside c ts × (IsTrue (is_bare c.1) → n ≤ 65536) × IsTimes (inside.element c) n ts text)
+IsFirstBody inside n = IsThen (IsConstructorOf (IsFirstCode inside.content)) (λ c ts text. IsFirstConstructor inside c ts × (IsTrue (is_bare c.1) → n ≤ 65536) × IsTimes (inside.element c) n ts text)
 
 body_alone : (d n : ℕ) → AreAlone (canonical d) → IsAlone (IsFirstBody (canonical d) n)
 body_alone d n r ts a b x y =
     let p : IsBehind d ts x.0 = record { front = x.1; text = x.2; told = x.3; items = x.4.2.1; first = x.4.0 } in
     let q : IsBehind d ts y.0 = record { front = y.1; text = y.2; told = y.3; items = y.4.2.1; first = y.4.0 } in
     let same : y.0 ≡ x.0 = sym (same_constructor d ts x.0 y.0 p q) in
-    let front : x.1 ≡ y.1 = r.constructor x.0 x.1 y.1 x.3 (subst (λ (c : Elements). (canonical d).constructor c y.1) same y.3) in
+    let values = first_alone (canonical d).content r.content in
+    let front : x.1 ≡ y.1 = constructor_alone (IsCanonicalOf d) values x.0 x.1 y.1 x.3 (subst (λ (c : Elements). IsConstructorOf (IsCanonicalOf d) c y.1) same y.3) in
     let items : x.2 ≡ y.2 = items_alone ((canonical d).element x.0) (r.element x.0) ts x.2 y.2 x.4.2.1 (subst (λ (c : Elements). IsItems ((canonical d).element c) ts y.2) same y.4.2.1) in
     cc
 
@@ -209,8 +179,7 @@ level_alone : (d : ℕ) → AreAlone (canonical d)
 unfolding canonical
 level_alone zero = record {
   content = flat_alone;
-  constructor = constructor_alone (λ c text. ⊥) (λ c text h. absurd h) (λ c a b h g. absurd h);
-  element = element_alone IsFlat (λ c t text. ⊥) flat_alone (λ c t a b h g. absurd h);
+  element = element_alone 0 IsFlat (λ c t text. ⊥) flat_alone (λ c t a b h g. absurd h);
 }
 level_alone (suc d) =
     let s = canonical d in
@@ -219,8 +188,7 @@ level_alone (suc d) =
     let deep = deep_alone (IsFirstCode s.content) (IsFirstElements s) values (elements_alone d r) in
     record {
       content = deep;
-      constructor = constructor_alone (IsDescriptorOf (IsFirstCode s.content) s.constructor) (λ c text h. ap code_of h.1) (descriptor_alone (IsFirstCode s.content) s.constructor values r.constructor);
-      element = element_alone (IsDeepOf (IsFirstCode s.content) (IsFirstElements s)) s.element deep r.element;
+      element = element_alone d (IsDeepOf (IsFirstCode s.content) (IsFirstElements s)) s.element deep r.element;
     }
 
 value_alone : (d : ℕ) → IsAlone (IsCanonicalOf d)

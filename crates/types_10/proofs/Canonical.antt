@@ -6,13 +6,13 @@ use Rattle.std.proofs.lemmas.List.{length-append, nil_from_length}
 use Rattle.wire_base.specs.Spelling.{IsPair, IsItems}
 use Rattle.types_10.specs.Tree.{Scalar, Tree, scalar, list, mapping, array, described, Trees, no_trees, tree, trees_of, Pairs, no_pairs, pair, pairs_of, depth, trees_depth, pairs_depth}
 use Rattle.types_10.specs.Kinds.{kind_byte, is_bare}
-use Rattle.types_10.specs.Grammar.{Elements, IsTimes}
+use Rattle.types_10.specs.Grammar.{Elements, IsDescriptorOf, IsConstructorOf, IsTimes}
 use Rattle.types_10.specs.Canonical.{IsFirstConstructor, canonical, IsCanonicalOf, IsCanonical}
 use Rattle.types_10.specs.Ranges.{IsInRange, IsRanged, EachInTrees, EachInPairs}
 use Rattle.types_10.specs.Writing.{single_kind, single_content, scalar_content, descriptors, Written, plain, array_body, list_kind, map_kind, array_kind, held_content, written, written_each, written_pairs, value_text, IsProper, EachIsAlike, AreOfOneType, IsWritable, EachIsWritable, PairsAreWritable, HasSpelling}
 use Rattle.types_10.proofs.Wider.{of_list, of_map, of_array, scalar_type_is, IsUpTo, IsWider, same_wider, later_wider, shared_first}
 use Rattle.types_10.proofs.Written.{first_type, single_first, single_has_content}
-use Rattle.types_10.proofs.Elements.{constructor_late, plain_constructor, element_told, plain_in, plain_out, scalar_in, scalar_out, element_some, items_count}
+use Rattle.types_10.proofs.Elements.{late_plain, constructor_late, plain_constructor, element_told, plain_in, plain_out, scalar_in, scalar_out, element_some, items_count}
 use Rattle.types_10.proofs.Alone.{IsFirstBody, trees_same, pairs_same, values_alone, entries_alone, bodies_alone}
 use Rattle.types_10.proofs.Types.{list_type, map_type, array_type, tree_late, EachIsWider, shared_wide, none_text}
 use Rattle.types_10.proofs.Held.{IsHeld, list_for, empty_for, list_empty, list_held, sized_for, sized_held, filled_is, filled_has, body_short}
@@ -22,11 +22,11 @@ use Rattle.types_10.specs.declared.kind.Single.TheVariants as single
 use Rattle.types_10.specs.declared.kind.Bare.TheVariants as bare
 use Rattle.types_10.specs.declared.kind.Size.{Size}
 
--- what is written of a value of at most this depth: the canonical spelling where it stands alone; the constructor and the element
--- under each kind for it; and no earlier kind has an element
+-- what is written of a value of at most this depth: the canonical spelling where it stands alone; its descriptors; the element under
+-- each kind for it; and no earlier kind has an element
 record IsWell (d : ℕ) (t : Tree) (w : Written) : Type 0 where
   text : length w.text < 2 ^ 32 → IsCanonicalOf d t w.text
-  front : (k : Kind) → 64 ≤ kind_byte k → length w.front < 2 ^ 32 → (canonical d).constructor (descriptors t, k) (w.front ++ kind_byte k ∷ [])
+  front : length w.front < 2 ^ 32 → IsItems (IsDescriptorOf (IsCanonicalOf d)) (descriptors t) w.front
   element : (k : Kind) → IsWider w.kind k → length (w.content k) < 2 ^ 32 → (canonical d).element (descriptors t, k) t (w.content k)
   first : (k : Kind) → IsWider w.kind k → length (w.content k) < 2 ^ 32 → (e : Elements) → 64 ≤ kind_byte e.1 → (text : List ℕ) → (canonical d).element e t text → IsWider w.kind e.1
 
@@ -45,8 +45,8 @@ plain_well d t k content e h = record { text = alone; front = front; element = e
         let short : length (content k) < 2 ^ 32 = omega arith in
         (k, content k, h.has k (same_wider k) short, refl, λ j other g. (h.first k (same_wider k) short j other g).up.later)
 
-    front : (k : Kind) → 64 ≤ kind_byte k → length {A = ℕ} [] < 2 ^ 32 → (canonical d).constructor (descriptors t, k) (kind_byte k ∷ [])
-    front k late l = subst (λ (ds : List Tree). (canonical d).constructor (ds, k) (kind_byte k ∷ [])) (sym e) (plain_constructor d k late)
+    front : length {A = ℕ} [] < 2 ^ 32 → IsItems (IsDescriptorOf (IsCanonicalOf d)) (descriptors t) []
+    front l = subst (λ (ds : List Tree). IsItems (IsDescriptorOf (IsCanonicalOf d)) ds []) (sym e) refl
 
     element : (j : Kind) → IsWider k j → length (content j) < 2 ^ 32 → (canonical d).element (descriptors t, j) t (content j)
     element j w l = subst (λ (ds : List Tree). (canonical d).element (ds, j) t (content j)) (sym e) (plain_in d j t (content j) (h.has j w l))
@@ -288,19 +288,20 @@ body_is : (d : ℕ) (ts : Trees) → EachIsWell d ts → AreOfOneType ts → (Is
     → IsFirstBody (canonical d) (written_each ts).count (tree_list ts) (array_body (written_each ts))
 body_is d no_trees h a f l =
     let null = kind.Single (single.Bare bare.Null) in
-    (([], null), 64 ∷ [], [], plain_constructor d null (omega arith), (λ e front text told i. (omega arith, constructor_late d e front told), f, (refl, refl)), refl)
+    (([], null), 64 ∷ [], [], plain_constructor (IsCanonicalOf d) null (omega arith), (λ e front text told i. (omega arith, constructor_late (IsCanonicalOf d) e front told), f, (refl, refl)), refl)
 body_is d (tree t ts) h a f l =
     let w = written_each (tree t ts) in
     let wide = (shared_wide t t ts refl a).1 in
     let parts = length-append w.front (kind_byte w.kind ∷ w.contents w.kind) in
     let late : 64 ≤ kind_byte w.kind = omega (arith, tree_late t, wide.0.up.later) in
     let short : length (w.contents w.kind) < 2 ^ 32 = omega (arith, parts) in
-    let told = h.0.front w.kind late (omega (arith, parts)) in
+    let code = kind_byte w.kind ∷ [] in
+    let told : IsConstructorOf (IsCanonicalOf d) (descriptors t, w.kind) (w.front ++ code) = (w.front, code, h.0.front (omega (arith, parts)), (late_plain w.kind late, refl), refl) in
     let first : IsFirstConstructor (canonical d) (descriptors t, w.kind) (t ∷ tree_list ts) = λ e front text told i.
-    let known = constructor_late d e front told in
+    let known = constructor_late (IsCanonicalOf d) e front told in
     (omega (arith, ap length (element_told d e known t i.0 i.2)), (elements_first d (tree t ts) w.kind h wide short e known text i).later) in
     let items = elements_are d (descriptors t) (tree t ts) w.kind h wide (refl, each_described t ts a) short in
-    ((descriptors t, w.kind), w.front ++ kind_byte w.kind ∷ [], w.contents w.kind, told, (first, f, (list_count (tree t ts), items)), sym (append_assoc w.front (kind_byte w.kind ∷ []) (w.contents w.kind)))
+    ((descriptors t, w.kind), w.front ++ code, w.contents w.kind, told, (first, f, (list_count (tree t ts), items)), sym (append_assoc w.front code (w.contents w.kind)))
 
 bare_or_not : (b : Bool) → (b ≡ true) ⊎ (b ≡ false)
 bare_or_not true = inl refl
@@ -312,7 +313,7 @@ body_few d n ts body h l = at (bare_or_not (is_bare h.0.1))
   where
     at : (is_bare h.0.1 ≡ true) ⊎ (is_bare h.0.1 ≡ false) → n < 2 ^ 32
     at (inl b) = omega (arith, h.4.1 b)
-    at (inr b) = omega (arith, h.4.2.0, items_count ((canonical d).element h.0) (element_some d h.0 (constructor_late d h.0 h.1 h.3) b) ts h.2 h.4.2.1, ap length h.5, length-append h.1 h.2)
+    at (inr b) = omega (arith, h.4.2.0, items_count ((canonical d).element h.0) (element_some d h.0 (constructor_late (IsCanonicalOf d) h.0 h.1 h.3) b) ts h.2 h.4.2.1, ap length h.5, length-append h.1 h.2)
 
 -- an array's count and its body
 record IsArray (d : ℕ) (ts : List Tree) (n : ℕ) (body : List ℕ) : Type 0 where
@@ -368,12 +369,14 @@ described_first : (d : ℕ) (x t : Tree) → IsWell d t (written t) → (k : Kin
 unfolding canonical
 described_first d x t h k w l ([], j) late text g = let told : [] ≡ x ∷ descriptors t = element_told (suc d) ([], j) late (described x t) text g in absurd cc
 described_first d x t h k w l (y ∷ ys, j) late text g =
-    let same : g.0 ≡ t = cc in
-    h.first k w l (ys, j) late text (subst (λ (u : Tree). (canonical d).element (ys, j) u text) same g.2)
+    let same : g.1.0 ≡ t = cc in
+    h.first k w l (ys, j) late text (subst (λ (u : Tree). (canonical d).element (ys, j) u text) same g.1.2)
 
-described_well : (d : ℕ) (x t : Tree) → IsWell d x (written x) → IsWell d t (written t) → IsWell (suc d) (described x t) (written (described x t))
+-- the descriptors of an array stand at the depth of its elements, and what stands in a described value one below
+described_well : (d : ℕ) (x t : Tree) → depth x ≤ d → IsWell d x (written x) → IsWell d t (written t) → IsWell (suc d) x (written x) → IsWell (suc d) t (written t)
+    → IsWell (suc d) (described x t) (written (described x t))
 unfolding canonical
-described_well d x t h g = record { text = alone; front = front; element = λ k w l. (t, refl, g.element k w l); first = described_first d x t g }
+described_well d x t less h g descriptor value = record { text = alone; front = front; element = λ k w l. (less, (t, refl, g.element k w l)); first = described_first d x t g }
   where
     alone : length (0 ∷ (written x).text ++ (written t).text) < 2 ^ 32 → IsCanonicalOf (suc d) (described x t) (0 ∷ (written x).text ++ (written t).text)
     alone l =
@@ -381,12 +384,10 @@ described_well d x t h g = record { text = alone; front = front; element = λ k 
         let both : IsPair (IsCanonicalOf d) (IsCanonicalOf d) (x, t) ((written x).text ++ (written t).text) = ((written x).text, (written t).text, h.text (omega (arith, parts)), g.text (omega (arith, parts)), refl) in
         (kind.Described, (written x).text ++ (written t).text, ((x, t), refl, both), refl, λ j other c. omega arith)
 
-    front : (k : Kind) → 64 ≤ kind_byte k → length (0 ∷ (written x).text ++ (written t).front) < 2 ^ 32 → (canonical (suc d)).constructor (x ∷ descriptors t, k) ((0 ∷ (written x).text ++ (written t).front) ++ kind_byte k ∷ [])
-    front k late l =
+    front : length (0 ∷ (written x).text ++ (written t).front) < 2 ^ 32 → IsItems (IsDescriptorOf (IsCanonicalOf (suc d))) (x ∷ descriptors t) (0 ∷ (written x).text ++ (written t).front)
+    front l =
         let parts = length-append (written x).text (written t).front in
-        let rest = (written t).front ++ kind_byte k ∷ [] in
-        let both : IsPair (IsCanonicalOf d) (canonical d).constructor (x, (descriptors t, k)) ((written x).text ++ rest) = ((written x).text, rest, h.text (omega (arith, parts)), g.front k late (omega (arith, parts)), refl) in
-        (kind.Described, (written x).text ++ rest, ((x, (descriptors t, k)), refl, both), ap (λ (s : List ℕ). 0 ∷ s) (append_assoc (written x).text (written t).front (kind_byte k ∷ [])))
+        (0 ∷ (written x).text, (written t).front, ((written x).text, descriptor.text (omega (arith, parts)), refl), value.front (omega (arith, parts)), refl)
 
 -- ---- all values
 
@@ -400,7 +401,8 @@ mutual
   tree_well zero (array ts) h r w = absurd (omega arith)
   tree_well (suc d) (array ts) h r w = array_well d ts (each_well d ts (omega arith) r w.0) w.1 w.2
   tree_well zero (described x t) h r w = absurd (omega arith)
-  tree_well (suc d) (described x t) h r w = described_well d x t (tree_well d x (omega arith) r.0 w.0) (tree_well d t (omega arith) r.1 w.1)
+  tree_well (suc d) (described x t) h r w =
+      described_well d x t (omega arith) (tree_well d x (omega arith) r.0 w.0) (tree_well d t (omega arith) r.1 w.1) (tree_well (suc d) x (omega arith) r.0 w.0) (tree_well (suc d) t (omega arith) r.1 w.1)
 
   each_well : (d : ℕ) (ts : Trees) → trees_depth ts ≤ d → EachInTrees IsInRange ts → EachIsWritable ts → EachIsWell d ts
   each_well d no_trees h r w = tt

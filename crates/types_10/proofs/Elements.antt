@@ -1,12 +1,12 @@
 -- Constructors and elements of canonical spellings: no constructor tells the kind of described values, and the descriptors that it
 -- tells are those of the elements.
-use Rattle.std.proofs.Common.{◌≡◌, ℕ, zero, suc, ◌≤◌, false, List, [], ◌∷◌, length, refl, sym, ap, subst, ◌∙◌, arith}
+use Rattle.std.proofs.Common.{◌≡◌, ◌≢◌, ℕ, zero, suc, ◌≤◌, false, List, [], ◌∷◌, length, refl, sym, ap, subst, ◌∙◌, arith}
 use Rattle.std.proofs.lemmas.List.{length-append}
 use Rattle.std.specs.Int.{Width, byte_len}
 use Rattle.wire_base.specs.Spelling.{IsMade, IsText, IsItems}
 use Rattle.types_10.specs.Tree.{Scalar, Tree, scalar}
 use Rattle.types_10.specs.Kinds.{kind_byte, is_bare, wide_width, size_width}
-use Rattle.types_10.specs.Grammar.{Elements, IsSingle, IsFlat, IsDeepOf, IsShape}
+use Rattle.types_10.specs.Grammar.{Elements, IsConstructorOf, IsSingle, IsFlat, IsDeepOf}
 use Rattle.types_10.specs.Canonical.{IsFirstCode, IsFirstElements, canonical}
 use Rattle.types_10.specs.Writing.{descriptors}
 use Rattle.types_10.proofs.ValueLaws.{wide_is}
@@ -48,34 +48,23 @@ array_late size.Long = omega arith
 
 -- ---- constructors
 
-shape_late : (More : Elements → List ℕ → Type 0) → ((c : Elements) (text : List ℕ) → More c text → 64 ≤ kind_byte c.1)
-    → (k : Kind) (c : Elements) (text : List ℕ) → IsShape More k c text → 64 ≤ kind_byte c.1
-shape_late More m (kind.Single k) c text h = omega (arith, single_late k, ap (λ (c : Elements). kind_byte c.1) h.0)
-shape_late More m kind.EmptyList c text h = omega (arith, ap (λ (c : Elements). kind_byte c.1) h.0)
-shape_late More m (kind.List z) c text h = omega (arith, list_late z, ap (λ (c : Elements). kind_byte c.1) h.0)
-shape_late More m (kind.Map z) c text h = omega (arith, map_late z, ap (λ (c : Elements). kind_byte c.1) h.0)
-shape_late More m (kind.Array z) c text h = omega (arith, array_late z, ap (λ (c : Elements). kind_byte c.1) h.0)
-shape_late More m kind.Described c text h = m c text h
+kind_late : (k : Kind) → k ≢ kind.Described → 64 ≤ kind_byte k
+kind_late (kind.Single k) h = single_late k
+kind_late kind.EmptyList h = omega arith
+kind_late (kind.List z) h = list_late z
+kind_late (kind.Map z) h = map_late z
+kind_late (kind.Array z) h = array_late z
+kind_late kind.Described h = absurd (h refl)
 
-pub constructor_late : (d : ℕ) (c : Elements) (text : List ℕ) → (canonical d).constructor c text → 64 ≤ kind_byte c.1
-unfolding canonical
-constructor_late zero c text h = shape_late (λ c text. ⊥) (λ c text h. absurd h) h.0 c h.1 h.2
-constructor_late (suc d) c text h =
-    shape_late _ (λ c text h. omega (arith, ap (λ (c : Elements). kind_byte c.1) h.1, constructor_late d h.0.1 h.2.1 h.2.3)) h.0 c h.1 h.2
+pub late_plain : (k : Kind) → 64 ≤ kind_byte k → k ≢ kind.Described
+late_plain k l e = omega (arith, ap kind_byte e)
+
+pub constructor_late : (R : Tree → List ℕ → Type 0) (c : Elements) (text : List ℕ) → IsConstructorOf R c text → 64 ≤ kind_byte c.1
+constructor_late R c text h = kind_late c.1 h.3.0
 
 -- the constructor of elements that are not described
-plain_shape : (More : Elements → List ℕ → Type 0) (k : Kind) → 64 ≤ kind_byte k → IsShape More k ([], k) []
-plain_shape More (kind.Single k) l = (refl, refl)
-plain_shape More kind.EmptyList l = (refl, refl)
-plain_shape More (kind.List z) l = (refl, refl)
-plain_shape More (kind.Map z) l = (refl, refl)
-plain_shape More (kind.Array z) l = (refl, refl)
-plain_shape More kind.Described l = absurd (omega arith)
-
-pub plain_constructor : (d : ℕ) (k : Kind) → 64 ≤ kind_byte k → (canonical d).constructor ([], k) (kind_byte k ∷ [])
-unfolding canonical
-plain_constructor zero k l = (k, [], plain_shape (λ c text. ⊥) k l, refl)
-plain_constructor (suc d) k l = (k, [], plain_shape _ k l, refl)
+pub plain_constructor : (R : Tree → List ℕ → Type 0) (k : Kind) → 64 ≤ kind_byte k → IsConstructorOf R ([], k) (kind_byte k ∷ [])
+plain_constructor R k l = ([], kind_byte k ∷ [], refl, (late_plain k l, refl), refl)
 
 -- ---- elements
 
@@ -98,9 +87,9 @@ deep_plain R E kind.Described l t text h = absurd (omega arith)
 pub element_told : (d : ℕ) (c : Elements) → 64 ≤ kind_byte c.1 → (t : Tree) (text : List ℕ) → (canonical d).element c t text → c.0 ≡ descriptors t
 unfolding canonical
 element_told zero ([], k) l t text h = sym (flat_plain k t text h)
-element_told zero (x ∷ xs, k) l t text h = absurd h.2
+element_told zero (x ∷ xs, k) l t text h = absurd h.1.2
 element_told (suc d) ([], k) l t text h = sym (deep_plain (IsFirstCode (canonical d).content) (IsFirstElements (canonical d)) k l t text h)
-element_told (suc d) (x ∷ xs, k) l t text h = ap (λ (ds : List Tree). x ∷ ds) (element_told d (xs, k) l h.0 text h.2) ∙ sym (ap descriptors h.1)
+element_told (suc d) (x ∷ xs, k) l t text h = ap (λ (ds : List Tree). x ∷ ds) (element_told d (xs, k) l h.1.0 text h.1.2) ∙ sym (ap descriptors h.1.1)
 
 -- an element that is not described is a content
 pub plain_in : (d : ℕ) (k : Kind) (t : Tree) (text : List ℕ) → (canonical d).content k t text → (canonical d).element ([], k) t text
@@ -189,9 +178,9 @@ flat_some kind.Described b t text h = absurd h
 pub element_some : (d : ℕ) (c : Elements) → 64 ≤ kind_byte c.1 → is_bare c.1 ≡ false → (t : Tree) (text : List ℕ) → (canonical d).element c t text → 1 ≤ length text
 unfolding canonical
 element_some zero ([], k) l b t text h = flat_some k b t text h
-element_some zero (x ∷ xs, k) l b t text h = absurd h.2
+element_some zero (x ∷ xs, k) l b t text h = absurd h.1.2
 element_some (suc d) ([], k) l b t text h = deep_some (IsFirstCode (canonical d).content) (IsFirstElements (canonical d)) k l b t text h
-element_some (suc d) (x ∷ xs, k) l b t text h = element_some d (xs, k) l b h.0 text h.2
+element_some (suc d) (x ∷ xs, k) l b t text h = element_some d (xs, k) l b h.1.0 text h.1.2
 
 -- items that have bytes are no more than the bytes
 pub items_count : {A : Type 0} (R : A → List ℕ → Type 0) → ((x : A) (text : List ℕ) → R x text → 1 ≤ length text) → (xs : List A) (text : List ℕ) → IsItems R xs text → length xs ≤ length text

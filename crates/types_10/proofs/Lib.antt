@@ -1,9 +1,10 @@
 pub mod Alone
 pub mod Canonical
-pub mod Depth
+pub mod Constructors
 pub mod Depths
 pub mod Elements
 pub mod Held
+pub mod Levels
 pub mod Measures
 pub mod RangeLaws
 pub mod ReaderLaws

@@ -1,19 +1,19 @@
 -- The readers of values against their spellings, by the laws of their parts.
-use Rattle.std.proofs.Common.{◌≡◌, ℕ, zero, suc, ◌+◌, ◌-◌, ◌*◌, ◌/◌, ◌%◌, ◌<◌, ◌≤◌, Bool, true, false, cond, eqb, ltb, ◌&&◌, List, [], ◌∷◌, ◌++◌, length, take, drop, Option, Some, None, Result, Ok, Err, refl, sym, ap, subst, ◌∙◌, arith}
+use Rattle.std.proofs.Common.{◌≡◌, ◌≢◌, ℕ, zero, suc, ◌+◌, ◌-◌, ◌*◌, ◌/◌, ◌%◌, ◌<◌, ◌≤◌, Bool, true, false, cond, eqb, ltb, ◌&&◌, List, [], ◌∷◌, ◌++◌, length, take, drop, Option, Some, None, Result, Ok, Err, refl, sym, ap, subst, ◌∙◌, append_assoc, arith}
 use Rattle.std.specs.Bool.{IsTrue}
 use Rattle.std.proofs.lemmas.Bool.{eqb-true, ltb-false, le-ltb}
 use Rattle.std.proofs.lemmas.List.{length-append, length-drop, take_at}
 use Rattle.std.specs.Int.{Width, w8, w32, to_be_bytes}
 use Rattle.wire_base.specs.Bytes.{IsBytes}
 use Rattle.wire_base.specs.Spelling.{IsNumber, IsText, IsPair, IsItems}
-use Rattle.wire_base.specs.Reading.{Reads, ◌>>=◌, pair_in, times}
+use Rattle.wire_base.specs.Reading.{Reads, ◌>>=◌, made, pair_in, times}
 use Rattle.wire_base.proofs.Bytes.{IsBytes-drop}
 use Rattle.wire_base.proofs.Laws.{IsReader, Finds, IsWide, wide8, wide16, wide32, wide64, bind_is, ok_is, made_reader, pair_reader}
 use Rattle.wire_base.proofs.Items.{times_reader}
-use Rattle.types_10.specs.Tree.{boolean, char, Tree, scalar, list, mapping, array, described, no_trees, trees_of, pairs_of}
-use Rattle.types_10.specs.Kinds.{kind_byte, kind_of, is_bare, bare_scalar, octet_scalar, wide_width, wide_scalar, sixteen_scalar, text_scalar, is_text, is_character, size_width}
-use Rattle.types_10.specs.Grammar.{IsSixteen, IsSingle, IsCoded, IsThen, IsTimes, IsItemList, IsPairList, Elements, Spelled, IsElementList, IsFlat, IsDeep, IsShape, IsDescriptor, IsElement, spelled, IsValueOf, IsValue}
-use Rattle.types_10.specs.Reading.{Fault, fault_at, count_in, bytes_in, sixteen_in, text_fault, single_in, known_in, coded_in, Shape, Inside, Contents, items_in, entries_in, elements_in, value_by, flat_in, deep_in, shape_by, described_shape, element_by, level, value_in, value_at}
+use Rattle.types_10.specs.Tree.{boolean, char, Tree, scalar, list, mapping, array, described, depth, no_trees, trees_of, pairs_of}
+use Rattle.types_10.specs.Kinds.{kind_byte, kind_of, is_bare, is_described, bare_scalar, octet_scalar, wide_width, wide_scalar, sixteen_scalar, text_scalar, is_text, is_character, size_width}
+use Rattle.types_10.specs.Grammar.{IsSixteen, IsSingle, IsCoded, IsThen, IsTimes, IsItemList, IsPairList, Elements, IsConstructorOf, Spelled, IsElementList, IsFlat, IsDeep, IsElement, spelled, IsValueOf, IsValue}
+use Rattle.types_10.specs.Reading.{Fault, fault_at, count_in, bytes_in, sixteen_in, text_fault, single_in, known_in, coded_in, code_in, Shape, with_descriptor, constructor_in, Inside, Contents, value_by, shape_by, items_in, entries_in, elements_in, flat_in, deep_in, element_by, level, value_in, value_at}
 use Rattle.types_10.proofs.ReaderLaws.{size_is, count_reader, bytes_reader, sixteen_reader, tested_reader, then_reader, filled_reader}
 use Rattle.types_10.specs.declared.fault.TypeFault.TheVariants as fault
 use Rattle.types_10.specs.declared.kind.Kind.{Kind}
@@ -199,6 +199,37 @@ coded_reader {A} R read r cut = record { finds = finds; again = again }
         ap (λ (s : List ℕ). coded_in read cut end (s ++ rest)) h.3
         ∙ rw (octets.again end (kind_byte k) (kind_byte k ∷ []) (h.1 ++ rest) ((kind_known k).0, octet_text (kind_byte k) (kind_known k).0), (kind_known k).1) ((r k (end - length (kind_byte k ∷ (h.1 ++ rest))) cut).again end t h.1 rest h.2)
 
+-- what a code announces, once the code is read
+coded_from : {A : Type 0} (read : Kind → ℕ → Fault → ℕ → List ℕ → Reads A Fault) (cut : Fault) (end : ℕ) (bytes : List ℕ) (k : Kind) (at : ℕ) (rest : List ℕ)
+    → code_in cut end bytes ≡ Ok ((k, at), rest) → coded_in read cut end bytes ≡ read k at cut end rest
+coded_from {A} read cut end bytes k at rest e = step (count_in cut w8 bytes) e
+  where
+    known : (o : Option Kind) (more : List ℕ) → known_in {A = Kind × ℕ} (λ k at cut end bytes. Ok ((k, at), bytes)) o (end - length bytes) cut end more ≡ Ok ((k, at), rest)
+        → known_in read o (end - length bytes) cut end more ≡ read k at cut end rest
+    known None more h = absurd cc
+    known (Some x) more h =
+        let same = ok_is {F = Fault} ((x, end - length bytes), more) ((k, at), rest) h in
+        ap (λ (y : (Kind × ℕ) × List ℕ). read y.0.0 y.0.1 cut end y.1) same
+
+    step : (r : Reads ℕ Fault) → (r >>= λ b. known_in {A = Kind × ℕ} (λ k at cut end bytes. Ok ((k, at), bytes)) (kind_of b.0) (end - length bytes) cut end b.1) ≡ Ok ((k, at), rest)
+        → (r >>= λ b. known_in read (kind_of b.0) (end - length bytes) cut end b.1) ≡ read k at cut end rest
+    step (Err f) h = absurd cc
+    step (Ok b) h = known (kind_of b.0) b.1 h
+
+-- a code that was read stands at the front, and one that stands there is read
+code_found : (cut : Fault) (end : ℕ) (text : List ℕ) (c : Kind × ℕ) (rest : List ℕ) → IsBytes text → code_in cut end text ≡ Ok (c, rest) → (text ≡ kind_byte c.0 ∷ rest) × IsBytes rest
+code_found cut end text c rest fits e =
+    let announced = coded_from (λ k at cut end bytes. Ok (k, bytes)) cut end text c.0 c.1 rest e in
+    let codes = coded_reader (λ k j text. (j ≡ k) × (text ≡ [])) (λ k at cut end bytes. Ok (k, bytes)) (λ k at cut. none_reader k) cut in
+    let f = codes.finds end text (c.0, rest) fits announced in
+    let front : f.front ≡ kind_byte c.0 ∷ [] = f.spelled.3 ∙ ap (λ (s : List ℕ). kind_byte f.spelled.0 ∷ s) f.spelled.2.1 ∙ ap (λ (k : Kind). kind_byte k ∷ []) (sym f.spelled.2.0) in
+    (f.parts ∙ ap (λ (t : List ℕ). t ++ rest) front, f.rest_fits)
+
+code_again : (cut : Fault) (end : ℕ) (k : Kind) (rest : List ℕ) → code_in cut end (kind_byte k ∷ rest) ≡ Ok ((k, end - length (kind_byte k ∷ rest)), rest)
+code_again cut end k rest =
+    let octet = (count_reader cut w8 wide8).again end (kind_byte k) (kind_byte k ∷ []) rest ((kind_known k).0, octet_text (kind_byte k) (kind_known k).0) in
+    rw (octet, (kind_known k).1) refl
+
 -- ---- lists, maps and arrays
 
 -- a reader of values, whatever the fault of one that is cut off
@@ -242,11 +273,79 @@ entries_reader w wide R read r cut =
     (λ n end text. cond (eqb (n % 2) 0) (times (pair_in (read cut) (read cut) end) (n / 2) text) (Err cut)) (count_reader cut w wide)
     (λ n. halves_reader (IsPair R R) (pair_in (read cut) (read cut)) cut (pair_reader R R (read cut) (read cut) (r cut) (r cut)) n)
 
+-- ---- constructors
+
+pub not_described : (k : Kind) → k ≢ kind.Described → is_described k ≡ false
+not_described kind.Described h = absurd (h refl)
+not_described k h = refl
+
+constructor_found : (R : Tree → List ℕ → Type 0) (read : Fault → ℕ → List ℕ → Reads Tree Fault) → IsEachReader R read → (cut : Fault) (most end : ℕ) (text : List ℕ) (x : Shape × List ℕ) → IsBytes text
+    → constructor_in read most cut end text ≡ Ok x → Finds (IsConstructorOf R) text x
+unfolding constructor_in
+constructor_found R read r cut zero end text x fits e = absurd cc
+constructor_found R read r cut (suc most) end text x fits e =
+    let b = bind_is (code_in cut end text) (λ c. cond (is_described c.0.0) (made with_descriptor (pair_in (read cut) (constructor_in read most cut) end c.1)) (Ok (([], c.0.0), c.1))) x e in
+    let here = code_found cut end text b.0.0 b.0.1 fits b.1 in
+    step b.0.0.0 b.0.1 here.0 here.1 (constructor_found R read r cut most end) b.2
+  where
+    step : (k : Kind) (rest : List ℕ) → text ≡ kind_byte k ∷ rest → IsBytes rest
+        → ((more : List ℕ) (x : Shape × List ℕ) → IsBytes more → constructor_in read most cut end more ≡ Ok x → Finds (IsConstructorOf R) more x)
+        → cond (is_described k) (made with_descriptor (pair_in (read cut) (constructor_in read most cut) end rest)) (Ok (([], k), rest)) ≡ Ok x → Finds (IsConstructorOf R) text x
+    step kind.Described rest parts fits later e =
+        let p = bind_is (pair_in (read cut) (constructor_in read most cut) end rest) (λ p. Ok (with_descriptor p.0, p.1)) x e in
+        let d = bind_is (read cut end rest) (λ d. constructor_in read most cut end d.1 >>= λ s. Ok ((d.0, s.0), s.1)) p.0 p.1 in
+        let s = bind_is (constructor_in read most cut end d.0.1) (λ s. Ok ((d.0.0, s.0), s.1)) p.0 d.2 in
+        let f = (r cut).finds end rest d.0 fits d.1 in
+        let g = later d.0.1 s.0 f.rest_fits s.1 in
+        let h = g.spelled in
+        let whole = parts ∙ ap (λ (t : List ℕ). 0 ∷ t) (f.parts ∙ ap (λ (t : List ℕ). f.front ++ t) (g.parts ∙ ap (λ (t : List ℕ). t ++ s.0.1) h.4)) in
+        let regrouped : 0 ∷ (f.front ++ ((h.0 ++ h.1) ++ s.0.1)) ≡ (((0 ∷ f.front) ++ h.0) ++ h.1) ++ s.0.1 = simp append_assoc in
+        let same = ok_is {F = Fault} ((d.0.0, s.0.0), s.0.1) p.0 s.2 in
+        subst (λ (y : Shape × List ℕ). Finds (IsConstructorOf R) text y) (ap (λ (p : (Tree × Shape) × List ℕ). (with_descriptor p.0, p.1)) same ∙ ok_is {F = Fault} (with_descriptor p.0.0, p.0.1) x p.2)
+        (record {
+          front = ((0 ∷ f.front) ++ h.0) ++ h.1;
+          spelled = ((0 ∷ f.front) ++ h.0, h.1, (0 ∷ f.front, h.0, (f.front, f.spelled, refl), h.2, refl), h.3, refl);
+          parts = whole ∙ regrouped;
+          rest_fits = g.rest_fits;
+        })
+    step k rest parts fits later e =
+        subst (λ (y : Shape × List ℕ). Finds (IsConstructorOf R) text y) (ok_is {F = Fault} (([], k), rest) x e)
+        (record { front = kind_byte k ∷ []; spelled = ([], kind_byte k ∷ [], refl, ((λ p. absurd cc), refl), refl); parts = parts; rest_fits = fits })
+
+constructor_again : (R : Tree → List ℕ → Type 0) (read : Fault → ℕ → List ℕ → Reads Tree Fault) → IsEachReader R read → (cut : Fault) (most end : ℕ) (ds : List Tree) (k : Kind) (text rest : List ℕ)
+    → length text ≤ most → IsConstructorOf R (ds, k) text → constructor_in read most cut end (text ++ rest) ≡ Ok ((ds, k), rest)
+unfolding constructor_in
+constructor_again R read r cut zero end ds k text rest le h = absurd (omega (arith, ap length h.4, length-append h.0 h.1, ap length h.3.1))
+constructor_again R read r cut (suc most) end [] k text rest le h =
+    let whole : text ++ rest ≡ kind_byte k ∷ rest = rw (h.4, h.2, h.3.1) refl in
+    ap (constructor_in read (suc most) cut end) whole ∙ rw (code_again cut end k rest, not_described k h.3.0) refl
+constructor_again R read r cut (suc most) end (d ∷ ds) k text rest le h =
+    let i = h.2 in
+    let more = i.1 ++ h.1 in
+    let whole : text ++ rest ≡ 0 ∷ (i.2.0 ++ (more ++ rest)) = rw (h.4, i.4, i.2.2) (simp append_assoc) in
+    let less : length more ≤ most = omega (arith, ap length whole, length-append text rest, length-append i.2.0 (more ++ rest), length-append more rest) in
+    let first = code_again cut end kind.Described (i.2.0 ++ (more ++ rest)) in
+    let descriptor = (r cut).again end d i.2.0 (more ++ rest) i.2.1 in
+    let later = constructor_again R read r cut most end ds k more rest less (i.1, h.1, i.3, h.3, refl) in
+    ap (constructor_in read (suc most) cut end) whole ∙ rw (first, descriptor, later) refl
+
+-- a constructor has no more codes than bytes
+constructor_reader : (R : Tree → List ℕ → Type 0) (read : Fault → ℕ → List ℕ → Reads Tree Fault) → IsEachReader R read → (cut : Fault)
+    → IsReader (IsConstructorOf R) (λ end text. constructor_in read (length text) cut end text)
+constructor_reader R read r cut = record {
+  finds = λ end text x fits e. constructor_found R read r cut (length text) end text x fits e;
+  again = λ end c front rest h. constructor_again R read r cut (length (front ++ rest)) end c.0 c.1 front rest (omega (arith, length-append front rest)) h;
+}
+
+-- ---- arrays
+
 -- readers of what stands inside a value, against its spellings
 record IsInside (s : Spelled) (i : Inside) : Type 0 where
   contents : (k : Kind) (at : ℕ) (cut : Fault) → IsReader (s.content k) (i.contents k at cut)
-  shape : (cut : Fault) → IsReader s.constructor (i.shape cut)
   element : (c : Shape) (at : ℕ) (cut : Fault) → IsReader (s.element c) (i.element c at cut)
+
+values_reader : (s : Spelled) (i : Inside) → IsInside s i → IsEachReader (IsCoded s.content) (value_by i)
+values_reader s i r = coded_reader s.content i.contents r.contents
 
 few : (b : Bool) (n : ℕ) → (IsTrue b → n ≤ 65536) → (b && ltb 65536 n) ≡ false
 few true n h = le-ltb _ _ (h refl)
@@ -277,10 +376,11 @@ bare_reader s i r cut n c = record { finds = finds; again = again }
 
 elements_reader : (w : Width) → IsWide w → (s : Spelled) (i : Inside) → IsInside s i → IsEachReader (IsElementList w s) (elements_in w i)
 elements_reader w wide s i r cut =
-    then_reader (IsNumber w) (λ n. IsThen s.constructor (λ c ts text. (IsTrue (is_bare c.1) → n ≤ 65536) × IsTimes (s.element c) n ts text)) (λ end text. count_in cut w text)
-    (λ n end text. i.shape cut end text >>= λ c. cond (is_bare c.0.1 && ltb 65536 n) (Err cut) (times (i.element c.0 ((end - length c.1) - 1) cut end) n c.1)) (count_reader cut w wide)
-    (λ n. then_reader s.constructor (λ c ts text. (IsTrue (is_bare c.1) → n ≤ 65536) × IsTimes (s.element c) n ts text) (i.shape cut)
-    (λ c end text. cond (is_bare c.1 && ltb 65536 n) (Err cut) (times (i.element c ((end - length text) - 1) cut end) n text)) (r.shape cut) (bare_reader s i r cut n))
+    let shapes = constructor_reader (IsCoded s.content) (value_by i) (values_reader s i r) cut in
+    then_reader (IsNumber w) (λ n. IsThen (IsConstructorOf (IsCoded s.content)) (λ c ts text. (IsTrue (is_bare c.1) → n ≤ 65536) × IsTimes (s.element c) n ts text)) (λ end text. count_in cut w text)
+    (λ n end text. shape_by i cut end text >>= λ c. cond (is_bare c.0.1 && ltb 65536 n) (Err cut) (times (i.element c.0 ((end - length c.1) - 1) cut end) n c.1)) (count_reader cut w wide)
+    (λ n. then_reader (IsConstructorOf (IsCoded s.content)) (λ c ts text. (IsTrue (is_bare c.1) → n ≤ 65536) × IsTimes (s.element c) n ts text) (shape_by i cut)
+    (λ c end text. cond (is_bare c.1 && ltb 65536 n) (Err cut) (times (i.element c ((end - length text) - 1) cut end) n text)) shapes (bare_reader s i r cut n))
 
 -- ---- contents by depth
 
@@ -291,9 +391,6 @@ flat_reader (kind.List s) at cut = no_reader (fault_at fault.Depth at)
 flat_reader (kind.Map s) at cut = no_reader (fault_at fault.Depth at)
 flat_reader (kind.Array s) at cut = no_reader (fault_at fault.Depth at)
 flat_reader kind.Described at cut = no_reader (fault_at fault.Depth at)
-
-values_reader : (s : Spelled) (i : Inside) → IsInside s i → IsEachReader (IsCoded s.content) (value_by i)
-values_reader s i r = coded_reader s.content i.contents r.contents
 
 deep_reader : (s : Spelled) (i : Inside) → IsInside s i → (k : Kind) (at : ℕ) (cut : Fault) → IsReader (IsDeep s k) (deep_in i k at cut)
 deep_reader s i r (kind.Single k) at cut = made_reader scalar (IsSingle k) (single_in k cut) (single_reader k cut)
@@ -310,38 +407,34 @@ deep_reader s i r (kind.Array z) at cut =
 deep_reader s i r kind.Described at cut =
     made_reader (λ p. described p.0 p.1) _ _ (pair_reader (IsCoded s.content) (IsCoded s.content) (value_by i cut) (value_by i cut) (values_reader s i r cut) (values_reader s i r cut))
 
-shapes_reader : (More : Elements → List ℕ → Type 0) (more : Fault → ℕ → ℕ → List ℕ → Reads Shape Fault) → ((cut : Fault) (at : ℕ) → IsReader More (more cut at))
-    → (k : Kind) (at : ℕ) (cut : Fault) → IsReader (IsShape More k) (shape_by more k at cut)
-shapes_reader More more r (kind.Single k) at cut = none_reader ([], kind.Single k)
-shapes_reader More more r kind.EmptyList at cut = none_reader ([], kind.EmptyList)
-shapes_reader More more r (kind.List s) at cut = none_reader ([], kind.List s)
-shapes_reader More more r (kind.Map s) at cut = none_reader ([], kind.Map s)
-shapes_reader More more r (kind.Array s) at cut = none_reader ([], kind.Array s)
-shapes_reader More more r kind.Described at cut = r cut at
+-- an element whose descriptor is no deeper than this
+guarded_reader : (f : Fault) (d : ℕ) (x : Tree) (R : Tree → List ℕ → Type 0) (read : ℕ → List ℕ → Reads Tree Fault) → IsReader R read
+    → IsReader (λ t text. (depth x ≤ d) × R t text) (λ end text. cond (ltb d (depth x)) (Err f) (read end text))
+guarded_reader f d x R read r = record { finds = finds; again = λ end t front rest h. rw (le-ltb _ _ h.0) (r.again end t front rest h.1) }
+  where
+    finds : (end : ℕ) (text : List ℕ) (y : Tree × List ℕ) → IsBytes text → cond (ltb d (depth x)) (Err f) (read end text) ≡ Ok y → Finds (λ t text. (depth x ≤ d) × R t text) text y
+    finds end text y fits e =
+        let g = avoided (ltb d (depth x)) (read end text) y f e in
+        let found = r.finds end text y fits g.1 in
+        record { front = found.front; spelled = (ltb-false _ _ g.0, found.spelled); parts = found.parts; rest_fits = found.rest_fits }
 
-described_reader : (s : Spelled) (i : Inside) → IsInside s i → (cut : Fault) (at : ℕ) → IsReader (IsDescriptor s) (described_shape i cut at)
-described_reader s i r cut at =
-    made_reader (λ p. (p.0 ∷ p.1.0, p.1.1)) _ _ (pair_reader (IsCoded s.content) s.constructor (value_by i cut) (i.shape cut) (values_reader s i r cut) (r.shape cut))
-
-element_reader : (C : Kind → Tree → List ℕ → Type 0) (contents : Contents) (More : Elements → Tree → List ℕ → Type 0) (more : Shape → ℕ → Fault → ℕ → List ℕ → Reads Tree Fault)
+element_reader : (d : ℕ) (C : Kind → Tree → List ℕ → Type 0) (contents : Contents) (More : Elements → Tree → List ℕ → Type 0) (more : Shape → ℕ → Fault → ℕ → List ℕ → Reads Tree Fault)
     → ((k : Kind) (at : ℕ) (cut : Fault) → IsReader (C k) (contents k at cut)) → ((c : Shape) (at : ℕ) (cut : Fault) → IsReader (More c) (more c at cut))
-    → (c : Shape) (at : ℕ) (cut : Fault) → IsReader (IsElement C More c) (element_by contents more c at cut)
-element_reader C contents More more r m ([], k) at cut = r k at cut
-element_reader C contents More more r m (d ∷ ds, k) at cut = made_reader (described d) (More (ds, k)) (more (ds, k) at cut) (m (ds, k) at cut)
+    → (c : Shape) (at : ℕ) (cut : Fault) → IsReader (IsElement d C More c) (element_by d contents more c at cut)
+element_reader d C contents More more r m ([], k) at cut = r k at cut
+element_reader d C contents More more r m (x ∷ xs, k) at cut = guarded_reader (fault_at fault.Depth at) d x _ _ (made_reader (described x) (More (xs, k)) (more (xs, k) at cut) (m (xs, k) at cut))
 
 level_reader : (d : ℕ) → IsInside (spelled d) (level d)
 unfolding spelled level
 level_reader zero = record {
   contents = flat_reader;
-  shape = coded_reader (IsShape (λ c text. ⊥)) (shape_by (λ cut at end bytes. Err (fault_at fault.Depth at))) (shapes_reader (λ c text. ⊥) (λ cut at end bytes. Err (fault_at fault.Depth at)) (λ cut at. no_reader (fault_at fault.Depth at)));
-  element = element_reader IsFlat flat_in (λ c t text. ⊥) (λ c at cut end bytes. Err (fault_at fault.Depth at)) flat_reader (λ c at cut. no_reader (fault_at fault.Depth at));
+  element = element_reader 0 IsFlat flat_in (λ c t text. ⊥) (λ c at cut end bytes. Err (fault_at fault.Depth at)) flat_reader (λ c at cut. no_reader (fault_at fault.Depth at));
 }
 level_reader (suc d) =
     let r = level_reader d in
     record {
       contents = deep_reader (spelled d) (level d) r;
-      shape = coded_reader (IsShape (IsDescriptor (spelled d))) (shape_by (described_shape (level d))) (shapes_reader (IsDescriptor (spelled d)) (described_shape (level d)) (described_reader (spelled d) (level d) r));
-      element = element_reader (IsDeep (spelled d)) (deep_in (level d)) (spelled d).element (level d).element (deep_reader (spelled d) (level d) r) r.element;
+      element = element_reader d (IsDeep (spelled d)) (deep_in (level d)) (spelled d).element (level d).element (deep_reader (spelled d) (level d) r) r.element;
     }
 
 -- a value of at most this depth

@@ -4,7 +4,7 @@ use Rattle.std.specs.Int.{Width}
 use Rattle.wire_base.specs.Spelling.{IsPair, IsItems}
 use Rattle.types_10.specs.Tree.{Tree}
 use Rattle.types_10.specs.Kinds.{size_width}
-use Rattle.types_10.specs.Grammar.{Elements, Spelled, IsCoded, IsElementList, IsDeepOf, IsShape, IsDescriptorOf, IsElement, spelled, IsValue}
+use Rattle.types_10.specs.Grammar.{Elements, Spelled, IsDescriptorOf, IsPlainCode, IsConstructorOf, IsCoded, IsElementList, IsDeepOf, IsElement, spelled, IsValue}
 use Rattle.types_10.specs.Canonical.{IsFirstCode, IsFirstElements, canonical, IsCanonical}
 use Rattle.types_10.specs.declared.kind.Kind.{Kind}
 use Rattle.types_10.specs.declared.kind.Kind.TheVariants as kind
@@ -33,25 +33,19 @@ deep_in R S E F h e (kind.Map z) t text i =
 deep_in R S E F h e (kind.Array z) t text i = (i.0, i.1, (i.2.0, e (size_width z) i.0 i.2.0 i.2.1, i.2.2))
 deep_in R S E F h e kind.Described t text i = (i.0, i.1, pair_in R S R S h h i.0 text i.2)
 
-shape_in : (M N : Elements → List ℕ → Type 0) → IsIn M N → (k : Kind) → IsIn (IsShape M k) (IsShape N k)
-shape_in M N h (kind.Single k) c text i = i
-shape_in M N h kind.EmptyList c text i = i
-shape_in M N h (kind.List z) c text i = i
-shape_in M N h (kind.Map z) c text i = i
-shape_in M N h (kind.Array z) c text i = i
-shape_in M N h kind.Described c text i = h c text i
+descriptor_in : (R S : Tree → List ℕ → Type 0) → IsIn R S → IsIn (IsDescriptorOf R) (IsDescriptorOf S)
+descriptor_in R S h t text i = (i.0, h t i.0 i.1, i.2)
 
-descriptor_in : (R S : Tree → List ℕ → Type 0) (M N : Elements → List ℕ → Type 0) → IsIn R S → IsIn M N → IsIn (IsDescriptorOf R M) (IsDescriptorOf S N)
-descriptor_in R S M N h m c text i = (i.0, i.1, pair_in R S M N h m i.0 text i.2)
+constructor_in : (R S : Tree → List ℕ → Type 0) → IsIn R S → IsIn (IsConstructorOf R) (IsConstructorOf S)
+constructor_in R S h = pair_in (IsItems (IsDescriptorOf R)) (IsItems (IsDescriptorOf S)) IsPlainCode IsPlainCode (items_in (IsDescriptorOf R) (IsDescriptorOf S) (descriptor_in R S h)) (λ k text i. i)
 
-element_in : (C D : Kind → Tree → List ℕ → Type 0) (I J : Elements → Tree → List ℕ → Type 0) → ((k : Kind) → IsIn (C k) (D k)) → ((c : Elements) → IsIn (I c) (J c)) → (c : Elements) → IsIn (IsElement C I c) (IsElement D J c)
-element_in C D I J h m ([], k) t text i = h k t text i
-element_in C D I J h m (d ∷ ds, k) t text i = (i.0, i.1, m (ds, k) i.0 text i.2)
+element_in : (d : ℕ) (C D : Kind → Tree → List ℕ → Type 0) (I J : Elements → Tree → List ℕ → Type 0) → ((k : Kind) → IsIn (C k) (D k)) → ((c : Elements) → IsIn (I c) (J c)) → (c : Elements) → IsIn (IsElement d C I c) (IsElement d D J c)
+element_in d C D I J h m ([], k) t text i = h k t text i
+element_in d C D I J h m (x ∷ xs, k) t text i = (i.0, (i.1.0, i.1.1, m (xs, k) i.1.0 text i.1.2))
 
 -- what stands inside a value, of the one and of the other
 record IsWithin (s g : Spelled) : Type 0 where
   content : (k : Kind) → IsIn (s.content k) (g.content k)
-  constructor : IsIn s.constructor g.constructor
   element : (c : Elements) → IsIn (s.element c) (g.element c)
 
 value_within : (s g : Spelled) → IsWithin s g → IsIn (IsFirstCode s.content) (IsCoded g.content)
@@ -61,13 +55,12 @@ elements_within : (s g : Spelled) → IsWithin s g → (w : Width) → IsIn (IsF
 elements_within s g r w ts text h =
     let c = h.4 in
     let items = items_in (s.element c.0) (g.element c.0) (r.element c.0) ts c.2 c.4.2.1 in
-    (h.0, h.1, h.2, h.3, (c.0, c.1, c.2, r.constructor c.0 c.1 c.3, (c.4.1, (c.4.2.0, items)), c.5), h.5)
+    (h.0, h.1, h.2, h.3, (c.0, c.1, c.2, constructor_in (IsFirstCode s.content) (IsCoded g.content) (value_within s g r) c.0 c.1 c.3, (c.4.1, (c.4.2.0, items)), c.5), h.5)
 
 level_within : (d : ℕ) → IsWithin (canonical d) (spelled d)
 unfolding canonical spelled
 level_within zero = record {
   content = λ k t text h. h;
-  constructor = λ c text h. h;
   element = λ c t text h. h;
 }
 level_within (suc d) =
@@ -76,11 +69,9 @@ level_within (suc d) =
     let r = level_within d in
     let v = value_within s g r in
     let deep = deep_in (IsFirstCode s.content) (IsCoded g.content) (IsFirstElements s) (λ w. IsElementList w g) v (elements_within s g r) in
-    let descriptor = descriptor_in (IsFirstCode s.content) (IsCoded g.content) s.constructor g.constructor v r.constructor in
     record {
       content = deep;
-      constructor = λ c text h. (h.0, h.1, shape_in (IsDescriptorOf (IsFirstCode s.content) s.constructor) (IsDescriptorOf (IsCoded g.content) g.constructor) descriptor h.0 c h.1 h.2, h.3);
-      element = element_in _ _ s.element g.element deep r.element;
+      element = element_in d _ _ s.element g.element deep r.element;
     }
 
 pub canonical_is_spelled : (t : Tree) (text : List ℕ) → IsCanonical t text → IsValue t text

@@ -5,7 +5,7 @@ use Rattle.std.specs.Int.{Width}
 use Rattle.wire_base.specs.Spelling.{IsNumber, IsItems}
 use Rattle.types_10.specs.Tree.{Tree}
 use Rattle.types_10.specs.Kinds.{kind_byte, is_bare}
-use Rattle.types_10.specs.Grammar.{Spelled, Elements, IsCoded, IsThen, IsTimes, IsFlat, IsDeepOf, IsShape, IsDescriptorOf, IsElement}
+use Rattle.types_10.specs.Grammar.{Spelled, Elements, IsConstructorOf, IsThen, IsTimes, IsFlat, IsDeepOf, IsElement}
 use Rattle.types_10.specs.declared.kind.Kind.{Kind}
 
 -- a code and a content of that kind, where no kind with an earlier code has a content that spells the value
@@ -17,29 +17,27 @@ IsFirstCode IsContent t text =
 -- no constructor that fits all the elements has fewer descriptors, or an earlier code
 abbrev pub IsFirstConstructor : Spelled → Elements → List Tree → Type 0
 IsFirstConstructor inside c ts =
-    (e : Elements) (front text : List ℕ) → inside.constructor e front → IsItems (inside.element e) ts text
+    (e : Elements) (front text : List ℕ) → IsConstructorOf (IsFirstCode inside.content) e front → IsItems (inside.element e) ts text
     → (length c.0 ≤ length e.0) × (kind_byte c.1 ≤ kind_byte e.1)
 
 -- the count of the elements, the first constructor that fits them, and the elements
 abbrev pub IsFirstElements : Spelled → Width → List Tree → List ℕ → Type 0
-IsFirstElements inside w = IsThen (IsNumber w) (λ n. IsThen inside.constructor (λ c ts text.
+IsFirstElements inside w = IsThen (IsNumber w) (λ n. IsThen (IsConstructorOf (IsFirstCode inside.content)) (λ c ts text.
     IsFirstConstructor inside c ts × (IsTrue (is_bare c.1) → n ≤ 65536) × IsTimes (inside.element c) n ts text))
 
 -- the content of a value that may hold those inside
 abbrev pub IsDeepCanonical : Spelled → Kind → Tree → List ℕ → Type 0
 IsDeepCanonical inside = IsDeepOf (IsFirstCode inside.content) (IsFirstElements inside)
 
--- the contents, constructors and elements of values of at most this depth
+-- the contents and elements of values of at most this depth
 unfoldable pub canonical : ℕ → Spelled
 canonical zero = record {
   content = IsFlat;
-  constructor = IsCoded (IsShape (λ c text. ⊥));
-  element = IsElement IsFlat (λ c t text. ⊥);
+  element = IsElement 0 IsFlat (λ c t text. ⊥);
 }
 canonical (suc d) = record {
   content = IsDeepCanonical (canonical d);
-  constructor = IsCoded (IsShape (IsDescriptorOf (IsFirstCode (canonical d).content) (canonical d).constructor));
-  element = IsElement (IsDeepCanonical (canonical d)) (canonical d).element;
+  element = IsElement d (IsDeepCanonical (canonical d)) (canonical d).element;
 }
 
 -- the canonical spelling of a value of at most this depth

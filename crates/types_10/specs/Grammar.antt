@@ -1,10 +1,11 @@
 -- How values are spelled (AMQP 1.0 1.6): a relation between a value and the bytes that spell it, all of the bytes, one case for each
 -- format code. A value is its code and a content; the size of a list, a map or an array is exactly that of what stands in it; an
--- array is a constructor and contents without codes; the depth of a value is at most 16.
-use Rattle.std.specs.Prelude.{◌≡◌, ℕ, zero, suc, ◌*◌, ◌≤◌, ◌==◌, nat_lt, IsTrue, List, [], ◌∷◌, ◌++◌, length}
+-- array is a constructor and contents without codes; the depth of a value is at most 16. The descriptors of a constructor add to the
+-- depth of the elements that have them, and to no other.
+use Rattle.std.specs.Prelude.{◌≡◌, ◌≢◌, ℕ, zero, suc, ◌*◌, ◌≤◌, ◌==◌, nat_lt, IsTrue, List, [], ◌∷◌, ◌++◌, length}
 use Rattle.std.specs.Int.{Width, w8, w32}
 use Rattle.wire_base.specs.Spelling.{IsNumber, IsText, IsMade, IsPair, IsItems}
-use Rattle.types_10.specs.Tree.{Scalar, boolean, char, Tree, scalar, list, mapping, array, described, no_trees, trees_of, pairs_of}
+use Rattle.types_10.specs.Tree.{Scalar, boolean, char, Tree, scalar, list, mapping, array, described, depth, no_trees, trees_of, pairs_of}
 use Rattle.types_10.specs.Kinds.{kind_byte, is_bare, bare_scalar, octet_scalar, wide_width, wide_scalar, sixteen_scalar, text_scalar, is_text, is_character, size_width}
 use Rattle.types_10.specs.declared.kind.Kind.{Kind}
 use Rattle.types_10.specs.declared.kind.Kind.TheVariants as kind
@@ -54,19 +55,31 @@ IsItemList w IsValue = IsThen (IsNumber w) (λ n. IsTimes IsValue n)
 abbrev pub IsPairList : Width → (Tree → List ℕ → Type 0) → List (Tree × Tree) → List ℕ → Type 0
 IsPairList w IsValue = IsThen (IsNumber w) (λ n ps text. (n ≡ 2 * length ps) × IsItems (IsPair IsValue IsValue) ps text)
 
--- a constructor: the descriptors that all elements have, and the kind of what they describe
+-- what a constructor tells: the descriptors that all elements have, the outermost first, and the kind of what they describe
 abbrev pub Elements : Type 0
 Elements = List Tree × Kind
 
--- what stands inside a value: contents, constructors, and elements behind a constructor
+-- a descriptor, behind the code of described values
+abbrev pub IsDescriptorOf : (Tree → List ℕ → Type 0) → Tree → List ℕ → Type 0
+IsDescriptorOf IsValue t text = (body : List ℕ) × IsValue t body × (text ≡ kind_byte kind.Described ∷ body)
+
+-- the code of what isn't described
+abbrev pub IsPlainCode : Kind → List ℕ → Type 0
+IsPlainCode k text = (k ≢ kind.Described) × (text ≡ kind_byte k ∷ [])
+
+-- a constructor: the descriptors, and the code of what they describe
+abbrev pub IsConstructorOf : (Tree → List ℕ → Type 0) → Elements → List ℕ → Type 0
+IsConstructorOf IsValue = IsPair (IsItems (IsDescriptorOf IsValue)) IsPlainCode
+
+-- what stands inside a value: contents, and elements behind a constructor
 pub record Spelled : Type 1 where
   pub content : Kind → Tree → List ℕ → Type 0
-  pub constructor : Elements → List ℕ → Type 0
   pub element : Elements → Tree → List ℕ → Type 0
 
 -- the count of the elements, their constructor, and the elements; there are at most 65,536 of those that have no bytes
 abbrev pub IsElementList : Width → Spelled → List Tree → List ℕ → Type 0
-IsElementList w inside = IsThen (IsNumber w) (λ n. IsThen inside.constructor (λ c ts text. (IsTrue (is_bare c.1) → n ≤ 65536) × IsTimes (inside.element c) n ts text))
+IsElementList w inside = IsThen (IsNumber w) (λ n. IsThen (IsConstructorOf (IsCoded inside.content)) (λ c ts text.
+    (IsTrue (is_bare c.1) → n ≤ 65536) × IsTimes (inside.element c) n ts text))
 
 -- the content of a value that may hold no other
 abbrev pub IsFlat : Kind → Tree → List ℕ → Type 0
@@ -90,38 +103,20 @@ IsDeepOf IsValue IsElements kind.Described = IsMade (λ p. described p.0 p.1) (I
 abbrev pub IsDeep : Spelled → Kind → Tree → List ℕ → Type 0
 IsDeep inside = IsDeepOf (IsCoded inside.content) (λ w. IsElementList w inside)
 
--- what a code of a constructor announces: elements of that kind, or described ones
-abbrev pub IsShape : (Elements → List ℕ → Type 0) → Kind → Elements → List ℕ → Type 0
-IsShape More (kind.Single k) = λ c text. (c ≡ ([], kind.Single k)) × (text ≡ [])
-IsShape More kind.EmptyList = λ c text. (c ≡ ([], kind.EmptyList)) × (text ≡ [])
-IsShape More (kind.List s) = λ c text. (c ≡ ([], kind.List s)) × (text ≡ [])
-IsShape More (kind.Map s) = λ c text. (c ≡ ([], kind.Map s)) × (text ≡ [])
-IsShape More (kind.Array s) = λ c text. (c ≡ ([], kind.Array s)) × (text ≡ [])
-IsShape More kind.Described = More
-
--- a descriptor, and the constructor of what it describes
-abbrev pub IsDescriptorOf : (Tree → List ℕ → Type 0) → (Elements → List ℕ → Type 0) → Elements → List ℕ → Type 0
-IsDescriptorOf IsValue More = IsMade (λ p. (p.0 ∷ p.1.0, p.1.1)) (IsPair IsValue More)
-
-abbrev pub IsDescriptor : Spelled → Elements → List ℕ → Type 0
-IsDescriptor inside = IsDescriptorOf (IsCoded inside.content) inside.constructor
-
--- an element behind its constructor
-abbrev pub IsElement : (Kind → Tree → List ℕ → Type 0) → (Elements → Tree → List ℕ → Type 0) → Elements → Tree → List ℕ → Type 0
-IsElement IsContent Inner ([], k) = IsContent k
-IsElement IsContent Inner (d ∷ ds, k) = IsMade (described d) (Inner (ds, k))
+-- an element behind its constructor: the descriptor of a described one has at most this depth
+abbrev pub IsElement : ℕ → (Kind → Tree → List ℕ → Type 0) → (Elements → Tree → List ℕ → Type 0) → Elements → Tree → List ℕ → Type 0
+IsElement d IsContent Inner ([], k) = IsContent k
+IsElement d IsContent Inner (x ∷ xs, k) = λ t text. (depth x ≤ d) × IsMade (described x) (Inner (xs, k)) t text
 
 -- values of at most this depth
 unfoldable pub spelled : ℕ → Spelled
 spelled zero = record {
   content = IsFlat;
-  constructor = IsCoded (IsShape (λ c text. ⊥));
-  element = IsElement IsFlat (λ c t text. ⊥);
+  element = IsElement 0 IsFlat (λ c t text. ⊥);
 }
 spelled (suc d) = record {
   content = IsDeep (spelled d);
-  constructor = IsCoded (IsShape (IsDescriptor (spelled d)));
-  element = IsElement (IsDeep (spelled d)) (spelled d).element;
+  element = IsElement d (IsDeep (spelled d)) (spelled d).element;
 }
 
 -- a value of at most this depth

@@ -124,6 +124,15 @@ is_bare (kind.Map s) = false
 is_bare (kind.Array s) = false
 is_bare kind.Described = false
 
+-- whether a descriptor stands behind the code
+abbrev pub is_described : Kind → Bool
+is_described (kind.Single k) = false
+is_described kind.EmptyList = false
+is_described (kind.List s) = false
+is_described (kind.Map s) = false
+is_described (kind.Array s) = false
+is_described kind.Described = true
+
 -- what a code without content means
 abbrev pub bare_scalar : Bare → Scalar
 bare_scalar bare.Null = null

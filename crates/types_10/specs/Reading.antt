@@ -5,8 +5,8 @@ use Rattle.std.specs.Prelude.{ℕ, zero, suc, ◌-◌, ◌/◌, ◌%◌, Bool, �
 use Rattle.std.specs.Int.{Width, w8, w32}
 use Rattle.wire_base.specs.declared.scan.At.{At}
 use Rattle.wire_base.specs.Reading.{Reads, ◌>>=◌, made, pair_in, number_in, text_in, times}
-use Rattle.types_10.specs.Tree.{Scalar, boolean, char, Tree, scalar, list, mapping, array, described, no_trees, trees_of, pairs_of}
-use Rattle.types_10.specs.Kinds.{kind_of, is_bare, bare_scalar, octet_scalar, wide_width, wide_scalar, sixteen_scalar, text_scalar, is_text, is_character, size_width}
+use Rattle.types_10.specs.Tree.{Scalar, boolean, char, Tree, scalar, list, mapping, array, described, depth, no_trees, trees_of, pairs_of}
+use Rattle.types_10.specs.Kinds.{kind_of, is_bare, is_described, bare_scalar, octet_scalar, wide_width, wide_scalar, sixteen_scalar, text_scalar, is_text, is_character, size_width}
 use Rattle.types_10.specs.declared.fault.TypeFault.{TypeFault}
 use Rattle.types_10.specs.declared.fault.TypeFault.TheVariants as fault
 use Rattle.types_10.specs.declared.kind.Kind.{Kind}
@@ -87,15 +87,33 @@ coded_in read cut end bytes = do
 abbrev pub code_in : Fault → ℕ → List ℕ → Reads (Kind × ℕ) Fault
 code_in = coded_in (λ k at cut end bytes. Ok ((k, at), bytes))
 
--- the constructor of an array: the descriptors that all of its elements have, and the kind of what they describe
+-- what a constructor tells: the descriptors that all elements have, the outermost first, and the kind of what they describe
 abbrev pub Shape : Type 0
 Shape = List Tree × Kind
 
--- readers of what stands inside a value: contents, constructors, and elements behind a constructor
+-- a descriptor, in front of the constructor of what it describes
+abbrev pub with_descriptor : Tree × Shape → Shape
+with_descriptor p = (p.0 ∷ p.1.0, p.1.1)
+
+-- a constructor of at most so many codes, whose descriptors are read so
+unfoldable pub constructor_in : (Fault → ℕ → List ℕ → Reads Tree Fault) → ℕ → Fault → ℕ → List ℕ → Reads Shape Fault
+constructor_in read zero cut end bytes = Err cut
+constructor_in read (suc most) cut end bytes = do
+  c ← code_in cut end bytes
+  if is_described c.0.0 then made with_descriptor (pair_in (read cut) (constructor_in read most cut) end c.1) else Ok (([], c.0.0), c.1)
+
+-- readers of what stands inside a value: contents, and elements behind a constructor
 pub record Inside : Type 0 where
   pub contents : Contents
-  pub shape : Fault → ℕ → List ℕ → Reads Shape Fault
   pub element : Shape → ℕ → Fault → ℕ → List ℕ → Reads Tree Fault
+
+-- a value whose content is read so
+abbrev pub value_by : Inside → Fault → ℕ → List ℕ → Reads Tree Fault
+value_by inside = coded_in inside.contents
+
+-- a constructor whose descriptors are such values; it has no more codes than bytes
+abbrev pub shape_by : Inside → Fault → ℕ → List ℕ → Reads Shape Fault
+shape_by inside cut end bytes = constructor_in (value_by inside) (length bytes) cut end bytes
 
 -- ---- lists, maps and arrays
 
@@ -118,18 +136,15 @@ entries_in w read cut end bytes = do
   n ← count_in cut w bytes
   if n.0 % 2 == 0 then times (pair_in (read cut) (read cut) end) (n.0 / 2) n.1 else Err cut
 
--- a count, a constructor and so many elements, whose code is the last byte before them; of elements without bytes there are at most 65,536
+-- a count, a constructor, whatever the count is, and so many elements, before which its last code is the last byte; of elements without
+-- bytes there are at most 65,536
 abbrev pub elements_in : Width → Inside → Fault → ℕ → List ℕ → Reads (List Tree) Fault
 elements_in w inside cut end bytes = do
   n ← count_in cut w bytes
-  c ← inside.shape cut end n.1
+  c ← shape_by inside cut end n.1
   if is_bare c.0.1 && nat_lt 65536 n.0 then Err cut else times (inside.element c.0 ((end - length c.1) - 1) cut end) n.0 c.1
 
 -- ---- contents by depth
-
--- a value whose content is read so
-abbrev pub value_by : Inside → Fault → ℕ → List ℕ → Reads Tree Fault
-value_by inside = coded_in inside.contents
 
 -- the content of a value that may hold no other
 abbrev pub flat_in : Contents
@@ -149,47 +164,29 @@ deep_in inside (kind.Map s) at cut end bytes = made (λ ps. mapping (pairs_of ps
 deep_in inside (kind.Array s) at cut end bytes = made (λ ts. array (trees_of ts)) (filled_in (size_width s) at (elements_in (size_width s) inside) cut end bytes)
 deep_in inside kind.Described at cut end bytes = made (λ p. described p.0 p.1) (pair_in (value_by inside cut) (value_by inside cut) end bytes)
 
--- a constructor whose elements are described, or of the kind that the code announces
-abbrev pub shape_by : (Fault → ℕ → ℕ → List ℕ → Reads Shape Fault) → Kind → ℕ → Fault → ℕ → List ℕ → Reads Shape Fault
-shape_by more (kind.Single k) at cut end bytes = Ok (([], kind.Single k), bytes)
-shape_by more kind.EmptyList at cut end bytes = Ok (([], kind.EmptyList), bytes)
-shape_by more (kind.List s) at cut end bytes = Ok (([], kind.List s), bytes)
-shape_by more (kind.Map s) at cut end bytes = Ok (([], kind.Map s), bytes)
-shape_by more (kind.Array s) at cut end bytes = Ok (([], kind.Array s), bytes)
-shape_by more kind.Described at cut end bytes = more cut at end bytes
-
--- a descriptor, and the constructor of what it describes
-abbrev pub described_shape : Inside → Fault → ℕ → ℕ → List ℕ → Reads Shape Fault
-described_shape inside cut at end bytes =
-    made (λ p. (p.0 ∷ p.1.0, p.1.1)) (pair_in (value_by inside cut) (inside.shape cut) end bytes)
-
--- an element behind its constructor, whose content is read so
-abbrev pub element_by : Contents → (Shape → ℕ → Fault → ℕ → List ℕ → Reads Tree Fault) → Shape → ℕ → Fault → ℕ → List ℕ → Reads Tree Fault
-element_by contents more ([], k) at cut end bytes = contents k at cut end bytes
-element_by contents more (d ∷ ds, k) at cut end bytes = made (described d) (more (ds, k) at cut end bytes)
+-- an element behind its constructor, whose content is read so; where its descriptor is deeper than this, a fault at the
+-- constructor's last code
+abbrev pub element_by : ℕ → Contents → (Shape → ℕ → Fault → ℕ → List ℕ → Reads Tree Fault) → Shape → ℕ → Fault → ℕ → List ℕ → Reads Tree Fault
+element_by d contents more ([], k) at cut end bytes = contents k at cut end bytes
+element_by d contents more (x ∷ xs, k) at cut end bytes =
+    if nat_lt d (depth x) then Err (fault_at fault.Depth at) else made (described x) (more (xs, k) at cut end bytes)
 
 -- readers of values of at most this depth
 unfoldable pub level : ℕ → Inside
 level zero = record {
   contents = flat_in;
-  shape = coded_in (shape_by (λ cut at end bytes. Err (fault_at fault.Depth at)));
-  element = element_by flat_in (λ c at cut end bytes. Err (fault_at fault.Depth at));
+  element = element_by 0 flat_in (λ c at cut end bytes. Err (fault_at fault.Depth at));
 }
 level (suc d) = record {
   contents = deep_in (level d);
-  shape = coded_in (shape_by (described_shape (level d)));
-  element = element_by (deep_in (level d)) (level d).element;
+  element = element_by d (deep_in (level d)) (level d).element;
 }
 
 abbrev pub contents_in : ℕ → Contents
 contents_in d = (level d).contents
 
 abbrev pub shape_in : ℕ → Fault → ℕ → List ℕ → Reads Shape Fault
-shape_in d = (level d).shape
-
--- a constructor of described elements of at most this depth, whose code stands at this offset
-abbrev pub described_in : ℕ → Fault → ℕ → ℕ → List ℕ → Reads Shape Fault
-described_in d cut at end bytes = if d == 0 then Err (fault_at fault.Depth at) else described_shape (level (d - 1)) cut at end bytes
+shape_in d = shape_by (level d)
 
 abbrev pub element_in : ℕ → Shape → ℕ → Fault → ℕ → List ℕ → Reads Tree Fault
 element_in d = (level d).element

@@ -9,6 +9,7 @@
 #![tactic(auto)]
 
 mod copying;
+mod depth;
 mod fault;
 mod kind;
 mod laws;

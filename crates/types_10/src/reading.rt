@@ -15,9 +15,10 @@ ghost use Rattle.types_10.specs.View.{value_tree, pair_trees};
 ghost use Rattle.types_10.specs.Grammar.{IsValue};
 ghost use Rattle.types_10.specs.Shapes.{shape_data};
 ghost use Rattle.types_10.specs.declared.fault.TypeFault.TheVariants as fault;
-ghost use Rattle.types_10.specs.Reading.{fault_at, code_in, contents_in, shape_in, described_in, element_in, count_in, bytes_in, sixteen_in, tested, text_fault, boolean_in, char_in, single_in, flat_in, deep_in, filled_in, items_in, entries_in, elements_in, value_by, level, value_in, value_at};
+ghost use Rattle.types_10.specs.Reading.{fault_at, code_in, contents_in, shape_in, element_in, count_in, bytes_in, sixteen_in, tested, text_fault, boolean_in, char_in, single_in, flat_in, deep_in, filled_in, items_in, entries_in, elements_in, value_by, level, value_in, value_at};
 
 use crate::copying::copy_value;
+use crate::depth::is_within;
 use crate::fault::TypeFault;
 use crate::kind::{Bare, Kind, Octet, Single, Sixteen, Size, Text, Wide, kind_at};
 use crate::value::{Inner, PairList, Value10, ValueList};
@@ -396,7 +397,7 @@ fn value_of(
 
 /// The content of a value of at most this depth.
 #[cycle(nested)]
-#[tactic(auto, using(crate::proofs::Depth::contents_is))]
+#[tactic(auto, using(crate::proofs::Levels::contents_is))]
 fn content_of(
     alloc: Global,
     depth: u8,
@@ -584,7 +585,7 @@ fn array_of(
     if shape.kind.is_bare() && count > MOST_BARE {
         return Err(Stop::Fault(inside.cut));
     }
-    // The code of the constructor is the last byte before the elements.
+    // The last code of the constructor is the byte before the elements.
     let at = place(inside.end, elements).saturating_sub(1);
     let (list, left) = elements_of(alloc, depth, count, &shape, at, inside, elements)?;
     if !left.is_empty() {
@@ -593,9 +594,8 @@ fn array_of(
     Ok((list, rest))
 }
 
-/// The constructor of an array whose elements have at most this depth.
+/// The constructor of an array whose descriptors have at most this depth.
 #[cycle(nested)]
-#[tactic(auto, using(crate::proofs::Depth::shape_is))]
 fn shape_of(
     alloc: Global,
     depth: u8,
@@ -605,40 +605,25 @@ fn shape_of(
     ensures { Gives (λ x. (shape_data x.0, x.1.now)) result
         (shape_in depth bounds.cut bounds.end bytes.now) }
 {
-    let (code, rest) = code_in(bounds, bytes)?;
-    if let Kind::Described = code.kind {
-        return described_of(alloc, depth, code.at, bounds, rest);
+    let mut descriptors = ValueList::empty(alloc);
+    let mut rest = bytes;
+    // Each code has a byte, so there are no more codes than bytes.
+    let mut most = bytes.len();
+    while most > 0 {
+        let (code, after) = code_in(bounds, rest)?;
+        let Kind::Described = code.kind else {
+            let kind = code.kind;
+            return Ok((Shape { descriptors, kind }, after));
+        };
+        let (descriptor, after) = value_of(alloc, depth, bounds, after)?;
+        descriptors.push(descriptor)?;
+        rest = after;
+        most -= 1;
     }
-    let shape = Shape {
-        descriptors: ValueList::empty(alloc),
-        kind: code.kind,
-    };
-    Ok((shape, rest))
+    Err(Stop::Fault(bounds.cut))
 }
 
-/// The constructor of described elements of at most this depth, whose code stands at `at`.
-#[cycle(nested)]
-fn described_of(
-    alloc: Global,
-    depth: u8,
-    at: usize,
-    bounds: Bounds,
-    bytes: &[u8],
-) -> Result<(Shape, &[u8]), Stop<Fault>>
-    ensures { Gives (λ x. (shape_data x.0, x.1.now)) result
-        (described_in depth bounds.cut at bounds.end bytes.now) }
-{
-    if depth == 0 {
-        let fault = TypeFault::Depth;
-        return Err(Stop::Fault(At { fault, at }));
-    }
-    let (descriptor, rest) = value_of(alloc, depth - 1, bounds, bytes)?;
-    let (mut shape, rest) = shape_of(alloc, depth - 1, bounds, rest)?;
-    shape.descriptors.push_front(descriptor)?;
-    Ok((shape, rest))
-}
-
-/// So many elements of this constructor, whose code stands at `at`.
+/// So many elements of this constructor, whose last code stands at `at`.
 #[cycle(nested)]
 fn elements_of<'a>(
     alloc: Global,
@@ -664,7 +649,7 @@ fn elements_of<'a>(
     Ok((list, rest))
 }
 
-/// An element of this constructor, whose code stands at `at`.
+/// An element of this constructor, whose last code stands at `at`.
 #[cycle(nested)]
 fn shaped_of<'a>(
     alloc: Global,
@@ -691,7 +676,6 @@ fn shaped_of<'a>(
 
 /// An element behind these descriptors, the outermost first, and this code.
 #[cycle(nested)]
-#[tactic(auto, using(crate::proofs::Depth::element_is))]
 fn element_of<'a>(
     alloc: Global,
     depth: u8,
@@ -706,7 +690,7 @@ fn element_of<'a>(
     let Some((descriptor, inner)) = descriptors.split_first() else {
         return content_of(alloc, depth, code, bounds, content);
     };
-    if depth == 0 {
+    if depth == 0 || !is_within(descriptor, depth - 1) {
         let fault = TypeFault::Depth;
         return Err(Stop::Fault(At { fault, at: code.at }));
     }
@@ -738,9 +722,10 @@ fn value_from(alloc: Global, bytes: &[u8], at: usize) -> Result<(Value10, usize)
 ///
 /// A `TypeFault` exactly where no value of depth 16 or less stands at `at`, and where it is: `UnknownCode` at the code, or at
 /// the byte of a boolean; `Cut` at the length of the input; `NotUtf8` and `NotAscii` at the first byte of the content; `Depth`
-/// at the code; `Count` at the code of the list, the map or the array. The faults of a value are looked for in the order
-/// `UnknownCode`, `Depth`, `Cut`, `Count` for a wrong count, the fault of its text or those of what it holds in order, and
-/// `Count` for bytes left over.
+/// at the code, which is the last one of the constructor for an element of an array; `Count` at the code of the list, the map or
+/// the array. The faults of a value are looked for in the order `UnknownCode`, `Depth`, `Cut`, `Count` for a wrong count, the
+/// fault of its text or those of what it holds in order, and `Count` for bytes left over. The constructor of an array,
+/// descriptors and all, is read before the count is tested, and its descriptors count in the depth of the elements alone.
 ///
 /// `Memory` where the allocator has no room.
 pub fn read_value(

@@ -224,16 +224,6 @@ impl ValueList {
         Ok(())
     }
 
-    /// Adds a value at the front, or leaves the list as it was and drops the value.
-    pub(crate) fn push_front(&mut self, value: Value10) -> Result<(), Memory>
-        ensures ok { OnOk result (self.new ≡ value_tree value ∷ self.old) }
-        ensures err { OnErr result (self.new ≡ self.old) }
-    {
-        tell_ranges(&value);
-        self.items.insert(0, value)?;
-        Ok(())
-    }
-
     /// The count of the values.
     pub fn len(&self) -> usize
         ensures { result ≡ length self.now }

@@ -17,15 +17,16 @@ enum Holder {
     Described,
 }
 
-/// Holders of which each one holds the one before it.
+/// Holders of which each one holds the one before it, and the first one the last. No array holds a described value, since
+/// the depth of such an element is told at another place.
 static HOLDERS: [Holder; 8] = [
     Holder::List,
     Holder::Described,
-    Holder::Array,
     Holder::Key,
-    Holder::Descriptor,
     Holder::Array,
+    Holder::Descriptor,
     Holder::Value,
+    Holder::Array,
     Holder::LongList,
 ];
 
@@ -144,24 +145,4 @@ fn depth_is_told_before_what_is_inside(rt: HostRuntime) -> Result<(), Fail> {
         is_fault(&rt, bytes.as_slice(), *fault, *at)?;
     }
     Ok(())
-}
-
-/// An array of one null behind so many descriptors.
-fn described_array(rt: &impl AllocGlobal, count: u8) -> Result<Vec<u8>, Fail> {
-    let size = count.saturating_mul(2).saturating_add(2);
-    let mut bytes = [0xE0, size, 1].to_vec(rt.alloc())?;
-    for _ in 0..count {
-        bytes.extend_from_slice(b"\0\x43")?;
-    }
-    bytes.push(0x40)?;
-    Ok(bytes)
-}
-
-#[test]
-fn constructors_have_the_depth_of_their_elements(rt: HostRuntime) -> Result<(), Fail> {
-    let bytes = described_array(&rt, 15)?;
-    is_whole(&rt, bytes.as_slice())?;
-    // the sixteenth descriptor's code
-    let bytes = described_array(&rt, 16)?;
-    is_fault(&rt, bytes.as_slice(), TypeFault::Depth, 33)
 }

@@ -1,8 +1,9 @@
 use Rattle.std.proofs.Common.{◌≡◌, ◌+◌, ◌-◌, ◌*◌, ◌≤◌}
 use Rattle.wire_base.specs.Reading.{times, pair_in}
 use Rattle.wire_base.proofs.Items.{behind_front}
-use Rattle.types_10.specs.Reading.{value_in, element_in}
+use Rattle.types_10.specs.Reading.{value_in, constructor_in, shape_in, element_in}
 use Rattle.types_10.specs.Shapes.{shape_data}
+use Rattle.types_10.proofs.Constructors.{behind_descriptors}
 use Rattle.types_10.proofs.reading.+nested.Given as goal
 
 abbrev pub decreases-content_of : goal.decreases-content_of
@@ -16,9 +17,6 @@ decreases-element_of l = 8 * l.depth + 1
 
 abbrev pub decreases-shape_of : goal.decreases-shape_of
 decreases-shape_of l = 8 * l.depth + 2
-
-abbrev pub decreases-described_of : goal.decreases-described_of
-decreases-described_of l = 8 * l.depth + 1
 
 abbrev pub decreases-pair_of : goal.decreases-pair_of
 decreases-pair_of l = 8 * l.depth + 2
@@ -57,6 +55,10 @@ invariant-pairs_of-loop-done l =
     let read = pair_in (value_in l.depth l.bounds.cut) (value_in l.depth l.bounds.cut) l.bounds.end in
     (l.done ≤ l.count) × (behind_front l.list (times read (l.count - l.done) l.rest) ≡ times read l.count l.bytes)
 
+abbrev pub invariant-shape_of-loop-most : goal.invariant-shape_of-loop-most
+invariant-shape_of-loop-most l =
+    behind_descriptors l.descriptors (constructor_in (value_in l.depth) l.most l.bounds.cut l.bounds.end l.rest) ≡ shape_in l.depth l.bounds.cut l.bounds.end l.bytes
+
 abbrev pub invariant-elements_of-loop-done : goal.invariant-elements_of-loop-done
 invariant-elements_of-loop-done l =
     let read = element_in l.depth (shape_data l.shape) l.at l.bounds.cut l.bounds.end in
@@ -70,3 +72,6 @@ decreases-pairs_of-loop-done l = l.count - l.done
 
 abbrev pub decreases-elements_of-loop-done : goal.decreases-elements_of-loop-done
 decreases-elements_of-loop-done l = l.count - l.done
+
+abbrev pub decreases-shape_of-loop-most : goal.decreases-shape_of-loop-most
+decreases-shape_of-loop-most l = l.most

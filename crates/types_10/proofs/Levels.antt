@@ -1,0 +1,60 @@
+-- Contents and elements of some depth, where the depth is no numeral.
+use Rattle.std.proofs.Common.{◌≡◌, ℕ, zero, suc, ◌-◌, Bool, true, false, cond, eqb, leb, ltb, ◌<◌, List, [], ◌∷◌, Err, refl, arith, rules, tests}
+use Rattle.std.proofs.lemmas.Bool.{leb-true, leb-false, lt-ltb, le-ltb}
+use Rattle.wire_base.specs.Reading.{Reads, made}
+use Rattle.types_10.specs.Tree.{Tree, described, depth}
+use Rattle.types_10.specs.Reading.{Fault, fault_at, flat_in, deep_in, level, contents_in, element_in}
+use Rattle.types_10.specs.declared.fault.TypeFault.TheVariants as fault
+use Rattle.types_10.specs.declared.kind.Kind.{Kind}
+
+-- contents by whether their depth is 0
+pub contents_is : (d : ℕ) (k : Kind) (at : ℕ) (cut : Fault) (end : ℕ) (bytes : List ℕ)
+    → contents_in d k at cut end bytes ≡ cond (eqb d 0) (flat_in k at cut end bytes) (deep_in (level (d - 1)) k at cut end bytes)
+unfolding level
+contents_is zero k at cut end bytes = refl
+contents_is (suc d) k at cut end bytes =
+    let less : suc d - 1 ≡ d = omega arith in
+    let more : eqb (suc d) 0 ≡ false = search (rules, tests) in
+    simp (less, more) refl
+
+-- contents of some depth
+pub contents_more : (d : ℕ) (k : Kind) (at : ℕ) (cut : Fault) (end : ℕ) (bytes : List ℕ) → 0 < d
+    → contents_in d k at cut end bytes ≡ deep_in (level (d - 1)) k at cut end bytes
+unfolding level
+contents_more zero k at cut end bytes more = absurd (omega arith)
+contents_more (suc d) k at cut end bytes more =
+    let less : suc d - 1 ≡ d = omega arith in
+    rw less refl
+
+-- elements without descriptors, and behind one that is too deep and one that isn't
+pub element_plain : (d : ℕ) (k : Kind) (at : ℕ) (cut : Fault) (end : ℕ) (bytes : List ℕ)
+    → element_in d ([], k) at cut end bytes ≡ contents_in d k at cut end bytes
+unfolding level
+element_plain zero k at cut end bytes = refl
+element_plain (suc d) k at cut end bytes = refl
+
+pub element_none : (x : Tree) (xs : List Tree) (k : Kind) (at : ℕ) (cut : Fault) (end : ℕ) (bytes : List ℕ)
+    → element_in 0 (x ∷ xs, k) at cut end bytes ≡ Err (fault_at fault.Depth at)
+unfolding level
+element_none x xs k at cut end bytes = either (ltb 0 (depth x))
+  where
+    either : (b : Bool) → cond {A = Reads Tree Fault} b (Err (fault_at fault.Depth at)) (Err (fault_at fault.Depth at)) ≡ Err (fault_at fault.Depth at)
+    either true = refl
+    either false = refl
+
+pub element_deep : (d : ℕ) (x : Tree) (xs : List Tree) (k : Kind) (at : ℕ) (cut : Fault) (end : ℕ) (bytes : List ℕ) → 0 < d → leb (depth x) (d - 1) ≡ false
+    → element_in d (x ∷ xs, k) at cut end bytes ≡ Err (fault_at fault.Depth at)
+unfolding level
+element_deep zero x xs k at cut end bytes more deep = absurd (omega arith)
+element_deep (suc d) x xs k at cut end bytes more deep =
+    let passes : ltb d (depth x) ≡ true = lt-ltb _ _ (omega (arith, leb-false _ _ deep)) in
+    rw passes refl
+
+pub element_more : (d : ℕ) (x : Tree) (xs : List Tree) (k : Kind) (at : ℕ) (cut : Fault) (end : ℕ) (bytes : List ℕ) → 0 < d → leb (depth x) (d - 1) ≡ true
+    → element_in d (x ∷ xs, k) at cut end bytes ≡ made (described x) (element_in (d - 1) (xs, k) at cut end bytes)
+unfolding level
+element_more zero x xs k at cut end bytes more fine = absurd (omega arith)
+element_more (suc d) x xs k at cut end bytes more fine =
+    let less : suc d - 1 ≡ d = omega arith in
+    let within : ltb d (depth x) ≡ false = le-ltb _ _ (omega (arith, leb-true _ _ fine)) in
+    rw (within, less) refl
