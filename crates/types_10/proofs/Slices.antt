@@ -1,8 +1,8 @@
 -- Slices against trees: what is said of the trees in a list or a map, said of a slice's values and pairs one by one. Then the parts
 -- of a value that are written in turn, and its kind and its length as the program finds them.
-use Rattle.std.proofs.Common.{◌≡◌, ℕ, ◌+◌, ◌-◌, ◌*◌, ◌<◌, ◌≤◌, ◌^◌, min, Bool, true, false, cond, List, [], ◌∷◌, ◌++◌, length, take, get_or, map, All, ◌⊎◌, inl, inr, refl, sym, ap, ◌∙◌, arith}
+use Rattle.std.proofs.Common.{◌≡◌, ℕ, ◌+◌, ◌-◌, ◌*◌, ◌<◌, ◌^◌, min, Bool, true, false, cond, List, [], ◌∷◌, ◌++◌, length, get_or, map, All, ◌⊎◌, inl, inr, refl, ap, ◌∙◌, arith}
 use Rattle.std.specs.List.{flat_map, AllByRecursion}
-use Rattle.std.proofs.lemmas.List.{length-append, take-take, take_at}
+use Rattle.std.proofs.lemmas.List.{length-append}
 use Rattle.std.proofs.lemmas.List.Folds.{length-flat_map-take}
 use Rattle.std.proofs.lemmas.List.Elements.{All-from_recursion}
 use Rattle.types_10.specs.Kinds.{kind_byte}
@@ -48,12 +48,6 @@ contents_text k (v ∷ vs) = ap (λ (more : List ℕ). content_text k v ++ more)
 pub pairs_text : (ps : List (Value10 × Value10)) → (written_pairs (pairs_of (map pair_trees ps))).1 ≡ flat_map pair_text ps
 pairs_text [] = refl
 pairs_text (p ∷ ps) = ap (λ (more : List ℕ). pair_text p ++ more) (pairs_text ps)
-
--- what stood there is there after a failure
-pub still_there : (old mid new more : List ℕ) → mid ≡ old ++ more → take (length mid) new ≡ mid → take (length old) new ≡ old
-still_there old mid new more e h =
-    let shorter : length old ≤ length mid = omega (arith, ap length e, length-append old more) in
-    sym (take-take (length old) (length mid) new shorter) ∙ ap (take (length old)) (h ∙ e) ∙ take_at old more (length old) refl
 
 -- ---- lengths of parts
 

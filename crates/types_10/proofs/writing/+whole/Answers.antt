@@ -3,6 +3,7 @@ use Rattle.std.proofs.lemmas.Result.{err_from_is_err_and, on_ok_weaker, on_err_w
 use Rattle.std.proofs.lemmas.List.{append-nil}
 use Rattle.std.proofs.lemmas.Grind.{common_steps}
 use denote.Param.Weighed.{at_most}
+use Rattle.wire_base.proofs.Outputs.{still_there}
 use Rattle.types_10.specs.Tree.{trees_of, pairs_of}
 use Rattle.types_10.specs.View.{value_tree, pair_trees}
 use Rattle.types_10.specs.Writing.{written, written_each, written_pairs}
@@ -12,7 +13,7 @@ use Rattle.types_10.specs.declared.value.Value10.{Value10}
 use Rattle.types_10.specs.declared.value.Inner.TheDeep.{size-Value10}
 use Rattle.types_10.specs.declared.value.Inner.TheShapes.{weighed-PairList-pairs-at-2}
 use Rattle.types_10.proofs.Measures.{text_is}
-use Rattle.types_10.proofs.Slices.{whole_text, content_text, each_count, pairs_count, each_text, pairs_text, contents_text, part_fits, parts_fit, held_under, none_under, still_there, ValueIsWritable, PairIsWritable, values_are_writable, pairs_are_writable}
+use Rattle.types_10.proofs.Slices.{whole_text, content_text, each_count, pairs_count, each_text, pairs_text, contents_text, part_fits, parts_fit, held_under, none_under, ValueIsWritable, PairIsWritable, values_are_writable, pairs_are_writable}
 use Rattle.types_10.proofs.writing.+whole.Goals as goal
 
 -- ---- a value that stands alone
