@@ -1,16 +1,23 @@
 //! The transitions of a connection: for each phase and unit the state after it, and what the unit wants.
 
-ghost use Rattle.std.specs.Prelude.{◌≡◌, [], ◌∷◌, true, Ok, IfOk};
+ghost use Rattle.std.specs.Prelude.{◌≡◌, ◌≢◌, [], ◌∷◌, true, None, Ok, IfOk};
+ghost use Rattle.methods_091.specs.Reading.{method_in};
+ghost use Rattle.methods_091.specs.Rows.{class_of, id_of};
 ghost use Rattle.methods_091.specs.View.{kind_of, args_of, parts_of};
 ghost use Rattle.methods_091.specs.Arguments.{short, long};
-ghost use Rattle.machine_091.specs.Faults.{is_expected};
-ghost use Rattle.machine_091.specs.Transitions.{agreed, expected_brings, taken_up, taken_running, taken_header, connection_id, closing_id, taken_closing, taken_closed};
+ghost use Rattle.machine_091.specs.Channels.{channel_at};
+ghost use Rattle.machine_091.specs.Faults.{first, is_expected};
+ghost use Rattle.machine_091.specs.Judged.{IsAnswer};
+ghost use Rattle.machine_091.specs.Running.{place_code, read_rows, method_rows, running_code};
+ghost use Rattle.machine_091.specs.Transitions.{agreed, expected_brings, channel_brings, read_brings, method_brings, running_brings, taken_up, taken_running, taken_header, connection_id, closing_id, taken_closing, taken_closed};
 ghost use Rattle.machine_091.specs.declared.connection.Phase91.TheVariants as phase;
 ghost use Rattle.machine_091.specs.declared.unit.Want91.TheVariants as want;
 
-use crate::connection::{Conn91, Limits, Phase91};
-use crate::faults::{bare_refusal, judged, refusal};
-use crate::running::answer;
+use crate::connection::{Channel91, Conn91, Limits, Phase91};
+use crate::faults::{bare_refusal, heartbeat_fault, judged, reading_code, refusal};
+use crate::running::{
+    class_fault, content_fault, is_opening, is_passed_over, place_fault, state_fault,
+};
 use crate::unit::{Refusal, Unit91, Want91};
 use frames_091::{Frame91, Kind91};
 use methods_091::{Method91, ids, read_method};
@@ -98,6 +105,94 @@ pub(crate) fn taken_up(
         Err(code) => Ok(refused(conn, refusal(code, frame))),
         Ok(None) => Ok((conn, Want91::Nothing)),
         Ok(Some(method)) => Ok(expected_brings(conn, method)),
+    }
+}
+
+/// What a frame brings once the connection runs, or the reply code of its first fault.
+type Answer = Result<(Conn91, Want91), u16>;
+
+/// A method on channel 0: connection.close, or a fault.
+fn on_connection(alloc: Global, conn: Conn91, payload: &[u8]) -> Result<Answer, Memory>
+    ensures { IfOk result (IsAnswer (first (method_rows conn 0 payload.now (method_in payload.now))) (method_brings conn 0 payload.now)) }
+{
+    if let Some(code) = class_fault(payload) {
+        return Ok(Err(code));
+    }
+    let method = match read_method(alloc, payload)? {
+        Err(fault) => return Ok(Err(reading_code(fault.fault))),
+        Ok(method) => method,
+    };
+    let (_, id) = ids(&method);
+    if id != 50 {
+        return Ok(Err(503));
+    }
+    let phase = Phase91::Closed;
+    Ok(Ok((Conn91 { phase, ..conn }, Want91::Close)))
+}
+
+/// A method of a channel that isn't refused.
+fn channel_brings(conn: Conn91, channel: u16, method: Method91) -> (Conn91, Want91)
+    requires { place_code (channel_at conn channel) (class_of (kind_of method)) (id_of (kind_of method)) (args_of method) ≡ None }
+    ensures { result ≡ channel_brings conn channel (id_of (kind_of method)) (args_of method) }
+{
+    let mut next = conn;
+    match method {
+        Method91::ChannelOpen => next.set(channel, Channel91::Open),
+        Method91::ChannelClose { .. } => next.set(channel, Channel91::Closing),
+        Method91::ChannelFlow { .. } => {}
+        _ => return (conn, Want91::ChannelCloseOk(channel)),
+    }
+    (next, Want91::Method(channel, method))
+}
+
+/// A method of a channel that isn't passed over, as it is read.
+fn read_on(alloc: Global, conn: Conn91, channel: u16, payload: &[u8]) -> Result<Answer, Memory>
+    ensures { IfOk result (IsAnswer (first (read_rows (channel_at conn channel) (method_in payload.now))) (read_brings conn channel (method_in payload.now))) }
+{
+    let method = match read_method(alloc, payload)? {
+        Err(fault) => return Ok(Err(reading_code(fault.fault))),
+        Ok(method) => method,
+    };
+    match place_fault(conn.state(channel), &method) {
+        Some(code) => Ok(Err(code)),
+        None => Ok(Ok(channel_brings(conn, channel, method))),
+    }
+}
+
+/// A method on a channel.
+fn on_channel(alloc: Global, conn: Conn91, channel: u16, payload: &[u8]) -> Result<Answer, Memory>
+    requires { channel ≢ 0 }
+    ensures { IfOk result (IsAnswer (first (method_rows conn channel payload.now (method_in payload.now))) (method_brings conn channel payload.now)) }
+{
+    if let Some(code) = state_fault(conn, channel, is_opening(payload)) {
+        return Ok(Err(code));
+    }
+    if is_passed_over(conn.state(channel), payload) {
+        return Ok(Ok((conn, Want91::Nothing)));
+    }
+    read_on(alloc, conn, channel, payload)
+}
+
+/// What a frame brings once the connection runs, or the reply code of its first fault.
+fn answer(alloc: Global, conn: Conn91, frame: &Frame91) -> Result<Answer, Memory>
+    ensures { IfOk result (IsAnswer (running_code conn frame.now frame.now.kind)
+        (running_brings conn frame.now.channel frame.now.payload frame.now.kind)) }
+{
+    let fault = match frame.kind {
+        Kind91::Method => {
+            let payload = frame.payload.as_slice();
+            return if frame.channel == 0 {
+                on_connection(alloc, conn, payload)
+            } else {
+                on_channel(alloc, conn, frame.channel, payload)
+            };
+        }
+        Kind91::Heartbeat => heartbeat_fault(frame),
+        Kind91::Header | Kind91::Body => content_fault(conn, frame.channel),
+    };
+    match fault {
+        Some(code) => Ok(Err(code)),
+        None => Ok(Ok((conn, Want91::Nothing))),
     }
 }
 
