@@ -1,26 +1,29 @@
--- The reply codes of AMQP 0-9-1 (reference 1.1) and RabbitMQ's NO_ROUTE and others that the gateway uses, with their names.
+-- The names of the reply codes of AMQP 0-9-1 (reference 1.1), with RabbitMQ's NO_ROUTE, that the gateway uses.
 use Rattle.std.specs.Prelude.{ℕ, ◌==◌, if◌then◌else◌, List, [], ◌∷◌, codes}
+use Rattle.close_translate.specs.declared.codes.TheConstants.{CONTENT_TOO_LARGE, NO_ROUTE, CONNECTION_FORCED, INVALID_PATH, ACCESS_REFUSED, NOT_FOUND}
+use Rattle.close_translate.specs.declared.codes.TheConstants.{RESOURCE_LOCKED, PRECONDITION_FAILED, FRAME_ERROR, SYNTAX_ERROR, COMMAND_INVALID, CHANNEL_ERROR}
+use Rattle.close_translate.specs.declared.codes.TheConstants.{UNEXPECTED_FRAME, RESOURCE_ERROR, NOT_ALLOWED, NOT_IMPLEMENTED, INTERNAL_ERROR}
 
 -- a row of the table: the code and its name
 abbrev pub names : List (ℕ × List ℕ)
 names =
-    (311, codes "CONTENT_TOO_LARGE")
-    ∷ (312, codes "NO_ROUTE")
-    ∷ (320, codes "CONNECTION_FORCED")
-    ∷ (402, codes "INVALID_PATH")
-    ∷ (403, codes "ACCESS_REFUSED")
-    ∷ (404, codes "NOT_FOUND")
-    ∷ (405, codes "RESOURCE_LOCKED")
-    ∷ (406, codes "PRECONDITION_FAILED")
-    ∷ (501, codes "FRAME_ERROR")
-    ∷ (502, codes "SYNTAX_ERROR")
-    ∷ (503, codes "COMMAND_INVALID")
-    ∷ (504, codes "CHANNEL_ERROR")
-    ∷ (505, codes "UNEXPECTED_FRAME")
-    ∷ (506, codes "RESOURCE_ERROR")
-    ∷ (530, codes "NOT_ALLOWED")
-    ∷ (540, codes "NOT_IMPLEMENTED")
-    ∷ (541, codes "INTERNAL_ERROR")
+    (CONTENT_TOO_LARGE, codes "CONTENT_TOO_LARGE")
+    ∷ (NO_ROUTE, codes "NO_ROUTE")
+    ∷ (CONNECTION_FORCED, codes "CONNECTION_FORCED")
+    ∷ (INVALID_PATH, codes "INVALID_PATH")
+    ∷ (ACCESS_REFUSED, codes "ACCESS_REFUSED")
+    ∷ (NOT_FOUND, codes "NOT_FOUND")
+    ∷ (RESOURCE_LOCKED, codes "RESOURCE_LOCKED")
+    ∷ (PRECONDITION_FAILED, codes "PRECONDITION_FAILED")
+    ∷ (FRAME_ERROR, codes "FRAME_ERROR")
+    ∷ (SYNTAX_ERROR, codes "SYNTAX_ERROR")
+    ∷ (COMMAND_INVALID, codes "COMMAND_INVALID")
+    ∷ (CHANNEL_ERROR, codes "CHANNEL_ERROR")
+    ∷ (UNEXPECTED_FRAME, codes "UNEXPECTED_FRAME")
+    ∷ (RESOURCE_ERROR, codes "RESOURCE_ERROR")
+    ∷ (NOT_ALLOWED, codes "NOT_ALLOWED")
+    ∷ (NOT_IMPLEMENTED, codes "NOT_IMPLEMENTED")
+    ∷ (INTERNAL_ERROR, codes "INTERNAL_ERROR")
     ∷ []
 
 -- the name that a table gives to a code; one that isn't there is an internal error

@@ -1,6 +1,9 @@
 -- The error conditions of AMQP 1.0 (2.8.15 to 2.8.18) and the reply codes of AMQP 0-9-1 for them, of a channel and of a connection.
 use Rattle.std.specs.Prelude.{ℕ, if◌then◌else◌, List, [], ◌∷◌, Option, None, Some, codes}
 use Rattle.std.specs.Str.{bytes_eq}
+use Rattle.close_translate.specs.declared.codes.TheConstants.{ACCESS_REFUSED, CONNECTION_FORCED, FRAME_ERROR, INTERNAL_ERROR, NOT_ALLOWED}
+use Rattle.close_translate.specs.declared.codes.TheConstants.{NOT_FOUND, NOT_IMPLEMENTED, PRECONDITION_FAILED, RESOURCE_ERROR, RESOURCE_LOCKED}
+use Rattle.close_translate.specs.declared.codes.TheConstants.{SYNTAX_ERROR}
 use Rattle.close_translate.specs.declared.conditions.Replies.{Replies}
 use Rattle.close_translate.specs.declared.conditions.Scope.{Scope}
 use Rattle.close_translate.specs.declared.conditions.Scope.TheVariants.{Channel, Connection}
@@ -8,24 +11,24 @@ use Rattle.close_translate.specs.declared.conditions.Scope.TheVariants.{Channel,
 -- a row of the table: the condition, the code of a channel, the code of a connection
 abbrev pub rows : List (List ℕ × ℕ × ℕ)
 rows =
-    (codes "amqp:unauthorized-access", 403, 530)
-    ∷ (codes "amqp:not-allowed", 403, 530)
-    ∷ (codes "amqp:not-found", 404, 541)
-    ∷ (codes "amqp:resource-deleted", 404, 541)
-    ∷ (codes "amqp:resource-locked", 405, 541)
-    ∷ (codes "amqp:connection:forced", 406, 320)
-    ∷ (codes "amqp:connection:redirect", 406, 320)
-    ∷ (codes "amqp:connection:framing-error", 406, 501)
-    ∷ (codes "amqp:frame-size-too-small", 406, 501)
-    ∷ (codes "amqp:decode-error", 406, 502)
-    ∷ (codes "amqp:invalid-field", 406, 502)
-    ∷ (codes "amqp:resource-limit-exceeded", 406, 506)
-    ∷ (codes "amqp:not-implemented", 406, 540)
+    (codes "amqp:unauthorized-access", ACCESS_REFUSED, NOT_ALLOWED)
+    ∷ (codes "amqp:not-allowed", ACCESS_REFUSED, NOT_ALLOWED)
+    ∷ (codes "amqp:not-found", NOT_FOUND, INTERNAL_ERROR)
+    ∷ (codes "amqp:resource-deleted", NOT_FOUND, INTERNAL_ERROR)
+    ∷ (codes "amqp:resource-locked", RESOURCE_LOCKED, INTERNAL_ERROR)
+    ∷ (codes "amqp:connection:forced", PRECONDITION_FAILED, CONNECTION_FORCED)
+    ∷ (codes "amqp:connection:redirect", PRECONDITION_FAILED, CONNECTION_FORCED)
+    ∷ (codes "amqp:connection:framing-error", PRECONDITION_FAILED, FRAME_ERROR)
+    ∷ (codes "amqp:frame-size-too-small", PRECONDITION_FAILED, FRAME_ERROR)
+    ∷ (codes "amqp:decode-error", PRECONDITION_FAILED, SYNTAX_ERROR)
+    ∷ (codes "amqp:invalid-field", PRECONDITION_FAILED, SYNTAX_ERROR)
+    ∷ (codes "amqp:resource-limit-exceeded", PRECONDITION_FAILED, RESOURCE_ERROR)
+    ∷ (codes "amqp:not-implemented", PRECONDITION_FAILED, NOT_IMPLEMENTED)
     ∷ []
 
 -- the codes that a table gives to a condition; those of one that isn't there
 abbrev pub codes_in : List (List ℕ × ℕ × ℕ) → List ℕ → Replies
-codes_in [] condition = record { channel = 406; connection = 541 }
+codes_in [] condition = record { channel = PRECONDITION_FAILED; connection = INTERNAL_ERROR }
 codes_in (row ∷ more) condition =
     if bytes_eq condition row.0 then record { channel = row.1; connection = row.2 } else codes_in more condition
 
@@ -34,7 +37,7 @@ codes_of condition = codes_in rows condition
 
 -- without a condition a channel's precondition failed, and a connection was forced to close
 abbrev pub codes_by : Option (List ℕ) → Replies
-codes_by None = record { channel = 406; connection = 320 }
+codes_by None = record { channel = PRECONDITION_FAILED; connection = CONNECTION_FORCED }
 codes_by (Some condition) = codes_of condition
 
 abbrev pub code_in : Replies → Scope → ℕ

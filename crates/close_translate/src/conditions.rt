@@ -5,6 +5,11 @@ ghost use Rattle.std.specs.Option.{option_map};
 ghost use Rattle.std.specs.Str.{bytes_eq};
 ghost use Rattle.close_translate.specs.Conditions.{code_by, codes_of};
 
+use crate::codes::{
+    ACCESS_REFUSED, CONNECTION_FORCED, FRAME_ERROR, INTERNAL_ERROR, NOT_ALLOWED, NOT_FOUND,
+    NOT_IMPLEMENTED, PRECONDITION_FAILED, RESOURCE_ERROR, RESOURCE_LOCKED, SYNTAX_ERROR,
+};
+
 /// What closes.
 #[derive(Clone, Copy, Debug, PartialEq, Eq)]
 pub enum Scope {
@@ -39,33 +44,33 @@ fn codes_of(condition: &[u8]) -> Replies
     ensures { result ≡ codes_of condition.now }
 {
     if is_named(condition, b"amqp:unauthorized-access") {
-        pair_of(403, 530)
+        pair_of(ACCESS_REFUSED, NOT_ALLOWED)
     } else if is_named(condition, b"amqp:not-allowed") {
-        pair_of(403, 530)
+        pair_of(ACCESS_REFUSED, NOT_ALLOWED)
     } else if is_named(condition, b"amqp:not-found") {
-        pair_of(404, 541)
+        pair_of(NOT_FOUND, INTERNAL_ERROR)
     } else if is_named(condition, b"amqp:resource-deleted") {
-        pair_of(404, 541)
+        pair_of(NOT_FOUND, INTERNAL_ERROR)
     } else if is_named(condition, b"amqp:resource-locked") {
-        pair_of(405, 541)
+        pair_of(RESOURCE_LOCKED, INTERNAL_ERROR)
     } else if is_named(condition, b"amqp:connection:forced") {
-        pair_of(406, 320)
+        pair_of(PRECONDITION_FAILED, CONNECTION_FORCED)
     } else if is_named(condition, b"amqp:connection:redirect") {
-        pair_of(406, 320)
+        pair_of(PRECONDITION_FAILED, CONNECTION_FORCED)
     } else if is_named(condition, b"amqp:connection:framing-error") {
-        pair_of(406, 501)
+        pair_of(PRECONDITION_FAILED, FRAME_ERROR)
     } else if is_named(condition, b"amqp:frame-size-too-small") {
-        pair_of(406, 501)
+        pair_of(PRECONDITION_FAILED, FRAME_ERROR)
     } else if is_named(condition, b"amqp:decode-error") {
-        pair_of(406, 502)
+        pair_of(PRECONDITION_FAILED, SYNTAX_ERROR)
     } else if is_named(condition, b"amqp:invalid-field") {
-        pair_of(406, 502)
+        pair_of(PRECONDITION_FAILED, SYNTAX_ERROR)
     } else if is_named(condition, b"amqp:resource-limit-exceeded") {
-        pair_of(406, 506)
+        pair_of(PRECONDITION_FAILED, RESOURCE_ERROR)
     } else if is_named(condition, b"amqp:not-implemented") {
-        pair_of(406, 540)
+        pair_of(PRECONDITION_FAILED, NOT_IMPLEMENTED)
     } else {
-        pair_of(406, 541)
+        pair_of(PRECONDITION_FAILED, INTERNAL_ERROR)
     }
 }
 
@@ -75,7 +80,7 @@ pub fn code_of(condition: Option<&[u8]>, scope: Scope) -> u16
     ensures { result ≡ code_by (option_map (λ name. name.now) condition.entry) scope }
 {
     let codes = match condition {
-        None => pair_of(406, 320),
+        None => pair_of(PRECONDITION_FAILED, CONNECTION_FORCED),
         Some(name) => codes_of(name),
     };
     match scope {

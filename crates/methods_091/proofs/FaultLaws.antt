@@ -1,5 +1,5 @@
 -- The answers of a reading of methods, in the words of the grammar.
-use Rattle.std.proofs.Common.{◌≡◌, ℕ, ◌-◌, ◌/◌, ◌%◌, ltb, false, List, [], ◌∷◌, length, take, drop, get_or, Option, Some, None, Result, Ok, Err, IfOk, IfErr, refl, sym, ap, subst, ◌∙◌, inl, inr, arith}
+use Rattle.std.proofs.Common.{◌≡◌, ◌↔◌, ℕ, ◌-◌, ◌/◌, ◌%◌, ltb, false, List, [], ◌∷◌, length, take, drop, get_or, Option, Some, None, Result, Ok, Err, IfOk, IfErr, refl, sym, ap, subst, ◌∙◌, inl, inr, arith}
 use Rattle.std.proofs.lemmas.Bool.{le-ltb}
 use Rattle.std.specs.Int.{w16, from_be_bytes}
 use Rattle.wire_base.specs.Bytes.{IsBytes}
@@ -10,12 +10,14 @@ use Rattle.methods_091.specs.Arguments.{Arg}
 use Rattle.methods_091.specs.Grammar.{IsMethod, ids_text}
 use Rattle.methods_091.specs.Reading.{args_in, whole, known_in, payload_in, told, method_in, seen}
 use Rattle.methods_091.specs.Faults.{IsUnknown, IsFault}
+use Rattle.methods_091.specs.Writing.{CanPut}
 use Rattle.methods_091.specs.View.{parts_of}
 use Rattle.methods_091.specs.declared.kind.MethodKind.{MethodKind}
 use Rattle.methods_091.specs.declared.method.Method91.{Method91}
 use Rattle.methods_091.specs.declared.reading.MethodFault.{MethodFault}
 use Rattle.methods_091.specs.declared.reading.MethodFault.TheVariants.{UnknownMethod, Syntax}
 use Rattle.methods_091.proofs.KindLaws.{kind_is, kind_known}
+use Rattle.methods_091.proofs.Writable.{method_writable}
 use Rattle.methods_091.proofs.MethodLaws.{read_is_spelled, method_is_read, read_is}
 
 -- ---- what was told of a reading
@@ -39,9 +41,10 @@ kind_at a b c d = kind_with (from_be_bytes w16 (a ∷ b ∷ [])) (from_be_bytes 
 
 ids_are_read : (a b c d : ℕ) (rest : List ℕ) → payload_in (a ∷ b ∷ c ∷ d ∷ rest) ≡ known_in (kind_at a b c d) (length (a ∷ b ∷ c ∷ d ∷ rest)) rest
 ids_are_read a b c d rest =
+    let both : ltb (length (a ∷ b ∷ c ∷ d ∷ rest)) 4 ≡ false = le-ltb _ _ (omega arith) in
     let first : ltb (length (a ∷ b ∷ c ∷ d ∷ rest)) 2 ≡ false = le-ltb _ _ (omega arith) in
     let second : ltb (length (c ∷ d ∷ rest)) 2 ≡ false = le-ltb _ _ (omega arith) in
-    rw (first, second) refl
+    rw (both, first, second) refl
 
 kind_has_ids : (a b c d : ℕ) (rest : List ℕ) (k : MethodKind) → IsBytes (a ∷ b ∷ c ∷ d ∷ rest) → kind_at a b c d ≡ Some k → a ∷ b ∷ c ∷ d ∷ [] ≡ ids_text k
 kind_has_ids a b c d rest k fits e =
@@ -87,9 +90,9 @@ known_fault a b c d rest e (Some k) fits is h =
 
 fault_is : (bytes : List ℕ) (e : At MethodFault) → IsBytes bytes → method_in bytes ≡ Err e → IsFault bytes e
 fault_is [] e fits h = subst (IsFault []) (failed_is (record { fault = Syntax; at = 0 }) e h) (inl (omega arith, refl))
-fault_is (a ∷ []) e fits h = subst (IsFault (a ∷ [])) (failed_is (record { fault = Syntax; at = 0 }) e h) (inl (omega arith, refl))
+fault_is (a ∷ []) e fits h = subst (IsFault (a ∷ [])) (failed_is (record { fault = Syntax; at = 1 }) e h) (inl (omega arith, refl))
 fault_is (a ∷ b ∷ []) e fits h = subst (IsFault (a ∷ b ∷ [])) (failed_is (record { fault = Syntax; at = 2 }) e h) (inl (omega arith, refl))
-fault_is (a ∷ b ∷ c ∷ []) e fits h = subst (IsFault (a ∷ b ∷ c ∷ [])) (failed_is (record { fault = Syntax; at = 2 }) e h) (inl (omega arith, refl))
+fault_is (a ∷ b ∷ c ∷ []) e fits h = subst (IsFault (a ∷ b ∷ c ∷ [])) (failed_is (record { fault = Syntax; at = 3 }) e h) (inl (omega arith, refl))
 fault_is (a ∷ b ∷ c ∷ d ∷ rest) e fits h =
     known_fault a b c d rest e (kind_at a b c d) fits refl (ap told (sym (ids_are_read a b c d rest)) ∙ h)
 
@@ -115,6 +118,15 @@ found_by bytes (Err e) fits h = tt
 pub only_by : (bytes : List ℕ) (read : Result Method91 (At MethodFault)) → seen read ≡ method_in bytes → (m : Method91) → IsMethod m bytes → read ≡ Ok m
 only_by bytes (Ok n) h m is = ap (λ (x : Method91). Ok x) (read_is n m bytes (told_ok (payload_in bytes) (parts_of n) (sym h)) is)
 only_by bytes (Err e) h m is = absurd (cc (h, ap told (method_is_read m bytes is)))
+
+pub writable_by : (bytes : List ℕ) (read : Result Method91 (At MethodFault)) → IsBytes bytes → seen read ≡ method_in bytes → IfOk read CanPut
+writable_by bytes (Ok m) fits h = method_writable m bytes (found_by bytes (Ok m) fits h)
+writable_by bytes (Err e) fits h = tt
+
+-- a method is read exactly where bytes spell it
+pub read_exactly : (m : Method91) (bytes : List ℕ) → IsBytes bytes → (method_in bytes ≡ Ok (parts_of m)) ↔ IsMethod m bytes
+read_exactly m bytes fits =
+    ((λ e. read_is_spelled bytes (parts_of m) fits (told_ok (payload_in bytes) (parts_of m) e)), λ h. ap told (method_is_read m bytes h))
 
 pub fault_by : (bytes : List ℕ) (read : Result Method91 (At MethodFault)) → IsBytes bytes → seen read ≡ method_in bytes → IfErr read (IsFault bytes)
 fault_by bytes (Ok m) fits h = tt

@@ -5,4 +5,5 @@ pub mod KindLaws
 pub mod MethodLaws
 pub mod Placing
 pub mod Rebuilding
+pub mod Writable
 pub mod Written

@@ -1,15 +1,16 @@
 -- Reading methods against their spellings.
-use Rattle.std.proofs.Common.{◌≡◌, ℕ, List, [], ◌∷◌, ◌++◌, length, Option, Some, None, Ok, refl, sym, ap, subst, ◌∙◌, append_assoc}
-use Rattle.std.proofs.lemmas.List.{append-nil}
+use Rattle.std.proofs.Common.{◌≡◌, ℕ, Bool, true, false, cond, ltb, List, [], ◌∷◌, ◌++◌, length, Option, Some, None, Result, Ok, Err, refl, sym, ap, subst, ◌∙◌, arith}
+use Rattle.std.proofs.lemmas.Bool.{le-ltb}
+use Rattle.std.proofs.lemmas.List.{append-nil, length-append}
 use Rattle.std.specs.Int.{w16, to_be_bytes}
 use Rattle.wire_base.specs.Bytes.{IsBytes}
-use Rattle.wire_base.specs.Spelling.{IsNumber}
-use Rattle.wire_base.specs.Reading.{◌>>=◌, offset, number_in}
-use Rattle.wire_base.proofs.Laws.{IsReader, wide16, bind_is, ok_is, number_reader}
+use Rattle.wire_base.specs.Spelling.{IsNumber, IsPair}
+use Rattle.wire_base.specs.Reading.{◌>>=◌, offset, pair_in, number_in}
+use Rattle.wire_base.proofs.Laws.{IsReader, wide16, bind_is, ok_is, number_reader, pair_reader}
 use Rattle.methods_091.specs.Rows.{class_of, id_of, shape, kind_with}
 use Rattle.methods_091.specs.Arguments.{Arg}
 use Rattle.methods_091.specs.Grammar.{IsArgs, IsPayload, IsMethod}
-use Rattle.methods_091.specs.Reading.{row_in, whole, known_in, payload_in}
+use Rattle.methods_091.specs.Reading.{row_in, whole, known_in, ids_in, payload_in}
 use Rattle.methods_091.specs.View.{parts_of}
 use Rattle.methods_091.specs.declared.kind.MethodKind.{MethodKind}
 use Rattle.methods_091.specs.declared.method.Method91.{Method91}
@@ -19,6 +20,9 @@ use Rattle.methods_091.proofs.ArgumentLaws.{row_reader}
 
 shorts : IsReader (IsNumber w16) (number_in offset w16)
 shorts = number_reader offset w16 wide16
+
+id_pairs : IsReader (IsPair (IsNumber w16) (IsNumber w16)) (pair_in (number_in offset w16) (number_in offset w16))
+id_pairs = pair_reader (IsNumber w16) (IsNumber w16) (number_in offset w16) (number_in offset w16) shorts shorts
 
 -- ---- what is read is spelled so
 
@@ -42,19 +46,22 @@ known_is (Some k) end text p fits e =
     let made : (k, f.spelled.0) ≡ p = sym f.spelled.1 ∙ same in
     subst (λ (q : MethodKind × List Arg). (Some k ≡ Some q.0) × IsArgs (shape q.0) q.1 text) made (refl, subst (λ (t : List ℕ). IsArgs (shape k) f.spelled.0 t) (sym front) f.spelled.2)
 
+-- a test that did not fail
+unguarded : {A F : Type 0} (b : Bool) (d : F) (r : Result A F) (y : A) → cond b (Err d) r ≡ Ok y → r ≡ Ok y
+unguarded true d r y e = absurd cc
+unguarded false d r y e = e
+
 pub read_is_spelled : (bytes : List ℕ) (p : MethodKind × List Arg) → IsBytes bytes → payload_in bytes ≡ Ok (Some p) → IsPayload p bytes
 read_is_spelled bytes p fits e =
     let end = length bytes in
-    let a = bind_is (number_in offset w16 end bytes) (λ a. number_in offset w16 end a.1 >>= λ b. known_in (kind_with a.0 b.0) end b.1) (Some p) e in
-    let b = bind_is (number_in offset w16 end a.0.1) (λ b. known_in (kind_with a.0.0 b.0) end b.1) (Some p) a.2 in
-    let f = shorts.finds end bytes a.0 fits a.1 in
-    let g = shorts.finds end a.0.1 b.0 f.rest_fits b.1 in
-    let k = known_is (kind_with a.0.0 b.0.0) end b.0.1 p g.rest_fits b.2 in
-    let ids = kind_is a.0.0 b.0.0 p.0 k.0 in
-    let class : f.front ≡ to_be_bytes w16 (class_of p.0) = f.spelled.1 ∙ ap (to_be_bytes w16) (sym ids.0) in
-    let id : g.front ≡ to_be_bytes w16 (id_of p.0) = g.spelled.1 ∙ ap (to_be_bytes w16) (sym ids.1) in
-    let parts : bytes ≡ f.front ++ (g.front ++ b.0.1) = f.parts ∙ ap (λ (t : List ℕ). f.front ++ t) g.parts in
-    (b.0.1, k.1, parts ∙ rw (class, id) (sym (append_assoc (to_be_bytes w16 (class_of p.0)) (to_be_bytes w16 (id_of p.0)) b.0.1)))
+    let a = bind_is (ids_in bytes) (λ ids. known_in (kind_with ids.0.0 ids.0.1) end ids.1) (Some p) e in
+    let both = unguarded (ltb end 4) end (pair_in (number_in offset w16) (number_in offset w16) end bytes) a.0 a.1 in
+    let f = id_pairs.finds end bytes a.0 fits both in
+    let k = known_is (kind_with a.0.0.0 a.0.0.1) end a.0.1 p f.rest_fits a.2 in
+    let ids = kind_is a.0.0.0 a.0.0.1 p.0 k.0 in
+    let class : f.spelled.0 ≡ to_be_bytes w16 (class_of p.0) = f.spelled.2.1 ∙ ap (to_be_bytes w16) (sym ids.0) in
+    let id : f.spelled.1 ≡ to_be_bytes w16 (id_of p.0) = f.spelled.3.1 ∙ ap (to_be_bytes w16) (sym ids.1) in
+    (a.0.1, k.1, f.parts ∙ ap (λ (t : List ℕ). t ++ a.0.1) f.spelled.4 ∙ rw (class, id) refl)
 
 -- ---- what is spelled so is read
 
@@ -65,11 +72,11 @@ spelled_is_read bytes p h =
     let known = kind_known k in
     let class = to_be_bytes w16 (class_of k) in
     let id = to_be_bytes w16 (id_of k) in
-    let regrouped : bytes ≡ class ++ (id ++ h.0) = h.2 ∙ append_assoc class id h.0 in
     let row : row_in k end h.0 ≡ Ok (p, []) = ap (row_in k end) (sym (append-nil h.0)) ∙ (row_reader k).again end p h.0 [] (p.1, refl, h.1) in
-    let first : number_in offset w16 end bytes ≡ Ok (class_of k, id ++ h.0) = ap (number_in offset w16 end) regrouped ∙ shorts.again end (class_of k) class (id ++ h.0) (known.0, refl) in
-    let second : number_in offset w16 end (id ++ h.0) ≡ Ok (id_of k, h.0) = shorts.again end (id_of k) id h.0 (known.1, refl) in
-    rw (first, second, known.2, row) refl
+    let long : ltb end 4 ≡ false = le-ltb _ _ (omega (arith, ap length h.2, length-append (class ++ id) h.0)) in
+    let both : pair_in (number_in offset w16) (number_in offset w16) end bytes ≡ Ok ((class_of k, id_of k), h.0) =
+    ap (pair_in (number_in offset w16) (number_in offset w16) end) h.2 ∙ id_pairs.again end (class_of k, id_of k) (class ++ id) h.0 (class, id, (known.0, refl), (known.1, refl), refl) in
+    rw (long, both, known.2, row) refl
 
 -- ---- methods
 

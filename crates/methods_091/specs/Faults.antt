@@ -1,5 +1,5 @@
 -- The faults of bytes that are no method, and where each stands (AMQP 0-9-1 2.3.5.2 and 4.2.5).
-use Rattle.std.specs.Prelude.{◌≡◌, ◌≢◌, ◌⊎◌, ℕ, ◌-◌, ◌<◌, ◌≤◌, nat_lt, if◌then◌else◌, List, [], length, take, drop, Ok, Err}
+use Rattle.std.specs.Prelude.{◌≡◌, ◌≢◌, ◌⊎◌, ℕ, ◌-◌, ◌<◌, ◌≤◌, List, [], length, take, drop, Ok, Err}
 use Rattle.wire_base.specs.declared.scan.At.{At}
 use Rattle.methods_091.specs.Rows.{shape}
 use Rattle.methods_091.specs.Arguments.{Arg}
@@ -13,9 +13,9 @@ use Rattle.methods_091.specs.declared.reading.MethodFault.TheVariants.{UnknownMe
 abbrev pub IsUnknown : List ℕ → Type 0
 IsUnknown bytes = (4 ≤ length bytes) × ((k : MethodKind) → take 4 bytes ≢ ids_text k)
 
--- the bytes end inside the ids; the place is that of the id that is cut off
+-- the bytes end inside the ids; the place is their end
 abbrev pub IsCut : ℕ → List ℕ → Type 0
-IsCut at bytes = (length bytes < 4) × (at ≡ (if nat_lt (length bytes) 2 then 0 else 2))
+IsCut at bytes = (length bytes < 4) × (at ≡ length bytes)
 
 -- some argument of the method can't be read, at this place
 abbrev pub IsBroken : MethodKind → ℕ → List ℕ → Type 0

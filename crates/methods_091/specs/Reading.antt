@@ -1,5 +1,5 @@
 -- Reading a method from left to right, with the first fault that is met (AMQP 0-9-1 2.3.5.2 and 4.2.5).
-use Rattle.std.specs.Prelude.{ℕ, ◌-◌, List, [], ◌∷◌, length, Option, Some, None, Ok, Err, Result}
+use Rattle.std.specs.Prelude.{ℕ, ◌-◌, List, [], ◌∷◌, length, Option, Some, None, Ok, Err, Result, nat_lt, if◌then◌else◌}
 use Rattle.std.specs.Int.{w8, w16, w32, w64}
 use Rattle.wire_base.specs.Reading.{Reads, ◌>>=◌, offset, made, pair_in, number_in, text_in}
 use Rattle.wire_base.specs.declared.scan.At.{At}
@@ -49,12 +49,17 @@ known_in (Some k) end bytes = do
   parts ← whole end x
   Ok (Some parts)
 
+-- the class id and the method id; where they aren't both there, the fault at the end of the bytes
+abbrev pub ids_in : List ℕ → Reads (ℕ × ℕ) ℕ
+ids_in bytes =
+    if nat_lt (length bytes) 4 then Err (length bytes)
+    else pair_in (number_in offset w16) (number_in offset w16) (length bytes) bytes
+
 -- the kind and the arguments of the method; None where the ids are those of no method
 abbrev pub payload_in : List ℕ → Result (Option (MethodKind × List Arg)) ℕ
 payload_in bytes = do
-  class_id ← number_in offset w16 (length bytes) bytes
-  method_id ← number_in offset w16 (length bytes) class_id.1
-  known_in (kind_with class_id.0 method_id.0) (length bytes) method_id.1
+  ids ← ids_in bytes
+  known_in (kind_with ids.0.0 ids.0.1) (length bytes) ids.1
 
 -- the fault that is told: an unknown method at 0, and anything else at its place
 abbrev pub told : {A : Type 0} → Result (Option A) ℕ → Result A (At MethodFault)

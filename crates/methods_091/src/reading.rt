@@ -6,6 +6,7 @@ ghost use Rattle.methods_091.specs.declared.method.Method91.{Method91};
 ghost use Rattle.methods_091.specs.View.{parts_of};
 ghost use Rattle.methods_091.specs.Grammar.{IsMethod};
 ghost use Rattle.methods_091.specs.Faults.{IsFault, IsUnknown};
+ghost use Rattle.methods_091.specs.Writing.{CanPut};
 ghost use Rattle.methods_091.specs.Reading.{row_in, payload_in, method_in, seen};
 
 use crate::kind::{MethodKind, TxKind, kind_at};
@@ -57,11 +58,17 @@ fn arguments_in(
     }
 }
 
+/// How many bytes the class id and the method id have.
+const IDS_LEN: usize = 4;
+
 /// The method that fills these bytes; `None` where the ids are those of no method.
 fn payload_of(alloc: Global, payload: &[u8]) -> Result<Option<Method91>, Stop<usize>>
     ensures { Gives (option_map parts_of) result (payload_in payload.now) }
 {
     let end = payload.len();
+    if end < IDS_LEN {
+        return Err(Stop::Fault(end));
+    }
     let (class, rest) = u16_in(end, payload)?;
     let (id, rest) = u16_in(end, rest)?;
     let Some(kind) = kind_at(class, id) else {
@@ -100,9 +107,9 @@ fn method_of(alloc: Global, payload: &[u8]) -> Result<Result<Method91, At<Method
 ///
 /// `UnknownMethod` at 0 exactly where the first four bytes are there and are the ids of no method.
 ///
-/// `Syntax` where fewer than four bytes are there, at the id that is cut off: 0, or 2 where the class id is whole; where an
-/// argument can't be read, at its first byte that is missing or wrong, as the readers of `wire_base` and `read_table` tell
-/// it; and where bytes are left behind the last argument, at the first of them.
+/// `Syntax` where fewer than four bytes are there, at their end; where an argument can't be read, at its first byte that is
+/// missing or wrong, as the readers of `wire_base` and `read_table` tell it; and where bytes are left behind the last
+/// argument, at the first of them.
 ///
 /// `Memory` where the allocator has no room.
 #[tactic(auto, using(crate::proofs::FaultLaws::fault_by, crate::proofs::FaultLaws::unknown_by))]
@@ -114,6 +121,8 @@ pub fn read_method(
     ensures found { IfOk result (λ read. IfOk read (λ m. IsMethod m payload.now)) }
     // What is spelled so is read.
     ensures only { (m : Method91) → IsMethod m payload.now → IfOk result (λ read. read ≡ Ok m) }
+    // What is read can be written.
+    ensures writable { IfOk result (λ read. IfOk read CanPut) }
     // Which kind and arguments are read, or which fault is told, and where; an unknown method is told exactly where it is one.
     ensures exact { IfOk result (λ read. seen read ≡ method_in payload.now) }
     ensures fault { IfOk result (λ read. IfErr read (IsFault payload.now)) }

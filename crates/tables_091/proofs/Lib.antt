@@ -1,4 +1,5 @@
 pub mod Depth
+pub mod FaultLaws
 pub mod Lists
 pub mod Ranges
 pub mod ReaderLaws

@@ -1,13 +1,13 @@
 -- The readers of fields against their spellings, by the laws of their parts.
-use Rattle.std.proofs.Common.{◌≡◌, ℕ, zero, suc, ◌+◌, ◌-◌, ◌<◌, ◌≤◌, take, drop, Bool, true, false, cond, eqb, List, [], ◌∷◌, ◌++◌, length, Option, Some, None, Ok, Err, refl, sym, ap, subst, ◌∙◌, arith}
+use Rattle.std.proofs.Common.{◌≡◌, ◌↔◌, ℕ, zero, suc, ◌+◌, ◌-◌, ◌<◌, ◌≤◌, take, drop, Bool, true, false, cond, eqb, List, [], ◌∷◌, ◌++◌, length, Option, Some, None, Ok, Err, refl, sym, ap, subst, ◌∙◌, arith}
 use Rattle.std.proofs.lemmas.Bool.{eqb-true}
 use Rattle.std.proofs.lemmas.List.{length-append, length-drop, take_at}
 use Rattle.std.specs.Int.{w8, w32, to_be_bytes}
 use Rattle.wire_base.specs.Bytes.{IsBytes}
-use Rattle.wire_base.specs.Spelling.{IsNumber, IsText, IsPair, IsContainer}
+use Rattle.wire_base.specs.Spelling.{IsNumber, IsText, IsPair, IsContainer, StandsAt}
 use Rattle.wire_base.specs.Reading.{Reads, offset, pair_in, number_in, text_in, whole_in, container_in}
 use Rattle.wire_base.proofs.Bytes.{IsBytes-drop}
-use Rattle.wire_base.proofs.Laws.{IsReader, Finds, IsWide, wide8, wide16, wide32, wide64, bind_is, ok_is, made_reader, pair_reader, whole_reader, number_reader, text_reader}
+use Rattle.wire_base.proofs.Laws.{IsReader, Finds, IsWide, wide8, wide16, wide32, wide64, bind_is, ok_is, made_reader, pair_reader, whole_reader, number_reader, text_reader, reads_exactly}
 use Rattle.wire_base.proofs.Items.{Shrinks, reader_shrinks, container_reader}
 use Rattle.tables_091.specs.Tree.{Scalar, decimal, void, Tree, scalar, array, table, trees_of, members_of}
 use Rattle.tables_091.specs.Kinds.{kind_byte, kind_of, octet_scalar, wide_width, wide_scalar, text_scalar}
@@ -69,10 +69,10 @@ flat_reader kind.Table at = no_reader at
 IsFilled : (Tree → List ℕ → Type 0) → Type 0
 IsFilled R = (t : Tree) (text : List ℕ) → R t text → 0 < length text
 
-member_reader : (R : Tree → List ℕ → Type 0) (read : ℕ → List ℕ → Reads Tree ℕ) → IsReader R read → IsReader (IsMember R) (member_in read)
+pub member_reader : (R : Tree → List ℕ → Type 0) (read : ℕ → List ℕ → Reads Tree ℕ) → IsReader R read → IsReader (IsMember R) (member_in read)
 member_reader R read r = pair_reader (IsText w8) R (text_in offset w8) read (text_reader offset w8 wide8) r
 
-member_filled : (R : Tree → List ℕ → Type 0) (m : List ℕ × Tree) (text : List ℕ) → IsMember R m text → 0 < length text
+pub member_filled : (R : Tree → List ℕ → Type 0) (m : List ℕ × Tree) (text : List ℕ) → IsMember R m text → 0 < length text
 member_filled R m text h =
     omega (arith, ap length h.4, length-append h.0 h.1, ap length h.2.1, length-append (to_be_bytes w8 (length m.0)) m.0)
 
@@ -86,7 +86,7 @@ deep_reader R read r filled kind.Table at =
 -- ---- fields by their type byte
 
 -- the byte of a kind is a byte, and announces it
-kind_known : (k : Kind) → (kind_byte k < 256) × (kind_of (kind_byte k) ≡ Some k)
+pub kind_known : (k : Kind) → (kind_byte k < 256) × (kind_of (kind_byte k) ≡ Some k)
 kind_known (kind.Single (single.Octet octet.Bool)) = (omega arith, refl)
 kind_known (kind.Single (single.Octet octet.I8)) = (omega arith, refl)
 kind_known (kind.Single (single.Octet octet.U8)) = (omega arith, refl)
@@ -114,7 +114,7 @@ next_kind b n x rest k here e later = at (eqb b n) refl e
     at false p e = later e
 
 -- a byte that announces a kind is its byte
-kind_is : (b : ℕ) (k : Kind) → kind_of b ≡ Some k → kind_byte k ≡ b
+pub kind_is : (b : ℕ) (k : Kind) → kind_of b ≡ Some k → kind_byte k ≡ b
 kind_is b k e =
     next_kind b 116 _ _ k refl e (λ e.
     next_kind b 98 _ _ k refl e (λ e.
@@ -171,7 +171,7 @@ typed_reader R value r = record { finds = finds; again = again }
 typed_filled : (R : Kind → Tree → List ℕ → Type 0) (t : Tree) (text : List ℕ) → IsTyped R t text → 0 < length text
 typed_filled R t text h = omega (arith, ap length h.3)
 
-field_filled : (d : ℕ) (t : Tree) (text : List ℕ) → IsField d t text → 0 < length text
+pub field_filled : (d : ℕ) (t : Tree) (text : List ℕ) → IsField d t text → 0 < length text
 unfolding IsField
 field_filled zero t text h = typed_filled IsFlat t text h
 field_filled (suc d) t text h = typed_filled (IsDeep (IsField d)) t text h
@@ -217,6 +217,10 @@ spelled_is_read bytes at ms text rest h parts =
     let place : end - length rest ≡ at + length text = omega (arith, ap length parts, length-append text rest, length-drop at bytes) in
     let read : table_in end (drop at bytes) ≡ Ok (ms, rest) = ap (table_in end) parts ∙ table_reader.again end ms text rest h in
     rw (read, place) refl
+
+-- a table is read exactly where one stands
+pub table_is_read : (ms : List (List ℕ × Tree)) (bytes : List ℕ) (at after : ℕ) → IsBytes bytes → (table_at bytes at ≡ Ok (ms, after)) ↔ StandsAt IsTable ms bytes at after
+table_is_read = reads_exactly IsTable table_at table_filled read_is_spelled spelled_is_read
 
 -- bytes spell at most one table
 pub one_table : (ms ns : List (List ℕ × Tree)) (text : List ℕ) → IsTable ms text → IsTable ns text → ms ≡ ns

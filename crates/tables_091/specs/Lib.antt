@@ -1,4 +1,5 @@
 pub mod Falls
+pub mod Faults
 pub mod Grammar
 pub mod Kinds
 pub mod Ranges

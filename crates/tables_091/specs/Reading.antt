@@ -2,9 +2,11 @@
 -- a length that passes what holds it, or a value that is cut off (AMQP 0-9-1 4.2.5.5).
 use Rattle.std.specs.Prelude.{ℕ, zero, suc, ◌-◌, List, length, drop, Option, Some, None, Ok, Err, Result}
 use Rattle.std.specs.Int.{w8, w32}
+use Rattle.wire_base.specs.declared.scan.At.{At}
 use Rattle.wire_base.specs.Reading.{Reads, ◌>>=◌, offset, made, pair_in, number_in, text_in, whole_in, container_in}
 use Rattle.tables_091.specs.Tree.{Scalar, decimal, void, Tree, scalar, array, table, trees_of, members_of}
 use Rattle.tables_091.specs.Kinds.{kind_of, octet_scalar, wide_width, wide_scalar, text_scalar}
+use Rattle.tables_091.specs.declared.reading.Syntax.{Syntax}
 use Rattle.tables_091.specs.declared.kind.Kind.{Kind}
 use Rattle.tables_091.specs.declared.kind.Kind.TheVariants as kind
 use Rattle.tables_091.specs.declared.kind.Octet.{Octet}
@@ -75,3 +77,8 @@ abbrev pub table_at : List ℕ → ℕ → Result (List (List ℕ × Tree) × �
 table_at bytes at = do
   x ← table_in (length bytes) (drop at bytes)
   Ok (x.0, length bytes - length x.1)
+
+-- what was answered of a table, as reading gives it: a fault is its offset
+abbrev pub seen : {A : Type 0} → Result A (At Syntax) → Result A ℕ
+seen (Ok x) = Ok x
+seen (Err e) = Err e.at

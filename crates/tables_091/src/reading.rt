@@ -8,8 +8,9 @@ ghost use Rattle.wire_base.specs.Reading.{Gives, made, container_in, all_items, 
 ghost use Rattle.tables_091.specs.Tree.{Tree, scalar};
 ghost use Rattle.tables_091.specs.View.{field_tree};
 ghost use Rattle.tables_091.specs.Grammar.{IsTable};
+ghost use Rattle.tables_091.specs.Faults.{IsFaultAt};
 ghost use Rattle.tables_091.specs.Writing.{HasSpelling};
-ghost use Rattle.tables_091.specs.Reading.{octet_in, wide_in, bytes_in, decimal_in, single_in, flat_in, deep_in, member_in, field_in, table_in, table_at};
+ghost use Rattle.tables_091.specs.Reading.{octet_in, wide_in, bytes_in, decimal_in, single_in, flat_in, deep_in, member_in, field_in, table_in, table_at, seen};
 
 use crate::field::{Field, FieldList, Table};
 use crate::kind::{Kind, Octet, Single, Text, Wide, kind_at};
@@ -215,7 +216,7 @@ fn list_of(
 /// The fields that fill these bytes, each of at most this depth.
 #[cycle(nested)]
 fn fields_of(alloc: Global, depth: u8, end: usize, body: &[u8]) -> Result<FieldList, Stop<usize>>
-    ensures { Gives (λ list. list) result (all_items (field_in depth end) body.now) }
+    ensures { Gives (λ list. list) result (all_items offset (field_in depth) end body.now) }
 {
     let mut list = FieldList::empty(alloc);
     let mut rest = body;
@@ -246,7 +247,7 @@ fn table_of(
 /// The entries that fill these bytes, with fields of at most this depth.
 #[cycle(nested)]
 fn entries_of(alloc: Global, depth: u8, end: usize, body: &[u8]) -> Result<Table, Stop<usize>>
-    ensures { Gives (λ table. table) result (all_items (member_in (field_in depth) end) body.now) }
+    ensures { Gives (λ table. table) result (all_items offset (member_in (field_in depth)) end body.now) }
 {
     let mut table = Table::empty(alloc);
     let mut rest = body;
@@ -319,7 +320,9 @@ pub fn read_table(
     // What is read can be written.
     ensures writable { IfOk result (λ read. IfOk read (λ x. HasSpelling x.0)) }
     // Where the first fault is.
-    ensures fault { IfOk result (λ read. IfErr read (λ e. table_at bytes.now at ≡ Err e.at)) }
+    ensures fault { IfOk result (λ read. IfErr read (λ e. IsFaultAt bytes.now at e.at)) }
+    // Which table is read, or where the first fault is.
+    ensures exact { IfOk result (λ read. seen read ≡ table_at bytes.now at) }
 {
     match table_from(alloc, bytes, at) {
         Ok(read) => Ok(Ok(read)),

@@ -191,7 +191,7 @@ level_alone (suc d) =
       element = element_alone d (IsDeepOf (IsFirstCode s.content) (IsFirstElements s)) s.element deep r.element;
     }
 
-value_alone : (d : ℕ) → IsAlone (IsCanonicalOf d)
+pub value_alone : (d : ℕ) → IsAlone (IsCanonicalOf d)
 value_alone d = first_alone (canonical d).content (level_alone d).content
 
 pub values_alone : (d : ℕ) → IsAlone (IsItems (IsCanonicalOf d))

@@ -24,8 +24,8 @@ use Rattle.types_10.specs.declared.kind.Size.{Size}
 
 -- what is written of a value of at most this depth: the canonical spelling where it stands alone; its descriptors; the element under
 -- each kind for it; and no earlier kind has an element
-record IsWell (d : ℕ) (t : Tree) (w : Written) : Type 0 where
-  text : length w.text < 2 ^ 32 → IsCanonicalOf d t w.text
+pub record IsWell (d : ℕ) (t : Tree) (w : Written) : Type 0 where
+  pub text : length w.text < 2 ^ 32 → IsCanonicalOf d t w.text
   front : length w.front < 2 ^ 32 → IsItems (IsDescriptorOf (IsCanonicalOf d)) (descriptors t) w.front
   element : (k : Kind) → IsWider w.kind k → length (w.content k) < 2 ^ 32 → (canonical d).element (descriptors t, k) t (w.content k)
   first : (k : Kind) → IsWider w.kind k → length (w.content k) < 2 ^ 32 → (e : Elements) → 64 ≤ kind_byte e.1 → (text : List ℕ) → (canonical d).element e t text → IsWider w.kind e.1
@@ -79,23 +79,23 @@ scalar_well d s r p = plain_well d (scalar s) (kind.Single (single_kind s)) (λ 
 
 -- ---- what is written of each value of a list, and of a map
 
-abbrev tree_list : Trees → List Tree
+abbrev pub tree_list : Trees → List Tree
 tree_list no_trees = []
 tree_list (tree t ts) = t ∷ tree_list ts
 
-abbrev pair_list : Pairs → List (Tree × Tree)
+abbrev pub pair_list : Pairs → List (Tree × Tree)
 pair_list no_pairs = []
 pair_list (pair k t ps) = (k, t) ∷ pair_list ps
 
-trees_again : (ts : Trees) → ts ≡ trees_of (tree_list ts)
+pub trees_again : (ts : Trees) → ts ≡ trees_of (tree_list ts)
 trees_again no_trees = refl
 trees_again (tree t ts) = ap (tree t) (trees_again ts)
 
-pairs_again : (ps : Pairs) → ps ≡ pairs_of (pair_list ps)
+pub pairs_again : (ps : Pairs) → ps ≡ pairs_of (pair_list ps)
 pairs_again no_pairs = refl
 pairs_again (pair k t ps) = ap (pair k t) (pairs_again ps)
 
-abbrev EachIsWell : ℕ → Trees → Type 0
+abbrev pub EachIsWell : ℕ → Trees → Type 0
 EachIsWell d no_trees = Unit {0}
 EachIsWell d (tree t ts) = IsWell d t (written t) × EachIsWell d ts
 
@@ -123,11 +123,11 @@ entries_are d (pair k t ps) h l =
       refl,
     )
 
-list_count : (ts : Trees) → length (tree_list ts) ≡ (written_each ts).count
+pub list_count : (ts : Trees) → length (tree_list ts) ≡ (written_each ts).count
 list_count no_trees = refl
 list_count (tree t ts) = omega (arith, list_count ts)
 
-pair_count : (ps : Pairs) → (written_pairs ps).0 ≡ 2 * length (pair_list ps)
+pub pair_count : (ps : Pairs) → (written_pairs ps).0 ≡ 2 * length (pair_list ps)
 pair_count no_pairs = refl
 pair_count (pair k t ps) = omega (arith, pair_count ps)
 
@@ -256,15 +256,15 @@ map_well d ps h =
 -- ---- elements of one type
 
 -- the elements behind their constructor
-abbrev EachIsDescribed : List Tree → Trees → Type 0
+abbrev pub EachIsDescribed : List Tree → Trees → Type 0
 EachIsDescribed ds no_trees = Unit {0}
 EachIsDescribed ds (tree t ts) = (descriptors t ≡ ds) × EachIsDescribed ds ts
 
-each_described : (t : Tree) (ts : Trees) → EachIsAlike t ts → EachIsDescribed (descriptors t) ts
+pub each_described : (t : Tree) (ts : Trees) → EachIsAlike t ts → EachIsDescribed (descriptors t) ts
 each_described t no_trees h = tt
 each_described t (tree u ts) h = (h.0.0, each_described t ts h.1)
 
-elements_are : (d : ℕ) (ds : List Tree) (ts : Trees) (k : Kind) → EachIsWell d ts → EachIsWider ts k → EachIsDescribed ds ts → length ((written_each ts).contents k) < 2 ^ 32
+pub elements_are : (d : ℕ) (ds : List Tree) (ts : Trees) (k : Kind) → EachIsWell d ts → EachIsWider ts k → EachIsDescribed ds ts → length ((written_each ts).contents k) < 2 ^ 32
     → IsItems ((canonical d).element (ds, k)) (tree_list ts) ((written_each ts).contents k)
 elements_are d ds no_trees k h w e l = refl
 elements_are d ds (tree t ts) k h w e l =
@@ -284,7 +284,7 @@ elements_first d (tree t ts) k h w l e late text i =
 -- ---- arrays
 
 -- the body of an array
-body_is : (d : ℕ) (ts : Trees) → EachIsWell d ts → AreOfOneType ts → (IsTrue (is_bare (written_each ts).kind) → (written_each ts).count ≤ 65536) → length (array_body (written_each ts)) < 2 ^ 32
+pub body_is : (d : ℕ) (ts : Trees) → EachIsWell d ts → AreOfOneType ts → (IsTrue (is_bare (written_each ts).kind) → (written_each ts).count ≤ 65536) → length (array_body (written_each ts)) < 2 ^ 32
     → IsFirstBody (canonical d) (written_each ts).count (tree_list ts) (array_body (written_each ts))
 body_is d no_trees h a f l =
     let null = kind.Single (single.Bare bare.Null) in
@@ -392,7 +392,7 @@ described_well d x t less h g descriptor value = record { text = alone; front = 
 -- ---- all values
 
 mutual
-  tree_well : (d : ℕ) (t : Tree) → depth t ≤ d → IsRanged t → IsWritable t → IsWell d t (written t)
+  pub tree_well : (d : ℕ) (t : Tree) → depth t ≤ d → IsRanged t → IsWritable t → IsWell d t (written t)
   tree_well d (scalar s) h r w = scalar_well d s r w
   tree_well zero (list ts) h r w = absurd (omega arith)
   tree_well (suc d) (list ts) h r w = list_well d ts (each_well d ts (omega arith) r w)
@@ -404,7 +404,7 @@ mutual
   tree_well (suc d) (described x t) h r w =
       described_well d x t (omega arith) (tree_well d x (omega arith) r.0 w.0) (tree_well d t (omega arith) r.1 w.1) (tree_well (suc d) x (omega arith) r.0 w.0) (tree_well (suc d) t (omega arith) r.1 w.1)
 
-  each_well : (d : ℕ) (ts : Trees) → trees_depth ts ≤ d → EachInTrees IsInRange ts → EachIsWritable ts → EachIsWell d ts
+  pub each_well : (d : ℕ) (ts : Trees) → trees_depth ts ≤ d → EachInTrees IsInRange ts → EachIsWritable ts → EachIsWell d ts
   each_well d no_trees h r w = tt
   each_well d (tree t ts) h r w = (tree_well d t (omega arith) r.0 w.0, each_well d ts (omega arith) r.1 w.1)
 

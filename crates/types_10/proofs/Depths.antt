@@ -7,11 +7,11 @@ use Rattle.types_10.specs.declared.kind.Kind.{Kind}
 use Rattle.types_10.specs.declared.kind.Kind.TheVariants as kind
 
 -- contents are no deeper, and neither are elements behind a constructor
-record IsShallow (s : Spelled) (d : ℕ) : Type 0 where
-  content : (k : Kind) (t : Tree) (text : List ℕ) → s.content k t text → depth t ≤ d
-  element : (c : Elements) (t : Tree) (text : List ℕ) → s.element c t text → depth t ≤ d
+pub record IsShallow (s : Spelled) (d : ℕ) : Type 0 where
+  pub content : (k : Kind) (t : Tree) (text : List ℕ) → s.content k t text → depth t ≤ d
+  pub element : (c : Elements) (t : Tree) (text : List ℕ) → s.element c t text → depth t ≤ d
 
-items_depth : (d : ℕ) (R : Tree → List ℕ → Type 0) → ((t : Tree) (text : List ℕ) → R t text → depth t ≤ d) → (ts : List Tree) (text : List ℕ) → IsItems R ts text → trees_depth (trees_of ts) ≤ d
+pub items_depth : (d : ℕ) (R : Tree → List ℕ → Type 0) → ((t : Tree) (text : List ℕ) → R t text → depth t ≤ d) → (ts : List Tree) (text : List ℕ) → IsItems R ts text → trees_depth (trees_of ts) ≤ d
 items_depth d R r [] text h = omega arith
 items_depth d R r (t ∷ ts) text h = omega (arith, r t h.0 h.2, items_depth d R r ts h.1 h.3)
 
@@ -54,7 +54,7 @@ flat_element_depth : (c : Elements) (t : Tree) (text : List ℕ) → IsElement 0
 flat_element_depth ([], k) t text h = flat_depth k t text h
 flat_element_depth (x ∷ xs, k) t text h = absurd h.1.2
 
-level_depth : (d : ℕ) → IsShallow (spelled d) d
+pub level_depth : (d : ℕ) → IsShallow (spelled d) d
 unfolding spelled
 level_depth zero = record { content = flat_depth; element = flat_element_depth }
 level_depth (suc d) =

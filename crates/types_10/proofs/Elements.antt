@@ -48,7 +48,7 @@ array_late size.Long = omega arith
 
 -- ---- constructors
 
-kind_late : (k : Kind) → k ≢ kind.Described → 64 ≤ kind_byte k
+pub kind_late : (k : Kind) → k ≢ kind.Described → 64 ≤ kind_byte k
 kind_late (kind.Single k) h = single_late k
 kind_late kind.EmptyList h = omega arith
 kind_late (kind.List z) h = list_late z
@@ -68,7 +68,7 @@ plain_constructor R k l = ([], kind_byte k ∷ [], refl, (late_plain k l, refl),
 
 -- ---- elements
 
-flat_plain : (k : Kind) (t : Tree) (text : List ℕ) → IsFlat k t text → descriptors t ≡ []
+pub flat_plain : (k : Kind) (t : Tree) (text : List ℕ) → IsFlat k t text → descriptors t ≡ []
 flat_plain (kind.Single k) t text h = ap descriptors h.1
 flat_plain kind.EmptyList t text h = absurd h
 flat_plain (kind.List z) t text h = absurd h
@@ -76,7 +76,7 @@ flat_plain (kind.Map z) t text h = absurd h
 flat_plain (kind.Array z) t text h = absurd h
 flat_plain kind.Described t text h = absurd h
 
-deep_plain : (R : Tree → List ℕ → Type 0) (E : Width → List Tree → List ℕ → Type 0) (k : Kind) → 64 ≤ kind_byte k → (t : Tree) (text : List ℕ) → IsDeepOf R E k t text → descriptors t ≡ []
+pub deep_plain : (R : Tree → List ℕ → Type 0) (E : Width → List Tree → List ℕ → Type 0) (k : Kind) → 64 ≤ kind_byte k → (t : Tree) (text : List ℕ) → IsDeepOf R E k t text → descriptors t ≡ []
 deep_plain R E (kind.Single k) l t text h = ap descriptors h.1
 deep_plain R E kind.EmptyList l t text h = ap descriptors h.0
 deep_plain R E (kind.List z) l t text h = ap descriptors h.1

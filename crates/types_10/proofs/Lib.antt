@@ -3,12 +3,15 @@ pub mod Canonical
 pub mod Constructors
 pub mod Depths
 pub mod Elements
+pub mod FaultLaws
 pub mod Held
 pub mod Levels
 pub mod Measures
 pub mod RangeLaws
 pub mod ReaderLaws
+pub mod Shortest
 pub mod Slices
+pub mod Spellable
 pub mod Texts
 pub mod Types
 pub mod ValueLaws

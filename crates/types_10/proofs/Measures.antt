@@ -41,7 +41,7 @@ single_len (single.Wide wide.Ushort) b n i s = refl
 single_len (single.Sixteen sixteen.Uuid) b n i s = omega arith
 single_len k b n i s = omega arith
 
-scalar_len : (k : Kind) (s : Scalar) → kind_type k ≡ scalar_type s → length (scalar_content k s) ≡ head_len k + scalar_body s
+pub scalar_len : (k : Kind) (s : Scalar) → kind_type k ≡ scalar_type s → length (scalar_content k s) ≡ head_len k + scalar_body s
 scalar_len (kind.Single k) s h = by_type HasLength single_len k s h
 scalar_len kind.EmptyList s h = absurd (omega (arith, scalar_type_is s))
 scalar_len (kind.List z) s h = absurd (omega (arith, scalar_type_is s))
@@ -50,7 +50,7 @@ scalar_len (kind.Array z) s h = absurd (omega (arith, scalar_type_is s))
 scalar_len kind.Described s h = absurd (omega (arith, scalar_type_is s))
 
 -- what holds others, by its size and its count
-filled_len : (z : Size) (count : ℕ) (body : List ℕ) → length (text_of (size_width z) (to_be_bytes (size_width z) count ++ body)) ≡ 2 * byte_len (size_width z) + length body
+pub filled_len : (z : Size) (count : ℕ) (body : List ℕ) → length (text_of (size_width z) (to_be_bytes (size_width z) count ++ body)) ≡ 2 * byte_len (size_width z) + length body
 filled_len z count body =
     let inside = to_be_bytes (size_width z) count ++ body in
     omega (arith, length-append (to_be_bytes (size_width z) (length inside)) inside, length-append (to_be_bytes (size_width z) count) body, (size_is z).len (length inside), (size_is z).len count)
@@ -89,7 +89,7 @@ whole_len t =
     omega (arith, ap length (text_is t), length-append w.front (kind_byte w.kind ∷ w.content w.kind), content_len t w.kind (same_wider w.kind))
 
 -- elements' contents under a kind that all of them have
-contents_len : (ts : Trees) (k : Kind) → EachIsWider ts k → length ((written_each ts).contents k) ≡ (written_each ts).count * head_len k + bodies_len ts
+pub contents_len : (ts : Trees) (k : Kind) → EachIsWider ts k → length ((written_each ts).contents k) ≡ (written_each ts).count * head_len k + bodies_len ts
 contents_len no_trees k w = omega arith
 contents_len (tree t ts) k w = omega (arith, length-append ((written t).content k) ((written_each ts).contents k), content_len t k w.0, contents_len ts k w.1)
 

@@ -1,14 +1,14 @@
 -- The readers of values against their spellings, by the laws of their parts.
-use Rattle.std.proofs.Common.{◌≡◌, ◌≢◌, ℕ, zero, suc, ◌+◌, ◌-◌, ◌*◌, ◌/◌, ◌%◌, ◌<◌, ◌≤◌, Bool, true, false, cond, eqb, ltb, ◌&&◌, List, [], ◌∷◌, ◌++◌, length, take, drop, Option, Some, None, Result, Ok, Err, refl, sym, ap, subst, ◌∙◌, append_assoc, arith}
+use Rattle.std.proofs.Common.{◌≡◌, ◌≢◌, ◌↔◌, ℕ, zero, suc, ◌+◌, ◌-◌, ◌*◌, ◌/◌, ◌%◌, ◌<◌, ◌≤◌, Bool, true, false, cond, eqb, ltb, ◌&&◌, List, [], ◌∷◌, ◌++◌, length, take, drop, Option, Some, None, Result, Ok, Err, refl, sym, ap, subst, ◌∙◌, append_assoc, arith}
 use Rattle.std.specs.Bool.{IsTrue}
 use Rattle.std.proofs.lemmas.Bool.{eqb-true, ltb-false, le-ltb}
 use Rattle.std.proofs.lemmas.List.{length-append, length-drop, take_at}
 use Rattle.std.specs.Int.{Width, w8, w32, to_be_bytes}
 use Rattle.wire_base.specs.Bytes.{IsBytes}
-use Rattle.wire_base.specs.Spelling.{IsNumber, IsText, IsPair, IsItems}
+use Rattle.wire_base.specs.Spelling.{IsNumber, IsText, IsPair, IsItems, StandsAt}
 use Rattle.wire_base.specs.Reading.{Reads, ◌>>=◌, made, pair_in, times}
 use Rattle.wire_base.proofs.Bytes.{IsBytes-drop}
-use Rattle.wire_base.proofs.Laws.{IsReader, Finds, IsWide, wide8, wide16, wide32, wide64, bind_is, ok_is, made_reader, pair_reader}
+use Rattle.wire_base.proofs.Laws.{IsReader, Finds, IsWide, wide8, wide16, wide32, wide64, bind_is, ok_is, made_reader, pair_reader, reads_exactly}
 use Rattle.wire_base.proofs.Items.{times_reader}
 use Rattle.types_10.specs.Tree.{boolean, char, Tree, scalar, list, mapping, array, described, depth, no_trees, trees_of, pairs_of}
 use Rattle.types_10.specs.Kinds.{kind_byte, kind_of, is_bare, is_described, bare_scalar, octet_scalar, wide_width, wide_scalar, sixteen_scalar, text_scalar, is_text, is_character, size_width}
@@ -120,7 +120,7 @@ next_kind b n x rest k here e later = at (eqb b n) refl e
     at false p e = later e
 
 -- a byte that announces a kind is its code
-kind_is : (b : ℕ) (k : Kind) → kind_of b ≡ Some k → kind_byte k ≡ b
+pub kind_is : (b : ℕ) (k : Kind) → kind_of b ≡ Some k → kind_byte k ≡ b
 kind_is b k e =
     next_kind b 0 _ _ k refl e (λ e.
     next_kind b 64 _ _ k refl e (λ e.
@@ -217,7 +217,7 @@ coded_from {A} read cut end bytes k at rest e = step (count_in cut w8 bytes) e
     step (Ok b) h = known (kind_of b.0) b.1 h
 
 -- a code that was read stands at the front, and one that stands there is read
-code_found : (cut : Fault) (end : ℕ) (text : List ℕ) (c : Kind × ℕ) (rest : List ℕ) → IsBytes text → code_in cut end text ≡ Ok (c, rest) → (text ≡ kind_byte c.0 ∷ rest) × IsBytes rest
+pub code_found : (cut : Fault) (end : ℕ) (text : List ℕ) (c : Kind × ℕ) (rest : List ℕ) → IsBytes text → code_in cut end text ≡ Ok (c, rest) → (text ≡ kind_byte c.0 ∷ rest) × IsBytes rest
 code_found cut end text c rest fits e =
     let announced = coded_from (λ k at cut end bytes. Ok (k, bytes)) cut end text c.0 c.1 rest e in
     let codes = coded_reader (λ k j text. (j ≡ k) × (text ≡ [])) (λ k at cut end bytes. Ok (k, bytes)) (λ k at cut. none_reader k) cut in
@@ -225,7 +225,7 @@ code_found cut end text c rest fits e =
     let front : f.front ≡ kind_byte c.0 ∷ [] = f.spelled.3 ∙ ap (λ (s : List ℕ). kind_byte f.spelled.0 ∷ s) f.spelled.2.1 ∙ ap (λ (k : Kind). kind_byte k ∷ []) (sym f.spelled.2.0) in
     (f.parts ∙ ap (λ (t : List ℕ). t ++ rest) front, f.rest_fits)
 
-code_again : (cut : Fault) (end : ℕ) (k : Kind) (rest : List ℕ) → code_in cut end (kind_byte k ∷ rest) ≡ Ok ((k, end - length (kind_byte k ∷ rest)), rest)
+pub code_again : (cut : Fault) (end : ℕ) (k : Kind) (rest : List ℕ) → code_in cut end (kind_byte k ∷ rest) ≡ Ok ((k, end - length (kind_byte k ∷ rest)), rest)
 code_again cut end k rest =
     let octet = (count_reader cut w8 wide8).again end (kind_byte k) (kind_byte k ∷ []) rest ((kind_known k).0, octet_text (kind_byte k) (kind_known k).0) in
     rw (octet, (kind_known k).1) refl
@@ -233,10 +233,10 @@ code_again cut end k rest =
 -- ---- lists, maps and arrays
 
 -- a reader of values, whatever the fault of one that is cut off
-abbrev IsEachReader : {A : Type 0} → (A → List ℕ → Type 0) → (Fault → ℕ → List ℕ → Reads A Fault) → Type 0
+abbrev pub IsEachReader : {A : Type 0} → (A → List ℕ → Type 0) → (Fault → ℕ → List ℕ → Reads A Fault) → Type 0
 IsEachReader R read = (cut : Fault) → IsReader R (read cut)
 
-items_reader : (w : Width) → IsWide w → (R : Tree → List ℕ → Type 0) (read : Fault → ℕ → List ℕ → Reads Tree Fault) → IsEachReader R read → IsEachReader (IsItemList w R) (items_in w read)
+pub items_reader : (w : Width) → IsWide w → (R : Tree → List ℕ → Type 0) (read : Fault → ℕ → List ℕ → Reads Tree Fault) → IsEachReader R read → IsEachReader (IsItemList w R) (items_in w read)
 items_reader w wide R read r cut =
     then_reader (IsNumber w) (λ n. IsTimes R n) (λ end text. count_in cut w text) (λ n end text. times (read cut end) n text) (count_reader cut w wide) (λ n. times_reader R (read cut) (r cut) n)
 
@@ -267,7 +267,7 @@ halves_reader R read cut r n = record { finds = finds; again = again }
         let half : length ps ≡ n / 2 = omega arith in
         rw even ((times_reader R read r (n / 2)).again end ps front rest (half, h.1))
 
-entries_reader : (w : Width) → IsWide w → (R : Tree → List ℕ → Type 0) (read : Fault → ℕ → List ℕ → Reads Tree Fault) → IsEachReader R read → IsEachReader (IsPairList w R) (entries_in w read)
+pub entries_reader : (w : Width) → IsWide w → (R : Tree → List ℕ → Type 0) (read : Fault → ℕ → List ℕ → Reads Tree Fault) → IsEachReader R read → IsEachReader (IsPairList w R) (entries_in w read)
 entries_reader w wide R read r cut =
     then_reader (IsNumber w) (λ n ps text. (n ≡ 2 * length ps) × IsItems (IsPair R R) ps text) (λ end text. count_in cut w text)
     (λ n end text. cond (eqb (n % 2) 0) (times (pair_in (read cut) (read cut) end) (n / 2) text) (Err cut)) (count_reader cut w wide)
@@ -330,7 +330,7 @@ constructor_again R read r cut (suc most) end (d ∷ ds) k text rest le h =
     ap (constructor_in read (suc most) cut end) whole ∙ rw (first, descriptor, later) refl
 
 -- a constructor has no more codes than bytes
-constructor_reader : (R : Tree → List ℕ → Type 0) (read : Fault → ℕ → List ℕ → Reads Tree Fault) → IsEachReader R read → (cut : Fault)
+pub constructor_reader : (R : Tree → List ℕ → Type 0) (read : Fault → ℕ → List ℕ → Reads Tree Fault) → IsEachReader R read → (cut : Fault)
     → IsReader (IsConstructorOf R) (λ end text. constructor_in read (length text) cut end text)
 constructor_reader R read r cut = record {
   finds = λ end text x fits e. constructor_found R read r cut (length text) end text x fits e;
@@ -340,18 +340,18 @@ constructor_reader R read r cut = record {
 -- ---- arrays
 
 -- readers of what stands inside a value, against its spellings
-record IsInside (s : Spelled) (i : Inside) : Type 0 where
-  contents : (k : Kind) (at : ℕ) (cut : Fault) → IsReader (s.content k) (i.contents k at cut)
-  element : (c : Shape) (at : ℕ) (cut : Fault) → IsReader (s.element c) (i.element c at cut)
+pub record IsInside (s : Spelled) (i : Inside) : Type 0 where
+  pub contents : (k : Kind) (at : ℕ) (cut : Fault) → IsReader (s.content k) (i.contents k at cut)
+  pub element : (c : Shape) (at : ℕ) (cut : Fault) → IsReader (s.element c) (i.element c at cut)
 
-values_reader : (s : Spelled) (i : Inside) → IsInside s i → IsEachReader (IsCoded s.content) (value_by i)
+pub values_reader : (s : Spelled) (i : Inside) → IsInside s i → IsEachReader (IsCoded s.content) (value_by i)
 values_reader s i r = coded_reader s.content i.contents r.contents
 
-few : (b : Bool) (n : ℕ) → (IsTrue b → n ≤ 65536) → (b && ltb 65536 n) ≡ false
+pub few : (b : Bool) (n : ℕ) → (IsTrue b → n ≤ 65536) → (b && ltb 65536 n) ≡ false
 few true n h = le-ltb _ _ (h refl)
 few false n h = refl
 
-few_back : (b : Bool) (n : ℕ) → (b && ltb 65536 n) ≡ false → IsTrue b → n ≤ 65536
+pub few_back : (b : Bool) (n : ℕ) → (b && ltb 65536 n) ≡ false → IsTrue b → n ≤ 65536
 few_back true n e h = ltb-false _ _ e
 few_back false n e h = absurd cc
 
@@ -374,7 +374,7 @@ bare_reader s i r cut n c = record { finds = finds; again = again }
         let at = (end - length (front ++ rest)) - 1 in
         rw (few (is_bare c.1) n h.0) ((times_reader (s.element c) (i.element c at cut) (r.element c at cut) n).again end ts front rest h.1)
 
-elements_reader : (w : Width) → IsWide w → (s : Spelled) (i : Inside) → IsInside s i → IsEachReader (IsElementList w s) (elements_in w i)
+pub elements_reader : (w : Width) → IsWide w → (s : Spelled) (i : Inside) → IsInside s i → IsEachReader (IsElementList w s) (elements_in w i)
 elements_reader w wide s i r cut =
     let shapes = constructor_reader (IsCoded s.content) (value_by i) (values_reader s i r) cut in
     then_reader (IsNumber w) (λ n. IsThen (IsConstructorOf (IsCoded s.content)) (λ c ts text. (IsTrue (is_bare c.1) → n ≤ 65536) × IsTimes (s.element c) n ts text)) (λ end text. count_in cut w text)
@@ -424,7 +424,7 @@ element_reader : (d : ℕ) (C : Kind → Tree → List ℕ → Type 0) (contents
 element_reader d C contents More more r m ([], k) at cut = r k at cut
 element_reader d C contents More more r m (x ∷ xs, k) at cut = guarded_reader (fault_at fault.Depth at) d x _ _ (made_reader (described x) (More (xs, k)) (more (xs, k) at cut) (m (xs, k) at cut))
 
-level_reader : (d : ℕ) → IsInside (spelled d) (level d)
+pub level_reader : (d : ℕ) → IsInside (spelled d) (level d)
 unfolding spelled level
 level_reader zero = record {
   contents = flat_reader;
@@ -454,15 +454,23 @@ read_is_spelled bytes at x fits e =
     let front : take ((end - length b.0.1) - at) (drop at bytes) ≡ f.front = ap (take ((end - length b.0.1) - at)) f.parts ∙ take_at f.front b.0.1 ((end - length b.0.1) - at) long in
     subst (λ (y : Tree × ℕ). (y.1 ≤ end) × IsValue y.0 (take (y.1 - at) (drop at bytes))) (ok_is {F = Fault} (b.0.0, end - length b.0.1) x b.2) (omega arith, rw front f.spelled)
 
+-- a value takes a byte at least
+value_filled : (t : Tree) (text : List ℕ) → IsValue t text → 0 < length text
+value_filled t text h = omega (arith, ap length h.3)
+
 -- what is spelled so is read, whatever follows
 pub spelled_is_read : (bytes : List ℕ) (at : ℕ) (t : Tree) (text rest : List ℕ) → IsValue t text → drop at bytes ≡ text ++ rest → value_at bytes at ≡ Ok (t, at + length text)
 spelled_is_read bytes at t text rest h parts =
     let end = length bytes in
     let cut = fault_at fault.Cut end in
-    let some : 0 < length text = omega (arith, ap length h.3) in
+    let some = value_filled t text h in
     let place : end - length rest ≡ at + length text = omega (arith, ap length parts, length-append text rest, length-drop at bytes) in
     let read : value_in 16 cut end (drop at bytes) ≡ Ok (t, rest) = ap (value_in 16 cut end) parts ∙ (value_reader 16 cut).again end t text rest h in
     rw (read, place) refl
+
+-- a value is read exactly where one stands
+pub value_is_read : (t : Tree) (bytes : List ℕ) (at after : ℕ) → IsBytes bytes → (value_at bytes at ≡ Ok (t, after)) ↔ StandsAt IsValue t bytes at after
+value_is_read = reads_exactly IsValue value_at value_filled read_is_spelled spelled_is_read
 
 -- bytes spell at most one value
 pub one_value : (t u : Tree) (text : List ℕ) → IsValue t text → IsValue u text → t ≡ u

@@ -76,7 +76,7 @@ later_wider j k e l n =
     record { alike = e; up = record { later = omega arith; only = λ b c. grind (arith, nat_tests) } }
 
 -- the codes of true and false, in any order
-abbrev AreBooleans : ℕ → ℕ → Type 0
+abbrev pub AreBooleans : ℕ → ℕ → Type 0
 AreBooleans m n = ((m ≡ 65) × (n ≡ 66)) ⊎ ((m ≡ 66) × (n ≡ 65))
 
 are_booleans : (m n : ℕ) → (eqb m 65 && eqb n 66) || (eqb m 66 && eqb n 65) ≡ true → AreBooleans m n
@@ -94,7 +94,7 @@ not_booleans : (m n : ℕ) → (eqb m 65 && eqb n 66) || (eqb m 66 && eqb n 65) 
 not_booleans m n e h = grind (arith, nat_tests)
 
 -- what kinds share: the boolean in a byte for the two booleans, or the kind with the later code
-shared_by : (P : Kind → Type 0) (j k : Kind) → (AreBooleans (kind_byte j) (kind_byte k) → P (kind.Single single.Boolean))
+pub shared_by : (P : Kind → Type 0) (j k : Kind) → (AreBooleans (kind_byte j) (kind_byte k) → P (kind.Single single.Boolean))
     → ((AreBooleans (kind_byte j) (kind_byte k) → ⊥) → kind_byte j ≤ kind_byte k → P k) → ((AreBooleans (kind_byte j) (kind_byte k) → ⊥) → kind_byte k ≤ kind_byte j → P j) → P (shared j k)
 shared_by P j k a b c =
     cond_both ((eqb (kind_byte j) 65 && eqb (kind_byte k) 66) || (eqb (kind_byte j) 66 && eqb (kind_byte k) 65)) (kind.Single single.Boolean) _ P
@@ -118,7 +118,7 @@ false_wider : (k : Kind) → kind_byte k ≡ 66 → IsWider k (kind.Single singl
 false_wider k e = subst (λ (k : Kind). IsWider k (kind.Single single.Boolean)) (same_kind (kind.Single (single.Bare bare.False)) k (sym e)) (later_wider _ _ refl refl refl)
 
 -- true and false together have contents as booleans in a byte alone
-booleans_wider : (j k : Kind) → AreBooleans (kind_byte j) (kind_byte k) → IsWider j (kind.Single single.Boolean) × IsWider k (kind.Single single.Boolean)
+pub booleans_wider : (j k : Kind) → AreBooleans (kind_byte j) (kind_byte k) → IsWider j (kind.Single single.Boolean) × IsWider k (kind.Single single.Boolean)
 booleans_wider j k (inl e) = (true_wider j e.0, false_wider k e.1)
 booleans_wider j k (inr e) = (false_wider j e.0, true_wider k e.1)
 
@@ -140,7 +140,7 @@ rest_shares j k e = shared_by (IsWider k) j k (λ h. (booleans_wider j k h).1) (
 pub last_shares : (j : Kind) → 64 ≤ kind_byte j → shared j (kind.Single (single.Bare bare.Null)) ≡ j
 last_shares j h = shared_by (λ k. k ≡ j) j (kind.Single (single.Bare bare.Null)) (λ b. absurd (no_null (kind_byte j) b)) (λ n l. same_kind _ _ (omega arith)) (λ n l. refl)
 
-booleans_first : (j k m : Kind) → IsUpTo j m → IsUpTo k m → AreBooleans (kind_byte j) (kind_byte k) → IsUpTo (kind.Single single.Boolean) m
+pub booleans_first : (j k m : Kind) → IsUpTo j m → IsUpTo k m → AreBooleans (kind_byte j) (kind_byte k) → IsUpTo (kind.Single single.Boolean) m
 booleans_first j k m a b h =
     let wide = booleans_wider j k h in
     let late : 86 ≤ kind_byte m = grind (arith, wide.0.alike, wide.1.alike) in

@@ -10,7 +10,7 @@ use Rattle.types_10.specs.declared.kind.Kind.{Kind}
 use Rattle.types_10.specs.declared.kind.Kind.TheVariants as kind
 
 -- what one relation spells, the other spells
-abbrev IsIn : {A : Type 0} → (A → List ℕ → Type 0) → (A → List ℕ → Type 0) → Type 0
+abbrev pub IsIn : {A : Type 0} → (A → List ℕ → Type 0) → (A → List ℕ → Type 0) → Type 0
 IsIn {A} R S = (x : A) (text : List ℕ) → R x text → S x text
 
 items_in : {A : Type 0} (R S : A → List ℕ → Type 0) → IsIn R S → IsIn (IsItems R) (IsItems S)
@@ -44,9 +44,9 @@ element_in d C D I J h m ([], k) t text i = h k t text i
 element_in d C D I J h m (x ∷ xs, k) t text i = (i.0, (i.1.0, i.1.1, m (xs, k) i.1.0 text i.1.2))
 
 -- what stands inside a value, of the one and of the other
-record IsWithin (s g : Spelled) : Type 0 where
-  content : (k : Kind) → IsIn (s.content k) (g.content k)
-  element : (c : Elements) → IsIn (s.element c) (g.element c)
+pub record IsWithin (s g : Spelled) : Type 0 where
+  pub content : (k : Kind) → IsIn (s.content k) (g.content k)
+  pub element : (c : Elements) → IsIn (s.element c) (g.element c)
 
 value_within : (s g : Spelled) → IsWithin s g → IsIn (IsFirstCode s.content) (IsCoded g.content)
 value_within s g r t text h = (h.0, h.1, r.content h.0 t h.1 h.2, h.3)
@@ -57,7 +57,7 @@ elements_within s g r w ts text h =
     let items = items_in (s.element c.0) (g.element c.0) (r.element c.0) ts c.2 c.4.2.1 in
     (h.0, h.1, h.2, h.3, (c.0, c.1, c.2, constructor_in (IsFirstCode s.content) (IsCoded g.content) (value_within s g r) c.0 c.1 c.3, (c.4.1, (c.4.2.0, items)), c.5), h.5)
 
-level_within : (d : ℕ) → IsWithin (canonical d) (spelled d)
+pub level_within : (d : ℕ) → IsWithin (canonical d) (spelled d)
 unfolding canonical spelled
 level_within zero = record {
   content = λ k t text h. h;

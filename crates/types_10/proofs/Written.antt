@@ -84,13 +84,13 @@ single_is (single.Text text.Symbol z) s bytes h = h.2.1.1 ∙ sym (ap (single_co
 -- ---- the first kind
 
 -- a number by how large it is, an integer by whether it fits one byte, and a text by whether its length does
-by_number : (P : Single → Type 0) (n : ℕ) (a b c : Single) → (n ≡ 0 → P a) → (n < 256 → P b) → (n ≢ 0 → 256 ≤ n → P c) → P (cond (eqb n 0) a (cond (ltb n 256) b c))
+pub by_number : (P : Single → Type 0) (n : ℕ) (a b c : Single) → (n ≡ 0 → P a) → (n < 256 → P b) → (n ≢ 0 → 256 ≤ n → P c) → P (cond (eqb n 0) a (cond (ltb n 256) b c))
 by_number P n a b c x y z = cond_both (eqb n 0) a _ P (λ e. x (eqb-true _ _ e)) (λ e. cond_both (ltb n 256) b c P (λ f. y (ltb-true _ _ f)) (λ f. z (eqb-false _ _ e) (ltb-false _ _ f)))
 
-by_small : (P : Single → Type 0) (z : ℤ) (a b : Single) → (FitsSigned w8 z → P a) → (is_small z ≡ false → P b) → P (cond (is_small z) a b)
+pub by_small : (P : Single → Type 0) (z : ℤ) (a b : Single) → (FitsSigned w8 z → P a) → (is_small z ≡ false → P b) → P (cond (is_small z) a b)
 by_small P z a b x y = cond_both (is_small z) a b P (λ e. x (grind (arith, ints))) y
 
-by_length : (P : Single → Type 0) (k : Text) (s : List ℕ) → (length s < 256 → P (single.Text k size.Short)) → (256 ≤ length s → P (single.Text k size.Long)) → P (text_kind k s)
+pub by_length : (P : Single → Type 0) (k : Text) (s : List ℕ) → (length s < 256 → P (single.Text k size.Short)) → (256 ≤ length s → P (single.Text k size.Long)) → P (text_kind k s)
 by_length P k s x y = cond_both (ltb (length s) 256) _ _ P (λ e. x (ltb-true _ _ e)) (λ e. y (ltb-false _ _ e))
 
 -- the first kind of a value has its type
@@ -119,11 +119,11 @@ first_type (string s) = by_length (λ k. single_type k ≡ 177) text.String s (�
 first_type (symbol s) = by_length (λ k. single_type k ≡ 179) text.Symbol s (λ e. refl) (λ e. refl)
 
 -- the second kind has contents for what has the first kind
-abbrev IsUnder : Single → Single → Type 0
+abbrev pub IsUnder : Single → Single → Type 0
 IsUnder j k = IsWider (kind.Single k) (kind.Single j)
 
 -- the kind has contents for the value
-abbrev IsFor : Single → Scalar → Type 0
+abbrev pub IsFor : Single → Scalar → Type 0
 IsFor j s = IsUnder j (single_kind s)
 
 boolean_for : (b : Bool) → IsFor single.Boolean (boolean b)

@@ -1,5 +1,6 @@
 pub mod Canonical
 pub mod Falls
+pub mod Faults
 pub mod Grammar
 pub mod Kinds
 pub mod Measures

@@ -7,6 +7,8 @@ use Rattle.wire_base.specs.declared.scan.At.{At}
 use Rattle.wire_base.specs.Reading.{Reads, ◌>>=◌, made, pair_in, number_in, text_in, times}
 use Rattle.types_10.specs.Tree.{Scalar, boolean, char, Tree, scalar, list, mapping, array, described, depth, no_trees, trees_of, pairs_of}
 use Rattle.types_10.specs.Kinds.{kind_of, is_bare, is_described, bare_scalar, octet_scalar, wide_width, wide_scalar, sixteen_scalar, text_scalar, is_text, is_character, size_width}
+use Rattle.types_10.specs.View.{value_tree}
+use Rattle.types_10.specs.declared.value.Value10.{Value10}
 use Rattle.types_10.specs.declared.fault.TypeFault.{TypeFault}
 use Rattle.types_10.specs.declared.fault.TypeFault.TheVariants as fault
 use Rattle.types_10.specs.declared.kind.Kind.{Kind}
@@ -200,3 +202,8 @@ abbrev pub value_at : List ℕ → ℕ → Result (Tree × ℕ) Fault
 value_at bytes at = do
   x ← value_in 16 (fault_at fault.Cut (length bytes)) (length bytes) (drop at bytes)
   Ok (x.0, length bytes - length x.1)
+
+-- what was answered of a value, as reading gives it
+abbrev pub seen : Result (Value10 × ℕ) Fault → Result (Tree × ℕ) Fault
+seen (Ok x) = Ok (value_tree x.0, x.1)
+seen (Err e) = Err e

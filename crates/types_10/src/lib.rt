@@ -15,11 +15,13 @@ mod kind;
 mod laws;
 mod measure;
 mod reading;
+mod spelling;
 mod value;
 mod writing;
 
 pub use fault::TypeFault;
 pub use laws::value_laws;
 pub use reading::read_value;
+pub use spelling::has_spelling;
 pub use value::{Inner, PairList, Value10, ValueList, tell_ranges};
 pub use writing::put_value;

@@ -80,7 +80,7 @@ impl Measure {
     }
 
     /// The length of all that is written of the value where it stands alone.
-    fn whole_len(self) -> usize
+    pub(crate) fn whole_len(self) -> usize
         ensures { (t : Tree) → IsMeasure self t → result ≡ capped (length (value_text t)) }
     {
         let head = self

@@ -13,9 +13,10 @@ ghost use Rattle.types_10.specs.Kinds.{bare_scalar, octet_scalar, wide_scalar, w
 ghost use Rattle.types_10.specs.declared.kind.Single.TheVariants.{Text as TextKind};
 ghost use Rattle.types_10.specs.View.{value_tree, pair_trees};
 ghost use Rattle.types_10.specs.Grammar.{IsValue};
+ghost use Rattle.types_10.specs.Faults.{IsFaultAt};
 ghost use Rattle.types_10.specs.Shapes.{shape_data};
 ghost use Rattle.types_10.specs.declared.fault.TypeFault.TheVariants as fault;
-ghost use Rattle.types_10.specs.Reading.{fault_at, code_in, contents_in, shape_in, element_in, count_in, bytes_in, sixteen_in, tested, text_fault, boolean_in, char_in, single_in, flat_in, deep_in, filled_in, items_in, entries_in, elements_in, value_by, level, value_in, value_at};
+ghost use Rattle.types_10.specs.Reading.{fault_at, code_in, contents_in, shape_in, element_in, count_in, bytes_in, sixteen_in, tested, text_fault, boolean_in, char_in, single_in, flat_in, deep_in, filled_in, items_in, entries_in, elements_in, value_by, level, value_in, value_at, seen};
 
 use crate::copying::copy_value;
 use crate::depth::is_within;
@@ -53,7 +54,7 @@ struct Shape {
 }
 
 /// The greatest count of elements without bytes in an array.
-const MOST_BARE: u32 = 65_536;
+pub(crate) const MOST_BARE: u32 = 65_536;
 
 // ---- numbers and bytes
 
@@ -145,7 +146,7 @@ fn is_ascii(text: &[u8]) -> bool
     text.iter().all(|byte| byte.is_ascii())
 }
 
-fn is_text(kind: Text, text: &[u8]) -> bool
+pub(crate) fn is_text(kind: Text, text: &[u8]) -> bool
     ensures { result ≡ is_text kind text.now }
 {
     match kind {
@@ -701,7 +702,7 @@ fn element_of<'a>(
 }
 
 /// The greatest depth of a value.
-const MOST_DEPTH: u8 = 16;
+pub(crate) const MOST_DEPTH: u8 = 16;
 
 /// The value that stands at `at`, and the offset after it.
 fn value_from(alloc: Global, bytes: &[u8], at: usize) -> Result<(Value10, usize), Stop<Fault>>
@@ -742,7 +743,9 @@ pub fn read_value(
         → IsValue v text → drop at bytes.now ≡ text ++ rest
         → IfOk result (λ read. IsOkAnd read (λ x. (value_tree x.0 ≡ v) × (x.1 ≡ at + length text))) }
     // Which the first fault is, and where.
-    ensures fault { IfOk result (λ read. IfErr read (λ e. value_at bytes.now at ≡ Err e)) }
+    ensures fault { IfOk result (λ read. IfErr read (IsFaultAt bytes.now at)) }
+    // Which value is read, or which fault is told.
+    ensures exact { IfOk result (λ read. seen read ≡ value_at bytes.now at) }
 {
     match value_from(alloc, bytes, at) {
         Ok(read) => Ok(Ok(read)),

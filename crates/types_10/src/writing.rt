@@ -345,7 +345,7 @@ fn put_contents(out: &mut ByteText, kind: Kind, values: &[Value10]) -> Result<()
 /// Each value has the shortest of its type's encodings, and the elements of an array the shortest that all of them
 /// have; an array without elements has the constructor of null.
 ///
-/// The value must have a spelling: its depth is at most 16, what is written of it is shorter than 2^32 bytes, and, of the
+/// The value must have a spelling, as `has_spelling` tells: its depth is at most 16, what is written of it is shorter than 2^32 bytes, and, of the
 /// value and of each one inside it,
 ///
 /// - a string is UTF-8, a symbol is ASCII, and a char is a Unicode scalar value (at most 10FFFF, not D800 to DFFF);

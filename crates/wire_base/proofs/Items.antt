@@ -25,25 +25,25 @@ reader_shrinks R read r filled end = record {
 -- ---- until nothing is left
 
 -- more turns than bytes change nothing
-many_more : {A F : Type 0} (read : List ℕ → Reads A F) (m n : ℕ) (text : List ℕ) → Shrinks read → IsBytes text → length text ≤ m → length text ≤ n → many read m text ≡ many read n text
-many_more read m n [] s fits p q = refl
-many_more read zero n (b ∷ bs) s fits p q = absurd (omega arith)
-many_more read (suc m) zero (b ∷ bs) s fits p q = absurd (omega arith)
-many_more {A} {F} read (suc m) (suc n) (b ∷ bs) s fits p q =
-    step (read (b ∷ bs)) refl (λ rest fits lt. many_more read m n rest s fits (omega arith) (omega arith))
+many_more : {A F : Type 0} (fault : ℕ → F) (read : ℕ → List ℕ → Reads A F) (end : ℕ) (m n : ℕ) (text : List ℕ) → Shrinks (read end) → IsBytes text → length text ≤ m → length text ≤ n → many fault read end m text ≡ many fault read end n text
+many_more fault read end m n [] s fits p q = refl
+many_more fault read end zero n (b ∷ bs) s fits p q = absurd (omega arith)
+many_more fault read end (suc m) zero (b ∷ bs) s fits p q = absurd (omega arith)
+many_more {A} {F} fault read end (suc m) (suc n) (b ∷ bs) s fits p q =
+    step (read end (b ∷ bs)) refl (λ rest fits lt. many_more fault read end m n rest s fits (omega arith) (omega arith))
   where
-    step : (r : Reads A F) → read (b ∷ bs) ≡ r → ((rest : List ℕ) → IsBytes rest → length rest < length (b ∷ bs) → many read m rest ≡ many read n rest)
-        → (r >>= λ x. many read m x.1 >>= λ xs. Ok (x.0 ∷ xs)) ≡ (r >>= λ x. many read n x.1 >>= λ xs. Ok (x.0 ∷ xs))
+    step : (r : Reads A F) → read end (b ∷ bs) ≡ r → ((rest : List ℕ) → IsBytes rest → length rest < length (b ∷ bs) → many fault read end m rest ≡ many fault read end n rest)
+        → (r >>= λ x. many fault read end m x.1 >>= λ xs. Ok (x.0 ∷ xs)) ≡ (r >>= λ x. many fault read end n x.1 >>= λ xs. Ok (x.0 ∷ xs))
     step (Err e) h ih = refl
     step (Ok x) h ih = let t = s.by (b ∷ bs) x fits h in ap (λ (r : Result (List A) F). r >>= λ xs. Ok (x.0 ∷ xs)) (ih x.1 t.1 t.0)
 
-pub all_items_next : {A F : Type 0} (read : List ℕ → Reads A F) (text : List ℕ) (x : A × List ℕ) → Shrinks read → IsBytes text → read text ≡ Ok x → all_items read text ≡ (all_items read x.1 >>= λ xs. Ok (x.0 ∷ xs))
+pub all_items_next : {A F : Type 0} (fault : ℕ → F) (read : ℕ → List ℕ → Reads A F) (end : ℕ) (text : List ℕ) (x : A × List ℕ) → Shrinks (read end) → IsBytes text → read end text ≡ Ok x → all_items fault read end text ≡ (all_items fault read end x.1 >>= λ xs. Ok (x.0 ∷ xs))
 unfolding all_items
-all_items_next read [] x s fits h = let t = s.by [] x fits h in absurd (omega arith)
-all_items_next {A} {F} read (b ∷ bs) x s fits h =
+all_items_next fault read end [] x s fits h = let t = s.by [] x fits h in absurd (omega arith)
+all_items_next {A} {F} fault read end (b ∷ bs) x s fits h =
     let t = s.by (b ∷ bs) x fits h in
-    let first : many read (length (b ∷ bs)) (b ∷ bs) ≡ (many read (length bs) x.1 >>= λ xs. Ok (x.0 ∷ xs)) = ap (λ (r : Reads A F). r >>= λ y. many read (length bs) y.1 >>= λ xs. Ok (y.0 ∷ xs)) h in
-    first ∙ ap (λ (r : Result (List A) F). r >>= λ xs. Ok (x.0 ∷ xs)) (many_more read (length bs) (length x.1) x.1 s t.1 (omega arith) (omega arith))
+    let first : many fault read end (length (b ∷ bs)) (b ∷ bs) ≡ (many fault read end (length bs) x.1 >>= λ xs. Ok (x.0 ∷ xs)) = ap (λ (r : Reads A F). r >>= λ y. many fault read end (length bs) y.1 >>= λ xs. Ok (y.0 ∷ xs)) h in
+    first ∙ ap (λ (r : Result (List A) F). r >>= λ xs. Ok (x.0 ∷ xs)) (many_more fault read end (length bs) (length x.1) x.1 s t.1 (omega arith) (omega arith))
 
 -- what was read before, and what is still read
 abbrev pub with_front : {A F : Type 0} → List A → Result (List A) F → Result (List A) F
@@ -53,23 +53,23 @@ regroup : {A F : Type 0} (front : List A) (x : A) (read : Result (List A) F) →
 regroup {A} {F} front x (Ok xs) = ap (λ (ys : List A). Ok ys) (simp append_assoc)
 regroup front x (Err e) = refl
 
-pub goes_on : {A F : Type 0} (read : List ℕ → Reads A F) (front : List A) (text : List ℕ) (x : A) (after : List ℕ) (total : Result (List A) F) → Shrinks read → IsBytes text → read text ≡ Ok (x, after)
-    → with_front front (all_items read text) ≡ total → with_front (front ++ x ∷ []) (all_items read after) ≡ total
-goes_on read front text x after total s fits h so_far =
-    sym (regroup front x (all_items read after)) ∙ ap (with_front front) (sym (all_items_next read text (x, after) s fits h)) ∙ so_far
+pub goes_on : {A F : Type 0} (fault : ℕ → F) (read : ℕ → List ℕ → Reads A F) (end : ℕ) (front : List A) (text : List ℕ) (x : A) (after : List ℕ) (total : Result (List A) F) → Shrinks (read end) → IsBytes text → read end text ≡ Ok (x, after)
+    → with_front front (all_items fault read end text) ≡ total → with_front (front ++ x ∷ []) (all_items fault read end after) ≡ total
+goes_on fault read end front text x after total s fits h so_far =
+    sym (regroup front x (all_items fault read end after)) ∙ ap (with_front front) (sym (all_items_next fault read end text (x, after) s fits h)) ∙ so_far
 
-pub ends : {A F : Type 0} (e : Stop F) (read : List ℕ → Reads A F) (front : List A) (text : List ℕ) (total : Result (List A) F) → 0 < length text → Stops e (read text)
-    → with_front front (all_items read text) ≡ total → Stops e total
+pub ends : {A F : Type 0} (e : Stop F) (fault : ℕ → F) (read : ℕ → List ℕ → Reads A F) (end : ℕ) (front : List A) (text : List ℕ) (total : Result (List A) F) → 0 < length text → Stops e (read end text)
+    → with_front front (all_items fault read end text) ≡ total → Stops e total
 unfolding all_items
-ends stop.Memory read front text total some h so_far = tt
-ends (stop.Fault e) read front [] total some h so_far = absurd (omega arith)
-ends {A} {F} (stop.Fault e) read front (b ∷ bs) total some h so_far =
-    sym so_far ∙ ap (λ (r : Reads A F). with_front front (r >>= λ y. many read (length bs) y.1 >>= λ xs. Ok (y.0 ∷ xs))) h
+ends stop.Memory fault read end front text total some h so_far = tt
+ends (stop.Fault e) fault read end front [] total some h so_far = absurd (omega arith)
+ends {A} {F} (stop.Fault e) fault read end front (b ∷ bs) total some h so_far =
+    sym so_far ∙ ap (λ (r : Reads A F). with_front front (r >>= λ y. many fault read end (length bs) y.1 >>= λ xs. Ok (y.0 ∷ xs))) h
 
-pub is_done : {A F : Type 0} (read : List ℕ → Reads A F) (front : List A) (text : List ℕ) (total : Result (List A) F) → length text ≡ 0 → with_front front (all_items read text) ≡ total → total ≡ Ok front
+pub is_done : {A F : Type 0} (fault : ℕ → F) (read : ℕ → List ℕ → Reads A F) (end : ℕ) (front : List A) (text : List ℕ) (total : Result (List A) F) → length text ≡ 0 → with_front front (all_items fault read end text) ≡ total → total ≡ Ok front
 unfolding all_items
-is_done {A} read front [] total e so_far = sym so_far ∙ ap (λ (ys : List A). Ok ys) (append-nil front)
-is_done read front (b ∷ bs) total e so_far = absurd (omega arith)
+is_done {A} fault read end front [] total e so_far = sym so_far ∙ ap (λ (ys : List A). Ok ys) (append-nil front)
+is_done fault read end front (b ∷ bs) total e so_far = absurd (omega arith)
 
 -- ---- so many times
 
@@ -108,41 +108,41 @@ times_done {A} {F} read front count i text total le so_far =
 
 -- ---- the laws of items and containers
 
-many_found : {A F : Type 0} (R : A → List ℕ → Type 0) (read : ℕ → List ℕ → Reads A F) → IsReader R read → (end : ℕ) → Shrinks (read end)
-    → (n : ℕ) (text : List ℕ) (xs : List A) → IsBytes text → length text ≤ n → many (read end) n text ≡ Ok xs → IsItems R xs text
-many_found {A} {F} R read r end s n [] xs fits le e = subst (λ (ys : List A). IsItems R ys []) (ok_is {F = F} [] xs e) refl
-many_found R read r end s zero (b ∷ bs) xs fits le e = absurd (omega arith)
-many_found {A} {F} R read r end s (suc n) (b ∷ bs) xs fits le e =
-    let a = bind_is (read end (b ∷ bs)) (λ x. many (read end) n x.1 >>= λ xs. Ok (x.0 ∷ xs)) xs e in
-    let c = bind_is (many (read end) n a.0.1) (λ xs. Ok (a.0.0 ∷ xs)) xs a.2 in
+many_found : {A F : Type 0} (fault : ℕ → F) (R : A → List ℕ → Type 0) (read : ℕ → List ℕ → Reads A F) → IsReader R read → (end : ℕ) → Shrinks (read end)
+    → (n : ℕ) (text : List ℕ) (xs : List A) → IsBytes text → length text ≤ n → many fault read end n text ≡ Ok xs → IsItems R xs text
+many_found {A} {F} fault R read r end s n [] xs fits le e = subst (λ (ys : List A). IsItems R ys []) (ok_is {F = F} [] xs e) refl
+many_found fault R read r end s zero (b ∷ bs) xs fits le e = absurd (omega arith)
+many_found {A} {F} fault R read r end s (suc n) (b ∷ bs) xs fits le e =
+    let a = bind_is (read end (b ∷ bs)) (λ x. many fault read end n x.1 >>= λ xs. Ok (x.0 ∷ xs)) xs e in
+    let c = bind_is (many fault read end n a.0.1) (λ xs. Ok (a.0.0 ∷ xs)) xs a.2 in
     let t = s.by (b ∷ bs) a.0 fits a.1 in
     let f = r.finds end (b ∷ bs) a.0 fits a.1 in
-    let later = many_found R read r end s n a.0.1 c.0 t.1 (omega arith) c.1 in
+    let later = many_found fault R read r end s n a.0.1 c.0 t.1 (omega arith) c.1 in
     subst (λ (ys : List A). IsItems R ys (b ∷ bs)) (ok_is {F = F} (a.0.0 ∷ c.0) xs c.2) (f.front, a.0.1, f.spelled, later, f.parts)
 
-pub items_found : {A F : Type 0} (R : A → List ℕ → Type 0) (read : ℕ → List ℕ → Reads A F) → IsReader R read → (end : ℕ) → Shrinks (read end)
-    → (text : List ℕ) (xs : List A) → IsBytes text → all_items (read end) text ≡ Ok xs → IsItems R xs text
+pub items_found : {A F : Type 0} (fault : ℕ → F) (R : A → List ℕ → Type 0) (read : ℕ → List ℕ → Reads A F) → IsReader R read → (end : ℕ) → Shrinks (read end)
+    → (text : List ℕ) (xs : List A) → IsBytes text → all_items fault read end text ≡ Ok xs → IsItems R xs text
 unfolding all_items
-items_found R read r end s text xs fits e = many_found R read r end s (length text) text xs fits (omega arith) e
+items_found fault R read r end s text xs fits e = many_found fault R read r end s (length text) text xs fits (omega arith) e
 
-many_again : {A F : Type 0} (R : A → List ℕ → Type 0) (read : ℕ → List ℕ → Reads A F) → IsReader R read → ((a : A) (text : List ℕ) → R a text → 0 < length text) → (end : ℕ)
-    → (n : ℕ) (xs : List A) (text : List ℕ) → length text ≤ n → IsItems R xs text → many (read end) n text ≡ Ok xs
-many_again R read r filled end n [] [] le h = refl
-many_again R read r filled end n [] (b ∷ bs) le h = absurd cc
-many_again R read r filled end n (x ∷ xs) [] le h =
+many_again : {A F : Type 0} (fault : ℕ → F) (R : A → List ℕ → Type 0) (read : ℕ → List ℕ → Reads A F) → IsReader R read → ((a : A) (text : List ℕ) → R a text → 0 < length text) → (end : ℕ)
+    → (n : ℕ) (xs : List A) (text : List ℕ) → length text ≤ n → IsItems R xs text → many fault read end n text ≡ Ok xs
+many_again fault R read r filled end n [] [] le h = refl
+many_again fault R read r filled end n [] (b ∷ bs) le h = absurd cc
+many_again fault R read r filled end n (x ∷ xs) [] le h =
     let some = filled x h.0 h.2 in
     absurd (omega (arith, ap length h.4, length-append h.0 h.1))
-many_again R read r filled end zero (x ∷ xs) (b ∷ bs) le h = absurd (omega arith)
-many_again {A} {F} R read r filled end (suc n) (x ∷ xs) (b ∷ bs) le h =
+many_again fault R read r filled end zero (x ∷ xs) (b ∷ bs) le h = absurd (omega arith)
+many_again {A} {F} fault R read r filled end (suc n) (x ∷ xs) (b ∷ bs) le h =
     let some = filled x h.0 h.2 in
     let first : read end (b ∷ bs) ≡ Ok (x, h.1) = ap (read end) h.4 ∙ r.again end x h.0 h.1 h.2 in
     let fewer : length h.1 ≤ n = omega (arith, ap length h.4, length-append h.0 h.1) in
-    rw (first, many_again R read r filled end n xs h.1 fewer h.3) refl
+    rw (first, many_again fault R read r filled end n xs h.1 fewer h.3) refl
 
-pub items_again : {A F : Type 0} (R : A → List ℕ → Type 0) (read : ℕ → List ℕ → Reads A F) → IsReader R read → ((a : A) (text : List ℕ) → R a text → 0 < length text) → (end : ℕ)
-    → (xs : List A) (text : List ℕ) → IsItems R xs text → all_items (read end) text ≡ Ok xs
+pub items_again : {A F : Type 0} (fault : ℕ → F) (R : A → List ℕ → Type 0) (read : ℕ → List ℕ → Reads A F) → IsReader R read → ((a : A) (text : List ℕ) → R a text → 0 < length text) → (end : ℕ)
+    → (xs : List A) (text : List ℕ) → IsItems R xs text → all_items fault read end text ≡ Ok xs
 unfolding all_items
-items_again R read r filled end xs text h = many_again R read r filled end (length text) xs text (omega arith) h
+items_again fault R read r filled end xs text h = many_again fault R read r filled end (length text) xs text (omega arith) h
 
 -- the bytes of a text that stands among bytes are bytes
 pub text_bytes : (w : Width) (s front rest : List ℕ) → IsBytes (front ++ rest) → IsText w s front → IsBytes s
@@ -162,16 +162,16 @@ container_reader {A} {F} fault w wide R read r filled = record { finds = finds; 
 
     finds : (end : ℕ) (text : List ℕ) (x : List A × List ℕ) → IsBytes text → container_in fault w read end text ≡ Ok x → Finds (IsContainer w R) text x
     finds end text x fits e =
-        let b = bind_is (text_in fault w end text) (λ body. all_items (read (end - length body.1)) body.0 >>= λ items. Ok (items, body.1)) x e in
-        let c = bind_is (all_items (read (end - length b.0.1)) b.0.0) (λ items. Ok (items, b.0.1)) x b.2 in
+        let b = bind_is (text_in fault w end text) (λ body. all_items fault read (end - length body.1) body.0 >>= λ items. Ok (items, body.1)) x e in
+        let c = bind_is (all_items fault read (end - length b.0.1) b.0.0) (λ items. Ok (items, b.0.1)) x b.2 in
         let f = texts.finds end text b.0 fits b.1 in
         let inside = text_bytes w b.0.0 f.front b.0.1 (subst IsBytes f.parts fits) f.spelled in
-        let items = items_found R read r (end - length b.0.1) (reader_shrinks R read r filled (end - length b.0.1)) b.0.0 c.0 inside c.1 in
+        let items = items_found fault R read r (end - length b.0.1) (reader_shrinks R read r filled (end - length b.0.1)) b.0.0 c.0 inside c.1 in
         subst (λ (y : List A × List ℕ). Finds (IsContainer w R) text y) (ok_is {F = F} (c.0, b.0.1) x c.2)
         (record { front = f.front; spelled = (b.0.0, items, f.spelled); parts = f.parts; rest_fits = f.rest_fits })
 
     again : (end : ℕ) (xs : List A) (front rest : List ℕ) → IsContainer w R xs front → container_in fault w read end (front ++ rest) ≡ Ok (xs, rest)
-    again end xs front rest h = rw (texts.again end h.0 front rest h.2, items_again R read r filled (end - length rest) xs h.0 h.1) refl
+    again end xs front rest h = rw (texts.again end h.0 front rest h.2, items_again fault R read r filled (end - length rest) xs h.0 h.1) refl
 
 -- so many items
 abbrev pub IsTimes : {A : Type 0} → (A → List ℕ → Type 0) → ℕ → List A → List ℕ → Type 0

@@ -1,14 +1,14 @@
 -- Readers against spellings: what is read is spelled so, and what is spelled so is read, whatever follows.
 -- The law of a reader is put together from the laws of its parts.
-use Rattle.std.proofs.Common.{◌≡◌, ℕ, ◌-◌, ◌^◌, ◌<◌, ◌≤◌, Bool, true, false, cond, ltb, List, [], ◌∷◌, ◌++◌, length, take, drop, Result, Ok, Err, refl, sym, ap, subst, ◌∙◌, append_assoc, arith}
+use Rattle.std.proofs.Common.{◌≡◌, ◌↔◌, ℕ, ◌+◌, ◌-◌, ◌^◌, ◌<◌, ◌≤◌, Bool, true, false, cond, ltb, List, [], ◌∷◌, ◌++◌, length, take, drop, Result, Ok, Err, refl, sym, ap, subst, ◌∙◌, append_assoc, arith}
 use Rattle.std.specs.Int.{Width, w8, w16, w32, w64, byte_len, from_be_bytes, to_be_bytes}
 use Rattle.std.proofs.lemmas.Bool.{ltb-false, le-ltb}
-use Rattle.std.proofs.lemmas.List.{take_at, drop_at, take-append-drop, length-append, length-take}
+use Rattle.std.proofs.lemmas.List.{take_at, drop_at, take-append-drop, length-append, length-take, length-drop}
 use Rattle.std.proofs.lemmas.Nat.{be_bytes_2, be_bytes_4, be_bytes_8, from_be_bytes-to_be_bytes_2, from_be_bytes-to_be_bytes_4, from_be_bytes-to_be_bytes_8}
 use Rattle.wire_base.specs.Bytes.{IsBytes}
 use Rattle.wire_base.specs.Reading.{Reads, ◌>>=◌, made, pair_in, number_in, text_in, whole_in}
 use Rattle.wire_base.proofs.Bytes.{IsBytes-drop, IsBytes-take}
-use Rattle.wire_base.specs.Spelling.{IsNumber, IsText, IsMade, IsPair}
+use Rattle.wire_base.specs.Spelling.{IsNumber, IsText, IsMade, IsPair, StandsAt}
 
 -- ---- steps
 
@@ -191,3 +191,23 @@ text_reader {F} fault w wide = record { finds = finds; again = again }
         let long : ltb (length (s ++ rest)) (length s) ≡ false = le-ltb _ _ (omega (arith, length-append s rest)) in
         let regrouped : front ++ rest ≡ to_be_bytes w (length s) ++ (s ++ rest) = ap (λ (t : List ℕ). t ++ rest) h.1 ∙ append_assoc (to_be_bytes w (length s)) s rest in
         ap (text_in fault w end) regrouped ∙ rw (numbers.again end (length s) (to_be_bytes w (length s)) (s ++ rest) (h.0, refl), long, take_at s rest (length s) refl, drop_at s rest (length s) refl) refl
+
+-- ---- what stands at an offset
+
+-- a value is read exactly where it stands, if what is read stands there, and what stands there is read, whatever follows
+pub reads_exactly : {A F : Type 0} (R : A → List ℕ → Type 0) (read : List ℕ → ℕ → Result (A × ℕ) F) → ((a : A) (text : List ℕ) → R a text → 0 < length text)
+    → ((bytes : List ℕ) (at : ℕ) (x : A × ℕ) → IsBytes bytes → read bytes at ≡ Ok x → (x.1 ≤ length bytes) × R x.0 (take (x.1 - at) (drop at bytes)))
+    → ((bytes : List ℕ) (at : ℕ) (a : A) (text rest : List ℕ) → R a text → drop at bytes ≡ text ++ rest → read bytes at ≡ Ok (a, at + length text))
+    → (a : A) (bytes : List ℕ) (at after : ℕ) → IsBytes bytes → (read bytes at ≡ Ok (a, after)) ↔ StandsAt R a bytes at after
+reads_exactly {A} R read filled found again a bytes at after fits = (there, back)
+  where
+    there : read bytes at ≡ Ok (a, after) → StandsAt R a bytes at after
+    there e =
+        let f = found bytes at (a, after) fits e in
+        (omega (arith, filled a _ f.1, length-take (after - at) (drop at bytes)), f.0, f.1)
+
+    back : StandsAt R a bytes at after → read bytes at ≡ Ok (a, after)
+    back h =
+        let text = take (after - at) (drop at bytes) in
+        let place : at + length text ≡ after = omega (arith, h.0, h.1, length-take (after - at) (drop at bytes), length-drop at bytes) in
+        again bytes at a text (drop (after - at) (drop at bytes)) h.2 (sym (take-append-drop (after - at) (drop at bytes))) ∙ ap (λ (n : ℕ). Ok (a, n)) place

@@ -46,24 +46,24 @@ text_in fault w end bytes = do
 abbrev pub whole_in : {A F : Type 0} → (ℕ → F) → ℕ → (ℕ → List ℕ → Reads A F) → ℕ → List ℕ → Reads A F
 whole_in fault n read end bytes = if nat_lt (length bytes) n then Err (fault (end - length bytes)) else read end bytes
 
--- items until nothing is left, at most so many
-abbrev pub many : {A F : Type 0} → (List ℕ → Reads A F) → ℕ → List ℕ → Result (List A) F
-many read fuel [] = Ok []
-many read zero (b ∷ bytes) = Ok []
-many read (suc fuel) (b ∷ bytes) = do
-  x ← read (b ∷ bytes)
-  xs ← many read fuel x.1
+-- items until nothing is left, at most so many; where bytes are left behind them, the fault at the first of these
+abbrev pub many : {A F : Type 0} → (ℕ → F) → (ℕ → List ℕ → Reads A F) → ℕ → ℕ → List ℕ → Result (List A) F
+many fault read end most [] = Ok []
+many fault read end zero (b ∷ bytes) = Err (fault (end - length (b ∷ bytes)))
+many fault read end (suc most) (b ∷ bytes) = do
+  x ← read end (b ∷ bytes)
+  xs ← many fault read end most x.1
   Ok (x.0 ∷ xs)
 
 -- items until nothing is left: there are no more than bytes, as each takes one at least
-unfoldable pub all_items : {A F : Type 0} → (List ℕ → Reads A F) → List ℕ → Result (List A) F
-all_items read body = many read (length body) body
+unfoldable pub all_items : {A F : Type 0} → (ℕ → F) → (ℕ → List ℕ → Reads A F) → ℕ → List ℕ → Result (List A) F
+all_items fault read end body = many fault read end (length body) body
 
 -- a length of this width, and items that fill exactly so many bytes
 abbrev pub container_in : {A F : Type 0} → (ℕ → F) → Width → (ℕ → List ℕ → Reads A F) → ℕ → List ℕ → Reads (List A) F
 container_in fault w read end bytes = do
   body ← text_in fault w end bytes
-  items ← all_items (read (end - length body.1)) body.0
+  items ← all_items fault read (end - length body.1) body.0
   Ok (items, body.1)
 
 -- so many items, one after another

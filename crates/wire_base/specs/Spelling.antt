@@ -1,6 +1,6 @@
 -- How values are spelled: relations between a value and the bytes that spell it, all of the bytes.
 -- Numbers, texts behind their length, and items one after another, for both protocols (AMQP 0-9-1 4.2.5; AMQP 1.0 1.6).
-use Rattle.std.specs.Prelude.{◌≡◌, ℕ, ◌<◌, ◌^◌, List, [], ◌∷◌, ◌++◌, length}
+use Rattle.std.specs.Prelude.{◌≡◌, ℕ, ◌-◌, ◌<◌, ◌≤◌, ◌^◌, List, [], ◌∷◌, ◌++◌, length, take, drop}
 use Rattle.std.specs.Int.{Width, byte_len, to_be_bytes}
 
 -- a number that fits the width, most significant byte first
@@ -31,3 +31,7 @@ IsItems R (x ∷ xs) text = (front : List ℕ) × (back : List ℕ) × R x front
 -- the length of the items' bytes in this width, and the items
 abbrev pub IsContainer : {A : Type 0} → Width → (A → List ℕ → Type 0) → List A → List ℕ → Type 0
 IsContainer w R xs text = (body : List ℕ) × IsItems R xs body × IsText w body text
+
+-- the bytes from one offset to another are there, and spell the value
+abbrev pub StandsAt : {A : Type 0} → (A → List ℕ → Type 0) → A → List ℕ → ℕ → ℕ → Type 0
+StandsAt R x bytes at after = (at ≤ after) × (after ≤ length bytes) × R x (take (after - at) (drop at bytes))

@@ -5,10 +5,11 @@ ghost use Rattle.std.specs.Int.{w32, to_be_bytes};
 
 use crate::memory::Memory;
 use std::alloc::Global;
+use std::fmt;
 use std::marker::Model;
 
 /// A byte string. Contracts see it as the list of its bytes.
-#[derive(Debug, Drop)]
+#[derive(Drop)]
 pub struct ByteText {
     bytes: Vec<u8>,
 }
@@ -34,14 +35,6 @@ impl ByteText {
         ensures { IfOk result (λ text. text ≡ bytes.now) }
     {
         let bytes = Vec::from_slice(alloc, bytes)?;
-        Ok(ByteText { bytes })
-    }
-
-    /// The empty byte string, with room for so many bytes.
-    pub fn with_room(alloc: Global, room: usize) -> Result<ByteText, Memory>
-        ensures { IfOk result (λ text. text ≡ []) }
-    {
-        let bytes = Vec::with_capacity(alloc, room)?;
         Ok(ByteText { bytes })
     }
 
@@ -91,5 +84,13 @@ impl ByteText {
         ensures { IfOk result (λ text. text ≡ self.now) }
     {
         ByteText::copy_of(alloc, self.as_slice())
+    }
+}
+
+/// Prints the bytes as a text in quotes: `"queue\x00"`. What isn't printable ASCII stands as in Rust's byte strings.
+impl fmt::Debug for ByteText {
+    fn fmt<W: fmt::Write>(&self, f: &mut fmt::Formatter<W>) -> fmt::Result {
+        let bytes = self.bytes.escape_ascii();
+        write!(f, "\"{bytes}\"")
     }
 }

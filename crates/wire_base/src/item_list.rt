@@ -4,10 +4,11 @@ ghost use Rattle.std.specs.Prelude.{◌≡◌, ℕ, ◌+◌, List, [], ◌∷◌
 
 use crate::memory::Memory;
 use std::alloc::Global;
+use std::fmt;
 use std::marker::Model;
 
 /// A list of items. Contracts see it as that list.
-#[derive(Debug, Drop)]
+#[derive(Drop)]
 pub struct ItemList<T> {
     items: Vec<T>,
 }
@@ -51,5 +52,13 @@ impl<T: Drop> ItemList<T> {
         ensures { option_copied result ≡ slice_get self.now k }
     {
         self.items.get(k)
+    }
+}
+
+/// Prints the items as a list: `[1, 2]`.
+impl<T: fmt::Debug> fmt::Debug for ItemList<T> {
+    fn fmt<W: fmt::Write>(&self, f: &mut fmt::Formatter<W>) -> fmt::Result {
+        let items = &self.items;
+        write!(f, "{items:?}")
     }
 }

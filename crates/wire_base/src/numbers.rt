@@ -44,26 +44,26 @@ pub fn put_u8(out: &mut ByteText, n: u8) -> Result<(), Memory>
     ensures ok { OnOk result (out.new ≡ out.old ++ to_be_bytes w8 n) }
     ensures err { OnErr result (out.new ≡ out.old) }
 {
-    out.append(&n.to_be_bytes())
+    out.append(&u8::to_be_bytes(n))
 }
 
 pub fn put_u16(out: &mut ByteText, n: u16) -> Result<(), Memory>
     ensures ok { OnOk result (out.new ≡ out.old ++ to_be_bytes w16 n) }
     ensures err { OnErr result (out.new ≡ out.old) }
 {
-    out.append(&n.to_be_bytes())
+    out.append(&u16::to_be_bytes(n))
 }
 
 pub fn put_u32(out: &mut ByteText, n: u32) -> Result<(), Memory>
     ensures ok { OnOk result (out.new ≡ out.old ++ to_be_bytes w32 n) }
     ensures err { OnErr result (out.new ≡ out.old) }
 {
-    out.append(&n.to_be_bytes())
+    out.append(&u32::to_be_bytes(n))
 }
 
 pub fn put_u64(out: &mut ByteText, n: u64) -> Result<(), Memory>
     ensures ok { OnOk result (out.new ≡ out.old ++ to_be_bytes w64 n) }
     ensures err { OnErr result (out.new ≡ out.old) }
 {
-    out.append(&n.to_be_bytes())
+    out.append(&u64::to_be_bytes(n))
 }

@@ -1,6 +1,8 @@
+use Rattle.methods_091.proofs.FaultLaws.{read_exactly}
 use Rattle.methods_091.proofs.KindLaws.{kinds_apart}
 use Rattle.methods_091.proofs.MethodLaws.{one_method}
 use Rattle.methods_091.proofs.Rebuilding.{same_parts}
+use Rattle.methods_091.proofs.Writable.{method_writable}
 use Rattle.methods_091.proofs.Written.{written_is_spelled, written_is_read}
 use Rattle.methods_091.proofs.laws.method_laws.Goals as goal
 
@@ -18,3 +20,9 @@ returns-clause-parts c = same_parts
 
 pub returns-clause-apart : goal.returns-clause-apart
 returns-clause-apart c = kinds_apart
+
+pub returns-clause-read : goal.returns-clause-read
+returns-clause-read c = read_exactly
+
+pub returns-clause-writable : goal.returns-clause-writable
+returns-clause-writable c = method_writable

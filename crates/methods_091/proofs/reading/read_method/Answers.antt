@@ -1,5 +1,5 @@
 use Rattle.std.proofs.Common.{arith}
-use Rattle.methods_091.proofs.FaultLaws.{found_by, only_by}
+use Rattle.methods_091.proofs.FaultLaws.{found_by, only_by, writable_by}
 use Rattle.methods_091.proofs.reading.read_method.Goals as goal
 
 pub returns-clause-found : goal.returns-clause-found
@@ -7,3 +7,6 @@ returns-clause-found c = found_by c.args.payload.now c.in_ok-read.read (λ i. om
 
 pub returns-clause-only : goal.returns-clause-only
 returns-clause-only c = only_by c.args.payload.now c.in_ok-read.read c.in_ok-read.ensures
+
+pub returns-clause-writable : goal.returns-clause-writable
+returns-clause-writable c = writable_by c.args.payload.now c.in_ok-read.read (λ i. omega (arith, c.type_inv.payload i)) c.in_ok-read.ensures

@@ -1,4 +1,5 @@
-use Rattle.tables_091.proofs.ReaderLaws.{one_table}
+use Rattle.tables_091.proofs.FaultLaws.{fault_is_first}
+use Rattle.tables_091.proofs.ReaderLaws.{one_table, table_is_read}
 use Rattle.tables_091.proofs.Writable.{spelled_is_writable}
 use Rattle.tables_091.proofs.Written.{written_is_spelled, written_is_read}
 use Rattle.tables_091.proofs.laws.table_laws.Goals as goal
@@ -14,3 +15,9 @@ returns-clause-writable c = spelled_is_writable
 
 pub returns-clause-one : goal.returns-clause-one
 returns-clause-one c = one_table
+
+pub returns-clause-read : goal.returns-clause-read
+returns-clause-read c = table_is_read
+
+pub returns-clause-fault : goal.returns-clause-fault
+returns-clause-fault c = fault_is_first

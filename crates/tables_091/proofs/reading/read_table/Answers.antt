@@ -1,4 +1,5 @@
 use Rattle.std.proofs.Common.{arith}
+use Rattle.tables_091.proofs.FaultLaws.{fault_is_first}
 use Rattle.tables_091.proofs.ReaderLaws.{read_is_spelled, spelled_is_read}
 use Rattle.tables_091.proofs.Writable.{spelled_is_writable}
 use Rattle.tables_091.proofs.reading.read_table.Goals as goal
@@ -17,3 +18,8 @@ pub returns-in-Err-Fault-clause-only : goal.returns-in-Err-Fault-clause-only
 returns-in-Err-Fault-clause-only c = λ ms text rest h parts.
     let fault = rw c.in-Err-Fault.field-0-is at c.in-Err-Fault.ensures in
     absurd (cc (spelled_is_read c.args.bytes.now c.args.at ms text rest h parts, fault))
+
+pub returns-in-Err-Fault-clause-fault : goal.returns-in-Err-Fault-clause-fault
+returns-in-Err-Fault-clause-fault c =
+    let fault = rw c.in-Err-Fault.field-0-is at c.in-Err-Fault.ensures in
+    (fault_is_first c.args.bytes.now c.args.at _ (λ i. omega (arith, c.type_inv.bytes i))).0 fault

@@ -4,6 +4,7 @@ use Rattle.types_10.specs.Tree.{Tree}
 use Rattle.types_10.specs.View.{value_tree}
 use Rattle.types_10.specs.Reading.{Fault}
 use Rattle.types_10.proofs.Depths.{value_depth}
+use Rattle.types_10.proofs.FaultLaws.{fault_is_first}
 use Rattle.types_10.proofs.ValueLaws.{read_is_spelled, spelled_is_read}
 use Rattle.types_10.proofs.reading.read_value.Goals as goal
 
@@ -24,3 +25,8 @@ pub returns-in-Err-Fault-clause-only : goal.returns-in-Err-Fault-clause-only
 returns-in-Err-Fault-clause-only c = λ v text rest h parts.
     let fault = rw c.in-Err-Fault.field-0-is at c.in-Err-Fault.ensures in
     absurd (cc (spelled_is_read c.args.bytes.now c.args.at v text rest h parts, fault))
+
+pub returns-in-Err-Fault-clause-fault : goal.returns-in-Err-Fault-clause-fault
+returns-in-Err-Fault-clause-fault c =
+    let fault = rw c.in-Err-Fault.field-0-is at c.in-Err-Fault.ensures in
+    (fault_is_first c.args.bytes.now c.args.at _ (λ i. omega (arith, c.type_inv.bytes i))).0 fault
