@@ -5,11 +5,11 @@ use Rattle.wire_base.specs.declared.scan.Scan.{Scan}
 use Rattle.wire_base.specs.declared.scan.Scan.TheVariants.{Whole, More, Bad}
 use Rattle.frames_091.specs.FrameScan.{scan_of}
 use Rattle.frames_091.specs.Headers.{header_scan}
-use Rattle.machine_091.specs.Phases.{new_connection}
-use Rattle.machine_091.specs.Transitions.{taken}
-use Rattle.machine_091.specs.declared.connection.Conn91.{Conn91}
-use Rattle.machine_091.specs.declared.connection.Phase91.{Phase91}
-use Rattle.machine_091.specs.declared.connection.Phase91.TheVariants as phase
+use Rattle.machine_091.specs.Words.{new_connection}
+use Rattle.gate_loop.specs.Talks.{taken}
+use Rattle.machine_091.specs.declared.state.Connection.{Connection}
+use Rattle.machine_091.specs.declared.state.Phase91.{Phase91}
+use Rattle.machine_091.specs.declared.state.Phase91.TheVariants as phase
 use Rattle.machine_091.specs.declared.unit.Unit91.{Unit91}
 use Rattle.machine_091.specs.declared.unit.Unit91.TheVariants as unit91
 use Rattle.gate_loop.specs.Events.{Strained, client_loss, is_strained, talk, units}
@@ -45,7 +45,7 @@ by_phase P limit header frame phase.Closing = frame
 by_phase P limit header frame phase.Closed = frame
 
 -- the same of the unit with which bytes begin
-unit_settled : AreSettled → (c : Conn91) (bytes more : List ℕ) → unit_scan c bytes ≢ More → unit_scan c (bytes ++ more) ≡ unit_scan c bytes
+unit_settled : AreSettled → (c : Connection) (bytes more : List ℕ) → unit_scan c bytes ≢ More → unit_scan c (bytes ++ more) ≡ unit_scan c bytes
 unit_settled s c bytes more =
     by_phase (λ (scan : List ℕ → Scan Unit91 ℕ). scan bytes ≢ More → scan (bytes ++ more) ≡ scan bytes) c.limits.frame_max
     (as_settled (λ header. unit91.Protocol) 0 (header_scan bytes) (header_scan (bytes ++ more)) (s.header bytes more))
@@ -63,25 +63,25 @@ sound_as make code (Whole x n) f = f x
 sound_as make code More f = tt
 sound_as make code (Bad fault) f = tt
 
-finds_sound : (c : Conn91) (bytes : List ℕ) → FindsSound (unit_scan c bytes)
+finds_sound : (c : Connection) (bytes : List ℕ) → FindsSound (unit_scan c bytes)
 finds_sound c bytes =
     by_phase (λ (scan : List ℕ → Scan Unit91 ℕ). FindsSound (scan bytes)) c.limits.frame_max
     (sound_as (λ header. unit91.Protocol) 0 (header_scan bytes) (λ x. refl))
     (sound_as unit91.Frame frame_error (scan_of c.limits.frame_max bytes) (λ x. refl))
     c.phase
 
-sound_at : (c : Conn91) (bytes : List ℕ) (unit : Unit91) (n : ℕ) → unit_scan c bytes ≡ Whole unit n → is_bad unit ≡ false
+sound_at : (c : Connection) (bytes : List ℕ) (unit : Unit91) (n : ℕ) → unit_scan c bytes ≡ Whole unit n → is_bad unit ≡ false
 sound_at c bytes unit n e = subst FindsSound e (finds_sound c bytes)
 
 -- ---- the units that were read
 
 -- bytes begin with these whole units, which make the one connection the other, and unread is what is behind them
-abbrev IsRead : Conn91 → List Unit91 → List ℕ → Conn91 → List ℕ → Type 0
+abbrev IsRead : Connection → List Unit91 → List ℕ → Connection → List ℕ → Type 0
 IsRead c [] bytes last unread = (c ≡ last) × (bytes ≡ unread)
 IsRead c (unit ∷ us) bytes last unread = (n : ℕ) × (unit_scan c bytes ≡ Whole unit n) × IsRead (taken c unit).0 us (drop n bytes) last unread
 
 -- further bytes leave them as they are
-read_more : AreSettled → (c : Conn91) (us : List Unit91) (bytes more : List ℕ) (last : Conn91) (unread : List ℕ) → IsRead c us bytes last unread
+read_more : AreSettled → (c : Connection) (us : List Unit91) (bytes more : List ℕ) (last : Connection) (unread : List ℕ) → IsRead c us bytes last unread
     → IsRead c us (bytes ++ more) last (unread ++ more)
 read_more s c [] bytes more last unread r = (r.0, ap (λ (b : List ℕ). b ++ more) r.1)
 read_more s c (unit ∷ us) bytes more last unread r =
@@ -91,20 +91,20 @@ read_more s c (unit ∷ us) bytes more last unread r =
     (r.0, same, subst (λ (b : List ℕ). IsRead (taken c unit).0 us b last (unread ++ more)) (sym behind) (read_more s (taken c unit).0 us (drop r.0 bytes) more last unread r.2))
 
 -- one unit more
-read_next : (c : Conn91) (us : List Unit91) (bytes : List ℕ) (last : Conn91) (unread : List ℕ) (unit : Unit91) (n : ℕ) → unit_scan last unread ≡ Whole unit n
+read_next : (c : Connection) (us : List Unit91) (bytes : List ℕ) (last : Connection) (unread : List ℕ) (unit : Unit91) (n : ℕ) → unit_scan last unread ≡ Whole unit n
     → IsRead c us bytes last unread → IsRead c (us ++ unit ∷ []) bytes (taken last unit).0 (drop n unread)
 read_next c [] bytes last unread unit n e r = (n, rw (r.0, r.1) e, rw (r.0, r.1) (refl, refl))
 read_next c (first ∷ us) bytes last unread unit n e r = (r.0, r.1, read_next (taken c first).0 us (drop r.0 bytes) last unread unit n e r.2)
 
 -- one unit, and then what is behind it
-begin_one : (c : Conn91) (unit : Unit91) (us : List Unit91) (bytes : List ℕ) (n : ℕ) → is_bad unit ≡ false → unit_scan c bytes ≡ Whole unit n
+begin_one : (c : Connection) (unit : Unit91) (us : List Unit91) (bytes : List ℕ) (n : ℕ) → is_bad unit ≡ false → unit_scan c bytes ≡ Whole unit n
     → BeginWith (taken c unit).0 us (drop n bytes) → BeginWith c (unit ∷ us) bytes
 begin_one c unit91.Protocol us bytes n sound e b = (n, e, b)
 begin_one c (unit91.Frame frame) us bytes n sound e b = (n, e, b)
 begin_one c (unit91.Bad code) us bytes n sound e b = absurd cc
 
 -- what bytes begin with behind the units that were read, they begin with
-read_then : (c : Conn91) (us : List Unit91) (bytes : List ℕ) (last : Conn91) (unread : List ℕ) (next : List Unit91) → BeginWith last next unread
+read_then : (c : Connection) (us : List Unit91) (bytes : List ℕ) (last : Connection) (unread : List ℕ) (next : List Unit91) → BeginWith last next unread
     → IsRead c us bytes last unread → BeginWith c (us ++ next) bytes
 read_then c [] bytes last unread next b r = rw (r.0, r.1) b
 read_then c (unit ∷ us) bytes last unread next b r =
@@ -113,7 +113,7 @@ read_then c (unit ∷ us) bytes last unread next b r =
 -- ---- a journal whose bytes are being cut
 
 -- bad bytes end the units; else what is unread is behind them
-abbrev HearsBy : Bool → Conn91 → List Unit91 → List ℕ → List ℕ → Type 0
+abbrev HearsBy : Bool → Connection → List Unit91 → List ℕ → List ℕ → Type 0
 HearsBy false last us unread bytes = IsRead new_connection us bytes last unread
 HearsBy true last us unread bytes = BeginWith new_connection us bytes
 
@@ -181,7 +181,7 @@ cuts_end (suc n) k few = elim (is_or_isnt (awaits k)) [
 -- ---- what a journal says of the bytes that came
 
 -- after want of memory the bytes that are no unit yet aren't known
-pub record Hears (strained bad : Bool) (last : Conn91) (us : List Unit91) (unread bytes : List ℕ) : Type 0 where
+pub record Hears (strained bad : Bool) (last : Connection) (us : List Unit91) (unread bytes : List ℕ) : Type 0 where
   pub units_are : BeginWith new_connection us bytes
   pub read : strained ≡ false → bad ≡ false → IsRead new_connection us bytes last unread
   pub more : strained ≡ false → bad ≡ false → unit_scan last unread ≡ More
@@ -190,7 +190,7 @@ abbrev pub HearsOf : Journal → List ℕ → Type 0
 HearsOf j bytes = Hears (is_strained j.events) (talk j.events).bad (talk j.events).conn (units j.events) j.unread bytes
 
 -- all was cut
-hears_cut : (strained bad : Bool) (last : Conn91) (us : List Unit91) (unread bytes : List ℕ) → HearsBy bad last us unread bytes → (bad ≡ false → unit_scan last unread ≡ More)
+hears_cut : (strained bad : Bool) (last : Connection) (us : List Unit91) (unread bytes : List ℕ) → HearsBy bad last us unread bytes → (bad ≡ false → unit_scan last unread ≡ More)
     → Hears strained bad last us unread bytes
 hears_cut strained true last us unread bytes x more = record { units_are = x; read = λ calm e. absurd cc; more = λ calm. more }
 hears_cut strained false last us unread bytes x more = record {

@@ -9,9 +9,9 @@ use Rattle.gate_outside.specs.declared.ports.Put.TheVariants as put
 use Rattle.gate_loop.specs.declared.config.Config.{Config}
 use Rattle.wire_base.specs.declared.scan.Scan.{Scan}
 use Rattle.wire_base.specs.declared.scan.Scan.TheVariants.{Whole, More, Bad}
-use Rattle.machine_091.specs.declared.connection.Conn91.{Conn91}
-use Rattle.machine_091.specs.declared.connection.Phase91.{Phase91}
-use Rattle.machine_091.specs.declared.connection.Phase91.TheVariants as phase
+use Rattle.machine_091.specs.declared.state.Connection.{Connection}
+use Rattle.machine_091.specs.declared.state.Phase91.{Phase91}
+use Rattle.machine_091.specs.declared.state.Phase91.TheVariants as phase
 use Rattle.machine_091.specs.declared.unit.Unit91.{Unit91}
 use Rattle.machine_091.specs.declared.unit.Unit91.TheVariants as unit91
 use Rattle.frames_091.specs.declared.frame.Frame91.{Frame91}
@@ -56,7 +56,7 @@ finds_frame (Whole frame n) = tt
 finds_frame More = tt
 finds_frame (Bad fault) = refl
 
-finds_one : (c : Conn91) (bytes : List ℕ) → FindsOne c.phase (unit_scan c bytes)
+finds_one : (c : Connection) (bytes : List ℕ) → FindsOne c.phase (unit_scan c bytes)
 finds_one c bytes = by c.phase
   where
     by : (p : Phase91) → FindsOne p (scan_in p c.limits.frame_max bytes)

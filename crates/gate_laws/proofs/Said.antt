@@ -1,23 +1,24 @@
 -- What went to a client, but for heartbeats, and then what is due to it, are the replies to its units; after want of memory what went
 -- since, and then what is due, are at most one unit, which ends the connection.
-use Rattle.std.proofs.Common.{◌≡◌, ℕ, ◌==◌, Bool, true, false, ◌||◌, if◌then◌else◌, List, [], ◌∷◌, ◌++◌, take, drop, Option, None, Some, append_assoc, append-nil, refl, sym, ap, ◌∙◌, subst, inl, inr}
+use Rattle.std.proofs.Common.{◌≡◌, ℕ, Bool, true, false, ◌||◌, if◌then◌else◌, List, [], ◌∷◌, ◌++◌, take, drop, Option, None, Some, append_assoc, append-nil, refl, sym, ap, ◌∙◌, subst, inl, inr}
 use Rattle.std.proofs.lemmas.List.{take-append-drop}
 use Rattle.std.proofs.lemmas.List.Elements.{filter-append}
 use Rattle.gate_outside.specs.declared.ports.End.TheVariants.{Client}
 use Rattle.gate_outside.specs.declared.ports.Put.TheVariants as put
 use Rattle.wire_base.specs.declared.scan.Scan.{Scan}
 use Rattle.wire_base.specs.declared.scan.Scan.TheVariants.{Whole, More, Bad}
-use Rattle.frames_091.specs.declared.frame.Kind91.{Kind91}
-use Rattle.frames_091.specs.declared.frame.Kind91.TheVariants as frame
-use Rattle.machine_091.specs.Phases.{new_connection}
-use Rattle.machine_091.specs.Transitions.{Taken, closing_id, first_fault, frame_brings, judged, taken}
-use Rattle.machine_091.specs.declared.connection.Conn91.{Conn91}
-use Rattle.machine_091.specs.declared.connection.Phase91.{Phase91}
-use Rattle.machine_091.specs.declared.connection.Phase91.TheVariants as phase
+use Rattle.machine_091.specs.Words.{new_connection}
+use Rattle.machine_091.specs.Words.{Step}
+use Rattle.machine_091.specs.Calls.{closing_phase}
+use Rattle.machine_091.specs.Refusals.{refusal_of}
+use Rattle.machine_091.specs.State.{is_running, is_closing_phase}
+use Rattle.machine_091.proofs.StepCases.{step_rows}
+use Rattle.machine_091.specs.declared.state.Connection.{Connection}
+use Rattle.machine_091.specs.declared.state.Phase91.{Phase91}
+use Rattle.machine_091.specs.declared.state.Phase91.TheVariants as phase
 use Rattle.machine_091.specs.declared.unit.Refusal.{Refusal}
 use Rattle.machine_091.specs.declared.unit.Unit91.{Unit91}
 use Rattle.machine_091.specs.declared.unit.Unit91.TheVariants as unit91
-use Rattle.machine_091.specs.declared.unit.Want91.TheVariants as want
 use Rattle.gate_loop.specs.declared.talk.Dues.{Dues}
 use Rattle.gate_loop.specs.declared.talk.Talk.{Talk}
 use Rattle.gate_loop.specs.declared.units.Reply.{Reply}
@@ -25,7 +26,7 @@ use Rattle.gate_loop.specs.declared.units.Reply.TheVariants as reply
 use Rattle.gate_loop.specs.Events.{Event, Came, Offered, Strained, is_strained, units, sent, talk, talk_by}
 use Rattle.gate_loop.specs.Due.{pick, spelling}
 use Rattle.gate_loop.specs.Journal.{Journal, begin_unit, came_in, noted, rest_or_pick, taken_up, with_rest, write_at}
-use Rattle.gate_loop.specs.Talks.{dues, first, is_beat_due, is_foreign, no_dues, rows, strained_dues, when, with_header, with_want, without}
+use Rattle.gate_loop.specs.Talks.{dues, first, is_beat_due, is_foreign, no_dues, open_refusal, open_refused, rows, strained_dues, taken, when, with_header, with_want, without}
 use Rattle.gate_laws.specs.Lawful.{is_taking, IsOffer}
 use Rattle.gate_laws.specs.Bytes.{AreReplies, IsEnding, answers_of, is_answer, replies, reply_to, sent_since, spelled}
 use Rattle.gate_laws.specs.Times.{conn_after}
@@ -34,18 +35,18 @@ use Rattle.gate_laws.proofs.Steps.{waits, scan_at, came_in_by}
 
 -- ---- the replies to one unit more
 
-pub conn_after_next : (c : Conn91) (us : List Unit91) (unit : Unit91) → conn_after c (us ++ unit ∷ []) ≡ (taken (conn_after c us) unit).0
+pub conn_after_next : (c : Connection) (us : List Unit91) (unit : Unit91) → conn_after c (us ++ unit ∷ []) ≡ (taken (conn_after c us) unit).0
 conn_after_next c [] unit = refl
 conn_after_next c (u ∷ us) unit = conn_after_next (taken c u).0 us unit
 
 -- the connection after one unit more
-pub conn_next : (c : Conn91) (us : List Unit91) (unit : Unit91) → c ≡ conn_after new_connection us → (taken c unit).0 ≡ conn_after new_connection (us ++ unit ∷ [])
-conn_next c us unit e = ap (λ (x : Conn91). (taken x unit).0) e ∙ sym (conn_after_next new_connection us unit)
+pub conn_next : (c : Connection) (us : List Unit91) (unit : Unit91) → c ≡ conn_after new_connection us → (taken c unit).0 ≡ conn_after new_connection (us ++ unit ∷ [])
+conn_next c us unit e = ap (λ (x : Connection). (taken x unit).0) e ∙ sym (conn_after_next new_connection us unit)
 
-abbrev reply_of : Conn91 → Unit91 → List Reply
+abbrev reply_of : Connection → Unit91 → List Reply
 reply_of c unit = when (is_foreign c.phase unit) reply.Protocol ++ reply_to (taken c unit).1
 
-replies_next : (c : Conn91) (us : List Unit91) (unit : Unit91) → replies c (us ++ unit ∷ []) ≡ replies c us ++ reply_of (conn_after c us) unit
+replies_next : (c : Connection) (us : List Unit91) (unit : Unit91) → replies c (us ++ unit ∷ []) ≡ replies c us ++ reply_of (conn_after c us) unit
 replies_next c [] unit = append-nil (reply_of c unit)
 replies_next c (u ∷ us) unit =
     ap (λ (rs : List Reply). reply_of c u ++ rs) (replies_next (taken c u).0 us unit)
@@ -96,61 +97,58 @@ close_ok_due : (d : Dues) → d.close_ok ≡ false → d.close ≡ None → d.no
     → rows (record d { close_ok = true; close = None }) ≡ rows d ++ reply.CloseOk ∷ []
 close_ok_due d ok none calm = rw (ok, none, calm) (simp append_assoc)
 
-abbrev After : Dues → List Reply → List Reply → Taken → Type 0
+abbrev After : Dues → List Reply → List Reply → Step → Type 0
 After d said all x = IsSaid x.0.phase (with_want x.1 d) said (all ++ reply_to x.1)
 
 after_nothing : (p : Phase91) (d : Dues) (said all : List Reply) → IsSaid p d said all → IsSaid p d said (all ++ [])
 after_nothing p d said all s = subst (λ (x : List Reply). IsSaid p d said x) (sym (append-nil all)) s
 
-abbrev connection : Phase91 → Conn91 → Conn91
+abbrev connection : Phase91 → Connection → Connection
 connection p c = record c { phase = p }
 
--- a unit is expected that isn't the first
-abbrev is_running : Phase91 → Bool
-is_running phase.Header = false
-is_running phase.Start = true
-is_running phase.Tune = true
-is_running phase.Open = true
-is_running phase.Running = false
-is_running phase.Closing = false
-is_running phase.Closed = false
+-- the header is awaited
+abbrev is_first : Phase91 → Bool
+is_first phase.Header = true
+is_first phase.Start = false
+is_first phase.Tune = false
+is_first phase.Open = false
+is_first phase.Running = false
+is_first phase.Closing = false
+is_first phase.Closed = false
 
-runs_in : (p : Phase91) (d : Dues) (said all : List Reply) → is_running p ≡ true → IsSaid p d said all → Runs d said all
-runs_in phase.Header d said all e s = absurd cc
-runs_in phase.Start d said all e s = s.1
-runs_in phase.Tune d said all e s = s
-runs_in phase.Open d said all e s = s
-runs_in phase.Running d said all e s = absurd cc
-runs_in phase.Closing d said all e s = absurd cc
-runs_in phase.Closed d said all e s = absurd cc
+runs_in : (p : Phase91) (d : Dues) (said all : List Reply) → is_first p ≡ false → is_closing_phase p ≡ false → IsSaid p d said all → Runs d said all
+runs_in phase.Header d said all e f s = absurd cc
+runs_in phase.Start d said all e f s = s.1
+runs_in phase.Tune d said all e f s = s
+runs_in phase.Open d said all e f s = s
+runs_in phase.Running d said all e f s = absurd s
+runs_in phase.Closing d said all e f s = absurd cc
+runs_in phase.Closed d said all e f s = absurd cc
 
-after_frame : (p : Phase91) (c : Conn91) (payload : List ℕ) (kind : Kind91) (d : Dues) (said all : List Reply) → is_running p ≡ true → IsSaid p d said all
-    → After d said all (frame_brings (connection p c) payload kind)
-after_frame phase.Header c payload frame.Method d said all e s = absurd cc
-after_frame phase.Start c payload frame.Method d said all e s =
+-- no connection runs
+none_runs : (p : Phase91) (d : Dues) (said all : List Reply) → is_running p ≡ true → IsSaid p d said all → ⊥
+none_runs phase.Header d said all e s = absurd cc
+none_runs phase.Start d said all e s = absurd cc
+none_runs phase.Tune d said all e s = absurd cc
+none_runs phase.Open d said all e s = absurd cc
+none_runs phase.Running d said all e s = s
+none_runs phase.Closing d said all e s = absurd cc
+none_runs phase.Closed d said all e s = absurd cc
+
+-- a close more is due
+refused_next : (d : Dues) (r : Refusal) (said all : List Reply) → Runs d said all → IsSaid phase.Closing (record d { close = Some r }) said (all ++ reply.Close r ∷ [])
+refused_next d r said all x =
+    (x.ok, x.calm, one_due said all (rows d) (rows (record d { close = Some r })) (reply.Close r) (close_due d r x.none x.calm) x.same)
+
+-- the login's tune is due
+login_next : (d : Dues) (said all : List Reply) → IsSaid phase.Start d said all → Runs (record d { tune = true }) said (all ++ reply.Tune ∷ [])
+login_next d said all s =
     record {
       ok = s.1.ok;
       none = s.1.none;
       calm = s.1.calm;
       same = one_due said all (rows d) (rows (record d { tune = true })) reply.Tune (tune_due d s.0 s.1.ok s.1.none s.1.calm) s.1.same;
     }
-after_frame phase.Tune c payload frame.Method d said all e s = after_nothing phase.Open d said all s
-after_frame phase.Open c payload frame.Method d said all e s = after_nothing phase.Open d said all s
-after_frame phase.Running c payload frame.Method d said all e s = absurd cc
-after_frame phase.Closing c payload frame.Method d said all e s = absurd cc
-after_frame phase.Closed c payload frame.Method d said all e s = absurd cc
-after_frame p c payload frame.Header d said all e s = after_nothing p d said all s
-after_frame p c payload frame.Body d said all e s = after_nothing p d said all s
-after_frame p c payload frame.Heartbeat d said all e s = after_nothing p d said all s
-
-after_judged : (p : Phase91) (c : Conn91) (unit : Unit91) (refused : Option Refusal) (d : Dues) (said all : List Reply) → is_running p ≡ true → IsSaid p d said all
-    → After d said all (judged (connection p c) unit refused)
-after_judged p c unit (Some r) d said all e s =
-    let x : Runs d said all = runs_in p d said all e s in
-    (x.ok, x.calm, one_due said all (rows d) (rows (record d { close = Some r })) (reply.Close r) (close_due d r x.none x.calm) x.same)
-after_judged p c unit91.Protocol None d said all e s = after_nothing p d said all s
-after_judged p c (unit91.Bad code) None d said all e s = after_nothing p d said all s
-after_judged p c (unit91.Frame f) None d said all e s = after_frame p c f.payload f.kind d said all e s
 
 -- the client closed: a close of which nothing went is due no more
 after_close : (d : Dues) (said all : List Reply) (close : Option Refusal) → d.close ≡ close → IsSaid phase.Closing d said all
@@ -168,16 +166,38 @@ after_close d said all (Some r) e s =
       ap (λ (x : List Reply). x ++ reply.CloseOk ∷ []) (sym s.2 ∙ before) ∙ append_assoc (said ++ rows old) (reply.Close r ∷ []) (reply.CloseOk ∷ []),
     )
 
-after_closing : (c : Conn91) (closes answers : Bool) (d : Dues) (said all : List Reply) → IsSaid phase.Closing d said all
-    → After d said all (if closes then (connection phase.Closed c, want.Close) else (if answers then (connection phase.Closed c, want.CloseOk) else (connection phase.Closing c, want.Nothing)))
-after_closing c true answers d said all s = after_close d said all d.close refl s
-after_closing c false true d said all s = inl (s.2 ∙ sym (append-nil all))
-after_closing c false false d said all s = after_nothing phase.Closing d said all s
+-- the client's close-ok makes nothing due
+answered_next : (p : Phase91) (d : Dues) (said all : List Reply) → is_closing_phase p ≡ true → IsSaid p d said all → AreReplies (said ++ rows d) (all ++ [])
+answered_next phase.Header d said all e s = absurd cc
+answered_next phase.Start d said all e s = absurd cc
+answered_next phase.Tune d said all e s = absurd cc
+answered_next phase.Open d said all e s = absurd cc
+answered_next phase.Running d said all e s = absurd cc
+answered_next phase.Closing d said all e s = inl (s.2 ∙ sym (append-nil all))
+answered_next phase.Closed d said all e s = after_nothing phase.Closed d said all s
 
-after_closed : (c : Conn91) (answers : Bool) (d : Dues) (said all : List Reply) → IsSaid phase.Closed d said all
-    → After d said all (if answers then (connection phase.Closed c, want.CloseOk) else (connection phase.Closed c, want.Nothing))
-after_closed c true d said all s = after_nothing phase.Closed d said all s
-after_closed c false d said all s = after_nothing phase.Closed d said all s
+-- a unit that isn't the first
+after_step : (c : Connection) (unit : Unit91) (d : Dues) (said all : List Reply) → is_first c.phase ≡ false → IsSaid c.phase d said all
+    → After d said all (taken c unit)
+after_step c unit d said all later s = step_rows (λ (x : Step). After d said all (open_refused x.0 x.1)) c unit (record {
+  greeted = λ e. let first_one : is_first c.phase ≡ true = ap is_first e in absurd cc;
+  foreign = λ e. let first_one : is_first c.phase ≡ true = ap is_first e in absurd cc;
+  refused = λ code e. refused_next d (refusal_of code unit) said all (runs_in c.phase d said all later e s);
+  nothing = after_nothing c.phase d said all s;
+  login = λ a b e. login_next d said all (subst (λ (p : Phase91). IsSaid p d said all) e s);
+  tuned = λ channels size heartbeat e agreed. after_nothing phase.Open d said all (subst (λ (p : Phase91). IsSaid p d said all) e s);
+  asked = λ e.
+      subst (λ (p : Phase91). IsSaid p (record d { close = Some open_refusal }) said (all ++ reply.Close open_refusal ∷ [])) (sym (ap closing_phase e))
+      (refused_next d open_refusal said all (subst (λ (p : Phase91). IsSaid p d said all) e s));
+  closed = λ e. absurd (none_runs c.phase d said all e s);
+  opened = λ n m e min max. absurd (none_runs c.phase d said all e s);
+  ended = λ n m e min max. absurd (none_runs c.phase d said all e s);
+  stopped = λ n m e. absurd (none_runs c.phase d said all e s);
+  freed = λ n e. absurd (none_runs c.phase d said all e s);
+  crossed = λ e. after_close d said all d.close refl (subst (λ (p : Phase91). IsSaid p d said all) e s);
+  answered = λ e. answered_next c.phase d said all e s;
+  passed = λ e. after_nothing c.phase d said all s;
+})
 
 -- no header of the gateway becomes due
 no_header : (d : Dues) → with_header false d ≡ d
@@ -188,13 +208,13 @@ no_header d = ap (λ (b : Bool). record d { protocol = b }) (or_false d.protocol
     or_false false = refl
 
 -- a unit was taken up
-abbrev Next : Conn91 → Unit91 → Dues → List Reply → List Reply → Type 0
+abbrev Next : Connection → Unit91 → Dues → List Reply → List Reply → Type 0
 Next c unit d said all = IsSaid (taken c unit).0.phase (with_header (is_foreign c.phase unit) (with_want (taken c unit).1 d)) said (all ++ reply_of c unit)
 
-next_by : (d : Dues) (said all : List Reply) (x : Taken) → After d said all x → IsSaid x.0.phase (with_header false (with_want x.1 d)) said (all ++ reply_to x.1)
+next_by : (d : Dues) (said all : List Reply) (x : Step) → After d said all x → IsSaid x.0.phase (with_header false (with_want x.1 d)) said (all ++ reply_to x.1)
 next_by d said all x a = subst (λ (e : Dues). IsSaid x.0.phase e said (all ++ reply_to x.1)) (sym (no_header (with_want x.1 d))) a
 
-said_header : (c : Conn91) (unit : Unit91) (d : Dues) (said all : List Reply) → IsSaid phase.Header d said all → Next (connection phase.Header c) unit d said all
+said_header : (c : Connection) (unit : Unit91) (d : Dues) (said all : List Reply) → IsSaid phase.Header d said all → Next (connection phase.Header c) unit d said all
 said_header c unit91.Protocol d said all s =
     subst (λ (x : Dues). Next (connection phase.Header c) unit91.Protocol x said all) (sym s.0)
     (refl, record { ok = refl; none = refl; calm = refl; same = ap (λ (rs : List Reply). rs ++ reply.Start ∷ []) s.1 })
@@ -203,14 +223,14 @@ said_header c (unit91.Frame f) d said all s =
 said_header c (unit91.Bad code) d said all s =
     subst (λ (x : Dues). Next (connection phase.Header c) (unit91.Bad code) x said all) (sym s.0) (inl (ap (λ (rs : List Reply). rs ++ reply.Protocol ∷ []) s.1))
 
-said_next : (p : Phase91) (c : Conn91) (unit : Unit91) (d : Dues) (said all : List Reply) → IsSaid p d said all → Next (connection p c) unit d said all
+said_next : (p : Phase91) (c : Connection) (unit : Unit91) (d : Dues) (said all : List Reply) → IsSaid p d said all → Next (connection p c) unit d said all
 said_next phase.Header c unit d said all s = said_header c unit d said all s
-said_next phase.Start c unit d said all s = next_by d said all (taken (connection phase.Start c) unit) (after_judged phase.Start c unit (first_fault (connection phase.Start c) unit) d said all refl s)
-said_next phase.Tune c unit d said all s = next_by d said all (taken (connection phase.Tune c) unit) (after_judged phase.Tune c unit (first_fault (connection phase.Tune c) unit) d said all refl s)
-said_next phase.Open c unit d said all s = next_by d said all (taken (connection phase.Open c) unit) (after_judged phase.Open c unit (first_fault (connection phase.Open c) unit) d said all refl s)
+said_next phase.Start c unit d said all s = next_by d said all (taken (connection phase.Start c) unit) (after_step (connection phase.Start c) unit d said all refl s)
+said_next phase.Tune c unit d said all s = next_by d said all (taken (connection phase.Tune c) unit) (after_step (connection phase.Tune c) unit d said all refl s)
+said_next phase.Open c unit d said all s = next_by d said all (taken (connection phase.Open c) unit) (after_step (connection phase.Open c) unit d said all refl s)
 said_next phase.Running c unit d said all s = absurd s
-said_next phase.Closing c unit d said all s = next_by d said all (taken (connection phase.Closing c) unit) (after_closing c (closing_id unit == 50) (closing_id unit == 51) d said all s)
-said_next phase.Closed c unit d said all s = next_by d said all (taken (connection phase.Closed c) unit) (after_closed c (closing_id unit == 51) d said all s)
+said_next phase.Closing c unit d said all s = next_by d said all (taken (connection phase.Closing c) unit) (after_step (connection phase.Closing c) unit d said all refl s)
+said_next phase.Closed c unit d said all s = next_by d said all (taken (connection phase.Closed c) unit) (after_step (connection phase.Closed c) unit d said all refl s)
 
 -- ---- a reply goes
 
@@ -297,7 +317,7 @@ said_went p d r said all e s = by p s
 -- the connection is that after the units, and what went without heartbeats, and what is due, are the replies to them; or, after want
 -- of memory, what went since without heartbeats, and what is due, are at most one unit, which ends the connection. What was taken and
 -- what is left of the unit that was begun are the bytes of what went
-pub record Says (strained : Bool) (c : Conn91) (d : Dues) (went since : List Reply) (us : List Unit91) (left taken : List ℕ) : Type 0 where
+pub record Says (strained : Bool) (c : Connection) (d : Dues) (went since : List Reply) (us : List Unit91) (left taken : List ℕ) : Type 0 where
   pub conn : strained ≡ false → c ≡ conn_after new_connection us
   pub said : strained ≡ false → IsSaid c.phase d (answers_of went) (replies new_connection us)
   pub ending : strained ≡ true → IsEnding (answers_of since ++ rows d)
@@ -343,7 +363,7 @@ says_unit : (h : List Event) (unit : Unit91) (left taken : List ℕ) → is_stra
 says_unit h unit left taken calm s =
     let all : List Reply = replies new_connection (units h) in
     let more : replies new_connection (units h ++ unit ∷ []) ≡ all ++ reply_of (talk h).conn unit =
-    replies_next new_connection (units h) unit ∙ ap (λ (c : Conn91). all ++ reply_of c unit) (sym (s.conn calm)) in
+    replies_next new_connection (units h) unit ∙ ap (λ (c : Connection). all ++ reply_of c unit) (sym (s.conn calm)) in
     record {
       conn = λ e. conn_next (talk h).conn (units h) unit (s.conn e);
       said = λ e. subst (λ (x : List Reply). IsSaid (talk (Came unit ∷ h)).conn.phase (talk (Came unit ∷ h)).dues (answers_of (sent h)) x) (sym more)

@@ -5,9 +5,9 @@ use Rattle.gate_outside.specs.declared.ports.Got.TheVariants as got
 use Rattle.gate_outside.specs.declared.ports.Put.TheVariants as put
 use Rattle.gate_outside.specs.declared.log.LogEntry.TheVariants.{Read, Write}
 use Rattle.wire_base.specs.declared.scan.Scan.TheVariants.{Whole, More, Bad}
-use Rattle.machine_091.specs.Phases.{new_connection}
-use Rattle.machine_091.specs.Transitions.{taken}
-use Rattle.machine_091.specs.declared.connection.Conn91.{Conn91}
+use Rattle.machine_091.specs.Words.{new_connection}
+use Rattle.gate_loop.specs.Talks.{taken}
+use Rattle.machine_091.specs.declared.state.Connection.{Connection}
 use Rattle.machine_091.specs.declared.unit.Refusal.{Refusal}
 use Rattle.machine_091.specs.declared.unit.Unit91.{Unit91}
 use Rattle.machine_091.specs.declared.unit.Unit91.TheVariants as unit91
@@ -36,7 +36,7 @@ bytes_taken p (x ∷ m) = bytes_taken p m
 
 -- a client's bytes begin with these units, and with no further one: the protocol header, and then frames within the limit that is
 -- agreed with those before (AMQP 0-9-1 4.2.2 and 4.2.3); bad bytes end them
-abbrev pub BeginWith : Conn91 → List Unit91 → List ℕ → Type 0
+abbrev pub BeginWith : Connection → List Unit91 → List ℕ → Type 0
 BeginWith c [] bytes = unit_scan c bytes ≡ More
 BeginWith c (unit91.Bad code ∷ us) bytes = (unit_scan c bytes ≡ Bad code) × (us ≡ [])
 BeginWith c (unit91.Protocol ∷ us) bytes =
@@ -56,6 +56,7 @@ reply_to want.Nothing = []
 reply_to want.Start = reply.Start ∷ []
 reply_to (want.Login mechanism response) = reply.Tune ∷ []
 reply_to want.Tuned = []
+reply_to want.OpenUp = []
 reply_to (want.Method n method) = []
 reply_to (want.ChannelCloseOk n) = []
 reply_to want.Close = reply.CloseOk ∷ []
@@ -63,7 +64,7 @@ reply_to want.CloseOk = []
 reply_to (want.Refuse r) = reply.Close r ∷ []
 
 -- the replies to units, in their order; bytes that begin no protocol header get the gateway's own
-abbrev pub replies : Conn91 → List Unit91 → List Reply
+abbrev pub replies : Connection → List Unit91 → List Reply
 replies c [] = []
 replies c (unit ∷ us) = when (is_foreign c.phase unit) reply.Protocol ++ reply_to (taken c unit).1 ++ replies (taken c unit).0 us
 

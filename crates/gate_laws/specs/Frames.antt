@@ -1,14 +1,15 @@
 -- The size of what goes to a client.
 use Rattle.std.specs.Prelude.{ℕ, ◌≤◌, Bool, true, false, List, [], ◌∷◌, length}
-use Rattle.machine_091.specs.Transitions.{Taken, taken}
-use Rattle.machine_091.specs.declared.connection.Conn91.{Conn91}
+use Rattle.machine_091.specs.Words.{Step}
+use Rattle.gate_loop.specs.Talks.{taken}
+use Rattle.machine_091.specs.declared.state.Connection.{Connection}
 use Rattle.machine_091.specs.declared.unit.Want91.{Want91}
 use Rattle.machine_091.specs.declared.unit.Want91.TheVariants as want
 use Rattle.gate_loop.specs.Due.{spelling}
 use Rattle.gate_loop.specs.Events.{Event, Came, Strained, Went, talk}
 
 -- the greatest frame that a client takes, after a unit of it: a tune-ok that isn't refused agrees to one
-abbrev pub limit_after : ℕ → Conn91 → Want91 → ℕ
+abbrev pub limit_after : ℕ → Connection → Want91 → ℕ
 limit_after limit c want.Tuned = c.limits.frame_max
 limit_after limit c other = limit
 
@@ -17,7 +18,7 @@ limit_after limit c other = limit
 abbrev pub limit_by : List Event → Bool → ℕ
 limit_by [] over = 4096
 limit_by (Came unit ∷ h) true = limit_by h true
-limit_by (Came unit ∷ h) false = let x : Taken = taken (talk h).conn unit in limit_after (limit_by h false) x.0 x.1
+limit_by (Came unit ∷ h) false = let x : Step = taken (talk h).conn unit in limit_after (limit_by h false) x.0 x.1
 limit_by (Strained ∷ h) over = limit_by h true
 limit_by (x ∷ h) over = limit_by h false
 

@@ -1,9 +1,9 @@
 -- What time makes due: heartbeats, and the shutting of a client's end. Moments are in milliseconds, and all lists are newest first.
 use Rattle.std.specs.Prelude.{◌≡◌, ℕ, ◌+◌, ◌*◌, ◌<◌, ◌≤◌, true, false, List, [], ◌∷◌, None, Some}
 use Rattle.gate_outside.specs.declared.ports.End.TheVariants.{Client}
-use Rattle.machine_091.specs.Phases.{new_connection}
-use Rattle.machine_091.specs.Transitions.{taken}
-use Rattle.machine_091.specs.declared.connection.Conn91.{Conn91}
+use Rattle.machine_091.specs.Words.{new_connection}
+use Rattle.gate_loop.specs.Talks.{taken}
+use Rattle.machine_091.specs.declared.state.Connection.{Connection}
 use Rattle.machine_091.specs.declared.unit.Unit91.{Unit91}
 use Rattle.gate_loop.specs.declared.units.Loss.TheVariants as loss
 use Rattle.gate_loop.specs.declared.units.Reply.TheVariants as reply
@@ -35,11 +35,11 @@ gone_at (Taken ∷ h) = moment_at h
 gone_at (x ∷ h) = gone_at h
 
 -- the connection after units of the client
-abbrev pub conn_after : Conn91 → List Unit91 → Conn91
+abbrev pub conn_after : Connection → List Unit91 → Connection
 conn_after c [] = c
 conn_after c (unit ∷ us) = conn_after (taken c unit).0 us
 
-abbrev pub connection_at : List Event → Conn91
+abbrev pub connection_at : List Event → Connection
 connection_at h = conn_after new_connection (units h)
 
 -- ---- heartbeats

@@ -13,9 +13,9 @@ use Rattle.frames_091.specs.declared.frame.Kind91.{Kind91}
 use Rattle.frames_091.specs.declared.header.NotHeader.{NotHeader}
 use Rattle.frames_091.specs.FrameScan.{bad, frame_in, kind_of, scan_of, scan_kind, stated_size}
 use Rattle.frames_091.specs.Headers.{agreed_with, header_bytes, header_scan}
-use Rattle.machine_091.specs.declared.connection.Conn91.{Conn91}
-use Rattle.machine_091.specs.declared.connection.Phase91.{Phase91}
-use Rattle.machine_091.specs.declared.connection.Phase91.TheVariants as phase
+use Rattle.machine_091.specs.declared.state.Connection.{Connection}
+use Rattle.machine_091.specs.declared.state.Phase91.{Phase91}
+use Rattle.machine_091.specs.declared.state.Phase91.TheVariants as phase
 use Rattle.machine_091.specs.declared.unit.Unit91.TheVariants as unit91
 use Rattle.gate_loop.specs.Journal.{IsWithin, as_unit, frame_error, scan_in, unit_scan}
 
@@ -48,7 +48,7 @@ header_within bytes = tests (eqb (agreed_with header_bytes bytes) 8) (eqb (agree
     tests false true e = tt
     tests false false e = tt
 
-pub within : (c : Conn91) (bytes : List ℕ) → IsWithin bytes (unit_scan c bytes)
+pub within : (c : Connection) (bytes : List ℕ) → IsWithin bytes (unit_scan c bytes)
 within c bytes = by c.phase
   where
     by : (p : Phase91) → IsWithin bytes (scan_in p c.limits.frame_max bytes)
@@ -69,7 +69,7 @@ no_header : header_scan [] ≡ More
 unfolding header_scan
 no_header = refl
 
-pub none_found : (c : Conn91) → unit_scan c [] ≡ More
+pub none_found : (c : Connection) → unit_scan c [] ≡ More
 none_found c = by c.phase
   where
     frame : as_unit unit91.Frame frame_error (scan_of c.limits.frame_max []) ≡ More

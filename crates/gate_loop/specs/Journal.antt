@@ -13,9 +13,9 @@ use Rattle.wire_base.specs.declared.scan.Scan.{Scan}
 use Rattle.wire_base.specs.declared.scan.Scan.TheVariants.{Whole, More, Bad}
 use Rattle.frames_091.specs.FrameScan.{scan_of}
 use Rattle.frames_091.specs.Headers.{header_scan}
-use Rattle.machine_091.specs.declared.connection.Conn91.{Conn91}
-use Rattle.machine_091.specs.declared.connection.Phase91.{Phase91}
-use Rattle.machine_091.specs.declared.connection.Phase91.TheVariants as phase
+use Rattle.machine_091.specs.declared.state.Connection.{Connection}
+use Rattle.machine_091.specs.declared.state.Phase91.{Phase91}
+use Rattle.machine_091.specs.declared.state.Phase91.TheVariants as phase
 use Rattle.machine_091.specs.declared.unit.Unit91.{Unit91}
 use Rattle.machine_091.specs.declared.unit.Unit91.TheVariants as unit91
 use Rattle.gate_loop.specs.declared.units.Reply.{Reply}
@@ -73,7 +73,7 @@ scan_in phase.Running limit bytes = as_unit unit91.Frame frame_error (scan_of li
 scan_in phase.Closing limit bytes = as_unit unit91.Frame frame_error (scan_of limit bytes)
 scan_in phase.Closed limit bytes = as_unit unit91.Frame frame_error (scan_of limit bytes)
 
-abbrev pub unit_scan : Conn91 → List ℕ → Scan Unit91 ℕ
+abbrev pub unit_scan : Connection → List ℕ → Scan Unit91 ℕ
 unit_scan c bytes = scan_in c.phase c.limits.frame_max bytes
 
 -- of a unit that was found some bytes are cut off, and no more than there are

@@ -1,10 +1,15 @@
 -- What was said between the gateway and one client (AMQP 0-9-1 2.2.4): what each unit that comes makes due, in which order the
 -- units that are due go, and when all is said.
 use Rattle.std.specs.Prelude.{ℕ, ◌-◌, ◌*◌, ◌==◌, nat_le, Bool, true, false, not, ◌&&◌, ◌||◌, List, [], ◌∷◌, ◌++◌, Option, None, Some}
-use Rattle.machine_091.specs.Phases.{new_connection}
-use Rattle.machine_091.specs.Transitions.{taken}
-use Rattle.machine_091.specs.declared.connection.Phase91.{Phase91}
-use Rattle.machine_091.specs.declared.connection.Phase91.TheVariants as phase
+use Rattle.close_translate.specs.declared.codes.TheConstants.{NOT_IMPLEMENTED}
+use Rattle.close_translate.specs.declared.conditions.Scope.TheVariants as scope
+use Rattle.machine_091.specs.Words.{Step, new_connection, after_closing, refusal_with, unit_step}
+use Rattle.machine_091.specs.Calls.{closing_phase}
+use Rattle.machine_091.specs.declared.state.Connection.{Connection}
+use Rattle.machine_091.specs.declared.state.Phase91.{Phase91}
+use Rattle.machine_091.specs.declared.state.Phase91.TheVariants as phase
+use Rattle.machine_091.specs.declared.state.Stream91.{Stream91}
+use Rattle.machine_091.specs.declared.state.Stream91.TheVariants as stream
 use Rattle.machine_091.specs.declared.unit.Refusal.{Refusal}
 use Rattle.machine_091.specs.declared.unit.Unit91.{Unit91}
 use Rattle.machine_091.specs.declared.unit.Unit91.TheVariants as unit
@@ -42,6 +47,26 @@ new_talk ms = record {
 
 -- ---- a unit of the client
 
+-- connection.open isn't implemented: it is refused (AMQP 0-9-1 reference 1.4.2.7)
+abbrev pub open_refusal : Refusal
+open_refusal = refusal_with NOT_IMPLEMENTED 10 40
+
+abbrev pub open_refused : Connection → Want91 → Step
+open_refused c want.Nothing = (c, want.Nothing)
+open_refused c want.Start = (c, want.Start)
+open_refused c (want.Login mechanism response) = (c, want.Login mechanism response)
+open_refused c want.Tuned = (c, want.Tuned)
+open_refused c want.OpenUp = (after_closing scope.Connection 0 c, want.Refuse open_refusal)
+open_refused c (want.Method n method) = (c, want.Method n method)
+open_refused c (want.ChannelCloseOk n) = (c, want.ChannelCloseOk n)
+open_refused c want.Close = (c, want.Close)
+open_refused c want.CloseOk = (c, want.CloseOk)
+open_refused c (want.Refuse r) = (c, want.Refuse r)
+
+-- the connection after a unit, and what it wants
+abbrev pub taken : Connection → Unit91 → Step
+taken c u = open_refused (unit_step c u).0 (unit_step c u).1
+
 -- what becomes due by what it wants: the gateway's close is due no more once the client closed. No connection runs, so no unit is of a
 -- channel
 abbrev pub with_want : Want91 → Dues → Dues
@@ -49,6 +74,7 @@ with_want want.Nothing d = d
 with_want want.Start d = record d { start = true }
 with_want (want.Login mechanism response) d = record d { tune = true }
 with_want want.Tuned d = d
+with_want want.OpenUp d = d
 with_want (want.Method n method) d = d
 with_want (want.ChannelCloseOk n) d = d
 with_want want.Close d = record d { close_ok = true; close = None }
@@ -79,23 +105,12 @@ is_close_ok want.Nothing = false
 is_close_ok want.Start = false
 is_close_ok (want.Login mechanism response) = false
 is_close_ok want.Tuned = false
+is_close_ok want.OpenUp = false
 is_close_ok (want.Method n method) = false
 is_close_ok (want.ChannelCloseOk n) = false
 is_close_ok want.Close = false
 is_close_ok want.CloseOk = true
 is_close_ok (want.Refuse r) = false
-
--- connection.open was refused, and counts as one
-abbrev pub is_open_refused : Want91 → Bool
-is_open_refused want.Nothing = false
-is_open_refused want.Start = false
-is_open_refused (want.Login mechanism response) = false
-is_open_refused want.Tuned = false
-is_open_refused (want.Method n method) = false
-is_open_refused (want.ChannelCloseOk n) = false
-is_open_refused want.Close = false
-is_open_refused want.CloseOk = false
-is_open_refused (want.Refuse r) = r.code == 540 && (r.class == 10 && r.method == 40)
 
 -- the moment of the first closing event
 abbrev pub closes_at : Option ℕ → Phase91 → ℕ → Option ℕ
@@ -117,7 +132,7 @@ after_unit t u =
       dues = with_header (is_foreign t.conn.phase u) (with_want x.1 t.dues);
       bad = t.bad || is_bad u;
       answered = t.answered || is_close_ok x.1;
-      opened = t.opened || is_open_refused x.1;
+      opened = x.0.asked;
       closing = closes_at t.closing x.0.phase t.moment;
     }
 
@@ -138,36 +153,25 @@ strained_dues phase.Running d = record no_dues { no_memory = true }
 strained_dues phase.Closing d = record no_dues { close = d.close }
 strained_dues phase.Closed d = record no_dues { close_ok = d.close_ok }
 
--- the connection is then closing, unless nothing was said yet
-abbrev pub strained_phase : Phase91 → Phase91
-strained_phase phase.Header = phase.Header
-strained_phase phase.Start = phase.Closing
-strained_phase phase.Tune = phase.Closing
-strained_phase phase.Open = phase.Closing
-strained_phase phase.Running = phase.Closing
-strained_phase phase.Closing = phase.Closing
-strained_phase phase.Closed = phase.Closed
-
 -- want of memory was met
 abbrev pub after_strain : Talk → Talk
 after_strain t = record t {
-  conn = record t.conn { phase = strained_phase t.conn.phase };
+  conn = after_closing scope.Connection 0 t.conn;
   dues = strained_dues t.conn.phase t.dues;
-  closing = closes_at t.closing (strained_phase t.conn.phase) t.moment;
+  closing = closes_at t.closing (closing_phase t.conn.phase) t.moment;
 }
 
 -- after it the client's end is to be shut once the gateway's close went wholly, or at once before the client's header
 abbrev pub is_silenced : Talk → Bool
-is_silenced t = t.gone.close || is_unheard t.conn.phase
+is_silenced t = t.gone.close || is_unheard t.conn.stream
   where
-    is_unheard : Phase91 → Bool
-    is_unheard phase.Header = true
-    is_unheard phase.Start = false
-    is_unheard phase.Tune = false
-    is_unheard phase.Open = false
-    is_unheard phase.Running = false
-    is_unheard phase.Closing = false
-    is_unheard phase.Closed = false
+    is_unheard : Stream91 → Bool
+    is_unheard stream.Header = true
+    is_unheard stream.Frames = false
+    is_unheard stream.Foreign = false
+    is_unheard stream.Bad = false
+    is_unheard stream.Answered = false
+    is_unheard stream.Ended = false
 
 -- ---- a unit to the client
 

@@ -1,6 +1,6 @@
 //! What one pair owes: what was said with its client, and whether its end is to be shut.
 
-ghost use Rattle.std.specs.Prelude.{◌≡◌, ◌≤◌, true, false, not, ◌&&◌, Some, None, OnOk, OnErr};
+ghost use Rattle.std.specs.Prelude.{◌≡◌, true, false, not, ◌&&◌, Some, None, OnOk, OnErr};
 ghost use Rattle.gate_loop.specs.Due.{is_awaited, takes_bytes, shut_by};
 ghost use Rattle.gate_loop.specs.Stands.{AreKept};
 ghost use Rattle.gate_loop.specs.Talks.{new_talk, after_unit, after_moment, after_strain};
@@ -12,7 +12,7 @@ use std::alloc::Global;
 use wire_base::Memory;
 
 /// The state of one pair.
-#[derive(Clone, Copy, Debug)]
+#[derive(Debug, Drop)]
 pub struct Bridge {
     /// What was said between the gateway and the client.
     pub talk: Talk,
@@ -45,7 +45,6 @@ impl Bridge {
     pub fn client_unit(&mut self, alloc: Global, unit: Unit91) -> Result<(), Memory>
         ensures ok { OnOk result (self.new ≡ record self.old { talk = after_unit self.old.talk unit }) }
         ensures err { OnErr result (self.new ≡ self.old) }
-        ensures frames { 4096 ≤ self.old.talk.conn.limits.frame_max → 4096 ≤ self.new.talk.conn.limits.frame_max }
     {
         self.talk.unit(alloc, unit)
     }

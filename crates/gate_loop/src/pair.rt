@@ -15,9 +15,6 @@ use machine_091::{Conn91, Phase91, Unit91};
 use std::alloc::Global;
 use wire_base::{ByteText, Memory, Scan};
 
-/// The bytes of a protocol header (AMQP 0-9-1 4.2.2).
-const HEADER_SIZE: usize = 8;
-
 /// The reply code of bytes with which no frame begins (AMQP 0-9-1 reference 1.1).
 const FRAME_ERROR: u16 = 501;
 
@@ -33,14 +30,12 @@ pub struct Pair {
     pub at: usize,
     ghost part: { is_some bridge.talk.begun ≡ true → at < length (bytes_of bridge.talk.begun) },
     ghost unbegun: { bridge.talk.begun ≡ None → at ≡ 0 },
-    ghost framed: { 4096 ≤ bridge.talk.conn.limits.frame_max },
 }
 
 /// The first frame of a client, in its bytes.
-fn frame_of(alloc: Global, conn: Conn91, bytes: &[u8]) -> Result<Scan<Unit91, u16>, Memory>
-    requires framed { 4096 ≤ conn.limits.frame_max }
-    requires started { conn.phase ≢ Phase91.Header }
-    ensures scan { IfOk result (λ scan. scan ≡ unit_scan conn bytes.now) }
+fn frame_of(alloc: Global, conn: &Conn91, bytes: &[u8]) -> Result<Scan<Unit91, u16>, Memory>
+    requires { conn.now.phase ≢ Phase91.Header }
+    ensures scan { IfOk result (λ scan. scan ≡ unit_scan conn.now bytes.now) }
 {
     match scan_frame(alloc, bytes, conn.frame_max())? {
         Scan::Whole(frame, n) => Ok(Scan::Whole(Unit91::Frame(frame), n)),
@@ -50,9 +45,9 @@ fn frame_of(alloc: Global, conn: Conn91, bytes: &[u8]) -> Result<Scan<Unit91, u1
 }
 
 /// The protocol header of a client, in its bytes.
-fn header_of(conn: Conn91, bytes: &[u8]) -> Scan<Unit91, u16>
-    requires { conn.phase ≡ Phase91.Header }
-    ensures scan { result ≡ unit_scan conn bytes.now }
+fn header_of(conn: &Conn91, bytes: &[u8]) -> Scan<Unit91, u16>
+    requires { conn.now.phase ≡ Phase91.Header }
+    ensures scan { result ≡ unit_scan conn.now bytes.now }
 {
     match scan_header(bytes) {
         Scan::Whole(_, n) => Scan::Whole(Unit91::Protocol, n),
@@ -63,12 +58,11 @@ fn header_of(conn: Conn91, bytes: &[u8]) -> Scan<Unit91, u16>
 
 /// The unit with which a client's bytes begin.
 #[tactic(auto, using(crate::proofs::Within::within))]
-fn unit_of(alloc: Global, conn: Conn91, bytes: &[u8]) -> Result<Scan<Unit91, u16>, Memory>
-    requires { 4096 ≤ conn.limits.frame_max }
-    ensures scan { IfOk result (λ scan. scan ≡ unit_scan conn bytes.now) }
+fn unit_of(alloc: Global, conn: &Conn91, bytes: &[u8]) -> Result<Scan<Unit91, u16>, Memory>
+    ensures scan { IfOk result (λ scan. scan ≡ unit_scan conn.now bytes.now) }
     ensures within { IfOk result (IsWithin bytes.now) }
 {
-    if conn.phase == Phase91::Header {
+    if conn.phase() == Phase91::Header {
         Ok(header_of(conn, bytes))
     } else {
         frame_of(alloc, conn, bytes)
@@ -82,18 +76,17 @@ impl Pair {
     ghost use Rattle.gate_outside.specs.declared.ports.End.TheVariants.{Client};
     ghost use Rattle.gate_outside.specs.declared.ports.Put.TheVariants as put;
 
-    /// A pair that was accepted at this moment. Room for its header is made here.
-    pub fn new(alloc: Global, number: u32, moment: u64) -> Result<Pair, Memory>
-        ensures number { IfOk result (λ b. b.number ≡ number) }
-        ensures stands { IfOk result (λ b. Stands b (came moment)) }
+    /// A pair that was accepted at this moment. It takes no memory.
+    pub fn new(alloc: Global, number: u32, moment: u64) -> Pair
+        ensures number { result.number ≡ number }
+        ensures stands { Stands result (came moment) }
     {
-        let unread = ByteText::with_room(alloc, HEADER_SIZE)?;
-        Ok(Pair {
+        Pair {
             number,
             bridge: Bridge::new(moment),
-            unread,
+            unread: ByteText::empty(alloc),
             at: 0,
-        })
+        }
     }
 
     /// A moment was given.
@@ -121,7 +114,10 @@ impl Pair {
         ensures strained { OnErr result (self.new.bridge.strained ≡ true) }
         ensures calm { OnOk result (self.new.bridge.strained ≡ self.old.bridge.strained) }
     {
-        let before = self.bridge.talk;
+        let Ok(before) = self.bridge.talk.copy() else {
+            self.bridge.strain();
+            return Err(Memory);
+        };
         match self.take_in(alloc, bytes) {
             Ok(()) => Ok(()),
             Err(Memory) => {
@@ -166,7 +162,7 @@ impl Pair {
         if self.bridge.client_held() {
             return Ok(false);
         }
-        match unit_of(alloc, self.bridge.talk.conn, self.unread.as_slice())? {
+        match unit_of(alloc, &self.bridge.talk.conn, self.unread.as_slice())? {
             Scan::Whole(unit, n) => {
                 self.bridge.client_unit(alloc, unit)?;
                 self.unread.discard(n);

@@ -88,17 +88,6 @@ impl Service {
         }
     }
 
-    /// A pair was accepted, and met want of memory.
-    pub fn refuse(&mut self)
-        requires { self.old.accepted < 4294967295 }
-        ensures accepted { self.new.accepted ≡ self.old.accepted + 1 }
-        ensures live { self.new.live.items ≡ self.old.live.items }
-        ensures strained { self.new.strained ≡ self.old.strained + 1 }
-    {
-        self.accepted += 1;
-        self.strained += 1;
-    }
-
     /// Counts a live pair that met want of memory, where one did.
     pub fn note_strain(&mut self, met: bool)
         requires { met ≡ true → self.old.strained + calm_count self.old.live.items < self.old.accepted }

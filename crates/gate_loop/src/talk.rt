@@ -1,11 +1,12 @@
 //! What was said between the gateway and one client: the connection by the client's units, the units that are due to it, and
 //! which of them went.
 
-ghost use Rattle.std.specs.Prelude.{◌≡◌, ◌≤◌, OnOk, OnErr};
-ghost use Rattle.gate_loop.specs.Talks.{no_dues, new_talk, with_want, is_bad, is_foreign, is_close_ok, is_open_refused, closes_at, without, with_gone, strained_dues, strained_phase, is_silenced, after_unit, after_moment, after_strain, begun_now, after_gone, is_beat_due, pick_of, current, is_over, is_done};
+ghost use Rattle.std.specs.Prelude.{◌≡◌, IfOk, OnOk, OnErr};
+ghost use Rattle.gate_loop.specs.Talks.{no_dues, new_talk, open_refused, with_want, is_bad, is_foreign, is_close_ok, closes_at, without, with_gone, strained_dues, is_silenced, after_unit, after_moment, after_strain, begun_now, after_gone, is_beat_due, pick_of, current, is_over, is_done};
 
 use crate::units::Reply;
-use machine_091::{Conn91, Phase91, Refusal, Unit91, Want91, connection_laws};
+use close_translate::{NOT_IMPLEMENTED, Scope};
+use machine_091::{Conn91, Phase91, Refusal, Stream91, Unit91, Want91};
 use std::alloc::Global;
 use wire_base::Memory;
 
@@ -30,7 +31,7 @@ pub struct Gone {
 }
 
 /// What was said between the gateway and one client.
-#[derive(Clone, Copy, Debug, PartialEq, Eq)]
+#[derive(Clone, Debug, Drop)]
 pub struct Talk {
     pub conn: Conn91,
     pub dues: Dues,
@@ -66,6 +67,7 @@ fn with_want(dues: Dues, want: Want91) -> Dues
     match want {
         Want91::Nothing
         | Want91::Tuned
+        | Want91::OpenUp
         | Want91::Method(_, _)
         | Want91::ChannelCloseOk(_)
         | Want91::CloseOk => dues,
@@ -86,15 +88,23 @@ fn with_want(dues: Dues, want: Want91) -> Dues
     }
 }
 
-/// A connection.open was refused, and counts as one.
-fn is_open_refused(want: &Want91) -> bool
-    ensures { result ≡ is_open_refused want.now }
+/// connection.open isn't implemented: it is refused. Any other want stays.
+fn open_refused(conn: &mut Conn91, want: Want91) -> Want91
+    ensures conn { conn.new ≡ (open_refused conn.old want).0 }
+    ensures want { result ≡ (open_refused conn.old want).1 }
 {
     match want {
-        Want91::Refuse(refusal) => {
-            refusal.code == 540 && refusal.class == 10 && refusal.method == 40
+        Want91::OpenUp => {
+            conn.closing(Scope::Connection, 0);
+            Want91::Refuse(Refusal {
+                code: NOT_IMPLEMENTED,
+                scope: Scope::Connection,
+                channel: 0,
+                class: 10,
+                method: 40,
+            })
         }
-        _ => false,
+        other => other,
     }
 }
 
@@ -169,18 +179,6 @@ fn strained_dues(phase: Phase91, dues: Dues) -> Dues
             close_ok: dues.close_ok,
             ..none
         },
-    }
-}
-
-/// The connection's phase then: it is closing, unless nothing was said yet.
-fn strained_phase(phase: Phase91) -> Phase91
-    ensures { result ≡ strained_phase phase }
-{
-    match phase {
-        Phase91::Header => Phase91::Header,
-        Phase91::Start | Phase91::Tune | Phase91::Open | Phase91::Running | Phase91::Closing =>
-            Phase91::Closing,
-        Phase91::Closed => Phase91::Closed,
     }
 }
 
@@ -262,6 +260,16 @@ impl Talk {
         }
     }
 
+    /// A copy, to which the pair goes back if it runs out of memory.
+    pub fn copy(&self) -> Result<Talk, Memory>
+        ensures { IfOk result (λ copy. copy ≡ self.now) }
+    {
+        match self.clone() {
+            Ok(copy) => Ok(copy),
+            Err(_) => Err(Memory),
+        }
+    }
+
     /// A moment was given.
     pub fn tell(&mut self, moment: u64)
         ensures { self.new ≡ after_moment moment self.old }
@@ -273,15 +281,14 @@ impl Talk {
     pub fn unit(&mut self, alloc: Global, unit: Unit91) -> Result<(), Memory>
         ensures ok { OnOk result (self.new ≡ after_unit self.old unit) }
         ensures err { OnErr result (self.new ≡ self.old) }
-        ensures frames { 4096 ≤ self.old.conn.limits.frame_max → 4096 ≤ self.new.conn.limits.frame_max }
     {
-        connection_laws();
         let bad = is_bad(&unit);
-        let foreign = is_foreign(self.conn.phase, &unit);
+        let foreign = is_foreign(self.conn.phase(), &unit);
         let want = self.conn.take(alloc, unit)?;
+        let want = open_refused(&mut self.conn, want);
         self.answered |= is_close_ok(&want);
-        self.opened |= is_open_refused(&want);
-        self.closing = closes_at(self.closing, self.conn.phase, self.moment);
+        self.opened = self.conn.is_asked();
+        self.closing = closes_at(self.closing, self.conn.phase(), self.moment);
         self.bad |= bad;
         self.dues = with_want(self.dues, want);
         self.dues.protocol |= foreign;
@@ -292,9 +299,9 @@ impl Talk {
     pub fn strain(&mut self)
         ensures { self.new ≡ after_strain self.old }
     {
-        self.dues = strained_dues(self.conn.phase, self.dues);
-        self.conn.phase = strained_phase(self.conn.phase);
-        self.closing = closes_at(self.closing, self.conn.phase, self.moment);
+        self.dues = strained_dues(self.conn.phase(), self.dues);
+        self.conn.closing(Scope::Connection, 0);
+        self.closing = closes_at(self.closing, self.conn.phase(), self.moment);
     }
 
     /// After want of memory the client's end is to be shut once the gateway's close went wholly, or at once before the client's
@@ -302,7 +309,7 @@ impl Talk {
     pub fn is_silenced(&self) -> bool
         ensures { result ≡ is_silenced self.now }
     {
-        self.gone.close || self.conn.phase == Phase91::Header
+        self.gone.close || self.conn.stream() == Stream91::Header
     }
 
     /// All is said.
@@ -316,7 +323,7 @@ impl Talk {
     fn is_beat_due(&self) -> bool
         ensures { result ≡ is_beat_due self.now }
     {
-        let interval = u64::from(self.conn.limits.heartbeat);
+        let interval = u64::from(self.conn.heartbeat());
         !self.is_over() && interval != 0 && 500 * interval <= self.moment.saturating_sub(self.said)
     }
 

@@ -59,13 +59,7 @@ fn admit(alloc: Global, service: &mut Service, number: u32, moment: u64) -> Resu
     requires { service.old.accepted < 4294967295 }
     ensures { Admits result number moment service.old service.new }
 {
-    match Pair::new(alloc, number, moment) {
-        Ok(pair) => service.admit(pair),
-        Err(Memory) => {
-            service.refuse();
-            Err(Memory)
-        }
-    }
+    service.admit(Pair::new(alloc, number, moment))
 }
 
 /// Shuts a pair that met want of memory at its accept, and tells the lines of that.

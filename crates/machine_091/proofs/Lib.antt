@@ -1,1 +1,3 @@
-pub mod FrameLimits
+pub mod CallLaws
+pub mod StepCases
+pub mod StepLaws

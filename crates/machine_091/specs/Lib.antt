@@ -1,6 +1,12 @@
-pub mod Channels
-pub mod Faults
-pub mod Judged
-pub mod Phases
-pub mod Running
+pub mod Calls
+pub mod Checked
+pub mod Ids
+pub mod Laws
+pub mod Limits
+pub mod Refusals
+pub mod RefusalsFrames
+pub mod RefusalsOpening
+pub mod RefusalsRunning
+pub mod State
 pub mod Transitions
+pub mod Words

@@ -1,179 +1,156 @@
 -- The transitions of a connection (AMQP 0-9-1 2.2.4 and 1.5): for each phase and each unit the state after it, and what the unit wants.
-use Rattle.std.specs.Prelude.{ℕ, ◌==◌, if◌then◌else◌, List, [], Option, Some, None, Ok, Err}
-use Rattle.frames_091.specs.declared.frame.Frame91.{Frame91}
+use Rattle.std.specs.Prelude.{ℕ, Bool, true, false, ◌&&◌, ◌==◌, if◌then◌else◌, List, Option, Some, None, Ok, Err}
 use Rattle.frames_091.specs.declared.frame.Kind91.{Kind91}
 use Rattle.frames_091.specs.declared.frame.Kind91.TheVariants as frame
-use Rattle.methods_091.specs.Rows.{class_of, id_of}
+use Rattle.methods_091.specs.Rows.{Kind}
 use Rattle.methods_091.specs.Arguments.{Arg}
 use Rattle.methods_091.specs.Reading.{Read, method_in}
 use Rattle.methods_091.specs.declared.method.Method91.TheVariants as method
-use Rattle.machine_091.specs.Channels.{channel_at, with_channel}
-use Rattle.machine_091.specs.Faults.{text_at, number_at, kind_code, refusal, refusal_with}
-use Rattle.machine_091.specs.Running.{is_active, is_passed_over, running_code}
-use Rattle.machine_091.specs.declared.connection.Channel91.TheVariants as channel
-use Rattle.machine_091.specs.declared.connection.Conn91.{Conn91}
-use Rattle.machine_091.specs.declared.connection.Limits.{Limits}
-use Rattle.machine_091.specs.declared.connection.Phase91.{Phase91}
-use Rattle.machine_091.specs.declared.connection.Phase91.TheVariants as phase
-use Rattle.machine_091.specs.declared.unit.Refusal.{Refusal}
+use Rattle.machine_091.specs.Ids.{is_of_kind}
+use Rattle.machine_091.specs.Limits.{agreed_limits}
+use Rattle.machine_091.specs.Refusals.{unit_ruling, refusal_of}
+use Rattle.machine_091.specs.RefusalsOpening.{text_at, number_at}
+use Rattle.machine_091.specs.RefusalsRunning.{is_active}
+use Rattle.machine_091.specs.State.{is_running, with_channel}
+use Rattle.machine_091.specs.declared.ids.TheConstants.{CONNECTION_CLOSE, CONNECTION_CLOSE_OK, CHANNEL_OPEN, CHANNEL_FLOW, CHANNEL_CLOSE}
+use Rattle.machine_091.specs.declared.state.Channel91.TheVariants as channel
+use Rattle.machine_091.specs.declared.state.Connection.{Connection}
+use Rattle.machine_091.specs.declared.state.Phase91.{Phase91}
+use Rattle.machine_091.specs.declared.state.Phase91.TheVariants as phase
+use Rattle.machine_091.specs.declared.state.Stream91.{Stream91}
+use Rattle.machine_091.specs.declared.state.Stream91.TheVariants as stream
+use Rattle.machine_091.specs.declared.unit.Ruling.{Ruling}
+use Rattle.machine_091.specs.declared.unit.Ruling.TheVariants as ruling
 use Rattle.machine_091.specs.declared.unit.Unit91.{Unit91}
 use Rattle.machine_091.specs.declared.unit.Unit91.TheVariants as unit
 use Rattle.machine_091.specs.declared.unit.Want91.{Want91}
 use Rattle.machine_091.specs.declared.unit.Want91.TheVariants as want
 
 -- a state, and what a unit wants
-abbrev pub Taken : Type 0
-Taken = Conn91 × Want91
+abbrev pub Step : Type 0
+Step = Connection × Want91
 
--- ---- while a method is expected
+-- ---- the client's bytes
 
--- the refusal of a frame, where its code is there
-abbrev pub refused_by : Frame91 → Option ℕ → Option Refusal
-refused_by f None = None
-refused_by f (Some code) = Some (refusal code f)
+-- the protocol header was the first unit
+abbrev pub greeted : Stream91 → Stream91
+greeted stream.Header = stream.Frames
+greeted stream.Frames = stream.Frames
+greeted stream.Foreign = stream.Foreign
+greeted stream.Bad = stream.Bad
+greeted stream.Answered = stream.Answered
+greeted stream.Ended = stream.Ended
 
--- the first fault of a unit: of a frame by the order of refusals; bad bytes are at fault, and so is a second protocol header,
--- whose first byte is the kind of no frame
-abbrev pub first_fault : Conn91 → Unit91 → Option Refusal
-first_fault c unit.Protocol = Some (refusal_with 501 0 0)
-first_fault c (unit.Bad code) = Some (refusal_with code 0 0)
-first_fault c (unit.Frame f) = refused_by f (kind_code c.phase c.limits f f.kind)
+-- bytes with which no unit begins end the stream
+abbrev pub stream_after : Unit91 → Stream91 → Stream91
+stream_after unit.Protocol s = greeted s
+stream_after (unit.Frame f) s = s
+stream_after (unit.Bad code) s = stream.Bad
 
--- the arguments that were read
-abbrev pub arguments : Read → List Arg
-arguments (Ok m) = m.1
-arguments (Err e) = []
+abbrev pub with_stream : Unit91 → Connection → Connection
+with_stream u c = record c { stream = stream_after u c.stream }
 
--- limits that a tune-ok agrees to, where 0 stands for those that were stated
-abbrev pub agreed : List Arg → Limits
-agreed args = record {
-  frame_max = if number_at 1 args == 0 then 131072 else number_at 1 args;
-  channel_max = if number_at 0 args == 0 then 255 else number_at 0 args;
-  heartbeat = number_at 2 args;
-}
+-- ---- the first unit
 
--- the expected method in each phase
-abbrev pub expected_brings : Conn91 → List Arg → Phase91 → Taken
-expected_brings c args phase.Header = (c, want.Nothing)
-expected_brings c args phase.Start = (record c { phase = phase.Tune }, want.Login (text_at 1 args) (text_at 2 args))
-expected_brings c args phase.Tune = (record c { phase = phase.Open; limits = agreed args }, want.Tuned)
-expected_brings c args phase.Open = (c, want.Nothing)
-expected_brings c args phase.Running = (c, want.Nothing)
-expected_brings c args phase.Closing = (c, want.Nothing)
-expected_brings c args phase.Closed = (c, want.Nothing)
+-- the protocol header, or bytes that are none
+abbrev pub header_step : Connection → Unit91 → Step
+header_step c unit.Protocol = (record c { phase = phase.Start; stream = stream.Frames }, want.Start)
+header_step c (unit.Frame f) = (record c { phase = phase.Closed; stream = stream.Foreign }, want.Nothing)
+header_step c (unit.Bad code) = (record c { phase = phase.Closed; stream = stream.Foreign }, want.Nothing)
 
--- a frame that isn't refused before that: a heartbeat wants nothing, and a method is the expected one
-abbrev pub frame_brings : Conn91 → List ℕ → Kind91 → Taken
-frame_brings c payload frame.Method = expected_brings c (arguments (method_in payload)) c.phase
-frame_brings c payload frame.Header = (c, want.Nothing)
-frame_brings c payload frame.Body = (c, want.Nothing)
-frame_brings c payload frame.Heartbeat = (c, want.Nothing)
+-- ---- a unit that the order of refusals asks about
 
--- a unit that isn't refused is such a frame
-abbrev pub unit_brings : Conn91 → Unit91 → Taken
-unit_brings c (unit.Frame f) = frame_brings c f.payload f.kind
-unit_brings c unit.Protocol = (c, want.Nothing)
-unit_brings c (unit.Bad code) = (c, want.Nothing)
+-- the expected method in each phase before the connection runs
+abbrev pub opening_effect : Connection → List Arg → Phase91 → Step
+opening_effect c args phase.Header = (c, want.Nothing)
+opening_effect c args phase.Start = (record c { phase = phase.Tune }, want.Login (text_at 1 args) (text_at 2 args))
+opening_effect c args phase.Tune =
+    (record c { phase = phase.Open; limits = agreed_limits (number_at 0 args) (number_at 1 args) (number_at 2 args) }, want.Tuned)
+opening_effect c args phase.Open = (record c { asked = true }, want.OpenUp)
+opening_effect c args phase.Running = (c, want.Nothing)
+opening_effect c args phase.Closing = (c, want.Nothing)
+opening_effect c args phase.Closed = (c, want.Nothing)
 
--- the refusal that comes first, or else what the unit brings
-abbrev pub or_refused : Conn91 → Taken → Option Refusal → Taken
-or_refused c brings None = brings
-or_refused c brings (Some r) = (record c { phase = phase.Closing }, want.Refuse r)
-
-abbrev pub judged : Conn91 → Unit91 → Option Refusal → Taken
-judged c u = or_refused c (unit_brings c u)
-
-abbrev pub taken_up : Conn91 → Unit91 → Taken
-taken_up c u = judged c u (first_fault c u)
-
--- ---- once the connection runs
-
--- the first fault of a unit
-abbrev pub running_fault : Conn91 → Unit91 → Option Refusal
-running_fault c unit.Protocol = Some (refusal_with 501 0 0)
-running_fault c (unit.Bad code) = Some (refusal_with code 0 0)
-running_fault c (unit.Frame f) = refused_by f (running_code c f f.kind)
-
--- a method of a channel that isn't refused, by its id: channel.open, flow, close and close-ok
-abbrev pub channel_brings : Conn91 → ℕ → ℕ → List Arg → Taken
-channel_brings c n id args =
-    if id == 10 then (with_channel c n channel.Open, want.Method n method.ChannelOpen)
-    else if id == 20 then (c, want.Method n (method.ChannelFlow (is_active args)))
-    else if id == 40 then (with_channel c n channel.Closing, want.Method n (method.ChannelClose (number_at 0 args) (text_at 1 args) (number_at 2 args) (number_at 3 args)))
+-- a method of a channel: channel.open, close, flow and close-ok
+abbrev pub channel_effect : Connection → ℕ → Kind → List Arg → Step
+channel_effect c n k args =
+    if is_of_kind CHANNEL_OPEN k then (with_channel c n channel.Open, want.Method n method.ChannelOpen)
+    else if is_of_kind CHANNEL_CLOSE k then (with_channel c n channel.Closing, want.Method n (method.ChannelClose (number_at 0 args) (text_at 1 args) (number_at 2 args) (number_at 3 args)))
+    else if is_of_kind CHANNEL_FLOW k then (c, want.Method n (method.ChannelFlow (is_active args)))
     else (c, want.ChannelCloseOk n)
 
-abbrev pub read_brings : Conn91 → ℕ → Read → Taken
-read_brings c n (Ok m) = channel_brings c n (id_of m.0) m.1
-read_brings c n (Err e) = (c, want.Nothing)
+-- a method once the connection runs: on channel 0 it is connection.close
+abbrev pub running_effect : Connection → ℕ → Kind → List Arg → Step
+running_effect c n k args =
+    if n == 0 then (record c { phase = phase.Closed }, want.Close) else channel_effect c n k args
 
--- a method on channel 0 is connection.close; on another channel it counts, unless it is passed over
-abbrev pub method_brings : Conn91 → ℕ → List ℕ → Taken
-method_brings c n payload =
-    if n == 0 then (record c { phase = phase.Closed }, want.Close)
-    else if is_passed_over (channel_at c n) payload then (c, want.Nothing)
-    else read_brings c n (method_in payload)
+-- a method that counts
+abbrev pub method_effect : Connection → ℕ → Read → Step
+method_effect c n (Ok m) = if is_running c.phase then running_effect c n m.0 m.1 else opening_effect c m.1 c.phase
+method_effect c n (Err e) = (c, want.Nothing)
 
-abbrev pub running_brings : Conn91 → ℕ → List ℕ → Kind91 → Taken
-running_brings c n payload frame.Method = method_brings c n payload
-running_brings c n payload frame.Header = (c, want.Nothing)
-running_brings c n payload frame.Body = (c, want.Nothing)
-running_brings c n payload frame.Heartbeat = (c, want.Nothing)
+-- a unit that counts; a heartbeat wants nothing
+abbrev pub frame_effect : Connection → ℕ → List ℕ → Kind91 → Step
+frame_effect c n payload frame.Method = method_effect c n (method_in payload)
+frame_effect c n payload frame.Header = (c, want.Nothing)
+frame_effect c n payload frame.Body = (c, want.Nothing)
+frame_effect c n payload frame.Heartbeat = (c, want.Nothing)
 
-abbrev pub running_unit : Conn91 → Unit91 → Taken
-running_unit c (unit.Frame f) = running_brings c f.channel f.payload f.kind
-running_unit c unit.Protocol = (c, want.Nothing)
-running_unit c (unit.Bad code) = (c, want.Nothing)
+abbrev pub unit_effect : Connection → Unit91 → Step
+unit_effect c (unit.Frame f) = frame_effect c f.channel f.payload f.kind
+unit_effect c unit.Protocol = (c, want.Nothing)
+unit_effect c (unit.Bad code) = (c, want.Nothing)
 
-abbrev pub taken_running : Conn91 → Unit91 → Taken
-taken_running c u = or_refused c (running_unit c u) (running_fault c u)
+-- what the order of refusals says, or else what the unit does
+abbrev pub ruled_step : Connection → Unit91 → Option Ruling → Step
+ruled_step c u None = unit_effect c u
+ruled_step c u (Some ruling.PassedOver) = (c, want.Nothing)
+ruled_step c u (Some (ruling.Refused code)) =
+    (record c { phase = phase.Closing; stream = stream_after u c.stream }, want.Refuse (refusal_of code u))
 
--- ---- before and after that
+abbrev pub ordered_step : Connection → Unit91 → Step
+ordered_step c u = ruled_step c u (unit_ruling c u)
 
--- the first unit: the protocol header, or bytes that are none
-abbrev pub taken_header : Conn91 → Unit91 → Taken
-taken_header c unit.Protocol = (record c { phase = phase.Start }, want.Start)
-taken_header c (unit.Frame f) = (record c { phase = phase.Closed }, want.Nothing)
-taken_header c (unit.Bad code) = (record c { phase = phase.Closed }, want.Nothing)
+-- ---- after a closing event
 
--- the id of a method of the class connection that was read; 0 for any other
-abbrev pub connection_id : Read → ℕ
-connection_id (Ok m) = if class_of m.0 == 10 then id_of m.0 else 0
-connection_id (Err e) = 0
+-- a method of the class connection on channel 0 that can be read
+abbrev pub is_read_as : ℕ × ℕ → Read → Bool
+is_read_as ids (Ok m) = is_of_kind ids m.0
+is_read_as ids (Err e) = false
 
--- the same of a unit, where it is a method frame on channel 0
-abbrev pub frame_id : ℕ → List ℕ → Kind91 → ℕ
-frame_id channel payload frame.Method = if channel == 0 then connection_id (method_in payload) else 0
-frame_id channel payload frame.Header = 0
-frame_id channel payload frame.Body = 0
-frame_id channel payload frame.Heartbeat = 0
+abbrev pub is_frame_of : ℕ × ℕ → ℕ → List ℕ → Kind91 → Bool
+is_frame_of ids n payload frame.Method = n == 0 && is_read_as ids (method_in payload)
+is_frame_of ids n payload frame.Header = false
+is_frame_of ids n payload frame.Body = false
+is_frame_of ids n payload frame.Heartbeat = false
 
-abbrev pub closing_id : Unit91 → ℕ
-closing_id unit.Protocol = 0
-closing_id (unit.Bad code) = 0
-closing_id (unit.Frame f) = frame_id f.channel f.payload f.kind
+abbrev pub is_unit_of : ℕ × ℕ → Unit91 → Bool
+is_unit_of ids unit.Protocol = false
+is_unit_of ids (unit.Bad code) = false
+is_unit_of ids (unit.Frame f) = is_frame_of ids f.channel f.payload f.kind
 
--- after a closing event: connection.close and connection.close-ok count, and every other unit is passed over
-abbrev pub taken_closing : Conn91 → Unit91 → Taken
-taken_closing c u =
-    if closing_id u == 50 then (record c { phase = phase.Closed }, want.Close)
-    else if closing_id u == 51 then (record c { phase = phase.Closed }, want.CloseOk)
-    else (c, want.Nothing)
+-- the client's answer to the gateway's close ends the stream; any other unit is passed over
+abbrev pub closed_step : Connection → Unit91 → Step
+closed_step c u =
+    if is_unit_of CONNECTION_CLOSE_OK u then (record c { phase = phase.Closed; stream = stream.Answered }, want.CloseOk)
+    else (with_stream u c, want.Nothing)
 
--- after the client's close: its close-ok alone counts
-abbrev pub taken_closed : Conn91 → Unit91 → Taken
-taken_closed c u = if closing_id u == 51 then (c, want.CloseOk) else (c, want.Nothing)
+-- until the client closed, its close counts too
+abbrev pub closing_step : Connection → Unit91 → Step
+closing_step c u =
+    if is_unit_of CONNECTION_CLOSE u then (record c { phase = phase.Closed }, want.Close) else closed_step c u
 
 -- ---- the table
 
-abbrev pub taken_in : Phase91 → Conn91 → Unit91 → Taken
-taken_in phase.Header = taken_header
-taken_in phase.Start = taken_up
-taken_in phase.Tune = taken_up
-taken_in phase.Open = taken_up
-taken_in phase.Running = taken_running
-taken_in phase.Closing = taken_closing
-taken_in phase.Closed = taken_closed
+abbrev pub step_in : Phase91 → Connection → Unit91 → Step
+step_in phase.Header = header_step
+step_in phase.Start = ordered_step
+step_in phase.Tune = ordered_step
+step_in phase.Open = ordered_step
+step_in phase.Running = ordered_step
+step_in phase.Closing = closing_step
+step_in phase.Closed = closed_step
 
 -- the state after a unit, and what it wants
-abbrev pub taken : Conn91 → Unit91 → Taken
-taken c u = taken_in c.phase c u
+abbrev pub unit_step : Connection → Unit91 → Step
+unit_step c u = step_in c.phase c u

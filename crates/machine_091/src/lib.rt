@@ -1,14 +1,21 @@
-//! The connection of an AMQP 0-9-1 client and its channels: what each unit of the client means, or why it is refused. connection.open
-//! and all methods of a channel but those that open, close and stop it are refused.
+//! The connection of an AMQP 0-9-1 client and its channels: what each unit of the client means, or why it is refused. All methods of a
+//! channel but those that open, close and stop it are refused.
 #![tactic(auto)]
 
 mod connection;
-mod faults;
+mod ids;
 mod laws;
-mod running;
+mod limits;
+mod refusals;
+mod refusals_frames;
+mod refusals_opening;
+mod refusals_running;
+mod state;
 mod transitions;
 mod unit;
 
-pub use connection::{Channel91, Conn91, Limits, Phase91};
+pub use connection::Conn91;
 pub use laws::connection_laws;
-pub use unit::{Refusal, Unit91, Want91};
+pub use limits::{CHANNEL_MAX, FRAME_MAX, FRAME_MIN_SIZE, HEARTBEAT, Limits, RESPONSE_MAX};
+pub use state::{Awaited91, Channel91, Connection, Phase91, Stream91};
+pub use unit::{Refusal, Ruling, Unit91, Want91};

@@ -1,275 +1,325 @@
-//! The transitions of a connection: for each phase and unit the state after it, and what the unit wants.
+//! The transitions of a connection: for each phase and unit the state after it and what the unit wants, and what the other calls
+//! change. No other file sets a phase, a stream or a channel.
 
-ghost use Rattle.std.specs.Prelude.{◌≡◌, ◌≢◌, [], ◌∷◌, true, None, Ok, IfOk};
-ghost use Rattle.methods_091.specs.Reading.{method_in};
-ghost use Rattle.methods_091.specs.Rows.{class_of, id_of};
+ghost use Rattle.std.specs.Prelude.{◌≡◌, true, false, None, Ok, IfOk, OnOk, OnErr};
 ghost use Rattle.methods_091.specs.View.{kind_of, args_of, parts_of};
-ghost use Rattle.methods_091.specs.Arguments.{short, long};
-ghost use Rattle.machine_091.specs.Channels.{channel_at};
-ghost use Rattle.machine_091.specs.Faults.{first, is_expected};
-ghost use Rattle.machine_091.specs.Judged.{IsAnswer};
-ghost use Rattle.machine_091.specs.Running.{place_code, read_rows, method_rows, running_code};
-ghost use Rattle.machine_091.specs.Transitions.{agreed, expected_brings, channel_brings, read_brings, method_brings, running_brings, taken_up, taken_running, taken_header, connection_id, closing_id, taken_closing, taken_closed};
-ghost use Rattle.machine_091.specs.declared.connection.Phase91.TheVariants as phase;
+ghost use Rattle.machine_091.specs.Calls.{after_opened, after_closing, after_closed, after_ended};
+ghost use Rattle.machine_091.specs.Checked.{IsCounted};
+ghost use Rattle.machine_091.specs.Ids.{is_of_kind};
+ghost use Rattle.machine_091.specs.Limits.{agreed_limits};
+ghost use Rattle.machine_091.specs.RefusalsOpening.{is_expected, text_at, number_at};
+ghost use Rattle.machine_091.specs.RefusalsRunning.{running_state, running_refusal};
+ghost use Rattle.machine_091.specs.Refusals.{refusal_of};
+ghost use Rattle.machine_091.specs.State.{is_running, channel_at};
+ghost use Rattle.machine_091.specs.Transitions.{header_step, stream_after, is_unit_of, opening_effect, running_effect, method_effect, ordered_step, closed_step, closing_step, unit_step};
+ghost use Rattle.machine_091.specs.declared.state.Phase91.TheVariants as phase;
 ghost use Rattle.machine_091.specs.declared.unit.Want91.TheVariants as want;
 
-use crate::connection::{Channel91, Conn91, Limits, Phase91};
-use crate::faults::{bare_refusal, heartbeat_fault, judged, reading_code, refusal};
-use crate::running::{
-    class_fault, content_fault, is_opening, is_passed_over, place_fault, state_fault,
+use crate::ids::{
+    CONNECTION_CLOSE, CONNECTION_CLOSE_OK, CONNECTION_START_OK, CONNECTION_TUNE_OK, is_method,
 };
-use crate::unit::{Refusal, Unit91, Want91};
+use crate::limits::{Limits, agreed_limits, own_limits};
+use crate::refusals::{check_frame, refusal_of};
+use crate::state::{Channel91, Connection, Phase91, Stream91};
+use crate::unit::{Ruling, Unit91, Want91};
+use close_translate::{FRAME_ERROR, Scope};
 use frames_091::{Frame91, Kind91};
-use methods_091::{Method91, ids, read_method};
+use methods_091::{Method91, read_method};
 use std::alloc::Global;
 use wire_base::Memory;
 
-/// The unit is refused.
-fn refused(conn: Conn91, refusal: Refusal) -> (Conn91, Want91)
-    ensures { result ≡ (record conn { phase = phase.Closing }, want.Refuse refusal) }
+/// What the client's bytes are after a unit.
+fn stream_after(unit: &Unit91, stream: Stream91) -> Stream91
+    ensures { result ≡ stream_after unit.now stream }
 {
-    let phase = Phase91::Closing;
-    let next = Conn91 { phase, ..conn };
-    (next, Want91::Refuse(refusal))
-}
-
-/// The limits of a tune-ok, where 0 stands for those that were stated.
-fn agreed(channel_max: u16, frame_max: u32, heartbeat: u16) -> Limits
-    ensures { result ≡ agreed (short channel_max ∷ long frame_max ∷ short heartbeat ∷ []) }
-{
-    Limits {
-        frame_max: if frame_max == 0 { 131_072 } else { frame_max },
-        channel_max: if channel_max == 0 { 255 } else { channel_max },
-        heartbeat,
+    match unit {
+        Unit91::Protocol => match stream {
+            Stream91::Header => Stream91::Frames,
+            _ => stream,
+        },
+        Unit91::Frame(_) => stream,
+        Unit91::Bad(_) => Stream91::Bad,
     }
 }
 
-/// The expected method of a phase.
-fn expected_brings(conn: Conn91, method: Method91) -> (Conn91, Want91)
-    requires { is_expected conn.phase (kind_of method) ≡ true }
-    ensures { result ≡ expected_brings conn (args_of method) conn.phase }
+/// The login of a start-ok.
+fn login_in(method: Method91) -> Want91
+    requires { is_of_kind CONNECTION_START_OK (kind_of method) ≡ true }
+    ensures { result ≡ want.Login (text_at 1 (args_of method)) (text_at 2 (args_of method)) }
 {
     match method {
         Method91::ConnectionStartOk {
             mechanism,
             response,
             ..
-        } => {
-            let phase = Phase91::Tune;
-            let next = Conn91 { phase, ..conn };
-            (next, Want91::Login(mechanism, response))
-        }
+        } => Want91::Login(mechanism, response),
+        _ => Want91::Nothing,
+    }
+}
+
+/// The limits of a tune-ok.
+fn limits_in(method: &Method91) -> Limits
+    requires { is_of_kind CONNECTION_TUNE_OK (kind_of method.now) ≡ true }
+    ensures { result ≡ agreed_limits (number_at 0 (args_of method.now)) (number_at 1 (args_of method.now)) (number_at 2 (args_of method.now)) }
+{
+    match method {
         Method91::ConnectionTuneOk {
             channel_max,
             frame_max,
             heartbeat,
-        } => {
-            let phase = Phase91::Open;
-            let limits = agreed(channel_max, frame_max, heartbeat);
-            let next = Conn91 {
-                phase,
-                limits,
-                ..conn
-            };
-            (next, Want91::Tuned)
+        } => agreed_limits(*channel_max, *frame_max, *heartbeat),
+        _ => own_limits(),
+    }
+}
+
+impl Connection {
+    // ---- the calls
+
+    /// Takes a unit.
+    pub(crate) fn take(&mut self, alloc: Global, unit: &Unit91) -> Result<Want91, Memory>
+        ensures state { OnOk result (self.new ≡ (unit_step self.old unit.now).0) }
+        ensures want { IfOk result (λ want. want ≡ (unit_step self.old unit.now).1) }
+        ensures err { OnErr result (self.new ≡ self.old) }
+    {
+        match self.phase {
+            Phase91::Header => Ok(self.take_header(unit)),
+            Phase91::Start | Phase91::Tune | Phase91::Open | Phase91::Running => {
+                self.take_ordered(alloc, unit)
+            }
+            Phase91::Closing => self.take_closing(alloc, unit),
+            Phase91::Closed => self.take_closed(alloc, unit),
         }
-        _ => (conn, Want91::Nothing),
     }
-}
 
-/// The first unit: the protocol header, or bytes that are none.
-pub(crate) fn taken_header(conn: Conn91, unit: &Unit91) -> (Conn91, Want91)
-    ensures { result ≡ taken_header conn unit.now }
-{
-    let (phase, want) = match unit {
-        Unit91::Protocol => (Phase91::Start, Want91::Start),
-        Unit91::Frame(_) | Unit91::Bad(_) => (Phase91::Closed, Want91::Nothing),
-    };
-    (Conn91 { phase, ..conn }, want)
-}
-
-/// A unit where a method is expected.
-pub(crate) fn taken_up(
-    alloc: Global,
-    conn: Conn91,
-    unit: &Unit91,
-) -> Result<(Conn91, Want91), Memory>
-    ensures { IfOk result (λ t. t ≡ taken_up conn unit.now) }
-{
-    let frame = match unit {
-        Unit91::Protocol => return Ok(refused(conn, bare_refusal(501))),
-        Unit91::Bad(code) => return Ok(refused(conn, bare_refusal(*code))),
-        Unit91::Frame(frame) => frame,
-    };
-    match judged(alloc, conn.phase, conn.limits, frame)? {
-        Err(code) => Ok(refused(conn, refusal(code, frame))),
-        Ok(None) => Ok((conn, Want91::Nothing)),
-        Ok(Some(method)) => Ok(expected_brings(conn, method)),
-    }
-}
-
-/// What a frame brings once the connection runs, or the reply code of its first fault.
-type Answer = Result<(Conn91, Want91), u16>;
-
-/// A method on channel 0: connection.close, or a fault.
-fn on_connection(alloc: Global, conn: Conn91, payload: &[u8]) -> Result<Answer, Memory>
-    ensures { IfOk result (IsAnswer (first (method_rows conn 0 payload.now (method_in payload.now))) (method_brings conn 0 payload.now)) }
-{
-    if let Some(code) = class_fault(payload) {
-        return Ok(Err(code));
-    }
-    let method = match read_method(alloc, payload)? {
-        Err(fault) => return Ok(Err(reading_code(fault.fault))),
-        Ok(method) => method,
-    };
-    let (_, id) = ids(&method);
-    if id != 50 {
-        return Ok(Err(503));
-    }
-    let phase = Phase91::Closed;
-    Ok(Ok((Conn91 { phase, ..conn }, Want91::Close)))
-}
-
-/// A method of a channel that isn't refused.
-fn channel_brings(conn: Conn91, channel: u16, method: Method91) -> (Conn91, Want91)
-    requires { place_code (channel_at conn channel) (class_of (kind_of method)) (id_of (kind_of method)) (args_of method) ≡ None }
-    ensures { result ≡ channel_brings conn channel (id_of (kind_of method)) (args_of method) }
-{
-    let mut next = conn;
-    match method {
-        Method91::ChannelOpen => next.set(channel, Channel91::Open),
-        Method91::ChannelClose { .. } => next.set(channel, Channel91::Closing),
-        Method91::ChannelFlow { .. } => {}
-        _ => return (conn, Want91::ChannelCloseOk(channel)),
-    }
-    (next, Want91::Method(channel, method))
-}
-
-/// A method of a channel that isn't passed over, as it is read.
-fn read_on(alloc: Global, conn: Conn91, channel: u16, payload: &[u8]) -> Result<Answer, Memory>
-    ensures { IfOk result (IsAnswer (first (read_rows (channel_at conn channel) (method_in payload.now))) (read_brings conn channel (method_in payload.now))) }
-{
-    let method = match read_method(alloc, payload)? {
-        Err(fault) => return Ok(Err(reading_code(fault.fault))),
-        Ok(method) => method,
-    };
-    match place_fault(conn.state(channel), &method) {
-        Some(code) => Ok(Err(code)),
-        None => Ok(Ok(channel_brings(conn, channel, method))),
-    }
-}
-
-/// A method on a channel.
-fn on_channel(alloc: Global, conn: Conn91, channel: u16, payload: &[u8]) -> Result<Answer, Memory>
-    requires { channel ≢ 0 }
-    ensures { IfOk result (IsAnswer (first (method_rows conn channel payload.now (method_in payload.now))) (method_brings conn channel payload.now)) }
-{
-    if let Some(code) = state_fault(conn, channel, is_opening(payload)) {
-        return Ok(Err(code));
-    }
-    if is_passed_over(conn.state(channel), payload) {
-        return Ok(Ok((conn, Want91::Nothing)));
-    }
-    read_on(alloc, conn, channel, payload)
-}
-
-/// What a frame brings once the connection runs, or the reply code of its first fault.
-fn answer(alloc: Global, conn: Conn91, frame: &Frame91) -> Result<Answer, Memory>
-    ensures { IfOk result (IsAnswer (running_code conn frame.now frame.now.kind)
-        (running_brings conn frame.now.channel frame.now.payload frame.now.kind)) }
-{
-    let fault = match frame.kind {
-        Kind91::Method => {
-            let payload = frame.payload.as_slice();
-            return if frame.channel == 0 {
-                on_connection(alloc, conn, payload)
-            } else {
-                on_channel(alloc, conn, frame.channel, payload)
-            };
+    /// The container upstream opened.
+    pub(crate) fn open(&mut self)
+        ensures { self.new ≡ after_opened self.old }
+    {
+        if self.is_opening() {
+            self.phase = Phase91::Running;
         }
-        Kind91::Heartbeat => heartbeat_fault(frame),
-        Kind91::Header | Kind91::Body => content_fault(conn, frame.channel),
-    };
-    match fault {
-        Some(code) => Ok(Err(code)),
-        None => Ok(Ok((conn, Want91::Nothing))),
+    }
+
+    /// A closing event came that no unit told.
+    pub(crate) fn begin_close(&mut self, scope: Scope, channel: u16)
+        ensures { self.new ≡ after_closing scope channel self.old }
+    {
+        match scope {
+            Scope::Channel => {
+                if self.channel(channel) == Channel91::Open {
+                    self.set_channel(channel, Channel91::Closing);
+                }
+            }
+            Scope::Connection => {
+                if self.phase != Phase91::Closed {
+                    self.phase = Phase91::Closing;
+                }
+            }
+        }
+    }
+
+    /// The life of a closing channel ended.
+    pub(crate) fn free_channel(&mut self, channel: u16)
+        ensures { self.new ≡ after_closed channel self.old }
+    {
+        if self.channel(channel) == Channel91::Closing {
+            self.set_channel(channel, Channel91::Free);
+        }
+    }
+
+    /// The client's end ended.
+    pub(crate) fn end(&mut self)
+        ensures { self.new ≡ after_ended self.old }
+    {
+        self.phase = Phase91::Closed;
+        self.stream = Stream91::Ended;
+    }
+
+    // ---- the first unit
+
+    /// The protocol header, or bytes that are none.
+    fn take_header(&mut self, unit: &Unit91) -> Want91
+        ensures state { self.new ≡ (header_step self.old unit.now).0 }
+        ensures want { result ≡ (header_step self.old unit.now).1 }
+    {
+        match unit {
+            Unit91::Protocol => {
+                self.phase = Phase91::Start;
+                self.stream = Stream91::Frames;
+                Want91::Start
+            }
+            Unit91::Frame(_) | Unit91::Bad(_) => {
+                self.phase = Phase91::Closed;
+                self.stream = Stream91::Foreign;
+                Want91::Nothing
+            }
+        }
+    }
+
+    // ---- before the connection runs, and once it does
+
+    /// A unit by the order of refusals.
+    fn take_ordered(&mut self, alloc: Global, unit: &Unit91) -> Result<Want91, Memory>
+        ensures state { OnOk result (self.new ≡ (ordered_step self.old unit.now).0) }
+        ensures want { IfOk result (λ want. want ≡ (ordered_step self.old unit.now).1) }
+        ensures err { OnErr result (self.new ≡ self.old) }
+    {
+        let frame = match unit {
+            Unit91::Protocol => return Ok(self.refuse(FRAME_ERROR, unit)),
+            Unit91::Bad(code) => return Ok(self.refuse(*code, unit)),
+            Unit91::Frame(frame) => frame,
+        };
+        match check_frame(alloc, self, frame)? {
+            Err(Ruling::Refused(code)) => Ok(self.refuse(code, unit)),
+            Err(Ruling::PassedOver) | Ok(None) => Ok(Want91::Nothing),
+            Ok(Some(method)) => Ok(self.apply(frame.channel, method)),
+        }
+    }
+
+    /// The unit is refused.
+    fn refuse(&mut self, code: u16, unit: &Unit91) -> Want91
+        ensures state { self.new ≡ record self.old { phase = phase.Closing; stream = stream_after unit.now self.old.stream } }
+        ensures want { result ≡ want.Refuse (refusal_of code unit.now) }
+    {
+        self.phase = Phase91::Closing;
+        self.stream = stream_after(unit, self.stream);
+        Want91::Refuse(refusal_of(code, unit))
+    }
+
+    /// A method that counts.
+    fn apply(&mut self, channel: u16, method: Method91) -> Want91
+        requires { IsCounted (is_running self.old.phase) self.old channel method }
+        ensures state { self.new ≡ (method_effect self.old channel (Ok (parts_of method))).0 }
+        ensures want { result ≡ (method_effect self.old channel (Ok (parts_of method))).1 }
+    {
+        if self.is_running() {
+            self.apply_running(channel, method)
+        } else {
+            self.apply_opening(method)
+        }
+    }
+
+    /// The expected method.
+    fn apply_opening(&mut self, method: Method91) -> Want91
+        requires { is_expected self.old (kind_of method) ≡ true }
+        ensures state { self.new ≡ (opening_effect self.old (args_of method) self.old.phase).0 }
+        ensures want { result ≡ (opening_effect self.old (args_of method) self.old.phase).1 }
+    {
+        match self.phase {
+            Phase91::Start => {
+                self.phase = Phase91::Tune;
+                login_in(method)
+            }
+            Phase91::Tune => {
+                self.phase = Phase91::Open;
+                self.limits = limits_in(&method);
+                Want91::Tuned
+            }
+            Phase91::Open => {
+                self.asked = true;
+                Want91::OpenUp
+            }
+            Phase91::Header | Phase91::Running | Phase91::Closing | Phase91::Closed => {
+                Want91::Nothing
+            }
+        }
+    }
+
+    /// A method once the connection runs: on channel 0 it is connection.close.
+    fn apply_running(&mut self, channel: u16, method: Method91) -> Want91
+        requires state { running_state (channel_at self.old channel) channel (kind_of method) ≡ None }
+        requires own { running_refusal channel (kind_of method) (args_of method) ≡ None }
+        ensures state { self.new ≡ (running_effect self.old channel (kind_of method) (args_of method)).0 }
+        ensures want { result ≡ (running_effect self.old channel (kind_of method) (args_of method)).1 }
+    {
+        if channel == 0 {
+            self.phase = Phase91::Closed;
+            return Want91::Close;
+        }
+        match method {
+            Method91::ChannelOpen => self.set_channel(channel, Channel91::Open),
+            Method91::ChannelClose { .. } => self.set_channel(channel, Channel91::Closing),
+            Method91::ChannelFlow { .. } => {}
+            _ => return Want91::ChannelCloseOk(channel),
+        }
+        Want91::Method(channel, method)
+    }
+
+    // ---- after a closing event
+
+    /// A unit after a closing event.
+    fn take_closing(&mut self, alloc: Global, unit: &Unit91) -> Result<Want91, Memory>
+        ensures state { OnOk result (self.new ≡ (closing_step self.old unit.now).0) }
+        ensures want { IfOk result (λ want. want ≡ (closing_step self.old unit.now).1) }
+        ensures err { OnErr result (self.new ≡ self.old) }
+    {
+        let ending = ending_in(alloc, unit)?;
+        if ending.closes {
+            self.phase = Phase91::Closed;
+            return Ok(Want91::Close);
+        }
+        Ok(self.end_by(ending, unit))
+    }
+
+    /// A unit after the client's close.
+    fn take_closed(&mut self, alloc: Global, unit: &Unit91) -> Result<Want91, Memory>
+        ensures state { OnOk result (self.new ≡ (closed_step self.old unit.now).0) }
+        ensures want { IfOk result (λ want. want ≡ (closed_step self.old unit.now).1) }
+        ensures err { OnErr result (self.new ≡ self.old) }
+    {
+        let ending = ending_in(alloc, unit)?;
+        Ok(self.end_by(ending, unit))
+    }
+
+    /// The client's answer to the gateway's close, or a unit that is passed over.
+    fn end_by(&mut self, ending: Ending, unit: &Unit91) -> Want91
+        requires { ending.answers ≡ is_unit_of CONNECTION_CLOSE_OK unit.now }
+        ensures state { self.new ≡ (closed_step self.old unit.now).0 }
+        ensures want { result ≡ (closed_step self.old unit.now).1 }
+    {
+        if ending.answers {
+            self.phase = Phase91::Closed;
+            self.stream = Stream91::Answered;
+            Want91::CloseOk
+        } else {
+            self.stream = stream_after(unit, self.stream);
+            Want91::Nothing
+        }
     }
 }
 
-/// A unit once the connection runs.
-pub(crate) fn taken_running(
-    alloc: Global,
-    conn: Conn91,
-    unit: &Unit91,
-) -> Result<(Conn91, Want91), Memory>
-    ensures { IfOk result (λ t. t ≡ taken_running conn unit.now) }
+/// What a unit is to a connection that closes.
+#[derive(Clone, Copy)]
+struct Ending {
+    /// It is connection.close.
+    closes: bool,
+    /// It is connection.close-ok.
+    answers: bool,
+}
+
+/// What a unit is to a connection that closes: a method frame on channel 0 may be its close or its close-ok.
+fn ending_in(alloc: Global, unit: &Unit91) -> Result<Ending, Memory>
+    ensures closes { IfOk result (λ ending. ending.closes ≡ is_unit_of CONNECTION_CLOSE unit.now) }
+    ensures answers { IfOk result (λ ending. ending.answers ≡ is_unit_of CONNECTION_CLOSE_OK unit.now) }
 {
-    let frame = match unit {
-        Unit91::Protocol => return Ok(refused(conn, bare_refusal(501))),
-        Unit91::Bad(code) => return Ok(refused(conn, bare_refusal(*code))),
-        Unit91::Frame(frame) => frame,
+    let other = Ending {
+        closes: false,
+        answers: false,
     };
-    match answer(alloc, conn, frame)? {
-        Err(code) => Ok(refused(conn, refusal(code, frame))),
-        Ok(taken) => Ok(taken),
-    }
-}
-
-/// The id of a method of the class connection; 0 for any other.
-fn connection_id(method: &Method91) -> u16
-    ensures { result ≡ connection_id (Ok (parts_of method.now)) }
-{
-    let (class, id) = ids(method);
-    if class == 10 { id } else { 0 }
-}
-
-/// The id of a method of the class connection on channel 0 that can be read; 0 for any other unit.
-fn closing_id(alloc: Global, unit: &Unit91) -> Result<u16, Memory>
-    ensures { IfOk result (λ id. id ≡ closing_id unit.now) }
-{
     let Unit91::Frame(frame) = unit else {
-        return Ok(0);
+        return Ok(other);
     };
     let Kind91::Method = frame.kind else {
-        return Ok(0);
+        return Ok(other);
     };
     if frame.channel != 0 {
-        return Ok(0);
+        return Ok(other);
     }
     match read_method(alloc, frame.payload.as_slice())? {
-        Ok(method) => Ok(connection_id(&method)),
-        Err(_) => Ok(0),
+        Err(_) => Ok(other),
+        Ok(method) => Ok(Ending {
+            closes: is_method(&method, CONNECTION_CLOSE),
+            answers: is_method(&method, CONNECTION_CLOSE_OK),
+        }),
     }
-}
-
-/// A unit after a closing event.
-pub(crate) fn taken_closing(
-    alloc: Global,
-    conn: Conn91,
-    unit: &Unit91,
-) -> Result<(Conn91, Want91), Memory>
-    ensures { IfOk result (λ t. t ≡ taken_closing conn unit.now) }
-{
-    let want = match closing_id(alloc, unit)? {
-        50 => Want91::Close,
-        51 => Want91::CloseOk,
-        _ => return Ok((conn, Want91::Nothing)),
-    };
-    let phase = Phase91::Closed;
-    Ok((Conn91 { phase, ..conn }, want))
-}
-
-/// A unit after the client's close.
-pub(crate) fn taken_closed(
-    alloc: Global,
-    conn: Conn91,
-    unit: &Unit91,
-) -> Result<(Conn91, Want91), Memory>
-    ensures { IfOk result (λ t. t ≡ taken_closed conn unit.now) }
-{
-    let want = match closing_id(alloc, unit)? {
-        51 => Want91::CloseOk,
-        _ => Want91::Nothing,
-    };
-    Ok((conn, want))
 }

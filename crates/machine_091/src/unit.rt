@@ -41,6 +41,8 @@ pub enum Want91 {
     Login(ByteText, ByteText),
     /// The limits are agreed.
     Tuned,
+    /// connection.open: the container upstream is to open, and `opened` tells that it did.
+    OpenUp,
     /// A method of this channel: channel.open, channel.flow or channel.close. Its answer is due.
     Method(u16, Method91),
     /// The client answered the gateway's channel.close of this channel.
@@ -51,4 +53,13 @@ pub enum Want91 {
     CloseOk,
     /// The unit is refused. connection.close is due.
     Refuse(Refusal),
+}
+
+/// What the order of refusals says of a unit that doesn't count.
+#[derive(Clone, Copy, Debug)]
+pub enum Ruling {
+    /// It is refused with this reply code.
+    Refused(u16),
+    /// It is passed over.
+    PassedOver,
 }

@@ -5,4 +5,4 @@ use Rattle.gate_laws.proofs.frames_fit_clients.Goals as goal
 
 pub returns : goal.returns
 returns c = λ config m f p.
-    fits_clients (record { small = c.unit_laws.ensures.small; least = c.connection_laws.ensures.frames }) (journal p m).events
+    fits_clients (record { small = c.unit_laws.ensures.small; within = c.connection_laws.ensures.limits_stay }) (journal p m).events

@@ -1,5 +1,14 @@
-use Rattle.machine_091.proofs.FrameLimits.{frames_fit}
+use Rattle.machine_091.proofs.CallLaws.{limits_hold, channels_hold}
+use Rattle.machine_091.proofs.StepLaws.{limits_stay, refusal_closes, none_runs, closed_stays}
 use Rattle.machine_091.proofs.laws.connection_laws.Goals as goal
 
 pub returns : goal.returns
-returns c = record { frames = frames_fit }
+returns c =
+    record {
+      limits = limits_hold;
+      limits_stay = limits_stay;
+      channels = channels_hold;
+      refusals = refusal_closes;
+      running = none_runs;
+      closed = closed_stays;
+    }

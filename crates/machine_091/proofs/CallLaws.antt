@@ -1,0 +1,212 @@
+-- What holds of a connection after any calls: its limits, and which channels are used.
+use Rattle.std.proofs.Common.{◌≡◌, ℕ, zero, suc, ◌≤◌, ◌<◌, ◌+◌, Bool, true, false, cond, ◌⊎◌, inl, inr, List, [], ◌∷◌, replicate, Option, refl, sym, ◌∙◌, ap, subst, arith}
+use Rattle.std.proofs.lemmas.List.Sums.{sum_by-cons}
+use Rattle.std.specs.Prelude.{slice_get, slice_set, count_by}
+use Rattle.close_translate.specs.declared.conditions.Scope.{Scope}
+use Rattle.close_translate.specs.declared.conditions.Scope.TheVariants as scope
+use Rattle.machine_091.specs.Calls.{opened_phase, after_opened, closing_channel, closing_phase, after_closing, freed_channel, after_closed}
+use Rattle.machine_091.specs.Laws.{Call91, Take, Opened, Closing, Closed, Ended, after_call, after_calls, is_used, AreInRange}
+use Rattle.machine_091.specs.Limits.{AreWithin}
+use Rattle.machine_091.specs.State.{no_channels, new_connection, is_running, is_closing_phase, channel_at, or_free, with_channel}
+use Rattle.machine_091.specs.Transitions.{Step, unit_step}
+use Rattle.machine_091.specs.declared.state.Channel91.{Channel91}
+use Rattle.machine_091.specs.declared.state.Channel91.TheVariants as channel
+use Rattle.machine_091.specs.declared.state.Connection.{Connection}
+use Rattle.machine_091.specs.declared.state.Phase91.{Phase91}
+use Rattle.machine_091.specs.declared.state.Phase91.TheVariants as phase
+use Rattle.machine_091.specs.declared.unit.Unit91.{Unit91}
+use Rattle.machine_091.proofs.StepCases.{step_rows}
+use Rattle.machine_091.proofs.StepLaws.{agreed_within}
+
+-- ---- a channel in another state
+
+get_set : (xs : List Channel91) (n m : ℕ) (s : Channel91) → (m ≡ n) ⊎ (slice_get (slice_set xs n s) m ≡ slice_get xs m)
+get_set [] n m s = inr refl
+get_set (x ∷ xs) zero zero s = inl refl
+get_set (x ∷ xs) zero (suc m) s = inr refl
+get_set (x ∷ xs) (suc n) zero s = inr refl
+get_set (x ∷ xs) (suc n) (suc m) s = by (get_set xs n m s)
+  where
+    by : (m ≡ n) ⊎ (slice_get (slice_set xs n s) m ≡ slice_get xs m)
+        → (suc m ≡ suc n) ⊎ (slice_get (slice_set xs n s) m ≡ slice_get xs m)
+    by (inl e) = inl (ap suc e)
+    by (inr e) = inr e
+
+-- what holds of the number that was set, and of the numbers of used channels before, holds of those after
+used_after : (P : ℕ → Type 0) (c : Connection) (n : ℕ) (s : Channel91) → P n
+    → ((m : ℕ) → is_used (channel_at c m) ≡ true → P m) → (m : ℕ) → is_used (channel_at (with_channel c n s) m) ≡ true → P m
+used_after P c n s set before m used = by (get_set c.channels n m s)
+  where
+    by : (m ≡ n) ⊎ (slice_get (slice_set c.channels n s) m ≡ slice_get c.channels m) → P m
+    by (inl e) = subst P (sym e) set
+    by (inr e) = before m (ap (λ (o : Option Channel91). is_used (or_free o)) (sym e) ∙ used)
+
+-- ---- the invariant
+
+-- limits in their range; used channels have numbers from 1 to the greatest; none is used before the connection runs
+record Sound (c : Connection) : Type 0 where
+  within : AreWithin c.limits
+  min : (n : ℕ) → is_used (channel_at c n) ≡ true → 1 ≤ n
+  max : (n : ℕ) → is_used (channel_at c n) ≡ true → n ≤ c.limits.channel_max
+  fresh : is_running c.phase ≡ false → is_closing_phase c.phase ≡ false → (n : ℕ) → is_used (channel_at c n) ≡ false
+
+-- a channel whose number is in range is set, once the connection runs
+sound_set : (c : Connection) (n : ℕ) (s : Channel91) → Sound c
+    → (is_running c.phase ≡ false → is_closing_phase c.phase ≡ false → (m : ℕ) → is_used (channel_at (with_channel c n s) m) ≡ false)
+    → 1 ≤ n → n ≤ c.limits.channel_max → Sound (with_channel c n s)
+sound_set c n s h fresh min max = record {
+  within = h.within;
+  min = used_after (λ (m : ℕ). 1 ≤ m) c n s min h.min;
+  max = used_after (λ (m : ℕ). m ≤ c.limits.channel_max) c n s max h.max;
+  fresh = fresh;
+}
+
+running_set : (c : Connection) (n : ℕ) (s : Channel91) → Sound c → is_running c.phase ≡ true → 1 ≤ n → n ≤ c.limits.channel_max
+    → Sound (with_channel c n s)
+running_set c n s h runs min max = sound_set c n s h (λ r k m. absurd cc) min max
+
+-- a used channel is set
+used_set : (c : Connection) (n : ℕ) (s : Channel91) → Sound c → is_used (channel_at c n) ≡ true → Sound (with_channel c n s)
+used_set c n s h used = sound_set c n s h none (h.min n used) (h.max n used)
+  where
+    none : is_running c.phase ≡ false → is_closing_phase c.phase ≡ false → (m : ℕ) → is_used (channel_at (with_channel c n s) m) ≡ false
+    none r k m = let clash : is_used (channel_at c n) ≡ false = h.fresh r k n in absurd cc
+
+sound_step : (c : Connection) (u : Unit91) → Sound c → Sound (unit_step c u).0
+sound_step c u h = step_rows (λ (x : Step). Sound x.0) c u (record {
+  greeted = λ e. record { within = h.within; min = h.min; max = h.max; fresh = λ r k. h.fresh (ap is_running e) (ap is_closing_phase e) };
+  foreign = λ e. record { within = h.within; min = h.min; max = h.max; fresh = λ r k. absurd cc };
+  refused = λ code e. record { within = h.within; min = h.min; max = h.max; fresh = λ r k. absurd cc };
+  nothing = h;
+  login = λ a b e. record { within = h.within; min = h.min; max = h.max; fresh = λ r k. h.fresh (ap is_running e) (ap is_closing_phase e) };
+  tuned = λ channels size heartbeat e agreed.
+      let none : (n : ℕ) → is_used (channel_at c n) ≡ false = h.fresh (ap is_running e) (ap is_closing_phase e) in
+      record {
+        within = agreed_within channels size heartbeat agreed;
+        min = h.min;
+        max = λ n used. let k : is_used (channel_at c n) ≡ false = none n in absurd cc;
+        fresh = λ r k. none;
+      };
+  asked = λ e. record { within = h.within; min = h.min; max = h.max; fresh = h.fresh };
+  closed = λ e. record { within = h.within; min = h.min; max = h.max; fresh = λ r k. absurd cc };
+  opened = λ n m e min max. running_set c n channel.Open h e min max;
+  ended = λ n m e min max. running_set c n channel.Closing h e min max;
+  stopped = λ n m e. h;
+  freed = λ n e. h;
+  crossed = λ e. record { within = h.within; min = h.min; max = h.max; fresh = λ r k. absurd cc };
+  answered = λ e. record { within = h.within; min = h.min; max = h.max; fresh = λ r k. absurd cc };
+  passed = λ e. record { within = h.within; min = h.min; max = h.max; fresh = h.fresh };
+})
+
+-- ---- the other calls
+
+sound_opened : (c : Connection) → Sound c → Sound (after_opened c)
+sound_opened c h = by c.phase refl
+  where
+    by : (p : Phase91) → c.phase ≡ p → Sound (record c { phase = opened_phase c.asked p })
+    by phase.Header e = record { within = h.within; min = h.min; max = h.max; fresh = λ r k. h.fresh (ap is_running e) (ap is_closing_phase e) }
+    by phase.Start e = record { within = h.within; min = h.min; max = h.max; fresh = λ r k. h.fresh (ap is_running e) (ap is_closing_phase e) }
+    by phase.Tune e = record { within = h.within; min = h.min; max = h.max; fresh = λ r k. h.fresh (ap is_running e) (ap is_closing_phase e) }
+    by phase.Open e = record { within = h.within; min = h.min; max = h.max; fresh = λ r k. h.fresh (ap is_running e) (ap is_closing_phase e) }
+    by phase.Running e = record { within = h.within; min = h.min; max = h.max; fresh = λ r k. absurd cc }
+    by phase.Closing e = record { within = h.within; min = h.min; max = h.max; fresh = λ r k. absurd cc }
+    by phase.Closed e = record { within = h.within; min = h.min; max = h.max; fresh = λ r k. absurd cc }
+
+always_closing : (p : Phase91) → is_closing_phase (closing_phase p) ≡ true
+always_closing phase.Header = refl
+always_closing phase.Start = refl
+always_closing phase.Tune = refl
+always_closing phase.Open = refl
+always_closing phase.Running = refl
+always_closing phase.Closing = refl
+always_closing phase.Closed = refl
+
+sound_closing : (s : Scope) (n : ℕ) (c : Connection) → Sound c → Sound (after_closing s n c)
+sound_closing scope.Connection n c h = record {
+  within = h.within;
+  min = h.min;
+  max = h.max;
+  fresh = λ r k. let closing : is_closing_phase (closing_phase c.phase) ≡ true = always_closing c.phase in absurd cc;
+}
+sound_closing scope.Channel n c h = by (channel_at c n) refl
+  where
+    by : (x : Channel91) → channel_at c n ≡ x → Sound (closing_channel x n c)
+    by channel.Free e = h
+    by channel.Open e = used_set c n channel.Closing h (ap is_used e)
+    by channel.Closing e = h
+
+sound_closed : (n : ℕ) (c : Connection) → Sound c → Sound (after_closed n c)
+sound_closed n c h = by (channel_at c n) refl
+  where
+    by : (x : Channel91) → channel_at c n ≡ x → Sound (freed_channel x n c)
+    by channel.Free e = h
+    by channel.Open e = h
+    by channel.Closing e = used_set c n channel.Free h (ap is_used e)
+
+sound_call : (x : Call91) (c : Connection) → Sound c → Sound (after_call x c)
+sound_call (Take u) c h = sound_step c u h
+sound_call Opened c h = sound_opened c h
+sound_call (Closing s n) c h = sound_closing s n c h
+sound_call (Closed n) c h = sound_closed n c h
+sound_call Ended c h = record { within = h.within; min = h.min; max = h.max; fresh = λ r k. absurd cc }
+
+none_used : (count n : ℕ) → is_used (or_free (slice_get (replicate count channel.Free) n)) ≡ false
+none_used zero n = refl
+none_used (suc count) zero = refl
+none_used (suc count) (suc n) = none_used count n
+
+sound_new : Sound new_connection
+unfolding no_channels
+sound_new = record {
+  within = record { frame_min = omega arith; frame_max = omega arith; channel_min = omega arith; channel_max = omega arith };
+  min = λ n used. let k : is_used (channel_at new_connection n) ≡ false = none_used 256 n in absurd cc;
+  max = λ n used. let k : is_used (channel_at new_connection n) ≡ false = none_used 256 n in absurd cc;
+  fresh = λ r k n. none_used 256 n;
+}
+
+sound_calls : (h : List Call91) → Sound (after_calls h)
+sound_calls [] = sound_new
+sound_calls (x ∷ h) = sound_call x (after_calls h) (sound_calls h)
+
+-- ---- how many are used
+
+used_below : (xs : List Channel91) (k : ℕ) → ((m : ℕ) → is_used (or_free (slice_get xs m)) ≡ true → m < k) → count_by is_used xs ≤ k
+used_below [] k below = omega arith
+used_below (x ∷ xs) k below =
+    subst (λ (count : ℕ). count ≤ k) (sym (sum_by-cons (λ (y : Channel91). cond (is_used y) 1 0) x xs)) (by k (used_below xs) below (is_used x) refl)
+  where
+    by : (k : ℕ) → ((j : ℕ) → ((m : ℕ) → is_used (or_free (slice_get xs m)) ≡ true → m < j) → count_by is_used xs ≤ j)
+        → ((m : ℕ) → is_used (or_free (slice_get (x ∷ xs) m)) ≡ true → m < k) → (b : Bool) → is_used x ≡ b
+        → cond b 1 0 + count_by is_used xs ≤ k
+    by zero most below true e = let none : 0 < 0 = below 0 e in omega (arith, none)
+    by zero most below false e =
+        let rest : count_by is_used xs ≤ 0 = most 0 (λ m used. let more : suc m < 0 = below (suc m) used in omega (arith, more)) in
+        omega (arith, rest)
+    by (suc k) most below true e =
+        let rest : count_by is_used xs ≤ k = most k (λ m used. let more : suc m < suc k = below (suc m) used in omega (arith, more)) in
+        omega (arith, rest)
+    by (suc k) most below false e =
+        let rest : count_by is_used xs ≤ k = most k (λ m used. let more : suc m < suc k = below (suc m) used in omega (arith, more)) in
+        omega (arith, rest)
+
+used_to : (xs : List Channel91) (k : ℕ) → ((m : ℕ) → is_used (or_free (slice_get xs m)) ≡ true → 1 ≤ m)
+    → ((m : ℕ) → is_used (or_free (slice_get xs m)) ≡ true → m ≤ k) → count_by is_used xs ≤ k
+used_to [] k min max = omega arith
+used_to (x ∷ xs) k min max =
+    subst (λ (count : ℕ). count ≤ k) (sym (sum_by-cons (λ (y : Channel91). cond (is_used y) 1 0) x xs)) (by (is_used x) refl)
+  where
+    by : (b : Bool) → is_used x ≡ b → cond b 1 0 + count_by is_used xs ≤ k
+    by true e = let none : 1 ≤ 0 = min 0 e in omega (arith, none)
+    by false e =
+        let rest : count_by is_used xs ≤ k = used_below xs k (λ m used. let more : suc m ≤ k = max (suc m) used in omega (arith, more)) in
+        omega (arith, rest)
+
+-- ---- the laws
+
+pub limits_hold : (h : List Call91) → AreWithin (after_calls h).limits
+limits_hold h = (sound_calls h).within
+
+pub channels_hold : (h : List Call91) → AreInRange (after_calls h)
+channels_hold h =
+    let s = sound_calls h in
+    record { min = s.min; max = s.max; count = used_to (after_calls h).channels (after_calls h).limits.channel_max s.min s.max }

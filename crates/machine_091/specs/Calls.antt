@@ -1,0 +1,59 @@
+-- What each call but that for a unit makes of a connection: the container upstream opened; a closing event that no unit told; the end of
+-- a channel's life; the end of the client's stream (AMQP 0-9-1 2.2.4 and 1.5).
+use Rattle.std.specs.Prelude.{ℕ, Bool, if◌then◌else◌}
+use Rattle.close_translate.specs.declared.conditions.Scope.{Scope}
+use Rattle.close_translate.specs.declared.conditions.Scope.TheVariants as scope
+use Rattle.machine_091.specs.State.{channel_at, with_channel}
+use Rattle.machine_091.specs.declared.state.Channel91.{Channel91}
+use Rattle.machine_091.specs.declared.state.Channel91.TheVariants as channel
+use Rattle.machine_091.specs.declared.state.Connection.{Connection}
+use Rattle.machine_091.specs.declared.state.Phase91.{Phase91}
+use Rattle.machine_091.specs.declared.state.Phase91.TheVariants as phase
+use Rattle.machine_091.specs.declared.state.Stream91.TheVariants as stream
+
+-- the container upstream opened: a connection runs once its client asked for that
+abbrev pub opened_phase : Bool → Phase91 → Phase91
+opened_phase asked phase.Header = phase.Header
+opened_phase asked phase.Start = phase.Start
+opened_phase asked phase.Tune = phase.Tune
+opened_phase asked phase.Open = if asked then phase.Running else phase.Open
+opened_phase asked phase.Running = phase.Running
+opened_phase asked phase.Closing = phase.Closing
+opened_phase asked phase.Closed = phase.Closed
+
+abbrev pub after_opened : Connection → Connection
+after_opened c = record c { phase = opened_phase c.asked c.phase }
+
+-- the phase after the closing event of the connection
+abbrev pub closing_phase : Phase91 → Phase91
+closing_phase phase.Header = phase.Closing
+closing_phase phase.Start = phase.Closing
+closing_phase phase.Tune = phase.Closing
+closing_phase phase.Open = phase.Closing
+closing_phase phase.Running = phase.Closing
+closing_phase phase.Closing = phase.Closing
+closing_phase phase.Closed = phase.Closed
+
+-- the closing event of a channel, where it is open
+abbrev pub closing_channel : Channel91 → ℕ → Connection → Connection
+closing_channel channel.Free n c = c
+closing_channel channel.Open n c = with_channel c n channel.Closing
+closing_channel channel.Closing n c = c
+
+-- a closing event of the connection or of a channel
+abbrev pub after_closing : Scope → ℕ → Connection → Connection
+after_closing scope.Channel n c = closing_channel (channel_at c n) n c
+after_closing scope.Connection n c = record c { phase = closing_phase c.phase }
+
+-- the end of a channel's life, where it is closing
+abbrev pub freed_channel : Channel91 → ℕ → Connection → Connection
+freed_channel channel.Free n c = c
+freed_channel channel.Open n c = c
+freed_channel channel.Closing n c = with_channel c n channel.Free
+
+abbrev pub after_closed : ℕ → Connection → Connection
+after_closed n c = freed_channel (channel_at c n) n c
+
+-- the client's end ended: a connection.close that asks for no answer
+abbrev pub after_ended : Connection → Connection
+after_ended c = record c { phase = phase.Closed; stream = stream.Ended }

@@ -1,0 +1,61 @@
+-- The places of the order of refusals that ask of a method once the connection runs: its class on channel 0, its state, and whether this
+-- gateway does it (AMQP 0-9-1 1.4 to 1.8).
+use Rattle.std.specs.Prelude.{ℕ, Bool, true, false, ◌==◌, ◌%◌, nat_lt, if◌then◌else◌, List, ◌∷◌, length, Option, None}
+use Rattle.close_translate.specs.declared.codes.TheConstants.{COMMAND_INVALID, NOT_IMPLEMENTED}
+use Rattle.methods_091.specs.Arguments.{Arg}
+use Rattle.methods_091.specs.Arguments as arg
+use Rattle.methods_091.specs.Rows.{Kind, class_of, id_of}
+use Rattle.machine_091.specs.Ids.{class_in, is_of_kind}
+use Rattle.machine_091.specs.RefusalsFrames.{refused}
+use Rattle.machine_091.specs.declared.ids.TheConstants.{CONNECTION, CONNECTION_CLOSE, CHANNEL_OPEN, CHANNEL_FLOW, CHANNEL_CLOSE, CHANNEL_CLOSE_OK}
+use Rattle.machine_091.specs.declared.ids.TheConstants.{BASIC_RETURN, BASIC_DELIVER, BASIC_GET_EMPTY}
+use Rattle.machine_091.specs.declared.state.Channel91.{Channel91}
+use Rattle.machine_091.specs.declared.state.Channel91.TheVariants as channel
+use Rattle.machine_091.specs.declared.unit.Ruling.{Ruling}
+
+-- on channel 0 a method of another class than connection; one whose ids are cut off has no class
+abbrev pub class_order : ℕ → List ℕ → Option Ruling
+class_order n payload =
+    if n == 0 then (if nat_lt (length payload) 4 then None
+    else if class_in payload == CONNECTION then None
+    else refused COMMAND_INVALID)
+    else None
+
+-- the methods that a server sends and no client does: the answers, whose ids end in 1, basic.return, basic.deliver and basic.get-empty
+abbrev pub is_servers : Kind → Bool
+is_servers k =
+    if id_of k % 10 == 1 then true
+    else if is_of_kind BASIC_RETURN k then true
+    else if is_of_kind BASIC_DELIVER k then true
+    else is_of_kind BASIC_GET_EMPTY k
+
+-- a channel.close-ok where no channel.close is to be answered
+abbrev pub answer_order : Channel91 → Option Ruling
+answer_order channel.Free = refused COMMAND_INVALID
+answer_order channel.Open = refused COMMAND_INVALID
+answer_order channel.Closing = None
+
+-- on channel 0 each method but connection.close is out of its state; on another channel a method of the class connection, one that a
+-- server sends, and a channel.close-ok that answers nothing
+abbrev pub running_state : Channel91 → ℕ → Kind → Option Ruling
+running_state s n k =
+    if n == 0 then (if is_of_kind CONNECTION_CLOSE k then None else refused COMMAND_INVALID)
+    else if class_of k == CONNECTION then refused COMMAND_INVALID
+    else if is_of_kind CHANNEL_CLOSE_OK k then answer_order s
+    else if is_servers k then refused COMMAND_INVALID
+    else None
+
+-- the first flag of the first argument
+abbrev pub is_active : List Arg → Bool
+is_active (arg.bits (b ∷ bs) ∷ args) = b
+is_active args = false
+
+-- a channel.flow that stops the flow, and all that this gateway doesn't do
+abbrev pub running_refusal : ℕ → Kind → List Arg → Option Ruling
+running_refusal n k args =
+    if n == 0 then None
+    else if is_of_kind CHANNEL_OPEN k then None
+    else if is_of_kind CHANNEL_CLOSE k then None
+    else if is_of_kind CHANNEL_CLOSE_OK k then None
+    else if is_of_kind CHANNEL_FLOW k then (if is_active args then None else refused NOT_IMPLEMENTED)
+    else refused NOT_IMPLEMENTED

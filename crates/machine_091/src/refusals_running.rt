@@ -1,0 +1,88 @@
+//! The places of the order of refusals that ask of a method once the connection runs: its class on channel 0, its state, and whether
+//! this gateway does it.
+
+ghost use Rattle.std.specs.Prelude.{◌≡◌};
+ghost use Rattle.methods_091.specs.View.{kind_of, args_of};
+ghost use Rattle.machine_091.specs.RefusalsRunning.{class_order, is_servers, answer_order, running_state, running_refusal};
+
+use crate::ids::{
+    BASIC_DELIVER, BASIC_GET_EMPTY, BASIC_RETURN, CHANNEL_CLOSE_OK, CONNECTION, CONNECTION_CLOSE,
+    ids_in, is_method,
+};
+use crate::state::Channel91;
+use crate::unit::Ruling;
+use close_translate::{COMMAND_INVALID, NOT_IMPLEMENTED};
+use methods_091::{Method91, ids};
+
+/// On channel 0 a method of another class than connection.
+pub(crate) fn class_order(channel: u16, payload: &[u8]) -> Option<Ruling>
+    ensures { result ≡ class_order channel payload.now }
+{
+    let (class, _) = ids_in(payload);
+    if channel != 0 || payload.len() < 4 || class == CONNECTION {
+        None
+    } else {
+        Some(Ruling::Refused(COMMAND_INVALID))
+    }
+}
+
+/// The methods that a server sends and no client does.
+fn is_servers(method: &Method91) -> bool
+    ensures { result ≡ is_servers (kind_of method.now) }
+{
+    let (_, id) = ids(method);
+    id % 10 == 1
+        || is_method(method, BASIC_RETURN)
+        || is_method(method, BASIC_DELIVER)
+        || is_method(method, BASIC_GET_EMPTY)
+}
+
+/// A channel.close-ok where no channel.close is to be answered.
+fn answer_order(state: Channel91) -> Option<Ruling>
+    ensures { result ≡ answer_order state }
+{
+    match state {
+        Channel91::Free | Channel91::Open => Some(Ruling::Refused(COMMAND_INVALID)),
+        Channel91::Closing => None,
+    }
+}
+
+/// A method out of its state.
+pub(crate) fn running_state(state: Channel91, channel: u16, method: &Method91) -> Option<Ruling>
+    ensures { result ≡ running_state state channel (kind_of method.now) }
+{
+    let (class, _) = ids(method);
+    let in_place = if channel == 0 {
+        is_method(method, CONNECTION_CLOSE)
+    } else if class == CONNECTION {
+        false
+    } else if is_method(method, CHANNEL_CLOSE_OK) {
+        return answer_order(state);
+    } else {
+        !is_servers(method)
+    };
+    if in_place {
+        None
+    } else {
+        Some(Ruling::Refused(COMMAND_INVALID))
+    }
+}
+
+/// A method that this gateway doesn't do.
+pub(crate) fn running_refusal(channel: u16, method: &Method91) -> Option<Ruling>
+    ensures { result ≡ running_refusal channel (kind_of method.now) (args_of method.now) }
+{
+    if channel == 0 {
+        return None;
+    }
+    let done = match method {
+        Method91::ChannelOpen | Method91::ChannelClose { .. } | Method91::ChannelCloseOk => true,
+        Method91::ChannelFlow { active } => *active,
+        _ => false,
+    };
+    if done {
+        None
+    } else {
+        Some(Ruling::Refused(NOT_IMPLEMENTED))
+    }
+}
