@@ -8,7 +8,6 @@ use gate_outside::{
     Accepted, Call, CallList, Drawn, End, Got, Linked, Log, LogEntry, MemorySink, MemorySource,
     Next, Piece, Ports, Put, Room, Script, ScriptPorts, Sink, Source, Sunk, write_all,
 };
-use gate_plays::{only, quiet};
 use std::alloc::{AllocError, Global};
 use std::process::Abort;
 use std::test::Fail;
@@ -17,9 +16,28 @@ use wire_base::{
     take_u64,
 };
 
+/// A script with so many pairs and nothing else.
+fn quiet(alloc: Global, pairs: u32) -> Script {
+    Script {
+        pairs,
+        pieces: ItemList::empty(alloc),
+        rooms: ItemList::empty(alloc),
+        fails: ItemList::empty(alloc),
+        idles: 0,
+        step: 1,
+    }
+}
+
+/// A list with one number.
+fn only(alloc: Global, number: u64) -> Result<CallList, Memory> {
+    let mut list = ItemList::empty(alloc);
+    list.push(number)?;
+    Ok(list)
+}
+
 /// Byte strings and lists, each call once.
 fn texts(rt: &(impl Abort + AllocGlobal)) -> Result<(), Fail> {
-    let mut text = ByteText::with_room(rt.alloc(), 16)?;
+    let mut text = ByteText::empty(rt.alloc());
     assert_eq!(rt; text.as_slice(), b"".as_slice());
     text.append(b"AM")?;
     text.append(b"QP")?;

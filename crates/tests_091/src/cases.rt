@@ -1,0 +1,204 @@
+//! What is printed of a line of the input.
+
+use crate::closes::{code_text, condition_text};
+use crate::frames::{frame_text, header_text};
+use crate::machine::connection_text;
+use crate::methods::{close_ok_text, close_text, method_text};
+use crate::numbers::{changed_text, reader_text, reserved_text};
+use crate::tables::{kinds_text, table_text};
+use crate::words::{line_of, number_first, put_run, short_of};
+use machine_091::Conn91;
+use std::alloc::Global;
+use tests_support::{Cases, Names, part};
+use wire_base::Memory;
+
+/// The names so far, and the connection of the cases of units.
+#[derive(Drop)]
+pub struct Cases091 {
+    names: Names,
+    conn: Conn91,
+}
+
+impl Cases091 {
+    pub fn new(alloc: Global) -> Cases091 {
+        Cases091 {
+            names: Names::new(alloc),
+            conn: Conn91::new(),
+        }
+    }
+}
+
+/// A way to read bytes: by a codec, with its number where it takes one.
+#[derive(Clone, Copy)]
+enum Codec {
+    Header,
+    /// Frames up to a limit.
+    Frame(u32),
+    /// A table from an offset.
+    Table(usize),
+    Method,
+}
+
+/// A codec, and the text behind its words; `None` where the words are none.
+fn codec_of(words: &str) -> Option<(Codec, &str)> {
+    let (verb, rest) = words.split_once(' ').unwrap_or((words, ""));
+    match verb {
+        "header" => Some((Codec::Header, rest)),
+        "table" => Some((Codec::Table(0), rest)),
+        "method" => Some((Codec::Method, rest)),
+        "frame" => {
+            let (limit, rest) = number_first(rest)?;
+            Some((Codec::Frame(u32::try_from(limit).ok()?), rest))
+        }
+        "at" => {
+            let (from, rest) = number_first(rest)?;
+            Some((Codec::Table(from as usize), rest))
+        }
+        _ => None,
+    }
+}
+
+/// What a codec reads.
+fn text_of(alloc: Global, codec: Codec, bytes: &[u8]) -> Result<String, Memory> {
+    match codec {
+        Codec::Header => header_text(alloc, bytes),
+        Codec::Frame(limit) => frame_text(alloc, limit, bytes),
+        Codec::Table(from) => table_text(alloc, bytes, from),
+        Codec::Method => method_text(alloc, bytes),
+    }
+}
+
+/// The answer at each shorter length, from none on.
+fn put_cuts(alloc: Global, out: &mut String, codec: Codec, bytes: &[u8]) -> Result<(), Memory> {
+    out.push_str(" | cuts")?;
+    let mut last = String::new(alloc);
+    let mut count = 0usize;
+    for size in 0..bytes.len() {
+        let text = text_of(alloc, codec, part(bytes, 0, size))?;
+        if text.as_str() != last.as_str() {
+            put_run(out, short_of(last.as_str()), count)?;
+            count = 0;
+        }
+        last = text;
+        count = count.saturating_add(1);
+    }
+    put_run(out, short_of(last.as_str()), count)
+}
+
+/// A case of a codec, and each shorter length where that is asked for; `None` where the words are none.
+fn read_text(
+    alloc: Global,
+    names: &Names,
+    words: &str,
+    cuts: bool,
+) -> Result<Option<String>, Memory> {
+    let Some((codec, rest)) = codec_of(words) else {
+        return Ok(None);
+    };
+    let Some(bytes) = names.joined(alloc, rest)? else {
+        return Ok(None);
+    };
+    let mut text = text_of(alloc, codec, bytes.as_slice())?;
+    if cuts {
+        put_cuts(alloc, &mut text, codec, bytes.as_slice())?;
+    }
+    Ok(Some(text))
+}
+
+/// A close by its numbers and its text.
+fn closing_text(alloc: Global, names: &Names, words: &str) -> Result<Option<String>, Memory> {
+    let Some((code, rest)) = number_first(words) else {
+        return Ok(None);
+    };
+    let Some((class, rest)) = number_first(rest) else {
+        return Ok(None);
+    };
+    let Some((method, rest)) = number_first(rest) else {
+        return Ok(None);
+    };
+    let Some(bytes) = names.joined(alloc, rest)? else {
+        return Ok(None);
+    };
+    match (
+        u16::try_from(code),
+        u16::try_from(class),
+        u16::try_from(method),
+    ) {
+        (Ok(code), Ok(class), Ok(method)) => {
+            close_text(alloc, code, class, method, bytes.as_slice())
+        }
+        _ => Ok(None),
+    }
+}
+
+/// What a reader takes, or a change in place.
+fn numbered_text(
+    alloc: Global,
+    names: &Names,
+    verb: &str,
+    words: &str,
+) -> Result<Option<String>, Memory> {
+    let Some((number, mut rest)) = number_first(words) else {
+        return Ok(None);
+    };
+    let mut written = 0u64;
+    if verb == "set" {
+        match number_first(rest) {
+            Some((second, behind)) => {
+                written = second;
+                rest = behind;
+            }
+            None => return Ok(None),
+        }
+    }
+    let Some(bytes) = names.joined(alloc, rest)? else {
+        return Ok(None);
+    };
+    let number = number as usize;
+    let written = u32::try_from(written).unwrap_or(u32::MAX);
+    if verb == "room" {
+        return Ok(Some(reserved_text(alloc, number, bytes.as_slice())?));
+    }
+    match reader_text(alloc, verb, number, bytes.as_slice())? {
+        Some(text) => Ok(Some(text)),
+        None => changed_text(alloc, verb, number, written, bytes.as_slice()),
+    }
+}
+
+/// The answer to a case; `None` where it is none.
+fn case_text(alloc: Global, names: &Names, line: &str) -> Result<Option<String>, Memory> {
+    let (verb, rest) = line.split_once(' ').unwrap_or((line, ""));
+    match verb {
+        "header" | "frame" | "table" | "at" | "method" => read_text(alloc, names, line, false),
+        "cuts" => read_text(alloc, names, rest, true),
+        "close" => closing_text(alloc, names, rest),
+        "close-ok" => Ok(Some(close_ok_text(alloc)?)),
+        "kinds" => Ok(Some(kinds_text(alloc)?)),
+        "code" => match rest.parse::<u16>() {
+            Ok(code) => Ok(Some(code_text(alloc, code)?)),
+            Err(_) => Ok(None),
+        },
+        "condition" => condition_text(alloc, names, rest),
+        _ => numbered_text(alloc, names, verb, rest),
+    }
+}
+
+impl Cases for Cases091 {
+    fn answer(&mut self, alloc: Global, line: &str) -> Result<Option<String>, Memory> {
+        if let Some(rest) = line.strip_prefix("name ") {
+            let named = self.names.add(alloc, rest)?;
+            return Ok(if named {
+                Some(String::new(alloc))
+            } else {
+                None
+            });
+        }
+        if let Some(text) = connection_text(alloc, &self.names, &mut self.conn, line)? {
+            return Ok(Some(line_of(alloc, text.as_str())?));
+        }
+        match case_text(alloc, &self.names, line)? {
+            Some(text) => Ok(Some(line_of(alloc, text.as_str().trim())?)),
+            None => Ok(None),
+        }
+    }
+}

@@ -1,0 +1,39 @@
+//! Cases of the codes and names of closes.
+
+use close_translate::{Scope, code_name, code_of};
+use std::alloc::Global;
+use tests_support::{Names, put_text};
+use wire_base::Memory;
+
+/// The name of a reply code.
+pub fn code_text(alloc: Global, code: u16) -> Result<String, Memory> {
+    let mut out = String::new(alloc);
+    put_text(&mut out, code_name(code))?;
+    Ok(out)
+}
+
+fn scope_of(word: &str) -> Option<Scope> {
+    match word {
+        "channel" => Some(Scope::Channel),
+        "connection" => Some(Scope::Connection),
+        _ => None,
+    }
+}
+
+/// The reply code for an error condition, or for none; `None` where the words are none.
+pub fn condition_text(alloc: Global, names: &Names, words: &str) -> Result<Option<String>, Memory> {
+    let (scope, rest) = words.split_once(' ').unwrap_or((words, ""));
+    let Some(scope) = scope_of(scope) else {
+        return Ok(None);
+    };
+    let Some(name) = names.joined(alloc, rest)? else {
+        return Ok(None);
+    };
+    let code = if rest.is_empty() {
+        code_of(None, scope)
+    } else {
+        code_of(Some(name.as_slice()), scope)
+    };
+    let text = format!(in alloc; "{code}")?;
+    Ok(Some(text))
+}

@@ -1,0 +1,236 @@
+//! Cases of a client's connection: its units and the other events one after another, and what each unit wants.
+
+use close_translate::Scope;
+use frames_091::{Frame91, Kind91, scan_frame};
+use machine_091::{Conn91, Refusal, Unit91, Want91};
+use std::alloc::Global;
+use tests_support::{Names, put_bytes};
+use wire_base::{Memory, Scan};
+
+/// The kind of a frame by its name.
+fn kind_of(word: &str) -> Option<Kind91> {
+    match word {
+        "method" => Some(Kind91::Method),
+        "header" => Some(Kind91::Header),
+        "body" => Some(Kind91::Body),
+        "heartbeat" => Some(Kind91::Heartbeat),
+        _ => None,
+    }
+}
+
+/// The frame that fills bytes.
+fn scanned(alloc: Global, bytes: &[u8]) -> Result<Option<Unit91>, Memory> {
+    match scan_frame(alloc, bytes, 131_072)? {
+        Scan::Whole(frame, size) if size == bytes.len() => Ok(Some(Unit91::Frame(frame))),
+        Scan::Whole(_, _) | Scan::More | Scan::Bad(_) => Ok(None),
+    }
+}
+
+/// A frame by its kind, its channel and its payload, as in `method 1 00 14 00 0A 00`.
+fn frame_of(
+    alloc: Global,
+    names: &Names,
+    kind: Kind91,
+    words: &str,
+) -> Result<Option<Unit91>, Memory> {
+    let (channel, rest) = words.split_once(' ').unwrap_or((words, ""));
+    let Ok(channel) = channel.parse::<u16>() else {
+        return Ok(None);
+    };
+    let Some(payload) = names.joined(alloc, rest)? else {
+        return Ok(None);
+    };
+    Ok(Some(Unit91::Frame(Frame91 {
+        kind,
+        channel,
+        payload,
+    })))
+}
+
+/// The unit that words tell; `None` where they tell none.
+fn unit_of(alloc: Global, names: &Names, words: &str) -> Result<Option<Unit91>, Memory> {
+    let (word, rest) = words.split_once(' ').unwrap_or((words, ""));
+    if let Some(kind) = kind_of(word) {
+        return frame_of(alloc, names, kind, rest);
+    }
+    match word {
+        "protocol" => Ok(Some(Unit91::Protocol)),
+        "bad" => match rest.parse::<u16>() {
+            Ok(code) => Ok(Some(Unit91::Bad(code))),
+            Err(_) => Ok(None),
+        },
+        "frame" => match names.joined(alloc, rest)? {
+            Some(bytes) => scanned(alloc, bytes.as_slice()),
+            None => Ok(None),
+        },
+        _ => Ok(None),
+    }
+}
+
+/// A refusal by its code, its channel where one closes, and the ids.
+fn put_refusal(out: &mut String, refusal: Refusal) -> Result<(), Memory> {
+    let code = refusal.code;
+    write!(out, "Refuse {code}")?;
+    match refusal.scope {
+        Scope::Connection => {}
+        Scope::Channel => {
+            let channel = refusal.channel;
+            write!(out, " channel {channel}")?;
+        }
+    }
+    let class = refusal.class;
+    let method = refusal.method;
+    write!(out, " {class} {method}")?;
+    Ok(())
+}
+
+/// What a unit wants.
+fn put_want(out: &mut String, want: &Want91) -> Result<(), Memory> {
+    match want {
+        Want91::Login(mechanism, response) => {
+            out.push_str("Login")?;
+            put_bytes(out, mechanism.as_slice())?;
+            out.push_str(",")?;
+            put_bytes(out, response.as_slice())?;
+        }
+        Want91::Refuse(refusal) => put_refusal(out, *refusal)?,
+        other => write!(out, "{other:?}")?,
+    }
+    Ok(())
+}
+
+/// The channels that are open.
+fn put_channels(out: &mut String, conn: &Conn91) -> Result<(), Memory> {
+    for channel in 0..=300u16 {
+        if conn.is_open(channel) {
+            write!(out, ", {channel} is open")?;
+        }
+    }
+    Ok(())
+}
+
+/// What can be asked of a connection: its phase, what its stream is and what is awaited of it, its limits (of frames, of
+/// channels, and the interval of heartbeats), and what else holds.
+fn state_text(alloc: Global, conn: &Conn91) -> Result<String, Memory> {
+    let phase = conn.phase();
+    let stream = conn.stream();
+    let awaits = conn.awaits();
+    let mut out = format!(in alloc; "{phase:?}, stream {stream:?}, awaits {awaits:?}")?;
+    let frames = conn.frame_max();
+    let channels = conn.channel_max();
+    let seconds = conn.heartbeat();
+    write!(out, ", limits {frames} {channels} {seconds}")?;
+    for (holds, words) in [
+        (conn.is_asked(), ", asked"),
+        (conn.is_opening(), ", opening"),
+        (conn.is_closing(), ", closing"),
+        (conn.is_over(), ", over"),
+    ] {
+        if holds {
+            out.push_str(words)?;
+        }
+    }
+    put_channels(&mut out, conn)?;
+    Ok(out)
+}
+
+/// The state, where it is another one than before.
+fn put_state(alloc: Global, out: &mut String, conn: &Conn91, before: &str) -> Result<(), Memory> {
+    let after = state_text(alloc, conn)?;
+    if after.as_str() == before {
+        out.push_str(" | =")?;
+        return Ok(());
+    }
+    out.push_str(" | ")?;
+    out.push_str(after.as_str())?;
+    Ok(())
+}
+
+/// What a unit wants, in words.
+fn want_text(alloc: Global, want: &Want91) -> Result<String, Memory> {
+    let mut out = String::new(alloc);
+    put_want(&mut out, want)?;
+    Ok(out)
+}
+
+/// Takes a unit, and answers what it wants.
+fn taken_text(alloc: Global, conn: &mut Conn91, unit: Unit91) -> Result<String, Memory> {
+    match conn.take(alloc, unit) {
+        Ok(want) => want_text(alloc, &want),
+        Err(memory) => Err(memory),
+    }
+}
+
+/// Makes an event that no unit tells; whether there is such a one.
+fn make_event(conn: &mut Conn91, words: &str) -> bool {
+    let (word, rest) = words.split_once(' ').unwrap_or((words, ""));
+    let channel = rest.parse::<u16>().ok();
+    match (word, channel) {
+        ("opened", None) => conn.opened(),
+        ("ended", None) => conn.ended(),
+        ("closing", None) => conn.closing(Scope::Connection, 0),
+        ("closing", Some(channel)) => conn.closing(Scope::Channel, channel),
+        ("closed", Some(channel)) => conn.closed(channel),
+        _ => return false,
+    }
+    true
+}
+
+/// Makes an event that no unit tells; its words, or `None` where there is no such one.
+fn event_text(alloc: Global, conn: &mut Conn91, words: &str) -> Result<Option<String>, Memory> {
+    if !make_event(conn, words) {
+        return Ok(None);
+    }
+    let text = String::from_str(alloc, words)?;
+    Ok(Some(text))
+}
+
+/// What a unit wants, or the words of another event; `None` where the words are neither.
+fn made_text(
+    alloc: Global,
+    names: &Names,
+    conn: &mut Conn91,
+    words: &str,
+) -> Result<Option<String>, Memory> {
+    match unit_of(alloc, names, words)? {
+        Some(unit) => taken_text(alloc, conn, unit).map(Some),
+        None => event_text(alloc, conn, words),
+    }
+}
+
+/// A unit or another event, and the state after it; `None` where the words are neither.
+fn step_text(
+    alloc: Global,
+    names: &Names,
+    conn: &mut Conn91,
+    words: &str,
+) -> Result<Option<String>, Memory> {
+    let before = state_text(alloc, conn)?;
+    let Some(mut out) = made_text(alloc, names, conn, words)? else {
+        return Ok(None);
+    };
+    put_state(alloc, &mut out, conn, before.as_str())?;
+    Ok(Some(out))
+}
+
+/// A case of the connection: `connection` begins a new one, `take` takes a unit or another event, and `try` does it on a copy.
+pub fn connection_text(
+    alloc: Global,
+    names: &Names,
+    conn: &mut Conn91,
+    line: &str,
+) -> Result<Option<String>, Memory> {
+    let (verb, rest) = line.split_once(' ').unwrap_or((line, ""));
+    match verb {
+        "connection" => {
+            *conn = Conn91::new();
+            Ok(Some(state_text(alloc, conn)?))
+        }
+        "take" => step_text(alloc, names, conn, rest),
+        "try" => {
+            let mut copy = conn.clone()?;
+            step_text(alloc, names, &mut copy, rest)
+        }
+        _ => Ok(None),
+    }
+}

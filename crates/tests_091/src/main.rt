@@ -1,0 +1,49 @@
+//! Cases of AMQP 0-9-1: reads them line by line, and prints what the codecs answer.
+//!
+//! | Line | Answer |
+//! |---|---|
+//! | `name N BYTES` | nothing: these bytes have a name from now on |
+//! | `header BYTES`, `frame LIMIT BYTES` | the unit with which the bytes begin, and its length |
+//! | `table BYTES`, `at N BYTES` | the table, also from an offset, and the offset after it |
+//! | `kinds` | the type bytes of fields that are known |
+//! | `method BYTES` | the ids, and the method that fills the bytes |
+//! | `cuts` and one of these | the same, and the answer at each shorter length; of `Syntax` its place alone |
+//! | `close CODE CLASS METHOD BYTES`, `close-ok` | the frame that is written without memory |
+//! | `code N`, `condition SCOPE BYTES`, `condition SCOPE` | the name of a reply code, and the code for an error condition |
+//! | `u8 END BYTES`, `u16`, `u32`, `u64`, `short`, `long` | what the readers take from the front of bytes that end at an offset |
+//! | `set AT N BYTES`, `truncate N BYTES`, `discard N BYTES` | the bytes after that |
+//! | `room N BYTES` | the bytes in so much reserved room if they fit, how many more do, and the bytes without the first |
+//! | `connection` | what can be asked of a new connection |
+//! | `take UNIT`, `try UNIT` | what a unit wants, and the state after it if it is another one; `try` leaves the connection as it was |
+//!
+//! A unit is `protocol`, `bad CODE`, `frame BYTES`, or `method CHANNEL BYTES` and so on by its kind; in its place may stand another
+//! event: `opened`, `closing`, `closing CHANNEL`, `closed CHANNEL`, `ended`.
+//!
+//! Behind what was read stands what is written of it: `=` the same bytes. A fault is its name and its place. Bytes are digits,
+//! texts and names with commas between them.
+#![tactic(auto)]
+
+mod cases;
+mod closes;
+mod frames;
+mod machine;
+mod methods;
+mod numbers;
+mod tables;
+mod words;
+
+use cases::Cases091;
+use frames_091::frame_laws;
+use machine_091::connection_laws;
+use methods_091::method_laws;
+use std::io;
+use tables_091::table_laws;
+use tests_support::answer_lines;
+
+fn main(rt: HostRuntime) -> io::Result<()> {
+    frame_laws();
+    table_laws();
+    method_laws();
+    connection_laws();
+    answer_lines(&rt, &mut Cases091::new(rt.alloc()))
+}

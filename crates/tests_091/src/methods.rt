@@ -1,0 +1,100 @@
+//! Cases of methods.
+
+ghost use Rattle.methods_091.specs.Writing.{CanPut};
+
+use crate::words::{put_other, put_squeezed, put_written};
+use methods_091::{Method91, MethodFault, ids, put_close, put_close_ok, put_method, read_method};
+use std::alloc::Global;
+use tests_support::{part, put_bytes};
+use wire_base::{At, ByteText, Memory};
+
+/// The ids of a method, the method, and what is written of it.
+fn put_notation(
+    alloc: Global,
+    out: &mut String,
+    method: &Method91,
+    bytes: &[u8],
+) -> Result<(), Memory>
+    requires { CanPut method.now }
+{
+    let (class, id) = ids(method);
+    write!(out, "{class} {id} ")?;
+    let notation = format!(in alloc; "{method:?}")?;
+    put_squeezed(out, notation.as_str())?;
+    let mut written = ByteText::empty(alloc);
+    put_method(&mut written, method)?;
+    put_written(out, written.as_slice(), bytes)
+}
+
+/// A method that was read of bytes.
+fn notation_of(alloc: Global, method: &Method91, bytes: &[u8]) -> Result<String, Memory>
+    requires { CanPut method.now }
+{
+    let mut out = String::new(alloc);
+    put_notation(alloc, &mut out, method, bytes)?;
+    Ok(out)
+}
+
+/// A fault and its place.
+fn fault_of(alloc: Global, found: At<MethodFault>) -> Result<String, Memory> {
+    let fault = found.fault;
+    let at = found.at;
+    let text = format!(in alloc; "{fault:?} {at}")?;
+    Ok(text)
+}
+
+/// The method that fills bytes, with what is written of it.
+fn read_text(alloc: Global, bytes: &[u8]) -> Result<String, Memory> {
+    match read_method(alloc, bytes)? {
+        Ok(method) => notation_of(alloc, &method, bytes),
+        Err(found) => fault_of(alloc, found),
+    }
+}
+
+/// The method that fills bytes, which are none with one more byte.
+pub fn method_text(alloc: Global, bytes: &[u8]) -> Result<String, Memory> {
+    let mut text = read_text(alloc, bytes)?;
+    if !text.as_str().starts_with("Syntax") && !text.as_str().starts_with("UnknownMethod") {
+        let mut longer = ByteText::copy_of(alloc, bytes)?;
+        longer.append(b"\0")?;
+        let other = read_text(alloc, longer.as_slice())?;
+        let size = bytes.len();
+        let wanted = format!(in alloc; "Syntax {size}")?;
+        put_other(&mut text, "longer", other.as_str(), wanted.as_str())?;
+    }
+    Ok(text)
+}
+
+/// The bytes that were written over others, and whether those behind them stayed.
+fn closed_text(alloc: Global, out: &[u8], size: usize) -> Result<String, Memory> {
+    let mut text = String::new(alloc);
+    put_bytes(&mut text, part(out, 0, size))?;
+    if !part(out, size, out.len()).iter().all(|byte| *byte == 0x5A) {
+        text.push_str(" | more was written")?;
+    }
+    Ok(text)
+}
+
+/// connection.close, written without memory; `None` where the text is too long.
+pub fn close_text(
+    alloc: Global,
+    code: u16,
+    class: u16,
+    method: u16,
+    words: &[u8],
+) -> Result<Option<String>, Memory> {
+    if words.len() > 255 {
+        return Ok(None);
+    }
+    let mut out = [0x5A; 512];
+    let size = put_close(&mut out, code, words, class, method);
+    let text = closed_text(alloc, &out, size)?;
+    Ok(Some(text))
+}
+
+/// connection.close-ok, written without memory.
+pub fn close_ok_text(alloc: Global) -> Result<String, Memory> {
+    let mut out = [0x5A; 512];
+    let size = put_close_ok(&mut out);
+    closed_text(alloc, &out, size)
+}

@@ -1,0 +1,61 @@
+//! Cases of field tables.
+
+use crate::words::{put_other, put_squeezed, put_written};
+use std::alloc::Global;
+use tables_091::{put_table, read_table};
+use tests_support::{part, put_bytes};
+use wire_base::{ByteText, Memory};
+
+/// A table at an offset, with what is written of it. Places are told so much less.
+fn read_text(alloc: Global, bytes: &[u8], from: usize, less: usize) -> Result<String, Memory> {
+    let mut out = String::new(alloc);
+    match read_table(alloc, bytes, from)? {
+        Ok((table, after)) => {
+            let place = after.saturating_sub(less);
+            let notation = format!(in alloc; "{table:?}")?;
+            put_squeezed(&mut out, notation.as_str())?;
+            write!(out, " | {place}")?;
+            let mut written = ByteText::empty(alloc);
+            put_table(&mut written, &table)?;
+            put_written(&mut out, written.as_slice(), part(bytes, from, after))?;
+        }
+        Err(found) => {
+            let fault = found.fault;
+            let at = found.at.saturating_sub(less);
+            write!(out, "{fault:?} {at}")?;
+        }
+    }
+    Ok(out)
+}
+
+/// The table at an offset, and again among other bytes. Behind a fault there are no others.
+pub fn table_text(alloc: Global, bytes: &[u8], from: usize) -> Result<String, Memory> {
+    let mut text = read_text(alloc, bytes, from, 0)?;
+    let mut among = ByteText::copy_of(alloc, b"\x09\x09\x09")?;
+    among.append(bytes)?;
+    if !text.as_str().starts_with("Syntax") {
+        among.append(b"\x09")?;
+    }
+    let other = read_text(alloc, among.as_slice(), from.saturating_add(3), 3)?;
+    let wanted = text.clone()?;
+    put_other(&mut text, "among others", other.as_str(), wanted.as_str())?;
+    Ok(text)
+}
+
+/// Whether a type byte is that of no field: the fault is at its place in a table that holds one field, with zeros behind it.
+fn is_unknown(alloc: Global, kind: u8) -> Result<bool, Memory> {
+    let bytes = [0, 0, 0, 11, 1, b'a', kind, 0, 0, 0, 0, 0, 0, 0, 0];
+    let text = read_text(alloc, &bytes, 0, 0)?;
+    Ok(text.as_str() == "Syntax 6")
+}
+
+/// The type bytes that are known.
+pub fn kinds_text(alloc: Global) -> Result<String, Memory> {
+    let mut out = String::from_str(alloc, "kinds")?;
+    for kind in 0..=255u8 {
+        if !is_unknown(alloc, kind)? {
+            put_bytes(&mut out, &[kind])?;
+        }
+    }
+    Ok(out)
+}

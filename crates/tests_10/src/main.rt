@@ -1,0 +1,29 @@
+//! Cases of AMQP 1.0: reads them line by line, and prints what `types_10` answers.
+//!
+//! | Line | Answer |
+//! |---|---|
+//! | `read BYTES` | the value, the offset after it, and what is written of it: `=` the same bytes, `-` none |
+//! | `cuts BYTES` | the same, and each shorter length that isn't cut off at its length |
+//! | `at N BYTES` | the same from an offset |
+//! | `lists N BYTES` | the same inside so many lists |
+//! | `sequence BYTES` | values one after another, a line each |
+//! | `write WORDS` | the value that the words build, and what is written of it: `uint 5, string "a", list 2` |
+//! | `codes` | the format codes that are known |
+//!
+//! A fault is its name and its place.
+#![tactic(auto)]
+
+mod building;
+mod cases;
+mod notation;
+mod values;
+
+use cases::Cases10;
+use std::io;
+use tests_support::answer_lines;
+use types_10::value_laws;
+
+fn main(rt: HostRuntime) -> io::Result<()> {
+    value_laws();
+    answer_lines(&rt, &mut Cases10)
+}

@@ -1,0 +1,205 @@
+//! Plays in which a call fails: what must hold of each, whichever call it is.
+
+use crate::runs::{Kind, Run, kind_of, pair_of};
+use crate::scenario::{Scenario, Way, failed, played, reported};
+use gate_loop::{Outside, Served};
+use gate_outside::{Accepted, Got, LogEntry, Put};
+use std::alloc::Global;
+use tests_support::part;
+use wire_base::Memory;
+
+/// Each pair that was accepted was shut once, and no other.
+fn is_all_shut(alloc: Global, run: &Run) -> Result<bool, Memory> {
+    let accepted = run.accepted(alloc)?;
+    let shut = run.shut(alloc)?;
+    if shut.len() != accepted.len() {
+        return Ok(false);
+    }
+    for pair in &accepted {
+        if !shut.contains(pair) {
+            return Ok(false);
+        }
+    }
+    Ok(true)
+}
+
+/// The report has a line for each pair that was shut, in order, and this line at its end.
+fn reports(alloc: Global, run: &Run, last: &str) -> Result<bool, Memory> {
+    let lines = run.lines_and(alloc, last)?;
+    Ok(run.report.as_slice() == lines.as_bytes())
+}
+
+/// Behind a place ends are shut and nothing else is called.
+fn only_shuts_follow(run: &Run, at: usize) -> bool {
+    for k in 0..run.calls.len() {
+        if let Some(entry) = run.calls.get(k)
+            && k > at
+            && kind_of(entry) != Kind::Shut
+        {
+            return false;
+        }
+    }
+    true
+}
+
+/// Right behind a place a pair is shut, and nothing else is called for it.
+fn only_its_shut_follows(run: &Run, at: usize, pair: u32) -> bool {
+    let next = at.saturating_add(1);
+    for k in 0..run.calls.len() {
+        if let Some(entry) = run.calls.get(k)
+            && k > at
+        {
+            let is_its = pair_of(entry) == Some(pair);
+            let shuts = kind_of(entry) == Kind::Shut;
+            if is_its != (k == next) || (is_its && !shuts) {
+                return false;
+            }
+        }
+    }
+    true
+}
+
+/// After a failed accept each live pair is shut, and nothing else is called.
+fn accept_failed(alloc: Global, run: &Run, at: usize) -> Result<bool, Memory> {
+    let told = reports(alloc, run, "fault: accept\n")?;
+    Ok(told && run.served == Served::Fault(Outside::Accept) && only_shuts_follow(run, at))
+}
+
+/// After a failed read or write of a pair, that pair is shut at once, and nothing else is called for it.
+fn pair_failed(alloc: Global, run: &Run, at: usize, pair: u32) -> Result<bool, Memory> {
+    let count = run.accepted(alloc)?.len();
+    let last = format!(in alloc; "stopped: {count} pairs\n")?;
+    let told = reports(alloc, run, last.as_str())?;
+    Ok(told && run.served == Served::Stopped && only_its_shut_follows(run, at, pair))
+}
+
+/// A call of a kind that cannot fail: the run goes as if none were to.
+fn nothing_failed(run: &Run, plain: &Run) -> bool {
+    run.served == plain.served
+        && run.report.as_slice() == plain.report.as_slice()
+        && run.calls.len() == plain.calls.len()
+}
+
+/// Whether a play is as it must be in which the call at a place was to fail.
+fn is_right(alloc: Global, run: &Run, plain: &Run, at: usize) -> Result<bool, Memory> {
+    if run.strained != 0 || !is_all_shut(alloc, run)? {
+        return Ok(false);
+    }
+    match run.calls.get(at) {
+        Some(LogEntry::Accept { answer }) => {
+            Ok(*answer == Accepted::Failed && accept_failed(alloc, run, at)?)
+        }
+        Some(LogEntry::Read { pair, answer, .. }) => {
+            Ok(*answer == Got::Failed && pair_failed(alloc, run, at, *pair)?)
+        }
+        Some(LogEntry::Write { pair, answer, .. }) => {
+            Ok(*answer == Put::Failed && pair_failed(alloc, run, at, *pair)?)
+        }
+        Some(LogEntry::Connect { .. }) | None => Ok(false),
+        Some(_) => Ok(nothing_failed(run, plain)),
+    }
+}
+
+/// The kinds of calls that a run makes.
+fn put_kinds(alloc: Global, run: &Run, out: &mut String) -> Result<(), Memory> {
+    for kind in [
+        Kind::Accept,
+        Kind::Connect,
+        Kind::Read,
+        Kind::Write,
+        Kind::Shut,
+        Kind::Idle,
+        Kind::Now,
+    ] {
+        if !run.places(alloc, kind)?.is_empty() {
+            write!(out, " {kind:?}")?;
+        }
+    }
+    Ok(())
+}
+
+/// Each call fails in turn: the kinds of the calls, and those after whose fault a rule was broken.
+pub fn put_fails(alloc: Global, scenario: &Scenario, out: &mut String) -> Result<(), Memory> {
+    let plain = played(alloc, scenario, Way::Units)?;
+    out.push_str("fails:")?;
+    put_kinds(alloc, &plain, out)?;
+    for call in 0..plain.calls.len() {
+        let run = failed(alloc, scenario, Way::Units, Some(call as u64))?;
+        if !is_right(alloc, &run, &plain, call)? {
+            write!(out, ", not call {call}")?;
+        }
+    }
+    out.push_str("\n")?;
+    Ok(())
+}
+
+/// How many lines a text has.
+fn lines_in(text: &[u8]) -> usize {
+    text.iter().filter(|byte| **byte == b'\n').count()
+}
+
+/// After the shut whose line the report refused, ends are shut and nothing else is called.
+fn stops_at_once(run: &Run, lines: usize) -> bool {
+    let told = lines_in(run.report.as_slice());
+    let mut shut = 0usize;
+    for k in 0..run.calls.len() {
+        if let Some(entry) = run.calls.get(k) {
+            let shuts = kind_of(entry) == Kind::Shut;
+            if !shuts && shut > told {
+                return false;
+            }
+            shut = shut.saturating_add(usize::from(shuts));
+        }
+    }
+    shut > told || told.saturating_add(1) == lines
+}
+
+/// What a report that failed holds is a front part of the whole report, and the service ended with its failure.
+fn is_front(alloc: Global, run: &Run, plain: &Run) -> Result<bool, Memory> {
+    let (held, whole) = (run.report.as_slice(), plain.report.as_slice());
+    let is_part = held.len() < whole.len() && held == part(whole, 0, held.len());
+    let ended = run.served == Served::Fault(Outside::Out);
+    Ok(is_part && ended && stops_at_once(run, lines_in(whole)) && is_all_shut(alloc, run)?)
+}
+
+/// Whether a play is as it must be in which a write of the report was to fail: each line is written, and where one write comes
+/// no more, no later one does.
+fn write_is_right(
+    alloc: Global,
+    run: &Run,
+    plain: &Run,
+    write: usize,
+    goes_on: bool,
+) -> Result<bool, Memory> {
+    if run.served == plain.served {
+        let lines = lines_in(plain.report.as_slice());
+        return Ok(write >= lines && nothing_failed(run, plain));
+    }
+    Ok(goes_on && is_front(alloc, run, plain)?)
+}
+
+/// The report fails at each of its writes, and has room for fewer bytes than it needs: how many of its first writes failed
+/// at least, as many as it has lines, and what broke a rule.
+pub fn put_unreported(alloc: Global, scenario: &Scenario, out: &mut String) -> Result<(), Memory> {
+    let plain = played(alloc, scenario, Way::Units)?;
+    let lines = lines_in(plain.report.as_slice());
+    write!(out, "unreported: {lines} lines")?;
+    let mut goes_on = true;
+    for k in 0..plain.report.as_slice().len() {
+        let run = reported(alloc, scenario, usize::MAX, Some(k as u64))?;
+        let stopped = run.served != plain.served;
+        if !write_is_right(alloc, &run, &plain, k, goes_on)? {
+            write!(out, ", not write {k}")?;
+        }
+        goes_on = stopped;
+        let run = reported(alloc, scenario, k, None)?;
+        if run.report.as_slice().len() != k || !is_front(alloc, &run, &plain)? {
+            write!(out, ", not room {k}")?;
+        }
+    }
+    if goes_on {
+        out.push_str(", a write without a byte")?;
+    }
+    out.push_str("\n")?;
+    Ok(())
+}

@@ -1,0 +1,124 @@
+//! Cases of the command line, and of what the gateway does for one.
+
+use crate::scenario::{Scenario, Way, script_of};
+use crate::telling::put_report;
+use gate_command::{Asked, Misplaced, Status, gateway, read_words};
+use gate_outside::{MemorySink, ScriptPorts};
+use std::alloc::Global;
+use tests_support::{bytes_of, put_text};
+use wire_base::{ItemList, Memory};
+
+/// The most entries of a log, and the most bytes of them.
+const LOG_ROOM: usize = 1000;
+
+/// The word that a text tells: itself, or bytes where it begins with a quote.
+fn word_of(alloc: Global, text: &str) -> Result<Option<String>, Memory> {
+    if !text.starts_with('"') {
+        return Ok(Some(String::from_str(alloc, text)?));
+    }
+    let Some(bytes) = bytes_of(alloc, text)? else {
+        return Ok(None);
+    };
+    match std::str::from_utf8(bytes.as_slice()) {
+        Ok(text) => Ok(Some(String::from_str(alloc, text)?)),
+        Err(_) => Ok(None),
+    }
+}
+
+/// The words between bars; none where the text is empty.
+fn words_of(alloc: Global, text: &str) -> Result<Option<Vec<String>>, Memory> {
+    let mut words = Vec::new(alloc);
+    if text.is_empty() {
+        return Ok(Some(words));
+    }
+    for part in text.split('|') {
+        match word_of(alloc, part)? {
+            Some(word) => words.push(word)?,
+            None => return Ok(None),
+        }
+    }
+    Ok(Some(words))
+}
+
+/// What words ask for.
+fn put_asked(out: &mut String, asked: &Asked) -> Result<(), Memory> {
+    let Asked::Serve { config, listen } = asked;
+    match config.pairs {
+        Some(pairs) => write!(out, "serve {pairs} pairs")?,
+        None => out.push_str("serve any pairs")?,
+    }
+    let turns = config.turns;
+    write!(out, ", {turns} turns, at")?;
+    put_text(out, listen.as_slice())
+}
+
+/// Where words cease to be a command line.
+fn put_misplaced(out: &mut String, misplaced: Misplaced) -> Result<(), Memory> {
+    match misplaced {
+        Misplaced::Word(place) => write!(out, "usage at word {place}")?,
+        Misplaced::End => out.push_str("usage at end")?,
+    }
+    Ok(())
+}
+
+/// What the words between bars ask for; `None` where they are told wrongly.
+fn asked_text(alloc: Global, text: &str) -> Result<Option<String>, Memory> {
+    let Some(words) = words_of(alloc, text)? else {
+        return Ok(None);
+    };
+    let mut out = String::new(alloc);
+    match read_words(alloc, &words)? {
+        Ok(asked) => put_asked(&mut out, &asked)?,
+        Err(misplaced) => put_misplaced(&mut out, misplaced)?,
+    }
+    out.push_str("\n")?;
+    Ok(Some(out))
+}
+
+/// The gateway's status for the words between bars, how many calls it made, and the report; `None` where they are told wrongly.
+fn called_text(alloc: Global, scenario: &Scenario, text: &str) -> Result<Option<String>, Memory> {
+    let Some(words) = words_of(alloc, text)? else {
+        return Ok(None);
+    };
+    let script = script_of(alloc, scenario, Way::Units, scenario.numbers.fault)?;
+    let mut report = MemorySink::new(alloc, scenario.numbers.report, ItemList::empty(alloc))?;
+    let mut ports = ScriptPorts::new(alloc, script, LOG_ROOM, LOG_ROOM)?;
+    let status = gateway(alloc, &words, &mut ports, &mut report).number();
+    let calls = ports.log().len();
+    let mut out = format!(in alloc; "status {status}, {calls} calls")?;
+    put_report(&mut out, report.held())?;
+    out.push_str("\n")?;
+    Ok(Some(out))
+}
+
+/// The number of each status.
+fn statuses_text(alloc: Global) -> Result<String, Memory> {
+    let mut out = String::from_str(alloc, "statuses")?;
+    for status in [
+        Status::Ok,
+        Status::Usage,
+        Status::Outside,
+        Status::Memory,
+        Status::TurnLimit,
+    ] {
+        let number = status.number();
+        write!(out, " {status:?} {number}")?;
+    }
+    out.push_str("\n")?;
+    Ok(out)
+}
+
+/// A case of the command line; `None` where the line is none.
+pub fn command_text(
+    alloc: Global,
+    scenario: &Scenario,
+    line: &str,
+) -> Result<Option<String>, Memory> {
+    let (verb, rest) = line.split_once(' ').unwrap_or((line, ""));
+    match verb {
+        "words" => asked_text(alloc, rest),
+        "gateway" => called_text(alloc, scenario, rest),
+        "statuses" => Ok(Some(statuses_text(alloc)?)),
+        _ => Ok(None),
+    }
+}

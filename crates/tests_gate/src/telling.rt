@@ -1,0 +1,284 @@
+//! What is printed of a play.
+
+use crate::closes::close;
+use crate::runs::{Kind, Run, count_after};
+use gate_outside::{Got, LogEntry, Put};
+use std::alloc::Global;
+use tests_support::{Names, part, put_bytes};
+use wire_base::{ByteText, Memory};
+
+/// A number of two bytes at a place.
+fn number_at(bytes: &[u8], at: usize) -> u16 {
+    match bytes.get(at..) {
+        Some([high, low, ..]) => u16::from_be_bytes([*high, *low]),
+        _ => 0,
+    }
+}
+
+/// connection.close by its reply code, class id, method id and text; whether it is one.
+fn put_close(alloc: Global, out: &mut String, bytes: &[u8]) -> Result<bool, Memory> {
+    let ids = bytes.len().saturating_sub(5);
+    let Ok(text) = std::str::from_utf8(part(bytes, 14, ids)) else {
+        return Ok(false);
+    };
+    let code = number_at(bytes, 11);
+    let class = number_at(bytes, ids);
+    let method = number_at(bytes, ids.saturating_add(2));
+    let frame = close(alloc, code, text, class, method)?;
+    if frame.as_slice() != bytes {
+        return Ok(false);
+    }
+    write!(out, " close {code} {class} {method} {text}")?;
+    Ok(true)
+}
+
+/// A unit: by its name, as a close, or its bytes.
+fn put_unit(alloc: Global, names: &Names, out: &mut String, bytes: &[u8]) -> Result<(), Memory> {
+    if names.put_name(out, bytes)? || put_close(alloc, out, bytes)? {
+        return Ok(());
+    }
+    put_bytes(out, bytes)
+}
+
+/// How far the talk of a pair's client has come.
+#[derive(Drop)]
+struct Talk {
+    text: String,
+    /// The unit that is going, and how much of it went.
+    unit: ByteText,
+    gone: usize,
+    /// The moment, and the turns that began since a byte last came or went, or an end was met.
+    moment: u64,
+    turns: u64,
+}
+
+/// The moment, where it is asked for.
+fn put_moment(talk: &mut Talk, timed: bool) -> Result<(), Memory> {
+    let moment = talk.moment;
+    if timed {
+        write!(talk.text, "@{moment}")?;
+    }
+    Ok(())
+}
+
+/// A write: a unit is told when it went wholly. Bytes that don't go on with a begun one are told at once.
+fn tell_write(
+    alloc: Global,
+    names: &Names,
+    talk: &mut Talk,
+    timed: bool,
+    bytes: &[u8],
+    answer: Put,
+) -> Result<(), Memory> {
+    if answer != Put::NotYet {
+        talk.turns = 0;
+    }
+    let count = count_after(0, answer);
+    if talk.gone == 0 {
+        if count == 0 {
+            return Ok(());
+        }
+        talk.unit = ByteText::copy_of(alloc, bytes)?;
+    }
+    let size = talk.unit.as_slice().len();
+    if bytes != part(talk.unit.as_slice(), talk.gone, size) {
+        talk.text.push_str(" other bytes")?;
+    }
+    talk.gone = talk.gone.saturating_add(count);
+    if talk.gone == size {
+        talk.gone = 0;
+        put_unit(alloc, names, &mut talk.text, talk.unit.as_slice())?;
+        put_moment(talk, timed)?;
+        talk.text.push_str(",")?;
+    }
+    Ok(())
+}
+
+/// The shut of the client's end.
+fn tell_shut(talk: &mut Talk, timed: bool) -> Result<(), Memory> {
+    let (gone, turns) = (talk.gone, talk.turns);
+    if gone > 0 {
+        write!(talk.text, " {gone} more,")?;
+    }
+    talk.text.push_str(" shut")?;
+    if timed {
+        put_moment(talk, timed)
+    } else if turns > 0 {
+        talk.text.push_str(" later")?;
+        Ok(())
+    } else {
+        talk.text.push_str(" at once")?;
+        Ok(())
+    }
+}
+
+/// One call.
+fn tell_call(
+    alloc: Global,
+    names: &Names,
+    talk: &mut Talk,
+    timed: bool,
+    pair: u32,
+    entry: &LogEntry,
+) -> Result<(), Memory> {
+    match entry {
+        LogEntry::Now { ms } => {
+            talk.moment = *ms;
+            talk.turns = talk.turns.saturating_add(1);
+            Ok(())
+        }
+        LogEntry::Read {
+            pair: other,
+            answer,
+            ..
+        } => {
+            if *other == pair && *answer != Got::NotYet {
+                talk.turns = 0;
+            }
+            Ok(())
+        }
+        LogEntry::Write {
+            pair: other,
+            bytes,
+            answer,
+            ..
+        } => {
+            if *other == pair {
+                tell_write(alloc, names, talk, timed, bytes.as_slice(), *answer)
+            } else {
+                Ok(())
+            }
+        }
+        LogEntry::Shut { pair: other, .. } => {
+            if *other == pair {
+                tell_shut(talk, timed)
+            } else {
+                Ok(())
+            }
+        }
+        LogEntry::Accept { .. } | LogEntry::Connect { .. } | LogEntry::Idle { .. } => Ok(()),
+    }
+}
+
+/// What went to a pair's client, and when its end was shut.
+fn talk_of(
+    alloc: Global,
+    names: &Names,
+    run: &Run,
+    timed: bool,
+    pair: u32,
+) -> Result<String, Memory> {
+    let mut talk = Talk {
+        text: String::new(alloc),
+        unit: ByteText::empty(alloc),
+        gone: 0,
+        moment: 0,
+        turns: 0,
+    };
+    for k in 0..run.calls.len() {
+        if let Some(entry) = run.calls.get(k) {
+            tell_call(alloc, names, &mut talk, timed, pair, entry)?;
+        }
+    }
+    Ok(talk.text)
+}
+
+/// The report, with its lines in one.
+pub fn put_report(out: &mut String, report: &[u8]) -> Result<(), Memory> {
+    let Ok(text) = std::str::from_utf8(report) else {
+        return out.push_str(" no text").map_err(Memory::from);
+    };
+    for line in text.lines() {
+        out.push_str(" / ")?;
+        out.push_str(line)?;
+    }
+    Ok(())
+}
+
+/// A play in one line: what each client got, the pairs that met want of memory, and the report.
+pub fn told(alloc: Global, names: &Names, run: &Run, timed: bool) -> Result<String, Memory> {
+    let mut out = String::new(alloc);
+    for pair in run.accepted(alloc)? {
+        let talk = talk_of(alloc, names, run, timed, pair)?;
+        write!(out, "{pair}:")?;
+        out.push_str(talk.as_str())?;
+        out.push_str("; ")?;
+    }
+    let strained = run.strained;
+    if strained > 0 {
+        write!(out, "{strained} strained; ")?;
+    }
+    out.push_str("report")?;
+    put_report(&mut out, run.report.as_slice())?;
+    Ok(out)
+}
+
+/// A call in the listing.
+fn put_call(
+    alloc: Global,
+    names: &Names,
+    out: &mut String,
+    entry: &LogEntry,
+) -> Result<(), Memory> {
+    match entry {
+        LogEntry::Accept { answer } => write!(out, "accept {answer:?}")?,
+        LogEntry::Connect { pair, answer } => write!(out, "connect {pair} {answer:?}")?,
+        LogEntry::Read {
+            pair,
+            room,
+            answer,
+            bytes,
+            ..
+        } => {
+            write!(out, "read {pair} {room} {answer:?}")?;
+            put_unit(alloc, names, out, bytes.as_slice())?;
+        }
+        LogEntry::Write {
+            pair,
+            bytes,
+            answer,
+            ..
+        } => {
+            write!(out, "write {pair} {answer:?}")?;
+            put_unit(alloc, names, out, bytes.as_slice())?;
+        }
+        LogEntry::Shut { pair, .. } => write!(out, "shut {pair}")?,
+        LogEntry::Idle { answer } => write!(out, "idle {answer:?}")?,
+        LogEntry::Now { ms } => write!(out, "now {ms}")?,
+    }
+    Ok(())
+}
+
+/// A play call by call, a line each, and the report.
+pub fn listing(alloc: Global, names: &Names, run: &Run) -> Result<String, Memory> {
+    let mut out = String::new(alloc);
+    for k in 0..run.calls.len() {
+        if let Some(entry) = run.calls.get(k) {
+            put_call(alloc, names, &mut out, entry)?;
+            out.push_str("\n")?;
+        }
+    }
+    out.push_str("report")?;
+    put_report(&mut out, run.report.as_slice())?;
+    out.push_str("\n")?;
+    Ok(out)
+}
+
+/// How many accepts were tried, how many pairs were accepted, and how many lived at most.
+pub fn put_counts(alloc: Global, run: &Run, out: &mut String) -> Result<(), Memory> {
+    let tried = run.places(alloc, Kind::Accept)?.len();
+    let accepted = run.accepted(alloc)?.len();
+    let most = run.most_live();
+    write!(
+        out,
+        "{tried} accepts, {accepted} pairs, {most} live at most\n"
+    )?;
+    Ok(())
+}
+
+/// How many bytes were read.
+pub fn put_reads(run: &Run, out: &mut String) -> Result<(), Memory> {
+    let count = run.read_count();
+    write!(out, "{count} bytes read\n")?;
+    Ok(())
+}
