@@ -2,7 +2,7 @@
 #![tactic(auto)]
 
 use gate_command::{Asked, Status, gateway, read_words};
-use gate_edge::{RealPorts, WriterSink};
+use gate_edge::{Outbox, OutboxSink, RealPorts, StandardOut, tell};
 use std::io;
 use std::process::ExitCode;
 use wire_base::{ByteText, Memory};
@@ -21,15 +21,23 @@ fn address_of(rt: &HostRuntime, words: &Vec<String>) -> Result<Option<ByteText>,
     }
 }
 
-/// Runs the top call over real ports; what it answers, or `Memory` where there is none to begin.
+/// Runs the top call over real ports; what it answers, or `Memory` where there is none to begin. A
+/// report that the standard output doesn't take is a fault of the outside.
 fn run(rt: &HostRuntime, words: &Vec<String>) -> Result<Status, Memory> {
     let address = address_of(rt, words)?;
     let listen = address
         .as_ref()
         .and_then(|address| str::from_utf8(address.as_slice()).ok());
-    let mut ports = RealPorts::new(rt, rt.alloc(), listen, None)?;
-    let mut out = WriterSink::new(rt.stdout());
-    Ok(gateway(rt.alloc(), words, &mut ports, &mut out))
+    let outbox = Outbox::new(rt.alloc(), StandardOut::new(rt.stdout()))?;
+    let mut ports = RealPorts::new(rt, rt.alloc(), &outbox, listen, None)?;
+    let mut out = OutboxSink::new(&outbox);
+    let status = gateway(rt.alloc(), words, &mut ports, &mut out);
+    ports.finish();
+    if outbox.finish(rt) {
+        Ok(status)
+    } else {
+        Ok(Status::Outside)
+    }
 }
 
 /// The status for words that can't be read: one of them isn't UTF-8, or memory was wanted for them.
@@ -40,10 +48,24 @@ fn unread(error: io::Error) -> Status {
     }
 }
 
+/// Why the program ends, where its status isn't 0.
+fn reason(status: Status) -> Option<&'static str> {
+    match status {
+        Status::Ok => None,
+        Status::Usage => Some("usage: amqp_gate serve [--listen ADDRESS] [--pairs N] [--turns N]"),
+        Status::Outside => Some("ended: no client can be accepted, or the standard output failed"),
+        Status::Memory => Some("ended: out of memory"),
+        Status::TurnLimit => Some("ended: the turns asked for were made"),
+    }
+}
+
 fn main(rt: HostRuntime) -> ExitCode {
     let status = match words_of(&rt) {
         Ok(words) => run(&rt, &words).unwrap_or(Status::Memory),
         Err(error) => unread(error),
     };
+    if let Some(reason) = reason(status) {
+        tell(&rt, reason);
+    }
     ExitCode::from(status.number())
 }

@@ -1,2 +1,3 @@
-pub mod Held
-pub mod Waiting
+pub mod Answers
+pub mod OpenEnds
+pub mod Streams

@@ -1,13 +1,27 @@
-//! The edge of the gateway: ports over real sockets, and sources and sinks over files and standard streams. What the
-//! system answers is trusted; what is proved is how each answer is told, counted and kept.
+//! The edge of the gateway: ports over real sockets, and sources and sinks over files and standard
+//! streams. What the system answers is trusted; what is proved is how each answer is told, counted
+//! and kept.
 #![tactic(auto)]
 
 mod answers;
+mod door;
 mod faults;
-mod held;
+mod link;
+mod open_ends;
+mod outbox;
+mod outgoing;
+mod partings;
 mod pieces;
 mod real_ports;
+mod sockets;
 mod standard;
+mod standard_error;
+#[cfg(test)]
+mod tests;
+mod unsent;
+mod waiting;
 
+pub use outbox::{Outbox, OutboxSink, StandardOut};
 pub use real_ports::RealPorts;
 pub use standard::{ReaderSource, WriterSink};
+pub use standard_error::tell;

@@ -1,94 +1,134 @@
 //! The ports over sockets and the system's clock.
 
-ghost use Rattle.std.specs.Prelude.{◌≡◌, ℕ, ◌≤◌, [], IfOk, None, vec_len, vec_capacity};
-ghost use Rattle.gate_edge.specs.Held.{ends_of};
-ghost use Rattle.gate_edge.specs.declared.held.TheConstants.{ENDS};
+ghost use Rattle.std.specs.Prelude.{◌≡◌, ◌<◌, ◌≤◌, ◌↔◌, [], IfOk, IsSome, None, vec_len};
+ghost use Rattle.gate_outside.specs.Counts.{Rose};
+ghost use Rattle.gate_outside.specs.Ends.{IsNumbered, pairs_after, ends_accepted};
+ghost use Rattle.gate_edge.specs.OpenEnds.{clients_of};
+ghost use Rattle.gate_edge.specs.declared.open_ends.TheConstants.{PAIRS};
 ghost use Rattle.gate_edge.specs.declared.pieces.TheConstants.{PIECE};
 
-use crate::answers::{is_waiting, is_waiting_to_accept};
+use crate::answers::{accepted_of, is_used_up, is_waiting, is_waiting_to_accept};
+use crate::door::Door;
 use crate::faults::raise;
-use crate::held::{ENDS, Held, has_room, let_go, stream_of, take_in};
-use crate::pieces::{PIECE, copy_front, read_front};
+use crate::link::Link;
+use crate::open_ends::{ENDS, OpenEnds};
+use crate::outbox::Outbox;
+use crate::partings::Parting;
+use crate::pieces::PIECE;
+use crate::sockets::{address_of, link_to};
+use crate::unsent::Unsent;
+use crate::waiting::{Said, said_by};
 use gate_outside::{Accepted, End, Got, Linked, Next, Ports, Put};
-use mio::net::{TcpListener, TcpStream};
+use mio::net::TcpStream;
 use std::alloc::Global;
 use std::io;
-use std::io::Write;
-use std::net::{Net, Shutdown, SocketAddr, ToSocketAddrs};
+use std::io::{Eprint, Write};
+use std::net::{Net, Shutdown, SocketAddr};
 use std::rt::Clock;
-use std::time::Instant;
+use std::time::{Duration, Instant};
 use wire_base::Memory;
+
+/// How long `idle` waits at most, in milliseconds.
+const IDLE_WAIT: u64 = 10;
+
+/// For how long after the system said something `idle` doesn't wait, in microseconds: what follows
+/// often comes at once, and a wait is left more slowly than it is not begun.
+const LIVELY: u128 = 100;
+
+/// The turns that `finish` makes at most. What it waits for is over before.
+const LAST_TURNS: u32 = 10_000;
 
 /// Ports over non-blocking sockets. They tell no log.
 ///
-/// Room for 256 pairs is taken when the ports are made, and accept answers NotYet while that many clients are open, or as
-/// many ends as those pairs have. Where the listening address is not given or cannot be bound each accept fails, and
-/// without an upstream address each connect.
+/// Room for 256 pairs is taken when the ports are made, and accept answers NotYet while that many
+/// clients are open, or as many ends as those pairs have. Where the listening address is not given
+/// or cannot be bound each accept fails, and without an upstream address each connect. No error of
+/// one accept is a fault: it is told on the standard error, once a second at most, and answered
+/// NotYet.
+///
+/// A call on an end asks the system only where it may do something: `now` learns what is ready, and
+/// `idle` waits for it, for 10 ms at most. What a write takes is buffered, 65,536 bytes an end, and
+/// goes out at the next `now`, `idle` or `shut`, or when the buffer is full; what the outbox holds
+/// goes out at `now` and `idle`. An end that was shut is kept aside until its bytes are sent, for
+/// 1,000 ms at most.
 #[derive(Drop)]
-pub struct RealPorts<'a, R: Net + Clock> {
+pub struct RealPorts<'a, R: Net + Clock + Eprint, W: Write> {
     runtime: &'a R,
-    listener: Option<TcpListener>,
+    outbox: &'a Outbox<W>,
+    door: Option<Door>,
     upstream: Option<SocketAddr>,
     start: Option<Instant>,
-    held: Vec<Held>,
+    held: OpenEnds<TcpStream>,
+    partings: Vec<Parting<TcpStream>>,
     piece: Vec<u8>,
     faults: u64,
-    pairs: u32,
     last: u64,
+    // Whether `idle` has sent what waits and asked the system since the last `now`.
+    asked: bool,
+    // When the system said something last.
+    said_at: Option<Instant>,
     // A read into no room would look like the end of the stream.
     ghost has_piece: { vec_len piece ≡ PIECE },
-    ghost keeps_room: { ENDS ≤ vec_capacity held },
 }
 
-impl<'a, R: Net + Clock> RealPorts<'a, R> {
-    /// Looks both addresses up, which may wait for the system, and binds the first.
+impl<'a, R: Net + Clock + Eprint, W: Write + Drop> RealPorts<'a, R, W> {
+    /// Looks both addresses up, which may wait for the system, and binds the first. The standard
+    /// error is told where it listens, or why it does not.
     pub fn new(
         runtime: &'a R,
         alloc: Global,
+        outbox: &'a Outbox<W>,
         listen: Option<&str>,
         upstream: Option<&str>,
-    ) -> Result<RealPorts<'a, R>, Memory>
-        ensures faults { IfOk result (λ ports. ⟦<RealPorts<'a, R> as Ports>⟧.faults ports ≡ 0) }
-        ensures pairs { IfOk result (λ ports. ⟦<RealPorts<'a, R> as Ports>⟧.pairs ports ≡ 0) }
-        ensures ends { IfOk result (λ ports. ⟦<RealPorts<'a, R> as Ports>⟧.ends ports ≡ []) }
-        ensures last { IfOk result (λ ports. ⟦<RealPorts<'a, R> as Ports>⟧.last ports ≡ 0) }
-        ensures log { IfOk result (λ ports. ⟦<RealPorts<'a, R> as Ports>⟧.log ports ≡ None) }
+    ) -> Result<RealPorts<'a, R, W>, Memory>
+        ensures faults { IfOk result (λ ports. ⟦<RealPorts<'a, R, W> as Ports>⟧.faults ports ≡ 0) }
+        ensures pairs { IfOk result (λ ports. ⟦<RealPorts<'a, R, W> as Ports>⟧.pairs ports ≡ 0) }
+        ensures ends { IfOk result (λ ports. ⟦<RealPorts<'a, R, W> as Ports>⟧.ends ports ≡ []) }
+        ensures last { IfOk result (λ ports. ⟦<RealPorts<'a, R, W> as Ports>⟧.last ports ≡ 0) }
+        ensures log { IfOk result (λ ports. ⟦<RealPorts<'a, R, W> as Ports>⟧.log ports ≡ None) }
     {
-        let held = Vec::with_capacity(alloc, ENDS)?;
-        let piece = vec![in alloc; 0; PIECE]?;
         Ok(RealPorts {
             runtime,
-            listener: listen
-                .and_then(|text| address_of(runtime, text))
-                .and_then(|address| TcpListener::bind(runtime, address).ok()),
-            upstream: upstream.and_then(|text| address_of(runtime, text)),
+            outbox,
+            door: match listen {
+                Some(text) => Door::open(runtime, alloc, text)?,
+                None => None,
+            },
+            upstream: upstream.and_then(|text| address_of(runtime, text).ok()),
             start: Instant::now(runtime).ok(),
-            held,
-            piece,
+            held: OpenEnds::new(alloc)?,
+            partings: Vec::with_capacity(alloc, ENDS)?,
+            piece: vec![in alloc; 0; PIECE]?,
             faults: 0,
-            pairs: 0,
             last: 0,
+            asked: false,
+            said_at: None,
         })
+    }
+
+    /// Waits until the bytes of ends that were shut are sent, for 1,000 ms at most. To be called
+    /// when the service has ended.
+    pub fn finish(&mut self) {
+        for _ in 0..LAST_TURNS {
+            if self.partings.is_empty() {
+                return;
+            }
+            self.idle();
+            self.now();
+        }
     }
 }
 
-/// The first address of a name or of numbers, with a port.
-fn address_of(net: &impl Net, text: &str) -> Option<SocketAddr> {
-    text.to_socket_addrs(net).ok()?.next()
-}
-
-/// The next client's stream. Small frames are not held back.
-fn next_client(listener: &TcpListener) -> io::Result<TcpStream> {
-    let (stream, _) = listener.accept()?;
-    stream.set_nodelay(true)?;
-    Ok(stream)
-}
-
-/// A stream that begins to connect. Small frames are not held back.
-fn link(net: &impl Net, upstream: SocketAddr) -> io::Result<TcpStream> {
-    let stream = TcpStream::connect(net, upstream)?;
-    stream.set_nodelay(true)?;
-    Ok(stream)
+/// A stream that begins to connect, watched under the pair's number.
+fn upstream_of<R: Net>(
+    net: &R,
+    door: Option<&Door>,
+    address: Option<SocketAddr>,
+    pair: u32,
+) -> Option<TcpStream> {
+    let mut stream = link_to(net, address?).ok()?;
+    door?.watch.add_end(&mut stream, pair, End::Up).ok()?;
+    Some(stream)
 }
 
 /// The milliseconds since the start, where the clock tells them.
@@ -97,48 +137,127 @@ fn elapsed(clock: &impl Clock, start: Option<Instant>) -> Option<u64> {
     Some(u64::try_from(elapsed.as_millis()).unwrap_or(u64::MAX))
 }
 
-impl<'a, R: Net + Clock> Ports for RealPorts<'a, R> {
+/// Whether the system said something just now.
+fn is_lively(clock: &impl Clock, said_at: Option<Instant>) -> bool {
+    let elapsed = said_at.and_then(|at| at.elapsed(clock).ok());
+    elapsed.is_some_and(|time| time.as_micros() < LIVELY)
+}
+
+/// Ends a stream, and gives its buffer. `Err` where the system did not take the end.
+fn end_stream(link: Link<TcpStream>) -> (Unsent, io::Result<()>) {
+    let ended = link.out.writer.shutdown(Shutdown::Both);
+    (link.out.unsent, ended)
+}
+
+/// Sends what waits, at open ends and at those that were shut, and lets go of the latter that are
+/// over.
+fn send(held: &mut OpenEnds<TcpStream>, partings: &mut Vec<Parting<TcpStream>>, moment: u64)
+    ensures pairs { held.new.pairs ≡ held.old.pairs }
+    ensures ends { held.new.ends.items ≡ held.old.ends.items }
+{
+    held.flush();
+    for parting in partings.iter_mut() {
+        parting.link.out.flush();
+    }
+    for _ in 0..partings.len() {
+        let Some(at) = partings.iter().position(|this| this.is_over(moment)) else {
+            return;
+        };
+        let (unsent, _) = end_stream(partings.swap_remove(at).link);
+        held.give_back(unsent);
+    }
+}
+
+/// Asks the system what is ready, and waits for it so long at most; whether it said something.
+/// Where it cannot say, all may be ready.
+fn ask(
+    door: &mut Door,
+    held: &mut OpenEnds<TcpStream>,
+    partings: &mut [Parting<TcpStream>],
+    most: u64,
+) -> bool
+    ensures pairs { held.new.pairs ≡ held.old.pairs }
+    ensures ends { held.new.ends.items ≡ held.old.ends.items }
+{
+    if door.watch.wait(Duration::from_millis(most)).is_err() {
+        door.knocked = true;
+        held.note_all();
+        return false;
+    }
+    for event in door.watch.events.iter() {
+        match said_by(event) {
+            Some(Said::Listener) => door.knocked = true,
+            Some(
+                Said::End {
+                    pair,
+                    end,
+                    readable,
+                    writable,
+                },
+            ) => {
+                held.note(pair, end, readable, writable);
+                note_parting(partings, pair, end, writable);
+            }
+            None => {}
+        }
+    }
+    !door.watch.events.is_empty()
+}
+
+/// The system said that an end may be written, which may have been shut.
+fn note_parting(partings: &mut [Parting<TcpStream>], pair: u32, end: End, writable: bool) {
+    for parting in partings.iter_mut() {
+        parting.note(pair, end, writable);
+    }
+}
+
+impl<'a, R: Net + Clock + Eprint, W: Write + Drop> Ports for RealPorts<'a, R, W> {
     ghost faults = { λ ports. ports.faults };
 
-    ghost pairs = { λ ports. ports.pairs };
+    ghost pairs = { λ ports. ports.held.pairs };
 
-    ghost ends = { λ ports. ends_of ports.held.items };
+    ghost ends = { λ ports. ports.held.ends.items };
 
     ghost last = { λ ports. ports.last };
 
     ghost log = { λ _. None };
 
-    fn accept(&mut self) -> Accepted {
-        let Some(listener) = &self.listener else {
+    fn accept(&mut self) -> Accepted
+        requires { self.old.held.pairs < 4294967295 }
+        ensures later { self.old.faults ≤ self.new.faults }
+        ensures cause { result ≡ Accepted.Failed → Rose self.old.faults self.new.faults }
+        ensures number { IsNumbered result self.old.held.pairs }
+        ensures pairs { self.new.held.pairs ≡ pairs_after result self.old.held.pairs }
+        ensures ends { self.new.held.ends.items ≡ ends_accepted result self.old.held.ends.items }
+        ensures last { self.new.last ≡ self.old.last }
+        ensures failed { result ≡ Accepted.Failed ↔ self.old.door ≡ None }
+        ensures full { IsSome self.old.door → PAIRS ≤ clients_of self.old.held.ends.items
+            → result ≡ Accepted.NotYet }
+    {
+        let Some(door) = &mut self.door else {
             raise(&mut self.faults);
             return Accepted::Failed;
         };
-        if !has_room(&self.held) {
+        if !door.knocked || !self.held.has_room() {
             return Accepted::NotYet;
         }
-        match next_client(listener) {
-            Ok(stream) => {
-                let pair = self.pairs;
-                if take_in(&mut self.held, pair, End::Client, stream).is_err() {
-                    raise(&mut self.faults);
-                    return Accepted::Failed;
-                }
-                self.pairs += 1;
-                Accepted::Pair(pair)
-            }
-            Err(error) if is_waiting_to_accept(&error) => Accepted::NotYet,
-            Err(_) => {
-                raise(&mut self.faults);
-                Accepted::Failed
-            }
+        let client = door.client(self.held.pairs);
+        door.knocked = !is_used_up(&client);
+        let answer = accepted_of(&client, self.held.pairs);
+        match client {
+            Ok(stream) => self.held.accept(stream),
+            Err(error) if is_waiting_to_accept(&error) => {}
+            Err(error) => door.tell(self.runtime, &error, self.last),
         }
+        answer
     }
 
     fn connect(&mut self, pair: u32) -> Linked {
-        if let Some(upstream) = self.upstream
-            && let Ok(stream) = link(self.runtime, upstream)
-            && take_in(&mut self.held, pair, End::Up, stream).is_ok()
+        let stream = upstream_of(self.runtime, self.door.as_ref(), self.upstream, pair);
+        if let Some(stream) = stream
+            && self.held.has_space()
         {
+            self.held.connect(pair, stream);
             return Linked::Ok;
         }
         raise(&mut self.faults);
@@ -146,53 +265,74 @@ impl<'a, R: Net + Clock> Ports for RealPorts<'a, R> {
     }
 
     fn read(&mut self, pair: u32, end: End, buf: &mut [u8]) -> Got {
-        let Some(mut stream) = stream_of(&self.held, pair, end) else {
+        let Some(at) = self.held.find(pair, end) else {
             unreachable!()
         };
-        match read_front(&mut stream, &mut self.piece, buf.len()) {
-            Ok(0) => Got::Ended,
-            Ok(n) => {
-                copy_front(&self.piece, buf, n);
-                Got::Bytes(n)
-            }
-            Err(error) if is_waiting(&error) => Got::NotYet,
-            Err(_) => {
-                raise(&mut self.faults);
-                Got::Failed
-            }
+        let got = self.held.links[at].read(&mut self.piece, buf);
+        if got == Got::Failed {
+            raise(&mut self.faults);
         }
+        got
     }
 
     fn write(&mut self, pair: u32, end: End, bytes: &[u8]) -> Put {
-        let Some(mut stream) = stream_of(&self.held, pair, end) else {
+        let Some(at) = self.held.find(pair, end) else {
             unreachable!()
         };
-        match stream.write(bytes) {
-            Ok(n) if n > 0 => Put::Took(n),
-            Err(error) if is_waiting(&error) => Put::NotYet,
-            Ok(_) | Err(_) => {
-                raise(&mut self.faults);
-                Put::Failed
-            }
+        let put = self.held.links[at].out.write(bytes);
+        if put == Put::Failed {
+            raise(&mut self.faults);
         }
+        put
     }
 
     fn shut(&mut self, pair: u32, end: End) {
+        let Some(mut link) = self.held.close(pair, end) else {
+            return;
+        };
+        link.out.flush();
+        if !link.out.is_settled() {
+            let parting = Parting::new(pair, end, link, self.last);
+            if self.partings.push(parting).is_err() {
+                raise(&mut self.faults);
+            }
+            return;
+        }
+        let (unsent, ended) = end_stream(link);
+        self.held.give_back(unsent);
         // An end whose peer is gone already is not connected any more, which is no error here.
-        if let Some(stream) = stream_of(&self.held, pair, end)
-            && let Err(error) = stream.shutdown(Shutdown::Both)
+        if let Err(error) = ended
             && !is_waiting(&error)
         {
             raise(&mut self.faults);
         }
-        let_go(&mut self.held, pair, end);
     }
 
     fn idle(&mut self) -> Next {
+        self.outbox.send();
+        send(&mut self.held, &mut self.partings, self.last);
+        if let Some(door) = &mut self.door {
+            let lively = is_lively(self.runtime, self.said_at);
+            let most = if lively { 0 } else { IDLE_WAIT };
+            if ask(door, &mut self.held, &mut self.partings, most) {
+                self.said_at = Instant::now(self.runtime).ok();
+            }
+            self.asked = true;
+        }
         Next::Go
     }
 
     fn now(&mut self) -> u64 {
+        if !self.asked {
+            self.outbox.send();
+            send(&mut self.held, &mut self.partings, self.last);
+            if let Some(door) = &mut self.door
+                && ask(door, &mut self.held, &mut self.partings, 0)
+            {
+                self.said_at = Instant::now(self.runtime).ok();
+            }
+        }
+        self.asked = false;
         match elapsed(self.runtime, self.start) {
             Some(moment) => self.last = self.last.max(moment),
             None => raise(&mut self.faults),

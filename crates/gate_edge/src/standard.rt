@@ -1,10 +1,12 @@
 //! Sources and sinks over files and standard streams. They tell nothing of what is left or held.
 
-ghost use Rattle.std.specs.Prelude.{◌≡◌, ℕ, ◌≤◌, length, IfOk, IfSome, None, vec_len};
+ghost use Rattle.std.specs.Prelude.{◌≡◌, ◌<◌, ◌≤◌, length, drop, vec_len};
+ghost use Rattle.std.specs.Prelude.{IfOk, IfSome, IfNone, None};
+ghost use Rattle.gate_edge.specs.Streams.{SomeRead, SomeWrite};
 ghost use Rattle.gate_edge.specs.declared.pieces.TheConstants.{PIECE};
 
 use crate::faults::raise;
-use crate::pieces::{PIECE, copy_front, read_front};
+use crate::pieces::{PIECE, read_into};
 use gate_outside::{Drawn, Sink, Source, Sunk};
 use std::alloc::Global;
 use std::io::{ErrorKind, Read, Write};
@@ -43,12 +45,9 @@ impl<R: Read> Source for ReaderSource<R> {
     ghost left = { λ _. None };
 
     fn read(&mut self, buf: &mut [u8]) -> Drawn {
-        match read_some(&mut self.reader, &mut self.piece, buf.len()) {
+        match read_some(&mut self.reader, &mut self.piece, buf) {
             Some(0) => Drawn::Ended,
-            Some(n) => {
-                copy_front(&self.piece, buf, n);
-                Drawn::Bytes(n)
-            }
+            Some(n) => Drawn::Bytes(n),
             None => {
                 raise(&mut self.faults);
                 Drawn::Failed
@@ -57,13 +56,17 @@ impl<R: Read> Source for ReaderSource<R> {
     }
 }
 
-/// The count of the bytes that one read gave.
-fn read_some<R: Read>(reader: &mut R, piece: &mut [u8], room: usize) -> Option<usize>
-    ensures room { IfSome result (λ n. n ≤ room) }
-    ensures piece { IfSome result (λ n. n ≤ length piece.new) }
+/// One read, which is made again while it is interrupted. The bytes in the buffer are those that
+/// the reader gave.
+fn read_some<R: Read>(reader: &mut R, piece: &mut [u8], buf: &mut [u8]) -> Option<usize>
+    requires piece { 0 < length piece.old }
+    ensures bytes { SomeRead result buf.new (R.remaining reader.old) (R.remaining reader.new) }
+    ensures room { IfSome result (λ n. n ≤ length buf.old) }
+    ensures rest { IfSome result (λ n. drop n buf.new ≡ drop n buf.old) }
+    ensures none { IfNone result (buf.new ≡ buf.old) }
 {
     for _ in 0..CALLS {
-        match read_front(reader, piece, room) {
+        match read_into(reader, piece, buf) {
             Ok(n) => return Some(n),
             Err(error) if error.kind() == ErrorKind::Interrupted => {}
             Err(_) => return None,
@@ -107,7 +110,8 @@ impl<W: Write> Sink for WriterSink<W> {
 
 /// The count of the bytes that one write took.
 fn write_some<W: Write>(writer: &mut W, bytes: &[u8]) -> Option<usize>
-    ensures { IfSome result (λ n. n ≤ length bytes.now) }
+    ensures count { IfSome result (λ n. n ≤ length bytes.now) }
+    ensures bytes { SomeWrite result bytes.now (W.contents writer.old) (W.contents writer.new) }
 {
     for _ in 0..CALLS {
         match writer.write(bytes) {

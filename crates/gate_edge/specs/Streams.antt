@@ -1,0 +1,39 @@
+-- What an end's stream gives and takes, where its bytes are known.
+use Rattle.std.specs.Prelude.{◌≡◌, ℕ, ◌<◌, List, [], ◌++◌, length, take, Option, None, Some}
+use Rattle.std.specs.Io.KnownBytes.{Keeps, Appends, Consumes, IsAtEnd}
+use Rattle.gate_outside.specs.declared.ports.Got.{Got}
+use Rattle.gate_outside.specs.declared.ports.Got.TheVariants as got
+use Rattle.gate_outside.specs.declared.ports.Put.{Put}
+use Rattle.gate_outside.specs.declared.ports.Put.TheVariants as put
+
+-- the bytes that came are the next ones of the stream, and it ends only where none is left
+abbrev pub Gives : Got → List ℕ → Option (List ℕ) → Option (List ℕ) → Type 0
+Gives (got.Bytes n) buffer old new = Consumes old new (take n buffer)
+Gives got.Ended buffer old new = Consumes old new [] × IsAtEnd new
+Gives got.NotYet buffer old new = Keeps old new
+Gives got.Failed buffer old new = Keeps old new
+
+-- the bytes that a write took
+abbrev pub put_bytes : Put → List ℕ → List ℕ
+put_bytes (put.Took n) bytes = take n bytes
+put_bytes put.NotYet bytes = []
+put_bytes put.Failed bytes = []
+
+-- what went out before and what waited then are what went out since and what waits now, in the same
+-- order
+abbrev pub SameInAll : Option (List ℕ) → List ℕ → Option (List ℕ) → List ℕ → Type 0
+SameInAll None waited new waits = Unit {0}
+SameInAll (Some sent) waited None waits = ⊥
+SameInAll (Some sent) waited (Some more) waits = more ++ waits ≡ sent ++ waited
+
+-- the bytes that came are the next ones of the reader, which ends only where none is left; without
+-- an answer it gave none
+abbrev pub SomeRead : Option ℕ → List ℕ → Option (List ℕ) → Option (List ℕ) → Type 0
+SomeRead (Some n) buffer old new =
+    Consumes old new (take n buffer) × (n ≡ 0 → 0 < length buffer → IsAtEnd new)
+SomeRead None buffer old new = Keeps old new
+
+-- the writer took that many of the bytes, and without an answer none
+abbrev pub SomeWrite : Option ℕ → List ℕ → Option (List ℕ) → Option (List ℕ) → Type 0
+SomeWrite (Some n) bytes old new = Appends old new (take n bytes)
+SomeWrite None bytes old new = Keeps old new

@@ -1,0 +1,49 @@
+//! Sockets: how they are made, and what is asked of the system for each.
+
+use libc::net as c;
+use mio::net::{TcpListener, TcpStream};
+use std::io;
+use std::io::ErrorKind;
+use std::net::{Net, SocketAddr, ToSocketAddrs};
+use std::os::fd::AsRawFd;
+
+/// The next client's stream.
+pub(crate) fn next_client(listener: &TcpListener) -> io::Result<TcpStream> {
+    let (stream, _) = listener.accept()?;
+    prepare(&stream)?;
+    Ok(stream)
+}
+
+/// A stream that begins to connect.
+pub(crate) fn link_to(net: &impl Net, address: SocketAddr) -> io::Result<TcpStream> {
+    let stream = TcpStream::connect(net, address)?;
+    prepare(&stream)?;
+    Ok(stream)
+}
+
+/// Small frames are not held back, and a peer that is gone without a word is found by the system's
+/// probes.
+fn prepare(stream: &TcpStream) -> io::Result<()> {
+    stream.set_nodelay(true)?;
+    keep_alive(stream)
+}
+
+/// Has the system probe a peer that is silent for long.
+fn keep_alive(stream: &TcpStream) -> io::Result<()> {
+    let mut on = [0u8; 16];
+    on[..4].copy_from_slice(&1i32.to_ne_bytes());
+    let fd = stream.as_raw_fd();
+    let status = unsafe { c::setsockopt(fd, c::SOL_SOCKET, c::SO_KEEPALIVE, &on, 4) };
+    if status < 0 {
+        return Err(io::Error::from_raw_os_error(os::errno()));
+    }
+    Ok(())
+}
+
+/// The first address of a name or of numbers, with a port. It may wait for the system.
+pub(crate) fn address_of(net: &impl Net, text: &str) -> io::Result<SocketAddr> {
+    match text.to_socket_addrs(net)?.next() {
+        Some(address) => Ok(address),
+        None => Err(ErrorKind::AddrNotAvailable.into()),
+    }
+}
