@@ -1,0 +1,4 @@
+pub mod FrameLaws
+pub mod FrameParts
+pub mod FrameScanning
+pub mod HeaderLaws

@@ -1,0 +1,5 @@
+pub mod Frames
+pub mod FrameFaults
+pub mod FrameScan
+pub mod Headers
+pub mod Words
