@@ -1,0 +1,5 @@
+pub mod Entries
+pub mod Guards
+pub mod Relayed
+pub mod RelayWords
+pub mod Sides
