@@ -1,0 +1,9 @@
+pub mod Fronts
+pub mod PartLemmas
+pub mod Readers
+pub mod KindLemmas
+pub mod EntryLaws
+pub mod CaptureLaws
+pub mod RecordedLemmas
+pub mod ReplayLemmas
+pub mod Appended
