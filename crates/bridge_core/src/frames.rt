@@ -1,0 +1,102 @@
+//! The bytes of the units that the gateway writes to a client.
+
+ghost use Rattle.std.specs.Prelude.{◌≡◌, ◌≤◌, length};
+ghost use Rattle.frames_091.specs.Headers.{header_bytes};
+ghost use Rattle.methods_091.specs.Closing.{IsWrittenOver};
+ghost use Rattle.gate_model.specs.Spelling.{spell};
+ghost use Rattle.gate_model.specs.Spelling.{start_frame, tune_frame, heartbeat_frame};
+ghost use Rattle.gate_model.specs.declared.reply.Reply.TheVariants as reply;
+
+use close_translate::{RESOURCE_ERROR, code_name};
+use gate_model::Reply;
+use machine_091::Refusal;
+use methods_091::{put_close, put_close_ok};
+
+/// The protocol header of AMQP 0-9-1 (AMQP 0-9-1 4.2.2).
+const HEADER: [u8; 8] = [b'A', b'M', b'Q', b'P', 0, 0, 9, 1];
+
+/// The protocol header.
+fn header() -> &'static [u8]
+    ensures bytes { result.now ≡ header_bytes }
+    ensures len { length result.now ≡ 8 }
+{
+    &HEADER
+}
+
+/// connection.start (AMQP 0-9-1 1.4.2.1): versions 0-9, the gateway's properties, mechanisms and
+/// locales.
+#[tactic(auto, unfolding(gate_model::specs::Spelling::start_frame, frames_091::specs::Frames::frame_text))]
+fn start() -> &'static [u8]
+    ensures bytes { result.now ≡ start_frame }
+    ensures len { length result.now ≡ 153 }
+{
+    &[
+        0x01, 0x00, 0x00, 0x00, 0x00, 0x00, 0x91, 0x00, 0x0A, 0x00, 0x0A, 0x00, 0x09, 0x00, 0x00,
+        0x00, 0x6B, 0x07, 0x70, 0x72, 0x6F, 0x64, 0x75, 0x63, 0x74, 0x53, 0x00, 0x00, 0x00, 0x09,
+        0x61, 0x6D, 0x71, 0x70, 0x2D, 0x67, 0x61, 0x74, 0x65, 0x07, 0x76, 0x65, 0x72, 0x73, 0x69,
+        0x6F, 0x6E, 0x53, 0x00, 0x00, 0x00, 0x01, 0x31, 0x0C, 0x63, 0x61, 0x70, 0x61, 0x62, 0x69,
+        0x6C, 0x69, 0x74, 0x69, 0x65, 0x73, 0x46, 0x00, 0x00, 0x00, 0x35, 0x12, 0x70, 0x75, 0x62,
+        0x6C, 0x69, 0x73, 0x68, 0x65, 0x72, 0x5F, 0x63, 0x6F, 0x6E, 0x66, 0x69, 0x72, 0x6D, 0x73,
+        0x74, 0x01, 0x0A, 0x62, 0x61, 0x73, 0x69, 0x63, 0x2E, 0x6E, 0x61, 0x63, 0x6B, 0x74, 0x01,
+        0x10, 0x70, 0x65, 0x72, 0x5F, 0x63, 0x6F, 0x6E, 0x73, 0x75, 0x6D, 0x65, 0x72, 0x5F, 0x71,
+        0x6F, 0x73, 0x74, 0x01, 0x00, 0x00, 0x00, 0x0F, 0x50, 0x4C, 0x41, 0x49, 0x4E, 0x20, 0x41,
+        0x4E, 0x4F, 0x4E, 0x59, 0x4D, 0x4F, 0x55, 0x53, 0x00, 0x00, 0x00, 0x05, 0x65, 0x6E, 0x5F,
+        0x55, 0x53, 0xCE,
+    ]
+}
+
+/// connection.tune (AMQP 0-9-1 1.4.2.5): channels up to 255, frames up to 131,072 bytes, a
+/// heartbeat each 60 seconds.
+#[tactic(auto, unfolding(gate_model::specs::Spelling::tune_frame, frames_091::specs::Frames::frame_text))]
+fn tune() -> &'static [u8]
+    ensures bytes { result.now ≡ tune_frame }
+    ensures len { length result.now ≡ 20 }
+{
+    &[
+        0x01, 0x00, 0x00, 0x00, 0x00, 0x00, 0x0C, 0x00, 0x0A, 0x00, 0x1E, 0x00, 0xFF, 0x00, 0x02,
+        0x00, 0x00, 0x00, 0x3C, 0xCE,
+    ]
+}
+
+/// A heartbeat (AMQP 0-9-1 4.2.7).
+#[tactic(auto, unfolding(frames_091::specs::Frames::frame_text))]
+fn heartbeat() -> &'static [u8]
+    ensures bytes { result.now ≡ heartbeat_frame }
+    ensures len { length result.now ≡ 8 }
+{
+    &[0x08, 0x00, 0x00, 0x00, 0x00, 0x00, 0x00, 0xCE]
+}
+
+/// Writes bytes over the first ones of a room, and answers their count.
+fn write_over(room: &mut [u8; 512], bytes: &[u8]) -> usize
+    requires { length bytes.now ≤ 512 }
+    ensures { IsWrittenOver bytes.now room.old room.new result }
+{
+    let count = bytes.len();
+    room[..count].copy_from_slice(bytes);
+    count
+}
+
+/// Writes a connection.close for a refusal, with the name of its code as text.
+fn write_close(room: &mut [u8; 512], refusal: Refusal) -> usize
+    ensures { IsWrittenOver (spell (reply.Close refusal)) room.old room.new result }
+{
+    let name = code_name(refusal.code);
+    put_close(room, refusal.code, name, refusal.class, refusal.method)
+}
+
+/// Writes the bytes of a unit to the client over the first ones of a room, and answers their count.
+pub fn spell(room: &mut [u8; 512], reply: Reply) -> usize
+    ensures written { IsWrittenOver (spell reply) room.old room.new result }
+    ensures small { result ≤ 512 }
+{
+    match reply {
+        Reply::Protocol => write_over(room, header()),
+        Reply::Start => write_over(room, start()),
+        Reply::Tune => write_over(room, tune()),
+        Reply::CloseOk => put_close_ok(room),
+        Reply::Close(refusal) => write_close(room, refusal),
+        Reply::Heartbeat => write_over(room, heartbeat()),
+        Reply::NoMemory => put_close(room, RESOURCE_ERROR, b"NO_MEMORY", 0, 0),
+    }
+}

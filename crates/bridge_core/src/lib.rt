@@ -1,0 +1,10 @@
+//! The code that follows a pair's steps: `Bridge`, each of whose calls is one step of gate_model's
+//! state, and which offers exactly what that state says goes next.
+#![tactic(auto)]
+
+mod bridge;
+mod core_state;
+mod frames;
+mod slot;
+
+pub use bridge::Bridge;

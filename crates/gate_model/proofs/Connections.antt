@@ -1,0 +1,232 @@
+-- What units, closing events and the handshake limit leave of a connection.
+use Rattle.std.proofs.Common.{◌≡◌, ℕ, ◌-◌, ◌≤◌, nat_le, Bool, true, false, not, ◌&&◌, ◌||◌, if◌then◌else◌, Option, None, Some, refl, sym, ap, ◌∙◌, subst, arith}
+use Rattle.std.specs.Prelude.{is_some}
+use Rattle.std.proofs.lemmas.Bool.Decides.{nat_tests}
+use Rattle.machine_091.specs.Calls.{after_ended, closing_phase}
+use Rattle.machine_091.specs.State.{awaits, is_closing, is_closing_phase, is_running}
+use Rattle.machine_091.specs.Transitions.{greeted, stream_after, unit_step}
+use Rattle.machine_091.specs.Transitions as machine
+use Rattle.machine_091.specs.declared.state.Awaited91.{Awaited91}
+use Rattle.machine_091.specs.declared.state.Awaited91.TheVariants as awaited
+use Rattle.machine_091.specs.declared.state.Connection.{Connection}
+use Rattle.machine_091.specs.declared.state.Phase91.{Phase91}
+use Rattle.machine_091.specs.declared.state.Phase91.TheVariants as phase
+use Rattle.machine_091.specs.declared.state.Stream91.{Stream91}
+use Rattle.machine_091.specs.declared.state.Stream91.TheVariants as stream
+use Rattle.machine_091.specs.declared.unit.Unit91.{Unit91}
+use Rattle.machine_091.specs.declared.unit.Unit91.TheVariants as unit
+use Rattle.machine_091.specs.declared.unit.Want91.TheVariants as want
+use Rattle.gate_model.specs.declared.timers.TheConstants.{HANDSHAKE_LIMIT}
+use Rattle.gate_model.specs.Picks.{MayComeAs}
+use Rattle.gate_model.specs.State.{after_want, close, close_if, closes_at, conn_step, has_left, is_limit_reached}
+use Rattle.gate_model.proofs.Outcomes.{Outcome, Greets, Parts, LogsIn, Tunes, Asks, Passes, Refuses, Closes, Answers, Ignores, Runs, is_opening_phase, outcome}
+
+-- ---- phases
+
+pub opens_not : (p : Phase91) → is_opening_phase p ≡ true → is_closing_phase p ≡ true → ⊥
+opens_not phase.Header a b = absurd cc
+opens_not phase.Start a b = absurd cc
+opens_not phase.Tune a b = absurd cc
+opens_not phase.Open a b = absurd cc
+opens_not phase.Running a b = absurd cc
+opens_not phase.Closing a b = absurd cc
+opens_not phase.Closed a b = absurd cc
+
+other_phase : (p q : Phase91) → p ≡ q → is_closing_phase q ≡ false → is_closing_phase p ≡ true → ⊥
+other_phase p q e never is = let wrong : true ≡ false = sym is ∙ ap is_closing_phase e ∙ never in absurd cc
+
+pub clash : (b : Bool) → b ≡ true → b ≡ false → ⊥
+clash b is isnt = absurd cc
+
+pub close_closes : (p : Phase91) → is_closing_phase (closing_phase p) ≡ true
+close_closes phase.Header = refl
+close_closes phase.Start = refl
+close_closes phase.Tune = refl
+close_closes phase.Open = refl
+close_closes phase.Running = refl
+close_closes phase.Closing = refl
+close_closes phase.Closed = refl
+
+pub close_idle : (p : Phase91) → is_running (closing_phase p) ≡ false
+close_idle phase.Header = refl
+close_idle phase.Start = refl
+close_idle phase.Tune = refl
+close_idle phase.Open = refl
+close_idle phase.Running = refl
+close_idle phase.Closing = refl
+close_idle phase.Closed = refl
+
+-- ---- after a unit
+
+abbrev Next : machine.Step → Connection
+Next x = after_want x.1 x.0
+
+pub step_idle : (c : Connection) (u : Unit91) → is_running c.phase ≡ false → is_running (conn_step c u).phase ≡ false
+step_idle c u n = by (unit_step c u) (outcome c u)
+  where
+    by : (x : machine.Step) → Outcome c u x → is_running (Next x).phase ≡ false
+    by _ (Greets e) = refl
+    by _ (Parts e) = refl
+    by _ (LogsIn m r e) = refl
+    by _ (Tunes l e) = refl
+    by _ (Asks e) = close_idle c.phase
+    by _ (Passes e) = n
+    by _ (Refuses r e) = refl
+    by _ (Closes e) = refl
+    by _ (Answers e) = refl
+    by _ (Ignores e) = n
+    by _ (Runs x e) = absurd (clash (is_running c.phase) e n)
+
+pub step_closes : (c : Connection) (u : Unit91) → is_running c.phase ≡ false → is_closing c ≡ true → is_closing (conn_step c u) ≡ true
+step_closes c u n k = by (unit_step c u) (outcome c u)
+  where
+    by : (x : machine.Step) → Outcome c u x → is_closing (Next x) ≡ true
+    by _ (Greets e) = absurd (other_phase c.phase phase.Header e refl k)
+    by _ (Parts e) = refl
+    by _ (LogsIn m r e) = absurd (other_phase c.phase phase.Start e refl k)
+    by _ (Tunes l e) = absurd (other_phase c.phase phase.Tune e refl k)
+    by _ (Asks e) = close_closes c.phase
+    by _ (Passes e) = k
+    by _ (Refuses r e) = refl
+    by _ (Closes e) = refl
+    by _ (Answers e) = refl
+    by _ (Ignores e) = k
+    by _ (Runs x e) = absurd (clash (is_running c.phase) e n)
+
+-- a closing connection isn't asked to open any more
+pub step_asked : (c : Connection) (u : Unit91) → is_running c.phase ≡ false → is_closing c ≡ true → (conn_step c u).asked ≡ c.asked
+step_asked c u n k = by (unit_step c u) (outcome c u)
+  where
+    by : (x : machine.Step) → Outcome c u x → (Next x).asked ≡ c.asked
+    by _ (Greets e) = refl
+    by _ (Parts e) = refl
+    by _ (LogsIn m r e) = refl
+    by _ (Tunes l e) = refl
+    by _ (Asks e) = absurd (other_phase c.phase phase.Open e refl k)
+    by _ (Passes e) = refl
+    by _ (Refuses r e) = refl
+    by _ (Closes e) = refl
+    by _ (Answers e) = refl
+    by _ (Ignores e) = refl
+    by _ (Runs x e) = absurd (clash (is_running c.phase) e n)
+
+pub step_stays_asked : (c : Connection) (u : Unit91) → is_running c.phase ≡ false → c.asked ≡ true → (conn_step c u).asked ≡ true
+step_stays_asked c u n k = by (unit_step c u) (outcome c u)
+  where
+    by : (x : machine.Step) → Outcome c u x → (Next x).asked ≡ true
+    by _ (Greets e) = k
+    by _ (Parts e) = k
+    by _ (LogsIn m r e) = k
+    by _ (Tunes l e) = k
+    by _ (Asks e) = refl
+    by _ (Passes e) = k
+    by _ (Refuses r e) = k
+    by _ (Closes e) = k
+    by _ (Answers e) = k
+    by _ (Ignores e) = k
+    by _ (Runs x e) = absurd (clash (is_running c.phase) e n)
+
+stays_here : (u : Unit91) (s : Stream91) → has_left (stream_after u s) ≡ true → has_left s ≡ true
+stays_here unit.Protocol stream.Header e = absurd cc
+stays_here unit.Protocol stream.Frames e = absurd cc
+stays_here unit.Protocol stream.Foreign e = absurd cc
+stays_here unit.Protocol stream.Bad e = absurd cc
+stays_here unit.Protocol stream.Answered e = absurd cc
+stays_here unit.Protocol stream.Ended e = refl
+stays_here (unit.Frame f) s e = e
+stays_here (unit.Bad code) s e = absurd cc
+
+-- no unit ends the client's end
+pub step_here : (c : Connection) (u : Unit91) → is_running c.phase ≡ false → has_left (conn_step c u).stream ≡ true → has_left c.stream ≡ true
+step_here c u n = by (unit_step c u) (outcome c u)
+  where
+    by : (x : machine.Step) → Outcome c u x → has_left (Next x).stream ≡ true → has_left c.stream ≡ true
+    by _ (Greets e) k = absurd cc
+    by _ (Parts e) k = absurd cc
+    by _ (LogsIn m r e) k = k
+    by _ (Tunes l e) k = k
+    by _ (Asks e) k = k
+    by _ (Passes e) k = k
+    by _ (Refuses r e) k = stays_here u c.stream k
+    by _ (Closes e) k = k
+    by _ (Answers e) k = absurd cc
+    by _ (Ignores e) k = stays_here u c.stream k
+    by _ (Runs x e) k = absurd (clash (is_running c.phase) e n)
+
+-- nothing is awaited of an end that ended
+pub none_comes : (c : Connection) (u : Unit91) → has_left c.stream ≡ true → MayComeAs (awaits c) u → ⊥
+none_comes c u = by c.stream
+  where
+    by : (s : Stream91) → has_left s ≡ true → MayComeAs (awaits (record c { stream = s })) u → ⊥
+    by stream.Header e m = absurd cc
+    by stream.Frames e m = absurd cc
+    by stream.Foreign e m = absurd cc
+    by stream.Bad e m = absurd cc
+    by stream.Answered e m = absurd cc
+    by stream.Ended e m = m
+
+-- ---- closing events
+
+pub asked_if : (b : Bool) (c : Connection) → (close_if b c).asked ≡ c.asked
+asked_if true c = refl
+asked_if false c = refl
+
+pub idle_if : (b : Bool) (c : Connection) → is_running c.phase ≡ false → is_running (close_if b c).phase ≡ false
+idle_if true c n = close_idle c.phase
+idle_if false c n = n
+
+pub stream_if : (b : Bool) (c : Connection) → (close_if b c).stream ≡ c.stream
+stream_if true c = refl
+stream_if false c = refl
+
+-- an end that was taken up is closed whatever comes then
+pub ended_if : (b : Bool) (c : Connection) → after_ended c ≡ c → after_ended (close_if b c) ≡ close_if b c
+ended_if b c e = subst (λ (x : Connection). after_ended (close_if b x) ≡ close_if b x) e (by b)
+  where
+    by : (b : Bool) → after_ended (close_if b (after_ended c)) ≡ close_if b (after_ended c)
+    by true = refl
+    by false = refl
+
+-- ---- the moment of the closing event
+
+pub closes_again : (o : Option ℕ) (b : Bool) (ms : ℕ) → (b ≡ true → is_some o ≡ true) → closes_at o b ms ≡ o
+closes_again (Some at) b ms f = refl
+closes_again None true ms f = absurd (clash false (f refl) refl)
+closes_again None false ms f = refl
+
+pub closes_some : (o : Option ℕ) (b : Bool) (ms : ℕ) → b ≡ true → is_some (closes_at o b ms) ≡ true
+closes_some (Some at) b ms e = refl
+closes_some None true ms e = refl
+closes_some None false ms e = absurd cc
+
+-- ---- the handshake limit
+
+pub implied : (a b : Bool) → (a ≡ true → b ≡ true) → (a || b) ≡ b
+implied true b f = sym (f refl)
+implied false b f = refl
+
+le_later : (n a m ms : ℕ) → m ≤ ms → nat_le n (m - a) ≡ true → nat_le n (ms - a) ≡ true
+le_later n a m ms le e = grind (arith, nat_tests)
+
+pub late_later : (c : Connection) (a m ms : ℕ) → m ≤ ms → is_limit_reached c a m ≡ true → is_limit_reached c a ms ≡ true
+late_later c a m ms le = by c.asked
+  where
+    by : (b : Bool) → (not b && nat_le HANDSHAKE_LIMIT (m - a)) ≡ true → (not b && nat_le HANDSHAKE_LIMIT (ms - a)) ≡ true
+    by true e = e
+    by false e = le_later HANDSHAKE_LIMIT a m ms le e
+
+-- a unit neither reaches the limit nor takes it back
+pub late_step : (c : Connection) (u : Unit91) (a ms : ℕ) → is_running c.phase ≡ false → (is_limit_reached c a ms ≡ true → is_closing c ≡ true)
+    → is_limit_reached (conn_step c u) a ms ≡ is_limit_reached c a ms
+late_step c u a ms n k = by c.asked (nat_le HANDSHAKE_LIMIT (ms - a)) refl refl
+  where
+    by : (b le : Bool) → c.asked ≡ b → nat_le HANDSHAKE_LIMIT (ms - a) ≡ le → is_limit_reached (conn_step c u) a ms ≡ is_limit_reached c a ms
+    by true le e f = ap (λ x. not x && nat_le HANDSHAKE_LIMIT (ms - a)) (step_stays_asked c u n e) ∙ sym (ap (λ x. not x && nat_le HANDSHAKE_LIMIT (ms - a)) e)
+    by false true e f =
+        let closing : is_closing c ≡ true = k (ap (λ x. not x && nat_le HANDSHAKE_LIMIT (ms - a)) e ∙ f) in
+        ap (λ x. not x && nat_le HANDSHAKE_LIMIT (ms - a)) (step_asked c u n closing)
+    by false false e f = none (conn_step c u).asked ∙ sym (none c.asked)
+      where
+        none : (x : Bool) → (not x && nat_le HANDSHAKE_LIMIT (ms - a)) ≡ false
+        none true = refl
+        none false = f

@@ -1,0 +1,75 @@
+-- What goes to a client fits it: each unit is short, and no frame-max that is agreed to is less than 4,096.
+use Rattle.std.proofs.Common.{◌≡◌, ℕ, ◌≤◌, Bool, true, false, if◌then◌else◌, List, [], ◌∷◌, length, refl, sym, ap, subst, arith}
+use Rattle.gate_outside.specs.declared.ports.End.TheVariants.{Client, Up}
+use Rattle.machine_091.specs.Limits.{AreWithin}
+use Rattle.machine_091.specs.Transitions.{unit_step}
+use Rattle.machine_091.specs.declared.limits.TheConstants.{FRAME_MIN_SIZE}
+use Rattle.machine_091.specs.declared.limits.Limits.{Limits}
+use Rattle.machine_091.specs.declared.state.Connection.{Connection}
+use Rattle.machine_091.specs.declared.unit.Unit91.{Unit91}
+use Rattle.machine_091.specs.declared.unit.Want91.{Want91}
+use Rattle.machine_091.specs.declared.unit.Want91.TheVariants as want
+use Rattle.gate_model.specs.Folds.{accepted_in, connection, leaving_in, ran_out_in}
+use Rattle.gate_model.specs.Frames.{FitsClients, limit_after, limit_in}
+use Rattle.gate_model.specs.Spelling.{spell}
+use Rattle.gate_model.specs.State.{Step, Began, Moment, Came, TakenUp, Lost, Gave, Whole, OutOfMemory, after_want, close_if, conn_step, is_limit_reached}
+use Rattle.gate_model.proofs.Spelled.{spelled_small}
+
+-- no unit of the client takes the limits out of their range
+abbrev pub LimitsStay : Type 0
+LimitsStay = (c : Connection) (u : Unit91) → AreWithin c.limits → AreWithin (unit_step c u).0.limits
+
+want_limits : (w : Want91) (c : Connection) → (after_want w c).limits ≡ c.limits
+want_limits want.Nothing c = refl
+want_limits want.Start c = refl
+want_limits (want.Login m r) c = refl
+want_limits want.Tuned c = refl
+want_limits want.OpenUp c = refl
+want_limits (want.Method n m) c = refl
+want_limits (want.ChannelCloseOk n) c = refl
+want_limits want.Close c = refl
+want_limits want.CloseOk c = refl
+want_limits (want.Refuse r) c = refl
+
+within_step : LimitsStay → (c : Connection) (u : Unit91) → AreWithin c.limits → AreWithin (conn_step c u).limits
+within_step l c u m = subst AreWithin (sym (want_limits (unit_step c u).1 (unit_step c u).0)) (l c u m)
+
+within_if : (b : Bool) (c d : Connection) → AreWithin c.limits → AreWithin d.limits → AreWithin (if b then c else d).limits
+within_if true c d m n = m
+within_if false c d m n = n
+
+within_close : (b : Bool) (c : Connection) → AreWithin c.limits → AreWithin (close_if b c).limits
+within_close true c m = m
+within_close false c m = m
+
+pub within : LimitsStay → (h : List Step) → AreWithin (connection h).limits
+within l [] = record { frame_min = omega arith; frame_max = omega arith; channel_min = omega arith; channel_max = omega arith }
+within l (Began ms ∷ h) = within l h
+within l (Moment ms ∷ h) = within_close (is_limit_reached (connection h) (accepted_in h) ms) (connection h) (within l h)
+within l (Came u ∷ h) = within_if (ran_out_in h) (connection h) (conn_step (connection h) u) (within l h) (within_step l (connection h) u (within l h))
+within l (TakenUp ∷ h) = within_if _ _ (connection h) (within l h) (within l h)
+within l (Lost end how ∷ h) = within l h
+within l (Gave end u ∷ h) = within l h
+within l (Whole end ∷ h) = within l h
+within l (OutOfMemory ∷ h) = within l h
+
+after_least : (limit : ℕ) (c : Connection) (w : Want91) → FRAME_MIN_SIZE ≤ limit → AreWithin c.limits → FRAME_MIN_SIZE ≤ limit_after limit c w
+after_least limit c want.Tuned old new = new.frame_min
+after_least limit c w old new = old
+
+number_if : (b : Bool) (m n : ℕ) → FRAME_MIN_SIZE ≤ m → FRAME_MIN_SIZE ≤ n → FRAME_MIN_SIZE ≤ (if b then m else n)
+number_if true m n e f = e
+number_if false m n e f = f
+
+-- so the limit of a client
+limit_least : LimitsStay → (h : List Step) → FRAME_MIN_SIZE ≤ limit_in h
+limit_least l [] = omega arith
+limit_least l (Came u ∷ h) =
+    number_if (ran_out_in h) (limit_in h) _ (limit_least l h)
+    (after_least (limit_in h) (unit_step (connection h) u).0 (unit_step (connection h) u).1 (limit_least l h) (l (connection h) u (within l h)))
+limit_least l (s ∷ h) = limit_least l h
+
+pub fits_clients : LimitsStay → (h : List Step) → FitsClients h
+fits_clients l [] = tt
+fits_clients l (Gave Client u ∷ h) = (omega (arith, spelled_small u, limit_least l h), fits_clients l h)
+fits_clients l (s ∷ h) = fits_clients l h

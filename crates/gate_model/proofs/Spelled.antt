@@ -1,0 +1,45 @@
+-- The bytes of a unit to a client are some, and few.
+use Rattle.std.proofs.Common.{◌≡◌, ℕ, ◌<◌, ◌≤◌, List, length, codes, arith}
+use Rattle.std.proofs.lemmas.List.{length-append}
+use Rattle.close_translate.specs.Codes.{name_of}
+use Rattle.frames_091.specs.Frames.{frame_text}
+use Rattle.frames_091.specs.declared.frame.Frame91.{Frame91}
+use Rattle.methods_091.specs.Closing.{close_text}
+use Rattle.gate_model.specs.declared.reply.Reply.{Reply}
+use Rattle.gate_model.specs.declared.reply.Reply.TheVariants as reply
+use Rattle.gate_model.specs.Spelling.{spell, start_frame, tune_frame}
+
+frame_some : (f : Frame91) → 0 < length (frame_text f)
+unfolding frame_text
+frame_some f = omega arith
+
+start_some : 0 < length start_frame
+unfolding start_frame
+start_some = frame_some _
+
+tune_some : 0 < length tune_frame
+unfolding tune_frame
+tune_some = frame_some _
+
+pub spelled_some : (r : Reply) → 0 < length (spell r)
+spelled_some reply.Protocol = omega arith
+spelled_some reply.Start = start_some
+spelled_some reply.Tune = tune_some
+spelled_some reply.CloseOk = frame_some _
+spelled_some (reply.Close r) = frame_some _
+spelled_some reply.NoMemory = frame_some _
+spelled_some reply.Heartbeat = frame_some _
+
+close_small : (code : ℕ) (text : List ℕ) (class method : ℕ) → length text ≤ 255 → length (close_text code text class method) ≤ 512
+unfolding frame_text
+close_small code text class method short = grind (arith, length-append, short)
+
+-- the longest name of a code has 19 letters
+name_small : (code : ℕ) → length (name_of code) ≤ 255
+name_small code = grind arith
+
+pub spelled_small : (r : Reply) → length (spell r) ≤ 512
+unfolding start_frame tune_frame frame_text
+spelled_small (reply.Close r) = close_small r.code (name_of r.code) r.class r.method (name_small r.code)
+spelled_small reply.NoMemory = close_small 506 (codes "NO_MEMORY") 0 0 (omega arith)
+spelled_small r = omega arith

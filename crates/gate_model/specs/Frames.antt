@@ -1,0 +1,32 @@
+-- The size of what is sent to a client.
+use Rattle.std.specs.Prelude.{ℕ, ◌≤◌, Bool, true, false, if◌then◌else◌, List, [], ◌∷◌, length}
+use Rattle.gate_outside.specs.declared.ports.End.TheVariants.{Client}
+use Rattle.machine_091.specs.Transitions.{Step, unit_step}
+use Rattle.machine_091.specs.declared.limits.TheConstants.{FRAME_MIN_SIZE}
+use Rattle.machine_091.specs.declared.state.Connection.{Connection}
+use Rattle.machine_091.specs.declared.unit.Want91.{Want91}
+use Rattle.machine_091.specs.declared.unit.Want91.TheVariants as want
+use Rattle.gate_model.specs.Folds.{connection, ran_out_in}
+use Rattle.gate_model.specs.Spelling.{spell}
+use Rattle.gate_model.specs.State as state
+use Rattle.gate_model.specs.State.{Came, Gave}
+
+-- the greatest frame that a client takes, after a unit of it: a tune-ok that isn't refused agrees
+-- to one
+abbrev pub limit_after : ℕ → Connection → Want91 → ℕ
+limit_after limit c want.Tuned = c.limits.frame_max
+limit_after limit c other = limit
+
+-- the greatest frame that a client takes: 4,096 bytes until it agrees to one (AMQP 0-9-1 4.2.3)
+abbrev pub limit_in : List state.Step → ℕ
+limit_in [] = FRAME_MIN_SIZE
+limit_in (Came u ∷ h) =
+    if ran_out_in h then limit_in h
+    else limit_after (limit_in h) (unit_step (connection h) u).0 (unit_step (connection h) u).1
+limit_in (s ∷ h) = limit_in h
+
+-- no unit that was sent passes the limit of its moment
+abbrev pub FitsClients : List state.Step → Type 0
+FitsClients [] = Unit {0}
+FitsClients (Gave Client u ∷ h) = (length (spell u) ≤ limit_in h) × FitsClients h
+FitsClients (s ∷ h) = FitsClients h

@@ -1,0 +1,9 @@
+pub mod Answers
+pub mod Due
+pub mod Folds
+pub mod Frames
+pub mod Picks
+pub mod Spelling
+pub mod State
+pub mod Times
+pub mod Words

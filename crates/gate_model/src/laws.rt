@@ -1,0 +1,63 @@
+//! The laws of a pair's steps: what holds of every list of them whose outgoing ones are picks. Each
+//! law is a function without parameters, whose clauses state it; a caller has the law by calling
+//! it.
+
+ghost use Rattle.std.specs.Prelude.{◌≡◌, ℕ, ◌<◌, ◌≤◌, List, length};
+ghost use Rattle.gate_model.specs.declared.reply.Reply.{Reply};
+ghost use Rattle.gate_model.specs.Answers.{AreAnswered};
+ghost use Rattle.gate_model.specs.Frames.{FitsClients};
+ghost use Rattle.gate_model.specs.Folds.{connection, moment_in, ran_out_in};
+ghost use Rattle.gate_model.specs.Picks.{ArePicks};
+ghost use Rattle.gate_model.specs.Spelling.{spell};
+ghost use Rattle.gate_model.specs.State.{Step, before};
+ghost use Rattle.gate_model.specs.Times.{BeatsAtOnce, BeatsWhenDue, LateCloses, ShutsAtOnce};
+
+use machine_091::connection_laws;
+
+/// The state knows the client's connection, the last moment and whether the pair ran out of memory,
+/// as the folds tell them.
+#[tactic(auto, using(crate::proofs::Known::known))]
+pub fn states_are_known()
+    ensures connection { (h : List Step) → ArePicks h → (before h).conn ≡ connection h }
+    ensures moment { (h : List Step) → ArePicks h → (before h).moment ≡ moment_in h }
+    ensures memory { (h : List Step) → ArePicks h → (before h).out_of_memory ≡ ran_out_in h }
+{}
+
+/// What was sent to a client, without heartbeats, and what is due to it are the replies to its
+/// units, in their order: to the protocol header connection.start, to bytes that begin no header
+/// the gateway's own, to connection.start-ok connection.tune, to the client's connection.close a
+/// close-ok, and to a refused unit connection.close, unless the client closed or its end was taken
+/// up before the first byte of that went. After the pair ran out of memory what was sent since and
+/// what is due are the last units, by the connection before.
+#[tactic(auto, using(crate::proofs::Said::answered))]
+pub fn clients_are_answered()
+    ensures { (h : List Step) → ArePicks h → AreAnswered h }
+{}
+
+/// A heartbeat goes exactly where an interval was agreed to, for half of it no byte was sent, no
+/// close-ok was sent, no other unit is due and none is in progress. A client's end is to be shut
+/// exactly for one of the causes of `ShutFor`. Once the handshake limit was reached the connection
+/// is closing.
+#[tactic(auto, using(crate::proofs::Times::beats_when_due, crate::proofs::Times::late_closes))]
+pub fn times_are_kept()
+    ensures beats { (h : List Step) → ArePicks h → BeatsWhenDue h }
+    ensures beats_at_once { (h : List Step) → ArePicks h → BeatsAtOnce h }
+    ensures shuts_at_once { (h : List Step) → ArePicks h → ShutsAtOnce h }
+    ensures late { (h : List Step) → ArePicks h → LateCloses h }
+{}
+
+/// No frame that goes to a client passes the client's limit when its first byte is sent: 4,096
+/// bytes until a connection.tune-ok that is neither refused nor passed over, and from then on the
+/// frame-max of that one, or the one that was stated where it named none.
+pub fn frames_fit_clients()
+    ensures { (h : List Step) → FitsClients h }
+{
+    connection_laws();
+}
+
+/// No unit has over 512 bytes, an eighth of the least frame-max, and each has some.
+#[tactic(auto, using(crate::proofs::Spelled::spelled_small, crate::proofs::Spelled::spelled_some))]
+pub fn units_are_short()
+    ensures small { (unit : Reply) → length (spell unit) ≤ 512 }
+    ensures some { (unit : Reply) → 0 < length (spell unit) }
+{}

@@ -1,0 +1,11 @@
+//! The timers of a client's connection, in milliseconds.
+
+/// A client's end is shut where no connection.open came within so long of its accept.
+pub const HANDSHAKE_LIMIT: u64 = 10_000;
+
+/// Both ends are shut so long after the closing event of the connection.
+pub const CLOSING_LIMIT: u64 = 10_000;
+
+/// A heartbeat is due after so long without a byte sent, for each second of the interval that was
+/// agreed to: half of it (AMQP 0-9-1 4.2.7).
+pub const BEAT_PER_SECOND: u64 = 500;

@@ -1,0 +1,10 @@
+pub mod Cuts
+pub mod Heard
+pub mod Lawfuls
+pub mod Memories
+pub mod Picks
+pub mod Saids
+pub mod Sent
+pub mod Taken
+pub mod Timings
+pub mod Within

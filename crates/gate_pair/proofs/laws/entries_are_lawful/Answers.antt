@@ -1,0 +1,9 @@
+use Rattle.gate_pair.proofs.Lawfuls.{lawful}
+use Rattle.gate_pair.proofs.laws.entries_are_lawful.Goals as goal
+
+pub returns : goal.returns
+returns c = lawful (record {
+  beats = c.times_are_kept.ensures.beats_at_once;
+  shuts = c.times_are_kept.ensures.shuts_at_once;
+  late = c.times_are_kept.ensures.late;
+})

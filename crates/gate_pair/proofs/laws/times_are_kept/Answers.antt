@@ -1,0 +1,9 @@
+use Rattle.gate_pair.proofs.Timings.{keeps_times}
+use Rattle.gate_pair.proofs.laws.times_are_kept.Goals as goal
+
+pub returns : goal.returns
+returns c = keeps_times (record {
+  beats = c.times_are_kept.ensures.beats_at_once;
+  shuts = c.times_are_kept.ensures.shuts_at_once;
+  late = c.times_are_kept.ensures.late;
+})

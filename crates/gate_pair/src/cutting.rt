@@ -1,0 +1,87 @@
+//! The client's bytes, cut into units.
+
+ghost use Rattle.std.specs.Prelude.{◌≡◌, ℕ, ◌≤◌, false, true, length, OnOk, OnErr, IfOk};
+ghost use Rattle.bridge_core.specs.Offers.{Keeps};
+ghost use Rattle.gate_pair.specs.Cutting.{IsLongEnough, IsWithin, unit_scan};
+ghost use Rattle.gate_pair.specs.PairStates.{Reads, ReadsInPart};
+
+use bridge_core::Bridge;
+use close_translate::FRAME_ERROR;
+use frames_091::{scan_frame, scan_header};
+use machine_091::{Awaited91, FRAME_MIN_SIZE, Unit91};
+use std::alloc::Global;
+use wire_base::{Memory, Scan};
+
+/// The protocol header, with which a client's bytes begin.
+fn scan_greeting(bytes: &[u8]) -> Scan<Unit91, u16>
+    ensures { result ≡ unit_scan Awaited91.Header bytes.now }
+{
+    match scan_header(bytes) {
+        Scan::Whole(_, n) => Scan::Whole(Unit91::Protocol, n),
+        Scan::More => Scan::More,
+        Scan::Bad(_) => Scan::Bad(0),
+    }
+}
+
+/// The frame with which a client's bytes begin.
+fn scan_next(alloc: Global, bytes: &[u8], size: u32) -> Result<Scan<Unit91, u16>, Memory>
+    requires { FRAME_MIN_SIZE ≤ size }
+    ensures { IfOk result (λ scan. scan ≡ unit_scan (Awaited91.Frame size) bytes.now) }
+{
+    match scan_frame(alloc, bytes, size)? {
+        Scan::Whole(frame, n) => Ok(Scan::Whole(Unit91::Frame(frame), n)),
+        Scan::More => Ok(Scan::More),
+        Scan::Bad(_) => Ok(Scan::Bad(FRAME_ERROR)),
+    }
+}
+
+/// The unit with which a client's bytes begin, as one is awaited.
+#[tactic(auto, using(crate::proofs::Within::within))]
+fn scan_unit(alloc: Global, awaited: Awaited91, bytes: &[u8]) -> Result<Scan<Unit91, u16>, Memory>
+    requires { IsLongEnough awaited }
+    ensures exact { IfOk result (λ scan. scan ≡ unit_scan awaited bytes.now) }
+    ensures within { IfOk result (IsWithin bytes.now) }
+{
+    match awaited {
+        Awaited91::Header => Ok(scan_greeting(bytes)),
+        Awaited91::Frame(size) => scan_next(alloc, bytes, size),
+        Awaited91::Nothing => Ok(Scan::More),
+    }
+}
+
+/// Cuts the client's bytes into units, each of which is taken up before the next is cut. The result
+/// is how many bytes were cut off. If the pair runs out of memory, units before that place count.
+#[tactic(auto, using(crate::proofs::Within::long_enough))]
+pub fn cut_client(bridge: &mut Bridge, alloc: Global, bytes: &[u8]) -> Result<usize, Memory>
+    requires { bridge.old.state.out_of_memory ≡ false }
+    ensures ok { IfOk result (λ at. Reads bytes.now at bridge.old.state bridge.new.state) }
+    ensures within { IfOk result (λ at. at ≤ length bytes.now) }
+    ensures err { OnErr result (ReadsInPart bytes.now bridge.old.state bridge.new.state) }
+    ensures calm { OnOk result (bridge.new.state.out_of_memory ≡ false) }
+    ensures met { OnErr result (bridge.new.state.out_of_memory ≡ true) }
+    ensures kept { Keeps bridge.old bridge.new }
+{
+    let mut at = 0;
+    let count = bytes.len();
+    for i in 0..count {
+        let (_, rest) = bytes.split_at(at);
+        match scan_unit(alloc, bridge.awaits(), rest) {
+            Ok(Scan::More) => return Ok(at),
+            Ok(Scan::Bad(code)) => {
+                return match bridge.client_unit(alloc, Unit91::Bad(code)) {
+                    Ok(()) => Ok(count),
+                    Err(error) => Err(error),
+                };
+            }
+            Ok(Scan::Whole(unit, n)) => match bridge.client_unit(alloc, unit) {
+                Ok(()) => at += n,
+                Err(error) => return Err(error),
+            },
+            Err(error) => {
+                bridge.run_out();
+                return Err(error);
+            }
+        }
+    }
+    Ok(at)
+}
