@@ -1,0 +1,7 @@
+pub mod Form
+pub mod Journal
+pub mod Marks
+pub mod Next
+pub mod Report
+pub mod Serving
+pub mod Stages

@@ -1,0 +1,13 @@
+mod Telling
+mod WriteMarks
+mod CallMarks
+mod Connects
+mod Ends
+mod Extending
+mod Fronts
+mod OneMark
+mod Reporting
+mod Reaching
+mod ReadMarks
+mod ShutMarks
+mod Stages
