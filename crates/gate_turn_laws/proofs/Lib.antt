@@ -1,0 +1,23 @@
+pub mod Asks
+pub mod Cover
+pub mod Ends
+mod Examples
+pub mod Laws
+pub mod Lines
+pub mod Lists
+pub mod Living
+pub mod Log
+pub mod Memory
+pub mod Moments
+pub mod Once
+pub mod Order
+pub mod Pairs
+pub mod Points
+pub mod Quiet
+pub mod Relayed
+pub mod Silence
+pub mod Stages
+pub mod Turns
+pub mod Visits
+pub mod Within
+pub mod Writes

@@ -1,0 +1,14 @@
+pub mod Asks
+pub mod Begun
+pub mod Ends
+pub mod Laws
+pub mod Lines
+pub mod Log
+pub mod Memory
+pub mod Moments
+pub mod Pairs
+pub mod Quiet
+pub mod Turns
+pub mod Visits
+pub mod Within
+pub mod Words
