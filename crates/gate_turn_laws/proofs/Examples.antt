@@ -48,7 +48,7 @@ steady = record {
   takes = λ stuck bytes h. refl;
   connects = λ stuck bytes h. refl;
   offer = λ end stuck bytes h. refl;
-  settled = λ h. refl;
+  settled = λ h calm. refl;
 }
 
 pub wakes_none : WakesNone words

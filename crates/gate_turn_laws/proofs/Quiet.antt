@@ -101,12 +101,12 @@ connects_stuck w stuck bytes h k = ap (λ (b : Bool). is_absent (side_of Up (sid
 offers_stuck : (w : RelayWords) (end stuck : End) (bytes : List ℕ) (h : List Entry) → IsSteady w → offers w end (Stuck stuck bytes ∷ h) ≡ offers w end h
 offers_stuck w end stuck bytes h k = ap (λ (o : Option (List ℕ)). if is_writable (side_of end (sides h)) then o else None) (k.offer end stuck bytes h)
 
-takes_settled : (w : RelayWords) (h : List Entry) → IsSteady w → takes_up w (Settled ∷ h) ≡ false
-takes_settled w h k = last (not (is_out_of_memory h)) (w.takes_up (Settled ∷ h)) (k.settled h)
+pub takes_settled : (w : RelayWords) (h : List Entry) → IsSteady w → takes_up w (Settled ∷ h) ≡ false
+takes_settled w h k = last (is_out_of_memory h) (w.takes_up (Settled ∷ h)) (k.settled h)
   where
-    last : (a b : Bool) → b ≡ false → (a && b) ≡ false
-    last true b e = e
-    last false b e = refl
+    last : (out b : Bool) → (out ≡ false → b ≡ false) → (not out && b) ≡ false
+    last true b e = refl
+    last false b e = e refl
 
 dry_dry : (w : RelayWords) (end dry : End) (h : List Entry) → IsSteady w → IsDry w end h → IsDry w end (Dry dry ∷ h)
 dry_dry w end dry h k d r = elim (d (sym (reads_dry w end dry h k) ∙ r)) [ inl i ↦ inl (inr i) | inr o ↦ inr o ]

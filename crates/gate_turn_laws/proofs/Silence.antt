@@ -12,7 +12,7 @@ use Rattle.gate_runs.specs.Marks.{History, Call, Refuse, TakeUp, RunOut, Finish}
 use Rattle.gate_runs.specs.Journal.{journal}
 use Rattle.gate_turn_laws.specs.Quiet.{IsSteady, WakesNone, InTurn, Wakes, IsQuiet, IsSilent, IdlesAtRest, IdlesInSilence}
 use Rattle.gate_runs.specs.Serving.{Follows}
-use Rattle.gate_turn_laws.proofs.Quiet.{idles_at_rest}
+use Rattle.gate_turn_laws.proofs.Quiet.{idles_at_rest, takes_settled}
 
 -- a read that is asked after an entry was asked before it, where the word was so
 read_before : (r m a b : Bool) → (a ≡ true → b ≡ true) → (r && (not m && b)) ≡ false → (r && (not m && a)) ≡ true → ⊥
@@ -69,7 +69,7 @@ takes_sleeps w (Moment ms ∷ h) s k a = a
 takes_sleeps w (Came end bytes ∷ h) s k a = takes_sleeps w h s k a
 takes_sleeps w (Dry end ∷ h) s k a = takes_sleeps w h s k a
 takes_sleeps w (Settled ∷ h) s k (inl n) =
-    taken_before (is_out_of_memory h) (w.takes_up (Settled ∷ h)) (w.takes_up h) (λ t. let clash : false ≡ true = sym (s.settled h) ∙ t in absurd cc) n.0 n.1
+    let clash : false ≡ true = sym (takes_settled w h s) ∙ n.1 in cc
 takes_sleeps w (Settled ∷ h) s k (inr a) = takes_sleeps w h s k a
 takes_sleeps w (Joined answer ∷ h) s k (inl n) = taken_before (is_out_of_memory h) (w.takes_up (Joined answer ∷ h)) (w.takes_up h) (k.takes answer h) n.0 n.1
 takes_sleeps w (Joined answer ∷ h) s k (inr a) = takes_sleeps w h s k a

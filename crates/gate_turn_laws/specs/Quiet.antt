@@ -6,7 +6,7 @@ use Rattle.gate_outside.specs.declared.ports.Accepted.TheVariants as accepted
 use Rattle.gate_outside.specs.declared.ports.Linked.{Linked}
 use Rattle.gate_outside.specs.declared.ports.Linked.TheVariants as linked
 use Rattle.gate_outside.specs.declared.log.LogEntry.TheVariants.{Accept, Idle, Now}
-use Rattle.gate_relay.specs.Entries.{Entry, Moment, Dry, Settled, Joined, Stuck}
+use Rattle.gate_relay.specs.Entries.{Entry, Moment, Dry, Settled, Joined, Stuck, is_out_of_memory}
 use Rattle.gate_relay.specs.Guards.{reads, takes_up, connects, offers, shuts}
 use Rattle.gate_relay.specs.RelayWords.{RelayWords}
 use Rattle.gate_runs.specs.declared.limits.Limits.{Limits}
@@ -18,7 +18,7 @@ use Rattle.gate_turn_laws.specs.Pairs.{is_live}
 -- ---- what is wanted of the words
 
 -- a read that gave nothing and a write that took nothing change no word; after a take-up nothing
--- more can be taken up
+-- more can be taken up, where the pair didn't run out of memory
 pub record IsSteady (w : RelayWords) : Type 0 where
   pub dry_awaits : (end dry : End) (h : List Entry) → w.awaits end (Dry dry ∷ h) ≡ w.awaits end h
   pub awaits : (end stuck : End) (bytes : List ℕ) (h : List Entry)
@@ -29,7 +29,7 @@ pub record IsSteady (w : RelayWords) : Type 0 where
       → w.connects (Stuck stuck bytes ∷ h) ≡ w.connects h
   pub offer : (end stuck : End) (bytes : List ℕ) (h : List Entry)
       → w.offer end (Stuck stuck bytes ∷ h) ≡ w.offer end h
-  pub settled : (h : List Entry) → w.takes_up (Settled ∷ h) ≡ false
+  pub settled : (h : List Entry) → is_out_of_memory h ≡ false → w.takes_up (Settled ∷ h) ≡ false
 
 -- by a take-up no end comes to be awaited, and by the connect at most that upstream, where nothing
 -- more can be taken up
