@@ -151,7 +151,7 @@ shut_then {A} w r first result has old mid new a b d is_ok left is_has f g =
     })
 
 -- and where none is
-no_ends : (s : Sides) (e : End) → has_end s ≡ false → is_open_side (side_of e s) ≡ false
+pub no_ends : (s : Sides) (e : End) → has_end s ≡ false → is_open_side (side_of e s) ≡ false
 no_ends s Client h = (or_parts (is_open_side s.client) (is_open_side s.up) h).0
 no_ends s Up h = (or_parts (is_open_side s.client) (is_open_side s.up) h).1
 

@@ -1,2 +1,6 @@
+pub mod Counting
+pub mod Endings
+pub mod Openings
 pub mod Parts
 pub mod Represents
+pub mod Rounds

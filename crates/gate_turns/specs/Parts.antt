@@ -44,6 +44,10 @@ EndsAre p s ends = (end : End) → is_open p end ends ≡ is_open_side (side_of 
 abbrev pub KeepsOthers : ℕ → List (ℕ × End) → List (ℕ × End) → Type 0
 KeepsOthers p old new = (q : ℕ) (end : End) → q ≢ p → is_open q end new ≡ is_open q end old
 
+-- nothing moved yet in a turn
+abbrev pub begun : Tally → Tally
+begun t = record { moved = false; out_of_memory = t.out_of_memory }
+
 abbrev pub noted : Bool → Bool → Tally → Tally
 noted moved ran_out t =
     record { moved = t.moved || moved; out_of_memory = if ran_out then counted (t.out_of_memory + 1) else t.out_of_memory }

@@ -1,13 +1,18 @@
-//! The turns of the gateway over the pairs of any protocols. What stands here is the part of a turn that a live pair has: its
-//! reads, what is taken up, its connection, its writes and its shuts, with the report and the record of calls.
+//! The turns of the gateway over the pairs of any protocols: `serve`. A turn reads the clock, accepts a client, and gives each
+//! live pair its part: its reads, what is taken up, its connection, its writes and its shuts, with the report and the record of
+//! calls.
 #![tactic(auto)]
 
 mod accounts;
+mod closing;
 mod live;
 mod part;
 mod report;
+mod round;
+mod running;
+mod service;
 mod tally;
+mod welcome;
 
-pub use live::{Live, Look};
-pub use part::visit;
-pub use tally::{SinkFault, Tally};
+pub use report::tell_number;
+pub use running::serve;

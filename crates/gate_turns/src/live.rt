@@ -37,6 +37,7 @@ impl<R: Relay> Live<R> {
     pub fn tell(&mut self, moment: u64)
         ensures number { self.new.number ≡ self.old.number }
         ensures sides { self.new.sides ≡ self.old.sides }
+        ensures memory { R.out_of_memory self.new.relay ≡ R.out_of_memory self.old.relay }
         ensures entry { (s : R.Setup) (h : List Entry) → Represents (R.represents s) self.old h
             → Represents (R.represents s) self.new (Moment moment ∷ h) }
     {
@@ -47,6 +48,7 @@ impl<R: Relay> Live<R> {
     pub fn finish(&mut self)
         ensures number { self.new.number ≡ self.old.number }
         ensures sides { self.new.sides ≡ self.old.sides }
+        ensures memory { R.out_of_memory self.new.relay ≡ R.out_of_memory self.old.relay }
         ensures entry { (s : R.Setup) (h : List Entry) → Represents (R.represents s) self.old h
             → Represents (R.represents s) self.new (Over ∷ h) }
     {
@@ -96,6 +98,7 @@ impl<R: Relay> Live<R> {
     pub fn lose(&mut self, end: End, how: Loss)
         ensures number { self.new.number ≡ self.old.number }
         ensures sides { self.new.sides ≡ with_side end (side_lost how) self.old.sides }
+        ensures memory { R.out_of_memory self.new.relay ≡ R.out_of_memory self.old.relay }
         ensures entry { (s : R.Setup) (h : List Entry) → Represents (R.represents s) self.old h
             → Represents (R.represents s) self.new (Lost end how ∷ h) }
     {
@@ -107,6 +110,7 @@ impl<R: Relay> Live<R> {
     pub fn link(&mut self, answer: Linked)
         ensures number { self.new.number ≡ self.old.number }
         ensures sides { self.new.sides ≡ with_side End.Up (side_linked answer) self.old.sides }
+        ensures memory { R.out_of_memory self.new.relay ≡ R.out_of_memory self.old.relay }
         ensures entry { (s : R.Setup) (h : List Entry) → Represents (R.represents s) self.old h
             → Represents (R.represents s) self.new (Joined answer ∷ h) }
     {
@@ -126,6 +130,7 @@ impl<R: Relay> Live<R> {
         requires { R.out_of_memory self.old.relay ≡ false }
         ensures number { self.new.number ≡ self.old.number }
         ensures sides { self.new.sides ≡ sides_read end got self.old.sides }
+        ensures memory { R.out_of_memory self.new.relay ≡ result }
         ensures came { result ≡ true → has_come got ≡ true }
         ensures entry { (cut : ℕ) × ((h : List Entry) → Represents (R.represents setup.now) self.old h
             → Represents (R.represents setup.now) self.new (with_cut result cut (read_entry end got bytes.now ∷ h))) }
@@ -155,6 +160,7 @@ impl<R: Relay> Live<R> {
         requires { R.out_of_memory self.old.relay ≡ false }
         ensures number { self.new.number ≡ self.old.number }
         ensures sides { self.new.sides ≡ self.old.sides }
+        ensures memory { R.out_of_memory self.new.relay ≡ result }
         ensures entry { (cut : ℕ) × ((h : List Entry) → Represents (R.represents setup.now) self.old h
             → Represents (R.represents setup.now) self.new (with_cut result cut (Settled ∷ h))) }
     {
@@ -168,6 +174,9 @@ impl<R: Relay> Live<R> {
     pub fn look(&mut self, alloc: Global, setup: &R::Setup, end: End) -> Look
         ensures number { self.new.number ≡ self.old.number }
         ensures sides { self.new.sides ≡ self.old.sides }
+        ensures first { result.ran_out ≡ true → R.out_of_memory self.old.relay ≡ false }
+        ensures met { result.ran_out ≡ true → R.out_of_memory self.new.relay ≡ true }
+        ensures memory { result.ran_out ≡ false → R.out_of_memory self.new.relay ≡ R.out_of_memory self.old.relay }
         ensures side { result.ready ≡ true → is_writable (side_of end self.old.sides) ≡ true }
         ensures ready { result.ready ≡ true → is_some (R.ready self.new.relay end) ≡ true }
         ensures calm { result.ran_out ≡ true → (h : List Entry) → Represents (R.represents setup.now) self.old h
@@ -207,6 +216,7 @@ impl<R: Relay> Live<R> {
         requires memory { R.out_of_memory self.old.relay ≡ true }
         ensures number { self.new.number ≡ self.old.number }
         ensures sides { self.new.sides ≡ self.old.sides }
+        ensures memory { R.out_of_memory self.new.relay ≡ true }
         ensures ready { result ≡ true → is_some (R.ready self.new.relay end) ≡ true }
         ensures found { (h : List Entry) → Represents (R.represents setup.now) self.old h
             → offers (R.words setup.now) end h ≡ found_by result (R.ready self.new.relay end) }
@@ -225,6 +235,7 @@ impl<R: Relay> Live<R> {
         requires within { IfSome (R.ready self.old.relay end) (λ bytes. TakesSome put (length bytes)) }
         ensures number { self.new.number ≡ self.old.number }
         ensures sides { self.new.sides ≡ sides_wrote end put self.old.sides }
+        ensures memory { R.out_of_memory self.new.relay ≡ R.out_of_memory self.old.relay }
         ensures entry { (s : R.Setup) (h : List Entry) (bytes : List ℕ) → R.ready self.old.relay end ≡ Some bytes
             → Represents (R.represents s) self.old h → Represents (R.represents s) self.new (write_entry end bytes put ∷ h) }
     {

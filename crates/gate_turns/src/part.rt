@@ -11,6 +11,7 @@ ghost use Rattle.gate_relay.specs.Relayed.{read_room};
 ghost use Rattle.gate_relay.specs.Sides.{side_of, is_readable, is_writable, has_end};
 ghost use Rattle.gate_runs.specs.Marks.{Extends};
 ghost use Rattle.gate_runs.specs.Stages.{Reading, Taking, Linking, Writing, Shutting, Past, later, lap_after};
+ghost use Rattle.gate_turns.specs.Counting.{most_counted};
 ghost use Rattle.gate_turns.specs.Parts.{EndsAre, KeepsOthers, LookEffect, OfferEffect, PartEffect, ReadsWithin, ShutEffect, WriteEffect, got_moved, put_more, put_moved, state};
 ghost use Rattle.gate_turns.specs.Represents.{Represents, found_by};
 
@@ -75,6 +76,7 @@ fn read_end<P: Ports, R: Relay, K: Sink, T: Recorder>(
     ensures tape { T.faults recorder.old ≤ T.faults recorder.new }
     ensures mute { result ≡ Err SinkFault.Out → Rose (K.faults report.old) (K.faults report.new) }
     ensures lost { result ≡ Err SinkFault.Capture → Rose (T.faults recorder.old) (T.faults recorder.new) }
+    ensures count { most_counted R.out_of_memory live.new tally.new ≤ most_counted R.out_of_memory live.old tally.old }
     ensures log { Extends (P.log ports.old) (P.log ports.new)
         (PartEffect (R.words setup.now) (R.represents setup.now) (Reading end) (later (Reading end)) result
         (state live.old tally.old (K.held report.old) (T.held recorder.old))
@@ -122,6 +124,7 @@ fn listen<P: Ports, R: Relay, K: Sink, T: Recorder>(
     ensures tape { T.faults recorder.old ≤ T.faults recorder.new }
     ensures mute { result ≡ Err SinkFault.Out → Rose (K.faults report.old) (K.faults report.new) }
     ensures lost { result ≡ Err SinkFault.Capture → Rose (T.faults recorder.old) (T.faults recorder.new) }
+    ensures count { most_counted R.out_of_memory live.new tally.new ≤ most_counted R.out_of_memory live.old tally.old }
     ensures log { Extends (P.log ports.old) (P.log ports.new)
         (PartEffect (R.words setup.now) (R.represents setup.now) (Reading end) (later (Reading end)) result
         (state live.old tally.old (K.held report.old) (T.held recorder.old))
@@ -161,6 +164,7 @@ fn listen_both<P: Ports, R: Relay, K: Sink, T: Recorder>(
     ensures tape { T.faults recorder.old ≤ T.faults recorder.new }
     ensures mute { result ≡ Err SinkFault.Out → Rose (K.faults report.old) (K.faults report.new) }
     ensures lost { result ≡ Err SinkFault.Capture → Rose (T.faults recorder.old) (T.faults recorder.new) }
+    ensures count { most_counted R.out_of_memory live.new tally.new ≤ most_counted R.out_of_memory live.old tally.old }
     ensures log { Extends (P.log ports.old) (P.log ports.new)
         (PartEffect (R.words setup.now) (R.represents setup.now) (Reading Up) Taking result
         (state live.old tally.old (K.held report.old) (T.held recorder.old))
@@ -205,6 +209,7 @@ fn settle<R: Relay, K: Sink>(
     ensures out { K.faults report.old ≤ K.faults report.new }
     ensures mute { result ≡ Err SinkFault.Out → Rose (K.faults report.old) (K.faults report.new) }
     ensures never { result ≢ Err SinkFault.Capture }
+    ensures count { most_counted R.out_of_memory live.new tally.new ≤ most_counted R.out_of_memory live.old tally.old }
     ensures log { (log : Option (List LogEntry)) (kept : Option (List ℕ)) → Extends log log
         (PartEffect (R.words setup.now) (R.represents setup.now) Taking Linking result
         (state live.old tally.old (K.held report.old) kept)
@@ -240,6 +245,7 @@ fn connect<P: Ports, R: Relay, K: Sink, T: Recorder>(
     ensures tape { T.faults recorder.old ≤ T.faults recorder.new }
     ensures mute { result ≡ Err SinkFault.Out → Rose (K.faults report.old) (K.faults report.new) }
     ensures lost { result ≡ Err SinkFault.Capture → Rose (T.faults recorder.old) (T.faults recorder.new) }
+    ensures count { most_counted R.out_of_memory live.new tally.new ≤ most_counted R.out_of_memory live.old tally.old }
     ensures log { Extends (P.log ports.old) (P.log ports.new)
         (PartEffect (R.words setup.now) (R.represents setup.now) Linking (Writing Lap.ToUp 0) result
         (state live.old tally.old (K.held report.old) (T.held recorder.old))
@@ -305,6 +311,7 @@ fn write_ready<P: Ports, R: Relay, K: Sink, T: Recorder>(
     ensures tape { T.faults recorder.old ≤ T.faults recorder.new }
     ensures mute { result.1 ≡ Err SinkFault.Out → Rose (K.faults report.old) (K.faults report.new) }
     ensures lost { result.1 ≡ Err SinkFault.Capture → Rose (T.faults recorder.old) (T.faults recorder.new) }
+    ensures count { most_counted R.out_of_memory live.new tally.new ≤ most_counted R.out_of_memory live.old tally.old }
     ensures log { (s : R.Setup) (bytes : List ℕ) → R.ready live.old.relay end ≡ Some bytes → Extends (P.log ports.old) (P.log ports.new)
         (OfferEffect (R.words s) (R.represents s) end bytes result.0 result.1
         (state live.old tally.old (K.held report.old) (T.held recorder.old))
@@ -339,6 +346,7 @@ fn look_for<R: Relay, K: Sink>(
     ensures out { K.faults report.old ≤ K.faults report.new }
     ensures mute { result.1 ≡ Err SinkFault.Out → Rose (K.faults report.old) (K.faults report.new) }
     ensures never { result.1 ≢ Err SinkFault.Capture }
+    ensures count { most_counted R.out_of_memory live.new tally.new ≤ most_counted R.out_of_memory live.old tally.old }
     ensures log { (log : Option (List LogEntry)) (kept : Option (List ℕ)) → Extends log log
         (LookEffect (R.words setup.now) (R.represents setup.now) end result.0.ran_out
         (found_by result.0.ready (R.ready live.new.relay end)) result.1
@@ -376,6 +384,7 @@ fn write_once<P: Ports, R: Relay, K: Sink, T: Recorder>(
     ensures tape { T.faults recorder.old ≤ T.faults recorder.new }
     ensures mute { result.result ≡ Err SinkFault.Out → Rose (K.faults report.old) (K.faults report.new) }
     ensures lost { result.result ≡ Err SinkFault.Capture → Rose (T.faults recorder.old) (T.faults recorder.new) }
+    ensures count { most_counted R.out_of_memory live.new tally.new ≤ most_counted R.out_of_memory live.old tally.old }
     ensures log { Extends (P.log ports.old) (P.log ports.new)
         (WriteEffect (R.words setup.now) (R.represents setup.now) end result.more result.ran_out result.result
         (state live.old tally.old (K.held report.old) (T.held recorder.old))
@@ -435,6 +444,7 @@ fn write_lap<P: Ports, R: Relay, K: Sink, T: Recorder>(
     ensures tape { T.faults recorder.old ≤ T.faults recorder.new }
     ensures mute { result.result ≡ Err SinkFault.Out → Rose (K.faults report.old) (K.faults report.new) }
     ensures lost { result.result ≡ Err SinkFault.Capture → Rose (T.faults recorder.old) (T.faults recorder.new) }
+    ensures count { most_counted R.out_of_memory live.new tally.new ≤ most_counted R.out_of_memory live.old tally.old }
     ensures log { Extends (P.log ports.old) (P.log ports.new)
         (PartEffect (R.words setup.now) (R.represents setup.now) (Writing lap 0) (later (Writing (lap_after result.ran_out lap) 0)) result.result
         (state live.old tally.old (K.held report.old) (T.held recorder.old))
@@ -494,6 +504,7 @@ fn write_back<P: Ports, R: Relay, K: Sink, T: Recorder>(
     ensures tape { T.faults recorder.old ≤ T.faults recorder.new }
     ensures mute { result ≡ Err SinkFault.Out → Rose (K.faults report.old) (K.faults report.new) }
     ensures lost { result ≡ Err SinkFault.Capture → Rose (T.faults recorder.old) (T.faults recorder.new) }
+    ensures count { most_counted R.out_of_memory live.new tally.new ≤ most_counted R.out_of_memory live.old tally.old }
     ensures log { Extends (P.log ports.old) (P.log ports.new)
         (PartEffect (R.words setup.now) (R.represents setup.now) (Writing Lap.ToClient 0) (Shutting Up) result
         (state live.old tally.old (K.held report.old) (T.held recorder.old))
@@ -550,6 +561,7 @@ fn write_both<P: Ports, R: Relay, K: Sink, T: Recorder>(
     ensures tape { T.faults recorder.old ≤ T.faults recorder.new }
     ensures mute { result ≡ Err SinkFault.Out → Rose (K.faults report.old) (K.faults report.new) }
     ensures lost { result ≡ Err SinkFault.Capture → Rose (T.faults recorder.old) (T.faults recorder.new) }
+    ensures count { most_counted R.out_of_memory live.new tally.new ≤ most_counted R.out_of_memory live.old tally.old }
     ensures log { Extends (P.log ports.old) (P.log ports.new)
         (PartEffect (R.words setup.now) (R.represents setup.now) (Writing Lap.ToUp 0) (Shutting Up) result
         (state live.old tally.old (K.held report.old) (T.held recorder.old))
@@ -594,6 +606,7 @@ fn settle_and_connect<P: Ports, R: Relay, K: Sink, T: Recorder>(
     ensures tape { T.faults recorder.old ≤ T.faults recorder.new }
     ensures mute { result ≡ Err SinkFault.Out → Rose (K.faults report.old) (K.faults report.new) }
     ensures lost { result ≡ Err SinkFault.Capture → Rose (T.faults recorder.old) (T.faults recorder.new) }
+    ensures count { most_counted R.out_of_memory live.new tally.new ≤ most_counted R.out_of_memory live.old tally.old }
     ensures log { Extends (P.log ports.old) (P.log ports.new)
         (PartEffect (R.words setup.now) (R.represents setup.now) Taking (Writing Lap.ToUp 0) result
         (state live.old tally.old (K.held report.old) (T.held recorder.old))
@@ -632,6 +645,7 @@ fn take_in<P: Ports, R: Relay, K: Sink, T: Recorder>(
     ensures tape { T.faults recorder.old ≤ T.faults recorder.new }
     ensures mute { result ≡ Err SinkFault.Out → Rose (K.faults report.old) (K.faults report.new) }
     ensures lost { result ≡ Err SinkFault.Capture → Rose (T.faults recorder.old) (T.faults recorder.new) }
+    ensures count { most_counted R.out_of_memory live.new tally.new ≤ most_counted R.out_of_memory live.old tally.old }
     ensures log { Extends (P.log ports.old) (P.log ports.new)
         (PartEffect (R.words setup.now) (R.represents setup.now) (Reading Up) (Writing Lap.ToUp 0) result
         (state live.old tally.old (K.held report.old) (T.held recorder.old))
@@ -670,6 +684,7 @@ fn exchange<P: Ports, R: Relay, K: Sink, T: Recorder>(
     ensures tape { T.faults recorder.old ≤ T.faults recorder.new }
     ensures mute { result ≡ Err SinkFault.Out → Rose (K.faults report.old) (K.faults report.new) }
     ensures lost { result ≡ Err SinkFault.Capture → Rose (T.faults recorder.old) (T.faults recorder.new) }
+    ensures count { most_counted R.out_of_memory live.new tally.new ≤ most_counted R.out_of_memory live.old tally.old }
     ensures log { Extends (P.log ports.old) (P.log ports.new)
         (PartEffect (R.words setup.now) (R.represents setup.now) (Reading Up) (Shutting Up) result
         (state live.old tally.old (K.held report.old) (T.held recorder.old))
@@ -701,6 +716,7 @@ fn shut_end<P: Ports, R: Relay, K: Sink, T: Recorder>(
     ensures tape { T.faults recorder.old ≤ T.faults recorder.new }
     ensures mute { result ≡ Err SinkFault.Out → Rose (K.faults report.old) (K.faults report.new) }
     ensures lost { result ≡ Err SinkFault.Capture → Rose (T.faults recorder.old) (T.faults recorder.new) }
+    ensures count { most_counted R.out_of_memory live.new tally.new ≤ most_counted R.out_of_memory live.old tally.old }
     ensures log { (s : R.Setup) → Extends (P.log ports.old) (P.log ports.new)
         (ShutEffect (R.words s) (R.represents s) (Shutting end) (later (Shutting end)) result
         (state live.old tally.old (K.held report.old) (T.held recorder.old))
@@ -739,6 +755,7 @@ fn shut_both<P: Ports, R: Relay, K: Sink, T: Recorder>(
     ensures tape { T.faults recorder.old ≤ T.faults recorder.new }
     ensures mute { result ≡ Err SinkFault.Out → Rose (K.faults report.old) (K.faults report.new) }
     ensures lost { result ≡ Err SinkFault.Capture → Rose (T.faults recorder.old) (T.faults recorder.new) }
+    ensures count { most_counted R.out_of_memory live.new tally.new ≤ most_counted R.out_of_memory live.old tally.old }
     ensures log { (s : R.Setup) → Extends (P.log ports.old) (P.log ports.new)
         (ShutEffect (R.words s) (R.represents s) (Shutting Up) Past result
         (state live.old tally.old (K.held report.old) (T.held recorder.old))
@@ -779,6 +796,7 @@ pub fn visit<P: Ports, R: Relay, K: Sink, T: Recorder>(
     ensures tape { T.faults recorder.old ≤ T.faults recorder.new }
     ensures mute { result ≡ Err SinkFault.Out → Rose (K.faults report.old) (K.faults report.new) }
     ensures lost { result ≡ Err SinkFault.Capture → Rose (T.faults recorder.old) (T.faults recorder.new) }
+    ensures count { most_counted R.out_of_memory live.new tally.new ≤ most_counted R.out_of_memory live.old tally.old }
     ensures log { Extends (P.log ports.old) (P.log ports.new)
         (ShutEffect (R.words setup.now) (R.represents setup.now) (Reading Up) Past result
         (state live.old tally.old (K.held report.old) (T.held recorder.old))

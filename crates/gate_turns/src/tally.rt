@@ -1,7 +1,7 @@
 //! What a turn counts, and what may stop it.
 
 ghost use Rattle.std.specs.Prelude.{◌≡◌, ◌||◌, true, false};
-ghost use Rattle.gate_turns.specs.Parts.{noted, outside_of};
+ghost use Rattle.gate_turns.specs.Parts.{begun, noted, outside_of};
 
 use gate_runs::Outside;
 
@@ -15,6 +15,23 @@ pub struct Tally {
 }
 
 impl Tally {
+    /// Nothing was counted yet.
+    pub fn new() -> Tally
+        ensures { result ≡ record { moved = false; out_of_memory = 0 } }
+    {
+        Tally {
+            moved: false,
+            out_of_memory: 0,
+        }
+    }
+
+    /// A turn begins.
+    pub fn begin(&mut self)
+        ensures { self.new ≡ begun self.old }
+    {
+        self.moved = false;
+    }
+
     /// Notes whether something moved, and whether a pair ran out of memory.
     pub fn note(&mut self, moved: bool, ran_out: bool)
         ensures { self.new ≡ noted moved ran_out self.old }

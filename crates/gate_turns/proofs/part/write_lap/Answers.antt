@@ -23,6 +23,7 @@ loop-preserved g c = record {
   later = omega arith;
   out = omega arith;
   tape = omega arith;
+  count = omega arith;
   log = lap_more (g.R.Relay.words c.args.setup.now) (g.R.Relay.represents c.args.setup.now) _ c.args.lap c.loop.counter c.write_once-wrote.result.more c.loop.ran_out c.write_once-wrote.result.ran_out
       c.write_once-wrote.result.result _ _ _ _ _ _ c.end.ensures c.loop-test.true (search rules) (search rules) c.loop.invariant.log c.write_once-wrote.ensures.log;
 }

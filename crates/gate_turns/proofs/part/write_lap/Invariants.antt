@@ -3,6 +3,7 @@ use Rattle.std.proofs.Common.{◌≡◌, ◌≤◌, true, Ok}
 use Rattle.gate_relay.specs.Sides.{has_end}
 use Rattle.gate_runs.specs.Marks.{Extends}
 use Rattle.gate_runs.specs.Stages.{Writing, lap_after}
+use Rattle.gate_turns.specs.Counting.{most_counted}
 use Rattle.gate_turns.specs.Parts.{EndsAre, KeepsOthers, PartEffect, state}
 use Rattle.gate_turns.proofs.part.write_lap.Given as goal
 
@@ -18,6 +19,7 @@ invariant-loop g l = record {
   later : g.P.Ports.faults l.fn.ports ≤ g.P.Ports.faults l.ports;
   out : g.K.Sink.faults l.fn.report ≤ g.K.Sink.faults l.report;
   tape : g.T.Recorder.faults l.fn.recorder ≤ g.T.Recorder.faults l.recorder;
+  count : most_counted g.R.Relay.out_of_memory l.live l.tally ≤ most_counted g.R.Relay.out_of_memory l.fn.live l.fn.tally;
   log : Extends (g.P.Ports.log l.fn.ports) (g.P.Ports.log l.ports)
       (PartEffect (g.R.Relay.words l.setup) (g.R.Relay.represents l.setup) (Writing l.lap 0) (Writing (lap_after l.ran_out l.lap) l.counter) (Ok tt)
       (state l.fn.live l.fn.tally (g.K.Sink.held l.fn.report) (g.T.Recorder.held l.fn.recorder))
