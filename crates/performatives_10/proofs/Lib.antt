@@ -1,0 +1,6 @@
+pub mod FieldLaws
+pub mod Frames
+pub mod PerfLaws
+pub mod Places
+pub mod Trimming
+pub mod Written

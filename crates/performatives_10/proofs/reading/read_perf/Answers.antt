@@ -1,0 +1,12 @@
+use Rattle.std.proofs.Common.{arith}
+use Rattle.performatives_10.proofs.PerfLaws.{found_by, only_by, fault_by}
+use Rattle.performatives_10.proofs.reading.read_perf.Goals as goal
+
+pub returns-clause-found : goal.returns-clause-found
+returns-clause-found c = found_by c.args.body.now c.in_ok-read.read (λ i. omega (arith, c.type_inv.body i)) c.in_ok-read.ensures
+
+pub returns-clause-only : goal.returns-clause-only
+returns-clause-only c = only_by c.args.body.now c.in_ok-read.read (λ i. omega (arith, c.type_inv.body i)) c.in_ok-read.ensures
+
+pub returns-clause-fault : goal.returns-clause-fault
+returns-clause-fault c = fault_by c.args.body.now c.in_ok-read.read (λ i. omega (arith, c.type_inv.body i)) c.in_ok-read.ensures

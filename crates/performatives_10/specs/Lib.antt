@@ -1,0 +1,9 @@
+pub mod Closing
+pub mod Composites
+pub mod Conditions
+pub mod Fields
+pub mod Grammar
+pub mod Reading
+pub mod Rows
+pub mod View
+pub mod Writing

@@ -1,0 +1,74 @@
+//! The performatives of a session (AMQP 1.0 2.7.2, 2.7.8).
+//!
+//! This file is written by tools/generate_performatives.py from the published definition of AMQP 1.0.
+
+ghost use Rattle.std.specs.Prelude.{◌≡◌, IfOk};
+ghost use Rattle.wire_base.specs.Reading.{Gives};
+ghost use Rattle.types_10.specs.Tree.{trees_of};
+ghost use Rattle.performatives_10.specs.Rows.{begin_rows, end_rows};
+ghost use Rattle.performatives_10.specs.View.{parts_of, begin_fields, end_fields};
+ghost use Rattle.performatives_10.specs.Reading.{perf_in};
+ghost use Rattle.performatives_10.specs.Writing.{written, all_added, no_fields};
+
+use crate::collecting::Fields;
+use crate::fault::PerfFault;
+use crate::getting::{error_at, mapping_at, needed_uint, symbols_at, uint_or, ushort_at};
+use crate::kind::PerfKind;
+use crate::performative::{Begin, End, Perf};
+use std::alloc::Global;
+use types_10::ValueList;
+use wire_base::{Memory, Stop};
+
+/// The fields of begin.
+pub(crate) fn begin_of(alloc: Global, fields: &ValueList) -> Result<Perf, Stop<PerfFault>>
+    ensures { Gives parts_of result
+        (perf_in PerfKind.Begin (trees_of fields.now)) }
+{
+    let perf = Begin {
+        remote_channel: ushort_at(fields, 0)?,
+        next_outgoing_id: needed_uint(fields, 1)?,
+        incoming_window: needed_uint(fields, 2)?,
+        outgoing_window: needed_uint(fields, 3)?,
+        handle_max: uint_or(fields, 4, u32::MAX)?,
+        offered_capabilities: symbols_at(alloc, fields, 5)?,
+        desired_capabilities: symbols_at(alloc, fields, 6)?,
+        properties: mapping_at(alloc, fields, 7)?,
+    };
+    Ok(Perf::Begin(perf))
+}
+
+/// What is written of the fields of begin.
+pub(crate) fn begin_written(alloc: Global, perf: &Begin) -> Result<Fields, Memory>
+    ensures { IfOk result (λ f. f ≡ all_added no_fields (written begin_rows (begin_fields perf.now))) }
+{
+    let mut fields = Fields::empty(alloc);
+    fields.maybe_ushort(perf.remote_channel)?;
+    fields.uint(perf.next_outgoing_id)?;
+    fields.uint(perf.incoming_window)?;
+    fields.uint(perf.outgoing_window)?;
+    fields.uint(perf.handle_max)?;
+    fields.maybe_value(alloc, &perf.offered_capabilities)?;
+    fields.maybe_value(alloc, &perf.desired_capabilities)?;
+    fields.maybe_value(alloc, &perf.properties)?;
+    Ok(fields)
+}
+
+/// The fields of end.
+pub(crate) fn end_of(alloc: Global, fields: &ValueList) -> Result<Perf, Stop<PerfFault>>
+    ensures { Gives parts_of result
+        (perf_in PerfKind.End (trees_of fields.now)) }
+{
+    let perf = End {
+        error: error_at(alloc, fields, 0)?,
+    };
+    Ok(Perf::End(perf))
+}
+
+/// What is written of the fields of end.
+pub(crate) fn end_written(alloc: Global, perf: &End) -> Result<Fields, Memory>
+    ensures { IfOk result (λ f. f ≡ all_added no_fields (written end_rows (end_fields perf.now))) }
+{
+    let mut fields = Fields::empty(alloc);
+    fields.maybe_error(alloc, &perf.error)?;
+    Ok(fields)
+}
