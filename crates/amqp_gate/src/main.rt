@@ -16,7 +16,7 @@ fn words_of(rt: &HostRuntime) -> io::Result<Vec<String>> {
 /// The address to listen at, where the words are a command line.
 fn address_of(rt: &HostRuntime, words: &Vec<String>) -> Result<Option<ByteText>, Memory> {
     match read_words(rt.alloc(), words)? {
-        Ok(Asked::Serve { config: _, listen }) => Ok(Some(listen)),
+        Ok(Asked::Serve { limits: _, listen }) => Ok(Some(listen)),
         Err(_) => Ok(None),
     }
 }

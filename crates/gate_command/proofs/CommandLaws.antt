@@ -3,11 +3,11 @@ use Rattle.std.proofs.Common.{◌≡◌, ℕ, suc, zero, ◌-◌, ◌<◌, ◌�
 use Rattle.std.specs.Prelude.{codes, bytes_eq, unwrap_or, IfSome}
 use Rattle.std.specs.List.{AllByRecursion}
 use Rattle.std.proofs.lemmas.Slice.Eq.{bytes_eq-Decides}
-use Rattle.gate_loop.specs.Form as form
+use Rattle.gate_runs.specs.Form as form
 use Rattle.gate_command.specs.declared.words.Asked.{Asked}
 use Rattle.gate_command.specs.declared.words.Misplaced.{Misplaced}
 use Rattle.gate_command.specs.declared.words.Misplaced.TheVariants.{Word, End}
-use Rattle.gate_command.specs.Command.{Setting, listen_at, pair_count, turn_count, Given, joined, apart, setting_of, IsInForm, IsSettable, Settings, nothing_given, with_setting, settings_with, asked_of, config_of, IsCommand, Asks, CanStand, CeasesAt}
+use Rattle.gate_command.specs.Command.{Setting, listen_at, pair_count, turn_count, Given, joined, apart, setting_of, IsInForm, IsSettable, Settings, nothing_given, with_setting, settings_with, asked_of, limits_of, IsCommand, Asks, CanStand, CeasesAt}
 use Rattle.gate_command.specs.Reading.{between, words_in, command_in}
 use Rattle.gate_command.proofs.OptionLaws.{same_bytes}
 use Rattle.gate_command.proofs.WordLaws.{AreOptions}
@@ -183,8 +183,8 @@ turns_in_form None h = (omega arith, omega arith)
 turns_in_form (Some n) h = h
 
 -- what a command line asks for is in form
-pub config_in_form : (words : List (List ℕ)) (asked : Asked) → IsCommand words asked → form.IsInForm (config_of asked)
-config_in_form words asked command =
+pub limits_in_form : (words : List (List ℕ)) (asked : Asked) → IsCommand words asked → form.IsInForm (limits_of asked)
+limits_in_form words asked command =
     let b = bounded_all command.given nothing_given command.in_form (record { pairs = tt; turns = tt }) in
     let turns = turns_in_form (settings_with nothing_given command.given).turns b.turns in
-    subst (λ (a : Asked). form.IsInForm (config_of a)) (sym command.meant) (record { pairs = b.pairs; some = turns.0; most = turns.1 })
+    subst (λ (a : Asked). form.IsInForm (limits_of a)) (sym command.meant) (record { pairs = b.pairs; some = turns.0; most = turns.1 })

@@ -1,7 +1,7 @@
 -- The command line: which lists of words there are, and what each asks for. A word is the list of its bytes.
 use Rattle.std.specs.Prelude.{◌≡◌, ◌≢◌, ℕ, ◌-◌, ◌≤◌, ◌<◌, ◌==◌, Bool, false, ⊤, List, [], ◌∷◌, ◌++◌, length, take, drop, sum_by, slice_index, slice_index_or, Option, Some, None, unwrap_or, codes, decimal}
 use Rattle.std.specs.List.{flat_map, list_any, AllByRecursion}
-use Rattle.gate_loop.specs.declared.config.Config.{Config}
+use Rattle.gate_runs.specs.declared.limits.Limits.{Limits}
 use Rattle.gate_command.specs.declared.options.OptionName.{OptionName}
 use Rattle.gate_command.specs.declared.options.OptionName.TheVariants.{Listen, Pairs, Turns}
 use Rattle.gate_command.specs.declared.words.Asked.{Asked}
@@ -95,8 +95,8 @@ abbrev pub asked_of : Settings → Asked
 asked_of s = Serve (record { pairs = s.pairs; turns = unwrap_or s.turns 140737488355328 }) (unwrap_or s.listen (codes "127.0.0.1:5672"))
 
 -- the limits of the run that is asked for
-abbrev pub config_of : Asked → Config
-config_of (Serve config address) = config
+abbrev pub limits_of : Asked → Limits
+limits_of (Serve limits address) = limits
 
 -- line feeds and sizes aside, the words are `serve` and options that ask for this
 pub record IsCommand (words : List (List ℕ)) (asked : Asked) : Type 0 where

@@ -1,19 +1,20 @@
 -- What the top call does with its words, its ports and out.
-use Rattle.std.specs.Prelude.{◌≡◌, ℕ, ◌⊎◌, List, ◌++◌, Option, Some, codes, decimal}
+use Rattle.std.specs.Prelude.{◌≡◌, ℕ, ◌⊎◌, List, ◌++◌, Option, None, Some, codes, decimal}
 use Rattle.gate_outside.specs.declared.log.LogEntry.{LogEntry}
 use Rattle.gate_outside.specs.Streams.{Appends, AppendsFront}
-use Rattle.gate_loop.specs.declared.config.Served.{Served}
-use Rattle.gate_loop.specs.declared.config.Served.TheVariants as served
-use Rattle.gate_loop.specs.declared.config.Config.{Config}
-use Rattle.gate_loop.specs.Marks.{Mark, Told}
-use Rattle.gate_loop.specs.Serving.{IsServed}
+use Rattle.gate_pair.specs.Meaning.{pair_words}
+use Rattle.gate_runs.specs.declared.limits.Limits.{Limits}
+use Rattle.gate_runs.specs.declared.served.Served.{Served}
+use Rattle.gate_runs.specs.declared.served.Served.TheVariants as served
+use Rattle.gate_runs.specs.Marks.{History, HasHistory}
+use Rattle.gate_runs.specs.Serving.{IsServed}
 use Rattle.gate_laws.specs.Laws.{IsLawfulRun}
 use Rattle.gate_command.specs.declared.top_call.Status.{Status}
 use Rattle.gate_command.specs.declared.top_call.Status.TheVariants as status
 use Rattle.gate_command.specs.declared.words.Asked.{Asked}
 use Rattle.gate_command.specs.declared.words.Misplaced.{Misplaced}
 use Rattle.gate_command.specs.declared.words.Misplaced.TheVariants.{Word, End}
-use Rattle.gate_command.specs.Command.{Asks, CeasesAt, config_of}
+use Rattle.gate_command.specs.Command.{Asks, CeasesAt, limits_of}
 
 -- the number of a status
 abbrev pub number_of : Status → ℕ
@@ -44,9 +45,9 @@ pub record IsMisread (words : List (List ℕ)) (answer : Status) (held held' : O
       ⊎ ((answer ≡ status.Outside) × AppendsFront held held' (usage_line misplaced))
   pub silent : log' ≡ log
 
--- the calls are a run of the service, and all its laws hold of it
-pub record IsRunOf (c : Config) (how : Served) (strained : ℕ) (held held' : Option (List ℕ)) (m : List Mark) : Type 0 where
-  pub served : IsServed c how strained held held' m
+-- the calls are a run of the service of which no record is kept, and all its laws hold of it
+pub record IsRunOf (c : Limits) (how : Served) (count : ℕ) (held held' : Option (List ℕ)) (m : History) : Type 0 where
+  pub served : IsServed pair_words c how count held held' None None m
   pub lawful : IsLawfulRun c m
 
 -- the words ask for a run of the service, and it was made
@@ -54,11 +55,13 @@ pub record IsRun (words : List (List ℕ)) (answer : Status) (held held' : Optio
   pub asked : Asked
   pub asks : Asks words asked
   pub how : Served
-  pub strained : ℕ
+  -- how many pairs ran out of memory
+  pub count : ℕ
   pub status : answer ≡ status_of how
-  pub served : (base : List LogEntry) → log ≡ Some base → Told base log' (IsRunOf (config_of asked) how strained held held')
+  pub served : (base : List LogEntry) → log ≡ Some base
+      → HasHistory base log' (IsRunOf (limits_of asked) how count held held')
 
--- memory was wanted to read the words, and nothing was done
+-- there was no memory to read the words, and nothing was done
 pub record IsUnread (answer : Status) (held held' : Option (List ℕ)) (log log' : Option (List LogEntry)) : Type 0 where
   pub status : answer ≡ status.Memory
   pub unwritten : held' ≡ held

@@ -1,20 +1,23 @@
 //! The top call: a command line, ports, and out.
 
-ghost use Rattle.std.specs.Prelude.{◌≡◌, ℕ, ◌≤◌, ◌⊎◌, List, [], map, true, false, Option, Some};
+ghost use Rattle.std.specs.Prelude.{◌≡◌, ◌≢◌, ℕ, ◌≤◌, ◌⊎◌, List, [], map, true, false, Option, Some};
 ghost use Rattle.std.specs.String.{string_bytes};
 ghost use Rattle.gate_outside.specs.Counts.{Rose};
 ghost use Rattle.gate_outside.specs.Streams.{Appends, AppendsFront};
 ghost use Rattle.gate_outside.specs.declared.log.LogEntry.{LogEntry};
-ghost use Rattle.gate_loop.specs.declared.config.Outside.TheVariants as Fault;
-ghost use Rattle.gate_loop.specs.Form.{IsInForm};
-ghost use Rattle.gate_loop.specs.Marks.{Told};
-ghost use Rattle.gate_command.specs.Command.{config_of};
+ghost use Rattle.gate_runs.specs.declared.served.Outside.TheVariants as Outside;
+ghost use Rattle.gate_runs.specs.Form.{IsInForm};
+ghost use Rattle.gate_runs.specs.Marks.{HasHistory};
+ghost use Rattle.gate_command.specs.Command.{limits_of};
 ghost use Rattle.gate_command.specs.Outcome.{number_of, status_of, usage_line, IsRunOf, Outcome};
 
 use crate::words::{Asked, Misplaced, read_words};
+use gate_capture::NoCapture;
 use gate_laws::runs_are_lawful;
-use gate_loop::{Config, Served, serve, tell_number};
 use gate_outside::{Ports, Sink, write_all};
+use gate_pair::{Pair, Setup};
+use gate_runs::{Limits, Served};
+use gate_turns::{serve, tell_number};
 use std::alloc::Global;
 use wire_base::Memory;
 
@@ -27,7 +30,7 @@ pub enum Status {
     Usage,
     /// 4: accept or out failed.
     Outside,
-    /// 5: memory was wanted outside of any pair.
+    /// 5: there was no memory outside of any pair.
     Memory,
     /// 6: the turns asked for were made.
     TurnLimit,
@@ -73,27 +76,29 @@ fn status_of(served: Served) -> Status
     }
 }
 
-/// Serves. All laws of a run hold of the calls that were made.
+/// Serves, and keeps no record of the calls. All laws of a run hold of the calls that were made.
 fn serve_lawfully<P: Ports, K: Sink>(
     alloc: Global,
-    config: &Config,
+    limits: &Limits,
     ports: &mut P,
     out: &mut K,
 ) -> (Served, u32)
     requires pairs { P.pairs ports.old ≡ 0 }
     requires ends { P.ends ports.old ≡ [] }
-    requires form { IsInForm config.now }
+    requires form { IsInForm limits.now }
     ensures ends { P.ends ports.new ≡ [] }
-    ensures accept { result.0 ≡ Served.Fault Fault.Accept → Rose (P.faults ports.old) (P.faults ports.new) }
-    ensures report { result.0 ≡ Served.Fault Fault.Out → Rose (K.faults out.old) (K.faults out.new) }
+    ensures accept { result.0 ≡ Served.Fault Outside.Accept → Rose (P.faults ports.old) (P.faults ports.new) }
+    ensures report { result.0 ≡ Served.Fault Outside.Out → Rose (K.faults out.old) (K.faults out.new) }
+    ensures recorded { result.0 ≢ Served.Fault Outside.Capture }
     ensures served { (base : List LogEntry) → P.log ports.old ≡ Some base
-        → Told base (P.log ports.new) (IsRunOf config.now result.0 result.1 (K.held out.old) (K.held out.new)) }
+        → HasHistory base (P.log ports.new) (IsRunOf limits.now result.0 result.1 (K.held out.old) (K.held out.new)) }
 {
     runs_are_lawful();
-    serve(alloc, ports, config, out)
+    let mut recorder = NoCapture;
+    serve::<P, Pair, K, NoCapture>(alloc, &Setup, ports, limits, out, &mut recorder)
 }
 
-/// Serves as asked; how that ended, and the count of the pairs that met want of memory.
+/// Serves as asked; how that ended, and the count of the pairs that ran out of memory.
 fn serve_as_asked<P: Ports, K: Sink>(
     alloc: Global,
     asked: &Asked,
@@ -102,15 +107,16 @@ fn serve_as_asked<P: Ports, K: Sink>(
 ) -> (Served, u32)
     requires pairs { P.pairs ports.old ≡ 0 }
     requires ends { P.ends ports.old ≡ [] }
-    requires form { IsInForm (config_of asked.now) }
+    requires form { IsInForm (limits_of asked.now) }
     ensures ends { P.ends ports.new ≡ [] }
-    ensures accept { result.0 ≡ Served.Fault Fault.Accept → Rose (P.faults ports.old) (P.faults ports.new) }
-    ensures report { result.0 ≡ Served.Fault Fault.Out → Rose (K.faults out.old) (K.faults out.new) }
+    ensures accept { result.0 ≡ Served.Fault Outside.Accept → Rose (P.faults ports.old) (P.faults ports.new) }
+    ensures report { result.0 ≡ Served.Fault Outside.Out → Rose (K.faults out.old) (K.faults out.new) }
+    ensures recorded { result.0 ≢ Served.Fault Outside.Capture }
     ensures served { (base : List LogEntry) → P.log ports.old ≡ Some base
-        → Told base (P.log ports.new) (IsRunOf (config_of asked.now) result.0 result.1 (K.held out.old) (K.held out.new)) }
+        → HasHistory base (P.log ports.new) (IsRunOf (limits_of asked.now) result.0 result.1 (K.held out.old) (K.held out.new)) }
 {
-    let Asked::Serve { config, listen: _ } = asked;
-    serve_lawfully(alloc, config, ports, out)
+    let Asked::Serve { limits, listen: _ } = asked;
+    serve_lawfully(alloc, limits, ports, out)
 }
 
 /// Does what the words ask for: serves over the ports, and writes the report to out. Where the words aren't a command line,
@@ -139,7 +145,7 @@ pub fn gateway<P: Ports, K: Sink>(
 {
     match read_words(alloc, words) {
         Ok(Ok(asked)) => {
-            let (served, _strained) = serve_as_asked(alloc, &asked, ports, out);
+            let (served, _count) = serve_as_asked(alloc, &asked, ports, out);
             status_of(served)
         }
         Ok(Err(misplaced)) => {

@@ -2,14 +2,14 @@
 
 ghost use Rattle.std.specs.Prelude.{◌≡◌, ℕ, ◌+◌, ◌-◌, ◌≤◌, List, map, IfOk, IfErr};
 ghost use Rattle.std.specs.String.{string_bytes};
-ghost use Rattle.gate_loop.specs.Form.{IsInForm};
-ghost use Rattle.gate_command.specs.Command.{asked_of, nothing_given, Asks, CeasesAt, config_of};
+ghost use Rattle.gate_runs.specs.Form.{IsInForm};
+ghost use Rattle.gate_command.specs.Command.{asked_of, nothing_given, Asks, CeasesAt, limits_of};
 ghost use Rattle.gate_command.specs.Reading.{between, words_in, command_in};
 ghost use Rattle.gate_command.specs.declared.words.Asked.{Asked};
 ghost use Rattle.gate_command.specs.View.{settings_of, answer_of};
 
 use crate::options::{Gathered, MOST_TURNS, Progress};
-use gate_loop::Config;
+use gate_runs::Limits;
 use std::alloc::Global;
 use wire_base::{ByteText, Memory};
 
@@ -23,7 +23,7 @@ const DEFAULT_LISTEN: &str = "127.0.0.1:5672";
 #[derive(Debug, Drop)]
 pub enum Asked {
     /// To serve, and where to listen.
-    Serve { config: Config, listen: ByteText },
+    Serve { limits: Limits, listen: ByteText },
 }
 
 /// Where the words cease to be a command line.
@@ -74,13 +74,13 @@ fn command_of(words: &[String]) -> Result<Gathered<'_>, Misplaced>
 fn asked_for(alloc: Global, gathered: Gathered) -> Result<Asked, Memory>
     ensures { IfOk result (λ asked. asked ≡ asked_of (settings_of gathered.entry)) }
 {
-    let config = Config {
+    let limits = Limits {
         pairs: gathered.pairs,
         turns: gathered.turns.unwrap_or(MOST_TURNS),
     };
     let listen = gathered.listen.unwrap_or(DEFAULT_LISTEN);
     Ok(Asked::Serve {
-        config,
+        limits,
         listen: ByteText::copy_of(alloc, listen.as_bytes())?,
     })
 }
@@ -93,7 +93,7 @@ pub fn read_words(alloc: Global, words: &Vec<String>) -> Result<Result<Asked, Mi
     ensures only { (asked : Asked) → Asks (map string_bytes words.now.items) asked
         → IfOk result (λ answer. answer ≡ Ok asked) }
     ensures place { IfOk result (λ answer. IfErr answer (CeasesAt (map string_bytes words.now.items))) }
-    ensures in_form { IfOk result (λ answer. IfOk answer (λ asked. IsInForm (config_of asked))) }
+    ensures in_form { IfOk result (λ answer. IfOk answer (λ asked. IsInForm (limits_of asked))) }
 {
     match command_of(words.as_slice()) {
         Ok(gathered) => Ok(Ok(asked_for(alloc, gathered)?)),

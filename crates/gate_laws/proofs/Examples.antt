@@ -1,30 +1,40 @@
 -- What the definitions come to on short runs, computed: a client with a wrong header; and one with the right header in two pieces,
 -- whose answer goes in two writes, and then a heartbeat and a byte with which no frame begins, or a login and two closes, or a login
--- with heartbeats each second; a silent client; and want of memory.
+-- with heartbeats each second; a silent client; and running out of memory. The first is a whole run that follows.
 -- The bytes are written down here apart from the definitions.
-use Rattle.std.proofs.Common.{◌≡◌, ℕ, List, [], ◌∷◌, ◌++◌, refl, Some}
+use Rattle.std.proofs.Common.{◌≡◌, ℕ, List, [], ◌∷◌, ◌++◌, refl, Some, arith}
 use Rattle.gate_outside.specs.declared.ports.End.TheVariants.{Client}
 use Rattle.gate_outside.specs.declared.ports.Accepted.TheVariants as accepted
 use Rattle.gate_outside.specs.declared.ports.Got.TheVariants as got
 use Rattle.gate_outside.specs.declared.ports.Put.TheVariants as put
 use Rattle.gate_outside.specs.declared.log.LogEntry.TheVariants.{Accept, Read, Write, Shut, Now}
-use Rattle.gate_loop.specs.declared.config.Config.{Config}
-use Rattle.gate_loop.specs.declared.config.Served.TheVariants.{PairsDone}
-use Rattle.gate_loop.specs.Frames as frames
-use Rattle.frames_091.specs.Headers as headers
+use Rattle.wire_base.specs.Headers as wire
 use Rattle.wire_base.specs.Reading as reading
+use Rattle.frames_091.specs.Headers as headers
 use Rattle.frames_091.specs.Frames as spelling
 use Rattle.frames_091.specs.FrameScan as scanning
-use Rattle.gate_loop.specs.Marks.{Mark, Call, Strain, Finish}
-use Rattle.gate_loop.specs.Journal.{journal}
-use Rattle.gate_loop.specs.Next as limits
-use Rattle.gate_loop.specs.Next.{next, Do, EndBy, Done, AskRead, AskWrite, AskShut, AskNow, AskAccept, AskIdle}
-use Rattle.gate_laws.specs.Frames.{limit}
+use Rattle.gate_relay.specs.Relayed as relayed
+use Rattle.gate_runs.specs.declared.limits.Limits.{Limits}
+use Rattle.gate_runs.specs.declared.served.Served.TheVariants.{PairsDone}
+use Rattle.gate_runs.specs.Marks.{History, Call, Refuse, RunOut, Finish}
+use Rattle.gate_runs.specs.Stages.{Taking}
+use Rattle.gate_runs.specs.Journal.{journal}
+use Rattle.gate_runs.specs.Next.{next, Do, EndBy, Done, AskRead, AskWrite, AskShut, AskNow, AskAccept, AskIdle}
+use Rattle.gate_runs.specs.Serving.{Follows}
+use Rattle.gate_model.specs.Frames.{limit_in}
+use Rattle.gate_model.specs.Spelling as frames
+use Rattle.gate_pair.specs.Meaning as words
+use Rattle.gate_pair.specs.Meaning.{pair_words, steps_of}
 
-abbrev one_pair : Config
+-- what is computed here is opened by this one name
+all_open : ℕ
+unfolding words.pair_words relayed.read_room headers.header_scan wire.first_header scanning.scan_of scanning.stated_size scanning.frame_in frames.start_frame frames.tune_frame spelling.frame_text reading.text_in reading.all_items
+all_open = 0
+
+abbrev one_pair : Limits
 one_pair = record { pairs = Some 1; turns = 10 }
 
-abbrev two_pairs : Config
+abbrev two_pairs : Limits
 two_pairs = record { pairs = Some 2; turns = 10 }
 
 abbrev own_header : List ℕ
@@ -35,97 +45,110 @@ start = 1 ∷ 0 ∷ 0 ∷ 0 ∷ 0 ∷ 0 ∷ 145 ∷ 0 ∷ 10 ∷ 0 ∷ 10 ∷ 0 
 
 -- the beginning of both runs
 
-abbrev begun : List Mark
+abbrev begun : History
 begun = Call (Now 0) ∷ []
 
-abbrev joined : List Mark
+abbrev joined : History
 joined = Call (Accept (accepted.Pair 0)) ∷ begun
 
-the_clock_first : next one_pair [] ≡ Do AskNow
+the_clock_first : next pair_words one_pair [] ≡ Do AskNow
+unfolding all_open
 the_clock_first = refl
 
-then_accept : next one_pair begun ≡ Do AskAccept
+then_accept : next pair_words one_pair begun ≡ Do AskAccept
+unfolding all_open
 then_accept = refl
 
-then_a_read : next one_pair joined ≡ Do (AskRead 0 Client 65536)
-unfolding limits.read_room
+then_a_read : next pair_words one_pair joined ≡ Do (AskRead 0 Client 65536)
+unfolding all_open
 then_a_read = refl
 
 -- a wrong header
 
-abbrev misread : List Mark
+abbrev misread : History
 misread = Call (Read 0 Client 65536 (got.Bytes 8) (65 ∷ 77 ∷ 81 ∷ 80 ∷ 1 ∷ 1 ∷ 0 ∷ 9 ∷ [])) ∷ joined
 
-abbrev answered : List Mark
+abbrev answered : History
 answered = Call (Write 0 Client own_header (put.Took 8)) ∷ misread
 
-abbrev parted : List Mark
+abbrev parted : History
 parted = Call (Shut 0 Client) ∷ answered
 
-the_own_header_answers : next one_pair misread ≡ Do (AskWrite 0 Client own_header)
-unfolding headers.header_scan
+the_own_header_answers : next pair_words one_pair misread ≡ Do (AskWrite 0 Client own_header)
+unfolding all_open
 the_own_header_answers = refl
 
-then_the_end_is_shut : next one_pair answered ≡ Do (AskShut 0 Client)
-unfolding headers.header_scan
+then_the_end_is_shut : next pair_words one_pair answered ≡ Do (AskShut 0 Client)
+unfolding all_open
 then_the_end_is_shut = refl
 
-then_the_pairs_are_done : next one_pair parted ≡ EndBy PairsDone
+then_the_pairs_are_done : next pair_words one_pair parted ≡ EndBy PairsDone
+unfolding all_open
 then_the_pairs_are_done = refl
 
-then_nothing : next one_pair (Finish PairsDone ∷ parted) ≡ Done
+-- so the premise of the laws holds of a run
+follows : Follows pair_words one_pair (Finish PairsDone ∷ parted)
+unfolding all_open
+follows = (
+  refl,
+  refl,
+  (refl, tt, (refl, (omega arith, omega arith), (refl, (omega arith, omega arith, refl), (refl, refl, (refl, omega arith, tt))))),
+)
+
+then_nothing : next pair_words one_pair (Finish PairsDone ∷ parted) ≡ Done
+unfolding all_open
 then_nothing = refl
 
 -- the right header in two pieces
 
-abbrev first_piece : List Mark
+abbrev first_piece : History
 first_piece = Call (Read 0 Client 65536 (got.Bytes 3) (65 ∷ 77 ∷ 81 ∷ [])) ∷ joined
 
-abbrev second_piece : List Mark
+abbrev second_piece : History
 second_piece = Call (Read 0 Client 65536 (got.Bytes 5) (80 ∷ 0 ∷ 0 ∷ 9 ∷ 1 ∷ [])) ∷ Call (Accept accepted.NotYet) ∷ Call (Now 1) ∷ first_piece
 
-abbrev most_went : List Mark
+abbrev most_went : History
 most_went = Call (Write 0 Client start (put.Took 150)) ∷ second_piece
 
-a_front_has_no_answer : next two_pairs first_piece ≡ Do AskNow
-unfolding headers.header_scan
+a_front_has_no_answer : next pair_words two_pairs first_piece ≡ Do AskNow
+unfolding all_open
 a_front_has_no_answer = refl
 
-start_answers : next two_pairs second_piece ≡ Do (AskWrite 0 Client start)
-unfolding headers.header_scan frames.start_frame spelling.frame_text scanning.scan_of
+start_answers : next pair_words two_pairs second_piece ≡ Do (AskWrite 0 Client start)
+unfolding all_open
 start_answers = refl
 
-then_its_rest : next two_pairs most_went ≡ Do (AskWrite 0 Client (85 ∷ 83 ∷ 206 ∷ []))
-unfolding headers.header_scan frames.start_frame spelling.frame_text scanning.scan_of
+then_its_rest : next pair_words two_pairs most_went ≡ Do (AskWrite 0 Client (85 ∷ 83 ∷ 206 ∷ []))
+unfolding all_open
 then_its_rest = refl
 
 -- then a heartbeat, which has no answer, and behind it a byte with which no frame begins
 
-abbrev start_went : List Mark
+abbrev start_went : History
 start_went = Call (Write 0 Client (85 ∷ 83 ∷ 206 ∷ []) (put.Took 3)) ∷ most_went
 
-abbrev beaten : List Mark
+abbrev beaten : History
 beaten = Call (Read 0 Client 65536 (got.Bytes 8) (8 ∷ 0 ∷ 0 ∷ 0 ∷ 0 ∷ 0 ∷ 0 ∷ 206 ∷ [])) ∷ Call (Accept accepted.NotYet) ∷ Call (Now 2) ∷ start_went
 
-abbrev broken : List Mark
+abbrev broken : History
 broken = Call (Read 0 Client 65536 (got.Bytes 9) (8 ∷ 0 ∷ 0 ∷ 0 ∷ 0 ∷ 0 ∷ 0 ∷ 206 ∷ 9 ∷ [])) ∷ Call (Accept accepted.NotYet) ∷ Call (Now 2) ∷ start_went
 
 abbrev close : List ℕ
 close = 1 ∷ 0 ∷ 0 ∷ 0 ∷ 0 ∷ 0 ∷ 22 ∷ 0 ∷ 10 ∷ 0 ∷ 50 ∷ 1 ∷ 245 ∷ 11 ∷ 70 ∷ 82 ∷ 65 ∷ 77 ∷ 69 ∷ 95 ∷ 69 ∷ 82 ∷ 82 ∷ 79 ∷ 82 ∷ 0 ∷ 0 ∷ 0 ∷ 0 ∷ 206 ∷ []
 
-abbrev closed : List Mark
+abbrev closed : History
 closed = Call (Write 0 Client close (put.Took 30)) ∷ broken
 
-a_heartbeat_has_no_answer : next two_pairs beaten ≡ Do AskNow
-unfolding headers.header_scan frames.start_frame spelling.frame_text scanning.scan_of scanning.stated_size scanning.frame_in
+a_heartbeat_has_no_answer : next pair_words two_pairs beaten ≡ Do AskNow
+unfolding all_open
 a_heartbeat_has_no_answer = refl
 
-then_close_answers : next two_pairs broken ≡ Do (AskWrite 0 Client close)
-unfolding headers.header_scan frames.start_frame spelling.frame_text scanning.scan_of scanning.stated_size scanning.frame_in
+then_close_answers : next pair_words two_pairs broken ≡ Do (AskWrite 0 Client close)
+unfolding all_open
 then_close_answers = refl
 
-then_its_end_is_shut : next two_pairs closed ≡ Do (AskShut 0 Client)
-unfolding headers.header_scan frames.start_frame spelling.frame_text scanning.scan_of scanning.stated_size scanning.frame_in
+then_its_end_is_shut : next pair_words two_pairs closed ≡ Do (AskShut 0 Client)
+unfolding all_open
 then_its_end_is_shut = refl
 
 -- or a login and two closes in one read: the first close is refused, since a tune-ok is awaited, and the gateway's own close isn't
@@ -143,25 +166,25 @@ tune = 1 ∷ 0 ∷ 0 ∷ 0 ∷ 0 ∷ 0 ∷ 12 ∷ 0 ∷ 10 ∷ 0 ∷ 30 ∷ 0 �
 abbrev close_ok : List ℕ
 close_ok = 1 ∷ 0 ∷ 0 ∷ 0 ∷ 0 ∷ 0 ∷ 4 ∷ 0 ∷ 10 ∷ 0 ∷ 51 ∷ 206 ∷ []
 
-abbrev crossed : List Mark
+abbrev crossed : History
 crossed = Call (Read 0 Client 65536 (got.Bytes 74) (login ++ client_close ++ client_close)) ∷ Call (Accept accepted.NotYet) ∷ Call (Now 2) ∷ start_went
 
-abbrev tune_went : List Mark
+abbrev tune_went : History
 tune_went = Call (Write 0 Client tune (put.Took 20)) ∷ crossed
 
-abbrev close_ok_went : List Mark
+abbrev close_ok_went : History
 close_ok_went = Call (Write 0 Client close_ok (put.Took 12)) ∷ tune_went
 
-tune_answers : next two_pairs crossed ≡ Do (AskWrite 0 Client tune)
-unfolding headers.header_scan frames.start_frame frames.tune_frame spelling.frame_text scanning.scan_of scanning.stated_size scanning.frame_in reading.text_in reading.all_items
+tune_answers : next pair_words two_pairs crossed ≡ Do (AskWrite 0 Client tune)
+unfolding all_open
 tune_answers = refl
 
-then_close_ok_alone : next two_pairs tune_went ≡ Do (AskWrite 0 Client close_ok)
-unfolding headers.header_scan frames.start_frame frames.tune_frame spelling.frame_text scanning.scan_of scanning.stated_size scanning.frame_in reading.text_in reading.all_items
+then_close_ok_alone : next pair_words two_pairs tune_went ≡ Do (AskWrite 0 Client close_ok)
+unfolding all_open
 then_close_ok_alone = refl
 
-then_all_is_said : next two_pairs close_ok_went ≡ Do (AskShut 0 Client)
-unfolding headers.header_scan frames.start_frame frames.tune_frame spelling.frame_text scanning.scan_of scanning.stated_size scanning.frame_in reading.text_in reading.all_items
+then_all_is_said : next pair_words two_pairs close_ok_went ≡ Do (AskShut 0 Client)
+unfolding all_open
 then_all_is_said = refl
 
 -- or a login and tune-ok with heartbeats each second, and then silence: after half of it a heartbeat goes, and no second one at once
@@ -172,45 +195,48 @@ tune_ok = 1 ∷ 0 ∷ 0 ∷ 0 ∷ 0 ∷ 0 ∷ 12 ∷ 0 ∷ 10 ∷ 0 ∷ 31 ∷ 0
 abbrev heartbeat : List ℕ
 heartbeat = 8 ∷ 0 ∷ 0 ∷ 0 ∷ 0 ∷ 0 ∷ 0 ∷ 206 ∷ []
 
-abbrev tuned : List Mark
+abbrev tuned : History
 tuned =
     Call (Read 0 Client 65536 (got.Bytes 20) tune_ok) ∷ Call (Accept accepted.NotYet) ∷ Call (Now 3)
     ∷ Call (Write 0 Client tune (put.Took 20)) ∷ Call (Read 0 Client 65536 (got.Bytes 36) login) ∷ Call (Accept accepted.NotYet) ∷ Call (Now 2) ∷ start_went
 
 -- nothing came by this moment
-abbrev silent : ℕ → List Mark → List Mark
+abbrev silent : ℕ → History → History
 silent ms m = Call (Read 0 Client 65536 got.NotYet []) ∷ Call (Accept accepted.NotYet) ∷ Call (Now ms) ∷ m
 
-no_heartbeat_yet : next two_pairs (silent 501 tuned) ≡ Do AskIdle
-unfolding headers.header_scan frames.start_frame frames.tune_frame spelling.frame_text scanning.scan_of scanning.stated_size scanning.frame_in reading.text_in reading.all_items
+no_heartbeat_yet : next pair_words two_pairs (silent 501 tuned) ≡ Do AskIdle
+unfolding all_open
 no_heartbeat_yet = refl
 
-then_a_heartbeat : next two_pairs (silent 502 tuned) ≡ Do (AskWrite 0 Client heartbeat)
-unfolding headers.header_scan frames.start_frame frames.tune_frame spelling.frame_text scanning.scan_of scanning.stated_size scanning.frame_in reading.text_in reading.all_items
+then_a_heartbeat : next pair_words two_pairs (silent 502 tuned) ≡ Do (AskWrite 0 Client heartbeat)
+unfolding all_open
 then_a_heartbeat = refl
 
-then_the_clock : next two_pairs (Call (Write 0 Client heartbeat (put.Took 8)) ∷ silent 502 tuned) ≡ Do AskNow
-unfolding headers.header_scan frames.start_frame frames.tune_frame spelling.frame_text scanning.scan_of scanning.stated_size scanning.frame_in reading.text_in reading.all_items
+then_the_clock : next pair_words two_pairs (Call (Write 0 Client heartbeat (put.Took 8)) ∷ silent 502 tuned) ≡ Do AskNow
+unfolding all_open
 then_the_clock = refl
 
 -- a client that sends nothing has 10,000 milliseconds
 
-abbrev mute : List Mark
+abbrev mute : History
 mute = Call (Read 0 Client 65536 got.NotYet []) ∷ joined
 
-not_late_yet : next two_pairs (silent 9999 mute) ≡ Do AskIdle
+not_late_yet : next pair_words two_pairs (silent 9999 mute) ≡ Do AskIdle
+unfolding all_open
 not_late_yet = refl
 
-then_late : next two_pairs (silent 10000 mute) ≡ Do (AskShut 0 Client)
+then_late : next pair_words two_pairs (silent 10000 mute) ≡ Do (AskShut 0 Client)
+unfolding all_open
 then_late = refl
 
 -- want of memory at the accept, or at the read with which the header is whole: nothing was said, and nothing is
 
-refused_at_once : next two_pairs (Strain 0 ∷ joined) ≡ Do (AskShut 0 Client)
+refused_at_once : next pair_words two_pairs (Refuse 0 ∷ joined) ≡ Do (AskShut 0 Client)
+unfolding all_open
 refused_at_once = refl
 
-silent_before_the_header : next two_pairs (Strain 0 ∷ second_piece) ≡ Do (AskShut 0 Client)
-unfolding headers.header_scan scanning.scan_of
+silent_before_the_header : next pair_words two_pairs (RunOut 0 Taking 1 ∷ second_piece) ≡ Do (AskShut 0 Client)
+unfolding all_open
 silent_before_the_header = refl
 
 -- or at a later read, whose units are passed over
@@ -218,24 +244,24 @@ silent_before_the_header = refl
 abbrev no_memory : List ℕ
 no_memory = 1 ∷ 0 ∷ 0 ∷ 0 ∷ 0 ∷ 0 ∷ 20 ∷ 0 ∷ 10 ∷ 0 ∷ 50 ∷ 1 ∷ 250 ∷ 9 ∷ 78 ∷ 79 ∷ 95 ∷ 77 ∷ 69 ∷ 77 ∷ 79 ∷ 82 ∷ 89 ∷ 0 ∷ 0 ∷ 0 ∷ 0 ∷ 206 ∷ []
 
-then_no_memory : next two_pairs (Strain 0 ∷ crossed) ≡ Do (AskWrite 0 Client no_memory)
-unfolding headers.header_scan frames.start_frame frames.tune_frame spelling.frame_text scanning.scan_of scanning.stated_size scanning.frame_in reading.text_in reading.all_items
+then_no_memory : next pair_words two_pairs (RunOut 0 Taking 3 ∷ crossed) ≡ Do (AskWrite 0 Client no_memory)
+unfolding all_open
 then_no_memory = refl
 
-then_the_strained_is_shut : next two_pairs (Call (Write 0 Client no_memory (put.Took 28)) ∷ Strain 0 ∷ crossed) ≡ Do (AskShut 0 Client)
-unfolding headers.header_scan frames.start_frame frames.tune_frame spelling.frame_text scanning.scan_of scanning.stated_size scanning.frame_in reading.text_in reading.all_items
+then_the_strained_is_shut : next pair_words two_pairs (Call (Write 0 Client no_memory (put.Took 28)) ∷ RunOut 0 Taking 3 ∷ crossed) ≡ Do (AskShut 0 Client)
+unfolding all_open
 then_the_strained_is_shut = refl
 
 -- the greatest frame that a client takes: the least that it can agree to, and then what it agreed to, unless its tune-ok was passed over
 
-the_least_at_first : limit (journal 0 crossed).events ≡ 4096
-unfolding headers.header_scan frames.start_frame frames.tune_frame spelling.frame_text scanning.scan_of scanning.stated_size scanning.frame_in reading.text_in reading.all_items
+the_least_at_first : limit_in (steps_of (journal 0 crossed)) ≡ 4096
+unfolding all_open
 the_least_at_first = refl
 
-then_the_agreed : limit (journal 0 tuned).events ≡ 131072
-unfolding headers.header_scan frames.start_frame frames.tune_frame spelling.frame_text scanning.scan_of scanning.stated_size scanning.frame_in reading.text_in reading.all_items
+then_the_agreed : limit_in (steps_of (journal 0 tuned)) ≡ 131072
+unfolding all_open
 then_the_agreed = refl
 
-still_the_least : limit (journal 0 (Strain 0 ∷ tuned)).events ≡ 4096
-unfolding headers.header_scan frames.start_frame frames.tune_frame spelling.frame_text scanning.scan_of scanning.stated_size scanning.frame_in reading.text_in reading.all_items
+still_the_least : limit_in (steps_of (journal 0 (RunOut 0 Taking 1 ∷ tuned))) ≡ 4096
+unfolding all_open
 still_the_least = refl

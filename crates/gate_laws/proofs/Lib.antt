@@ -1,23 +1,3 @@
-pub mod Asks
-pub mod Bytes
-pub mod Causes
-pub mod Cover
-pub mod Ends
+pub mod Clients
 mod Examples
-pub mod Frames
-pub mod Heard
-pub mod Intervals
-pub mod Lawful
-pub mod Limits
-pub mod Lists
-pub mod Living
-pub mod Log
-pub mod Order
-pub mod Pairs
-pub mod PassedOver
-pub mod Places
-pub mod Quiet
-pub mod Said
-pub mod Steps
-pub mod Strains
-pub mod Times
+pub mod Idles

@@ -1,46 +1,45 @@
 -- All the laws of a run together.
-use Rattle.std.specs.Prelude.{◌≡◌, ℕ, List, true, None}
-use Rattle.gate_loop.specs.declared.config.Config.{Config}
-use Rattle.gate_loop.specs.Marks.{Mark, calls}
-use Rattle.gate_loop.specs.Journal.{journal}
-use Rattle.gate_loop.specs.Next.{Done, finish_of, next, strain_count}
-use Rattle.gate_laws.specs.Asks.{AsksLive}
-use Rattle.gate_laws.specs.Bytes.{IsAnswered}
-use Rattle.gate_laws.specs.Ends.{EndsOnce, TurnsDid}
-use Rattle.gate_laws.specs.Frames.{FitsClients}
-use Rattle.gate_laws.specs.Lawful.{IsLawful}
-use Rattle.gate_laws.specs.Limits.{IsWithin}
-use Rattle.gate_laws.specs.Log.{FollowsLog, is_plain_end, next_call}
-use Rattle.gate_laws.specs.Pairs.{AreOrdered, LivesOrShut}
-use Rattle.gate_laws.specs.Quiet.{IdlesAtRest}
-use Rattle.gate_laws.specs.Strains.{CountsStrains}
-use Rattle.gate_laws.specs.Times.{BeatsWhenDue, ShutsForCause}
+use Rattle.std.specs.Prelude.{◌≡◌, ℕ, false, List}
+use Rattle.gate_relay.specs.Entries.{Entry}
+use Rattle.gate_runs.specs.declared.limits.Limits.{Limits}
+use Rattle.gate_runs.specs.Journal.{journal}
+use Rattle.gate_runs.specs.Marks.{History, calls}
+use Rattle.gate_runs.specs.Next.{Done, next}
+use Rattle.gate_runs.specs.Report.{report}
+use Rattle.gate_turn_laws.specs.Laws.{KeepsTurns}
+use Rattle.gate_turn_laws.specs.Lines.{told_lines}
+use Rattle.gate_turn_laws.specs.Log.{IsPlain, IsWholeRun}
+use Rattle.gate_turn_laws.specs.Quiet.{IdlesAtRest, IdlesInSilence}
+use Rattle.gate_model.specs.Frames.{FitsClients}
+use Rattle.gate_model.specs.Picks.{ArePicks}
+use Rattle.gate_pair.specs.Answers.{IsAnswered}
+use Rattle.gate_pair.specs.Lawful.{AreLawful}
+use Rattle.gate_pair.specs.Meaning.{pair_words, steps_of}
+use Rattle.gate_pair.specs.Times.{KeepsTimes}
+use Rattle.gate_laws.specs.Clients.{AsksClients}
 
--- the calls alone say which comes next, and that none comes after the last
-pub record IsByCalls (c : Config) (m : List Mark) : Type 0 where
-  pub each : FollowsLog c (calls m)
-  pub last : next c m ≡ Done → next_call c (calls m) ≡ None
+-- what holds of the entries of each pair
+pub record IsLawfulPair (h : List Entry) : Type 0 where
+  -- each stands where what came before it allows it, and what goes is what is due first
+  pub entries : AreLawful h
+  pub picks : ArePicks (steps_of h)
+  -- its client took what answers what it sent
+  pub answers : IsAnswered h
+  -- no frame that goes to it passes its limit
+  pub frames : FitsClients (steps_of h)
+  -- heartbeats go, and its end is shut, where time or another cause makes that due
+  pub times : KeepsTimes h
 
-pub record IsLawfulRun (c : Config) (m : List Mark) : Type 0 where
-  -- every pair's journal is lawful, and its client took what answers what it sent
-  pub entries : (p : ℕ) → IsLawful (journal p m).events
-  pub answers : (p : ℕ) → IsAnswered p m
-  -- no frame that goes to a client passes its limit
-  pub frames : (p : ℕ) → FitsClients (journal p m).events
-  -- heartbeats go, and ends are shut, where time or another cause makes that due
-  pub beats : (p : ℕ) → BeatsWhenDue (journal p m).events
-  pub shuts : (p : ℕ) → ShutsForCause (journal p m).events
-  -- only pairs that live are asked, and each that came lives or was shut
-  pub asks : AsksLive m
-  pub pairs : (p : ℕ) → LivesOrShut p m
-  pub ordered : AreOrdered m
-  -- no idle turn leaves anything owed
-  pub rests : IdlesAtRest c m
-  -- the service ends once, as its cause says, and each turn did something
-  pub ends : EndsOnce c m
-  pub turns : TurnsDid m
-  pub limits : IsWithin c m
-  -- want of memory is met once for a pair at most
-  pub strains : CountsStrains m
-  -- where it is met by none, and the service ended neither for it nor because out failed, the calls determine the run
-  pub alone : strain_count m ≡ 0 → is_plain_end (finish_of m) ≡ true → IsByCalls c m
+pub record IsLawfulRun (c : Limits) (m : History) : Type 0 where
+  pub pairs : (p : ℕ) → IsLawfulPair (journal p m)
+  -- no connection is asked for, and calls are of clients' ends alone
+  pub clients : AsksClients (calls m)
+  -- the turns, the end of the service, its limits and its report
+  pub turns : KeepsTurns pair_words c m
+  pub lines : report pair_words m ≡ told_lines pair_words false m
+  -- no idle turn leaves anything due, and what is to be read was read dry
+  pub rests : IdlesAtRest pair_words c m
+  pub silent : IdlesInSilence pair_words m
+  -- where no pair ran out of memory and no sink failed, and nothing more comes, the calls alone are
+  -- a whole run: each is the next one after those before it, and none comes after the last
+  pub alone : IsPlain m → next pair_words c m ≡ Done → IsWholeRun pair_words c (calls m)

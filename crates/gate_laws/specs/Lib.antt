@@ -1,12 +1,3 @@
-pub mod Asks
-pub mod Bytes
-pub mod Ends
-pub mod Frames
-pub mod Lawful
+pub mod Clients
 pub mod Laws
-pub mod Limits
-pub mod Log
-pub mod Pairs
-pub mod Quiet
-pub mod Strains
-pub mod Times
+pub mod Words

@@ -2,8 +2,8 @@
 
 use crate::runs::{Kind, Run, kind_of, pair_of};
 use crate::scenario::{Scenario, Way, failed, played, reported};
-use gate_loop::{Outside, Served};
 use gate_outside::{Accepted, Got, LogEntry, Put};
+use gate_runs::{Outside, Served};
 use std::alloc::Global;
 use tests_support::part;
 use wire_base::Memory;
@@ -82,7 +82,7 @@ fn nothing_failed(run: &Run, plain: &Run) -> bool {
 
 /// Whether a play is as it must be in which the call at a place was to fail.
 fn is_right(alloc: Global, run: &Run, plain: &Run, at: usize) -> Result<bool, Memory> {
-    if run.strained != 0 || !is_all_shut(alloc, run)? {
+    if run.out_of_memory != 0 || !is_all_shut(alloc, run)? {
         return Ok(false);
     }
     match run.calls.get(at) {

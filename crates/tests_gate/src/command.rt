@@ -42,12 +42,12 @@ fn words_of(alloc: Global, text: &str) -> Result<Option<Vec<String>>, Memory> {
 
 /// What words ask for.
 fn put_asked(out: &mut String, asked: &Asked) -> Result<(), Memory> {
-    let Asked::Serve { config, listen } = asked;
-    match config.pairs {
+    let Asked::Serve { limits, listen } = asked;
+    match limits.pairs {
         Some(pairs) => write!(out, "serve {pairs} pairs")?,
         None => out.push_str("serve any pairs")?,
     }
-    let turns = config.turns;
+    let turns = limits.turns;
     write!(out, ", {turns} turns, at")?;
     put_text(out, listen.as_slice())
 }

@@ -42,11 +42,9 @@ mod scenario;
 mod telling;
 
 use cases::GateCases;
-use gate_loop::unit_laws;
 use std::io;
 use tests_support::answer_lines;
 
 fn main(rt: HostRuntime) -> io::Result<()> {
-    unit_laws();
     answer_lines(&rt, &mut GateCases::new(rt.alloc()))
 }

@@ -1,11 +1,14 @@
 //! Runs of the service over scripted ports, and what they did.
 
-ghost use Rattle.gate_loop.specs.Form.{IsInForm};
+ghost use Rattle.gate_runs.specs.Form.{IsInForm};
 
-use gate_loop::{Config, Served, serve};
+use gate_capture::NoCapture;
 use gate_outside::{
     Accepted, End, Entries, Got, Log, LogEntry, MemorySink, Put, Script, ScriptPorts,
 };
+use gate_pair::{Pair, Setup};
+use gate_runs::{Limits, Served};
+use gate_turns::serve;
 use std::alloc::Global;
 use wire_base::{ByteText, ItemList, Memory};
 
@@ -72,8 +75,8 @@ fn live_after(entry: &LogEntry, live: u32) -> u32 {
 pub struct Run {
     /// How the service ended.
     pub served: Served,
-    /// The count of the pairs that met want of memory.
-    pub strained: u32,
+    /// The count of the pairs that ran out of memory.
+    pub out_of_memory: u32,
     /// What the sink holds.
     pub report: ByteText,
     /// The calls with their answers, in order.
@@ -94,16 +97,24 @@ fn entries_of(alloc: Global, log: &Log) -> Result<Entries, Memory> {
 pub fn play_into(
     alloc: Global,
     script: Script,
-    config: &Config,
+    limits: &Limits,
     mut report: MemorySink,
 ) -> Result<Run, Memory>
-    requires { IsInForm config.now }
+    requires { IsInForm limits.now }
 {
     let mut ports = ScriptPorts::new(alloc, script, LOG_ROOM, LOG_ROOM)?;
-    let (served, strained) = serve(alloc, &mut ports, config, &mut report);
+    let mut recorder = NoCapture;
+    let (served, out_of_memory) = serve::<ScriptPorts, Pair, MemorySink, NoCapture>(
+        alloc,
+        &Setup,
+        &mut ports,
+        limits,
+        &mut report,
+        &mut recorder,
+    );
     Ok(Run {
         served,
-        strained,
+        out_of_memory,
         report: ByteText::copy_of(alloc, report.held())?,
         calls: entries_of(alloc, ports.log())?,
     })

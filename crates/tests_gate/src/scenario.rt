@@ -1,10 +1,10 @@
 //! What clients do in a scenario, and plays of it.
 
-ghost use Rattle.gate_loop.specs.Form.{IsInForm};
+ghost use Rattle.gate_runs.specs.Form.{IsInForm};
 
 use crate::runs::{Run, play_into};
-use gate_loop::Config;
 use gate_outside::{CallList, End, MemorySink, Piece, Room, Script};
+use gate_runs::Limits;
 use std::alloc::Global;
 use tests_support::part;
 use wire_base::{ByteText, ItemList, Memory};
@@ -178,15 +178,15 @@ pub fn script_of(
 }
 
 /// What is asked of the service.
-fn config_of(numbers: Numbers) -> Config
+fn limits_of(numbers: Numbers) -> Limits
     ensures { IsInForm result }
 {
     let turns = numbers.turns as u64;
     let turns = turns.max(1);
     if numbers.limit == 0 {
-        return Config { pairs: None, turns };
+        return Limits { pairs: None, turns };
     }
-    Config {
+    Limits {
         pairs: Some(numbers.limit),
         turns,
     }
@@ -202,7 +202,7 @@ pub fn failed(
     let script = script_of(alloc, scenario, way, fault)?;
     let numbers = scenario.numbers;
     let sink = MemorySink::new(alloc, numbers.report, ItemList::empty(alloc))?;
-    play_into(alloc, script, &config_of(numbers), sink)
+    play_into(alloc, script, &limits_of(numbers), sink)
 }
 
 /// A play.
@@ -220,5 +220,5 @@ pub fn reported(
     let script = script_of(alloc, scenario, Way::Units, None)?;
     let room = room.min(scenario.numbers.report);
     let sink = MemorySink::new(alloc, room, faults(alloc, fails)?)?;
-    play_into(alloc, script, &config_of(scenario.numbers), sink)
+    play_into(alloc, script, &limits_of(scenario.numbers), sink)
 }

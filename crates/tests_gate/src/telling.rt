@@ -204,9 +204,9 @@ pub fn told(alloc: Global, names: &Names, run: &Run, timed: bool) -> Result<Stri
         out.push_str(talk.as_str())?;
         out.push_str("; ")?;
     }
-    let strained = run.strained;
-    if strained > 0 {
-        write!(out, "{strained} strained; ")?;
+    let out_of_memory = run.out_of_memory;
+    if out_of_memory > 0 {
+        write!(out, "{out_of_memory} out of memory; ")?;
     }
     out.push_str("report")?;
     put_report(&mut out, run.report.as_slice())?;

@@ -10,7 +10,7 @@ returns-in-Ok-Ok-clause-outcome g c = inr (inl (record {
   asked = c.in-Ok-Ok.asked;
   asks = subst (λ (read : Result Asked Misplaced). IfOk read (λ asked. Asks (map string_bytes c.args.words.now.items) asked)) c.in-Ok-Ok.field-0-is c.in-Ok-Ok.ensures.found;
   how = c.serve_as_asked-served.result.0;
-  strained = c.serve_as_asked-served.result.1;
+  count = c.serve_as_asked-served.result.1;
   status = c.status_of.ensures;
   served = c.serve_as_asked-served.ensures.served;
 }))

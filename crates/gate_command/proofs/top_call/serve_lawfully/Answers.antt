@@ -1,6 +1,6 @@
-use Rattle.gate_command.proofs.RunLaws.{told_map}
+use Rattle.gate_command.proofs.RunLaws.{history_map}
 use Rattle.gate_command.proofs.top_call.serve_lawfully.Goals as goal
 
 pub returns-clause-served : goal.returns-clause-served
-returns-clause-served g c = λ base e. told_map base _ _ _
+returns-clause-served g c = λ base e. history_map base _ _ _
     (λ m s. record { served = s; lawful = c.runs_are_lawful.ensures _ m s.follows }) (c.serve.ensures.served base e)

@@ -3,7 +3,7 @@ use Rattle.std.specs.String.{string_bytes}
 use Rattle.gate_command.specs.Command.{asked_of}
 use Rattle.gate_command.specs.Reading.{command_in}
 use Rattle.gate_command.specs.View.{settings_of}
-use Rattle.gate_command.proofs.CommandLaws.{command_in-is, is-command_in, command_in-ceases, config_in_form}
+use Rattle.gate_command.proofs.CommandLaws.{command_in-is, is-command_in, command_in-ceases, limits_in_form}
 use Rattle.gate_command.proofs.words.read_words.Goals as goal
 
 pub returns-in_ok-asked_for-in-Ok-clause-found : goal.returns-in_ok-asked_for-in-Ok-clause-found
@@ -22,7 +22,7 @@ pub returns-in_ok-asked_for-in-Ok-clause-in_form : goal.returns-in_ok-asked_for-
 returns-in_ok-asked_for-in-Ok-clause-in_form c =
     let read : command_in (map string_bytes c.args.words.now.items) ≡ Ok (settings_of c.in-Ok.gathered) = rw (← c.as_slice.ensures.value) (sym c.in-Ok.ensures) in
     let asks = command_in-is (map string_bytes c.args.words.now.items) (settings_of c.in-Ok.gathered) read in
-    rw c.in_ok-asked_for-in-Ok.ensures (config_in_form _ _ asks.command)
+    rw c.in_ok-asked_for-in-Ok.ensures (limits_in_form _ _ asks.command)
 
 pub returns-in-Err-clause-only : goal.returns-in-Err-clause-only
 returns-in-Err-clause-only c = λ asked asks.

@@ -1,0 +1,3 @@
+-- The words of this crate, from one place.
+pub use Rattle.gate_laws.specs.Clients.{AskedOfClient, AsksClients}
+pub use Rattle.gate_laws.specs.Laws.{IsLawfulPair, IsLawfulRun}
