@@ -1,6 +1,7 @@
 //! What is printed of a line of the input.
 
 use crate::closes::{code_text, condition_text};
+use crate::contents::{content_text, frames_text};
 use crate::frames::{frame_text, header_text};
 use crate::machine::connection_text;
 use crate::methods::{close_ok_text, close_text, method_text};
@@ -37,6 +38,7 @@ enum Codec {
     /// A table from an offset.
     Table(usize),
     Method,
+    Content,
 }
 
 /// A codec, and the text behind its words; `None` where the words are none.
@@ -46,6 +48,7 @@ fn codec_of(words: &str) -> Option<(Codec, &str)> {
         "header" => Some((Codec::Header, rest)),
         "table" => Some((Codec::Table(0), rest)),
         "method" => Some((Codec::Method, rest)),
+        "content" => Some((Codec::Content, rest)),
         "frame" => {
             let (limit, rest) = number_first(rest)?;
             Some((Codec::Frame(u32::try_from(limit).ok()?), rest))
@@ -65,6 +68,7 @@ fn text_of(alloc: Global, codec: Codec, bytes: &[u8]) -> Result<String, Memory> 
         Codec::Frame(limit) => frame_text(alloc, limit, bytes),
         Codec::Table(from) => table_text(alloc, bytes, from),
         Codec::Method => method_text(alloc, bytes),
+        Codec::Content => content_text(alloc, bytes),
     }
 }
 
@@ -169,7 +173,10 @@ fn numbered_text(
 fn case_text(alloc: Global, names: &Names, line: &str) -> Result<Option<String>, Memory> {
     let (verb, rest) = line.split_once(' ').unwrap_or((line, ""));
     match verb {
-        "header" | "frame" | "table" | "at" | "method" => read_text(alloc, names, line, false),
+        "header" | "frame" | "table" | "at" | "method" | "content" => {
+            read_text(alloc, names, line, false)
+        }
+        "content-of" => frames_text(alloc, names, rest),
         "cuts" => read_text(alloc, names, rest, true),
         "close" => closing_text(alloc, names, rest),
         "close-ok" => Ok(Some(close_ok_text(alloc)?)),

@@ -7,7 +7,9 @@
 //! | `table BYTES`, `at N BYTES` | the table, also from an offset, and the offset after it |
 //! | `kinds` | the type bytes of fields that are known |
 //! | `method BYTES` | the ids, and the method that fills the bytes |
+//! | `content BYTES` | the size and the properties of the content header that fills the bytes |
 //! | `cuts` and one of these | the same, and the answer at each shorter length; of `Syntax` its place alone |
+//! | `content-of FRAME / FRAME ..` | what each frame of a content comes to: `header BYTES`, `body BYTES` |
 //! | `close CODE CLASS METHOD BYTES`, `close-ok` | the frame that is written without memory |
 //! | `code N`, `condition SCOPE BYTES`, `condition SCOPE` | the name of a reply code, and the code for an error condition |
 //! | `u8 END BYTES`, `u16`, `u32`, `u64`, `short`, `long` | what the readers take from the front of bytes that end at an offset |
@@ -25,6 +27,7 @@
 
 mod cases;
 mod closes;
+mod contents;
 mod frames;
 mod machine;
 mod methods;
@@ -33,6 +36,7 @@ mod tables;
 mod words;
 
 use cases::Cases091;
+use content_091::content_laws;
 use frames_091::frame_laws;
 use machine_091::connection_laws;
 use methods_091::method_laws;
@@ -44,6 +48,7 @@ fn main(rt: HostRuntime) -> io::Result<()> {
     frame_laws();
     table_laws();
     method_laws();
+    content_laws();
     connection_laws();
     answer_lines(&rt, &mut Cases091::new(rt.alloc()))
 }
