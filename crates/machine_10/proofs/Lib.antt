@@ -1,1 +1,4 @@
+pub mod CallLaws
 pub mod FoldLemmas
+pub mod StepCases
+pub mod StepLaws

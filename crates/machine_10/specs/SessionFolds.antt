@@ -1,5 +1,5 @@
 -- The windows and ids of a session as the standard defines them (AMQP 1.0 2.5.6): over all that was sent and came, newest first.
-use Rattle.std.specs.Prelude.{◌≡◌, ℕ, ◌+◌, ◌-◌, ◌%◌, ◌^◌, ◌≤◌, ◌<◌, List, [], ◌∷◌, Option, Some, None}
+use Rattle.std.specs.Prelude.{◌≡◌, ℕ, ◌+◌, ◌-◌, ◌%◌, ◌^◌, ◌≤◌, ◌<◌, List, [], ◌∷◌, Option}
 use Rattle.machine_10.specs.Session.{left_of, or_first, new_session, after_began, after_flowed, after_sent, after_got, after_flow_sent}
 use Rattle.machine_10.specs.declared.limits.TheConstants.{WINDOW}
 use Rattle.machine_10.specs.declared.session.Windows.{Windows}

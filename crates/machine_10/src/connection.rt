@@ -1,0 +1,139 @@
+//! The gateway's connection to a container: the calls on it.
+
+ghost use Rattle.std.specs.Prelude.{◌≡◌, Ok};
+ghost use Rattle.machine_10.specs.Calls.{after_begin_sent, after_end_sent, after_ended};
+ghost use Rattle.machine_10.specs.State.{new_upstream, awaits, is_running, is_closing, session_at};
+
+use crate::state::{Awaited10, Phase10, Session, Stream10, Upstream};
+use std::alloc::Global;
+use std::marker::Model;
+use wire_base::{ByteText, Memory};
+
+/// The gateway's connection to one container. Contracts see its state.
+#[derive(Debug, Drop)]
+pub struct Conn10 {
+    state: Upstream,
+}
+
+impl Model for Conn10 {
+    ghost use Rattle.machine_10.specs.declared.state.Upstream.{Upstream};
+
+    ghost Value = { Upstream };
+
+    ghost view = { λ c. c.state };
+}
+
+impl Conn10 {
+    /// A connection of which nothing was read yet, and whose login is by this mechanism with this response.
+    ///
+    /// # Errors
+    ///
+    /// None today: the clause says so.
+    pub fn new(_alloc: Global, mechanism: ByteText, response: ByteText) -> Result<Conn10, Memory>
+        ensures { result ≡ Ok (new_upstream mechanism response) }
+    {
+        Ok(Conn10 {
+            state: Upstream::new(mechanism, response),
+        })
+    }
+
+    /// The gateway's begin on this channel was sent. It counts where the connection runs, the container takes the channel, and no
+    /// session is there.
+    pub fn begin_sent(&mut self, channel: u16)
+        ensures { self.new ≡ after_begin_sent channel self.old }
+    {
+        self.state.begin_sent(channel);
+    }
+
+    /// The gateway's end of the session on this channel was sent. The channel is free once the container's came too.
+    pub fn end_sent(&mut self, channel: u16)
+        ensures { self.new ≡ after_end_sent channel self.old }
+    {
+        self.state.end_sent(channel);
+    }
+
+    /// The container's end ended, or was given up.
+    pub fn ended(&mut self)
+        ensures { self.new ≡ after_ended self.old }
+    {
+        self.state.end();
+    }
+
+    /// What is awaited of the container's bytes.
+    pub fn awaits(&self) -> Awaited10
+        ensures { result ≡ awaits self.now }
+    {
+        self.state.awaits()
+    }
+
+    /// How far the connection has come.
+    pub fn phase(&self) -> Phase10
+        ensures { result ≡ self.now.phase }
+    {
+        self.state.phase
+    }
+
+    /// What the container's bytes are, or why none is awaited any more.
+    pub fn stream(&self) -> Stream10
+        ensures { result ≡ self.now.stream }
+    {
+        self.state.stream
+    }
+
+    /// Sessions may begin.
+    pub fn is_running(&self) -> bool
+        ensures { result ≡ is_running self.now.phase }
+    {
+        self.state.is_running()
+    }
+
+    /// A unit was out of order, the login was refused, or the container closed or ended.
+    pub fn is_closing(&self) -> bool
+        ensures { result ≡ is_closing self.now.phase }
+    {
+        self.state.is_closing()
+    }
+
+    /// The session on one of the gateway's channels.
+    pub fn session(&self, channel: u16) -> Session
+        ensures { result ≡ session_at self.now channel }
+    {
+        self.state.session(channel)
+    }
+
+    /// The mechanism of the login.
+    pub fn mechanism(&self) -> &ByteText
+        ensures { result.now ≡ self.now.mechanism }
+    {
+        &self.state.mechanism
+    }
+
+    /// The response of the login.
+    pub fn response(&self) -> &ByteText
+        ensures { result.now ≡ self.now.response }
+    {
+        &self.state.response
+    }
+
+    /// The greatest size of a frame that the container takes, in bytes; 512 until its open.
+    pub fn max_frame(&self) -> u32
+        ensures { result ≡ self.now.stated.max_frame }
+    {
+        self.state.stated.max_frame
+    }
+
+    /// The greatest number of a channel that the container takes; 0 until its open.
+    pub fn channel_max(&self) -> u16
+        ensures { result ≡ self.now.stated.channel_max }
+    {
+        self.state.stated.channel_max
+    }
+
+    /// After how many milliseconds without a frame the container gives the connection up; `None` where it doesn't, and until its
+    /// open.
+    pub fn idle(&self) -> Option<u32>
+        ensures { result ≡ self.now.stated.idle }
+    {
+        self.state.stated.idle
+    }
+}
