@@ -1,8 +1,11 @@
-//! The gateway as a program: real ports and the standard output for the top call, and its status.
+//! The gateway as a program: real ports, the standard output and a file for the top call, and its status.
 #![tactic(auto)]
 
-use gate_command::{Asked, Status, gateway, read_words};
-use gate_edge::{Outbox, OutboxSink, RealPorts, StandardOut, tell};
+mod capture_file;
+
+use capture_file::CaptureFile;
+use gate_command::{Asked, CaptureSink, Status, gateway, read_words};
+use gate_edge::{Outbox, OutboxSink, RealPorts, StandardOut, WriterSink, tell};
 use std::io;
 use std::process::ExitCode;
 use wire_base::{ByteText, Memory};
@@ -13,25 +16,51 @@ fn words_of(rt: &HostRuntime) -> io::Result<Vec<String>> {
     Ok(words)
 }
 
-/// The address to listen at, where the words are a command line.
-fn address_of(rt: &HostRuntime, words: &Vec<String>) -> Result<Option<ByteText>, Memory> {
+/// The address to listen at and the path of the capture, where the words are a command line that gives them.
+#[derive(Drop)]
+struct Places {
+    listen: Option<ByteText>,
+    capture: Option<ByteText>,
+}
+
+fn places_of(rt: &HostRuntime, words: &Vec<String>) -> Result<Places, Memory> {
     match read_words(rt.alloc(), words)? {
-        Ok(Asked::Serve { limits: _, listen }) => Ok(Some(listen)),
-        Err(_) => Ok(None),
+        Ok(
+            Asked::Serve {
+                limits: _,
+                listen,
+                capture,
+            },
+        ) => Ok(Places {
+            listen: Some(listen),
+            capture,
+        }),
+        Err(_) => Ok(Places {
+            listen: None,
+            capture: None,
+        }),
     }
+}
+
+/// The text of an address or a path, which came from words in UTF-8.
+fn text_of(place: &Option<ByteText>) -> Option<&str> {
+    place
+        .as_ref()
+        .and_then(|place| str::from_utf8(place.as_slice()).ok())
 }
 
 /// Runs the top call over real ports; what it answers, or `Memory` where there is none to begin. A
 /// report that the standard output doesn't take is a fault of the outside.
 fn run(rt: &HostRuntime, words: &Vec<String>) -> Result<Status, Memory> {
-    let address = address_of(rt, words)?;
-    let listen = address
-        .as_ref()
-        .and_then(|address| str::from_utf8(address.as_slice()).ok());
+    let places = places_of(rt, words)?;
     let outbox = Outbox::new(rt.alloc(), StandardOut::new(rt.stdout()))?;
-    let mut ports = RealPorts::new(rt, rt.alloc(), &outbox, listen, None)?;
+    let mut ports = RealPorts::new(rt, rt.alloc(), &outbox, text_of(&places.listen), None)?;
     let mut out = OutboxSink::new(&outbox);
-    let status = gateway(rt.alloc(), words, &mut ports, &mut out);
+    let file = CaptureFile::create(rt, text_of(&places.capture));
+    let mut capture = CaptureSink {
+        sink: WriterSink::new(file),
+    };
+    let status = gateway(rt.alloc(), words, &mut ports, &mut out, &mut capture);
     ports.finish();
     if outbox.finish(rt) {
         Ok(status)
@@ -52,8 +81,12 @@ fn unread(error: io::Error) -> Status {
 fn reason(status: Status) -> Option<&'static str> {
     match status {
         Status::Ok => None,
-        Status::Usage => Some("usage: amqp_gate serve [--listen ADDRESS] [--pairs N] [--turns N]"),
-        Status::Outside => Some("ended: no client can be accepted, or the standard output failed"),
+        Status::Usage => Some(
+            "usage: amqp_gate serve [--listen ADDRESS] [--pairs N] [--turns N] [--capture FILE]",
+        ),
+        Status::Outside => Some(
+            "ended: no client can be accepted, or the standard output or the capture failed",
+        ),
         Status::Memory => Some("ended: out of memory"),
         Status::TurnLimit => Some("ended: the turns asked for were made"),
     }

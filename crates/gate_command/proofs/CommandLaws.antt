@@ -7,7 +7,7 @@ use Rattle.gate_runs.specs.Form as form
 use Rattle.gate_command.specs.declared.words.Asked.{Asked}
 use Rattle.gate_command.specs.declared.words.Misplaced.{Misplaced}
 use Rattle.gate_command.specs.declared.words.Misplaced.TheVariants.{Word, End}
-use Rattle.gate_command.specs.Command.{Setting, listen_at, pair_count, turn_count, Given, joined, apart, setting_of, IsInForm, IsSettable, Settings, nothing_given, with_setting, settings_with, asked_of, limits_of, IsCommand, Asks, CanStand, CeasesAt}
+use Rattle.gate_command.specs.Command.{Setting, listen_at, pair_count, turn_count, capture_to, Given, joined, apart, setting_of, IsInForm, IsSettable, Settings, nothing_given, with_setting, settings_with, asked_of, limits_of, IsCommand, Asks, CanStand, CeasesAt}
 use Rattle.gate_command.specs.Reading.{between, words_in, command_in}
 use Rattle.gate_command.proofs.OptionLaws.{same_bytes}
 use Rattle.gate_command.proofs.WordLaws.{AreOptions}
@@ -173,6 +173,7 @@ bounded_with : (setting : Setting) (s : Settings) → IsSettable setting → Are
 bounded_with (listen_at address) s h b = record { pairs = b.pairs; turns = b.turns }
 bounded_with (pair_count n) s h b = record { pairs = h.0; turns = b.turns }
 bounded_with (turn_count n) s h b = record { pairs = b.pairs; turns = h }
+bounded_with (capture_to path) s h b = record { pairs = b.pairs; turns = b.turns }
 
 bounded_all : (given : List Given) (s : Settings) → AllByRecursion IsInForm given → AreBounded s → AreBounded (settings_with s given)
 bounded_all [] s h b = b

@@ -2,8 +2,8 @@
 use Rattle.std.proofs.Common.{◌≡◌, ◌≢◌, true, List, [], ◌∷◌, refl}
 use Rattle.std.specs.List.{AllByRecursion}
 use Rattle.gate_command.specs.declared.options.OptionName.{OptionName}
-use Rattle.gate_command.specs.declared.options.OptionName.TheVariants.{Listen, Pairs, Turns}
-use Rattle.gate_command.specs.Command.{Setting, listen_at, pair_count, turn_count, Given, setting_of, option_of, Settings, nothing_given, with_setting, AreDistinct}
+use Rattle.gate_command.specs.declared.options.OptionName.TheVariants.{Listen, Pairs, Turns, Capture}
+use Rattle.gate_command.specs.Command.{Setting, listen_at, pair_count, turn_count, capture_to, Given, setting_of, option_of, Settings, nothing_given, with_setting, AreDistinct}
 use Rattle.gate_command.specs.Reading.{is_free}
 use Rattle.gate_command.proofs.WordLaws.{EachNew}
 
@@ -16,24 +16,38 @@ still_free : (name : OptionName) (setting : Setting) (s : Settings) → name ≢
 still_free Listen (listen_at address) s other free = absurd (other refl)
 still_free Listen (pair_count n) s other free = free
 still_free Listen (turn_count n) s other free = free
+still_free Listen (capture_to path) s other free = free
 still_free Pairs (listen_at address) s other free = free
 still_free Pairs (pair_count n) s other free = absurd (other refl)
 still_free Pairs (turn_count n) s other free = free
+still_free Pairs (capture_to path) s other free = free
 still_free Turns (listen_at address) s other free = free
 still_free Turns (pair_count n) s other free = free
 still_free Turns (turn_count n) s other free = absurd (other refl)
+still_free Turns (capture_to path) s other free = free
+still_free Capture (listen_at address) s other free = free
+still_free Capture (pair_count n) s other free = free
+still_free Capture (turn_count n) s other free = free
+still_free Capture (capture_to path) s other free = absurd (other refl)
 
 -- an option that isn't given with one more is another, and wasn't given without it
 was_free : (name : OptionName) (setting : Setting) (s : Settings) → is_free name (with_setting setting s) ≡ true → (name ≢ option_of setting) × (is_free name s ≡ true)
 was_free Listen (listen_at address) s free = absurd cc
 was_free Listen (pair_count n) s free = (λ e. absurd cc, free)
 was_free Listen (turn_count n) s free = (λ e. absurd cc, free)
+was_free Listen (capture_to path) s free = (λ e. absurd cc, free)
 was_free Pairs (listen_at address) s free = (λ e. absurd cc, free)
 was_free Pairs (pair_count n) s free = absurd cc
 was_free Pairs (turn_count n) s free = (λ e. absurd cc, free)
+was_free Pairs (capture_to path) s free = (λ e. absurd cc, free)
 was_free Turns (listen_at address) s free = (λ e. absurd cc, free)
 was_free Turns (pair_count n) s free = (λ e. absurd cc, free)
 was_free Turns (turn_count n) s free = absurd cc
+was_free Turns (capture_to path) s free = (λ e. absurd cc, free)
+was_free Capture (listen_at address) s free = (λ e. absurd cc, free)
+was_free Capture (pair_count n) s free = (λ e. absurd cc, free)
+was_free Capture (turn_count n) s free = (λ e. absurd cc, free)
+was_free Capture (capture_to path) s free = absurd cc
 
 all_still_free : (setting : Setting) (s : Settings) (gs : List Given) → AllByRecursion (λ g. option_of (setting_of g) ≢ option_of setting) gs → AreFree s gs → AreFree (with_setting setting s) gs
 all_still_free setting s [] others free = tt
@@ -63,6 +77,7 @@ nothing_is_given : (name : OptionName) → is_free name nothing_given ≡ true
 nothing_is_given Listen = refl
 nothing_is_given Pairs = refl
 nothing_is_given Turns = refl
+nothing_is_given Capture = refl
 
 all_free : (gs : List Given) → AreFree nothing_given gs
 all_free [] = tt

@@ -7,3 +7,4 @@ pub mod WordLaws
 pub mod LineLaws
 pub mod Distinct
 pub mod CommandLaws
+pub mod Texts

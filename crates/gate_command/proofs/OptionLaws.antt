@@ -6,8 +6,8 @@ use Rattle.std.specs.Option.{option_and_then}
 use Rattle.std.proofs.lemmas.Bool.Decides.{nat_tests}
 use Rattle.std.proofs.lemmas.Slice.Eq.{bytes_eq-Decides}
 use Rattle.gate_command.specs.declared.options.OptionName.{OptionName}
-use Rattle.gate_command.specs.declared.options.OptionName.TheVariants.{Listen, Pairs, Turns}
-use Rattle.gate_command.specs.Command.{Setting, listen_at, pair_count, turn_count, option_of, option_text, value_text, IsSettable, Settings, with_setting}
+use Rattle.gate_command.specs.declared.options.OptionName.TheVariants.{Listen, Pairs, Turns, Capture}
+use Rattle.gate_command.specs.Command.{Setting, listen_at, pair_count, turn_count, capture_to, option_of, option_text, value_text, IsSettable, Settings, with_setting}
 use Rattle.gate_command.specs.Reading.{is_free, State, between, awaiting, cut, option_named, number_in, setting_in, set_in, opened, option_in}
 use Rattle.gate_command.proofs.Numbers.{number_in-decimal, number_in-is}
 
@@ -17,6 +17,8 @@ setting_in-value (listen_at []) h = absurd (h refl)
 setting_in-value (listen_at (byte ∷ bytes)) h = rw (eqb-suc-zero (length bytes)) refl
 setting_in-value (pair_count n) h = ap (option_map pair_count) (number_in-decimal 4294967295 n h.0 h.1 (omega arith))
 setting_in-value (turn_count n) h = ap (option_map turn_count) (number_in-decimal 140737488355328 n h.0 h.1 (omega arith))
+setting_in-value (capture_to []) h = absurd (h refl)
+setting_in-value (capture_to (byte ∷ bytes)) h = rw (eqb-suc-zero (length bytes)) refl
 
 -- what a value is that is read as this setting
 pub record IsValue (name : OptionName) (value : List ℕ) (setting : Setting) : Type 0 where
@@ -48,6 +50,10 @@ setting_in-is Turns value setting h = at (number_in 140737488355328 value) refl 
         let same : turn_count n ≡ setting = cc in
         let text = number_in-is 140737488355328 value n (omega arith) is in
         subst (λ (x : Setting). IsValue Turns value x) same (record { names = refl; spelled = sym text.spelled; settable = (text.some, text.within) })
+setting_in-is Capture [] setting h = absurd cc
+setting_in-is Capture (byte ∷ bytes) setting h =
+    let e : capture_to (byte ∷ bytes) ≡ setting = some_is (rw (eqb-suc-zero (length bytes)) at h) in
+    subst (λ (x : Setting). IsValue Capture (byte ∷ bytes) x) e (record { names = refl; spelled = refl; settable = λ e. absurd cc })
 
 -- a value that may be set leads on between options
 pub set_in-value : (setting : Setting) (s : Settings) → IsSettable setting → option_map between (set_in (option_of setting) (value_text setting) s) ≡ Some (between (with_setting setting s))
@@ -74,6 +80,7 @@ unfolding option_in option_named
 option_in-apart Listen s free = rw free refl
 option_in-apart Pairs s free = rw free refl
 option_in-apart Turns s free = rw free refl
+option_in-apart Capture s free = rw free refl
 
 -- and with `=` and a value as the one word
 pub option_in-joined : (name : OptionName) (value : List ℕ) (s : Settings) → is_free name s ≡ true
@@ -82,6 +89,7 @@ unfolding option_in option_named
 option_in-joined Listen value s free = rw free refl
 option_in-joined Pairs value s free = rw free refl
 option_in-joined Turns value s free = rw free refl
+option_in-joined Capture value s free = rw free refl
 
 -- a word is made of its parts
 pub cut_none : (word : List ℕ) → (cut word).1 ≡ None → (cut word).0 ≡ word
@@ -115,14 +123,16 @@ same_bytes xs ys h = (bytes_eq-Decides xs ys).0 h
 pub option_named-is : (text : List ℕ) (name : OptionName) → option_named text ≡ Some name → text ≡ option_text name
 unfolding option_named
 option_named-is text name h =
-    at (bytes_eq text (codes "--listen")) (bytes_eq text (codes "--pairs")) (bytes_eq text (codes "--turns")) refl refl refl h
+    at (bytes_eq text (codes "--listen")) (bytes_eq text (codes "--pairs")) (bytes_eq text (codes "--turns")) (bytes_eq text (codes "--capture")) refl refl refl refl h
   where
-    at : (listen pairs turns : Bool) → bytes_eq text (codes "--listen") ≡ listen → bytes_eq text (codes "--pairs") ≡ pairs → bytes_eq text (codes "--turns") ≡ turns
-        → cond listen (Some Listen) (cond pairs (Some Pairs) (cond turns (Some Turns) None)) ≡ Some name → text ≡ option_text name
-    at true pairs turns l p t e = same_bytes text (option_text Listen) l ∙ ap option_text (some_is e)
-    at false true turns l p t e = same_bytes text (option_text Pairs) p ∙ ap option_text (some_is e)
-    at false false true l p t e = same_bytes text (option_text Turns) t ∙ ap option_text (some_is e)
-    at false false false l p t e = absurd cc
+    at : (listen pairs turns capture : Bool) → bytes_eq text (codes "--listen") ≡ listen → bytes_eq text (codes "--pairs") ≡ pairs
+        → bytes_eq text (codes "--turns") ≡ turns → bytes_eq text (codes "--capture") ≡ capture
+        → cond listen (Some Listen) (cond pairs (Some Pairs) (cond turns (Some Turns) (cond capture (Some Capture) None))) ≡ Some name → text ≡ option_text name
+    at true pairs turns capture l p t c e = same_bytes text (option_text Listen) l ∙ ap option_text (some_is e)
+    at false true turns capture l p t c e = same_bytes text (option_text Pairs) p ∙ ap option_text (some_is e)
+    at false false true capture l p t c e = same_bytes text (option_text Turns) t ∙ ap option_text (some_is e)
+    at false false false true l p t c e = same_bytes text (option_text Capture) c ∙ ap option_text (some_is e)
+    at false false false false l p t c e = absurd cc
 
 -- what an option's first word is
 pub data IsOption (word : List ℕ) (s : Settings) (next : State) : Type 0 where

@@ -3,7 +3,7 @@ use Rattle.std.proofs.Common.{◌≡◌, ℕ, ◌+◌, ◌-◌, ◌<◌, ◌≤�
 use Rattle.std.proofs.lemmas.Bool.Decides.{nat_tests}
 use Rattle.std.proofs.lemmas.List.{drop_all}
 use Rattle.gate_command.specs.declared.options.OptionName.{OptionName}
-use Rattle.gate_command.specs.declared.options.OptionName.TheVariants.{Listen, Pairs, Turns}
+use Rattle.gate_command.specs.declared.options.OptionName.TheVariants.{Listen, Pairs, Turns, Capture}
 use Rattle.gate_command.specs.declared.words.Misplaced.TheVariants.{Word}
 use Rattle.gate_command.specs.Command.{Settings, has_line_feed}
 use Rattle.gate_command.specs.Reading.{State, between, awaiting, step, set_in, option_in, word_in, words_in, ended, option_named}
@@ -31,6 +31,7 @@ unfolding set_in
 set_in-nil Listen s = refl
 set_in-nil Pairs s = rw (number_in-nil 4294967295) refl
 set_in-nil Turns s = rw (number_in-nil 140737488355328) refl
+set_in-nil Capture s = refl
 
 option_in-nil : (s : Settings) → option_in [] s ≡ None
 unfolding option_in option_named

@@ -5,8 +5,8 @@ use Rattle.std.specs.List.{flat_map, AllByRecursion}
 use Rattle.std.proofs.lemmas.Bool.Decides.{nat_tests}
 use Rattle.std.proofs.lemmas.Fmt.{first_decimal}
 use Rattle.gate_command.specs.declared.options.OptionName.{OptionName}
-use Rattle.gate_command.specs.declared.options.OptionName.TheVariants.{Listen, Pairs, Turns}
-use Rattle.gate_command.specs.Command.{Setting, listen_at, pair_count, turn_count, Given, joined, apart, setting_of, spelling, IsInForm, option_of, option_text, value_text, IsSettable, Settings, with_setting, settings_with, begins_with_minus}
+use Rattle.gate_command.specs.declared.options.OptionName.TheVariants.{Listen, Pairs, Turns, Capture}
+use Rattle.gate_command.specs.Command.{Setting, listen_at, pair_count, turn_count, capture_to, Given, joined, apart, setting_of, spelling, IsInForm, option_of, option_text, value_text, IsSettable, Settings, with_setting, settings_with, begins_with_minus}
 use Rattle.gate_command.specs.Reading.{is_free, State, between, awaiting, set_in, step, ended}
 use Rattle.gate_command.proofs.OptionLaws.{option_in-apart, option_in-joined, option_in-is, IsOption, by_name, with_value, set_in-is, set_in-value}
 
@@ -157,12 +157,14 @@ some_setting : OptionName → Setting
 some_setting Listen = listen_at (codes "1")
 some_setting Pairs = pair_count 1
 some_setting Turns = turn_count 1
+some_setting Capture = capture_to (codes "1")
 
 some_named : (name : OptionName) → option_of (some_setting name) ≡ name
 unfolding some_setting
 some_named Listen = refl
 some_named Pairs = refl
 some_named Turns = refl
+some_named Capture = refl
 
 no_minus : (text : List ℕ) → 48 < get_or text 0 0 → begins_with_minus text ≡ false
 no_minus text above = grind (arith, nat_tests)
@@ -172,6 +174,7 @@ unfolding some_setting
 some_in_form Listen = (λ e. absurd cc, refl)
 some_in_form Pairs = ((omega arith, omega arith), no_minus (decimal 1) (first_decimal 1 (omega arith) (omega arith)))
 some_in_form Turns = ((omega arith, omega arith), no_minus (decimal 1) (first_decimal 1 (omega arith) (omega arith)))
+some_in_form Capture = (λ e. absurd cc, refl)
 
 pub goes_on : (state : State) → MayGoOn state
 goes_on (between s) = record { more = []; settings = s; rest = record { given = []; spelled = refl; in_form = tt; each_new = tt; meant = refl } }

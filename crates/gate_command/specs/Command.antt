@@ -1,9 +1,9 @@
 -- The command line: which lists of words there are, and what each asks for. A word is the list of its bytes.
 use Rattle.std.specs.Prelude.{◌≡◌, ◌≢◌, ℕ, ◌-◌, ◌≤◌, ◌<◌, ◌==◌, Bool, false, ⊤, List, [], ◌∷◌, ◌++◌, length, take, drop, sum_by, slice_index, slice_index_or, Option, Some, None, unwrap_or, codes, decimal}
-use Rattle.std.specs.List.{flat_map, list_any, AllByRecursion}
+use Rattle.std.specs.List.{flat_map, join_with_byte, list_any, AllByRecursion}
 use Rattle.gate_runs.specs.declared.limits.Limits.{Limits}
 use Rattle.gate_command.specs.declared.options.OptionName.{OptionName}
-use Rattle.gate_command.specs.declared.options.OptionName.TheVariants.{Listen, Pairs, Turns}
+use Rattle.gate_command.specs.declared.options.OptionName.TheVariants.{Listen, Pairs, Turns, Capture}
 use Rattle.gate_command.specs.declared.words.Asked.{Asked}
 use Rattle.gate_command.specs.declared.words.Asked.TheVariants.{Serve}
 use Rattle.gate_command.specs.declared.words.Misplaced.{Misplaced}
@@ -14,30 +14,35 @@ pub data Setting : Type 0 where
   listen_at : List ℕ → Setting
   pair_count : ℕ → Setting
   turn_count : ℕ → Setting
+  capture_to : List ℕ → Setting
 
 -- the option that says it
 abbrev pub option_of : Setting → OptionName
 option_of (listen_at address) = Listen
 option_of (pair_count n) = Pairs
 option_of (turn_count n) = Turns
+option_of (capture_to path) = Capture
 
 -- how the option's name is spelled
 abbrev pub option_text : OptionName → List ℕ
 option_text Listen = codes "--listen"
 option_text Pairs = codes "--pairs"
 option_text Turns = codes "--turns"
+option_text Capture = codes "--capture"
 
 -- how the option's value is spelled
 abbrev pub value_text : Setting → List ℕ
 value_text (listen_at address) = address
 value_text (pair_count n) = decimal n
 value_text (turn_count n) = decimal n
+value_text (capture_to path) = path
 
--- an address isn't empty, and a number is from 1 to the option's most
+-- an address or a path isn't empty, and a number is from 1 to the option's most
 abbrev pub IsSettable : Setting → Type 0
 IsSettable (listen_at address) = address ≢ []
 IsSettable (pair_count n) = (1 ≤ n) × (n ≤ 4294967295)
 IsSettable (turn_count n) = (1 ≤ n) × (n ≤ 140737488355328)
+IsSettable (capture_to path) = path ≢ []
 
 -- an option given, as the one word `--opt=VALUE` or as the two words `--opt VALUE`
 pub data Given : Type 0 where
@@ -68,16 +73,18 @@ pub record Settings : Type 0 where
   pub listen : Option (List ℕ)
   pub pairs : Option ℕ
   pub turns : Option ℕ
+  pub capture : Option (List ℕ)
 
 -- no option is given
 abbrev pub nothing_given : Settings
-nothing_given = record { listen = None; pairs = None; turns = None }
+nothing_given = record { listen = None; pairs = None; turns = None; capture = None }
 
 -- the same and one option more
 abbrev pub with_setting : Setting → Settings → Settings
 with_setting (listen_at address) s = record s { listen = Some address }
 with_setting (pair_count n) s = record s { pairs = Some n }
 with_setting (turn_count n) s = record s { turns = Some n }
+with_setting (capture_to path) s = record s { capture = Some path }
 
 -- no option is given twice
 abbrev pub AreDistinct : List Given → Type 0
@@ -92,11 +99,19 @@ settings_with s (g ∷ gs) = settings_with (with_setting (setting_of g) s) gs
 
 -- what is asked for, with the defaults of what isn't given
 abbrev pub asked_of : Settings → Asked
-asked_of s = Serve (record { pairs = s.pairs; turns = unwrap_or s.turns 140737488355328 }) (unwrap_or s.listen (codes "127.0.0.1:5672"))
+asked_of s = Serve (record { pairs = s.pairs; turns = unwrap_or s.turns 140737488355328 }) (unwrap_or s.listen (codes "127.0.0.1:5672")) s.capture
 
 -- the limits of the run that is asked for
 abbrev pub limits_of : Asked → Limits
-limits_of (Serve limits address) = limits
+limits_of (Serve limits address path) = limits
+
+-- where to write the capture of the run that is asked for, if one is
+abbrev pub path_of : Asked → Option (List ℕ)
+path_of (Serve limits address path) = path
+
+-- the words after the first, with a line feed between each two
+abbrev pub text_of : List (List ℕ) → List ℕ
+text_of words = join_with_byte 10 (drop 1 words)
 
 -- line feeds and sizes aside, the words are `serve` and options that ask for this
 pub record IsCommand (words : List (List ℕ)) (asked : Asked) : Type 0 where

@@ -4,10 +4,10 @@ use Rattle.std.specs.Option.{option_and_then, option_map_or}
 use Rattle.std.specs.Str.{all_ascii_digits}
 use Rattle.std.specs.Str.Parse.{digits_value}
 use Rattle.gate_command.specs.declared.options.OptionName.{OptionName}
-use Rattle.gate_command.specs.declared.options.OptionName.TheVariants.{Listen, Pairs, Turns}
+use Rattle.gate_command.specs.declared.options.OptionName.TheVariants.{Listen, Pairs, Turns, Capture}
 use Rattle.gate_command.specs.declared.words.Misplaced.{Misplaced}
 use Rattle.gate_command.specs.declared.words.Misplaced.TheVariants.{Word, End}
-use Rattle.gate_command.specs.Command.{Setting, listen_at, pair_count, turn_count, Settings, with_setting, nothing_given, begins_with_minus, has_line_feed}
+use Rattle.gate_command.specs.Command.{Setting, listen_at, pair_count, turn_count, capture_to, Settings, with_setting, nothing_given, begins_with_minus, has_line_feed}
 
 -- where the reading stands: between options, or after an option's name, whose value is the next word
 pub data State : Type 0 where
@@ -19,6 +19,7 @@ abbrev pub is_free : OptionName → Settings → Bool
 is_free Listen s = is_none s.listen
 is_free Pairs s = is_none s.pairs
 is_free Turns s = is_none s.turns
+is_free Capture s = is_none s.capture
 
 -- what stands before the first `=` of a word, and what stands after it, where there is one
 abbrev pub cut : List ℕ → List ℕ × Option (List ℕ)
@@ -30,7 +31,8 @@ unfoldable pub option_named : List ℕ → Option OptionName
 option_named text =
     if bytes_eq text (codes "--listen") then Some Listen
     else (if bytes_eq text (codes "--pairs") then Some Pairs
-    else (if bytes_eq text (codes "--turns") then Some Turns else None))
+    else (if bytes_eq text (codes "--turns") then Some Turns
+    else (if bytes_eq text (codes "--capture") then Some Capture else None)))
 
 -- the text is digits, and the first of them isn't 0
 abbrev pub is_numeral : List ℕ → Bool
@@ -45,6 +47,7 @@ abbrev pub setting_in : OptionName → List ℕ → Option Setting
 setting_in Listen value = if length value == 0 then None else Some (listen_at value)
 setting_in Pairs value = option_map pair_count (number_in 4294967295 value)
 setting_in Turns value = option_map turn_count (number_in 140737488355328 value)
+setting_in Capture value = if length value == 0 then None else Some (capture_to value)
 
 -- the settings and this option's value
 unfoldable pub set_in : OptionName → List ℕ → Settings → Option Settings

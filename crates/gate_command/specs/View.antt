@@ -9,7 +9,7 @@ use Rattle.gate_command.specs.Reading.{State, between, awaiting}
 
 -- what the options say that were read
 abbrev pub settings_of : Gathered → Settings
-settings_of g = record { listen = option_copied g.listen; pairs = g.pairs; turns = g.turns }
+settings_of g = record { listen = option_copied g.listen; pairs = g.pairs; turns = g.turns; capture = option_copied g.capture }
 
 -- where the reading stands
 abbrev pub state_of : Progress → State

@@ -2,8 +2,10 @@
 #![tactic(auto)]
 
 mod options;
+mod serving;
 mod top_call;
 mod words;
 
+pub use serving::CaptureSink;
 pub use top_call::{Status, gateway};
 pub use words::{Asked, Misplaced, read_words};

@@ -16,6 +16,7 @@ pub enum OptionName {
     Listen,
     Pairs,
     Turns,
+    Capture,
 }
 
 /// What the options say that were read.
@@ -24,6 +25,7 @@ pub struct Gathered<'a> {
     pub listen: Option<&'a str>,
     pub pairs: Option<u32>,
     pub turns: Option<u64>,
+    pub capture: Option<&'a str>,
 }
 
 /// Where the reading stands: between options, or after an option's name, whose value is the next word.
@@ -44,6 +46,8 @@ fn option_of(text: &str) -> Option<OptionName>
         Some(OptionName::Pairs)
     } else if text == "--turns" {
         Some(OptionName::Turns)
+    } else if text == "--capture" {
+        Some(OptionName::Capture)
     } else {
         None
     }
@@ -83,6 +87,7 @@ impl<'a> Gathered<'a> {
             listen: None,
             pairs: None,
             turns: None,
+            capture: None,
         }
     }
 
@@ -94,6 +99,7 @@ impl<'a> Gathered<'a> {
             OptionName::Listen => self.listen.is_none(),
             OptionName::Pairs => self.pairs.is_none(),
             OptionName::Turns => self.turns.is_none(),
+            OptionName::Capture => self.capture.is_none(),
         }
     }
 
@@ -106,6 +112,7 @@ impl<'a> Gathered<'a> {
             OptionName::Listen => self.with_listen(value),
             OptionName::Pairs => self.with_pairs(value),
             OptionName::Turns => self.with_turns(value),
+            OptionName::Capture => self.with_capture(value),
         }
     }
 
@@ -143,6 +150,20 @@ impl<'a> Gathered<'a> {
         let turns = number_of(value, MOST_TURNS)?;
         Some(Gathered {
             turns: Some(turns),
+            ..self
+        })
+    }
+
+    /// A path is any text but the empty one.
+    #[tactic(auto, unfolding(crate::specs::Reading::set_in))]
+    fn with_capture(self, value: &'a str) -> Option<Gathered<'a>>
+        ensures { option_map settings_of result ≡ set_in OptionName.Capture value.now (settings_of self.entry) }
+    {
+        if value.is_empty() {
+            return None;
+        }
+        Some(Gathered {
+            capture: Some(value),
             ..self
         })
     }

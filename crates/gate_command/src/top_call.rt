@@ -1,23 +1,17 @@
-//! The top call: a command line, ports, and out.
+//! The top call: a command line, ports, out, and a sink for a capture.
 
-ghost use Rattle.std.specs.Prelude.{◌≡◌, ◌≢◌, ℕ, ◌≤◌, ◌⊎◌, List, [], map, true, false, Option, Some};
+ghost use Rattle.std.specs.Prelude.{◌≡◌, ◌≢◌, ◌≤◌, ◌⊎◌, List, [], map, true, false, IfOk};
 ghost use Rattle.std.specs.String.{string_bytes};
 ghost use Rattle.gate_outside.specs.Counts.{Rose};
 ghost use Rattle.gate_outside.specs.Streams.{Appends, AppendsFront};
-ghost use Rattle.gate_outside.specs.declared.log.LogEntry.{LogEntry};
-ghost use Rattle.gate_runs.specs.declared.served.Outside.TheVariants as Outside;
 ghost use Rattle.gate_runs.specs.Form.{IsInForm};
-ghost use Rattle.gate_runs.specs.Marks.{HasHistory};
-ghost use Rattle.gate_command.specs.Command.{limits_of};
-ghost use Rattle.gate_command.specs.Outcome.{number_of, status_of, usage_line, IsRunOf, Outcome};
+ghost use Rattle.gate_command.specs.Command.{Asks, limits_of, text_of};
+ghost use Rattle.gate_command.specs.Outcome.{number_of, usage_line, around, Outcome};
 
+use crate::serving::{CaptureSink, begin_and_run, run_unrecorded};
 use crate::words::{Asked, Misplaced, read_words};
-use gate_capture::NoCapture;
-use gate_laws::runs_are_lawful;
 use gate_outside::{Ports, Sink, write_all};
-use gate_pair::{Pair, Setup};
-use gate_runs::{Limits, Served};
-use gate_turns::{serve, tell_number};
+use gate_turns::tell_number;
 use std::alloc::Global;
 use wire_base::Memory;
 
@@ -28,7 +22,7 @@ pub enum Status {
     Ok,
     /// 2: the words aren't a command line.
     Usage,
-    /// 4: accept or out failed.
+    /// 4: accept, out or the capture failed.
     Outside,
     /// 5: there was no memory outside of any pair.
     Memory,
@@ -64,68 +58,59 @@ fn tell_usage<K: Sink>(out: &mut K, misplaced: Misplaced) -> bool
     }
 }
 
-/// The status of a run of the service.
-fn status_of(served: Served) -> Status
-    ensures { result ≡ status_of served }
+/// The words after the first, with a line feed between each two.
+fn text_after_first(alloc: Global, words: &Vec<String>) -> Result<String, Memory>
+    ensures { IfOk result (λ text. string_bytes text ≡ text_of (map string_bytes words.now.items)) }
 {
-    match served {
-        Served::Stopped | Served::PairsDone => Status::Ok,
-        Served::TurnLimit => Status::TurnLimit,
-        Served::Fault(_) => Status::Outside,
-        Served::Memory => Status::Memory,
+    match words.as_slice() {
+        [] => Ok(String::new(alloc)),
+        [_, options @ ..] => Ok(options.join(alloc, "\n")?),
     }
 }
 
-/// Serves, and keeps no record of the calls. All laws of a run hold of the calls that were made.
-fn serve_lawfully<P: Ports, K: Sink>(
+/// Serves as asked.
+fn run_as_asked<P: Ports, K: Sink, C: Sink>(
     alloc: Global,
-    limits: &Limits,
-    ports: &mut P,
-    out: &mut K,
-) -> (Served, u32)
-    requires pairs { P.pairs ports.old ≡ 0 }
-    requires ends { P.ends ports.old ≡ [] }
-    requires form { IsInForm limits.now }
-    ensures ends { P.ends ports.new ≡ [] }
-    ensures accept { result.0 ≡ Served.Fault Outside.Accept → Rose (P.faults ports.old) (P.faults ports.new) }
-    ensures report { result.0 ≡ Served.Fault Outside.Out → Rose (K.faults out.old) (K.faults out.new) }
-    ensures recorded { result.0 ≢ Served.Fault Outside.Capture }
-    ensures served { (base : List LogEntry) → P.log ports.old ≡ Some base
-        → HasHistory base (P.log ports.new) (IsRunOf limits.now result.0 result.1 (K.held out.old) (K.held out.new)) }
-{
-    runs_are_lawful();
-    let mut recorder = NoCapture;
-    serve::<P, Pair, K, NoCapture>(alloc, &Setup, ports, limits, out, &mut recorder)
-}
-
-/// Serves as asked; how that ended, and the count of the pairs that ran out of memory.
-fn serve_as_asked<P: Ports, K: Sink>(
-    alloc: Global,
+    words: &Vec<String>,
     asked: &Asked,
     ports: &mut P,
     out: &mut K,
-) -> (Served, u32)
+    capture: &mut CaptureSink<C>,
+) -> Status
     requires pairs { P.pairs ports.old ≡ 0 }
     requires ends { P.ends ports.old ≡ [] }
+    requires asks { Asks (map string_bytes words.now.items) asked.now }
     requires form { IsInForm (limits_of asked.now) }
     ensures ends { P.ends ports.new ≡ [] }
-    ensures accept { result.0 ≡ Served.Fault Outside.Accept → Rose (P.faults ports.old) (P.faults ports.new) }
-    ensures report { result.0 ≡ Served.Fault Outside.Out → Rose (K.faults out.old) (K.faults out.new) }
-    ensures recorded { result.0 ≢ Served.Fault Outside.Capture }
-    ensures served { (base : List LogEntry) → P.log ports.old ≡ Some base
-        → HasHistory base (P.log ports.new) (IsRunOf (limits_of asked.now) result.0 result.1 (K.held out.old) (K.held out.new)) }
+    ensures outside { result ≡ Status.Outside → Rose (P.faults ports.old) (P.faults ports.new)
+        ⊎ Rose (K.faults out.old) (K.faults out.new) ⊎ Rose (C.faults capture.old.sink) (C.faults capture.new.sink) }
+    ensures never { result ≢ Status.Usage }
+    ensures outcome { Outcome (map string_bytes words.now.items) result
+        (around (K.faults out.old) (K.held out.old) (C.held capture.old.sink) (P.log ports.old))
+        (around (K.faults out.new) (K.held out.new) (C.held capture.new.sink) (P.log ports.new)) }
 {
-    let Asked::Serve { limits, listen: _ } = asked;
-    serve_lawfully(alloc, limits, ports, out)
+    let Asked::Serve {
+        limits,
+        listen: _,
+        capture: path,
+    } = asked;
+    if path.is_none() {
+        return run_unrecorded(alloc, limits, ports, out);
+    }
+    match text_after_first(alloc, words) {
+        Ok(text) => begin_and_run(alloc, text.as_bytes(), limits, ports, out, capture),
+        Err(Memory) => Status::Memory,
+    }
 }
 
-/// Does what the words ask for: serves over the ports, and writes the report to out. Where the words aren't a command line,
-/// it writes the place instead.
-pub fn gateway<P: Ports, K: Sink>(
+/// Does what the words ask for: serves over the ports, and writes the report to out. Where a capture is asked for, it writes
+/// its start and each call to the capture. Where the words aren't a command line, it writes the place instead.
+pub fn gateway<P: Ports, K: Sink, C: Sink>(
     alloc: Global,
     words: &Vec<String>,
     ports: &mut P,
     out: &mut K,
+    capture: &mut CaptureSink<C>,
 ) -> Status
     requires pairs { P.pairs ports.old ≡ 0 }
     requires ends { P.ends ports.old ≡ [] }
@@ -133,21 +118,20 @@ pub fn gateway<P: Ports, K: Sink>(
     // All ends are shut.
     ensures ends { P.ends ports.new ≡ [] }
 
-    // Accept or out failed, and its count of faults rose.
-    ensures outside { result ≡ Status.Outside
-        → Rose (P.faults ports.old) (P.faults ports.new) ⊎ Rose (K.faults out.old) (K.faults out.new) }
+    // Accept, out or the capture failed, and its count of faults rose.
+    ensures outside { result ≡ Status.Outside → Rose (P.faults ports.old) (P.faults ports.new)
+        ⊎ Rose (K.faults out.old) (K.faults out.new) ⊎ Rose (C.faults capture.old.sink) (C.faults capture.new.sink) }
 
-    // Words that aren't a command line call no port.
-    ensures usage { result ≡ Status.Usage → ports.new ≡ ports.old }
+    // Words that aren't a command line call no port, and nothing is written to the capture.
+    ensures usage { result ≡ Status.Usage → (ports.new ≡ ports.old) × (capture.new ≡ capture.old) }
 
     // What the words ask for was done, or out holds the place at which they cease to be a command line.
-    ensures outcome { Outcome (map string_bytes words.now.items) result (K.held out.old) (K.held out.new) (P.log ports.old) (P.log ports.new) }
+    ensures outcome { Outcome (map string_bytes words.now.items) result
+        (around (K.faults out.old) (K.held out.old) (C.held capture.old.sink) (P.log ports.old))
+        (around (K.faults out.new) (K.held out.new) (C.held capture.new.sink) (P.log ports.new)) }
 {
     match read_words(alloc, words) {
-        Ok(Ok(asked)) => {
-            let (served, _count) = serve_as_asked(alloc, &asked, ports, out);
-            status_of(served)
-        }
+        Ok(Ok(asked)) => run_as_asked(alloc, words, &asked, ports, out, capture),
         Ok(Err(misplaced)) => {
             if tell_usage(out, misplaced) {
                 Status::Usage

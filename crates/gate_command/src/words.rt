@@ -1,6 +1,6 @@
 //! The command line: the one reading of its words.
 
-ghost use Rattle.std.specs.Prelude.{◌≡◌, ℕ, ◌+◌, ◌-◌, ◌≤◌, List, map, IfOk, IfErr};
+ghost use Rattle.std.specs.Prelude.{◌≡◌, ℕ, ◌+◌, ◌-◌, ◌≤◌, List, map, option_copied, IfOk, IfErr};
 ghost use Rattle.std.specs.String.{string_bytes};
 ghost use Rattle.gate_runs.specs.Form.{IsInForm};
 ghost use Rattle.gate_command.specs.Command.{asked_of, nothing_given, Asks, CeasesAt, limits_of};
@@ -22,8 +22,12 @@ const DEFAULT_LISTEN: &str = "127.0.0.1:5672";
 /// What the command line asks for.
 #[derive(Debug, Drop)]
 pub enum Asked {
-    /// To serve, and where to listen.
-    Serve { limits: Limits, listen: ByteText },
+    /// To serve, where to listen, and the path of the capture, where one is asked for.
+    Serve {
+        limits: Limits,
+        listen: ByteText,
+        capture: Option<ByteText>,
+    },
 }
 
 /// Where the words cease to be a command line.
@@ -70,6 +74,16 @@ fn command_of(words: &[String]) -> Result<Gathered<'_>, Misplaced>
     }
 }
 
+/// A copy of the text, where there is one.
+fn copied(alloc: Global, text: Option<&str>) -> Result<Option<ByteText>, Memory>
+    ensures { IfOk result (λ copy. copy ≡ option_copied text.entry) }
+{
+    match text {
+        Some(text) => Ok(Some(ByteText::copy_of(alloc, text.as_bytes())?)),
+        None => Ok(None),
+    }
+}
+
 /// What these options ask for, with the defaults of what isn't given.
 fn asked_for(alloc: Global, gathered: Gathered) -> Result<Asked, Memory>
     ensures { IfOk result (λ asked. asked ≡ asked_of (settings_of gathered.entry)) }
@@ -82,12 +96,13 @@ fn asked_for(alloc: Global, gathered: Gathered) -> Result<Asked, Memory>
     Ok(Asked::Serve {
         limits,
         listen: ByteText::copy_of(alloc, listen.as_bytes())?,
+        capture: copied(alloc, gathered.capture)?,
     })
 }
 
 /// Reads the words of the command line, which are those after the program's name.
 ///
-/// Only a copy of the address to listen at takes memory; `Err(Memory)` where there is none for it.
+/// Only copies of the address and the path take memory; `Err(Memory)` where there is none for them.
 pub fn read_words(alloc: Global, words: &Vec<String>) -> Result<Result<Asked, Misplaced>, Memory>
     ensures found { IfOk result (λ answer. IfOk answer (λ asked. Asks (map string_bytes words.now.items) asked)) }
     ensures only { (asked : Asked) → Asks (map string_bytes words.now.items) asked

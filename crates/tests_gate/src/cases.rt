@@ -32,6 +32,8 @@ fn set_number(scenario: &mut Scenario, name: &str, number: u32) -> bool {
         "limit" => scenario.numbers.limit = number,
         "turns" => scenario.numbers.turns = u16::try_from(number).unwrap_or(u16::MAX),
         "report" => scenario.numbers.report = number as usize,
+        "capture" => scenario.numbers.capture = number as usize,
+        "lost" => scenario.numbers.lost = Some(u64::from(number)),
         "fault" => scenario.numbers.fault = Some(u64::from(number)),
         _ => return false,
     }

@@ -1,15 +1,12 @@
 //! Cases of the command line, and of what the gateway does for one.
 
-use crate::scenario::{Scenario, Way, script_of};
+use crate::called::{call_gateway, put_uncaptured};
+use crate::scenario::Scenario;
 use crate::telling::put_report;
-use gate_command::{Asked, Misplaced, Status, gateway, read_words};
-use gate_outside::{MemorySink, ScriptPorts};
+use gate_command::{Asked, Misplaced, Status, read_words};
 use std::alloc::Global;
-use tests_support::{bytes_of, put_text};
-use wire_base::{ItemList, Memory};
-
-/// The most entries of a log, and the most bytes of them.
-const LOG_ROOM: usize = 1000;
+use tests_support::{bytes_of, put_bytes, put_text};
+use wire_base::Memory;
 
 /// The word that a text tells: itself, or bytes where it begins with a quote.
 fn word_of(alloc: Global, text: &str) -> Result<Option<String>, Memory> {
@@ -42,14 +39,23 @@ fn words_of(alloc: Global, text: &str) -> Result<Option<Vec<String>>, Memory> {
 
 /// What words ask for.
 fn put_asked(out: &mut String, asked: &Asked) -> Result<(), Memory> {
-    let Asked::Serve { limits, listen } = asked;
+    let Asked::Serve {
+        limits,
+        listen,
+        capture,
+    } = asked;
     match limits.pairs {
         Some(pairs) => write!(out, "serve {pairs} pairs")?,
         None => out.push_str("serve any pairs")?,
     }
     let turns = limits.turns;
     write!(out, ", {turns} turns, at")?;
-    put_text(out, listen.as_slice())
+    put_text(out, listen.as_slice())?;
+    if let Some(path) = capture {
+        out.push_str(", captured at")?;
+        put_text(out, path.as_slice())?;
+    }
+    Ok(())
 }
 
 /// Where words cease to be a command line.
@@ -75,19 +81,37 @@ fn asked_text(alloc: Global, text: &str) -> Result<Option<String>, Memory> {
     Ok(Some(out))
 }
 
-/// The gateway's status for the words between bars, how many calls it made, and the report; `None` where they are told wrongly.
+/// The gateway's status for the words between bars, how many calls it made, the report and the capture; `None` where they are
+/// told wrongly.
 fn called_text(alloc: Global, scenario: &Scenario, text: &str) -> Result<Option<String>, Memory> {
     let Some(words) = words_of(alloc, text)? else {
         return Ok(None);
     };
-    let script = script_of(alloc, scenario, Way::Units, scenario.numbers.fault)?;
-    let mut report = MemorySink::new(alloc, scenario.numbers.report, ItemList::empty(alloc))?;
-    let mut ports = ScriptPorts::new(alloc, script, LOG_ROOM, LOG_ROOM)?;
-    let status = gateway(alloc, &words, &mut ports, &mut report).number();
-    let calls = ports.log().len();
+    let numbers = scenario.numbers;
+    let call = call_gateway(alloc, scenario, &words, numbers.capture, numbers.lost)?;
+    let status = call.status.number();
+    let calls = call.calls.len();
     let mut out = format!(in alloc; "status {status}, {calls} calls")?;
-    put_report(&mut out, report.held())?;
+    put_report(&mut out, call.report.as_slice())?;
+    if !call.capture.as_slice().is_empty() {
+        out.push_str(" / capture")?;
+        put_bytes(&mut out, call.capture.as_slice())?;
+    }
     out.push_str("\n")?;
+    Ok(Some(out))
+}
+
+/// What broke a rule where the capture failed; `None` where the words between bars are told wrongly.
+fn uncaptured_text(
+    alloc: Global,
+    scenario: &Scenario,
+    text: &str,
+) -> Result<Option<String>, Memory> {
+    let Some(words) = words_of(alloc, text)? else {
+        return Ok(None);
+    };
+    let mut out = String::new(alloc);
+    put_uncaptured(alloc, scenario, &words, &mut out)?;
     Ok(Some(out))
 }
 
@@ -118,6 +142,7 @@ pub fn command_text(
     match verb {
         "words" => asked_text(alloc, rest),
         "gateway" => called_text(alloc, scenario, rest),
+        "uncaptured" => uncaptured_text(alloc, scenario, rest),
         "statuses" => Ok(Some(statuses_text(alloc)?)),
         _ => Ok(None),
     }

@@ -9,6 +9,7 @@
 //! | `pairs N`, `idles N`, `step N` | how many clients come (1), how often `idle` answers (9), the milliseconds of a turn (1) |
 //! | `limit N`, `turns N`, `report N` | the pairs asked for (1; 0 for no limit), the turns (20,000), the bytes that the report may have |
 //! | `fault N` | call N of the run fails |
+//! | `capture N`, `lost N` | the bytes that the capture may have, and the one of its writes that fails |
 //!
 //! A line that plays ends the scenario:
 //!
@@ -23,7 +24,8 @@
 //! | `reads` | how many bytes were read of those that came byte by byte |
 //! | `fails` | each call fails in turn: the kinds of calls, and the calls after whose fault a rule was broken |
 //! | `unreported` | the report fails at each of its writes, or has no room: the same |
-//! | `gateway W|W` | the words between bars are called: the status, how many calls were made, and the report |
+//! | `gateway W|W` | the words between bars are called: the status, how many calls were made, the report and the capture |
+//! | `uncaptured W|W` | the same with a capture that fails at each of its writes, or has no room: what broke a rule |
 //!
 //! `words W|W` answers what the words ask for, or where they cease to be a command line, and `statuses` the number of each status.
 //! A word that begins with a quote is told in bytes.
@@ -32,6 +34,7 @@
 //! `pieces` change.
 #![tactic(auto)]
 
+mod called;
 mod cases;
 mod checks;
 mod closes;

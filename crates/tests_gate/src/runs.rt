@@ -13,7 +13,7 @@ use std::alloc::Global;
 use wire_base::{ByteText, ItemList, Memory};
 
 /// The most entries of a log, and the most bytes of them.
-const LOG_ROOM: usize = 262_144;
+pub const LOG_ROOM: usize = 262_144;
 
 /// A kind of calls.
 #[derive(Clone, Copy, Debug, PartialEq, Eq)]
@@ -83,7 +83,7 @@ pub struct Run {
     pub calls: Entries,
 }
 
-fn entries_of(alloc: Global, log: &Log) -> Result<Entries, Memory> {
+pub fn entries_of(alloc: Global, log: &Log) -> Result<Entries, Memory> {
     let mut entries = ItemList::empty(alloc);
     for k in 0..log.len() {
         if let Some(entry) = log.copy(alloc, k)? {

@@ -53,6 +53,10 @@ pub struct Numbers {
     pub report: usize,
     /// The call that fails, if one does.
     pub fault: Option<u64>,
+    /// The most bytes of the capture.
+    pub capture: usize,
+    /// The write of the capture that fails, if one does.
+    pub lost: Option<u64>,
 }
 
 /// What clients do.
@@ -75,6 +79,8 @@ impl Scenario {
                 limit: 1,
                 report: 65_536,
                 fault: None,
+                capture: 65_536,
+                lost: None,
             },
             sent: Vec::new(alloc),
             taken: Vec::new(alloc),
@@ -135,7 +141,7 @@ fn sends_all(alloc: Global, script: &mut Script, all: &[u8], way: Way) -> Result
 }
 
 /// The calls that fail: one, or none.
-fn faults(alloc: Global, fault: Option<u64>) -> Result<CallList, Memory> {
+pub fn faults(alloc: Global, fault: Option<u64>) -> Result<CallList, Memory> {
     let mut list = ItemList::empty(alloc);
     if let Some(call) = fault {
         list.push(call)?;

@@ -1,5 +1,5 @@
 use Rattle.gate_command.proofs.RunLaws.{history_map}
-use Rattle.gate_command.proofs.top_call.serve_lawfully.Goals as goal
+use Rattle.gate_command.proofs.serving.serve_lawfully.Goals as goal
 
 pub returns-clause-served : goal.returns-clause-served
 returns-clause-served g c = λ base e. history_map base _ _ _

@@ -1,0 +1,128 @@
+//! Calls of the gateway over scripted ports, with a capture, and what they did.
+
+use crate::runs::{Kind, LOG_ROOM, entries_of, kind_of};
+use crate::scenario::{Scenario, Way, faults, script_of};
+use gate_capture::{next_entry, next_words};
+use gate_command::{CaptureSink, Status, gateway};
+use gate_outside::{Entries, MemorySink, ScriptPorts};
+use std::alloc::Global;
+use tests_support::part;
+use wire_base::{ByteText, ItemList, Memory, Stop};
+
+/// What the gateway did for some words.
+#[derive(Drop)]
+pub struct Called {
+    pub status: Status,
+    /// What out holds.
+    pub report: ByteText,
+    /// What the sink for a capture holds.
+    pub capture: ByteText,
+    /// The calls with their answers, in order.
+    pub calls: Entries,
+}
+
+/// Calls the gateway. The capture has room for so many bytes, and the write with this number fails,
+/// if one is told.
+pub fn call_gateway(
+    alloc: Global,
+    scenario: &Scenario,
+    words: &Vec<String>,
+    room: usize,
+    lost: Option<u64>,
+) -> Result<Called, Memory> {
+    let script = script_of(alloc, scenario, Way::Units, scenario.numbers.fault)?;
+    let mut report = MemorySink::new(alloc, scenario.numbers.report, ItemList::empty(alloc))?;
+    let mut capture = CaptureSink {
+        sink: MemorySink::new(alloc, room, faults(alloc, lost)?)?,
+    };
+    let mut ports = ScriptPorts::new(alloc, script, LOG_ROOM, LOG_ROOM)?;
+    let status = gateway(alloc, words, &mut ports, &mut report, &mut capture);
+    Ok(Called {
+        status,
+        report: ByteText::copy_of(alloc, report.held())?,
+        capture: ByteText::copy_of(alloc, capture.sink.held())?,
+        calls: entries_of(alloc, ports.log())?,
+    })
+}
+
+/// How many entries stand whole in the front of a capture; `None` where the start doesn't.
+fn whole_entries(alloc: Global, bytes: &[u8]) -> Result<Option<usize>, Memory> {
+    let Ok((_, mut rest)) = next_words(bytes.len(), bytes) else {
+        return Ok(None);
+    };
+    let mut count = 0usize;
+    for _ in 0..bytes.len() {
+        match next_entry(alloc, bytes.len(), rest) {
+            Ok((_, after)) => rest = after,
+            Err(Stop::Fault(_)) => return Ok(Some(count)),
+            Err(Stop::Memory) => return Err(Memory),
+        }
+        count = count.saturating_add(1);
+    }
+    Ok(Some(count))
+}
+
+/// Behind a place ends are shut and nothing else is called; the first is made there, whatever it
+/// is.
+fn only_shuts_from(calls: &Entries, at: usize) -> bool {
+    for k in 0..calls.len() {
+        if let Some(entry) = calls.get(k)
+            && k > at
+            && kind_of(entry) != Kind::Shut
+        {
+            return false;
+        }
+    }
+    calls.len() > at
+}
+
+/// The call whose entry was lost is the last but for shuts; where the start was lost, none is made.
+fn stops_there(alloc: Global, call: &Called) -> Result<bool, Memory> {
+    match whole_entries(alloc, call.capture.as_slice())? {
+        Some(count) => Ok(only_shuts_from(&call.calls, count)),
+        None => Ok(call.calls.len() == 0),
+    }
+}
+
+/// What a capture holds that failed is a front part of the whole one, and the service ended for
+/// that.
+fn is_front(alloc: Global, call: &Called, whole: &Called) -> Result<bool, Memory> {
+    let (held, all) = (call.capture.as_slice(), whole.capture.as_slice());
+    let is_part = held.len() < all.len() && held == part(all, 0, held.len());
+    let told = call.report.as_slice().ends_with(b"fault: capture\n");
+    Ok(is_part && told && call.status == Status::Outside && stops_there(alloc, call)?)
+}
+
+/// The capture fails at each of its writes, and has room for fewer bytes than it needs: how many
+/// bytes and writes it has, and what broke a rule.
+pub fn put_uncaptured(
+    alloc: Global,
+    scenario: &Scenario,
+    words: &Vec<String>,
+    out: &mut String,
+) -> Result<(), Memory> {
+    let whole = call_gateway(alloc, scenario, words, scenario.numbers.capture, None)?;
+    let size = whole.capture.as_slice().len();
+    let mut writes = 0usize;
+    write!(out, "uncaptured: {size} bytes")?;
+    for k in 0..size {
+        let call = call_gateway(alloc, scenario, words, k, None)?;
+        if call.capture.as_slice().len() != k || !is_front(alloc, &call, &whole)? {
+            write!(out, ", not room {k}")?;
+        }
+        let call = call_gateway(
+            alloc,
+            scenario,
+            words,
+            scenario.numbers.capture,
+            Some(k as u64),
+        )?;
+        let failed = call.status != whole.status;
+        if failed && (writes != k || !is_front(alloc, &call, &whole)?) {
+            write!(out, ", not write {k}")?;
+        }
+        writes = writes.saturating_add(usize::from(failed));
+    }
+    write!(out, ", {writes} writes\n")?;
+    Ok(())
+}
