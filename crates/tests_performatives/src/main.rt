@@ -1,0 +1,23 @@
+//! Cases of performatives of AMQP 1.0: reads them line by line, and prints what `performatives_10`
+//! answers.
+//! Both the lines and what must be printed come from tools/make_performative_cases.py.
+//!
+//! | Line | Answer |
+//! |---|---|
+//! | `read BYTES` | the performative, the offset behind it, and what is written of it |
+//! | `cuts BYTES` | the same, and each shorter length that isn't cut off at its length |
+//!
+//! What is written is `=` where it is the same bytes, and `-` where nothing can be. A fault is
+//! printed as it stands.
+#![tactic(auto)]
+
+mod cases;
+mod perfs;
+
+use cases::CasesOfPerfs;
+use std::io;
+use tests_support::answer_lines;
+
+fn main(rt: HostRuntime) -> io::Result<()> {
+    answer_lines(&rt, &mut CasesOfPerfs)
+}

@@ -1,0 +1,67 @@
+//! Cases of performatives: what is printed of a line.
+
+use performatives_10::{Perf, has_text, put_perf, read_perf};
+use std::alloc::Global;
+use tests_support::{bytes_of, part, put_bytes};
+use wire_base::{ByteText, Memory};
+
+/// What is written of a performative: `=` where it is what stood there, `-` where nothing can be.
+fn put_written(alloc: Global, out: &mut String, bytes: &[u8], perf: &Perf) -> Result<(), Memory> {
+    if !has_text(alloc, perf)? {
+        out.push_str(" | -")?;
+        return Ok(());
+    }
+    let mut text = ByteText::empty(alloc);
+    put_perf(alloc, &mut text, perf)?;
+    if text.as_slice() == bytes {
+        out.push_str(" | =")?;
+        return Ok(());
+    }
+    out.push_str(" |")?;
+    put_bytes(out, text.as_slice())
+}
+
+/// The performative with which bytes begin, the offset behind it and what is written of it, or the
+/// fault.
+fn put_answer(alloc: Global, out: &mut String, bytes: &[u8]) -> Result<(), Memory> {
+    match read_perf(alloc, bytes)? {
+        Ok((perf, after)) => {
+            write!(out, "{perf:?} | {after}")?;
+            put_written(alloc, out, part(bytes, 0, after), &perf)?;
+        }
+        Err(fault) => write!(out, "{fault:?}")?,
+    }
+    Ok(())
+}
+
+/// Each shorter length: those that aren't cut off at their length are told.
+fn put_cuts(alloc: Global, out: &mut String, bytes: &[u8]) -> Result<(), Memory> {
+    out.push_str(" | cuts")?;
+    for count in 0..bytes.len() {
+        let wanted = format!(in alloc; "Value(At {{ fault: Cut, at: {count} }})")?;
+        let mut found = String::new(alloc);
+        put_answer(alloc, &mut found, part(bytes, 0, count))?;
+        if found.as_str() != wanted.as_str() {
+            write!(out, ", at {count}: ")?;
+            out.push_str(found.as_str())?;
+        }
+    }
+    Ok(())
+}
+
+/// A case of performatives; whether it is one.
+pub fn put_line(alloc: Global, out: &mut String, line: &str) -> Result<bool, Memory> {
+    let (verb, rest) = line.split_once(' ').unwrap_or((line, ""));
+    let Some(bytes) = bytes_of(alloc, rest)? else {
+        return Ok(false);
+    };
+    match verb {
+        "read" => put_answer(alloc, out, bytes.as_slice())?,
+        "cuts" => {
+            put_answer(alloc, out, bytes.as_slice())?;
+            put_cuts(alloc, out, bytes.as_slice())?;
+        }
+        _ => return Ok(false),
+    }
+    Ok(true)
+}
