@@ -1,11 +1,12 @@
-//! The gateway as a program: real ports, the standard output and a file for the top call, and its status.
+//! The gateway as a program: real ports, the standard input and output and a file for the top call,
+//! and its status.
 #![tactic(auto)]
 
 mod capture_file;
 
 use capture_file::CaptureFile;
 use gate_command::{Asked, CaptureSink, Status, gateway, read_words};
-use gate_edge::{Outbox, OutboxSink, RealPorts, StandardOut, WriterSink, tell};
+use gate_edge::{Outbox, OutboxSink, ReaderSource, RealPorts, StandardOut, WriterSink, tell};
 use std::io;
 use std::process::ExitCode;
 use wire_base::{ByteText, Memory};
@@ -35,7 +36,7 @@ fn places_of(rt: &HostRuntime, words: &Vec<String>) -> Result<Places, Memory> {
             listen: Some(listen),
             capture,
         }),
-        Err(_) => Ok(Places {
+        Ok(Asked::Replay | Asked::ShowCapture) | Err(_) => Ok(Places {
             listen: None,
             capture: None,
         }),
@@ -60,7 +61,15 @@ fn run(rt: &HostRuntime, words: &Vec<String>) -> Result<Status, Memory> {
     let mut capture = CaptureSink {
         sink: WriterSink::new(file),
     };
-    let status = gateway(rt.alloc(), words, &mut ports, &mut out, &mut capture);
+    let mut input = ReaderSource::new(rt.alloc(), rt.reader())?;
+    let status = gateway(
+        rt.alloc(),
+        words,
+        &mut ports,
+        &mut input,
+        &mut out,
+        &mut capture,
+    );
     ports.finish();
     if outbox.finish(rt) {
         Ok(status)
@@ -77,15 +86,20 @@ fn unread(error: io::Error) -> Status {
     }
 }
 
-/// Why the program ends, where its status isn't 0.
+/// What the program can be asked.
+const USAGE: &str = "\
+usage: amqp_gate serve [--listen ADDRESS] [--pairs N] [--turns N] [--capture FILE]
+       amqp_gate replay < CAPTURE
+       amqp_gate show capture < CAPTURE";
+
+/// Why the program ends, where its status isn't 0 and the standard output doesn't say it.
 fn reason(status: Status) -> Option<&'static str> {
     match status {
-        Status::Ok => None,
-        Status::Usage => Some(
-            "usage: amqp_gate serve [--listen ADDRESS] [--pairs N] [--turns N] [--capture FILE]",
-        ),
+        // What a replay or a listing found stands on the standard output.
+        Status::Ok | Status::Differs | Status::BadInput => None,
+        Status::Usage => Some(USAGE),
         Status::Outside => Some(
-            "ended: no client can be accepted, or the standard output or the capture failed",
+            "ended: no client can be accepted, or the input, the output or the capture failed",
         ),
         Status::Memory => Some("ended: out of memory"),
         Status::TurnLimit => Some("ended: the turns asked for were made"),

@@ -8,3 +8,7 @@ pub mod LineLaws
 pub mod Distinct
 pub mod CommandLaws
 pub mod Texts
+pub mod Inputs
+pub mod Lines
+pub mod Replays
+pub mod Judging

@@ -1,5 +1,5 @@
 -- The text of the words: it is what joining makes of them, and it is short.
-use Rattle.std.proofs.Common.{◌≡◌, ℕ, ◌+◌, ◌-◌, ◌*◌, ◌<◌, ◌≤◌, ◌^◌, List, [], ◌∷◌, ◌++◌, length, take, drop, refl, sym, ◌∙◌, ap, arith, append-nil}
+use Rattle.std.proofs.Common.{◌≡◌, ℕ, ◌+◌, ◌-◌, ◌*◌, ◌<◌, ◌≤◌, ◌^◌, List, [], ◌∷◌, ◌++◌, length, take, drop, inl, inr, refl, sym, ◌∙◌, ap, arith, append-nil}
 use Rattle.std.specs.Prelude.{codes, map, sum_by}
 use Rattle.std.specs.List.{flat_map, join_by, join_with_byte}
 use Rattle.std.proofs.lemmas.List.{length-append, take_all}
@@ -7,7 +7,7 @@ use Rattle.std.proofs.lemmas.List.Sums.{sum_by-cons}
 use Rattle.gate_command.specs.declared.options.OptionName.{OptionName}
 use Rattle.gate_command.specs.declared.options.OptionName.TheVariants.{Listen, Pairs, Turns, Capture}
 use Rattle.gate_command.specs.declared.words.Asked.{Asked}
-use Rattle.gate_command.specs.Command.{Given, joined, apart, option_of, option_text, value_text, spelling, Asks, text_of}
+use Rattle.gate_command.specs.Command.{Given, joined, apart, option_of, option_text, value_text, spelling, IsCommand, Asks, text_of}
 
 -- joined with a byte between each two
 pub join_by-byte : {X : Type 0} (f : X → List ℕ) (c : ℕ) (xs : List X) → join_by f (c ∷ []) xs ≡ join_with_byte c (map f xs)
@@ -56,10 +56,16 @@ joined_within c (x ∷ y ∷ words) =
     omega (arith, joined_within c (y ∷ words), sum_by-cons length x (y ∷ words), length-append x (c ∷ join_with_byte c (y ∷ words)))
 
 -- so the length of a command line's text fits its field
-pub text_is_small : (words : List (List ℕ)) (asked : Asked) → Asks words asked → length (text_of words) < 2 ^ 32
-text_is_small words asked asks =
-    let given = asks.command.given in
-    let rest : drop 1 words ≡ flat_map spelling given = ap (drop 1) asks.command.spelled in
-    let short : sum_by length (flat_map spelling given) ≤ 65536 = rw (← rest) asks.within.short in
+options_are_small : (words : List (List ℕ)) (given : List Given) → drop 1 words ≡ flat_map spelling given → sum_by length (drop 1 words) ≤ 65536 → length (text_of words) < 2 ^ 32
+options_are_small words given rest within =
+    let short : sum_by length (flat_map spelling given) ≤ 65536 = rw (← rest) within in
     let small : length (join_with_byte 10 (flat_map spelling given)) < 2 ^ 32 = omega (arith, short, few_words given, joined_within 10 (flat_map spelling given)) in
     rw rest small
+
+pub text_is_small : (words : List (List ℕ)) (asked : Asked) → Asks words asked → length (text_of words) < 2 ^ 32
+text_is_small words asked asks = by asks.command
+  where
+    by : IsCommand words asked → length (text_of words) < 2 ^ 32
+    by (inl command) = options_are_small words command.given (ap (drop 1) command.spelled) asks.within.short
+    by (inr (inl (e, a))) = rw e (omega arith)
+    by (inr (inr (e, a))) = rw e (omega arith)

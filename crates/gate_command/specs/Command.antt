@@ -1,11 +1,12 @@
 -- The command line: which lists of words there are, and what each asks for. A word is the list of its bytes.
-use Rattle.std.specs.Prelude.{◌≡◌, ◌≢◌, ℕ, ◌-◌, ◌≤◌, ◌<◌, ◌==◌, Bool, false, ⊤, List, [], ◌∷◌, ◌++◌, length, take, drop, sum_by, slice_index, slice_index_or, Option, Some, None, unwrap_or, codes, decimal}
-use Rattle.std.specs.List.{flat_map, join_with_byte, list_any, AllByRecursion}
+use Rattle.std.specs.Prelude.{◌≡◌, ◌≢◌, ◌⊎◌, ℕ, ◌-◌, ◌≤◌, ◌<◌, ◌==◌, Bool, false, ⊤, List, [], ◌∷◌, ◌++◌, length, take, drop, sum_by, slice_index, slice_index_or, Option, Some, None, unwrap_or, codes, decimal}
+use Rattle.std.specs.List.{flat_map, join_with_byte, list_any, slice_split, AllByRecursion}
 use Rattle.gate_runs.specs.declared.limits.Limits.{Limits}
+use Rattle.gate_runs.specs.Form as form
 use Rattle.gate_command.specs.declared.options.OptionName.{OptionName}
 use Rattle.gate_command.specs.declared.options.OptionName.TheVariants.{Listen, Pairs, Turns, Capture}
 use Rattle.gate_command.specs.declared.words.Asked.{Asked}
-use Rattle.gate_command.specs.declared.words.Asked.TheVariants.{Serve}
+use Rattle.gate_command.specs.declared.words.Asked.TheVariants.{Serve, Replay, ShowCapture}
 use Rattle.gate_command.specs.declared.words.Misplaced.{Misplaced}
 use Rattle.gate_command.specs.declared.words.Misplaced.TheVariants.{Word, End}
 
@@ -101,25 +102,34 @@ settings_with s (g ∷ gs) = settings_with (with_setting (setting_of g) s) gs
 abbrev pub asked_of : Settings → Asked
 asked_of s = Serve (record { pairs = s.pairs; turns = unwrap_or s.turns 140737488355328 }) (unwrap_or s.listen (codes "127.0.0.1:5672")) s.capture
 
--- the limits of the run that is asked for
-abbrev pub limits_of : Asked → Limits
-limits_of (Serve limits address path) = limits
-
--- where to write the capture of the run that is asked for, if one is
-abbrev pub path_of : Asked → Option (List ℕ)
-path_of (Serve limits address path) = path
+-- the limits of a run that is asked for are in form
+abbrev pub AreInForm : Asked → Type 0
+AreInForm (Serve limits address path) = form.IsInForm limits
+AreInForm Replay = ⊤
+AreInForm ShowCapture = ⊤
 
 -- the words after the first, with a line feed between each two
 abbrev pub text_of : List (List ℕ) → List ℕ
 text_of words = join_with_byte 10 (drop 1 words)
 
 -- line feeds and sizes aside, the words are `serve` and options that ask for this
-pub record IsCommand (words : List (List ℕ)) (asked : Asked) : Type 0 where
+pub record IsService (words : List (List ℕ)) (asked : Asked) : Type 0 where
   pub given : List Given
   pub spelled : words ≡ codes "serve" ∷ flat_map spelling given
   pub in_form : AllByRecursion IsInForm given
   pub once : AreDistinct given
   pub meant : asked ≡ asked_of (settings_with nothing_given given)
+
+-- or one of the other commands
+abbrev pub IsCommand : List (List ℕ) → Asked → Type 0
+IsCommand words asked = IsService words asked
+    ⊎ ((words ≡ codes "replay" ∷ []) × (asked ≡ Replay))
+    ⊎ ((words ≡ codes "show" ∷ codes "capture" ∷ []) × (asked ≡ ShowCapture))
+
+-- the words that a text tells after `serve`, with a line feed between each two; an empty text tells none
+abbrev pub words_of : List ℕ → List (List ℕ)
+words_of [] = codes "serve" ∷ []
+words_of (byte ∷ bytes) = codes "serve" ∷ slice_split (λ b. b == 10) (byte ∷ bytes)
 
 -- some byte is a line feed
 abbrev pub has_line_feed : List ℕ → Bool

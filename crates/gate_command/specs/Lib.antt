@@ -1,4 +1,8 @@
 pub mod Command
+pub mod Input
 pub mod Outcome
 pub mod Reading
+pub mod Recorded
+pub mod Replaying
+pub mod Runs
 pub mod View

@@ -1,27 +1,28 @@
--- What the top call does with its words, its ports, out and the sink for a capture.
+-- What the top call does with its words, its ports, its input, out and the sink for a capture.
 use Rattle.std.specs.Prelude.{◌≡◌, ℕ, ◌⊎◌, List, ◌++◌, Option, None, Some, codes, decimal}
 use Rattle.gate_outside.specs.declared.log.LogEntry.{LogEntry}
 use Rattle.gate_outside.specs.Counts.{Rose}
 use Rattle.gate_outside.specs.Streams.{Appends, AppendsFront}
 use Rattle.gate_capture.specs.Captures.{start}
-use Rattle.gate_pair.specs.Meaning.{pair_words}
 use Rattle.gate_runs.specs.declared.limits.Limits.{Limits}
 use Rattle.gate_runs.specs.declared.served.Served.{Served}
 use Rattle.gate_runs.specs.declared.served.Served.TheVariants as served
-use Rattle.gate_runs.specs.Marks.{History, HasHistory}
-use Rattle.gate_runs.specs.Serving.{IsServed}
-use Rattle.gate_laws.specs.Laws.{IsLawfulRun}
+use Rattle.gate_runs.specs.Marks.{HasHistory}
 use Rattle.gate_command.specs.declared.top_call.Status.{Status}
 use Rattle.gate_command.specs.declared.top_call.Status.TheVariants as status
-use Rattle.gate_command.specs.declared.words.Asked.{Asked}
+use Rattle.gate_command.specs.declared.words.Asked.TheVariants.{Serve, Replay, ShowCapture}
 use Rattle.gate_command.specs.declared.words.Misplaced.{Misplaced}
 use Rattle.gate_command.specs.declared.words.Misplaced.TheVariants.{Word, End}
-use Rattle.gate_command.specs.Command.{Asks, CeasesAt, limits_of, path_of, text_of}
+use Rattle.gate_command.specs.Command.{Asks, CeasesAt, text_of}
+use Rattle.gate_command.specs.Recorded.{IsReplay, IsListing, Says}
+use Rattle.gate_command.specs.Runs.{IsRunOf}
 
 -- the number of a status
 abbrev pub number_of : Status → ℕ
 number_of status.Ok = 0
+number_of status.Differs = 1
 number_of status.Usage = 2
+number_of status.BadInput = 3
 number_of status.Outside = 4
 number_of status.Memory = 5
 number_of status.TurnLimit = 6
@@ -64,16 +65,9 @@ around faults held kept log = record { faults = faults; held = held; kept = kept
 pub record IsMisread (words : List (List ℕ)) (answer : Status) (old new : Around) : Type 0 where
   pub misplaced : Misplaced
   pub place : CeasesAt words misplaced
-  pub told : ((answer ≡ status.Usage) × Appends old.held new.held (usage_line misplaced))
-      ⊎ ((answer ≡ status.Outside) × AppendsFront old.held new.held (usage_line misplaced))
+  pub told : Says status.Usage (usage_line misplaced) answer old.held new.held
   pub unrecorded : new.kept ≡ old.kept
   pub silent : new.log ≡ old.log
-
--- the calls are a run of the service, with what the report and the record of calls held before and hold after it, and all its
--- laws hold of it
-pub record IsRunOf (c : Limits) (how : Served) (count : ℕ) (held held' kept kept' : Option (List ℕ)) (m : History) : Type 0 where
-  pub served : IsServed pair_words c how count held held' kept kept' m
-  pub lawful : IsLawfulRun c m
 
 -- a run of the service was made, and this is its status
 pub record Ran (c : Limits) (answer : Status) (held held' kept kept' : Option (List ℕ)) (log log' : Option (List LogEntry)) : Type 0 where
@@ -83,12 +77,16 @@ pub record Ran (c : Limits) (answer : Status) (held held' kept kept' : Option (L
   pub status : answer ≡ status_of how
   pub served : (base : List LogEntry) → log ≡ Some base → HasHistory base log' (IsRunOf c how count held held' kept kept')
 
+-- the words ask for a run of the service with these limits, and for its capture where a path is given
+abbrev pub AsksToServe : List (List ℕ) → Limits → Option (List ℕ) → Type 0
+AsksToServe words c path = (listen : List ℕ) × Asks words (Serve c listen path)
+
 -- the words ask for a run of the service of which no record is kept, and it was made
 pub record IsRun (words : List (List ℕ)) (answer : Status) (old new : Around) : Type 0 where
-  pub asked : Asked
-  pub asks : Asks words asked
-  pub unwanted : path_of asked ≡ None
-  pub ran : Ran (limits_of asked) answer old.held new.held None None old.log new.log
+  pub limits : Limits
+  pub listen : List ℕ
+  pub asks : Asks words (Serve limits listen None)
+  pub ran : Ran limits answer old.held new.held None None old.log new.log
   pub unrecorded : new.kept ≡ old.kept
 
 -- the start of a capture with this text of the words was written, and behind it the calls of a run of the service
@@ -106,11 +104,11 @@ pub record FailsToBegin (text : List ℕ) (answer : Status) (old new : Around) :
 
 -- the words ask for a run of the service and a capture of its calls
 pub record IsCapturedRun (words : List (List ℕ)) (answer : Status) (old new : Around) : Type 0 where
-  pub asked : Asked
-  pub asks : Asks words asked
+  pub limits : Limits
+  pub listen : List ℕ
   pub path : List ℕ
-  pub wanted : path_of asked ≡ Some path
-  pub run : BeginsAndRuns (text_of words) (limits_of asked) answer old new ⊎ FailsToBegin (text_of words) answer old new
+  pub asks : Asks words (Serve limits listen (Some path))
+  pub run : BeginsAndRuns (text_of words) limits answer old new ⊎ FailsToBegin (text_of words) answer old new
 
 -- there was no memory for the words, and nothing was done
 pub record IsUnread (answer : Status) (old new : Around) : Type 0 where
@@ -119,7 +117,25 @@ pub record IsUnread (answer : Status) (old new : Around) : Type 0 where
   pub unrecorded : new.kept ≡ old.kept
   pub silent : new.log ≡ old.log
 
--- one of these
-abbrev pub Outcome : List (List ℕ) → Status → Around → Around → Type 0
-Outcome words answer old new =
+-- one of these, none of which reads the input
+abbrev pub WithoutInput : List (List ℕ) → Status → Around → Around → Type 0
+WithoutInput words answer old new =
     IsMisread words answer old new ⊎ IsRun words answer old new ⊎ IsCapturedRun words answer old new ⊎ IsUnread answer old new
+
+-- the words ask to make the run of a capture again. Of the input there is told what it had left before and after
+pub record IsReplaying (words : List (List ℕ)) (answer : Status) (old new : Around) (left left' : Option (List ℕ)) : Type 0 where
+  pub asks : Asks words Replay
+  pub replay : IsReplay answer left left' old.held new.held
+  pub unrecorded : new.kept ≡ old.kept
+  pub silent : new.log ≡ old.log
+
+-- the words ask to list a capture
+pub record IsShowing (words : List (List ℕ)) (answer : Status) (old new : Around) (left left' : Option (List ℕ)) : Type 0 where
+  pub asks : Asks words ShowCapture
+  pub listing : IsListing answer left left' old.held new.held
+  pub unrecorded : new.kept ≡ old.kept
+  pub silent : new.log ≡ old.log
+
+abbrev pub Outcome : List (List ℕ) → Status → Around → Around → Option (List ℕ) → Option (List ℕ) → Type 0
+Outcome words answer old new left left' =
+    ((left' ≡ left) × WithoutInput words answer old new) ⊎ IsReplaying words answer old new left left' ⊎ IsShowing words answer old new left left'

@@ -1,13 +1,15 @@
 -- The reading of the words, one after another, as the code does it.
-use Rattle.std.specs.Prelude.{ℕ, ◌+◌, ◌-◌, ◌==◌, ◌||◌, ◌&&◌, nat_lt, nat_le, Bool, if◌then◌else◌, List, [], ◌∷◌, length, Option, Some, None, is_none, option_map, Result, Ok, Err, codes, slice_index, bytes_eq}
+use Rattle.std.specs.Prelude.{ℕ, ◌+◌, ◌-◌, ◌==◌, ◌||◌, ◌&&◌, nat_lt, nat_le, Bool, true, false, if◌then◌else◌, List, [], ◌∷◌, length, Option, Some, None, is_none, option_map, Result, Ok, Err, codes, slice_index, bytes_eq}
 use Rattle.std.specs.Option.{option_and_then, option_map_or}
 use Rattle.std.specs.Str.{all_ascii_digits}
 use Rattle.std.specs.Str.Parse.{digits_value}
 use Rattle.gate_command.specs.declared.options.OptionName.{OptionName}
 use Rattle.gate_command.specs.declared.options.OptionName.TheVariants.{Listen, Pairs, Turns, Capture}
+use Rattle.gate_command.specs.declared.words.Asked.{Asked}
+use Rattle.gate_command.specs.declared.words.Asked.TheVariants.{Replay, ShowCapture}
 use Rattle.gate_command.specs.declared.words.Misplaced.{Misplaced}
 use Rattle.gate_command.specs.declared.words.Misplaced.TheVariants.{Word, End}
-use Rattle.gate_command.specs.Command.{Setting, listen_at, pair_count, turn_count, capture_to, Settings, with_setting, nothing_given, begins_with_minus, has_line_feed}
+use Rattle.gate_command.specs.Command.{Setting, listen_at, pair_count, turn_count, capture_to, Settings, with_setting, nothing_given, asked_of, begins_with_minus, has_line_feed}
 
 -- where the reading stands: between options, or after an option's name, whose value is the next word
 pub data State : Type 0 where
@@ -83,7 +85,42 @@ words_in k room state [] = ended state
 words_in k room state (word ∷ words) =
     option_map_or (λ next. words_in (k + 1) (room - length word) next words) (word_in room state word) (Err (Word k))
 
+-- a command, with what its options say
+pub data Request : Type 0 where
+  serving : Settings → Request
+  replaying : Request
+  showing : Request
+
+-- what it asks for
+abbrev pub asked_by : Request → Asked
+asked_by (serving s) = asked_of s
+asked_by replaying = Replay
+asked_by showing = ShowCapture
+
+-- no word follows
+abbrev pub last_in : ℕ → Request → List (List ℕ) → Result Request Misplaced
+last_in k request [] = Ok request
+last_in k request (word ∷ words) = Err (Word k)
+
+-- after `show`
+abbrev pub shown_in : List (List ℕ) → Result Request Misplaced
+shown_in [] = Err End
+shown_in (word ∷ words) = if bytes_eq word (codes "capture") then last_in 3 showing words else Err (Word 2)
+
+-- after `serve`
+abbrev pub served_in : Result Settings Misplaced → Result Request Misplaced
+served_in (Ok s) = Ok (serving s)
+served_in (Err misplaced) = Err misplaced
+
+-- after the first word, which is one of three or none of them
+abbrev pub after_first : (serve replay show : Bool) → List (List ℕ) → Result Request Misplaced
+after_first true replay show words = served_in (words_in 2 65536 (between nothing_given) words)
+after_first false true show words = last_in 2 replaying words
+after_first false false true words = shown_in words
+after_first false false false words = Err (Word 1)
+
 -- all words
-unfoldable pub command_in : List (List ℕ) → Result Settings Misplaced
+unfoldable pub command_in : List (List ℕ) → Result Request Misplaced
 command_in [] = Err End
-command_in (word ∷ words) = if bytes_eq word (codes "serve") then words_in 2 65536 (between nothing_given) words else Err (Word 1)
+command_in (word ∷ words) =
+    after_first (bytes_eq word (codes "serve")) (bytes_eq word (codes "replay")) (bytes_eq word (codes "show")) words

@@ -5,7 +5,9 @@ use Rattle.gate_command.specs.declared.options.Progress.{Progress}
 use Rattle.gate_command.specs.declared.options.Progress.TheVariants.{Between, Awaiting}
 use Rattle.gate_command.specs.declared.words.Misplaced.{Misplaced}
 use Rattle.gate_command.specs.Command.{Settings}
-use Rattle.gate_command.specs.Reading.{State, between, awaiting}
+use Rattle.gate_command.specs.declared.words.Command.{Command}
+use Rattle.gate_command.specs.declared.words.Command.TheVariants as command
+use Rattle.gate_command.specs.Reading.{State, between, awaiting, Request, serving, replaying, showing}
 
 -- what the options say that were read
 abbrev pub settings_of : Gathered → Settings
@@ -20,3 +22,14 @@ state_of (Awaiting name g) = awaiting name (settings_of g)
 abbrev pub answer_of : Result Gathered Misplaced → Result Settings Misplaced
 answer_of (Ok g) = Ok (settings_of g)
 answer_of (Err misplaced) = Err misplaced
+
+-- a command that was read
+abbrev pub request_of : Command → Request
+request_of (command.Serve g) = serving (settings_of g)
+request_of command.Replay = replaying
+request_of command.ShowCapture = showing
+
+-- what the reading of all words answers
+abbrev pub reply_of : Result Command Misplaced → Result Request Misplaced
+reply_of (Ok c) = Ok (request_of c)
+reply_of (Err misplaced) = Err misplaced

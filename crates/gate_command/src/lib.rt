@@ -1,8 +1,14 @@
 //! The top call of the gateway, and the reading of its command line.
 #![tactic(auto)]
 
+mod input;
 mod options;
+mod recorded;
+mod replay;
+mod rerun;
+mod saying;
 mod serving;
+mod told_words;
 mod top_call;
 mod words;
 

@@ -28,7 +28,8 @@ pub struct Gathered<'a> {
     pub capture: Option<&'a str>,
 }
 
-/// Where the reading stands: between options, or after an option's name, whose value is the next word.
+/// Where the reading stands: between options, or after an option's name, whose value is the next
+/// word.
 #[derive(Clone, Copy, Debug)]
 pub enum Progress<'a> {
     Between(Gathered<'a>),

@@ -1,12 +1,13 @@
 //! Runs of the service, with and without a capture of its calls.
 
-ghost use Rattle.std.specs.Prelude.{◌≡◌, ◌≢◌, ℕ, ◌≤◌, ◌<◌, ◌^◌, ◌⊎◌, List, [], length, true, false, Option, Some, None};
+ghost use Rattle.std.specs.Prelude.{◌≡◌, ◌≢◌, ◌≤◌, ◌<◌, ◌^◌, ◌⊎◌, List, [], length, Some, None};
 ghost use Rattle.gate_outside.specs.Counts.{Rose};
 ghost use Rattle.gate_outside.specs.declared.log.LogEntry.{LogEntry};
 ghost use Rattle.gate_runs.specs.declared.served.Outside.TheVariants as Outside;
 ghost use Rattle.gate_runs.specs.Form.{IsInForm};
 ghost use Rattle.gate_runs.specs.Marks.{HasHistory};
-ghost use Rattle.gate_command.specs.Outcome.{status_of, lost_line, around, IsRunOf, Ran, Tells, BeginsAndRuns, FailsToBegin};
+ghost use Rattle.gate_command.specs.Outcome.{status_of, lost_line, around, Ran, Tells, BeginsAndRuns, FailsToBegin};
+ghost use Rattle.gate_command.specs.Runs.{IsRunOf};
 
 use crate::top_call::Status;
 use gate_capture::{NoCapture, Recorder, write_entry, write_start};
@@ -46,7 +47,7 @@ fn status_of(served: Served) -> Status
 }
 
 /// Serves, and records the calls. All laws of a run hold of the calls that were made.
-fn serve_lawfully<P: Ports, K: Sink, T: Recorder>(
+pub fn serve_lawfully<P: Ports, K: Sink, T: Recorder>(
     alloc: Global,
     limits: &Limits,
     ports: &mut P,

@@ -1,28 +1,35 @@
-//! The top call: a command line, ports, out, and a sink for a capture.
+//! The top call: a command line, ports, an input, out, and a sink for a capture.
 
-ghost use Rattle.std.specs.Prelude.{◌≡◌, ◌≢◌, ◌≤◌, ◌⊎◌, List, [], map, true, false, IfOk};
+ghost use Rattle.std.specs.Prelude.{◌≡◌, ◌≢◌, ◌≤◌, ◌⊎◌, [], map, true, false, IfOk};
 ghost use Rattle.std.specs.String.{string_bytes};
 ghost use Rattle.gate_outside.specs.Counts.{Rose};
 ghost use Rattle.gate_outside.specs.Streams.{Appends, AppendsFront};
 ghost use Rattle.gate_runs.specs.Form.{IsInForm};
-ghost use Rattle.gate_command.specs.Command.{Asks, limits_of, text_of};
-ghost use Rattle.gate_command.specs.Outcome.{number_of, usage_line, around, Outcome};
+ghost use Rattle.gate_command.specs.Command.{AreInForm, Asks, text_of};
+ghost use Rattle.gate_command.specs.Outcome.{number_of, usage_line, around, AsksToServe, Outcome, WithoutInput};
 
+use crate::recorded::{run_replay, run_show};
 use crate::serving::{CaptureSink, begin_and_run, run_unrecorded};
 use crate::words::{Asked, Misplaced, read_words};
-use gate_outside::{Ports, Sink, write_all};
+use gate_outside::{Ports, Sink, Source, write_all};
+use gate_runs::Limits;
 use gate_turns::tell_number;
 use std::alloc::Global;
-use wire_base::Memory;
+use wire_base::{ByteText, Memory};
 
 /// The status with which the program ends.
 #[derive(Clone, Copy, Debug, PartialEq, Eq)]
 pub enum Status {
-    /// 0: `idle` answered `Stop`, or the pairs asked for were accepted and have closed.
+    /// 0: `idle` answered `Stop`, or the pairs asked for were accepted and have closed. Or the
+    /// input is a capture whose run was the same again, or that was listed.
     Ok,
+    /// 1: the calls of a replay aren't the recorded ones.
+    Differs,
     /// 2: the words aren't a command line.
     Usage,
-    /// 4: accept, out or the capture failed.
+    /// 3: the input is no capture of a run, or has 268,435,456 bytes or more.
+    BadInput,
+    /// 4: accept, the input, out or the capture failed.
     Outside,
     /// 5: there was no memory outside of any pair.
     Memory,
@@ -37,7 +44,9 @@ impl Status {
     {
         match self {
             Status::Ok => 0,
+            Status::Differs => 1,
             Status::Usage => 2,
+            Status::BadInput => 3,
             Status::Outside => 4,
             Status::Memory => 5,
             Status::TurnLimit => 6,
@@ -68,32 +77,28 @@ fn text_after_first(alloc: Global, words: &Vec<String>) -> Result<String, Memory
     }
 }
 
-/// Serves as asked.
-fn run_as_asked<P: Ports, K: Sink, C: Sink>(
+/// Serves with these limits, and writes a capture where one is wanted.
+fn serve_as_asked<P: Ports, K: Sink, C: Sink>(
     alloc: Global,
     words: &Vec<String>,
-    asked: &Asked,
+    limits: &Limits,
+    path: &Option<ByteText>,
     ports: &mut P,
     out: &mut K,
     capture: &mut CaptureSink<C>,
 ) -> Status
     requires pairs { P.pairs ports.old ≡ 0 }
     requires ends { P.ends ports.old ≡ [] }
-    requires asks { Asks (map string_bytes words.now.items) asked.now }
-    requires form { IsInForm (limits_of asked.now) }
+    requires asks { AsksToServe (map string_bytes words.now.items) limits.now path.now }
+    requires form { IsInForm limits.now }
     ensures ends { P.ends ports.new ≡ [] }
     ensures outside { result ≡ Status.Outside → Rose (P.faults ports.old) (P.faults ports.new)
         ⊎ Rose (K.faults out.old) (K.faults out.new) ⊎ Rose (C.faults capture.old.sink) (C.faults capture.new.sink) }
     ensures never { result ≢ Status.Usage }
-    ensures outcome { Outcome (map string_bytes words.now.items) result
+    ensures outcome { WithoutInput (map string_bytes words.now.items) result
         (around (K.faults out.old) (K.held out.old) (C.held capture.old.sink) (P.log ports.old))
         (around (K.faults out.new) (K.held out.new) (C.held capture.new.sink) (P.log ports.new)) }
 {
-    let Asked::Serve {
-        limits,
-        listen: _,
-        capture: path,
-    } = asked;
     if path.is_none() {
         return run_unrecorded(alloc, limits, ports, out);
     }
@@ -103,12 +108,50 @@ fn run_as_asked<P: Ports, K: Sink, C: Sink>(
     }
 }
 
-/// Does what the words ask for: serves over the ports, and writes the report to out. Where a capture is asked for, it writes
-/// its start and each call to the capture. Where the words aren't a command line, it writes the place instead.
-pub fn gateway<P: Ports, K: Sink, C: Sink>(
+/// Does what is asked for.
+fn run_as_asked<P: Ports, S: Source, K: Sink, C: Sink>(
+    alloc: Global,
+    words: &Vec<String>,
+    asked: &Asked,
+    ports: &mut P,
+    input: &mut S,
+    out: &mut K,
+    capture: &mut CaptureSink<C>,
+) -> Status
+    requires pairs { P.pairs ports.old ≡ 0 }
+    requires ends { P.ends ports.old ≡ [] }
+    requires asks { Asks (map string_bytes words.now.items) asked.now }
+    requires form { AreInForm asked.now }
+    ensures ends { P.ends ports.new ≡ [] }
+    ensures outside { result ≡ Status.Outside
+        → Rose (P.faults ports.old) (P.faults ports.new) ⊎ Rose (S.faults input.old) (S.faults input.new)
+        ⊎ Rose (K.faults out.old) (K.faults out.new) ⊎ Rose (C.faults capture.old.sink) (C.faults capture.new.sink) }
+    ensures never { result ≢ Status.Usage }
+    ensures outcome { Outcome (map string_bytes words.now.items) result
+        (around (K.faults out.old) (K.held out.old) (C.held capture.old.sink) (P.log ports.old))
+        (around (K.faults out.new) (K.held out.new) (C.held capture.new.sink) (P.log ports.new))
+        (S.left input.old) (S.left input.new) }
+{
+    match asked {
+        Asked::Serve {
+            limits,
+            listen: _,
+            capture: path,
+        } => serve_as_asked(alloc, words, limits, path, ports, out, capture),
+        Asked::Replay => run_replay(alloc, input, out),
+        Asked::ShowCapture => run_show(alloc, input, out),
+    }
+}
+
+/// Does what the words ask for: serves over the ports, and writes the report to out. Where a
+/// capture is asked for, it writes its start and each call to the capture. Or reads a capture from
+/// the input, makes its run again or lists it, and writes to out what it found. Where the words
+/// aren't a command line, it writes the place instead.
+pub fn gateway<P: Ports, S: Source, K: Sink, C: Sink>(
     alloc: Global,
     words: &Vec<String>,
     ports: &mut P,
+    input: &mut S,
     out: &mut K,
     capture: &mut CaptureSink<C>,
 ) -> Status
@@ -118,20 +161,25 @@ pub fn gateway<P: Ports, K: Sink, C: Sink>(
     // All ends are shut.
     ensures ends { P.ends ports.new ≡ [] }
 
-    // Accept, out or the capture failed, and its count of faults rose.
-    ensures outside { result ≡ Status.Outside → Rose (P.faults ports.old) (P.faults ports.new)
+    // Accept, the input, out or the capture failed, and its count of faults rose.
+    ensures outside { result ≡ Status.Outside
+        → Rose (P.faults ports.old) (P.faults ports.new) ⊎ Rose (S.faults input.old) (S.faults input.new)
         ⊎ Rose (K.faults out.old) (K.faults out.new) ⊎ Rose (C.faults capture.old.sink) (C.faults capture.new.sink) }
 
-    // Words that aren't a command line call no port, and nothing is written to the capture.
-    ensures usage { result ≡ Status.Usage → (ports.new ≡ ports.old) × (capture.new ≡ capture.old) }
+    // Words that aren't a command line call no port, the input isn't read, and nothing is written
+    // to the capture.
+    ensures usage { result ≡ Status.Usage
+        → (ports.new ≡ ports.old) × (input.new ≡ input.old) × (capture.new ≡ capture.old) }
 
-    // What the words ask for was done, or out holds the place at which they cease to be a command line.
+    // What the words ask for was done, or out holds the place at which they cease to be a command
+    // line.
     ensures outcome { Outcome (map string_bytes words.now.items) result
         (around (K.faults out.old) (K.held out.old) (C.held capture.old.sink) (P.log ports.old))
-        (around (K.faults out.new) (K.held out.new) (C.held capture.new.sink) (P.log ports.new)) }
+        (around (K.faults out.new) (K.held out.new) (C.held capture.new.sink) (P.log ports.new))
+        (S.left input.old) (S.left input.new) }
 {
     match read_words(alloc, words) {
-        Ok(Ok(asked)) => run_as_asked(alloc, words, &asked, ports, out, capture),
+        Ok(Ok(asked)) => run_as_asked(alloc, words, &asked, ports, input, out, capture),
         Ok(Err(misplaced)) => {
             if tell_usage(out, misplaced) {
                 Status::Usage

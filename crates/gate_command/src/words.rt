@@ -1,12 +1,11 @@
 //! The command line: the one reading of its words.
 
-ghost use Rattle.std.specs.Prelude.{◌≡◌, ℕ, ◌+◌, ◌-◌, ◌≤◌, List, map, option_copied, IfOk, IfErr};
+ghost use Rattle.std.specs.Prelude.{◌≡◌, ◌+◌, ◌-◌, map, option_copied, IfOk, IfErr};
 ghost use Rattle.std.specs.String.{string_bytes};
-ghost use Rattle.gate_runs.specs.Form.{IsInForm};
-ghost use Rattle.gate_command.specs.Command.{asked_of, nothing_given, Asks, CeasesAt, limits_of};
-ghost use Rattle.gate_command.specs.Reading.{between, words_in, command_in};
+ghost use Rattle.gate_command.specs.Command.{asked_of, nothing_given, AreInForm, Asks, CeasesAt};
+ghost use Rattle.gate_command.specs.Reading.{asked_by, between, command_in, last_in, shown_in, words_in};
 ghost use Rattle.gate_command.specs.declared.words.Asked.{Asked};
-ghost use Rattle.gate_command.specs.View.{settings_of, answer_of};
+ghost use Rattle.gate_command.specs.View.{answer_of, reply_of, request_of, settings_of};
 
 use crate::options::{Gathered, MOST_TURNS, Progress};
 use gate_runs::Limits;
@@ -28,6 +27,18 @@ pub enum Asked {
         listen: ByteText,
         capture: Option<ByteText>,
     },
+    /// To make the run again whose capture is the input.
+    Replay,
+    /// To list the capture that is the input.
+    ShowCapture,
+}
+
+/// A command, with its options.
+#[derive(Clone, Copy, Debug)]
+pub enum Command<'a> {
+    Serve(Gathered<'a>),
+    Replay,
+    ShowCapture,
 }
 
 /// Where the words cease to be a command line.
@@ -58,18 +69,50 @@ fn options_of(words: &[String]) -> Result<Gathered<'_>, Misplaced>
     progress.ended()
 }
 
-/// All words: `serve` and its options.
-#[tactic(auto, unfolding(crate::specs::Reading::command_in))]
-fn command_of(words: &[String]) -> Result<Gathered<'_>, Misplaced>
-    ensures { answer_of result ≡ command_in (map string_bytes words.now) }
+/// A command that no word follows; `place` is the next word's.
+fn last<'a>(command: Command<'a>, place: u32, rest: &[String]) -> Result<Command<'a>, Misplaced>
+    ensures { reply_of result ≡ last_in place (request_of command.entry) (map string_bytes rest.now) }
+{
+    if rest.is_empty() {
+        Ok(command)
+    } else {
+        Err(Misplaced::Word(place))
+    }
+}
+
+/// The words after `show`.
+fn show_of(words: &[String]) -> Result<Command<'_>, Misplaced>
+    ensures { reply_of result ≡ shown_in (map string_bytes words.now) }
 {
     match words {
         [] => Err(Misplaced::End),
-        [first, options @ ..] => {
-            if first.as_str() != "serve" {
-                return Err(Misplaced::Word(1));
+        [what, rest @ ..] => {
+            if what.as_str() == "capture" {
+                last(Command::ShowCapture, 3, rest)
+            } else {
+                Err(Misplaced::Word(2))
             }
-            options_of(options)
+        }
+    }
+}
+
+/// All words: a command and its options.
+#[tactic(auto, unfolding(crate::specs::Reading::command_in))]
+fn command_of(words: &[String]) -> Result<Command<'_>, Misplaced>
+    ensures { reply_of result ≡ command_in (map string_bytes words.now) }
+{
+    match words {
+        [] => Err(Misplaced::End),
+        [first, rest @ ..] => {
+            if first.as_str() == "serve" {
+                Ok(Command::Serve(options_of(rest)?))
+            } else if first.as_str() == "replay" {
+                last(Command::Replay, 2, rest)
+            } else if first.as_str() == "show" {
+                show_of(rest)
+            } else {
+                Err(Misplaced::Word(1))
+            }
         }
     }
 }
@@ -85,7 +128,7 @@ fn copied(alloc: Global, text: Option<&str>) -> Result<Option<ByteText>, Memory>
 }
 
 /// What these options ask for, with the defaults of what isn't given.
-fn asked_for(alloc: Global, gathered: Gathered) -> Result<Asked, Memory>
+fn service_for(alloc: Global, gathered: Gathered) -> Result<Asked, Memory>
     ensures { IfOk result (λ asked. asked ≡ asked_of (settings_of gathered.entry)) }
 {
     let limits = Limits {
@@ -100,6 +143,17 @@ fn asked_for(alloc: Global, gathered: Gathered) -> Result<Asked, Memory>
     })
 }
 
+/// What a command asks for.
+fn asked_for(alloc: Global, command: Command) -> Result<Asked, Memory>
+    ensures { IfOk result (λ asked. asked ≡ asked_by (request_of command.entry)) }
+{
+    match command {
+        Command::Serve(gathered) => service_for(alloc, gathered),
+        Command::Replay => Ok(Asked::Replay),
+        Command::ShowCapture => Ok(Asked::ShowCapture),
+    }
+}
+
 /// Reads the words of the command line, which are those after the program's name.
 ///
 /// Only copies of the address and the path take memory; `Err(Memory)` where there is none for them.
@@ -108,10 +162,10 @@ pub fn read_words(alloc: Global, words: &Vec<String>) -> Result<Result<Asked, Mi
     ensures only { (asked : Asked) → Asks (map string_bytes words.now.items) asked
         → IfOk result (λ answer. answer ≡ Ok asked) }
     ensures place { IfOk result (λ answer. IfErr answer (CeasesAt (map string_bytes words.now.items))) }
-    ensures in_form { IfOk result (λ answer. IfOk answer (λ asked. IsInForm (limits_of asked))) }
+    ensures in_form { IfOk result (λ answer. IfOk answer (λ asked. AreInForm asked)) }
 {
     match command_of(words.as_slice()) {
-        Ok(gathered) => Ok(Ok(asked_for(alloc, gathered)?)),
+        Ok(command) => Ok(Ok(asked_for(alloc, command)?)),
         Err(misplaced) => Ok(Err(misplaced)),
     }
 }

@@ -4,7 +4,7 @@ use crate::runs::{Kind, LOG_ROOM, entries_of, kind_of};
 use crate::scenario::{Scenario, Way, faults, script_of};
 use gate_capture::{next_entry, next_words};
 use gate_command::{CaptureSink, Status, gateway};
-use gate_outside::{Entries, MemorySink, ScriptPorts};
+use gate_outside::{Entries, MemorySink, MemorySource, ScriptPorts};
 use std::alloc::Global;
 use tests_support::part;
 use wire_base::{ByteText, ItemList, Memory, Stop};
@@ -21,8 +21,41 @@ pub struct Called {
     pub calls: Entries,
 }
 
-/// Calls the gateway. The capture has room for so many bytes, and the write with this number fails,
-/// if one is told.
+/// Calls the gateway with these bytes as its input. The capture has room for so many bytes, and the
+/// write with this number fails, if one is told.
+fn call_with(
+    alloc: Global,
+    scenario: &Scenario,
+    words: &Vec<String>,
+    input: &[u8],
+    room: usize,
+    lost: Option<u64>,
+) -> Result<Called, Memory> {
+    let input = ByteText::copy_of(alloc, input)?;
+    let mut source = MemorySource::new(input, faults(alloc, scenario.numbers.unread)?);
+    let script = script_of(alloc, scenario, Way::Units, scenario.numbers.fault)?;
+    let mut report = MemorySink::new(alloc, scenario.numbers.report, ItemList::empty(alloc))?;
+    let mut capture = CaptureSink {
+        sink: MemorySink::new(alloc, room, faults(alloc, lost)?)?,
+    };
+    let mut ports = ScriptPorts::new(alloc, script, LOG_ROOM, LOG_ROOM)?;
+    let status = gateway(
+        alloc,
+        words,
+        &mut ports,
+        &mut source,
+        &mut report,
+        &mut capture,
+    );
+    Ok(Called {
+        status,
+        report: ByteText::copy_of(alloc, report.held())?,
+        capture: ByteText::copy_of(alloc, capture.sink.held())?,
+        calls: entries_of(alloc, ports.log())?,
+    })
+}
+
+/// The same with the input of the scenario.
 pub fn call_gateway(
     alloc: Global,
     scenario: &Scenario,
@@ -30,19 +63,24 @@ pub fn call_gateway(
     room: usize,
     lost: Option<u64>,
 ) -> Result<Called, Memory> {
-    let script = script_of(alloc, scenario, Way::Units, scenario.numbers.fault)?;
-    let mut report = MemorySink::new(alloc, scenario.numbers.report, ItemList::empty(alloc))?;
-    let mut capture = CaptureSink {
-        sink: MemorySink::new(alloc, room, faults(alloc, lost)?)?,
-    };
-    let mut ports = ScriptPorts::new(alloc, script, LOG_ROOM, LOG_ROOM)?;
-    let status = gateway(alloc, words, &mut ports, &mut report, &mut capture);
-    Ok(Called {
-        status,
-        report: ByteText::copy_of(alloc, report.held())?,
-        capture: ByteText::copy_of(alloc, capture.sink.held())?,
-        calls: entries_of(alloc, ports.log())?,
-    })
+    let input = scenario.input.as_slice();
+    call_with(alloc, scenario, words, input, room, lost)
+}
+
+/// Calls the gateway for words that ask for a capture, and then to replay it: what the second call did,
+/// and how many calls the first made.
+pub fn call_again(
+    alloc: Global,
+    scenario: &Scenario,
+    words: &Vec<String>,
+) -> Result<(usize, Called), Memory> {
+    let room = scenario.numbers.capture;
+    let first = call_gateway(alloc, scenario, words, room, None)?;
+    let mut replay = Vec::new(alloc);
+    replay.push(String::from_str(alloc, "replay")?)?;
+    let capture = first.capture.as_slice();
+    let again = call_with(alloc, scenario, &replay, capture, room, None)?;
+    Ok((first.calls.len(), again))
 }
 
 /// How many entries stand whole in the front of a capture; `None` where the start doesn't.

@@ -34,6 +34,7 @@ fn set_number(scenario: &mut Scenario, name: &str, number: u32) -> bool {
         "report" => scenario.numbers.report = number as usize,
         "capture" => scenario.numbers.capture = number as usize,
         "lost" => scenario.numbers.lost = Some(u64::from(number)),
+        "unread" => scenario.numbers.unread = Some(u64::from(number)),
         "fault" => scenario.numbers.fault = Some(u64::from(number)),
         _ => return false,
     }
@@ -125,6 +126,20 @@ fn add_deed(
     }
 }
 
+/// Adds bytes to the input of the gateway; whether they are told rightly.
+fn add_input(
+    alloc: Global,
+    names: &Names,
+    scenario: &mut Scenario,
+    text: &str,
+) -> Result<bool, Memory> {
+    let Some(bytes) = names.joined(alloc, text)? else {
+        return Ok(false);
+    };
+    scenario.input.append(bytes.as_slice())?;
+    Ok(true)
+}
+
 /// A line that prints nothing; whether it is one.
 fn take_line(
     alloc: Global,
@@ -137,6 +152,9 @@ fn take_line(
     };
     if first == "name" {
         return names.add(alloc, rest);
+    }
+    if first == "input" {
+        return add_input(alloc, names, scenario, rest);
     }
     if let Ok(pair) = first.parse::<u32>() {
         return add_deed(alloc, names, scenario, pair, rest);

@@ -1,6 +1,6 @@
 //! Cases of the command line, and of what the gateway does for one.
 
-use crate::called::{call_gateway, put_uncaptured};
+use crate::called::{Called, call_again, call_gateway, put_uncaptured};
 use crate::scenario::Scenario;
 use crate::telling::put_report;
 use gate_command::{Asked, Misplaced, Status, read_words};
@@ -37,13 +37,26 @@ fn words_of(alloc: Global, text: &str) -> Result<Option<Vec<String>>, Memory> {
     Ok(Some(words))
 }
 
+/// A command without options.
+fn put_other(out: &mut String, asked: &Asked) -> Result<(), Memory> {
+    match asked {
+        Asked::Replay => out.push_str("replay")?,
+        Asked::ShowCapture => out.push_str("show capture")?,
+        Asked::Serve { .. } => out.push_str("serve")?,
+    }
+    Ok(())
+}
+
 /// What words ask for.
 fn put_asked(out: &mut String, asked: &Asked) -> Result<(), Memory> {
     let Asked::Serve {
         limits,
         listen,
         capture,
-    } = asked;
+    } = asked
+    else {
+        return put_other(out, asked);
+    };
     match limits.pairs {
         Some(pairs) => write!(out, "serve {pairs} pairs")?,
         None => out.push_str("serve any pairs")?,
@@ -81,23 +94,40 @@ fn asked_text(alloc: Global, text: &str) -> Result<Option<String>, Memory> {
     Ok(Some(out))
 }
 
-/// The gateway's status for the words between bars, how many calls it made, the report and the capture; `None` where they are
-/// told wrongly.
+/// The gateway's status, how many calls it made, the report and the capture.
+fn put_called(out: &mut String, call: &Called) -> Result<(), Memory> {
+    let status = call.status.number();
+    let calls = call.calls.len();
+    write!(out, "status {status}, {calls} calls")?;
+    put_report(out, call.report.as_slice())?;
+    if !call.capture.as_slice().is_empty() {
+        out.push_str(" / capture")?;
+        put_bytes(out, call.capture.as_slice())?;
+    }
+    out.push_str("\n")?;
+    Ok(())
+}
+
+/// What the gateway does for the words between bars; `None` where they are told wrongly.
 fn called_text(alloc: Global, scenario: &Scenario, text: &str) -> Result<Option<String>, Memory> {
     let Some(words) = words_of(alloc, text)? else {
         return Ok(None);
     };
     let numbers = scenario.numbers;
     let call = call_gateway(alloc, scenario, &words, numbers.capture, numbers.lost)?;
-    let status = call.status.number();
-    let calls = call.calls.len();
-    let mut out = format!(in alloc; "status {status}, {calls} calls")?;
-    put_report(&mut out, call.report.as_slice())?;
-    if !call.capture.as_slice().is_empty() {
-        out.push_str(" / capture")?;
-        put_bytes(&mut out, call.capture.as_slice())?;
-    }
-    out.push_str("\n")?;
+    let mut out = String::new(alloc);
+    put_called(&mut out, &call)?;
+    Ok(Some(out))
+}
+
+/// What the replay of a run's capture does; `None` where the words between bars are told wrongly.
+fn again_text(alloc: Global, scenario: &Scenario, text: &str) -> Result<Option<String>, Memory> {
+    let Some(words) = words_of(alloc, text)? else {
+        return Ok(None);
+    };
+    let (calls, again) = call_again(alloc, scenario, &words)?;
+    let mut out = format!(in alloc; "{calls} calls, again: ")?;
+    put_called(&mut out, &again)?;
     Ok(Some(out))
 }
 
@@ -120,7 +150,9 @@ fn statuses_text(alloc: Global) -> Result<String, Memory> {
     let mut out = String::from_str(alloc, "statuses")?;
     for status in [
         Status::Ok,
+        Status::Differs,
         Status::Usage,
+        Status::BadInput,
         Status::Outside,
         Status::Memory,
         Status::TurnLimit,
@@ -142,6 +174,7 @@ pub fn command_text(
     match verb {
         "words" => asked_text(alloc, rest),
         "gateway" => called_text(alloc, scenario, rest),
+        "again" => again_text(alloc, scenario, rest),
         "uncaptured" => uncaptured_text(alloc, scenario, rest),
         "statuses" => Ok(Some(statuses_text(alloc)?)),
         _ => Ok(None),

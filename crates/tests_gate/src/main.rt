@@ -10,6 +10,7 @@
 //! | `limit N`, `turns N`, `report N` | the pairs asked for (1; 0 for no limit), the turns (20,000), the bytes that the report may have |
 //! | `fault N` | call N of the run fails |
 //! | `capture N`, `lost N` | the bytes that the capture may have, and the one of its writes that fails |
+//! | `input ..`, `unread N` | bytes of the input, and the one of its reads that fails |
 //!
 //! A line that plays ends the scenario:
 //!
@@ -25,6 +26,7 @@
 //! | `fails` | each call fails in turn: the kinds of calls, and the calls after whose fault a rule was broken |
 //! | `unreported` | the report fails at each of its writes, or has no room: the same |
 //! | `gateway W|W` | the words between bars are called: the status, how many calls were made, the report and the capture |
+//! | `again W|W` | the words between bars are called, and then `replay` over their capture |
 //! | `uncaptured W|W` | the same with a capture that fails at each of its writes, or has no room: what broke a rule |
 //!
 //! `words W|W` answers what the words ask for, or where they cease to be a command line, and `statuses` the number of each status.

@@ -57,6 +57,8 @@ pub struct Numbers {
     pub capture: usize,
     /// The write of the capture that fails, if one does.
     pub lost: Option<u64>,
+    /// The read of the input that fails, if one does.
+    pub unread: Option<u64>,
 }
 
 /// What clients do.
@@ -65,6 +67,8 @@ pub struct Scenario {
     pub numbers: Numbers,
     pub sent: Vec<Sent>,
     pub taken: Vec<Taken>,
+    /// What stands in the input of the gateway.
+    pub input: ByteText,
 }
 
 impl Scenario {
@@ -81,9 +85,11 @@ impl Scenario {
                 fault: None,
                 capture: 65_536,
                 lost: None,
+                unread: None,
             },
             sent: Vec::new(alloc),
             taken: Vec::new(alloc),
+            input: ByteText::empty(alloc),
         }
     }
 

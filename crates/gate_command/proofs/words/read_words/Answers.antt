@@ -1,27 +1,26 @@
 use Rattle.std.proofs.Common.{◌≡◌, Ok, Err, map, sym, ◌∙◌, ap}
 use Rattle.std.specs.String.{string_bytes}
-use Rattle.gate_command.specs.Command.{asked_of}
-use Rattle.gate_command.specs.Reading.{command_in}
-use Rattle.gate_command.specs.View.{settings_of}
+use Rattle.gate_command.specs.Reading.{asked_by, command_in}
+use Rattle.gate_command.specs.View.{request_of}
 use Rattle.gate_command.proofs.CommandLaws.{command_in-is, is-command_in, command_in-ceases, limits_in_form}
 use Rattle.gate_command.proofs.words.read_words.Goals as goal
 
 pub returns-in_ok-asked_for-in-Ok-clause-found : goal.returns-in_ok-asked_for-in-Ok-clause-found
 returns-in_ok-asked_for-in-Ok-clause-found c =
-    let read : command_in (map string_bytes c.args.words.now.items) ≡ Ok (settings_of c.in-Ok.gathered) = rw (← c.as_slice.ensures.value) (sym c.in-Ok.ensures) in
-    rw c.in_ok-asked_for-in-Ok.ensures (command_in-is (map string_bytes c.args.words.now.items) (settings_of c.in-Ok.gathered) read)
+    let read : command_in (map string_bytes c.args.words.now.items) ≡ Ok (request_of c.in-Ok.command) = rw (← c.as_slice.ensures.value) (sym c.in-Ok.ensures) in
+    rw c.in_ok-asked_for-in-Ok.ensures (command_in-is (map string_bytes c.args.words.now.items) (request_of c.in-Ok.command) read)
 
 pub returns-in_ok-asked_for-in-Ok-clause-only : goal.returns-in_ok-asked_for-in-Ok-clause-only
 returns-in_ok-asked_for-in-Ok-clause-only c = λ asked asks.
-    let read : command_in (map string_bytes c.args.words.now.items) ≡ Ok (settings_of c.in-Ok.gathered) = rw (← c.as_slice.ensures.value) (sym c.in-Ok.ensures) in
+    let read : command_in (map string_bytes c.args.words.now.items) ≡ Ok (request_of c.in-Ok.command) = rw (← c.as_slice.ensures.value) (sym c.in-Ok.ensures) in
     let is_read = is-command_in (map string_bytes c.args.words.now.items) asked asks in
-    let same : is_read.settings ≡ settings_of c.in-Ok.gathered = let e = is_read.reads in cc in
-    ap Ok (c.in_ok-asked_for-in-Ok.ensures ∙ ap asked_of (sym same) ∙ sym is_read.meant)
+    let same : is_read.request ≡ request_of c.in-Ok.command = let e = is_read.reads in cc in
+    ap Ok (c.in_ok-asked_for-in-Ok.ensures ∙ ap asked_by (sym same) ∙ sym is_read.meant)
 
 pub returns-in_ok-asked_for-in-Ok-clause-in_form : goal.returns-in_ok-asked_for-in-Ok-clause-in_form
 returns-in_ok-asked_for-in-Ok-clause-in_form c =
-    let read : command_in (map string_bytes c.args.words.now.items) ≡ Ok (settings_of c.in-Ok.gathered) = rw (← c.as_slice.ensures.value) (sym c.in-Ok.ensures) in
-    let asks = command_in-is (map string_bytes c.args.words.now.items) (settings_of c.in-Ok.gathered) read in
+    let read : command_in (map string_bytes c.args.words.now.items) ≡ Ok (request_of c.in-Ok.command) = rw (← c.as_slice.ensures.value) (sym c.in-Ok.ensures) in
+    let asks = command_in-is (map string_bytes c.args.words.now.items) (request_of c.in-Ok.command) read in
     rw c.in_ok-asked_for-in-Ok.ensures (limits_in_form _ _ asks.command)
 
 pub returns-in-Err-clause-only : goal.returns-in-Err-clause-only
