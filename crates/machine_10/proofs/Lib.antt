@@ -1,4 +1,6 @@
 pub mod CallLaws
 pub mod FoldLemmas
+pub mod Offers
+pub mod ReadCases
 pub mod StepCases
 pub mod StepLaws

@@ -5,7 +5,8 @@ use Rattle.frames_10.specs.declared.frame.Kind10.TheVariants as kind
 use Rattle.types_10.specs.Tree.{Tree}
 use Rattle.performatives_10.specs.declared.condition.Condition.{Condition}
 use Rattle.performatives_10.specs.declared.condition.Condition.TheVariants as condition
-use Rattle.machine_10.specs.Reading.{Body, Empty, Faulty, Whole, Parts, body_in, field, offers, act_of, is_out_of_range, closes}
+use Rattle.machine_10.specs.Parts.{Parts}
+use Rattle.machine_10.specs.Reading.{Body, Empty, Faulty, Whole, body_in, field, offers, act_of, is_out_of_range, closes}
 use Rattle.machine_10.specs.Refusals.{first, refused, kind_order, layer_of, range_place, order_in, begin_order, is_login_phase, perf_places, body_ruling}
 use Rattle.machine_10.specs.State.{is_running, is_closing, session_at, session_of, with_session}
 use Rattle.machine_10.specs.Transitions.{Step, Meaning, Nothing, Init, AmqpHeader, Opened, Refused, Violation}

@@ -1,5 +1,6 @@
 pub mod Calls
 pub mod Laws
+pub mod Parts
 pub mod Reading
 pub mod Refusals
 pub mod Session

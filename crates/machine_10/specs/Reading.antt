@@ -8,9 +8,9 @@ use Rattle.types_10.specs.Tree as value
 use Rattle.performatives_10.specs.Fields.{absent}
 use Rattle.performatives_10.specs.Reading.{perf_at, code_of}
 use Rattle.performatives_10.specs.Reading as perf
-use Rattle.performatives_10.specs.View.{kind_of, fields_of}
 use Rattle.performatives_10.specs.declared.performative.Perf.{Perf}
 use Rattle.performatives_10.specs.declared.fault.PerfFault.{PerfFault}
+use Rattle.machine_10.specs.Parts.{Parts, parts_of}
 use Rattle.machine_10.specs.Session.{ids_from}
 use Rattle.machine_10.specs.declared.limits.Stated10.{Stated10}
 use Rattle.machine_10.specs.declared.limits.TheConstants.{FRAME_MIN_SIZE}
@@ -20,13 +20,6 @@ use Rattle.machine_10.specs.declared.unit.Body10.{Body10}
 use Rattle.machine_10.specs.declared.unit.Body10.TheVariants as body
 
 -- ---- bodies
-
--- a performative as the code of its descriptor and its fields
-abbrev pub Parts : Type 0
-Parts = ℕ × List Tree
-
-unfoldable pub parts_of : Perf → Parts
-parts_of p = (code_of (kind_of p), fields_of p)
 
 abbrev pub coded : perf.Parts → Parts
 coded p = (code_of p.0, p.1)
@@ -50,7 +43,7 @@ unfoldable pub read_at : List ℕ → Read
 read_at bytes = coded_read (perf_at bytes)
 
 -- one that was read
-abbrev pub read_of : Result (Perf × ℕ) PerfFault → Read
+unfoldable pub read_of : Result (Perf × ℕ) PerfFault → Read
 read_of (Err e) = Err e
 read_of (Ok x) = Ok (parts_of x.0, x.1)
 
@@ -66,7 +59,7 @@ body_in kind.Sasl bytes = body_by bytes (read_at bytes)
 unfoldable pub body_of : Body10 → Body
 body_of body.Empty = Empty
 body_of (body.Faulty e) = Faulty e
-body_of (body.Whole p payload) = Whole (parts_of p) payload
+body_of (body.Whole w) = Whole w.0 w.1
 
 -- ---- fields
 

@@ -7,7 +7,8 @@ use Rattle.performatives_10.specs.Fields.{maybe}
 use Rattle.performatives_10.specs.View.{error_tree}
 use Rattle.performatives_10.specs.declared.condition.Condition.{Condition}
 use Rattle.performatives_10.specs.declared.condition.Condition.TheVariants as condition
-use Rattle.machine_10.specs.Reading.{Body, Empty, Faulty, Whole, Parts, parts_of, body_in, field, offers, act_of, closes}
+use Rattle.machine_10.specs.Parts.{Parts, parts_of}
+use Rattle.machine_10.specs.Reading.{Body, Empty, Faulty, Whole, body_in, field, offers, act_of, closes}
 use Rattle.machine_10.specs.Refusals.{body_ruling}
 use Rattle.machine_10.specs.State.{session_at, session_of, with_session}
 use Rattle.machine_10.specs.declared.state.Phase10.{Phase10}
@@ -39,7 +40,7 @@ pub data Meaning : Type 0 where
   Refused : Meaning
   Violation : Condition → Meaning
 
-abbrev pub meaning_of : Want10 → Meaning
+unfoldable pub meaning_of : Want10 → Meaning
 meaning_of want.Nothing = Nothing
 meaning_of want.Init = Init
 meaning_of want.AmqpHeader = AmqpHeader

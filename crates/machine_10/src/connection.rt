@@ -1,10 +1,12 @@
-//! The gateway's connection to a container: the calls on it.
+//! A container's connection: the calls on it.
 
-ghost use Rattle.std.specs.Prelude.{◌≡◌, Ok};
+ghost use Rattle.std.specs.Prelude.{◌≡◌, Ok, IfOk, OnOk, OnErr};
 ghost use Rattle.machine_10.specs.Calls.{after_begin_sent, after_end_sent, after_ended};
 ghost use Rattle.machine_10.specs.State.{new_upstream, awaits, is_running, is_closing, session_at};
+ghost use Rattle.machine_10.specs.Transitions.{meaning_of, unit_step};
 
 use crate::state::{Awaited10, Phase10, Session, Stream10, Upstream};
+use crate::unit::{Unit10, Want10};
 use std::alloc::Global;
 use std::marker::Model;
 use wire_base::{ByteText, Memory};
@@ -35,6 +37,20 @@ impl Conn10 {
         Ok(Conn10 {
             state: Upstream::new(mechanism, response),
         })
+    }
+
+    /// Takes the container's next unit, and answers what it wants, or that the connection is to be closed: by the first place of
+    /// the order of refusals that applies. A contract sees a performative as its kind and its fields.
+    ///
+    /// # Errors
+    ///
+    /// `Memory` when out of memory; the connection is then as it was.
+    pub fn take(&mut self, alloc: Global, unit: &Unit10) -> Result<Want10, Memory>
+        ensures state { OnOk result (self.new ≡ (unit_step self.old unit.now).0) }
+        ensures want { IfOk result (λ want. meaning_of want ≡ (unit_step self.old unit.now).1) }
+        ensures err { OnErr result (self.new ≡ self.old) }
+    {
+        self.state.take(alloc, unit)
     }
 
     /// The gateway's begin on this channel was sent. It counts where the connection runs, the container takes the channel, and no

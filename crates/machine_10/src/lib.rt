@@ -1,14 +1,16 @@
-//! The gateway's connection to a container of AMQP 1.0: the table of its transitions, the calls that take no unit, and the windows of
-//! its sessions.
+//! A container's end of a connection of AMQP 1.0, as a machine.
 #![tactic(auto)]
 
 mod connection;
 mod laws;
 mod limits;
+mod reading;
+mod refusals;
 mod session;
 mod state;
 mod transitions;
 mod unit;
+mod whole;
 
 pub use connection::Conn10;
 pub use laws::{connection_laws, session_laws};

@@ -1,7 +1,8 @@
 //! The state of a container's connection, as a value that contracts see.
 
-ghost use Rattle.std.specs.Prelude.{◌≡◌};
-ghost use Rattle.machine_10.specs.State.{new_upstream, session_at, with_session, awaits, is_running, is_closing};
+ghost use Rattle.std.specs.Prelude.{◌≡◌, ◌<◌, length, IfSome};
+ghost use Rattle.std.specs.List.{position};
+ghost use Rattle.machine_10.specs.State.{new_upstream, carries, session_at, session_of, with_session, awaits, is_running, is_closing};
 
 use crate::limits::{Stated10, unstated};
 use frames_10::Kind10;
@@ -85,6 +86,24 @@ pub struct Upstream {
     pub(crate) sessions: [Session; 256],
 }
 
+/// Whether the container's frames of a session stand on this channel.
+fn carries(session: &Session, number: u16) -> bool
+    ensures { result ≡ carries number session.now }
+{
+    match session {
+        Session::Free | Session::Asked | Session::Left => false,
+        Session::Open(own) | Session::Leaving(own) | Session::Ended(own) => *own == number,
+    }
+}
+
+/// The place of the session whose frames stand on this channel of the container.
+fn carrying(sessions: &[Session], number: u16) -> Option<usize>
+    ensures place { result ≡ position (carries number) sessions.now }
+    ensures bound { IfSome result (λ at. at < length sessions.now) }
+{
+    sessions.iter().position(|session| carries(session, number))
+}
+
 impl Upstream {
     /// A connection of which nothing was read yet.
     #[tactic(auto, unfolding(crate::specs::State::no_sessions))]
@@ -119,6 +138,16 @@ impl Upstream {
         let at = usize::from(number);
         if at < self.sessions.len() {
             self.sessions[at] = session;
+        }
+    }
+
+    /// The gateway's number of the channel whose session the container has on this one.
+    pub(crate) fn session_of(&self, number: u16) -> Option<u16>
+        ensures { result ≡ session_of self.now number }
+    {
+        match carrying(&self.sessions, number) {
+            Some(at) => Some(at as u16),
+            None => None,
         }
     }
 

@@ -1,6 +1,7 @@
 //! The units of a container, what they want, and why one doesn't count.
 
 use crate::limits::Stated10;
+use crate::whole::Whole10;
 use frames_10::{Frame10, Kind10};
 use performatives_10::{Condition, Error10, Perf, PerfFault};
 use wire_base::ByteText;
@@ -52,7 +53,7 @@ pub(crate) enum Body10 {
     /// It begins with no performative.
     Faulty(PerfFault),
     /// A performative, and the payload behind it.
-    Whole(Perf, ByteText),
+    Whole(Whole10),
 }
 
 /// What a performative does to a connection.
