@@ -137,7 +137,7 @@ sound_step : (c : Upstream) (u : Unit10) → Sound c → Sound (unit_step c u).0
 sound_step c u k = step_rows (λ (x : Step). Sound x.0) c u (record {
   nothing = k;
   violated = λ why s e. record { frame = k.frame; max = k.max; fresh = λ r f. absurd cc; alone = k.alone };
-  greeted = λ q e f. record { frame = k.frame; max = k.max; fresh = λ a b. k.fresh f e; alone = k.alone };
+  greeted = λ q e f a. record { frame = k.frame; max = k.max; fresh = λ a b. k.fresh f e; alone = k.alone };
   offered = λ e. record { frame = k.frame; max = k.max; fresh = λ a b. k.fresh (ap is_running e) (ap is_closing e); alone = k.alone };
   refused = λ e. record { frame = k.frame; max = k.max; fresh = λ r f. absurd cc; alone = k.alone };
   came_out = λ e. record { frame = k.frame; max = k.max; fresh = λ a b. k.fresh (early c.phase e).0 (early c.phase e).1; alone = k.alone };

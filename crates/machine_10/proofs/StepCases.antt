@@ -41,7 +41,7 @@ HasBegun c = is_running c.phase ≡ false → is_closing c.phase ≡ true
 pub record HoldsByRow (P : Step → Type 0) (c : Upstream) : Type 0 where
   pub nothing : P (c, Nothing)
   pub violated : (why : Condition) (s : Stream10) → is_closing c.phase ≡ false → P (violated c why s)
-  pub greeted : (k : Kind10) → is_closing c.phase ≡ false → is_running c.phase ≡ false
+  pub greeted : (k : Kind10) → is_closing c.phase ≡ false → is_running c.phase ≡ false → awaits_header k c.phase ≡ true
       → P (record c { phase = phase_after k; stream = stream.Frames }, Nothing)
   pub offered : c.phase ≡ phase.Mechanisms → P (record c { phase = phase.Outcome }, Init)
   pub refused : is_login_phase c.phase ≡ true → P (record c { phase = phase.Closed }, Refused)
@@ -260,7 +260,7 @@ header_rows P c k rows early = by (awaits_header k c.phase) refl
   where
     by : (b : Bool) → awaits_header k c.phase ≡ b
         → P (cond {A = Step} b (record c { phase = phase_after k; stream = stream.Frames }, Nothing) (violated c condition.FramingError (spoiled c.stream)))
-    by true e = rows.greeted k early (awaits_early k c.phase e)
+    by true e = rows.greeted k early (awaits_early k c.phase e) e
     by false e = rows.violated condition.FramingError (spoiled c.stream) early
 
 ordered_rows : (P : Step → Type 0) (c : Upstream) (u : Unit10) → HoldsByRow P c → is_closing c.phase ≡ false → P (ordered_step c u)

@@ -5,6 +5,7 @@ use Rattle.machine_10.specs.State.{new_upstream, is_closing, session_at, carries
 use Rattle.machine_10.specs.Transitions.{Step, Meaning, Nothing, Opened, unit_step}
 use Rattle.machine_10.specs.Transitions as meaning
 use Rattle.machine_10.specs.declared.limits.TheConstants.{FRAME_MIN_SIZE}
+use Rattle.machine_10.specs.declared.state.Phase10.{Phase10}
 use Rattle.machine_10.specs.declared.state.Phase10.TheVariants as phase
 use Rattle.machine_10.specs.declared.state.Session.{Session}
 use Rattle.machine_10.specs.declared.state.Session.TheVariants as session
@@ -80,3 +81,20 @@ pub record StaysClosed (c : Upstream) (x : Step) : Type 0 where
   pub stated : x.0.stated ≡ c.stated
   pub sessions : x.0.sessions ≡ c.sessions
   pub meaning : x.1 ≡ Nothing
+
+-- how far a phase is
+abbrev pub place_of : Phase10 → ℕ
+place_of phase.SaslHeader = 0
+place_of phase.Mechanisms = 1
+place_of phase.Outcome = 2
+place_of phase.AmqpHeader = 3
+place_of phase.Open = 4
+place_of phase.Running = 5
+place_of phase.Closing = 6
+place_of phase.Closed = 7
+
+-- a step keeps the login, and goes back to no earlier phase
+pub record GoesOn (c after : Upstream) : Type 0 where
+  pub mechanism : after.mechanism ≡ c.mechanism
+  pub response : after.response ≡ c.response
+  pub phase : place_of c.phase ≤ place_of after.phase

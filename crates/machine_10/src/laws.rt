@@ -2,7 +2,7 @@
 
 ghost use Rattle.std.specs.Prelude.{◌≡◌, ℕ, true, List};
 ghost use Rattle.performatives_10.specs.declared.condition.Condition.{Condition};
-ghost use Rattle.machine_10.specs.Laws.{Call10, after_calls, AreInRange, Closes, RunsBy};
+ghost use Rattle.machine_10.specs.Laws.{Call10, after_calls, AreInRange, Closes, GoesOn, RunsBy};
 ghost use Rattle.machine_10.specs.Laws.{StaysClosing, StaysClosed};
 ghost use Rattle.machine_10.specs.SessionFolds.{Event10, after_events, AreEvents, IsFold};
 ghost use Rattle.machine_10.specs.State.{is_closing};
@@ -28,6 +28,8 @@ pub fn connection_laws()
         → (unit_step c u).1 ≡ meaning.Violation why → Closes c (unit_step c u).0 }
     // No unit makes a connection run but the open that was awaited.
     ensures running { (c : Upstream) (u : Unit10) → (unit_step c u).0.phase ≡ phase.Running → RunsBy c (unit_step c u) }
+    // No unit changes the login, and none takes a connection back to an earlier phase.
+    ensures forward { (c : Upstream) (u : Unit10) → GoesOn c (unit_step c u).0 }
     // A connection that is closing stays so, and no unit is refused any more.
     ensures closing { (c : Upstream) (u : Unit10) → is_closing c.phase ≡ true → StaysClosing c (unit_step c u) }
     // A closed connection stays so, and nothing is answered.
