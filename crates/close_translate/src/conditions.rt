@@ -1,14 +1,16 @@
-//! The reply code for an error condition of AMQP 1.0.
+//! The reply code for an error condition of AMQP 1.0, and the condition for a reply code.
 
 ghost use Rattle.std.specs.Prelude.{◌≡◌};
 ghost use Rattle.std.specs.Option.{option_map};
 ghost use Rattle.std.specs.Str.{bytes_eq};
-ghost use Rattle.close_translate.specs.Conditions.{code_by, codes_of};
+ghost use Rattle.close_translate.specs.Conditions.{code_by, codes_of, condition_of};
 
 use crate::codes::{
-    ACCESS_REFUSED, CONNECTION_FORCED, FRAME_ERROR, INTERNAL_ERROR, NOT_ALLOWED, NOT_FOUND,
-    NOT_IMPLEMENTED, PRECONDITION_FAILED, RESOURCE_ERROR, RESOURCE_LOCKED, SYNTAX_ERROR,
+    ACCESS_REFUSED, CHANNEL_ERROR, COMMAND_INVALID, CONNECTION_FORCED, CONTENT_TOO_LARGE,
+    FRAME_ERROR, INTERNAL_ERROR, NOT_ALLOWED, NOT_FOUND, NOT_IMPLEMENTED, PRECONDITION_FAILED,
+    RESOURCE_ERROR, RESOURCE_LOCKED, SYNTAX_ERROR, UNEXPECTED_FRAME,
 };
+use performatives_10::Condition;
 
 /// What closes.
 #[derive(Clone, Copy, Debug, PartialEq, Eq)]
@@ -86,5 +88,29 @@ pub fn code_of(condition: Option<&[u8]>, scope: Scope) -> u16
     match scope {
         Scope::Channel => codes.channel,
         Scope::Connection => codes.connection,
+    }
+}
+
+/// The error condition with which the gateway ends a session or closes a connection of AMQP 1.0 where it refused the client with
+/// this reply code (AMQP 1.0 2.8.15 to 2.8.18).
+pub fn condition_of(code: u16) -> Condition
+    ensures { result ≡ condition_of code }
+{
+    match code {
+        CONTENT_TOO_LARGE => Condition::MessageSizeExceeded,
+        CONNECTION_FORCED => Condition::ConnectionForced,
+        ACCESS_REFUSED => Condition::NotAllowed,
+        NOT_ALLOWED => Condition::NotAllowed,
+        NOT_FOUND => Condition::NotFound,
+        RESOURCE_LOCKED => Condition::ResourceLocked,
+        PRECONDITION_FAILED => Condition::PreconditionFailed,
+        FRAME_ERROR => Condition::IllegalState,
+        CHANNEL_ERROR => Condition::IllegalState,
+        UNEXPECTED_FRAME => Condition::IllegalState,
+        SYNTAX_ERROR => Condition::DecodeError,
+        COMMAND_INVALID => Condition::NotAllowed,
+        RESOURCE_ERROR => Condition::ResourceLimitExceeded,
+        NOT_IMPLEMENTED => Condition::NotImplemented,
+        _ => Condition::InternalError,
     }
 }

@@ -1,5 +1,5 @@
-//! The codes of AMQP 0-9-1 with which a channel or a connection closes: their names, and the code for an error condition of
-//! AMQP 1.0.
+//! The codes of AMQP 0-9-1 with which a channel or a connection closes: their names, the code for an error condition of
+//! AMQP 1.0, and the condition for a code.
 #![tactic(auto)]
 
 mod codes;
@@ -11,4 +11,4 @@ pub use codes::{
     PRECONDITION_FAILED, RESOURCE_ERROR, RESOURCE_LOCKED, SYNTAX_ERROR, UNEXPECTED_FRAME,
     code_name,
 };
-pub use conditions::{Scope, code_of};
+pub use conditions::{Scope, code_of, condition_of};

@@ -78,7 +78,7 @@ sound_step c u h = step_rows (λ (x : Step). Sound x.0) c u (record {
   foreign = λ e. record { within = h.within; min = h.min; max = h.max; fresh = λ r k. absurd cc };
   refused = λ code e. record { within = h.within; min = h.min; max = h.max; fresh = λ r k. absurd cc };
   nothing = h;
-  login = λ a b e. record { within = h.within; min = h.min; max = h.max; fresh = λ r k. h.fresh (ap is_running e) (ap is_closing_phase e) };
+  login = λ a b e named. record { within = h.within; min = h.min; max = h.max; fresh = λ r k. h.fresh (ap is_running e) (ap is_closing_phase e) };
   tuned = λ channels size heartbeat e agreed.
       let none : (n : ℕ) → is_used (channel_at c n) ≡ false = h.fresh (ap is_running e) (ap is_closing_phase e) in
       record {
@@ -155,18 +155,18 @@ none_used zero n = refl
 none_used (suc count) zero = refl
 none_used (suc count) (suc n) = none_used count n
 
-sound_new : Sound new_connection
+sound_new : (vhost : List ℕ) → Sound (new_connection vhost)
 unfolding no_channels
-sound_new = record {
+sound_new vhost = record {
   within = record { frame_min = omega arith; frame_max = omega arith; channel_min = omega arith; channel_max = omega arith };
-  min = λ n used. let k : is_used (channel_at new_connection n) ≡ false = none_used 256 n in absurd cc;
-  max = λ n used. let k : is_used (channel_at new_connection n) ≡ false = none_used 256 n in absurd cc;
+  min = λ n used. let k : is_used (channel_at (new_connection vhost) n) ≡ false = none_used 256 n in absurd cc;
+  max = λ n used. let k : is_used (channel_at (new_connection vhost) n) ≡ false = none_used 256 n in absurd cc;
   fresh = λ r k n. none_used 256 n;
 }
 
-sound_calls : (h : List Call91) → Sound (after_calls h)
-sound_calls [] = sound_new
-sound_calls (x ∷ h) = sound_call x (after_calls h) (sound_calls h)
+sound_calls : (vhost : List ℕ) (h : List Call91) → Sound (after_calls vhost h)
+sound_calls vhost [] = sound_new vhost
+sound_calls vhost (x ∷ h) = sound_call x (after_calls vhost h) (sound_calls vhost h)
 
 -- ---- how many are used
 
@@ -203,10 +203,10 @@ used_to (x ∷ xs) k min max =
 
 -- ---- the laws
 
-pub limits_hold : (h : List Call91) → AreWithin (after_calls h).limits
-limits_hold h = (sound_calls h).within
+pub limits_hold : (vhost : List ℕ) (h : List Call91) → AreWithin (after_calls vhost h).limits
+limits_hold vhost h = (sound_calls vhost h).within
 
-pub channels_hold : (h : List Call91) → AreInRange (after_calls h)
-channels_hold h =
-    let s = sound_calls h in
-    record { min = s.min; max = s.max; count = used_to (after_calls h).channels (after_calls h).limits.channel_max s.min s.max }
+pub channels_hold : (vhost : List ℕ) (h : List Call91) → AreInRange (after_calls vhost h)
+channels_hold vhost h =
+    let s = sound_calls vhost h in
+    record { min = s.min; max = s.max; count = used_to (after_calls vhost h).channels (after_calls vhost h).limits.channel_max s.min s.max }

@@ -14,10 +14,10 @@ use Rattle.machine_091.specs.Ids.{is_of_kind}
 use Rattle.machine_091.specs.Limits.{is_agreed, agreed_limits}
 use Rattle.machine_091.specs.Refusals.{places, order_place, channel_place, closing_place, reading_place, state_place, own_place, unit_ruling, refusal_of}
 use Rattle.machine_091.specs.RefusalsFrames.{first, channel_order, is_opening, state_order, refused}
-use Rattle.machine_091.specs.RefusalsOpening.{text_at, number_at, opening_refusal}
+use Rattle.machine_091.specs.RefusalsOpening.{text_at, number_at, is_login, opening_refusal, opening_refusal_in}
 use Rattle.machine_091.specs.RefusalsRunning.{is_active, running_refusal}
 use Rattle.machine_091.specs.State.{is_running, is_closing_phase, with_channel, channel_at}
-use Rattle.machine_091.specs.Transitions.{Step, header_step, stream_after, opening_effect, channel_effect, running_effect, method_effect, frame_effect, unit_effect, ruled_step, ordered_step, is_unit_of, closed_step, closing_step, step_in, unit_step}
+use Rattle.machine_091.specs.Transitions.{Step, asked_by, header_step, stream_after, opening_effect, channel_effect, running_effect, method_effect, frame_effect, unit_effect, ruled_step, ordered_step, is_unit_of, closed_step, closing_step, step_in, unit_step}
 use Rattle.machine_091.specs.declared.ids.TheConstants.{CONNECTION_CLOSE, CONNECTION_CLOSE_OK, CHANNEL_OPEN, CHANNEL_CLOSE, CHANNEL_FLOW}
 use Rattle.machine_091.specs.declared.state.Channel91.TheVariants as channel
 use Rattle.machine_091.specs.declared.state.Connection.{Connection}
@@ -35,9 +35,9 @@ pub record HoldsByRow (P : Step → Type 0) (c : Connection) (u : Unit91) : Type
   pub greeted : c.phase ≡ phase.Header → P (record c { phase = phase.Start; stream = stream.Frames }, want.Start)
   pub foreign : c.phase ≡ phase.Header → P (record c { phase = phase.Closed; stream = stream.Foreign }, want.Nothing)
   pub refused : (code : ℕ) → is_closing_phase c.phase ≡ false
-      → P (record c { phase = phase.Closing; stream = stream_after u c.stream }, want.Refuse (refusal_of code u))
+      → P (record c { phase = phase.Closing; stream = stream_after u c.stream; asked = asked_by c code }, want.Refuse (refusal_of code u))
   pub nothing : P (c, want.Nothing)
-  pub login : (a b : List ℕ) → c.phase ≡ phase.Start → P (record c { phase = phase.Tune }, want.Login a b)
+  pub login : (a b : List ℕ) → c.phase ≡ phase.Start → is_login a b ≡ true → P (record c { phase = phase.Tune }, want.Login a b)
   pub tuned : (channels size heartbeat : ℕ) → c.phase ≡ phase.Tune → is_agreed channels size ≡ true
       → P (record c { phase = phase.Open; limits = agreed_limits channels size heartbeat }, want.Tuned)
   pub asked : c.phase ≡ phase.Open → P (record c { asked = true }, want.OpenUp)
@@ -90,21 +90,29 @@ within c n opening z e = by (eqb n 0) (nat_lt c.limits.channel_max n) z refl e
 -- ---- the rows
 
 -- limits that a tune-ok agrees to
-tuned_agreed : (args : List Arg) → opening_refusal phase.Tune args ≡ None → is_agreed (number_at 0 args) (number_at 1 args) ≡ true
-tuned_agreed args e = by (is_agreed (number_at 0 args) (number_at 1 args)) e
+tuned_agreed : (vhost : List ℕ) (args : List Arg) → opening_refusal_in vhost args phase.Tune ≡ None → is_agreed (number_at 0 args) (number_at 1 args) ≡ true
+tuned_agreed vhost args e = by (is_agreed (number_at 0 args) (number_at 1 args)) e
+  where
+    by : (b : Bool) → cond {A = Option Ruling} b None (refused NOT_ALLOWED) ≡ None → b ≡ true
+    by true e = refl
+    by false e = absurd cc
+
+-- a login that a start-ok tells
+login_taken : (vhost : List ℕ) (args : List Arg) → opening_refusal_in vhost args phase.Start ≡ None → is_login (text_at 1 args) (text_at 2 args) ≡ true
+login_taken vhost args e = by (is_login (text_at 1 args) (text_at 2 args)) e
   where
     by : (b : Bool) → cond {A = Option Ruling} b None (refused NOT_ALLOWED) ≡ None → b ≡ true
     by true e = refl
     by false e = absurd cc
 
 opening_rows : (P : Step → Type 0) (c : Connection) (u : Unit91) (args : List Arg) → HoldsByRow P c u
-    → opening_refusal c.phase args ≡ None → P (opening_effect c args c.phase)
+    → opening_refusal c args ≡ None → P (opening_effect c args c.phase)
 opening_rows P c u args rows none = by c.phase refl none
   where
-    by : (p : Phase91) → c.phase ≡ p → opening_refusal p args ≡ None → P (opening_effect c args p)
+    by : (p : Phase91) → c.phase ≡ p → opening_refusal_in c.vhost args p ≡ None → P (opening_effect c args p)
     by phase.Header e none = rows.nothing
-    by phase.Start e none = rows.login (text_at 1 args) (text_at 2 args) e
-    by phase.Tune e none = rows.tuned (number_at 0 args) (number_at 1 args) (number_at 2 args) e (tuned_agreed args none)
+    by phase.Start e none = rows.login (text_at 1 args) (text_at 2 args) e (login_taken c.vhost args none)
+    by phase.Tune e none = rows.tuned (number_at 0 args) (number_at 1 args) (number_at 2 args) e (tuned_agreed c.vhost args none)
     by phase.Open e none = rows.asked e
     by phase.Running e none = rows.nothing
     by phase.Closing e none = rows.nothing
@@ -142,7 +150,7 @@ method_rows P c u f (Ok m) rows none =
     by (is_running c.phase) refl (own_none c f (Ok m) none)
   where
     by : (b : Bool) → is_running c.phase ≡ b
-        → cond {A = Option Ruling} b (running_refusal f.channel m.0 m.1) (opening_refusal c.phase m.1) ≡ None
+        → cond {A = Option Ruling} b (running_refusal f.channel m.0 m.1) (opening_refusal c m.1) ≡ None
         → P (cond {A = Step} b (running_effect c f.channel m.0 m.1) (opening_effect c m.1 c.phase))
     by true e own = running_rows P c u f.channel f.payload m.0 m.1 rows e (channel_none c f (Ok m) none)
     by false e own = opening_rows P c u m.1 rows own

@@ -1,5 +1,5 @@
 -- What holds of each step of a connection.
-use Rattle.std.proofs.Common.{◌≡◌, ℕ, Bool, true, false, cond, eqb, refl, sym, ◌∙◌, ap, arith, inl, inr}
+use Rattle.std.proofs.Common.{◌≡◌, ℕ, List, [], Bool, true, false, cond, eqb, refl, sym, ◌∙◌, ap, arith, inl, inr}
 use Rattle.std.proofs.lemmas.Bool.Decides.{nat_tests}
 use Rattle.frames_091.specs.declared.frame.Kind91.{Kind91}
 use Rattle.frames_091.specs.declared.frame.Kind91.TheVariants as frame
@@ -7,6 +7,7 @@ use Rattle.close_translate.specs.declared.conditions.Scope.TheVariants as scope
 use Rattle.machine_091.specs.Laws.{Closes, StaysClosed}
 use Rattle.machine_091.specs.Limits.{AreWithin, is_agreed, agreed_limits}
 use Rattle.machine_091.specs.Refusals.{refusal_by, refusal_of, refusal_with}
+use Rattle.machine_091.specs.RefusalsOpening.{is_login}
 use Rattle.machine_091.specs.State.{is_running, is_closing_phase}
 use Rattle.machine_091.specs.Transitions.{Step, unit_step}
 use Rattle.machine_091.specs.declared.state.Connection.{Connection}
@@ -52,7 +53,7 @@ limits_stay c u w = step_rows (λ (x : Step). AreWithin x.0.limits) c u (record 
   foreign = λ e. w;
   refused = λ code e. w;
   nothing = w;
-  login = λ a b e. w;
+  login = λ a b e named. w;
   tuned = λ channels size heartbeat e agreed. agreed_within channels size heartbeat agreed;
   asked = λ e. w;
   closed = λ e. w;
@@ -74,7 +75,7 @@ none_runs c u = step_rows (λ (x : Step). x.0.phase ≡ phase.Running → c.phas
   foreign = λ e k. absurd cc;
   refused = λ code e k. absurd cc;
   nothing = λ k. k;
-  login = λ a b e k. absurd cc;
+  login = λ a b e named k. absurd cc;
   tuned = λ channels size heartbeat e agreed k. absurd cc;
   asked = λ e k. k;
   closed = λ e k. absurd cc;
@@ -94,7 +95,7 @@ closed_stays c u at = step_rows (λ (x : Step). StaysClosed c x) c u (record {
   foreign = λ e. absurd cc;
   refused = λ code e. let k : is_closing_phase c.phase ≡ true = ap is_closing_phase at in absurd cc;
   nothing = record { phase = at; limits = refl; channels = refl; want = inl refl };
-  login = λ a b e. absurd cc;
+  login = λ a b e named. absurd cc;
   tuned = λ channels size heartbeat e agreed. absurd cc;
   asked = λ e. absurd cc;
   closed = λ e. let k : is_running c.phase ≡ false = ap is_running at in absurd cc;
@@ -148,7 +149,53 @@ refusal_closes c u r = step_rows (λ (x : Step). x.1 ≡ want.Refuse r → Close
         channels = refl;
       };
   nothing = λ k. absurd cc;
-  login = λ a b e k. absurd cc;
+  login = λ a b e named k. absurd cc;
+  tuned = λ channels size heartbeat e agreed k. absurd cc;
+  asked = λ e k. absurd cc;
+  closed = λ e k. absurd cc;
+  opened = λ n m e min max k. absurd cc;
+  ended = λ n m e min max k. absurd cc;
+  stopped = λ n m e k. absurd cc;
+  freed = λ n e k. absurd cc;
+  crossed = λ e k. absurd cc;
+  answered = λ e k. absurd cc;
+  passed = λ e k. absurd cc;
+})
+
+-- ---- logins
+
+abbrev mechanism_in : Want91 → List ℕ
+mechanism_in want.Nothing = []
+mechanism_in want.Start = []
+mechanism_in (want.Login a b) = a
+mechanism_in want.Tuned = []
+mechanism_in want.OpenUp = []
+mechanism_in (want.Method n m) = []
+mechanism_in (want.ChannelCloseOk n) = []
+mechanism_in want.Close = []
+mechanism_in want.CloseOk = []
+mechanism_in (want.Refuse r) = []
+
+abbrev response_in : Want91 → List ℕ
+response_in want.Nothing = []
+response_in want.Start = []
+response_in (want.Login a b) = b
+response_in want.Tuned = []
+response_in want.OpenUp = []
+response_in (want.Method n m) = []
+response_in (want.ChannelCloseOk n) = []
+response_in want.Close = []
+response_in want.CloseOk = []
+response_in (want.Refuse r) = []
+
+-- a login that is taken is by a mechanism that is offered, and its response is short
+pub logins_named : (c : Connection) (u : Unit91) (a b : List ℕ) → (unit_step c u).1 ≡ want.Login a b → is_login a b ≡ true
+logins_named c u a b = step_rows (λ (x : Step). x.1 ≡ want.Login a b → is_login a b ≡ true) c u (record {
+  greeted = λ e k. absurd cc;
+  foreign = λ e k. absurd cc;
+  refused = λ code e k. absurd cc;
+  nothing = λ k. absurd cc;
+  login = λ x y e named k. ap (is_login a) (sym (ap response_in k)) ∙ ap (λ (m : List ℕ). is_login m y) (sym (ap mechanism_in k)) ∙ named;
   tuned = λ channels size heartbeat e agreed k. absurd cc;
   asked = λ e k. absurd cc;
   closed = λ e k. absurd cc;

@@ -33,10 +33,10 @@ after_call (Closing s n) c = after_closing s n c
 after_call (Closed n) c = after_closed n c
 after_call Ended c = after_ended c
 
--- a connection after these calls
-abbrev pub after_calls : List Call91 → Connection
-after_calls [] = new_connection
-after_calls (x ∷ h) = after_call x (after_calls h)
+-- a connection to this virtual host after these calls
+abbrev pub after_calls : List ℕ → List Call91 → Connection
+after_calls vhost [] = new_connection vhost
+after_calls vhost (x ∷ h) = after_call x (after_calls vhost h)
 
 -- a channel is open, or it is closing
 abbrev pub is_used : Channel91 → Bool

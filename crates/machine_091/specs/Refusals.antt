@@ -77,7 +77,7 @@ own_place c n read frame.Heartbeat = None
 own_place c n read frame.Header = None
 own_place c n read frame.Body = None
 own_place c n (Err e) frame.Method = None
-own_place c n (Ok m) frame.Method = if is_running c.phase then running_refusal n m.0 m.1 else opening_refusal c.phase m.1
+own_place c n (Ok m) frame.Method = if is_running c.phase then running_refusal n m.0 m.1 else opening_refusal c m.1
 
 -- the order
 abbrev pub places : Connection → Frame91 → Read → Kind91 → List (Option Ruling)

@@ -62,12 +62,19 @@ is_login mechanism response =
     (bytes_eq mechanism (codes "PLAIN") || bytes_eq mechanism (codes "ANONYMOUS"))
     && nat_le (length response) RESPONSE_MAX
 
--- another login, or other limits
-abbrev pub opening_refusal : Phase91 → List Arg → Option Ruling
-opening_refusal phase.Header args = None
-opening_refusal phase.Start args = if is_login (text_at 1 args) (text_at 2 args) then None else refused NOT_ALLOWED
-opening_refusal phase.Tune args = if is_agreed (number_at 0 args) (number_at 1 args) then None else refused NOT_ALLOWED
-opening_refusal phase.Open args = None
-opening_refusal phase.Running args = None
-opening_refusal phase.Closing args = None
-opening_refusal phase.Closed args = None
+-- the method isn't allowed
+abbrev pub unless : Bool → Option Ruling
+unless allowed = if allowed then None else refused NOT_ALLOWED
+
+-- another login, other limits, or another virtual host
+abbrev pub opening_refusal_in : List ℕ → List Arg → Phase91 → Option Ruling
+opening_refusal_in vhost args phase.Header = None
+opening_refusal_in vhost args phase.Start = unless (is_login (text_at 1 args) (text_at 2 args))
+opening_refusal_in vhost args phase.Tune = unless (is_agreed (number_at 0 args) (number_at 1 args))
+opening_refusal_in vhost args phase.Open = unless (bytes_eq (text_at 0 args) vhost)
+opening_refusal_in vhost args phase.Running = None
+opening_refusal_in vhost args phase.Closing = None
+opening_refusal_in vhost args phase.Closed = None
+
+abbrev pub opening_refusal : Connection → List Arg → Option Ruling
+opening_refusal c args = opening_refusal_in c.vhost args c.phase

@@ -16,9 +16,10 @@ use Rattle.machine_091.specs.declared.state.Stream91.TheVariants as stream
 unfoldable pub no_channels : List Channel91
 no_channels = replicate 256 channel.Free
 
--- a connection of which nothing was read yet
-abbrev pub new_connection : Connection
-new_connection = record {
+-- a connection of which nothing was read yet, to this virtual host
+abbrev pub new_connection : List ℕ → Connection
+new_connection vhost = record {
+  vhost = vhost;
   phase = phase.Header;
   stream = stream.Header;
   asked = false;

@@ -1,5 +1,5 @@
 -- The transitions of a connection (AMQP 0-9-1 2.2.4 and 1.5): for each phase and each unit the state after it, and what the unit wants.
-use Rattle.std.specs.Prelude.{ℕ, Bool, true, false, ◌&&◌, ◌==◌, if◌then◌else◌, List, Option, Some, None, Ok, Err}
+use Rattle.std.specs.Prelude.{ℕ, Bool, true, false, ◌&&◌, ◌||◌, ◌==◌, if◌then◌else◌, List, Option, Some, None, Ok, Err}
 use Rattle.frames_091.specs.declared.frame.Kind91.{Kind91}
 use Rattle.frames_091.specs.declared.frame.Kind91.TheVariants as frame
 use Rattle.methods_091.specs.Rows.{Kind}
@@ -11,7 +11,8 @@ use Rattle.machine_091.specs.Limits.{agreed_limits}
 use Rattle.machine_091.specs.Refusals.{unit_ruling, refusal_of}
 use Rattle.machine_091.specs.RefusalsOpening.{text_at, number_at}
 use Rattle.machine_091.specs.RefusalsRunning.{is_active}
-use Rattle.machine_091.specs.State.{is_running, with_channel}
+use Rattle.close_translate.specs.declared.codes.TheConstants.{NOT_ALLOWED}
+use Rattle.machine_091.specs.State.{is_open_phase, is_running, with_channel}
 use Rattle.machine_091.specs.declared.ids.TheConstants.{CONNECTION_CLOSE, CONNECTION_CLOSE_OK, CHANNEL_OPEN, CHANNEL_FLOW, CHANNEL_CLOSE}
 use Rattle.machine_091.specs.declared.state.Channel91.TheVariants as channel
 use Rattle.machine_091.specs.declared.state.Connection.{Connection}
@@ -101,12 +102,16 @@ unit_effect c (unit.Frame f) = frame_effect c f.channel f.payload f.kind
 unit_effect c unit.Protocol = (c, want.Nothing)
 unit_effect c (unit.Bad code) = (c, want.Nothing)
 
+-- a connection.open counts as one also where it names another virtual host; in the phase that expects it no other unit gets that code
+abbrev pub asked_by : Connection → ℕ → Bool
+asked_by c code = c.asked || (is_open_phase c.phase && code == NOT_ALLOWED)
+
 -- what the order of refusals says, or else what the unit does
 abbrev pub ruled_step : Connection → Unit91 → Option Ruling → Step
 ruled_step c u None = unit_effect c u
 ruled_step c u (Some ruling.PassedOver) = (c, want.Nothing)
 ruled_step c u (Some (ruling.Refused code)) =
-    (record c { phase = phase.Closing; stream = stream_after u c.stream }, want.Refuse (refusal_of code u))
+    (record c { phase = phase.Closing; stream = stream_after u c.stream; asked = asked_by c code }, want.Refuse (refusal_of code u))
 
 abbrev pub ordered_step : Connection → Unit91 → Step
 ordered_step c u = ruled_step c u (unit_ruling c u)

@@ -11,10 +11,10 @@ use crate::unit::{Unit91, Want91};
 use close_translate::Scope;
 use std::alloc::Global;
 use std::marker::Model;
-use wire_base::Memory;
+use wire_base::{ByteText, Memory};
 
 /// The connection of one client. Contracts see its state.
-#[derive(Clone, Debug, Drop)]
+#[derive(Debug, Drop)]
 pub struct Conn91 {
     state: Connection,
 }
@@ -31,13 +31,21 @@ impl Model for Conn91 {
 }
 
 impl Conn91 {
-    /// A connection of which nothing was read yet.
-    pub fn new() -> Conn91
-        ensures { result ≡ new_connection }
+    /// A connection of which nothing was read yet, whose client may open this virtual host.
+    pub fn new(vhost: ByteText) -> Conn91
+        ensures { result ≡ new_connection vhost }
     {
         Conn91 {
-            state: Connection::new(),
+            state: Connection::new(vhost),
         }
+    }
+
+    /// A copy of it.
+    pub fn copy(&self, alloc: Global) -> Result<Conn91, Memory>
+        ensures { IfOk result (λ conn. conn ≡ self.now) }
+    {
+        let state = self.state.copy(alloc)?;
+        Ok(Conn91 { state })
     }
 
     /// Takes the client's next unit, and answers what it wants, or that it is refused: by the first place of the order of
@@ -107,7 +115,7 @@ impl Conn91 {
         self.state.stream
     }
 
-    /// connection.open came where it was expected. This stays so for ever.
+    /// connection.open came where it was expected, to whichever virtual host. This stays so for ever.
     pub fn is_asked(&self) -> bool
         ensures { result ≡ self.now.asked }
     {

@@ -1,8 +1,9 @@
 //! What holds of the transitions of a connection, above their table.
 
-ghost use Rattle.std.specs.Prelude.{◌≡◌, List};
+ghost use Rattle.std.specs.Prelude.{◌≡◌, ℕ, List, true};
 ghost use Rattle.machine_091.specs.Laws.{Call91, after_calls, AreInRange, Closes, StaysClosed};
 ghost use Rattle.machine_091.specs.Limits.{AreWithin};
+ghost use Rattle.machine_091.specs.RefusalsOpening.{is_login};
 ghost use Rattle.machine_091.specs.Transitions.{unit_step};
 ghost use Rattle.machine_091.specs.declared.state.Connection.{Connection};
 ghost use Rattle.machine_091.specs.declared.state.Phase91.TheVariants as phase;
@@ -13,14 +14,17 @@ ghost use Rattle.machine_091.specs.declared.unit.Want91.TheVariants as want;
 /// The laws of a connection, for proofs to cite; the call does nothing.
 pub fn connection_laws()
     // After any calls frames of 4,096 to 131,072 bytes are agreed, and channels from 1 to at most 255.
-    ensures limits { (h : List Call91) → AreWithin (after_calls h).limits }
+    ensures limits { (vhost : List ℕ) (h : List Call91) → AreWithin (after_calls vhost h).limits }
     // No unit takes the limits of any connection out of that range.
     ensures limits_stay { (c : Connection) (u : Unit91) → AreWithin c.limits → AreWithin (unit_step c u).0.limits }
     // After any calls the channels that are open or closing have numbers from 1 to the agreed greatest, and are no more than that.
-    ensures channels { (h : List Call91) → AreInRange (after_calls h) }
+    ensures channels { (vhost : List ℕ) (h : List Call91) → AreInRange (after_calls vhost h) }
     // A refusal closes the connection, and leaves its limits and channels.
     ensures refusals { (c : Connection) (u : Unit91) (r : Refusal)
         → (unit_step c u).1 ≡ want.Refuse r → Closes c r (unit_step c u).0 }
+    // A login that is taken is by PLAIN or ANONYMOUS, and its response has at most 300 bytes.
+    ensures logins { (c : Connection) (u : Unit91) (mechanism response : List ℕ)
+        → (unit_step c u).1 ≡ want.Login mechanism response → is_login mechanism response ≡ true }
     // No unit makes a connection run.
     ensures running { (c : Connection) (u : Unit91)
         → (unit_step c u).0.phase ≡ phase.Running → c.phase ≡ phase.Running }

@@ -49,10 +49,10 @@ fn is_login(mechanism: &ByteText, response: &ByteText) -> bool
         && response.as_slice().len() <= RESPONSE_MAX
 }
 
-/// What the expected method itself is refused for: another login, or other limits.
+/// What the expected method itself is refused for: another login, other limits, or another virtual host.
 pub(crate) fn opening_refusal(conn: &Connection, method: &Method91) -> Option<Ruling>
     requires { is_expected conn.now (kind_of method.now) ≡ true }
-    ensures { result ≡ opening_refusal conn.now.phase (args_of method.now) }
+    ensures { result ≡ opening_refusal conn.now (args_of method.now) }
 {
     let accepted = match method {
         Method91::ConnectionStartOk {
@@ -65,6 +65,7 @@ pub(crate) fn opening_refusal(conn: &Connection, method: &Method91) -> Option<Ru
             frame_max,
             ..
         } => is_agreed(*channel_max, *frame_max),
+        Method91::ConnectionOpen { virtual_host } => is_named(virtual_host, conn.vhost.as_slice()),
         _ => true,
     };
     if accepted {

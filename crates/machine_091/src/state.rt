@@ -1,9 +1,11 @@
 //! The state of a client's connection, as a value that contracts see.
 
-ghost use Rattle.std.specs.Prelude.{◌≡◌};
+ghost use Rattle.std.specs.Prelude.{◌≡◌, IfOk};
 ghost use Rattle.machine_091.specs.State.{new_connection, channel_at, with_channel, is_running, awaits, is_opening, is_closing, is_over, is_open};
 
 use crate::limits::{Limits, own_limits};
+use std::alloc::Global;
+use wire_base::{ByteText, Memory};
 
 /// How far a connection has come (AMQP 0-9-1 2.2.4): which units count.
 #[derive(Clone, Copy, Debug, PartialEq, Eq)]
@@ -64,11 +66,13 @@ pub enum Awaited91 {
 }
 
 /// The state of a client's connection, as contracts see a `Conn91`.
-#[derive(Clone, Debug, Drop)]
+#[derive(Debug, Drop)]
 pub struct Connection {
+    /// The one virtual host that a client may open.
+    pub(crate) vhost: ByteText,
     pub(crate) phase: Phase91,
     pub(crate) stream: Stream91,
-    /// connection.open came where it was expected.
+    /// connection.open came where it was expected, to whichever virtual host.
     pub(crate) asked: bool,
     pub(crate) limits: Limits,
     /// By their numbers. Nothing is ever on channel 0.
@@ -76,18 +80,33 @@ pub struct Connection {
 }
 
 impl Connection {
-    /// A connection of which nothing was read yet.
+    /// A connection of which nothing was read yet, to this virtual host.
     #[tactic(auto, unfolding(crate::specs::State::no_channels))]
-    pub(crate) fn new() -> Connection
-        ensures { result ≡ new_connection }
+    pub(crate) fn new(vhost: ByteText) -> Connection
+        ensures { result ≡ new_connection vhost }
     {
         Connection {
+            vhost,
             phase: Phase91::Header,
             stream: Stream91::Header,
             asked: false,
             limits: own_limits(),
             channels: [Channel91::Free; 256],
         }
+    }
+
+    /// A copy of it.
+    pub(crate) fn copy(&self, alloc: Global) -> Result<Connection, Memory>
+        ensures { IfOk result (λ conn. conn ≡ self.now) }
+    {
+        Ok(Connection {
+            vhost: self.vhost.copy(alloc)?,
+            phase: self.phase,
+            stream: self.stream,
+            asked: self.asked,
+            limits: self.limits,
+            channels: self.channels,
+        })
     }
 
     /// Channels may be opened.

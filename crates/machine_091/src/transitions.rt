@@ -11,7 +11,7 @@ ghost use Rattle.machine_091.specs.RefusalsOpening.{is_expected, text_at, number
 ghost use Rattle.machine_091.specs.RefusalsRunning.{running_state, running_refusal};
 ghost use Rattle.machine_091.specs.Refusals.{refusal_of};
 ghost use Rattle.machine_091.specs.State.{is_running, channel_at};
-ghost use Rattle.machine_091.specs.Transitions.{header_step, stream_after, is_unit_of, opening_effect, running_effect, method_effect, ordered_step, closed_step, closing_step, unit_step};
+ghost use Rattle.machine_091.specs.Transitions.{asked_by, header_step, stream_after, is_unit_of, opening_effect, running_effect, method_effect, ordered_step, closed_step, closing_step, unit_step};
 ghost use Rattle.machine_091.specs.declared.state.Phase91.TheVariants as phase;
 ghost use Rattle.machine_091.specs.declared.unit.Want91.TheVariants as want;
 
@@ -22,7 +22,7 @@ use crate::limits::{Limits, agreed_limits, own_limits};
 use crate::refusals::{check_frame, refusal_of};
 use crate::state::{Channel91, Connection, Phase91, Stream91};
 use crate::unit::{Ruling, Unit91, Want91};
-use close_translate::{FRAME_ERROR, Scope};
+use close_translate::{FRAME_ERROR, NOT_ALLOWED, Scope};
 use frames_091::{Frame91, Kind91};
 use methods_091::{Method91, read_method};
 use std::alloc::Global;
@@ -178,9 +178,10 @@ impl Connection {
 
     /// The unit is refused.
     fn refuse(&mut self, code: u16, unit: &Unit91) -> Want91
-        ensures state { self.new ≡ record self.old { phase = phase.Closing; stream = stream_after unit.now self.old.stream } }
+        ensures state { self.new ≡ record self.old { phase = phase.Closing; stream = stream_after unit.now self.old.stream; asked = asked_by self.old code } }
         ensures want { result ≡ want.Refuse (refusal_of code unit.now) }
     {
+        self.asked |= self.phase == Phase91::Open && code == NOT_ALLOWED;
         self.phase = Phase91::Closing;
         self.stream = stream_after(unit, self.stream);
         Want91::Refuse(refusal_of(code, unit))
