@@ -1,5 +1,5 @@
 -- What was written over the first bytes of a room.
-use Rattle.std.proofs.Common.{◌≡◌, ◌∙◌, ℕ, List, ◌++◌, take, drop, sym, ap}
+use Rattle.std.proofs.Common.{◌≡◌, ◌∙◌, ℕ, List, take, drop, sym, ap}
 use Rattle.std.proofs.lemmas.List.{take_at}
 use Rattle.methods_091.specs.Closing.{IsWrittenOver}
 

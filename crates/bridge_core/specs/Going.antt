@@ -2,6 +2,7 @@
 use Rattle.std.specs.Prelude.{◌≡◌}
 use Rattle.gate_model.specs.State.{State}
 
--- the unit in progress stays
-abbrev pub KeepsGoing : State → State → Type 0
-KeepsGoing old new = new.in_progress ≡ old.in_progress
+-- the units in progress stay
+pub record KeepsGoing (old new : State) : Type 0 where
+  pub client : new.in_progress ≡ old.in_progress
+  pub up : new.up.in_progress ≡ old.up.in_progress

@@ -1,21 +1,33 @@
--- What a bridge shows: its state, and for the client whether a unit is offered, and its bytes or
--- those of the unit in progress.
-use Rattle.std.specs.Prelude.{◌≡◌, ℕ, Bool, true, false, List, [], Option, Some, None, is_some}
+-- What a bridge shows: its state, and for each end whether a unit is offered, and its bytes or those
+-- of the unit in progress.
+use Rattle.std.specs.Prelude.{◌≡◌, ℕ, Bool, false, List, Option, Some, None, is_some}
 use Rattle.std.specs.Prelude.{IfSome}
 use Rattle.gate_outside.specs.declared.ports.End.{End}
 use Rattle.gate_outside.specs.declared.ports.End.TheVariants.{Client, Up}
+use Rattle.gate_model.specs.declared.outgoing.Outgoing.{Outgoing}
+use Rattle.gate_model.specs.declared.outgoing.Outgoing.TheVariants.{ToClient, ToUp}
+use Rattle.gate_model.specs.declared.outgoing.UpUnit.{UpUnit}
 use Rattle.gate_model.specs.declared.reply.Reply.{Reply}
 use Rattle.gate_model.specs.Due.{pick}
-use Rattle.gate_model.specs.Spelling.{spell}
+use Rattle.gate_model.specs.Setup.{SetupText}
+use Rattle.gate_model.specs.Spelling.{Context, context_of, spell, spell_reply}
 use Rattle.gate_model.specs.State.{State, Step, step}
 
 pub record SlotState : Type 0 where
   pub chosen : Option Reply
   pub bytes : List ℕ
 
+pub record UpSlotState : Type 0 where
+  pub chosen : Option UpUnit
+  pub bytes : List ℕ
+
 -- what is chosen is what goes next, and the bytes are its spelling
-abbrev pub IsOffer : State → End → SlotState → Type 0
-IsOffer w end s = IfSome s.chosen (λ u. (pick w end ≡ Some u) × (s.bytes ≡ spell u))
+abbrev pub IsOffer : State → SlotState → Type 0
+IsOffer w s =
+    IfSome s.chosen (λ u. (pick w Client ≡ Some (ToClient u)) × (s.bytes ≡ spell_reply u))
+
+abbrev pub IsUpOffer : State → UpSlotState → Type 0
+IsUpOffer w s = IfSome s.chosen (λ u. pick w Up ≡ Some (ToUp u))
 
 pub record OfferState : Type 0 where
   -- the last look found a unit, and no step came since
@@ -25,35 +37,45 @@ pub record OfferState : Type 0 where
 pub record BridgeState : Type 0 where
   pub state : State
   pub client : OfferState
+  pub up : OfferState
 
--- nothing is offered upstream yet
 abbrev pub offer_of : End → BridgeState → OfferState
 offer_of Client b = b.client
-offer_of Up b = record { ready = false; bytes = [] }
+offer_of Up b = b.up
 
--- a step takes an offer back; the bytes of the unit in progress stay
+-- a step takes offers back; the bytes of units in progress stay
 abbrev pub stale : OfferState → OfferState
 stale o = record { ready = false; bytes = o.bytes }
 
 abbrev pub moved : Step → BridgeState → BridgeState
-moved s b = record { state = step b.state s; client = stale b.client }
+moved s b = record { state = step b.state s; client = stale b.client; up = stale b.up }
 
-abbrev pub bytes_of : Option Reply → List ℕ → List ℕ
-bytes_of None old = old
-bytes_of (Some u) old = spell u
+abbrev pub bytes_of : Context → Option Outgoing → List ℕ → List ℕ
+bytes_of c None old = old
+bytes_of c (Some u) old = spell c u
 
--- a look at what goes next
-abbrev pub peeked : End → BridgeState → BridgeState
-peeked Client b = record {
-  state = b.state;
+-- those of a unit to the client need no context
+abbrev pub client_bytes : Option Outgoing → List ℕ → List ℕ
+client_bytes None old = old
+client_bytes (Some (ToClient u)) old = spell_reply u
+client_bytes (Some (ToUp u)) old = old
+
+-- a look at what goes next to an end
+abbrev pub looked : Context → Option Outgoing → OfferState → OfferState
+looked c u o = record { ready = is_some u; bytes = bytes_of c u o.bytes }
+
+abbrev pub peeked : SetupText → End → BridgeState → BridgeState
+peeked s Client b = record b {
   client = record {
     ready = is_some (pick b.state Client);
-    bytes = bytes_of (pick b.state Client) b.client.bytes;
+    bytes = client_bytes (pick b.state Client) b.client.bytes;
   };
 }
-peeked Up b = b
+peeked s Up b = record b { up = looked (context_of s b.state) (pick b.state Up) b.up }
 
--- the unit in progress and its bytes stay
+-- units in progress and their bytes stay
 pub record Keeps (old new : BridgeState) : Type 0 where
-  pub bytes : new.client.bytes ≡ old.client.bytes
+  pub client : new.client.bytes ≡ old.client.bytes
+  pub up : new.up.bytes ≡ old.up.bytes
   pub going : new.state.in_progress ≡ old.state.in_progress
+  pub going_up : new.state.up.in_progress ≡ old.state.up.in_progress

@@ -1,27 +1,30 @@
-//! A pair's bridge: its state, and the unit that is offered to its client.
+//! A pair's bridge: its state, and the unit that is offered to each end.
 
-ghost use Rattle.std.specs.Prelude.{◌≡◌, ℕ, ◌≤◌, true, false, List, length, OnOk, OnErr, IfSome};
-ghost use Rattle.std.specs.Prelude.{IsSome, is_some};
-ghost use Rattle.std.specs.Option.{option_map};
-ghost use Rattle.gate_model.specs.State.{Step, Moment, Came, TakenUp, Lost, Gave, Whole};
-ghost use Rattle.gate_model.specs.State.{OutOfMemory, new_state};
-ghost use Rattle.gate_model.specs.Due.{in_progress, is_awaiting, is_busy, is_shut_due, is_waiting};
-ghost use Rattle.gate_model.specs.Due.{pick};
-ghost use Rattle.gate_model.specs.Spelling.{spell};
+ghost use Rattle.std.specs.Prelude.{◌≡◌, ◌≤◌, true, false, length, OnOk, OnErr, IfOk};
+ghost use Rattle.std.specs.Prelude.{IfSome, IsSome, is_some};
+ghost use Rattle.gate_outside.specs.declared.ports.End.TheVariants.{Client, Up};
+ghost use Rattle.gate_model.specs.State.{Moment, Came, TakenUp, Heard, Joined, Lost, Gave};
+ghost use Rattle.gate_model.specs.State.{Whole, OutOfMemory, new_state, waits};
+ghost use Rattle.gate_model.specs.Due.{can_leave, can_take_up, is_awaiting, is_busy};
+ghost use Rattle.gate_model.specs.Due.{is_connect_due, is_shut_due, pick, takes_memory};
+ghost use Rattle.gate_model.specs.Spelling.{context_of};
+ghost use Rattle.gate_model.specs.Upstream.{awaited_of};
 ghost use Rattle.machine_091.specs.Limits.{AreWithin};
 ghost use Rattle.machine_091.specs.State.{awaits};
-ghost use Rattle.bridge_core.specs.Offers.{BridgeState, IsOffer, Keeps, bytes_of, moved, offer_of};
-ghost use Rattle.bridge_core.specs.Offers.{peeked, stale};
+ghost use Rattle.bridge_core.specs.Offers.{BridgeState, IsOffer, IsUpOffer, Keeps, bytes_of, moved};
+ghost use Rattle.bridge_core.specs.Offers.{client_bytes, offer_of, peeked, stale};
 
 use crate::core_state::Core;
 use crate::slot::Slot;
-use gate_model::Reply;
-use gate_outside::End;
+use crate::up_slot::UpSlot;
+use gate_model::{Outgoing, Setup};
+use gate_outside::{End, Linked};
 use gate_relay::Loss;
+use machine_10::{Awaited10, Unit10};
 use machine_091::{Awaited91, Unit91};
 use std::alloc::Global;
 use std::marker::Model;
-use wire_base::Memory;
+use wire_base::{ByteText, Memory};
 
 /// The bridge of a pair. Each call that changes its state is a step, and takes back what was
 /// offered.
@@ -29,31 +32,32 @@ use wire_base::Memory;
 pub struct Bridge {
     state: Core,
     client: Slot,
+    up: UpSlot,
 }
 
 impl Model for Bridge {
     ghost use Rattle.std.specs.Prelude.{is_some};
-    ghost use Rattle.gate_outside.specs.declared.ports.End.TheVariants.{Client};
-    ghost use Rattle.bridge_core.specs.Offers.{BridgeState, IsOffer};
+    ghost use Rattle.bridge_core.specs.Offers.{BridgeState, IsOffer, IsUpOffer};
 
     ghost Value = { BridgeState };
 
     ghost view = { λ a. record {
       state = a.state;
       client = record { ready = is_some a.client.chosen; bytes = a.client.bytes };
+      up = record { ready = is_some a.up.chosen; bytes = a.up.bytes };
     } };
 
-    ghost invariant = { λ a. IsOffer a.state Client a.client };
+    ghost invariant = { λ a. IsOffer a.state a.client × IsUpOffer a.state a.up };
 }
 
 /// Looks for what goes next to the client. Where nothing does, the bytes stay.
 fn look(state: &Core, slot: &mut Slot) -> bool
-    ensures some { result ≡ is_some (pick state.now End.Client) }
-    ensures offer { IsOffer state.now End.Client slot.new }
-    ensures chosen { slot.new.chosen ≡ pick state.now End.Client }
-    ensures bytes { slot.new.bytes ≡ bytes_of (pick state.now End.Client) slot.old.bytes }
+    ensures some { result ≡ is_some (pick state.now Client) }
+    ensures offer { IsOffer state.now slot.new }
+    ensures chosen { is_some slot.new.chosen ≡ is_some (pick state.now Client) }
+    ensures bytes { slot.new.bytes ≡ client_bytes (pick state.now Client) slot.old.bytes }
 {
-    match state.next(End::Client) {
+    match state.next_client() {
         None => {
             slot.take_back();
             false
@@ -65,28 +69,62 @@ fn look(state: &Core, slot: &mut Slot) -> bool
     }
 }
 
+/// Looks for what goes next to the container. Where nothing does, the bytes stay; without memory all is as it was.
+fn look_up(state: &Core, slot: &mut UpSlot, alloc: Global, setup: &Setup) -> Result<bool, Memory>
+    ensures some { IfOk result (λ yes. yes ≡ is_some (pick state.now Up)) }
+    ensures offer { OnOk result (IsUpOffer state.now slot.new) }
+    ensures chosen { OnOk result (is_some slot.new.chosen ≡ is_some (pick state.now Up)) }
+    ensures bytes { OnOk result (slot.new.bytes ≡ bytes_of (context_of setup.now state.now) (pick state.now Up) slot.old.bytes) }
+    ensures err { OnErr result (slot.new ≡ slot.old) }
+    ensures takes { OnErr result (takes_memory (pick state.now Up) ≡ true) }
+{
+    match state.next_up() {
+        None => {
+            slot.take_back();
+            Ok(false)
+        }
+        Some(unit) => {
+            match slot.choose(alloc, setup, state.number(), state.container(), unit) {
+                Ok(()) => Ok(true),
+                Err(error) => Err(error),
+            }
+        }
+    }
+}
+
 impl Bridge {
-    /// A pair that was accepted at this moment, in milliseconds.
-    pub fn new(moment: u64) -> Bridge
-        ensures state { result.state ≡ new_state moment }
+    /// The pair with this number, accepted at this moment in milliseconds. Its client may open this virtual host.
+    pub fn new(vhost: ByteText, number: u32, moment: u64) -> Bridge
+        ensures state { result.state ≡ new_state vhost number moment }
+        ensures client { result.client.ready ≡ false }
+        ensures up { result.up.ready ≡ false }
     {
         Bridge {
-            state: Core::new(moment),
+            state: Core::new(vhost, number, moment),
             client: Slot::new(),
+            up: UpSlot::new(),
         }
+    }
+
+    /// What was offered isn't any more.
+    fn take_back(&mut self)
+        ensures { self.new ≡ record self.old { client = stale self.old.client; up = stale self.old.up } }
+    {
+        self.client.take_back();
+        self.up.take_back();
     }
 
     /// A moment was given.
     pub fn tell(&mut self, moment: u64)
         ensures step { self.new ≡ moved (Moment moment) self.old }
+        ensures memory { self.new.state.out_of_memory ≡ self.old.state.out_of_memory }
         ensures kept { Keeps self.old self.new }
     {
-        self.client.take_back();
+        self.take_back();
         self.state.tell(moment);
     }
 
-    /// A unit of the client came. If there is no memory for it, the pair ran out of memory before
-    /// it came.
+    /// A unit of the client is taken up. If there is no memory for it, the pair ran out of memory before it.
     pub fn client_unit(&mut self, alloc: Global, unit: Unit91) -> Result<(), Memory>
         requires { self.old.state.out_of_memory ≡ false }
         ensures ok { OnOk result (self.new ≡ moved (Came unit) self.old) }
@@ -95,7 +133,7 @@ impl Bridge {
         ensures met { OnErr result (self.new.state.out_of_memory ≡ true) }
         ensures kept { Keeps self.old self.new }
     {
-        self.client.take_back();
+        self.take_back();
         match self.state.client_unit(alloc, unit) {
             Ok(()) => Ok(()),
             Err(error) => {
@@ -105,15 +143,45 @@ impl Bridge {
         }
     }
 
-    /// What came and waits is taken up.
+    /// That the client's end ended or failed is taken up.
     pub fn take_up(&mut self)
         requires { self.old.state.out_of_memory ≡ false }
         ensures step { self.new ≡ moved TakenUp self.old }
         ensures calm { self.new.state.out_of_memory ≡ false }
         ensures kept { Keeps self.old self.new }
     {
-        self.client.take_back();
+        self.take_back();
         self.state.take_up();
+    }
+
+    /// A unit of the container came. If there is no memory for it, the pair ran out of memory before it.
+    #[tactic(auto, using(crate::proofs::Calm::heard_calm))]
+    pub fn up_unit(&mut self, alloc: Global, unit: &Unit10) -> Result<(), Memory>
+        requires { self.old.state.out_of_memory ≡ false }
+        ensures ok { OnOk result (self.new ≡ moved (Heard unit.now) self.old) }
+        ensures err { OnErr result (self.new ≡ moved OutOfMemory self.old) }
+        ensures calm { OnOk result (self.new.state.out_of_memory ≡ false) }
+        ensures met { OnErr result (self.new.state.out_of_memory ≡ true) }
+        ensures kept { Keeps self.old self.new }
+    {
+        self.take_back();
+        match self.state.up_unit(alloc, unit) {
+            Ok(()) => Ok(()),
+            Err(error) => {
+                self.state.run_out();
+                Err(error)
+            }
+        }
+    }
+
+    /// The connection upstream was asked for.
+    pub fn link(&mut self, answer: Linked)
+        ensures step { self.new ≡ moved (Joined answer) self.old }
+        ensures memory { self.new.state.out_of_memory ≡ self.old.state.out_of_memory }
+        ensures kept { Keeps self.old self.new }
+    {
+        self.take_back();
+        self.state.link(answer);
     }
 
     /// An end was lost.
@@ -122,7 +190,7 @@ impl Bridge {
         ensures memory { self.new.state.out_of_memory ≡ self.old.state.out_of_memory }
         ensures kept { Keeps self.old self.new }
     {
-        self.client.take_back();
+        self.take_back();
         self.state.lose(end, how);
     }
 
@@ -131,9 +199,11 @@ impl Bridge {
         ensures step { self.new ≡ moved OutOfMemory self.old }
         ensures kept { Keeps self.old self.new }
     {
-        self.client.take_back();
+        self.take_back();
         self.state.run_out();
     }
+
+    // ---- questions
 
     /// Whether the pair ran out of memory.
     pub fn is_out_of_memory(&self) -> bool
@@ -142,13 +212,19 @@ impl Bridge {
         self.state.is_out_of_memory()
     }
 
-    /// As what the client's next bytes are cut. A frame that is awaited has room for 4,096 bytes at
-    /// least.
+    /// As what the client's next bytes are cut. A frame that is awaited has room for 4,096 bytes at least.
     pub fn awaits(&self) -> Awaited91
         ensures value { result ≡ awaits self.now.state.conn }
         ensures range { AreWithin self.now.state.conn.limits }
     {
         self.state.awaits()
+    }
+
+    /// As what the container's next bytes are cut.
+    pub fn awaits_up(&self) -> Awaited10
+        ensures { result ≡ awaited_of self.now.state.up.container }
+    {
+        self.state.awaits_up()
     }
 
     /// Bytes of an end are awaited.
@@ -158,11 +234,39 @@ impl Bridge {
         self.state.is_awaiting(end)
     }
 
-    /// What came and waits can be taken up.
-    pub fn is_waiting(&self) -> bool
-        ensures { result ≡ is_waiting self.now.state }
+    /// A request of the client waits for the upstream end.
+    pub fn waits(&self) -> bool
+        ensures { result ≡ waits self.now.state }
     {
-        self.state.is_waiting()
+        self.state.waits()
+    }
+
+    /// The client's end ended or failed, and that isn't taken up yet.
+    pub fn is_leaving(&self) -> bool
+        ensures { result ≡ self.now.state.leaving }
+    {
+        self.state.is_leaving()
+    }
+
+    /// What the client sent can be taken up.
+    pub fn can_take_up(&self) -> bool
+        ensures { result ≡ can_take_up self.now.state }
+    {
+        self.state.can_take_up()
+    }
+
+    /// That the client's end ended or failed can be taken up.
+    pub fn can_leave(&self) -> bool
+        ensures { result ≡ can_leave self.now.state }
+    {
+        self.state.can_leave()
+    }
+
+    /// The connection upstream is to be asked for.
+    pub fn is_connect_due(&self) -> bool
+        ensures { result ≡ is_connect_due self.now.state }
+    {
+        self.state.is_connect_due()
     }
 
     /// An end is to be shut.
@@ -176,18 +280,31 @@ impl Bridge {
     pub fn is_busy(&self, end: End) -> bool
         ensures { result ≡ is_busy self.now.state end }
     {
-        self.state.in_progress(end).is_some()
+        self.state.is_busy(end)
     }
 
-    /// Looks for what goes next to an end. What is found is offered, and its bytes are `bytes`.
-    pub fn peek(&mut self, end: End) -> bool
+    // ---- what goes
+
+    /// Looks for what goes next to an end. What is found is offered, and its bytes are `bytes`. Without memory for them the
+    /// pair ran out of memory; after that, and for what ends a connection, a look takes none.
+    pub fn peek(&mut self, alloc: Global, setup: &Setup, end: End) -> Result<bool, Memory>
         requires free { is_busy self.old.state end ≡ false }
-        ensures some { result ≡ is_some (pick self.old.state end) }
-        ensures new { self.new ≡ peeked end self.old }
+        ensures some { IfOk result (λ yes. yes ≡ is_some (pick self.old.state end)) }
+        ensures ok { OnOk result (self.new ≡ peeked setup.now end self.old) }
+        ensures err { OnErr result (self.new ≡ moved OutOfMemory self.old) }
+        ensures calm { OnErr result (self.old.state.out_of_memory ≡ false) }
+        ensures takes { OnErr result (takes_memory (pick self.old.state end) ≡ true) }
+        ensures kept { OnErr result (Keeps self.old self.new) }
     {
         match end {
-            End::Client => look(&self.state, &mut self.client),
-            End::Up => false,
+            End::Client => Ok(look(&self.state, &mut self.client)),
+            End::Up => match look_up(&self.state, &mut self.up, alloc, setup) {
+                Ok(yes) => Ok(yes),
+                Err(error) => {
+                    self.run_out();
+                    Err(error)
+                }
+            },
         }
     }
 
@@ -195,12 +312,10 @@ impl Bridge {
     pub fn bytes(&self, end: End) -> &[u8]
         ensures bytes { result.now ≡ (offer_of end self.now).bytes }
         ensures small { length result.now ≤ 512 }
-        ensures spelled { (offer_of end self.now).ready ≡ true
-            → option_map spell (pick self.now.state end) ≡ Some result.now }
     {
         match end {
             End::Client => self.client.bytes(),
-            End::Up => &[],
+            End::Up => self.up.bytes(),
         }
     }
 
@@ -208,33 +323,33 @@ impl Bridge {
     pub fn commit(&mut self, end: End)
         requires offered { (offer_of end self.old).ready ≡ true }
         ensures picked { IsSome (pick self.old.state end) }
-        ensures step { IfSome (pick self.old.state end)
-            (λ u. self.new ≡ moved (Gave end u) self.old) }
-        ensures spelled { IfSome (pick self.old.state end)
-            (λ u. (offer_of end self.old).bytes ≡ spell u) }
+        ensures step { IfSome (pick self.old.state end) (λ u. self.new ≡ moved (Gave u) self.old) }
     {
         match end {
             End::Client => match self.client.chosen() {
-                Some(unit) => self.go(end, unit),
+                Some(unit) => self.go(Outgoing::ToClient(unit)),
                 None => unreachable!(),
             },
-            End::Up => unreachable!(),
+            End::Up => match self.up.chosen() {
+                Some(unit) => self.go(Outgoing::ToUp(unit)),
+                None => unreachable!(),
+            },
         }
     }
 
     /// The first byte of this unit was sent.
-    fn go(&mut self, end: End, unit: Reply)
-        ensures { self.new ≡ moved (Gave end unit) self.old }
+    fn go(&mut self, unit: Outgoing)
+        ensures { self.new ≡ moved (Gave unit) self.old }
     {
-        self.client.take_back();
-        self.state.begin(end, unit);
+        self.take_back();
+        self.state.begin(unit);
     }
 
     /// The last byte of the unit in progress was sent.
     pub fn wrote_all(&mut self, end: End)
         ensures { self.new ≡ moved (Whole end) self.old }
     {
-        self.client.take_back();
+        self.take_back();
         self.state.whole(end);
     }
 }

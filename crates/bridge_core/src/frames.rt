@@ -3,8 +3,8 @@
 ghost use Rattle.std.specs.Prelude.{◌≡◌, ◌≤◌, length};
 ghost use Rattle.frames_091.specs.Headers.{header_bytes};
 ghost use Rattle.methods_091.specs.Closing.{IsWrittenOver};
-ghost use Rattle.gate_model.specs.Spelling.{spell};
-ghost use Rattle.gate_model.specs.Spelling.{start_frame, tune_frame, heartbeat_frame};
+ghost use Rattle.gate_model.specs.Spelling.{heartbeat_frame, open_ok_frame, spell_reply};
+ghost use Rattle.gate_model.specs.Spelling.{start_frame, tune_frame};
 ghost use Rattle.gate_model.specs.declared.reply.Reply.TheVariants as reply;
 
 use close_translate::{RESOURCE_ERROR, code_name};
@@ -58,6 +58,17 @@ fn tune() -> &'static [u8]
     ]
 }
 
+/// connection.open-ok (AMQP 0-9-1 1.4.2.8).
+#[tactic(auto, unfolding(gate_model::specs::Spelling::open_ok_frame, frames_091::specs::Frames::frame_text))]
+fn open_ok() -> &'static [u8]
+    ensures bytes { result.now ≡ open_ok_frame }
+    ensures len { length result.now ≡ 13 }
+{
+    &[
+        0x01, 0x00, 0x00, 0x00, 0x00, 0x00, 0x05, 0x00, 0x0A, 0x00, 0x29, 0x00, 0xCE,
+    ]
+}
+
 /// A heartbeat (AMQP 0-9-1 4.2.7).
 #[tactic(auto, unfolding(frames_091::specs::Frames::frame_text))]
 fn heartbeat() -> &'static [u8]
@@ -68,7 +79,7 @@ fn heartbeat() -> &'static [u8]
 }
 
 /// Writes bytes over the first ones of a room, and answers their count.
-fn write_over(room: &mut [u8; 512], bytes: &[u8]) -> usize
+pub fn write_over(room: &mut [u8; 512], bytes: &[u8]) -> usize
     requires { length bytes.now ≤ 512 }
     ensures { IsWrittenOver bytes.now room.old room.new result }
 {
@@ -79,21 +90,22 @@ fn write_over(room: &mut [u8; 512], bytes: &[u8]) -> usize
 
 /// Writes a connection.close for a refusal, with the name of its code as text.
 fn write_close(room: &mut [u8; 512], refusal: Refusal) -> usize
-    ensures { IsWrittenOver (spell (reply.Close refusal)) room.old room.new result }
+    ensures { IsWrittenOver (spell_reply (reply.Close refusal)) room.old room.new result }
 {
     let name = code_name(refusal.code);
     put_close(room, refusal.code, name, refusal.class, refusal.method)
 }
 
 /// Writes the bytes of a unit to the client over the first ones of a room, and answers their count.
-pub fn spell(room: &mut [u8; 512], reply: Reply) -> usize
-    ensures written { IsWrittenOver (spell reply) room.old room.new result }
+pub fn spell_reply(room: &mut [u8; 512], reply: Reply) -> usize
+    ensures written { IsWrittenOver (spell_reply reply) room.old room.new result }
     ensures small { result ≤ 512 }
 {
     match reply {
         Reply::Protocol => write_over(room, header()),
         Reply::Start => write_over(room, start()),
         Reply::Tune => write_over(room, tune()),
+        Reply::OpenOk => write_over(room, open_ok()),
         Reply::CloseOk => put_close_ok(room),
         Reply::Close(refusal) => write_close(room, refusal),
         Reply::Heartbeat => write_over(room, heartbeat()),

@@ -6,5 +6,8 @@ mod bridge;
 mod core_state;
 mod frames;
 mod slot;
+mod up_core;
+mod up_frames;
+mod up_slot;
 
 pub use bridge::Bridge;

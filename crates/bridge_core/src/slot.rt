@@ -1,7 +1,7 @@
 //! The bytes of a unit to the client, in a room that is kept for them.
 
 ghost use Rattle.std.specs.Prelude.{◌≡◌, ◌<◌, ◌≤◌, length, [], Some, None};
-ghost use Rattle.gate_model.specs.Spelling.{spell};
+ghost use Rattle.gate_model.specs.Spelling.{spell_reply};
 ghost use Rattle.bridge_core.specs.Offers.{SlotState};
 
 use crate::frames;
@@ -66,9 +66,9 @@ impl Slot {
     /// A unit is offered.
     #[tactic(auto, using(crate::proofs::Rooms::written))]
     pub fn choose(&mut self, unit: Reply)
-        ensures { self.new ≡ record { chosen = Some unit; bytes = spell unit } }
+        ensures { self.new ≡ record { chosen = Some unit; bytes = spell_reply unit } }
     {
-        self.used = frames::spell(&mut self.room, unit);
+        self.used = frames::spell_reply(&mut self.room, unit);
         self.chosen = Some(unit);
     }
 }

@@ -1,13 +1,11 @@
 -- What units, closing events and the handshake limit leave of a connection.
-use Rattle.std.proofs.Common.{◌≡◌, ℕ, ◌-◌, ◌≤◌, nat_le, Bool, true, false, not, ◌&&◌, ◌||◌, if◌then◌else◌, Option, None, Some, refl, sym, ap, ◌∙◌, subst, arith}
+use Rattle.std.proofs.Common.{◌≡◌, ℕ, ◌-◌, ◌≤◌, nat_le, Bool, true, false, not, ◌&&◌, ◌||◌, Option, None, Some, refl, sym, ap, ◌∙◌, subst, arith}
 use Rattle.std.specs.Prelude.{is_some}
 use Rattle.std.proofs.lemmas.Bool.Decides.{nat_tests}
-use Rattle.machine_091.specs.Calls.{after_ended, closing_phase}
-use Rattle.machine_091.specs.State.{awaits, is_closing, is_closing_phase, is_running}
+use Rattle.machine_091.specs.Calls.{after_ended, after_opened, closing_phase, opened_phase}
+use Rattle.machine_091.specs.State.{awaits, is_closing, is_closing_phase, is_open_phase, is_opening}
 use Rattle.machine_091.specs.Transitions.{greeted, stream_after, unit_step}
 use Rattle.machine_091.specs.Transitions as machine
-use Rattle.machine_091.specs.declared.state.Awaited91.{Awaited91}
-use Rattle.machine_091.specs.declared.state.Awaited91.TheVariants as awaited
 use Rattle.machine_091.specs.declared.state.Connection.{Connection}
 use Rattle.machine_091.specs.declared.state.Phase91.{Phase91}
 use Rattle.machine_091.specs.declared.state.Phase91.TheVariants as phase
@@ -15,22 +13,12 @@ use Rattle.machine_091.specs.declared.state.Stream91.{Stream91}
 use Rattle.machine_091.specs.declared.state.Stream91.TheVariants as stream
 use Rattle.machine_091.specs.declared.unit.Unit91.{Unit91}
 use Rattle.machine_091.specs.declared.unit.Unit91.TheVariants as unit
-use Rattle.machine_091.specs.declared.unit.Want91.TheVariants as want
 use Rattle.gate_model.specs.declared.timers.TheConstants.{HANDSHAKE_LIMIT}
 use Rattle.gate_model.specs.Picks.{MayComeAs}
 use Rattle.gate_model.specs.State.{after_want, close, close_if, closes_at, conn_step, has_left, is_limit_reached}
-use Rattle.gate_model.proofs.Outcomes.{Outcome, Greets, Parts, LogsIn, Tunes, Asks, Passes, Refuses, Closes, Answers, Ignores, Runs, is_opening_phase, outcome}
+use Rattle.gate_model.proofs.Outcomes.{Outcome, Greets, Parts, LogsIn, Tunes, Asks, Passes, Refuses, Parting, Calls, Asking, Frees, Closes, Answers, Ignores, outcome}
 
 -- ---- phases
-
-pub opens_not : (p : Phase91) → is_opening_phase p ≡ true → is_closing_phase p ≡ true → ⊥
-opens_not phase.Header a b = absurd cc
-opens_not phase.Start a b = absurd cc
-opens_not phase.Tune a b = absurd cc
-opens_not phase.Open a b = absurd cc
-opens_not phase.Running a b = absurd cc
-opens_not phase.Closing a b = absurd cc
-opens_not phase.Closed a b = absurd cc
 
 other_phase : (p q : Phase91) → p ≡ q → is_closing_phase q ≡ false → is_closing_phase p ≡ true → ⊥
 other_phase p q e never is = let wrong : true ≡ false = sym is ∙ ap is_closing_phase e ∙ never in absurd cc
@@ -47,55 +35,76 @@ close_closes phase.Running = refl
 close_closes phase.Closing = refl
 close_closes phase.Closed = refl
 
-pub close_idle : (p : Phase91) → is_running (closing_phase p) ≡ false
-close_idle phase.Header = refl
-close_idle phase.Start = refl
-close_idle phase.Tune = refl
-close_idle phase.Open = refl
-close_idle phase.Running = refl
-close_idle phase.Closing = refl
-close_idle phase.Closed = refl
+-- a connection that is closing stays as it is
+pub close_same : (c : Connection) → is_closing c ≡ true → close c ≡ c
+close_same c = by c.phase
+  where
+    by : (p : Phase91) → is_closing_phase p ≡ true → record c { phase = closing_phase p } ≡ record c { phase = p }
+    by phase.Header e = absurd cc
+    by phase.Start e = absurd cc
+    by phase.Tune e = absurd cc
+    by phase.Open e = absurd cc
+    by phase.Running e = absurd cc
+    by phase.Closing e = refl
+    by phase.Closed e = refl
+
+-- ---- the container opened
+
+pub opening_phase : (c : Connection) → is_opening c ≡ true → c.phase ≡ phase.Open
+opening_phase c = by c.phase c.asked
+  where
+    by : (p : Phase91) (b : Bool) → (is_open_phase p && b) ≡ true → p ≡ phase.Open
+    by phase.Header b e = absurd cc
+    by phase.Start b e = absurd cc
+    by phase.Tune b e = absurd cc
+    by phase.Open b e = refl
+    by phase.Running b e = absurd cc
+    by phase.Closing b e = absurd cc
+    by phase.Closed b e = absurd cc
+
+pub opening_early : (c : Connection) → is_opening c ≡ true → is_closing c ≡ true → ⊥
+opening_early c e k = other_phase c.phase phase.Open (opening_phase c e) refl k
+
+pub opened_runs : (c : Connection) → is_opening c ≡ true → (after_opened c).phase ≡ phase.Running
+opened_runs c = by c.phase c.asked
+  where
+    by : (p : Phase91) (b : Bool) → (is_open_phase p && b) ≡ true → opened_phase b p ≡ phase.Running
+    by phase.Header b e = absurd cc
+    by phase.Start b e = absurd cc
+    by phase.Tune b e = absurd cc
+    by phase.Open true e = refl
+    by phase.Open false e = absurd cc
+    by phase.Running b e = refl
+    by phase.Closing b e = absurd cc
+    by phase.Closed b e = absurd cc
 
 -- ---- after a unit
 
 abbrev Next : machine.Step → Connection
 Next x = after_want x.1 x.0
 
-pub step_idle : (c : Connection) (u : Unit91) → is_running c.phase ≡ false → is_running (conn_step c u).phase ≡ false
-step_idle c u n = by (unit_step c u) (outcome c u)
-  where
-    by : (x : machine.Step) → Outcome c u x → is_running (Next x).phase ≡ false
-    by _ (Greets e) = refl
-    by _ (Parts e) = refl
-    by _ (LogsIn m r e) = refl
-    by _ (Tunes l e) = refl
-    by _ (Asks e) = close_idle c.phase
-    by _ (Passes e) = n
-    by _ (Refuses r e) = refl
-    by _ (Closes e) = refl
-    by _ (Answers e) = refl
-    by _ (Ignores e) = n
-    by _ (Runs x e) = absurd (clash (is_running c.phase) e n)
-
-pub step_closes : (c : Connection) (u : Unit91) → is_running c.phase ≡ false → is_closing c ≡ true → is_closing (conn_step c u) ≡ true
-step_closes c u n k = by (unit_step c u) (outcome c u)
+pub step_closes : (c : Connection) (u : Unit91) → is_closing c ≡ true → is_closing (conn_step c u) ≡ true
+step_closes c u k = by (unit_step c u) (outcome c u)
   where
     by : (x : machine.Step) → Outcome c u x → is_closing (Next x) ≡ true
     by _ (Greets e) = absurd (other_phase c.phase phase.Header e refl k)
     by _ (Parts e) = refl
     by _ (LogsIn m r e) = absurd (other_phase c.phase phase.Start e refl k)
     by _ (Tunes l e) = absurd (other_phase c.phase phase.Tune e refl k)
-    by _ (Asks e) = close_closes c.phase
-    by _ (Passes e) = k
-    by _ (Refuses r e) = refl
+    by _ (Asks e) = k
+    by _ Passes = k
+    by _ (Refuses r a f e) = refl
+    by _ (Parting e) = refl
+    by _ (Calls n s m e) = close_closes c.phase
+    by _ (Asking n m e) = close_closes c.phase
+    by _ (Frees n) = k
     by _ (Closes e) = refl
     by _ (Answers e) = refl
     by _ (Ignores e) = k
-    by _ (Runs x e) = absurd (clash (is_running c.phase) e n)
 
 -- a closing connection isn't asked to open any more
-pub step_asked : (c : Connection) (u : Unit91) → is_running c.phase ≡ false → is_closing c ≡ true → (conn_step c u).asked ≡ c.asked
-step_asked c u n k = by (unit_step c u) (outcome c u)
+pub step_asked : (c : Connection) (u : Unit91) → is_closing c ≡ true → (conn_step c u).asked ≡ c.asked
+step_asked c u k = by (unit_step c u) (outcome c u)
   where
     by : (x : machine.Step) → Outcome c u x → (Next x).asked ≡ c.asked
     by _ (Greets e) = refl
@@ -103,15 +112,18 @@ step_asked c u n k = by (unit_step c u) (outcome c u)
     by _ (LogsIn m r e) = refl
     by _ (Tunes l e) = refl
     by _ (Asks e) = absurd (other_phase c.phase phase.Open e refl k)
-    by _ (Passes e) = refl
-    by _ (Refuses r e) = refl
+    by _ Passes = refl
+    by _ (Refuses r a f e) = absurd (clash (is_closing c) k e)
+    by _ (Parting e) = refl
+    by _ (Calls n s m e) = refl
+    by _ (Asking n m e) = refl
+    by _ (Frees n) = refl
     by _ (Closes e) = refl
     by _ (Answers e) = refl
     by _ (Ignores e) = refl
-    by _ (Runs x e) = absurd (clash (is_running c.phase) e n)
 
-pub step_stays_asked : (c : Connection) (u : Unit91) → is_running c.phase ≡ false → c.asked ≡ true → (conn_step c u).asked ≡ true
-step_stays_asked c u n k = by (unit_step c u) (outcome c u)
+pub step_stays_asked : (c : Connection) (u : Unit91) → c.asked ≡ true → (conn_step c u).asked ≡ true
+step_stays_asked c u k = by (unit_step c u) (outcome c u)
   where
     by : (x : machine.Step) → Outcome c u x → (Next x).asked ≡ true
     by _ (Greets e) = k
@@ -119,12 +131,15 @@ step_stays_asked c u n k = by (unit_step c u) (outcome c u)
     by _ (LogsIn m r e) = k
     by _ (Tunes l e) = k
     by _ (Asks e) = refl
-    by _ (Passes e) = k
-    by _ (Refuses r e) = k
+    by _ Passes = k
+    by _ (Refuses r a f e) = f k
+    by _ (Parting e) = k
+    by _ (Calls n s m e) = k
+    by _ (Asking n m e) = k
+    by _ (Frees n) = k
     by _ (Closes e) = k
     by _ (Answers e) = k
     by _ (Ignores e) = k
-    by _ (Runs x e) = absurd (clash (is_running c.phase) e n)
 
 stays_here : (u : Unit91) (s : Stream91) → has_left (stream_after u s) ≡ true → has_left s ≡ true
 stays_here unit.Protocol stream.Header e = absurd cc
@@ -137,8 +152,8 @@ stays_here (unit.Frame f) s e = e
 stays_here (unit.Bad code) s e = absurd cc
 
 -- no unit ends the client's end
-pub step_here : (c : Connection) (u : Unit91) → is_running c.phase ≡ false → has_left (conn_step c u).stream ≡ true → has_left c.stream ≡ true
-step_here c u n = by (unit_step c u) (outcome c u)
+pub step_here : (c : Connection) (u : Unit91) → has_left (conn_step c u).stream ≡ true → has_left c.stream ≡ true
+step_here c u = by (unit_step c u) (outcome c u)
   where
     by : (x : machine.Step) → Outcome c u x → has_left (Next x).stream ≡ true → has_left c.stream ≡ true
     by _ (Greets e) k = absurd cc
@@ -146,12 +161,15 @@ step_here c u n = by (unit_step c u) (outcome c u)
     by _ (LogsIn m r e) k = k
     by _ (Tunes l e) k = k
     by _ (Asks e) k = k
-    by _ (Passes e) k = k
-    by _ (Refuses r e) k = stays_here u c.stream k
+    by _ Passes k = k
+    by _ (Refuses r a f e) k = stays_here u c.stream k
+    by _ (Parting e) k = k
+    by _ (Calls n s m e) k = k
+    by _ (Asking n m e) k = k
+    by _ (Frees n) k = k
     by _ (Closes e) k = k
     by _ (Answers e) k = absurd cc
     by _ (Ignores e) k = stays_here u c.stream k
-    by _ (Runs x e) k = absurd (clash (is_running c.phase) e n)
 
 -- nothing is awaited of an end that ended
 pub none_comes : (c : Connection) (u : Unit91) → has_left c.stream ≡ true → MayComeAs (awaits c) u → ⊥
@@ -170,10 +188,6 @@ none_comes c u = by c.stream
 pub asked_if : (b : Bool) (c : Connection) → (close_if b c).asked ≡ c.asked
 asked_if true c = refl
 asked_if false c = refl
-
-pub idle_if : (b : Bool) (c : Connection) → is_running c.phase ≡ false → is_running (close_if b c).phase ≡ false
-idle_if true c n = close_idle c.phase
-idle_if false c n = n
 
 pub stream_if : (b : Bool) (c : Connection) → (close_if b c).stream ≡ c.stream
 stream_if true c = refl
@@ -216,15 +230,15 @@ late_later c a m ms le = by c.asked
     by false e = le_later HANDSHAKE_LIMIT a m ms le e
 
 -- a unit neither reaches the limit nor takes it back
-pub late_step : (c : Connection) (u : Unit91) (a ms : ℕ) → is_running c.phase ≡ false → (is_limit_reached c a ms ≡ true → is_closing c ≡ true)
+pub late_step : (c : Connection) (u : Unit91) (a ms : ℕ) → (is_limit_reached c a ms ≡ true → is_closing c ≡ true)
     → is_limit_reached (conn_step c u) a ms ≡ is_limit_reached c a ms
-late_step c u a ms n k = by c.asked (nat_le HANDSHAKE_LIMIT (ms - a)) refl refl
+late_step c u a ms k = by c.asked (nat_le HANDSHAKE_LIMIT (ms - a)) refl refl
   where
     by : (b le : Bool) → c.asked ≡ b → nat_le HANDSHAKE_LIMIT (ms - a) ≡ le → is_limit_reached (conn_step c u) a ms ≡ is_limit_reached c a ms
-    by true le e f = ap (λ x. not x && nat_le HANDSHAKE_LIMIT (ms - a)) (step_stays_asked c u n e) ∙ sym (ap (λ x. not x && nat_le HANDSHAKE_LIMIT (ms - a)) e)
+    by true le e f = ap (λ x. not x && nat_le HANDSHAKE_LIMIT (ms - a)) (step_stays_asked c u e) ∙ sym (ap (λ x. not x && nat_le HANDSHAKE_LIMIT (ms - a)) e)
     by false true e f =
         let closing : is_closing c ≡ true = k (ap (λ x. not x && nat_le HANDSHAKE_LIMIT (ms - a)) e ∙ f) in
-        ap (λ x. not x && nat_le HANDSHAKE_LIMIT (ms - a)) (step_asked c u n closing)
+        ap (λ x. not x && nat_le HANDSHAKE_LIMIT (ms - a)) (step_asked c u closing)
     by false false e f = none (conn_step c u).asked ∙ sym (none c.asked)
       where
         none : (x : Bool) → (not x && nat_le HANDSHAKE_LIMIT (ms - a)) ≡ false

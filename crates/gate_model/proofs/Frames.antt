@@ -1,18 +1,24 @@
 -- What goes to a client fits it: each unit is short, and no frame-max that is agreed to is less than 4,096.
-use Rattle.std.proofs.Common.{◌≡◌, ℕ, ◌≤◌, Bool, true, false, if◌then◌else◌, List, [], ◌∷◌, length, refl, sym, ap, subst, arith}
+use Rattle.std.proofs.Common.{◌≡◌, ℕ, ◌≤◌, Bool, true, false, if◌then◌else◌, List, [], ◌∷◌, refl, sym, subst, arith}
 use Rattle.gate_outside.specs.declared.ports.End.TheVariants.{Client, Up}
 use Rattle.machine_091.specs.Limits.{AreWithin}
 use Rattle.machine_091.specs.Transitions.{unit_step}
 use Rattle.machine_091.specs.declared.limits.TheConstants.{FRAME_MIN_SIZE}
-use Rattle.machine_091.specs.declared.limits.Limits.{Limits}
 use Rattle.machine_091.specs.declared.state.Connection.{Connection}
 use Rattle.machine_091.specs.declared.unit.Unit91.{Unit91}
 use Rattle.machine_091.specs.declared.unit.Want91.{Want91}
 use Rattle.machine_091.specs.declared.unit.Want91.TheVariants as want
-use Rattle.gate_model.specs.Folds.{accepted_in, connection, leaving_in, ran_out_in}
+use Rattle.gate_model.specs.Folds.{Peers, accepted_in, conn_by, connection, peers, peers_came, peers_heard, ran_out_in}
+use Rattle.gate_model.specs.Upstream.{meaning_by}
+use Rattle.gate_model.specs.declared.outgoing.Outgoing.TheVariants.{ToClient}
+use Rattle.machine_091.specs.Calls.{after_opened}
+use Rattle.machine_091.specs.State.{is_opening, new_connection}
+use Rattle.machine_10.specs.Transitions as ten
+use Rattle.machine_10.specs.Transitions.{Meaning}
+use Rattle.gate_outside.specs.declared.ports.Linked.TheVariants as link
+use Rattle.gate_relay.specs.declared.loss.Loss.TheVariants as loss
 use Rattle.gate_model.specs.Frames.{FitsClients, limit_after, limit_in}
-use Rattle.gate_model.specs.Spelling.{spell}
-use Rattle.gate_model.specs.State.{Step, Began, Moment, Came, TakenUp, Lost, Gave, Whole, OutOfMemory, after_want, close_if, conn_step, is_limit_reached}
+use Rattle.gate_model.specs.State.{Step, Began, Moment, Came, TakenUp, Heard, Joined, Lost, Gave, Whole, OutOfMemory, after_want, close_if, conn_step, is_limit_reached}
 use Rattle.gate_model.proofs.Spelled.{spelled_small}
 
 -- no unit of the client takes the limits out of their range
@@ -34,22 +40,46 @@ want_limits (want.Refuse r) c = refl
 within_step : LimitsStay → (c : Connection) (u : Unit91) → AreWithin c.limits → AreWithin (conn_step c u).limits
 within_step l c u m = subst AreWithin (sym (want_limits (unit_step c u).1 (unit_step c u).0)) (l c u m)
 
-within_if : (b : Bool) (c d : Connection) → AreWithin c.limits → AreWithin d.limits → AreWithin (if b then c else d).limits
-within_if true c d m n = m
-within_if false c d m n = n
+within_if : (b : Bool) (p q : Peers) → AreWithin p.client.limits → AreWithin q.client.limits → AreWithin (if b then p else q).client.limits
+within_if true p q m n = m
+within_if false p q m n = n
 
 within_close : (b : Bool) (c : Connection) → AreWithin c.limits → AreWithin (close_if b c).limits
 within_close true c m = m
 within_close false c m = m
 
+within_meaning : (m : Meaning) (c : Connection) → AreWithin c.limits → AreWithin (conn_by m c).limits
+within_meaning ten.Nothing c m = m
+within_meaning ten.Init c m = m
+within_meaning ten.AmqpHeader c m = m
+within_meaning ten.Opened c m = by (is_opening c)
+  where
+    by : (b : Bool) → AreWithin (if b then after_opened c else c).limits
+    by true = m
+    by false = m
+within_meaning (ten.OfSession g p payload) c m = m
+within_meaning (ten.Closed e) c m = m
+within_meaning ten.Refused c m = m
+within_meaning (ten.Violation why) c m = m
+
+within_new : (vhost : List ℕ) → AreWithin (new_connection vhost).limits
+within_new vhost = record { frame_min = omega arith; frame_max = omega arith; channel_min = omega arith; channel_max = omega arith }
+
 pub within : LimitsStay → (h : List Step) → AreWithin (connection h).limits
-within l [] = record { frame_min = omega arith; frame_max = omega arith; channel_min = omega arith; channel_max = omega arith }
-within l (Began ms ∷ h) = within l h
+within l [] = within_new []
+within l (Began vhost n ms ∷ h) = within_new vhost
 within l (Moment ms ∷ h) = within_close (is_limit_reached (connection h) (accepted_in h) ms) (connection h) (within l h)
-within l (Came u ∷ h) = within_if (ran_out_in h) (connection h) (conn_step (connection h) u) (within l h) (within_step l (connection h) u (within l h))
-within l (TakenUp ∷ h) = within_if _ _ (connection h) (within l h) (within l h)
-within l (Lost end how ∷ h) = within l h
-within l (Gave end u ∷ h) = within l h
+within l (Came u ∷ h) = within_if (ran_out_in h) (peers h) (peers_came (peers h) u) (within l h) (within_step l (connection h) u (within l h))
+within l (TakenUp ∷ h) = within_if _ _ (peers h) (within l h) (within l h)
+within l (Heard u ∷ h) =
+    within_if (ran_out_in h) (peers h) (peers_heard (peers h) u) (within l h) (within_meaning (meaning_by (peers h).container u) (connection h) (within l h))
+within l (Joined link.Ok ∷ h) = within l h
+within l (Joined link.Failed ∷ h) = within l h
+within l (Lost Client how ∷ h) = within l h
+within l (Lost Up loss.Ended ∷ h) = within l h
+within l (Lost Up loss.Failed ∷ h) = within l h
+within l (Lost Up loss.Shut ∷ h) = within l h
+within l (Gave u ∷ h) = within l h
 within l (Whole end ∷ h) = within l h
 within l (OutOfMemory ∷ h) = within l h
 
@@ -71,5 +101,5 @@ limit_least l (s ∷ h) = limit_least l h
 
 pub fits_clients : LimitsStay → (h : List Step) → FitsClients h
 fits_clients l [] = tt
-fits_clients l (Gave Client u ∷ h) = (omega (arith, spelled_small u, limit_least l h), fits_clients l h)
+fits_clients l (Gave (ToClient u) ∷ h) = (omega (arith, spelled_small u, limit_least l h), fits_clients l h)
 fits_clients l (s ∷ h) = fits_clients l h

@@ -1,225 +1,454 @@
--- The state knows what the folds say of the connection, of the moments and of the pair's memory.
+-- The state knows what the folds say of both connections, of the upstream end, of the moments and of the pair's memory.
 use Rattle.std.proofs.Common.{◌≡◌, ℕ, ◌-◌, ◌≤◌, nat_le, Bool, true, false, not, ◌&&◌, ◌||◌, if◌then◌else◌, List, [], ◌∷◌, Option, None, Some, refl, sym, ap, ◌∙◌, subst, arith}
 use Rattle.std.specs.Prelude.{is_some}
 use Rattle.gate_outside.specs.declared.ports.End.TheVariants.{Client, Up}
+use Rattle.gate_outside.specs.declared.ports.Linked.TheVariants as link
 use Rattle.gate_relay.specs.declared.loss.Loss.TheVariants as loss
-use Rattle.machine_091.specs.Calls.{after_ended}
-use Rattle.machine_091.specs.State.{awaits, is_closing, is_running, new_connection}
+use Rattle.gate_relay.specs.declared.sides.Side.{Side}
+use Rattle.gate_relay.specs.declared.sides.Side.TheVariants as side
+use Rattle.machine_091.specs.Calls.{after_ended, after_opened}
+use Rattle.machine_091.specs.State.{awaits, is_closing, is_closing_phase, is_opening}
+use Rattle.machine_091.specs.Transitions.{unit_step}
 use Rattle.machine_091.specs.declared.state.Connection.{Connection}
-use Rattle.machine_091.specs.declared.state.Stream91.{Stream91}
 use Rattle.machine_091.specs.declared.unit.Unit91.{Unit91}
+use Rattle.machine_091.specs.declared.unit.Want91.{Want91}
+use Rattle.machine_091.specs.declared.unit.Want91.TheVariants as want
+use Rattle.machine_10.specs.Transitions as ten
+use Rattle.machine_10.specs.Transitions.{Meaning}
+use Rattle.machine_10.specs.declared.state.Upstream.{Upstream}
+use Rattle.machine_10.specs.declared.unit.Unit10.{Unit10}
+use Rattle.performatives_10.specs.declared.condition.Condition.{Condition}
+use Rattle.gate_model.specs.declared.outgoing.Outgoing.TheVariants.{ToClient, ToUp}
 use Rattle.gate_model.specs.declared.timers.TheConstants.{HANDSHAKE_LIMIT}
-use Rattle.gate_model.specs.Folds.{accepted_in, closed_in, connection, leaving_in, moment_in, ran_out_in}
+use Rattle.gate_model.specs.Folds.{Peers, accepted_in, closed_in, conn_by, connection, container, container_kept, leaving_in, moment_in, number_in, peers, peers_came, peers_heard, ran_out_in, side_in}
 use Rattle.gate_model.specs.Picks.{ArePicks, MayComeAs}
-use Rattle.gate_model.specs.State.{State, Step, Began, Moment, Came, TakenUp, Lost, Gave, Whole, OutOfMemory, before, came, close, close_if, closes_at, conn_step, has_left, is_limit_reached, left, new_state, told}
-use Rattle.gate_model.proofs.Connections.{asked_if, clash, close_closes, close_idle, closes_again, closes_some, ended_if, idle_if, implied, late_later, late_step, none_comes, step_closes, step_here, step_idle, stream_if}
+use Rattle.gate_model.specs.State.{State, Step, Began, Moment, Came, TakenUp, Heard, Joined, Lost, Gave, Whole, OutOfMemory, before, came, close, close_if, closes_at, conn_step, fail, failed, has_left, heard, is_limit_reached, keep_login, left, new_state, ran_out, told, with_meaning}
+use Rattle.gate_model.specs.Upstream.{UpState, closing_with, ended_in, heard_up, meaning_by}
+use Rattle.gate_model.proofs.Connections.{asked_if, clash, close_closes, close_same, closes_again, closes_some, ended_if, implied, late_later, late_step, none_comes, opened_runs, opening_early, step_closes, step_here, stream_if}
 
--- first the state's values, then those of the folds
-pub record Knows (memory leaving late : Bool) (c : Connection) (accepted moment : ℕ) (closed : Option ℕ)
-    (memory' leaving' : Bool) (c' : Connection) (accepted' moment' : ℕ) (closed' : Option ℕ) : Type 0 where
-  pub memory_is : memory ≡ memory'
-  pub conn_is : c ≡ c'
-  pub accepted_is : accepted ≡ accepted'
-  pub moment_is : moment ≡ moment'
-  pub closed_is : closed ≡ closed'
-  pub idle : is_running c.phase ≡ false
+-- ---- what both know
+
+pub record Seen : Type 0 where
+  pub memory : Bool
+  pub conn : Connection
+  pub container : Option Upstream
+  pub side : Side
+  pub number : ℕ
+  pub accepted : ℕ
+  pub moment : ℕ
+  pub closed : Option ℕ
+
+abbrev pub seen : State → Seen
+seen w = record {
+  memory = w.out_of_memory;
+  conn = w.conn;
+  container = w.up.container;
+  side = w.up.side;
+  number = w.number;
+  accepted = w.accepted_at;
+  moment = w.moment;
+  closed = w.closed_at;
+}
+
+abbrev pub seen_in : List Step → Seen
+seen_in h = record {
+  memory = ran_out_in h;
+  conn = connection h;
+  container = container h;
+  side = side_in h;
+  number = number_in h;
+  accepted = accepted_in h;
+  moment = moment_in h;
+  closed = closed_in h;
+}
+
+abbrev peers_of : Seen → Peers
+peers_of x = record { client = x.conn; container = x.container }
+
+-- the closing event is the first after which the client's connection is closing
+abbrev with_peers : Seen → Peers → Seen
+with_peers x p = record x { conn = p.client; container = p.container; closed = closes_at x.closed (is_closing p.client) x.moment }
+
+-- ---- what holds of the state alone
+
+pub record Sound (memory leaving late : Bool) (c : Connection) (accepted moment : ℕ) (closed : Option ℕ) (leaving' : Bool) : Type 0 where
   pub leaves : leaving ≡ true → leaving' ≡ true
   pub left_is : memory ≡ false → leaving' ≡ true → leaving ≡ false → has_left c.stream ≡ true
   pub ended : has_left c.stream ≡ true → after_ended c ≡ c
   pub late_is : late ≡ is_limit_reached c accepted moment
   pub late_closes : late ≡ true → is_closing c ≡ true
   pub closing : is_closing c ≡ true → is_some closed ≡ true
+  pub shuts : memory ≡ true → is_closing c ≡ true
 
-abbrev pub KnowsIn : State → Bool → Bool → Connection → ℕ → ℕ → Option ℕ → Type 0
-KnowsIn w memory leaving c accepted moment closed =
-    Knows w.out_of_memory w.leaving w.late w.conn w.accepted_at w.moment w.closed_at memory leaving c accepted moment closed
+abbrev pub SoundIn : State → Bool → Type 0
+SoundIn w l = Sound w.out_of_memory w.leaving w.late w.conn w.accepted_at w.moment w.closed_at l
 
-abbrev pub Known : List Step → Type 0
-Known h = KnowsIn (before h) (ran_out_in h) (leaving_in h) (connection h) (accepted_in h) (moment_in h) (closed_in h)
+pub record Known (h : List Step) : Type 0 where
+  pub same : seen (before h) ≡ seen_in h
+  pub sound : SoundIn (before h) (leaving_in h)
+
+pub conn_is : {h : List Step} → Known h → (before h).conn ≡ connection h
+conn_is k = ap (λ (x : Seen). x.conn) k.same
+
+pub container_is : {h : List Step} → Known h → (before h).up.container ≡ container h
+container_is k = ap (λ (x : Seen). x.container) k.same
+
+pub side_is : {h : List Step} → Known h → (before h).up.side ≡ side_in h
+side_is k = ap (λ (x : Seen). x.side) k.same
+
+pub number_is : {h : List Step} → Known h → (before h).number ≡ number_in h
+number_is k = ap (λ (x : Seen). x.number) k.same
+
+pub accepted_is : {h : List Step} → Known h → (before h).accepted_at ≡ accepted_in h
+accepted_is k = ap (λ (x : Seen). x.accepted) k.same
+
+pub moment_is : {h : List Step} → Known h → (before h).moment ≡ moment_in h
+moment_is k = ap (λ (x : Seen). x.moment) k.same
+
+pub closed_is : {h : List Step} → Known h → (before h).closed_at ≡ closed_in h
+closed_is k = ap (λ (x : Seen). x.closed) k.same
+
+pub memory_is : {h : List Step} → Known h → (before h).out_of_memory ≡ ran_out_in h
+memory_is k = ap (λ (x : Seen). x.memory) k.same
+
+-- ---- what steps make of that
 
 -- the closing event stays the first
-known_still : (w : State) (m l : Bool) (c : Connection) (a ms : ℕ) (o : Option ℕ) → KnowsIn w m l c a ms o → KnowsIn w m l c a ms (closes_at o (is_closing c) ms)
-known_still w m l c a ms o k =
-    let some : is_closing c ≡ true → is_some o ≡ true = λ e. subst (λ (x : Option ℕ). is_some x ≡ true) k.closed_is (k.closing (ap is_closing k.conn_is ∙ e)) in
-    subst (λ (x : Option ℕ). KnowsIn w m l c a ms x) (sym (closes_again o (is_closing c) ms some)) k
+kept : (w : State) (l : Bool) → SoundIn w l → seen w ≡ with_peers (seen w) (peers_of (seen w))
+kept w l s = ap (λ (o : Option ℕ). record (seen w) { closed = o }) (sym (closes_again w.closed_at (is_closing w.conn) w.moment s.closing))
+
+pub closing_is : (b : Bool) (why : Option Condition) (s : UpState) → closing_with b why s ≡ record s { condition = if b then s.condition else why }
+closing_is true why s = refl
+closing_is false why s = refl
+
+pub keep_is : (x : Want91) (s : UpState) → keep_login x s ≡ record s { container = container_kept s.container x }
+keep_is want.Nothing s = refl
+keep_is want.Start s = refl
+keep_is (want.Login m r) s = refl
+keep_is want.Tuned s = refl
+keep_is want.OpenUp s = refl
+keep_is (want.Method n m) s = refl
+keep_is (want.ChannelCloseOk n) s = refl
+keep_is want.Close s = refl
+keep_is want.CloseOk s = refl
+keep_is (want.Refuse r) s = refl
+
+abbrev seen_came : Seen → Unit91 → Seen
+seen_came x u = with_peers x (if x.memory then peers_of x else peers_came (peers_of x) u)
+
+came_is : (w : State) (u : Unit91) (l : Bool) → SoundIn w l → seen (if w.out_of_memory then w else came w u) ≡ seen_came (seen w) u
+came_is w u l s = by w.out_of_memory
+  where
+    taken : UpState → Seen
+    taken t = record (seen w) {
+      conn = conn_step w.conn u;
+      container = t.container;
+      side = t.side;
+      closed = closes_at w.closed_at (is_closing (conn_step w.conn u)) w.moment;
+    }
+
+    by : (b : Bool) → seen (if b then w else came w u) ≡ with_peers (seen w) (if b then peers_of (seen w) else peers_came (peers_of (seen w)) u)
+    by true = kept w l s
+    by false = ap taken (closing_is (is_closing w.conn) _ _) ∙ ap taken (keep_is (unit_step w.conn u).1 w.up)
+
+abbrev seen_taken : Seen → Bool → Seen
+seen_taken x l = with_peers x (if not x.memory && l then record (peers_of x) { client = after_ended x.conn } else peers_of x)
+
+taken_is : (w : State) (l : Bool) → SoundIn w l → seen (if not w.out_of_memory && w.leaving then left w else w) ≡ seen_taken (seen w) l
+taken_is w l s = by w.out_of_memory w.leaving l refl refl s.leaves (s.left_is)
+  where
+    by : (b d l' : Bool) → w.out_of_memory ≡ b → w.leaving ≡ d → (w.leaving ≡ true → l' ≡ true)
+        → (w.out_of_memory ≡ false → l' ≡ true → w.leaving ≡ false → has_left w.conn.stream ≡ true)
+        → seen (if not b && d then left w else w) ≡ with_peers (seen w) (if not b && l' then record (peers_of (seen w)) { client = after_ended w.conn } else peers_of (seen w))
+    by true d l' m e f g = kept w l s
+    by false true true m e f g =
+        ap (λ (t : UpState). record (seen w) { conn = after_ended w.conn; container = t.container; side = t.side; closed = closes_at w.closed_at true w.moment })
+        (closing_is (is_closing w.conn) None w.up)
+    by false true false m e f g = absurd (clash false (f e) refl)
+    by false false false m e f g = kept w l s
+    by false false true m e f g =
+        let is : after_ended w.conn ≡ w.conn = s.ended (g m refl e) in
+        kept w l s ∙ ap (λ (c : Connection). with_peers (seen w) (record (peers_of (seen w)) { client = c })) (sym is)
+
+fail_is : (code : ℕ) (why : Option Condition) (w : State) (l : Bool) → SoundIn w l
+    → seen (fail code why w) ≡ with_peers (seen w) (record (peers_of (seen w)) { client = close w.conn })
+fail_is code why w l s = by (is_closing w.conn) refl
+  where
+    by : (b : Bool) → is_closing w.conn ≡ b → seen (if b then w else failed code why w) ≡ with_peers (seen w) (record (peers_of (seen w)) { client = close w.conn })
+    by true e = kept w l s ∙ ap (λ (c : Connection). with_peers (seen w) (record (peers_of (seen w)) { client = c })) (sym (close_same w.conn e))
+    by false e = ap (λ (b : Bool). record (seen w) { conn = close w.conn; closed = closes_at w.closed_at b w.moment }) (sym (close_closes w.conn.phase))
+
+meaning_is : (m : Meaning) (w : State) (l : Bool) → SoundIn w l
+    → seen (with_meaning m w) ≡ with_peers (seen w) (record (peers_of (seen w)) { client = conn_by m w.conn })
+meaning_is ten.Nothing w l s = kept w l s
+meaning_is ten.Init w l s = kept w l s
+meaning_is ten.AmqpHeader w l s = kept w l s
+meaning_is ten.Opened w l s = by (is_opening w.conn) refl
+  where
+    by : (b : Bool) → is_opening w.conn ≡ b
+        → seen (if b then record w { conn = after_opened w.conn; pending = record w.pending { open_ok = true } } else w)
+        ≡ with_peers (seen w) (record (peers_of (seen w)) { client = if b then after_opened w.conn else w.conn })
+    by true e =
+        let no : is_closing (after_opened w.conn) ≡ false = ap is_closing_phase (opened_runs w.conn e) in
+        ap (λ (o : Option ℕ). record (seen w) { conn = after_opened w.conn; closed = o })
+        (sym (closes_again w.closed_at (is_closing (after_opened w.conn)) w.moment (λ x. absurd (clash _ x no))))
+    by false e = kept w l s
+meaning_is (ten.OfSession g p payload) w l s = kept w l s
+meaning_is (ten.Closed e) w l s = fail_is _ None w l s
+meaning_is ten.Refused w l s = fail_is _ None w l s
+meaning_is (ten.Violation c) w l s = fail_is _ (Some c) w l s
+
+abbrev seen_heard : Seen → Unit10 → Seen
+seen_heard x u = with_peers x (if x.memory then peers_of x else peers_heard (peers_of x) u)
+
+heard_is : (w : State) (u : Unit10) (l : Bool) → SoundIn w l → seen (if w.out_of_memory then w else heard w u) ≡ seen_heard (seen w) u
+heard_is w u l s = by w.out_of_memory
+  where
+    by : (b : Bool) → seen (if b then w else heard w u) ≡ with_peers (seen w) (if b then peers_of (seen w) else peers_heard (peers_of (seen w)) u)
+    by true = kept w l s
+    by false = meaning_is (meaning_by w.up.container u) (record w { up = heard_up u w.up }) l s
+
+abbrev seen_told : Seen → ℕ → Seen
+seen_told x ms =
+    let c : Connection = close_if (is_limit_reached x.conn x.accepted ms) x.conn in
+    record x { conn = c; moment = ms; closed = closes_at x.closed (is_closing c) ms }
+
+told_is : (w : State) (ms : ℕ) (l : Bool) → SoundIn w l → seen (told w ms) ≡ seen_told (seen w) ms
+told_is w ms l s = by (is_limit_reached w.conn w.accepted_at ms)
+  where
+    by : (b : Bool) → record (seen w) { conn = close_if b w.conn; moment = ms; closed = closes_at w.closed_at b ms }
+        ≡ record (seen w) { conn = close_if b w.conn; moment = ms; closed = closes_at w.closed_at (is_closing (close_if b w.conn)) ms }
+    by true = ap (λ (x : Bool). record (seen w) { conn = close w.conn; moment = ms; closed = closes_at w.closed_at x ms }) (sym (close_closes w.conn.phase))
+    by false = ap (λ (o : Option ℕ). record (seen w) { moment = ms; closed = o })
+        (closes_again w.closed_at false ms (λ x. absurd (clash false x refl)) ∙ sym (closes_again w.closed_at (is_closing w.conn) ms s.closing))
+
+abbrev seen_memory : Seen → Seen
+seen_memory x = record (with_peers x (record (peers_of x) { client = close x.conn })) { memory = true }
+
+memory_is_out : (w : State) → seen (ran_out w) ≡ seen_memory (seen w)
+memory_is_out w =
+    ap (λ (t : UpState). record (seen w) { memory = true; conn = close w.conn; container = t.container; side = t.side; closed = closes_at w.closed_at true w.moment })
+    (closing_is (is_closing w.conn) _ w.up)
+    ∙ ap (λ (b : Bool). record (seen w) { memory = true; conn = close w.conn; closed = closes_at w.closed_at b w.moment }) (sym (close_closes w.conn.phase))
+
+-- the upstream end is lost
+abbrev seen_lost : Side → Seen → Seen
+seen_lost y x = record (with_peers x (record { client = close x.conn; container = ended_in x.container })) { side = y }
+
+-- ---- soundness
 
 fresh : (ms : ℕ) → nat_le HANDSHAKE_LIMIT (ms - ms) ≡ false
 fresh ms = let e : ms - ms ≡ 0 = omega arith in ap (nat_le HANDSHAKE_LIMIT) e
 
-known_new : (ms : ℕ) (o : Option ℕ) → None ≡ o → KnowsIn (new_state ms) false false new_connection ms ms o
-known_new ms o e = record {
-  memory_is = refl;
-  conn_is = refl;
-  accepted_is = refl;
-  moment_is = refl;
-  closed_is = e;
-  idle = refl;
+sound_new : (vhost : List ℕ) (n ms : ℕ) → SoundIn (new_state vhost n ms) false
+sound_new vhost n ms = record {
   leaves = λ x. absurd (clash false x refl);
   left_is = λ x y z. absurd (clash false y refl);
   ended = λ x. absurd (clash false x refl);
   late_is = sym (fresh ms);
   late_closes = λ x. absurd (clash false x refl);
   closing = λ x. absurd (clash false x refl);
+  shuts = λ x. absurd (clash false x refl);
 }
 
-known_began : (ms : ℕ) (h : List Step) → h ≡ [] → Known (Began ms ∷ h)
-known_began ms h e = subst (λ (x : List Step). Known (Began ms ∷ x)) (sym e) (known_new ms None refl)
+or_false : (x : Bool) → x ≡ (x || false)
+or_false true = refl
+or_false false = refl
 
-known_told : (w : State) (ms m : ℕ) (b l : Bool) (c : Connection) (a : ℕ) (o : Option ℕ) → m ≤ ms → KnowsIn w b l c a m o
-    → KnowsIn (told w ms) b l (close_if (is_limit_reached c a ms) c) a ms (closes_at o (is_closing (close_if (is_limit_reached c a ms) c)) ms)
-known_told w ms m b l c a o le k =
+sound_told : (w : State) (ms : ℕ) (l : Bool) → w.moment ≤ ms → SoundIn w l → SoundIn (told w ms) l
+sound_told w ms l le s =
     let late : Bool = is_limit_reached w.conn w.accepted_at ms in
-    let same : close_if late w.conn ≡ close_if (is_limit_reached c a ms) c =
-    ap (λ (x : Connection). close_if (is_limit_reached x w.accepted_at ms) x) k.conn_is ∙ ap (λ (x : ℕ). close_if (is_limit_reached c x ms) c) k.accepted_is in
     record {
-      memory_is = k.memory_is;
-      conn_is = same;
-      accepted_is = k.accepted_is;
-      moment_is = refl;
-      closed_is = by late ∙ ap (λ (x : Option ℕ). closes_at x (is_closing (close_if late w.conn)) ms) k.closed_is
-          ∙ ap (λ (x : Connection). closes_at o (is_closing x) ms) same;
-      idle = idle_if late w.conn k.idle;
-      leaves = k.leaves;
-      left_is = λ x y z. ap has_left (stream_if late w.conn) ∙ k.left_is x y z;
-      ended = λ x. ended_if late w.conn (k.ended (sym (ap has_left (stream_if late w.conn)) ∙ x));
-      late_is = implied w.late late (λ x. late_later w.conn w.accepted_at w.moment ms (subst (λ (n : ℕ). n ≤ ms) (sym k.moment_is) le) (sym k.late_is ∙ x))
+      leaves = s.leaves;
+      left_is = λ x y z. ap has_left (stream_if late w.conn) ∙ s.left_is x y z;
+      ended = λ x. ended_if late w.conn (s.ended (sym (ap has_left (stream_if late w.conn)) ∙ x));
+      late_is = implied w.late late (λ x. late_later w.conn w.accepted_at w.moment ms le (sym s.late_is ∙ x))
           ∙ ap (λ (x : Bool). not x && nat_le HANDSHAKE_LIMIT (ms - w.accepted_at)) (sym (asked_if late w.conn));
       late_closes = late_by late;
       closing = closing_by late;
+      shuts = λ x. stays late (s.shuts x);
     }
   where
-    by : (b : Bool) → closes_at w.closed_at b ms ≡ closes_at w.closed_at (is_closing (close_if b w.conn)) ms
-    by true = ap (λ (x : Bool). closes_at w.closed_at x ms) (sym (close_closes w.conn.phase))
-    by false = closes_again w.closed_at false ms (λ x. absurd (clash false x refl)) ∙ sym (closes_again w.closed_at (is_closing w.conn) ms k.closing)
-
     late_by : (b : Bool) → (w.late || b) ≡ true → is_closing (close_if b w.conn) ≡ true
     late_by true e = close_closes w.conn.phase
-    late_by false e = k.late_closes (or_false w.late ∙ e)
-      where
-        or_false : (x : Bool) → x ≡ (x || false)
-        or_false true = refl
-        or_false false = refl
+    late_by false e = s.late_closes (or_false w.late ∙ e)
 
     closing_by : (b : Bool) → is_closing (close_if b w.conn) ≡ true → is_some (closes_at w.closed_at b ms) ≡ true
     closing_by true e = closes_some w.closed_at true ms refl
-    closing_by false e = ap is_some (closes_again w.closed_at false ms (λ x. absurd (clash false x refl))) ∙ k.closing e
+    closing_by false e = ap is_some (closes_again w.closed_at false ms (λ x. absurd (clash false x refl))) ∙ s.closing e
 
-known_came : (w : State) (u : Unit91) (b l : Bool) (c : Connection) (a ms : ℕ) (o : Option ℕ) → MayComeAs (awaits c) u → KnowsIn w b l c a ms o
-    → KnowsIn (if b then w else came w u) b l (if b then c else conn_step c u) a ms (closes_at o (is_closing (if b then c else conn_step c u)) ms)
-known_came w u true l c a ms o may k = known_still w true l c a ms o k
-known_came w u false l c a ms o may k =
-    let none : has_left w.conn.stream ≡ true → ⊥ = λ x. none_comes c u (sym (ap (λ (d : Connection). has_left d.stream) k.conn_is) ∙ x) may in
-    let late : is_limit_reached w.conn w.accepted_at w.moment ≡ true → is_closing w.conn ≡ true = λ x. k.late_closes (k.late_is ∙ x) in
-    record {
-      memory_is = k.memory_is;
-      conn_is = ap (λ (x : Connection). conn_step x u) k.conn_is;
-      accepted_is = k.accepted_is;
-      moment_is = k.moment_is;
-      closed_is = ap (λ (x : Option ℕ). closes_at x (is_closing (conn_step w.conn u)) w.moment) k.closed_is
-          ∙ ap (λ (x : Connection). closes_at o (is_closing (conn_step x u)) w.moment) k.conn_is
-          ∙ ap (λ (x : ℕ). closes_at o (is_closing (conn_step c u)) x) k.moment_is;
-      idle = step_idle w.conn u k.idle;
-      leaves = k.leaves;
-      left_is = λ x y z. absurd (none (k.left_is x y z));
-      ended = λ x. absurd (none (step_here w.conn u k.idle x));
-      late_is = k.late_is ∙ sym (late_step w.conn u w.accepted_at w.moment k.idle late);
-      late_closes = λ x. step_closes w.conn u k.idle (k.late_closes x);
+    stays : (b : Bool) → is_closing w.conn ≡ true → is_closing (close_if b w.conn) ≡ true
+    stays true e = close_closes w.conn.phase
+    stays false e = e
+
+sound_came : (w : State) (u : Unit91) (l : Bool) → MayComeAs (awaits w.conn) u → SoundIn w l → SoundIn (if w.out_of_memory then w else came w u) l
+sound_came w u l may s = by w.out_of_memory refl
+  where
+    none : has_left w.conn.stream ≡ true → ⊥
+    none x = none_comes w.conn u x may
+
+    by : (b : Bool) → w.out_of_memory ≡ b → SoundIn (if b then w else came w u) l
+    by true m = s
+    by false m = record {
+      leaves = s.leaves;
+      left_is = λ x y z. absurd (none (s.left_is x y z));
+      ended = λ x. absurd (none (step_here w.conn u x));
+      late_is = s.late_is ∙ sym (late_step w.conn u w.accepted_at w.moment (λ x. s.late_closes (s.late_is ∙ x)));
+      late_closes = λ x. step_closes w.conn u (s.late_closes x);
       closing = λ x. closes_some w.closed_at (is_closing (conn_step w.conn u)) w.moment x;
+      shuts = λ x. absurd (clash _ x m);
     }
 
--- what was taken up leaves the connection closed
-known_left : (w : State) (l : Bool) (c : Connection) (a ms : ℕ) (o : Option ℕ) → KnowsIn w false l c a ms o
-    → KnowsIn (left w) false l (after_ended c) a ms (closes_at o true ms)
-known_left w l c a ms o k = record {
-  memory_is = k.memory_is;
-  conn_is = ap after_ended k.conn_is;
-  accepted_is = k.accepted_is;
-  moment_is = k.moment_is;
-  closed_is = ap (λ (x : Option ℕ). closes_at x true w.moment) k.closed_is ∙ ap (closes_at o true) k.moment_is;
-  idle = refl;
-  leaves = λ x. absurd (clash false x refl);
-  left_is = λ x y z. refl;
-  ended = λ x. refl;
-  late_is = k.late_is;
-  late_closes = λ x. refl;
-  closing = λ x. closes_some w.closed_at true w.moment refl;
-}
+sound_taken : (w : State) (l : Bool) → SoundIn w l → SoundIn (if not w.out_of_memory && w.leaving then left w else w) l
+sound_taken w l s = by (not w.out_of_memory && w.leaving)
+  where
+    by : (b : Bool) → SoundIn (if b then left w else w) l
+    by true = record {
+      leaves = λ x. absurd (clash false x refl);
+      left_is = λ x y z. refl;
+      ended = λ x. refl;
+      late_is = s.late_is;
+      late_closes = λ x. refl;
+      closing = λ x. closes_some w.closed_at true w.moment refl;
+      shuts = λ x. refl;
+    }
+    by false = s
 
-known_taken : (w : State) (b d l : Bool) (c : Connection) (a ms : ℕ) (o : Option ℕ) → w.leaving ≡ d → KnowsIn w b l c a ms o
-    → KnowsIn (if not b && d then left w else w) b l (if not b && l then after_ended c else c) a ms (closes_at o (is_closing (if not b && l then after_ended c else c)) ms)
-known_taken w true d l c a ms o e k = known_still w true l c a ms o k
-known_taken w false true true c a ms o e k = known_left w true c a ms o k
-known_taken w false true false c a ms o e k = absurd (clash false (k.leaves e) refl)
-known_taken w false false false c a ms o e k = known_still w false false c a ms o k
-known_taken w false false true c a ms o e k =
-    let is : after_ended c ≡ c = subst (λ (x : Connection). after_ended x ≡ x) k.conn_is (k.ended (k.left_is k.memory_is refl e)) in
-    subst (λ (x : Connection). KnowsIn w false true x a ms (closes_at o (is_closing x) ms)) (sym is) (known_still w false true c a ms o k)
+sound_fail : (code : ℕ) (why : Option Condition) (w : State) (l : Bool) → SoundIn w l → SoundIn (fail code why w) l
+sound_fail code why w l s = by (is_closing w.conn)
+  where
+    by : (b : Bool) → SoundIn (if b then w else failed code why w) l
+    by true = s
+    by false = record {
+      leaves = s.leaves;
+      left_is = s.left_is;
+      ended = λ x. ended_if true w.conn (s.ended x);
+      late_is = s.late_is;
+      late_closes = λ x. close_closes w.conn.phase;
+      closing = λ x. closes_some w.closed_at true w.moment refl;
+      shuts = λ x. close_closes w.conn.phase;
+    }
 
--- the client's end ended or failed
+sound_meaning : (m : Meaning) (w : State) (l : Bool) → SoundIn w l → SoundIn (with_meaning m w) l
+sound_meaning ten.Nothing w l s = s
+sound_meaning ten.Init w l s = s
+sound_meaning ten.AmqpHeader w l s = s
+sound_meaning ten.Opened w l s = by (is_opening w.conn) refl
+  where
+    by : (b : Bool) → is_opening w.conn ≡ b → SoundIn (if b then record w { conn = after_opened w.conn; pending = record w.pending { open_ok = true } } else w) l
+    by true e = record {
+      leaves = s.leaves;
+      left_is = s.left_is;
+      ended = λ x. absurd (opening_early w.conn e (sym (ap is_closing (s.ended x))));
+      late_is = s.late_is;
+      late_closes = λ x. absurd (opening_early w.conn e (s.late_closes x));
+      closing = λ x. absurd (clash _ x (ap is_closing_phase (opened_runs w.conn e)));
+      shuts = λ x. absurd (opening_early w.conn e (s.shuts x));
+    }
+    by false e = s
+sound_meaning (ten.OfSession g p payload) w l s = s
+sound_meaning (ten.Closed e) w l s = sound_fail _ None w l s
+sound_meaning ten.Refused w l s = sound_fail _ None w l s
+sound_meaning (ten.Violation c) w l s = sound_fail _ (Some c) w l s
+
+sound_heard : (w : State) (u : Unit10) (l : Bool) → SoundIn w l → SoundIn (if w.out_of_memory then w else heard w u) l
+sound_heard w u l s = by w.out_of_memory
+  where
+    by : (b : Bool) → SoundIn (if b then w else heard w u) l
+    by true = s
+    by false = sound_meaning (meaning_by w.up.container u) (record w { up = heard_up u w.up }) l s
+
 leaving_by : (x y : Bool) → (x || not y) ≡ false → y ≡ true
 leaving_by true y e = absurd cc
 leaving_by false true e = refl
 leaving_by false false e = absurd cc
 
-known_lost : (h : List Step) (failed : Bool) → Known h →
-    KnowsIn (record (before h) { leaving = (before h).leaving || not (has_left (before h).conn.stream); failed = failed }) (ran_out_in h) true (connection h) (accepted_in h) (moment_in h) (closed_in h)
-known_lost h failed k = record {
-  memory_is = k.memory_is;
-  conn_is = k.conn_is;
-  accepted_is = k.accepted_is;
-  moment_is = k.moment_is;
-  closed_is = k.closed_is;
-  idle = k.idle;
+-- the client's end ended or failed
+sound_lost : (w : State) (l failed : Bool) → SoundIn w l → SoundIn (record w { leaving = w.leaving || not (has_left w.conn.stream); failed = failed }) true
+sound_lost w l failed s = record {
   leaves = λ x. refl;
-  left_is = λ x y z. leaving_by (before h).leaving (has_left (before h).conn.stream) z;
-  ended = k.ended;
-  late_is = k.late_is;
-  late_closes = k.late_closes;
-  closing = k.closing;
+  left_is = λ x y z. leaving_by w.leaving (has_left w.conn.stream) z;
+  ended = s.ended;
+  late_is = s.late_is;
+  late_closes = s.late_closes;
+  closing = s.closing;
+  shuts = s.shuts;
 }
 
-known_memory : (w : State) (b l : Bool) (c : Connection) (a ms : ℕ) (o : Option ℕ) → KnowsIn w b l c a ms o
-    → Knows true w.leaving w.late (close w.conn) w.accepted_at w.moment (closes_at w.closed_at true w.moment) true l (close c) a ms (closes_at o (is_closing (close c)) ms)
-known_memory w b l c a ms o k = record {
-  memory_is = refl;
-  conn_is = ap close k.conn_is;
-  accepted_is = k.accepted_is;
-  moment_is = k.moment_is;
-  closed_is = ap (λ (x : Option ℕ). closes_at x true w.moment) k.closed_is ∙ ap (closes_at o true) k.moment_is
-      ∙ ap (λ (x : Bool). closes_at o x ms) (sym (close_closes c.phase));
-  idle = close_idle w.conn.phase;
-  leaves = k.leaves;
+sound_memory : (w : State) (l : Bool) → SoundIn w l → SoundIn (ran_out w) l
+sound_memory w l s = record {
+  leaves = s.leaves;
   left_is = λ x y z. absurd (clash true refl x);
-  ended = λ x. ended_if true w.conn (k.ended x);
-  late_is = k.late_is;
+  ended = λ x. ended_if true w.conn (s.ended x);
+  late_is = s.late_is;
   late_closes = λ x. close_closes w.conn.phase;
   closing = λ x. closes_some w.closed_at true w.moment refl;
+  shuts = λ x. close_closes w.conn.phase;
 }
 
-still : (h : List Step) (w : State) → KnowsIn w (ran_out_in h) (leaving_in h) (connection h) (accepted_in h) (moment_in h) (closed_in h)
-    → KnowsIn w (ran_out_in h) (leaving_in h) (connection h) (accepted_in h) (moment_in h) (closes_at (closed_in h) (is_closing (connection h)) (moment_in h))
-still h w k = known_still w (ran_out_in h) (leaving_in h) (connection h) (accepted_in h) (moment_in h) (closed_in h) k
+-- ---- all steps
+
+still : {h : List Step} → Known h → seen (before h) ≡ with_peers (seen_in h) (peers h)
+still {h} k = kept (before h) (leaving_in h) k.sound ∙ ap (λ (x : Seen). with_peers x (peers_of x)) k.same
 
 pub known : (h : List Step) → ArePicks h → Known h
-known [] p = known_new 0 None refl
-known (Began ms ∷ h) p = known_began ms h p.0
-known (Moment ms ∷ h) p = known_told (before h) ms (moment_in h) _ _ _ _ _ p.0 (known h p.1)
+known [] p = record { same = refl; sound = sound_new [] 0 0 }
+known (Began vhost n ms ∷ h) p =
+    subst (λ (x : List Step). Known (Began vhost n ms ∷ x)) (sym p.0) (record { same = refl; sound = sound_new vhost n ms })
+known (Moment ms ∷ h) p =
+    let k : Known h = known h p.1 in
+    record {
+      same = told_is (before h) ms _ k.sound ∙ ap (λ (x : Seen). seen_told x ms) k.same;
+      sound = sound_told (before h) ms _ (subst (λ (n : ℕ). n ≤ ms) (sym (moment_is k)) p.0) k.sound;
+    }
 known (Came u ∷ h) p =
     let k : Known h = known h p.1 in
-    subst (λ (x : Bool). KnowsIn (if x then before h else came (before h) u) (ran_out_in h) (leaving_in h) (connection (Came u ∷ h)) (accepted_in h) (moment_in h) (closed_in (Came u ∷ h)))
-    (sym k.memory_is) (known_came (before h) u (ran_out_in h) (leaving_in h) (connection h) (accepted_in h) (moment_in h) (closed_in h) p.0 k)
+    record {
+      same = came_is (before h) u _ k.sound ∙ ap (λ (x : Seen). seen_came x u) k.same;
+      sound = sound_came (before h) u _ (subst (λ (c : Connection). MayComeAs (awaits c) u) (sym (conn_is k)) p.0.0) k.sound;
+    }
 known (TakenUp ∷ h) p =
     let k : Known h = known h p.1 in
-    subst (λ (x : Bool). KnowsIn (if not x && (before h).leaving then left (before h) else before h) (ran_out_in h) (leaving_in h) (connection (TakenUp ∷ h)) (accepted_in h) (moment_in h) (closed_in (TakenUp ∷ h)))
-    (sym k.memory_is) (known_taken (before h) (ran_out_in h) (before h).leaving (leaving_in h) (connection h) (accepted_in h) (moment_in h) (closed_in h) refl k)
+    record { same = taken_is (before h) _ k.sound ∙ ap (λ (x : Seen). seen_taken x (leaving_in h)) k.same; sound = sound_taken (before h) _ k.sound }
+known (Heard u ∷ h) p =
+    let k : Known h = known h p.1 in
+    record { same = heard_is (before h) u _ k.sound ∙ ap (λ (x : Seen). seen_heard x u) k.same; sound = sound_heard (before h) u _ k.sound }
+known (Joined link.Ok ∷ h) p =
+    let k : Known h = known h p.1 in
+    record { same = ap (λ (x : Seen). record x { side = side.Open }) (still k); sound = k.sound }
+known (Joined link.Failed ∷ h) p =
+    let k : Known h = known h p.1 in
+    record {
+      same = fail_is _ None _ (leaving_in h) k.sound
+          ∙ ap (λ (x : Seen). record (with_peers x (record (peers_of x) { client = close x.conn })) { side = side.Gone }) k.same;
+      sound = sound_fail _ None _ _ k.sound;
+    }
 known (Lost Client loss.Ended ∷ h) p =
-    known_still (before (Lost Client loss.Ended ∷ h)) (ran_out_in h) true (connection h) (accepted_in h) (moment_in h) (closed_in h) (known_lost h (before h).failed (known h p.1))
+    let k : Known h = known h p.1 in
+    record { same = still k; sound = sound_lost (before h) _ (before h).failed k.sound }
 known (Lost Client loss.Failed ∷ h) p =
-    known_still (before (Lost Client loss.Failed ∷ h)) (ran_out_in h) true (connection h) (accepted_in h) (moment_in h) (closed_in h) (known_lost h true (known h p.1))
-known (Lost Client loss.Shut ∷ h) p = still h (before h) (known h p.1)
-known (Lost Up how ∷ h) p = still h (before h) (known h p.1)
-known (Gave Client u ∷ h) p = still h (before (Gave Client u ∷ h)) (known h p.1)
-known (Gave Up u ∷ h) p = still h (before h) (known h p.1)
-known (Whole Client ∷ h) p = still h (before (Whole Client ∷ h)) (known h p.1)
-known (Whole Up ∷ h) p = still h (before h) (known h p.1)
-known (OutOfMemory ∷ h) p = known_memory (before h) (ran_out_in h) (leaving_in h) (connection h) (accepted_in h) (moment_in h) (closed_in h) (known h p.1)
+    let k : Known h = known h p.1 in
+    record { same = still k; sound = sound_lost (before h) _ true k.sound }
+known (Lost Client loss.Shut ∷ h) p = let k : Known h = known h p.1 in record { same = still k; sound = k.sound }
+known (Lost Up loss.Ended ∷ h) p =
+    let k : Known h = known h p.1 in
+    record {
+      same = fail_is _ None _ (leaving_in h) k.sound ∙ ap (seen_lost side.Ended) k.same;
+      sound = sound_fail _ None _ _ k.sound;
+    }
+known (Lost Up loss.Failed ∷ h) p =
+    let k : Known h = known h p.1 in
+    record {
+      same = fail_is _ None _ (leaving_in h) k.sound ∙ ap (seen_lost side.Failed) k.same;
+      sound = sound_fail _ None _ _ k.sound;
+    }
+known (Lost Up loss.Shut ∷ h) p =
+    let k : Known h = known h p.1 in
+    record { same = ap (λ (x : Seen). record x { side = side.Gone }) (still k); sound = k.sound }
+known (Gave (ToClient u) ∷ h) p = let k : Known h = known h p.1 in record { same = still k; sound = k.sound }
+known (Gave (ToUp u) ∷ h) p = let k : Known h = known h p.1 in record { same = still k; sound = k.sound }
+known (Whole Client ∷ h) p = let k : Known h = known h p.1 in record { same = still k; sound = k.sound }
+known (Whole Up ∷ h) p = let k : Known h = known h p.1 in record { same = still k; sound = k.sound }
+known (OutOfMemory ∷ h) p =
+    let k : Known h = known h p.1 in
+    record { same = memory_is_out (before h) ∙ ap seen_memory k.same; sound = sound_memory (before h) _ k.sound }

@@ -1,7 +1,12 @@
+pub mod Closings
 pub mod Connections
 pub mod Frames
+pub mod Goes
 pub mod Known
+pub mod Openings
 pub mod Outcomes
 pub mod Said
 pub mod Spelled
 pub mod Times
+pub mod Ups
+pub mod Waits

@@ -1,12 +1,15 @@
 -- What was sent to a client without heartbeats, and then what is due to it, are the replies to its units; after the pair ran
 -- out of memory they are the last units.
 use Rattle.std.proofs.Common.{◌≡◌, ℕ, Bool, true, false, not, ◌&&◌, ◌||◌, if◌then◌else◌, List, [], ◌∷◌, ◌++◌, Option, None, Some, append_assoc, append-nil, refl, sym, ap, ◌∙◌, subst}
-use Rattle.std.specs.Prelude.{filter}
+use Rattle.std.specs.Prelude.{filter, map}
 use Rattle.std.proofs.lemmas.List.Elements.{filter-append}
 use Rattle.gate_outside.specs.declared.ports.End.TheVariants.{Client, Up}
+use Rattle.gate_outside.specs.declared.ports.Linked.TheVariants as link
 use Rattle.gate_relay.specs.declared.loss.Loss.TheVariants as loss
-use Rattle.machine_091.specs.Calls.{after_ended, closing_phase}
-use Rattle.machine_091.specs.State.{awaits, is_closing_phase, is_running, new_connection}
+use Rattle.close_translate.specs.declared.codes.TheConstants.{CONNECTION_FORCED}
+use Rattle.performatives_10.specs.declared.condition.Condition.{Condition}
+use Rattle.machine_091.specs.Calls.{after_ended, after_opened, closing_phase}
+use Rattle.machine_091.specs.State.{awaits, is_closing, is_closing_phase, is_opening, is_running}
 use Rattle.machine_091.specs.Transitions.{greeted, stream_after, unit_step}
 use Rattle.machine_091.specs.Transitions as machine
 use Rattle.machine_091.specs.declared.state.Connection.{Connection}
@@ -18,18 +21,26 @@ use Rattle.machine_091.specs.declared.unit.Refusal.{Refusal}
 use Rattle.machine_091.specs.declared.unit.Unit91.{Unit91}
 use Rattle.machine_091.specs.declared.unit.Unit91.TheVariants as unit
 use Rattle.machine_091.specs.declared.unit.Want91.{Want91}
+use Rattle.methods_091.specs.declared.method.Method91.{Method91}
 use Rattle.machine_091.specs.declared.unit.Want91.TheVariants as want
 use Rattle.gate_model.specs.declared.reply.Pending.{Pending}
 use Rattle.gate_model.specs.declared.reply.Reply.{Reply}
 use Rattle.gate_model.specs.declared.reply.Reply.TheVariants as reply
 use Rattle.gate_model.specs.Answers.{AreAnswered, AreReplies, All, Overtaken, TakenBack, is_close, is_close_ok, last_units}
-use Rattle.gate_model.specs.Due.{closes, due, first, is_beat_due, pick, rows, when}
-use Rattle.gate_model.specs.Folds.{answers_of, connection, is_answer, leaving_in, ran_out_in, replies, replies_to, reply_to, sent, sent_since, until_memory}
+use Rattle.gate_model.specs.Due.{closes, is_beat_due, may_go, pick, rows, when}
+use Rattle.gate_model.specs.Folds.{Peers, answers_of, conn_by, connection, failure_to, is_answer, leaving_in, peers, peers_came, peers_heard, ran_out_in, replies, replies_to, reply_by, reply_to, sent, sent_since, until_memory}
 use Rattle.gate_model.specs.Picks.{ArePicks, MayComeAs}
-use Rattle.gate_model.specs.State.{State, Step, Began, Moment, Came, TakenUp, Lost, Gave, Whole, OutOfMemory, after_want, before, came, close_if, conn_step, has_left, is_foreign, is_limit_reached, last_pending, left, none_pending, open_refused, turns_foreign, with_header, with_want, without}
-use Rattle.gate_model.proofs.Connections.{clash, none_comes, opens_not, step_here, step_idle, stream_if}
-use Rattle.gate_model.proofs.Known.{Known, known}
-use Rattle.gate_model.proofs.Outcomes.{Outcome, Greets, Parts, LogsIn, Tunes, Asks, Passes, Refuses, Closes, Answers, Ignores, Runs, is_opening_phase, outcome}
+use Rattle.gate_model.specs.State.{State, Step, Began, Moment, Came, TakenUp, Heard, Joined, Lost, Gave, Whole, OutOfMemory, after_want, before, came, close, close_if, conn_step, fail, failed, failure, has_left, heard, is_foreign, is_limit_reached, is_settled, last_pending, left, none_pending, turns_foreign, unbuilt, with_header, with_meaning, with_want, without}
+use Rattle.gate_relay.specs.Sides.{is_readable}
+use Rattle.gate_model.specs.Upstream.{first, has_closed, heard_up, meaning_by}
+use Rattle.gate_model.specs.declared.outgoing.Outgoing.TheVariants.{ToClient, ToUp}
+use Rattle.machine_10.specs.Transitions as ten
+use Rattle.machine_10.specs.Transitions.{Meaning}
+use Rattle.machine_10.specs.declared.state.Upstream.{Upstream}
+use Rattle.machine_10.specs.declared.unit.Unit10.{Unit10}
+use Rattle.gate_model.proofs.Connections.{clash, close_same, none_comes, opened_runs, opening_early, opening_phase, step_here}
+use Rattle.gate_model.proofs.Known.{Known, conn_is, container_is, known, memory_is}
+use Rattle.gate_model.proofs.Outcomes.{Outcome, Greets, Parts, LogsIn, Tunes, Asks, Passes, Refuses, Parting, Calls, Asking, Frees, Closes, Answers, Ignores, outcome}
 
 -- ---- what is due, by the phase of the connection
 
@@ -48,45 +59,63 @@ pub record Shuts (d : Pending) (said all : List Reply) : Type 0 where
 
 pub data IsOver (d : Pending) (said all : List Reply) (gone : Bool) : Type 0 where
   StillCloses : Shuts d said all → IsOver d said all gone
-  ClosesNot : d.close ≡ None → AreReplies all (said ++ rows d) gone → IsOver d said all gone
+  ClosesNot : d.close ≡ None → d.no_memory ≡ false → AreReplies all (said ++ rows d) gone → IsOver d said all gone
 
 -- what was sent and what is due are all replies; once the connection is closed, but for a close that was taken back
 abbrev pub IsSaid : Phase91 → Pending → List Reply → List Reply → Bool → Type 0
 IsSaid phase.Header d said all gone = (d ≡ none_pending) × (said ≡ all)
-IsSaid phase.Start d said all gone = (d.tune ≡ false) × Runs_ d said all
-IsSaid phase.Tune d said all gone = Runs_ d said all
-IsSaid phase.Open d said all gone = Runs_ d said all
-IsSaid phase.Running d said all gone = ⊥
+IsSaid phase.Start d said all gone = (d.tune ≡ false) × ((d.open_ok ≡ false) × Runs_ d said all)
+IsSaid phase.Tune d said all gone = (d.open_ok ≡ false) × Runs_ d said all
+IsSaid phase.Open d said all gone = (d.open_ok ≡ false) × Runs_ d said all
+IsSaid phase.Running d said all gone = Runs_ d said all
 IsSaid phase.Closing d said all gone = Shuts d said all
 IsSaid phase.Closed d said all gone = IsOver d said all gone
 
 pub are_replies : (p : Phase91) (d : Pending) (said all : List Reply) (gone : Bool) → IsSaid p d said all gone → AreReplies all (said ++ rows d) gone
 are_replies phase.Header d said all gone s = All (ap (λ (x : Pending). said ++ rows x) s.0 ∙ append-nil said ∙ s.1)
-are_replies phase.Start d said all gone s = All s.1.same
-are_replies phase.Tune d said all gone s = All s.same
-are_replies phase.Open d said all gone s = All s.same
-are_replies phase.Running d said all gone s = absurd s
+are_replies phase.Start d said all gone s = All s.1.1.same
+are_replies phase.Tune d said all gone s = All s.1.same
+are_replies phase.Open d said all gone s = All s.1.same
+are_replies phase.Running d said all gone s = All s.same
 are_replies phase.Closing d said all gone s = All s.same
 are_replies phase.Closed d said all gone (StillCloses s) = All s.same
-are_replies phase.Closed d said all gone (ClosesNot n s) = s
+are_replies phase.Closed d said all gone (ClosesNot n m s) = s
 
-runs_not : (p : Phase91) (d : Pending) (said all : List Reply) (gone : Bool) → is_running p ≡ true → IsSaid p d said all gone → ⊥
-runs_not phase.Header d said all gone e s = absurd cc
-runs_not phase.Start d said all gone e s = absurd cc
-runs_not phase.Tune d said all gone e s = absurd cc
-runs_not phase.Open d said all gone e s = absurd cc
-runs_not phase.Running d said all gone e s = s
-runs_not phase.Closing d said all gone e s = absurd cc
-runs_not phase.Closed d said all gone e s = absurd cc
-
-runs_in : (p : Phase91) (d : Pending) (said all : List Reply) (gone : Bool) → is_opening_phase p ≡ true → IsSaid p d said all gone → Runs_ d said all
-runs_in phase.Header d said all gone e s = absurd cc
-runs_in phase.Start d said all gone e s = s.1
-runs_in phase.Tune d said all gone e s = s
-runs_in phase.Open d said all gone e s = s
-runs_in phase.Running d said all gone e s = absurd cc
+runs_in : (p : Phase91) (d : Pending) (said all : List Reply) (gone : Bool) → is_closing_phase p ≡ false → IsSaid p d said all gone → Runs_ d said all
+runs_in phase.Header d said all gone e s =
+    subst (λ (x : Pending). Runs_ x said all) (sym s.0) (record { ok = refl; none = refl; calm = refl; same = append-nil said ∙ s.1 })
+runs_in phase.Start d said all gone e s = s.1.1
+runs_in phase.Tune d said all gone e s = s.1
+runs_in phase.Open d said all gone e s = s.1
+runs_in phase.Running d said all gone e s = s
 runs_in phase.Closing d said all gone e s = absurd cc
 runs_in phase.Closed d said all gone e s = absurd cc
+
+over_calm : (d : Pending) (said all : List Reply) (gone : Bool) → IsOver d said all gone → d.no_memory ≡ false
+over_calm d said all gone (StillCloses s) = s.calm
+over_calm d said all gone (ClosesNot n m s) = m
+
+-- no close for that a pair ran out of memory
+pub calm_in : (p : Phase91) (d : Pending) (said all : List Reply) (gone : Bool) → IsSaid p d said all gone → d.no_memory ≡ false
+calm_in phase.Header d said all gone s = ap (λ (x : Pending). x.no_memory) s.0
+calm_in phase.Start d said all gone s = s.1.1.calm
+calm_in phase.Tune d said all gone s = s.1.calm
+calm_in phase.Open d said all gone s = s.1.calm
+calm_in phase.Running d said all gone s = s.calm
+calm_in phase.Closing d said all gone s = s.calm
+calm_in phase.Closed d said all gone s = over_calm d said all gone s
+
+running_phase : (p : Phase91) → is_running p ≡ true → p ≡ phase.Running
+running_phase phase.Header e = absurd cc
+running_phase phase.Start e = absurd cc
+running_phase phase.Tune e = absurd cc
+running_phase phase.Open e = absurd cc
+running_phase phase.Running e = refl
+running_phase phase.Closing e = absurd cc
+running_phase phase.Closed e = absurd cc
+
+shuts_of : (d : Pending) (said all : List Reply) → Runs_ d said all → Shuts d said all
+shuts_of d said all s = record { ok = s.ok; calm = s.calm; same = s.same }
 
 -- ---- a unit makes its replies due
 
@@ -94,9 +123,13 @@ runs_in phase.Closed d said all gone e s = absurd cc
 one_due : (said all old new : List Reply) (r : Reply) → new ≡ old ++ r ∷ [] → said ++ old ≡ all → said ++ new ≡ all ++ r ∷ []
 one_due said all old new r e same = ap (λ (x : List Reply). said ++ x) e ∙ sym (append_assoc said old (r ∷ [])) ∙ ap (λ (x : List Reply). x ++ r ∷ []) same
 
-tune_due : (d : Pending) → d.tune ≡ false → d.close_ok ≡ false → d.close ≡ None → d.no_memory ≡ false
+tune_due : (d : Pending) → d.tune ≡ false → d.open_ok ≡ false → d.close_ok ≡ false → d.close ≡ None → d.no_memory ≡ false
     → rows (record d { tune = true }) ≡ rows d ++ reply.Tune ∷ []
-tune_due d t ok none calm = rw (t, ok, none, calm) (simp append_assoc)
+tune_due d t o ok none calm = rw (t, o, ok, none, calm) (simp append_assoc)
+
+open_ok_due : (d : Pending) → d.open_ok ≡ false → d.close_ok ≡ false → d.close ≡ None → d.no_memory ≡ false
+    → rows (record d { open_ok = true }) ≡ rows d ++ reply.OpenOk ∷ []
+open_ok_due d o ok none calm = rw (o, ok, none, calm) (simp append_assoc)
 
 close_due : (d : Pending) (r : Refusal) → d.close ≡ None → d.no_memory ≡ false → rows (record d { close = Some r }) ≡ rows d ++ reply.Close r ∷ []
 close_due d r none calm = rw (none, calm) (simp (append_assoc, append-nil))
@@ -111,11 +144,11 @@ after_nothing p d said all gone s = subst (λ (x : List Reply). IsSaid p d said 
 -- a close that isn't due any more, or none
 no_close_due : (d : Pending) (said all : List Reply) (o : Option Refusal) → d.close ≡ o → Shuts d said all
     → IsOver (record d { close = None }) said all true
-no_close_due d said all None e s = ClosesNot refl (All (ap (λ (o : Option Refusal). said ++ rows (record d { close = o })) (sym e) ∙ s.same))
+no_close_due d said all None e s = ClosesNot refl s.calm (All (ap (λ (o : Option Refusal). said ++ rows (record d { close = o })) (sym e) ∙ s.same))
 no_close_due d said all (Some r) e s =
     let old : Pending = record d { close = None } in
     let rest : rows d ≡ rows old ++ reply.Close r ∷ [] = rw e (close_due (record d { close = None }) r refl s.calm) in
-    ClosesNot refl (TakenBack r refl (sym s.same ∙ one_due said (said ++ rows old) (rows old) (rows d) (reply.Close r) rest refl))
+    ClosesNot refl s.calm (TakenBack r refl (sym s.same ∙ one_due said (said ++ rows old) (rows old) (rows d) (reply.Close r) rest refl))
 
 -- the client closed: a close of which no byte was sent is due no more
 after_close : (d : Pending) (said all : List Reply) (gone : Bool) (o : Option Refusal) → d.close ≡ o → Shuts d said all
@@ -186,38 +219,53 @@ said_next : (c : Connection) (u : Unit91) (d : Pending) (said all : List Reply) 
     → IsSaid (conn_step c u).phase (with_header (turns_foreign c u) (with_want (unit_step c u).1 d)) said (all ++ replies_to c u) gone
 said_next c u d said all gone s = by (unit_step c u) (outcome c u)
   where
+    -- a method of a channel
+    called : (n : ℕ) (m : Method91) → is_running c.phase ≡ true
+        → After (is_foreign c.stream && not (is_foreign c.stream)) (closing_phase c.phase) (want.Method n m) d said all gone
+    called n m e =
+        subst (λ (p : Phase91). After (is_foreign c.stream && not (is_foreign c.stream)) (closing_phase p) (want.Method n m) d said all gone)
+        (sym (running_phase c.phase e))
+        (plainly _ phase.Closing (want.Method n m) d said all gone (never c.stream)
+        (after_refusal d said all (unbuilt m) (said_in {q = phase.Running} d said all gone (running_phase c.phase e) s)))
+
     by : (x : machine.Step) → Outcome c u x
         → After (is_foreign x.0.stream && not (is_foreign c.stream)) (after_want x.1 x.0).phase x.1 d said all gone
     by _ (Greets e) =
         let t = said_in {q = phase.Header} d said all gone e s in
         plainly _ phase.Start want.Start d said all gone refl
         (subst (λ (x : Pending). IsSaid phase.Start (record x { start = true }) said (all ++ reply.Start ∷ []) gone) (sym t.0)
-        (refl, record { ok = refl; none = refl; calm = refl; same = ap (λ (rs : List Reply). rs ++ reply.Start ∷ []) t.1 }))
+        (refl, (refl, record { ok = refl; none = refl; calm = refl; same = ap (λ (rs : List Reply). rs ++ reply.Start ∷ []) t.1 })))
     by _ (Parts e) =
         let t = said_in {q = phase.Header} d said all gone e s in
         let b : Bool = not (is_foreign c.stream) in
         subst (λ (x : Pending). IsOver (with_header b x) said (all ++ (when b reply.Protocol ++ [])) gone) (sym t.0)
-        (ClosesNot refl (after_foreign b gone said all t.1))
+        (ClosesNot refl refl (after_foreign b gone said all t.1))
     by _ (LogsIn m r e) =
         let t = said_in {q = phase.Start} d said all gone e s in
-        plainly _ phase.Tune (want.Login m r) d said all gone (never c.stream) (record {
-          ok = t.1.ok;
-          none = t.1.none;
-          calm = t.1.calm;
-          same = one_due said all (rows d) (rows (record d { tune = true })) reply.Tune (tune_due d t.0 t.1.ok t.1.none t.1.calm) t.1.same;
-        })
+        plainly _ phase.Tune (want.Login m r) d said all gone (never c.stream) (
+          t.1.0,
+          record {
+            ok = t.1.1.ok;
+            none = t.1.1.none;
+            calm = t.1.1.calm;
+            same = one_due said all (rows d) (rows (record d { tune = true })) reply.Tune (tune_due d t.0 t.1.0 t.1.1.ok t.1.1.none t.1.1.calm) t.1.1.same;
+          },
+        )
     by _ (Tunes l e) =
         plainly _ phase.Open want.Tuned d said all gone (never c.stream) (after_nothing phase.Open d said all gone (said_in {q = phase.Tune} d said all gone e s))
-    by _ (Asks e) =
-        let t = said_in {q = phase.Open} d said all gone e s in
-        subst (λ (p : Phase91). After (is_foreign c.stream && not (is_foreign c.stream)) (closing_phase p) want.OpenUp d said all gone) (sym e)
-        (plainly _ phase.Closing want.OpenUp d said all gone (never c.stream) (after_refusal d said all open_refused t))
-    by _ (Passes e) = plainly _ c.phase want.Nothing d said all gone (never c.stream) (after_nothing c.phase d said all gone s)
-    by _ (Refuses r e) =
+    by _ (Asks e) = plainly _ c.phase want.OpenUp d said all gone (never c.stream) (after_nothing c.phase d said all gone s)
+    by _ Passes = plainly _ c.phase want.Nothing d said all gone (never c.stream) (after_nothing c.phase d said all gone s)
+    by _ (Refuses r a f e) =
         plainly _ phase.Closing (want.Refuse r) d said all gone (never_after u c.stream) (after_refusal d said all r (runs_in c.phase d said all gone e s))
+    by _ (Parting e) =
+        let t = shuts_of d said all (said_in {q = phase.Running} d said all gone (running_phase c.phase e) s) in
+        plainly _ phase.Closed want.Close d said all gone (never c.stream) (ClosesNot refl t.calm (after_close d said all gone d.close refl t))
+    by _ (Calls n x m e) = called n m e
+    by _ (Asking n m e) = called n m e
+    by _ (Frees n) = plainly _ c.phase (want.ChannelCloseOk n) d said all gone (never c.stream) (after_nothing c.phase d said all gone s)
     by _ (Closes e) =
         let t = said_in {q = phase.Closing} d said all gone e s in
-        plainly _ phase.Closed want.Close d said all gone (never c.stream) (ClosesNot refl (after_close d said all gone d.close refl t))
+        plainly _ phase.Closed want.Close d said all gone (never c.stream) (ClosesNot refl t.calm (after_close d said all gone d.close refl t))
     by _ (Answers e) = plainly _ phase.Closed want.CloseOk d said all gone refl (after_nothing phase.Closed d said all gone (answered c.phase e s))
       where
         answered : (p : Phase91) → is_closing_phase p ≡ true → IsSaid p d said all gone → IsSaid phase.Closed d said all gone
@@ -229,17 +277,16 @@ said_next c u d said all gone s = by (unit_step c u) (outcome c u)
         answered phase.Closing k t = StillCloses t
         answered phase.Closed k t = t
     by _ (Ignores e) = plainly _ c.phase want.Nothing d said all gone (never_after u c.stream) (after_nothing c.phase d said all gone s)
-    by _ (Runs x e) = absurd (runs_not c.phase d said all gone e s)
 
 -- ---- closing events that no unit told
 
 -- the handshake limit
 said_late : (p : Phase91) (d : Pending) (said all : List Reply) (gone : Bool) → IsSaid p d said all gone → IsSaid (closing_phase p) d said all gone
 said_late phase.Header d said all gone s = subst (λ (x : Pending). Shuts x said all) (sym s.0) (record { ok = refl; calm = refl; same = append-nil said ∙ s.1 })
-said_late phase.Start d said all gone s = record { ok = s.1.ok; calm = s.1.calm; same = s.1.same }
-said_late phase.Tune d said all gone s = record { ok = s.ok; calm = s.calm; same = s.same }
-said_late phase.Open d said all gone s = record { ok = s.ok; calm = s.calm; same = s.same }
-said_late phase.Running d said all gone s = absurd s
+said_late phase.Start d said all gone s = shuts_of d said all s.1.1
+said_late phase.Tune d said all gone s = shuts_of d said all s.1
+said_late phase.Open d said all gone s = shuts_of d said all s.1
+said_late phase.Running d said all gone s = shuts_of d said all s
 said_late phase.Closing d said all gone s = s
 said_late phase.Closed d said all gone s = s
 
@@ -262,56 +309,102 @@ said_left p d said all gone s = by p s
 
     over : IsOver d said all gone → IsOver (record d { close = None }) said all true
     over (StillCloses s) = no_close_due d said all d.close refl s
-    over (ClosesNot n s) = ClosesNot refl (left_replies all _ gone (subst (λ (o : Option Refusal). AreReplies all (said ++ rows (record d { close = o })) gone) n s))
+    over (ClosesNot n m s) = ClosesNot refl m (left_replies all _ gone (subst (λ (o : Option Refusal). AreReplies all (said ++ rows (record d { close = o })) gone) n s))
 
     by : (p : Phase91) → IsSaid p d said all gone → IsOver (record d { close = None }) said all true
     by phase.Header s = no_close_due d said all d.close refl (subst (λ (x : Pending). Shuts x said all) (sym s.0) (record { ok = refl; calm = refl; same = append-nil said ∙ s.1 }))
-    by phase.Start s = runs s.1
-    by phase.Tune s = runs s
-    by phase.Open s = runs s
-    by phase.Running s = absurd s
+    by phase.Start s = runs s.1.1
+    by phase.Tune s = runs s.1
+    by phase.Open s = runs s.1
+    by phase.Running s = runs s
     by phase.Closing s = no_close_due d said all d.close refl s
     by phase.Closed s = over s
 
+-- the upstream end fails
+said_fail : (p : Phase91) (d : Pending) (said all : List Reply) (gone : Bool) (r : Refusal) → is_closing_phase p ≡ false → IsSaid p d said all gone
+    → IsSaid (closing_phase p) (record d { close = Some r }) said (all ++ reply.Close r ∷ []) gone
+said_fail p d said all gone r k s = by p k (after_refusal d said all r (runs_in p d said all gone k s))
+  where
+    by : (p : Phase91) → is_closing_phase p ≡ false → Shuts (record d { close = Some r }) said (all ++ reply.Close r ∷ [])
+        → IsSaid (closing_phase p) (record d { close = Some r }) said (all ++ reply.Close r ∷ []) gone
+    by phase.Header k s = s
+    by phase.Start k s = s
+    by phase.Tune k s = s
+    by phase.Open k s = s
+    by phase.Running k s = s
+    by phase.Closing k s = absurd cc
+    by phase.Closed k s = absurd cc
+
+-- the container opened
+said_opened : (d : Pending) (said all : List Reply) → d.open_ok ≡ false → Runs_ d said all → Runs_ (record d { open_ok = true }) said (all ++ reply.OpenOk ∷ [])
+said_opened d said all o s = record {
+  ok = s.ok;
+  none = s.none;
+  calm = s.calm;
+  same = one_due said all (rows d) (rows (record d { open_ok = true })) reply.OpenOk (open_ok_due d o s.ok s.none s.calm) s.same;
+}
+
 -- ---- a unit goes
 
-abbrev pending_of : (protocol start tune ok : Bool) (close : Option Refusal) (no_memory : Bool) → Pending
-pending_of protocol start tune ok close no_memory = record { protocol = protocol; start = start; tune = tune; close_ok = ok; close = close; no_memory = no_memory }
+abbrev pending_of : (protocol start tune open_ok ok : Bool) (close : Option Refusal) (no_memory : Bool) → Pending
+pending_of protocol start tune open_ok ok close no_memory =
+    record { protocol = protocol; start = start; tune = tune; open_ok = open_ok; close_ok = ok; close = close; no_memory = no_memory }
 
 -- the first that is due is no heartbeat; it goes, and the others stay
 pub record Leads (r : Reply) (d : Pending) : Type 0 where
   pub answers : is_answer r ≡ true
   pub parts : rows d ≡ r ∷ rows (without r d)
 
-pub first_due : (d : Pending) (r : Reply) → first (rows d) ≡ Some r → Leads r d
-first_due d r e = by d.protocol d.start d.tune d.close_ok d.close d.no_memory e
+-- what waits for the upstream end stands behind the others
+pub first_due : (settled : Bool) (d : Pending) (r : Reply) → (settled ≡ false → d.no_memory ≡ false) → first (rows (may_go settled d)) ≡ Some r → Leads r d
+first_due settled d r calm e = by settled d.protocol d.start d.tune d.open_ok d.close_ok d.close d.no_memory calm e
   where
     is_it : (all : Pending) (it : Reply) → Some it ≡ Some r → Leads it all → Leads r all
     is_it all it same is = let here : it ≡ r = cc in subst (λ (x : Reply). Leads x all) here is
 
-    by : (protocol start tune ok : Bool) (close : Option Refusal) (wanting : Bool) → first (rows (pending_of protocol start tune ok close wanting)) ≡ Some r
-        → Leads r (pending_of protocol start tune ok close wanting)
-    by true start tune ok close wanting same = is_it (pending_of true start tune ok close wanting) reply.Protocol same (record { answers = refl; parts = refl })
-    by false true tune ok close wanting same = is_it (pending_of false true tune ok close wanting) reply.Start same (record { answers = refl; parts = refl })
-    by false false true ok close wanting same = is_it (pending_of false false true ok close wanting) reply.Tune same (record { answers = refl; parts = refl })
-    by false false false true close wanting same = is_it (pending_of false false false true close wanting) reply.CloseOk same (record { answers = refl; parts = refl })
-    by false false false false (Some c) wanting same = is_it (pending_of false false false false (Some c) wanting) (reply.Close c) same (record { answers = refl; parts = refl })
-    by false false false false None true same = is_it (pending_of false false false false None true) reply.NoMemory same (record { answers = refl; parts = refl })
-    by false false false false None false same = absurd cc
+    by : (settled protocol start tune open_ok ok : Bool) (close : Option Refusal) (wanting : Bool) → (settled ≡ false → wanting ≡ false)
+        → first (rows (may_go settled (pending_of protocol start tune open_ok ok close wanting))) ≡ Some r
+        → Leads r (pending_of protocol start tune open_ok ok close wanting)
+    by true true start tune open_ok ok close wanting calm same = is_it (pending_of true start tune open_ok ok close wanting) reply.Protocol same (record { answers = refl; parts = refl })
+    by true false true tune open_ok ok close wanting calm same = is_it (pending_of false true tune open_ok ok close wanting) reply.Start same (record { answers = refl; parts = refl })
+    by true false false true open_ok ok close wanting calm same = is_it (pending_of false false true open_ok ok close wanting) reply.Tune same (record { answers = refl; parts = refl })
+    by true false false false true ok close wanting calm same = is_it (pending_of false false false true ok close wanting) reply.OpenOk same (record { answers = refl; parts = refl })
+    by true false false false false true close wanting calm same = is_it (pending_of false false false false true close wanting) reply.CloseOk same (record { answers = refl; parts = refl })
+    by true false false false false false (Some c) wanting calm same = is_it (pending_of false false false false false (Some c) wanting) (reply.Close c) same (record { answers = refl; parts = refl })
+    by true false false false false false None true calm same = is_it (pending_of false false false false false None true) reply.NoMemory same (record { answers = refl; parts = refl })
+    by true false false false false false None false calm same = absurd cc
+    by false true start tune open_ok ok close wanting calm same = is_it (pending_of true start tune open_ok ok close wanting) reply.Protocol same (record { answers = refl; parts = refl })
+    by false false true tune open_ok ok close wanting calm same = is_it (pending_of false true tune open_ok ok close wanting) reply.Start same (record { answers = refl; parts = refl })
+    by false false false true open_ok ok close wanting calm same = is_it (pending_of false false true open_ok ok close wanting) reply.Tune same (record { answers = refl; parts = refl })
+    by false false false false true ok close wanting calm same = is_it (pending_of false false false true ok close wanting) reply.OpenOk same (record { answers = refl; parts = refl })
+    by false false false false false ok close true calm same = absurd (clash true refl (calm refl))
+    by false false false false false ok close false calm same = absurd cc
 
 no_tune : (r : Reply) (d : Pending) → d.tune ≡ false → (without r d).tune ≡ false
 no_tune reply.Protocol d e = e
 no_tune reply.Start d e = e
 no_tune reply.Tune d e = refl
+no_tune reply.OpenOk d e = e
 no_tune reply.CloseOk d e = e
 no_tune (reply.Close c) d e = e
 no_tune reply.NoMemory d e = e
 no_tune reply.Heartbeat d e = e
 
+no_open_ok : (r : Reply) (d : Pending) → d.open_ok ≡ false → (without r d).open_ok ≡ false
+no_open_ok reply.Protocol d e = e
+no_open_ok reply.Start d e = e
+no_open_ok reply.Tune d e = e
+no_open_ok reply.OpenOk d e = refl
+no_open_ok reply.CloseOk d e = e
+no_open_ok (reply.Close c) d e = e
+no_open_ok reply.NoMemory d e = e
+no_open_ok reply.Heartbeat d e = e
+
 no_close_ok : (r : Reply) (d : Pending) → d.close_ok ≡ false → (without r d).close_ok ≡ false
 no_close_ok reply.Protocol d e = e
 no_close_ok reply.Start d e = e
 no_close_ok reply.Tune d e = e
+no_close_ok reply.OpenOk d e = e
 no_close_ok reply.CloseOk d e = refl
 no_close_ok (reply.Close c) d e = e
 no_close_ok reply.NoMemory d e = e
@@ -321,6 +414,7 @@ no_close : (r : Reply) (d : Pending) → d.close ≡ None → (without r d).clos
 no_close reply.Protocol d e = e
 no_close reply.Start d e = e
 no_close reply.Tune d e = e
+no_close reply.OpenOk d e = e
 no_close reply.CloseOk d e = e
 no_close (reply.Close c) d e = refl
 no_close reply.NoMemory d e = e
@@ -330,17 +424,18 @@ no_wanting : (r : Reply) (d : Pending) → d.no_memory ≡ false → (without r 
 no_wanting reply.Protocol d e = e
 no_wanting reply.Start d e = e
 no_wanting reply.Tune d e = e
+no_wanting reply.OpenOk d e = e
 no_wanting reply.CloseOk d e = e
 no_wanting (reply.Close c) d e = e
 no_wanting reply.NoMemory d e = refl
 no_wanting reply.Heartbeat d e = e
 
-said_went : (p : Phase91) (d : Pending) (r : Reply) (said all : List Reply) (gone : Bool) → first (rows d) ≡ Some r → IsSaid p d said all gone
+said_went : (p : Phase91) (d : Pending) (r : Reply) (said all : List Reply) (gone : Bool) → Leads r d → IsSaid p d said all gone
     → IsSaid p (without r d) (said ++ r ∷ []) all gone
-said_went p d r said all gone e s = by p s
+said_went p d r said all gone l s = by p s
   where
     same : (said ++ r ∷ []) ++ rows (without r d) ≡ said ++ rows d
-    same = append_assoc said (r ∷ []) (rows (without r d)) ∙ ap (λ (x : List Reply). said ++ x) (sym (first_due d r e).parts)
+    same = append_assoc said (r ∷ []) (rows (without r d)) ∙ ap (λ (x : List Reply). said ++ x) (sym l.parts)
 
     runs : Runs_ d said all → Runs_ (without r d) (said ++ r ∷ []) all
     runs s = record { ok = no_close_ok r d s.ok; none = no_close r d s.none; calm = no_wanting r d s.calm; same = same ∙ s.same }
@@ -350,30 +445,30 @@ said_went p d r said all gone e s = by p s
 
     over : IsOver d said all gone → IsOver (without r d) (said ++ r ∷ []) all gone
     over (StillCloses s) = StillCloses (shuts s)
-    over (ClosesNot n s) = ClosesNot (no_close r d n) (subst (λ (x : List Reply). AreReplies all x gone) (sym same) s)
+    over (ClosesNot n m s) = ClosesNot (no_close r d n) (no_wanting r d m) (subst (λ (x : List Reply). AreReplies all x gone) (sym same) s)
 
     by : (p : Phase91) → IsSaid p d said all gone → IsSaid p (without r d) (said ++ r ∷ []) all gone
-    by phase.Header s = let wrong : None ≡ Some r = sym (ap (λ (x : Pending). first (rows x)) s.0) ∙ e in absurd cc
-    by phase.Start s = (no_tune r d s.0, runs s.1)
-    by phase.Tune s = runs s
-    by phase.Open s = runs s
-    by phase.Running s = absurd s
+    by phase.Header s = let wrong : [] ≡ r ∷ rows (without r d) = sym (ap rows s.0) ∙ l.parts in absurd cc
+    by phase.Start s = (no_tune r d s.0, (no_open_ok r d s.1.0, runs s.1.1))
+    by phase.Tune s = (no_open_ok r d s.0, runs s.1)
+    by phase.Open s = (no_open_ok r d s.0, runs s.1)
+    by phase.Running s = runs s
     by phase.Closing s = shuts s
     by phase.Closed s = over s
 
--- the unit that is picked is the first of those that are due, or a heartbeat where none is
+-- the unit that is picked is the first of those that are due and wait for nothing, or a heartbeat where none is
 pub data Picked (w : State) (r : Reply) : Type 0 where
-  IsDue : first (rows w.pending) ≡ Some r → Picked w r
-  Beats : rows w.pending ≡ [] → is_beat_due w ≡ true → r ≡ reply.Heartbeat → Picked w r
+  IsDue : first (rows (may_go (is_settled w) w.pending)) ≡ Some r → Picked w r
+  Beats : rows (may_go (is_settled w) w.pending) ≡ [] → is_beat_due w ≡ true → r ≡ reply.Heartbeat → Picked w r
 
-picked_by : (w : State) (r : Reply) (rs : List Reply) (beats : Bool) → rows w.pending ≡ rs → is_beat_due w ≡ beats
-    → first (rs ++ when beats reply.Heartbeat) ≡ Some r → Picked w r
+picked_by : (w : State) (r : Reply) (rs : List Reply) (beats : Bool) → rows (may_go (is_settled w) w.pending) ≡ rs → is_beat_due w ≡ beats
+    → first (map ToClient (rs ++ when beats reply.Heartbeat)) ≡ Some (ToClient r) → Picked w r
 picked_by w r [] true e beat f = Beats e beat (let here : reply.Heartbeat ≡ r = cc in sym here)
 picked_by w r [] false e beat f = absurd cc
-picked_by w r (x ∷ rs) beats e beat f = IsDue (ap first e ∙ f)
+picked_by w r (x ∷ rs) beats e beat f = IsDue (ap first e ∙ (let here : x ≡ r = cc in ap Some here))
 
-pub picked : (w : State) (r : Reply) → pick w Client ≡ Some r → Picked w r
-picked w r e = picked_by w r (rows w.pending) (is_beat_due w) refl refl e
+pub picked : (w : State) (r : Reply) → pick w Client ≡ Some (ToClient r) → Picked w r
+picked w r e = picked_by w r (rows (may_go (is_settled w) w.pending)) (is_beat_due w) refl refl e
 
 answers_next : (rs : List Reply) (r : Reply) → answers_of (rs ++ r ∷ []) ≡ answers_of rs ++ answers_of (r ∷ [])
 answers_next rs r = filter-append is_answer rs (r ∷ [])
@@ -382,20 +477,26 @@ answers_next rs r = filter-append is_answer rs (r ∷ [])
 said_picked : (p : Phase91) (w : State) (r : Reply) (went all : List Reply) (gone : Bool) → Picked w r → IsSaid p w.pending (answers_of went) all gone
     → IsSaid p (without r w.pending) (answers_of (went ++ r ∷ [])) all gone
 said_picked p w r went all gone (IsDue e) s =
+    let l : Leads r w.pending = first_due (is_settled w) w.pending r (λ x. calm_in p w.pending (answers_of went) all gone s) e in
     let more : answers_of (went ++ r ∷ []) ≡ answers_of went ++ r ∷ [] =
-    answers_next went r ∙ ap (λ (b : Bool). answers_of went ++ (if b then r ∷ [] else [])) (first_due w.pending r e).answers in
-    subst (λ (x : List Reply). IsSaid p (without r w.pending) x all gone) (sym more) (said_went p w.pending r (answers_of went) all gone e s)
+    answers_next went r ∙ ap (λ (b : Bool). answers_of went ++ (if b then r ∷ [] else [])) l.answers in
+    subst (λ (x : List Reply). IsSaid p (without r w.pending) x all gone) (sym more) (said_went p w.pending r (answers_of went) all gone l s)
 said_picked p w r went all gone (Beats none due e) s =
     subst (λ (x : Reply). IsSaid p (without x w.pending) (answers_of (went ++ x ∷ [])) all gone) (sym e)
     (subst (λ (x : List Reply). IsSaid p w.pending x all gone) (sym (answers_next went reply.Heartbeat ∙ append-nil (answers_of went))) s)
 
+settled_last : (w : State) → w.out_of_memory ≡ true → is_settled w ≡ true
+settled_last w e = ap (λ (b : Bool). b || (not (is_readable w.up.side) || has_closed w.up)) e
+
 -- so what went and what is due stay the same together
-picked_same : (w : State) (r : Reply) (went : List Reply) → Picked w r → answers_of (went ++ r ∷ []) ++ rows (without r w.pending) ≡ answers_of went ++ rows w.pending
-picked_same w r went (IsDue e) =
-    ap (λ (x : List Reply). x ++ rows (without r w.pending)) (answers_next went r ∙ ap (λ (b : Bool). answers_of went ++ (if b then r ∷ [] else [])) (first_due w.pending r e).answers)
+picked_same : (w : State) (r : Reply) (went : List Reply) → w.out_of_memory ≡ true → Picked w r
+    → answers_of (went ++ r ∷ []) ++ rows (without r w.pending) ≡ answers_of went ++ rows w.pending
+picked_same w r went m (IsDue e) =
+    let l : Leads r w.pending = first_due (is_settled w) w.pending r (λ x. absurd (clash _ (settled_last w m) x)) e in
+    ap (λ (x : List Reply). x ++ rows (without r w.pending)) (answers_next went r ∙ ap (λ (b : Bool). answers_of went ++ (if b then r ∷ [] else [])) l.answers)
     ∙ append_assoc (answers_of went) (r ∷ []) (rows (without r w.pending))
-    ∙ ap (λ (x : List Reply). answers_of went ++ x) (sym (first_due w.pending r e).parts)
-picked_same w r went (Beats none due e) =
+    ∙ ap (λ (x : List Reply). answers_of went ++ x) (sym l.parts)
+picked_same w r went m (Beats none due e) =
     subst (λ (x : Reply). answers_of (went ++ x ∷ []) ++ rows (without x w.pending) ≡ answers_of went ++ rows w.pending) (sym e)
     (ap (λ (x : List Reply). x ++ rows w.pending) (answers_next went reply.Heartbeat ∙ append-nil (answers_of went)))
 
@@ -428,10 +529,10 @@ last_due phase.Tune d = refl
 last_due phase.Open d = refl
 last_due phase.Running d = refl
 last_due phase.Closing d =
-    sym (skip is_close d.protocol reply.Protocol _ refl ∙ skip is_close d.start reply.Start _ refl ∙ skip is_close d.tune reply.Tune _ refl
+    sym (skip is_close d.protocol reply.Protocol _ refl ∙ skip is_close d.start reply.Start _ refl ∙ skip is_close d.tune reply.Tune _ refl ∙ skip is_close d.open_ok reply.OpenOk _ refl
     ∙ skip is_close d.close_ok reply.CloseOk _ refl ∙ keep_close d.close (when d.no_memory reply.NoMemory) (skip_last is_close d.no_memory reply.NoMemory refl))
 last_due phase.Closed d =
-    sym (skip is_close_ok d.protocol reply.Protocol _ refl ∙ skip is_close_ok d.start reply.Start _ refl ∙ skip is_close_ok d.tune reply.Tune _ refl
+    sym (skip is_close_ok d.protocol reply.Protocol _ refl ∙ skip is_close_ok d.start reply.Start _ refl ∙ skip is_close_ok d.tune reply.Tune _ refl ∙ skip is_close_ok d.open_ok reply.OpenOk _ refl
     ∙ keep_close_ok d.close_ok _ (skip_closes d.close (when d.no_memory reply.NoMemory) ∙ skip_last is_close_ok d.no_memory reply.NoMemory refl))
 
 -- ---- all steps
@@ -452,13 +553,14 @@ isnt_left true b f g = absurd (f refl)
 isnt_left false true f g = absurd (f (g refl))
 isnt_left false false f g = refl
 
-says_came : (w : State) (u : Unit91) (b : Bool) (c : Connection) (went since all last : List Reply) → MayComeAs (awaits c) u → is_running c.phase ≡ false → w.conn ≡ c
-    → SaysIn b c.phase w.pending went since all (has_left c.stream) last
-    → SaysIn b (if b then c else conn_step c u).phase (if b then w else came w u).pending went since (if b then all else all ++ replies_to c u)
-    (has_left (if b then c else conn_step c u).stream) last
-says_came w u true c went since all last may idle e s = s
-says_came w u false c went since all last may idle e s =
-    let here : has_left c.stream ≡ has_left (conn_step c u).stream = isnt_left (has_left c.stream) (has_left (conn_step c u).stream) (λ x. none_comes c u x may) (step_here c u idle) in
+says_came : (w : State) (u : Unit91) (b : Bool) (c : Peers) (went since all last : List Reply) → MayComeAs (awaits c.client) u → w.conn ≡ c.client
+    → SaysIn b c.client.phase w.pending went since all (has_left c.client.stream) last
+    → let d : Peers = if b then c else peers_came c u in
+    SaysIn b d.client.phase (if b then w else came w u).pending went since (if b then all else all ++ replies_to c.client u) (has_left d.client.stream) last
+says_came w u true c went since all last may e s = s
+says_came w u false p went since all last may e s =
+    let c : Connection = p.client in
+    let here : has_left c.stream ≡ has_left (conn_step c u).stream = isnt_left (has_left c.stream) (has_left (conn_step c u).stream) (λ x. none_comes c u x may) (step_here c u) in
     record {
       said = λ m. subst (λ (g : Bool). IsSaid (conn_step c u).phase (came w u).pending (answers_of went) (all ++ replies_to c u) g) here
           (subst (λ (x : Connection). IsSaid (conn_step c u).phase (with_header (turns_foreign x u) (with_want (unit_step x u).1 w.pending)) (answers_of went) (all ++ replies_to c u) (has_left c.stream)) (sym e)
@@ -466,53 +568,137 @@ says_came w u false c went since all last may idle e s =
       ending = λ m. absurd (clash false m refl);
     }
 
-says_taken : (w : State) (b d l : Bool) (c : Connection) (went since all last : List Reply) → (d ≡ true → l ≡ true)
-    → (d ≡ false → b ≡ false → l ≡ true → after_ended c ≡ c) → SaysIn b c.phase w.pending went since all (has_left c.stream) last
-    → SaysIn b (if not b && l then after_ended c else c).phase (if not b && d then left w else w).pending went since all (has_left (if not b && l then after_ended c else c).stream) last
-says_taken w true d l c went since all last f g s = s
-says_taken w false true true c went since all last f g s = record {
-  said = λ m. said_left c.phase w.pending (answers_of went) all (has_left c.stream) (s.said m);
+says_taken : (w : State) (b d l : Bool) (p : Peers) (went since all last : List Reply) → (d ≡ true → l ≡ true)
+    → (d ≡ false → b ≡ false → l ≡ true → after_ended p.client ≡ p.client) → SaysIn b p.client.phase w.pending went since all (has_left p.client.stream) last
+    → let q : Peers = if not b && l then record p { client = after_ended p.client } else p in
+    SaysIn b q.client.phase (if not b && d then left w else w).pending went since all (has_left q.client.stream) last
+says_taken w true d l p went since all last f g s = s
+says_taken w false true true p went since all last f g s = record {
+  said = λ m. said_left p.client.phase w.pending (answers_of went) all (has_left p.client.stream) (s.said m);
   ending = λ m. absurd (clash false m refl);
 }
-says_taken w false true false c went since all last f g s = absurd (clash false (f refl) refl)
-says_taken w false false false c went since all last f g s = s
-says_taken w false false true c went since all last f g s =
+says_taken w false true false p went since all last f g s = absurd (clash false (f refl) refl)
+says_taken w false false false p went since all last f g s = s
+says_taken w false false true p went since all last f g s =
     subst (λ (x : Connection). SaysIn false x.phase w.pending went since all (has_left x.stream) last) (sym (g refl refl refl)) s
+
+says_nothing : (b : Bool) (c : Connection) (d : Pending) (went since all last : List Reply) → SaysIn b c.phase d went since all (has_left c.stream) last
+    → SaysIn b c.phase d went since (all ++ []) (has_left c.stream) last
+says_nothing b c d went since all last s = subst (λ (x : List Reply). SaysIn b c.phase d went since x (has_left c.stream) last) (sym (append-nil all)) s
+
+says_fail : (w : State) (code : ℕ) (why : Option Condition) (b : Bool) (c : Connection) (went since all last : List Reply) → w.conn ≡ c
+    → (b ≡ true → is_closing c ≡ true) → SaysIn b c.phase w.pending went since all (has_left c.stream) last
+    → SaysIn b (close c).phase (fail code why w).pending went since (all ++ failure_to c code) (has_left c.stream) last
+says_fail w code why b c went since all last e shuts s =
+    subst (λ (x : Connection). SaysIn b (close c).phase (if is_closing x then w else failed code why w).pending went since (all ++ failure_to c code) (has_left c.stream) last) (sym e)
+    (by (is_closing c) refl)
+  where
+    by : (k : Bool) → is_closing c ≡ k
+        → SaysIn b (close c).phase (if k then w else failed code why w).pending went since (all ++ when (not k) (reply.Close (failure code))) (has_left c.stream) last
+    by true k =
+        subst (λ (x : Connection). SaysIn b x.phase w.pending went since (all ++ []) (has_left c.stream) last) (sym (close_same c k))
+        (says_nothing b c w.pending went since all last s)
+    by false k = record {
+      said = λ m. said_fail c.phase w.pending (answers_of went) all (has_left c.stream) (failure code) k (s.said m);
+      ending = λ m. absurd (clash _ (shuts m) k);
+    }
+
+says_meaning : (m : Meaning) (w : State) (b : Bool) (c : Connection) (went since all last : List Reply) → w.conn ≡ c → (b ≡ true → is_closing c ≡ true)
+    → SaysIn b c.phase w.pending went since all (has_left c.stream) last
+    → SaysIn b (conn_by m c).phase (with_meaning m w).pending went since (all ++ reply_by c m) (has_left (conn_by m c).stream) last
+says_meaning ten.Nothing w b c went since all last e shuts s = says_nothing b c w.pending went since all last s
+says_meaning ten.Init w b c went since all last e shuts s = says_nothing b c w.pending went since all last s
+says_meaning ten.AmqpHeader w b c went since all last e shuts s = says_nothing b c w.pending went since all last s
+says_meaning ten.Opened w b c went since all last e shuts s =
+    subst (λ (x : Connection). SaysIn b (conn_by ten.Opened c).phase (if is_opening x then record w { conn = after_opened w.conn; pending = record w.pending { open_ok = true } } else w).pending went since (all ++ reply_by c ten.Opened) (has_left (conn_by ten.Opened c).stream) last) (sym e)
+    (by (is_opening c) refl)
+  where
+    by : (k : Bool) → is_opening c ≡ k
+        → let d : Connection = if k then after_opened c else c in
+        SaysIn b d.phase (if k then record w { conn = after_opened w.conn; pending = record w.pending { open_ok = true } } else w).pending went since (all ++ when k reply.OpenOk) (has_left d.stream) last
+    by true k = record {
+      said = λ m. let t = said_in {q = phase.Open} w.pending (answers_of went) all (has_left c.stream) (opening_phase c k) (s.said m) in
+          subst (λ (p : Phase91). IsSaid p (record w.pending { open_ok = true }) (answers_of went) (all ++ reply.OpenOk ∷ []) (has_left c.stream)) (sym (opened_runs c k))
+          (said_opened w.pending (answers_of went) all t.0 t.1);
+      ending = λ m. absurd (opening_early c k (shuts m));
+    }
+    by false k = says_nothing b c w.pending went since all last s
+says_meaning (ten.OfSession g p payload) w b c went since all last e shuts s = says_nothing b c w.pending went since all last s
+says_meaning (ten.Closed x) w b c went since all last e shuts s = says_fail w _ None b c went since all last e shuts s
+says_meaning ten.Refused w b c went since all last e shuts s = says_fail w _ None b c went since all last e shuts s
+says_meaning (ten.Violation x) w b c went since all last e shuts s = says_fail w _ (Some x) b c went since all last e shuts s
+
+says_heard : (w : State) (u : Unit10) (b : Bool) (p : Peers) (went since all last : List Reply) → w.conn ≡ p.client → w.up.container ≡ p.container
+    → (b ≡ true → is_closing p.client ≡ true) → SaysIn b p.client.phase w.pending went since all (has_left p.client.stream) last
+    → let q : Peers = if b then p else peers_heard p u in
+    SaysIn b q.client.phase (if b then w else heard w u).pending went since (if b then all else all ++ reply_by p.client (meaning_by p.container u)) (has_left q.client.stream) last
+says_heard w u true p went since all last e f shuts s = s
+says_heard w u false p went since all last e f shuts s =
+    let m : Meaning = meaning_by p.container u in
+    subst (λ (x : Option Upstream). SaysIn false (conn_by m p.client).phase (with_meaning (meaning_by x u) (record w { up = heard_up u w.up })).pending went since (all ++ reply_by p.client m) (has_left (conn_by m p.client).stream) last) (sym f)
+    (says_meaning m (record w { up = heard_up u w.up }) false p.client went since all last e shuts s)
+
+-- the connection is closing once the pair ran out of memory
+pub shuts_in : {h : List Step} → Known h → ran_out_in h ≡ true → is_closing (connection h) ≡ true
+shuts_in k m = sym (ap is_closing (conn_is k)) ∙ k.sound.shuts (memory_is k ∙ m)
 
 pub says : (h : List Step) → ArePicks h → Says h
 says [] p = record { said = λ m. (refl, refl); ending = λ m. absurd (clash false m refl) }
-says (Began ms ∷ h) p = subst (λ (x : List Step). Says (Began ms ∷ x)) (sym p.0) (record { said = λ m. (refl, refl); ending = λ m. absurd (clash false m refl) })
+says (Began vhost n ms ∷ h) p = subst (λ (x : List Step). Says (Began vhost n ms ∷ x)) (sym p.0) (record { said = λ m. (refl, refl); ending = λ m. absurd (clash false m refl) })
 says (Moment ms ∷ h) p =
     let s : Says h = says h p.1 in
     record { said = λ m. said_if (is_limit_reached (connection h) _ ms) (connection h) (before h).pending (answers_of (sent h)) (replies h) (s.said m); ending = s.ending }
 says (Came u ∷ h) p =
     let k : Known h = known h p.1 in
     subst (λ (x : Bool). SaysIn (ran_out_in h) (connection (Came u ∷ h)).phase (if x then before h else came (before h) u).pending (sent h) (sent_since h) (replies (Came u ∷ h)) (has_left (connection (Came u ∷ h)).stream) (last_of (until_memory h)))
-    (sym k.memory_is)
-    (says_came (before h) u (ran_out_in h) (connection h) (sent h) (sent_since h) (replies h) (last_of (until_memory h)) p.0 (subst (λ (c : Connection). is_running c.phase ≡ false) k.conn_is k.idle) k.conn_is (says h p.1))
+    (sym (memory_is k))
+    (says_came (before h) u (ran_out_in h) (peers h) (sent h) (sent_since h) (replies h) (last_of (until_memory h)) p.0.0 (conn_is k) (says h p.1))
 says (TakenUp ∷ h) p =
     let k : Known h = known h p.1 in
     subst (λ (x : Bool). SaysIn (ran_out_in h) (connection (TakenUp ∷ h)).phase (if not x && (before h).leaving then left (before h) else before h).pending (sent h) (sent_since h) (replies h) (has_left (connection (TakenUp ∷ h)).stream) (last_of (until_memory h)))
-    (sym k.memory_is)
-    (says_taken (before h) (ran_out_in h) (before h).leaving (leaving_in h) (connection h) (sent h) (sent_since h) (replies h) (last_of (until_memory h)) k.leaves
-    (λ x y z. subst (λ (c : Connection). after_ended c ≡ c) k.conn_is (k.ended (k.left_is (k.memory_is ∙ y) z x))) (says h p.1))
+    (sym (memory_is k))
+    (says_taken (before h) (ran_out_in h) (before h).leaving (leaving_in h) (peers h) (sent h) (sent_since h) (replies h) (last_of (until_memory h)) k.sound.leaves
+    (λ x y z. subst (λ (c : Connection). after_ended c ≡ c) (conn_is k) (k.sound.ended (k.sound.left_is (memory_is k ∙ y) z x))) (says h p.1))
+says (Heard u ∷ h) p =
+    let k : Known h = known h p.1 in
+    subst (λ (x : Bool). SaysIn (ran_out_in h) (connection (Heard u ∷ h)).phase (if x then before h else heard (before h) u).pending (sent h) (sent_since h) (replies (Heard u ∷ h)) (has_left (connection (Heard u ∷ h)).stream) (last_of (until_memory h)))
+    (sym (memory_is k))
+    (says_heard (before h) u (ran_out_in h) (peers h) (sent h) (sent_since h) (replies h) (last_of (until_memory h)) (conn_is k) (container_is k) (shuts_in k) (says h p.1))
+says (Joined link.Ok ∷ h) p = says h p.1
+says (Joined link.Failed ∷ h) p =
+    let k : Known h = known h p.1 in
+    says_fail _ CONNECTION_FORCED None (ran_out_in h) (connection h) (sent h) (sent_since h) (replies h) (last_of (until_memory h)) (conn_is k) (shuts_in k) (says h p.1)
 says (Lost Client loss.Ended ∷ h) p = says h p.1
 says (Lost Client loss.Failed ∷ h) p = says h p.1
 says (Lost Client loss.Shut ∷ h) p = says h p.1
-says (Lost Up how ∷ h) p = says h p.1
-says (Gave Client u ∷ h) p =
+says (Lost Up loss.Ended ∷ h) p =
+    let k : Known h = known h p.1 in
+    says_fail _ CONNECTION_FORCED None (ran_out_in h) (connection h) (sent h) (sent_since h) (replies h) (last_of (until_memory h)) (conn_is k) (shuts_in k) (says h p.1)
+says (Lost Up loss.Failed ∷ h) p =
+    let k : Known h = known h p.1 in
+    says_fail _ CONNECTION_FORCED None (ran_out_in h) (connection h) (sent h) (sent_since h) (replies h) (last_of (until_memory h)) (conn_is k) (shuts_in k) (says h p.1)
+says (Lost Up loss.Shut ∷ h) p = says h p.1
+says (Gave (ToClient u) ∷ h) p =
     let s : Says h = says h p.1 in
     let it : Picked (before h) u = picked (before h) u p.0.1 in
     record {
       said = λ m. said_picked (connection h).phase (before h) u (sent h) (replies h) (has_left (connection h).stream) it (s.said m);
-      ending = λ m. picked_same (before h) u (sent_since h) it ∙ s.ending m;
+      ending = λ m. picked_same (before h) u (sent_since h) (memory_is (known h p.1) ∙ m) it ∙ s.ending m;
     }
-says (Gave Up u ∷ h) p = says h p.1
+says (Gave (ToUp u) ∷ h) p = says h p.1
 says (Whole Client ∷ h) p = says h p.1
 says (Whole Up ∷ h) p = says h p.1
 says (OutOfMemory ∷ h) p =
     let k : Known h = known h p.1 in
-    record { said = λ m. absurd (clash true refl m); ending = λ m. last_due (before h).conn.phase (before h).pending ∙ ap (λ (c : Connection). last_units c.phase (rows (before h).pending)) k.conn_is }
+    record { said = λ m. absurd (clash true refl m); ending = λ m. last_due (before h).conn.phase (before h).pending ∙ ap (λ (c : Connection). last_units c.phase (rows (before h).pending)) (conn_is k) }
+
+-- no close for that a pair ran out of memory is due before it did
+pub calm_now : (h : List Step) → ArePicks h → is_settled (before h) ≡ false → (before h).pending.no_memory ≡ false
+calm_now h p e = by (ran_out_in h) refl
+  where
+    by : (b : Bool) → ran_out_in h ≡ b → (before h).pending.no_memory ≡ false
+    by true m = absurd (clash _ (settled_last (before h) (memory_is (known h p) ∙ m)) e)
+    by false m = calm_in (connection h).phase (before h).pending (answers_of (sent h)) (replies h) (has_left (connection h).stream) ((says h p).said m)
 
 pub answered : (h : List Step) → ArePicks h → AreAnswered h
 answered h p =

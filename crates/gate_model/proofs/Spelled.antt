@@ -1,5 +1,5 @@
 -- The bytes of a unit to a client are some, and few.
-use Rattle.std.proofs.Common.{◌≡◌, ℕ, ◌<◌, ◌≤◌, List, length, codes, arith}
+use Rattle.std.proofs.Common.{ℕ, ◌<◌, ◌≤◌, List, length, codes, arith}
 use Rattle.std.proofs.lemmas.List.{length-append}
 use Rattle.close_translate.specs.Codes.{name_of}
 use Rattle.frames_091.specs.Frames.{frame_text}
@@ -7,7 +7,7 @@ use Rattle.frames_091.specs.declared.frame.Frame91.{Frame91}
 use Rattle.methods_091.specs.Closing.{close_text}
 use Rattle.gate_model.specs.declared.reply.Reply.{Reply}
 use Rattle.gate_model.specs.declared.reply.Reply.TheVariants as reply
-use Rattle.gate_model.specs.Spelling.{spell, start_frame, tune_frame}
+use Rattle.gate_model.specs.Spelling.{open_ok_frame, spell_reply, start_frame, tune_frame}
 
 frame_some : (f : Frame91) → 0 < length (frame_text f)
 unfolding frame_text
@@ -21,10 +21,15 @@ tune_some : 0 < length tune_frame
 unfolding tune_frame
 tune_some = frame_some _
 
-pub spelled_some : (r : Reply) → 0 < length (spell r)
+open_ok_some : 0 < length open_ok_frame
+unfolding open_ok_frame
+open_ok_some = frame_some _
+
+pub spelled_some : (r : Reply) → 0 < length (spell_reply r)
 spelled_some reply.Protocol = omega arith
 spelled_some reply.Start = start_some
 spelled_some reply.Tune = tune_some
+spelled_some reply.OpenOk = open_ok_some
 spelled_some reply.CloseOk = frame_some _
 spelled_some (reply.Close r) = frame_some _
 spelled_some reply.NoMemory = frame_some _
@@ -38,8 +43,8 @@ close_small code text class method short = grind (arith, length-append, short)
 name_small : (code : ℕ) → length (name_of code) ≤ 255
 name_small code = grind arith
 
-pub spelled_small : (r : Reply) → length (spell r) ≤ 512
-unfolding start_frame tune_frame frame_text
+pub spelled_small : (r : Reply) → length (spell_reply r) ≤ 512
+unfolding start_frame tune_frame open_ok_frame frame_text
 spelled_small (reply.Close r) = close_small r.code (name_of r.code) r.class r.method (name_small r.code)
 spelled_small reply.NoMemory = close_small 506 (codes "NO_MEMORY") 0 0 (omega arith)
 spelled_small r = omega arith

@@ -1,13 +1,18 @@
 -- Heartbeats and shuts are due exactly when the folds say so.
-use Rattle.std.proofs.Common.{◌≡◌, ◌↔◌, ℕ, zero, suc, ◌+◌, ◌-◌, ◌*◌, ◌==◌, ◌<◌, ◌≤◌, nat_le, Bool, true, false, not, ◌&&◌, ◌||◌, if◌then◌else◌, List, [], ◌∷◌, ◌++◌, Option, None, Some, append-nil, refl, sym, ap, ◌∙◌, subst, arith}
-use Rattle.std.specs.Prelude.{is_some}
+use Rattle.std.proofs.Common.{◌≡◌, ℕ, zero, suc, ◌+◌, ◌-◌, ◌*◌, ◌==◌, ◌<◌, ◌≤◌, nat_le, Bool, true, false, not, ◌&&◌, ◌||◌, if◌then◌else◌, List, [], ◌∷◌, ◌++◌, Option, None, Some, append-nil, refl, sym, ap, ◌∙◌, subst, arith}
+use Rattle.std.specs.Prelude.{is_some, map}
 use Rattle.std.specs.List.{list_any}
-use Rattle.std.specs.Option.{option_to_list}
+use Rattle.std.specs.Option.{option_map, option_to_list}
 use Rattle.std.proofs.lemmas.Bool.Decides.{nat_tests}
 use Rattle.std.proofs.lemmas.List.Folds.{list_any-append}
 use Rattle.gate_outside.specs.declared.ports.End.TheVariants.{Client, Up}
+use Rattle.gate_outside.specs.declared.ports.Linked.TheVariants as link
 use Rattle.gate_relay.specs.declared.loss.Loss.TheVariants as loss
-use Rattle.machine_091.specs.State.{is_closing, is_over, is_over_stream}
+use Rattle.machine_10.specs.Transitions as ten
+use Rattle.machine_10.specs.Transitions.{Meaning}
+use Rattle.performatives_10.specs.declared.condition.Condition.{Condition}
+use Rattle.machine_091.specs.Calls.{after_opened}
+use Rattle.machine_091.specs.State.{is_closing, is_opening, is_over, is_over_stream}
 use Rattle.machine_091.specs.declared.state.Connection.{Connection}
 use Rattle.machine_091.specs.declared.state.Stream91.{Stream91}
 use Rattle.machine_091.specs.declared.state.Stream91.TheVariants as stream
@@ -16,14 +21,16 @@ use Rattle.gate_model.specs.declared.reply.Reply.TheVariants as reply
 use Rattle.gate_model.specs.declared.reply.SentLast.{SentLast}
 use Rattle.gate_model.specs.declared.timers.TheConstants.{BEAT_PER_SECOND, CLOSING_LIMIT, HANDSHAKE_LIMIT}
 use Rattle.gate_model.specs.Answers.{is_close_ok}
-use Rattle.gate_model.specs.Due.{first, is_bad, is_beat_by, is_beat_due, is_busy, is_overdue, is_shut_due, is_unheard, pick, rows, when}
-use Rattle.gate_model.specs.Folds.{accepted_in, closed_in, connection, failed_in, moment_in, ran_out_in, sent, sent_at}
+use Rattle.gate_model.specs.Due.{is_bad, is_beat_by, is_beat_due, is_busy, is_overdue, is_shut_due, is_unheard, pick, when}
+use Rattle.gate_model.specs.Upstream.{first, heard_up, meaning_by}
+use Rattle.gate_model.specs.declared.outgoing.Outgoing.TheVariants.{ToClient, ToUp}
+use Rattle.gate_model.specs.Folds.{accepted_in, closed_in, connection, failed_in, moment_in, sent, sent_at}
 use Rattle.gate_model.specs.Picks.{ArePicks}
-use Rattle.gate_model.specs.State.{State, Step, Began, Moment, Came, TakenUp, Lost, Gave, Whole, OutOfMemory, before, came, has_left, is_limit_reached, left, new_state, with_last}
+use Rattle.gate_model.specs.State.{State, Step, Began, Moment, Came, TakenUp, Heard, Joined, Lost, Gave, Whole, OutOfMemory, before, came, fail, failed, has_left, heard, is_limit_reached, is_settled, left, new_state, opened, with_last, with_meaning}
 use Rattle.gate_model.specs.Times.{BeatsAtOnce, BeatsWhenDue, IsLate, LateCloses, MayBeat, ShutFor, Failed, Left, Answered, Greeted, Closed, ClosedBad, ClosedLast, Unheard, NotOpened, Overdue, ShutsAtOnce, is_any_close, is_protocol, sent_whole}
 use Rattle.gate_model.proofs.Connections.{clash}
-use Rattle.gate_model.proofs.Known.{Known, known}
-use Rattle.gate_model.proofs.Said.{Picked, IsDue, Beats, picked, first_due}
+use Rattle.gate_model.proofs.Known.{Known, accepted_is, closed_is, conn_is, known, memory_is, moment_is}
+use Rattle.gate_model.proofs.Said.{Picked, IsDue, Beats, calm_now, picked, first_due}
 
 -- ---- what was sent
 
@@ -47,7 +54,7 @@ pub record SendsIn (p : Part) (all whole : List Reply) (at : ℕ) (broken : Bool
 abbrev pub Sends : List Step → Type 0
 Sends h = SendsIn (part (before h)) (sent h) (sent_whole h) (sent_at h) (failed_in h)
 
-free : (o : Option Reply) → is_some o ≡ false → o ≡ None
+free : (o : Option Reply) → is_some (option_map ToClient o) ≡ false → o ≡ None
 free None e = refl
 free (Some r) e = absurd cc
 
@@ -67,6 +74,7 @@ is_protocol_after : (u : Reply) (s : SentLast) → (with_last (Some u) s).protoc
 is_protocol_after reply.Protocol s = or_true s.protocol
 is_protocol_after reply.Start s = or_false s.protocol
 is_protocol_after reply.Tune s = or_false s.protocol
+is_protocol_after reply.OpenOk s = or_false s.protocol
 is_protocol_after reply.CloseOk s = or_false s.protocol
 is_protocol_after (reply.Close r) s = or_false s.protocol
 is_protocol_after reply.NoMemory s = or_false s.protocol
@@ -76,6 +84,7 @@ is_close_ok_after : (u : Reply) (s : SentLast) → (with_last (Some u) s).close_
 is_close_ok_after reply.Protocol s = or_false s.close_ok
 is_close_ok_after reply.Start s = or_false s.close_ok
 is_close_ok_after reply.Tune s = or_false s.close_ok
+is_close_ok_after reply.OpenOk s = or_false s.close_ok
 is_close_ok_after reply.CloseOk s = or_true s.close_ok
 is_close_ok_after (reply.Close r) s = or_false s.close_ok
 is_close_ok_after reply.NoMemory s = or_false s.close_ok
@@ -85,6 +94,7 @@ is_close_after : (u : Reply) (s : SentLast) → (with_last (Some u) s).close ≡
 is_close_after reply.Protocol s = or_false s.close
 is_close_after reply.Start s = or_false s.close
 is_close_after reply.Tune s = or_false s.close
+is_close_after reply.OpenOk s = or_false s.close
 is_close_after reply.CloseOk s = or_false s.close
 is_close_after (reply.Close r) s = or_true s.close
 is_close_after reply.NoMemory s = or_true s.close
@@ -99,7 +109,7 @@ any_more : (test : Reply → Bool) (whole : List Reply) (u : Reply) (old new : B
 any_more test whole u old new e f = f ∙ ap (λ x. x || test u) e ∙ sym (list_any-append test whole (u ∷ []) ∙ ap (λ x. list_any test whole || x) (or_one (test u)))
 
 -- the last byte of the unit in progress
-sends_whole : (o : Option Reply) (s : SentLast) (at ms : ℕ) (broken : Bool) (all whole : List Reply) (at' ms' : ℕ) (broken' : Bool) → is_some o ≡ true → ms ≡ ms'
+sends_whole : (o : Option Reply) (s : SentLast) (at ms : ℕ) (broken : Bool) (all whole : List Reply) (at' ms' : ℕ) (broken' : Bool) → is_some (option_map ToClient o) ≡ true → ms ≡ ms'
     → (let p : Part = record { going = o; last = s; at = at; broken = broken } in SendsIn p all whole at' broken')
     → let p : Part = record { going = None; last = with_last o s; at = ms; broken = broken } in SendsIn p all all ms' broken'
 sends_whole None s at ms broken all whole at' ms' broken' e m k = absurd cc
@@ -112,11 +122,11 @@ sends_whole (Some u) s at ms broken all whole at' ms' broken' e m k = record {
   broken_is = k.broken_is;
 }
 
-sends_new : SendsIn (part (new_state 0)) [] [] 0 false
+sends_new : SendsIn (part (new_state [] 0 0)) [] [] 0 false
 sends_new = record { going_is = refl; protocol_is = refl; close_ok_is = refl; close_is = refl; at_is = refl; broken_is = refl }
 
-sends_began : (ms : ℕ) → SendsIn (part (new_state ms)) [] [] ms false
-sends_began ms = record { going_is = refl; protocol_is = refl; close_ok_is = refl; close_is = refl; at_is = refl; broken_is = refl }
+sends_began : (vhost : List ℕ) (n ms : ℕ) → SendsIn (part (new_state vhost n ms)) [] [] ms false
+sends_began vhost n ms = record { going_is = refl; protocol_is = refl; close_ok_is = refl; close_is = refl; at_is = refl; broken_is = refl }
 
 part_came : (w v : State) (b : Bool) → part v ≡ part w → part (if b then w else v) ≡ part w
 part_came w v true e = refl
@@ -126,21 +136,52 @@ part_left : (w v : State) (b : Bool) → part v ≡ part w → part (if b then v
 part_left w v true e = e
 part_left w v false e = refl
 
+part_fail : (code : ℕ) (why : Option Condition) (w : State) → part (fail code why w) ≡ part w
+part_fail code why w = by (is_closing w.conn)
+  where
+    by : (b : Bool) → part (if b then w else failed code why w) ≡ part w
+    by true = refl
+    by false = refl
+
+part_opened : (w : State) → part (opened w) ≡ part w
+part_opened w = by (is_opening w.conn)
+  where
+    by : (b : Bool) → part (if b then record w { conn = after_opened w.conn; pending = record w.pending { open_ok = true } } else w) ≡ part w
+    by true = refl
+    by false = refl
+
+part_meaning : (m : Meaning) (w : State) → part (with_meaning m w) ≡ part w
+part_meaning ten.Nothing w = refl
+part_meaning ten.Init w = refl
+part_meaning ten.AmqpHeader w = refl
+part_meaning ten.Opened w = part_opened w
+part_meaning (ten.OfSession g p payload) w = refl
+part_meaning (ten.Closed e) w = part_fail _ None w
+part_meaning ten.Refused w = part_fail _ None w
+part_meaning (ten.Violation c) w = part_fail _ (Some c) w
+
 pub sends : (h : List Step) → ArePicks h → Sends h
 sends [] p = sends_new
-sends (Began ms ∷ h) p = subst (λ (x : List Step). Sends (Began ms ∷ x)) (sym p.0) (sends_began ms)
+sends (Began vhost n ms ∷ h) p = subst (λ (x : List Step). Sends (Began vhost n ms ∷ x)) (sym p.0) (sends_began vhost n ms)
 sends (Moment ms ∷ h) p = sends h p.1
 sends (Came u ∷ h) p =
     subst (λ (x : Part). SendsIn x (sent h) (sent_whole h) (sent_at h) (failed_in h)) (sym (part_came (before h) (came (before h) u) (before h).out_of_memory refl)) (sends h p.1)
 sends (TakenUp ∷ h) p =
     subst (λ (x : Part). SendsIn x (sent h) (sent_whole h) (sent_at h) (failed_in h)) (sym (part_left (before h) (left (before h)) _ refl)) (sends h p.1)
+sends (Heard u ∷ h) p =
+    subst (λ (x : Part). SendsIn x (sent h) (sent_whole h) (sent_at h) (failed_in h))
+    (sym (part_came (before h) (heard (before h) u) (before h).out_of_memory (part_meaning (meaning_by (before h).up.container u) (record (before h) { up = heard_up u (before h).up })))) (sends h p.1)
+sends (Joined link.Ok ∷ h) p = sends h p.1
+sends (Joined link.Failed ∷ h) p = subst (λ (x : Part). SendsIn x (sent h) (sent_whole h) (sent_at h) (failed_in h)) (sym (part_fail _ None _)) (sends h p.1)
+sends (Lost Up loss.Ended ∷ h) p = subst (λ (x : Part). SendsIn x (sent h) (sent_whole h) (sent_at h) (failed_in h)) (sym (part_fail _ None _)) (sends h p.1)
+sends (Lost Up loss.Failed ∷ h) p = subst (λ (x : Part). SendsIn x (sent h) (sent_whole h) (sent_at h) (failed_in h)) (sym (part_fail _ None _)) (sends h p.1)
+sends (Lost Up loss.Shut ∷ h) p = sends h p.1
 sends (Lost Client loss.Ended ∷ h) p = sends h p.1
 sends (Lost Client loss.Failed ∷ h) p =
     let s : Sends h = sends h p.1 in
     record { going_is = s.going_is; protocol_is = s.protocol_is; close_ok_is = s.close_ok_is; close_is = s.close_is; at_is = s.at_is; broken_is = refl }
 sends (Lost Client loss.Shut ∷ h) p = sends h p.1
-sends (Lost Up how ∷ h) p = sends h p.1
-sends (Gave Client u ∷ h) p =
+sends (Gave (ToClient u) ∷ h) p =
     let s : Sends h = sends h p.1 in
     record {
       going_is = ap (λ (x : List Reply). x ++ u ∷ []) (all_whole h p.0.0 s);
@@ -150,24 +191,24 @@ sends (Gave Client u ∷ h) p =
       at_is = s.at_is;
       broken_is = s.broken_is;
     }
-sends (Gave Up u ∷ h) p = sends h p.1
+sends (Gave (ToUp u) ∷ h) p = sends h p.1
 sends (Whole Client ∷ h) p =
     sends_whole (before h).in_progress (before h).sent_last (before h).last_sent_at (before h).moment (before h).failed (sent h) (sent_whole h) (sent_at h) (moment_in h) (failed_in h)
-    p.0 (known h p.1).moment_is (sends h p.1)
+    p.0 (moment_is (known h p.1)) (sends h p.1)
 sends (Whole Up ∷ h) p = sends h p.1
 sends (OutOfMemory ∷ h) p = sends h p.1
 
 -- ---- heartbeats
 
-and_left : (a b : Bool) → (a && b) ≡ true → a ≡ true
+pub and_left : (a b : Bool) → (a && b) ≡ true → a ≡ true
 and_left true b e = refl
 and_left false b e = absurd cc
 
-and_right : (a b : Bool) → (a && b) ≡ true → b ≡ true
+pub and_right : (a b : Bool) → (a && b) ≡ true → b ≡ true
 and_right true b e = e
 and_right false b e = absurd cc
 
-and_both : (a b : Bool) → a ≡ true → b ≡ true → (a && b) ≡ true
+pub and_both : (a b : Bool) → a ≡ true → b ≡ true → (a && b) ≡ true
 and_both true true e f = refl
 and_both true false e f = absurd cc
 and_both false b e f = absurd cc
@@ -196,47 +237,49 @@ beats_by false interval ms last b =
     let long : nat_le (500 * interval) (ms - last) ≡ true = grind (arith, nat_tests, b.quiet) in
     and_both (not (interval == 0)) (nat_le (500 * interval) (ms - last)) some long
 
-may_beat : (h : List Step) → ArePicks h → is_busy (before h) Client ≡ false → pick (before h) Client ≡ Some reply.Heartbeat → MayBeat h
+may_beat : (h : List Step) → ArePicks h → is_busy (before h) Client ≡ false → pick (before h) Client ≡ Some (ToClient reply.Heartbeat) → MayBeat h
 may_beat h p f e = by (picked (before h) reply.Heartbeat e)
   where
     by : Picked (before h) reply.Heartbeat → MayBeat h
-    by (IsDue x) = absurd (clash false (first_due (before h).pending reply.Heartbeat x).answers refl)
+    by (IsDue x) = absurd (clash false (first_due (is_settled (before h)) (before h).pending reply.Heartbeat (calm_now h p) x).answers refl)
     by (Beats none due same) =
         let w : State = before h in
         let k : Known h = known h p in
         let s : Sends h = sends h p in
         let b : Beat w.sent_last.close_ok w.conn.limits.heartbeat w.moment w.last_sent_at = beat_by _ _ _ _ due in
         record {
-          agreed = subst (λ (c : Connection). 0 < c.limits.heartbeat) k.conn_is b.agreed;
-          quiet = subst (λ (n : ℕ). sent_at h + BEAT_PER_SECOND * (connection h).limits.heartbeat ≤ n) k.moment_is
+          agreed = subst (λ (c : Connection). 0 < c.limits.heartbeat) (conn_is k) b.agreed;
+          quiet = subst (λ (n : ℕ). sent_at h + BEAT_PER_SECOND * (connection h).limits.heartbeat ≤ n) (moment_is k)
               (subst (λ (n : ℕ). n + BEAT_PER_SECOND * (connection h).limits.heartbeat ≤ w.moment) s.at_is
-              (subst (λ (c : Connection). w.last_sent_at + BEAT_PER_SECOND * c.limits.heartbeat ≤ w.moment) k.conn_is b.quiet));
+              (subst (λ (c : Connection). w.last_sent_at + BEAT_PER_SECOND * c.limits.heartbeat ≤ w.moment) (conn_is k) b.quiet));
           unclosed = ap (list_any is_close_ok) (all_whole h f s) ∙ sym s.close_ok_is ∙ b.unclosed;
           alone = none;
           free = f;
         }
 
-beats_now : (h : List Step) → ArePicks h → MayBeat h → pick (before h) Client ≡ Some reply.Heartbeat
+beats_now : (h : List Step) → ArePicks h → MayBeat h → pick (before h) Client ≡ Some (ToClient reply.Heartbeat)
 beats_now h p m =
     let w : State = before h in
     let k : Known h = known h p in
     let s : Sends h = sends h p in
     let b : Beat w.sent_last.close_ok w.conn.limits.heartbeat w.moment w.last_sent_at = record {
-      agreed = subst (λ (c : Connection). 0 < c.limits.heartbeat) (sym k.conn_is) m.agreed;
-      quiet = subst (λ (c : Connection). w.last_sent_at + BEAT_PER_SECOND * c.limits.heartbeat ≤ w.moment) (sym k.conn_is)
+      agreed = subst (λ (c : Connection). 0 < c.limits.heartbeat) (sym (conn_is k)) m.agreed;
+      quiet = subst (λ (c : Connection). w.last_sent_at + BEAT_PER_SECOND * c.limits.heartbeat ≤ w.moment) (sym (conn_is k))
           (subst (λ (n : ℕ). n + BEAT_PER_SECOND * (connection h).limits.heartbeat ≤ w.moment) (sym s.at_is)
-          (subst (λ (n : ℕ). sent_at h + BEAT_PER_SECOND * (connection h).limits.heartbeat ≤ n) (sym k.moment_is) m.quiet));
+          (subst (λ (n : ℕ). sent_at h + BEAT_PER_SECOND * (connection h).limits.heartbeat ≤ n) (sym (moment_is k)) m.quiet));
       unclosed = s.close_ok_is ∙ ap (list_any is_close_ok) (sym (all_whole h m.free s)) ∙ m.unclosed;
     } in
-    ap (λ (x : List Reply). first (x ++ when (is_beat_due w) reply.Heartbeat)) m.alone ∙ ap (λ (x : Bool). first (when x reply.Heartbeat)) (beats_by _ _ _ _ b)
+    ap (λ (x : List Reply). first (map ToClient (x ++ when (is_beat_due w) reply.Heartbeat))) m.alone
+    ∙ ap (λ (x : Bool). first (map ToClient (when x reply.Heartbeat))) (beats_by _ _ _ _ b)
 
 pub beats_at_once : (h : List Step) → ArePicks h → BeatsAtOnce h
 beats_at_once h p f = (may_beat h p f, beats_now h p)
 
-beats_given : (h : List Step) (u : Reply) → ArePicks h → is_busy (before h) Client ≡ false → pick (before h) Client ≡ Some u → BeatsWhenDue h → BeatsWhenDue (Gave Client u ∷ h)
+beats_given : (h : List Step) (u : Reply) → ArePicks h → is_busy (before h) Client ≡ false → pick (before h) Client ≡ Some (ToClient u) → BeatsWhenDue h → BeatsWhenDue (Gave (ToClient u) ∷ h)
 beats_given h reply.Protocol p f e b = b
 beats_given h reply.Start p f e b = b
 beats_given h reply.Tune p f e b = b
+beats_given h reply.OpenOk p f e b = b
 beats_given h reply.CloseOk p f e b = b
 beats_given h (reply.Close r) p f e b = b
 beats_given h reply.NoMemory p f e b = b
@@ -244,12 +287,14 @@ beats_given h reply.Heartbeat p f e b = (may_beat h p f e, b)
 
 pub beats_when_due : (h : List Step) → ArePicks h → BeatsWhenDue h
 beats_when_due [] p = tt
-beats_when_due (Gave Client u ∷ h) p = beats_given h u p.1 p.0.0 p.0.1 (beats_when_due h p.1)
-beats_when_due (Gave Up u ∷ h) p = beats_when_due h p.1
-beats_when_due (Began ms ∷ h) p = beats_when_due h p.1
+beats_when_due (Gave (ToClient u) ∷ h) p = beats_given h u p.1 p.0.0 p.0.1 (beats_when_due h p.1)
+beats_when_due (Gave (ToUp u) ∷ h) p = beats_when_due h p.1
+beats_when_due (Began vhost n ms ∷ h) p = beats_when_due h p.1
 beats_when_due (Moment ms ∷ h) p = beats_when_due h p.1
 beats_when_due (Came u ∷ h) p = beats_when_due h p.1
 beats_when_due (TakenUp ∷ h) p = beats_when_due h p.1
+beats_when_due (Heard u ∷ h) p = beats_when_due h p.1
+beats_when_due (Joined answer ∷ h) p = beats_when_due h p.1
 beats_when_due (Lost end how ∷ h) p = beats_when_due h p.1
 beats_when_due (Whole end ∷ h) p = beats_when_due h p.1
 beats_when_due (OutOfMemory ∷ h) p = beats_when_due h p.1
@@ -266,8 +311,8 @@ late_then false a ms e f = grind (arith, nat_tests)
 
 limit_is : (h : List Step) → Known h → (before h).late ≡ is_limit_reached (connection h) (accepted_in h) (moment_in h)
 limit_is h k =
-    k.late_is ∙ ap (λ (c : Connection). is_limit_reached c (before h).accepted_at (before h).moment) k.conn_is
-    ∙ ap (λ (n : ℕ). is_limit_reached (connection h) n (before h).moment) k.accepted_is ∙ ap (is_limit_reached (connection h) (accepted_in h)) k.moment_is
+    k.sound.late_is ∙ ap (λ (c : Connection). is_limit_reached c (before h).accepted_at (before h).moment) (conn_is k)
+    ∙ ap (λ (n : ℕ). is_limit_reached (connection h) n (before h).moment) (accepted_is k) ∙ ap (is_limit_reached (connection h) (accepted_in h)) (moment_is k)
 
 is_late : (h : List Step) → Known h → (before h).late ≡ true → IsLate h
 is_late h k e =
@@ -278,7 +323,7 @@ late_is : (h : List Step) → Known h → IsLate h → (before h).late ≡ true
 late_is h k l = limit_is h k ∙ late_then (connection h).asked (accepted_in h) (moment_in h) l.unasked l.late
 
 pub late_closes : (h : List Step) → ArePicks h → LateCloses h
-late_closes h p l = let k : Known h = known h p in ap is_closing (sym k.conn_is) ∙ k.late_closes (late_is h k l)
+late_closes h p l = let k : Known h = known h p in ap is_closing (sym (conn_is k)) ∙ k.sound.late_closes (late_is h k l)
 
 overdue_by : (h : List Step) (o : Option ℕ) (ms : ℕ) → o ≡ closed_in h → ms ≡ moment_in h → is_overdue o ms ≡ true → ShutFor h
 overdue_by h None ms e m x = absurd cc
@@ -315,19 +360,19 @@ left_over stream.Bad x = absurd cc
 left_over stream.Answered x = absurd cc
 left_over stream.Ended x = refl
 
-data Either (a b : Bool) : Type 0 where
+pub data Either (a b : Bool) : Type 0 where
   OnLeft : a ≡ true → Either a b
   OnRight : b ≡ true → Either a b
 
-either : (a b : Bool) → (a || b) ≡ true → Either a b
+pub either : (a b : Bool) → (a || b) ≡ true → Either a b
 either true b e = OnLeft refl
 either false b e = OnRight e
 
-in_left : (a b : Bool) → a ≡ true → (a || b) ≡ true
+pub in_left : (a b : Bool) → a ≡ true → (a || b) ≡ true
 in_left true b e = refl
 in_left false b e = absurd cc
 
-in_right : (a b : Bool) → b ≡ true → (a || b) ≡ true
+pub in_right : (a b : Bool) → b ≡ true → (a || b) ≡ true
 in_right true b e = refl
 in_right false b e = e
 
@@ -344,12 +389,12 @@ shut_for h p e = one (either _ _ e)
     s = sends h p
 
     closed : Either (is_bad w.conn.stream) w.out_of_memory → w.sent_last.close ≡ true → ShutFor h
-    closed (OnLeft x) y = ClosedBad (sym s.close_is ∙ y) (ap (λ (c : Connection). c.stream) (sym k.conn_is) ∙ bad_by w.conn.stream x)
-    closed (OnRight x) y = ClosedLast (sym s.close_is ∙ y) (sym k.memory_is ∙ x)
+    closed (OnLeft x) y = ClosedBad (sym s.close_is ∙ y) (ap (λ (c : Connection). c.stream) (sym (conn_is k)) ∙ bad_by w.conn.stream x)
+    closed (OnRight x) y = ClosedLast (sym s.close_is ∙ y) (sym (memory_is k) ∙ x)
 
     seven : Either (w.sent_last.close && (is_bad w.conn.stream || w.out_of_memory)) (w.out_of_memory && is_unheard w.conn.stream) → ShutFor h
     seven (OnLeft x) = closed (either _ _ (and_right w.sent_last.close _ x)) (and_left w.sent_last.close _ x)
-    seven (OnRight x) = Unheard (sym k.memory_is ∙ and_left w.out_of_memory _ x) (ap (λ (c : Connection). is_unheard c.stream) (sym k.conn_is) ∙ and_right w.out_of_memory _ x)
+    seven (OnRight x) = Unheard (sym (memory_is k) ∙ and_left w.out_of_memory _ x) (ap (λ (c : Connection). is_unheard c.stream) (sym (conn_is k)) ∙ and_right w.out_of_memory _ x)
 
     six : Either w.sent_last.close_ok ((w.sent_last.close && (is_bad w.conn.stream || w.out_of_memory)) || (w.out_of_memory && is_unheard w.conn.stream)) → ShutFor h
     six (OnLeft x) = Closed (sym s.close_ok_is ∙ x)
@@ -360,7 +405,7 @@ shut_for h p e = one (either _ _ e)
     five (OnRight x) = six (either _ _ x)
 
     four : Either (is_over w.conn) (w.sent_last.protocol || (w.sent_last.close_ok || ((w.sent_last.close && (is_bad w.conn.stream || w.out_of_memory)) || (w.out_of_memory && is_unheard w.conn.stream)))) → ShutFor h
-    four (OnLeft x) = over_by h w.conn.stream (ap (λ (c : Connection). c.stream) k.conn_is) x
+    four (OnLeft x) = over_by h w.conn.stream (ap (λ (c : Connection). c.stream) (conn_is k)) x
     four (OnRight x) = five (either _ _ x)
 
     three : Either w.late (is_over w.conn || (w.sent_last.protocol || (w.sent_last.close_ok || ((w.sent_last.close && (is_bad w.conn.stream || w.out_of_memory)) || (w.out_of_memory && is_unheard w.conn.stream))))) → ShutFor h
@@ -368,7 +413,7 @@ shut_for h p e = one (either _ _ e)
     three (OnRight x) = four (either _ _ x)
 
     two : Either (is_overdue w.closed_at w.moment) (w.late || (is_over w.conn || (w.sent_last.protocol || (w.sent_last.close_ok || ((w.sent_last.close && (is_bad w.conn.stream || w.out_of_memory)) || (w.out_of_memory && is_unheard w.conn.stream)))))) → ShutFor h
-    two (OnLeft x) = overdue_by h w.closed_at w.moment k.closed_is k.moment_is x
+    two (OnLeft x) = overdue_by h w.closed_at w.moment (closed_is k) (moment_is k) x
     two (OnRight x) = three (either _ _ x)
 
     one : Either w.failed (is_overdue w.closed_at w.moment || (w.late || (is_over w.conn || (w.sent_last.protocol || (w.sent_last.close_ok || ((w.sent_last.close && (is_bad w.conn.stream || w.out_of_memory)) || (w.out_of_memory && is_unheard w.conn.stream))))))) → ShutFor h
@@ -388,7 +433,7 @@ shut_now h p f = by f
     s = sends h p
 
     stream_is : w.conn.stream ≡ (connection h).stream
-    stream_is = ap (λ (c : Connection). c.stream) k.conn_is
+    stream_is = ap (λ (c : Connection). c.stream) (conn_is k)
 
     -- the places behind the first
     at_2 : is_overdue w.closed_at w.moment ≡ true → is_shut_due w Client ≡ true
@@ -416,10 +461,10 @@ shut_now h p f = by f
     by (Greeted e) = at_5 (s.protocol_is ∙ e)
     by (Closed e) = at_6 (s.close_ok_is ∙ e)
     by (ClosedBad e f) = behind (in_left _ _ (and_both w.sent_last.close _ (s.close_is ∙ e) (in_left _ _ (ap is_bad (stream_is ∙ f)))))
-    by (ClosedLast e f) = behind (in_left _ _ (and_both w.sent_last.close _ (s.close_is ∙ e) (in_right (is_bad w.conn.stream) _ (k.memory_is ∙ f))))
-    by (Unheard e f) = behind (in_right (w.sent_last.close && (is_bad w.conn.stream || w.out_of_memory)) _ (and_both w.out_of_memory _ (k.memory_is ∙ e) (ap is_unheard stream_is ∙ f)))
+    by (ClosedLast e f) = behind (in_left _ _ (and_both w.sent_last.close _ (s.close_is ∙ e) (in_right (is_bad w.conn.stream) _ ((memory_is k) ∙ f))))
+    by (Unheard e f) = behind (in_right (w.sent_last.close && (is_bad w.conn.stream || w.out_of_memory)) _ (and_both w.out_of_memory _ ((memory_is k) ∙ e) (ap is_unheard stream_is ∙ f)))
     by (NotOpened l) = at_3 (late_is h k l)
-    by (Overdue at e f) = at_2 (overdue_is h at w.closed_at w.moment k.closed_is k.moment_is e f)
+    by (Overdue at e f) = at_2 (overdue_is h at w.closed_at w.moment (closed_is k) (moment_is k) e f)
 
 pub shuts_at_once : (h : List Step) → ArePicks h → ShutsAtOnce h
 shuts_at_once h p = (shut_for h p, shut_now h p)

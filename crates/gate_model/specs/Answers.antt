@@ -1,5 +1,5 @@
 -- What was sent to a client answers what it sent.
-use Rattle.std.specs.Prelude.{◌≡◌, ◌⊎◌, Bool, true, false, List, [], ◌∷◌, ◌++◌, filter}
+use Rattle.std.specs.Prelude.{◌≡◌, Bool, true, false, List, [], ◌∷◌, ◌++◌, filter}
 use Rattle.machine_091.specs.declared.state.Phase91.{Phase91}
 use Rattle.machine_091.specs.declared.state.Phase91.TheVariants as phase
 use Rattle.machine_091.specs.declared.unit.Refusal.{Refusal}
@@ -23,6 +23,7 @@ abbrev pub is_close : Reply → Bool
 is_close reply.Protocol = false
 is_close reply.Start = false
 is_close reply.Tune = false
+is_close reply.OpenOk = false
 is_close reply.CloseOk = false
 is_close (reply.Close r) = true
 is_close reply.NoMemory = false
@@ -32,6 +33,7 @@ abbrev pub is_close_ok : Reply → Bool
 is_close_ok reply.Protocol = false
 is_close_ok reply.Start = false
 is_close_ok reply.Tune = false
+is_close_ok reply.OpenOk = false
 is_close_ok reply.CloseOk = true
 is_close_ok (reply.Close r) = false
 is_close_ok reply.NoMemory = false

@@ -1,21 +1,37 @@
--- What the steps say of a client, by folds that know no state: its connection, the replies to its
--- units, the units that were sent, and moments. The laws speak of these.
-use Rattle.std.specs.Prelude.{ℕ, Bool, true, false, not, ◌&&◌, ◌||◌, if◌then◌else◌, List, [], ◌∷◌}
-use Rattle.std.specs.Prelude.{◌++◌, filter, Option, None, Some, is_some}
+-- What the steps say of a client and of its container, by folds that know no state: both
+-- connections, the replies to the client, the units that were sent, and moments. The laws speak of
+-- these.
+use Rattle.std.specs.Prelude.{ℕ, Bool, true, false, not, ◌&&◌, if◌then◌else◌, List, [], ◌∷◌}
+use Rattle.std.specs.Prelude.{◌++◌, filter, Option, None, Some}
 use Rattle.gate_outside.specs.declared.ports.End.TheVariants.{Client, Up}
+use Rattle.gate_outside.specs.declared.ports.Linked.TheVariants as link
 use Rattle.gate_relay.specs.declared.loss.Loss.TheVariants as loss
-use Rattle.machine_091.specs.Calls.{after_ended}
-use Rattle.machine_091.specs.State.{new_connection, is_closing}
+use Rattle.gate_relay.specs.declared.sides.Side.{Side}
+use Rattle.gate_relay.specs.declared.sides.Side.TheVariants as side
+use Rattle.close_translate.specs.Conditions.{code_by}
+use Rattle.close_translate.specs.declared.codes.TheConstants.{CONNECTION_FORCED, INTERNAL_ERROR}
+use Rattle.close_translate.specs.declared.codes.TheConstants.{NOT_ALLOWED}
+use Rattle.close_translate.specs.declared.conditions.Scope.TheVariants as scope
+use Rattle.machine_091.specs.Calls.{after_ended, after_opened}
+use Rattle.machine_091.specs.State.{new_connection, is_closing, is_opening}
 use Rattle.machine_091.specs.Transitions.{unit_step}
 use Rattle.machine_091.specs.declared.state.Connection.{Connection}
 use Rattle.machine_091.specs.declared.unit.Unit91.{Unit91}
 use Rattle.machine_091.specs.declared.unit.Want91.{Want91}
 use Rattle.machine_091.specs.declared.unit.Want91.TheVariants as want
+use Rattle.machine_10.specs.Transitions as ten
+use Rattle.machine_10.specs.Transitions.{Meaning}
+use Rattle.machine_10.specs.declared.state.Upstream.{Upstream}
+use Rattle.machine_10.specs.declared.unit.Unit10.{Unit10}
+use Rattle.gate_model.specs.declared.outgoing.Outgoing.TheVariants.{ToClient, ToUp}
+use Rattle.gate_model.specs.declared.outgoing.UpUnit.{UpUnit}
 use Rattle.gate_model.specs.declared.reply.Reply.{Reply}
 use Rattle.gate_model.specs.declared.reply.Reply.TheVariants as reply
-use Rattle.gate_model.specs.State.{Step, Began, Moment, Came, TakenUp, Lost, Gave, Whole}
-use Rattle.gate_model.specs.State.{OutOfMemory, close, close_if, closes_at, conn_step, has_left}
-use Rattle.gate_model.specs.State.{is_limit_reached, open_refused, turns_foreign}
+use Rattle.gate_model.specs.State.{Step, Began, Moment, Came, TakenUp, Heard, Joined, Lost, Gave}
+use Rattle.gate_model.specs.State.{Whole, OutOfMemory, close, close_if, closes_at, conn_step}
+use Rattle.gate_model.specs.State.{failure, is_limit_reached, turns_foreign, unbuilt}
+use Rattle.gate_model.specs.Upstream.{condition_in, container_by, container_for, ended_in}
+use Rattle.gate_model.specs.Upstream.{meaning_by}
 use Rattle.gate_model.specs.Due.{when}
 
 -- ---- moments
@@ -23,20 +39,20 @@ use Rattle.gate_model.specs.Due.{when}
 -- the moment of the accept
 abbrev pub accepted_in : List Step → ℕ
 accepted_in [] = 0
-accepted_in (Began ms ∷ h) = ms
+accepted_in (Began vhost n ms ∷ h) = ms
 accepted_in (s ∷ h) = accepted_in h
 
 -- the last moment
 abbrev pub moment_in : List Step → ℕ
 moment_in [] = 0
-moment_in (Began ms ∷ h) = ms
+moment_in (Began vhost n ms ∷ h) = ms
 moment_in (Moment ms ∷ h) = ms
 moment_in (s ∷ h) = moment_in h
 
 -- the moment at which the last unit was sent whole, that of the accept before
 abbrev pub sent_at : List Step → ℕ
 sent_at [] = 0
-sent_at (Began ms ∷ h) = ms
+sent_at (Began vhost n ms ∷ h) = ms
 sent_at (Whole Client ∷ h) = moment_in h
 sent_at (s ∷ h) = sent_at h
 
@@ -61,17 +77,90 @@ leaving_in (Lost Client loss.Ended ∷ h) = true
 leaving_in (Lost Client loss.Failed ∷ h) = true
 leaving_in (s ∷ h) = leaving_in h
 
--- the client's connection: by its units, by the handshake limit and by its end; after the pair ran
--- out of memory by none
+-- ---- the container
+
+-- how far the upstream end is
+abbrev pub side_in : List Step → Side
+side_in [] = side.Absent
+side_in (Joined link.Ok ∷ h) = side.Open
+side_in (Joined link.Failed ∷ h) = side.Gone
+side_in (Lost Up loss.Ended ∷ h) = side.Ended
+side_in (Lost Up loss.Failed ∷ h) = side.Failed
+side_in (Lost Up loss.Shut ∷ h) = side.Gone
+side_in (s ∷ h) = side_in h
+
+-- the client's connection after that: the container's open makes it run, and its close, a refused
+-- login and a unit out of order close it
+abbrev pub conn_by : Meaning → Connection → Connection
+conn_by ten.Nothing c = c
+conn_by ten.Init c = c
+conn_by ten.AmqpHeader c = c
+conn_by ten.Opened c = if is_opening c then after_opened c else c
+conn_by (ten.OfSession g p payload) c = c
+conn_by (ten.Closed e) c = close c
+conn_by ten.Refused c = close c
+conn_by (ten.Violation why) c = close c
+
+-- both connections: of the client, by its units, by the handshake limit, by its end and by what
+-- happens upstream; of the container, by the client's login and the container's units. After the
+-- pair ran out of memory no unit counts
+pub record Peers : Type 0 where
+  pub client : Connection
+  pub container : Option Upstream
+
+abbrev pub container_kept : Option Upstream → Want91 → Option Upstream
+container_kept o want.Nothing = o
+container_kept o want.Start = o
+container_kept o (want.Login mechanism response) = Some (container_for mechanism response)
+container_kept o want.Tuned = o
+container_kept o want.OpenUp = o
+container_kept o (want.Method n m) = o
+container_kept o (want.ChannelCloseOk n) = o
+container_kept o want.Close = o
+container_kept o want.CloseOk = o
+container_kept o (want.Refuse r) = o
+
+abbrev pub peers_came : Peers → Unit91 → Peers
+peers_came p u = record {
+  client = conn_step p.client u;
+  container = container_kept p.container (unit_step p.client u).1;
+}
+
+abbrev pub peers_heard : Peers → Unit10 → Peers
+peers_heard p u = record {
+  client = conn_by (meaning_by p.container u) p.client;
+  container = container_by p.container u;
+}
+
+abbrev pub peers : List Step → Peers
+peers [] = record { client = new_connection []; container = None }
+peers (Began vhost n ms ∷ h) = record { client = new_connection vhost; container = None }
+peers (Moment ms ∷ h) = record (peers h) {
+  client = close_if (is_limit_reached (peers h).client (accepted_in h) ms) (peers h).client;
+}
+peers (Came u ∷ h) = if ran_out_in h then peers h else peers_came (peers h) u
+peers (TakenUp ∷ h) =
+    if not (ran_out_in h) && leaving_in h then
+    record (peers h) { client = after_ended (peers h).client }
+    else peers h
+peers (Heard u ∷ h) = if ran_out_in h then peers h else peers_heard (peers h) u
+peers (Joined link.Ok ∷ h) = peers h
+peers (Joined link.Failed ∷ h) = record (peers h) { client = close (peers h).client }
+peers (Lost Client how ∷ h) = peers h
+peers (Lost Up loss.Ended ∷ h) =
+    record { client = close (peers h).client; container = ended_in (peers h).container }
+peers (Lost Up loss.Failed ∷ h) =
+    record { client = close (peers h).client; container = ended_in (peers h).container }
+peers (Lost Up loss.Shut ∷ h) = peers h
+peers (Gave u ∷ h) = peers h
+peers (Whole end ∷ h) = peers h
+peers (OutOfMemory ∷ h) = record (peers h) { client = close (peers h).client }
+
 abbrev pub connection : List Step → Connection
-connection [] = new_connection
-connection (Moment ms ∷ h) =
-    close_if (is_limit_reached (connection h) (accepted_in h) ms) (connection h)
-connection (Came u ∷ h) = if ran_out_in h then connection h else conn_step (connection h) u
-connection (TakenUp ∷ h) =
-    if not (ran_out_in h) && leaving_in h then after_ended (connection h) else connection h
-connection (OutOfMemory ∷ h) = close (connection h)
-connection (s ∷ h) = connection h
+connection h = (peers h).client
+
+abbrev pub container : List Step → Option Upstream
+container h = (peers h).container
 
 -- the moment of the closing event: the first at which the connection was closing
 abbrev pub closed_in : List Step → Option ℕ
@@ -81,15 +170,14 @@ closed_in (s ∷ h) = closes_at (closed_in h) (is_closing (connection (s ∷ h))
 -- ---- replies
 
 -- the reply to what a unit wants: to the protocol header connection.start, to start-ok
--- connection.tune, to the client's close its close-ok, and to a refused unit the gateway's close;
--- connection.open is refused
+-- connection.tune, to the client's close its close-ok, and to a refused unit the gateway's close
 abbrev pub reply_to : Want91 → List Reply
 reply_to want.Nothing = []
 reply_to want.Start = reply.Start ∷ []
 reply_to (want.Login mechanism response) = reply.Tune ∷ []
 reply_to want.Tuned = []
-reply_to want.OpenUp = reply.Close open_refused ∷ []
-reply_to (want.Method n method) = []
+reply_to want.OpenUp = []
+reply_to (want.Method n m) = reply.Close (unbuilt m) ∷ []
 reply_to (want.ChannelCloseOk n) = []
 reply_to want.Close = reply.CloseOk ∷ []
 reply_to want.CloseOk = []
@@ -99,24 +187,46 @@ reply_to (want.Refuse r) = reply.Close r ∷ []
 abbrev pub replies_to : Connection → Unit91 → List Reply
 replies_to c u = when (turns_foreign c u) reply.Protocol ++ reply_to (unit_step c u).1
 
--- the replies to the client's units, in their order; after the pair ran out of memory units are
--- passed over
+-- a client whose connection isn't closing yet is told of a failure upstream
+abbrev pub failure_to : Connection → ℕ → List Reply
+failure_to c code = when (not (is_closing c)) (reply.Close (failure code))
+
+-- the reply to what a unit of the container means: to its open connection.open-ok, where that is
+-- awaited
+abbrev pub reply_by : Connection → Meaning → List Reply
+reply_by c ten.Nothing = []
+reply_by c ten.Init = []
+reply_by c ten.AmqpHeader = []
+reply_by c ten.Opened = when (is_opening c) reply.OpenOk
+reply_by c (ten.OfSession g p payload) = []
+reply_by c (ten.Closed e) = failure_to c (code_by (condition_in e) scope.Connection)
+reply_by c ten.Refused = failure_to c NOT_ALLOWED
+reply_by c (ten.Violation why) = failure_to c INTERNAL_ERROR
+
+-- the replies to what the client sent and to what happened upstream, in their order; after the pair
+-- ran out of memory units are passed over
 abbrev pub replies : List Step → List Reply
 replies [] = []
 replies (Came u ∷ h) = if ran_out_in h then replies h else replies h ++ replies_to (connection h) u
+replies (Heard u ∷ h) =
+    if ran_out_in h then replies h
+    else replies h ++ reply_by (connection h) (meaning_by (container h) u)
+replies (Joined link.Failed ∷ h) = replies h ++ failure_to (connection h) CONNECTION_FORCED
+replies (Lost Up loss.Ended ∷ h) = replies h ++ failure_to (connection h) CONNECTION_FORCED
+replies (Lost Up loss.Failed ∷ h) = replies h ++ failure_to (connection h) CONNECTION_FORCED
 replies (s ∷ h) = replies h
 
 -- the units to the client of which the first byte was sent, in their order
 abbrev pub sent : List Step → List Reply
 sent [] = []
-sent (Gave Client u ∷ h) = sent h ++ u ∷ []
+sent (Gave (ToClient u) ∷ h) = sent h ++ u ∷ []
 sent (s ∷ h) = sent h
 
 -- those since the pair ran out of memory
 abbrev pub sent_since : List Step → List Reply
 sent_since [] = []
 sent_since (OutOfMemory ∷ h) = []
-sent_since (Gave Client u ∷ h) = sent_since h ++ u ∷ []
+sent_since (Gave (ToClient u) ∷ h) = sent_since h ++ u ∷ []
 sent_since (s ∷ h) = sent_since h
 
 -- the steps before that
@@ -133,3 +243,24 @@ is_answer u = true
 -- units without the heartbeats among them
 abbrev pub answers_of : List Reply → List Reply
 answers_of us = filter is_answer us
+
+-- ---- units to the container
+
+-- those of which the first byte was sent, in their order
+abbrev pub sent_up : List Step → List UpUnit
+sent_up [] = []
+sent_up (Gave (ToUp u) ∷ h) = sent_up h ++ u ∷ []
+sent_up (s ∷ h) = sent_up h
+
+-- the moment at which the last of them was sent whole, that of the connect before
+abbrev pub sent_up_at : List Step → ℕ
+sent_up_at [] = 0
+sent_up_at (Joined link.Ok ∷ h) = moment_in h
+sent_up_at (Whole Up ∷ h) = moment_in h
+sent_up_at (s ∷ h) = sent_up_at h
+
+-- the pair's number
+abbrev pub number_in : List Step → ℕ
+number_in [] = 0
+number_in (Began vhost n ms ∷ h) = n
+number_in (s ∷ h) = number_in h

@@ -1,13 +1,13 @@
 -- The size of what is sent to a client.
-use Rattle.std.specs.Prelude.{ℕ, ◌≤◌, Bool, true, false, if◌then◌else◌, List, [], ◌∷◌, length}
-use Rattle.gate_outside.specs.declared.ports.End.TheVariants.{Client}
-use Rattle.machine_091.specs.Transitions.{Step, unit_step}
+use Rattle.std.specs.Prelude.{ℕ, ◌≤◌, if◌then◌else◌, List, [], ◌∷◌, length}
+use Rattle.gate_model.specs.declared.outgoing.Outgoing.TheVariants.{ToClient}
+use Rattle.machine_091.specs.Transitions.{unit_step}
 use Rattle.machine_091.specs.declared.limits.TheConstants.{FRAME_MIN_SIZE}
 use Rattle.machine_091.specs.declared.state.Connection.{Connection}
 use Rattle.machine_091.specs.declared.unit.Want91.{Want91}
 use Rattle.machine_091.specs.declared.unit.Want91.TheVariants as want
 use Rattle.gate_model.specs.Folds.{connection, ran_out_in}
-use Rattle.gate_model.specs.Spelling.{spell}
+use Rattle.gate_model.specs.Spelling.{spell_reply}
 use Rattle.gate_model.specs.State as state
 use Rattle.gate_model.specs.State.{Came, Gave}
 
@@ -28,5 +28,5 @@ limit_in (s ∷ h) = limit_in h
 -- no unit that was sent passes the limit of its moment
 abbrev pub FitsClients : List state.Step → Type 0
 FitsClients [] = Unit {0}
-FitsClients (Gave Client u ∷ h) = (length (spell u) ≤ limit_in h) × FitsClients h
+FitsClients (Gave (ToClient u) ∷ h) = (length (spell_reply u) ≤ limit_in h) × FitsClients h
 FitsClients (s ∷ h) = FitsClients h

@@ -1,9 +1,13 @@
 pub mod Answers
+pub mod Asked
 pub mod Due
 pub mod Folds
 pub mod Frames
 pub mod Picks
+pub mod Setup
 pub mod Spelling
 pub mod State
 pub mod Times
+pub mod Upstream
+pub mod Waiting
 pub mod Words

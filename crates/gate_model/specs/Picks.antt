@@ -1,17 +1,24 @@
 -- The lists of steps that a pair makes: what goes out is the pick, moments don't fall, what comes
 -- in is what is awaited, and the pair runs out of memory once.
-use Rattle.std.specs.Prelude.{◌≡◌, ℕ, ◌≤◌, false, true, List, [], ◌∷◌, Some}
+use Rattle.std.specs.Prelude.{◌≡◌, ◌≤◌, false, true, List, [], ◌∷◌, Some}
 use Rattle.close_translate.specs.declared.codes.TheConstants.{FRAME_ERROR}
-use Rattle.gate_outside.specs.declared.ports.End.{End}
 use Rattle.machine_091.specs.State.{awaits}
 use Rattle.machine_091.specs.declared.state.Awaited91.{Awaited91}
 use Rattle.machine_091.specs.declared.state.Awaited91.TheVariants as awaited
 use Rattle.machine_091.specs.declared.unit.Unit91.{Unit91}
 use Rattle.machine_091.specs.declared.unit.Unit91.TheVariants as unit
-use Rattle.gate_model.specs.State.{State, Step, Began, Moment, Came, TakenUp, Lost, Gave, Whole}
-use Rattle.gate_model.specs.State.{OutOfMemory, before}
-use Rattle.gate_model.specs.Due.{is_busy, pick}
-use Rattle.gate_model.specs.Folds.{connection, moment_in, ran_out_in}
+use Rattle.gate_outside.specs.declared.ports.End.TheVariants.{Client, Up}
+use Rattle.machine_10.specs.declared.state.Awaited10.{Awaited10}
+use Rattle.machine_10.specs.declared.state.Awaited10.TheVariants as awaited_10
+use Rattle.machine_10.specs.declared.unit.Unit10.{Unit10}
+use Rattle.machine_10.specs.declared.unit.Unit10.TheVariants as unit_10
+use Rattle.performatives_10.specs.declared.condition.Condition.TheVariants.{FramingError}
+use Rattle.gate_model.specs.declared.outgoing.Outgoing.TheVariants.{ToClient, ToUp}
+use Rattle.gate_model.specs.State.{Step, Began, Moment, Came, TakenUp, Heard, Joined, Lost}
+use Rattle.gate_model.specs.State.{Gave, Whole, OutOfMemory, before, waits}
+use Rattle.gate_model.specs.Due.{can_leave, is_busy, is_connect_due, pick}
+use Rattle.gate_model.specs.Folds.{connection, container, moment_in, ran_out_in}
+use Rattle.gate_model.specs.Upstream.{awaited_of}
 
 -- the protocol header or frames, as they are awaited, or bytes with which none begins
 abbrev pub MayComeAs : Awaited91 → Unit91 → Type 0
@@ -23,14 +30,28 @@ MayComeAs (awaited.Frame size) (unit.Frame f) = Unit {0}
 MayComeAs (awaited.Frame size) (unit.Bad code) = code ≡ FRAME_ERROR
 MayComeAs awaited.Nothing u = ⊥
 
+-- a header of the kind that is awaited or of the other one, frames, or bytes with which no unit begins
+abbrev pub MayBeHeard : Awaited10 → Unit10 → Type 0
+MayBeHeard (awaited_10.Header k) (unit_10.Header kind) = Unit {0}
+MayBeHeard (awaited_10.Header k) (unit_10.Frame f) = ⊥
+MayBeHeard (awaited_10.Header k) (unit_10.Bad why) = why ≡ FramingError
+MayBeHeard awaited_10.Frame (unit_10.Header kind) = ⊥
+MayBeHeard awaited_10.Frame (unit_10.Frame f) = Unit {0}
+MayBeHeard awaited_10.Frame (unit_10.Bad why) = why ≡ FramingError
+MayBeHeard awaited_10.Nothing u = ⊥
+
 -- what a step wants of those before it
 abbrev pub MayStep : List Step → Step → Type 0
-MayStep h (Began ms) = h ≡ []
+MayStep h (Began vhost n ms) = h ≡ []
 MayStep h (Moment ms) = moment_in h ≤ ms
-MayStep h (Came u) = MayComeAs (awaits (connection h)) u
-MayStep h TakenUp = Unit {0}
+MayStep h (Came u) = MayComeAs (awaits (connection h)) u × (waits (before h) ≡ false)
+MayStep h TakenUp = can_leave (before h) ≡ true
+MayStep h (Heard u) = MayBeHeard (awaited_of (container h)) u
+MayStep h (Joined answer) = is_connect_due (before h) ≡ true
 MayStep h (Lost end how) = Unit {0}
-MayStep h (Gave end u) = (is_busy (before h) end ≡ false) × (pick (before h) end ≡ Some u)
+MayStep h (Gave (ToClient u)) =
+    (is_busy (before h) Client ≡ false) × (pick (before h) Client ≡ Some (ToClient u))
+MayStep h (Gave (ToUp u)) = (is_busy (before h) Up ≡ false) × (pick (before h) Up ≡ Some (ToUp u))
 MayStep h (Whole end) = is_busy (before h) end ≡ true
 MayStep h OutOfMemory = ran_out_in h ≡ false
 

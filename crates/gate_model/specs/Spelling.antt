@@ -1,5 +1,5 @@
--- The bytes of the units to a client, in the standard's terms.
-use Rattle.std.specs.Prelude.{ℕ, List, [], ◌∷◌, ◌++◌, length, codes}
+-- The bytes of the units to a client and to a container, in the standards' terms.
+use Rattle.std.specs.Prelude.{ℕ, List, [], ◌∷◌, ◌++◌, length, codes, decimal, Option, None, Some}
 use Rattle.std.specs.Int.{w32, to_be_bytes}
 use Rattle.close_translate.specs.Codes.{name_of}
 use Rattle.close_translate.specs.declared.codes.TheConstants.{RESOURCE_ERROR}
@@ -8,8 +8,26 @@ use Rattle.frames_091.specs.Frames.{frame_text}
 use Rattle.frames_091.specs.Headers.{header_bytes}
 use Rattle.machine_091.specs.declared.limits.TheConstants.{CHANNEL_MAX, FRAME_MAX, HEARTBEAT}
 use Rattle.methods_091.specs.Closing.{control_text, close_text, close_ok_text}
-use Rattle.methods_091.specs.declared.method.Method91.TheVariants.{ConnectionTune}
+use Rattle.methods_091.specs.declared.method.Method91.TheVariants.{ConnectionOpenOk, ConnectionTune}
+use Rattle.frames_10.specs.Frames as frames_10
+use Rattle.frames_10.specs.Headers as headers_10
+use Rattle.frames_10.specs.declared.frame.Kind10.{Kind10}
+use Rattle.frames_10.specs.declared.frame.Kind10.TheVariants.{Amqp, Sasl}
+use Rattle.machine_10.specs.declared.limits.TheConstants as limits_10
+use Rattle.performatives_10.specs.Closing.{end_text}
+use Rattle.performatives_10.specs.Writing.{perf_text}
+use Rattle.performatives_10.specs.declared.closing.Ending.TheVariants.{Close}
+use Rattle.performatives_10.specs.declared.performative.Perf.{Perf}
+use Rattle.performatives_10.specs.declared.performative.Perf.TheVariants as perf
+use Rattle.machine_10.specs.declared.state.Upstream.{Upstream}
+use Rattle.gate_model.specs.declared.outgoing.Outgoing.{Outgoing}
+use Rattle.gate_model.specs.declared.outgoing.Outgoing.TheVariants.{ToClient, ToUp}
+use Rattle.gate_model.specs.declared.outgoing.UpUnit.{UpUnit}
+use Rattle.gate_model.specs.declared.outgoing.UpUnit.TheVariants as up
 use Rattle.gate_model.specs.declared.reply.Reply.{Reply}
+use Rattle.gate_model.specs.Setup.{SetupText}
+use Rattle.gate_model.specs.State.{State}
+use Rattle.gate_model.specs.declared.timers.TheConstants.{IDLE_STATED}
 use Rattle.gate_model.specs.declared.reply.Reply.TheVariants as reply
 
 -- a short and a long string (AMQP 0-9-1 4.2.5.3)
@@ -61,13 +79,78 @@ tune_frame = control_text (ConnectionTune CHANNEL_MAX FRAME_MAX HEARTBEAT)
 abbrev pub heartbeat_frame : List ℕ
 heartbeat_frame = frame_text (record { kind = Heartbeat; channel = 0; payload = [] })
 
+-- connection.open-ok, whose reserved field is empty (AMQP 0-9-1 1.4.2.8)
+unfoldable pub open_ok_frame : List ℕ
+open_ok_frame = control_text ConnectionOpenOk
+
 -- the bytes of a unit to the client; a close has the name of its code as its text, and the ids of
 -- the method that it refuses
-abbrev pub spell : Reply → List ℕ
-spell reply.Protocol = header_bytes
-spell reply.Start = start_frame
-spell reply.Tune = tune_frame
-spell reply.CloseOk = close_ok_text
-spell (reply.Close r) = close_text r.code (name_of r.code) r.class r.method
-spell reply.NoMemory = close_text RESOURCE_ERROR (codes "NO_MEMORY") 0 0
-spell reply.Heartbeat = heartbeat_frame
+abbrev pub spell_reply : Reply → List ℕ
+spell_reply reply.Protocol = header_bytes
+spell_reply reply.Start = start_frame
+spell_reply reply.Tune = tune_frame
+spell_reply reply.OpenOk = open_ok_frame
+spell_reply reply.CloseOk = close_ok_text
+spell_reply (reply.Close r) = close_text r.code (name_of r.code) r.class r.method
+spell_reply reply.NoMemory = close_text RESOURCE_ERROR (codes "NO_MEMORY") 0 0
+spell_reply reply.Heartbeat = heartbeat_frame
+
+-- ---- units to the container
+
+-- what decides the bytes of these: what all pairs share, the pair's number, and the login that the
+-- container is asked for
+pub record Context : Type 0 where
+  pub setup : SetupText
+  pub number : ℕ
+  pub container : Option Upstream
+
+-- the name by which a container knows a pair
+abbrev pub container_id : List ℕ → ℕ → List ℕ
+container_id name number = name ++ (codes "-" ++ decimal number)
+
+-- the open of a pair (AMQP 1.0 2.7.1)
+abbrev pub open_of : SetupText → ℕ → Perf
+open_of setup number = perf.Open (record {
+  container_id = container_id setup.name number;
+  hostname = setup.host;
+  max_frame_size = limits_10.FRAME_MAX;
+  channel_max = CHANNEL_MAX;
+  idle_time_out = Some IDLE_STATED;
+  outgoing_locales = None;
+  incoming_locales = None;
+  offered_capabilities = None;
+  desired_capabilities = None;
+  properties = None;
+})
+
+-- the client's login, told to the container (AMQP 1.0 5.3.3.2)
+abbrev pub init_of : Upstream → Perf
+init_of c = perf.SaslInit (record {
+  mechanism = c.mechanism;
+  initial_response = Some c.response;
+  hostname = None;
+})
+
+abbrev pub frame_10 : Kind10 → List ℕ → List ℕ
+frame_10 kind body = frames_10.frame_text (record { kind = kind; channel = 0; body = body })
+
+abbrev pub init_text : Option Upstream → List ℕ
+init_text None = []
+init_text (Some c) = frame_10 Sasl (perf_text (init_of c))
+
+-- the bytes of a unit to the container
+abbrev pub spell_up : Context → UpUnit → List ℕ
+spell_up c up.SaslHeader = headers_10.header_bytes Sasl
+spell_up c up.SaslInit = init_text c.container
+spell_up c up.AmqpHeader = headers_10.header_bytes Amqp
+spell_up c up.Open = frame_10 Amqp (perf_text (open_of c.setup c.number))
+spell_up c (up.Close why) = end_text 0 Close why
+spell_up c up.Empty = frame_10 Amqp []
+
+abbrev pub spell : Context → Outgoing → List ℕ
+spell c (ToClient r) = spell_reply r
+spell c (ToUp u) = spell_up c u
+
+-- the context of a state
+abbrev pub context_of : SetupText → State → Context
+context_of setup w = record { setup = setup; number = w.number; container = w.up.container }

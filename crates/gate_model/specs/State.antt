@@ -1,14 +1,22 @@
 -- What the steps of a pair amount to. All lists of steps are newest first.
 use Rattle.std.specs.Prelude.{ℕ, ◌-◌, nat_le, Bool, true, false, not, ◌&&◌, ◌||◌, if◌then◌else◌}
-use Rattle.std.specs.Prelude.{List, [], ◌∷◌, Option, None, Some, is_some}
-use Rattle.close_translate.specs.declared.codes.TheConstants.{NOT_IMPLEMENTED}
+use Rattle.std.specs.Prelude.{List, [], ◌∷◌, Option, None, Some}
+use Rattle.close_translate.specs.Conditions.{code_by, condition_of}
+use Rattle.close_translate.specs.declared.codes.TheConstants.{CONNECTION_FORCED, INTERNAL_ERROR}
+use Rattle.close_translate.specs.declared.codes.TheConstants.{NOT_ALLOWED, NOT_IMPLEMENTED}
+use Rattle.close_translate.specs.declared.codes.TheConstants.{RESOURCE_ERROR}
 use Rattle.close_translate.specs.declared.conditions.Scope.TheVariants as scope
 use Rattle.gate_outside.specs.declared.ports.End.{End}
 use Rattle.gate_outside.specs.declared.ports.End.TheVariants.{Client, Up}
+use Rattle.gate_outside.specs.declared.ports.Linked.{Linked}
+use Rattle.gate_outside.specs.declared.ports.Linked.TheVariants as link
+use Rattle.gate_relay.specs.declared.sides.Side.{Side}
+use Rattle.gate_relay.specs.declared.sides.Side.TheVariants as side
+use Rattle.gate_relay.specs.Sides.{is_readable}
 use Rattle.gate_relay.specs.declared.loss.Loss.{Loss}
 use Rattle.gate_relay.specs.declared.loss.Loss.TheVariants as loss
-use Rattle.machine_091.specs.Calls.{after_closing, after_ended}
-use Rattle.machine_091.specs.State.{new_connection, is_closing}
+use Rattle.machine_091.specs.Calls.{after_closing, after_ended, after_opened}
+use Rattle.machine_091.specs.State.{new_connection, is_closing, is_opening}
 use Rattle.machine_091.specs.Refusals.{refusal_with}
 use Rattle.machine_091.specs.Transitions.{unit_step}
 use Rattle.machine_091.specs.declared.state.Connection.{Connection}
@@ -24,28 +32,44 @@ use Rattle.gate_model.specs.declared.reply.Reply.{Reply}
 use Rattle.gate_model.specs.declared.reply.Reply.TheVariants as reply
 use Rattle.gate_model.specs.declared.reply.Pending.{Pending}
 use Rattle.gate_model.specs.declared.reply.SentLast.{SentLast}
-use Rattle.gate_model.specs.declared.reply.TheConstants.{OPEN_CLASS, OPEN_METHOD}
+use Rattle.gate_model.specs.declared.outgoing.Outgoing.{Outgoing}
+use Rattle.gate_model.specs.declared.outgoing.Outgoing.TheVariants.{ToClient, ToUp}
 use Rattle.gate_model.specs.declared.timers.TheConstants.{HANDSHAKE_LIMIT}
+use Rattle.gate_model.specs.Upstream.{UpState, begun, closing_with, condition_in, finished}
+use Rattle.gate_model.specs.Upstream.{has_closed, heard_up, linked, lost_by, meaning_by, no_end}
+use Rattle.gate_model.specs.Upstream.{shut_by, with_amqp_header, with_init, with_login}
+use Rattle.machine_10.specs.Transitions as ten
+use Rattle.machine_10.specs.Transitions.{Meaning}
+use Rattle.machine_10.specs.declared.unit.Unit10.{Unit10}
+use Rattle.methods_091.specs.Rows.{class_of, id_of}
+use Rattle.methods_091.specs.View.{kind_of}
+use Rattle.methods_091.specs.declared.method.Method91.{Method91}
+use Rattle.performatives_10.specs.declared.condition.Condition.{Condition}
 
 pub data Step : Type 0 where
-  -- the pair was accepted at this moment
-  Began : ℕ → Step
+  -- the pair with this number was accepted at this moment, and its client may open this virtual host
+  Began : List ℕ → ℕ → ℕ → Step
   -- a moment was given
   Moment : ℕ → Step
-  -- the client's stream had a whole unit, or bytes with which none begins
+  -- a whole unit of the client, or bytes with which none begins, was taken up
   Came : Unit91 → Step
-  -- what came and waits was taken up: that the client's end ended or failed
+  -- that the client's end ended or failed was taken up
   TakenUp : Step
+  -- the container's stream had a whole unit, or bytes with which none begins
+  Heard : Unit10 → Step
+  -- the connection upstream was asked for
+  Joined : Linked → Step
   -- an end ended or failed, or was shut
   Lost : End → Loss → Step
-  -- the first byte of a unit was sent to an end
-  Gave : End → Reply → Step
-  -- its last byte was
+  -- the first byte of a unit was sent
+  Gave : Outgoing → Step
+  -- the last byte of the unit to an end was
   Whole : End → Step
   -- the pair ran out of memory
   OutOfMemory : Step
 
 pub record State : Type 0 where
+  pub number : ℕ
   -- the client's connection
   pub conn : Connection
   -- the units that are due to the client, and of which no byte was sent; but for heartbeats
@@ -53,6 +77,8 @@ pub record State : Type 0 where
   -- the unit to the client of which the first byte was sent, and not the last
   pub in_progress : Option Reply
   pub sent_last : SentLast
+  -- the upstream end
+  pub up : UpState
   -- the moments of the accept, of the last clock reading, and of the last unit that was sent whole,
   -- in milliseconds
   pub accepted_at : ℕ
@@ -60,6 +86,8 @@ pub record State : Type 0 where
   pub last_sent_at : ℕ
   -- the moment of the closing event of the connection
   pub closed_at : Option ℕ
+  -- that event was the client's connection.close
+  pub client_closed : Bool
   -- the handshake limit was reached
   pub late : Bool
   -- the client's end ended or failed, and that isn't taken up yet
@@ -75,6 +103,7 @@ none_pending = record {
   protocol = false;
   start = false;
   tune = false;
+  open_ok = false;
   close_ok = false;
   close = None;
   no_memory = false;
@@ -83,54 +112,126 @@ none_pending = record {
 abbrev pub none_sent : SentLast
 none_sent = record { protocol = false; close_ok = false; close = false }
 
-abbrev pub new_state : ℕ → State
-new_state ms = record {
-  conn = new_connection;
+abbrev pub new_state : List ℕ → ℕ → ℕ → State
+new_state vhost number ms = record {
+  number = number;
+  conn = new_connection vhost;
   pending = none_pending;
   in_progress = None;
   sent_last = none_sent;
+  up = no_end;
   accepted_at = ms;
   moment = ms;
   last_sent_at = ms;
   closed_at = None;
+  client_closed = false;
   late = false;
   leaving = false;
   failed = false;
   out_of_memory = false;
 }
 
--- ---- a unit of the client
-
--- no connection is opened upstream yet, so connection.open can't be met
-abbrev pub open_refused : Refusal
-open_refused = refusal_with NOT_IMPLEMENTED OPEN_CLASS OPEN_METHOD
+-- ---- closing events
 
 -- the closing event of the connection
 abbrev pub close : Connection → Connection
 close c = after_closing scope.Connection 0 c
 
+-- the moment of the first closing event
+abbrev pub closes_at : Option ℕ → Bool → ℕ → Option ℕ
+closes_at (Some at) closing ms = Some at
+closes_at None true ms = Some ms
+closes_at None false ms = None
+
+-- what is told where a connection fails upstream: no method is at fault (AMQP 0-9-1 1.4.2.9)
+abbrev pub failure : ℕ → Refusal
+failure code = refusal_with code 0 0
+
+abbrev pub failed : ℕ → Option Condition → State → State
+failed code why w = record w {
+  conn = close w.conn;
+  pending = record w.pending { close = Some (failure code) };
+  up = record w.up { condition = why };
+  closed_at = closes_at w.closed_at true w.moment;
+}
+
+-- the upstream end is the cause, unless the connection closes already
+abbrev pub fail : ℕ → Option Condition → State → State
+fail code why w = if is_closing w.conn then w else failed code why w
+
+-- ---- a unit of the client
+
+-- no channel is built yet, so no method of one can be met
+abbrev pub unbuilt : Method91 → Refusal
+unbuilt m = refusal_with NOT_IMPLEMENTED (class_of (kind_of m)) (id_of (kind_of m))
+
 -- what a unit wants decides whether the connection closes
 abbrev pub after_want : Want91 → Connection → Connection
-after_want want.OpenUp c = close c
-after_want w c = c
+after_want want.Nothing c = c
+after_want want.Start c = c
+after_want (want.Login mechanism response) c = c
+after_want want.Tuned c = c
+after_want want.OpenUp c = c
+after_want (want.Method n m) c = close c
+after_want (want.ChannelCloseOk n) c = c
+after_want want.Close c = c
+after_want want.CloseOk c = c
+after_want (want.Refuse r) c = c
 
 -- the connection after a unit
 abbrev pub conn_step : Connection → Unit91 → Connection
 conn_step c u = after_want (unit_step c u).1 (unit_step c u).0
 
--- what becomes due by what a unit wants: the gateway's close is due no more once the client closed.
--- No connection runs, so nothing is due on a channel
+-- what becomes due by what a unit wants: the gateway's close is due no more once the client closed
 abbrev pub with_want : Want91 → Pending → Pending
 with_want want.Nothing p = p
 with_want want.Start p = record p { start = true }
 with_want (want.Login mechanism response) p = record p { tune = true }
 with_want want.Tuned p = p
-with_want want.OpenUp p = record p { close = Some open_refused }
-with_want (want.Method n method) p = p
+with_want want.OpenUp p = p
+with_want (want.Method n m) p = record p { close = Some (unbuilt m) }
 with_want (want.ChannelCloseOk n) p = p
 with_want want.Close p = record p { close_ok = true; close = None }
 with_want want.CloseOk p = p
 with_want (want.Refuse r) p = record p { close = Some r }
+
+-- the error of the gateway's close to the container, where what a unit wants is the closing event: that of a refusal
+abbrev pub condition_by : Want91 → Option Condition
+condition_by want.Nothing = None
+condition_by want.Start = None
+condition_by (want.Login mechanism response) = None
+condition_by want.Tuned = None
+condition_by want.OpenUp = None
+condition_by (want.Method n m) = Some (condition_of NOT_IMPLEMENTED)
+condition_by (want.ChannelCloseOk n) = None
+condition_by want.Close = None
+condition_by want.CloseOk = None
+condition_by (want.Refuse r) = Some (condition_of r.code)
+
+-- a login is kept for the container
+abbrev pub keep_login : Want91 → UpState → UpState
+keep_login want.Nothing s = s
+keep_login want.Start s = s
+keep_login (want.Login mechanism response) s = with_login mechanism response s
+keep_login want.Tuned s = s
+keep_login want.OpenUp s = s
+keep_login (want.Method n m) s = s
+keep_login (want.ChannelCloseOk n) s = s
+keep_login want.Close s = s
+keep_login want.CloseOk s = s
+keep_login (want.Refuse r) s = s
+
+abbrev pub is_close_want : Want91 → Bool
+is_close_want want.Nothing = false
+is_close_want want.Start = false
+is_close_want (want.Login mechanism response) = false
+is_close_want want.Tuned = false
+is_close_want want.OpenUp = false
+is_close_want (want.Method n m) = false
+is_close_want (want.ChannelCloseOk n) = false
+is_close_want want.Close = true
+is_close_want want.CloseOk = false
+is_close_want (want.Refuse r) = false
 
 -- the first bytes were no protocol header
 abbrev pub is_foreign : Stream91 → Bool
@@ -148,20 +249,63 @@ turns_foreign c u = is_foreign (unit_step c u).0.stream && not (is_foreign c.str
 abbrev pub with_header : Bool → Pending → Pending
 with_header foreign p = record p { protocol = p.protocol || foreign }
 
--- the moment of the first closing event
-abbrev pub closes_at : Option ℕ → Bool → ℕ → Option ℕ
-closes_at (Some at) closing ms = Some at
-closes_at None true ms = Some ms
-closes_at None false ms = None
+-- what a unit of the client wants is met; the connection closed before it, or not
+abbrev pub met : Bool → Want91 → State → State
+met closing x w = record w {
+  conn = after_want x w.conn;
+  pending = with_want x w.pending;
+  up = closing_with closing (condition_by x) (keep_login x w.up);
+  client_closed = w.client_closed || (not closing && is_close_want x);
+}
+
+-- the connection after a unit, what is due by that, and the moment of the first closing event
+abbrev pub stepped : State → Unit91 → State
+stepped w u = met (is_closing w.conn) (unit_step w.conn u).1 (record w { conn = (unit_step w.conn u).0 })
 
 abbrev pub came : State → Unit91 → State
 came w u =
-    let c = conn_step w.conn u in
-    record w {
-      conn = c;
-      pending = with_header (turns_foreign w.conn u) (with_want (unit_step w.conn u).1 w.pending);
-      closed_at = closes_at w.closed_at (is_closing c) w.moment;
+    let v = stepped w u in
+    record v {
+      pending = with_header (turns_foreign w.conn u) v.pending;
+      closed_at = closes_at w.closed_at (is_closing v.conn) w.moment;
     }
+
+-- ---- the upstream end
+
+-- the connection upstream is there or not; a client whose container can't be reached is told so
+abbrev pub joined : State → Linked → State
+joined w link.Ok = record w { up = linked w.moment w.up }
+joined w link.Failed = fail CONNECTION_FORCED None (record w { up = shut_by w.up })
+
+-- the container opened: the client's connection runs, unless it closes already
+abbrev pub opened : State → State
+opened w =
+    if is_opening w.conn then
+    record w { conn = after_opened w.conn; pending = record w.pending { open_ok = true } }
+    else w
+
+-- what a unit of the container means: a refused login isn't allowed, a close has the code of its condition, and a unit out of
+-- order is an error of the container
+abbrev pub with_meaning : Meaning → State → State
+with_meaning ten.Nothing w = w
+with_meaning ten.Init w = record w { up = with_init w.up }
+with_meaning ten.AmqpHeader w = record w { up = with_amqp_header w.up }
+with_meaning ten.Opened w = opened w
+with_meaning (ten.OfSession g p payload) w = w
+with_meaning (ten.Closed e) w = fail (code_by (condition_in e) scope.Connection) None w
+with_meaning ten.Refused w = fail NOT_ALLOWED None w
+with_meaning (ten.Violation c) w = fail INTERNAL_ERROR (Some c) w
+
+abbrev pub heard : State → Unit10 → State
+heard w u = with_meaning (meaning_by w.up.container u) (record w { up = heard_up u w.up })
+
+-- nothing of the upstream end is waited for: there is none, it is lost, the container closed, or the pair ran out of memory
+abbrev pub is_settled : State → Bool
+is_settled w = w.out_of_memory || (not (is_readable w.up.side) || has_closed w.up)
+
+-- a request of the client waits for the upstream end: connection.open, or connection.close
+abbrev pub waits : State → Bool
+waits w = is_opening w.conn || (w.client_closed && not (is_settled w))
 
 -- ---- a moment
 
@@ -195,19 +339,26 @@ has_left stream.Bad = false
 has_left stream.Answered = false
 has_left stream.Ended = true
 
+-- the upstream end is lost: the client is told so
+abbrev pub lost_up : Side → State → State
+lost_up x w = fail CONNECTION_FORCED None (record w { up = lost_by x w.up })
+
 -- the first of both that comes is taken up in its place
 abbrev pub lost : State → End → Loss → State
 lost w Client loss.Ended = record w { leaving = w.leaving || not (has_left w.conn.stream) }
 lost w Client loss.Failed =
     record w { leaving = w.leaving || not (has_left w.conn.stream); failed = true }
 lost w Client loss.Shut = w
-lost w Up how = w
+lost w Up loss.Ended = lost_up side.Ended w
+lost w Up loss.Failed = lost_up side.Failed w
+lost w Up loss.Shut = record w { up = shut_by w.up }
 
 -- an end is taken up as a connection.close that wants no answer
 abbrev pub left : State → State
 left w = record w {
   conn = after_ended w.conn;
   pending = record w.pending { close = None };
+  up = closing_with (is_closing w.conn) None w.up;
   closed_at = closes_at w.closed_at true w.moment;
   leaving = false;
 }
@@ -229,31 +380,34 @@ abbrev pub ran_out : State → State
 ran_out w = record w {
   conn = close w.conn;
   pending = last_pending w.conn.phase w.pending;
+  up = closing_with (is_closing w.conn) (Some (condition_of RESOURCE_ERROR)) w.up;
   closed_at = closes_at w.closed_at true w.moment;
   out_of_memory = true;
 }
 
--- ---- a unit to the client
+-- ---- a unit that goes
 
 -- a unit is due no more once its first byte was sent
 abbrev pub without : Reply → Pending → Pending
 without reply.Protocol p = record p { protocol = false }
 without reply.Start p = record p { start = false }
 without reply.Tune p = record p { tune = false }
+without reply.OpenOk p = record p { open_ok = false }
 without reply.CloseOk p = record p { close_ok = false }
 without (reply.Close r) p = record p { close = None }
 without reply.NoMemory p = record p { no_memory = false }
 without reply.Heartbeat p = p
 
-abbrev pub gave : State → End → Reply → State
-gave w Client u = record w { pending = without u w.pending; in_progress = Some u }
-gave w Up u = w
+abbrev pub gave : State → Outgoing → State
+gave w (ToClient u) = record w { pending = without u w.pending; in_progress = Some u }
+gave w (ToUp u) = record w { up = begun u w.up }
 
 abbrev pub with_last : Option Reply → SentLast → SentLast
 with_last None s = s
 with_last (Some reply.Protocol) s = record s { protocol = true }
 with_last (Some reply.Start) s = s
 with_last (Some reply.Tune) s = s
+with_last (Some reply.OpenOk) s = s
 with_last (Some reply.CloseOk) s = record s { close_ok = true }
 with_last (Some (reply.Close r)) s = record s { close = true }
 with_last (Some reply.NoMemory) s = record s { close = true }
@@ -265,21 +419,29 @@ wrote w Client = record w {
   sent_last = with_last w.in_progress w.sent_last;
   last_sent_at = w.moment;
 }
-wrote w Up = w
+wrote w Up = record w { up = finished w.moment w.up }
 
 -- ---- all steps
 
 -- what comes in is passed over after the pair ran out of memory
 abbrev pub step : State → Step → State
-step w (Began ms) = record w { accepted_at = ms; moment = ms; last_sent_at = ms }
+step w (Began vhost number ms) = record w {
+  number = number;
+  conn = new_connection vhost;
+  accepted_at = ms;
+  moment = ms;
+  last_sent_at = ms;
+}
 step w (Moment ms) = told w ms
 step w (Came u) = if w.out_of_memory then w else came w u
 step w TakenUp = if not w.out_of_memory && w.leaving then left w else w
+step w (Heard u) = if w.out_of_memory then w else heard w u
+step w (Joined answer) = joined w answer
 step w (Lost end how) = lost w end how
-step w (Gave end u) = gave w end u
+step w (Gave u) = gave w u
 step w (Whole end) = wrote w end
 step w OutOfMemory = ran_out w
 
 abbrev pub before : List Step → State
-before [] = new_state 0
+before [] = new_state [] 0 0
 before (s ∷ h) = step (before h) s

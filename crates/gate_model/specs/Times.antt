@@ -1,20 +1,21 @@
 -- What time makes due, and when an end is shut: exactly then, and only then. Moments are in
 -- milliseconds.
-use Rattle.std.specs.Prelude.{◌≡◌, ◌↔◌, ◌⊎◌, ℕ, ◌+◌, ◌*◌, ◌<◌, ◌≤◌, Bool, true, false, List, []}
-use Rattle.std.specs.Prelude.{◌∷◌, Option, None, Some}
+use Rattle.std.specs.Prelude.{◌≡◌, ◌↔◌, ℕ, ◌+◌, ◌*◌, ◌<◌, ◌≤◌, Bool, true, false, List, []}
+use Rattle.std.specs.Prelude.{◌∷◌, Some}
 use Rattle.std.specs.List.{list_any}
 use Rattle.gate_outside.specs.declared.ports.End.TheVariants.{Client}
 use Rattle.machine_091.specs.State.{is_closing}
 use Rattle.machine_091.specs.declared.state.Stream91.TheVariants as stream
-use Rattle.gate_model.specs.Answers.{is_close, is_close_ok}
+use Rattle.gate_model.specs.Answers.{is_close_ok}
+use Rattle.gate_model.specs.declared.outgoing.Outgoing.TheVariants.{ToClient}
 use Rattle.gate_model.specs.declared.reply.Reply.{Reply}
 use Rattle.gate_model.specs.declared.reply.Reply.TheVariants as reply
 use Rattle.gate_model.specs.declared.timers.TheConstants.{BEAT_PER_SECOND, CLOSING_LIMIT}
 use Rattle.gate_model.specs.declared.timers.TheConstants.{HANDSHAKE_LIMIT}
-use Rattle.gate_model.specs.Due.{is_busy, is_shut_due, is_unheard, pick, rows}
+use Rattle.gate_model.specs.Due.{is_busy, is_shut_due, is_unheard, may_go, pick, rows}
 use Rattle.gate_model.specs.Folds.{accepted_in, closed_in, connection, failed_in, moment_in}
 use Rattle.gate_model.specs.Folds.{ran_out_in, sent, sent_at}
-use Rattle.gate_model.specs.State.{Step, Gave, Whole, before, has_left}
+use Rattle.gate_model.specs.State.{Step, Gave, Whole, before, has_left, is_settled}
 
 -- units of which the last byte was sent, in their order
 abbrev pub sent_whole : List Step → List Reply
@@ -26,6 +27,7 @@ abbrev pub is_protocol : Reply → Bool
 is_protocol reply.Protocol = true
 is_protocol reply.Start = false
 is_protocol reply.Tune = false
+is_protocol reply.OpenOk = false
 is_protocol reply.CloseOk = false
 is_protocol (reply.Close r) = false
 is_protocol reply.NoMemory = false
@@ -36,6 +38,7 @@ abbrev pub is_any_close : Reply → Bool
 is_any_close reply.Protocol = false
 is_any_close reply.Start = false
 is_any_close reply.Tune = false
+is_any_close reply.OpenOk = false
 is_any_close reply.CloseOk = false
 is_any_close (reply.Close r) = true
 is_any_close reply.NoMemory = true
@@ -49,20 +52,20 @@ pub record MayBeat (h : List Step) : Type 0 where
   pub agreed : 0 < (connection h).limits.heartbeat
   pub quiet : sent_at h + BEAT_PER_SECOND * (connection h).limits.heartbeat ≤ moment_in h
   pub unclosed : list_any is_close_ok (sent h) ≡ false
-  pub alone : rows (before h).pending ≡ []
+  pub alone : rows (may_go (is_settled (before h)) (before h).pending) ≡ []
   pub free : is_busy (before h) Client ≡ false
 
 -- each heartbeat was sent where it might be
 abbrev pub BeatsWhenDue : List Step → Type 0
 BeatsWhenDue [] = Unit {0}
-BeatsWhenDue (Gave Client reply.Heartbeat ∷ h) = MayBeat h × BeatsWhenDue h
+BeatsWhenDue (Gave (ToClient reply.Heartbeat) ∷ h) = MayBeat h × BeatsWhenDue h
 BeatsWhenDue (s ∷ h) = BeatsWhenDue h
 
 -- while no unit is in progress one is what goes next exactly where it may
 abbrev pub BeatsAtOnce : List Step → Type 0
 BeatsAtOnce h =
     is_busy (before h) Client ≡ false
-    → (pick (before h) Client ≡ Some reply.Heartbeat) ↔ MayBeat h
+    → (pick (before h) Client ≡ Some (ToClient reply.Heartbeat)) ↔ MayBeat h
 
 -- ---- the limits of a connection
 

@@ -5,37 +5,51 @@
 ghost use Rattle.std.specs.Prelude.{◌≡◌, ℕ, ◌<◌, ◌≤◌, List, length};
 ghost use Rattle.gate_model.specs.declared.reply.Reply.{Reply};
 ghost use Rattle.gate_model.specs.Answers.{AreAnswered};
+ghost use Rattle.gate_model.specs.Asked.{AreCalledFor, GoesWhenDue, ShutsUpAtOnce};
 ghost use Rattle.gate_model.specs.Frames.{FitsClients};
-ghost use Rattle.gate_model.specs.Folds.{connection, moment_in, ran_out_in};
+ghost use Rattle.gate_model.specs.Folds.{connection, container, moment_in, number_in, ran_out_in, side_in};
 ghost use Rattle.gate_model.specs.Picks.{ArePicks};
-ghost use Rattle.gate_model.specs.Spelling.{spell};
+ghost use Rattle.gate_model.specs.Spelling.{spell_reply};
 ghost use Rattle.gate_model.specs.State.{Step, before};
 ghost use Rattle.gate_model.specs.Times.{BeatsAtOnce, BeatsWhenDue, LateCloses, ShutsAtOnce};
+ghost use Rattle.gate_model.specs.Waiting.{EndsWhenSettled, OpensWhenOpened};
 
 use machine_091::connection_laws;
 
-/// The state knows the client's connection, the last moment and whether the pair ran out of memory,
-/// as the folds tell them.
+/// The state knows both connections, how far the upstream end is, the last moment, whether the pair
+/// ran out of memory and its number, as the folds tell them.
 #[tactic(auto, using(crate::proofs::Known::known))]
 pub fn states_are_known()
     ensures connection { (h : List Step) → ArePicks h → (before h).conn ≡ connection h }
+    ensures container { (h : List Step) → ArePicks h → (before h).up.container ≡ container h }
+    ensures side { (h : List Step) → ArePicks h → (before h).up.side ≡ side_in h }
     ensures moment { (h : List Step) → ArePicks h → (before h).moment ≡ moment_in h }
     ensures memory { (h : List Step) → ArePicks h → (before h).out_of_memory ≡ ran_out_in h }
+    ensures number { (h : List Step) → ArePicks h → (before h).number ≡ number_in h }
 {}
 
 /// What was sent to a client, without heartbeats, and what is due to it are the replies to its
-/// units, in their order: to the protocol header connection.start, to bytes that begin no header
-/// the gateway's own, to connection.start-ok connection.tune, to the client's connection.close a
-/// close-ok, and to a refused unit connection.close, unless the client closed or its end was taken
-/// up before the first byte of that went. After the pair ran out of memory what was sent since and
-/// what is due are the last units, by the connection before.
+/// units and to what happened upstream, in their order: to the protocol header connection.start, to
+/// bytes that begin no header the gateway's own, to connection.start-ok connection.tune, to the
+/// container's open connection.open-ok, to the client's connection.close a close-ok, and to a
+/// refused unit or a failure upstream connection.close, unless the client closed or its end was
+/// taken up before the first byte of that went. After the pair ran out of memory what was sent
+/// since and what is due are the last units, by the connection before.
 #[tactic(auto, using(crate::proofs::Said::answered))]
 pub fn clients_are_answered()
     ensures { (h : List Step) → ArePicks h → AreAnswered h }
 {}
 
+/// A connection.close of the gateway or a close-ok goes only where nothing of the upstream end is
+/// waited for: the pair ran out of memory, the end isn't open, or the container's close came.
+/// connection.open-ok goes only after the container's open.
+pub fn replies_wait()
+    ensures ends { (h : List Step) → ArePicks h → EndsWhenSettled h }
+    ensures opens { (h : List Step) → ArePicks h → OpensWhenOpened h }
+{}
+
 /// A heartbeat goes exactly where an interval was agreed to, for half of it no byte was sent, no
-/// close-ok was sent, no other unit is due and none is in progress. A client's end is to be shut
+/// close-ok was sent, no other unit may go and none is in progress. A client's end is to be shut
 /// exactly for one of the causes of `ShutFor`. Once the handshake limit was reached the connection
 /// is closing.
 #[tactic(auto, using(crate::proofs::Times::beats_when_due, crate::proofs::Times::late_closes))]
@@ -44,6 +58,22 @@ pub fn times_are_kept()
     ensures beats_at_once { (h : List Step) → ArePicks h → BeatsAtOnce h }
     ensures shuts_at_once { (h : List Step) → ArePicks h → ShutsAtOnce h }
     ensures late { (h : List Step) → ArePicks h → LateCloses h }
+{}
+
+/// The units of the opening that were sent to a container, and those that are due, are those that
+/// were called for: by the connection upstream, the wanted mechanism, a login that succeeded and
+/// the container's header; in their order, and each at most once. A close goes at most once, after
+/// the open, to a connection that is closing, with the condition that the first closing event says,
+/// and nothing goes after it. An empty frame goes only after half of the time-out that the
+/// container stated.
+pub fn containers_are_asked()
+    ensures called { (h : List Step) → ArePicks h → AreCalledFor h }
+    ensures goes { (h : List Step) → ArePicks h → GoesWhenDue h }
+{}
+
+/// The upstream end is to be shut exactly for one of the causes of `ShutUpFor`.
+pub fn containers_are_left()
+    ensures { (h : List Step) → ArePicks h → ShutsUpAtOnce h }
 {}
 
 /// No frame that goes to a client passes the client's limit when its first byte is sent: 4,096
@@ -55,9 +85,9 @@ pub fn frames_fit_clients()
     connection_laws();
 }
 
-/// No unit has over 512 bytes, an eighth of the least frame-max, and each has some.
+/// No unit to a client has over 512 bytes, an eighth of the least frame-max, and each has some.
 #[tactic(auto, using(crate::proofs::Spelled::spelled_small, crate::proofs::Spelled::spelled_some))]
 pub fn units_are_short()
-    ensures small { (unit : Reply) → length (spell unit) ≤ 512 }
-    ensures some { (unit : Reply) → 0 < length (spell unit) }
+    ensures small { (unit : Reply) → length (spell_reply unit) ≤ 512 }
+    ensures some { (unit : Reply) → 0 < length (spell_reply unit) }
 {}

@@ -1,15 +1,20 @@
 //! What a pair should do, over whole units, and the laws of it. Definitions stand in specs/: the
-//! steps of a pair and the state that they amount to (State), what that owes and awaits (Due), the
-//! folds that the laws speak of (Folds), and the laws (Picks, Answers, Frames, Times). The laws are
-//! the functions of `laws`.
+//! steps of a pair and the state that they amount to (State, and Upstream for its upstream end),
+//! what that owes and awaits (Due), the folds that the laws speak of (Folds), and the laws (Picks,
+//! Answers, Waiting, Frames, Times, Asked). The laws are the functions of `laws`.
 #![tactic(auto)]
 
 mod laws;
+mod outgoing;
 mod reply;
+mod setup;
 mod timers;
 
 pub use laws::{
-    clients_are_answered, frames_fit_clients, states_are_known, times_are_kept, units_are_short,
+    clients_are_answered, containers_are_asked, containers_are_left, frames_fit_clients,
+    replies_wait, states_are_known, times_are_kept, units_are_short,
 };
-pub use reply::{OPEN_CLASS, OPEN_METHOD, Pending, Reply, SentLast};
-pub use timers::{BEAT_PER_SECOND, CLOSING_LIMIT, HANDSHAKE_LIMIT};
+pub use outgoing::{Outgoing, UpPending, UpSent, UpUnit};
+pub use reply::{Pending, Reply, SentLast};
+pub use setup::Setup;
+pub use timers::{BEAT_PER_SECOND, CLOSING_LIMIT, HANDSHAKE_LIMIT, IDLE_STATED};

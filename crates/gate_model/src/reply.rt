@@ -2,12 +2,6 @@
 
 use machine_091::Refusal;
 
-/// The class of connection.open, as a close for it names it (AMQP 0-9-1 1.4.2.7).
-pub const OPEN_CLASS: u16 = 10;
-
-/// The method id of connection.open.
-pub const OPEN_METHOD: u16 = 40;
-
 /// A unit to the client.
 #[derive(Clone, Copy, Debug, PartialEq, Eq)]
 pub enum Reply {
@@ -17,6 +11,8 @@ pub enum Reply {
     Start,
     /// connection.tune
     Tune,
+    /// connection.open-ok
+    OpenOk,
     /// connection.close-ok
     CloseOk,
     /// connection.close, for this refusal
@@ -33,6 +29,7 @@ pub struct Pending {
     pub protocol: bool,
     pub start: bool,
     pub tune: bool,
+    pub open_ok: bool,
     pub close_ok: bool,
     pub close: Option<Refusal>,
     /// A connection.close, after the pair ran out of memory.

@@ -1,0 +1,17 @@
+-- The first unit of those that are due is what goes.
+use Rattle.std.proofs.Common.{◌≡◌, ◌∙◌, ℕ, List, [], ◌∷◌, Option, Some, map, refl, sym, ap}
+use Rattle.std.specs.Option.{option_map}
+use Rattle.gate_model.specs.declared.outgoing.Outgoing.{Outgoing}
+use Rattle.gate_model.specs.declared.outgoing.Outgoing.TheVariants.{ToClient}
+use Rattle.gate_model.specs.declared.reply.Reply.{Reply}
+use Rattle.gate_model.specs.Spelling.{spell_reply}
+use Rattle.gate_model.specs.Upstream.{first}
+use Rattle.bridge_core.specs.Offers.{client_bytes}
+
+first_map : {A B : Type 0} (f : A → B) (xs : List A) → first (map f xs) ≡ option_map f (first xs)
+first_map f [] = refl
+first_map f (x ∷ xs) = refl
+
+pub first_bytes : (us : List Reply) (u : Reply) (old : List ℕ) → Some u ≡ first us → client_bytes (first (map ToClient us)) old ≡ spell_reply u
+first_bytes us u old e =
+    ap (λ (o : Option Outgoing). client_bytes o old) (first_map ToClient us ∙ ap (option_map ToClient) (sym e))

@@ -1,0 +1,49 @@
+-- How long what is written of a value is, and a frame.
+use Rattle.std.proofs.Common.{◌≡◌, ℕ, ◌+◌, ◌≤◌, List, length, length-append, arith}
+use Rattle.frames_10.specs.Frames.{text_behind}
+use Rattle.frames_10.specs.declared.frame.Kind10.{Kind10}
+use Rattle.types_10.specs.Tree.{Tree, binary, described, list, scalar, string, symbol, Trees, tree}
+use Rattle.types_10.specs.Writing.{list_kind, value_text, written, written_each}
+use Rattle.types_10.specs.Measures.{head_len}
+use Rattle.types_10.proofs.Measures.{whole_len}
+use Rattle.gate_model.specs.Spelling.{frame_10}
+
+-- ---- texts
+
+string_head : (s : List ℕ) → head_len (written (scalar (string s))).kind ≤ 4
+string_head s = grind arith
+
+symbol_head : (s : List ℕ) → head_len (written (scalar (symbol s))).kind ≤ 4
+symbol_head s = grind arith
+
+binary_head : (s : List ℕ) → head_len (written (scalar (binary s))).kind ≤ 4
+binary_head s = grind arith
+
+pub string_short : (s : List ℕ) → length (value_text (scalar (string s))) ≤ length s + 5
+string_short s = omega (arith, whole_len (scalar (string s)), string_head s)
+
+pub symbol_short : (s : List ℕ) → length (value_text (scalar (symbol s))) ≤ length s + 5
+symbol_short s = omega (arith, whole_len (scalar (symbol s)), symbol_head s)
+
+pub binary_short : (s : List ℕ) → length (value_text (scalar (binary s))) ≤ length s + 5
+binary_short s = omega (arith, whole_len (scalar (binary s)), binary_head s)
+
+-- ---- lists
+
+list_head : (count : ℕ) (body : List ℕ) → head_len (list_kind count body) ≤ 8
+list_head count body = grind arith
+
+pub list_short : (ts : Trees) → length (value_text (list ts)) ≤ length (written_each ts).text + 9
+list_short ts = omega (arith, whole_len (list ts), list_head (written_each ts).count (written_each ts).text)
+
+pub each_len : (t : Tree) (ts : Trees) → length (written_each (tree t ts)).text ≡ length (value_text t) + length (written_each ts).text
+each_len t ts = length-append (value_text t) (written_each ts).text
+
+pub described_len : (d t : Tree) → length (value_text (described d t)) ≡ 1 + length (value_text d) + length (value_text t)
+described_len d t = omega (arith, length-append (value_text d) (value_text t))
+
+-- ---- frames
+
+pub frame_len : (kind : Kind10) (body : List ℕ) → length (frame_10 kind body) ≡ 8 + length body
+unfolding text_behind
+frame_len kind body = omega arith

@@ -1,0 +1,299 @@
+-- The error of the gateway's close to a container: what the first closing event says.
+use Rattle.std.proofs.Common.{◌≡◌, ℕ, Bool, true, false, not, ◌&&◌, ◌||◌, if◌then◌else◌, List, [], ◌∷◌, Option, None, Some, refl, sym, ap, ◌∙◌, subst}
+use Rattle.std.specs.List.{list_any}
+use Rattle.std.proofs.lemmas.List.Folds.{list_any-append}
+use Rattle.gate_outside.specs.declared.ports.End.TheVariants.{Client, Up}
+use Rattle.gate_outside.specs.declared.ports.Linked.TheVariants as link
+use Rattle.close_translate.specs.declared.codes.TheConstants.{CONNECTION_FORCED}
+use Rattle.gate_relay.specs.declared.loss.Loss.TheVariants as loss
+use Rattle.gate_relay.specs.declared.sides.Side.TheVariants as side
+use Rattle.machine_091.specs.Calls.{after_ended, after_opened}
+use Rattle.machine_091.specs.State.{is_closing, is_opening}
+use Rattle.machine_091.specs.Transitions.{unit_step}
+use Rattle.machine_091.specs.Transitions as machine
+use Rattle.machine_091.specs.declared.state.Connection.{Connection}
+use Rattle.machine_091.specs.declared.unit.Unit91.{Unit91}
+use Rattle.machine_10.specs.Transitions as ten
+use Rattle.machine_10.specs.Transitions.{Meaning}
+use Rattle.machine_10.specs.declared.state.Upstream.{Upstream}
+use Rattle.machine_10.specs.declared.unit.Unit10.{Unit10}
+use Rattle.performatives_10.specs.declared.condition.Condition.{Condition}
+use Rattle.gate_model.specs.declared.outgoing.Outgoing.TheVariants.{ToClient, ToUp}
+use Rattle.gate_model.specs.declared.outgoing.UpUnit.{UpUnit}
+use Rattle.gate_model.specs.declared.outgoing.UpUnit.TheVariants as up
+use Rattle.gate_model.specs.Asked.{closing_condition, condition_at, condition_told, is_opening_unit, is_up_close}
+use Rattle.gate_model.specs.Folds.{Peers, accepted_in, conn_by, connection, container, leaving_in, peers, peers_came, peers_heard, ran_out_in, sent_up}
+use Rattle.gate_model.specs.Picks.{ArePicks}
+use Rattle.gate_model.specs.State.{State, Step, Began, Moment, Came, TakenUp, Heard, Joined, Lost, Gave, Whole, OutOfMemory, after_want, before, came, close_if, condition_by, conn_step, fail, failed, heard, is_limit_reached, left, with_meaning}
+use Rattle.gate_model.specs.Upstream.{UpState, heard_up, lost_by, meaning_by, shut_by}
+use Rattle.gate_model.proofs.Connections.{clash, close_closes, opening_early, step_closes}
+use Rattle.gate_model.proofs.Known.{Known, closing_is, conn_is, container_is, keep_is, known, memory_is}
+use Rattle.gate_model.proofs.Openings.{is_opening_first}
+use Rattle.gate_model.proofs.Outcomes.{Outcome, Greets, Parts, LogsIn, Tunes, Asks, Passes, Refuses, Parting, Calls, Asking, Frees, Closes, Answers, Ignores, outcome}
+use Rattle.gate_model.proofs.Said.{shuts_in}
+use Rattle.gate_model.proofs.Ups.{Picked, Closing, Opening, Telling, goes_up}
+
+-- ---- a connection that is closing stays so
+
+meaning_closes : (m : Meaning) (c : Connection) → is_closing c ≡ true → is_closing (conn_by m c) ≡ true
+meaning_closes ten.Nothing c e = e
+meaning_closes ten.Init c e = e
+meaning_closes ten.AmqpHeader c e = e
+meaning_closes ten.Opened c e = by (is_opening c) refl
+  where
+    by : (b : Bool) → is_opening c ≡ b → is_closing (if b then after_opened c else c) ≡ true
+    by true f = absurd (opening_early c f e)
+    by false f = e
+meaning_closes (ten.OfSession g p payload) c e = e
+meaning_closes (ten.Closed x) c e = close_closes c.phase
+meaning_closes ten.Refused c e = close_closes c.phase
+meaning_closes (ten.Violation why) c e = close_closes c.phase
+
+limit_closes : (b : Bool) (c : Connection) → is_closing c ≡ true → is_closing (close_if b c) ≡ true
+limit_closes true c e = close_closes c.phase
+limit_closes false c e = e
+
+closes_if : (b : Bool) (p q : Peers) → is_closing p.client ≡ true → is_closing q.client ≡ true → is_closing (if b then p else q).client ≡ true
+closes_if true p q e f = e
+closes_if false p q e f = f
+
+closes_on : (s : Step) (h : List Step) → ArePicks (s ∷ h) → is_closing (connection h) ≡ true → is_closing (connection (s ∷ h)) ≡ true
+closes_on (Began vhost n ms) h p e = absurd (clash _ e (ap (λ (x : List Step). is_closing (connection x)) p.0))
+closes_on (Moment ms) h p e = limit_closes (is_limit_reached (connection h) (accepted_in h) ms) (connection h) e
+closes_on (Came u) h p e = closes_if (ran_out_in h) (peers h) (peers_came (peers h) u) e (step_closes (connection h) u e)
+closes_on TakenUp h p e =
+    closes_if (not (ran_out_in h) && leaving_in h) (record (peers h) { client = after_ended (connection h) }) (peers h) refl e
+closes_on (Heard u) h p e = closes_if (ran_out_in h) (peers h) (peers_heard (peers h) u) e (meaning_closes (meaning_by (container h) u) (connection h) e)
+closes_on (Joined link.Ok) h p e = e
+closes_on (Joined link.Failed) h p e = close_closes (connection h).phase
+closes_on (Lost Client how) h p e = e
+closes_on (Lost Up loss.Ended) h p e = close_closes (connection h).phase
+closes_on (Lost Up loss.Failed) h p e = close_closes (connection h).phase
+closes_on (Lost Up loss.Shut) h p e = e
+closes_on (Gave u) h p e = e
+closes_on (Whole end) h p e = e
+closes_on OutOfMemory h p e = close_closes (connection h).phase
+
+-- ---- before the closing event nothing is told
+
+unclosed : (s : Step) (h : List Step) → ArePicks (s ∷ h) → is_closing (connection (s ∷ h)) ≡ false → is_closing (connection h) ≡ false
+unclosed s h p e = by (is_closing (connection h)) refl
+  where
+    by : (b : Bool) → is_closing (connection h) ≡ b → b ≡ false
+    by true f = absurd (clash _ (closes_on s h p f) e)
+    by false f = refl
+
+remembers : (h : List Step) → ArePicks h → is_closing (connection h) ≡ false → ran_out_in h ≡ false
+remembers h p e = by (ran_out_in h) refl
+  where
+    by : (b : Bool) → ran_out_in h ≡ b → b ≡ false
+    by true f = absurd (clash _ (shuts_in (known h p) f) e)
+    by false f = refl
+
+unit_told : (c : Connection) (u : Unit91) → is_closing (conn_step c u) ≡ false → condition_by (unit_step c u).1 ≡ None
+unit_told c u = by (unit_step c u) (outcome c u)
+  where
+    by : (x : machine.Step) → Outcome c u x → is_closing (after_want x.1 x.0) ≡ false → condition_by x.1 ≡ None
+    by _ (Greets e) k = refl
+    by _ (Parts e) k = refl
+    by _ (LogsIn m r e) k = refl
+    by _ (Tunes l e) k = refl
+    by _ (Asks e) k = refl
+    by _ Passes k = refl
+    by _ (Refuses r a f e) k = absurd cc
+    by _ (Parting e) k = refl
+    by _ (Calls n s m e) k = absurd (clash _ (close_closes c.phase) k)
+    by _ (Asking n m e) k = absurd (clash _ (close_closes c.phase) k)
+    by _ (Frees n) k = refl
+    by _ (Closes e) k = refl
+    by _ (Answers e) k = refl
+    by _ (Ignores e) k = refl
+
+meaning_told : (m : Meaning) (c : Connection) → is_closing (conn_by m c) ≡ false → condition_told m ≡ None
+meaning_told ten.Nothing c e = refl
+meaning_told ten.Init c e = refl
+meaning_told ten.AmqpHeader c e = refl
+meaning_told ten.Opened c e = refl
+meaning_told (ten.OfSession g p payload) c e = refl
+meaning_told (ten.Closed x) c e = refl
+meaning_told ten.Refused c e = refl
+meaning_told (ten.Violation why) c e = absurd (clash _ (close_closes c.phase) e)
+
+step_told : (s : Step) (h : List Step) → ran_out_in h ≡ false → is_closing (connection (s ∷ h)) ≡ false → condition_at s h ≡ None
+step_told (Began vhost n ms) h m e = refl
+step_told (Moment ms) h m e = refl
+step_told (Came u) h m e =
+    unit_told (connection h) u (subst (λ (b : Bool). is_closing (if b then peers h else peers_came (peers h) u).client ≡ false) m e)
+step_told TakenUp h m e = refl
+step_told (Heard u) h m e =
+    meaning_told (meaning_by (container h) u) (connection h)
+    (subst (λ (b : Bool). is_closing (if b then peers h else peers_heard (peers h) u).client ≡ false) m e)
+step_told (Joined answer) h m e = refl
+step_told (Lost end how) h m e = refl
+step_told (Gave u) h m e = refl
+step_told (Whole end) h m e = refl
+step_told OutOfMemory h m e = absurd (clash _ (close_closes (connection h).phase) e)
+
+none_told : (h : List Step) → ArePicks h → is_closing (connection h) ≡ false → closing_condition h ≡ None
+none_told [] p e = refl
+none_told (s ∷ h) p e =
+    let k : is_closing (connection h) ≡ false = unclosed s h p e in
+    ap (λ (b : Bool). if b then closing_condition h else condition_at s h) k ∙ step_told s h (remembers h p.1 k) e
+
+-- ---- the state keeps that
+
+-- a step that leaves it
+quiet : (k : Bool) (a b : Option Condition) → a ≡ b → (k ≡ false → b ≡ None) → a ≡ (if k then b else None)
+quiet true a b e f = e
+quiet false a b e f = e ∙ f refl
+
+-- one that is passed over
+passed : (k : Bool) (a b why : Option Condition) → a ≡ b → k ≡ true → a ≡ (if k then b else why)
+passed true a b why e f = e
+passed false a b why e f = absurd cc
+
+-- one that may be the closing event
+told : (w : State) (c : Connection) (b why : Option Condition) → w.conn ≡ c → w.up.condition ≡ b
+    → (if is_closing w.conn then w.up.condition else why) ≡ (if is_closing c then b else why)
+told w c b why e f =
+    ap (λ (x : Connection). if is_closing x then w.up.condition else why) e ∙ ap (λ (x : Option Condition). if is_closing c then x else why) f
+
+fail_condition : (code : ℕ) (why : Option Condition) (w : State) → (fail code why w).up.condition ≡ (if is_closing w.conn then w.up.condition else why)
+fail_condition code why w = by (is_closing w.conn)
+  where
+    by : (b : Bool) → (if b then w else failed code why w).up.condition ≡ (if b then w.up.condition else why)
+    by true = refl
+    by false = refl
+
+meaning_condition : (m : Meaning) (w : State) (c : Connection) (b : Option Condition) → w.conn ≡ c → w.up.condition ≡ b → (is_closing c ≡ false → b ≡ None)
+    → (with_meaning m w).up.condition ≡ (if is_closing c then b else condition_told m)
+meaning_condition ten.Nothing w c b e f n = quiet (is_closing c) w.up.condition b f n
+meaning_condition ten.Init w c b e f n = quiet (is_closing c) w.up.condition b f n
+meaning_condition ten.AmqpHeader w c b e f n = quiet (is_closing c) w.up.condition b f n
+meaning_condition ten.Opened w c b e f n = by (is_opening w.conn)
+  where
+    by : (x : Bool) → (if x then record w { conn = after_opened w.conn; pending = record w.pending { open_ok = true } } else w).up.condition ≡ (if is_closing c then b else None)
+    by true = quiet (is_closing c) w.up.condition b f n
+    by false = quiet (is_closing c) w.up.condition b f n
+meaning_condition (ten.OfSession g p payload) w c b e f n = quiet (is_closing c) w.up.condition b f n
+meaning_condition (ten.Closed x) w c b e f n = fail_condition _ None w ∙ told w c b None e f
+meaning_condition ten.Refused w c b e f n = fail_condition _ None w ∙ told w c b None e f
+meaning_condition (ten.Violation why) w c b e f n = fail_condition _ (Some why) w ∙ told w c b (Some why) e f
+
+came_condition : (w : State) (u : Unit91) → (came w u).up.condition ≡ (if is_closing w.conn then w.up.condition else condition_by (unit_step w.conn u).1)
+came_condition w u =
+    ap (λ (s : UpState). s.condition) (closing_is (is_closing w.conn) (condition_by (unit_step w.conn u).1) _)
+    ∙ ap (λ (s : UpState). if is_closing w.conn then s.condition else condition_by (unit_step w.conn u).1) (keep_is (unit_step w.conn u).1 w.up)
+
+conditions_came : (w : State) (u : Unit91) (m : Bool) (c : Connection) (b : Option Condition) → w.conn ≡ c → w.up.condition ≡ b → (m ≡ true → is_closing c ≡ true)
+    → (if m then w else came w u).up.condition ≡ (if is_closing c then b else condition_by (unit_step c u).1)
+conditions_came w u true c b e f n = passed (is_closing c) w.up.condition b _ f (n refl)
+conditions_came w u false c b e f n =
+    came_condition w u ∙ told w c b (condition_by (unit_step w.conn u).1) e f
+    ∙ ap (λ (x : Connection). if is_closing c then b else condition_by (unit_step x u).1) e
+
+conditions_heard : (w : State) (u : Unit10) (m : Bool) (c : Connection) (o : Option Upstream) (b : Option Condition) → w.conn ≡ c → w.up.container ≡ o → w.up.condition ≡ b
+    → (is_closing c ≡ false → b ≡ None) → (m ≡ true → is_closing c ≡ true)
+    → (if m then w else heard w u).up.condition ≡ (if is_closing c then b else condition_told (meaning_by o u))
+conditions_heard w u true c o b e g f n s = passed (is_closing c) w.up.condition b _ f (s refl)
+conditions_heard w u false c o b e g f n s =
+    meaning_condition (meaning_by w.up.container u) (record w { up = heard_up u w.up }) c b e f n
+    ∙ ap (λ (x : Option Upstream). if is_closing c then b else condition_told (meaning_by x u)) g
+
+conditions_taken : (w : State) (x : Bool) (c : Connection) (b : Option Condition) → w.conn ≡ c → w.up.condition ≡ b → (is_closing c ≡ false → b ≡ None)
+    → (if x then left w else w).up.condition ≡ (if is_closing c then b else None)
+conditions_taken w true c b e f n = ap (λ (s : UpState). s.condition) (closing_is (is_closing w.conn) None w.up) ∙ told w c b None e f
+conditions_taken w false c b e f n = quiet (is_closing c) w.up.condition b f n
+
+conditions_failed : (w : State) (s : UpState) (c : Connection) (b : Option Condition) → w.conn ≡ c → s.condition ≡ b
+    → (fail CONNECTION_FORCED None (record w { up = s })).up.condition ≡ (if is_closing c then b else None)
+conditions_failed w s c b e f = fail_condition CONNECTION_FORCED None (record w { up = s }) ∙ told (record w { up = s }) c b None e f
+
+pub condition_is : (h : List Step) → ArePicks h → (before h).up.condition ≡ closing_condition h
+condition_is [] p = refl
+condition_is (Began vhost n ms ∷ h) p =
+    subst (λ (x : List Step). (before (Began vhost n ms ∷ x)).up.condition ≡ closing_condition (Began vhost n ms ∷ x)) (sym p.0) refl
+condition_is (Moment ms ∷ h) p = quiet _ _ _ (condition_is h p.1) (none_told h p.1)
+condition_is (Came u ∷ h) p =
+    let k : Known h = known h p.1 in
+    ap (λ (m : Bool). (if m then before h else came (before h) u).up.condition) (memory_is k)
+    ∙ conditions_came (before h) u (ran_out_in h) (connection h) (closing_condition h) (conn_is k) (condition_is h p.1) (shuts_in k)
+condition_is (TakenUp ∷ h) p =
+    let k : Known h = known h p.1 in
+    conditions_taken (before h) _ (connection h) (closing_condition h) (conn_is k) (condition_is h p.1) (none_told h p.1)
+condition_is (Heard u ∷ h) p =
+    let k : Known h = known h p.1 in
+    ap (λ (m : Bool). (if m then before h else heard (before h) u).up.condition) (memory_is k)
+    ∙ conditions_heard (before h) u (ran_out_in h) (connection h) (container h) (closing_condition h) (conn_is k) (container_is k) (condition_is h p.1) (none_told h p.1) (shuts_in k)
+condition_is (Joined link.Ok ∷ h) p = quiet _ _ _ (condition_is h p.1) (none_told h p.1)
+condition_is (Joined link.Failed ∷ h) p =
+    conditions_failed (before h) (shut_by (before h).up) (connection h) (closing_condition h) (conn_is (known h p.1)) (condition_is h p.1)
+condition_is (Lost Client loss.Ended ∷ h) p = quiet _ _ _ (condition_is h p.1) (none_told h p.1)
+condition_is (Lost Client loss.Failed ∷ h) p = quiet _ _ _ (condition_is h p.1) (none_told h p.1)
+condition_is (Lost Client loss.Shut ∷ h) p = quiet _ _ _ (condition_is h p.1) (none_told h p.1)
+condition_is (Lost Up loss.Ended ∷ h) p =
+    conditions_failed (before h) (lost_by side.Ended (before h).up) (connection h) (closing_condition h) (conn_is (known h p.1)) (condition_is h p.1)
+condition_is (Lost Up loss.Failed ∷ h) p =
+    conditions_failed (before h) (lost_by side.Failed (before h).up) (connection h) (closing_condition h) (conn_is (known h p.1)) (condition_is h p.1)
+condition_is (Lost Up loss.Shut ∷ h) p = quiet _ _ _ (condition_is h p.1) (none_told h p.1)
+condition_is (Gave (ToClient u) ∷ h) p = quiet _ _ _ (condition_is h p.1) (none_told h p.1)
+condition_is (Gave (ToUp u) ∷ h) p = quiet _ _ _ (condition_is h p.1) (none_told h p.1)
+condition_is (Whole Client ∷ h) p = quiet _ _ _ (condition_is h p.1) (none_told h p.1)
+condition_is (Whole Up ∷ h) p = quiet _ _ _ (condition_is h p.1) (none_told h p.1)
+condition_is (OutOfMemory ∷ h) p =
+    ap (λ (s : UpState). s.condition) (closing_is (is_closing (before h).conn) _ (before h).up)
+    ∙ told (before h) (connection h) (closing_condition h) _ (conn_is (known h p.1)) (condition_is h p.1)
+
+-- ---- the gateway's close goes to a connection that is closing
+
+-- the state knows whether the connection is closing
+pub closing_now : (h : List Step) (b : Bool) → ArePicks h → ((before h).out_of_memory || is_closing (before h).conn) ≡ b → is_closing (connection h) ≡ b
+closing_now h b p e = sym (ap is_closing (conn_is k)) ∙ by (before h).out_of_memory refl ∙ e
+  where
+    k : Known h
+    k = known h p
+
+    by : (m : Bool) → (before h).out_of_memory ≡ m → is_closing (before h).conn ≡ (m || is_closing (before h).conn)
+    by true f = k.sound.shuts f
+    by false f = refl
+
+or_one : (b : Bool) → (b || false) ≡ b
+or_one true = refl
+or_one false = refl
+
+closes_by : (h : List Step) (u : UpUnit) → ArePicks h → Picked ((before h).out_of_memory || is_closing (before h).conn) (before h).up (before h).moment u
+    → (list_any is_up_close (sent_up h) ≡ true → is_closing (connection h) ≡ true) → (list_any is_up_close (sent_up h) || is_up_close u) ≡ true
+    → is_closing (connection h) ≡ true
+closes_by h u p g f e = by g
+  where
+    old : is_up_close u ≡ false → is_closing (connection h) ≡ true
+    old n = f (sym (ap (λ (b : Bool). list_any is_up_close (sent_up h) || b) n ∙ or_one _) ∙ e)
+
+    isnt : (u : UpUnit) → is_opening_unit u ≡ true → is_up_close u ≡ false
+    isnt up.SaslHeader e = refl
+    isnt up.SaslInit e = refl
+    isnt up.AmqpHeader e = refl
+    isnt up.Open e = refl
+    isnt (up.Close c) e = absurd cc
+    isnt up.Empty e = refl
+
+    by : Picked ((before h).out_of_memory || is_closing (before h).conn) (before h).up (before h).moment u → is_closing (connection h) ≡ true
+    by (Closing k o same) = closing_now h true p k
+    by (Opening k same) = old (isnt u (is_opening_first (before h).up.pending u same))
+    by (Telling k i same) = old (ap is_up_close same)
+
+pub closes_sent : (h : List Step) → ArePicks h → list_any is_up_close (sent_up h) ≡ true → is_closing (connection h) ≡ true
+closes_sent [] p e = absurd cc
+closes_sent (Began vhost n ms ∷ h) p e = closes_on (Began vhost n ms) h p (closes_sent h p.1 e)
+closes_sent (Moment ms ∷ h) p e = closes_on (Moment ms) h p (closes_sent h p.1 e)
+closes_sent (Came u ∷ h) p e = closes_on (Came u) h p (closes_sent h p.1 e)
+closes_sent (TakenUp ∷ h) p e = closes_on TakenUp h p (closes_sent h p.1 e)
+closes_sent (Heard u ∷ h) p e = closes_on (Heard u) h p (closes_sent h p.1 e)
+closes_sent (Joined answer ∷ h) p e = closes_on (Joined answer) h p (closes_sent h p.1 e)
+closes_sent (Lost end how ∷ h) p e = closes_on (Lost end how) h p (closes_sent h p.1 e)
+closes_sent (Gave (ToClient u) ∷ h) p e = closes_sent h p.1 e
+closes_sent (Gave (ToUp u) ∷ h) p e =
+    closes_by h u p.1 (goes_up (before h) u p.0.1).why (closes_sent h p.1)
+    (sym (list_any-append is_up_close (sent_up h) (u ∷ []) ∙ ap (λ (b : Bool). list_any is_up_close (sent_up h) || b) (or_one (is_up_close u))) ∙ e)
+closes_sent (Whole end ∷ h) p e = closes_on (Whole end) h p (closes_sent h p.1 e)
+closes_sent (OutOfMemory ∷ h) p e = closes_on OutOfMemory h p (closes_sent h p.1 e)

@@ -1,0 +1,235 @@
+-- What goes to a container, and when its end is shut, is what the folds say.
+use Rattle.std.proofs.Common.{◌≡◌, ℕ, ◌+◌, ◌-◌, ◌/◌, ◌==◌, ◌<◌, ◌≤◌, nat_le, Bool, true, false, not, ◌&&◌, ◌||◌, if◌then◌else◌, List, [], ◌∷◌, ◌++◌, Option, None, Some, refl, sym, ap, ◌∙◌, subst, arith}
+use Rattle.std.specs.List.{list_any}
+use Rattle.std.proofs.lemmas.Bool.Decides.{nat_tests}
+use Rattle.gate_outside.specs.declared.ports.End.TheVariants.{Up}
+use Rattle.gate_relay.specs.Sides.{is_readable}
+use Rattle.gate_relay.specs.declared.sides.Side.{Side}
+use Rattle.gate_relay.specs.declared.sides.Side.TheVariants as side
+use Rattle.machine_091.specs.State.{is_closing}
+use Rattle.machine_10.specs.declared.state.Upstream.{Upstream}
+use Rattle.gate_model.specs.declared.outgoing.Outgoing.TheVariants.{ToClient, ToUp}
+use Rattle.gate_model.specs.declared.outgoing.UpUnit.{UpUnit}
+use Rattle.gate_model.specs.declared.outgoing.UpUnit.TheVariants as up
+use Rattle.gate_model.specs.declared.timers.TheConstants.{CLOSING_LIMIT}
+use Rattle.gate_model.specs.Asked.{AreCalledFor, Goes, GoesWhenDue, MayGo, MayTell, ShutUpFor, Failed, Ended, Overdue, Closed, ClosedBad, ClosedLast, Unopened, ShutsUpAtOnce, due_up, is_opening_unit, is_up_close, openings_of, sent_up_whole}
+use Rattle.gate_model.specs.Due.{has_ended, has_failed, is_overdue, is_shut_due, pick}
+use Rattle.gate_model.specs.Folds.{closed_in, connection, container, moment_in, sent_up, sent_up_at, side_in}
+use Rattle.gate_model.specs.Picks.{ArePicks}
+use Rattle.gate_model.specs.State.{State, Step, Began, Moment, Came, TakenUp, Heard, Joined, Lost, Gave, Whole, OutOfMemory, before}
+use Rattle.gate_model.specs.Upstream.{has_closed, has_gone_bad, idle_in, is_bad_stream, is_closed_stream, is_idle_by, is_idle_due, opening_rows, rows_in, stream_in, when_up}
+use Rattle.gate_model.proofs.Closings.{closes_sent, closing_now, condition_is}
+use Rattle.gate_model.proofs.Connections.{clash}
+use Rattle.gate_model.proofs.Known.{Known, closed_is, conn_is, container_is, known, memory_is, moment_is, side_is}
+use Rattle.gate_model.proofs.Openings.{is_opening_first, openings_due}
+use Rattle.gate_model.proofs.Times.{Either, OnLeft, OnRight, and_both, and_left, and_right, either, in_left, in_right}
+use Rattle.gate_model.proofs.Ups.{GoesUp, Picked, Closing, Opening, Telling, UpSays, goes_up, up_says}
+
+-- ---- the opening
+
+-- the connection isn't closing, so neither is it in the state
+unclosed_now : (h : List Step) → ArePicks h → is_closing (connection h) ≡ false → ((before h).out_of_memory || is_closing (before h).conn) ≡ false
+unclosed_now h p e = by ((before h).out_of_memory || is_closing (before h).conn) refl
+  where
+    by : (b : Bool) → ((before h).out_of_memory || is_closing (before h).conn) ≡ b → b ≡ false
+    by true f = absurd (clash _ (closing_now h true p f) e)
+    by false f = refl
+
+no_close_sent : (h : List Step) → ArePicks h → is_closing (connection h) ≡ false → (before h).up.sent.close ≡ false
+no_close_sent h p e = by (before h).up.sent.close refl
+  where
+    by : (b : Bool) → (before h).up.sent.close ≡ b → b ≡ false
+    by true f = absurd (clash _ (closes_sent h p (sym (up_says h p).close_is ∙ f)) e)
+    by false f = refl
+
+rows_while : (h : List Step) → ArePicks h → is_closing (connection h) ≡ false → is_readable (side_in h) ≡ true
+    → due_up (before h) ≡ opening_rows (before h).up.pending ++ when_up (is_idle_due (before h).up (before h).moment) up.Empty
+rows_while h p e f = by _ _ _ (ap is_readable (side_is (known h p)) ∙ f) (no_close_sent h p e) (unclosed_now h p e)
+  where
+    by : (r c k : Bool) → r ≡ true → c ≡ false → k ≡ false → (if r && not c then rows_in k (before h).up (before h).moment else []) ≡ rows_in false (before h).up (before h).moment
+    by true false false a b c = refl
+    by true false true a b c = absurd cc
+    by true true k a b c = absurd cc
+    by false b k a c d = absurd cc
+
+pub are_called_for : (h : List Step) → ArePicks h → AreCalledFor h
+are_called_for h p =
+    let s : UpSays h = up_says h p in
+    record {
+      all = s.ups.same;
+      due = λ e f. ap (λ (x : List UpUnit). openings_of (sent_up h) ++ openings_of x) (rows_while h p e f)
+          ∙ ap (λ (x : List UpUnit). openings_of (sent_up h) ++ x) (openings_due (before h).up.pending _) ∙ s.ups.same;
+    }
+
+-- ---- each unit
+
+some_idle : (n : ℕ) → not (n == 0) ≡ true → 0 < n
+some_idle n e = grind (arith, nat_tests)
+
+half_some : (n : ℕ) → 0 < n → 0 < (n + 1) / 2
+half_some n e = omega (arith, e)
+
+long_quiet : (n ms last : ℕ) → 0 < n → nat_le n (ms - last) ≡ true → last + n ≤ ms
+long_quiet n ms last e f = grind (arith, nat_tests, e)
+
+record Tells (idle ms last : ℕ) : Type 0 where
+  stated : 0 < idle
+  quiet : last + (idle + 1) / 2 ≤ ms
+
+tells_by : (idle ms last : ℕ) → is_idle_by idle ms last ≡ true → Tells idle ms last
+tells_by idle ms last e =
+    let some : 0 < idle = some_idle idle (and_left (not (idle == 0)) _ e) in
+    record { stated = some; quiet = long_quiet ((idle + 1) / 2) ms last (half_some idle some) (and_right (not (idle == 0)) _ e) }
+
+may_tell : (h : List Step) → ArePicks h → is_closing (connection h) ≡ false → is_idle_due (before h).up (before h).moment ≡ true → MayTell h
+may_tell h p k e =
+    let x : Known h = known h p in
+    let s : UpSays h = up_says h p in
+    let t : Tells (idle_in (before h).up.container) (before h).moment (before h).up.last_sent_at = tells_by _ _ _ (and_right (before h).up.sent.«open» _ e) in
+    record {
+      unclosed = k;
+      stated = subst (λ (o : Option Upstream). 0 < idle_in o) (container_is x) t.stated;
+      opened = sym s.open_is ∙ and_left (before h).up.sent.«open» _ e;
+      quiet = subst (λ (n : ℕ). sent_up_at h + (idle_in (container h) + 1) / 2 ≤ n) (moment_is x)
+          (subst (λ (n : ℕ). n + (idle_in (container h) + 1) / 2 ≤ (before h).moment) s.at_is
+          (subst (λ (o : Option Upstream). (before h).up.last_sent_at + (idle_in o + 1) / 2 ≤ (before h).moment) (container_is x) t.quiet));
+    }
+
+opening_goes : (h : List Step) (u : UpUnit) → is_opening_unit u ≡ true → is_closing (connection h) ≡ false → MayGo h u
+opening_goes h up.SaslHeader e k = k
+opening_goes h up.SaslInit e k = k
+opening_goes h up.AmqpHeader e k = k
+opening_goes h up.Open e k = k
+opening_goes h (up.Close c) e k = absurd cc
+opening_goes h up.Empty e k = absurd cc
+
+may_go_up : (h : List Step) (u : UpUnit) → ArePicks h → Picked ((before h).out_of_memory || is_closing (before h).conn) (before h).up (before h).moment u → MayGo h u
+may_go_up h u p (Closing k o e) =
+    subst (λ (x : UpUnit). MayGo h x) (sym e)
+    (record { opened = sym (up_says h p).open_is ∙ o; closing = closing_now h true p k; why_is = condition_is h p })
+may_go_up h u p (Opening k e) = opening_goes h u (is_opening_first (before h).up.pending u e) (closing_now h false p k)
+may_go_up h u p (Telling k i e) = subst (λ (x : UpUnit). MayGo h x) (sym e) (may_tell h p (closing_now h false p k) i)
+
+goes : (h : List Step) (u : UpUnit) → ArePicks h → pick (before h) Up ≡ Some (ToUp u) → Goes h u
+goes h u p e =
+    let g : GoesUp ((before h).out_of_memory || is_closing (before h).conn) (before h).up (before h).moment u = goes_up (before h) u e in
+    record {
+      may = may_go_up h u p g.why;
+      open_end = ap is_readable (sym (side_is (known h p))) ∙ g.readable;
+      unclosed = sym (up_says h p).close_is ∙ g.unclosed;
+    }
+
+pub goes_when_due : (h : List Step) → ArePicks h → GoesWhenDue h
+goes_when_due [] p = tt
+goes_when_due (Gave (ToUp u) ∷ h) p = (goes h u p.1 p.0.1, goes_when_due h p.1)
+goes_when_due (Gave (ToClient u) ∷ h) p = goes_when_due h p.1
+goes_when_due (Began vhost n ms ∷ h) p = goes_when_due h p.1
+goes_when_due (Moment ms ∷ h) p = goes_when_due h p.1
+goes_when_due (Came u ∷ h) p = goes_when_due h p.1
+goes_when_due (TakenUp ∷ h) p = goes_when_due h p.1
+goes_when_due (Heard u ∷ h) p = goes_when_due h p.1
+goes_when_due (Joined answer ∷ h) p = goes_when_due h p.1
+goes_when_due (Lost end how ∷ h) p = goes_when_due h p.1
+goes_when_due (Whole end ∷ h) p = goes_when_due h p.1
+goes_when_due (OutOfMemory ∷ h) p = goes_when_due h p.1
+
+-- ---- shutting
+
+failed_by : (s : Side) → has_failed s ≡ true → s ≡ side.Failed
+failed_by side.Absent e = absurd cc
+failed_by side.Open e = absurd cc
+failed_by side.Ended e = absurd cc
+failed_by side.Failed e = refl
+failed_by side.Gone e = absurd cc
+
+ended_by : (s : Side) → has_ended s ≡ true → s ≡ side.Ended
+ended_by side.Absent e = absurd cc
+ended_by side.Open e = absurd cc
+ended_by side.Ended e = refl
+ended_by side.Failed e = absurd cc
+ended_by side.Gone e = absurd cc
+
+overdue_by : (h : List Step) (o : Option ℕ) (ms : ℕ) → o ≡ closed_in h → ms ≡ moment_in h → is_overdue o ms ≡ true → ShutUpFor h
+overdue_by h None ms e m x = absurd cc
+overdue_by h (Some at) ms e m x =
+    let long : at + CLOSING_LIMIT ≤ ms = grind (arith, nat_tests) in
+    Overdue at (sym e) (subst (λ (n : ℕ). at + CLOSING_LIMIT ≤ n) m long)
+
+overdue_is : (h : List Step) (at : ℕ) (o : Option ℕ) (ms : ℕ) → o ≡ closed_in h → ms ≡ moment_in h → closed_in h ≡ Some at → at + CLOSING_LIMIT ≤ moment_in h → is_overdue o ms ≡ true
+overdue_is h at o ms e m f le =
+    let long : nat_le CLOSING_LIMIT (ms - at) ≡ true = grind (arith, nat_tests, m, le) in
+    ap (λ (x : Option ℕ). is_overdue x ms) (e ∙ f) ∙ long
+
+shut_up_for : (h : List Step) → ArePicks h → is_shut_due (before h) Up ≡ true → ShutUpFor h
+shut_up_for h p e = one (either _ _ e)
+  where
+    w : State
+    w = before h
+
+    k : Known h
+    k = known h p
+
+    s : UpSays h
+    s = up_says h p
+
+    closed : w.up.sent.whole_close ≡ true → Either (has_closed w.up) (has_gone_bad w.up || w.out_of_memory) → ShutUpFor h
+    closed x (OnLeft y) = Closed (sym s.whole_is ∙ x) (ap (λ (o : Option Upstream). is_closed_stream (stream_in o)) (sym (container_is k)) ∙ y)
+    closed x (OnRight y) = last (either _ _ y)
+      where
+        last : Either (has_gone_bad w.up) w.out_of_memory → ShutUpFor h
+        last (OnLeft z) = ClosedBad (sym s.whole_is ∙ x) (ap (λ (o : Option Upstream). is_bad_stream (stream_in o)) (sym (container_is k)) ∙ z)
+        last (OnRight z) = ClosedLast (sym s.whole_is ∙ x) (sym (memory_is k) ∙ z)
+
+    unopened : (b : Bool) → w.up.sent.«open» ≡ b → not b ≡ true → is_closing w.conn ≡ true → ShutUpFor h
+    unopened true f x y = absurd cc
+    unopened false f x y = Unopened (sym (ap is_closing (conn_is k)) ∙ y) (sym s.open_is ∙ f)
+
+    four : Either (w.up.sent.whole_close && (has_closed w.up || (has_gone_bad w.up || w.out_of_memory))) (is_closing w.conn && not w.up.sent.«open») → ShutUpFor h
+    four (OnLeft x) = closed (and_left w.up.sent.whole_close _ x) (either _ _ (and_right w.up.sent.whole_close _ x))
+    four (OnRight x) = unopened w.up.sent.«open» refl (and_right (is_closing w.conn) _ x) (and_left (is_closing w.conn) _ x)
+
+    three : Either (is_overdue w.closed_at w.moment) ((w.up.sent.whole_close && (has_closed w.up || (has_gone_bad w.up || w.out_of_memory))) || (is_closing w.conn && not w.up.sent.«open»)) → ShutUpFor h
+    three (OnLeft x) = overdue_by h w.closed_at w.moment (closed_is k) (moment_is k) x
+    three (OnRight x) = four (either _ _ x)
+
+    two : Either (has_ended w.up.side) (is_overdue w.closed_at w.moment || ((w.up.sent.whole_close && (has_closed w.up || (has_gone_bad w.up || w.out_of_memory))) || (is_closing w.conn && not w.up.sent.«open»))) → ShutUpFor h
+    two (OnLeft x) = Ended (sym (side_is k) ∙ ended_by w.up.side x)
+    two (OnRight x) = three (either _ _ x)
+
+    one : Either (has_failed w.up.side) (has_ended w.up.side || (is_overdue w.closed_at w.moment || ((w.up.sent.whole_close && (has_closed w.up || (has_gone_bad w.up || w.out_of_memory))) || (is_closing w.conn && not w.up.sent.«open»)))) → ShutUpFor h
+    one (OnLeft x) = Failed (sym (side_is k) ∙ failed_by w.up.side x)
+    one (OnRight x) = two (either _ _ x)
+
+shut_up_now : (h : List Step) → ArePicks h → ShutUpFor h → is_shut_due (before h) Up ≡ true
+shut_up_now h p f = by f
+  where
+    w : State
+    w = before h
+
+    k : Known h
+    k = known h p
+
+    s : UpSays h
+    s = up_says h p
+
+    behind : ((w.up.sent.whole_close && (has_closed w.up || (has_gone_bad w.up || w.out_of_memory))) || (is_closing w.conn && not w.up.sent.«open»)) ≡ true → is_shut_due w Up ≡ true
+    behind e = in_right (has_failed w.up.side) _ (in_right (has_ended w.up.side) _ (in_right (is_overdue w.closed_at w.moment) _ e))
+
+    closed : list_any is_up_close (sent_up_whole h) ≡ true → (has_closed w.up || (has_gone_bad w.up || w.out_of_memory)) ≡ true → is_shut_due w Up ≡ true
+    closed e f = behind (in_left _ _ (and_both w.up.sent.whole_close _ (s.whole_is ∙ e) f))
+
+    by : ShutUpFor h → is_shut_due w Up ≡ true
+    by (Failed e) = in_left _ _ (ap has_failed (side_is k ∙ e))
+    by (Ended e) = in_right (has_failed w.up.side) _ (in_left _ _ (ap has_ended (side_is k ∙ e)))
+    by (Overdue at e le) =
+        in_right (has_failed w.up.side) _ (in_right (has_ended w.up.side) _ (in_left _ _ (overdue_is h at w.closed_at w.moment (closed_is k) (moment_is k) e le)))
+    by (Closed e f) = closed e (in_left _ _ (ap (λ (o : Option Upstream). is_closed_stream (stream_in o)) (container_is k) ∙ f))
+    by (ClosedBad e f) =
+        closed e (in_right (has_closed w.up) _ (in_left _ _ (ap (λ (o : Option Upstream). is_bad_stream (stream_in o)) (container_is k) ∙ f)))
+    by (ClosedLast e f) = closed e (in_right (has_closed w.up) _ (in_right (has_gone_bad w.up) _ (memory_is k ∙ f)))
+    by (Unopened e f) =
+        behind (in_right (w.up.sent.whole_close && (has_closed w.up || (has_gone_bad w.up || w.out_of_memory))) _
+        (and_both (is_closing w.conn) _ (ap is_closing (conn_is k) ∙ e) (ap not (s.open_is ∙ f))))
+
+pub shuts_up_at_once : (h : List Step) → ArePicks h → ShutsUpAtOnce h
+shuts_up_at_once h p = (shut_up_for h p, shut_up_now h p)

@@ -1,0 +1,510 @@
+-- What the state knows of the units to a container, by the folds.
+use Rattle.std.proofs.Common.{◌≡◌, ℕ, Bool, true, false, not, ◌&&◌, ◌||◌, if◌then◌else◌, List, [], ◌∷◌, ◌++◌, Option, None, Some, append-nil, refl, sym, ap, ◌∙◌, subst}
+use Rattle.std.specs.Prelude.{is_some, map}
+use Rattle.std.specs.List.{list_any}
+use Rattle.std.specs.Option.{option_map, option_to_list}
+use Rattle.std.proofs.lemmas.List.Folds.{list_any-append}
+use Rattle.gate_outside.specs.declared.ports.End.TheVariants.{Client, Up}
+use Rattle.gate_outside.specs.declared.ports.Linked.TheVariants as link
+use Rattle.gate_relay.specs.Sides.{is_absent, is_readable}
+use Rattle.gate_relay.specs.declared.loss.Loss.TheVariants as loss
+use Rattle.gate_relay.specs.declared.sides.Side.{Side}
+use Rattle.gate_relay.specs.declared.sides.Side.TheVariants as side
+use Rattle.machine_091.specs.Calls.{after_ended, after_opened, closing_phase, opened_phase}
+use Rattle.machine_091.specs.State.{is_closing, is_opening}
+use Rattle.machine_091.specs.Transitions.{unit_step}
+use Rattle.machine_091.specs.Transitions as machine
+use Rattle.machine_091.specs.declared.state.Connection.{Connection}
+use Rattle.machine_091.specs.declared.state.Phase91.{Phase91}
+use Rattle.machine_091.specs.declared.state.Phase91.TheVariants as phase
+use Rattle.machine_091.specs.declared.unit.Unit91.{Unit91}
+use Rattle.machine_10.specs.Transitions as ten
+use Rattle.machine_10.specs.Transitions.{Meaning}
+use Rattle.machine_10.specs.declared.state.Phase10.{Phase10}
+use Rattle.machine_10.specs.declared.state.Upstream.{Upstream}
+use Rattle.machine_10.specs.declared.unit.Unit10.{Unit10}
+use Rattle.performatives_10.specs.declared.condition.Condition.{Condition}
+use Rattle.gate_model.specs.declared.outgoing.Outgoing.TheVariants.{ToClient, ToUp}
+use Rattle.gate_model.specs.declared.outgoing.UpPending.{UpPending}
+use Rattle.gate_model.specs.declared.outgoing.UpSent.{UpSent}
+use Rattle.gate_model.specs.declared.outgoing.UpUnit.{UpUnit}
+use Rattle.gate_model.specs.declared.outgoing.UpUnit.TheVariants as up
+use Rattle.gate_model.specs.Asked.{called, called_by, called_from, due_up, is_opening_unit, is_up_close, is_up_open, sent_up_whole}
+use Rattle.gate_model.specs.Due.{pick}
+use Rattle.gate_model.specs.Folds.{Peers, accepted_in, conn_by, connection, container, container_kept, leaving_in, moment_in, peers, peers_came, peers_heard, ran_out_in, sent_up, sent_up_at}
+use Rattle.gate_model.specs.Picks.{ArePicks}
+use Rattle.gate_model.specs.State.{State, Step, Began, Moment, Came, TakenUp, Heard, Joined, Lost, Gave, Whole, OutOfMemory, after_want, before, came, close_if, fail, failed, heard, is_limit_reached, left, with_meaning}
+use Rattle.gate_model.specs.Upstream.{UpState, begun, closing_with, container_by, ended_in, first, heard_up, is_idle_due, meaning_by, no_end, nothing_due, opening_rows, rows_in, up_rows, when_up, with_begun, with_whole, without_up}
+use Rattle.gate_model.proofs.Connections.{clash}
+use Rattle.gate_model.proofs.Known.{Known, conn_is, container_is, keep_is, known, memory_is, moment_is}
+use Rattle.gate_model.proofs.Openings.{UpTo, Ups, phase_in, up_to_closed, ups_gone, ups_heard, ups_other}
+use Rattle.gate_model.proofs.Outcomes.{Outcome, Greets, Parts, LogsIn, Tunes, Asks, Passes, Refuses, Parting, Calls, Asking, Frees, Closes, Answers, Ignores, outcome}
+
+-- ---- before the login there is no container
+
+abbrev pub is_early : Phase91 → Bool
+is_early phase.Header = true
+is_early phase.Start = true
+is_early phase.Tune = false
+is_early phase.Open = false
+is_early phase.Running = false
+is_early phase.Closing = false
+is_early phase.Closed = false
+
+abbrev pub Early : Peers → Type 0
+Early p = is_early p.client.phase ≡ true → p.container ≡ None
+
+closing_late : (p : Phase91) → is_early (closing_phase p) ≡ false
+closing_late phase.Header = refl
+closing_late phase.Start = refl
+closing_late phase.Tune = refl
+closing_late phase.Open = refl
+closing_late phase.Running = refl
+closing_late phase.Closing = refl
+closing_late phase.Closed = refl
+
+early_came : (p : Peers) (u : Unit91) → Early p → Early (peers_came p u)
+early_came p u f = by (unit_step p.client u) (outcome p.client u)
+  where
+    c : Connection
+    c = p.client
+
+    by : (x : machine.Step) → Outcome c u x → is_early (after_want x.1 x.0).phase ≡ true → container_kept p.container x.1 ≡ None
+    by _ (Greets e) k = f (ap is_early e)
+    by _ (Parts e) k = absurd cc
+    by _ (LogsIn m r e) k = absurd cc
+    by _ (Tunes l e) k = absurd cc
+    by _ (Asks e) k = f k
+    by _ Passes k = f k
+    by _ (Refuses r a f e) k = absurd cc
+    by _ (Parting e) k = absurd cc
+    by _ (Calls n s m e) k = absurd (clash _ k (closing_late c.phase))
+    by _ (Asking n m e) k = absurd (clash _ k (closing_late c.phase))
+    by _ (Frees n) k = f k
+    by _ (Closes e) k = absurd cc
+    by _ (Answers e) k = absurd cc
+    by _ (Ignores e) k = f k
+
+early_opened : (asked : Bool) (p : Phase91) → is_early (opened_phase asked p) ≡ true → is_early p ≡ true
+early_opened asked phase.Header e = refl
+early_opened asked phase.Start e = refl
+early_opened asked phase.Tune e = absurd cc
+early_opened true phase.Open e = absurd cc
+early_opened false phase.Open e = absurd cc
+early_opened asked phase.Running e = absurd cc
+early_opened asked phase.Closing e = absurd cc
+early_opened asked phase.Closed e = absurd cc
+
+early_meaning : (m : Meaning) (c : Connection) → is_early (conn_by m c).phase ≡ true → is_early c.phase ≡ true
+early_meaning ten.Nothing c e = e
+early_meaning ten.Init c e = e
+early_meaning ten.AmqpHeader c e = e
+early_meaning ten.Opened c e = by (is_opening c) e
+  where
+    by : (b : Bool) → is_early (if b then after_opened c else c).phase ≡ true → is_early c.phase ≡ true
+    by true e = early_opened c.asked c.phase e
+    by false e = e
+early_meaning (ten.OfSession g p payload) c e = e
+early_meaning (ten.Closed x) c e = absurd (clash _ e (closing_late c.phase))
+early_meaning ten.Refused c e = absurd (clash _ e (closing_late c.phase))
+early_meaning (ten.Violation why) c e = absurd (clash _ e (closing_late c.phase))
+
+early_if : (b : Bool) (p q : Peers) → Early p → Early q → Early (if b then p else q)
+early_if true p q f g = f
+early_if false p q f g = g
+
+early_close : (b : Bool) (c : Connection) → is_early (close_if b c).phase ≡ true → is_early c.phase ≡ true
+early_close true c e = absurd (clash _ e (closing_late c.phase))
+early_close false c e = e
+
+pub early : (h : List Step) → Early (peers h)
+early [] e = refl
+early (Began vhost n ms ∷ h) e = refl
+early (Moment ms ∷ h) e = early h (early_close (is_limit_reached (connection h) (accepted_in h) ms) (connection h) e)
+early (Came u ∷ h) e = early_if (ran_out_in h) (peers h) (peers_came (peers h) u) (early h) (early_came (peers h) u (early h)) e
+early (TakenUp ∷ h) e = early_if (not (ran_out_in h) && leaving_in h) (record (peers h) { client = after_ended (connection h) }) (peers h) (λ x. absurd cc) (early h) e
+early (Heard u ∷ h) e =
+    early_if (ran_out_in h) (peers h) (peers_heard (peers h) u) (early h)
+    (λ x. ap (λ (o : Option Upstream). container_by o u) (early h (early_meaning (meaning_by (container h) u) (connection h) x))) e
+early (Joined link.Ok ∷ h) e = early h e
+early (Joined link.Failed ∷ h) e = absurd (clash _ e (closing_late (connection h).phase))
+early (Lost Client how ∷ h) e = early h e
+early (Lost Up loss.Ended ∷ h) e = absurd (clash _ e (closing_late (connection h).phase))
+early (Lost Up loss.Failed ∷ h) e = absurd (clash _ e (closing_late (connection h).phase))
+early (Lost Up loss.Shut ∷ h) e = early h e
+early (Gave u ∷ h) e = early h e
+early (Whole end ∷ h) e = early h e
+early (OutOfMemory ∷ h) e = absurd (clash _ e (closing_late (connection h).phase))
+
+-- ---- what counts of the state
+
+pub record Part : Type 0 where
+  pub pending : UpPending
+  pub at : Phase10
+  pub going : Option UpUnit
+  pub sent : UpSent
+  pub last_sent_at : ℕ
+  pub absent : Bool
+
+abbrev pub part : UpState → Part
+part s = record {
+  pending = s.pending;
+  at = phase_in s.container;
+  going = s.in_progress;
+  sent = s.sent;
+  last_sent_at = s.last_sent_at;
+  absent = is_absent s.side;
+}
+
+pub record UpSaysIn (s : Part) (went whole : List UpUnit) (at : ℕ) (q : UpPending) : Type 0 where
+  pub ups : Ups s.pending q s.at went
+  pub going_is : went ≡ whole ++ option_to_list s.going
+  pub open_is : s.sent.«open» ≡ list_any is_up_open went
+  pub close_is : s.sent.close ≡ list_any is_up_close went
+  pub whole_is : s.sent.whole_close ≡ list_any is_up_close whole
+  pub at_is : s.last_sent_at ≡ at
+  pub fresh : s.absent ≡ true → went ≡ []
+
+abbrev pub UpSays : List Step → Type 0
+UpSays h = UpSaysIn (part (before h).up) (sent_up h) (sent_up_whole h) (sent_up_at h) (called h)
+
+-- ---- steps that change none of that, or little
+
+kept_phase : (c : Connection) (u : Unit91) (o : Option Upstream) → (is_early c.phase ≡ true → o ≡ None)
+    → phase_in (container_kept o (unit_step c u).1) ≡ phase_in o
+kept_phase c u o f = by (unit_step c u) (outcome c u)
+  where
+    by : (x : machine.Step) → Outcome c u x → phase_in (container_kept o x.1) ≡ phase_in o
+    by _ (Greets e) = refl
+    by _ (Parts e) = refl
+    by _ (LogsIn m r e) = sym (ap phase_in (f (ap is_early e)))
+    by _ (Tunes l e) = refl
+    by _ (Asks e) = refl
+    by _ Passes = refl
+    by _ (Refuses r a f e) = refl
+    by _ (Parting e) = refl
+    by _ (Calls n s m e) = refl
+    by _ (Asking n m e) = refl
+    by _ (Frees n) = refl
+    by _ (Closes e) = refl
+    by _ (Answers e) = refl
+    by _ (Ignores e) = refl
+
+part_closing : (b : Bool) (why : Option Condition) (s : UpState) → part (closing_with b why s) ≡ part s
+part_closing true why s = refl
+part_closing false why s = refl
+
+part_came : (w : State) (u : Unit91) → (is_early w.conn.phase ≡ true → w.up.container ≡ None) → part (if w.out_of_memory then w else came w u).up ≡ part w.up
+part_came w u f = by w.out_of_memory
+  where
+    by : (b : Bool) → part (if b then w else came w u).up ≡ part w.up
+    by true = refl
+    by false =
+        part_closing (is_closing w.conn) _ _ ∙ ap part (keep_is (unit_step w.conn u).1 w.up)
+        ∙ ap (λ (x : Phase10). record (part w.up) { at = x }) (kept_phase w.conn u w.up.container f)
+
+part_taken : (w : State) (b : Bool) → part (if b then left w else w).up ≡ part w.up
+part_taken w true = part_closing (is_closing w.conn) None w.up
+part_taken w false = refl
+
+part_fail : (code : ℕ) (why : Option Condition) (w : State) → part (fail code why w).up ≡ part w.up
+part_fail code why w = by (is_closing w.conn)
+  where
+    by : (b : Bool) → part (if b then w else failed code why w).up ≡ part w.up
+    by true = refl
+    by false = refl
+
+abbrev with_called : Meaning → Part → Part
+with_called m s = record s { pending = called_by m s.pending }
+
+part_meaning : (m : Meaning) (w : State) → part (with_meaning m w).up ≡ with_called m (part w.up)
+part_meaning ten.Nothing w = refl
+part_meaning ten.Init w = refl
+part_meaning ten.AmqpHeader w = refl
+part_meaning ten.Opened w = by (is_opening w.conn)
+  where
+    by : (b : Bool) → part (if b then record w { conn = after_opened w.conn; pending = record w.pending { open_ok = true } } else w).up ≡ part w.up
+    by true = refl
+    by false = refl
+part_meaning (ten.OfSession g p payload) w = refl
+part_meaning (ten.Closed x) w = part_fail _ None w
+part_meaning ten.Refused w = part_fail _ None w
+part_meaning (ten.Violation why) w = part_fail _ (Some why) w
+
+-- a unit of the container
+up_heard : (w : State) (u : Unit10) (b : Bool) (o : Option Upstream) (went whole : List UpUnit) (at : ℕ) (q : UpPending)
+    → w.out_of_memory ≡ b → w.up.container ≡ o → UpSaysIn (part w.up) went whole at q
+    → UpSaysIn (part (if w.out_of_memory then w else heard w u).up) went whole at (if b then q else called_from o u q)
+up_heard w u b o went whole at q m e s =
+    subst (λ (x : Bool). UpSaysIn (part (if x then w else heard w u).up) went whole at (if b then q else called_from o u q)) (sym m)
+    (subst (λ (x : Option Upstream). UpSaysIn (part (if b then w else heard w u).up) went whole at (if b then q else called_from x u q)) e (by b))
+  where
+    by : (b : Bool) → UpSaysIn (part (if b then w else heard w u).up) went whole at (if b then q else called_from w.up.container u q)
+    by true = s
+    by false =
+        subst (λ (x : Part). UpSaysIn x went whole at (called_from w.up.container u q))
+        (sym (part_meaning (meaning_by w.up.container u) (record w { up = heard_up u w.up })))
+        (record {
+          ups = ups_heard w.up.container u w.up.pending q went s.ups;
+          going_is = s.going_is;
+          open_is = s.open_is;
+          close_is = s.close_is;
+          whole_is = s.whole_is;
+          at_is = s.at_is;
+          fresh = s.fresh;
+        })
+
+-- the end is there no more
+up_gone : (s : Part) (went whole : List UpUnit) (at : ℕ) (q : UpPending) → UpSaysIn s went whole at q → UpSaysIn (record s { absent = false }) went whole at q
+up_gone s went whole at q k = record {
+  ups = k.ups;
+  going_is = k.going_is;
+  open_is = k.open_is;
+  close_is = k.close_is;
+  whole_is = k.whole_is;
+  at_is = k.at_is;
+  fresh = λ e. absurd (clash false e refl);
+}
+
+ups_ended : (o : Option Upstream) (p q : UpPending) (went : List UpUnit) → Ups p q (phase_in o) went → Ups p q (phase_in (ended_in o)) went
+ups_ended None p q went s = s
+ups_ended (Some c) p q went s = record { same = s.same; mine = up_to_closed p; theirs = up_to_closed q }
+
+up_lost : (x : Side) (w : State) (code : ℕ) (went whole : List UpUnit) (at : ℕ) (q : UpPending) → is_absent x ≡ false → UpSaysIn (part w.up) went whole at q
+    → UpSaysIn (part (fail code None (record w { up = record w.up { side = x; container = ended_in w.up.container } })).up) went whole at q
+up_lost x w code went whole at q e k =
+    subst (λ (y : Part). UpSaysIn y went whole at q) (sym (part_fail code None _))
+    (record {
+      ups = ups_ended w.up.container w.up.pending q went k.ups;
+      going_is = k.going_is;
+      open_is = k.open_is;
+      close_is = k.close_is;
+      whole_is = k.whole_is;
+      at_is = k.at_is;
+      fresh = λ f. absurd (clash _ f e);
+    })
+
+-- ---- the unit that goes
+
+pub data Picked (closing : Bool) (s : UpState) (ms : ℕ) (u : UpUnit) : Type 0 where
+  Closing : closing ≡ true → s.sent.«open» ≡ true → u ≡ up.Close s.condition → Picked closing s ms u
+  Opening : closing ≡ false → first (opening_rows s.pending) ≡ Some u → Picked closing s ms u
+  Telling : closing ≡ false → is_idle_due s ms ≡ true → u ≡ up.Empty → Picked closing s ms u
+
+pub record GoesUp (closing : Bool) (s : UpState) (ms : ℕ) (u : UpUnit) : Type 0 where
+  pub readable : is_readable s.side ≡ true
+  pub unclosed : s.sent.close ≡ false
+  pub why : Picked closing s ms u
+
+picked_in : (closing : Bool) (s : UpState) (ms : ℕ) (u : UpUnit) → first (rows_in closing s ms) ≡ Some u → Picked closing s ms u
+picked_in true s ms u e = by s.sent.«open» refl e
+  where
+    by : (b : Bool) → s.sent.«open» ≡ b → first (when_up b (up.Close s.condition)) ≡ Some u → Picked true s ms u
+    by true f e = Closing refl f (let here : up.Close s.condition ≡ u = cc in sym here)
+    by false f e = absurd cc
+picked_in false s ms u e = by (opening_rows s.pending) (is_idle_due s ms) refl refl e
+  where
+    by : (us : List UpUnit) (b : Bool) → opening_rows s.pending ≡ us → is_idle_due s ms ≡ b → first (us ++ when_up b up.Empty) ≡ Some u → Picked false s ms u
+    by [] true f g e = Telling refl g (let here : up.Empty ≡ u = cc in sym here)
+    by [] false f g e = absurd cc
+    by (x ∷ us) b f g e = Opening refl (ap first f ∙ e)
+
+goes_by : (closing : Bool) (s : UpState) (ms : ℕ) (u : UpUnit) → first (up_rows closing s ms) ≡ Some u → GoesUp closing s ms u
+goes_by closing s ms u e = by (is_readable s.side) s.sent.close refl refl e
+  where
+    by : (r c : Bool) → is_readable s.side ≡ r → s.sent.close ≡ c → first (if r && not c then rows_in closing s ms else []) ≡ Some u → GoesUp closing s ms u
+    by true false f g e = record { readable = f; unclosed = g; why = picked_in closing s ms u e }
+    by true true f g e = absurd cc
+    by false c f g e = absurd cc
+
+unmap : (us : List UpUnit) (u : UpUnit) → first (map ToUp us) ≡ Some (ToUp u) → first us ≡ Some u
+unmap [] u e = absurd cc
+unmap (x ∷ us) u e = let here : x ≡ u = cc in ap Some here
+
+pub goes_up : (w : State) (u : UpUnit) → pick w Up ≡ Some (ToUp u) → GoesUp (w.out_of_memory || is_closing w.conn) w.up w.moment u
+goes_up w u e = goes_by (w.out_of_memory || is_closing w.conn) w.up w.moment u (unmap (due_up w) u e)
+
+ups_begun : (s : UpState) (closing : Bool) (ms : ℕ) (u : UpUnit) (q : UpPending) (at : Phase10) (went : List UpUnit) → Picked closing s ms u → Ups s.pending q at went
+    → Ups (without_up u s.pending) q at (went ++ u ∷ [])
+ups_begun s closing ms u q at went (Closing k o e) x = ups_other s.pending q at went u (ap is_opening_unit e) x
+ups_begun s closing ms u q at went (Opening k e) x = ups_gone s.pending q at went u e x
+ups_begun s closing ms u q at went (Telling k i e) x = ups_other s.pending q at went u (ap is_opening_unit e) x
+
+-- ---- what was sent
+
+or_true : (b : Bool) → true ≡ (b || true)
+or_true true = refl
+or_true false = refl
+
+or_false : (b : Bool) → b ≡ (b || false)
+or_false true = refl
+or_false false = refl
+
+or_one : (b : Bool) → (b || false) ≡ b
+or_one true = refl
+or_one false = refl
+
+open_after : (u : UpUnit) (s : UpSent) → (with_begun u s).«open» ≡ (s.«open» || is_up_open u)
+open_after up.SaslHeader s = or_false s.«open»
+open_after up.SaslInit s = or_false s.«open»
+open_after up.AmqpHeader s = or_false s.«open»
+open_after up.Open s = or_true s.«open»
+open_after (up.Close c) s = or_false s.«open»
+open_after up.Empty s = or_false s.«open»
+
+close_after : (u : UpUnit) (s : UpSent) → (with_begun u s).close ≡ (s.close || is_up_close u)
+close_after up.SaslHeader s = or_false s.close
+close_after up.SaslInit s = or_false s.close
+close_after up.AmqpHeader s = or_false s.close
+close_after up.Open s = or_false s.close
+close_after (up.Close c) s = or_true s.close
+close_after up.Empty s = or_false s.close
+
+whole_begun : (u : UpUnit) (s : UpSent) → (with_begun u s).whole_close ≡ s.whole_close
+whole_begun up.SaslHeader s = refl
+whole_begun up.SaslInit s = refl
+whole_begun up.AmqpHeader s = refl
+whole_begun up.Open s = refl
+whole_begun (up.Close c) s = refl
+whole_begun up.Empty s = refl
+
+whole_after : (u : UpUnit) (s : UpSent) → (with_whole (Some u) s).whole_close ≡ (s.whole_close || is_up_close u)
+whole_after up.SaslHeader s = or_false s.whole_close
+whole_after up.SaslInit s = or_false s.whole_close
+whole_after up.AmqpHeader s = or_false s.whole_close
+whole_after up.Open s = or_false s.whole_close
+whole_after (up.Close c) s = or_true s.whole_close
+whole_after up.Empty s = or_false s.whole_close
+
+open_whole : (u : UpUnit) (s : UpSent) → (with_whole (Some u) s).«open» ≡ s.«open»
+open_whole up.SaslHeader s = refl
+open_whole up.SaslInit s = refl
+open_whole up.AmqpHeader s = refl
+open_whole up.Open s = refl
+open_whole (up.Close c) s = refl
+open_whole up.Empty s = refl
+
+close_whole : (u : UpUnit) (s : UpSent) → (with_whole (Some u) s).close ≡ s.close
+close_whole up.SaslHeader s = refl
+close_whole up.SaslInit s = refl
+close_whole up.AmqpHeader s = refl
+close_whole up.Open s = refl
+close_whole (up.Close c) s = refl
+close_whole up.Empty s = refl
+
+any_more : (test : UpUnit → Bool) (went : List UpUnit) (u : UpUnit) (old new : Bool) → old ≡ list_any test went → new ≡ (old || test u)
+    → new ≡ list_any test (went ++ u ∷ [])
+any_more test went u old new e f =
+    f ∙ ap (λ x. x || test u) e ∙ sym (list_any-append test went (u ∷ []) ∙ ap (λ x. list_any test went || x) (or_one (test u)))
+
+free : (o : Option UpUnit) → is_some (option_map ToUp o) ≡ false → o ≡ None
+free None e = refl
+free (Some u) e = absurd cc
+
+-- the first byte of a unit
+up_begun : (s : UpState) (closing : Bool) (ms : ℕ) (u : UpUnit) (went whole : List UpUnit) (at : ℕ) (q : UpPending)
+    → is_some (option_map ToUp s.in_progress) ≡ false → GoesUp closing s ms u → UpSaysIn (part s) went whole at q
+    → UpSaysIn (part (begun u s)) (went ++ u ∷ []) whole at q
+up_begun s closing ms u went whole at q e g k = record {
+  ups = ups_begun s closing ms u q (phase_in s.container) went g.why k.ups;
+  going_is = ap (λ (x : List UpUnit). x ++ u ∷ []) (k.going_is ∙ ap (λ (o : Option UpUnit). whole ++ option_to_list o) (free s.in_progress e) ∙ append-nil whole);
+  open_is = any_more is_up_open went u s.sent.«open» _ k.open_is (open_after u s.sent);
+  close_is = any_more is_up_close went u s.sent.close _ k.close_is (close_after u s.sent);
+  whole_is = whole_begun u s.sent ∙ k.whole_is;
+  at_is = k.at_is;
+  fresh = λ x. absurd (clash _ x (absent_not s.side g.readable));
+}
+  where
+    absent_not : (x : Side) → is_readable x ≡ true → is_absent x ≡ false
+    absent_not side.Absent f = absurd cc
+    absent_not side.Open f = refl
+    absent_not side.Ended f = absurd cc
+    absent_not side.Failed f = absurd cc
+    absent_not side.Gone f = absurd cc
+
+-- and its last
+up_whole : (s : Part) (o : Option UpUnit) (went whole : List UpUnit) (at ms ms' : ℕ) (q : UpPending) → s.going ≡ o → is_some (option_map ToUp o) ≡ true → ms ≡ ms'
+    → UpSaysIn s went whole at q → UpSaysIn (record s { going = None; sent = with_whole o s.sent; last_sent_at = ms }) went went ms' q
+up_whole s None went whole at ms ms' q g e m k = absurd cc
+up_whole s (Some u) went whole at ms ms' q g e m k =
+    let all : whole ++ u ∷ [] ≡ went = sym (k.going_is ∙ ap (λ (o : Option UpUnit). whole ++ option_to_list o) g) in
+    record {
+      ups = k.ups;
+      going_is = sym (append-nil went);
+      open_is = open_whole u s.sent ∙ k.open_is;
+      close_is = close_whole u s.sent ∙ k.close_is;
+      whole_is = any_more is_up_close whole u s.sent.whole_close _ k.whole_is (whole_after u s.sent) ∙ ap (list_any is_up_close) all;
+      at_is = m;
+      fresh = k.fresh;
+    }
+
+-- the connection upstream is there
+up_linked : (s : UpState) (went whole : List UpUnit) (at ms ms' : ℕ) (q : UpPending) → is_absent s.side ≡ true → ms ≡ ms' → UpSaysIn (part s) went whole at q
+    → UpSaysIn (part (record s { side = side.Open; pending = record nothing_due { sasl_header = true }; last_sent_at = ms })) went whole ms'
+    (record nothing_due { sasl_header = true })
+up_linked s went whole at ms ms' q e m k = record {
+  ups = subst (λ (x : List UpUnit). Ups (record nothing_due { sasl_header = true }) (record nothing_due { sasl_header = true }) (phase_in s.container) x) (sym (k.fresh e))
+      (record { same = refl; mine = none; theirs = none });
+  going_is = k.going_is;
+  open_is = k.open_is;
+  close_is = k.close_is;
+  whole_is = k.whole_is;
+  at_is = m;
+  fresh = λ f. absurd (clash false f refl);
+}
+  where
+    none : UpTo (phase_in s.container) (record nothing_due { sasl_header = true })
+    none = record { init = λ x. refl; amqp = λ x. refl; own = λ x. refl }
+
+-- ---- all steps
+
+right_of : (a b : Bool) → (a && b) ≡ true → b ≡ true
+right_of true b e = e
+right_of false b e = absurd cc
+
+up_none : UpSaysIn (part no_end) [] [] 0 nothing_due
+up_none = record {
+  ups = record { same = refl; mine = record { init = λ x. refl; amqp = λ x. refl; own = λ x. refl }; theirs = record { init = λ x. refl; amqp = λ x. refl; own = λ x. refl } };
+  going_is = refl;
+  open_is = refl;
+  close_is = refl;
+  whole_is = refl;
+  at_is = refl;
+  fresh = λ x. refl;
+}
+
+early_now : {h : List Step} → Known h → is_early (before h).conn.phase ≡ true → (before h).up.container ≡ None
+early_now {h} k e = container_is k ∙ early h (ap (λ (c : Connection). is_early c.phase) (sym (conn_is k)) ∙ e)
+
+pub up_says : (h : List Step) → ArePicks h → UpSays h
+up_says [] p = up_none
+up_says (Began vhost n ms ∷ h) p = subst (λ (x : List Step). UpSays (Began vhost n ms ∷ x)) (sym p.0) up_none
+up_says (Moment ms ∷ h) p = up_says h p.1
+up_says (Came u ∷ h) p =
+    subst (λ (x : Part). UpSaysIn x (sent_up h) (sent_up_whole h) (sent_up_at h) (called h)) (sym (part_came (before h) u (early_now (known h p.1)))) (up_says h p.1)
+up_says (TakenUp ∷ h) p =
+    subst (λ (x : Part). UpSaysIn x (sent_up h) (sent_up_whole h) (sent_up_at h) (called h)) (sym (part_taken (before h) _)) (up_says h p.1)
+up_says (Heard u ∷ h) p =
+    let k : Known h = known h p.1 in
+    up_heard (before h) u (ran_out_in h) (container h) (sent_up h) (sent_up_whole h) (sent_up_at h) (called h) (memory_is k) (container_is k) (up_says h p.1)
+up_says (Joined link.Ok ∷ h) p =
+    up_linked (before h).up (sent_up h) (sent_up_whole h) (sent_up_at h) (before h).moment _ (called h) (right_of (is_opening (before h).conn) _ p.0)
+    (moment_is (known h p.1)) (up_says h p.1)
+up_says (Joined link.Failed ∷ h) p =
+    subst (λ (x : Part). UpSaysIn x (sent_up h) (sent_up_whole h) (sent_up_at h) (called h)) (sym (part_fail _ None _))
+    (up_gone (part (before h).up) (sent_up h) (sent_up_whole h) (sent_up_at h) (called h) (up_says h p.1))
+up_says (Lost Client loss.Ended ∷ h) p = up_says h p.1
+up_says (Lost Client loss.Failed ∷ h) p = up_says h p.1
+up_says (Lost Client loss.Shut ∷ h) p = up_says h p.1
+up_says (Lost Up loss.Ended ∷ h) p = up_lost side.Ended (before h) _ (sent_up h) (sent_up_whole h) (sent_up_at h) (called h) refl (up_says h p.1)
+up_says (Lost Up loss.Failed ∷ h) p = up_lost side.Failed (before h) _ (sent_up h) (sent_up_whole h) (sent_up_at h) (called h) refl (up_says h p.1)
+up_says (Lost Up loss.Shut ∷ h) p = up_gone (part (before h).up) (sent_up h) (sent_up_whole h) (sent_up_at h) (called h) (up_says h p.1)
+up_says (Gave (ToClient u) ∷ h) p = up_says h p.1
+up_says (Gave (ToUp u) ∷ h) p =
+    up_begun (before h).up _ _ u (sent_up h) (sent_up_whole h) (sent_up_at h) (called h) p.0.0 (goes_up (before h) u p.0.1) (up_says h p.1)
+up_says (Whole Client ∷ h) p = up_says h p.1
+up_says (Whole Up ∷ h) p =
+    up_whole (part (before h).up) (before h).up.in_progress (sent_up h) (sent_up_whole h) (sent_up_at h) (before h).moment (moment_in h) (called h) refl p.0
+    (moment_is (known h p.1)) (up_says h p.1)
+up_says (OutOfMemory ∷ h) p =
+    subst (λ (x : Part). UpSaysIn x (sent_up h) (sent_up_whole h) (sent_up_at h) (called h)) (sym (part_closing (is_closing (before h).conn) _ (before h).up)) (up_says h p.1)

@@ -1,0 +1,258 @@
+-- What ends a client's connection waits for the upstream end, and connection.open-ok for the container's open.
+use Rattle.std.proofs.Common.{◌≡◌, ℕ, Bool, true, false, not, ◌&&◌, ◌||◌, if◌then◌else◌, List, [], ◌∷◌, Option, None, Some, refl, sym, ap, ◌∙◌, subst}
+use Rattle.gate_outside.specs.declared.ports.End.TheVariants.{Client, Up}
+use Rattle.gate_outside.specs.declared.ports.Linked.TheVariants as link
+use Rattle.gate_relay.specs.Sides.{is_readable}
+use Rattle.gate_relay.specs.declared.loss.Loss.TheVariants as loss
+use Rattle.machine_091.specs.State.{is_closing}
+use Rattle.machine_091.specs.Transitions.{unit_step}
+use Rattle.machine_091.specs.declared.state.Phase91.{Phase91}
+use Rattle.machine_091.specs.declared.state.Phase91.TheVariants as phase
+use Rattle.machine_091.specs.declared.unit.Refusal.{Refusal}
+use Rattle.machine_091.specs.declared.unit.Unit91.{Unit91}
+use Rattle.machine_091.specs.declared.unit.Want91.{Want91}
+use Rattle.machine_091.specs.declared.unit.Want91.TheVariants as want
+use Rattle.machine_10.specs.Transitions as ten
+use Rattle.machine_10.specs.Transitions.{Meaning}
+use Rattle.machine_10.specs.declared.state.Upstream.{Upstream}
+use Rattle.machine_10.specs.declared.unit.Unit10.{Unit10}
+use Rattle.performatives_10.specs.declared.condition.Condition.{Condition}
+use Rattle.gate_model.specs.declared.outgoing.Outgoing.TheVariants.{ToClient, ToUp}
+use Rattle.gate_model.specs.declared.reply.Pending.{Pending}
+use Rattle.gate_model.specs.declared.reply.Reply.{Reply}
+use Rattle.gate_model.specs.declared.reply.Reply.TheVariants as reply
+use Rattle.gate_model.specs.Due.{may_go, rows}
+use Rattle.gate_model.specs.Folds.{container, ran_out_in}
+use Rattle.gate_model.specs.Picks.{ArePicks}
+use Rattle.gate_model.specs.State.{State, Step, Began, Moment, Came, TakenUp, Heard, Joined, Lost, Gave, Whole, OutOfMemory, before, came, fail, failed, heard, is_settled, last_pending, left, turns_foreign, with_header, with_meaning, with_want, without}
+use Rattle.gate_model.specs.Upstream.{first, has_closed, heard_up, is_closed_stream, meaning_by, stream_in}
+use Rattle.gate_model.specs.Waiting.{EndsWhenSettled, OpensWhenOpened, Settled, RanOut, NotOpen, HasClosed, is_ending, is_opened, opened_in}
+use Rattle.gate_model.proofs.Connections.{clash}
+use Rattle.gate_model.proofs.Known.{Known, container_is, known, memory_is, side_is}
+use Rattle.gate_model.proofs.Said.{Picked, IsDue, Beats, calm_now, picked}
+
+-- ---- what ends the connection
+
+abbrev pending_of : (protocol start tune open_ok ok : Bool) (close : Option Refusal) (no_memory : Bool) → Pending
+pending_of protocol start tune open_ok ok close no_memory =
+    record { protocol = protocol; start = start; tune = tune; open_ok = open_ok; close_ok = ok; close = close; no_memory = no_memory }
+
+no_ending : (it r : Reply) → is_ending it ≡ false → Some it ≡ Some r → is_ending r ≡ true → ⊥
+no_ending it r isnt same e = let here : it ≡ r = cc in clash (is_ending it) (ap is_ending here ∙ e) isnt
+
+ends_settled : (settled : Bool) (d : Pending) (r : Reply) → (settled ≡ false → d.no_memory ≡ false) → first (rows (may_go settled d)) ≡ Some r
+    → is_ending r ≡ true → settled ≡ true
+ends_settled settled d r calm e is = by settled d.protocol d.start d.tune d.open_ok d.close_ok d.close d.no_memory calm e
+  where
+    by : (settled protocol start tune open_ok ok : Bool) (close : Option Refusal) (wanting : Bool) → (settled ≡ false → wanting ≡ false)
+        → first (rows (may_go settled (pending_of protocol start tune open_ok ok close wanting))) ≡ Some r → settled ≡ true
+    by true protocol start tune open_ok ok close wanting calm same = refl
+    by false true start tune open_ok ok close wanting calm same = absurd (no_ending reply.Protocol r refl same is)
+    by false false true tune open_ok ok close wanting calm same = absurd (no_ending reply.Start r refl same is)
+    by false false false true open_ok ok close wanting calm same = absurd (no_ending reply.Tune r refl same is)
+    by false false false false true ok close wanting calm same = absurd (no_ending reply.OpenOk r refl same is)
+    by false false false false false ok close true calm same = absurd (clash true refl (calm refl))
+    by false false false false false ok close false calm same = absurd cc
+
+-- what the state says of that, the folds say
+settled_in : (h : List Step) → Known h → is_settled (before h) ≡ true → Settled h
+settled_in h k e = by (before h).out_of_memory (is_readable (before h).up.side) refl refl e
+  where
+    by : (m b : Bool) → (before h).out_of_memory ≡ m → is_readable (before h).up.side ≡ b → (m || (not b || has_closed (before h).up)) ≡ true → Settled h
+    by true b f g e = RanOut (sym (memory_is k) ∙ f)
+    by false false f g e = NotOpen (ap is_readable (sym (side_is k)) ∙ g)
+    by false true f g e = HasClosed (ap (λ (o : Option Upstream). is_closed_stream (stream_in o)) (sym (container_is k)) ∙ e)
+
+ends_picked : (h : List Step) (u : Reply) → ArePicks h → Picked (before h) u → is_ending u ≡ true → Settled h
+ends_picked h u p (IsDue e) is = settled_in h (known h p) (ends_settled (is_settled (before h)) (before h).pending u (calm_now h p) e is)
+ends_picked h u p (Beats none due same) is = absurd (clash (is_ending u) is (ap is_ending same))
+
+pub ends_when_settled : (h : List Step) → ArePicks h → EndsWhenSettled h
+ends_when_settled [] p = tt
+ends_when_settled (Gave (ToClient u) ∷ h) p = (ends_picked h u p.1 (picked (before h) u p.0.1), ends_when_settled h p.1)
+ends_when_settled (Gave (ToUp u) ∷ h) p = ends_when_settled h p.1
+ends_when_settled (Began vhost n ms ∷ h) p = ends_when_settled h p.1
+ends_when_settled (Moment ms ∷ h) p = ends_when_settled h p.1
+ends_when_settled (Came u ∷ h) p = ends_when_settled h p.1
+ends_when_settled (TakenUp ∷ h) p = ends_when_settled h p.1
+ends_when_settled (Heard u ∷ h) p = ends_when_settled h p.1
+ends_when_settled (Joined answer ∷ h) p = ends_when_settled h p.1
+ends_when_settled (Lost end how ∷ h) p = ends_when_settled h p.1
+ends_when_settled (Whole end ∷ h) p = ends_when_settled h p.1
+ends_when_settled (OutOfMemory ∷ h) p = ends_when_settled h p.1
+
+-- ---- connection.open-ok
+
+open_ok_after : (b : Bool) (w : Want91) (d : Pending) → (with_header b (with_want w d)).open_ok ≡ d.open_ok
+open_ok_after b want.Nothing d = refl
+open_ok_after b want.Start d = refl
+open_ok_after b (want.Login m r) d = refl
+open_ok_after b want.Tuned d = refl
+open_ok_after b want.OpenUp d = refl
+open_ok_after b (want.Method n m) d = refl
+open_ok_after b (want.ChannelCloseOk n) d = refl
+open_ok_after b want.Close d = refl
+open_ok_after b want.CloseOk d = refl
+open_ok_after b (want.Refuse r) d = refl
+
+open_ok_came : (w : State) (u : Unit91) → (if w.out_of_memory then w else came w u).pending.open_ok ≡ w.pending.open_ok
+open_ok_came w u = by w.out_of_memory
+  where
+    by : (b : Bool) → (if b then w else came w u).pending.open_ok ≡ w.pending.open_ok
+    by true = refl
+    by false = open_ok_after (turns_foreign w.conn u) (unit_step w.conn u).1 w.pending
+
+open_ok_taken : (w : State) (b : Bool) → (if b then left w else w).pending.open_ok ≡ w.pending.open_ok
+open_ok_taken w true = refl
+open_ok_taken w false = refl
+
+open_ok_fail : (code : ℕ) (why : Option Condition) (w : State) → (fail code why w).pending.open_ok ≡ w.pending.open_ok
+open_ok_fail code why w = by (is_closing w.conn)
+  where
+    by : (b : Bool) → (if b then w else failed code why w).pending.open_ok ≡ w.pending.open_ok
+    by true = refl
+    by false = refl
+
+open_ok_meaning : (m : Meaning) (w : State) → (with_meaning m w).pending.open_ok ≡ true → (w.pending.open_ok || is_opened m) ≡ true
+open_ok_meaning m w e = by m e
+  where
+    or_true : (b : Bool) → (b || true) ≡ true
+    or_true true = refl
+    or_true false = refl
+
+    or_left : (b c : Bool) → b ≡ true → (b || c) ≡ true
+    or_left true c e = refl
+    or_left false c e = absurd cc
+
+    by : (m : Meaning) → (with_meaning m w).pending.open_ok ≡ true → (w.pending.open_ok || is_opened m) ≡ true
+    by ten.Nothing e = or_left _ _ e
+    by ten.Init e = or_left _ _ e
+    by ten.AmqpHeader e = or_left _ _ e
+    by ten.Opened e = or_true w.pending.open_ok
+    by (ten.OfSession g p payload) e = or_left _ _ e
+    by (ten.Closed x) e = or_left _ _ (sym (open_ok_fail _ None w) ∙ e)
+    by ten.Refused e = or_left _ _ (sym (open_ok_fail _ None w) ∙ e)
+    by (ten.Violation c) e = or_left _ _ (sym (open_ok_fail _ (Some c) w) ∙ e)
+
+or_case : (a b c : Bool) → (a ≡ true → c ≡ true) → (a || b) ≡ true → (c || b) ≡ true
+or_case true b true f e = refl
+or_case true b false f e = absurd (clash false (f refl) refl)
+or_case false b true f e = refl
+or_case false b false f e = e
+
+open_ok_heard : (w : State) (u : Unit10) (b : Bool) (o : Option Upstream) (opened : Bool) → w.out_of_memory ≡ b → w.up.container ≡ o
+    → (w.pending.open_ok ≡ true → opened ≡ true) → (if w.out_of_memory then w else heard w u).pending.open_ok ≡ true
+    → (opened || (not b && is_opened (meaning_by o u))) ≡ true
+open_ok_heard w u b o opened m c f e =
+    by b (subst (λ (x : Bool). (if x then w else heard w u).pending.open_ok ≡ true) m e)
+  where
+    by : (b : Bool) → (if b then w else heard w u).pending.open_ok ≡ true → (opened || (not b && is_opened (meaning_by o u))) ≡ true
+    by true e = or_case (w.pending.open_ok) false opened f (ap (λ (x : Bool). x || false) e)
+    by false e =
+        or_case w.pending.open_ok (is_opened (meaning_by o u)) opened f
+        (subst (λ (x : Option Upstream). (w.pending.open_ok || is_opened (meaning_by x u)) ≡ true) c
+        (open_ok_meaning (meaning_by w.up.container u) (record w { up = heard_up u w.up }) e))
+
+open_ok_gone : (r : Reply) (d : Pending) → (without r d).open_ok ≡ true → d.open_ok ≡ true
+open_ok_gone reply.Protocol d e = e
+open_ok_gone reply.Start d e = e
+open_ok_gone reply.Tune d e = e
+open_ok_gone reply.OpenOk d e = absurd cc
+open_ok_gone reply.CloseOk d e = e
+open_ok_gone (reply.Close r) d e = e
+open_ok_gone reply.NoMemory d e = e
+open_ok_gone reply.Heartbeat d e = e
+
+open_ok_last : (p : Phase91) (d : Pending) → (last_pending p d).open_ok ≡ false
+open_ok_last phase.Header d = refl
+open_ok_last phase.Start d = refl
+open_ok_last phase.Tune d = refl
+open_ok_last phase.Open d = refl
+open_ok_last phase.Running d = refl
+open_ok_last phase.Closing d = refl
+open_ok_last phase.Closed d = refl
+
+-- one that is due was called for by the container's open
+open_ok_opened : (h : List Step) → ArePicks h → (before h).pending.open_ok ≡ true → opened_in h ≡ true
+open_ok_opened [] p e = absurd cc
+open_ok_opened (Began vhost n ms ∷ h) p e =
+    let none : (before (Began vhost n ms ∷ [])).pending.open_ok ≡ true = subst (λ (x : List Step). (before (Began vhost n ms ∷ x)).pending.open_ok ≡ true) p.0 e in absurd cc
+open_ok_opened (Moment ms ∷ h) p e = open_ok_opened h p.1 e
+open_ok_opened (Came u ∷ h) p e = open_ok_opened h p.1 (sym (open_ok_came (before h) u) ∙ e)
+open_ok_opened (TakenUp ∷ h) p e = open_ok_opened h p.1 (sym (open_ok_taken (before h) _) ∙ e)
+open_ok_opened (Heard u ∷ h) p e =
+    let k : Known h = known h p.1 in
+    open_ok_heard (before h) u (ran_out_in h) (container h) (opened_in h) (memory_is k) (container_is k) (open_ok_opened h p.1) e
+open_ok_opened (Joined link.Ok ∷ h) p e = open_ok_opened h p.1 e
+open_ok_opened (Joined link.Failed ∷ h) p e = open_ok_opened h p.1 (sym (open_ok_fail _ None _) ∙ e)
+open_ok_opened (Lost Client loss.Ended ∷ h) p e = open_ok_opened h p.1 e
+open_ok_opened (Lost Client loss.Failed ∷ h) p e = open_ok_opened h p.1 e
+open_ok_opened (Lost Client loss.Shut ∷ h) p e = open_ok_opened h p.1 e
+open_ok_opened (Lost Up loss.Ended ∷ h) p e = open_ok_opened h p.1 (sym (open_ok_fail _ None _) ∙ e)
+open_ok_opened (Lost Up loss.Failed ∷ h) p e = open_ok_opened h p.1 (sym (open_ok_fail _ None _) ∙ e)
+open_ok_opened (Lost Up loss.Shut ∷ h) p e = open_ok_opened h p.1 e
+open_ok_opened (Gave (ToClient u) ∷ h) p e = open_ok_opened h p.1 (open_ok_gone u (before h).pending e)
+open_ok_opened (Gave (ToUp u) ∷ h) p e = open_ok_opened h p.1 e
+open_ok_opened (Whole Client ∷ h) p e = open_ok_opened h p.1 e
+open_ok_opened (Whole Up ∷ h) p e = open_ok_opened h p.1 e
+open_ok_opened (OutOfMemory ∷ h) p e = absurd (clash _ e (open_ok_last (before h).conn.phase (before h).pending))
+
+abbrev is_open_ok : Reply → Bool
+is_open_ok reply.Protocol = false
+is_open_ok reply.Start = false
+is_open_ok reply.Tune = false
+is_open_ok reply.OpenOk = true
+is_open_ok reply.CloseOk = false
+is_open_ok (reply.Close r) = false
+is_open_ok reply.NoMemory = false
+is_open_ok reply.Heartbeat = false
+
+is_other : (it : Reply) → is_open_ok it ≡ false → Some it ≡ Some reply.OpenOk → ⊥
+is_other it isnt same = let here : it ≡ reply.OpenOk = cc in clash (is_open_ok it) (ap is_open_ok here) isnt
+
+open_ok_first : (settled : Bool) (d : Pending) → first (rows (may_go settled d)) ≡ Some reply.OpenOk → d.open_ok ≡ true
+open_ok_first settled d e = by settled d.protocol d.start d.tune d.open_ok d.close_ok d.close d.no_memory e
+  where
+    by : (settled protocol start tune open_ok ok : Bool) (close : Option Refusal) (wanting : Bool)
+        → first (rows (may_go settled (pending_of protocol start tune open_ok ok close wanting))) ≡ Some reply.OpenOk → open_ok ≡ true
+    by settled protocol start tune true ok close wanting same = refl
+    by true true start tune false ok close wanting same = absurd (is_other reply.Protocol refl same)
+    by true false true tune false ok close wanting same = absurd (is_other reply.Start refl same)
+    by true false false true false ok close wanting same = absurd (is_other reply.Tune refl same)
+    by true false false false false true close wanting same = absurd (is_other reply.CloseOk refl same)
+    by true false false false false false (Some r) wanting same = absurd (is_other (reply.Close r) refl same)
+    by true false false false false false None true same = absurd (is_other reply.NoMemory refl same)
+    by true false false false false false None false same = absurd cc
+    by false true start tune false ok close wanting same = absurd (is_other reply.Protocol refl same)
+    by false false true tune false ok close wanting same = absurd (is_other reply.Start refl same)
+    by false false false true false ok close wanting same = absurd (is_other reply.Tune refl same)
+    by false false false false false ok close true same = absurd (is_other reply.NoMemory refl same)
+    by false false false false false ok close false same = absurd cc
+
+opens_picked : (h : List Step) → ArePicks h → Picked (before h) reply.OpenOk → opened_in h ≡ true
+opens_picked h p (IsDue e) = open_ok_opened h p (open_ok_first (is_settled (before h)) (before h).pending e)
+opens_picked h p (Beats none due same) = absurd cc
+
+opens_given : (h : List Step) (u : Reply) → ArePicks h → Picked (before h) u → OpensWhenOpened h → OpensWhenOpened (Gave (ToClient u) ∷ h)
+opens_given h reply.Protocol p f o = o
+opens_given h reply.Start p f o = o
+opens_given h reply.Tune p f o = o
+opens_given h reply.OpenOk p f o = (opens_picked h p f, o)
+opens_given h reply.CloseOk p f o = o
+opens_given h (reply.Close r) p f o = o
+opens_given h reply.NoMemory p f o = o
+opens_given h reply.Heartbeat p f o = o
+
+pub opens_when_opened : (h : List Step) → ArePicks h → OpensWhenOpened h
+opens_when_opened [] p = tt
+opens_when_opened (Gave (ToClient u) ∷ h) p = opens_given h u p.1 (picked (before h) u p.0.1) (opens_when_opened h p.1)
+opens_when_opened (Gave (ToUp u) ∷ h) p = opens_when_opened h p.1
+opens_when_opened (Began vhost n ms ∷ h) p = opens_when_opened h p.1
+opens_when_opened (Moment ms ∷ h) p = opens_when_opened h p.1
+opens_when_opened (Came u ∷ h) p = opens_when_opened h p.1
+opens_when_opened (TakenUp ∷ h) p = opens_when_opened h p.1
+opens_when_opened (Heard u ∷ h) p = opens_when_opened h p.1
+opens_when_opened (Joined answer ∷ h) p = opens_when_opened h p.1
+opens_when_opened (Lost end how ∷ h) p = opens_when_opened h p.1
+opens_when_opened (Whole end ∷ h) p = opens_when_opened h p.1
+opens_when_opened (OutOfMemory ∷ h) p = opens_when_opened h p.1

@@ -1,0 +1,5 @@
+use Rattle.gate_model.proofs.Waits.{ends_when_settled, opens_when_opened}
+use Rattle.gate_model.proofs.laws.replies_wait.Goals as goal
+
+pub returns : goal.returns
+returns c = record { ends = ends_when_settled; opens = opens_when_opened }

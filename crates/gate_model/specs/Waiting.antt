@@ -1,0 +1,60 @@
+-- What goes to a client only once nothing of the upstream end is waited for, and only once the
+-- container opened.
+use Rattle.std.specs.Prelude.{◌≡◌, Bool, true, false, not, ◌&&◌, ◌||◌, List, [], ◌∷◌}
+use Rattle.gate_relay.specs.Sides.{is_readable}
+use Rattle.machine_10.specs.Transitions as ten
+use Rattle.machine_10.specs.Transitions.{Meaning}
+use Rattle.gate_model.specs.declared.outgoing.Outgoing.TheVariants.{ToClient}
+use Rattle.gate_model.specs.declared.reply.Reply.{Reply}
+use Rattle.gate_model.specs.declared.reply.Reply.TheVariants as reply
+use Rattle.gate_model.specs.Folds.{container, ran_out_in, side_in}
+use Rattle.gate_model.specs.State.{Step, Gave, Heard}
+use Rattle.gate_model.specs.Upstream.{is_closed_stream, meaning_by, stream_in}
+
+-- nothing of the upstream end is waited for: the pair ran out of memory, the end isn't open, or the
+-- container's close came
+pub data Settled (h : List Step) : Type 0 where
+  RanOut : ran_out_in h ≡ true → Settled h
+  NotOpen : is_readable (side_in h) ≡ false → Settled h
+  HasClosed : is_closed_stream (stream_in (container h)) ≡ true → Settled h
+
+-- a connection.close of the gateway, or a close-ok
+abbrev pub is_ending : Reply → Bool
+is_ending reply.Protocol = false
+is_ending reply.Start = false
+is_ending reply.Tune = false
+is_ending reply.OpenOk = false
+is_ending reply.CloseOk = true
+is_ending (reply.Close r) = true
+is_ending reply.NoMemory = true
+is_ending reply.Heartbeat = false
+
+-- each of these went where nothing was waited for
+abbrev pub EndsWhenSettled : List Step → Type 0
+EndsWhenSettled [] = Unit {0}
+EndsWhenSettled (Gave (ToClient u) ∷ h) = (is_ending u ≡ true → Settled h) × EndsWhenSettled h
+EndsWhenSettled (s ∷ h) = EndsWhenSettled h
+
+-- a unit of the container is its open, where that was awaited
+abbrev pub is_opened : Meaning → Bool
+is_opened ten.Nothing = false
+is_opened ten.Init = false
+is_opened ten.AmqpHeader = false
+is_opened ten.Opened = true
+is_opened (ten.OfSession g p payload) = false
+is_opened (ten.Closed e) = false
+is_opened ten.Refused = false
+is_opened (ten.Violation why) = false
+
+-- the container's open was taken up
+abbrev pub opened_in : List Step → Bool
+opened_in [] = false
+opened_in (Heard u ∷ h) =
+    opened_in h || (not (ran_out_in h) && is_opened (meaning_by (container h) u))
+opened_in (s ∷ h) = opened_in h
+
+-- each connection.open-ok went after that
+abbrev pub OpensWhenOpened : List Step → Type 0
+OpensWhenOpened [] = Unit {0}
+OpensWhenOpened (Gave (ToClient reply.OpenOk) ∷ h) = (opened_in h ≡ true) × OpensWhenOpened h
+OpensWhenOpened (s ∷ h) = OpensWhenOpened h
