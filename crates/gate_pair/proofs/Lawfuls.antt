@@ -1,23 +1,35 @@
 -- Entries that are asked for stand where what came before them allows it.
-use Rattle.std.proofs.Common.{◌≡◌, ◌⊎◌, ◌∙◌, ℕ, ◌≤◌, Bool, true, false, not, ◌&&◌, if◌then◌else◌, List, [], ◌∷◌, Option, None, Some, refl, sym, ap, subst, inl, inr}
+use Rattle.std.proofs.Common.{◌≡◌, ◌⊎◌, ◌∙◌, ℕ, Bool, true, false, not, ◌&&◌, ◌||◌, map, if◌then◌else◌, List, [], ◌∷◌, Option, None, Some, refl, sym, ap, inl, inr}
 use Rattle.std.specs.Prelude.{is_some}
 use Rattle.std.specs.Option.{option_map}
 use Rattle.gate_outside.specs.declared.ports.End.{End}
 use Rattle.gate_outside.specs.declared.ports.End.TheVariants.{Client, Up}
-use Rattle.gate_relay.specs.declared.loss.Loss.{Loss}
 use Rattle.gate_relay.specs.declared.loss.Loss.TheVariants as loss
 use Rattle.gate_relay.specs.Entries as entry
-use Rattle.gate_relay.specs.Entries.{Entry, is_out_of_memory, is_over}
+use Rattle.gate_relay.specs.Entries.{Entry, is_out_of_memory}
+use Rattle.gate_relay.specs.Guards.{connects, offers, reads, takes_up}
 use Rattle.gate_relay.specs.Relayed as relayed
 use Rattle.gate_relay.specs.Relayed.{IsRelayed, MayCome, RunsOut}
 use Rattle.gate_relay.specs.Sides.{is_absent, is_open_side, is_readable, is_writable, side_of, sides}
+use Rattle.machine_091.specs.State.{awaits, is_closing, is_opening}
+use Rattle.machine_091.specs.declared.state.Connection.{Connection}
+use Rattle.machine_10.specs.declared.state.Upstream.{Upstream}
+use Rattle.gate_model.specs.declared.outgoing.Outgoing.{Outgoing}
+use Rattle.gate_model.specs.declared.outgoing.Outgoing.TheVariants.{ToClient, ToUp}
+use Rattle.gate_model.specs.declared.outgoing.UpUnit.{UpUnit}
+use Rattle.gate_model.specs.declared.outgoing.UpUnit.TheVariants as up
 use Rattle.gate_model.specs.declared.reply.Reply.{Reply}
-use Rattle.gate_model.specs.Due.{is_awaiting, is_busy, pick}
-use Rattle.gate_model.specs.Spelling.{spell}
-use Rattle.gate_pair.specs.Lawful.{AreLawful, IsHeard, IsOfferOf, IsOffered, Keeps, RunsOutIn, InRead, InTakeUp, Shuts, WhereDue, AtTheEnd, AtRefusal}
-use Rattle.gate_pair.specs.Meaning.{offered, pair_words, state_of, told}
-use Rattle.gate_pair.proofs.Timings.{AreTimed}
-use Rattle.gate_pair.proofs.Timings as timings
+use Rattle.gate_model.specs.Due.{client_rows, is_awaited, is_awaiting, is_busy, pick, takes_memory, takes_memory_up}
+use Rattle.gate_model.specs.Setup.{SetupText}
+use Rattle.gate_model.specs.Spelling.{Context, context_of, spell}
+use Rattle.gate_model.specs.State.{State, waits}
+use Rattle.gate_model.specs.Upstream.{awaited_of, first, is_awaited_up, up_rows}
+use Rattle.gate_model.proofs.Known.{Known, conn_is, container_is, known, number_is}
+use Rattle.gate_pair.specs.Lawful.{AreLawful, IsAskedFor, IsAwaited, IsHeard, IsOfferOf, IsOffered, IsTakenUp, Keeps, RunsOutIn, InRead, InTakeUp, InOpening, Shuts, WhereDue, AtTheEnd, AtRefusal, TellsName}
+use Rattle.gate_pair.specs.Meaning.{needs_memory, offered, pair_words, state_of, steps_of, stream_of, told}
+use Rattle.gate_pair.specs.Meaning as meaning
+use Rattle.gate_pair.proofs.Picks.{picks}
+use Rattle.gate_pair.proofs.Timings.{AreTimed, due_at}
 
 and_left : (a b : Bool) → (a && b) ≡ true → a ≡ true
 and_left true b e = refl
@@ -31,110 +43,152 @@ isnt : (a : Bool) → not a ≡ true → a ≡ false
 isnt true e = absurd cc
 isnt false e = refl
 
--- what never is
-never : (a b : Bool) → (a && (b && false)) ≡ true → ⊥
-never true true e = absurd cc
-never true false e = absurd cc
-never false b e = absurd cc
+-- what the state knows
+knows : (s : SetupText) (h : List Entry) → IsRelayed (pair_words s) h → Known (steps_of s h)
+knows s h r = known (steps_of s h) (picks s h r)
 
-not_both : (a : Bool) → (a && false) ≡ true → ⊥
-not_both true e = absurd cc
-not_both false e = absurd cc
+-- ---- reads
 
-none_if : (b : Bool) (bytes : List ℕ) → (let o : Option (List ℕ) = None in if b then o else None) ≡ Some bytes → ⊥
-none_if true bytes e = absurd cc
-none_if false bytes e = absurd cc
+awaited : (s : SetupText) (end : End) (h : List Entry) → IsRelayed (pair_words s) h → is_awaiting (state_of s h) end ≡ true → IsAwaited s end h
+awaited s Client h r e = (
+  ap (λ (c : Connection). is_awaited (awaits c)) (sym (conn_is (knows s h r))) ∙ and_left (is_awaited (awaits (state_of s h).conn)) _ e,
+  isnt (waits (state_of s h)) (and_right (is_awaited (awaits (state_of s h).conn)) _ e),
+)
+awaited s Up h r e =
+    ap (λ (o : Option Upstream). is_awaited_up (awaited_of o)) (sym (container_is (knows s h r))) ∙ and_right (is_readable (state_of s h).up.side) _ e
 
-some_if : (b : Bool) → is_some (let o : Option (List ℕ) = None in if b then o else None) ≡ true → ⊥
-some_if true e = absurd cc
-some_if false e = absurd cc
+heard : (s : SetupText) (end : End) (h : List Entry) → IsRelayed (pair_words s) h → reads (pair_words s) end h ≡ true → IsHeard s end h
+unfolding pair_words
+heard s end h r e =
+    let rest : (not (is_out_of_memory h) && is_awaiting (state_of s h) end) ≡ true = and_right (is_readable (side_of end (sides h))) _ e in
+    record {
+      readable = and_left (is_readable (side_of end (sides h))) _ e;
+      calm = isnt (is_out_of_memory h) (and_left (not (is_out_of_memory h)) _ rest);
+      awaited = awaited s end h r (and_right (not (is_out_of_memory h)) _ rest);
+    }
 
-heard : (r m a : Bool) (h : List Entry) → is_readable (side_of Client (sides h)) ≡ r → is_out_of_memory h ≡ m → is_awaiting (state_of h) Client ≡ a
-    → (r && (not m && a)) ≡ true → IsHeard h
-heard r m a h er em ea e = record {
-  readable = er ∙ and_left r _ e;
-  calm = em ∙ isnt m (and_left (not m) a (and_right r _ e));
-  awaited = ea ∙ and_right (not m) a (and_right r _ e);
-}
+-- ---- what is taken up, and the connection upstream
+
+either_of : (a b : Bool) → (a || b) ≡ true → (b ≡ true) ⊎ (a ≡ true)
+either_of true b e = inr refl
+either_of false b e = inl e
+
+taken_up : (s : SetupText) (h : List Entry) → takes_up (pair_words s) h ≡ true → IsTakenUp s h
+unfolding pair_words
+taken_up s h e =
+    let w : State = state_of s h in
+    let both : meaning.takes_up w (told s h).stopped ≡ true = and_right (not (is_out_of_memory h)) _ e in
+    let can : (not w.out_of_memory && not (waits w)) ≡ true = and_left (not w.out_of_memory && not (waits w)) _ both in
+    record {
+      calm = isnt (is_out_of_memory h) (and_left (not (is_out_of_memory h)) _ e);
+      settled = isnt (waits w) (and_right (not w.out_of_memory) _ can);
+      some = either_of w.leaving (told s h).stopped (and_right (not w.out_of_memory && not (waits w)) _ both);
+    }
+
+asked_for : (s : SetupText) (h : List Entry) → IsRelayed (pair_words s) h → connects (pair_words s) h ≡ true → IsAskedFor s h
+unfolding pair_words
+asked_for s h r e =
+    let w : State = state_of s h in
+    let rest : (not (is_out_of_memory h) && (is_opening w.conn && is_absent w.up.side)) ≡ true = and_right (is_absent (side_of Up (sides h))) _ e in
+    record {
+      absent = and_left (is_absent (side_of Up (sides h))) _ e;
+      calm = isnt (is_out_of_memory h) (and_left (not (is_out_of_memory h)) _ rest);
+      opening = ap is_opening (sym (conn_is (knows s h r))) ∙ and_left (is_opening w.conn) _ (and_right (not (is_out_of_memory h)) _ rest);
+    }
 
 -- ---- offers
 
-offer_by : (b : Bool) (h : List Entry) (o : Option Reply) (bytes : List ℕ) → pick (state_of h) Client ≡ o → (if b then Some (told h).rest else option_map spell o) ≡ Some bytes
-    → IsOfferOf b h bytes
-offer_by true h o bytes p e = let same : (told h).rest ≡ bytes = cc in sym same
-offer_by false h None bytes p e = absurd cc
-offer_by false h (Some u) bytes p e = let same : spell u ≡ bytes = cc in (u, p, sym same)
+same_context : (s : SetupText) (n m : ℕ) (o p : Option Upstream) → n ≡ m → o ≡ p
+    → (let c : Context = record { setup = s; number = n; container = o } in c) ≡ record { setup = s; number = m; container = p }
+same_context s n m o p e f = cc
 
-offered_by : (b : Bool) (h : List Entry) (bytes : List ℕ) → is_writable (side_of Client (sides h)) ≡ b → (if b then offered Client (state_of h) (told h).rest else None) ≡ Some bytes
-    → IsOffered h bytes
-offered_by true h bytes w e = record { writable = w; offer = offer_by (is_busy (state_of h) Client) h (pick (state_of h) Client) bytes refl e }
-offered_by false h bytes w e = absurd cc
+offer_by : (s : SetupText) (end : End) (b : Bool) (h : List Entry) (o : Option Outgoing) (bytes : List ℕ) → IsRelayed (pair_words s) h → pick (state_of s h) end ≡ o
+    → (if b then Some (stream_of end (told s h)).rest else option_map (spell (context_of s (state_of s h))) o) ≡ Some bytes → IsOfferOf s end b h bytes
+offer_by s end true h o bytes r p e = let same : (stream_of end (told s h)).rest ≡ bytes = cc in sym same
+offer_by s end false h None bytes r p e = absurd cc
+offer_by s end false h (Some u) bytes r p e =
+    let same : spell (context_of s (state_of s h)) u ≡ bytes = cc in
+    let k : Known (steps_of s h) = knows s h r in
+    (u, p, sym same ∙ ap (λ (c : Context). spell c u) (same_context s _ _ _ _ (number_is k) (container_is k)))
 
-some_offered : (o : Option (List ℕ)) (h : List Entry) → (if is_writable (side_of Client (sides h)) then offered Client (state_of h) (told h).rest else None) ≡ o → is_some o ≡ true
-    → (bytes : List ℕ) × IsOffered h bytes
-some_offered None h e s = absurd cc
-some_offered (Some bytes) h e s = (bytes, offered_by (is_writable (side_of Client (sides h))) h bytes refl e)
+offered_by : (s : SetupText) (end : End) (b : Bool) (h : List Entry) (bytes : List ℕ) → IsRelayed (pair_words s) h → is_writable (side_of end (sides h)) ≡ b
+    → (if b then offered s end (state_of s h) (stream_of end (told s h)).rest else None) ≡ Some bytes → IsOffered s end h bytes
+offered_by s end true h bytes r w e = record { writable = w; offer = offer_by s end (is_busy (state_of s h) end) h (pick (state_of s h) end) bytes r refl e }
+offered_by s end false h bytes r w e = absurd cc
+
+is_offered : (s : SetupText) (end : End) (h : List Entry) (bytes : List ℕ) → IsRelayed (pair_words s) h → offers (pair_words s) end h ≡ Some bytes → IsOffered s end h bytes
+unfolding pair_words
+is_offered s end h bytes r e = offered_by s end (is_writable (side_of end (sides h))) h bytes r refl e
+
+some_offered : (s : SetupText) (end : End) (h : List Entry) (o : Option (List ℕ)) → IsRelayed (pair_words s) h → offers (pair_words s) end h ≡ o → is_some o ≡ true
+    → (bytes : List ℕ) × IsOffered s end h bytes
+some_offered s end h None r e f = absurd cc
+some_offered s end h (Some bytes) r e f = (bytes, is_offered s end h bytes r e)
 
 -- ---- shuts
 
-shuts_by : AreTimed → (end : End) (h : List Entry) → end ≡ Client → IsRelayed pair_words h → relayed.ShutFor pair_words end h → Shuts h
-shuts_by t _ _ same r (relayed.WhereDue end h e) =
-    WhereDue (ap (λ (x : End). is_open_side (side_of x (sides h))) (sym same) ∙ and_left (is_open_side (side_of end (sides h))) _ e)
-    ((timings.shuts t h r).0 (ap (λ (x : End). pair_words.shut_due x h) (sym same) ∙ and_right (is_open_side (side_of end (sides h))) _ e))
-shuts_by t _ _ same r (relayed.AtTheEnd end h e) = AtTheEnd e
-shuts_by t _ _ same r (relayed.AtRefusal h) = AtRefusal h refl
-
-up_shut : (end : End) (h : List Entry) → end ≡ Up → relayed.ShutFor pair_words end h → is_over h ≡ true
-unfolding pair_words
-up_shut _ _ same (relayed.WhereDue end h e) = absurd (up_due end same (and_right (is_open_side (side_of end (sides h))) _ e))
-  where
-    up_due : (end : End) → end ≡ Up → pair_words.shut_due end h ≡ true → ⊥
-    up_due Client s e = absurd cc
-    up_due Up s e = absurd cc
-up_shut _ _ same (relayed.AtTheEnd end h e) = e
-up_shut _ _ same (relayed.AtRefusal h) = absurd cc
+shuts_by : AreTimed → (s : SetupText) (end : End) (h : List Entry) → IsRelayed (pair_words s) h → relayed.ShutFor (pair_words s) end h → Shuts s end h
+shuts_by t s _ _ r (relayed.WhereDue end h e) =
+    WhereDue (and_left (is_open_side (side_of end (sides h))) _ e) (due_at t s end h r (and_right (is_open_side (side_of end (sides h))) _ e))
+shuts_by t s _ _ r (relayed.AtTheEnd end h e) = AtTheEnd e
+shuts_by t s _ _ r (relayed.AtRefusal h) = AtRefusal h refl refl
 
 -- ---- out of memory
 
-up_unread : (bytes : List ℕ) (h : List Entry) → IsRelayed pair_words (entry.Came Up bytes ∷ h) → ⊥
-unfolding pair_words
-up_unread bytes h r = never (is_readable (side_of Up (sides h))) (not (is_out_of_memory h)) r.0.0
+-- no unit to the client takes memory
+client_takes : (us : List Reply) → takes_memory (first (map ToClient us)) ≡ true → ⊥
+client_takes [] e = absurd cc
+client_takes (u ∷ us) e = absurd cc
 
-runs_out : (cut : ℕ) (h : List Entry) → IsRelayed pair_words h → RunsOut pair_words cut h → RunsOutIn h
+tells_name : (u : UpUnit) → takes_memory_up u ≡ true → TellsName u
+tells_name up.SaslHeader e = absurd cc
+tells_name up.SaslInit e = inl refl
+tells_name up.AmqpHeader e = absurd cc
+tells_name up.Open e = inr refl
+tells_name (up.Close c) e = absurd cc
+tells_name up.Empty e = absurd cc
+
+writable_by : (b : Bool) (o : Option (List ℕ)) → is_some (if b then o else None) ≡ true → b ≡ true
+writable_by true o e = refl
+writable_by false o e = absurd cc
+
+in_opening : (s : SetupText) (h : List Entry) (us : List UpUnit) → is_writable (side_of Up (sides h)) ≡ true → is_busy (state_of s h) Up ≡ false
+    → pick (state_of s h) Up ≡ first (map ToUp us) → takes_memory (first (map ToUp us)) ≡ true → RunsOutIn s 0 h
+in_opening s h [] w free e f = absurd cc
+in_opening s h (u ∷ us) w free e f = InOpening u h w free e (tells_name u f)
+
+at_write : (s : SetupText) (end : End) (h : List Entry) → is_some (offers (pair_words s) end h) ≡ true → needs_memory (state_of s h) end ≡ true → RunsOutIn s 0 h
+at_write s Client h e f = absurd (client_takes (client_rows (state_of s h)) (and_right (not (is_busy (state_of s h) Client)) _ f))
+at_write s Up h e f =
+    let w : State = state_of s h in
+    in_opening s h (up_rows (w.out_of_memory || is_closing w.conn) w.up w.moment) (writable_by (is_writable (side_of Up (sides h))) _ e)
+    (isnt (is_busy w Up) (and_left (not (is_busy w Up)) _ f)) refl (and_right (not (is_busy w Up)) _ f)
+
+runs_out : (s : SetupText) (cut : ℕ) (h : List Entry) → RunsOut (pair_words s) cut h → RunsOutIn s cut h
 unfolding pair_words
-runs_out _ _ r (relayed.AtRead cut Client bytes h) = InRead bytes h
-runs_out _ _ r (relayed.AtRead cut Up bytes h) = absurd (up_unread bytes h r)
-runs_out _ _ r (relayed.AtTakeUp cut h) = InTakeUp h
-runs_out _ _ r (relayed.AtWrite end h e f) = absurd cc
+runs_out s _ _ (relayed.AtRead cut end bytes h) = InRead cut end bytes h
+runs_out s _ _ (relayed.AtTakeUp cut h) = InTakeUp cut h
+runs_out s _ _ (relayed.AtWrite end h e f) = at_write s end h e f
 
 -- ---- all entries
 
-keeps : AreTimed → (e : Entry) (h : List Entry) → IsRelayed pair_words h → MayCome pair_words h e → Keeps h e
-unfolding pair_words
-keeps t (entry.Began p ms) h r m = m
-keeps t entry.Refused h r m = m
-keeps t (entry.Moment ms) h r m = m
-keeps t (entry.Came Client bytes) h r m = (heard (is_readable (side_of Client (sides h))) (is_out_of_memory h) (is_awaiting (state_of h) Client) h refl refl refl m.0, m.1)
-keeps t (entry.Came Up bytes) h r m = never (is_readable (side_of Up (sides h))) (not (is_out_of_memory h)) m.0
-keeps t (entry.Dry Client) h r m = heard (is_readable (side_of Client (sides h))) (is_out_of_memory h) (is_awaiting (state_of h) Client) h refl refl refl m
-keeps t (entry.Dry Up) h r m = never (is_readable (side_of Up (sides h))) (not (is_out_of_memory h)) m
-keeps t entry.Settled h r m = and_right (not (is_out_of_memory h)) _ m
-keeps t (entry.Joined answer) h r m = never (is_absent (side_of Up (sides h))) (not (is_out_of_memory h)) m
-keeps t (entry.Took Client bytes n) h r m = (offered_by (is_writable (side_of Client (sides h))) h bytes refl m.0, m.1, m.2)
-keeps t (entry.Took Up bytes n) h r m = none_if (is_writable (side_of Up (sides h))) bytes m.0
-keeps t (entry.Stuck Client bytes) h r m = offered_by (is_writable (side_of Client (sides h))) h bytes refl m
-keeps t (entry.Stuck Up bytes) h r m = none_if (is_writable (side_of Up (sides h))) bytes m
-keeps t (entry.Lost Client loss.Ended) h r m = heard (is_readable (side_of Client (sides h))) (is_out_of_memory h) (is_awaiting (state_of h) Client) h refl refl refl m
-keeps t (entry.Lost Client loss.Failed) h r (inl m) = inl (heard (is_readable (side_of Client (sides h))) (is_out_of_memory h) (is_awaiting (state_of h) Client) h refl refl refl m)
-keeps t (entry.Lost Client loss.Failed) h r (inr m) = inr (some_offered _ h refl m)
-keeps t (entry.Lost Client loss.Shut) h r m = shuts_by t Client h refl r m
-keeps t (entry.Lost Up loss.Ended) h r m = absurd (never (is_readable (side_of Up (sides h))) (not (is_out_of_memory h)) m)
-keeps t (entry.Lost Up loss.Failed) h r (inl m) = absurd (never (is_readable (side_of Up (sides h))) (not (is_out_of_memory h)) m)
-keeps t (entry.Lost Up loss.Failed) h r (inr m) = absurd (some_if (is_writable (side_of Up (sides h))) m)
-keeps t (entry.Lost Up loss.Shut) h r m = up_shut Up h refl m
-keeps t (entry.OutOfMemory cut) h r m = (m.0, runs_out cut h r m.1)
-keeps t entry.Over h r m = m
+keeps : AreTimed → (s : SetupText) (e : Entry) (h : List Entry) → IsRelayed (pair_words s) h → MayCome (pair_words s) h e → Keeps s h e
+keeps t s (entry.Began p ms) h r m = m
+keeps t s entry.Refused h r m = m
+keeps t s (entry.Moment ms) h r m = m
+keeps t s (entry.Came end bytes) h r m = (heard s end h r m.0, m.1)
+keeps t s (entry.Dry end) h r m = heard s end h r m
+keeps t s entry.Settled h r m = taken_up s h m
+keeps t s (entry.Joined answer) h r m = asked_for s h r m
+keeps t s (entry.Took end bytes n) h r m = (is_offered s end h bytes r m.0, m.1, m.2)
+keeps t s (entry.Stuck end bytes) h r m = is_offered s end h bytes r m
+keeps t s (entry.Lost end loss.Ended) h r m = heard s end h r m
+keeps t s (entry.Lost end loss.Failed) h r (inl m) = inl (heard s end h r m)
+keeps t s (entry.Lost end loss.Failed) h r (inr m) = inr (some_offered s end h (offers (pair_words s) end h) r refl m)
+keeps t s (entry.Lost end loss.Shut) h r m = shuts_by t s end h r m
+keeps t s (entry.OutOfMemory cut) h r m = (m.0, runs_out s cut h m.1)
+keeps t s entry.Over h r m = m
 
-pub lawful : AreTimed → (h : List Entry) → IsRelayed pair_words h → AreLawful h
-lawful t [] r = tt
-lawful t (e ∷ h) r = (keeps t e h r.2 r.0, lawful t h r.2)
+pub lawful : AreTimed → (s : SetupText) (h : List Entry) → IsRelayed (pair_words s) h → AreLawful s h
+lawful t s [] r = tt
+lawful t s (e ∷ h) r = (keeps t s e h r.2 r.0, lawful t s h r.2)

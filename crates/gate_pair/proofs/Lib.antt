@@ -1,10 +1,15 @@
+pub mod Agree
 pub mod Cuts
 pub mod Heard
 pub mod Lawfuls
+pub mod Logins
 pub mod Memories
 pub mod Picks
 pub mod Saids
 pub mod Sent
+pub mod Sounds
 pub mod Taken
+pub mod Tells
 pub mod Timings
 pub mod Within
+pub mod Writes

@@ -1,40 +1,55 @@
 -- What entries that are asked for say is a list of steps whose outgoing ones are picks. No loop is in sight here.
-use Rattle.std.proofs.Common.{◌≡◌, ◌∙◌, ℕ, zero, suc, ◌≤◌, ◌<◌, Bool, true, false, if◌then◌else◌, List, [], ◌∷◌, ◌++◌, drop, length, nat_lt, Option, None, Some, refl, sym, ap, subst}
-use Rattle.std.specs.Prelude.{unwrap_or}
+use Rattle.std.proofs.Common.{◌≡◌, ◌∙◌, ℕ, zero, suc, ◌≤◌, Bool, true, false, not, ◌&&◌, if◌then◌else◌, List, [], ◌∷◌, ◌++◌, drop, length, nat_lt, Option, None, Some, refl, sym, ap, subst, append_assoc}
 use Rattle.std.specs.Option.{option_map}
 use Rattle.gate_outside.specs.declared.ports.End.{End}
 use Rattle.gate_outside.specs.declared.ports.End.TheVariants.{Client, Up}
 use Rattle.gate_relay.specs.Entries as entry
-use Rattle.gate_relay.specs.Entries.{Entry, is_out_of_memory, is_over}
-use Rattle.gate_relay.specs.Relayed.{IsRelayed, MayCome, is_new}
-use Rattle.gate_relay.specs.Sides.{is_writable, sides, side_of}
+use Rattle.gate_relay.specs.Entries.{Entry, is_out_of_memory, is_over, moment_of}
+use Rattle.gate_relay.specs.Relayed.{IsRelayed, is_new}
+use Rattle.gate_relay.specs.Sides.{is_absent, is_writable, sides, side_of}
 use Rattle.close_translate.specs.declared.codes.TheConstants.{FRAME_ERROR}
 use Rattle.frames_091.specs.FrameScan.{scan_of}
 use Rattle.frames_091.specs.Headers.{header_scan}
+use Rattle.frames_10.specs.FrameScan as frames_10
+use Rattle.frames_10.specs.Headers as headers_10
 use Rattle.machine_091.specs.State.{awaits}
 use Rattle.machine_091.specs.declared.state.Awaited91.{Awaited91}
 use Rattle.machine_091.specs.declared.state.Awaited91.TheVariants as awaited
+use Rattle.machine_091.specs.declared.state.Connection.{Connection}
 use Rattle.machine_091.specs.declared.unit.Unit91.{Unit91}
 use Rattle.machine_091.specs.declared.unit.Unit91.TheVariants as unit
+use Rattle.machine_10.specs.declared.limits.TheConstants.{FRAME_MAX}
+use Rattle.machine_10.specs.declared.state.Awaited10.{Awaited10}
+use Rattle.machine_10.specs.declared.state.Awaited10.TheVariants as awaited_10
+use Rattle.machine_10.specs.declared.state.Upstream.{Upstream}
+use Rattle.machine_10.specs.declared.unit.Unit10.{Unit10}
+use Rattle.machine_10.specs.declared.unit.Unit10.TheVariants as unit_10
+use Rattle.performatives_10.specs.declared.condition.Condition.{Condition}
+use Rattle.performatives_10.specs.declared.condition.Condition.TheVariants.{FramingError}
 use Rattle.wire_base.specs.declared.scan.Scan.{Scan}
 use Rattle.wire_base.specs.declared.scan.Scan.TheVariants.{Whole, More, Bad}
-use Rattle.gate_model.specs.declared.reply.Reply.{Reply}
-use Rattle.gate_model.specs.Due.{is_busy, pick}
-use Rattle.gate_model.specs.Folds.{connection, moment_in, ran_out_in}
-use Rattle.gate_model.specs.Picks.{ArePicks, MayComeAs}
-use Rattle.gate_model.specs.Spelling.{spell}
+use Rattle.gate_model.specs.declared.outgoing.Outgoing.{Outgoing}
+use Rattle.gate_model.specs.declared.outgoing.Outgoing.TheVariants.{ToClient, ToUp}
+use Rattle.gate_model.specs.Due.{can_leave, is_busy, is_connect_due, pick}
+use Rattle.gate_model.specs.Folds.{connection, container, ran_out_in}
+use Rattle.gate_model.specs.Picks.{ArePicks, MayBeHeard, MayComeAs, MayStep}
+use Rattle.gate_model.specs.Setup.{SetupText}
+use Rattle.gate_model.specs.Spelling.{context_of, spell}
 use Rattle.gate_model.specs.State as state
-use Rattle.gate_model.specs.State.{State, Step, Came, Gave, TakenUp, before}
-use Rattle.gate_model.proofs.Known.{known}
-use Rattle.gate_pair.specs.Cutting.{after, as_unit, cut_all, cut_of, on_scan, read_client, unit_scan}
-use Rattle.gate_pair.specs.Meaning.{begins, ends, given, offered, pair_words, rest_of, state_of, steps_of, told}
+use Rattle.gate_model.specs.State.{State, Step, Came, Gave, Heard, TakenUp, before, waits}
+use Rattle.gate_model.specs.Upstream.{awaited_of}
+use Rattle.gate_model.proofs.Known.{conn_is, container_is, known}
+use Rattle.gate_model.proofs.Known as knows
+use Rattle.gate_pair.specs.Cutting.{after, as_step, as_unit, cut_of, on_scan, read_end, step_scan, unit_scan, up_scan}
+use Rattle.gate_pair.specs.Meaning.{begins, ends, given, leaves, offered, pair_words, state_of, steps, steps_of, told, took_in}
 use Rattle.gate_pair.proofs.Memories.{memory_of}
 use Rattle.gate_pair.proofs.Saids.{after_before}
-use Rattle.gate_pair.proofs.Taken.{all_leave, cut_leaves, moment_is}
+use Rattle.gate_pair.proofs.Sounds.{client_picks, up_picks}
+use Rattle.gate_pair.proofs.Taken.{cut_leaves, fresh_leave, moment_is}
 
 -- ---- units come as they are awaited
 
-abbrev pub FindsAs : Awaited91 → Scan Unit91 ℕ → Type 0
+abbrev FindsAs : Awaited91 → Scan Unit91 ℕ → Type 0
 FindsAs a More = Unit {0}
 FindsAs a (Bad code) = MayComeAs a (unit.Bad code)
 FindsAs a (Whole u n) = MayComeAs a u
@@ -44,7 +59,7 @@ header_as (Whole x n) = tt
 header_as More = tt
 header_as (Bad f) = refl
 
-pub found_as : (a : Awaited91) (bytes : List ℕ) → FindsAs a (unit_scan a bytes)
+found_as : (a : Awaited91) (bytes : List ℕ) → FindsAs a (unit_scan a bytes)
 found_as awaited.Header bytes = header_as (header_scan bytes)
 found_as (awaited.Frame size) bytes = by (scan_of size bytes)
   where
@@ -54,40 +69,98 @@ found_as (awaited.Frame size) bytes = by (scan_of size bytes)
     by (Bad f) = refl
 found_as awaited.Nothing bytes = tt
 
--- the connection of a state between two units of a read
-pub conn_between : (h g : List Step) → ArePicks (g ++ h) → (after g (before h)).conn ≡ connection (g ++ h)
-conn_between h g p = ap (λ (w : State). w.conn) (sym (after_before g h)) ∙ (known (g ++ h) p).conn_is
+abbrev HearsAs : Awaited10 → Scan Unit10 Condition → Type 0
+HearsAs a More = Unit {0}
+HearsAs a (Bad why) = MayBeHeard a (unit_10.Bad why)
+HearsAs a (Whole u n) = MayBeHeard a u
 
-read_picks : (h : List Step) (f : ℕ) (g : List Step) (bytes : List ℕ) → ArePicks (g ++ h) → ArePicks ((read_client (before h) f g bytes).fresh ++ h)
-read_picks h zero g bytes p = p
-read_picks h (suc f) g bytes p =
-    by (unit_scan (awaits (after g (before h)).conn) bytes) (found_as (awaits (after g (before h)).conn) bytes) (λ u n q. read_picks h f (Came u ∷ g) (drop n bytes) q)
+heard_as : (a : Awaited10) (bytes : List ℕ) → HearsAs a (up_scan a bytes)
+heard_as (awaited_10.Header k) bytes = by (headers_10.header_scan k bytes)
   where
-    may : (u : Unit91) → MayComeAs (awaits (after g (before h)).conn) u → MayComeAs (awaits (connection (g ++ h))) u
-    may u m = subst (λ c. MayComeAs (awaits c) u) (conn_between h g p) m
+    by : {A F : Type 0} (s : Scan A F) → HearsAs (awaited_10.Header k) (as_unit (λ x. unit_10.Header k) FramingError s)
+    by (Whole x n) = tt
+    by More = tt
+    by (Bad f) = refl
+heard_as awaited_10.Frame bytes = by (frames_10.scan_of FRAME_MAX bytes)
+  where
+    by : {F : Type 0} (s : Scan _ F) → HearsAs awaited_10.Frame (as_unit unit_10.Frame FramingError s)
+    by (Whole x n) = tt
+    by More = tt
+    by (Bad f) = refl
+heard_as awaited_10.Nothing bytes = tt
 
-    by : (s : Scan Unit91 ℕ) → FindsAs (awaits (after g (before h)).conn) s
-        → ((u : Unit91) (n : ℕ) → ArePicks ((Came u ∷ g) ++ h) → ArePicks ((read_client (before h) f (Came u ∷ g) (drop n bytes)).fresh ++ h))
-        → ArePicks ((on_scan s (cut_of g bytes) (λ code. cut_of (Came (unit.Bad code) ∷ g) []) (λ u n. read_client (before h) f (Came u ∷ g) (drop n bytes))).fresh ++ h)
+-- a step that is found may come
+abbrev pub FindsMay : List Step → Scan Step Step → Type 0
+FindsMay h More = Unit {0}
+FindsMay h (Bad s) = MayStep h s
+FindsMay h (Whole s n) = MayStep h s
+
+pub found_may : (end : End) (h : List Step) (bytes : List ℕ) → ArePicks h → FindsMay h (step_scan end (before h) bytes)
+found_may Client h bytes p = by (waits (before h)) refl (unit_scan (awaits (before h).conn) bytes) (found_as (awaits (before h).conn) bytes)
+  where
+    may : (u : Unit91) → MayComeAs (awaits (before h).conn) u → MayComeAs (awaits (connection h)) u
+    may u m = subst (λ (c : Connection). MayComeAs (awaits c) u) (conn_is (known h p)) m
+
+    by : (b : Bool) → waits (before h) ≡ b → (x : Scan Unit91 ℕ) → FindsAs (awaits (before h).conn) x → FindsMay h (if b then More else as_step Came unit.Bad x)
+    by true e x m = tt
+    by false e More m = tt
+    by false e (Bad code) m = (may (unit.Bad code) m, e)
+    by false e (Whole u n) m = (may u m, e)
+found_may Up h bytes p = by (up_scan (awaited_of (before h).up.container) bytes) (heard_as (awaited_of (before h).up.container) bytes)
+  where
+    may : (u : Unit10) → MayBeHeard (awaited_of (before h).up.container) u → MayBeHeard (awaited_of (container h)) u
+    may u m = subst (λ (c : Option Upstream). MayBeHeard (awaited_of c) u) (container_is (known h p)) m
+
+    by : (x : Scan Unit10 Condition) → HearsAs (awaited_of (before h).up.container) x → FindsMay h (as_step Heard unit_10.Bad x)
+    by More m = tt
+    by (Bad why) m = may (unit_10.Bad why) m
+    by (Whole u n) m = may u m
+
+read_picks : (end : End) (h : List Step) (f : ℕ) (g : List Step) (bytes : List ℕ) → ArePicks (g ++ h) → ArePicks ((read_end end (before h) f g bytes).fresh ++ h)
+read_picks end h zero g bytes p = p
+read_picks end h (suc f) g bytes p =
+    by (step_scan end (after g (before h)) bytes)
+    (subst (λ (w : State). FindsMay (g ++ h) (step_scan end w bytes)) (after_before g h) (found_may end (g ++ h) bytes p))
+    (λ s n q. read_picks end h f (s ∷ g) (drop n bytes) q)
+  where
+    by : (x : Scan Step Step) → FindsMay (g ++ h) x
+        → ((s : Step) (n : ℕ) → ArePicks ((s ∷ g) ++ h) → ArePicks ((read_end end (before h) f (s ∷ g) (drop n bytes)).fresh ++ h))
+        → ArePicks ((on_scan x (cut_of g bytes) (λ s. cut_of (s ∷ g) []) (λ s n. read_end end (before h) f (s ∷ g) (drop n bytes))).fresh ++ h)
     by More m rec = p
-    by (Bad code) m rec = (may (unit.Bad code) m, p)
-    by (Whole u n) m rec = rec u n (may u m, p)
+    by (Bad s) m rec = (m, p)
+    by (Whole s n) m rec = rec s n (m, p)
 
 -- ---- units that go are those that are offered
 
-took_picks : (h : List Step) (n : ℕ) (rest all bytes : List ℕ) → offered Client (before h) rest ≡ Some bytes → ArePicks h
-    → ArePicks ((ends Client n all ++ begins Client (before h)) ++ h)
-took_picks h n rest all bytes e p = begun (is_busy (before h) Client) refl (pick (before h) Client) refl e
+given_may : (end : End) (h : List Step) (o : Option Outgoing) → is_busy (before h) end ≡ false → pick (before h) end ≡ o → ArePicks h → ArePicks (given o ++ h)
+given_may end h None free at p = p
+given_may Client h (Some (ToClient u)) free at p = ((free, at), p)
+given_may Client h (Some (ToUp u)) free at p = absurd (client_picks (before h) u at)
+given_may Up h (Some (ToClient u)) free at p = absurd (up_picks (before h) u at)
+given_may Up h (Some (ToUp u)) free at p = ((free, at), p)
+
+took_picks : (end : End) (s : SetupText) (h : List Step) (n : ℕ) (rest bytes : List ℕ) → offered s end (before h) rest ≡ Some bytes → ArePicks h
+    → ArePicks ((ends end n bytes ++ begins end (before h)) ++ h)
+took_picks end s h n rest bytes e p = begun (is_busy (before h) end) refl (pick (before h) end) refl e
   where
-    last : (g : List Step) (b : Bool) → is_busy (before (g ++ h)) Client ≡ true → ArePicks (g ++ h) → ArePicks (((if b then [] else state.Whole Client ∷ []) ++ g) ++ h)
+    last : (g : List Step) (b : Bool) → is_busy (before (g ++ h)) end ≡ true → ArePicks (g ++ h) → ArePicks (((if b then [] else state.Whole end ∷ []) ++ g) ++ h)
     last g true is q = q
     last g false is q = (is, q)
 
-    begun : (b : Bool) → is_busy (before h) Client ≡ b → (o : Option Reply) → pick (before h) Client ≡ o → (if b then Some rest else option_map spell o) ≡ Some bytes
-        → ArePicks ((ends Client n all ++ (if b then [] else given Client o)) ++ h)
-    begun true is o at f = last [] (nat_lt n (length all)) is p
+    goes : (u : Outgoing) → pick (before h) end ≡ Some u → is_busy (before (Gave u ∷ h)) end ≡ true
+    goes u at = by end u at
+      where
+        by : (end : End) (u : Outgoing) → pick (before h) end ≡ Some u → is_busy (before (Gave u ∷ h)) end ≡ true
+        by Client (ToClient r) at = refl
+        by Client (ToUp r) at = absurd (client_picks (before h) r at)
+        by Up (ToClient r) at = absurd (up_picks (before h) r at)
+        by Up (ToUp r) at = refl
+
+    begun : (b : Bool) → is_busy (before h) end ≡ b → (o : Option Outgoing) → pick (before h) end ≡ o → (if b then Some rest else option_map (spell (context_of s (before h))) o) ≡ Some bytes
+        → ArePicks ((ends end n bytes ++ (if b then [] else given o)) ++ h)
+    begun true is o at f = last [] (nat_lt n (length bytes)) is p
     begun false is None at f = absurd cc
-    begun false is (Some u) at f = last (Gave Client u ∷ []) (nat_lt n (length all)) refl ((is, at), p)
+    begun false is (Some u) at f = last (Gave u ∷ []) (nat_lt n (length bytes)) (goes u at) (given_may end h (Some u) is at p)
 
 -- any older part of a list of picks is one
 pub drop_picks : (n : ℕ) (g h : List Step) → ArePicks (g ++ h) → ArePicks (drop n g ++ h)
@@ -95,10 +168,23 @@ drop_picks zero g h p = p
 drop_picks (suc n) [] h p = p
 drop_picks (suc n) (s ∷ g) h p = drop_picks n g h p.1
 
+leaves_picks : (h : List Step) → ArePicks h → ArePicks (leaves (before h) ++ h)
+leaves_picks h p = by (can_leave (before h)) refl
+  where
+    by : (b : Bool) → can_leave (before h) ≡ b → ArePicks ((if b then TakenUp ∷ [] else []) ++ h)
+    by true e = (e, p)
+    by false e = p
+
 -- what is offered while the end takes bytes
-pub offered_is : (end : End) (h : List Entry) (b : Bool) (o : Option (List ℕ)) (bytes : List ℕ) → (if b then o else None) ≡ Some bytes → o ≡ Some bytes
-offered_is end h true o bytes e = e
-offered_is end h false o bytes e = absurd cc
+pub offered_is : (b : Bool) (o : Option (List ℕ)) (bytes : List ℕ) → (if b then o else None) ≡ Some bytes → o ≡ Some bytes
+offered_is true o bytes e = e
+offered_is false o bytes e = absurd cc
+
+-- the connection is asked for where that is due
+connect_is : (x y z : Bool) → (x && (not y && z)) ≡ true → z ≡ true
+connect_is true true z e = absurd cc
+connect_is true false z e = e
+connect_is false y z e = absurd cc
 
 -- nothing happened but the accept
 pub new_calm : (h : List Entry) → is_new h ≡ true → is_out_of_memory h ≡ false
@@ -118,30 +204,34 @@ new_calm (entry.OutOfMemory cut ∷ h) e = absurd cc
 new_calm (entry.Over ∷ h) e = absurd cc
 
 -- steps know whether the pair ran out of memory
-pub memory_in : (h : List Entry) → ArePicks (steps_of h) → ran_out_in (steps_of h) ≡ is_out_of_memory h
-memory_in h p = sym (known (steps_of h) p).memory_is ∙ memory_of h
+pub memory_in : (s : SetupText) (h : List Entry) → ArePicks (steps_of s h) → ran_out_in (steps_of s h) ≡ is_out_of_memory h
+memory_in s h p = sym (knows.memory_is (known (steps_of s h) p)) ∙ memory_of s h
 
-no_steps : (h : List Entry) → h ≡ [] → steps_of h ≡ []
-no_steps h e = ap steps_of e
-
-pub picks : (h : List Entry) → IsRelayed pair_words h → ArePicks (steps_of h)
+pub picks : (s : SetupText) (h : List Entry) → IsRelayed (pair_words s) h → ArePicks (steps_of s h)
 unfolding pair_words
-picks [] r = tt
-picks (entry.Began p ms ∷ h) r = (no_steps h r.0, picks h r.2)
-picks (entry.Refused ∷ h) r = let p = picks h r.2 in (memory_in h p ∙ new_calm h r.0, p)
-picks (entry.Moment ms ∷ h) r = (subst (λ (n : ℕ). n ≤ ms) (sym (moment_is h)) r.0, picks h r.2)
-picks (entry.Came Client bytes ∷ h) r = read_picks (steps_of h) (length ((told h).unread ++ bytes)) [] ((told h).unread ++ bytes) (picks h r.2)
-picks (entry.Came Up bytes ∷ h) r = picks h r.2
-picks (entry.Dry end ∷ h) r = picks h r.2
-picks (entry.Settled ∷ h) r = (tt, picks h r.2)
-picks (entry.Joined answer ∷ h) r = picks h r.2
-picks (entry.Took Client bytes n ∷ h) r =
-    took_picks (steps_of h) n (told h).rest (unwrap_or (offered Client (state_of h) (told h).rest) []) bytes
-    (offered_is Client h (is_writable (side_of Client (sides h))) (offered Client (state_of h) (told h).rest) bytes r.0.0) (picks h r.2)
-picks (entry.Took Up bytes n ∷ h) r = picks h r.2
-picks (entry.Stuck end bytes ∷ h) r = picks h r.2
-picks (entry.Lost end how ∷ h) r = (tt, picks h r.2)
-picks (entry.OutOfMemory cut ∷ h) r =
-    let p = picks h r.2 in
-    ((cut_leaves cut h).memory_is ∙ sym (all_leave h).memory_is ∙ memory_in h p ∙ r.0.0, drop_picks cut (told h).fresh (told h).past p)
-picks (entry.Over ∷ h) r = picks h r.2
+picks s [] r = tt
+picks s (entry.Began p ms ∷ h) r = (ap (steps_of s) r.0, picks s h r.2)
+picks s (entry.Refused ∷ h) r = let p = picks s h r.2 in (memory_in s h p ∙ new_calm h r.0, p)
+picks s (entry.Moment ms ∷ h) r = (subst (λ (n : ℕ). n ≤ ms) (sym (moment_is s h)) r.0, picks s h r.2)
+picks s (entry.Came Client bytes ∷ h) r =
+    read_picks Client (steps_of s h) (length ((told s h).client.unread ++ bytes)) [] ((told s h).client.unread ++ bytes) (picks s h r.2)
+picks s (entry.Came Up bytes ∷ h) r = read_picks Up (steps_of s h) (length ((told s h).up.unread ++ bytes)) [] ((told s h).up.unread ++ bytes) (picks s h r.2)
+picks s (entry.Dry end ∷ h) r = picks s h r.2
+picks s (entry.Settled ∷ h) r =
+    let t = told s h in
+    let u = took_in t.client.unread t in
+    subst ArePicks (sym (append_assoc (leaves (before (steps u))) u.fresh u.past))
+    (leaves_picks (steps u) (read_picks Client (steps t) (length t.client.unread) [] t.client.unread (picks s h r.2)))
+picks s (entry.Joined answer ∷ h) r = (connect_is (is_absent (side_of Up (sides h))) (is_out_of_memory h) (is_connect_due (state_of s h)) r.0, picks s h r.2)
+picks s (entry.Took Client bytes n ∷ h) r =
+    took_picks Client s (steps_of s h) n (told s h).client.rest bytes
+    (offered_is (is_writable (side_of Client (sides h))) (offered s Client (state_of s h) (told s h).client.rest) bytes r.0.0) (picks s h r.2)
+picks s (entry.Took Up bytes n ∷ h) r =
+    took_picks Up s (steps_of s h) n (told s h).up.rest bytes
+    (offered_is (is_writable (side_of Up (sides h))) (offered s Up (state_of s h) (told s h).up.rest) bytes r.0.0) (picks s h r.2)
+picks s (entry.Stuck end bytes ∷ h) r = picks s h r.2
+picks s (entry.Lost end how ∷ h) r = (tt, picks s h r.2)
+picks s (entry.OutOfMemory cut ∷ h) r =
+    let p = picks s h r.2 in
+    ((cut_leaves s cut h).memory_is ∙ sym (fresh_leave s h).memory_is ∙ memory_in s h p ∙ r.0.0, drop_picks cut (told s h).fresh (told s h).past p)
+picks s (entry.Over ∷ h) r = picks s h r.2

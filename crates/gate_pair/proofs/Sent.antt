@@ -1,145 +1,307 @@
--- What the client took are the bytes of the units that were sent, but for what is left of the one in progress.
-use Rattle.std.proofs.Common.{◌≡◌, ◌∙◌, ℕ, ◌≤◌, ◌<◌, Bool, true, false, if◌then◌else◌, List, [], ◌∷◌, ◌++◌, length, take, drop, nat_lt, Option, None, Some, append_assoc, append-nil, refl, sym, ap, subst, arith}
-use Rattle.std.specs.Prelude.{unwrap_or, is_some}
+-- What an end took are the bytes of the units that were sent to it, but for what is left of the one in progress.
+use Rattle.std.proofs.Common.{◌≡◌, ◌∙◌, ℕ, Bool, true, false, map, if◌then◌else◌, List, [], ◌∷◌, ◌++◌, length, take, drop, nat_lt, Option, None, Some, append_assoc, append-nil, refl, sym, ap, subst, arith}
+use Rattle.std.specs.Prelude.{is_some}
 use Rattle.std.specs.Option.{option_map}
-use Rattle.std.proofs.lemmas.List.{drop_all, take-append-drop}
+use Rattle.std.proofs.lemmas.List.{drop_all, map-append, take-append-drop}
 use Rattle.std.proofs.lemmas.Bool.Decides.{nat_tests}
-use Rattle.gate_outside.specs.declared.ports.End.TheVariants.{Client, Up}
-use Rattle.gate_relay.specs.declared.loss.Loss.{Loss}
-use Rattle.gate_relay.specs.declared.loss.Loss.TheVariants as loss
 use Rattle.gate_outside.specs.declared.ports.End.{End}
+use Rattle.gate_outside.specs.declared.ports.End.TheVariants.{Client, Up}
+use Rattle.gate_outside.specs.declared.ports.Linked.TheVariants as link
+use Rattle.gate_relay.specs.declared.loss.Loss.TheVariants as loss
+use Rattle.gate_relay.specs.declared.sides.Side.TheVariants as side
 use Rattle.gate_relay.specs.Entries as entry
-use Rattle.gate_relay.specs.Entries.{Entry, moment_of}
-use Rattle.gate_relay.specs.Guards.{offers}
+use Rattle.gate_relay.specs.Entries.{Entry}
 use Rattle.gate_relay.specs.Relayed.{IsRelayed}
 use Rattle.gate_relay.specs.Sides.{is_writable, side_of, sides}
-use Rattle.gate_model.specs.declared.reply.Reply.{Reply}
-use Rattle.gate_model.specs.Due.{due, first, is_busy, pick}
-use Rattle.gate_model.specs.Folds.{moment_in, sent, sent_at}
-use Rattle.gate_model.specs.Spelling.{spell}
+use Rattle.machine_091.specs.State.{is_closing}
+use Rattle.gate_model.specs.declared.outgoing.Outgoing.{Outgoing}
+use Rattle.gate_model.specs.declared.outgoing.Outgoing.TheVariants.{ToClient, ToUp}
+use Rattle.gate_model.specs.Due.{due, in_progress, is_busy, pick}
+use Rattle.gate_model.specs.Folds.{sent, sent_up}
+use Rattle.gate_model.specs.Picks.{ArePicks}
+use Rattle.gate_model.specs.Setup.{SetupText}
+use Rattle.gate_model.specs.Spelling.{Context, context_of, spell}
 use Rattle.gate_model.specs.State as state
-use Rattle.gate_model.specs.State.{State, Step, Gave, before, lost}
-use Rattle.gate_pair.specs.Answers.{spelled, taken_bytes}
-use Rattle.gate_pair.specs.Cutting.{cut_all}
-use Rattle.gate_pair.specs.Meaning.{begins, ends, given, offered, pair_words, state_of, steps_of, told}
-use Rattle.gate_pair.specs.Times.{last_taken_at}
-use Rattle.gate_pair.proofs.Picks.{offered_is}
-use Rattle.gate_pair.proofs.Taken.{Leaves, all_leave, cut_leaves, cut_taken, leaves, moment_is}
+use Rattle.gate_model.specs.State.{State, Step, Gave, Whole, before, step}
+use Rattle.gate_model.specs.Upstream.{UpState, first, linked, lost_by, shut_by}
+use Rattle.gate_pair.specs.Answers.{AreSent, OwesNone, context_in, sent_to, spelled, taken_bytes}
+use Rattle.gate_pair.specs.Meaning.{begins, ends, given, offered, pair_words, state_of, steps_of, stream_of, told}
+use Rattle.gate_pair.proofs.Logins.{AreLoggedIn, bytes_stay, context_is}
+use Rattle.gate_pair.proofs.Picks.{offered_is, picks}
+use Rattle.gate_pair.proofs.Sounds.{client_picks, up_picks}
+use Rattle.gate_pair.proofs.Taken.{AreTaken, IsTaken, closing_keeps, fail_leaves, drop_taken, fresh_taken, taken_leaves}
 
-spelled_next : (us : List Reply) (u : Reply) → spelled (us ++ u ∷ []) ≡ spelled us ++ spell u
-spelled_next [] u = append-nil (spell u)
-spelled_next (x ∷ us) u = ap (λ (b : List ℕ). spell x ++ b) (spelled_next us u) ∙ sym (append_assoc (spell x) (spelled us) (spell u))
+-- ---- steps that send nothing
 
--- what was sent, whether a unit is in progress, what is left of it, and when the last byte of the last one was
-pub record SendsIn (us : List Reply) (busy : Bool) (at : ℕ) (taken rest : List ℕ) (last : ℕ) : Type 0 where
-  pub bytes : taken ++ rest ≡ spelled us
-  pub free : busy ≡ false → rest ≡ []
-  pub at_is : busy ≡ false → at ≡ last
+abbrev IsQuiet : Step → Type 0
+IsQuiet (Gave u) = ⊥
+IsQuiet (Whole end) = ⊥
+IsQuiet x = Unit {0}
 
-abbrev pub SendsAs : List Step → List ℕ → List ℕ → ℕ → Type 0
-SendsAs g taken rest last = SendsIn (sent g) (is_busy (before g) Client) (sent_at g) taken rest last
+fail_going : (end : End) (code : ℕ) (why : _) (w : State) → in_progress (state.fail code why w) end ≡ in_progress w end
+fail_going Client code why w = ap (option_map ToClient) (fail_leaves code why w).going_is
+fail_going Up code why w = ap (option_map ToUp) (fail_leaves code why w).going_up_is
 
-abbrev pub Sends : List Entry → Type 0
-Sends h = SendsAs (steps_of h) (taken_bytes h) (told h).rest (last_taken_at h)
+taken_going : (end : End) (x : Step) (w : State) → IsTaken x → in_progress (step w x) end ≡ in_progress w end
+taken_going Client x w t = ap (option_map ToClient) (taken_leaves x w t).going_is
+taken_going Up x w t = ap (option_map ToUp) (taken_leaves x w t).going_up_is
 
--- steps that leave what was sent
-sends_left : (g k : List Step) (taken rest : List ℕ) (last : ℕ) → Leaves g k → SendsAs k taken rest last → SendsAs (g ++ k) taken rest last
-sends_left g k taken rest last l s = record {
-  bytes = s.bytes ∙ ap spelled (sym l.sent_is);
-  free = λ e. s.free (ap is_some (sym l.going_is) ∙ e);
-  at_is = λ e. l.sent_at_is ∙ s.at_is (ap is_some (sym l.going_is) ∙ e);
+lost_going : (end : End) (up : UpState) (w : State) → up.in_progress ≡ w.up.in_progress → in_progress (record w { up = up }) end ≡ in_progress w end
+lost_going Client up w e = refl
+lost_going Up up w e = ap (option_map ToUp) e
+
+-- they leave what is in progress
+quiet_going : (end : End) (x : Step) (w : State) → IsQuiet x → in_progress (step w x) end ≡ in_progress w end
+quiet_going Client (state.Began vhost n ms) w q = refl
+quiet_going Up (state.Began vhost n ms) w q = refl
+quiet_going Client (state.Moment ms) w q = refl
+quiet_going Up (state.Moment ms) w q = refl
+quiet_going end (state.Came u) w q = taken_going end (state.Came u) w tt
+quiet_going end state.TakenUp w q = taken_going end state.TakenUp w tt
+quiet_going end (state.Heard u) w q = taken_going end (state.Heard u) w tt
+quiet_going end (state.Joined link.Ok) w q = lost_going end (linked w.moment w.up) w refl
+quiet_going end (state.Joined link.Failed) w q = fail_going end _ None (record w { up = shut_by w.up }) ∙ lost_going end (shut_by w.up) w refl
+quiet_going Client (state.Lost Client loss.Ended) w q = refl
+quiet_going Up (state.Lost Client loss.Ended) w q = refl
+quiet_going Client (state.Lost Client loss.Failed) w q = refl
+quiet_going Up (state.Lost Client loss.Failed) w q = refl
+quiet_going end (state.Lost Client loss.Shut) w q = refl
+quiet_going end (state.Lost Up loss.Ended) w q = fail_going end _ None (record w { up = lost_by side.Ended w.up }) ∙ lost_going end (lost_by side.Ended w.up) w refl
+quiet_going end (state.Lost Up loss.Failed) w q = fail_going end _ None (record w { up = lost_by side.Failed w.up }) ∙ lost_going end (lost_by side.Failed w.up) w refl
+quiet_going end (state.Lost Up loss.Shut) w q = lost_going end (shut_by w.up) w refl
+quiet_going end (Gave u) w q = absurd q
+quiet_going end (Whole e) w q = absurd q
+quiet_going Client state.OutOfMemory w q = refl
+quiet_going Up state.OutOfMemory w q = ap (option_map ToUp) (closing_keeps (is_closing w.conn) _ w.up)
+
+quiet_sent : (end : End) (x : Step) (g : List Step) → IsQuiet x → sent_to end (x ∷ g) ≡ sent_to end g
+quiet_sent end (Gave u) g q = absurd q
+quiet_sent end (Whole e) g q = absurd q
+quiet_sent Client x g q = refl
+quiet_sent Up x g q = refl
+
+-- ---- what was sent to an end
+
+-- the bytes of the units that were sent, and whether one is in progress
+abbrev bytes_in : SetupText → End → List Step → List ℕ
+bytes_in s end g = spelled (context_in s g) (sent_to end g)
+
+record SameSent (s : SetupText) (end : End) (old new : List Step) : Type 0 where
+  bytes : bytes_in s end new ≡ bytes_in s end old
+  busy : is_busy (before new) end ≡ is_busy (before old) end
+
+same_all : (s : SetupText) (end : End) (g : List Step) → SameSent s end g g
+same_all s end g = record { bytes = refl; busy = refl }
+
+same_more : (s : SetupText) (end : End) (a b c : List Step) → SameSent s end a b → SameSent s end b c → SameSent s end a c
+same_more s end a b c p q = record { bytes = q.bytes ∙ p.bytes; busy = q.busy ∙ p.busy }
+
+same_back : (s : SetupText) (end : End) (a b : List Step) → SameSent s end a b → SameSent s end b a
+same_back s end a b p = record { bytes = sym p.bytes; busy = sym p.busy }
+
+quiet_same : AreLoggedIn → (s : SetupText) (end : End) (x : Step) (g : List Step) → IsQuiet x → ArePicks (x ∷ g) → SameSent s end g (x ∷ g)
+quiet_same l s end x g q p = record {
+  bytes = ap (spelled (context_in s (x ∷ g))) (quiet_sent end x g q) ∙ bytes_stay l s end x g p;
+  busy = ap is_some (quiet_going end x (before g) q);
 }
 
-sends_older : (g k : List Step) (taken rest : List ℕ) (last : ℕ) → Leaves g k → SendsAs (g ++ k) taken rest last → SendsAs k taken rest last
-sends_older g k taken rest last l s = record {
-  bytes = s.bytes ∙ ap spelled l.sent_is;
-  free = λ e. s.free (ap is_some l.going_is ∙ e);
-  at_is = λ e. sym l.sent_at_is ∙ s.at_is (ap is_some l.going_is ∙ e);
-}
+taken_quiet : (x : Step) → IsTaken x → IsQuiet x
+taken_quiet (Gave u) t = absurd t
+taken_quiet (Whole e) t = absurd t
+taken_quiet x t = tt
 
-sends_lost : (g : List Step) (end : End) (how : Loss) (taken rest : List ℕ) (last : ℕ) → SendsAs g taken rest last → SendsAs (state.Lost end how ∷ g) taken rest last
-sends_lost g Client loss.Ended taken rest last s = s
-sends_lost g Client loss.Failed taken rest last s = s
-sends_lost g Client loss.Shut taken rest last s = s
-sends_lost g Up how taken rest last s = s
+taken_same : AreLoggedIn → (s : SetupText) (end : End) (k g : List Step) → AreTaken k → ArePicks (k ++ g) → SameSent s end g (k ++ g)
+taken_same l s end [] g t p = same_all s end g
+taken_same l s end (x ∷ k) g t p =
+    same_more s end g (k ++ g) (x ∷ k ++ g) (taken_same l s end k g t.1 p.1) (quiet_same l s end x (k ++ g) (taken_quiet x t.0) p)
+
+-- what out of memory took back sent nothing
+cut_same : AreLoggedIn → (s : SetupText) (end : End) (cut : ℕ) (k g : List Step) → AreTaken k → ArePicks (k ++ g) → ArePicks (state.OutOfMemory ∷ drop cut k ++ g)
+    → SameSent s end (k ++ g) (state.OutOfMemory ∷ drop cut k ++ g)
+cut_same l s end cut k g t p q =
+    same_more s end (k ++ g) g (state.OutOfMemory ∷ drop cut k ++ g)
+    (same_back s end g (k ++ g) (taken_same l s end k g t p))
+    (same_more s end g (drop cut k ++ g) (state.OutOfMemory ∷ drop cut k ++ g)
+    (taken_same l s end (drop cut k) g (drop_taken cut k t) q.1) (quiet_same l s end state.OutOfMemory (drop cut k ++ g) tt q))
+
+record SendsIn (s : SetupText) (end : End) (g : List Step) (taken rest : List ℕ) : Type 0 where
+  bytes : taken ++ rest ≡ bytes_in s end g
+  free : is_busy (before g) end ≡ false → rest ≡ []
+
+sends_same : {taken rest : List ℕ} (s : SetupText) (end : End) (g k : List Step) → SameSent s end g k → SendsIn s end g taken rest → SendsIn s end k taken rest
+sends_same s end g k e x = record { bytes = x.bytes ∙ sym e.bytes; free = λ f. x.free (sym e.busy ∙ f) }
 
 -- ---- a write
 
 clashes : {P : Type 0} → true ≡ false → P
 clashes e = absurd cc
 
+spelled_next : (c : Context) (us : List Outgoing) (u : Outgoing) → spelled c (us ++ u ∷ []) ≡ spelled c us ++ spell c u
+spelled_next c [] u = append-nil (spell c u)
+spelled_next c (x ∷ us) u = ap (λ (b : List ℕ). spell c x ++ b) (spelled_next c us u) ∙ sym (append_assoc (spell c x) (spelled c us) (spell c u))
+
+-- the first byte of a unit
+gave_bytes : (s : SetupText) (end : End) (g : List Step) (u : Outgoing) → ArePicks g → pick (before g) end ≡ Some u
+    → bytes_in s end (Gave u ∷ g) ≡ bytes_in s end g ++ spell (context_of s (before g)) u
+gave_bytes s Client g (ToClient r) p e =
+    ap (spelled (context_in s g)) (map-append ToClient (sent g) (r ∷ [])) ∙ spelled_next (context_in s g) (map ToClient (sent g)) (ToClient r)
+gave_bytes s Client g (ToUp r) p e = absurd (client_picks (before g) r e)
+gave_bytes s Up g (ToClient r) p e = absurd (up_picks (before g) r e)
+gave_bytes s Up g (ToUp r) p e =
+    ap (spelled (context_in s g)) (map-append ToUp (sent_up g) (r ∷ [])) ∙ spelled_next (context_in s g) (map ToUp (sent_up g)) (ToUp r)
+    ∙ ap (λ (c : Context). bytes_in s Up g ++ spell c (ToUp r)) (sym (context_is s g p))
+
+gave_busy : (end : End) (w : State) (u : Outgoing) → pick w end ≡ Some u → is_busy (step w (Gave u)) end ≡ true
+gave_busy Client w (ToClient r) e = refl
+gave_busy Client w (ToUp r) e = absurd (client_picks w r e)
+gave_busy Up w (ToClient r) e = absurd (up_picks w r e)
+gave_busy Up w (ToUp r) e = refl
+
+-- and its last
+whole_bytes : (s : SetupText) (end : End) (g : List Step) → bytes_in s end (Whole end ∷ g) ≡ bytes_in s end g
+whole_bytes s Client g = refl
+whole_bytes s Up g = refl
+
+whole_free : (end : End) (w : State) → is_busy (step w (Whole end)) end ≡ false
+whole_free Client w = refl
+whole_free Up w = refl
+
 none_left : (n : ℕ) (bytes : List ℕ) → nat_lt n (length bytes) ≡ false → drop n bytes ≡ []
 none_left n bytes e = drop_all n bytes (grind (arith, nat_tests, e))
 
 -- the unit in progress, of which so many bytes more were taken
-goes_on : (g : List Step) (n : ℕ) (taken rest bytes : List ℕ) (last ms : ℕ) → is_busy (before g) Client ≡ true → moment_in g ≡ ms → taken ++ bytes ≡ spelled (sent g)
-    → SendsAs (ends Client n bytes ++ g) (taken ++ take n bytes) (drop n bytes) ms
-goes_on g n taken rest bytes last ms busy m s = by (nat_lt n (length bytes)) refl
+goes_on : (s : SetupText) (end : End) (g : List Step) (n : ℕ) (taken bytes : List ℕ) → is_busy (before g) end ≡ true → taken ++ bytes ≡ bytes_in s end g
+    → SendsIn s end (ends end n bytes ++ g) (taken ++ take n bytes) (drop n bytes)
+goes_on s end g n taken bytes busy e = by (nat_lt n (length bytes)) refl
   where
-    all : (taken ++ take n bytes) ++ drop n bytes ≡ spelled (sent g)
-    all = append_assoc taken (take n bytes) (drop n bytes) ∙ ap (λ (b : List ℕ). taken ++ b) (take-append-drop n bytes) ∙ s
+    all : (taken ++ take n bytes) ++ drop n bytes ≡ bytes_in s end g
+    all = append_assoc taken (take n bytes) (drop n bytes) ∙ ap (λ (b : List ℕ). taken ++ b) (take-append-drop n bytes) ∙ e
 
-    by : (b : Bool) → nat_lt n (length bytes) ≡ b → SendsAs ((if b then [] else state.Whole Client ∷ []) ++ g) (taken ++ take n bytes) (drop n bytes) ms
-    by true e = record { bytes = all; free = λ f. clashes (sym busy ∙ f); at_is = λ f. clashes (sym busy ∙ f) }
-    by false e = record { bytes = all; free = λ f. none_left n bytes e; at_is = λ f. m }
+    by : (b : Bool) → nat_lt n (length bytes) ≡ b → SendsIn s end ((if b then [] else Whole end ∷ []) ++ g) (taken ++ take n bytes) (drop n bytes)
+    by true f = record { bytes = all; free = λ x. clashes (sym busy ∙ x) }
+    by false f = record { bytes = all ∙ sym (whole_bytes s end g); free = λ x. none_left n bytes f }
 
-took_sends : (g : List Step) (n : ℕ) (taken rest bytes : List ℕ) (last ms : ℕ) → offered Client (before g) rest ≡ Some bytes → moment_in g ≡ ms → SendsAs g taken rest last
-    → SendsAs ((ends Client n bytes ++ begins Client (before g)) ++ g) (taken ++ take n bytes) (drop n bytes) ms
-took_sends g n taken rest bytes last ms e m s = begun (is_busy (before g) Client) refl (pick (before g) Client) refl e
+took_sends : (s : SetupText) (end : End) (g : List Step) (n : ℕ) (taken rest bytes : List ℕ) → ArePicks g → offered s end (before g) rest ≡ Some bytes
+    → SendsIn s end g taken rest → SendsIn s end ((ends end n bytes ++ begins end (before g)) ++ g) (taken ++ take n bytes) (drop n bytes)
+took_sends s end g n taken rest bytes p e x = begun (is_busy (before g) end) refl (pick (before g) end) refl e
   where
-    begun : (b : Bool) → is_busy (before g) Client ≡ b → (o : Option Reply) → pick (before g) Client ≡ o → (if b then Some rest else option_map spell o) ≡ Some bytes
-        → SendsAs ((ends Client n bytes ++ (if b then [] else given Client o)) ++ g) (taken ++ take n bytes) (drop n bytes) ms
+    begun : (b : Bool) → is_busy (before g) end ≡ b → (o : Option Outgoing) → pick (before g) end ≡ o → (if b then Some rest else option_map (spell (context_of s (before g))) o) ≡ Some bytes
+        → SendsIn s end ((ends end n bytes ++ (if b then [] else given o)) ++ g) (taken ++ take n bytes) (drop n bytes)
     begun true is o at f =
         let same : rest ≡ bytes = cc in
-        subst (λ (k : List Step). SendsAs (k ++ g) (taken ++ take n bytes) (drop n bytes) ms) (sym (append-nil (ends Client n bytes)))
-        (goes_on g n taken rest bytes last ms is m (ap (λ (b : List ℕ). taken ++ b) (sym same) ∙ s.bytes))
+        subst (λ (k : List Step). SendsIn s end (k ++ g) (taken ++ take n bytes) (drop n bytes)) (sym (append-nil (ends end n bytes)))
+        (goes_on s end g n taken bytes is (ap (λ (b : List ℕ). taken ++ b) (sym same) ∙ x.bytes))
     begun false is None at f = absurd cc
     begun false is (Some u) at f =
-        let same : spell u ≡ bytes = cc in
-        let none : taken ≡ spelled (sent g) = sym (append-nil taken) ∙ ap (λ (b : List ℕ). taken ++ b) (sym (s.free is)) ∙ s.bytes in
-        subst (λ (k : List Step). SendsAs k (taken ++ take n bytes) (drop n bytes) ms) (sym (append_assoc (ends Client n bytes) (Gave Client u ∷ []) g))
-        (goes_on (Gave Client u ∷ g) n taken rest bytes last ms refl m
-        (ap (λ (b : List ℕ). b ++ bytes) none ∙ ap (λ (b : List ℕ). spelled (sent g) ++ b) (sym same) ∙ sym (spelled_next (sent g) u)))
+        let same : spell (context_of s (before g)) u ≡ bytes = cc in
+        let none : taken ≡ bytes_in s end g = sym (append-nil taken) ∙ ap (λ (b : List ℕ). taken ++ b) (sym (x.free is)) ∙ x.bytes in
+        subst (λ (k : List Step). SendsIn s end k (taken ++ take n bytes) (drop n bytes)) (sym (append_assoc (ends end n bytes) (Gave u ∷ []) g))
+        (goes_on s end (Gave u ∷ g) n taken bytes (gave_busy end (before g) u at)
+        (ap (λ (b : List ℕ). b ++ bytes) none ∙ ap (λ (b : List ℕ). bytes_in s end g ++ b) (sym same) ∙ sym (gave_bytes s end g u p at)))
+
+-- what it leaves of the other end
+abbrev other : End → End
+other Client = Up
+other Up = Client
+
+gave_same : (s : SetupText) (end : End) (g : List Step) (u : Outgoing) → pick (before g) end ≡ Some u → SameSent s (other end) g (Gave u ∷ g)
+gave_same s Client g (ToClient r) e = record { bytes = refl; busy = refl }
+gave_same s Client g (ToUp r) e = absurd (client_picks (before g) r e)
+gave_same s Up g (ToClient r) e = absurd (up_picks (before g) r e)
+gave_same s Up g (ToUp r) e = record { bytes = refl; busy = refl }
+
+whole_same : (s : SetupText) (end : End) (g : List Step) → SameSent s (other end) g (Whole end ∷ g)
+whole_same s Client g = record { bytes = refl; busy = refl }
+whole_same s Up g = record { bytes = refl; busy = refl }
+
+took_same : (s : SetupText) (end : End) (g : List Step) (n : ℕ) (bytes : List ℕ) → SameSent s (other end) g ((ends end n bytes ++ begins end (before g)) ++ g)
+took_same s end g n bytes = begun (is_busy (before g) end) (pick (before g) end) refl
+  where
+    last : (k : List Step) → SameSent s (other end) g (k ++ g) → (b : Bool) → SameSent s (other end) g (((if b then [] else Whole end ∷ []) ++ k) ++ g)
+    last k e true = e
+    last k e false = same_more s (other end) g (k ++ g) (Whole end ∷ k ++ g) e (whole_same s end (k ++ g))
+
+    begun : (b : Bool) (o : Option Outgoing) → pick (before g) end ≡ o → SameSent s (other end) g ((ends end n bytes ++ (if b then [] else given o)) ++ g)
+    begun true o at = last [] (same_all s (other end) g) (nat_lt n (length bytes))
+    begun false None at = last [] (same_all s (other end) g) (nat_lt n (length bytes))
+    begun false (Some u) at = last (Gave u ∷ []) (gave_same s end g u at) (nat_lt n (length bytes))
 
 -- ---- all entries
 
-pub sends : (h : List Entry) → IsRelayed pair_words h → Sends h
+record Both (s : SetupText) (g : List Step) (taken rest taken_up rest_up : List ℕ) : Type 0 where
+  client : SendsIn s Client g taken rest
+  up : SendsIn s Up g taken_up rest_up
+
+abbrev Sends : SetupText → List Entry → Type 0
+Sends s h = Both s (steps_of s h) (taken_bytes Client h) (told s h).client.rest (taken_bytes Up h) (told s h).up.rest
+
+both_same : {a b c d : List ℕ} (s : SetupText) (g k : List Step) → ((end : End) → SameSent s end g k) → Both s g a b c d → Both s k a b c d
+both_same s g k e x = record { client = sends_same s Client g k (e Client) x.client; up = sends_same s Up g k (e Up) x.up }
+
+both_quiet : {a b c d : List ℕ} → AreLoggedIn → (s : SetupText) (x : Step) (g : List Step) → IsQuiet x → ArePicks (x ∷ g) → Both s g a b c d → Both s (x ∷ g) a b c d
+both_quiet l s x g q p = both_same s g (x ∷ g) (λ end. quiet_same l s end x g q p)
+
+both_taken : {a b c d : List ℕ} → AreLoggedIn → (s : SetupText) (k g : List Step) → AreTaken k → ArePicks (k ++ g) → Both s g a b c d → Both s (k ++ g) a b c d
+both_taken l s k g t p = both_same s g (k ++ g) (λ end. taken_same l s end k g t p)
+
+more_none : {taken rest : List ℕ} (s : SetupText) (end : End) (g : List Step) → SendsIn s end g taken rest → SendsIn s end g (taken ++ []) rest
+more_none {taken} {rest} s end g x = subst (λ (b : List ℕ). SendsIn s end g b rest) (sym (append-nil taken)) x
+
+sends : AreLoggedIn → (s : SetupText) (h : List Entry) → IsRelayed (pair_words s) h → Sends s h
 unfolding pair_words
-sends [] r = record { bytes = refl; free = λ e. refl; at_is = λ e. refl }
-sends (entry.Began p ms ∷ h) r = subst (λ (x : List Entry). Sends (entry.Began p ms ∷ x)) (sym r.0) (record { bytes = refl; free = λ e. refl; at_is = λ e. refl })
-sends (entry.Refused ∷ h) r = sends h r.2
-sends (entry.Moment ms ∷ h) r = sends h r.2
-sends (entry.Came Client bytes ∷ h) r =
-    sends_left _ (steps_of h) _ _ _
-    (leaves (cut_all (before (steps_of h)) ((told h).unread ++ bytes)).fresh (steps_of h) (cut_taken (before (steps_of h)) ((told h).unread ++ bytes))) (sends h r.2)
-sends (entry.Came Up bytes ∷ h) r = sends h r.2
-sends (entry.Dry end ∷ h) r = sends h r.2
-sends (entry.Settled ∷ h) r = sends_left (state.TakenUp ∷ []) (steps_of h) _ _ _ (leaves (state.TakenUp ∷ []) (steps_of h) (tt, tt)) (sends h r.2)
-sends (entry.Joined answer ∷ h) r = sends h r.2
-sends (entry.Took Client bytes n ∷ h) r =
-    let e : offered Client (state_of h) (told h).rest ≡ Some bytes = offered_is Client h (is_writable (side_of Client (sides h))) (offered Client (state_of h) (told h).rest) bytes r.0.0 in
-    let all : bytes ≡ unwrap_or (offered Client (state_of h) (told h).rest) [] = sym (ap (λ (o : Option (List ℕ)). unwrap_or o []) e) in
-    subst (λ (b : List ℕ). SendsAs ((ends Client n b ++ begins Client (state_of h)) ++ steps_of h) (taken_bytes h ++ take n bytes) (drop n b) (moment_of h)) all
-    (took_sends (steps_of h) n (taken_bytes h) (told h).rest bytes (last_taken_at h) (moment_of h) e (moment_is h) (sends h r.2))
-sends (entry.Took Up bytes n ∷ h) r = sends h r.2
-sends (entry.Stuck end bytes ∷ h) r = sends h r.2
-sends (entry.Lost end how ∷ h) r = sends_lost (steps_of h) end how _ _ _ (sends h r.2)
-sends (entry.OutOfMemory cut ∷ h) r =
-    sends_left (drop cut (told h).fresh) (told h).past _ _ _ (cut_leaves cut h) (sends_older (told h).fresh (told h).past _ _ _ (all_leave h) (sends h r.2))
-sends (entry.Over ∷ h) r = sends h r.2
+sends l s [] r = record { client = record { bytes = refl; free = λ e. refl }; up = record { bytes = refl; free = λ e. refl } }
+sends l s (entry.Began n ms ∷ h) r = both_quiet l s (state.Began s.vhost n ms) (steps_of s h) tt (picks s (entry.Began n ms ∷ h) r) (sends l s h r.2)
+sends l s (entry.Refused ∷ h) r = both_quiet l s state.OutOfMemory (steps_of s h) tt (picks s (entry.Refused ∷ h) r) (sends l s h r.2)
+sends l s (entry.Moment ms ∷ h) r = both_quiet l s (state.Moment ms) (steps_of s h) tt (picks s (entry.Moment ms ∷ h) r) (sends l s h r.2)
+sends l s (entry.Came Client bytes ∷ h) r =
+    let e = entry.Came Client bytes in both_taken l s (told s (e ∷ h)).fresh (steps_of s h) (fresh_taken s (e ∷ h)) (picks s (e ∷ h) r) (sends l s h r.2)
+sends l s (entry.Came Up bytes ∷ h) r =
+    let e = entry.Came Up bytes in both_taken l s (told s (e ∷ h)).fresh (steps_of s h) (fresh_taken s (e ∷ h)) (picks s (e ∷ h) r) (sends l s h r.2)
+sends l s (entry.Dry end ∷ h) r = sends l s h r.2
+sends l s (entry.Settled ∷ h) r =
+    let e = entry.Settled in both_taken l s (told s (e ∷ h)).fresh (steps_of s h) (fresh_taken s (e ∷ h)) (picks s (e ∷ h) r) (sends l s h r.2)
+sends l s (entry.Joined answer ∷ h) r = both_quiet l s (state.Joined answer) (steps_of s h) tt (picks s (entry.Joined answer ∷ h) r) (sends l s h r.2)
+sends l s (entry.Took Client bytes n ∷ h) r =
+    let x = sends l s h r.2 in
+    let e = offered_is (is_writable (side_of Client (sides h))) (offered s Client (state_of s h) (told s h).client.rest) bytes r.0.0 in
+    record {
+      client = took_sends s Client (steps_of s h) n (taken_bytes Client h) (told s h).client.rest bytes (picks s h r.2) e x.client;
+      up = more_none s Up _ (sends_same s Up (steps_of s h) _ (took_same s Client (steps_of s h) n bytes) x.up);
+    }
+sends l s (entry.Took Up bytes n ∷ h) r =
+    let x = sends l s h r.2 in
+    let e = offered_is (is_writable (side_of Up (sides h))) (offered s Up (state_of s h) (told s h).up.rest) bytes r.0.0 in
+    record {
+      client = more_none s Client _ (sends_same s Client (steps_of s h) _ (took_same s Up (steps_of s h) n bytes) x.client);
+      up = took_sends s Up (steps_of s h) n (taken_bytes Up h) (told s h).up.rest bytes (picks s h r.2) e x.up;
+    }
+sends l s (entry.Stuck end bytes ∷ h) r = sends l s h r.2
+sends l s (entry.Lost end how ∷ h) r = both_quiet l s (state.Lost end how) (steps_of s h) tt (picks s (entry.Lost end how ∷ h) r) (sends l s h r.2)
+sends l s (entry.OutOfMemory cut ∷ h) r =
+    let t = told s h in
+    both_same s (steps_of s h) (state.OutOfMemory ∷ drop cut t.fresh ++ t.past)
+    (λ end. cut_same l s end cut t.fresh t.past (fresh_taken s h) (picks s h r.2) (picks s (entry.OutOfMemory cut ∷ h) r)) (sends l s h r.2)
+sends l s (entry.Over ∷ h) r = sends l s h r.2
+
+pub are_sent : AreLoggedIn → (s : SetupText) (h : List Entry) → IsRelayed (pair_words s) h → (end : End) → AreSent s h end
+are_sent l s h r Client = (sends l s h r).client.bytes
+are_sent l s h r Up = (sends l s h r).up.bytes
 
 -- where nothing is offered, no unit is in progress and none is due
-none_owed : (w : State) (rest : List ℕ) → (is_busy w Client ≡ false → rest ≡ []) → offered Client w rest ≡ None → (rest ≡ []) × (due w Client ≡ [])
-none_owed w rest free e = by (is_busy w Client) refl (due w Client) refl e
+none_owed : (s : SetupText) (end : End) (w : State) (rest : List ℕ) → (is_busy w end ≡ false → rest ≡ []) → offered s end w rest ≡ None → (rest ≡ []) × (due w end ≡ [])
+none_owed s end w rest free e = by (is_busy w end) refl (due w end) refl e
   where
-    by : (b : Bool) → is_busy w Client ≡ b → (us : List Reply) → due w Client ≡ us → (if b then Some rest else option_map spell (first us)) ≡ None → (rest ≡ []) × (due w Client ≡ [])
+    by : (b : Bool) → is_busy w end ≡ b → (us : List Outgoing) → due w end ≡ us → (if b then Some rest else option_map (spell (context_of s w)) (first us)) ≡ None → (rest ≡ []) × (due w end ≡ [])
     by true is us at f = absurd cc
     by false is [] at f = (free is, at)
     by false is (u ∷ us) at f = absurd cc
 
-pub owed : (h : List Entry) → IsRelayed pair_words h → is_writable (side_of Client (sides h)) ≡ true → offers pair_words Client h ≡ None
-    → ((told h).rest ≡ []) × (due (state_of h) Client ≡ [])
+rest_free : AreLoggedIn → (s : SetupText) (h : List Entry) → IsRelayed (pair_words s) h → (end : End) → is_busy (state_of s h) end ≡ false → (stream_of end (told s h)).rest ≡ []
+rest_free l s h r Client = (sends l s h r).client.free
+rest_free l s h r Up = (sends l s h r).up.free
+
+pub owed : AreLoggedIn → (s : SetupText) (h : List Entry) → IsRelayed (pair_words s) h → (end : End) → OwesNone s h end
 unfolding pair_words
-owed h r takes e =
-    none_owed (state_of h) (told h).rest (sends h r).free
-    (sym (ap (λ (b : Bool). if b then offered Client (state_of h) (told h).rest else None) takes) ∙ e)
+owed l s h r end takes e =
+    none_owed s end (state_of s h) (stream_of end (told s h)).rest (rest_free l s h r end)
+    (sym (ap (λ (b : Bool). if b then offered s end (state_of s h) (stream_of end (told s h)).rest else None) takes) ∙ e)

@@ -1,31 +1,41 @@
 -- Steps that out of memory can take back are units that came and what was taken up; they leave what was sent as it was.
 use Rattle.std.proofs.Common.{◌≡◌, ◌∙◌, ℕ, zero, suc, Bool, true, false, not, ◌&&◌, if◌then◌else◌, List, [], ◌∷◌, ◌++◌, drop, length, nat_lt, Option, None, Some, refl, sym, ap}
+use Rattle.gate_outside.specs.declared.ports.End.{End}
 use Rattle.gate_outside.specs.declared.ports.End.TheVariants.{Client, Up}
-use Rattle.gate_relay.specs.declared.loss.Loss.{Loss}
-use Rattle.gate_relay.specs.declared.loss.Loss.TheVariants as loss
 use Rattle.gate_relay.specs.Entries as entry
 use Rattle.gate_relay.specs.Entries.{Entry, moment_of}
-use Rattle.machine_091.specs.State.{awaits}
+use Rattle.machine_091.specs.State.{awaits, is_closing, is_opening}
 use Rattle.machine_091.specs.declared.unit.Unit91.{Unit91}
 use Rattle.machine_091.specs.declared.unit.Unit91.TheVariants as unit
+use Rattle.machine_10.specs.Transitions as ten
+use Rattle.machine_10.specs.Transitions.{Meaning}
+use Rattle.machine_10.specs.declared.unit.Unit10.{Unit10}
+use Rattle.machine_10.specs.declared.unit.Unit10.TheVariants as unit_10
+use Rattle.performatives_10.specs.declared.condition.Condition.{Condition}
 use Rattle.wire_base.specs.declared.scan.Scan.{Scan}
 use Rattle.wire_base.specs.declared.scan.Scan.TheVariants.{Whole, More, Bad}
-use Rattle.gate_model.specs.declared.reply.Reply.{Reply}
-use Rattle.gate_model.specs.Due.{is_busy, pick}
-use Rattle.gate_model.specs.Folds.{accepted_in, failed_in, moment_in, ran_out_in, sent, sent_at}
+use Rattle.gate_model.specs.declared.outgoing.Outgoing.{Outgoing}
+use Rattle.gate_model.specs.Due.{can_leave, is_busy, pick}
+use Rattle.gate_model.specs.Folds.{accepted_in, failed_in, moment_in, ran_out_in, sent, sent_at, sent_up}
+use Rattle.gate_model.specs.Setup.{SetupText}
 use Rattle.gate_model.specs.State as state
-use Rattle.gate_model.specs.State.{State, Step, Came, Gave, TakenUp, before, came, left}
-use Rattle.gate_pair.specs.Cutting.{after, cut_all, cut_of, on_scan, read_client, unit_scan}
-use Rattle.gate_pair.specs.Meaning.{begins, ends, given, steps_of, told}
-use Rattle.gate_pair.specs.Times.{accepted_of, has_failed}
+use Rattle.gate_model.specs.State.{State, Step, Came, Heard, Gave, Joined, TakenUp, before, came, condition_by, fail, failed, heard, keep_login, left, step, waits, with_meaning}
+use Rattle.gate_model.specs.Upstream.{UpState, awaited_of, closing_with, heard_up, meaning_by}
+use Rattle.machine_091.specs.Transitions.{unit_step}
+use Rattle.machine_091.specs.declared.unit.Want91.{Want91}
+use Rattle.machine_091.specs.declared.unit.Want91.TheVariants as want
+use Rattle.gate_pair.specs.Cutting.{after, as_step, cut_all, cut_of, on_scan, read_end, step_scan, unit_scan, up_scan}
+use Rattle.gate_pair.specs.Meaning.{begins, ends, given, leaves, steps, steps_of, took_in, told}
 
 abbrev pub IsTaken : Step → Type 0
-IsTaken (state.Began ms) = ⊥
+IsTaken (state.Began vhost n ms) = ⊥
 IsTaken (state.Moment ms) = ⊥
 IsTaken (Came u) = Unit {0}
 IsTaken TakenUp = Unit {0}
+IsTaken (Heard u) = Unit {0}
+IsTaken (Joined answer) = ⊥
 IsTaken (state.Lost end how) = ⊥
-IsTaken (Gave end u) = ⊥
+IsTaken (Gave u) = ⊥
 IsTaken (state.Whole end) = ⊥
 IsTaken state.OutOfMemory = ⊥
 
@@ -38,179 +48,238 @@ drop_taken zero g a = a
 drop_taken (suc n) [] a = a
 drop_taken (suc n) (s ∷ g) a = drop_taken n g a.1
 
-one_of : {A : Type 0} (f : State → A) (b : Bool) (w v : State) → f v ≡ f w → f (if b then w else v) ≡ f w
-one_of f true w v e = refl
-one_of f false w v e = e
+pub both_taken : (g h : List Step) → AreTaken g → AreTaken h → AreTaken (g ++ h)
+both_taken [] h a b = b
+both_taken (s ∷ g) h a b = (a.0, both_taken g h a.1 b)
 
-other_of : {A : Type 0} (f : State → A) (b : Bool) (w v : State) → f v ≡ f w → f (if b then v else w) ≡ f w
-other_of f true w v e = e
-other_of f false w v e = refl
+-- ---- what is found in bytes
 
--- what they leave as it was
-pub record Leaves (g h : List Step) : Type 0 where
+abbrev FindsTaken : Scan Step Step → Type 0
+FindsTaken More = Unit {0}
+FindsTaken (Bad s) = IsTaken s
+FindsTaken (Whole s n) = IsTaken s
+
+client_found : (x : Scan Unit91 ℕ) → FindsTaken (as_step Came unit.Bad x)
+client_found More = tt
+client_found (Bad code) = tt
+client_found (Whole u n) = tt
+
+up_found : (x : Scan Unit10 Condition) → FindsTaken (as_step Heard unit_10.Bad x)
+up_found More = tt
+up_found (Bad code) = tt
+up_found (Whole u n) = tt
+
+found : (end : End) (w : State) (bytes : List ℕ) → FindsTaken (step_scan end w bytes)
+found Client w bytes = by (waits w)
+  where
+    by : (b : Bool) → FindsTaken (if b then More else as_step Came unit.Bad (unit_scan (awaits w.conn) bytes))
+    by true = tt
+    by false = client_found (unit_scan (awaits w.conn) bytes)
+found Up w bytes = up_found (up_scan (awaited_of w.up.container) bytes)
+
+read_taken : (end : End) (w : State) (f : ℕ) (g : List Step) (bytes : List ℕ) → AreTaken g → AreTaken (read_end end w f g bytes).fresh
+read_taken end w zero g bytes a = a
+read_taken end w (suc f) g bytes a = by (step_scan end (after g w) bytes) (found end (after g w) bytes) (λ s n t. read_taken end w f (s ∷ g) (drop n bytes) (t, a))
+  where
+    by : (x : Scan Step Step) → FindsTaken x → ((s : Step) (n : ℕ) → IsTaken s → AreTaken (read_end end w f (s ∷ g) (drop n bytes)).fresh)
+        → AreTaken (on_scan x (cut_of g bytes) (λ s. cut_of (s ∷ g) []) (λ s n. read_end end w f (s ∷ g) (drop n bytes))).fresh
+    by More t rec = a
+    by (Bad s) t rec = (t, a)
+    by (Whole s n) t rec = rec s n t
+
+pub cut_taken : (end : End) (w : State) (bytes : List ℕ) → AreTaken (cut_all end w bytes).fresh
+cut_taken end w bytes = read_taken end w (length bytes) [] bytes tt
+
+leaves_taken : (w : State) → AreTaken (leaves w)
+leaves_taken w = by (can_leave w)
+  where
+    by : (b : Bool) → AreTaken (if b then TakenUp ∷ [] else [])
+    by true = (tt, tt)
+    by false = tt
+
+pub fresh_taken : (s : SetupText) (h : List Entry) → AreTaken (told s h).fresh
+fresh_taken s [] = tt
+fresh_taken s (entry.Began p ms ∷ h) = tt
+fresh_taken s (entry.Refused ∷ h) = tt
+fresh_taken s (entry.Moment ms ∷ h) = tt
+fresh_taken s (entry.Came Client bytes ∷ h) = cut_taken Client (before (steps_of s h)) ((told s h).client.unread ++ bytes)
+fresh_taken s (entry.Came Up bytes ∷ h) = cut_taken Up (before (steps_of s h)) ((told s h).up.unread ++ bytes)
+fresh_taken s (entry.Dry end ∷ h) = tt
+fresh_taken s (entry.Settled ∷ h) =
+    let t = told s h in
+    both_taken (leaves (before (steps (took_in t.client.unread t)))) (took_in t.client.unread t).fresh
+    (leaves_taken (before (steps (took_in t.client.unread t)))) (cut_taken Client (before (steps t)) t.client.unread)
+fresh_taken s (entry.Joined answer ∷ h) = tt
+fresh_taken s (entry.Took Client bytes n ∷ h) = tt
+fresh_taken s (entry.Took Up bytes n ∷ h) = tt
+fresh_taken s (entry.Stuck end bytes ∷ h) = tt
+fresh_taken s (entry.Lost end how ∷ h) = tt
+fresh_taken s (entry.OutOfMemory cut ∷ h) = tt
+fresh_taken s (entry.Over ∷ h) = tt
+
+-- ---- what they leave of a state
+
+-- words of a state that a step of this kind leaves as they are: whether the pair ran out of memory, and what is in progress
+pub record Leaves (old new : State) : Type 0 where
+  pub memory_is : new.out_of_memory ≡ old.out_of_memory
+  pub going_is : new.in_progress ≡ old.in_progress
+  pub going_up_is : new.up.in_progress ≡ old.up.in_progress
+  pub number_is : new.number ≡ old.number
+
+pub leaves_all : (w : State) → Leaves w w
+leaves_all w = record { memory_is = refl; going_is = refl; going_up_is = refl; number_is = refl }
+
+pub leaves_more : (a b c : State) → Leaves a b → Leaves b c → Leaves a c
+leaves_more a b c p q = record {
+  memory_is = q.memory_is ∙ p.memory_is;
+  going_is = q.going_is ∙ p.going_is;
+  going_up_is = q.going_up_is ∙ p.going_up_is;
+  number_is = q.number_is ∙ p.number_is;
+}
+
+if_first : (b : Bool) (w v : State) → Leaves w v → Leaves w (if b then w else v)
+if_first true w v x = leaves_all w
+if_first false w v x = x
+
+if_second : (b : Bool) (w v : State) → Leaves w v → Leaves w (if b then v else w)
+if_second true w v x = x
+if_second false w v x = leaves_all w
+
+pub fail_leaves : (code : ℕ) (why : Option Condition) (w : State) → Leaves w (fail code why w)
+fail_leaves code why w = if_first (is_closing w.conn) w (failed code why w) (record { memory_is = refl; going_is = refl; going_up_is = refl; number_is = refl })
+
+meaning_leaves : (m : Meaning) (w : State) → Leaves w (with_meaning m w)
+meaning_leaves ten.Nothing w = leaves_all w
+meaning_leaves ten.Init w = record { memory_is = refl; going_is = refl; going_up_is = refl; number_is = refl }
+meaning_leaves ten.AmqpHeader w = record { memory_is = refl; going_is = refl; going_up_is = refl; number_is = refl }
+meaning_leaves ten.Opened w = if_second (is_opening w.conn) w _ (record { memory_is = refl; going_is = refl; going_up_is = refl; number_is = refl })
+meaning_leaves (ten.OfSession g p payload) w = leaves_all w
+meaning_leaves (ten.Closed e) w = fail_leaves _ None w
+meaning_leaves ten.Refused w = fail_leaves _ None w
+meaning_leaves (ten.Violation c) w = fail_leaves _ (Some c) w
+
+keeping : (x : Want91) (s : UpState) → (keep_login x s).in_progress ≡ s.in_progress
+keeping want.Nothing s = refl
+keeping want.Start s = refl
+keeping (want.Login a b) s = refl
+keeping want.Tuned s = refl
+keeping want.OpenUp s = refl
+keeping (want.Method n m) s = refl
+keeping (want.ChannelCloseOk n) s = refl
+keeping want.Close s = refl
+keeping want.CloseOk s = refl
+keeping (want.Refuse r) s = refl
+
+pub closing_keeps : (b : Bool) (why : Option Condition) (s : UpState) → (closing_with b why s).in_progress ≡ s.in_progress
+closing_keeps true why s = refl
+closing_keeps false why s = refl
+
+came_leaves : (w : State) (u : Unit91) → Leaves w (came w u)
+came_leaves w u = record {
+  memory_is = refl;
+  going_is = refl;
+  going_up_is = closing_keeps (is_closing w.conn) (condition_by (unit_step w.conn u).1) (keep_login (unit_step w.conn u).1 w.up)
+      ∙ keeping (unit_step w.conn u).1 w.up;
+  number_is = refl;
+}
+
+heard_leaves : (w : State) (u : Unit10) → Leaves w (heard w u)
+heard_leaves w u =
+    let v : State = record w { up = heard_up u w.up } in
+    leaves_more w v (heard w u) (record { memory_is = refl; going_is = refl; going_up_is = refl; number_is = refl }) (meaning_leaves (meaning_by w.up.container u) v)
+
+left_leaves : (w : State) → Leaves w (left w)
+left_leaves w = record {
+  memory_is = refl;
+  going_is = refl;
+  going_up_is = closing_keeps (is_closing w.conn) None w.up;
+  number_is = refl;
+}
+
+pub taken_leaves : (s : Step) (w : State) → IsTaken s → Leaves w (step w s)
+taken_leaves (state.Began vhost n ms) w t = absurd t
+taken_leaves (state.Moment ms) w t = absurd t
+taken_leaves (Came u) w t = if_first w.out_of_memory w (came w u) (came_leaves w u)
+taken_leaves TakenUp w t = if_second (not w.out_of_memory && w.leaving) w (left w) (left_leaves w)
+taken_leaves (Heard u) w t = if_first w.out_of_memory w (heard w u) (heard_leaves w u)
+taken_leaves (Joined answer) w t = absurd t
+taken_leaves (state.Lost end how) w t = absurd t
+taken_leaves (Gave u) w t = absurd t
+taken_leaves (state.Whole end) w t = absurd t
+taken_leaves state.OutOfMemory w t = absurd t
+
+pub all_leave : (g : List Step) (w : State) → AreTaken g → Leaves w (after g w)
+all_leave [] w a = leaves_all w
+all_leave (s ∷ g) w a = leaves_more w (after g w) (step (after g w) s) (all_leave g w a.1) (taken_leaves s (after g w) a.0)
+
+-- ---- what they leave of the folds
+
+pub record LeavesFolds (g h : List Step) : Type 0 where
   pub sent_is : sent (g ++ h) ≡ sent h
+  pub sent_up_is : sent_up (g ++ h) ≡ sent_up h
   pub sent_at_is : sent_at (g ++ h) ≡ sent_at h
-  pub going_is : (before (g ++ h)).in_progress ≡ (before h).in_progress
   pub moment_is : moment_in (g ++ h) ≡ moment_in h
   pub accepted_is : accepted_in (g ++ h) ≡ accepted_in h
   pub memory_is : ran_out_in (g ++ h) ≡ ran_out_in h
   pub failed_is : failed_in (g ++ h) ≡ failed_in h
 
-pub leaves : (g h : List Step) → AreTaken g → Leaves g h
-leaves [] h a = record { sent_is = refl; sent_at_is = refl; going_is = refl; moment_is = refl; accepted_is = refl; memory_is = refl; failed_is = refl }
-leaves (state.Began ms ∷ g) h a = absurd a.0
-leaves (state.Moment ms ∷ g) h a = absurd a.0
-leaves (Came u ∷ g) h a =
-    let x = leaves g h a.1 in
-    record {
-      sent_is = x.sent_is;
-      sent_at_is = x.sent_at_is;
-      going_is = one_of (λ w. w.in_progress) (before (g ++ h)).out_of_memory (before (g ++ h)) (came (before (g ++ h)) u) refl ∙ x.going_is;
-      moment_is = x.moment_is;
-      accepted_is = x.accepted_is;
-      memory_is = x.memory_is;
-      failed_is = x.failed_is;
-    }
-leaves (TakenUp ∷ g) h a =
-    let x = leaves g h a.1 in
-    record {
-      sent_is = x.sent_is;
-      sent_at_is = x.sent_at_is;
-      going_is = other_of (λ w. w.in_progress) (not (before (g ++ h)).out_of_memory && (before (g ++ h)).leaving) (before (g ++ h)) (left (before (g ++ h))) refl ∙ x.going_is;
-      moment_is = x.moment_is;
-      accepted_is = x.accepted_is;
-      memory_is = x.memory_is;
-      failed_is = x.failed_is;
-    }
-leaves (state.Lost end how ∷ g) h a = absurd a.0
-leaves (Gave end u ∷ g) h a = absurd a.0
-leaves (state.Whole end ∷ g) h a = absurd a.0
-leaves (state.OutOfMemory ∷ g) h a = absurd a.0
+pub leave_folds : (g h : List Step) → AreTaken g → LeavesFolds g h
+leave_folds [] h a = record { sent_is = refl; sent_up_is = refl; sent_at_is = refl; moment_is = refl; accepted_is = refl; memory_is = refl; failed_is = refl }
+leave_folds (state.Began vhost n ms ∷ g) h a = absurd a.0
+leave_folds (state.Moment ms ∷ g) h a = absurd a.0
+leave_folds (Came u ∷ g) h a =
+    let x = leave_folds g h a.1 in
+    record { sent_is = x.sent_is; sent_up_is = x.sent_up_is; sent_at_is = x.sent_at_is; moment_is = x.moment_is; accepted_is = x.accepted_is; memory_is = x.memory_is; failed_is = x.failed_is }
+leave_folds (TakenUp ∷ g) h a =
+    let x = leave_folds g h a.1 in
+    record { sent_is = x.sent_is; sent_up_is = x.sent_up_is; sent_at_is = x.sent_at_is; moment_is = x.moment_is; accepted_is = x.accepted_is; memory_is = x.memory_is; failed_is = x.failed_is }
+leave_folds (Heard u ∷ g) h a =
+    let x = leave_folds g h a.1 in
+    record { sent_is = x.sent_is; sent_up_is = x.sent_up_is; sent_at_is = x.sent_at_is; moment_is = x.moment_is; accepted_is = x.accepted_is; memory_is = x.memory_is; failed_is = x.failed_is }
+leave_folds (Joined answer ∷ g) h a = absurd a.0
+leave_folds (state.Lost end how ∷ g) h a = absurd a.0
+leave_folds (Gave u ∷ g) h a = absurd a.0
+leave_folds (state.Whole end ∷ g) h a = absurd a.0
+leave_folds (state.OutOfMemory ∷ g) h a = absurd a.0
 
-read_taken : (w : State) (f : ℕ) (g : List Step) (bytes : List ℕ) → AreTaken g → AreTaken (read_client w f g bytes).fresh
-read_taken w zero g bytes a = a
-read_taken w (suc f) g bytes a = by (unit_scan (awaits (after g w).conn) bytes) (λ u n. read_taken w f (Came u ∷ g) (drop n bytes) (tt, a))
-  where
-    by : (s : Scan Unit91 ℕ) → ((u : Unit91) (n : ℕ) → AreTaken (read_client w f (Came u ∷ g) (drop n bytes)).fresh)
-        → AreTaken (on_scan s (cut_of g bytes) (λ code. cut_of (Came (unit.Bad code) ∷ g) []) (λ u n. read_client w f (Came u ∷ g) (drop n bytes))).fresh
-    by More rec = a
-    by (Bad code) rec = (tt, a)
-    by (Whole u n) rec = rec u n
+-- what out of memory left of the newest entry's steps, and all of them
+pub cut_leaves : (s : SetupText) (cut : ℕ) (h : List Entry) → LeavesFolds (drop cut (told s h).fresh) (told s h).past
+cut_leaves s cut h = leave_folds (drop cut (told s h).fresh) (told s h).past (drop_taken cut (told s h).fresh (fresh_taken s h))
 
-pub cut_taken : (w : State) (bytes : List ℕ) → AreTaken (cut_all w bytes).fresh
-cut_taken w bytes = read_taken w (length bytes) [] bytes tt
-
-pub fresh_taken : (h : List Entry) → AreTaken (told h).fresh
-fresh_taken [] = tt
-fresh_taken (entry.Began p ms ∷ h) = tt
-fresh_taken (entry.Refused ∷ h) = tt
-fresh_taken (entry.Moment ms ∷ h) = tt
-fresh_taken (entry.Came Client bytes ∷ h) = cut_taken (before (steps_of h)) ((told h).unread ++ bytes)
-fresh_taken (entry.Came Up bytes ∷ h) = tt
-fresh_taken (entry.Dry end ∷ h) = tt
-fresh_taken (entry.Settled ∷ h) = (tt, tt)
-fresh_taken (entry.Joined answer ∷ h) = tt
-fresh_taken (entry.Took Client bytes n ∷ h) = tt
-fresh_taken (entry.Took Up bytes n ∷ h) = tt
-fresh_taken (entry.Stuck end bytes ∷ h) = tt
-fresh_taken (entry.Lost end how ∷ h) = tt
-fresh_taken (entry.OutOfMemory cut ∷ h) = tt
-fresh_taken (entry.Over ∷ h) = tt
-
--- what out of memory left of the newest entry's steps
-pub cut_leaves : (cut : ℕ) (h : List Entry) → Leaves (drop cut (told h).fresh) (told h).past
-cut_leaves cut h = leaves (drop cut (told h).fresh) (told h).past (drop_taken cut (told h).fresh (fresh_taken h))
-
-pub all_leave : (h : List Entry) → Leaves (told h).fresh (told h).past
-all_leave h = leaves (told h).fresh (told h).past (fresh_taken h)
+pub fresh_leave : (s : SetupText) (h : List Entry) → LeavesFolds (told s h).fresh (told s h).past
+fresh_leave s h = leave_folds (told s h).fresh (told s h).past (fresh_taken s h)
 
 -- ---- moments
 
-given_moment : (b : Bool) (o : Option Reply) (h : List Step) → moment_in ((if b then [] else given Client o) ++ h) ≡ moment_in h
+given_moment : (b : Bool) (o : Option Outgoing) (h : List Step) → moment_in ((if b then [] else given o) ++ h) ≡ moment_in h
 given_moment true o h = refl
 given_moment false None h = refl
 given_moment false (Some u) h = refl
 
-ends_moment : (b : Bool) (g h : List Step) → moment_in (((if b then [] else state.Whole Client ∷ []) ++ g) ++ h) ≡ moment_in (g ++ h)
-ends_moment true g h = refl
-ends_moment false g h = refl
+ends_moment : (end : End) (b : Bool) (g h : List Step) → moment_in (((if b then [] else state.Whole end ∷ []) ++ g) ++ h) ≡ moment_in (g ++ h)
+ends_moment end true g h = refl
+ends_moment end false g h = refl
 
-given_accepted : (b : Bool) (o : Option Reply) (h : List Step) → accepted_in ((if b then [] else given Client o) ++ h) ≡ accepted_in h
-given_accepted true o h = refl
-given_accepted false None h = refl
-given_accepted false (Some u) h = refl
+took_moment : (end : End) (n : ℕ) (bytes : List ℕ) (h : List Step) → moment_in ((ends end n bytes ++ begins end (before h)) ++ h) ≡ moment_in h
+took_moment end n bytes h =
+    ends_moment end (nat_lt n (length bytes)) (begins end (before h)) h ∙ given_moment (is_busy (before h) end) (pick (before h) end) h
 
-ends_accepted : (b : Bool) (g h : List Step) → accepted_in (((if b then [] else state.Whole Client ∷ []) ++ g) ++ h) ≡ accepted_in (g ++ h)
-ends_accepted true g h = refl
-ends_accepted false g h = refl
+fresh_moment : (s : SetupText) (e : Entry) (h : List Entry) → (told s (e ∷ h)).past ≡ steps_of s h → moment_in (steps_of s (e ∷ h)) ≡ moment_in (steps_of s h)
+fresh_moment s e h past = (fresh_leave s (e ∷ h)).moment_is ∙ ap moment_in past
 
-pub moment_is : (h : List Entry) → moment_in (steps_of h) ≡ moment_of h
-moment_is [] = refl
-moment_is (entry.Began p ms ∷ h) = refl
-moment_is (entry.Refused ∷ h) = moment_is h
-moment_is (entry.Moment ms ∷ h) = refl
-moment_is (entry.Came Client bytes ∷ h) =
-    (leaves (cut_all (before (steps_of h)) ((told h).unread ++ bytes)).fresh (steps_of h) (cut_taken (before (steps_of h)) ((told h).unread ++ bytes))).moment_is ∙ moment_is h
-moment_is (entry.Came Up bytes ∷ h) = moment_is h
-moment_is (entry.Dry end ∷ h) = moment_is h
-moment_is (entry.Settled ∷ h) = moment_is h
-moment_is (entry.Joined answer ∷ h) = moment_is h
-moment_is (entry.Took Client bytes n ∷ h) =
-    ends_moment (nat_lt n (length _)) (begins Client (before (steps_of h))) (steps_of h) ∙ given_moment (is_busy (before (steps_of h)) Client) (pick (before (steps_of h)) Client) (steps_of h) ∙ moment_is h
-moment_is (entry.Took Up bytes n ∷ h) = moment_is h
-moment_is (entry.Stuck end bytes ∷ h) = moment_is h
-moment_is (entry.Lost end how ∷ h) = moment_is h
-moment_is (entry.OutOfMemory cut ∷ h) = (cut_leaves cut h).moment_is ∙ sym (all_leave h).moment_is ∙ moment_is h
-moment_is (entry.Over ∷ h) = moment_is h
-
-pub accepted_is : (h : List Entry) → accepted_in (steps_of h) ≡ accepted_of h
-accepted_is [] = refl
-accepted_is (entry.Began p ms ∷ h) = refl
-accepted_is (entry.Refused ∷ h) = accepted_is h
-accepted_is (entry.Moment ms ∷ h) = accepted_is h
-accepted_is (entry.Came Client bytes ∷ h) =
-    (leaves (cut_all (before (steps_of h)) ((told h).unread ++ bytes)).fresh (steps_of h) (cut_taken (before (steps_of h)) ((told h).unread ++ bytes))).accepted_is ∙ accepted_is h
-accepted_is (entry.Came Up bytes ∷ h) = accepted_is h
-accepted_is (entry.Dry end ∷ h) = accepted_is h
-accepted_is (entry.Settled ∷ h) = accepted_is h
-accepted_is (entry.Joined answer ∷ h) = accepted_is h
-accepted_is (entry.Took Client bytes n ∷ h) =
-    ends_accepted (nat_lt n (length _)) (begins Client (before (steps_of h))) (steps_of h) ∙ given_accepted (is_busy (before (steps_of h)) Client) (pick (before (steps_of h)) Client) (steps_of h) ∙ accepted_is h
-accepted_is (entry.Took Up bytes n ∷ h) = accepted_is h
-accepted_is (entry.Stuck end bytes ∷ h) = accepted_is h
-accepted_is (entry.Lost end how ∷ h) = accepted_is h
-accepted_is (entry.OutOfMemory cut ∷ h) = (cut_leaves cut h).accepted_is ∙ sym (all_leave h).accepted_is ∙ accepted_is h
-accepted_is (entry.Over ∷ h) = accepted_is h
-
--- ---- the client's end
-
-given_failed : (b : Bool) (o : Option Reply) (h : List Step) → failed_in ((if b then [] else given Client o) ++ h) ≡ failed_in h
-given_failed true o h = refl
-given_failed false None h = refl
-given_failed false (Some u) h = refl
-
-ends_failed : (b : Bool) (g h : List Step) → failed_in (((if b then [] else state.Whole Client ∷ []) ++ g) ++ h) ≡ failed_in (g ++ h)
-ends_failed true g h = refl
-ends_failed false g h = refl
-
-pub failed_is : (h : List Entry) → failed_in (steps_of h) ≡ has_failed h
-failed_is [] = refl
-failed_is (entry.Began p ms ∷ h) = failed_is h
-failed_is (entry.Refused ∷ h) = failed_is h
-failed_is (entry.Moment ms ∷ h) = failed_is h
-failed_is (entry.Came Client bytes ∷ h) =
-    (leaves (cut_all (before (steps_of h)) ((told h).unread ++ bytes)).fresh (steps_of h) (cut_taken (before (steps_of h)) ((told h).unread ++ bytes))).failed_is ∙ failed_is h
-failed_is (entry.Came Up bytes ∷ h) = failed_is h
-failed_is (entry.Dry end ∷ h) = failed_is h
-failed_is (entry.Settled ∷ h) = failed_is h
-failed_is (entry.Joined answer ∷ h) = failed_is h
-failed_is (entry.Took Client bytes n ∷ h) =
-    ends_failed (nat_lt n (length _)) (begins Client (before (steps_of h))) (steps_of h) ∙ given_failed (is_busy (before (steps_of h)) Client) (pick (before (steps_of h)) Client) (steps_of h) ∙ failed_is h
-failed_is (entry.Took Up bytes n ∷ h) = failed_is h
-failed_is (entry.Stuck end bytes ∷ h) = failed_is h
-failed_is (entry.Lost Client loss.Ended ∷ h) = failed_is h
-failed_is (entry.Lost Client loss.Failed ∷ h) = refl
-failed_is (entry.Lost Client loss.Shut ∷ h) = failed_is h
-failed_is (entry.Lost Up how ∷ h) = failed_is h
-failed_is (entry.OutOfMemory cut ∷ h) = (cut_leaves cut h).failed_is ∙ sym (all_leave h).failed_is ∙ failed_is h
-failed_is (entry.Over ∷ h) = failed_is h
+pub moment_is : (s : SetupText) (h : List Entry) → moment_in (steps_of s h) ≡ moment_of h
+moment_is s [] = refl
+moment_is s (entry.Began p ms ∷ h) = refl
+moment_is s (entry.Refused ∷ h) = moment_is s h
+moment_is s (entry.Moment ms ∷ h) = refl
+moment_is s (entry.Came Client bytes ∷ h) = fresh_moment s (entry.Came Client bytes) h refl ∙ moment_is s h
+moment_is s (entry.Came Up bytes ∷ h) = fresh_moment s (entry.Came Up bytes) h refl ∙ moment_is s h
+moment_is s (entry.Dry end ∷ h) = moment_is s h
+moment_is s (entry.Settled ∷ h) = fresh_moment s entry.Settled h refl ∙ moment_is s h
+moment_is s (entry.Joined answer ∷ h) = moment_is s h
+moment_is s (entry.Took Client bytes n ∷ h) = took_moment Client n bytes (steps_of s h) ∙ moment_is s h
+moment_is s (entry.Took Up bytes n ∷ h) = took_moment Up n bytes (steps_of s h) ∙ moment_is s h
+moment_is s (entry.Stuck end bytes ∷ h) = moment_is s h
+moment_is s (entry.Lost end how ∷ h) = moment_is s h
+moment_is s (entry.OutOfMemory cut ∷ h) = (cut_leaves s cut h).moment_is ∙ sym (fresh_leave s h).moment_is ∙ moment_is s h
+moment_is s (entry.Over ∷ h) = moment_is s h

@@ -1,30 +1,54 @@
--- How the bytes of a read are cut into the client's units (AMQP 0-9-1 4.2.2 and 4.2.3).
-use Rattle.std.specs.Prelude.{◌≡◌, ℕ, zero, suc, ◌≤◌, List, [], ◌∷◌, ◌++◌, length, drop}
+-- How the bytes of a read are cut into the units of an end (AMQP 0-9-1 4.2.2 and 4.2.3; AMQP 1.0 2.2
+-- and 2.3).
+use Rattle.std.specs.Prelude.{ℕ, zero, suc, ◌≤◌, if◌then◌else◌, List, [], ◌∷◌, length}
+use Rattle.std.specs.Prelude.{drop}
 use Rattle.close_translate.specs.declared.codes.TheConstants.{FRAME_ERROR}
 use Rattle.frames_091.specs.FrameScan.{scan_of}
 use Rattle.frames_091.specs.Headers.{header_scan}
+use Rattle.frames_10.specs.FrameScan as frames_10
+use Rattle.frames_10.specs.Headers as headers_10
+use Rattle.gate_outside.specs.declared.ports.End.{End}
+use Rattle.gate_outside.specs.declared.ports.End.TheVariants.{Client, Up}
 use Rattle.machine_091.specs.State.{awaits}
 use Rattle.machine_091.specs.declared.limits.TheConstants.{FRAME_MIN_SIZE}
 use Rattle.machine_091.specs.declared.state.Awaited91.{Awaited91}
 use Rattle.machine_091.specs.declared.state.Awaited91.TheVariants as awaited
 use Rattle.machine_091.specs.declared.unit.Unit91.{Unit91}
 use Rattle.machine_091.specs.declared.unit.Unit91.TheVariants as unit
+use Rattle.machine_10.specs.declared.limits.TheConstants.{FRAME_MAX}
+use Rattle.machine_10.specs.declared.state.Awaited10.{Awaited10}
+use Rattle.machine_10.specs.declared.state.Awaited10.TheVariants as awaited_10
+use Rattle.machine_10.specs.declared.unit.Unit10.{Unit10}
+use Rattle.machine_10.specs.declared.unit.Unit10.TheVariants as unit_10
+use Rattle.performatives_10.specs.declared.condition.Condition.{Condition}
+use Rattle.performatives_10.specs.declared.condition.Condition.TheVariants.{FramingError}
 use Rattle.wire_base.specs.declared.scan.Scan.{Scan}
 use Rattle.wire_base.specs.declared.scan.Scan.TheVariants.{Whole, More, Bad}
-use Rattle.gate_model.specs.State.{State, Step, Came, OutOfMemory, step}
+use Rattle.gate_model.specs.State.{State, Step, Came, Heard, step, waits}
+use Rattle.gate_model.specs.Upstream.{awaited_of}
 
--- what a scan finds, as a unit, or the reply code of bytes with which none begins; those of no
--- protocol header have none
-abbrev pub as_unit : {A F : Type 0} → (A → Unit91) → ℕ → Scan A F → Scan Unit91 ℕ
+-- ---- units
+
+-- what a scan finds, as a unit, or what is told of bytes with which none begins
+abbrev pub as_unit : {A F U C : Type 0} → (A → U) → C → Scan A F → Scan U C
 as_unit make code (Whole x n) = Whole (make x) n
 as_unit make code More = More
 as_unit make code (Bad fault) = Bad code
 
--- the unit with which bytes begin, as one is awaited; where none is, none is found
+-- the client's unit with which bytes begin, as one is awaited, or a reply code; bytes of no protocol
+-- header have none, and where nothing is awaited nothing is found
 abbrev pub unit_scan : Awaited91 → List ℕ → Scan Unit91 ℕ
 unit_scan awaited.Header bytes = as_unit (λ header. unit.Protocol) 0 (header_scan bytes)
 unit_scan (awaited.Frame size) bytes = as_unit unit.Frame FRAME_ERROR (scan_of size bytes)
 unit_scan awaited.Nothing bytes = More
+
+-- the same of the container's, with a condition
+abbrev pub up_scan : Awaited10 → List ℕ → Scan Unit10 Condition
+up_scan (awaited_10.Header k) bytes =
+    as_unit (λ header. unit_10.Header k) FramingError (headers_10.header_scan k bytes)
+up_scan awaited_10.Frame bytes =
+    as_unit unit_10.Frame FramingError (frames_10.scan_of FRAME_MAX bytes)
+up_scan awaited_10.Nothing bytes = More
 
 -- the size of a frame that is awaited isn't below the least
 abbrev pub IsLongEnough : Awaited91 → Type 0
@@ -33,17 +57,32 @@ IsLongEnough (awaited.Frame size) = FRAME_MIN_SIZE ≤ size
 IsLongEnough awaited.Nothing = Unit {0}
 
 -- a unit that is found takes some bytes, and no more than there are
-abbrev pub IsWithin : List ℕ → Scan Unit91 ℕ → Type 0
+abbrev pub IsWithin : {U C : Type 0} → List ℕ → Scan U C → Type 0
 IsWithin bytes (Whole u n) = (1 ≤ n) × (n ≤ length bytes)
 IsWithin bytes More = Unit {0}
 IsWithin bytes (Bad code) = Unit {0}
+
+-- ---- steps
 
 -- steps from a state on, the newest first
 abbrev pub after : List Step → State → State
 after [] w = w
 after (s ∷ g) w = step (after g w) s
 
--- the steps of a read, and the bytes that are no unit yet
+-- a unit as the step that it makes
+abbrev pub as_step : {U C : Type 0} → (U → Step) → (C → U) → Scan U C → Scan Step Step
+as_step make bad (Whole u n) = Whole (make u) n
+as_step make bad More = More
+as_step make bad (Bad code) = Bad (make (bad code))
+
+-- the step that the bytes of an end begin with; none is taken up of the client while a request of it
+-- waits
+abbrev pub step_scan : End → State → List ℕ → Scan Step Step
+step_scan Client w bytes =
+    if waits w then More else as_step Came unit.Bad (unit_scan (awaits w.conn) bytes)
+step_scan Up w bytes = as_step Heard unit_10.Bad (up_scan (awaited_of w.up.container) bytes)
+
+-- the steps of a read, and the bytes that are no unit yet or wait
 pub record Cut : Type 0 where
   pub fresh : List Step
   pub unread : List ℕ
@@ -51,19 +90,18 @@ pub record Cut : Type 0 where
 abbrev pub cut_of : List Step → List ℕ → Cut
 cut_of g bytes = record { fresh = g; unread = bytes }
 
-abbrev pub on_scan : Scan Unit91 ℕ → Cut → (ℕ → Cut) → (Unit91 → ℕ → Cut) → Cut
+abbrev pub on_scan : Scan Step Step → Cut → (Step → Cut) → (Step → ℕ → Cut) → Cut
 on_scan More more bad whole = more
-on_scan (Bad code) more bad whole = bad code
-on_scan (Whole u n) more bad whole = whole u n
+on_scan (Bad s) more bad whole = bad s
+on_scan (Whole s n) more bad whole = whole s n
 
 -- each unit is taken up before the next is cut, as it is awaited then; there are no more units than
 -- bytes. Bytes with which no unit begins end the stream
-abbrev pub read_client : State → ℕ → List Step → List ℕ → Cut
-read_client w zero g bytes = cut_of g bytes
-read_client w (suc f) g bytes =
-    on_scan (unit_scan (awaits (after g w).conn) bytes) (cut_of g bytes)
-    (λ code. cut_of (Came (unit.Bad code) ∷ g) [])
-    (λ u n. read_client w f (Came u ∷ g) (drop n bytes))
+abbrev pub read_end : End → State → ℕ → List Step → List ℕ → Cut
+read_end end w zero g bytes = cut_of g bytes
+read_end end w (suc f) g bytes =
+    on_scan (step_scan end (after g w) bytes) (cut_of g bytes) (λ s. cut_of (s ∷ g) [])
+    (λ s n. read_end end w f (s ∷ g) (drop n bytes))
 
-abbrev pub cut_all : State → List ℕ → Cut
-cut_all w bytes = read_client w (length bytes) [] bytes
+abbrev pub cut_all : End → State → List ℕ → Cut
+cut_all end w bytes = read_end end w (length bytes) [] bytes

@@ -1,68 +1,122 @@
 -- The entries of a pair are lawful: each stands where what came before it allows it.
 use Rattle.std.specs.Prelude.{◌≡◌, ℕ, ◌≤◌, ◌⊎◌, Bool, true, false, List, [], ◌∷◌, length, Some}
+use Rattle.gate_outside.specs.declared.ports.End.{End}
 use Rattle.gate_outside.specs.declared.ports.End.TheVariants.{Client, Up}
 use Rattle.gate_relay.specs.declared.loss.Loss.TheVariants as loss
 use Rattle.gate_relay.specs.Entries.{Entry, Began, Refused, Moment, Came, Dry, Settled, Joined}
 use Rattle.gate_relay.specs.Entries.{Took, Stuck, Lost, OutOfMemory, Over, is_out_of_memory}
 use Rattle.gate_relay.specs.Entries.{is_over, moment_of}
 use Rattle.gate_relay.specs.Relayed.{is_new}
-use Rattle.gate_relay.specs.Sides.{is_open_side, is_readable, is_writable, side_of, sides}
-use Rattle.gate_model.specs.declared.reply.Reply.{Reply}
-use Rattle.gate_model.specs.Due.{is_awaiting, is_busy, pick}
+use Rattle.gate_relay.specs.Sides.{is_absent, is_open_side, is_readable, is_writable, side_of}
+use Rattle.gate_relay.specs.Sides.{sides}
+use Rattle.machine_091.specs.State.{awaits, is_opening}
+use Rattle.gate_model.specs.declared.outgoing.Outgoing.{Outgoing}
+use Rattle.gate_model.specs.declared.outgoing.Outgoing.TheVariants.{ToUp}
+use Rattle.gate_model.specs.declared.outgoing.UpUnit.{UpUnit}
+use Rattle.gate_model.specs.declared.outgoing.UpUnit.TheVariants as up
+use Rattle.gate_model.specs.Due.{is_awaited, is_busy, pick}
+use Rattle.gate_model.specs.Folds.{connection, container}
+use Rattle.gate_model.specs.Setup.{SetupText}
 use Rattle.gate_model.specs.Spelling.{spell}
-use Rattle.gate_pair.specs.Meaning.{state_of, told}
-use Rattle.gate_pair.specs.Times.{ShutAt}
+use Rattle.gate_model.specs.State.{waits}
+use Rattle.gate_model.specs.Upstream.{awaited_of, is_awaited_up}
+use Rattle.gate_pair.specs.Answers.{context_in}
+use Rattle.gate_pair.specs.Meaning.{state_of, steps_of, stream_of, told}
+use Rattle.gate_pair.specs.Times.{ShutDueAt}
 
--- the client is read: its end is open, a unit of it is awaited, and the pair didn't run out of
+-- ---- reads
+
+-- a unit of an end is awaited: of the client, of which no request waits for the upstream end, or of
+-- the container
+abbrev pub IsAwaited : SetupText → End → List Entry → Type 0
+IsAwaited s Client h =
+    (is_awaited (awaits (connection (steps_of s h))) ≡ true) × (waits (state_of s h) ≡ false)
+IsAwaited s Up h = is_awaited_up (awaited_of (container (steps_of s h))) ≡ true
+
+-- an end is read: it is open for that, a unit of it is awaited, and the pair didn't run out of
 -- memory
-pub record IsHeard (h : List Entry) : Type 0 where
-  pub readable : is_readable (side_of Client (sides h)) ≡ true
+pub record IsHeard (s : SetupText) (end : End) (h : List Entry) : Type 0 where
+  pub readable : is_readable (side_of end (sides h)) ≡ true
   pub calm : is_out_of_memory h ≡ false
-  pub awaited : is_awaiting (state_of h) Client ≡ true
+  pub awaited : IsAwaited s end h
 
--- what is offered: all that is left of the unit in progress, or else the unit that goes next, whole
-abbrev pub IsOfferOf : Bool → List Entry → List ℕ → Type 0
-IsOfferOf true h bytes = bytes ≡ (told h).rest
-IsOfferOf false h bytes = (u : Reply) × (pick (state_of h) Client ≡ Some u) × (bytes ≡ spell u)
+-- ---- what is taken up of the client
 
-pub record IsOffered (h : List Entry) (bytes : List ℕ) : Type 0 where
-  pub writable : is_writable (side_of Client (sides h)) ≡ true
-  pub offer : IsOfferOf (is_busy (state_of h) Client) h bytes
+-- units of it waited behind a request, or its end ended or failed and that wasn't taken up; no
+-- request of it waits any more, and the pair didn't run out of memory
+pub record IsTakenUp (s : SetupText) (h : List Entry) : Type 0 where
+  pub calm : is_out_of_memory h ≡ false
+  pub settled : waits (state_of s h) ≡ false
+  pub some : ((told s h).stopped ≡ true) ⊎ ((state_of s h).leaving ≡ true)
 
--- the client's end is shut where it is open and that is due, after the end of the service, or since
--- there was no memory for the pair
-pub data Shuts (h : List Entry) : Type 0 where
-  WhereDue : is_open_side (side_of Client (sides h)) ≡ true → ShutAt h → Shuts h
-  AtTheEnd : is_over h ≡ true → Shuts h
-  AtRefusal : (g : List Entry) → h ≡ Refused ∷ g → Shuts h
+-- ---- the connection upstream
 
--- the pair runs out of memory in a read or in a take-up, and nowhere else after its accept
-pub data RunsOutIn : List Entry → Type 0 where
-  InRead : (bytes : List ℕ) (g : List Entry) → RunsOutIn (Came Client bytes ∷ g)
-  InTakeUp : (g : List Entry) → RunsOutIn (Settled ∷ g)
+-- it is asked for once, where a connection.open of the client waits for it and the pair didn't run
+-- out of memory
+pub record IsAskedFor (s : SetupText) (h : List Entry) : Type 0 where
+  pub absent : is_absent (side_of Up (sides h)) ≡ true
+  pub calm : is_out_of_memory h ≡ false
+  pub opening : is_opening (connection (steps_of s h)) ≡ true
 
--- what an entry stands on; nothing is done with the upstream end yet
-abbrev pub Keeps : List Entry → Entry → Type 0
-Keeps h (Began p ms) = h ≡ []
-Keeps h Refused = is_new h ≡ true
-Keeps h (Moment ms) = moment_of h ≤ ms
-Keeps h (Came Client bytes) = IsHeard h × (1 ≤ length bytes)
-Keeps h (Came Up bytes) = ⊥
-Keeps h (Dry Client) = IsHeard h
-Keeps h (Dry Up) = ⊥
-Keeps h Settled = (state_of h).leaving ≡ true
-Keeps h (Joined answer) = ⊥
-Keeps h (Took Client bytes n) = IsOffered h bytes × (1 ≤ n) × (n ≤ length bytes)
-Keeps h (Took Up bytes n) = ⊥
-Keeps h (Stuck Client bytes) = IsOffered h bytes
-Keeps h (Stuck Up bytes) = ⊥
-Keeps h (Lost Client loss.Ended) = IsHeard h
-Keeps h (Lost Client loss.Failed) = IsHeard h ⊎ ((bytes : List ℕ) × IsOffered h bytes)
-Keeps h (Lost Client loss.Shut) = Shuts h
-Keeps h (Lost Up how) = is_over h ≡ true
-Keeps h (OutOfMemory cut) = (is_out_of_memory h ≡ false) × RunsOutIn h
-Keeps h Over = is_over h ≡ false
+-- ---- writes
 
-abbrev pub AreLawful : List Entry → Type 0
-AreLawful [] = Unit {0}
-AreLawful (e ∷ h) = Keeps h e × AreLawful h
+-- what is offered to an end: all that is left of the unit in progress, or else the unit that goes
+-- next, whole
+abbrev pub IsOfferOf : SetupText → End → Bool → List Entry → List ℕ → Type 0
+IsOfferOf s end true h bytes = bytes ≡ (stream_of end (told s h)).rest
+IsOfferOf s end false h bytes =
+    (u : Outgoing) × (pick (state_of s h) end ≡ Some u)
+    × (bytes ≡ spell (context_in s (steps_of s h)) u)
+
+pub record IsOffered (s : SetupText) (end : End) (h : List Entry) (bytes : List ℕ) : Type 0 where
+  pub writable : is_writable (side_of end (sides h)) ≡ true
+  pub offer : IsOfferOf s end (is_busy (state_of s h) end) h bytes
+
+-- ---- shuts
+
+-- an end is shut where it is open and that is due, after the end of the service, or the client's
+-- since there was no memory for the pair
+pub data Shuts (s : SetupText) (end : End) (h : List Entry) : Type 0 where
+  WhereDue : is_open_side (side_of end (sides h)) ≡ true → ShutDueAt s end h → Shuts s end h
+  AtTheEnd : is_over h ≡ true → Shuts s end h
+  AtRefusal : (g : List Entry) → end ≡ Client → h ≡ Refused ∷ g → Shuts s end h
+
+-- ---- out of memory
+
+-- a unit of the opening that tells the container a name: that of the login's mechanism, or the
+-- gateway's own (AMQP 1.0 5.3.3.2 and 2.7.1)
+abbrev pub TellsName : UpUnit → Type 0
+TellsName u = (u ≡ up.SaslInit) ⊎ (u ≡ up.Open)
+
+-- after its accept the pair runs out of memory in a read or in a take-up, of which the newest steps
+-- then don't count, or where such a unit goes next; and nowhere else
+pub data RunsOutIn (s : SetupText) : ℕ → List Entry → Type 0 where
+  InRead : (cut : ℕ) (end : End) (bytes : List ℕ) (g : List Entry)
+      → RunsOutIn s cut (Came end bytes ∷ g)
+  InTakeUp : (cut : ℕ) (g : List Entry) → RunsOutIn s cut (Settled ∷ g)
+  InOpening : (u : UpUnit) (h : List Entry) → is_writable (side_of Up (sides h)) ≡ true
+      → is_busy (state_of s h) Up ≡ false → pick (state_of s h) Up ≡ Some (ToUp u) → TellsName u
+      → RunsOutIn s 0 h
+
+-- ---- all entries
+
+-- what an entry stands on
+abbrev pub Keeps : SetupText → List Entry → Entry → Type 0
+Keeps s h (Began p ms) = h ≡ []
+Keeps s h Refused = is_new h ≡ true
+Keeps s h (Moment ms) = moment_of h ≤ ms
+Keeps s h (Came end bytes) = IsHeard s end h × (1 ≤ length bytes)
+Keeps s h (Dry end) = IsHeard s end h
+Keeps s h Settled = IsTakenUp s h
+Keeps s h (Joined answer) = IsAskedFor s h
+Keeps s h (Took end bytes n) = IsOffered s end h bytes × (1 ≤ n) × (n ≤ length bytes)
+Keeps s h (Stuck end bytes) = IsOffered s end h bytes
+Keeps s h (Lost end loss.Ended) = IsHeard s end h
+Keeps s h (Lost end loss.Failed) = IsHeard s end h ⊎ ((bytes : List ℕ) × IsOffered s end h bytes)
+Keeps s h (Lost end loss.Shut) = Shuts s end h
+Keeps s h (OutOfMemory cut) = (is_out_of_memory h ≡ false) × RunsOutIn s cut h
+Keeps s h Over = is_over h ≡ false
+
+abbrev pub AreLawful : SetupText → List Entry → Type 0
+AreLawful s [] = Unit {0}
+AreLawful s (e ∷ h) = Keeps s h e × AreLawful s h

@@ -1,49 +1,58 @@
--- What the entries of a pair say: its steps, the client's bytes that are no unit yet, and the rest
--- of the unit in progress.
-use Rattle.std.specs.Prelude.{ℕ, nat_lt, Bool, false, if◌then◌else◌, List, [], ◌∷◌, ◌++◌, length}
-use Rattle.std.specs.Prelude.{drop, Option, Some, None, unwrap_or}
+-- What the entries of a pair say: its steps, the bytes of each end that are no unit yet or wait, and
+-- the rest of each unit in progress.
+use Rattle.std.specs.Prelude.{ℕ, nat_lt, Bool, false, not, ◌&&◌, ◌||◌, if◌then◌else◌, List, [], ◌∷◌}
+use Rattle.std.specs.Prelude.{◌++◌, length, drop, Option, Some, None}
 use Rattle.std.specs.Option.{option_map}
 use Rattle.gate_outside.specs.declared.ports.End.{End}
 use Rattle.gate_outside.specs.declared.ports.End.TheVariants.{Client, Up}
 use Rattle.gate_relay.specs.Entries as entry
 use Rattle.gate_relay.specs.Entries.{Entry}
 use Rattle.gate_relay.specs.RelayWords.{RelayWords}
-use Rattle.gate_model.specs.declared.reply.Reply.{Reply}
-use Rattle.gate_model.specs.Due.{is_awaiting, is_busy, is_shut_due, is_waiting, pick}
-use Rattle.gate_model.specs.Spelling.{spell}
-use Rattle.gate_model.specs.State.{State, Step, Began, Moment, TakenUp, Lost, Gave, Whole}
-use Rattle.gate_model.specs.State.{OutOfMemory, before}
-use Rattle.gate_pair.specs.Cutting.{Cut, cut_all}
+use Rattle.gate_model.specs.declared.outgoing.Outgoing.{Outgoing}
+use Rattle.gate_model.specs.Due.{can_leave, can_take_up, is_awaiting, is_busy, is_connect_due}
+use Rattle.gate_model.specs.Due.{is_shut_due, pick, takes_memory}
+use Rattle.gate_model.specs.Setup.{SetupText}
+use Rattle.gate_model.specs.Spelling.{context_of, spell}
+use Rattle.gate_model.specs.State.{State, Step, Began, Moment, TakenUp, Joined, Lost, Gave, Whole}
+use Rattle.gate_model.specs.State.{OutOfMemory, before, waits}
+use Rattle.gate_pair.specs.Cutting.{after, cut_all}
+
+pub record Stream : Type 0 where
+  -- bytes of an end that are no unit yet, or that wait
+  pub unread : List ℕ
+  -- what is left of the unit to it that is in progress
+  pub rest : List ℕ
 
 pub record Told : Type 0 where
   -- the steps that the newest entry brought and that out of memory can take back
   pub fresh : List Step
   -- the steps before them
   pub past : List Step
-  -- bytes of the client that are no unit yet
-  pub unread : List ℕ
-  -- what is left of the unit to the client that is in progress
-  pub rest : List ℕ
+  pub client : Stream
+  pub up : Stream
+  -- a request of the client waits, so that units of it may wait behind it
+  pub stopped : Bool
 
 abbrev pub steps : Told → List Step
 steps t = t.fresh ++ t.past
 
-abbrev pub rest_of : End → Told → List ℕ
-rest_of Client t = t.rest
-rest_of Up t = []
+abbrev pub stream_of : End → Told → Stream
+stream_of Client t = t.client
+stream_of Up t = t.up
 
 -- the bytes that are offered to an end: the rest of the unit in progress, or the unit that goes
 -- next
-abbrev pub offered : End → State → List ℕ → Option (List ℕ)
-offered end w rest = if is_busy w end then Some rest else option_map spell (pick w end)
+abbrev pub offered : SetupText → End → State → List ℕ → Option (List ℕ)
+offered s end w rest =
+    if is_busy w end then Some rest else option_map (spell (context_of s w)) (pick w end)
 
 -- the first byte of the unit that goes next, unless one is in progress
-abbrev pub given : End → Option Reply → List Step
-given end None = []
-given end (Some u) = Gave end u ∷ []
+abbrev pub given : Option Outgoing → List Step
+given None = []
+given (Some u) = Gave u ∷ []
 
 abbrev pub begins : End → State → List Step
-begins end w = if is_busy w end then [] else given end (pick w end)
+begins end w = if is_busy w end then [] else given (pick w end)
 
 -- and its last, where all that was offered was taken
 abbrev pub ends : End → ℕ → List ℕ → List Step
@@ -57,60 +66,105 @@ made g t = record t { fresh = []; past = g ++ steps t }
 abbrev pub brought : List Step → Told → Told
 brought g t = record t { fresh = g; past = steps t }
 
+-- the client's bytes, cut as far as they can be taken up
+abbrev pub took_in : List ℕ → Told → Told
+took_in bytes t =
+    let c = cut_all Client (before (steps t)) bytes in
+    record t {
+      fresh = c.fresh;
+      past = steps t;
+      client = record t.client { unread = c.unread };
+      stopped = waits (after c.fresh (before (steps t)));
+    }
+
+abbrev pub heard : List ℕ → Told → Told
+heard bytes t =
+    let c = cut_all Up (before (steps t)) bytes in
+    record t { fresh = c.fresh; past = steps t; up = record t.up { unread = c.unread } }
+
 abbrev pub came : End → List ℕ → Told → Told
-came Client bytes t =
-    let c = cut_all (before (steps t)) (t.unread ++ bytes) in
-    record t { fresh = c.fresh; past = steps t; unread = c.unread }
-came Up bytes t = brought [] t
+came Client bytes t = took_in (t.client.unread ++ bytes) t
+came Up bytes t = heard (t.up.unread ++ bytes) t
+
+-- behind the client's units, that its end ended or failed is taken up
+abbrev pub leaves : State → List Step
+leaves w = if can_leave w then TakenUp ∷ [] else []
+
+abbrev pub settled : Told → Told
+settled t =
+    let u = took_in t.client.unread t in
+    record u { fresh = leaves (before (steps u)) ++ u.fresh }
 
 abbrev pub took : End → ℕ → List ℕ → Told → Told
 took Client n bytes t =
-    let g : List Step = ends Client n bytes ++ begins Client (before (steps t)) in
-    record (made g t) { rest = drop n bytes }
-took Up n bytes t = brought [] t
+    record (made (ends Client n bytes ++ begins Client (before (steps t))) t) {
+      client = record t.client { rest = drop n bytes };
+    }
+took Up n bytes t =
+    record (made (ends Up n bytes ++ begins Up (before (steps t))) t) {
+      up = record t.up { rest = drop n bytes };
+    }
 
--- of the fresh steps the newest `cut` don't count, and bytes that are no unit yet are dropped
+-- bytes that are no unit yet are dropped
+abbrev pub forgotten : Stream → Stream
+forgotten x = record x { unread = [] }
+
+-- of the fresh steps the newest `cut` don't count
 abbrev pub ran_out : ℕ → Told → Told
-ran_out cut t =
-    record t { fresh = []; past = OutOfMemory ∷ drop cut t.fresh ++ t.past; unread = [] }
+ran_out cut t = record {
+  fresh = [];
+  past = OutOfMemory ∷ drop cut t.fresh ++ t.past;
+  client = forgotten t.client;
+  up = forgotten t.up;
+  stopped = false;
+}
 
-abbrev pub tell : Entry → Told → Told
-tell (entry.Began p ms) t = made (Began ms ∷ []) t
-tell entry.Refused t = made (OutOfMemory ∷ []) t
-tell (entry.Moment ms) t = made (Moment ms ∷ []) t
-tell (entry.Came end bytes) t = came end bytes t
-tell (entry.Dry end) t = brought [] t
-tell entry.Settled t = brought (TakenUp ∷ []) t
-tell (entry.Joined answer) t = brought [] t
-tell (entry.Took end bytes n) t =
-    took end n (unwrap_or (offered end (before (steps t)) (rest_of end t)) []) t
-tell (entry.Stuck end bytes) t = brought [] t
-tell (entry.Lost end how) t = made (Lost end how ∷ []) t
-tell (entry.OutOfMemory cut) t = ran_out cut t
-tell entry.Over t = brought [] t
+abbrev pub tell : SetupText → Entry → Told → Told
+tell s (entry.Began p ms) t = made (Began s.vhost p ms ∷ []) t
+tell s entry.Refused t = made (OutOfMemory ∷ []) t
+tell s (entry.Moment ms) t = made (Moment ms ∷ []) t
+tell s (entry.Came end bytes) t = came end bytes t
+tell s (entry.Dry end) t = brought [] t
+tell s entry.Settled t = settled t
+tell s (entry.Joined answer) t = made (Joined answer ∷ []) t
+tell s (entry.Took end bytes n) t = took end n bytes t
+tell s (entry.Stuck end bytes) t = brought [] t
+tell s (entry.Lost end how) t = made (Lost end how ∷ []) t
+tell s (entry.OutOfMemory cut) t = ran_out cut t
+tell s entry.Over t = brought [] t
+
+abbrev pub no_stream : Stream
+no_stream = record { unread = []; rest = [] }
 
 abbrev pub nothing : Told
-nothing = record { fresh = []; past = []; unread = []; rest = [] }
+nothing = record { fresh = []; past = []; client = no_stream; up = no_stream; stopped = false }
 
-abbrev pub told : List Entry → Told
-told [] = nothing
-told (e ∷ h) = tell e (told h)
+abbrev pub told : SetupText → List Entry → Told
+told s [] = nothing
+told s (e ∷ h) = tell s e (told s h)
 
-abbrev pub steps_of : List Entry → List Step
-steps_of h = steps (told h)
+abbrev pub steps_of : SetupText → List Entry → List Step
+steps_of s h = steps (told s h)
 
-abbrev pub state_of : List Entry → State
-state_of h = before (steps_of h)
+abbrev pub state_of : SetupText → List Entry → State
+state_of s h = before (steps_of s h)
 
--- the words of a pair: it asks for no connection upstream yet, no unit to the client takes memory,
--- and it has no lines of its own
-unfoldable pub pair_words : RelayWords
-pair_words = record {
-  awaits = λ end h. is_awaiting (state_of h) end;
-  takes_up = λ h. is_waiting (state_of h);
-  connects = λ h. false;
-  offer = λ end h. offered end (state_of h) (rest_of end (told h));
-  takes_memory = λ end h. false;
-  shut_due = λ end h. is_shut_due (state_of h) end;
+-- something of the client can be taken up: units that waited, or that its end ended or failed
+abbrev pub takes_up : State → Bool → Bool
+takes_up w stopped = can_take_up w && (w.leaving || stopped)
+
+-- the unit that goes next to an end takes memory
+abbrev pub needs_memory : State → End → Bool
+needs_memory w end = not (is_busy w end) && takes_memory (pick w end)
+
+-- the words of a pair, which has no lines of its own
+unfoldable pub pair_words : SetupText → RelayWords
+pair_words s = record {
+  awaits = λ end h. is_awaiting (state_of s h) end;
+  takes_up = λ h. takes_up (state_of s h) (told s h).stopped;
+  connects = λ h. is_connect_due (state_of s h);
+  offer = λ end h. offered s end (state_of s h) (stream_of end (told s h)).rest;
+  takes_memory = λ end h. needs_memory (state_of s h) end;
+  shut_due = λ end h. is_shut_due (state_of s h) end;
   lines = λ h. [];
 }

@@ -1,47 +1,96 @@
 -- A pair's state is what its entries say.
-use Rattle.std.specs.Prelude.{◌≡◌, ℕ, ◌<◌, ◌≤◌, Bool, true, false, if◌then◌else◌, List, [], ◌∷◌}
-use Rattle.std.specs.Prelude.{◌++◌, length, drop, Option, Some, None, IfSome, is_some, unwrap_or}
+use Rattle.std.specs.Prelude.{◌≡◌, ℕ, ◌<◌, ◌≤◌, Bool, true, false, if◌then◌else◌, List, []}
+use Rattle.std.specs.Prelude.{◌++◌, length, drop, Option, Some, None, IfSome, is_some}
 use Rattle.gate_outside.specs.declared.ports.End.{End}
 use Rattle.gate_outside.specs.declared.ports.End.TheVariants.{Client, Up}
 use Rattle.gate_relay.specs.Entries.{Entry}
 use Rattle.gate_model.specs.Due.{is_busy}
+use Rattle.gate_model.specs.Setup.{SetupText}
 use Rattle.gate_model.specs.State.{State, Step, OutOfMemory, before, step}
+use Rattle.gate_model.specs.Upstream.{UpState}
 use Rattle.bridge_core.specs.Offers.{BridgeState, offer_of}
 use Rattle.gate_pair.specs.Cutting.{Cut, after, cut_all}
-use Rattle.gate_pair.specs.Meaning.{Told, begins, ends, offered, ran_out, steps, told}
+use Rattle.gate_pair.specs.Meaning.{Stream, Told, begins, ends, ran_out, steps, told}
+
+-- the bytes of an end that are no unit yet or wait, and how many bytes of the unit in progress were
+-- sent
+pub record Half : Type 0 where
+  pub unread : List ℕ
+  pub at : ℕ
 
 pub record PairState : Type 0 where
   pub bridge : BridgeState
-  pub unread : List ℕ
-  -- how many bytes of the unit in progress were sent
-  pub at : ℕ
+  pub client : Half
+  pub up : Half
+  pub stopped : Bool
+
+abbrev pub half_of : End → PairState → Half
+half_of Client p = p.client
+half_of Up p = p.up
 
 -- what is said of a pair
 pub record Said : Type 0 where
   pub state : State
-  pub unread : List ℕ
-  pub rest : List ℕ
+  pub client : Stream
+  pub up : Stream
+  pub stopped : Bool
 
 abbrev pub rest_at : Bool → ℕ → List ℕ → List ℕ
 rest_at busy at bytes = if busy then drop at bytes else []
 
 -- by its own state, and by its entries
+abbrev pub stream_at : End → BridgeState → Half → Stream
+stream_at end b x = record {
+  unread = x.unread;
+  rest = rest_at (is_busy b.state end) x.at (offer_of end b).bytes;
+}
+
 abbrev pub said : PairState → Said
 said p = record {
   state = p.bridge.state;
-  unread = p.unread;
-  rest = rest_at (is_busy p.bridge.state Client) p.at p.bridge.client.bytes;
+  client = stream_at Client p.bridge p.client;
+  up = stream_at Up p.bridge p.up;
+  stopped = p.stopped;
 }
 
 abbrev pub said_of : Told → Said
-said_of t = record { state = before (steps t); unread = t.unread; rest = t.rest }
+said_of t = record { state = before (steps t); client = t.client; up = t.up; stopped = t.stopped }
 
-abbrev pub Represents : PairState → List Entry → Type 0
-Represents p h = said p ≡ said_of (told h)
+abbrev pub Represents : SetupText → PairState → List Entry → Type 0
+Represents s p h = said p ≡ said_of (told s h)
 
--- the unit in progress has bytes left
-abbrev pub HasLeft : PairState → Type 0
-HasLeft p = is_busy p.bridge.state Client ≡ true → p.at < length p.bridge.client.bytes
+-- ---- what holds of a pair
+
+-- a unit in progress of which so many bytes were sent has bytes left
+abbrev pub HasLeft : End → ℕ → BridgeState → Type 0
+HasLeft end at b = is_busy b.state end ≡ true → at < length (offer_of end b).bytes
+
+-- what is offered has bytes
+abbrev pub HasBytes : End → BridgeState → Type 0
+HasBytes end b = (offer_of end b).ready ≡ true → 0 < length (offer_of end b).bytes
+
+-- the login is known once the container is to be told of it
+abbrev pub KnowsLogin : UpState → Type 0
+KnowsLogin s = s.pending.init ≡ true → is_some s.container ≡ true
+
+-- all of this, where so many bytes of the unit in progress to each end were sent
+pub record IsSound (b : BridgeState) (client up : ℕ) : Type 0 where
+  pub login : KnowsLogin b.state.up
+  pub client_left : HasLeft Client client b
+  pub up_left : HasLeft Up up b
+  pub client_bytes : HasBytes Client b
+  pub up_bytes : HasBytes Up b
+
+-- the same by the count of an end and that of the other
+abbrev pub IsSoundAt : End → ℕ → ℕ → BridgeState → Type 0
+IsSoundAt Client at other b = IsSound b at other
+IsSoundAt Up at other b = IsSound b other at
+
+-- it stays so, whatever these counts are
+abbrev pub StaysSound : BridgeState → BridgeState → Type 0
+StaysSound old new = (client up : ℕ) → IsSound old client up → IsSound new client up
+
+-- ---- what is ready
 
 -- the bytes that a look found for an end
 abbrev pub ready_at : End → ℕ → BridgeState → Option (List ℕ)
@@ -51,11 +100,11 @@ ready_at end at b =
     else None
 
 abbrev pub is_ready : PairState → End → Option (List ℕ)
-is_ready p end = ready_at end p.at p.bridge
+is_ready p end = ready_at end (half_of end p).at p.bridge
 
-abbrev pub rest_in : End → Said → List ℕ
-rest_in Client s = s.rest
-rest_in Up s = []
+abbrev pub said_stream : End → Said → Stream
+said_stream Client s = s.client
+said_stream Up s = s.up
 
 -- ---- a read
 
@@ -63,9 +112,9 @@ pub record IsRead (old : State) (c : Cut) (new : State) (rest : List ℕ) : Type
   pub now : new ≡ after c.fresh old
   pub left : rest ≡ c.unread
 
--- these bytes were cut, up to a place
-abbrev pub Reads : List ℕ → ℕ → State → State → Type 0
-Reads bytes at old new = IsRead old (cut_all old bytes) new (drop at bytes)
+-- these bytes of an end were cut, up to a place
+abbrev pub Reads : End → List ℕ → ℕ → State → State → Type 0
+Reads end bytes at old new = IsRead old (cut_all end old bytes) new (drop at bytes)
 
 -- of these steps the older ones count, and then the pair ran out of memory
 pub record IsCut (old new : State) (all : List Step) : Type 0 where
@@ -74,8 +123,27 @@ pub record IsCut (old new : State) (all : List Step) : Type 0 where
   pub parts : all ≡ newer ++ older
   pub now : new ≡ step (after older old) OutOfMemory
 
-abbrev pub ReadsInPart : List ℕ → State → State → Type 0
-ReadsInPart bytes old new = IsCut old new (cut_all old bytes).fresh
+abbrev pub ReadsInPart : End → List ℕ → State → State → Type 0
+ReadsInPart end bytes old new = IsCut old new (cut_all end old bytes).fresh
+
+-- a pair without the bytes that are no unit yet
+abbrev pub forgotten : PairState → PairState
+forgotten p = record p {
+  client = record p.client { unread = [] };
+  up = record p.up { unread = [] };
+  stopped = false;
+}
+
+-- the pair ran out of memory within these steps; what is in progress goes on
+pub record CutIn (all : List Step) (old new : PairState) : Type 0 where
+  pub cut : IsCut old.bridge.state new.bridge.state all
+  pub client : (said new).client ≡ record (said old).client { unread = [] }
+  pub up : (said new).up ≡ record (said old).up { unread = [] }
+  pub stopped : new.stopped ≡ false
+
+-- within the units that the client's bytes are cut into
+abbrev pub CutInClient : PairState → PairState → Type 0
+CutInClient old new = CutIn (cut_all Client old.bridge.state old.client.unread).fresh old new
 
 -- the pair ran out of memory within the newest entry
 abbrev pub FailedIn : (Told → Told) → PairState → PairState → Type 0
@@ -84,19 +152,24 @@ FailedIn newest old new =
 
 -- ---- a write
 
-abbrev pub bytes_at : State → ℕ → List ℕ → List ℕ
-bytes_at w at bytes = unwrap_or (offered Client w (drop at bytes)) []
+-- the bytes that a write to an end takes from: what is left of the unit in progress, or those of
+-- the unit that is offered
+abbrev pub ready_bytes : End → ℕ → BridgeState → List ℕ
+ready_bytes end at b =
+    if is_busy b.state end then drop at (offer_of end b).bytes else (offer_of end b).bytes
 
--- so many bytes of what is offered were taken
-pub record Advances (n at now : ℕ) (old new : BridgeState) : Type 0 where
-  pub state : new.state ≡ after
-      (ends Client n (bytes_at old.state at old.client.bytes) ++ begins Client old.state) old.state
-  pub left : rest_at (is_busy new.state Client) now new.client.bytes
-      ≡ drop n (bytes_at old.state at old.client.bytes)
-  pub some : is_busy new.state Client ≡ true → now < length new.client.bytes
+-- so many bytes of what is offered were taken; the bytes of all units stay
+pub record Advances (end : End) (n at now : ℕ) (old new : BridgeState) : Type 0 where
+  pub state : new.state
+      ≡ after (ends end n (ready_bytes end at old) ++ begins end old.state) old.state
+  pub left : rest_at (is_busy new.state end) now (offer_of end new).bytes
+      ≡ drop n (ready_bytes end at old)
+  pub client : new.client.bytes ≡ old.client.bytes
+  pub up : new.up.bytes ≡ old.up.bytes
+  pub sound : (other : ℕ) → IsSoundAt end at other old → IsSoundAt end now other new
 
 -- what is offered, and that so many bytes can be taken of it
-pub record IsOffered (n at : ℕ) (b : BridgeState) : Type 0 where
-  pub ready : is_some (ready_at Client at b) ≡ true
-  pub within : IfSome (ready_at Client at b) (λ bytes. n ≤ length bytes)
-  pub left : is_busy b.state Client ≡ true → at < length b.client.bytes
+pub record IsOffered (end : End) (n at : ℕ) (b : BridgeState) : Type 0 where
+  pub ready : is_some (ready_at end at b) ≡ true
+  pub within : IfSome (ready_at end at b) (λ bytes. n ≤ length bytes)
+  pub left : HasLeft end at b

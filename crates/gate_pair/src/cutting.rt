@@ -1,14 +1,18 @@
-//! The client's bytes, cut into units.
+//! The bytes of each end, cut into units.
 
-ghost use Rattle.std.specs.Prelude.{◌≡◌, ℕ, ◌≤◌, false, true, length, OnOk, OnErr, IfOk};
+ghost use Rattle.std.specs.Prelude.{◌≡◌, ◌≤◌, false, true, length, OnOk, OnErr, IfOk};
+ghost use Rattle.gate_outside.specs.declared.ports.End.TheVariants.{Client, Up};
 ghost use Rattle.bridge_core.specs.Offers.{Keeps};
-ghost use Rattle.gate_pair.specs.Cutting.{IsLongEnough, IsWithin, unit_scan};
-ghost use Rattle.gate_pair.specs.PairStates.{Reads, ReadsInPart};
+ghost use Rattle.gate_pair.specs.Cutting.{IsLongEnough, IsWithin, unit_scan, up_scan};
+ghost use Rattle.gate_pair.specs.PairStates.{Reads, ReadsInPart, StaysSound};
 
 use bridge_core::Bridge;
 use close_translate::FRAME_ERROR;
+use frames_10::{Kind10, scan_frame10, scan_header10};
 use frames_091::{scan_frame, scan_header};
+use machine_10::{Awaited10, FRAME_MAX, Unit10};
 use machine_091::{Awaited91, FRAME_MIN_SIZE, Unit91};
+use performatives_10::Condition;
 use std::alloc::Global;
 use wire_base::{Memory, Scan};
 
@@ -49,21 +53,65 @@ fn scan_unit(alloc: Global, awaited: Awaited91, bytes: &[u8]) -> Result<Scan<Uni
     }
 }
 
-/// Cuts the client's bytes into units, each of which is taken up before the next is cut. The result
-/// is how many bytes were cut off. If the pair runs out of memory, units before that place count.
+/// The protocol header of this kind, with which a container's bytes begin.
+fn scan_greeting_up(bytes: &[u8], kind: Kind10) -> Scan<Unit10, Condition>
+    ensures { result ≡ up_scan (Awaited10.Header kind) bytes.now }
+{
+    match scan_header10(bytes, kind) {
+        Scan::Whole(_, n) => Scan::Whole(Unit10::Header(kind), n),
+        Scan::More => Scan::More,
+        Scan::Bad(_) => Scan::Bad(Condition::FramingError),
+    }
+}
+
+/// The frame with which a container's bytes begin.
+fn scan_next_up(alloc: Global, bytes: &[u8]) -> Result<Scan<Unit10, Condition>, Memory>
+    ensures { IfOk result (λ scan. scan ≡ up_scan Awaited10.Frame bytes.now) }
+{
+    match scan_frame10(alloc, bytes, FRAME_MAX)? {
+        Scan::Whole(frame, n) => Ok(Scan::Whole(Unit10::Frame(frame), n)),
+        Scan::More => Ok(Scan::More),
+        Scan::Bad(_) => Ok(Scan::Bad(Condition::FramingError)),
+    }
+}
+
+/// The unit with which a container's bytes begin, as one is awaited.
+#[tactic(auto, using(crate::proofs::Within::up_within))]
+fn scan_up(
+    alloc: Global,
+    awaited: Awaited10,
+    bytes: &[u8],
+) -> Result<Scan<Unit10, Condition>, Memory>
+    ensures exact { IfOk result (λ scan. scan ≡ up_scan awaited bytes.now) }
+    ensures within { IfOk result (IsWithin bytes.now) }
+{
+    match awaited {
+        Awaited10::Header(kind) => Ok(scan_greeting_up(bytes, kind)),
+        Awaited10::Frame => scan_next_up(alloc, bytes),
+        Awaited10::Nothing => Ok(Scan::More),
+    }
+}
+
+/// Cuts the client's bytes into units, each of which is taken up before the next is cut, until a
+/// request of it waits. The result is how many bytes were cut off. If the pair runs out of memory,
+/// units before that place count.
 #[tactic(auto, using(crate::proofs::Within::long_enough))]
 pub fn cut_client(bridge: &mut Bridge, alloc: Global, bytes: &[u8]) -> Result<usize, Memory>
     requires { bridge.old.state.out_of_memory ≡ false }
-    ensures ok { IfOk result (λ at. Reads bytes.now at bridge.old.state bridge.new.state) }
+    ensures ok { IfOk result (λ at. Reads Client bytes.now at bridge.old.state bridge.new.state) }
     ensures within { IfOk result (λ at. at ≤ length bytes.now) }
-    ensures err { OnErr result (ReadsInPart bytes.now bridge.old.state bridge.new.state) }
+    ensures err { OnErr result (ReadsInPart Client bytes.now bridge.old.state bridge.new.state) }
     ensures calm { OnOk result (bridge.new.state.out_of_memory ≡ false) }
     ensures met { OnErr result (bridge.new.state.out_of_memory ≡ true) }
     ensures kept { Keeps bridge.old bridge.new }
+    ensures sound { StaysSound bridge.old bridge.new }
 {
     let mut at = 0;
     let count = bytes.len();
     for i in 0..count {
+        if bridge.waits() {
+            return Ok(at);
+        }
         let (_, rest) = bytes.split_at(at);
         match scan_unit(alloc, bridge.awaits(), rest) {
             Ok(Scan::More) => return Ok(at),
@@ -74,6 +122,43 @@ pub fn cut_client(bridge: &mut Bridge, alloc: Global, bytes: &[u8]) -> Result<us
                 };
             }
             Ok(Scan::Whole(unit, n)) => match bridge.client_unit(alloc, unit) {
+                Ok(()) => at += n,
+                Err(error) => return Err(error),
+            },
+            Err(error) => {
+                bridge.run_out();
+                return Err(error);
+            }
+        }
+    }
+    Ok(at)
+}
+
+/// The same of the container's bytes.
+pub fn cut_up(bridge: &mut Bridge, alloc: Global, bytes: &[u8]) -> Result<usize, Memory>
+    requires { bridge.old.state.out_of_memory ≡ false }
+    ensures ok { IfOk result (λ at. Reads Up bytes.now at bridge.old.state bridge.new.state) }
+    ensures within { IfOk result (λ at. at ≤ length bytes.now) }
+    ensures err { OnErr result (ReadsInPart Up bytes.now bridge.old.state bridge.new.state) }
+    ensures calm { OnOk result (bridge.new.state.out_of_memory ≡ false) }
+    ensures met { OnErr result (bridge.new.state.out_of_memory ≡ true) }
+    ensures kept { Keeps bridge.old bridge.new }
+    ensures sound { StaysSound bridge.old bridge.new }
+{
+    let mut at = 0;
+    let count = bytes.len();
+    for i in 0..count {
+        let (_, rest) = bytes.split_at(at);
+        match scan_up(alloc, bridge.awaits_up(), rest) {
+            Ok(Scan::More) => return Ok(at),
+            Ok(Scan::Bad(why)) => {
+                let answer = bridge.up_unit(alloc, &Unit10::Bad(why));
+                return match answer {
+                    Ok(()) => Ok(count),
+                    Err(error) => Err(error),
+                };
+            }
+            Ok(Scan::Whole(unit, n)) => match bridge.up_unit(alloc, &unit) {
                 Ok(()) => at += n,
                 Err(error) => return Err(error),
             },

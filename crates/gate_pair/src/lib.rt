@@ -4,6 +4,7 @@
 #![tactic(auto)]
 
 mod cutting;
+mod half;
 mod laws;
 mod pair;
 
@@ -11,4 +12,4 @@ pub use laws::{
     clients_are_answered, entries_are_lawful, entries_give_picks, frames_fit_clients,
     times_are_kept,
 };
-pub use pair::{Pair, Setup};
+pub use pair::Pair;

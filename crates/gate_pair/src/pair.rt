@@ -1,65 +1,68 @@
-//! A pair: its bridge, the bytes of its client that are no unit yet, and how much of the unit in
+//! A pair: its bridge, and for each end the bytes that are no unit yet, and how much of the unit in
 //! progress was sent.
 
-ghost use Rattle.std.specs.Prelude.{◌≡◌, ℕ, ◌<◌, ◌≤◌, ◌^◌, true, false, List, [], length, OnOk};
-ghost use Rattle.std.specs.Prelude.{OnErr, IfOk, IfSome, is_some, unwrap_or};
-ghost use Rattle.gate_outside.specs.declared.ports.End.TheVariants.{Client};
-ghost use Rattle.gate_model.specs.Due.{is_busy};
-ghost use Rattle.gate_model.specs.State.{before};
-ghost use Rattle.bridge_core.specs.Offers.{offer_of};
-ghost use Rattle.gate_pair.specs.Meaning.{Told, came, offered, steps, took};
-ghost use Rattle.gate_pair.specs.PairStates.{Advances, FailedIn, IsOffered, is_ready, rest_in};
-ghost use Rattle.gate_pair.specs.PairStates.{said, said_of};
+ghost use Rattle.std.specs.Prelude.{◌≡◌, ℕ, ◌<◌, ◌≤◌, true, false, List, length, OnOk};
+ghost use Rattle.std.specs.Prelude.{OnErr, IfOk, IfSome, Some, is_some};
+ghost use Rattle.gate_outside.specs.declared.ports.End.TheVariants.{Client, Up};
+ghost use Rattle.gate_pair.specs.Meaning.{Told, came, needs_memory, offered, ran_out, settled};
+ghost use Rattle.gate_pair.specs.Meaning.{took, took_in};
+ghost use Rattle.gate_pair.specs.PairStates.{Advances, CutInClient, FailedIn, IsOffered, forgotten};
+ghost use Rattle.gate_pair.specs.PairStates.{half_of, is_ready, said, said_of, said_stream};
 
-use crate::cutting::cut_client;
+use crate::cutting::{cut_client, cut_up};
+use crate::half::Half;
 use bridge_core::Bridge;
+use gate_model::Setup;
 use gate_outside::{End, Linked, Sink};
 use gate_relay::{Loss, Relay};
 use std::alloc::Global;
 use std::marker::Model;
-use wire_base::{ByteText, Memory};
-
-/// What all pairs of a run share: nothing yet.
-#[derive(Clone, Copy, Debug, PartialEq, Eq)]
-pub struct Setup;
+use wire_base::Memory;
 
 /// A pair of connections.
 #[derive(Drop)]
 pub struct Pair {
     bridge: Bridge,
-    unread: ByteText,
-    at: usize,
+    client: Half,
+    up: Half,
+    /// A request of the client waits, so that units of it may wait behind it.
+    stopped: bool,
 }
 
 impl Model for Pair {
-    ghost use Rattle.gate_pair.specs.PairStates.{PairState, HasLeft};
+    ghost use Rattle.gate_pair.specs.PairStates.{PairState, IsSound};
 
     ghost Value = { PairState };
 
-    ghost view = { λ a. record { bridge = a.bridge; unread = a.unread; at = a.at } };
+    ghost view = { λ a. record {
+      bridge = a.bridge;
+      client = a.client;
+      up = a.up;
+      stopped = a.stopped;
+    } };
 
-    ghost invariant = { λ a. HasLeft (record { bridge = a.bridge; unread = a.unread; at = a.at }) };
+    ghost invariant = { λ a. IsSound a.bridge a.client.at a.up.at };
 }
 
-/// So many bytes of what is offered to the client were taken. The result is how many of that unit
-/// were sent.
-fn advance(bridge: &mut Bridge, at: usize, count: usize) -> usize
+/// So many bytes of what is offered to an end were taken. The result is how many of that unit were
+/// sent.
+fn advance(bridge: &mut Bridge, end: End, at: usize, count: usize) -> usize
     requires some { 1 ≤ count }
-    requires offered { IsOffered count at bridge.old }
-    ensures advances { Advances count at result bridge.old bridge.new }
+    requires offered { IsOffered end count at bridge.old }
+    ensures advances { Advances end count at result bridge.old bridge.new }
     ensures memory { bridge.new.state.out_of_memory ≡ bridge.old.state.out_of_memory }
 {
-    let size = bridge.bytes(End::Client).len();
-    if bridge.is_busy(End::Client) {
+    let size = bridge.bytes(end).len();
+    if bridge.is_busy(end) {
         let now = at + count;
         if now == size {
-            bridge.wrote_all(End::Client);
+            bridge.wrote_all(end);
         }
         now
     } else {
-        bridge.commit(End::Client);
+        bridge.commit(end);
         if count == size {
-            bridge.wrote_all(End::Client);
+            bridge.wrote_all(end);
         }
         count
     }
@@ -68,12 +71,36 @@ fn advance(bridge: &mut Bridge, at: usize, count: usize) -> usize
 impl Pair {
     /// Drops the bytes that are no unit yet.
     fn forget(&mut self)
-        ensures { self.new ≡ record self.old { unread = [] } }
+        ensures { self.new ≡ forgotten self.old }
     {
-        self.unread.truncate(0);
+        self.client.forget();
+        self.up.forget();
+        self.stopped = false;
     }
 
-    /// Bytes came from the client. They are cut into units, and what is no unit yet stays.
+    /// The client's bytes are cut into units, as far as they can be taken up. The others stay.
+    fn take_in(&mut self, alloc: Global) -> Result<(), Memory>
+        requires { self.old.bridge.state.out_of_memory ≡ false }
+        ensures ok { OnOk result ((t : Told) → said self.old ≡ said_of t
+            → said self.new ≡ said_of (took_in t.client.unread t)) }
+        ensures err { OnErr result (CutInClient self.old self.new) }
+        ensures calm { OnOk result (self.new.bridge.state.out_of_memory ≡ false) }
+        ensures met { OnErr result (self.new.bridge.state.out_of_memory ≡ true) }
+    {
+        match cut_client(&mut self.bridge, alloc, self.client.unread()) {
+            Ok(at) => {
+                self.client.discard(at);
+                self.stopped = self.bridge.waits();
+                Ok(())
+            }
+            Err(error) => {
+                self.forget();
+                Err(error)
+            }
+        }
+    }
+
+    /// Bytes came from the client.
     fn came_client(&mut self, alloc: Global, bytes: &[u8]) -> Result<(), Memory>
         requires { self.old.bridge.state.out_of_memory ≡ false }
         ensures ok { OnOk result ((t : Told) → said self.old ≡ said_of t
@@ -82,10 +109,29 @@ impl Pair {
         ensures calm { OnOk result (self.new.bridge.state.out_of_memory ≡ false) }
         ensures met { OnErr result (self.new.bridge.state.out_of_memory ≡ true) }
     {
-        match self.unread.append(bytes) {
-            Ok(()) => match cut_client(&mut self.bridge, alloc, self.unread.as_slice()) {
+        match self.client.append(bytes) {
+            Ok(()) => self.take_in(alloc),
+            Err(error) => {
+                self.bridge.run_out();
+                self.forget();
+                Err(error)
+            }
+        }
+    }
+
+    /// Bytes came from the container. They are cut into units, and what is no unit yet stays.
+    fn came_up(&mut self, alloc: Global, bytes: &[u8]) -> Result<(), Memory>
+        requires { self.old.bridge.state.out_of_memory ≡ false }
+        ensures ok { OnOk result ((t : Told) → said self.old ≡ said_of t
+            → said self.new ≡ said_of (came Up bytes.now t)) }
+        ensures err { OnErr result (FailedIn (came Up bytes.now) self.old self.new) }
+        ensures calm { OnOk result (self.new.bridge.state.out_of_memory ≡ false) }
+        ensures met { OnErr result (self.new.bridge.state.out_of_memory ≡ true) }
+    {
+        match self.up.append(bytes) {
+            Ok(()) => match cut_up(&mut self.bridge, alloc, self.up.unread()) {
                 Ok(at) => {
-                    self.unread.discard(at);
+                    self.up.discard(at);
                     Ok(())
                 }
                 Err(error) => {
@@ -101,17 +147,60 @@ impl Pair {
         }
     }
 
-    /// Whether bytes are offered to an end.
-    fn look(&mut self, end: End) -> bool
-        ensures some { result ≡ is_some (is_ready self.new end) }
-        ensures ready { is_ready self.new end
-            ≡ offered end self.old.bridge.state (rest_in end (said self.old)) }
-        ensures kept { said self.new ≡ said self.old }
+    /// What the client sent is taken up, as far as it can be: its units that waited, and then that
+    /// its end ended or failed.
+    fn take_up(&mut self, alloc: Global) -> Result<(), Memory>
+        requires { self.old.bridge.state.out_of_memory ≡ false }
+        ensures ok { OnOk result ((t : Told) → said self.old ≡ said_of t
+            → said self.new ≡ said_of (settled t)) }
+        ensures err { OnErr result (FailedIn settled self.old self.new) }
+        ensures calm { OnOk result (self.new.bridge.state.out_of_memory ≡ false) }
+        ensures met { OnErr result (self.new.bridge.state.out_of_memory ≡ true) }
+    {
+        match self.take_in(alloc) {
+            Ok(()) => {
+                if self.bridge.can_leave() {
+                    self.bridge.take_up();
+                }
+                Ok(())
+            }
+            Err(error) => Err(error),
+        }
+    }
+
+    /// Whether bytes are offered to an end. Without memory for them the pair ran out of memory.
+    fn look(&mut self, alloc: Global, setup: &Setup, end: End) -> Result<bool, Memory>
+        ensures some { IfOk result (λ yes. yes ≡ is_some (is_ready self.new end)) }
+        ensures ready { OnOk result (is_ready self.new end
+            ≡ offered setup.now end self.old.bridge.state (said_stream end (said self.old)).rest) }
+        ensures kept { OnOk result (said self.new ≡ said self.old) }
+        ensures err { OnErr result ((t : Told) → said self.old ≡ said_of t
+            → said self.new ≡ said_of (ran_out 0 t)) }
+        ensures takes { OnErr result (needs_memory self.old.bridge.state end ≡ true) }
+        ensures calm { OnErr result (self.old.bridge.state.out_of_memory ≡ false) }
+        ensures met { OnErr result (self.new.bridge.state.out_of_memory ≡ true) }
+        ensures memory { OnOk result
+            (self.new.bridge.state.out_of_memory ≡ self.old.bridge.state.out_of_memory) }
     {
         if self.bridge.is_busy(end) {
-            true
-        } else {
-            self.bridge.peek(end)
+            return Ok(true);
+        }
+        match self.bridge.peek(alloc, setup, end) {
+            Ok(yes) => Ok(yes),
+            Err(error) => {
+                self.forget();
+                Err(error)
+            }
+        }
+    }
+
+    /// How many bytes of the unit in progress to an end were sent.
+    fn sent(&self, end: End) -> usize
+        ensures { result ≡ (half_of end self.now).at }
+    {
+        match end {
+            End::Client => self.client.sent(),
+            End::Up => self.up.sent(),
         }
     }
 
@@ -124,24 +213,32 @@ impl Pair {
     {
         let bytes = self.bridge.bytes(end);
         if self.bridge.is_busy(end) {
-            let (_, rest) = bytes.split_at(self.at);
+            let (_, rest) = bytes.split_at(self.sent(end));
             rest
         } else {
             bytes
         }
     }
 
-    /// So many of the bytes that are offered to the client were taken.
-    fn took_client(&mut self, count: usize)
+    /// So many of the bytes that are offered to an end were taken.
+    fn take_away(&mut self, end: End, count: usize)
         requires some { 1 ≤ count }
-        requires within { IfSome (is_ready self.old Client) (λ bytes. count ≤ length bytes) }
-        requires ready { is_some (is_ready self.old Client) ≡ true }
-        ensures step { (t : Told) → said self.old ≡ said_of t → said self.new
-            ≡ said_of (took Client count
-            (unwrap_or (offered Client (before (steps t)) t.rest) []) t) }
+        requires within { IfSome (is_ready self.old end) (λ bytes. count ≤ length bytes) }
+        requires ready { is_some (is_ready self.old end) ≡ true }
+        ensures step { (t : Told) (bytes : List ℕ) → is_ready self.old end ≡ Some bytes
+            → said self.old ≡ said_of t → said self.new ≡ said_of (took end count bytes t) }
         ensures memory { self.new.bridge.state.out_of_memory ≡ self.old.bridge.state.out_of_memory }
     {
-        self.at = advance(&mut self.bridge, self.at, count);
+        match end {
+            End::Client => {
+                let at = advance(&mut self.bridge, End::Client, self.client.sent(), count);
+                self.client.set_sent(at);
+            }
+            End::Up => {
+                let at = advance(&mut self.bridge, End::Up, self.up.sent(), count);
+                self.up.set_sent(at);
+            }
+        }
     }
 }
 
@@ -151,19 +248,21 @@ impl Relay for Pair {
 
     type Setup = Setup;
 
-    ghost words = { λ s. pair_words };
+    ghost words = { pair_words };
 
-    ghost represents = { λ s. Represents };
+    ghost represents = { Represents };
 
     ghost ready = { is_ready };
 
     ghost out_of_memory = { λ p. p.bridge.state.out_of_memory };
 
-    fn new(alloc: Global, _setup: &Setup, _number: u32, moment: u64) -> Result<Pair, Memory> {
+    fn new(alloc: Global, setup: &Setup, number: u32, moment: u64) -> Result<Pair, Memory> {
+        let vhost = setup.vhost().copy(alloc)?;
         Ok(Pair {
-            bridge: Bridge::new(moment),
-            unread: ByteText::empty(alloc),
-            at: 0,
+            bridge: Bridge::new(vhost, number, moment),
+            client: Half::new(alloc),
+            up: Half::new(alloc),
+            stopped: false,
         })
     }
 
@@ -190,7 +289,7 @@ impl Relay for Pair {
     ) -> Result<(), Memory> {
         match end {
             End::Client => self.came_client(alloc, bytes),
-            End::Up => Ok(()),
+            End::Up => self.came_up(alloc, bytes),
         }
     }
 
@@ -202,24 +301,25 @@ impl Relay for Pair {
 
     #[tactic(auto, unfolding(crate::specs::Meaning::pair_words))]
     fn takes_up(&self) -> bool {
-        self.bridge.is_waiting()
+        self.bridge.can_take_up() && (self.bridge.is_leaving() || self.stopped)
     }
 
-    fn settle(&mut self, _alloc: Global, _setup: &Setup) -> Result<(), Memory> {
-        self.bridge.take_up();
-        Ok(())
+    fn settle(&mut self, alloc: Global, _setup: &Setup) -> Result<(), Memory> {
+        self.take_up(alloc)
     }
 
     #[tactic(auto, unfolding(crate::specs::Meaning::pair_words))]
     fn connects(&self) -> bool {
-        false
+        self.bridge.is_connect_due()
     }
 
-    fn link(&mut self, _answer: Linked) {}
+    fn link(&mut self, answer: Linked) {
+        self.bridge.link(answer);
+    }
 
     #[tactic(auto, unfolding(crate::specs::Meaning::pair_words))]
-    fn peek(&mut self, _alloc: Global, _setup: &Setup, end: End) -> Result<bool, Memory> {
-        Ok(self.look(end))
+    fn peek(&mut self, alloc: Global, setup: &Setup, end: End) -> Result<bool, Memory> {
+        self.look(alloc, setup, end)
     }
 
     fn bytes(&self, end: End) -> &[u8] {
@@ -227,10 +327,7 @@ impl Relay for Pair {
     }
 
     fn took(&mut self, end: End, count: usize) {
-        match end {
-            End::Client => self.took_client(count),
-            End::Up => {}
-        }
+        self.take_away(end, count);
     }
 
     fn stuck(&mut self, _end: End) {}

@@ -1,0 +1,243 @@
+-- The login of a container stays once it came, and with it the bytes of the units that were sent.
+use Rattle.std.proofs.Common.{◌≡◌, ◌∙◌, ℕ, Bool, true, false, not, ◌&&◌, ◌||◌, if◌then◌else◌, map, List, [], ◌∷◌, ◌++◌, Option, None, Some, refl, sym, ap, subst}
+use Rattle.std.specs.Prelude.{is_some}
+use Rattle.std.specs.List.{list_any}
+use Rattle.std.proofs.lemmas.List.Folds.{list_any-append}
+use Rattle.gate_outside.specs.declared.ports.End.{End}
+use Rattle.gate_outside.specs.declared.ports.End.TheVariants.{Client, Up}
+use Rattle.gate_outside.specs.declared.ports.Linked.TheVariants as link
+use Rattle.gate_relay.specs.declared.loss.Loss.TheVariants as loss
+use Rattle.machine_091.specs.Calls.{after_ended}
+use Rattle.machine_091.specs.Transitions.{unit_step}
+use Rattle.machine_091.specs.Transitions as machine
+use Rattle.machine_091.specs.declared.unit.Unit91.{Unit91}
+use Rattle.machine_10.specs.Laws.{GoesOn}
+use Rattle.machine_10.specs.Transitions as ten
+use Rattle.machine_10.specs.declared.state.Upstream.{Upstream}
+use Rattle.machine_10.specs.declared.unit.Unit10.{Unit10}
+use Rattle.gate_model.specs.declared.outgoing.Outgoing.TheVariants.{ToClient, ToUp}
+use Rattle.gate_model.specs.declared.outgoing.UpPending.{UpPending}
+use Rattle.gate_model.specs.declared.outgoing.UpUnit.{UpUnit}
+use Rattle.gate_model.specs.declared.outgoing.UpUnit.TheVariants as up
+use Rattle.gate_model.specs.declared.reply.Reply.{Reply}
+use Rattle.gate_model.specs.Asked.{AreCalledFor, called, called_from, openings_of}
+use Rattle.gate_model.specs.Folds.{Peers, connection, container, container_kept, leaving_in, number_in, peers, peers_came, peers_heard, ran_out_in, sent_up}
+use Rattle.gate_model.specs.Picks.{ArePicks}
+use Rattle.gate_model.specs.Setup.{SetupText}
+use Rattle.gate_model.specs.Spelling.{Context, context_of, init_text, spell}
+use Rattle.gate_model.specs.State.{Step, Began, Moment, Came, TakenUp, Heard, Joined, Lost, Gave, Whole, OutOfMemory, before}
+use Rattle.gate_model.specs.Upstream.{container_by, ended_in, opening_rows, when_up}
+use Rattle.gate_model.proofs.Known.{container_is, known, number_is}
+use Rattle.gate_model.proofs.Outcomes.{Outcome, Greets, Parts, LogsIn, Tunes, Asks, Passes, Refuses, Parting, Calls, Asking, Frees, Closes, Answers, Ignores, outcome}
+use Rattle.gate_model.proofs.Ups.{Early, early, is_early}
+use Rattle.gate_pair.specs.Answers.{context_in, sent_to, spelled}
+
+-- what lower crates say of logins: no unit of the container changes one, and of the units of the opening those were sent that were called for
+pub record AreLoggedIn : Type 0 where
+  pub forward : (c : Upstream) (u : Unit10) → GoesOn c (ten.unit_step c u).0
+  pub called : (g : List Step) → ArePicks g → AreCalledFor g
+
+-- ---- what steps make of a container
+
+-- what a step makes of it that is no unit of the container
+pub data Moves (o : Option Upstream) : Option Upstream → Type 0 where
+  Stays : Moves o o
+  Comes : (c : Upstream) → o ≡ None → Moves o (Some c)
+  Ends : Moves o (ended_in o)
+
+abbrev pub IsUnheard : Step → Type 0
+IsUnheard (Heard u) = ⊥
+IsUnheard x = Unit {0}
+
+moves_came : (p : Peers) (u : Unit91) → Early p → Moves p.container (container_kept p.container (unit_step p.client u).1)
+moves_came p u f = by (unit_step p.client u) (outcome p.client u)
+  where
+    by : (x : machine.Step) → Outcome p.client u x → Moves p.container (container_kept p.container x.1)
+    by _ (Greets e) = Stays
+    by _ (Parts e) = Stays
+    by _ (LogsIn m r e) = Comes _ (f (ap is_early e))
+    by _ (Tunes l e) = Stays
+    by _ (Asks e) = Stays
+    by _ Passes = Stays
+    by _ (Refuses r a f e) = Stays
+    by _ (Parting e) = Stays
+    by _ (Calls n s m e) = Stays
+    by _ (Asking n m e) = Stays
+    by _ (Frees n) = Stays
+    by _ (Closes e) = Stays
+    by _ (Answers e) = Stays
+    by _ (Ignores e) = Stays
+
+moves_if : (o : Option Upstream) (b : Bool) (p q : Peers) → Moves o p.container → Moves o q.container → Moves o (if b then p else q).container
+moves_if o true p q f g = f
+moves_if o false p q f g = g
+
+pub moves : (x : Step) (g : List Step) → IsUnheard x → ArePicks (x ∷ g) → Moves (container g) (container (x ∷ g))
+moves (Began vhost n ms) g i p = subst (λ (g : List Step). Moves (container g) None) (sym p.0) Stays
+moves (Moment ms) g i p = Stays
+moves (Came u) g i p = moves_if (container g) (ran_out_in g) (peers g) (peers_came (peers g) u) Stays (moves_came (peers g) u (early g))
+moves TakenUp g i p = moves_if (container g) (not (ran_out_in g) && leaving_in g) (record (peers g) { client = after_ended (connection g) }) (peers g) Stays Stays
+moves (Heard u) g i p = absurd i
+moves (Joined link.Ok) g i p = Stays
+moves (Joined link.Failed) g i p = Stays
+moves (Lost Client how) g i p = Stays
+moves (Lost Up loss.Ended) g i p = Ends
+moves (Lost Up loss.Failed) g i p = Ends
+moves (Lost Up loss.Shut) g i p = Stays
+moves (Gave u) g i p = Stays
+moves (Whole end) g i p = Stays
+moves OutOfMemory g i p = Stays
+
+-- once there is a container its login stays
+abbrev pub Follows : Option Upstream → Option Upstream → Type 0
+Follows None o = Unit {0}
+Follows (Some c) None = ⊥
+Follows (Some c) (Some d) = (d.mechanism ≡ c.mechanism) × (d.response ≡ c.response)
+
+follows_same : (o : Option Upstream) → Follows o o
+follows_same None = tt
+follows_same (Some c) = (refl, refl)
+
+follows_ended : (o : Option Upstream) → Follows o (ended_in o)
+follows_ended None = tt
+follows_ended (Some c) = (refl, refl)
+
+follows_moves : (o o' : Option Upstream) → Moves o o' → Follows o o'
+follows_moves o _ Stays = follows_same o
+follows_moves o _ (Comes c none) = subst (λ (o : Option Upstream). Follows o (Some c)) (sym none) tt
+follows_moves o _ Ends = follows_ended o
+
+follows_heard : AreLoggedIn → (o : Option Upstream) (u : Unit10) → Follows o (container_by o u)
+follows_heard l None u = tt
+follows_heard l (Some c) u = let f : GoesOn c (ten.unit_step c u).0 = l.forward c u in (f.mechanism, f.response)
+
+pub follows : AreLoggedIn → (x : Step) (g : List Step) → ArePicks (x ∷ g) → Follows (container g) (container (x ∷ g))
+follows l (Heard u) g p = by (ran_out_in g)
+  where
+    by : (b : Bool) → Follows (container g) (if b then peers g else peers_heard (peers g) u).container
+    by true = follows_same (container g)
+    by false = follows_heard l (container g) u
+follows l x g p = follows_moves (container g) (container (x ∷ g)) (moves x g tt p)
+
+-- ---- sasl-init goes after the login
+
+is_init : UpUnit → Bool
+is_init up.SaslHeader = false
+is_init up.SaslInit = true
+is_init up.AmqpHeader = false
+is_init up.Open = false
+is_init (up.Close why) = false
+is_init up.Empty = false
+
+pub stays_some : (o o' : Option Upstream) → Follows o o' → is_some o ≡ true → is_some o' ≡ true
+stays_some None o f e = absurd cc
+stays_some (Some c) None f e = absurd f
+stays_some (Some c) (Some d) f e = refl
+
+heard_some : (o : Option Upstream) (u : Unit10) (q : UpPending) → (q.init ≡ true → is_some o ≡ true) → (called_from o u q).init ≡ true → is_some o ≡ true
+heard_some None u q f e = f e
+heard_some (Some c) u q f e = refl
+
+heard_or : (b : Bool) (o : Option Upstream) (u : Unit10) (q : UpPending) → (q.init ≡ true → is_some o ≡ true) → (if b then q else called_from o u q).init ≡ true → is_some o ≡ true
+heard_or true o u q f e = f e
+heard_or false o u q f e = heard_some o u q f e
+
+-- it is called for by a unit of the container
+called_some : AreLoggedIn → (g : List Step) → ArePicks g → (called g).init ≡ true → is_some (container g) ≡ true
+called_some l [] p e = absurd cc
+called_some l (Joined link.Ok ∷ g) p e = absurd cc
+called_some l (Joined link.Failed ∷ g) p e = called_some l g p.1 e
+called_some l (Heard u ∷ g) p e =
+    stays_some (container g) (container (Heard u ∷ g)) (follows l (Heard u) g p) (heard_or (ran_out_in g) (container g) u (called g) (called_some l g p.1) e)
+called_some l (x ∷ g) p e = stays_some (container g) (container (x ∷ g)) (follows l x g p) (called_some l g p.1 e)
+
+opening_inits : (us : List UpUnit) → list_any is_init us ≡ true → list_any is_init (openings_of us) ≡ true
+unfolding is_init
+opening_inits [] e = absurd cc
+opening_inits (up.SaslHeader ∷ us) e = opening_inits us e
+opening_inits (up.SaslInit ∷ us) e = refl
+opening_inits (up.AmqpHeader ∷ us) e = opening_inits us e
+opening_inits (up.Open ∷ us) e = opening_inits us e
+opening_inits (up.Close why ∷ us) e = opening_inits us e
+opening_inits (up.Empty ∷ us) e = opening_inits us e
+
+pass_over : (b : Bool) (u : UpUnit) (us : List UpUnit) → is_init u ≡ false → list_any is_init (when_up b u ++ us) ≡ list_any is_init us
+pass_over true u us e = ap (λ (x : Bool). x || list_any is_init us) e
+pass_over false u us e = refl
+
+rows_init : (p : UpPending) → list_any is_init (opening_rows p) ≡ true → p.init ≡ true
+unfolding is_init
+rows_init p e = by p.init p.«open» (sym (pass_over p.sasl_header up.SaslHeader _ refl) ∙ e)
+  where
+    by : (i o : Bool) → list_any is_init (when_up i up.SaslInit ++ (when_up p.amqp_header up.AmqpHeader ++ when_up o up.Open)) ≡ true → i ≡ true
+    by true o f = refl
+    by false true f = let wrong : false ≡ true = sym (pass_over p.amqp_header up.AmqpHeader (up.Open ∷ []) refl) ∙ f in absurd cc
+    by false false f = let wrong : false ≡ true = sym (pass_over p.amqp_header up.AmqpHeader [] refl) ∙ f in absurd cc
+
+or_left : (a b : Bool) → a ≡ true → (a || b) ≡ true
+or_left true b e = refl
+or_left false b e = absurd cc
+
+or_right : (a b : Bool) → b ≡ true → (a || b) ≡ true
+or_right true b e = refl
+or_right false b e = e
+
+init_called : (g : List Step) → AreCalledFor g → list_any is_init (sent_up g) ≡ true → (called g).init ≡ true
+init_called g a e =
+    rows_init (called g)
+    (sym (ap (list_any is_init) a.all) ∙ list_any-append is_init (openings_of (sent_up g)) (opening_rows (before g).up.pending)
+    ∙ or_left (list_any is_init (openings_of (sent_up g))) _ (opening_inits (sent_up g) e))
+
+init_some : AreLoggedIn → (g : List Step) → ArePicks g → list_any is_init (sent_up g) ≡ true → is_some (container g) ≡ true
+init_some l g p e = called_some l g p (init_called g (l.called g p) e)
+
+-- ---- the bytes of units
+
+init_same : (o o' : Option Upstream) → is_some o ≡ true → Follows o o' → init_text o' ≡ init_text o
+init_same None o e f = absurd cc
+init_same (Some c) None e f = absurd f
+init_same (Some c) (Some d) e f =
+    ap (λ (m : List ℕ). init_text (Some (record c { mechanism = m; response = d.response }))) f.0
+    ∙ ap (λ (r : List ℕ). init_text (Some (record c { response = r }))) f.1
+
+joins : {a b c d : List ℕ} → a ≡ b → c ≡ d → a ++ c ≡ b ++ d
+joins e f = cc
+
+unit_same : (c d : Context) (u : UpUnit) → c.setup ≡ d.setup → c.number ≡ d.number → (is_init u ≡ true → init_text c.container ≡ init_text d.container)
+    → spell c (ToUp u) ≡ spell d (ToUp u)
+unfolding is_init
+unit_same c d up.SaslHeader e f i = refl
+unit_same c d up.SaslInit e f i = i refl
+unit_same c d up.AmqpHeader e f i = refl
+unit_same c d up.Open e f i =
+    ap (λ (n : ℕ). spell (record c { number = n }) (ToUp up.Open)) f ∙ ap (λ (s : SetupText). spell (record d { setup = s }) (ToUp up.Open)) e
+unit_same c d (up.Close why) e f i = refl
+unit_same c d up.Empty e f i = refl
+
+up_same : (c d : Context) (us : List UpUnit) → c.setup ≡ d.setup → c.number ≡ d.number → (list_any is_init us ≡ true → init_text c.container ≡ init_text d.container)
+    → spelled c (map ToUp us) ≡ spelled d (map ToUp us)
+up_same c d [] e f i = refl
+up_same c d (u ∷ us) e f i =
+    joins (unit_same c d u e f (λ x. i (or_left (is_init u) (list_any is_init us) x)))
+    (up_same c d us e f (λ x. i (or_right (is_init u) (list_any is_init us) x)))
+
+client_same : (c d : Context) (us : List Reply) → spelled c (map ToClient us) ≡ spelled d (map ToClient us)
+client_same c d [] = refl
+client_same c d (u ∷ us) = ap (λ (b : List ℕ). spell c (ToClient u) ++ b) (client_same c d us)
+
+-- no step changes the bytes of the units that were sent before it
+pub bytes_stay : AreLoggedIn → (s : SetupText) (end : End) (x : Step) (g : List Step) → ArePicks (x ∷ g)
+    → spelled (context_in s (x ∷ g)) (sent_to end g) ≡ spelled (context_in s g) (sent_to end g)
+bytes_stay l s Client x g p = client_same (context_in s (x ∷ g)) (context_in s g) _
+bytes_stay l s Up (Began vhost n ms) g p =
+    subst (λ (g : List Step). spelled (context_in s (Began vhost n ms ∷ g)) (sent_to Up g) ≡ spelled (context_in s g) (sent_to Up g)) (sym p.0) refl
+bytes_stay l s Up x g p =
+    up_same (context_in s (x ∷ g)) (context_in s g) (sent_up g) refl refl
+    (λ e. init_same (container g) (container (x ∷ g)) (init_some l g p.1 e) (follows l x g p))
+
+-- a state knows what decides them
+pub context_is : (s : SetupText) (g : List Step) → ArePicks g → context_of s (before g) ≡ context_in s g
+context_is s g p = same (before g).number (number_in g) (before g).up.container (container g) (number_is (known g p)) (container_is (known g p))
+  where
+    same : (m n : ℕ) (c d : Option Upstream) → m ≡ n → c ≡ d → (let x : Context = record { setup = s; number = m; container = c } in x) ≡ record { setup = s; number = n; container = d }
+    same m n c d e f = cc

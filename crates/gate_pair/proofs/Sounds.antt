@@ -1,0 +1,258 @@
+-- What holds of a pair's bridge holds after each step: the login that is due to the container is known, so that what is offered has bytes.
+use Rattle.std.proofs.Common.{◌≡◌, ◌∙◌, ℕ, ◌<◌, Bool, true, false, not, ◌&&◌, ◌||◌, map, if◌then◌else◌, List, [], ◌∷◌, ◌++◌, length, Option, None, Some, refl, sym, ap, subst, arith}
+use Rattle.std.specs.Prelude.{is_some}
+use Rattle.std.specs.Option.{option_map}
+use Rattle.gate_outside.specs.declared.ports.End.{End}
+use Rattle.gate_outside.specs.declared.ports.End.TheVariants.{Client, Up}
+use Rattle.gate_outside.specs.declared.ports.Linked.{Linked}
+use Rattle.gate_outside.specs.declared.ports.Linked.TheVariants as link
+use Rattle.gate_relay.specs.declared.loss.Loss.{Loss}
+use Rattle.gate_relay.specs.declared.loss.Loss.TheVariants as loss
+use Rattle.gate_relay.specs.declared.sides.Side.TheVariants as side
+use Rattle.gate_relay.specs.Sides.{is_readable}
+use Rattle.machine_091.specs.Calls.{after_opened}
+use Rattle.machine_091.specs.State.{is_closing, is_opening}
+use Rattle.machine_091.specs.Transitions as nine
+use Rattle.machine_091.specs.declared.unit.Want91.{Want91}
+use Rattle.machine_091.specs.declared.unit.Want91.TheVariants as want
+use Rattle.machine_10.specs.Transitions as ten
+use Rattle.machine_10.specs.Transitions.{Meaning}
+use Rattle.machine_10.specs.declared.state.Upstream.{Upstream}
+use Rattle.machine_10.specs.declared.unit.Unit10.{Unit10}
+use Rattle.performatives_10.specs.declared.condition.Condition.{Condition}
+use Rattle.frames_10.specs.Frames as frames_10
+use Rattle.frames_10.specs.Frames.{text_behind}
+use Rattle.frames_10.specs.declared.frame.Frame10.{Frame10}
+use Rattle.gate_model.specs.declared.outgoing.Outgoing.{Outgoing}
+use Rattle.gate_model.specs.declared.outgoing.Outgoing.TheVariants.{ToClient, ToUp}
+use Rattle.gate_model.specs.declared.outgoing.UpUnit.{UpUnit}
+use Rattle.gate_model.specs.declared.outgoing.UpUnit.TheVariants as unit
+use Rattle.gate_model.specs.declared.reply.Reply.{Reply}
+use Rattle.gate_model.specs.Due.{client_rows, is_busy, pick}
+use Rattle.gate_model.specs.Setup.{SetupText}
+use Rattle.gate_model.specs.Spelling.{context_of, init_text, spell}
+use Rattle.gate_model.specs.State as state
+use Rattle.gate_model.specs.State.{State, Step, condition_by, fail, failed, heard, keep_login, step, with_meaning}
+use Rattle.gate_model.specs.Upstream.{UpState, closing_with, ended_in, first, heard_up, is_idle_due, lost_by, meaning_by, rows_in, shut_by, up_rows, when_up, without_up}
+use Rattle.gate_model.proofs.Spelled.{spelled_some}
+use Rattle.bridge_core.specs.Offers.{BridgeState, Keeps, bytes_of, client_bytes, moved, peeked}
+use Rattle.gate_pair.specs.PairStates.{IsSound, KnowsLogin, StaysSound}
+
+-- ---- the login
+
+closing_knows : (b : Bool) (why : Option Condition) (s : UpState) → KnowsLogin s → KnowsLogin (closing_with b why s)
+closing_knows true why s k = k
+closing_knows false why s k = k
+
+keeping_knows : (x : Want91) (s : UpState) → KnowsLogin s → KnowsLogin (keep_login x s)
+keeping_knows want.Nothing s k = k
+keeping_knows want.Start s k = k
+keeping_knows (want.Login a b) s k = λ e. refl
+keeping_knows want.Tuned s k = k
+keeping_knows want.OpenUp s k = k
+keeping_knows (want.Method n m) s k = k
+keeping_knows (want.ChannelCloseOk n) s k = k
+keeping_knows want.Close s k = k
+keeping_knows want.CloseOk s k = k
+keeping_knows (want.Refuse r) s k = k
+
+fail_knows : (code : ℕ) (why : Option Condition) (w : State) → KnowsLogin w.up → KnowsLogin (fail code why w).up
+fail_knows code why w k = by (is_closing w.conn)
+  where
+    by : (b : Bool) → KnowsLogin (if b then w else failed code why w).up
+    by true = k
+    by false = k
+
+-- a unit of the container leaves the login, and one wants it where it is known
+fail_container : (code : ℕ) (why : Option Condition) (w : State) → (fail code why w).up.container ≡ w.up.container
+fail_container code why w = by (is_closing w.conn)
+  where
+    by : (b : Bool) → (if b then w else failed code why w).up.container ≡ w.up.container
+    by true = refl
+    by false = refl
+
+meaning_container : (m : Meaning) (w : State) → (with_meaning m w).up.container ≡ w.up.container
+meaning_container ten.Nothing w = refl
+meaning_container ten.Init w = refl
+meaning_container ten.AmqpHeader w = refl
+meaning_container ten.Opened w = by (is_opening w.conn)
+  where
+    by : (b : Bool) → (if b then record w { conn = after_opened w.conn; pending = record w.pending { open_ok = true } } else w).up.container ≡ w.up.container
+    by true = refl
+    by false = refl
+meaning_container (ten.OfSession g p payload) w = refl
+meaning_container (ten.Closed e) w = fail_container _ None w
+meaning_container ten.Refused w = fail_container _ None w
+meaning_container (ten.Violation c) w = fail_container _ (Some c) w
+
+heard_knows : (w : State) (u : Unit10) → KnowsLogin w.up → KnowsLogin (heard w u).up
+heard_knows w u k = by w.up.container k
+  where
+    by : (c : Option Upstream) → (w.up.pending.init ≡ true → is_some c ≡ true)
+        → KnowsLogin (with_meaning (meaning_by c u) (record w { up = heard_up u (record w.up { container = c }) })).up
+    by None k = k
+    by (Some c) k = λ e. ap is_some (meaning_container (meaning_by (Some c) u) (record w { up = heard_up u (record w.up { container = Some c }) }))
+
+lost_knows : (w : State) (end : End) (how : Loss) → KnowsLogin w.up → KnowsLogin (step w (state.Lost end how)).up
+lost_knows w Client loss.Ended k = k
+lost_knows w Client loss.Failed k = k
+lost_knows w Client loss.Shut k = k
+lost_knows w Up loss.Ended k = fail_knows _ None (record w { up = lost_by side.Ended w.up }) (ended w.up.container k)
+  where
+    ended : (c : Option Upstream) → (w.up.pending.init ≡ true → is_some c ≡ true) → w.up.pending.init ≡ true → is_some (ended_in c) ≡ true
+    ended None k = k
+    ended (Some c) k = k
+lost_knows w Up loss.Failed k = fail_knows _ None (record w { up = lost_by side.Failed w.up }) (ended w.up.container k)
+  where
+    ended : (c : Option Upstream) → (w.up.pending.init ≡ true → is_some c ≡ true) → w.up.pending.init ≡ true → is_some (ended_in c) ≡ true
+    ended None k = k
+    ended (Some c) k = k
+lost_knows w Up loss.Shut k = k
+
+joined_knows : (w : State) (answer : Linked) → KnowsLogin w.up → KnowsLogin (step w (state.Joined answer)).up
+joined_knows w link.Ok k = λ e. absurd cc
+joined_knows w link.Failed k = fail_knows _ None (record w { up = shut_by w.up }) k
+
+begun_knows : (u : UpUnit) (s : UpState) → KnowsLogin s → (without_up u s.pending).init ≡ true → is_some s.container ≡ true
+begun_knows unit.SaslHeader s k = k
+begun_knows unit.SaslInit s k = λ e. absurd cc
+begun_knows unit.AmqpHeader s k = k
+begun_knows unit.Open s k = k
+begun_knows (unit.Close c) s k = k
+begun_knows unit.Empty s k = k
+
+pub step_knows : (s : Step) (w : State) → KnowsLogin w.up → KnowsLogin (step w s).up
+step_knows (state.Began vhost n ms) w k = k
+step_knows (state.Moment ms) w k = k
+step_knows (state.Came u) w k = by w.out_of_memory
+  where
+    by : (b : Bool) → KnowsLogin (if b then w else state.came w u).up
+    by true = k
+    by false =
+        closing_knows (is_closing w.conn) (condition_by (nine.unit_step w.conn u).1) (keep_login (nine.unit_step w.conn u).1 w.up)
+        (keeping_knows (nine.unit_step w.conn u).1 w.up k)
+step_knows state.TakenUp w k = by (not w.out_of_memory && w.leaving)
+  where
+    by : (b : Bool) → KnowsLogin (if b then state.left w else w).up
+    by true = closing_knows (is_closing w.conn) None w.up k
+    by false = k
+step_knows (state.Heard u) w k = by w.out_of_memory
+  where
+    by : (b : Bool) → KnowsLogin (if b then w else heard w u).up
+    by true = k
+    by false = heard_knows w u k
+step_knows (state.Joined answer) w k = joined_knows w answer k
+step_knows (state.Lost end how) w k = lost_knows w end how k
+step_knows (state.Gave (ToClient u)) w k = k
+step_knows (state.Gave (ToUp u)) w k = begun_knows u w.up k
+step_knows (state.Whole Client) w k = k
+step_knows (state.Whole Up) w k = k
+step_knows state.OutOfMemory w k = closing_knows (is_closing w.conn) _ w.up k
+
+-- ---- what is offered
+
+-- a unit to each end is one of its own
+client_first : (us : List Reply) (u : UpUnit) → first (map ToClient us) ≡ Some (ToUp u) → ⊥
+client_first [] u e = absurd cc
+client_first (v ∷ us) u e = absurd cc
+
+up_first_is : (us : List UpUnit) (u : Reply) → first (map ToUp us) ≡ Some (ToClient u) → ⊥
+up_first_is [] u e = absurd cc
+up_first_is (v ∷ us) u e = absurd cc
+
+pub client_picks : (w : State) (u : UpUnit) → pick w Client ≡ Some (ToUp u) → ⊥
+client_picks w u e = client_first (client_rows w) u e
+
+pub up_picks : (w : State) (u : Reply) → pick w Up ≡ Some (ToClient u) → ⊥
+up_picks w u e = up_first_is (up_rows (w.out_of_memory || is_closing w.conn) w.up w.moment) u e
+
+-- the login goes where it is due
+login_due : (closing : Bool) (s : UpState) (ms : ℕ) → first (map ToUp (up_rows closing s ms)) ≡ Some (ToUp unit.SaslInit) → s.pending.init ≡ true
+login_due closing s ms e = by (is_readable s.side && not s.sent.close) closing e
+  where
+    rows : (a b c d f : Bool)
+        → first (map ToUp ((when_up a unit.SaslHeader ++ (when_up b unit.SaslInit ++ (when_up c unit.AmqpHeader ++ when_up d unit.Open))) ++ when_up f unit.Empty)) ≡ Some (ToUp unit.SaslInit)
+        → b ≡ true
+    rows true b c d f e = absurd cc
+    rows false true c d f e = refl
+    rows false false true d f e = absurd cc
+    rows false false false true f e = absurd cc
+    rows false false false false true e = absurd cc
+    rows false false false false false e = absurd cc
+
+    closes : (b : Bool) → first (map ToUp (when_up b (unit.Close s.condition))) ≡ Some (ToUp unit.SaslInit) → s.pending.init ≡ true
+    closes true e = absurd cc
+    closes false e = absurd cc
+
+    by : (b closing : Bool) → first (map ToUp (if b then rows_in closing s ms else [])) ≡ Some (ToUp unit.SaslInit) → s.pending.init ≡ true
+    by false closing e = absurd cc
+    by true true e = closes s.sent.«open» e
+    by true false e = rows s.pending.sasl_header s.pending.init s.pending.amqp_header s.pending.«open» (is_idle_due s ms) e
+
+frame_some : (f : Frame10) → 0 < length (frames_10.frame_text f)
+unfolding text_behind
+frame_some f = omega arith
+
+init_some : (c : Option Upstream) → is_some c ≡ true → 0 < length (init_text c)
+init_some None e = absurd cc
+init_some (Some c) e = frame_some _
+
+-- what goes next has bytes
+pub picked_some : (s : SetupText) (w : State) (end : End) (u : Outgoing) → KnowsLogin w.up → pick w end ≡ Some u → 0 < length (spell (context_of s w) u)
+picked_some s w end (ToClient u) k e = spelled_some u
+picked_some s w end (ToUp unit.SaslHeader) k e = omega arith
+picked_some s w Client (ToUp unit.SaslInit) k e = absurd (client_picks w unit.SaslInit e)
+picked_some s w Up (ToUp unit.SaslInit) k e = init_some w.up.container (k (login_due (w.out_of_memory || is_closing w.conn) w.up w.moment e))
+picked_some s w end (ToUp unit.AmqpHeader) k e = omega arith
+picked_some s w end (ToUp unit.Open) k e = frame_some _
+picked_some s w end (ToUp (unit.Close c)) k e = frame_some _
+picked_some s w end (ToUp unit.Empty) k e = frame_some _
+
+-- ---- steps
+
+clash : {A : Type 0} (b : Bool) → b ≡ false → b ≡ true → A
+clash b f t = absurd cc
+
+-- a step takes offers back
+pub moved_sound : (s : Step) (b d : BridgeState) (client up : ℕ) → IsSound b client up → d ≡ moved s b → Keeps b d → IsSound d client up
+moved_sound s b d client up x is k = record {
+  login = subst (λ (v : BridgeState). KnowsLogin v.state.up) (sym is) (step_knows s b.state x.login);
+  client_left = λ e. subst (λ (bytes : List ℕ). client < length bytes) (sym k.client) (x.client_left (ap (λ (o : Option Reply). is_some (option_map ToClient o)) (sym k.going) ∙ e));
+  up_left = λ e. subst (λ (bytes : List ℕ). up < length bytes) (sym k.up) (x.up_left (ap (λ (o : Option UpUnit). is_some (option_map ToUp o)) (sym k.going_up) ∙ e));
+  client_bytes = λ e. clash d.client.ready (ap (λ (v : BridgeState). v.client.ready) is) e;
+  up_bytes = λ e. clash d.up.ready (ap (λ (v : BridgeState). v.up.ready) is) e;
+}
+
+pub sound_more : (b c d : BridgeState) → StaysSound b c → StaysSound c d → StaysSound b d
+sound_more b c d x y = λ client up s. y client up (x client up s)
+
+pub moved_stays : (s : Step) (b d : BridgeState) → d ≡ moved s b → Keeps b d → StaysSound b d
+moved_stays s b d is k = λ client up x. moved_sound s b d client up x is k
+
+-- ---- looks
+
+pub looked_stays : (s : SetupText) (end : End) (b : BridgeState) → is_busy b.state end ≡ false → StaysSound b (peeked s end b)
+looked_stays s Client b free = λ client up x. record {
+  login = x.login;
+  client_left = λ e. clash (is_busy b.state Client) free e;
+  up_left = x.up_left;
+  client_bytes = by (pick b.state Client) refl;
+  up_bytes = x.up_bytes;
+}
+  where
+    by : (o : Option Outgoing) → pick b.state Client ≡ o → is_some o ≡ true → 0 < length (client_bytes o b.client.bytes)
+    by None p e = absurd cc
+    by (Some (ToClient u)) p e = spelled_some u
+    by (Some (ToUp u)) p e = absurd (client_picks b.state u p)
+looked_stays s Up b free = λ client up x. record {
+  login = x.login;
+  client_left = x.client_left;
+  up_left = λ e. clash (is_busy b.state Up) free e;
+  client_bytes = x.client_bytes;
+  up_bytes = by (λ u p. picked_some s b.state Up u x.login p) (pick b.state Up) refl;
+}
+  where
+    by : ((u : Outgoing) → pick b.state Up ≡ Some u → 0 < length (spell (context_of s b.state) u))
+        → (o : Option Outgoing) → pick b.state Up ≡ o → is_some o ≡ true → 0 < length (bytes_of (context_of s b.state) o b.up.bytes)
+    by some None p e = absurd cc
+    by some (Some u) p e = some u p
