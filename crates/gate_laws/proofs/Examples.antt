@@ -1,35 +1,60 @@
 -- What the definitions come to on short runs, computed: a client with a wrong header; and one with the right header in two pieces,
 -- whose answer goes in two writes, and then a heartbeat and a byte with which no frame begins, or a login and two closes, or a login
--- with heartbeats each second; a silent client; and running out of memory. The first is a whole run that follows.
+-- with heartbeats each second, or the whole opening with a container; a silent client; and running out of memory. The first is a
+-- whole run that follows.
 -- The bytes are written down here apart from the definitions.
 use Rattle.std.proofs.Common.{◌≡◌, ℕ, List, [], ◌∷◌, ◌++◌, refl, Some, arith}
-use Rattle.gate_outside.specs.declared.ports.End.TheVariants.{Client}
+use Rattle.gate_outside.specs.declared.ports.End.TheVariants.{Client, Up}
 use Rattle.gate_outside.specs.declared.ports.Accepted.TheVariants as accepted
 use Rattle.gate_outside.specs.declared.ports.Got.TheVariants as got
+use Rattle.gate_outside.specs.declared.ports.Linked.TheVariants as linked
 use Rattle.gate_outside.specs.declared.ports.Put.TheVariants as put
-use Rattle.gate_outside.specs.declared.log.LogEntry.TheVariants.{Accept, Read, Write, Shut, Now}
+use Rattle.gate_outside.specs.declared.log.LogEntry.TheVariants.{Accept, Connect, Read, Write, Shut, Now}
+use Rattle.std.specs.Fmt as fmt
+use Rattle.std.specs.Str as str
 use Rattle.wire_base.specs.Headers as wire
 use Rattle.wire_base.specs.Reading as reading
 use Rattle.frames_091.specs.Headers as headers
 use Rattle.frames_091.specs.Frames as spelling
 use Rattle.frames_091.specs.FrameScan as scanning
+use Rattle.frames_10.specs.Frames as spelling_10
+use Rattle.frames_10.specs.FrameScan as scanning_10
+use Rattle.types_10.specs.Reading as trees
+use Rattle.performatives_10.specs.Fields as fields
+use Rattle.performatives_10.specs.Reading as performatives
+use Rattle.machine_10.specs.Reading as containers
+use Rattle.machine_10.specs.State as states
 use Rattle.gate_relay.specs.Relayed as relayed
 use Rattle.gate_runs.specs.declared.limits.Limits.{Limits}
 use Rattle.gate_runs.specs.declared.served.Served.TheVariants.{PairsDone}
-use Rattle.gate_runs.specs.Marks.{History, Call, Refuse, RunOut, Finish}
+use Rattle.gate_runs.specs.Marks.{History, Call, Refuse, TakeUp, RunOut, Finish}
 use Rattle.gate_runs.specs.Stages.{Taking}
 use Rattle.gate_runs.specs.Journal.{journal}
-use Rattle.gate_runs.specs.Next.{next, Do, EndBy, Done, AskRead, AskWrite, AskShut, AskNow, AskAccept, AskIdle}
+use Rattle.gate_runs.specs.Next.{next, Do, Settle, EndBy, Done, AskRead, AskWrite, AskShut, AskConnect, AskNow, AskAccept, AskIdle}
 use Rattle.gate_runs.specs.Serving.{Follows}
 use Rattle.gate_model.specs.Frames.{limit_in}
 use Rattle.gate_model.specs.Spelling as frames
-use Rattle.gate_pair.specs.Meaning as words
+use Rattle.gate_model.specs.Setup.{SetupText}
+use Rattle.gate_pair.specs.Meaning as meaning
 use Rattle.gate_pair.specs.Meaning.{pair_words, steps_of}
+use Rattle.gate_relay.specs.RelayWords.{RelayWords}
 
 -- what is computed here is opened by this one name
 all_open : ℕ
-unfolding words.pair_words relayed.read_room headers.header_scan wire.first_header scanning.scan_of scanning.stated_size scanning.frame_in frames.start_frame frames.tune_frame spelling.frame_text reading.text_in reading.all_items
+unfolding meaning.pair_words relayed.read_room headers.header_scan wire.first_header scanning.scan_of scanning.stated_size scanning.frame_in frames.start_frame frames.tune_frame frames.open_ok_frame spelling.frame_text reading.text_in reading.all_items
 all_open = 0
+
+-- and what a container's units are read by
+both_open : ℕ
+unfolding scanning_10.scan_of scanning_10.stated_size scanning_10.stated_offset scanning_10.frame_in spelling_10.text_behind trees.level trees.constructor_in reading.times performatives.perf_of performatives.kind_with fields.field_in fields.leaf_in containers.read_at containers.act_of states.no_sessions fmt.digits str.is_utf8 str.chars lib.Utf8.encode
+both_open = 0
+
+-- what all pairs share: the name `gate`, the host `broker` and the virtual host `/`
+abbrev shared : SetupText
+shared = record { name = 103 ∷ 97 ∷ 116 ∷ 101 ∷ []; host = Some (98 ∷ 114 ∷ 111 ∷ 107 ∷ 101 ∷ 114 ∷ []); vhost = 47 ∷ [] }
+
+abbrev words : RelayWords
+words = pair_words shared
 
 abbrev one_pair : Limits
 one_pair = record { pairs = Some 1; turns = 10 }
@@ -51,15 +76,15 @@ begun = Call (Now 0) ∷ []
 abbrev joined : History
 joined = Call (Accept (accepted.Pair 0)) ∷ begun
 
-the_clock_first : next pair_words one_pair [] ≡ Do AskNow
+the_clock_first : next words one_pair [] ≡ Do AskNow
 unfolding all_open
 the_clock_first = refl
 
-then_accept : next pair_words one_pair begun ≡ Do AskAccept
+then_accept : next words one_pair begun ≡ Do AskAccept
 unfolding all_open
 then_accept = refl
 
-then_a_read : next pair_words one_pair joined ≡ Do (AskRead 0 Client 65536)
+then_a_read : next words one_pair joined ≡ Do (AskRead 0 Client 65536)
 unfolding all_open
 then_a_read = refl
 
@@ -74,20 +99,20 @@ answered = Call (Write 0 Client own_header (put.Took 8)) ∷ misread
 abbrev parted : History
 parted = Call (Shut 0 Client) ∷ answered
 
-the_own_header_answers : next pair_words one_pair misread ≡ Do (AskWrite 0 Client own_header)
+the_own_header_answers : next words one_pair misread ≡ Do (AskWrite 0 Client own_header)
 unfolding all_open
 the_own_header_answers = refl
 
-then_the_end_is_shut : next pair_words one_pair answered ≡ Do (AskShut 0 Client)
+then_the_end_is_shut : next words one_pair answered ≡ Do (AskShut 0 Client)
 unfolding all_open
 then_the_end_is_shut = refl
 
-then_the_pairs_are_done : next pair_words one_pair parted ≡ EndBy PairsDone
+then_the_pairs_are_done : next words one_pair parted ≡ EndBy PairsDone
 unfolding all_open
 then_the_pairs_are_done = refl
 
 -- so the premise of the laws holds of a run
-follows : Follows pair_words one_pair (Finish PairsDone ∷ parted)
+follows : Follows words one_pair (Finish PairsDone ∷ parted)
 unfolding all_open
 follows = (
   refl,
@@ -95,7 +120,7 @@ follows = (
   (refl, tt, (refl, (omega arith, omega arith), (refl, (omega arith, omega arith, refl), (refl, refl, (refl, omega arith, tt))))),
 )
 
-then_nothing : next pair_words one_pair (Finish PairsDone ∷ parted) ≡ Done
+then_nothing : next words one_pair (Finish PairsDone ∷ parted) ≡ Done
 unfolding all_open
 then_nothing = refl
 
@@ -110,15 +135,15 @@ second_piece = Call (Read 0 Client 65536 (got.Bytes 5) (80 ∷ 0 ∷ 0 ∷ 9 ∷
 abbrev most_went : History
 most_went = Call (Write 0 Client start (put.Took 150)) ∷ second_piece
 
-a_front_has_no_answer : next pair_words two_pairs first_piece ≡ Do AskNow
+a_front_has_no_answer : next words two_pairs first_piece ≡ Do AskNow
 unfolding all_open
 a_front_has_no_answer = refl
 
-start_answers : next pair_words two_pairs second_piece ≡ Do (AskWrite 0 Client start)
+start_answers : next words two_pairs second_piece ≡ Do (AskWrite 0 Client start)
 unfolding all_open
 start_answers = refl
 
-then_its_rest : next pair_words two_pairs most_went ≡ Do (AskWrite 0 Client (85 ∷ 83 ∷ 206 ∷ []))
+then_its_rest : next words two_pairs most_went ≡ Do (AskWrite 0 Client (85 ∷ 83 ∷ 206 ∷ []))
 unfolding all_open
 then_its_rest = refl
 
@@ -139,15 +164,15 @@ close = 1 ∷ 0 ∷ 0 ∷ 0 ∷ 0 ∷ 0 ∷ 22 ∷ 0 ∷ 10 ∷ 0 ∷ 50 ∷ 1 �
 abbrev closed : History
 closed = Call (Write 0 Client close (put.Took 30)) ∷ broken
 
-a_heartbeat_has_no_answer : next pair_words two_pairs beaten ≡ Do AskNow
+a_heartbeat_has_no_answer : next words two_pairs beaten ≡ Do AskNow
 unfolding all_open
 a_heartbeat_has_no_answer = refl
 
-then_close_answers : next pair_words two_pairs broken ≡ Do (AskWrite 0 Client close)
+then_close_answers : next words two_pairs broken ≡ Do (AskWrite 0 Client close)
 unfolding all_open
 then_close_answers = refl
 
-then_its_end_is_shut : next pair_words two_pairs closed ≡ Do (AskShut 0 Client)
+then_its_end_is_shut : next words two_pairs closed ≡ Do (AskShut 0 Client)
 unfolding all_open
 then_its_end_is_shut = refl
 
@@ -175,15 +200,15 @@ tune_went = Call (Write 0 Client tune (put.Took 20)) ∷ crossed
 abbrev close_ok_went : History
 close_ok_went = Call (Write 0 Client close_ok (put.Took 12)) ∷ tune_went
 
-tune_answers : next pair_words two_pairs crossed ≡ Do (AskWrite 0 Client tune)
+tune_answers : next words two_pairs crossed ≡ Do (AskWrite 0 Client tune)
 unfolding all_open
 tune_answers = refl
 
-then_close_ok_alone : next pair_words two_pairs tune_went ≡ Do (AskWrite 0 Client close_ok)
+then_close_ok_alone : next words two_pairs tune_went ≡ Do (AskWrite 0 Client close_ok)
 unfolding all_open
 then_close_ok_alone = refl
 
-then_all_is_said : next pair_words two_pairs close_ok_went ≡ Do (AskShut 0 Client)
+then_all_is_said : next words two_pairs close_ok_went ≡ Do (AskShut 0 Client)
 unfolding all_open
 then_all_is_said = refl
 
@@ -204,38 +229,135 @@ tuned =
 abbrev silent : ℕ → History → History
 silent ms m = Call (Read 0 Client 65536 got.NotYet []) ∷ Call (Accept accepted.NotYet) ∷ Call (Now ms) ∷ m
 
-no_heartbeat_yet : next pair_words two_pairs (silent 501 tuned) ≡ Do AskIdle
+no_heartbeat_yet : next words two_pairs (silent 501 tuned) ≡ Do AskIdle
 unfolding all_open
 no_heartbeat_yet = refl
 
-then_a_heartbeat : next pair_words two_pairs (silent 502 tuned) ≡ Do (AskWrite 0 Client heartbeat)
+then_a_heartbeat : next words two_pairs (silent 502 tuned) ≡ Do (AskWrite 0 Client heartbeat)
 unfolding all_open
 then_a_heartbeat = refl
 
-then_the_clock : next pair_words two_pairs (Call (Write 0 Client heartbeat (put.Took 8)) ∷ silent 502 tuned) ≡ Do AskNow
+then_the_clock : next words two_pairs (Call (Write 0 Client heartbeat (put.Took 8)) ∷ silent 502 tuned) ≡ Do AskNow
 unfolding all_open
 then_the_clock = refl
+
+-- or a login, tune-ok and open in one read: the connection upstream is asked for, and while the open waits the client isn't read.
+-- Where it fails the client is told so
+
+abbrev client_open : List ℕ
+client_open = 1 ∷ 0 ∷ 0 ∷ 0 ∷ 0 ∷ 0 ∷ 8 ∷ 0 ∷ 10 ∷ 0 ∷ 40 ∷ 1 ∷ 47 ∷ 0 ∷ 0 ∷ 206 ∷ []
+
+abbrev opening : History
+opening =
+    Call (Read 0 Client 65536 (got.Bytes 36) (tune_ok ++ client_open)) ∷ Call (Accept accepted.NotYet) ∷ Call (Now 3)
+    ∷ Call (Write 0 Client tune (put.Took 20)) ∷ Call (Read 0 Client 65536 (got.Bytes 36) login) ∷ Call (Accept accepted.NotYet) ∷ Call (Now 2) ∷ start_went
+
+the_connection_is_asked_for : next words two_pairs opening ≡ Do (AskConnect 0)
+unfolding all_open
+the_connection_is_asked_for = refl
+
+abbrev forced : List ℕ
+forced = 1 ∷ 0 ∷ 0 ∷ 0 ∷ 0 ∷ 0 ∷ 28 ∷ 0 ∷ 10 ∷ 0 ∷ 50 ∷ 1 ∷ 64 ∷ 17 ∷ 67 ∷ 79 ∷ 78 ∷ 78 ∷ 69 ∷ 67 ∷ 84 ∷ 73 ∷ 79 ∷ 78 ∷ 95 ∷ 70 ∷ 79 ∷ 82 ∷ 67 ∷ 69 ∷ 68 ∷ 0 ∷ 0 ∷ 0 ∷ 0 ∷ 206 ∷ []
+
+then_a_failure_is_told : next words two_pairs (Call (Connect 0 linked.Failed) ∷ opening) ≡ Do (AskWrite 0 Client forced)
+unfolding all_open
+then_a_failure_is_told = refl
+
+-- where it doesn't the SASL layer begins, and the container is asked for the client's own login
+
+abbrev sasl_header : List ℕ
+sasl_header = 65 ∷ 77 ∷ 81 ∷ 80 ∷ 3 ∷ 1 ∷ 0 ∷ 0 ∷ []
+
+abbrev mechanisms : List ℕ
+mechanisms = 0 ∷ 0 ∷ 0 ∷ 34 ∷ 2 ∷ 1 ∷ 0 ∷ 0 ∷ 0 ∷ 83 ∷ 64 ∷ 192 ∷ 21 ∷ 1 ∷ 224 ∷ 18 ∷ 2 ∷ 163 ∷ 5 ∷ 80 ∷ 76 ∷ 65 ∷ 73 ∷ 78 ∷ 9 ∷ 65 ∷ 78 ∷ 79 ∷ 78 ∷ 89 ∷ 77 ∷ 79 ∷ 85 ∷ 83 ∷ []
+
+abbrev init : List ℕ
+init = 0 ∷ 0 ∷ 0 ∷ 27 ∷ 2 ∷ 1 ∷ 0 ∷ 0 ∷ 0 ∷ 83 ∷ 65 ∷ 192 ∷ 14 ∷ 2 ∷ 163 ∷ 5 ∷ 80 ∷ 76 ∷ 65 ∷ 73 ∷ 78 ∷ 160 ∷ 4 ∷ 0 ∷ 97 ∷ 0 ∷ 98 ∷ []
+
+abbrev reached : History
+reached = Call (Connect 0 linked.Ok) ∷ opening
+
+abbrev welcomed : History
+welcomed =
+    Call (Read 0 Up 65536 (got.Bytes 42) (sasl_header ++ mechanisms)) ∷ Call (Accept accepted.NotYet) ∷ Call (Now 4)
+    ∷ Call (Write 0 Up sasl_header (put.Took 8)) ∷ reached
+
+the_sasl_layer_begins : next words two_pairs reached ≡ Do (AskWrite 0 Up sasl_header)
+unfolding all_open
+the_sasl_layer_begins = refl
+
+then_the_login_goes : next words two_pairs welcomed ≡ Do (AskWrite 0 Up init)
+unfolding all_open both_open
+then_the_login_goes = refl
+
+-- once it succeeded the container is opened, and by its own open the client's connection
+
+abbrev outcome : List ℕ
+outcome = 0 ∷ 0 ∷ 0 ∷ 16 ∷ 2 ∷ 1 ∷ 0 ∷ 0 ∷ 0 ∷ 83 ∷ 68 ∷ 192 ∷ 3 ∷ 1 ∷ 80 ∷ 0 ∷ []
+
+abbrev amqp_header : List ℕ
+amqp_header = 65 ∷ 77 ∷ 81 ∷ 80 ∷ 0 ∷ 1 ∷ 0 ∷ 0 ∷ []
+
+abbrev gate_open : List ℕ
+gate_open = 0 ∷ 0 ∷ 0 ∷ 43 ∷ 2 ∷ 0 ∷ 0 ∷ 0 ∷ 0 ∷ 83 ∷ 16 ∷ 192 ∷ 30 ∷ 5 ∷ 161 ∷ 6 ∷ 103 ∷ 97 ∷ 116 ∷ 101 ∷ 45 ∷ 48 ∷ 161 ∷ 6 ∷ 98 ∷ 114 ∷ 111 ∷ 107 ∷ 101 ∷ 114 ∷ 112 ∷ 0 ∷ 1 ∷ 0 ∷ 0 ∷ 96 ∷ 0 ∷ 255 ∷ 112 ∷ 0 ∷ 0 ∷ 234 ∷ 96 ∷ []
+
+abbrev container_open : List ℕ
+container_open = 0 ∷ 0 ∷ 0 ∷ 26 ∷ 2 ∷ 0 ∷ 0 ∷ 0 ∷ 0 ∷ 83 ∷ 16 ∷ 192 ∷ 13 ∷ 4 ∷ 161 ∷ 1 ∷ 99 ∷ 64 ∷ 112 ∷ 0 ∷ 1 ∷ 0 ∷ 0 ∷ 96 ∷ 255 ∷ 255 ∷ []
+
+abbrev open_ok : List ℕ
+open_ok = 1 ∷ 0 ∷ 0 ∷ 0 ∷ 0 ∷ 0 ∷ 5 ∷ 0 ∷ 10 ∷ 0 ∷ 41 ∷ 0 ∷ 206 ∷ []
+
+abbrev let_in : History
+let_in =
+    Call (Read 0 Up 65536 (got.Bytes 16) outcome) ∷ Call (Accept accepted.NotYet) ∷ Call (Now 5)
+    ∷ Call (Write 0 Up init (put.Took 27)) ∷ welcomed
+
+abbrev answering : History
+answering =
+    Call (Read 0 Up 65536 (got.Bytes 8) amqp_header) ∷ Call (Accept accepted.NotYet) ∷ Call (Now 6)
+    ∷ Call (Write 0 Up amqp_header (put.Took 8)) ∷ let_in
+
+abbrev opened : History
+opened =
+    Call (Read 0 Client 65536 got.NotYet []) ∷ Call (Read 0 Up 65536 (got.Bytes 26) container_open) ∷ Call (Accept accepted.NotYet) ∷ Call (Now 7)
+    ∷ Call (Write 0 Up gate_open (put.Took 43)) ∷ answering
+
+then_the_header_goes : next words two_pairs let_in ≡ Do (AskWrite 0 Up amqp_header)
+unfolding all_open both_open
+then_the_header_goes = refl
+
+then_the_open_goes : next words two_pairs answering ≡ Do (AskWrite 0 Up gate_open)
+unfolding all_open both_open
+then_the_open_goes = refl
+
+what_waited_is_taken_up : next words two_pairs opened ≡ Settle 0
+unfolding all_open both_open
+what_waited_is_taken_up = refl
+
+then_the_client_is_let_in : next words two_pairs (TakeUp 0 ∷ opened) ≡ Do (AskWrite 0 Client open_ok)
+unfolding all_open both_open
+then_the_client_is_let_in = refl
 
 -- a client that sends nothing has 10,000 milliseconds
 
 abbrev mute : History
 mute = Call (Read 0 Client 65536 got.NotYet []) ∷ joined
 
-not_late_yet : next pair_words two_pairs (silent 9999 mute) ≡ Do AskIdle
+not_late_yet : next words two_pairs (silent 9999 mute) ≡ Do AskIdle
 unfolding all_open
 not_late_yet = refl
 
-then_late : next pair_words two_pairs (silent 10000 mute) ≡ Do (AskShut 0 Client)
+then_late : next words two_pairs (silent 10000 mute) ≡ Do (AskShut 0 Client)
 unfolding all_open
 then_late = refl
 
 -- want of memory at the accept, or at the read with which the header is whole: nothing was said, and nothing is
 
-refused_at_once : next pair_words two_pairs (Refuse 0 ∷ joined) ≡ Do (AskShut 0 Client)
+refused_at_once : next words two_pairs (Refuse 0 ∷ joined) ≡ Do (AskShut 0 Client)
 unfolding all_open
 refused_at_once = refl
 
-silent_before_the_header : next pair_words two_pairs (RunOut 0 Taking 1 ∷ second_piece) ≡ Do (AskShut 0 Client)
+silent_before_the_header : next words two_pairs (RunOut 0 Taking 1 ∷ second_piece) ≡ Do (AskShut 0 Client)
 unfolding all_open
 silent_before_the_header = refl
 
@@ -244,24 +366,24 @@ silent_before_the_header = refl
 abbrev no_memory : List ℕ
 no_memory = 1 ∷ 0 ∷ 0 ∷ 0 ∷ 0 ∷ 0 ∷ 20 ∷ 0 ∷ 10 ∷ 0 ∷ 50 ∷ 1 ∷ 250 ∷ 9 ∷ 78 ∷ 79 ∷ 95 ∷ 77 ∷ 69 ∷ 77 ∷ 79 ∷ 82 ∷ 89 ∷ 0 ∷ 0 ∷ 0 ∷ 0 ∷ 206 ∷ []
 
-then_no_memory : next pair_words two_pairs (RunOut 0 Taking 3 ∷ crossed) ≡ Do (AskWrite 0 Client no_memory)
+then_no_memory : next words two_pairs (RunOut 0 Taking 3 ∷ crossed) ≡ Do (AskWrite 0 Client no_memory)
 unfolding all_open
 then_no_memory = refl
 
-then_the_strained_is_shut : next pair_words two_pairs (Call (Write 0 Client no_memory (put.Took 28)) ∷ RunOut 0 Taking 3 ∷ crossed) ≡ Do (AskShut 0 Client)
+then_the_strained_is_shut : next words two_pairs (Call (Write 0 Client no_memory (put.Took 28)) ∷ RunOut 0 Taking 3 ∷ crossed) ≡ Do (AskShut 0 Client)
 unfolding all_open
 then_the_strained_is_shut = refl
 
 -- the greatest frame that a client takes: the least that it can agree to, and then what it agreed to, unless its tune-ok was passed over
 
-the_least_at_first : limit_in (steps_of (journal 0 crossed)) ≡ 4096
+the_least_at_first : limit_in (steps_of shared (journal 0 crossed)) ≡ 4096
 unfolding all_open
 the_least_at_first = refl
 
-then_the_agreed : limit_in (steps_of (journal 0 tuned)) ≡ 131072
+then_the_agreed : limit_in (steps_of shared (journal 0 tuned)) ≡ 131072
 unfolding all_open
 then_the_agreed = refl
 
-still_the_least : limit_in (steps_of (journal 0 (RunOut 0 Taking 1 ∷ tuned))) ≡ 4096
+still_the_least : limit_in (steps_of shared (journal 0 (RunOut 0 Taking 1 ∷ tuned))) ≡ 4096
 unfolding all_open
 still_the_least = refl

@@ -1,3 +1,3 @@
-pub mod Clients
 mod Examples
 pub mod Idles
+pub mod Reached

@@ -10,36 +10,43 @@ use Rattle.gate_turn_laws.specs.Laws.{KeepsTurns}
 use Rattle.gate_turn_laws.specs.Lines.{told_lines}
 use Rattle.gate_turn_laws.specs.Log.{IsPlain, IsWholeRun}
 use Rattle.gate_turn_laws.specs.Quiet.{IdlesAtRest, IdlesInSilence}
+use Rattle.gate_model.specs.Asked.{AreCalledFor, GoesWhenDue}
 use Rattle.gate_model.specs.Frames.{FitsClients}
 use Rattle.gate_model.specs.Picks.{ArePicks}
+use Rattle.gate_model.specs.Setup.{SetupText}
+use Rattle.gate_model.specs.Waiting.{EndsWhenSettled, OpensWhenOpened}
 use Rattle.gate_pair.specs.Answers.{IsAnswered}
 use Rattle.gate_pair.specs.Lawful.{AreLawful}
 use Rattle.gate_pair.specs.Meaning.{pair_words, steps_of}
 use Rattle.gate_pair.specs.Times.{KeepsTimes}
-use Rattle.gate_laws.specs.Clients.{AsksClients}
 
--- what holds of the entries of each pair
-pub record IsLawfulPair (h : List Entry) : Type 0 where
+-- what holds of the entries of each pair, in a run whose pairs share s
+pub record IsLawfulPair (s : SetupText) (h : List Entry) : Type 0 where
   -- each stands where what came before it allows it, and what goes is what is due first
-  pub entries : AreLawful h
-  pub picks : ArePicks (steps_of h)
-  -- its client took what answers what it sent
-  pub answers : IsAnswered h
-  -- no frame that goes to it passes its limit
-  pub frames : FitsClients (steps_of h)
-  -- heartbeats go, and its end is shut, where time or another cause makes that due
-  pub times : KeepsTimes h
+  pub entries : AreLawful s h
+  pub picks : ArePicks (steps_of s h)
+  -- each end took what it was sent, and its client what answers it and tells what happened upstream
+  pub answers : IsAnswered s h
+  -- a client is told of the end of its connection, and of its begin, once the container is through
+  pub ends : EndsWhenSettled (steps_of s h)
+  pub opens : OpensWhenOpened (steps_of s h)
+  -- the container is sent what was called for, and a close where that may go
+  pub called : AreCalledFor (steps_of s h)
+  pub goes : GoesWhenDue (steps_of s h)
+  -- no frame that goes to the client passes its limit
+  pub frames : FitsClients (steps_of s h)
+  -- heartbeats and empty frames go, and each end is shut, where time or another cause makes that due
+  pub times : KeepsTimes s h
 
-pub record IsLawfulRun (c : Limits) (m : History) : Type 0 where
-  pub pairs : (p : ℕ) → IsLawfulPair (journal p m)
-  -- no connection is asked for, and calls are of clients' ends alone
-  pub clients : AsksClients (calls m)
-  -- the turns, the end of the service, its limits and its report
-  pub turns : KeepsTurns pair_words c m
-  pub lines : report pair_words m ≡ told_lines pair_words false m
+pub record IsLawfulRun (s : SetupText) (c : Limits) (m : History) : Type 0 where
+  pub pairs : (p : ℕ) → IsLawfulPair s (journal p m)
+  -- the turns, the end of the service, its limits and its report; a pair's connection upstream is
+  -- asked for once, and its end read, written to and shut only after that answered
+  pub turns : KeepsTurns (pair_words s) c m
+  pub lines : report (pair_words s) m ≡ told_lines (pair_words s) false m
   -- no idle turn leaves anything due, and what is to be read was read dry
-  pub rests : IdlesAtRest pair_words c m
-  pub silent : IdlesInSilence pair_words m
+  pub rests : IdlesAtRest (pair_words s) c m
+  pub silent : IdlesInSilence (pair_words s) m
   -- where no pair ran out of memory and no sink failed, and nothing more comes, the calls alone are
   -- a whole run: each is the next one after those before it, and none comes after the last
-  pub alone : IsPlain m → next pair_words c m ≡ Done → IsWholeRun pair_words c (calls m)
+  pub alone : IsPlain m → next (pair_words s) c m ≡ Done → IsWholeRun (pair_words s) c (calls m)

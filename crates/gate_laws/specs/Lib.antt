@@ -1,3 +1,2 @@
-pub mod Clients
 pub mod Laws
 pub mod Words

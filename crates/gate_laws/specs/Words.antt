@@ -1,3 +1,2 @@
 -- The words of this crate, from one place.
-pub use Rattle.gate_laws.specs.Clients.{AskedOfClient, AsksClients}
 pub use Rattle.gate_laws.specs.Laws.{IsLawfulPair, IsLawfulRun}

@@ -1,102 +1,131 @@
-//! The laws of the gateway's runs: what holds of any history of pairs of `gate_pair` in which each
-//! mark is the one that comes next. The laws of turns and those of a pair's entries meet here, and
-//! nowhere else. Each law is a function without parameters, whose clauses state it; a caller has the
-//! law by calling it.
+//! The laws of the gateway's runs: what holds of any history of pairs of `gate_pair`, which all
+//! share a set-up, in which each mark is the one that comes next. The laws of turns and those of a
+//! pair's entries meet here, and nowhere else. Each law is a function without parameters, whose
+//! clauses state it; a caller has the law by calling it.
 #![tactic(auto)]
 
 ghost use Rattle.std.specs.Prelude.{◌≡◌, ℕ, false, Option, Some, List};
+ghost use Rattle.gate_model.specs.Asked.{AreCalledFor, GoesWhenDue};
 ghost use Rattle.gate_model.specs.Frames.{FitsClients};
 ghost use Rattle.gate_model.specs.Picks.{ArePicks};
+ghost use Rattle.gate_model.specs.Setup.{SetupText};
+ghost use Rattle.gate_model.specs.Waiting.{EndsWhenSettled, OpensWhenOpened};
 ghost use Rattle.gate_pair.specs.Answers.{IsAnswered};
 ghost use Rattle.gate_pair.specs.Lawful.{AreLawful};
 ghost use Rattle.gate_pair.specs.Meaning.{pair_words, steps_of};
 ghost use Rattle.gate_pair.specs.Times.{KeepsTimes};
 ghost use Rattle.gate_runs.specs.declared.limits.Limits.{Limits};
 ghost use Rattle.gate_runs.specs.Journal.{journal};
-ghost use Rattle.gate_runs.specs.Marks.{History, calls};
+ghost use Rattle.gate_runs.specs.Marks.{History};
 ghost use Rattle.gate_runs.specs.Serving.{Follows};
 ghost use Rattle.gate_turn_laws.specs.Quiet.{IdlesAtRest, IdlesInSilence};
-ghost use Rattle.gate_laws.specs.Clients.{AsksClients};
 ghost use Rattle.gate_laws.specs.Laws.{IsLawfulRun};
 
-/// The entries of each pair are lawful: what is offered is the unit in progress or the one that goes
-/// next, whole; an end is shut where that is due. What goes out is what is due first, and units come
-/// as they are awaited.
+/// The entries of each pair are lawful: an end is read where it is open and a unit of it is awaited.
+/// What is offered to it is the unit in progress or the one that goes next, whole; it is shut where
+/// that is due. The connection upstream is asked for once, where a connection.open waits for it.
+/// What goes out is what is due first, and units come as they are awaited.
 pub fn entries_are_lawful()
-    ensures lawful { (c : Limits) (m : History) → Follows pair_words c m → (p : ℕ)
-        → AreLawful (journal p m) }
-    ensures picks { (c : Limits) (m : History) → Follows pair_words c m → (p : ℕ)
-        → ArePicks (steps_of (journal p m)) }
+    ensures lawful { (s : SetupText) (c : Limits) (m : History) → Follows (pair_words s) c m → (p : ℕ)
+        → AreLawful s (journal p m) }
+    ensures picks { (s : SetupText) (c : Limits) (m : History) → Follows (pair_words s) c m → (p : ℕ)
+        → ArePicks (steps_of s (journal p m)) }
 {
     gate_turn_laws::entries_are_asked();
     gate_pair::entries_are_lawful();
     gate_pair::entries_give_picks();
 }
 
-/// A client's units are those with which its bytes begin, however these were cut. What it took are
-/// the bytes of the units that were sent, but for what is left of the one in progress. Without
-/// heartbeats, they and the ones that are due are the replies to its units; after the pair ran out of
-/// memory those since then are the last units. While its end takes bytes and none are offered, all of
-/// them went, and no heartbeat is due.
+/// The units of each end are those with which its bytes begin, however these were cut. What an end
+/// took are the bytes of the units that were sent to it, but for what is left of the one in
+/// progress. Without heartbeats, those to the client and the ones that are due are the replies to
+/// its units and to what happened upstream; after the pair ran out of memory those since then are
+/// the last units. While an end takes bytes and none are offered, all that may go went, and no
+/// heartbeat and no empty frame is due.
 pub fn clients_are_answered()
-    ensures { (c : Limits) (m : History) → Follows pair_words c m → (p : ℕ)
-        → IsAnswered (journal p m) }
+    ensures { (s : SetupText) (c : Limits) (m : History) → Follows (pair_words s) c m → (p : ℕ)
+        → IsAnswered s (journal p m) }
 {
     gate_turn_laws::entries_are_asked();
     gate_pair::clients_are_answered();
+}
+
+/// A connection.close of the gateway or a close-ok goes only where nothing of the upstream end is
+/// waited for: the pair ran out of memory, the end isn't open, or the container's close came.
+/// connection.open-ok goes only after the container's open.
+pub fn replies_wait()
+    ensures ends { (s : SetupText) (c : Limits) (m : History) → Follows (pair_words s) c m → (p : ℕ)
+        → EndsWhenSettled (steps_of s (journal p m)) }
+    ensures opens { (s : SetupText) (c : Limits) (m : History) → Follows (pair_words s) c m → (p : ℕ)
+        → OpensWhenOpened (steps_of s (journal p m)) }
+{
+    entries_are_lawful();
+    gate_model::replies_wait();
+}
+
+/// The units of the opening that were sent to a container, and those that are due, are those that
+/// were called for: by the connection upstream, the wanted mechanism, a login that succeeded and the
+/// container's header; in their order, and each at most once. A close goes at most once, after the
+/// open, to a connection that is closing, with the condition that the first closing event says, and
+/// nothing goes after it.
+pub fn containers_are_asked()
+    ensures called { (s : SetupText) (c : Limits) (m : History) → Follows (pair_words s) c m → (p : ℕ)
+        → AreCalledFor (steps_of s (journal p m)) }
+    ensures goes { (s : SetupText) (c : Limits) (m : History) → Follows (pair_words s) c m → (p : ℕ)
+        → GoesWhenDue (steps_of s (journal p m)) }
+{
+    entries_are_lawful();
+    gate_model::containers_are_asked();
 }
 
 /// No frame that goes to a client passes the client's limit when its first byte is sent: 4,096 bytes
 /// until a connection.tune-ok that is neither refused nor passed over, and from then on the frame-max
 /// that this agreed to.
 pub fn frames_fit_clients()
-    ensures { (c : Limits) (m : History) → Follows pair_words c m → (p : ℕ)
-        → FitsClients (steps_of (journal p m)) }
+    ensures { (s : SetupText) (c : Limits) (m : History) → Follows (pair_words s) c m → (p : ℕ)
+        → FitsClients (steps_of s (journal p m)) }
 {
     gate_turn_laws::entries_are_asked();
     gate_pair::frames_fit_clients();
 }
 
-/// A heartbeat goes next exactly where one may. A client's end is to be shut exactly for one of the
-/// causes of `ShutAt`, among them that no connection.open came within 10,000 ms of the accept and
-/// that the closing event is 10,000 ms old.
+/// A heartbeat goes next to the client exactly where one may, and an empty frame to the container.
+/// Each end is to be shut exactly for one of its causes, those of `ShutAt` and of `ShutUpAt`. Among
+/// them is that no connection.open came within 10,000 ms of the accept, and that the closing event is
+/// 10,000 ms old.
 pub fn times_are_kept()
-    ensures { (c : Limits) (m : History) → Follows pair_words c m → (p : ℕ)
-        → KeepsTimes (journal p m) }
+    ensures { (s : SetupText) (c : Limits) (m : History) → Follows (pair_words s) c m → (p : ℕ)
+        → KeepsTimes s (journal p m) }
 {
     gate_turn_laws::entries_are_asked();
     gate_pair::times_are_kept();
 }
 
-/// Reads, writes and shuts are of clients' ends alone. No connection is asked for.
-pub fn clients_are_asked()
-    ensures { (c : Limits) (m : History) → Follows pair_words c m → AsksClients (calls m) }
-{
-    gate_turn_laws::entries_are_asked();
-    gate_turn_laws::live_pairs_are_asked();
-}
-
-/// At each idle all is at rest: each live pair's client was read dry in this turn if a unit of it is
-/// awaited, what is offered was stuck, nothing can be taken up, and no end is to be shut. No further
-/// client can come, and nothing moved.
+/// At each idle all is at rest: each end of a live pair of which a unit is awaited was read dry in
+/// this turn, what is offered was stuck, nothing can be taken up, and no end is to be shut. No further
+/// client can come, and nothing moved. An end that was opened in this turn is an exception, and in a
+/// turn in which the connect failed the client's end and what of it waited.
 pub fn idle_is_at_rest()
-    ensures rests { (c : Limits) (m : History) → Follows pair_words c m
-        → IdlesAtRest pair_words c m }
-    ensures silent { (c : Limits) (m : History) → Follows pair_words c m
-        → IdlesInSilence pair_words m }
+    ensures rests { (s : SetupText) (c : Limits) (m : History) → Follows (pair_words s) c m
+        → IdlesAtRest (pair_words s) c m }
+    ensures silent { (s : SetupText) (c : Limits) (m : History) → Follows (pair_words s) c m
+        → IdlesInSilence (pair_words s) m }
 {
     gate_turn_laws::idle_is_at_rest();
+    gate_pair::entries_give_picks();
 }
 
 /// All the laws together: those of each pair, and those of the turns.
 pub fn runs_are_lawful()
-    ensures { (c : Limits) (m : History) → Follows pair_words c m → IsLawfulRun c m }
+    ensures { (s : SetupText) (c : Limits) (m : History) → Follows (pair_words s) c m
+        → IsLawfulRun s c m }
 {
     entries_are_lawful();
     clients_are_answered();
+    replies_wait();
+    containers_are_asked();
     frames_fit_clients();
     times_are_kept();
-    clients_are_asked();
     idle_is_at_rest();
     gate_turn_laws::runs_keep_turns();
     gate_turn_laws::report_follows_marks();

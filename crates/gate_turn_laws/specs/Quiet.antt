@@ -3,11 +3,11 @@ use Rattle.std.specs.Prelude.{◌≡◌, ◌⊎◌, ℕ, Bool, true, false, not,
 use Rattle.gate_outside.specs.declared.ports.End.{End}
 use Rattle.gate_outside.specs.declared.ports.End.TheVariants.{Client, Up}
 use Rattle.gate_outside.specs.declared.ports.Accepted.TheVariants as accepted
-use Rattle.gate_outside.specs.declared.ports.Linked.{Linked}
 use Rattle.gate_outside.specs.declared.ports.Linked.TheVariants as linked
 use Rattle.gate_outside.specs.declared.log.LogEntry.TheVariants.{Accept, Idle, Now}
 use Rattle.gate_relay.specs.Entries.{Entry, Moment, Dry, Settled, Joined, Stuck, is_out_of_memory}
 use Rattle.gate_relay.specs.Guards.{reads, takes_up, connects, offers, shuts}
+use Rattle.gate_relay.specs.Relayed.{IsRelayed}
 use Rattle.gate_relay.specs.RelayWords.{RelayWords}
 use Rattle.gate_runs.specs.declared.limits.Limits.{Limits}
 use Rattle.gate_runs.specs.Marks.{History, Call}
@@ -31,15 +31,14 @@ pub record IsSteady (w : RelayWords) : Type 0 where
       → w.offer end (Stuck stuck bytes ∷ h) ≡ w.offer end h
   pub settled : (h : List Entry) → is_out_of_memory h ≡ false → w.takes_up (Settled ∷ h) ≡ false
 
--- by a take-up no end comes to be awaited, and by the connect at most that upstream, where nothing
--- more can be taken up
+-- by a take-up no end comes to be awaited, in entries that a loop may make; and by a connect that
+-- opens an end at most that one, and nothing more can be taken up
 pub record WakesNone (w : RelayWords) : Type 0 where
-  pub settled : (end : End) (h : List Entry) → w.awaits end (Settled ∷ h) ≡ true
+  pub settled : (end : End) (h : List Entry) → IsRelayed w h → w.awaits end (Settled ∷ h) ≡ true
       → w.awaits end h ≡ true
-  pub client : (answer : Linked) (h : List Entry) → w.awaits Client (Joined answer ∷ h) ≡ true
+  pub client : (h : List Entry) → w.awaits Client (Joined linked.Ok ∷ h) ≡ true
       → w.awaits Client h ≡ true
-  pub takes : (answer : Linked) (h : List Entry) → w.takes_up (Joined answer ∷ h) ≡ true
-      → w.takes_up h ≡ true
+  pub takes : (h : List Entry) → w.takes_up (Joined linked.Ok ∷ h) ≡ true → w.takes_up h ≡ true
 
 -- ---- a quiet pair
 
@@ -69,12 +68,12 @@ pub record IsQuiet (w : RelayWords) (h : List Entry) : Type 0 where
       → InTurn (Stuck end bytes) h
   pub stays : (end : End) → shuts w end h ≡ false
 
--- the same of words that don't wake: an end alone that was opened in this turn, upstream, is an
--- exception
+-- the same of words that don't wake: an end that was opened in this turn, upstream, is an
+-- exception; and where the connect failed in it, so are the client's end and what of it waited
 pub record IsSilent (w : RelayWords) (h : List Entry) : Type 0 where
-  pub client : reads w Client h ≡ true → InTurn (Dry Client) h
+  pub client : reads w Client h ≡ true → InTurn (Dry Client) h ⊎ InTurn (Joined linked.Failed) h
   pub up : reads w Up h ≡ true → InTurn (Dry Up) h ⊎ InTurn (Joined linked.Ok) h
-  pub taken : takes_up w h ≡ false
+  pub taken : takes_up w h ≡ true → InTurn (Joined linked.Failed) h
 
 -- ---- idle
 
