@@ -17,10 +17,12 @@ fn words_of(rt: &HostRuntime) -> io::Result<Vec<String>> {
     Ok(words)
 }
 
-/// The address to listen at and the path of the capture, where the words are a command line that gives them.
+/// The address to listen at, that of containers and the path of the capture, where the words are a command line that gives
+/// them.
 #[derive(Drop)]
 struct Places {
     listen: Option<ByteText>,
+    upstream: Option<ByteText>,
     capture: Option<ByteText>,
 }
 
@@ -29,17 +31,23 @@ fn places_of(rt: &HostRuntime, words: &Vec<String>) -> Result<Places, Memory> {
         Ok(
             Asked::Serve {
                 limits: _,
+                setup: _,
                 listen,
+                upstream,
                 capture,
             },
         ) => Ok(Places {
             listen: Some(listen),
+            upstream: Some(upstream),
             capture,
         }),
-        Ok(Asked::Replay | Asked::ShowCapture) | Err(_) => Ok(Places {
-            listen: None,
-            capture: None,
-        }),
+        Ok(Asked::Replay | Asked::Show091 | Asked::Show10 | Asked::ShowCapture) | Err(_) => Ok(
+            Places {
+                listen: None,
+                upstream: None,
+                capture: None,
+            },
+        ),
     }
 }
 
@@ -55,7 +63,13 @@ fn text_of(place: &Option<ByteText>) -> Option<&str> {
 fn run(rt: &HostRuntime, words: &Vec<String>) -> Result<Status, Memory> {
     let places = places_of(rt, words)?;
     let outbox = Outbox::new(rt.alloc(), StandardOut::new(rt.stdout()))?;
-    let mut ports = RealPorts::new(rt, rt.alloc(), &outbox, text_of(&places.listen), None)?;
+    let mut ports = RealPorts::new(
+        rt,
+        rt.alloc(),
+        &outbox,
+        text_of(&places.listen),
+        text_of(&places.upstream),
+    )?;
     let mut out = OutboxSink::new(&outbox);
     let file = CaptureFile::create(rt, text_of(&places.capture));
     let mut capture = CaptureSink {
@@ -88,7 +102,8 @@ fn unread(error: io::Error) -> Status {
 
 /// What the program can be asked.
 const USAGE: &str = "\
-usage: amqp_gate serve [--listen ADDRESS] [--pairs N] [--turns N] [--capture FILE]
+usage: amqp_gate serve [--listen ADDRESS] [--upstream ADDRESS] [--name NAME] [--host HOST]
+           [--vhost VHOST] [--pairs N] [--turns N] [--capture FILE]
        amqp_gate replay < CAPTURE
        amqp_gate show capture < CAPTURE";
 

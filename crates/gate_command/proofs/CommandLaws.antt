@@ -3,13 +3,15 @@ use Rattle.std.proofs.Common.{◌≡◌, ℕ, suc, zero, ◌-◌, ◌<◌, ◌�
 use Rattle.std.specs.Prelude.{◌≢◌, codes, bytes_eq, unwrap_or, IfSome}
 use Rattle.std.specs.List.{AllByRecursion}
 use Rattle.std.proofs.lemmas.Slice.Eq.{bytes_eq-Decides}
-use Rattle.gate_runs.specs.Form as form
+use Rattle.gate_model.specs.Setup.{IsHost, IsName}
 use Rattle.gate_command.specs.declared.words.Asked.{Asked}
-use Rattle.gate_command.specs.declared.words.Asked.TheVariants.{Replay, ShowCapture}
+use Rattle.gate_command.specs.declared.words.Asked.TheVariants.{Replay}
+use Rattle.gate_command.specs.declared.words.Format.{Format}
+use Rattle.gate_command.specs.declared.words.Format.TheVariants as format
 use Rattle.gate_command.specs.declared.words.Misplaced.{Misplaced}
 use Rattle.gate_command.specs.declared.words.Misplaced.TheVariants.{Word, End}
-use Rattle.gate_command.specs.Command.{Setting, listen_at, pair_count, turn_count, capture_to, Given, joined, apart, setting_of, IsInForm, IsSettable, Settings, nothing_given, with_setting, settings_with, asked_of, AreInForm, IsService, IsCommand, IsWithin, Asks, CanStand, CeasesAt}
-use Rattle.gate_command.specs.Reading.{Request, serving, replaying, showing, asked_by, between, last_in, shown_in, served_in, after_first, words_in, command_in}
+use Rattle.gate_command.specs.Command.{Setting, listen_at, upstream_at, known_as, host_named, vhost_named, pair_count, turn_count, capture_to, Given, joined, apart, setting_of, IsInForm, IsSettable, Settings, nothing_given, with_setting, settings_with, asked_of, AreInForm, IsService, IsCommand, IsWithin, Asks, CanStand, CeasesAt, format_text, shown_as}
+use Rattle.gate_command.specs.Reading.{Request, serving, replaying, showing, asked_by, between, last_in, shown_in, served_in, after_first, words_in, command_in, format_named, format_in}
 use Rattle.gate_command.proofs.OptionLaws.{same_bytes}
 use Rattle.gate_command.proofs.WordLaws.{AreOptions}
 use Rattle.gate_command.proofs.LineLaws.{words_in-is, is-words_in, Fits, words_in-place, words_in-stays}
@@ -25,11 +27,33 @@ replay = codes "replay"
 abbrev show : List ℕ
 show = codes "show"
 
-abbrev capture : List ℕ
-capture = codes "capture"
-
 unlike : (xs ys : List ℕ) → bytes_eq xs ys ≡ false → xs ≢ ys
 unlike xs ys isnt same = let yes = (bytes_eq-Decides xs ys).1 same in absurd cc
+
+-- a format has its name, and no other word names one
+named_is : (word : List ℕ) (what : Format) → format_named word ≡ Some what → word ≡ format_text what
+unfolding format_named
+named_is word what h = at (bytes_eq word (format_text format.Amqp091)) (bytes_eq word (format_text format.Amqp10)) (bytes_eq word (format_text format.Capture)) refl refl refl h
+  where
+    is : (known : Format) → bytes_eq word (format_text known) ≡ true → known ≡ what → word ≡ format_text what
+    is known equal same = same_bytes word (format_text known) equal ∙ ap format_text same
+
+    at : (a b c : Bool) → bytes_eq word (format_text format.Amqp091) ≡ a → bytes_eq word (format_text format.Amqp10) ≡ b
+        → bytes_eq word (format_text format.Capture) ≡ c
+        → cond a (Some format.Amqp091) (cond b (Some format.Amqp10) (cond c (Some format.Capture) None)) ≡ Some what → word ≡ format_text what
+    at true b c x y z e = is format.Amqp091 x cc
+    at false true c x y z e = is format.Amqp10 y cc
+    at false false true x y z e = is format.Capture z cc
+    at false false false x y z e = absurd cc
+
+named_again : (what : Format) → format_named (format_text what) ≡ Some what
+unfolding format_named
+named_again format.Amqp091 = refl
+named_again format.Amqp10 = refl
+named_again format.Capture = refl
+
+unnamed : (word : List ℕ) → format_named word ≡ None → (what : Format) → word ≢ format_text what
+unnamed word none what same = let again = ap format_named same ∙ named_again what in absurd (cc (none, again))
 
 -- `serve` and its options are a command line
 whole : (words : List (List ℕ)) (t : Settings) → AreOptions nothing_given words t → IsCommand (serve ∷ words) (asked_of t)
@@ -60,12 +84,12 @@ parts words asked (inl command) = record {
   meant = command.meant;
 }
 parts words asked (inr (inl (e, a))) = absurd cc
-parts words asked (inr (inr (e, a))) = absurd cc
+parts words asked (inr (inr (what, e, a))) = absurd cc
 
 no_parts : (asked : Asked) → ¬ IsCommand [] asked
 no_parts asked (inl command) = let e = command.spelled in absurd cc
 no_parts asked (inr (inl (e, a))) = absurd cc
-no_parts asked (inr (inr (e, a))) = absurd cc
+no_parts asked (inr (inr (what, e, a))) = absurd cc
 
 -- one that begins with another word is that command
 no_service : (words : List (List ℕ)) (asked : Asked) (word : List ℕ) → word ≢ serve → ¬ IsService (word ∷ words) asked
@@ -74,35 +98,40 @@ no_service words asked word other command = let e = command.spelled in absurd (o
 replay_alone : (word : List ℕ) (words : List (List ℕ)) (asked : Asked) → ¬ IsCommand (replay ∷ word ∷ words) asked
 replay_alone word words asked (inl command) = absurd (no_service (word ∷ words) asked replay (λ e. absurd cc) command)
 replay_alone word words asked (inr (inl (e, a))) = absurd cc
-replay_alone word words asked (inr (inr (e, a))) = absurd cc
+replay_alone word words asked (inr (inr (what, e, a))) = absurd cc
 
-show_other : (word : List ℕ) (words : List (List ℕ)) (asked : Asked) → word ≢ capture → ¬ IsCommand (show ∷ word ∷ words) asked
+show_other : (word : List ℕ) (words : List (List ℕ)) (asked : Asked) → ((what : Format) → word ≢ format_text what) → ¬ IsCommand (show ∷ word ∷ words) asked
 show_other word words asked other (inl command) = absurd (no_service (word ∷ words) asked show (λ e. absurd cc) command)
 show_other word words asked other (inr (inl (e, a))) = absurd cc
-show_other word words asked other (inr (inr (e, a))) = absurd (other cc)
+show_other word words asked other (inr (inr (what, e, a))) = absurd (other what cc)
 
 show_alone : (asked : Asked) → ¬ IsCommand (show ∷ []) asked
 show_alone asked (inl command) = absurd (no_service [] asked show (λ e. absurd cc) command)
 show_alone asked (inr (inl (e, a))) = absurd cc
-show_alone asked (inr (inr (e, a))) = absurd cc
+show_alone asked (inr (inr (what, e, a))) = absurd cc
 
-capture_last : (word word' : List ℕ) (words : List (List ℕ)) (asked : Asked) → ¬ IsCommand (show ∷ word ∷ word' ∷ words) asked
-capture_last word word' words asked (inl command) = absurd (no_service (word ∷ word' ∷ words) asked show (λ e. absurd cc) command)
-capture_last word word' words asked (inr (inl (e, a))) = absurd cc
-capture_last word word' words asked (inr (inr (e, a))) = absurd cc
+format_last : (word word' : List ℕ) (words : List (List ℕ)) (asked : Asked) → ¬ IsCommand (show ∷ word ∷ word' ∷ words) asked
+format_last word word' words asked (inl command) = absurd (no_service (word ∷ word' ∷ words) asked show (λ e. absurd cc) command)
+format_last word word' words asked (inr (inl (e, a))) = absurd cc
+format_last word word' words asked (inr (inr (what, e, a))) = absurd cc
 
 no_command : (word : List ℕ) (words : List (List ℕ)) (asked : Asked) → word ≢ serve → word ≢ replay → word ≢ show → ¬ IsCommand (word ∷ words) asked
 no_command word words asked s r h (inl command) = no_service words asked word s command
 no_command word words asked s r h (inr (inl (e, a))) = absurd (r cc)
-no_command word words asked s r h (inr (inr (e, a))) = absurd (h cc)
+no_command word words asked s r h (inr (inr (what, e, a))) = absurd (h cc)
 
 -- ---- words that are read are a command line, which asks for what was read
 
 replay_asks : Asks (replay ∷ []) Replay
 replay_asks = record { command = inr (inl (refl, refl)); within = record { one_line = (refl, tt); short = omega arith } }
 
-show_asks : Asks (show ∷ capture ∷ []) ShowCapture
-show_asks = record { command = inr (inr (refl, refl)); within = record { one_line = (refl, (refl, tt)); short = omega arith } }
+show_asks : (what : Format) → Asks (show ∷ format_text what ∷ []) (shown_as what)
+show_asks what = record { command = inr (inr (what, refl, refl)); within = fits what }
+  where
+    fits : (what : Format) → IsWithin (show ∷ format_text what ∷ [])
+    fits format.Amqp091 = record { one_line = (refl, (refl, tt)); short = omega arith }
+    fits format.Amqp10 = record { one_line = (refl, (refl, tt)); short = omega arith }
+    fits format.Capture = record { one_line = (refl, (refl, tt)); short = omega arith }
 
 serve_is : (words : List (List ℕ)) (r : Result Settings Misplaced) (request : Request) → words_in 2 65536 (between nothing_given) words ≡ r → served_in r ≡ Ok request
     → Asks (serve ∷ words) (asked_by request)
@@ -121,16 +150,17 @@ replay_is (word ∷ words) request h = absurd cc
 
 show_is : (words : List (List ℕ)) (request : Request) → shown_in words ≡ Ok request → Asks (show ∷ words) (asked_by request)
 show_is [] request h = absurd cc
-show_is (word ∷ words) request h = at (bytes_eq word capture) words refl h
+show_is (word ∷ words) request h = at (format_named word) words refl h
   where
-    at : (t : Bool) (rest : List (List ℕ)) → bytes_eq word capture ≡ t → cond {A = Result Request Misplaced} t (last_in 3 showing rest) (Err (Word 2)) ≡ Ok request
+    at : (named : Option Format) (rest : List (List ℕ)) → format_named word ≡ named → format_in named rest ≡ Ok request
         → Asks (show ∷ word ∷ rest) (asked_by request)
-    at false rest is e = absurd cc
-    at true (next ∷ rest) is e = absurd cc
-    at true [] is e =
-        let same : showing ≡ request = cc in
-        let first : word ≡ capture = same_bytes word capture is in
-        subst (λ (r : Request). Asks (show ∷ word ∷ []) (asked_by r)) same (subst (λ (w : List ℕ). Asks (show ∷ w ∷ []) ShowCapture) (sym first) show_asks)
+    at None rest is e = absurd cc
+    at (Some what) (next ∷ rest) is e = absurd cc
+    at (Some what) [] is e =
+        let same : showing what ≡ request = cc in
+        let first : word ≡ format_text what = named_is word what is in
+        subst (λ (r : Request). Asks (show ∷ word ∷ []) (asked_by r)) same
+        (subst (λ (w : List ℕ). Asks (show ∷ w ∷ []) (shown_as what)) (sym first) (show_asks what))
 
 pub command_in-is : (words : List (List ℕ)) (request : Request) → command_in words ≡ Ok request → Asks words (asked_by request)
 unfolding command_in
@@ -161,9 +191,9 @@ command_in-replay : command_in (replay ∷ []) ≡ Ok replaying
 unfolding command_in
 command_in-replay = refl
 
-command_in-show : command_in (show ∷ capture ∷ []) ≡ Ok showing
+command_in-show : (what : Format) → command_in (show ∷ format_text what ∷ []) ≡ Ok (showing what)
 unfolding command_in
-command_in-show = refl
+command_in-show what = ap (λ (named : Option Format). format_in named []) (named_again what)
 
 serve_read : (words : List (List ℕ)) (asked : Asked) → IsCommand (serve ∷ words) asked → IsWithin (serve ∷ words) → IsRead (serve ∷ words) asked
 serve_read words asked command within =
@@ -181,7 +211,7 @@ read_as (word ∷ words) asked (inl command) within =
     subst (λ (w : List ℕ). IsRead (w ∷ words) asked) (sym first)
     (serve_read words asked (inl (subst (λ (w : List ℕ). IsService (w ∷ words) asked) first command)) (subst (λ (w : List ℕ). IsWithin (w ∷ words)) first within))
 read_as (word ∷ words) asked (inr (inl (e, a))) within = record { request = replaying; reads = ap command_in e ∙ command_in-replay; meant = a }
-read_as (word ∷ words) asked (inr (inr (e, a))) within = record { request = showing; reads = ap command_in e ∙ command_in-show; meant = a }
+read_as (word ∷ words) asked (inr (inr (what, e, a))) within = record { request = showing what; reads = ap command_in e ∙ command_in-show what; meant = a }
 
 pub is-command_in : (words : List (List ℕ)) (asked : Asked) → Asks words asked → IsRead words asked
 is-command_in words asked asks = read_as words asked asks.command asks.within
@@ -260,12 +290,30 @@ replay_stops (word ∷ words) misplaced h =
     first (suc zero) some below = replay_stands (word ∷ words)
     first (suc (suc j)) some below = absurd (omega arith)
 
--- `capture` alone stands behind `show`, and nothing behind it
+-- the name of a format alone stands behind `show`, and nothing behind it
 show_stands : (words : List (List ℕ)) → CanStand 1 (show ∷ words)
-show_stands words = record { begins = record { more = capture ∷ []; asked = ShowCapture; whole = inr (inr (refl, refl)) }; one_line = refl; short = omega arith }
+show_stands words = record {
+  begins = record { more = format_text format.Capture ∷ []; asked = shown_as format.Capture; whole = inr (inr (format.Capture, refl, refl)) };
+  one_line = refl;
+  short = omega arith;
+}
 
-capture_stands : (words : List (List ℕ)) → CanStand 2 (show ∷ capture ∷ words)
-capture_stands words = record { begins = record { more = []; asked = ShowCapture; whole = inr (inr (refl, refl)) }; one_line = refl; short = omega arith }
+format_stands : (what : Format) (words : List (List ℕ)) → CanStand 2 (show ∷ format_text what ∷ words)
+format_stands format.Amqp091 words = record {
+  begins = record { more = []; asked = shown_as format.Amqp091; whole = inr (inr (format.Amqp091, refl, refl)) };
+  one_line = refl;
+  short = omega arith;
+}
+format_stands format.Amqp10 words = record {
+  begins = record { more = []; asked = shown_as format.Amqp10; whole = inr (inr (format.Amqp10, refl, refl)) };
+  one_line = refl;
+  short = omega arith;
+}
+format_stands format.Capture words = record {
+  begins = record { more = []; asked = shown_as format.Capture; whole = inr (inr (format.Capture, refl, refl)) };
+  one_line = refl;
+  short = omega arith;
+}
 
 show_stops : (words : List (List ℕ)) (misplaced : Misplaced) → shown_in words ≡ Err misplaced → CeasesAt (show ∷ words) misplaced
 show_stops [] misplaced h =
@@ -276,36 +324,36 @@ show_stops [] misplaced h =
     first zero some below = absurd (omega arith)
     first (suc zero) some below = show_stands []
     first (suc (suc j)) some below = absurd (omega arith)
-show_stops (word ∷ words) misplaced h = at (bytes_eq word capture) words refl h
+show_stops (word ∷ words) misplaced h = at (format_named word) words refl h
   where
     first : (rest : List (List ℕ)) (j : ℕ) → 1 ≤ j → j < 2 → CanStand j (show ∷ word ∷ rest)
     first rest zero some below = absurd (omega arith)
     first rest (suc zero) some below = show_stands (word ∷ rest)
     first rest (suc (suc j)) some below = absurd (omega arith)
 
-    both : (rest : List (List ℕ)) → word ≡ capture → (j : ℕ) → 1 ≤ j → j < 3 → CanStand j (show ∷ word ∷ rest)
-    both rest is zero some below = absurd (omega arith)
-    both rest is (suc zero) some below = show_stands (word ∷ rest)
-    both rest is (suc (suc zero)) some below = subst (λ (w : List ℕ). CanStand 2 (show ∷ w ∷ rest)) (sym is) (capture_stands rest)
-    both rest is (suc (suc (suc j))) some below = absurd (omega arith)
+    both : (what : Format) (rest : List (List ℕ)) → word ≡ format_text what → (j : ℕ) → 1 ≤ j → j < 3 → CanStand j (show ∷ word ∷ rest)
+    both what rest is zero some below = absurd (omega arith)
+    both what rest is (suc zero) some below = show_stands (word ∷ rest)
+    both what rest is (suc (suc zero)) some below = subst (λ (w : List ℕ). CanStand 2 (show ∷ w ∷ rest)) (sym is) (format_stands what rest)
+    both what rest is (suc (suc (suc j))) some below = absurd (omega arith)
 
-    at : (t : Bool) (rest : List (List ℕ)) → bytes_eq word capture ≡ t → cond {A = Result Request Misplaced} t (last_in 3 showing rest) (Err (Word 2)) ≡ Err misplaced
+    at : (named : Option Format) (rest : List (List ℕ)) → format_named word ≡ named → format_in named rest ≡ Err misplaced
         → CeasesAt (show ∷ word ∷ rest) misplaced
-    at true [] is e = absurd cc
-    at true (next ∷ rest) is e =
+    at (Some what) [] is e = absurd cc
+    at (Some what) (next ∷ rest) is e =
         let same : Word 3 ≡ misplaced = cc in
         subst (CeasesAt (show ∷ word ∷ next ∷ rest)) same (
           omega arith,
           omega arith,
-          λ stands. capture_last word next stands.begins.more stands.begins.asked stands.begins.whole,
-          both (next ∷ rest) (same_bytes word capture is),
+          λ stands. format_last word next stands.begins.more stands.begins.asked stands.begins.whole,
+          both what (next ∷ rest) (named_is word what is),
         )
-    at false rest is e =
+    at None rest is e =
         let same : Word 2 ≡ misplaced = cc in
         subst (CeasesAt (show ∷ word ∷ rest)) same (
           omega arith,
           omega arith,
-          λ stands. show_other word stands.begins.more stands.begins.asked (unlike word capture is) stands.begins.whole,
+          λ stands. show_other word stands.begins.more stands.begins.asked (unnamed word is) stands.begins.whole,
           first rest,
         )
 
@@ -335,8 +383,11 @@ command_in-ceases (word ∷ words) misplaced h = at (bytes_eq word serve) (bytes
         let same : Word 1 ≡ misplaced = cc in
         subst (CeasesAt (word ∷ words)) same (none_stops word words (unlike word serve x) (unlike word replay y) (unlike word show z))
 
--- settings whose numbers are within the options' bounds
-record AreBounded (s : Settings) : Type 0 where
+-- settings whose values may be set
+record AreSettable (s : Settings) : Type 0 where
+  name : IfSome s.name IsName
+  host : IfSome s.host IsHost
+  vhost : IfSome s.vhost (λ vhost. length vhost ≤ 255)
   pairs : IfSome s.pairs (λ n. 1 ≤ n)
   turns : IfSome s.turns (λ n. (1 ≤ n) × (n ≤ 140737488355328))
 
@@ -344,25 +395,46 @@ settable : (g : Given) → IsInForm g → IsSettable (setting_of g)
 settable (joined setting) h = h
 settable (apart setting) h = h.0
 
-bounded_with : (setting : Setting) (s : Settings) → IsSettable setting → AreBounded s → AreBounded (with_setting setting s)
-bounded_with (listen_at address) s h b = record { pairs = b.pairs; turns = b.turns }
-bounded_with (pair_count n) s h b = record { pairs = h.0; turns = b.turns }
-bounded_with (turn_count n) s h b = record { pairs = b.pairs; turns = h }
-bounded_with (capture_to path) s h b = record { pairs = b.pairs; turns = b.turns }
+settable_with : (setting : Setting) (s : Settings) → IsSettable setting → AreSettable s → AreSettable (with_setting setting s)
+settable_with (listen_at address) s h a = record { name = a.name; host = a.host; vhost = a.vhost; pairs = a.pairs; turns = a.turns }
+settable_with (upstream_at address) s h a = record { name = a.name; host = a.host; vhost = a.vhost; pairs = a.pairs; turns = a.turns }
+settable_with (known_as name) s h a = record { name = h.1; host = a.host; vhost = a.vhost; pairs = a.pairs; turns = a.turns }
+settable_with (host_named host) s h a = record { name = a.name; host = h.1; vhost = a.vhost; pairs = a.pairs; turns = a.turns }
+settable_with (vhost_named vhost) s h a = record { name = a.name; host = a.host; vhost = h.1; pairs = a.pairs; turns = a.turns }
+settable_with (pair_count n) s h a = record { name = a.name; host = a.host; vhost = a.vhost; pairs = h.0; turns = a.turns }
+settable_with (turn_count n) s h a = record { name = a.name; host = a.host; vhost = a.vhost; pairs = a.pairs; turns = h }
+settable_with (capture_to path) s h a = record { name = a.name; host = a.host; vhost = a.vhost; pairs = a.pairs; turns = a.turns }
 
-bounded_all : (given : List Given) (s : Settings) → AllByRecursion IsInForm given → AreBounded s → AreBounded (settings_with s given)
-bounded_all [] s h b = b
-bounded_all (g ∷ given) s h b = bounded_all given (with_setting (setting_of g) s) h.1 (bounded_with (setting_of g) s (settable g h.0) b)
+settable_all : (given : List Given) (s : Settings) → AllByRecursion IsInForm given → AreSettable s → AreSettable (settings_with s given)
+settable_all [] s h a = a
+settable_all (g ∷ given) s h a = settable_all given (with_setting (setting_of g) s) h.1 (settable_with (setting_of g) s (settable g h.0) a)
 
 turns_in_form : (turns : Option ℕ) → IfSome turns (λ n. (1 ≤ n) × (n ≤ 140737488355328)) → (1 ≤ unwrap_or turns 140737488355328) × (unwrap_or turns 140737488355328 ≤ 140737488355328)
 turns_in_form None h = (omega arith, omega arith)
 turns_in_form (Some n) h = h
 
+name_in_form : (name : Option (List ℕ)) → IfSome name IsName → IsName (unwrap_or name (codes "amqp-gate"))
+name_in_form None h = record { ascii = refl; short = omega arith }
+name_in_form (Some name) h = h
+
+vhost_in_form : (vhost : Option (List ℕ)) → IfSome vhost (λ vhost. length vhost ≤ 255) → length (unwrap_or vhost (codes "/")) ≤ 255
+vhost_in_form None h = omega arith
+vhost_in_form (Some vhost) h = h
+
+all_in_form : (s : Settings) → AreSettable s → AreInForm (asked_of s)
+all_in_form s a =
+    let turns = turns_in_form s.turns a.turns in
+    (record { pairs = a.pairs; some = turns.0; most = turns.1 }, record { name = name_in_form s.name a.name; host = a.host; vhost = vhost_in_form s.vhost a.vhost })
+
 -- what a command line asks for is in form
-pub limits_in_form : (words : List (List ℕ)) (asked : Asked) → IsCommand words asked → AreInForm asked
-limits_in_form words asked (inl command) =
-    let b = bounded_all command.given nothing_given command.in_form (record { pairs = tt; turns = tt }) in
-    let turns = turns_in_form (settings_with nothing_given command.given).turns b.turns in
-    subst AreInForm (sym command.meant) (record { pairs = b.pairs; some = turns.0; most = turns.1 })
-limits_in_form words asked (inr (inl (e, a))) = subst AreInForm (sym a) tt
-limits_in_form words asked (inr (inr (e, a))) = subst AreInForm (sym a) tt
+pub asked_in_form : (words : List (List ℕ)) (asked : Asked) → IsCommand words asked → AreInForm asked
+asked_in_form words asked (inl command) =
+    let a = settable_all command.given nothing_given command.in_form (record { name = tt; host = tt; vhost = tt; pairs = tt; turns = tt }) in
+    subst AreInForm (sym command.meant) (all_in_form (settings_with nothing_given command.given) a)
+asked_in_form words asked (inr (inl (e, a))) = subst AreInForm (sym a) tt
+asked_in_form words asked (inr (inr (what, e, a))) = subst AreInForm (sym a) (free what)
+  where
+    free : (what : Format) → AreInForm (shown_as what)
+    free format.Amqp091 = tt
+    free format.Amqp10 = tt
+    free format.Capture = tt

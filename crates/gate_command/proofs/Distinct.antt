@@ -2,8 +2,8 @@
 use Rattle.std.proofs.Common.{◌≡◌, ◌≢◌, true, List, [], ◌∷◌, refl}
 use Rattle.std.specs.List.{AllByRecursion}
 use Rattle.gate_command.specs.declared.options.OptionName.{OptionName}
-use Rattle.gate_command.specs.declared.options.OptionName.TheVariants.{Listen, Pairs, Turns, Capture}
-use Rattle.gate_command.specs.Command.{Setting, listen_at, pair_count, turn_count, capture_to, Given, setting_of, option_of, Settings, nothing_given, with_setting, AreDistinct}
+use Rattle.gate_command.specs.declared.options.OptionName.TheVariants.{Listen, Upstream, Name, Host, Vhost, Pairs, Turns, Capture}
+use Rattle.gate_command.specs.Command.{Setting, listen_at, upstream_at, known_as, host_named, vhost_named, pair_count, turn_count, capture_to, Given, setting_of, option_of, Settings, nothing_given, with_setting, AreDistinct}
 use Rattle.gate_command.specs.Reading.{is_free}
 use Rattle.gate_command.proofs.WordLaws.{EachNew}
 
@@ -12,42 +12,28 @@ abbrev AreFree : Settings → List Given → Type 0
 AreFree s gs = AllByRecursion (λ g. is_free (option_of (setting_of g)) s ≡ true) gs
 
 -- another option that isn't given still isn't
-still_free : (name : OptionName) (setting : Setting) (s : Settings) → name ≢ option_of setting → is_free name s ≡ true → is_free name (with_setting setting s) ≡ true
+still_free : (option : OptionName) (setting : Setting) (s : Settings) → option ≢ option_of setting → is_free option s ≡ true → is_free option (with_setting setting s) ≡ true
 still_free Listen (listen_at address) s other free = absurd (other refl)
-still_free Listen (pair_count n) s other free = free
-still_free Listen (turn_count n) s other free = free
-still_free Listen (capture_to path) s other free = free
-still_free Pairs (listen_at address) s other free = free
+still_free Upstream (upstream_at address) s other free = absurd (other refl)
+still_free Name (known_as name) s other free = absurd (other refl)
+still_free Host (host_named host) s other free = absurd (other refl)
+still_free Vhost (vhost_named vhost) s other free = absurd (other refl)
 still_free Pairs (pair_count n) s other free = absurd (other refl)
-still_free Pairs (turn_count n) s other free = free
-still_free Pairs (capture_to path) s other free = free
-still_free Turns (listen_at address) s other free = free
-still_free Turns (pair_count n) s other free = free
 still_free Turns (turn_count n) s other free = absurd (other refl)
-still_free Turns (capture_to path) s other free = free
-still_free Capture (listen_at address) s other free = free
-still_free Capture (pair_count n) s other free = free
-still_free Capture (turn_count n) s other free = free
 still_free Capture (capture_to path) s other free = absurd (other refl)
+still_free option setting s other free = free
 
 -- an option that isn't given with one more is another, and wasn't given without it
-was_free : (name : OptionName) (setting : Setting) (s : Settings) → is_free name (with_setting setting s) ≡ true → (name ≢ option_of setting) × (is_free name s ≡ true)
+was_free : (option : OptionName) (setting : Setting) (s : Settings) → is_free option (with_setting setting s) ≡ true → (option ≢ option_of setting) × (is_free option s ≡ true)
 was_free Listen (listen_at address) s free = absurd cc
-was_free Listen (pair_count n) s free = (λ e. absurd cc, free)
-was_free Listen (turn_count n) s free = (λ e. absurd cc, free)
-was_free Listen (capture_to path) s free = (λ e. absurd cc, free)
-was_free Pairs (listen_at address) s free = (λ e. absurd cc, free)
+was_free Upstream (upstream_at address) s free = absurd cc
+was_free Name (known_as name) s free = absurd cc
+was_free Host (host_named host) s free = absurd cc
+was_free Vhost (vhost_named vhost) s free = absurd cc
 was_free Pairs (pair_count n) s free = absurd cc
-was_free Pairs (turn_count n) s free = (λ e. absurd cc, free)
-was_free Pairs (capture_to path) s free = (λ e. absurd cc, free)
-was_free Turns (listen_at address) s free = (λ e. absurd cc, free)
-was_free Turns (pair_count n) s free = (λ e. absurd cc, free)
 was_free Turns (turn_count n) s free = absurd cc
-was_free Turns (capture_to path) s free = (λ e. absurd cc, free)
-was_free Capture (listen_at address) s free = (λ e. absurd cc, free)
-was_free Capture (pair_count n) s free = (λ e. absurd cc, free)
-was_free Capture (turn_count n) s free = (λ e. absurd cc, free)
 was_free Capture (capture_to path) s free = absurd cc
+was_free option setting s free = (λ e. absurd cc, free)
 
 all_still_free : (setting : Setting) (s : Settings) (gs : List Given) → AllByRecursion (λ g. option_of (setting_of g) ≢ option_of setting) gs → AreFree s gs → AreFree (with_setting setting s) gs
 all_still_free setting s [] others free = tt
@@ -73,8 +59,12 @@ distinct_from_new s (g ∷ gs) new =
     let free = all_were_free (setting_of g) s gs others.1 in
     ((free.0, others.0), (new.0, free.1))
 
-nothing_is_given : (name : OptionName) → is_free name nothing_given ≡ true
+nothing_is_given : (option : OptionName) → is_free option nothing_given ≡ true
 nothing_is_given Listen = refl
+nothing_is_given Upstream = refl
+nothing_is_given Name = refl
+nothing_is_given Host = refl
+nothing_is_given Vhost = refl
 nothing_is_given Pairs = refl
 nothing_is_given Turns = refl
 nothing_is_given Capture = refl

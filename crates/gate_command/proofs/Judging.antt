@@ -1,7 +1,6 @@
 -- What is said of a capture, from what was read and run.
 use Rattle.std.proofs.Common.{◌≡◌, ℕ, List, Option, None, Some, sym, ◌∙◌, ap, subst}
 use Rattle.std.specs.Prelude.{Result, Ok, Err, IfOk, IfSome, IfNone}
-use Rattle.std.specs.Str.{IsUtf8}
 use Rattle.wire_base.specs.declared.memory.Memory.{Memory}
 use Rattle.wire_base.specs.declared.scan.At.{At}
 use Rattle.gate_outside.specs.declared.log.LogEntry.{LogEntry}
@@ -10,6 +9,7 @@ use Rattle.gate_capture.specs.Reading.{capture_in, seen}
 use Rattle.gate_capture.specs.declared.reading.Capture.{Capture}
 use Rattle.gate_capture.specs.declared.reading.CaptureFault.{CaptureFault}
 use Rattle.gate_capture.specs.declared.reading.CaptureFault.TheVariants as fault
+use Rattle.gate_model.specs.Setup.{SetupText}
 use Rattle.gate_runs.specs.declared.limits.Limits.{Limits}
 use Rattle.gate_runs.specs.Form as form
 use Rattle.gate_command.specs.declared.input.Input.TheVariants.{Whole}
@@ -20,41 +20,35 @@ use Rattle.gate_command.specs.declared.top_call.Status.TheVariants as status
 use Rattle.gate_command.specs.declared.words.Asked.{Asked}
 use Rattle.gate_command.specs.declared.words.Asked.TheVariants.{Serve}
 use Rattle.gate_command.specs.declared.words.Misplaced.{Misplaced}
-use Rattle.gate_command.specs.Command.{Asks, AreInForm, words_of}
+use Rattle.gate_command.specs.Command.{Asks, words_of}
 use Rattle.gate_command.specs.Replaying.{Replays}
 use Rattle.gate_command.specs.Recorded.{AsksFor, ServesBy, IsService, IsOf, WithoutRun, IsSame, IsAnother, AtFault, OfCapture, IsReplayed, Says, bad_line, same_line, fault_text, meant_of, line_of}
 
--- ---- the limits that words ask for
+-- ---- the run that words ask for
 
-pub limits_asked : (text : List ℕ) (words : List (List ℕ)) (read : Result Asked Misplaced) (o : Option Limits) → words ≡ words_of text → IfOk read (λ asked. Asks words asked) → IfOk read (λ asked. AreInForm asked)
-    → IfSome o (IsService read) → IfSome o (λ c. ServesBy text c × form.IsInForm c)
-limits_asked text words read None is found in_form some = tt
-limits_asked text words read (Some c) is found in_form (listen, path, e) =
-    let asks : Asks words (Serve c listen path) = subst (λ (r : Result Asked Misplaced). IfOk r (λ asked. Asks words asked)) e found in
-    let fits : form.IsInForm c = subst (λ (r : Result Asked Misplaced). IfOk r (λ asked. AreInForm asked)) e in_form in
-    (record { listen = listen; path = path; asks = subst (λ (ws : List (List ℕ)). Asks ws (Serve c listen path)) is asks }, fits)
+pub nothing_asked : (text : List ℕ) (words : List (List ℕ)) (read : Result Asked Misplaced) (o : Option (Limits × SetupText)) → words ≡ words_of text → ((asked : Asked) → Asks words asked → read ≡ Ok asked)
+    → IfNone o ((c : Limits) (s : SetupText) → ¬ IsService read c s) → IfNone o ((c : Limits) (s : SetupText) → ¬ ServesBy text c s)
+nothing_asked text words read (Some run) is only none = tt
+nothing_asked text words read None is only none = λ c s serves.
+    none c s (
+      serves.listen,
+      serves.upstream,
+      serves.path,
+      only (Serve c s serves.listen serves.upstream serves.path)
+          (subst (λ (ws : List (List ℕ)). Asks ws (Serve c s serves.listen serves.upstream serves.path)) (sym is) serves.asks),
+    )
 
-pub nothing_asked : (text : List ℕ) (words : List (List ℕ)) (read : Result Asked Misplaced) (o : Option Limits) → words ≡ words_of text → ((asked : Asked) → Asks words asked → read ≡ Ok asked)
-    → IfNone o ((c : Limits) → ¬ IsService read c) → IfNone o ((c : Limits) → ¬ ServesBy text c)
-nothing_asked text words read (Some c) is only none = tt
-nothing_asked text words read None is only none = λ c serves.
-    none c (serves.listen, serves.path, only (Serve c serves.listen serves.path) (subst (λ (ws : List (List ℕ)). Asks ws (Serve c serves.listen serves.path)) (sym is) serves.asks))
-
-pub text_asks : (text bytes : List ℕ) (r : Result (Option Limits) Memory) → text ≡ bytes → IsUtf8 bytes → IfOk r (λ o. IfSome o (λ c. ServesBy text c × form.IsInForm c)) → IfOk r (λ o. IfSome o (λ c. AsksFor bytes c × form.IsInForm c))
-text_asks text bytes (Err e) is text_is some = tt
-text_asks text bytes (Ok None) is text_is some = tt
-text_asks text bytes (Ok (Some c)) is text_is some = ((text_is, subst (λ (t : List ℕ). ServesBy t c) is some.0), some.1)
-
-pub text_asks_nothing : (text bytes : List ℕ) (r : Result (Option Limits) Memory) → text ≡ bytes → IfOk r (λ o. IfNone o ((c : Limits) → ¬ ServesBy text c)) → IfOk r (λ o. IfNone o ((c : Limits) → ¬ AsksFor bytes c))
+pub text_asks_nothing : (text bytes : List ℕ) (r : Result (Option (Limits × SetupText)) Memory) → text ≡ bytes → IfOk r (λ o. IfNone o ((c : Limits) (s : SetupText) → ¬ ServesBy text c s))
+    → IfOk r (λ o. IfNone o ((c : Limits) (s : SetupText) → ¬ AsksFor bytes c s))
 text_asks_nothing text bytes (Err e) is none = tt
-text_asks_nothing text bytes (Ok (Some c)) is none = tt
-text_asks_nothing text bytes (Ok None) is none = λ c asks. none c (subst (λ (t : List ℕ). ServesBy t c) (sym is) asks.1)
+text_asks_nothing text bytes (Ok (Some run)) is none = tt
+text_asks_nothing text bytes (Ok None) is none = λ c s asks. none c s (subst (λ (t : List ℕ). ServesBy t c s) (sym is) asks.1)
 
 -- ---- what is said
 
-said_so : (words : List ℕ) (log : List LogEntry) (c : Limits) (r : Replayed) → AsksFor words c → Replays c log r → IsOf words log (meant_of r) (line_of r)
-said_so words log c (Same n) asks h = subst (λ (k : ℕ). IsOf words log status.Ok (same_line k)) (sym h.0) (IsSame c h.1.0 asks h.1.1)
-said_so words log c (Differs k) asks h = IsAnother c k asks h
+said_so : (words : List ℕ) (log : List LogEntry) (c : Limits) (s : SetupText) (r : Replayed) → AsksFor words c s → Replays s c log r → IsOf words log (meant_of r) (line_of r)
+said_so words log c s (Same n) asks h = subst (λ (k : ℕ). IsOf words log status.Ok (same_line k)) (sym h.0) (IsSame c s h.1.0 asks h.1.1)
+said_so words log c s (Differs k) asks h = IsAnother c s k asks h
 
 abbrev Judges : List ℕ → List LogEntry → Option (List ℕ) → Option (List ℕ) → Status → Type 0
 Judges words log held held' answer = (meant : Status) × (line : List ℕ) × IsOf words log meant line × Says meant line answer held held'
@@ -64,19 +58,19 @@ spread : (words : List ℕ) (log : List LogEntry) (meant : Status) (line : List 
 spread words log meant line held held' (Ok answer) is said = (meant, line, is, said)
 spread words log meant line held held' (Err e) is said = tt
 
-pub judged : (words text : List ℕ) (log : List LogEntry) (o : Option Limits) (c : Limits) (replayed : Replayed) (held held' : Option (List ℕ)) (r : Result Status Memory)
-    → text ≡ words → IfSome o (λ c. AsksFor text c × form.IsInForm c) → o ≡ Some c → Replays c log replayed
+pub judged : (words text : List ℕ) (log : List LogEntry) (o : Option (Limits × SetupText)) (run : Limits × SetupText) (replayed : Replayed) (held held' : Option (List ℕ)) (r : Result Status Memory)
+    → text ≡ words → IfSome o (λ run. AsksFor text run.0 run.1 × form.IsInForm run.0) → o ≡ Some run → Replays run.1 run.0 log replayed
     → IfOk r (λ answer. Says (meant_of replayed) (line_of replayed) answer held held') → IfOk r (Judges words log held held')
-judged words text log o c replayed held held' r is some found h said =
-    let asks : AsksFor text c × form.IsInForm c = subst (λ (x : Option Limits). IfSome x (λ c. AsksFor text c × form.IsInForm c)) found some in
-    spread words log (meant_of replayed) (line_of replayed) held held' r (said_so words log c replayed (subst (λ (t : List ℕ). AsksFor t c) is asks.0) h) said
+judged words text log o run replayed held held' r is some found h said =
+    let asks : AsksFor text run.0 run.1 × form.IsInForm run.0 = subst (λ (x : Option (Limits × SetupText)). IfSome x (λ run. AsksFor text run.0 run.1 × form.IsInForm run.0)) found some in
+    spread words log (meant_of replayed) (line_of replayed) held held' r (said_so words log run.0 run.1 replayed (subst (λ (t : List ℕ). AsksFor t run.0 run.1) is asks.0) h) said
 
-pub unjudged : (words text : List ℕ) (log : List LogEntry) (o : Option Limits) (held held' : Option (List ℕ)) (r : Result Status Memory)
-    → text ≡ words → IfNone o ((c : Limits) → ¬ AsksFor text c) → o ≡ None
+pub unjudged : (words text : List ℕ) (log : List LogEntry) (o : Option (Limits × SetupText)) (held held' : Option (List ℕ)) (r : Result Status Memory)
+    → text ≡ words → IfNone o ((c : Limits) (s : SetupText) → ¬ AsksFor text c s) → o ≡ None
     → IfOk r (λ answer. Says status.BadInput (bad_line 8 (fault_text fault.Kind)) answer held held') → IfOk r (Judges words log held held')
 unjudged words text log o held held' r is none found said =
-    let never : (c : Limits) → ¬ AsksFor text c = subst (λ (x : Option Limits). IfNone x ((c : Limits) → ¬ AsksFor text c)) found none in
-    spread words log status.BadInput (bad_line 8 (fault_text fault.Kind)) held held' r (WithoutRun (λ c. subst (λ (t : List ℕ). ¬ AsksFor t c) is (never c))) said
+    let never : (c : Limits) (s : SetupText) → ¬ AsksFor text c s = subst (λ (x : Option (Limits × SetupText)). IfNone x ((c : Limits) (s : SetupText) → ¬ AsksFor text c s)) found none in
+    spread words log status.BadInput (bad_line 8 (fault_text fault.Kind)) held held' r (WithoutRun (λ c s. subst (λ (t : List ℕ). ¬ AsksFor t c s) is (never c s))) said
 
 -- ---- of bytes
 

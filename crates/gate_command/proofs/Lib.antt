@@ -1,5 +1,6 @@
 pub mod Cutting
 pub mod Numbers
+pub mod Names
 pub mod RunLaws
 pub mod Steps
 pub mod OptionLaws

@@ -103,7 +103,7 @@ pub record CeasesAtIndex (k room : ℕ) (state : State) (words : List (List ℕ)
 
 pub words_in-place : (words : List (List ℕ)) (k room : ℕ) (state : State) (j : ℕ) → words_in k room state words ≡ Err (Word j) → CeasesAtIndex k room state words j
 words_in-place [] k room (between s) j h = let e = words_in-end k room (between s) in absurd cc
-words_in-place [] k room (awaiting name s) j h = let e = words_in-end k room (awaiting name s) in absurd cc
+words_in-place [] k room (awaiting option s) j h = let e = words_in-end k room (awaiting option s) in absurd cc
 words_in-place (word ∷ words) k room state j h = at (words_in-place words (k + 1) (room - length word)) (word_in room state word) refl
   where
     at : ((next : State) (j : ℕ) → words_in (k + 1) (room - length word) next words ≡ Err (Word j) → CeasesAtIndex (k + 1) (room - length word) next words j)

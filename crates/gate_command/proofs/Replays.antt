@@ -7,6 +7,7 @@ use Rattle.wire_base.specs.declared.memory.Memory.{Memory}
 use Rattle.gate_outside.specs.declared.log.LogEntry.{LogEntry}
 use Rattle.gate_capture.specs.Spelling.{HasSpelling}
 use Rattle.gate_capture.specs.Replay.{whole, is_nothing}
+use Rattle.gate_model.specs.Setup.{SetupText}
 use Rattle.gate_pair.specs.Meaning.{pair_words}
 use Rattle.gate_relay.specs.RelayWords.{RelayWords}
 use Rattle.gate_runs.specs.declared.limits.Limits.{Limits}
@@ -62,21 +63,21 @@ parts_at_mark (x ∷ xs) (u ∷ us) ys vs hx hy e =
 -- ---- a run that is told
 
 -- the calls of the run, and the log that it was made over
-record Tells (c : Limits) (how : Served) (count : ℕ) (rest used left log : List LogEntry) : Type 0 where
+record Tells (s : SetupText) (c : Limits) (how : Served) (count : ℕ) (rest used left log : List LogEntry) : Type 0 where
   history : History
-  run : IsRunOf c how count None None None None history
+  run : IsRunOf s c how count None None None None history
   made : reverse (calls history) ≡ reverse used ++ rest
   over : reverse used ++ left ≡ log
 
-tells_run : (c : Limits) (how : Served) (count : ℕ) (rest used left log : List LogEntry) → AllByRecursion HasSpelling log
-    → HasHistory (no_call ∷ log) (Some (reverse rest ++ (used ++ no_call ∷ (reverse used ++ left)))) (IsRunOf c how count None None None None) → Tells c how count rest used left log
-tells_run c how count rest used left log spelled (m, e, run) =
+tells_run : (s : SetupText) (c : Limits) (how : Served) (count : ℕ) (rest used left log : List LogEntry) → AllByRecursion HasSpelling log
+    → HasHistory (no_call ∷ log) (Some (reverse rest ++ (used ++ no_call ∷ (reverse used ++ left)))) (IsRunOf s c how count None None None None) → Tells s c how count rest used left log
+tells_run s c how count rest used left log spelled (m, e, run) =
     let joined : (reverse rest ++ used) ++ no_call ∷ (reverse used ++ left) ≡ calls m ++ no_call ∷ log = append_assoc (reverse rest) used (no_call ∷ (reverse used ++ left)) ∙ e in
-    let parts = parts_at_mark (calls m) (reverse rest ++ used) log (reverse used ++ left) (calls_are_calls pair_words c m run.served.follows) (spelled_are_calls log spelled) joined in
+    let parts = parts_at_mark (calls m) (reverse rest ++ used) log (reverse used ++ left) (calls_are_calls (pair_words s) c m run.served.follows) (spelled_are_calls log spelled) joined in
     record {
       history = m;
       run = run;
-      made = ap reverse (sym parts.0) ∙ reverse-append (reverse rest) used ∙ ap (λ (s : List LogEntry). reverse used ++ s) (reverse-reverse rest);
+      made = ap reverse (sym parts.0) ∙ reverse-append (reverse rest) used ∙ ap (λ (xs : List LogEntry). reverse used ++ xs) (reverse-reverse rest);
       over = parts.1;
     }
 
@@ -89,16 +90,16 @@ behind (x ∷ xs) ys = behind xs ys
 
 front : (xs ys : List LogEntry) → take (length xs) (xs ++ ys) ≡ xs
 front [] ys = refl
-front (x ∷ xs) ys = ap (λ (s : List LogEntry). x ∷ s) (front xs ys)
+front (x ∷ xs) ys = ap (λ (xs : List LogEntry). x ∷ xs) (front xs ys)
 
 apart : (xs ys zs : List LogEntry) → slice_get ys 0 ≢ slice_get zs 0 → GoesApart (length xs) (xs ++ ys) (xs ++ zs)
 apart xs ys zs other = record { front = front xs ys ∙ sym (front xs zs); other = λ same. other (sym (behind xs ys) ∙ same ∙ behind xs zs) }
 
 -- the first call that isn't its entry
 another : (d t : Bool) (rest left : List LogEntry) (n k : ℕ) → Agrees d t rest left → t ≡ true → cond {A = Option ℕ} (not d && is_nothing left) None (Some n) ≡ Some k → slice_get rest 0 ≢ slice_get left 0
-another true t rest left n k agrees told is same = let parts = agrees told in parts.other (sym same ∙ ap (λ (s : List LogEntry). slice_get s 0) parts.calls)
+another true t rest left n k agrees told is same = let parts = agrees told in parts.other (sym same ∙ ap (λ (xs : List LogEntry). slice_get xs 0) parts.calls)
 another false t rest [] n k agrees told is same = absurd cc
-another false t rest (e ∷ left) n k agrees told is same = let none : slice_get rest 0 ≡ None = ap (λ (s : List LogEntry). slice_get s 0) agrees.0 in absurd cc
+another false t rest (e ∷ left) n k agrees told is same = let none : slice_get rest 0 ≡ None = ap (λ (xs : List LogEntry). slice_get xs 0) agrees.0 in absurd cc
 
 same_place : (d : Bool) (left : List LogEntry) (n k : ℕ) → cond {A = Option ℕ} (not d && is_nothing left) None (Some n) ≡ Some k → n ≡ k
 same_place true left n k is = cc
@@ -113,24 +114,24 @@ none_left false t rest (e ∷ left) n agrees is = absurd cc
 told_is : (rerun : RerunState) → rerun.tells ≡ true → told_over rerun ≡ Some (reverse rerun.rest ++ (rerun.ports.log.used ++ no_call ∷ whole rerun.ports.log))
 told_is rerun told = rw told refl
 
-pub replays : (c : Limits) (how : Served) (count : ℕ) (rerun : RerunState) (log : List LogEntry) (said : Replayed) → AllByRecursion HasSpelling log
+pub replays : (s : SetupText) (c : Limits) (how : Served) (count : ℕ) (rerun : RerunState) (log : List LogEntry) (said : Replayed) → AllByRecursion HasSpelling log
     → Agrees rerun.ports.differs rerun.tells rerun.rest rerun.ports.log.left → Answers rerun count said
-    → HasHistory (no_call ∷ log) (told_over rerun) (IsRunOf c how count None None None None) → Replays c log said
-replays c how count rerun log (Same n) spelled agrees a h =
+    → HasHistory (no_call ∷ log) (told_over rerun) (IsRunOf s c how count None None None None) → Replays s c log said
+replays s c how count rerun log (Same n) spelled agrees a h =
     let none = none_left rerun.ports.differs rerun.tells rerun.rest rerun.ports.log.left _ agrees a.0 in
-    let run = tells_run c how count rerun.rest rerun.ports.log.used rerun.ports.log.left log spelled
-    (subst (λ (t : Option (List LogEntry)). HasHistory (no_call ∷ log) t (IsRunOf c how count None None None None)) (told_is rerun none.1) h) in
+    let run = tells_run s c how count rerun.rest rerun.ports.log.used rerun.ports.log.left log spelled
+    (subst (λ (t : Option (List LogEntry)). HasHistory (no_call ∷ log) t (IsRunOf s c how count None None None None)) (told_is rerun none.1) h) in
     let all : log ≡ reverse (calls run.history) =
-    sym run.over ∙ ap (λ (s : List LogEntry). reverse rerun.ports.log.used ++ s) (none.2 ∙ sym none.0) ∙ sym run.made in
+    sym run.over ∙ ap (λ (xs : List LogEntry). reverse rerun.ports.log.used ++ xs) (none.2 ∙ sym none.0) ∙ sym run.made in
     (a.1 ∙ ap length run.over, (count, record { history = run.history; made = all; how = how; run = run.run }))
-replays c how count rerun log (Differs k) spelled agrees a h =
-    let run = tells_run c how count rerun.rest rerun.ports.log.used rerun.ports.log.left log spelled
-    (subst (λ (t : Option (List LogEntry)). HasHistory (no_call ∷ log) t (IsRunOf c how count None None None None)) (told_is rerun a.1) h) in
+replays s c how count rerun log (Differs k) spelled agrees a h =
+    let run = tells_run s c how count rerun.rest rerun.ports.log.used rerun.ports.log.left log spelled
+    (subst (λ (t : Option (List LogEntry)). HasHistory (no_call ∷ log) t (IsRunOf s c how count None None None None)) (told_is rerun a.1) h) in
     let place = same_place rerun.ports.differs rerun.ports.log.left (length rerun.ports.log.used) k a.0 in
     let other = another rerun.ports.differs rerun.tells rerun.rest rerun.ports.log.left (length rerun.ports.log.used) k agrees a.1 a.0 in
     let parts = apart (reverse rerun.ports.log.used) rerun.rest rerun.ports.log.left other in
     let at : length (reverse rerun.ports.log.used) ≡ k = length-reverse rerun.ports.log.used ∙ place in
-    let shown : IsRunOf c how 0 None None None None run.history = subst (λ (n : ℕ). IsRunOf c how n None None None None run.history) a.2 run.run in
+    let shown : IsRunOf s c how 0 None None None None run.history = subst (λ (n : ℕ). IsRunOf s c how n None None None None run.history) a.2 run.run in
     record {
       made = reverse (calls run.history);
       run = record { history = run.history; made = refl; how = how; run = shown };
@@ -139,8 +140,8 @@ replays c how count rerun log (Differs k) spelled agrees a h =
           (subst (λ (n : ℕ). GoesApart n (reverse rerun.ports.log.used ++ rerun.rest) (reverse rerun.ports.log.used ++ rerun.ports.log.left)) at parts));
     }
 
-pub replays_ok : (c : Limits) (how : Served) (count : ℕ) (rerun : RerunState) (log : List LogEntry) (said : Result Replayed Memory) → AllByRecursion HasSpelling log
+pub replays_ok : (s : SetupText) (c : Limits) (how : Served) (count : ℕ) (rerun : RerunState) (log : List LogEntry) (said : Result Replayed Memory) → AllByRecursion HasSpelling log
     → Agrees rerun.ports.differs rerun.tells rerun.rest rerun.ports.log.left → IfOk said (Answers rerun count)
-    → HasHistory (no_call ∷ log) (told_over rerun) (IsRunOf c how count None None None None) → IfOk said (Replays c log)
-replays_ok c how count rerun log (Ok said) spelled agrees a h = replays c how count rerun log said spelled agrees a h
-replays_ok c how count rerun log (Err e) spelled agrees a h = tt
+    → HasHistory (no_call ∷ log) (told_over rerun) (IsRunOf s c how count None None None None) → IfOk said (Replays s c log)
+replays_ok s c how count rerun log (Ok said) spelled agrees a h = replays s c how count rerun log said spelled agrees a h
+replays_ok s c how count rerun log (Err e) spelled agrees a h = tt

@@ -1,12 +1,13 @@
 -- The steps of the loop over the words.
-use Rattle.std.proofs.Common.{◌≡◌, ℕ, ◌+◌, ◌-◌, ◌<◌, ◌≤◌, ◌||◌, ltb, Bool, true, false, cond, List, [], ◌∷◌, length, Some, None, Err, map, drop, get_or, suc, refl, sym, ◌∙◌, arith, add-one, drop-cons}
+use Rattle.std.proofs.Common.{◌≡◌, ℕ, ◌+◌, ◌-◌, ◌<◌, ◌≤◌, ◌||◌, ltb, Bool, true, false, cond, List, [], ◌∷◌, length, Option, Some, None, Err, map, drop, get_or, suc, refl, sym, ◌∙◌, arith, add-one, drop-cons}
+use Rattle.std.specs.Str.{is_utf8}
 use Rattle.std.proofs.lemmas.Bool.Decides.{nat_tests}
 use Rattle.std.proofs.lemmas.List.{drop_all}
 use Rattle.gate_command.specs.declared.options.OptionName.{OptionName}
-use Rattle.gate_command.specs.declared.options.OptionName.TheVariants.{Listen, Pairs, Turns, Capture}
+use Rattle.gate_command.specs.declared.options.OptionName.TheVariants.{Listen, Upstream, Name, Host, Vhost, Pairs, Turns, Capture}
 use Rattle.gate_command.specs.declared.words.Misplaced.TheVariants.{Word}
 use Rattle.gate_command.specs.Command.{Settings, has_line_feed}
-use Rattle.gate_command.specs.Reading.{State, between, awaiting, step, set_in, option_in, word_in, words_in, ended, option_named}
+use Rattle.gate_command.specs.Reading.{State, between, awaiting, step, short_in, name_in, host_in, set_in, option_in, word_in, words_in, ended, option_named}
 use Rattle.gate_command.proofs.Numbers.{number_in-nil}
 
 -- a word that can stand leads on
@@ -26,9 +27,21 @@ unfolding words_in
 words_in-end k room state = refl
 
 -- no value is empty
-set_in-nil : (name : OptionName) (s : Settings) → set_in name [] s ≡ None
-unfolding set_in
+host_in-nil : host_in [] ≡ None
+unfolding host_in short_in
+host_in-nil = at (is_utf8 [])
+  where
+    at : (utf8 : Bool) → cond {A = Option (List ℕ)} utf8 None None ≡ None
+    at true = refl
+    at false = refl
+
+set_in-nil : (option : OptionName) (s : Settings) → set_in option [] s ≡ None
+unfolding set_in name_in short_in
 set_in-nil Listen s = refl
+set_in-nil Upstream s = refl
+set_in-nil Name s = refl
+set_in-nil Host s = rw host_in-nil refl
+set_in-nil Vhost s = refl
 set_in-nil Pairs s = rw (number_in-nil 4294967295) refl
 set_in-nil Turns s = rw (number_in-nil 140737488355328) refl
 set_in-nil Capture s = refl
@@ -40,7 +53,7 @@ option_in-nil s = refl
 -- no word is
 pub step-nil : (state : State) → step state [] ≡ None
 step-nil (between s) = option_in-nil s
-step-nil (awaiting name s) = rw (set_in-nil name s) refl
+step-nil (awaiting option s) = rw (set_in-nil option s) refl
 
 -- what a word in place is
 pub record Stands (room : ℕ) (state next : State) (word : List ℕ) : Type 0 where

@@ -1,13 +1,15 @@
 -- The text of the words: it is what joining makes of them, and it is short.
-use Rattle.std.proofs.Common.{◌≡◌, ℕ, ◌+◌, ◌-◌, ◌*◌, ◌<◌, ◌≤◌, ◌^◌, List, [], ◌∷◌, ◌++◌, length, take, drop, inl, inr, refl, sym, ◌∙◌, ap, arith, append-nil}
+use Rattle.std.proofs.Common.{◌≡◌, ℕ, ◌+◌, ◌-◌, ◌*◌, ◌<◌, ◌≤◌, ◌^◌, List, [], ◌∷◌, ◌++◌, length, take, drop, inl, inr, refl, ap, arith, append-nil}
 use Rattle.std.specs.Prelude.{codes, map, sum_by}
 use Rattle.std.specs.List.{flat_map, join_by, join_with_byte}
 use Rattle.std.proofs.lemmas.List.{length-append, take_all}
 use Rattle.std.proofs.lemmas.List.Sums.{sum_by-cons}
 use Rattle.gate_command.specs.declared.options.OptionName.{OptionName}
-use Rattle.gate_command.specs.declared.options.OptionName.TheVariants.{Listen, Pairs, Turns, Capture}
+use Rattle.gate_command.specs.declared.options.OptionName.TheVariants.{Listen, Upstream, Name, Host, Vhost, Pairs, Turns, Capture}
 use Rattle.gate_command.specs.declared.words.Asked.{Asked}
-use Rattle.gate_command.specs.Command.{Given, joined, apart, option_of, option_text, value_text, spelling, IsCommand, Asks, text_of}
+use Rattle.gate_command.specs.declared.words.Format.{Format}
+use Rattle.gate_command.specs.declared.words.Format.TheVariants as format
+use Rattle.gate_command.specs.Command.{Given, joined, apart, option_of, option_text, value_text, spelling, format_text, IsCommand, Asks, text_of}
 
 -- joined with a byte between each two
 pub join_by-byte : {X : Type 0} (f : X → List ℕ) (c : ℕ) (xs : List X) → join_by f (c ∷ []) xs ≡ join_with_byte c (map f xs)
@@ -26,8 +28,12 @@ text_after f (x ∷ xs) =
     rw (e, take_all (length xs) xs (omega arith)) (join_by-byte f 10 xs)
 
 -- no name of an option is empty
-named : (name : OptionName) → 1 ≤ length (option_text name)
+named : (option : OptionName) → 1 ≤ length (option_text option)
 named Listen = omega arith
+named Upstream = omega arith
+named Name = omega arith
+named Host = omega arith
+named Vhost = omega arith
 named Pairs = omega arith
 named Turns = omega arith
 named Capture = omega arith
@@ -39,8 +45,8 @@ one_more word words some few = omega (arith, sum_by-cons length word words)
 two_more : (word value : List ℕ) (words : List (List ℕ)) → 1 ≤ length word → length words ≤ 2 * sum_by length words → length (word ∷ value ∷ words) ≤ 2 * sum_by length (word ∷ value ∷ words)
 two_more word value words some few = omega (arith, sum_by-cons length word (value ∷ words), sum_by-cons length value words)
 
-begins : (name : OptionName) (sign value : List ℕ) → 1 ≤ length (option_text name ++ sign ++ value)
-begins name sign value = omega (arith, named name, length-append (option_text name ++ sign) value, length-append (option_text name) sign)
+begins : (option : OptionName) (sign value : List ℕ) → 1 ≤ length (option_text option ++ sign ++ value)
+begins option sign value = omega (arith, named option, length-append (option_text option ++ sign) value, length-append (option_text option) sign)
 
 few_words : (given : List Given) → length (flat_map spelling given) ≤ 2 * sum_by length (flat_map spelling given)
 few_words [] = omega arith
@@ -65,7 +71,12 @@ options_are_small words given rest within =
 pub text_is_small : (words : List (List ℕ)) (asked : Asked) → Asks words asked → length (text_of words) < 2 ^ 32
 text_is_small words asked asks = by asks.command
   where
+    few : (what : Format) → length (text_of (codes "show" ∷ format_text what ∷ [])) < 2 ^ 32
+    few format.Amqp091 = omega arith
+    few format.Amqp10 = omega arith
+    few format.Capture = omega arith
+
     by : IsCommand words asked → length (text_of words) < 2 ^ 32
     by (inl command) = options_are_small words command.given (ap (drop 1) command.spelled) asks.within.short
     by (inr (inl (e, a))) = rw e (omega arith)
-    by (inr (inr (e, a))) = rw e (omega arith)
+    by (inr (inr (what, e, a))) = rw e (few what)

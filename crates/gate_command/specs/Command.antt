@@ -1,18 +1,26 @@
 -- The command line: which lists of words there are, and what each asks for. A word is the list of its bytes.
 use Rattle.std.specs.Prelude.{◌≡◌, ◌≢◌, ◌⊎◌, ℕ, ◌-◌, ◌≤◌, ◌<◌, ◌==◌, Bool, false, ⊤, List, [], ◌∷◌, ◌++◌, length, take, drop, sum_by, slice_index, slice_index_or, Option, Some, None, unwrap_or, codes, decimal}
 use Rattle.std.specs.List.{flat_map, join_with_byte, list_any, slice_split, AllByRecursion}
+use Rattle.gate_model.specs.Setup as setup
+use Rattle.gate_model.specs.Setup.{IsHost, IsName, SetupText}
 use Rattle.gate_runs.specs.declared.limits.Limits.{Limits}
 use Rattle.gate_runs.specs.Form as form
 use Rattle.gate_command.specs.declared.options.OptionName.{OptionName}
-use Rattle.gate_command.specs.declared.options.OptionName.TheVariants.{Listen, Pairs, Turns, Capture}
+use Rattle.gate_command.specs.declared.options.OptionName.TheVariants.{Listen, Upstream, Name, Host, Vhost, Pairs, Turns, Capture}
 use Rattle.gate_command.specs.declared.words.Asked.{Asked}
-use Rattle.gate_command.specs.declared.words.Asked.TheVariants.{Serve, Replay, ShowCapture}
+use Rattle.gate_command.specs.declared.words.Asked.TheVariants.{Serve, Replay, Show091, Show10, ShowCapture}
+use Rattle.gate_command.specs.declared.words.Format.{Format}
+use Rattle.gate_command.specs.declared.words.Format.TheVariants as format
 use Rattle.gate_command.specs.declared.words.Misplaced.{Misplaced}
 use Rattle.gate_command.specs.declared.words.Misplaced.TheVariants.{Word, End}
 
 -- what one option says
 pub data Setting : Type 0 where
   listen_at : List ℕ → Setting
+  upstream_at : List ℕ → Setting
+  known_as : List ℕ → Setting
+  host_named : List ℕ → Setting
+  vhost_named : List ℕ → Setting
   pair_count : ℕ → Setting
   turn_count : ℕ → Setting
   capture_to : List ℕ → Setting
@@ -20,6 +28,10 @@ pub data Setting : Type 0 where
 -- the option that says it
 abbrev pub option_of : Setting → OptionName
 option_of (listen_at address) = Listen
+option_of (upstream_at address) = Upstream
+option_of (known_as name) = Name
+option_of (host_named host) = Host
+option_of (vhost_named vhost) = Vhost
 option_of (pair_count n) = Pairs
 option_of (turn_count n) = Turns
 option_of (capture_to path) = Capture
@@ -27,6 +39,10 @@ option_of (capture_to path) = Capture
 -- how the option's name is spelled
 abbrev pub option_text : OptionName → List ℕ
 option_text Listen = codes "--listen"
+option_text Upstream = codes "--upstream"
+option_text Name = codes "--name"
+option_text Host = codes "--host"
+option_text Vhost = codes "--vhost"
 option_text Pairs = codes "--pairs"
 option_text Turns = codes "--turns"
 option_text Capture = codes "--capture"
@@ -34,13 +50,22 @@ option_text Capture = codes "--capture"
 -- how the option's value is spelled
 abbrev pub value_text : Setting → List ℕ
 value_text (listen_at address) = address
+value_text (upstream_at address) = address
+value_text (known_as name) = name
+value_text (host_named host) = host
+value_text (vhost_named vhost) = vhost
 value_text (pair_count n) = decimal n
 value_text (turn_count n) = decimal n
 value_text (capture_to path) = path
 
--- an address or a path isn't empty, and a number is from 1 to the option's most
+-- no text is empty, a name, a host and a virtual host are what all pairs of a run may share, and a
+-- number is from 1 to the option's most
 abbrev pub IsSettable : Setting → Type 0
 IsSettable (listen_at address) = address ≢ []
+IsSettable (upstream_at address) = address ≢ []
+IsSettable (known_as name) = (name ≢ []) × IsName name
+IsSettable (host_named host) = (host ≢ []) × IsHost host
+IsSettable (vhost_named vhost) = (vhost ≢ []) × (length vhost ≤ 255)
 IsSettable (pair_count n) = (1 ≤ n) × (n ≤ 4294967295)
 IsSettable (turn_count n) = (1 ≤ n) × (n ≤ 140737488355328)
 IsSettable (capture_to path) = path ≢ []
@@ -72,17 +97,34 @@ IsInForm (apart setting) = IsSettable setting × (begins_with_minus (value_text 
 -- what the options say together, each of them where it is given
 pub record Settings : Type 0 where
   pub listen : Option (List ℕ)
+  pub upstream : Option (List ℕ)
+  pub name : Option (List ℕ)
+  pub host : Option (List ℕ)
+  pub vhost : Option (List ℕ)
   pub pairs : Option ℕ
   pub turns : Option ℕ
   pub capture : Option (List ℕ)
 
 -- no option is given
 abbrev pub nothing_given : Settings
-nothing_given = record { listen = None; pairs = None; turns = None; capture = None }
+nothing_given = record {
+  listen = None;
+  upstream = None;
+  name = None;
+  host = None;
+  vhost = None;
+  pairs = None;
+  turns = None;
+  capture = None;
+}
 
 -- the same and one option more
 abbrev pub with_setting : Setting → Settings → Settings
 with_setting (listen_at address) s = record s { listen = Some address }
+with_setting (upstream_at address) s = record s { upstream = Some address }
+with_setting (known_as name) s = record s { name = Some name }
+with_setting (host_named host) s = record s { host = Some host }
+with_setting (vhost_named vhost) s = record s { vhost = Some vhost }
 with_setting (pair_count n) s = record s { pairs = Some n }
 with_setting (turn_count n) s = record s { turns = Some n }
 with_setting (capture_to path) s = record s { capture = Some path }
@@ -98,14 +140,29 @@ abbrev pub settings_with : Settings → List Given → Settings
 settings_with s [] = s
 settings_with s (g ∷ gs) = settings_with (with_setting (setting_of g) s) gs
 
--- what is asked for, with the defaults of what isn't given
-abbrev pub asked_of : Settings → Asked
-asked_of s = Serve (record { pairs = s.pairs; turns = unwrap_or s.turns 140737488355328 }) (unwrap_or s.listen (codes "127.0.0.1:5672")) s.capture
+-- how long a run is, and what its pairs share, with the defaults of what isn't given
+abbrev pub limits_of : Settings → Limits
+limits_of s = record { pairs = s.pairs; turns = unwrap_or s.turns 140737488355328 }
 
--- the limits of a run that is asked for are in form
+abbrev pub setup_of : Settings → SetupText
+setup_of s = record {
+  name = unwrap_or s.name (codes "amqp-gate");
+  host = s.host;
+  vhost = unwrap_or s.vhost (codes "/");
+}
+
+-- what is asked for
+abbrev pub asked_of : Settings → Asked
+asked_of s =
+    Serve (limits_of s) (setup_of s) (unwrap_or s.listen (codes "127.0.0.1:5672"))
+    (unwrap_or s.upstream (codes "127.0.0.1:5673")) s.capture
+
+-- the limits of a run that is asked for, and what its pairs share, are in form
 abbrev pub AreInForm : Asked → Type 0
-AreInForm (Serve limits address path) = form.IsInForm limits
+AreInForm (Serve limits shared listen upstream path) = form.IsInForm limits × setup.IsInForm shared
 AreInForm Replay = ⊤
+AreInForm Show091 = ⊤
+AreInForm Show10 = ⊤
 AreInForm ShowCapture = ⊤
 
 -- the words after the first, with a line feed between each two
@@ -120,11 +177,23 @@ pub record IsService (words : List (List ℕ)) (asked : Asked) : Type 0 where
   pub once : AreDistinct given
   pub meant : asked ≡ asked_of (settings_with nothing_given given)
 
+-- the word for a format behind `show`
+abbrev pub format_text : Format → List ℕ
+format_text format.Amqp091 = codes "091"
+format_text format.Amqp10 = codes "10"
+format_text format.Capture = codes "capture"
+
+-- what is asked for with it
+abbrev pub shown_as : Format → Asked
+shown_as format.Amqp091 = Show091
+shown_as format.Amqp10 = Show10
+shown_as format.Capture = ShowCapture
+
 -- or one of the other commands
 abbrev pub IsCommand : List (List ℕ) → Asked → Type 0
 IsCommand words asked = IsService words asked
     ⊎ ((words ≡ codes "replay" ∷ []) × (asked ≡ Replay))
-    ⊎ ((words ≡ codes "show" ∷ codes "capture" ∷ []) × (asked ≡ ShowCapture))
+    ⊎ ((what : Format) × (words ≡ codes "show" ∷ format_text what ∷ []) × (asked ≡ shown_as what))
 
 -- the words that a text tells after `serve`, with a line feed between each two; an empty text tells none
 abbrev pub words_of : List ℕ → List (List ℕ)

@@ -1,5 +1,6 @@
 pub mod Command
 pub mod Input
+pub mod Listings
 pub mod Outcome
 pub mod Reading
 pub mod Recorded

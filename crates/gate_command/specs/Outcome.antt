@@ -4,6 +4,7 @@ use Rattle.gate_outside.specs.declared.log.LogEntry.{LogEntry}
 use Rattle.gate_outside.specs.Counts.{Rose}
 use Rattle.gate_outside.specs.Streams.{Appends, AppendsFront}
 use Rattle.gate_capture.specs.Captures.{start}
+use Rattle.gate_model.specs.Setup.{SetupText}
 use Rattle.gate_runs.specs.declared.limits.Limits.{Limits}
 use Rattle.gate_runs.specs.declared.served.Served.{Served}
 use Rattle.gate_runs.specs.declared.served.Served.TheVariants as served
@@ -11,9 +12,14 @@ use Rattle.gate_runs.specs.Marks.{HasHistory}
 use Rattle.gate_command.specs.declared.top_call.Status.{Status}
 use Rattle.gate_command.specs.declared.top_call.Status.TheVariants as status
 use Rattle.gate_command.specs.declared.words.Asked.TheVariants.{Serve, Replay, ShowCapture}
+use Rattle.gate_command.specs.declared.words.Format.{Format}
+use Rattle.gate_command.specs.declared.words.Format.TheVariants as format
+use Rattle.gate_listing.specs.declared.listing.Dialect.{Dialect}
+use Rattle.gate_listing.specs.declared.listing.Dialect.TheVariants.{Amqp091, Amqp10}
 use Rattle.gate_command.specs.declared.words.Misplaced.{Misplaced}
 use Rattle.gate_command.specs.declared.words.Misplaced.TheVariants.{Word, End}
-use Rattle.gate_command.specs.Command.{Asks, CeasesAt, text_of}
+use Rattle.gate_command.specs.Command.{Asks, CeasesAt, shown_as, text_of}
+use Rattle.gate_command.specs.Listings.{IsStreamListing}
 use Rattle.gate_command.specs.Recorded.{IsReplay, IsListing, Says}
 use Rattle.gate_command.specs.Runs.{IsRunOf}
 
@@ -69,31 +75,33 @@ pub record IsMisread (words : List (List ℕ)) (answer : Status) (old new : Arou
   pub unrecorded : new.kept ≡ old.kept
   pub silent : new.log ≡ old.log
 
--- a run of the service was made, and this is its status
-pub record Ran (c : Limits) (answer : Status) (held held' kept kept' : Option (List ℕ)) (log log' : Option (List LogEntry)) : Type 0 where
+-- a run of the service was made whose pairs share s, and this is its status
+pub record Ran (s : SetupText) (c : Limits) (answer : Status) (held held' kept kept' : Option (List ℕ)) (log log' : Option (List LogEntry)) : Type 0 where
   pub how : Served
   -- how many pairs ran out of memory
   pub count : ℕ
   pub status : answer ≡ status_of how
-  pub served : (base : List LogEntry) → log ≡ Some base → HasHistory base log' (IsRunOf c how count held held' kept kept')
+  pub served : (base : List LogEntry) → log ≡ Some base → HasHistory base log' (IsRunOf s c how count held held' kept kept')
 
--- the words ask for a run of the service with these limits, and for its capture where a path is given
-abbrev pub AsksToServe : List (List ℕ) → Limits → Option (List ℕ) → Type 0
-AsksToServe words c path = (listen : List ℕ) × Asks words (Serve c listen path)
+-- the words ask for a run of the service with these limits, whose pairs share s, and for its capture where a path is given
+abbrev pub AsksToServe : List (List ℕ) → Limits → SetupText → Option (List ℕ) → Type 0
+AsksToServe words c s path = (listen : List ℕ) × (upstream : List ℕ) × Asks words (Serve c s listen upstream path)
 
 -- the words ask for a run of the service of which no record is kept, and it was made
 pub record IsRun (words : List (List ℕ)) (answer : Status) (old new : Around) : Type 0 where
   pub limits : Limits
+  pub setup : SetupText
   pub listen : List ℕ
-  pub asks : Asks words (Serve limits listen None)
-  pub ran : Ran limits answer old.held new.held None None old.log new.log
+  pub upstream : List ℕ
+  pub asks : Asks words (Serve limits setup listen upstream None)
+  pub ran : Ran setup limits answer old.held new.held None None old.log new.log
   pub unrecorded : new.kept ≡ old.kept
 
 -- the start of a capture with this text of the words was written, and behind it the calls of a run of the service
-pub record BeginsAndRuns (text : List ℕ) (c : Limits) (answer : Status) (old new : Around) : Type 0 where
+pub record BeginsAndRuns (text : List ℕ) (s : SetupText) (c : Limits) (answer : Status) (old new : Around) : Type 0 where
   pub begun : Option (List ℕ)
   pub start : Appends old.kept begun (start text)
-  pub ran : Ran c answer old.held new.held begun new.kept old.log new.log
+  pub ran : Ran s c answer old.held new.held begun new.kept old.log new.log
 
 -- the start was not taken, which out was told. Nothing was asked of the ports
 pub record FailsToBegin (text : List ℕ) (answer : Status) (old new : Around) : Type 0 where
@@ -105,10 +113,12 @@ pub record FailsToBegin (text : List ℕ) (answer : Status) (old new : Around) :
 -- the words ask for a run of the service and a capture of its calls
 pub record IsCapturedRun (words : List (List ℕ)) (answer : Status) (old new : Around) : Type 0 where
   pub limits : Limits
+  pub setup : SetupText
   pub listen : List ℕ
+  pub upstream : List ℕ
   pub path : List ℕ
-  pub asks : Asks words (Serve limits listen (Some path))
-  pub run : BeginsAndRuns (text_of words) limits answer old new ⊎ FailsToBegin (text_of words) answer old new
+  pub asks : Asks words (Serve limits setup listen upstream (Some path))
+  pub run : BeginsAndRuns (text_of words) setup limits answer old new ⊎ FailsToBegin (text_of words) answer old new
 
 -- there was no memory for the words, and nothing was done
 pub record IsUnread (answer : Status) (old new : Around) : Type 0 where
@@ -136,6 +146,20 @@ pub record IsShowing (words : List (List ℕ)) (answer : Status) (old new : Arou
   pub unrecorded : new.kept ≡ old.kept
   pub silent : new.log ≡ old.log
 
+-- the format of a byte stream
+abbrev pub format_of : Dialect → Format
+format_of Amqp091 = format.Amqp091
+format_of Amqp10 = format.Amqp10
+
+-- the words ask to list a byte stream of one of the protocols
+pub record IsShowingUnits (words : List (List ℕ)) (answer : Status) (old new : Around) (left left' : Option (List ℕ)) : Type 0 where
+  pub dialect : Dialect
+  pub asks : Asks words (shown_as (format_of dialect))
+  pub listing : IsStreamListing dialect answer left left' old.held new.held
+  pub unrecorded : new.kept ≡ old.kept
+  pub silent : new.log ≡ old.log
+
 abbrev pub Outcome : List (List ℕ) → Status → Around → Around → Option (List ℕ) → Option (List ℕ) → Type 0
 Outcome words answer old new left left' =
     ((left' ≡ left) × WithoutInput words answer old new) ⊎ IsReplaying words answer old new left left' ⊎ IsShowing words answer old new left left'
+    ⊎ IsShowingUnits words answer old new left left'

@@ -1,15 +1,19 @@
 -- The reading of the words, one after another, as the code does it.
 use Rattle.std.specs.Prelude.{ℕ, ◌+◌, ◌-◌, ◌==◌, ◌||◌, ◌&&◌, nat_lt, nat_le, Bool, true, false, if◌then◌else◌, List, [], ◌∷◌, length, Option, Some, None, is_none, option_map, Result, Ok, Err, codes, slice_index, bytes_eq}
+use Rattle.std.specs.Char.{is_ascii}
+use Rattle.std.specs.List.{list_all}
 use Rattle.std.specs.Option.{option_and_then, option_map_or}
-use Rattle.std.specs.Str.{all_ascii_digits}
+use Rattle.std.specs.Str.{all_ascii_digits, is_utf8}
 use Rattle.std.specs.Str.Parse.{digits_value}
 use Rattle.gate_command.specs.declared.options.OptionName.{OptionName}
-use Rattle.gate_command.specs.declared.options.OptionName.TheVariants.{Listen, Pairs, Turns, Capture}
+use Rattle.gate_command.specs.declared.options.OptionName.TheVariants.{Listen, Upstream, Name, Host, Vhost, Pairs, Turns, Capture}
 use Rattle.gate_command.specs.declared.words.Asked.{Asked}
-use Rattle.gate_command.specs.declared.words.Asked.TheVariants.{Replay, ShowCapture}
+use Rattle.gate_command.specs.declared.words.Asked.TheVariants.{Replay}
+use Rattle.gate_command.specs.declared.words.Format.{Format}
+use Rattle.gate_command.specs.declared.words.Format.TheVariants as format
 use Rattle.gate_command.specs.declared.words.Misplaced.{Misplaced}
 use Rattle.gate_command.specs.declared.words.Misplaced.TheVariants.{Word, End}
-use Rattle.gate_command.specs.Command.{Setting, listen_at, pair_count, turn_count, capture_to, Settings, with_setting, nothing_given, asked_of, begins_with_minus, has_line_feed}
+use Rattle.gate_command.specs.Command.{Setting, listen_at, upstream_at, known_as, host_named, vhost_named, pair_count, turn_count, capture_to, Settings, with_setting, nothing_given, asked_of, begins_with_minus, has_line_feed, shown_as}
 
 -- where the reading stands: between options, or after an option's name, whose value is the next word
 pub data State : Type 0 where
@@ -19,6 +23,10 @@ pub data State : Type 0 where
 -- the option isn't given yet
 abbrev pub is_free : OptionName → Settings → Bool
 is_free Listen s = is_none s.listen
+is_free Upstream s = is_none s.upstream
+is_free Name s = is_none s.name
+is_free Host s = is_none s.host
+is_free Vhost s = is_none s.vhost
 is_free Pairs s = is_none s.pairs
 is_free Turns s = is_none s.turns
 is_free Capture s = is_none s.capture
@@ -32,9 +40,13 @@ cut (byte ∷ bytes) = if byte == 61 then ([], Some bytes) else (byte ∷ (cut b
 unfoldable pub option_named : List ℕ → Option OptionName
 option_named text =
     if bytes_eq text (codes "--listen") then Some Listen
+    else (if bytes_eq text (codes "--upstream") then Some Upstream
+    else (if bytes_eq text (codes "--name") then Some Name
+    else (if bytes_eq text (codes "--host") then Some Host
+    else (if bytes_eq text (codes "--vhost") then Some Vhost
     else (if bytes_eq text (codes "--pairs") then Some Pairs
     else (if bytes_eq text (codes "--turns") then Some Turns
-    else (if bytes_eq text (codes "--capture") then Some Capture else None)))
+    else (if bytes_eq text (codes "--capture") then Some Capture else None)))))))
 
 -- the text is digits, and the first of them isn't 0
 abbrev pub is_numeral : List ℕ → Bool
@@ -44,31 +56,48 @@ is_numeral text = nat_lt 48 (slice_index text 0) && all_ascii_digits text
 unfoldable pub number_in : ℕ → List ℕ → Option ℕ
 number_in most text = if is_numeral text && nat_le (digits_value 10 text) most then Some (digits_value 10 text) else None
 
+-- a text that isn't empty, one of at most so many bytes, and those that all pairs of a run share
+abbrev pub text_in : List ℕ → Option (List ℕ)
+text_in text = if length text == 0 then None else Some text
+
+unfoldable pub short_in : ℕ → List ℕ → Option (List ℕ)
+short_in most text = if nat_le (length text) most then text_in text else None
+
+unfoldable pub name_in : List ℕ → Option (List ℕ)
+name_in text = if list_all is_ascii text then short_in 100 text else None
+
+unfoldable pub host_in : List ℕ → Option (List ℕ)
+host_in text = if is_utf8 text then short_in 200 text else None
+
 -- what the option says with this value
 abbrev pub setting_in : OptionName → List ℕ → Option Setting
-setting_in Listen value = if length value == 0 then None else Some (listen_at value)
+setting_in Listen value = option_map listen_at (text_in value)
+setting_in Upstream value = option_map upstream_at (text_in value)
+setting_in Name value = option_map known_as (name_in value)
+setting_in Host value = option_map host_named (host_in value)
+setting_in Vhost value = option_map vhost_named (short_in 255 value)
 setting_in Pairs value = option_map pair_count (number_in 4294967295 value)
 setting_in Turns value = option_map turn_count (number_in 140737488355328 value)
-setting_in Capture value = if length value == 0 then None else Some (capture_to value)
+setting_in Capture value = option_map capture_to (text_in value)
 
 -- the settings and this option's value
 unfoldable pub set_in : OptionName → List ℕ → Settings → Option Settings
-set_in name value s = option_map (λ setting. with_setting setting s) (setting_in name value)
+set_in option value s = option_map (λ setting. with_setting setting s) (setting_in option value)
 
 -- after an option's name, and the value that follows it in the same word, where one does
 abbrev pub opened : OptionName → Option (List ℕ) → Settings → Option State
-opened name None s = Some (awaiting name s)
-opened name (Some value) s = option_map between (set_in name value s)
+opened option None s = Some (awaiting option s)
+opened option (Some value) s = option_map between (set_in option value s)
 
 -- after an option's first word
 unfoldable pub option_in : List ℕ → Settings → Option State
 option_in word s =
-    option_and_then (λ name. if is_free name s then opened name (cut word).1 s else None) (option_named (cut word).0)
+    option_and_then (λ option. if is_free option s then opened option (cut word).1 s else None) (option_named (cut word).0)
 
 -- after a word, `None` where it can't stand
 abbrev pub step : State → List ℕ → Option State
 step (between s) word = option_in word s
-step (awaiting name s) word = if begins_with_minus word then None else option_map between (set_in name word s)
+step (awaiting option s) word = if begins_with_minus word then None else option_map between (set_in option word s)
 
 -- the same where line feeds, and more bytes than there is room for, can't stand
 unfoldable pub word_in : ℕ → State → List ℕ → Option State
@@ -77,7 +106,7 @@ word_in room state word = if has_line_feed word || nat_lt room (length word) the
 -- at the end of the words
 abbrev pub ended : State → Result Settings Misplaced
 ended (between s) = Ok s
-ended (awaiting name s) = Err End
+ended (awaiting option s) = Err End
 
 -- the words from word k on, with room for so many bytes
 unfoldable pub words_in : ℕ → ℕ → State → List (List ℕ) → Result Settings Misplaced
@@ -89,23 +118,35 @@ words_in k room state (word ∷ words) =
 pub data Request : Type 0 where
   serving : Settings → Request
   replaying : Request
-  showing : Request
+  showing : Format → Request
 
 -- what it asks for
 abbrev pub asked_by : Request → Asked
 asked_by (serving s) = asked_of s
 asked_by replaying = Replay
-asked_by showing = ShowCapture
+asked_by (showing what) = shown_as what
 
 -- no word follows
 abbrev pub last_in : ℕ → Request → List (List ℕ) → Result Request Misplaced
 last_in k request [] = Ok request
 last_in k request (word ∷ words) = Err (Word k)
 
+-- the format with this name
+unfoldable pub format_named : List ℕ → Option Format
+format_named word =
+    if bytes_eq word (codes "091") then Some format.Amqp091
+    else (if bytes_eq word (codes "10") then Some format.Amqp10
+    else (if bytes_eq word (codes "capture") then Some format.Capture else None))
+
+-- behind the name of a format no word follows
+abbrev pub format_in : Option Format → List (List ℕ) → Result Request Misplaced
+format_in None words = Err (Word 2)
+format_in (Some what) words = last_in 3 (showing what) words
+
 -- after `show`
 abbrev pub shown_in : List (List ℕ) → Result Request Misplaced
 shown_in [] = Err End
-shown_in (word ∷ words) = if bytes_eq word (codes "capture") then last_in 3 showing words else Err (Word 2)
+shown_in (word ∷ words) = format_in (format_named word) words
 
 -- after `serve`
 abbrev pub served_in : Result Settings Misplaced → Result Request Misplaced

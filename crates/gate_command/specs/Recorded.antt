@@ -8,6 +8,7 @@ use Rattle.gate_capture.specs.Captures.{IsCapture}
 use Rattle.gate_capture.specs.Reading.{capture_in}
 use Rattle.gate_capture.specs.declared.reading.CaptureFault.{CaptureFault}
 use Rattle.gate_capture.specs.declared.reading.CaptureFault.TheVariants as fault
+use Rattle.gate_model.specs.Setup.{SetupText}
 use Rattle.gate_runs.specs.declared.limits.Limits.{Limits}
 use Rattle.gate_show.specs.Listing.{lines}
 use Rattle.gate_show.specs.Showing.{IsListed}
@@ -66,28 +67,29 @@ Says meant line answer held held' =
 
 -- ---- replays
 
--- the words that this text tells ask for a run of the service with these limits
-pub record ServesBy (text : List ℕ) (c : Limits) : Type 0 where
+-- the words that this text tells ask for a run of the service with these limits, whose pairs share this
+pub record ServesBy (text : List ℕ) (c : Limits) (s : SetupText) : Type 0 where
   pub listen : List ℕ
+  pub upstream : List ℕ
   pub path : Option (List ℕ)
-  pub asks : Asks (words_of text) (Serve c listen path)
+  pub asks : Asks (words_of text) (Serve c s listen upstream path)
 
 -- and it is text
-abbrev pub AsksFor : List ℕ → Limits → Type 0
-AsksFor text c = IsUtf8 text × ServesBy text c
+abbrev pub AsksFor : List ℕ → Limits → SetupText → Type 0
+AsksFor text c s = IsUtf8 text × ServesBy text c s
 
 -- what the words read ask for
-abbrev pub IsService : Result Asked Misplaced → Limits → Type 0
-IsService read c = (listen : List ℕ) × (path : Option (List ℕ)) × (read ≡ Ok (Serve c listen path))
+abbrev pub IsService : Result Asked Misplaced → Limits → SetupText → Type 0
+IsService read c s = (listen : List ℕ) × (upstream : List ℕ) × (path : Option (List ℕ)) × (read ≡ Ok (Serve c s listen upstream path))
 
 -- what a replay says of the words and the log of a capture
 pub data IsOf (words : List ℕ) (log : List LogEntry) : Status → List ℕ → Type 0 where
   -- its words ask for no run
-  WithoutRun : ((c : Limits) → ¬ AsksFor words c) → IsOf words log status.BadInput (bad_line 8 (fault_text fault.Kind))
-  -- its log is a run of the service, with all its laws
-  IsSame : (c : Limits) (count : ℕ) → AsksFor words c → IsRerun c count log → IsOf words log status.Ok (same_line (length log))
-  -- a run over its answers makes other calls from this place on
-  IsAnother : (c : Limits) (k : ℕ) → AsksFor words c → IsOther c log k → IsOf words log status.Differs (differs_line k)
+  WithoutRun : ((c : Limits) (s : SetupText) → ¬ AsksFor words c s) → IsOf words log status.BadInput (bad_line 8 (fault_text fault.Kind))
+  -- its log is the run of the service that its words ask for, with all its laws
+  IsSame : (c : Limits) (s : SetupText) (count : ℕ) → AsksFor words c s → IsRerun s c count log → IsOf words log status.Ok (same_line (length log))
+  -- that run over its answers makes other calls from this place on
+  IsAnother : (c : Limits) (s : SetupText) (k : ℕ) → AsksFor words c s → IsOther s c log k → IsOf words log status.Differs (differs_line k)
 
 -- and of the bytes of an input
 pub data IsVerdict (bytes : List ℕ) : Status → List ℕ → Type 0 where

@@ -7,6 +7,7 @@ use Rattle.gate_outside.specs.declared.log.LogEntry.{LogEntry}
 use Rattle.gate_outside.specs.declared.log.LogEntry.TheVariants.{Write}
 use Rattle.gate_outside.specs.LogState.{LogState, entry_of}
 use Rattle.gate_capture.specs.Replay.{ReplayState, begun, whole, difference}
+use Rattle.gate_model.specs.Setup.{SetupText}
 use Rattle.gate_runs.specs.declared.limits.Limits.{Limits}
 use Rattle.gate_runs.specs.declared.served.Served.{Served}
 use Rattle.gate_runs.specs.Marks.{History, calls}
@@ -61,23 +62,23 @@ Answers rerun count (Differs k) = (difference rerun.ports ≡ Some k) × (rerun.
 -- ---- what a replay says of a log
 
 -- these are the calls of a run of the service, with all its laws, in which so many pairs ran out of memory
-pub record IsRerun (c : Limits) (count : ℕ) (log : List LogEntry) : Type 0 where
+pub record IsRerun (s : SetupText) (c : Limits) (count : ℕ) (log : List LogEntry) : Type 0 where
   pub history : History
   pub made : log ≡ reverse (calls history)
   pub how : Served
-  pub run : IsRunOf c how count None None None None history
+  pub run : IsRunOf s c how count None None None None history
 
 -- the run made other calls than the recorded ones: both lists are the same before this place, and not there
 pub record GoesApart (k : ℕ) (made log : List LogEntry) : Type 0 where
   pub front : take k made ≡ take k log
   pub other : slice_get made k ≢ slice_get log k
 
-pub record IsOther (c : Limits) (log : List LogEntry) (k : ℕ) : Type 0 where
+pub record IsOther (s : SetupText) (c : Limits) (log : List LogEntry) (k : ℕ) : Type 0 where
   pub made : List LogEntry
-  pub run : IsRerun c 0 made
+  pub run : IsRerun s c 0 made
   pub place : GoesApart k made log
 
 -- the log is a run of the service, with so many calls; or it parts from one at this place
-abbrev pub Replays : Limits → List LogEntry → Replayed → Type 0
-Replays c log (Same n) = (n ≡ length log) × ((count : ℕ) × IsRerun c count log)
-Replays c log (Differs k) = IsOther c log k
+abbrev pub Replays : SetupText → Limits → List LogEntry → Replayed → Type 0
+Replays s c log (Same n) = (n ≡ length log) × ((count : ℕ) × IsRerun s c count log)
+Replays s c log (Differs k) = IsOther s c log k

@@ -11,7 +11,16 @@ use Rattle.gate_command.specs.Reading.{State, between, awaiting, Request, servin
 
 -- what the options say that were read
 abbrev pub settings_of : Gathered → Settings
-settings_of g = record { listen = option_copied g.listen; pairs = g.pairs; turns = g.turns; capture = option_copied g.capture }
+settings_of g = record {
+  listen = option_copied g.listen;
+  upstream = option_copied g.upstream;
+  name = option_copied g.name;
+  host = option_copied g.host;
+  vhost = option_copied g.vhost;
+  pairs = g.pairs;
+  turns = g.turns;
+  capture = option_copied g.capture;
+}
 
 -- where the reading stands
 abbrev pub state_of : Progress → State
@@ -27,7 +36,7 @@ answer_of (Err misplaced) = Err misplaced
 abbrev pub request_of : Command → Request
 request_of (command.Serve g) = serving (settings_of g)
 request_of command.Replay = replaying
-request_of command.ShowCapture = showing
+request_of (command.Show what) = showing what
 
 -- what the reading of all words answers
 abbrev pub reply_of : Result Command Misplaced → Result Request Misplaced

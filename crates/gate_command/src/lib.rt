@@ -2,6 +2,7 @@
 #![tactic(auto)]
 
 mod input;
+mod listing;
 mod options;
 mod recorded;
 mod replay;

@@ -2,7 +2,7 @@
 
 ghost use Rattle.std.specs.Prelude.{◌≡◌, ◌≤◌, ℕ, List, IfSome, option_map, option_copied};
 ghost use Rattle.gate_command.specs.Command.{nothing_given};
-ghost use Rattle.gate_command.specs.Reading.{is_free, cut, option_named, number_in, set_in, option_in, step, word_in, ended};
+ghost use Rattle.gate_command.specs.Reading.{is_free, cut, option_named, text_in, short_in, name_in, host_in, number_in, set_in, option_in, step, word_in, ended};
 ghost use Rattle.gate_command.specs.View.{settings_of, state_of, answer_of};
 
 use crate::words::Misplaced;
@@ -10,10 +10,26 @@ use crate::words::Misplaced;
 /// Turns are at most 2^47.
 pub const MOST_TURNS: u64 = 140_737_488_355_328;
 
+/// Pairs are at most 2^32 - 1.
+const MOST_PAIRS: u64 = 4_294_967_295;
+
+/// The most bytes of a name.
+const MOST_NAME: usize = 100;
+
+/// The most bytes of a host.
+const MOST_HOST: usize = 200;
+
+/// The most bytes of a virtual host.
+const MOST_VHOST: usize = 255;
+
 /// An option's name.
 #[derive(Clone, Copy, Debug, PartialEq, Eq)]
 pub enum OptionName {
     Listen,
+    Upstream,
+    Name,
+    Host,
+    Vhost,
     Pairs,
     Turns,
     Capture,
@@ -23,6 +39,10 @@ pub enum OptionName {
 #[derive(Clone, Copy, Debug)]
 pub struct Gathered<'a> {
     pub listen: Option<&'a str>,
+    pub upstream: Option<&'a str>,
+    pub name: Option<&'a str>,
+    pub host: Option<&'a str>,
+    pub vhost: Option<&'a str>,
     pub pairs: Option<u32>,
     pub turns: Option<u64>,
     pub capture: Option<&'a str>,
@@ -43,6 +63,14 @@ fn option_of(text: &str) -> Option<OptionName>
 {
     if text == "--listen" {
         Some(OptionName::Listen)
+    } else if text == "--upstream" {
+        Some(OptionName::Upstream)
+    } else if text == "--name" {
+        Some(OptionName::Name)
+    } else if text == "--host" {
+        Some(OptionName::Host)
+    } else if text == "--vhost" {
+        Some(OptionName::Vhost)
     } else if text == "--pairs" {
         Some(OptionName::Pairs)
     } else if text == "--turns" {
@@ -63,6 +91,43 @@ fn cut_of(word: &str) -> (&str, Option<&str>)
         Some((front, back)) => (front, Some(back)),
         None => (word, None),
     }
+}
+
+/// A text, which isn't empty.
+fn text_of(text: &str) -> Option<&str>
+    ensures { option_copied result ≡ text_in text.now }
+{
+    if text.is_empty() { None } else { Some(text) }
+}
+
+/// A text of at most so many bytes, which isn't empty.
+#[tactic(auto, unfolding(crate::specs::Reading::short_in))]
+fn short_of(text: &str, most: usize) -> Option<&str>
+    ensures { option_copied result ≡ short_in most text.now }
+{
+    if text.len() <= most {
+        text_of(text)
+    } else {
+        None
+    }
+}
+
+/// A name by which containers know the gateway.
+fn name_of(text: &str) -> Option<&str>
+    ensures { option_copied result ≡ name_in text.now }
+{
+    if text.is_ascii() {
+        short_of(text, MOST_NAME)
+    } else {
+        None
+    }
+}
+
+/// A host that containers are asked for.
+fn host_of(text: &str) -> Option<&str>
+    ensures { option_copied result ≡ host_in text.now }
+{
+    short_of(text, MOST_HOST)
 }
 
 /// The number from 1 to `most` that these digits write, without leading zero.
@@ -86,6 +151,10 @@ impl<'a> Gathered<'a> {
     {
         Gathered {
             listen: None,
+            upstream: None,
+            name: None,
+            host: None,
+            vhost: None,
             pairs: None,
             turns: None,
             capture: None,
@@ -98,6 +167,10 @@ impl<'a> Gathered<'a> {
     {
         match name {
             OptionName::Listen => self.listen.is_none(),
+            OptionName::Upstream => self.upstream.is_none(),
+            OptionName::Name => self.name.is_none(),
+            OptionName::Host => self.host.is_none(),
+            OptionName::Vhost => self.vhost.is_none(),
             OptionName::Pairs => self.pairs.is_none(),
             OptionName::Turns => self.turns.is_none(),
             OptionName::Capture => self.capture.is_none(),
@@ -110,63 +183,39 @@ impl<'a> Gathered<'a> {
         ensures { option_map settings_of result ≡ set_in name value.now (settings_of self.entry) }
     {
         match name {
-            OptionName::Listen => self.with_listen(value),
-            OptionName::Pairs => self.with_pairs(value),
-            OptionName::Turns => self.with_turns(value),
-            OptionName::Capture => self.with_capture(value),
+            OptionName::Listen => Some(Gathered {
+                listen: Some(text_of(value)?),
+                ..self
+            }),
+            OptionName::Upstream => Some(Gathered {
+                upstream: Some(text_of(value)?),
+                ..self
+            }),
+            OptionName::Name => Some(Gathered {
+                name: Some(name_of(value)?),
+                ..self
+            }),
+            OptionName::Host => Some(Gathered {
+                host: Some(host_of(value)?),
+                ..self
+            }),
+            OptionName::Vhost => Some(Gathered {
+                vhost: Some(short_of(value, MOST_VHOST)?),
+                ..self
+            }),
+            OptionName::Pairs => Some(Gathered {
+                pairs: Some(number_of(value, MOST_PAIRS)? as u32),
+                ..self
+            }),
+            OptionName::Turns => Some(Gathered {
+                turns: Some(number_of(value, MOST_TURNS)?),
+                ..self
+            }),
+            OptionName::Capture => Some(Gathered {
+                capture: Some(text_of(value)?),
+                ..self
+            }),
         }
-    }
-
-    /// An address is any text but the empty one.
-    #[tactic(auto, unfolding(crate::specs::Reading::set_in))]
-    fn with_listen(self, value: &'a str) -> Option<Gathered<'a>>
-        ensures { option_map settings_of result ≡ set_in OptionName.Listen value.now (settings_of self.entry) }
-    {
-        if value.is_empty() {
-            return None;
-        }
-        Some(Gathered {
-            listen: Some(value),
-            ..self
-        })
-    }
-
-    /// A count of pairs is any number of its type but 0.
-    #[tactic(auto, unfolding(crate::specs::Reading::set_in))]
-    fn with_pairs(self, value: &str) -> Option<Gathered<'a>>
-        ensures { option_map settings_of result ≡ set_in OptionName.Pairs value.now (settings_of self.entry) }
-    {
-        let pairs = number_of(value, u32::MAX as u64)?;
-        Some(Gathered {
-            pairs: Some(pairs as u32),
-            ..self
-        })
-    }
-
-    /// A count of turns is from 1 to 2^47.
-    #[tactic(auto, unfolding(crate::specs::Reading::set_in))]
-    fn with_turns(self, value: &str) -> Option<Gathered<'a>>
-        ensures { option_map settings_of result ≡ set_in OptionName.Turns value.now (settings_of self.entry) }
-    {
-        let turns = number_of(value, MOST_TURNS)?;
-        Some(Gathered {
-            turns: Some(turns),
-            ..self
-        })
-    }
-
-    /// A path is any text but the empty one.
-    #[tactic(auto, unfolding(crate::specs::Reading::set_in))]
-    fn with_capture(self, value: &'a str) -> Option<Gathered<'a>>
-        ensures { option_map settings_of result ≡ set_in OptionName.Capture value.now (settings_of self.entry) }
-    {
-        if value.is_empty() {
-            return None;
-        }
-        Some(Gathered {
-            capture: Some(value),
-            ..self
-        })
     }
 
     /// After an option's first word, which may have its value too.

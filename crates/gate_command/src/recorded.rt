@@ -4,6 +4,7 @@ ghost use Rattle.std.specs.Prelude.{◌≡◌, ◌≢◌, ◌⊎◌, ◌≤◌, 
 ghost use Rattle.std.specs.List.{AllByRecursion};
 ghost use Rattle.gate_outside.specs.Counts.{Rose};
 ghost use Rattle.gate_capture.specs.Spelling.{HasSpelling};
+ghost use Rattle.gate_model.specs.Setup.{SetupText};
 ghost use Rattle.gate_runs.specs.Form.{IsInForm};
 ghost use Rattle.gate_runs.specs.declared.limits.Limits.{Limits};
 ghost use Rattle.gate_show.specs.declared.show.Shown.{Shown};
@@ -19,6 +20,7 @@ use crate::told_words::words_of;
 use crate::top_call::Status;
 use crate::words::{Asked, Misplaced, read_words};
 use gate_capture::{Capture, CaptureFault, read_capture};
+use gate_model::Setup;
 use gate_outside::{Sink, Source};
 use gate_runs::Limits;
 use gate_show::{Shown, show_capture};
@@ -63,7 +65,7 @@ fn say_bad<K: Sink>(
 }
 
 /// Writes the line for an input that is too long.
-fn say_too_long<K: Sink>(alloc: Global, out: &mut K) -> Result<Status, Memory>
+pub fn say_too_long<K: Sink>(alloc: Global, out: &mut K) -> Result<Status, Memory>
     ensures later { K.faults out.old ≤ K.faults out.new }
     ensures cause { result ≡ Ok Status.Outside → Rose (K.faults out.old) (K.faults out.new) }
     ensures said { IfOk result (λ answer. Says Status.BadInput long_line answer (K.held out.old) (K.held out.new)) }
@@ -80,21 +82,21 @@ fn say_too_long<K: Sink>(alloc: Global, out: &mut K) -> Result<Status, Memory>
     )
 }
 
-/// The limits of the run that words ask for, if they do.
-fn service_of(read: Result<Asked, Misplaced>) -> Option<Limits>
-    ensures some { IfSome result (IsService read) }
-    ensures none { IfNone result ((c : Limits) → ¬ IsService read c) }
+/// The run that words ask for, if they do: its limits, and what its pairs share.
+fn service_of(read: Result<Asked, Misplaced>) -> Option<(Limits, Setup)>
+    ensures some { IfSome result (λ run. IsService read run.0 run.1) }
+    ensures none { IfNone result ((c : Limits) (s : SetupText) → ¬ IsService read c s) }
 {
     match read {
-        Ok(Asked::Serve { limits, .. }) => Some(limits),
-        Ok(Asked::Replay | Asked::ShowCapture) | Err(_) => None,
+        Ok(Asked::Serve { limits, setup, .. }) => Some((limits, setup)),
+        Ok(Asked::Replay | Asked::Show091 | Asked::Show10 | Asked::ShowCapture) | Err(_) => None,
     }
 }
 
-/// The limits of the run that the words ask for which a text tells after `serve`.
-fn limits_in(alloc: Global, text: &str) -> Result<Option<Limits>, Memory>
-    ensures some { IfOk result (λ o. IfSome o (λ c. ServesBy text.now c × IsInForm c)) }
-    ensures none { IfOk result (λ o. IfNone o ((c : Limits) → ¬ ServesBy text.now c)) }
+/// The run that the words ask for which a text tells after `serve`.
+fn service_in(alloc: Global, text: &str) -> Result<Option<(Limits, Setup)>, Memory>
+    ensures some { IfOk result (λ o. IfSome o (λ run. ServesBy text.now run.0 run.1 × IsInForm run.0)) }
+    ensures none { IfOk result (λ o. IfNone o ((c : Limits) (s : SetupText) → ¬ ServesBy text.now c s)) }
 {
     let words = words_of(alloc, text)?;
     let read = read_words(alloc, &words)?;
@@ -102,12 +104,12 @@ fn limits_in(alloc: Global, text: &str) -> Result<Option<Limits>, Memory>
 }
 
 /// The same of bytes; `None` also where they are no text.
-fn limits_of(alloc: Global, text: &[u8]) -> Result<Option<Limits>, Memory>
-    ensures some { IfOk result (λ o. IfSome o (λ c. AsksFor text.now c × IsInForm c)) }
-    ensures none { IfOk result (λ o. IfNone o ((c : Limits) → ¬ AsksFor text.now c)) }
+fn service_told(alloc: Global, text: &[u8]) -> Result<Option<(Limits, Setup)>, Memory>
+    ensures some { IfOk result (λ o. IfSome o (λ run. AsksFor text.now run.0 run.1 × IsInForm run.0)) }
+    ensures none { IfOk result (λ o. IfNone o ((c : Limits) (s : SetupText) → ¬ AsksFor text.now c s)) }
 {
     match std::str::from_utf8(text) {
-        Ok(text) => limits_in(alloc, text),
+        Ok(text) => service_in(alloc, text),
         Err(_) => Ok(None),
     }
 }
@@ -146,9 +148,9 @@ fn judge_run<K: Sink>(alloc: Global, capture: Capture, out: &mut K) -> Result<St
     ensures never { result ≢ Ok Status.Usage }
 {
     let Capture { words, entries } = capture;
-    match limits_of(alloc, words.as_slice())? {
-        Some(limits) => {
-            let replayed = replay(alloc, &limits, entries)?;
+    match service_told(alloc, words.as_slice())? {
+        Some((limits, setup)) => {
+            let replayed = replay(alloc, &setup, &limits, entries)?;
             say_replayed(alloc, out, replayed)
         }
         None => say_bad(alloc, out, WORDS_AT, CaptureFault::Kind),

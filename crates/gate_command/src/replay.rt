@@ -9,6 +9,7 @@ ghost use Rattle.gate_command.specs.Replaying.{Answers, Replays};
 use crate::rerun::Rerun;
 use crate::serving::serve_lawfully;
 use gate_capture::NoCapture;
+use gate_model::Setup;
 use gate_outside::{Entries, Sink, Sunk};
 use gate_runs::{Limits, Served};
 use std::alloc::Global;
@@ -59,16 +60,22 @@ fn answer_of(rerun: &Rerun, served: Served, out_of_memory: u32) -> Result<Replay
 ///
 /// `Memory` where there is none for the ports or the loop, or where the calls differ and a pair ran
 /// out of it, or those since then were too many to note.
-pub fn replay(alloc: Global, limits: &Limits, entries: Entries) -> Result<Replayed, Memory>
+pub fn replay(
+    alloc: Global,
+    setup: &Setup,
+    limits: &Limits,
+    entries: Entries,
+) -> Result<Replayed, Memory>
     requires form { IsInForm limits.now }
     requires spelled { AllByRecursion HasSpelling entries }
-    ensures { IfOk result (Replays limits.now entries) }
+    ensures { IfOk result (Replays setup.now limits.now entries) }
 {
     let mut rerun = Rerun::new(alloc, entries)?;
     let mut report = Nowhere;
     let mut recorder = NoCapture;
     let (served, out_of_memory) = serve_lawfully(
         alloc,
+        setup,
         limits,
         &mut rerun,
         &mut report,

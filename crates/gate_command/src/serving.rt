@@ -12,8 +12,9 @@ ghost use Rattle.gate_command.specs.Runs.{IsRunOf};
 use crate::top_call::Status;
 use gate_capture::{NoCapture, Recorder, write_entry, write_start};
 use gate_laws::runs_are_lawful;
+use gate_model::Setup;
 use gate_outside::{Call, Ports, Sink, write_all};
-use gate_pair::{Pair, Setup};
+use gate_pair::Pair;
 use gate_runs::{Limits, Served};
 use gate_turns::serve;
 use std::alloc::Global;
@@ -49,6 +50,7 @@ fn status_of(served: Served) -> Status
 /// Serves, and records the calls. All laws of a run hold of the calls that were made.
 pub fn serve_lawfully<P: Ports, K: Sink, T: Recorder>(
     alloc: Global,
+    setup: &Setup,
     limits: &Limits,
     ports: &mut P,
     out: &mut K,
@@ -63,16 +65,17 @@ pub fn serve_lawfully<P: Ports, K: Sink, T: Recorder>(
     ensures capture { result.0 ≡ Served.Fault Outside.Capture → Rose (T.faults recorder.old) (T.faults recorder.new) }
     ensures tape { T.faults recorder.old ≤ T.faults recorder.new }
     ensures served { (base : List LogEntry) → P.log ports.old ≡ Some base
-        → HasHistory base (P.log ports.new) (IsRunOf limits.now result.0 result.1 (K.held out.old) (K.held out.new)
+        → HasHistory base (P.log ports.new) (IsRunOf setup.now limits.now result.0 result.1 (K.held out.old) (K.held out.new)
         (T.held recorder.old) (T.held recorder.new)) }
 {
     runs_are_lawful();
-    serve::<P, Pair, K, T>(alloc, &Setup, ports, limits, out, recorder)
+    serve::<P, Pair, K, T>(alloc, setup, ports, limits, out, recorder)
 }
 
 /// A run of the service of which no record is kept; its status.
 pub fn run_unrecorded<P: Ports, K: Sink>(
     alloc: Global,
+    setup: &Setup,
     limits: &Limits,
     ports: &mut P,
     out: &mut K,
@@ -84,16 +87,17 @@ pub fn run_unrecorded<P: Ports, K: Sink>(
     ensures never { result ≢ Status.Usage }
     ensures outside { result ≡ Status.Outside
         → Rose (P.faults ports.old) (P.faults ports.new) ⊎ Rose (K.faults out.old) (K.faults out.new) }
-    ensures ran { Ran limits.now result (K.held out.old) (K.held out.new) None None (P.log ports.old) (P.log ports.new) }
+    ensures ran { Ran setup.now limits.now result (K.held out.old) (K.held out.new) None None (P.log ports.old) (P.log ports.new) }
 {
     let mut recorder = NoCapture;
-    let (served, _count) = serve_lawfully(alloc, limits, ports, out, &mut recorder);
+    let (served, _count) = serve_lawfully(alloc, setup, limits, ports, out, &mut recorder);
     status_of(served)
 }
 
 /// A run of the service whose calls are written to the capture; its status.
 fn run_recorded<P: Ports, K: Sink, C: Sink>(
     alloc: Global,
+    setup: &Setup,
     limits: &Limits,
     ports: &mut P,
     out: &mut K,
@@ -107,10 +111,10 @@ fn run_recorded<P: Ports, K: Sink, C: Sink>(
     ensures outside { result ≡ Status.Outside → Rose (P.faults ports.old) (P.faults ports.new)
         ⊎ Rose (K.faults out.old) (K.faults out.new) ⊎ Rose (C.faults capture.old.sink) (C.faults capture.new.sink) }
     ensures later { C.faults capture.old.sink ≤ C.faults capture.new.sink }
-    ensures ran { Ran limits.now result (K.held out.old) (K.held out.new) (C.held capture.old.sink) (C.held capture.new.sink)
+    ensures ran { Ran setup.now limits.now result (K.held out.old) (K.held out.new) (C.held capture.old.sink) (C.held capture.new.sink)
         (P.log ports.old) (P.log ports.new) }
 {
-    let (served, _count) = serve_lawfully(alloc, limits, ports, out, capture);
+    let (served, _count) = serve_lawfully(alloc, setup, limits, ports, out, capture);
     status_of(served)
 }
 
@@ -127,6 +131,7 @@ fn tell_lost_start<K: Sink>(out: &mut K)
 pub fn begin_and_run<P: Ports, K: Sink, C: Sink>(
     alloc: Global,
     text: &[u8],
+    setup: &Setup,
     limits: &Limits,
     ports: &mut P,
     out: &mut K,
@@ -140,7 +145,7 @@ pub fn begin_and_run<P: Ports, K: Sink, C: Sink>(
     ensures never { result ≢ Status.Usage }
     ensures outside { result ≡ Status.Outside → Rose (P.faults ports.old) (P.faults ports.new)
         ⊎ Rose (K.faults out.old) (K.faults out.new) ⊎ Rose (C.faults capture.old.sink) (C.faults capture.new.sink) }
-    ensures outcome { BeginsAndRuns text.now limits.now result
+    ensures outcome { BeginsAndRuns text.now setup.now limits.now result
         (around (K.faults out.old) (K.held out.old) (C.held capture.old.sink) (P.log ports.old))
         (around (K.faults out.new) (K.held out.new) (C.held capture.new.sink) (P.log ports.new))
         ⊎ FailsToBegin text.now result
@@ -151,5 +156,5 @@ pub fn begin_and_run<P: Ports, K: Sink, C: Sink>(
         tell_lost_start(out);
         return Status::Outside;
     }
-    run_recorded(alloc, limits, ports, out, capture)
+    run_recorded(alloc, setup, limits, ports, out, capture)
 }

@@ -8,9 +8,12 @@ ghost use Rattle.gate_runs.specs.Form.{IsInForm};
 ghost use Rattle.gate_command.specs.Command.{AreInForm, Asks, text_of};
 ghost use Rattle.gate_command.specs.Outcome.{number_of, usage_line, around, AsksToServe, Outcome, WithoutInput};
 
+use crate::listing::run_listing;
 use crate::recorded::{run_replay, run_show};
 use crate::serving::{CaptureSink, begin_and_run, run_unrecorded};
 use crate::words::{Asked, Misplaced, read_words};
+use gate_listing::Dialect;
+use gate_model::Setup;
 use gate_outside::{Ports, Sink, Source, write_all};
 use gate_runs::Limits;
 use gate_turns::tell_number;
@@ -21,13 +24,13 @@ use wire_base::{ByteText, Memory};
 #[derive(Clone, Copy, Debug, PartialEq, Eq)]
 pub enum Status {
     /// 0: `idle` answered `Stop`, or the pairs asked for were accepted and have closed. Or the
-    /// input is a capture whose run was the same again, or that was listed.
+    /// input is a capture whose run was the same again, or it was listed.
     Ok,
     /// 1: the calls of a replay aren't the recorded ones.
     Differs,
     /// 2: the words aren't a command line.
     Usage,
-    /// 3: the input is no capture of a run, or has 268,435,456 bytes or more.
+    /// 3: the input is no capture of a run or isn't whole units, or has 268,435,456 bytes or more.
     BadInput,
     /// 4: accept, the input, out or the capture failed.
     Outside,
@@ -77,10 +80,11 @@ fn text_after_first(alloc: Global, words: &Vec<String>) -> Result<String, Memory
     }
 }
 
-/// Serves with these limits, and writes a capture where one is wanted.
+/// Serves with these limits and this set-up, and writes a capture where one is wanted.
 fn serve_as_asked<P: Ports, K: Sink, C: Sink>(
     alloc: Global,
     words: &Vec<String>,
+    setup: &Setup,
     limits: &Limits,
     path: &Option<ByteText>,
     ports: &mut P,
@@ -89,7 +93,7 @@ fn serve_as_asked<P: Ports, K: Sink, C: Sink>(
 ) -> Status
     requires pairs { P.pairs ports.old ≡ 0 }
     requires ends { P.ends ports.old ≡ [] }
-    requires asks { AsksToServe (map string_bytes words.now.items) limits.now path.now }
+    requires asks { AsksToServe (map string_bytes words.now.items) limits.now setup.now path.now }
     requires form { IsInForm limits.now }
     ensures ends { P.ends ports.new ≡ [] }
     ensures outside { result ≡ Status.Outside → Rose (P.faults ports.old) (P.faults ports.new)
@@ -100,10 +104,10 @@ fn serve_as_asked<P: Ports, K: Sink, C: Sink>(
         (around (K.faults out.new) (K.held out.new) (C.held capture.new.sink) (P.log ports.new)) }
 {
     if path.is_none() {
-        return run_unrecorded(alloc, limits, ports, out);
+        return run_unrecorded(alloc, setup, limits, ports, out);
     }
     match text_after_first(alloc, words) {
-        Ok(text) => begin_and_run(alloc, text.as_bytes(), limits, ports, out, capture),
+        Ok(text) => begin_and_run(alloc, text.as_bytes(), setup, limits, ports, out, capture),
         Err(Memory) => Status::Memory,
     }
 }
@@ -135,17 +139,22 @@ fn run_as_asked<P: Ports, S: Source, K: Sink, C: Sink>(
     match asked {
         Asked::Serve {
             limits,
+            setup,
             listen: _,
+            upstream: _,
             capture: path,
-        } => serve_as_asked(alloc, words, limits, path, ports, out, capture),
+        } => serve_as_asked(alloc, words, setup, limits, path, ports, out, capture),
         Asked::Replay => run_replay(alloc, input, out),
+        Asked::Show091 => run_listing(alloc, Dialect::Amqp091, input, out),
+        Asked::Show10 => run_listing(alloc, Dialect::Amqp10, input, out),
         Asked::ShowCapture => run_show(alloc, input, out),
     }
 }
 
 /// Does what the words ask for: serves over the ports, and writes the report to out. Where a
 /// capture is asked for, it writes its start and each call to the capture. Or reads a capture from
-/// the input, makes its run again or lists it, and writes to out what it found. Where the words
+/// the input, makes its run again or lists it, or lists the units of a byte stream, and writes to
+/// out what it found. Where the words
 /// aren't a command line, it writes the place instead.
 pub fn gateway<P: Ports, S: Source, K: Sink, C: Sink>(
     alloc: Global,

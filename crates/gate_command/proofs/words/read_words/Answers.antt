@@ -2,8 +2,14 @@ use Rattle.std.proofs.Common.{◌≡◌, Ok, Err, map, sym, ◌∙◌, ap}
 use Rattle.std.specs.String.{string_bytes}
 use Rattle.gate_command.specs.Reading.{asked_by, command_in}
 use Rattle.gate_command.specs.View.{request_of}
-use Rattle.gate_command.proofs.CommandLaws.{command_in-is, is-command_in, command_in-ceases, limits_in_form}
+use Rattle.gate_command.proofs.CommandLaws.{command_in-is, is-command_in, command_in-ceases, asked_in_form}
 use Rattle.gate_command.proofs.words.read_words.Goals as goal
+
+pub asked_for-requires : goal.asked_for-requires
+asked_for-requires c =
+    let read : command_in (map string_bytes c.args.words.now.items) ≡ Ok (request_of c.in-Ok.command) = rw (← c.as_slice.ensures.value) (sym c.in-Ok.ensures) in
+    let asks = command_in-is (map string_bytes c.args.words.now.items) (request_of c.in-Ok.command) read in
+    asked_in_form _ _ asks.command
 
 pub returns-in_ok-asked_for-in-Ok-clause-found : goal.returns-in_ok-asked_for-in-Ok-clause-found
 returns-in_ok-asked_for-in-Ok-clause-found c =
@@ -21,7 +27,7 @@ pub returns-in_ok-asked_for-in-Ok-clause-in_form : goal.returns-in_ok-asked_for-
 returns-in_ok-asked_for-in-Ok-clause-in_form c =
     let read : command_in (map string_bytes c.args.words.now.items) ≡ Ok (request_of c.in-Ok.command) = rw (← c.as_slice.ensures.value) (sym c.in-Ok.ensures) in
     let asks = command_in-is (map string_bytes c.args.words.now.items) (request_of c.in-Ok.command) read in
-    rw c.in_ok-asked_for-in-Ok.ensures (limits_in_form _ _ asks.command)
+    rw c.in_ok-asked_for-in-Ok.ensures (asked_in_form _ _ asks.command)
 
 pub returns-in-Err-clause-only : goal.returns-in-Err-clause-only
 returns-in-Err-clause-only c = λ asked asks.
