@@ -1,6 +1,6 @@
 //! What is printed of a line of the input.
 
-use crate::closes::{code_text, condition_text};
+use crate::closes::{code_text, condition_text, error_text};
 use crate::contents::{content_text, frames_text};
 use crate::frames::{frame_text, header_text};
 use crate::machine::connection_text;
@@ -11,7 +11,7 @@ use crate::words::{line_of, number_first, put_run, short_of};
 use machine_091::Conn91;
 use std::alloc::Global;
 use tests_support::{Cases, Names, part};
-use wire_base::Memory;
+use wire_base::{ByteText, Memory};
 
 /// The names so far, and the connection of the cases of units.
 #[derive(Drop)]
@@ -24,7 +24,7 @@ impl Cases091 {
     pub fn new(alloc: Global) -> Cases091 {
         Cases091 {
             names: Names::new(alloc),
-            conn: Conn91::new(),
+            conn: Conn91::new(ByteText::empty(alloc)),
         }
     }
 }
@@ -169,6 +169,19 @@ fn numbered_text(
     }
 }
 
+/// What a reply code is translated to.
+fn coded_text(alloc: Global, verb: &str, words: &str) -> Result<Option<String>, Memory> {
+    let Ok(code) = words.parse::<u16>() else {
+        return Ok(None);
+    };
+    let text = if verb == "code" {
+        code_text(alloc, code)?
+    } else {
+        error_text(alloc, code)?
+    };
+    Ok(Some(text))
+}
+
 /// The answer to a case; `None` where it is none.
 fn case_text(alloc: Global, names: &Names, line: &str) -> Result<Option<String>, Memory> {
     let (verb, rest) = line.split_once(' ').unwrap_or((line, ""));
@@ -181,10 +194,7 @@ fn case_text(alloc: Global, names: &Names, line: &str) -> Result<Option<String>,
         "close" => closing_text(alloc, names, rest),
         "close-ok" => Ok(Some(close_ok_text(alloc)?)),
         "kinds" => Ok(Some(kinds_text(alloc)?)),
-        "code" => match rest.parse::<u16>() {
-            Ok(code) => Ok(Some(code_text(alloc, code)?)),
-            Err(_) => Ok(None),
-        },
+        "code" | "error" => coded_text(alloc, verb, rest),
         "condition" => condition_text(alloc, names, rest),
         _ => numbered_text(alloc, names, verb, rest),
     }

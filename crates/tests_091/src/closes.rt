@@ -1,6 +1,7 @@
 //! Cases of the codes and names of closes.
 
-use close_translate::{Scope, code_name, code_of};
+use close_translate::{Scope, code_name, code_of, condition_of};
+use performatives_10::condition_name;
 use std::alloc::Global;
 use tests_support::{Names, put_text};
 use wire_base::Memory;
@@ -9,6 +10,13 @@ use wire_base::Memory;
 pub fn code_text(alloc: Global, code: u16) -> Result<String, Memory> {
     let mut out = String::new(alloc);
     put_text(&mut out, code_name(code))?;
+    Ok(out)
+}
+
+/// The error condition for a reply code.
+pub fn error_text(alloc: Global, code: u16) -> Result<String, Memory> {
+    let mut out = String::new(alloc);
+    put_text(&mut out, condition_name(condition_of(code)))?;
     Ok(out)
 }
 

@@ -5,7 +5,7 @@ use frames_091::{Frame91, Kind91, scan_frame};
 use machine_091::{Conn91, Refusal, Unit91, Want91};
 use std::alloc::Global;
 use tests_support::{Names, put_bytes};
-use wire_base::{Memory, Scan};
+use wire_base::{ByteText, Memory, Scan};
 
 /// The kind of a frame by its name.
 fn kind_of(word: &str) -> Option<Kind91> {
@@ -213,6 +213,28 @@ fn step_text(
     Ok(Some(out))
 }
 
+/// The virtual host that a connection's client may open: the one that is told, or else `/`.
+fn vhost_of(alloc: Global, names: &Names, words: &str) -> Result<Option<ByteText>, Memory> {
+    if words.is_empty() {
+        return Ok(Some(ByteText::copy_of(alloc, b"/")?));
+    }
+    names.joined(alloc, words)
+}
+
+/// A new connection, and what can be asked of it; `None` where no virtual host is told.
+fn begun_text(
+    alloc: Global,
+    names: &Names,
+    conn: &mut Conn91,
+    words: &str,
+) -> Result<Option<String>, Memory> {
+    let Some(vhost) = vhost_of(alloc, names, words)? else {
+        return Ok(None);
+    };
+    *conn = Conn91::new(vhost);
+    Ok(Some(state_text(alloc, conn)?))
+}
+
 /// A case of the connection: `connection` begins a new one, `take` takes a unit or another event, and `try` does it on a copy.
 pub fn connection_text(
     alloc: Global,
@@ -222,13 +244,10 @@ pub fn connection_text(
 ) -> Result<Option<String>, Memory> {
     let (verb, rest) = line.split_once(' ').unwrap_or((line, ""));
     match verb {
-        "connection" => {
-            *conn = Conn91::new();
-            Ok(Some(state_text(alloc, conn)?))
-        }
+        "connection" => begun_text(alloc, names, conn, rest),
         "take" => step_text(alloc, names, conn, rest),
         "try" => {
-            let mut copy = conn.clone()?;
+            let mut copy = conn.copy(alloc)?;
             step_text(alloc, names, &mut copy, rest)
         }
         _ => Ok(None),

@@ -12,10 +12,11 @@
 //! | `content-of FRAME / FRAME ..` | what each frame of a content comes to: `header BYTES`, `body BYTES` |
 //! | `close CODE CLASS METHOD BYTES`, `close-ok` | the frame that is written without memory |
 //! | `code N`, `condition SCOPE BYTES`, `condition SCOPE` | the name of a reply code, and the code for an error condition |
+//! | `error N` | the error condition for a reply code |
 //! | `u8 END BYTES`, `u16`, `u32`, `u64`, `short`, `long` | what the readers take from the front of bytes that end at an offset |
 //! | `set AT N BYTES`, `truncate N BYTES`, `discard N BYTES` | the bytes after that |
 //! | `room N BYTES` | the bytes in so much reserved room if they fit, how many more do, and the bytes without the first |
-//! | `connection` | what can be asked of a new connection |
+//! | `connection`, `connection BYTES` | what can be asked of a new connection to the virtual host `/`, or to that one |
 //! | `take UNIT`, `try UNIT` | what a unit wants, and the state after it if it is another one; `try` leaves the connection as it was |
 //!
 //! A unit is `protocol`, `bad CODE`, `frame BYTES`, or `method CHANNEL BYTES` and so on by its kind; in its place may stand another

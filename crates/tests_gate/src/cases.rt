@@ -1,8 +1,10 @@
 //! The lines of the input.
 
-use crate::command::command_text;
+use crate::command::{command_text, setup_of};
 use crate::plays::put_play;
+use crate::runs::Peer;
 use crate::scenario::{Scenario, Sent, Taken};
+use gate_outside::End;
 use std::alloc::Global;
 use tests_support::{Cases, Names};
 use wire_base::Memory;
@@ -15,11 +17,11 @@ pub struct GateCases {
 }
 
 impl GateCases {
-    pub fn new(alloc: Global) -> GateCases {
-        GateCases {
+    pub fn new(alloc: Global) -> Result<GateCases, Memory> {
+        Ok(GateCases {
             names: Names::new(alloc),
-            scenario: Scenario::new(alloc),
-        }
+            scenario: Scenario::new(alloc)?,
+        })
     }
 }
 
@@ -41,12 +43,12 @@ fn set_number(scenario: &mut Scenario, name: &str, number: u32) -> bool {
     true
 }
 
-/// Adds what a client sends; whether the bytes are told rightly.
+/// Adds what a peer sends; whether the bytes are told rightly.
 fn add_sent(
     alloc: Global,
     names: &Names,
     scenario: &mut Scenario,
-    pair: u32,
+    peer: Peer,
     after: u64,
     ends: bool,
     text: &str,
@@ -55,7 +57,7 @@ fn add_sent(
         return Ok(false);
     };
     scenario.sent.push(Sent {
-        pair,
+        peer,
         after,
         bytes,
         ends,
@@ -63,19 +65,19 @@ fn add_sent(
     Ok(true)
 }
 
-/// Adds how much a client's writes take; whether these are numbers.
-fn add_taken(scenario: &mut Scenario, pair: u32, text: &str) -> Result<bool, Memory> {
+/// Adds how much a peer's writes take; whether these are numbers.
+fn add_taken(scenario: &mut Scenario, peer: Peer, text: &str) -> Result<bool, Memory> {
     for word in text.split(' ') {
         let Ok(most) = word.parse::<u32>() else {
             return Ok(false);
         };
-        scenario.taken.push(Taken { pair, most })?;
+        scenario.taken.push(Taken { peer, most })?;
     }
     Ok(true)
 }
 
 /// The same over and over, so many times.
-fn add_taken_often(scenario: &mut Scenario, pair: u32, text: &str) -> Result<bool, Memory> {
+fn add_taken_often(scenario: &mut Scenario, peer: Peer, text: &str) -> Result<bool, Memory> {
     let Some((count, text)) = text.split_once(' ') else {
         return Ok(false);
     };
@@ -83,19 +85,19 @@ fn add_taken_often(scenario: &mut Scenario, pair: u32, text: &str) -> Result<boo
         return Ok(false);
     };
     for _ in 0..count {
-        if !add_taken(scenario, pair, text)? {
+        if !add_taken(scenario, peer, text)? {
             return Ok(false);
         }
     }
     Ok(true)
 }
 
-/// Adds what a client sends once it took so much.
+/// Adds what a peer sends once it took so much.
 fn add_waiting(
     alloc: Global,
     names: &Names,
     scenario: &mut Scenario,
-    pair: u32,
+    peer: Peer,
     text: &str,
 ) -> Result<bool, Memory> {
     let Some((after, text)) = text.split_once(' ') else {
@@ -104,10 +106,18 @@ fn add_waiting(
     let Ok(after) = after.parse::<u64>() else {
         return Ok(false);
     };
-    add_sent(alloc, names, scenario, pair, after, false, text)
+    add_sent(alloc, names, scenario, peer, after, false, text)
 }
 
-/// What a client does.
+/// The end that words speak of, and the words behind it: the container's where they begin with `up`.
+pub fn end_first(words: &str) -> (End, &str) {
+    match words.strip_prefix("up ") {
+        Some(rest) => (End::Up, rest),
+        None => (End::Client, words),
+    }
+}
+
+/// What a peer does.
 fn add_deed(
     alloc: Global,
     names: &Names,
@@ -115,13 +125,15 @@ fn add_deed(
     pair: u32,
     deed: &str,
 ) -> Result<bool, Memory> {
+    let (end, deed) = end_first(deed);
+    let peer = Peer { pair, end };
     let (verb, text) = deed.split_once(' ').unwrap_or((deed, ""));
     match verb {
-        "sends" => add_sent(alloc, names, scenario, pair, 0, false, text),
-        "ends" => add_sent(alloc, names, scenario, pair, 0, true, text),
-        "after" => add_waiting(alloc, names, scenario, pair, text),
-        "takes" => add_taken(scenario, pair, text),
-        "often" => add_taken_often(scenario, pair, text),
+        "sends" => add_sent(alloc, names, scenario, peer, 0, false, text),
+        "ends" => add_sent(alloc, names, scenario, peer, 0, true, text),
+        "after" => add_waiting(alloc, names, scenario, peer, text),
+        "takes" => add_taken(scenario, peer, text),
+        "often" => add_taken_often(scenario, peer, text),
         _ => Ok(false),
     }
 }
@@ -140,6 +152,34 @@ fn add_input(
     Ok(true)
 }
 
+/// Sets what the pairs share; whether the words tell it.
+fn add_setup(alloc: Global, scenario: &mut Scenario, text: &str) -> Result<bool, Memory> {
+    match setup_of(alloc, text)? {
+        Some(setup) => {
+            scenario.setup = setup;
+            Ok(true)
+        }
+        None => Ok(false),
+    }
+}
+
+/// What a peer does, or a number; whether it is either.
+fn take_other(
+    alloc: Global,
+    names: &Names,
+    scenario: &mut Scenario,
+    first: &str,
+    rest: &str,
+) -> Result<bool, Memory> {
+    if let Ok(pair) = first.parse::<u32>() {
+        return add_deed(alloc, names, scenario, pair, rest);
+    }
+    match rest.parse::<u32>() {
+        Ok(number) => Ok(set_number(scenario, first, number)),
+        Err(_) => Ok(false),
+    }
+}
+
 /// A line that prints nothing; whether it is one.
 fn take_line(
     alloc: Global,
@@ -150,18 +190,11 @@ fn take_line(
     let Some((first, rest)) = line.split_once(' ') else {
         return Ok(false);
     };
-    if first == "name" {
-        return names.add(alloc, rest);
-    }
-    if first == "input" {
-        return add_input(alloc, names, scenario, rest);
-    }
-    if let Ok(pair) = first.parse::<u32>() {
-        return add_deed(alloc, names, scenario, pair, rest);
-    }
-    match rest.parse::<u32>() {
-        Ok(number) => Ok(set_number(scenario, first, number)),
-        Err(_) => Ok(false),
+    match first {
+        "name" => names.add(alloc, rest),
+        "input" => add_input(alloc, names, scenario, rest),
+        "setup" => add_setup(alloc, scenario, rest),
+        _ => take_other(alloc, names, scenario, first, rest),
     }
 }
 
@@ -169,11 +202,11 @@ impl Cases for GateCases {
     fn answer(&mut self, alloc: Global, line: &str) -> Result<Option<String>, Memory> {
         let mut out = String::new(alloc);
         if put_play(alloc, &self.names, &self.scenario, line, &mut out)? {
-            self.scenario = Scenario::new(alloc);
+            self.scenario = Scenario::new(alloc)?;
             return Ok(Some(out));
         }
         if let Some(text) = command_text(alloc, &self.scenario, line)? {
-            self.scenario = Scenario::new(alloc);
+            self.scenario = Scenario::new(alloc)?;
             return Ok(Some(text));
         }
         if take_line(alloc, &mut self.names, &mut self.scenario, line)? {

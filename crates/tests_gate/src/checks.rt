@@ -1,29 +1,30 @@
 //! Plays in which a call fails: what must hold of each, whichever call it is.
 
-use crate::runs::{Kind, Run, kind_of, pair_of};
+use crate::runs::{Kind, Peer, Run, kind_of, peer_of};
 use crate::scenario::{Scenario, Way, failed, played, reported};
-use gate_outside::{Accepted, Got, LogEntry, Put};
+use gate_outside::{Accepted, Got, Linked, LogEntry, Put};
 use gate_runs::{Outside, Served};
 use std::alloc::Global;
 use tests_support::part;
 use wire_base::Memory;
 
-/// Each pair that was accepted was shut once, and no other.
+/// As many ends were shut as opened, and each pair that was accepted was closed once, and no other.
 fn is_all_shut(alloc: Global, run: &Run) -> Result<bool, Memory> {
     let accepted = run.accepted(alloc)?;
-    let shut = run.shut(alloc)?;
-    if shut.len() != accepted.len() {
+    let closed = run.closed(alloc)?;
+    let shut = run.places(alloc, Kind::Shut)?.len();
+    if shut != run.opened_count() || closed.len() != accepted.len() {
         return Ok(false);
     }
     for pair in &accepted {
-        if !shut.contains(pair) {
+        if !closed.contains(pair) {
             return Ok(false);
         }
     }
     Ok(true)
 }
 
-/// The report has a line for each pair that was shut, in order, and this line at its end.
+/// The report has a line for each pair that closed, in order, and this line at its end.
 fn reports(alloc: Global, run: &Run, last: &str) -> Result<bool, Memory> {
     let lines = run.lines_and(alloc, last)?;
     Ok(run.report.as_slice() == lines.as_bytes())
@@ -42,18 +43,34 @@ fn only_shuts_follow(run: &Run, at: usize) -> bool {
     true
 }
 
-/// Right behind a place a pair is shut, and nothing else is called for it.
-fn only_its_shut_follows(run: &Run, at: usize, pair: u32) -> bool {
-    let next = at.saturating_add(1);
+/// Behind a place an end is shut, before anything is called for another pair, and nothing else is called for it.
+fn only_its_shut_follows(run: &Run, at: usize, peer: Peer) -> bool {
+    let mut is_shut = false;
     for k in 0..run.calls.len() {
         if let Some(entry) = run.calls.get(k)
             && k > at
         {
-            let is_its = pair_of(entry) == Some(pair);
+            let other = peer_of(entry);
+            let is_its = other == Some(peer);
+            let is_of_pair = other.is_some_and(|other| other.pair == peer.pair);
             let shuts = kind_of(entry) == Kind::Shut;
-            if is_its != (k == next) || (is_its && !shuts) {
+            if (is_its && (is_shut || !shuts)) || (!is_shut && !is_of_pair) {
                 return false;
             }
+            is_shut = is_shut || is_its;
+        }
+    }
+    is_shut
+}
+
+/// Behind a place nothing is called for an end.
+fn nothing_of_it_follows(run: &Run, at: usize, peer: Peer) -> bool {
+    for k in 0..run.calls.len() {
+        if let Some(entry) = run.calls.get(k)
+            && k > at
+            && peer_of(entry) == Some(peer)
+        {
+            return false;
         }
     }
     true
@@ -65,12 +82,22 @@ fn accept_failed(alloc: Global, run: &Run, at: usize) -> Result<bool, Memory> {
     Ok(told && run.served == Served::Fault(Outside::Accept) && only_shuts_follow(run, at))
 }
 
-/// After a failed read or write of a pair, that pair is shut at once, and nothing else is called for it.
-fn pair_failed(alloc: Global, run: &Run, at: usize, pair: u32) -> Result<bool, Memory> {
+/// The service goes on after what failed of a pair, until it is stopped.
+fn goes_on(alloc: Global, run: &Run) -> Result<bool, Memory> {
     let count = run.accepted(alloc)?.len();
     let last = format!(in alloc; "stopped: {count} pairs\n")?;
     let told = reports(alloc, run, last.as_str())?;
-    Ok(told && run.served == Served::Stopped && only_its_shut_follows(run, at, pair))
+    Ok(told && run.served == Served::Stopped)
+}
+
+/// After a failed read or write of an end, that end is shut at once, and nothing else is called for it.
+fn end_failed(alloc: Global, run: &Run, at: usize, peer: Peer) -> Result<bool, Memory> {
+    Ok(goes_on(alloc, run)? && only_its_shut_follows(run, at, peer))
+}
+
+/// After a failed connect nothing is called for that end.
+fn link_failed(alloc: Global, run: &Run, at: usize, peer: Peer) -> Result<bool, Memory> {
+    Ok(goes_on(alloc, run)? && nothing_of_it_follows(run, at, peer))
 }
 
 /// A call of a kind that cannot fail: the run goes as if none were to.
@@ -85,18 +112,23 @@ fn is_right(alloc: Global, run: &Run, plain: &Run, at: usize) -> Result<bool, Me
     if run.out_of_memory != 0 || !is_all_shut(alloc, run)? {
         return Ok(false);
     }
-    match run.calls.get(at) {
-        Some(LogEntry::Accept { answer }) => {
+    let Some(entry) = run.calls.get(at) else {
+        return Ok(false);
+    };
+    match (entry, peer_of(entry)) {
+        (LogEntry::Accept { answer }, _) => {
             Ok(*answer == Accepted::Failed && accept_failed(alloc, run, at)?)
         }
-        Some(LogEntry::Read { pair, answer, .. }) => {
-            Ok(*answer == Got::Failed && pair_failed(alloc, run, at, *pair)?)
+        (LogEntry::Read { answer, .. }, Some(peer)) => {
+            Ok(*answer == Got::Failed && end_failed(alloc, run, at, peer)?)
         }
-        Some(LogEntry::Write { pair, answer, .. }) => {
-            Ok(*answer == Put::Failed && pair_failed(alloc, run, at, *pair)?)
+        (LogEntry::Write { answer, .. }, Some(peer)) => {
+            Ok(*answer == Put::Failed && end_failed(alloc, run, at, peer)?)
         }
-        Some(LogEntry::Connect { .. }) | None => Ok(false),
-        Some(_) => Ok(nothing_failed(run, plain)),
+        (LogEntry::Connect { answer, .. }, Some(peer)) => {
+            Ok(*answer == Linked::Failed && link_failed(alloc, run, at, peer)?)
+        }
+        _ => Ok(nothing_failed(run, plain)),
     }
 }
 
@@ -141,17 +173,16 @@ fn lines_in(text: &[u8]) -> usize {
 /// After the shut whose line the report refused, ends are shut and nothing else is called.
 fn stops_at_once(run: &Run, lines: usize) -> bool {
     let told = lines_in(run.report.as_slice());
-    let mut shut = 0usize;
+    let mut closed = 0usize;
     for k in 0..run.calls.len() {
         if let Some(entry) = run.calls.get(k) {
-            let shuts = kind_of(entry) == Kind::Shut;
-            if !shuts && shut > told {
+            if kind_of(entry) != Kind::Shut && closed > told {
                 return false;
             }
-            shut = shut.saturating_add(usize::from(shuts));
+            closed = closed.saturating_add(usize::from(run.closed_at(k).is_some()));
         }
     }
-    shut > told || told.saturating_add(1) == lines
+    closed > told || told.saturating_add(1) == lines
 }
 
 /// What a report that failed holds is a front part of the whole report, and the service ended with its failure.

@@ -1,4 +1,4 @@
-//! connection.close, made of its parts apart from the gateway's own (AMQP 0-9-1 4.2.3).
+//! The closes of both standards, made of their parts apart from the gateway's own (AMQP 0-9-1 4.2.3; AMQP 1.0 2.7.9).
 
 use std::alloc::Global;
 use wire_base::{ByteText, Memory};
@@ -34,4 +34,37 @@ pub fn close(
     payload.append(&class.to_be_bytes())?;
     payload.append(&method.to_be_bytes())?;
     frame(alloc, payload.as_slice())
+}
+
+/// A list in its short form: so many values, with these bytes (AMQP 1.0 1.6.22).
+fn append_list(bytes: &mut ByteText, count: u8, values: &[u8]) -> Result<(), Memory> {
+    let size = u8::try_from(values.len()).unwrap_or(u8::MAX);
+    bytes.append(&[0xC0, size.saturating_add(1), count])?;
+    bytes.append(values)
+}
+
+/// An error with a condition alone.
+fn error(alloc: Global, condition: &[u8]) -> Result<ByteText, Memory> {
+    let mut name = ByteText::copy_of(alloc, &[0xA3])?;
+    append_short(&mut name, condition)?;
+    let mut bytes = ByteText::copy_of(alloc, &[0x00, 0x53, 0x1D])?;
+    append_list(&mut bytes, 1, name.as_slice())?;
+    Ok(bytes)
+}
+
+/// The close of a container's connection, perhaps with an error of this condition.
+pub fn up_close(alloc: Global, condition: Option<&[u8]>) -> Result<ByteText, Memory> {
+    let mut body = ByteText::copy_of(alloc, &[0x00, 0x53, 0x18])?;
+    match condition {
+        None => body.append(&[0x45])?,
+        Some(condition) => {
+            let error = error(alloc, condition)?;
+            append_list(&mut body, 1, error.as_slice())?;
+        }
+    }
+    let size = u32::try_from(body.as_slice().len()).unwrap_or(0);
+    let mut bytes = ByteText::copy_of(alloc, &size.saturating_add(8).to_be_bytes())?;
+    bytes.append(&[2, 0, 0, 0])?;
+    bytes.append(body.as_slice())?;
+    Ok(bytes)
 }

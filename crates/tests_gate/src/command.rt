@@ -4,6 +4,7 @@ use crate::called::{Called, call_again, call_gateway, put_uncaptured};
 use crate::scenario::Scenario;
 use crate::telling::put_report;
 use gate_command::{Asked, Misplaced, Status, read_words};
+use gate_model::Setup;
 use std::alloc::Global;
 use tests_support::{bytes_of, put_bytes, put_text};
 use wire_base::Memory;
@@ -22,35 +23,76 @@ fn word_of(alloc: Global, text: &str) -> Result<Option<String>, Memory> {
     }
 }
 
-/// The words between bars; none where the text is empty.
-fn words_of(alloc: Global, text: &str) -> Result<Option<Vec<String>>, Memory> {
-    let mut words = Vec::new(alloc);
-    if text.is_empty() {
-        return Ok(Some(words));
-    }
+/// Adds the words between bars; whether they are told rightly.
+fn add_words(alloc: Global, words: &mut Vec<String>, text: &str) -> Result<bool, Memory> {
     for part in text.split('|') {
         match word_of(alloc, part)? {
             Some(word) => words.push(word)?,
-            None => return Ok(None),
+            None => return Ok(false),
         }
     }
-    Ok(Some(words))
+    Ok(true)
+}
+
+/// The words between bars; none where the text is empty.
+fn words_of(alloc: Global, text: &str) -> Result<Option<Vec<String>>, Memory> {
+    let mut words = Vec::new(alloc);
+    if text.is_empty() || add_words(alloc, &mut words, text)? {
+        return Ok(Some(words));
+    }
+    Ok(None)
+}
+
+/// What the pairs of a service share by the words between bars behind `serve`; `None` where they are told wrongly.
+pub fn setup_of(alloc: Global, text: &str) -> Result<Option<Setup>, Memory> {
+    let mut words = Vec::new(alloc);
+    words.push(String::from_str(alloc, "serve")?)?;
+    if !add_words(alloc, &mut words, text)? {
+        return Ok(None);
+    }
+    match read_words(alloc, &words)? {
+        Ok(Asked::Serve { setup, .. }) => Ok(Some(setup)),
+        Ok(_) | Err(_) => Ok(None),
+    }
 }
 
 /// A command without options.
 fn put_other(out: &mut String, asked: &Asked) -> Result<(), Memory> {
     match asked {
         Asked::Replay => out.push_str("replay")?,
+        Asked::Show091 => out.push_str("show 091")?,
+        Asked::Show10 => out.push_str("show 10")?,
         Asked::ShowCapture => out.push_str("show capture")?,
         Asked::Serve { .. } => out.push_str("serve")?,
     }
     Ok(())
 }
 
+/// A text behind a title, where it is another one than where no word says it.
+fn put_text_of(out: &mut String, title: &str, text: &[u8], plain: &str) -> Result<(), Memory> {
+    if text == plain.as_bytes() {
+        return Ok(());
+    }
+    out.push_str(title)?;
+    put_text(out, text)
+}
+
+/// What the pairs share, where it is something else than where no word says it.
+fn put_setup(out: &mut String, setup: &Setup) -> Result<(), Memory> {
+    put_text_of(out, ", named", setup.name().as_slice(), "amqp-gate")?;
+    if let Some(host) = setup.host() {
+        out.push_str(", to the host")?;
+        put_text(out, host.as_slice())?;
+    }
+    put_text_of(out, ", virtual host", setup.vhost().as_slice(), "/")
+}
+
 /// What words ask for.
 fn put_asked(out: &mut String, asked: &Asked) -> Result<(), Memory> {
     let Asked::Serve {
         limits,
+        setup,
+        upstream,
         listen,
         capture,
     } = asked
@@ -64,6 +106,8 @@ fn put_asked(out: &mut String, asked: &Asked) -> Result<(), Memory> {
     let turns = limits.turns;
     write!(out, ", {turns} turns, at")?;
     put_text(out, listen.as_slice())?;
+    put_text_of(out, ", upstream", upstream.as_slice(), "127.0.0.1:5673")?;
+    put_setup(out, setup)?;
     if let Some(path) = capture {
         out.push_str(", captured at")?;
         put_text(out, path.as_slice())?;

@@ -1,4 +1,5 @@
-//! Cases of the gateway: reads scenarios line by line, plays each over scripted ports, and prints what each client got.
+//! Cases of the gateway: reads scenarios line by line, plays each over scripted ports, and prints what each client and each
+//! container got.
 //!
 //! | Line | Meaning |
 //! |---|---|
@@ -6,6 +7,8 @@
 //! | `P sends BYTES`, `P ends BYTES` | the client of pair P sends a piece, and ends after it |
 //! | `P after N BYTES` | it sends a piece once it took N bytes |
 //! | `P takes N N ..`, `P often K N N ..` | its next writes take at most so many bytes, K times over |
+//! | `P up sends BYTES`, and so on | the same of the container of pair P |
+//! | `setup W|W` | the words between bars, behind `serve`, say what the pairs share: the gateway's name and the hosts |
 //! | `pairs N`, `idles N`, `step N` | how many clients come (1), how often `idle` answers (9), the milliseconds of a turn (1) |
 //! | `limit N`, `turns N`, `report N` | the pairs asked for (1; 0 for no limit), the turns (20,000), the bytes that the report may have |
 //! | `fault N` | call N of the run fails |
@@ -16,10 +19,11 @@
 //!
 //! | Line | Answer |
 //! |---|---|
-//! | `play` | what each client got, and the report |
+//! | `play` | what each client got, each container (`up P`), and the report |
 //! | `times` | the same with the moment of each unit |
 //! | `ways` | also in one piece and byte by byte; what differs is printed |
 //! | `cuts`, `pieces` | cut at each place, and in each way into three pieces; what differs from the one before is printed |
+//! | `up ways`, `up cuts`, `up pieces` | the same of what the container of pair 0 sends |
 //! | `list` | each call with its answer, and the report |
 //! | `counts` | how many accepts were tried, and how many pairs lived at most |
 //! | `reads` | how many bytes were read of those that came byte by byte |
@@ -51,5 +55,8 @@ use std::io;
 use tests_support::answer_lines;
 
 fn main(rt: HostRuntime) -> io::Result<()> {
-    answer_lines(&rt, &mut GateCases::new(rt.alloc()))
+    match GateCases::new(rt.alloc()) {
+        Ok(mut cases) => answer_lines(&rt, &mut cases),
+        Err(_) => Err(io::Error::from(io::ErrorKind::OutOfMemory)),
+    }
 }

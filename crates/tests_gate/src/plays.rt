@@ -1,8 +1,10 @@
 //! The lines that play a scenario.
 
+use crate::cases::end_first;
 use crate::checks::{put_fails, put_unreported};
 use crate::scenario::{Scenario, Way, played};
 use crate::telling::{listing, put_counts, put_reads, told};
+use gate_outside::End;
 use std::alloc::Global;
 use tests_support::Names;
 use wire_base::Memory;
@@ -35,14 +37,15 @@ fn put_ways(
     alloc: Global,
     names: &Names,
     scenario: &Scenario,
+    end: End,
     out: &mut String,
 ) -> Result<(), Memory> {
     let mut last = String::new(alloc);
     let line = line_of(alloc, names, scenario, Way::Units, false)?;
     add_line(out, &mut last, line, "")?;
-    let line = line_of(alloc, names, scenario, Way::Whole, false)?;
+    let line = line_of(alloc, names, scenario, Way::Whole(end), false)?;
     add_line(out, &mut last, line, "in one piece: ")?;
-    let line = line_of(alloc, names, scenario, Way::Singly, false)?;
+    let line = line_of(alloc, names, scenario, Way::Singly(end), false)?;
     add_line(out, &mut last, line, "byte by byte: ")
 }
 
@@ -51,13 +54,14 @@ fn put_cuts(
     alloc: Global,
     names: &Names,
     scenario: &Scenario,
+    end: End,
     out: &mut String,
 ) -> Result<(), Memory> {
-    let all = scenario.at_once(alloc)?;
+    let all = scenario.at_once(alloc, end)?;
     let size = all.as_slice().len();
     let mut last = String::new(alloc);
     for at in 0..size {
-        let line = line_of(alloc, names, scenario, Way::Cut(at, size), false)?;
+        let line = line_of(alloc, names, scenario, Way::Cut(end, at, size), false)?;
         let way = format!(in alloc; "from {at}: ")?;
         add_line(out, &mut last, line, way.as_str())?;
     }
@@ -69,14 +73,15 @@ fn put_pieces(
     alloc: Global,
     names: &Names,
     scenario: &Scenario,
+    end: End,
     out: &mut String,
 ) -> Result<(), Memory> {
-    let all = scenario.at_once(alloc)?;
+    let all = scenario.at_once(alloc, end)?;
     let size = all.as_slice().len();
     let mut last = String::new(alloc);
     for from in 0..=size {
         for to in from..=size {
-            let line = line_of(alloc, names, scenario, Way::Cut(from, to), false)?;
+            let line = line_of(alloc, names, scenario, Way::Cut(end, from, to), false)?;
             let way = format!(in alloc; "from {from} and {to}: ")?;
             add_line(out, &mut last, line, way.as_str())?;
         }
@@ -103,6 +108,7 @@ fn put_calls(
     alloc: Global,
     names: &Names,
     scenario: &Scenario,
+    end: End,
     verb: &str,
     out: &mut String,
 ) -> Result<bool, Memory> {
@@ -117,7 +123,7 @@ fn put_calls(
             put_counts(alloc, &run, out)?;
         }
         "reads" => {
-            let run = played(alloc, scenario, Way::Singly)?;
+            let run = played(alloc, scenario, Way::Singly(end))?;
             put_reads(&run, out)?;
         }
         "fails" => put_fails(alloc, scenario, out)?,
@@ -132,16 +138,17 @@ pub fn put_play(
     alloc: Global,
     names: &Names,
     scenario: &Scenario,
-    verb: &str,
+    words: &str,
     out: &mut String,
 ) -> Result<bool, Memory> {
+    let (end, verb) = end_first(words);
     match verb {
         "play" => put_line(alloc, names, scenario, false, out)?,
         "times" => put_line(alloc, names, scenario, true, out)?,
-        "ways" => put_ways(alloc, names, scenario, out)?,
-        "cuts" => put_cuts(alloc, names, scenario, out)?,
-        "pieces" => put_pieces(alloc, names, scenario, out)?,
-        _ => return put_calls(alloc, names, scenario, verb, out),
+        "ways" => put_ways(alloc, names, scenario, end, out)?,
+        "cuts" => put_cuts(alloc, names, scenario, end, out)?,
+        "pieces" => put_pieces(alloc, names, scenario, end, out)?,
+        _ => return put_calls(alloc, names, scenario, end, verb, out),
     }
     Ok(true)
 }

@@ -3,10 +3,11 @@
 ghost use Rattle.gate_runs.specs.Form.{IsInForm};
 
 use gate_capture::NoCapture;
+use gate_model::Setup;
 use gate_outside::{
-    Accepted, End, Entries, Got, Log, LogEntry, MemorySink, Put, Script, ScriptPorts,
+    Accepted, End, Entries, Linked, Log, LogEntry, MemorySink, Put, Script, ScriptPorts,
 };
-use gate_pair::{Pair, Setup};
+use gate_pair::Pair;
 use gate_runs::{Limits, Served};
 use gate_turns::serve;
 use std::alloc::Global;
@@ -14,6 +15,13 @@ use wire_base::{ByteText, ItemList, Memory};
 
 /// The most entries of a log, and the most bytes of them.
 pub const LOG_ROOM: usize = 262_144;
+
+/// The client or the container of a pair.
+#[derive(Clone, Copy, Debug, Drop, PartialEq, Eq)]
+pub struct Peer {
+    pub pair: u32,
+    pub end: End,
+}
 
 /// A kind of calls.
 #[derive(Clone, Copy, Debug, PartialEq, Eq)]
@@ -40,14 +48,59 @@ pub fn kind_of(entry: &LogEntry) -> Kind {
     }
 }
 
-/// The pair that a call is about.
-pub fn pair_of(entry: &LogEntry) -> Option<u32> {
+/// Whom a call is about.
+pub fn peer_of(entry: &LogEntry) -> Option<Peer> {
     match entry {
-        LogEntry::Connect { pair, .. }
-        | LogEntry::Read { pair, .. }
-        | LogEntry::Write { pair, .. }
-        | LogEntry::Shut { pair, .. } => Some(*pair),
+        LogEntry::Connect { pair, .. } => Some(Peer {
+            pair: *pair,
+            end: End::Up,
+        }),
+        LogEntry::Read { pair, end, .. }
+        | LogEntry::Write { pair, end, .. }
+        | LogEntry::Shut { pair, end } => Some(Peer {
+            pair: *pair,
+            end: *end,
+        }),
         LogEntry::Accept { .. } | LogEntry::Idle { .. } | LogEntry::Now { .. } => None,
+    }
+}
+
+/// The other end of its pair.
+fn other_of(peer: Peer) -> Peer {
+    match peer.end {
+        End::Client => Peer {
+            end: End::Up,
+            ..peer
+        },
+        End::Up => Peer {
+            end: End::Client,
+            ..peer
+        },
+    }
+}
+
+/// Whom a call opens an end of.
+fn opened_by(entry: &LogEntry) -> Option<Peer> {
+    match entry {
+        LogEntry::Accept {
+            answer: Accepted::Pair(pair),
+        } => Some(Peer {
+            pair: *pair,
+            end: End::Client,
+        }),
+        LogEntry::Connect {
+            answer: Linked::Ok,
+            ..
+        } => peer_of(entry),
+        _ => None,
+    }
+}
+
+/// Whose end a call shuts.
+fn shut_by(entry: &LogEntry) -> Option<Peer> {
+    match entry {
+        LogEntry::Shut { .. } => peer_of(entry),
+        _ => None,
     }
 }
 
@@ -56,17 +109,6 @@ pub fn count_after(count: usize, answer: Put) -> usize {
     match answer {
         Put::Took(more) => count.saturating_add(more),
         Put::NotYet | Put::Failed => count,
-    }
-}
-
-/// The pairs that live after a call, where so many did before it.
-fn live_after(entry: &LogEntry, live: u32) -> u32 {
-    match entry {
-        LogEntry::Accept {
-            answer: Accepted::Pair(_),
-        } => live.saturating_add(1),
-        LogEntry::Shut { .. } => live.saturating_sub(1),
-        _ => live,
     }
 }
 
@@ -96,6 +138,7 @@ pub fn entries_of(alloc: Global, log: &Log) -> Result<Entries, Memory> {
 /// Serves the clients of a script, and reports to a sink.
 pub fn play_into(
     alloc: Global,
+    setup: &Setup,
     script: Script,
     limits: &Limits,
     mut report: MemorySink,
@@ -106,7 +149,7 @@ pub fn play_into(
     let mut recorder = NoCapture;
     let (served, out_of_memory) = serve::<ScriptPorts, Pair, MemorySink, NoCapture>(
         alloc,
-        &Setup,
+        setup,
         &mut ports,
         limits,
         &mut report,
@@ -121,21 +164,60 @@ pub fn play_into(
 }
 
 impl Run {
-    /// The pairs whose clients' ends were shut, in order.
-    pub fn shut(&self, alloc: Global) -> Result<Vec<u32>, Memory> {
+    /// Whether an end is open before the call at a place.
+    fn is_open(&self, at: usize, peer: Peer) -> bool {
+        let mut is_open = false;
+        for k in 0..at {
+            if let Some(entry) = self.calls.get(k) {
+                is_open = opened_by(entry) == Some(peer)
+                    || (is_open && shut_by(entry) != Some(peer));
+            }
+        }
+        is_open
+    }
+
+    /// The pair of which the call at a place shuts the last open end.
+    pub fn closed_at(&self, at: usize) -> Option<u32> {
+        let peer = shut_by(self.calls.get(at)?)?;
+        if self.is_open(at, other_of(peer)) {
+            None
+        } else {
+            Some(peer.pair)
+        }
+    }
+
+    /// The pairs of which all ends were shut, in order.
+    pub fn closed(&self, alloc: Global) -> Result<Vec<u32>, Memory> {
         let mut numbers = Vec::new(alloc);
         for k in 0..self.calls.len() {
-            if let Some(
-                LogEntry::Shut {
-                    pair,
-                    end: End::Client,
-                },
-            ) = self.calls.get(k)
-            {
-                numbers.push(*pair)?;
+            if let Some(pair) = self.closed_at(k) {
+                numbers.push(pair)?;
             }
         }
         Ok(numbers)
+    }
+
+    /// How many ends were opened.
+    pub fn opened_count(&self) -> usize {
+        let mut count = 0usize;
+        for k in 0..self.calls.len() {
+            if let Some(entry) = self.calls.get(k) {
+                count = count.saturating_add(usize::from(opened_by(entry).is_some()));
+            }
+        }
+        count
+    }
+
+    /// What the connection upstream of a pair was answered, if it was asked for.
+    pub fn link(&self, wanted: u32) -> Option<Linked> {
+        for k in 0..self.calls.len() {
+            if let Some(LogEntry::Connect { pair, answer }) = self.calls.get(k)
+                && *pair == wanted
+            {
+                return Some(*answer);
+            }
+        }
+        None
     }
 
     /// The pairs that were accepted, in order.
@@ -180,21 +262,27 @@ impl Run {
 
     /// The most pairs that lived at once.
     pub fn most_live(&self) -> u32 {
-        let mut live = 0;
+        let mut live = 0u32;
         let mut most = 0;
         for k in 0..self.calls.len() {
-            if let Some(entry) = self.calls.get(k) {
-                live = live_after(entry, live);
-                most = live.max(most);
+            if let Some(
+                LogEntry::Accept {
+                    answer: Accepted::Pair(_),
+                },
+            ) = self.calls.get(k)
+            {
+                live = live.saturating_add(1);
             }
+            live = live.saturating_sub(u32::from(self.closed_at(k).is_some()));
+            most = live.max(most);
         }
         most
     }
 
-    /// The lines of the pairs that were shut, in order, and one line more.
+    /// The lines of the pairs that closed, in order, and one line more.
     pub fn lines_and(&self, alloc: Global, last: &str) -> Result<String, Memory> {
         let mut lines = String::new(alloc);
-        for pair in self.shut(alloc)? {
+        for pair in self.closed(alloc)? {
             write!(lines, "pair {pair} closed\n")?;
         }
         lines.push_str(last)?;

@@ -1,42 +1,43 @@
-//! What clients do in a scenario, and plays of it.
+//! What clients and containers do in a scenario, and plays of it.
 
 ghost use Rattle.gate_runs.specs.Form.{IsInForm};
 
-use crate::runs::{Run, play_into};
+use crate::runs::{Peer, Run, play_into};
+use gate_model::Setup;
 use gate_outside::{CallList, End, MemorySink, Piece, Room, Script};
 use gate_runs::Limits;
 use std::alloc::Global;
 use tests_support::part;
 use wire_base::{ByteText, ItemList, Memory};
 
-/// How the bytes come that clients send without waiting for any.
+/// How the bytes come that an end of pair 0 sends without waiting for any.
 #[derive(Clone, Copy)]
 pub enum Way {
     /// In the pieces of the scenario.
     Units,
     /// In one piece.
-    Whole,
+    Whole(End),
     /// Each byte in a piece.
-    Singly,
+    Singly(End),
     /// In three pieces, cut at these two places.
-    Cut(usize, usize),
+    Cut(End, usize, usize),
 }
 
-/// What a client sends.
+/// What a client or a container sends.
 #[derive(Drop)]
 pub struct Sent {
-    pub pair: u32,
-    /// How many bytes the client takes before it sends this.
+    pub peer: Peer,
+    /// How many bytes it takes before it sends this.
     pub after: u64,
     pub bytes: ByteText,
-    /// Whether the client ends after it.
+    /// Whether it ends after it.
     pub ends: bool,
 }
 
-/// How much a client's write takes.
+/// How much a write to a client or a container takes.
 #[derive(Clone, Copy, Drop)]
 pub struct Taken {
-    pub pair: u32,
+    pub peer: Peer,
     pub most: u32,
 }
 
@@ -61,20 +62,29 @@ pub struct Numbers {
     pub unread: Option<u64>,
 }
 
-/// What clients do.
+/// What clients and containers do.
 #[derive(Drop)]
 pub struct Scenario {
     pub numbers: Numbers,
+    pub setup: Setup,
     pub sent: Vec<Sent>,
     pub taken: Vec<Taken>,
     /// What stands in the input of the gateway.
     pub input: ByteText,
 }
 
+/// What the pairs of a run share where no words say otherwise.
+fn plain_setup(alloc: Global) -> Result<Setup, Memory> {
+    let name = ByteText::copy_of(alloc, b"amqp-gate")?;
+    let vhost = ByteText::copy_of(alloc, b"/")?;
+    Ok(Setup::new(name, None, vhost))
+}
+
 impl Scenario {
     /// One client that does nothing.
-    pub fn new(alloc: Global) -> Scenario {
-        Scenario {
+    pub fn new(alloc: Global) -> Result<Scenario, Memory> {
+        Ok(Scenario {
+            setup: plain_setup(alloc)?,
             numbers: Numbers {
                 pairs: 1,
                 idles: 9,
@@ -90,14 +100,14 @@ impl Scenario {
             sent: Vec::new(alloc),
             taken: Vec::new(alloc),
             input: ByteText::empty(alloc),
-        }
+        })
     }
 
-    /// All bytes that are sent without waiting.
-    pub fn at_once(&self, alloc: Global) -> Result<ByteText, Memory> {
+    /// All bytes that are sent at an end without waiting.
+    pub fn at_once(&self, alloc: Global, end: End) -> Result<ByteText, Memory> {
         let mut all = ByteText::empty(alloc);
         for sent in &self.sent {
-            if is_at_once(sent) {
+            if is_at_once(sent, end) {
                 all.append(sent.bytes.as_slice())?;
             }
         }
@@ -105,45 +115,79 @@ impl Scenario {
     }
 }
 
-fn is_at_once(sent: &Sent) -> bool {
-    sent.after == 0 && !sent.ends
+fn is_at_once(sent: &Sent, end: End) -> bool {
+    sent.after == 0 && !sent.ends && sent.peer.end == end
 }
 
-/// Has a client send bytes.
+/// Has a client or a container send bytes.
 fn sends(
     alloc: Global,
     script: &mut Script,
     bytes: &[u8],
-    pair: u32,
+    peer: Peer,
     after: u64,
     ends: bool,
 ) -> Result<(), Memory> {
     script.pieces.push(Piece {
-        pair,
-        end: End::Client,
+        pair: peer.pair,
+        end: peer.end,
         after,
         bytes: ByteText::copy_of(alloc, bytes)?,
         ends,
     })
 }
 
-/// All bytes that are sent without waiting, in one of the ways.
+/// Has an end of pair 0 send bytes without waiting.
+fn sends_now(alloc: Global, script: &mut Script, bytes: &[u8], end: End) -> Result<(), Memory> {
+    sends(alloc, script, bytes, Peer { pair: 0, end }, 0, false)
+}
+
+/// All bytes that an end sends without waiting, in one of the ways.
 fn sends_all(alloc: Global, script: &mut Script, all: &[u8], way: Way) -> Result<(), Memory> {
     match way {
         Way::Units => Ok(()),
-        Way::Whole => sends(alloc, script, all, 0, 0, false),
-        Way::Singly => {
+        Way::Whole(end) => sends_now(alloc, script, all, end),
+        Way::Singly(end) => {
             for byte in all {
-                sends(alloc, script, &[*byte], 0, 0, false)?;
+                sends_now(alloc, script, &[*byte], end)?;
             }
             Ok(())
         }
-        Way::Cut(from, to) => {
-            sends(alloc, script, part(all, 0, from), 0, 0, false)?;
-            sends(alloc, script, part(all, from, to), 0, 0, false)?;
-            sends(alloc, script, part(all, to, all.len()), 0, 0, false)
+        Way::Cut(end, from, to) => {
+            sends_now(alloc, script, part(all, 0, from), end)?;
+            sends_now(alloc, script, part(all, from, to), end)?;
+            sends_now(alloc, script, part(all, to, all.len()), end)
         }
     }
+}
+
+/// The end whose bytes come otherwise than in the pieces of the scenario.
+fn changed_end(way: Way) -> Option<End> {
+    match way {
+        Way::Units => None,
+        Way::Whole(end) | Way::Singly(end) | Way::Cut(end, _, _) => Some(end),
+    }
+}
+
+/// Has clients and containers send what a scenario tells, in one of the ways.
+fn sends_so(
+    alloc: Global,
+    script: &mut Script,
+    scenario: &Scenario,
+    way: Way,
+) -> Result<(), Memory> {
+    let changed = changed_end(way);
+    if let Some(end) = changed {
+        let all = scenario.at_once(alloc, end)?;
+        sends_all(alloc, script, all.as_slice(), way)?;
+    }
+    for sent in &scenario.sent {
+        if !changed.is_some_and(|end| is_at_once(sent, end)) {
+            let bytes = sent.bytes.as_slice();
+            sends(alloc, script, bytes, sent.peer, sent.after, sent.ends)?;
+        }
+    }
+    Ok(())
 }
 
 /// The calls that fail: one, or none.
@@ -170,19 +214,11 @@ pub fn script_of(
         idles: scenario.numbers.idles,
         step: scenario.numbers.step,
     };
-    let all = scenario.at_once(alloc)?;
-    sends_all(alloc, &mut script, all.as_slice(), way)?;
-    let units = matches!(way, Way::Units);
-    for sent in &scenario.sent {
-        if units || !is_at_once(sent) {
-            let bytes = sent.bytes.as_slice();
-            sends(alloc, &mut script, bytes, sent.pair, sent.after, sent.ends)?;
-        }
-    }
+    sends_so(alloc, &mut script, scenario, way)?;
     for taken in &scenario.taken {
         script.rooms.push(Room {
-            pair: taken.pair,
-            end: End::Client,
+            pair: taken.peer.pair,
+            end: taken.peer.end,
             most: taken.most,
         })?;
     }
@@ -214,7 +250,7 @@ pub fn failed(
     let script = script_of(alloc, scenario, way, fault)?;
     let numbers = scenario.numbers;
     let sink = MemorySink::new(alloc, numbers.report, ItemList::empty(alloc))?;
-    play_into(alloc, script, &limits_of(numbers), sink)
+    play_into(alloc, &scenario.setup, script, &limits_of(numbers), sink)
 }
 
 /// A play.
@@ -232,5 +268,6 @@ pub fn reported(
     let script = script_of(alloc, scenario, Way::Units, None)?;
     let room = room.min(scenario.numbers.report);
     let sink = MemorySink::new(alloc, room, faults(alloc, fails)?)?;
-    play_into(alloc, script, &limits_of(scenario.numbers), sink)
+    let limits = limits_of(scenario.numbers);
+    play_into(alloc, &scenario.setup, script, &limits, sink)
 }

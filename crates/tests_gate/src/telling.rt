@@ -1,8 +1,8 @@
 //! What is printed of a play.
 
-use crate::closes::close;
-use crate::runs::{Kind, Run, count_after};
-use gate_outside::{Got, LogEntry, Put};
+use crate::closes::{close, up_close};
+use crate::runs::{Kind, Peer, Run, count_after, peer_of};
+use gate_outside::{End, Got, Linked, LogEntry, Put};
 use std::alloc::Global;
 use tests_support::{Names, part, put_bytes};
 use wire_base::{ByteText, Memory};
@@ -32,15 +32,35 @@ fn put_close(alloc: Global, out: &mut String, bytes: &[u8]) -> Result<bool, Memo
     Ok(true)
 }
 
+/// The close of a container's connection by its condition; whether it is one.
+fn put_up_close(alloc: Global, out: &mut String, bytes: &[u8]) -> Result<bool, Memory> {
+    if up_close(alloc, None)?.as_slice() == bytes {
+        out.push_str(" close")?;
+        return Ok(true);
+    }
+    let condition = part(bytes, 22, bytes.len());
+    let Ok(text) = std::str::from_utf8(condition) else {
+        return Ok(false);
+    };
+    if up_close(alloc, Some(condition))?.as_slice() != bytes {
+        return Ok(false);
+    }
+    write!(out, " close {text}")?;
+    Ok(true)
+}
+
 /// A unit: by its name, as a close, or its bytes.
 fn put_unit(alloc: Global, names: &Names, out: &mut String, bytes: &[u8]) -> Result<(), Memory> {
-    if names.put_name(out, bytes)? || put_close(alloc, out, bytes)? {
+    if names.put_name(out, bytes)?
+        || put_close(alloc, out, bytes)?
+        || put_up_close(alloc, out, bytes)?
+    {
         return Ok(());
     }
     put_bytes(out, bytes)
 }
 
-/// How far the talk of a pair's client has come.
+/// How far the talk with a client or a container has come.
 #[derive(Drop)]
 struct Talk {
     text: String,
@@ -94,7 +114,25 @@ fn tell_write(
     Ok(())
 }
 
-/// The shut of the client's end.
+/// The answer to the asking for the connection upstream: told where it failed, or with its moment.
+fn tell_link(talk: &mut Talk, timed: bool, answer: Linked) -> Result<(), Memory> {
+    talk.turns = 0;
+    match answer {
+        Linked::Failed => {
+            talk.text.push_str(" refused")?;
+            put_moment(talk, timed)
+        }
+        Linked::Ok if timed => {
+            talk.text.push_str(" joined")?;
+            put_moment(talk, timed)?;
+            talk.text.push_str(",")?;
+            Ok(())
+        }
+        Linked::Ok => Ok(()),
+    }
+}
+
+/// The shut of the end.
 fn tell_shut(talk: &mut Talk, timed: bool) -> Result<(), Memory> {
     let (gone, turns) = (talk.gone, talk.turns);
     if gone > 0 {
@@ -112,61 +150,37 @@ fn tell_shut(talk: &mut Talk, timed: bool) -> Result<(), Memory> {
     }
 }
 
-/// One call.
+/// A call about the one whose talk it is.
 fn tell_call(
     alloc: Global,
     names: &Names,
     talk: &mut Talk,
     timed: bool,
-    pair: u32,
     entry: &LogEntry,
 ) -> Result<(), Memory> {
     match entry {
-        LogEntry::Now { ms } => {
-            talk.moment = *ms;
-            talk.turns = talk.turns.saturating_add(1);
-            Ok(())
-        }
-        LogEntry::Read {
-            pair: other,
-            answer,
-            ..
-        } => {
-            if *other == pair && *answer != Got::NotYet {
+        LogEntry::Connect { answer, .. } => tell_link(talk, timed, *answer),
+        LogEntry::Read { answer, .. } => {
+            if *answer != Got::NotYet {
                 talk.turns = 0;
             }
             Ok(())
         }
-        LogEntry::Write {
-            pair: other,
-            bytes,
-            answer,
-            ..
-        } => {
-            if *other == pair {
-                tell_write(alloc, names, talk, timed, bytes.as_slice(), *answer)
-            } else {
-                Ok(())
-            }
+        LogEntry::Write { bytes, answer, .. } => {
+            tell_write(alloc, names, talk, timed, bytes.as_slice(), *answer)
         }
-        LogEntry::Shut { pair: other, .. } => {
-            if *other == pair {
-                tell_shut(talk, timed)
-            } else {
-                Ok(())
-            }
-        }
-        LogEntry::Accept { .. } | LogEntry::Connect { .. } | LogEntry::Idle { .. } => Ok(()),
+        LogEntry::Shut { .. } => tell_shut(talk, timed),
+        LogEntry::Accept { .. } | LogEntry::Idle { .. } | LogEntry::Now { .. } => Ok(()),
     }
 }
 
-/// What went to a pair's client, and when its end was shut.
+/// What went to a client or a container, and when its end was shut.
 fn talk_of(
     alloc: Global,
     names: &Names,
     run: &Run,
     timed: bool,
-    pair: u32,
+    peer: Peer,
 ) -> Result<String, Memory> {
     let mut talk = Talk {
         text: String::new(alloc),
@@ -177,7 +191,13 @@ fn talk_of(
     };
     for k in 0..run.calls.len() {
         if let Some(entry) = run.calls.get(k) {
-            tell_call(alloc, names, &mut talk, timed, pair, entry)?;
+            if let LogEntry::Now { ms } = entry {
+                talk.moment = *ms;
+                talk.turns = talk.turns.saturating_add(1);
+            }
+            if peer_of(entry) == Some(peer) {
+                tell_call(alloc, names, &mut talk, timed, entry)?;
+            }
         }
     }
     Ok(talk.text)
@@ -195,14 +215,32 @@ pub fn put_report(out: &mut String, report: &[u8]) -> Result<(), Memory> {
     Ok(())
 }
 
-/// A play in one line: what each client got, the pairs that met want of memory, and the report.
+/// What went to the client of a pair, and to its container if the connection upstream was asked for.
+fn put_pair(
+    alloc: Global,
+    names: &Names,
+    run: &Run,
+    timed: bool,
+    pair: u32,
+    out: &mut String,
+) -> Result<(), Memory> {
+    for end in [End::Client, End::Up] {
+        if end == End::Client || run.link(pair).is_some() {
+            let talk = talk_of(alloc, names, run, timed, Peer { pair, end })?;
+            let word = word_of(end);
+            write!(out, "{word}{pair}:")?;
+            out.push_str(talk.as_str())?;
+            out.push_str("; ")?;
+        }
+    }
+    Ok(())
+}
+
+/// A play in one line: what each client and container got, the pairs that met want of memory, and the report.
 pub fn told(alloc: Global, names: &Names, run: &Run, timed: bool) -> Result<String, Memory> {
     let mut out = String::new(alloc);
     for pair in run.accepted(alloc)? {
-        let talk = talk_of(alloc, names, run, timed, pair)?;
-        write!(out, "{pair}:")?;
-        out.push_str(talk.as_str())?;
-        out.push_str("; ")?;
+        put_pair(alloc, names, run, timed, pair, &mut out)?;
     }
     let out_of_memory = run.out_of_memory;
     if out_of_memory > 0 {
@@ -211,6 +249,14 @@ pub fn told(alloc: Global, names: &Names, run: &Run, timed: bool) -> Result<Stri
     out.push_str("report")?;
     put_report(&mut out, run.report.as_slice())?;
     Ok(out)
+}
+
+/// The word for an end, before the number of its pair.
+fn word_of(end: End) -> &'static str {
+    match end {
+        End::Client => "",
+        End::Up => "up ",
+    }
 }
 
 /// A call in the listing.
@@ -225,24 +271,29 @@ fn put_call(
         LogEntry::Connect { pair, answer } => write!(out, "connect {pair} {answer:?}")?,
         LogEntry::Read {
             pair,
+            end,
             room,
             answer,
             bytes,
-            ..
         } => {
-            write!(out, "read {pair} {room} {answer:?}")?;
+            let word = word_of(*end);
+            write!(out, "read {word}{pair} {room} {answer:?}")?;
             put_unit(alloc, names, out, bytes.as_slice())?;
         }
         LogEntry::Write {
             pair,
+            end,
             bytes,
             answer,
-            ..
         } => {
-            write!(out, "write {pair} {answer:?}")?;
+            let word = word_of(*end);
+            write!(out, "write {word}{pair} {answer:?}")?;
             put_unit(alloc, names, out, bytes.as_slice())?;
         }
-        LogEntry::Shut { pair, .. } => write!(out, "shut {pair}")?,
+        LogEntry::Shut { pair, end } => {
+            let word = word_of(*end);
+            write!(out, "shut {word}{pair}")?;
+        }
         LogEntry::Idle { answer } => write!(out, "idle {answer:?}")?,
         LogEntry::Now { ms } => write!(out, "now {ms}")?,
     }
