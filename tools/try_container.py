@@ -92,9 +92,11 @@ class PikaClient:
 
     def says(self):
         inner = self.connection._impl
+        if not self.connection.is_open:
+            return "open, and closed since"
         agreed = inner.params
         return (
-            f"open: {inner.server_properties.get('product')!r}, channels to {agreed.channel_max}, "
+            f"open: {inner.server_properties['product']!r}, channels to {agreed.channel_max}, "
             f"frames to {agreed.frame_max}, heartbeat {agreed.heartbeat}"
         )
 
@@ -127,7 +129,7 @@ class AmqpClient:
     def says(self):
         inner = self.connection
         return (
-            f"open: {inner.server_properties.get('product')!r}, channels to {inner.channel_max}, "
+            f"open: {inner.server_properties['product']!r}, channels to {inner.channel_max}, "
             f"frames to {inner.frame_max}, heartbeat {inner.heartbeat}"
         )
 
