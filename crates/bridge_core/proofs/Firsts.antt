@@ -1,5 +1,5 @@
 -- The first unit of those that are due is what goes.
-use Rattle.std.proofs.Common.{◌≡◌, ◌∙◌, ℕ, List, [], ◌∷◌, Option, Some, map, refl, sym, ap}
+use Rattle.std.proofs.Common.{◌≡◌, ◌∙◌, ℕ, List, [], ◌∷◌, ◌++◌, Option, None, Some, map, refl, sym, ap}
 use Rattle.std.specs.Option.{option_map}
 use Rattle.gate_model.specs.declared.outgoing.Outgoing.{Outgoing}
 use Rattle.gate_model.specs.declared.outgoing.Outgoing.TheVariants.{ToClient}
@@ -15,3 +15,12 @@ first_map f (x ∷ xs) = refl
 pub first_bytes : (us : List Reply) (u : Reply) (old : List ℕ) → Some u ≡ first us → client_bytes (first (map ToClient us)) old ≡ spell_reply u
 first_bytes us u old e =
     ap (λ (o : Option Outgoing). client_bytes o old) (first_map ToClient us ∙ ap (option_map ToClient) (sym e))
+
+-- of two rows that of the first, or where it has none that of the second
+pub first_some : {A : Type 0} (xs ys : List A) (u : A) → Some u ≡ first xs → first (xs ++ ys) ≡ Some u
+first_some [] ys u e = absurd cc
+first_some (x ∷ xs) ys u e = sym e
+
+pub first_none : {A : Type 0} (xs ys : List A) → None ≡ first xs → first (xs ++ ys) ≡ first ys
+first_none [] ys e = refl
+first_none (x ∷ xs) ys e = absurd cc

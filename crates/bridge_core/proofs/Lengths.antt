@@ -1,12 +1,11 @@
 -- How long what is written of a value is, and a frame.
 use Rattle.std.proofs.Common.{◌≡◌, ℕ, ◌+◌, ◌≤◌, List, length, length-append, arith}
-use Rattle.frames_10.specs.Frames.{text_behind}
+use Rattle.frames_10.specs.Frames.{frame_text, text_behind}
 use Rattle.frames_10.specs.declared.frame.Kind10.{Kind10}
 use Rattle.types_10.specs.Tree.{Tree, binary, described, list, scalar, string, symbol, Trees, tree}
 use Rattle.types_10.specs.Writing.{list_kind, value_text, written, written_each}
 use Rattle.types_10.specs.Measures.{head_len}
 use Rattle.types_10.proofs.Measures.{whole_len}
-use Rattle.gate_model.specs.Spelling.{frame_10}
 
 -- ---- texts
 
@@ -44,6 +43,6 @@ described_len d t = omega (arith, length-append (value_text d) (value_text t))
 
 -- ---- frames
 
-pub frame_len : (kind : Kind10) (body : List ℕ) → length (frame_10 kind body) ≡ 8 + length body
+pub frame_len : (kind : Kind10) (channel : ℕ) (body : List ℕ) → length (frame_text (record { kind = kind; channel = channel; body = body })) ≡ 8 + length body
 unfolding text_behind
-frame_len kind body = omega arith
+frame_len kind channel body = omega arith

@@ -1,7 +1,12 @@
 pub mod Calm
 pub mod Errors
 pub mod Firsts
+pub mod Flows
 pub mod Lengths
 pub mod Logins
+pub mod Payloads
+pub mod Places
 pub mod Rooms
+pub mod Rows
 pub mod Spellings
+pub mod Waits

@@ -17,7 +17,7 @@ use Rattle.machine_10.specs.declared.state.Upstream.{Upstream}
 use Rattle.machine_091.specs.RefusalsOpening.{is_login}
 use Rattle.machine_091.specs.declared.limits.TheConstants.{RESPONSE_MAX}
 use Rattle.gate_model.specs.Setup.{IsHost, IsInForm, IsName, SetupText}
-use Rattle.gate_model.specs.Spelling.{container_id, init_of, open_of}
+use Rattle.gate_model.specs.Spelling.{begin_perf, container_id, init_of, open_of}
 use Rattle.bridge_core.proofs.Lengths.{binary_short, described_len, each_len, list_short, string_short, symbol_short}
 
 -- ---- the trees
@@ -149,3 +149,11 @@ pub init_spelled : (c : Upstream) → is_login c.mechanism c.response ≡ true �
 init_spelled c e =
     let b = login_bounds c.mechanism c.response e in
     subst HasSpelling (sym (init_is c)) (init_tree_spelled c.mechanism c.response b.0 b.1)
+
+-- ---- the begin
+
+pub begin_short : length (perf_text begin_perf) ≤ 504
+begin_short = omega arith
+
+pub begin_spelled : HasSpelling (perf_tree begin_perf)
+begin_spelled = (omega arith, (tt, (tt, (tt, (tt, (tt, (tt, tt)))))), omega arith)

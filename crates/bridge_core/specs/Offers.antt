@@ -1,5 +1,5 @@
--- What a bridge shows: its state, and for each end whether a unit is offered, and its bytes or those
--- of the unit in progress.
+-- What a bridge shows: its state, and for each end whether a unit is offered, and its bytes or
+-- those of the unit in progress.
 use Rattle.std.specs.Prelude.{◌≡◌, ℕ, Bool, false, List, Option, Some, None, is_some}
 use Rattle.std.specs.Prelude.{IfSome}
 use Rattle.gate_outside.specs.declared.ports.End.{End}
@@ -11,7 +11,8 @@ use Rattle.gate_model.specs.declared.reply.Reply.{Reply}
 use Rattle.gate_model.specs.Due.{pick}
 use Rattle.gate_model.specs.Setup.{SetupText}
 use Rattle.gate_model.specs.Spelling.{Context, context_of, spell, spell_reply}
-use Rattle.gate_model.specs.State.{State, Step, step}
+use Rattle.gate_model.specs.State.{Came, State, Step, next_unit, step}
+use Rattle.machine_091.specs.declared.unit.Unit91.{Unit91}
 
 pub record SlotState : Type 0 where
   pub chosen : Option Reply
@@ -49,6 +50,18 @@ stale o = record { ready = false; bytes = o.bytes }
 
 abbrev pub moved : Step → BridgeState → BridgeState
 moved s b = record { state = step b.state s; client = stale b.client; up = stale b.up }
+
+-- the first unit that can be taken up is, if there is one
+abbrev pub with_next : Option Unit91 → State → State
+with_next None w = w
+with_next (Some u) w = step w (Came u)
+
+abbrev pub advanced : BridgeState → BridgeState
+advanced b = record {
+  state = with_next (next_unit b.state) b.state;
+  client = stale b.client;
+  up = stale b.up;
+}
 
 abbrev pub bytes_of : Context → Option Outgoing → List ℕ → List ℕ
 bytes_of c None old = old

@@ -3,15 +3,16 @@
 ghost use Rattle.std.specs.Prelude.{◌≡◌, ◌≤◌, true, false, length, OnOk, OnErr, IfOk};
 ghost use Rattle.std.specs.Prelude.{IfSome, IsSome, is_some};
 ghost use Rattle.gate_outside.specs.declared.ports.End.TheVariants.{Client, Up};
-ghost use Rattle.gate_model.specs.State.{Moment, Came, TakenUp, Heard, Joined, Lost, Gave};
-ghost use Rattle.gate_model.specs.State.{Whole, OutOfMemory, new_state, waits};
+ghost use Rattle.gate_model.specs.State.{Moment, Queued, TakenUp, Heard, Joined, Lost, Gave};
+ghost use Rattle.gate_model.specs.State.{Whole, OutOfMemory, new_state, next_unit, waits};
 ghost use Rattle.gate_model.specs.Due.{can_leave, can_take_up, is_awaiting, is_busy};
 ghost use Rattle.gate_model.specs.Due.{is_connect_due, is_shut_due, pick, takes_memory};
 ghost use Rattle.gate_model.specs.Spelling.{context_of};
 ghost use Rattle.gate_model.specs.Upstream.{awaited_of};
 ghost use Rattle.machine_091.specs.Limits.{AreWithin};
 ghost use Rattle.machine_091.specs.State.{awaits};
-ghost use Rattle.bridge_core.specs.Offers.{BridgeState, IsOffer, IsUpOffer, Keeps, bytes_of, moved};
+ghost use Rattle.bridge_core.specs.Offers.{BridgeState, IsOffer, IsUpOffer, Keeps, advanced};
+ghost use Rattle.bridge_core.specs.Offers.{bytes_of, moved};
 ghost use Rattle.bridge_core.specs.Offers.{client_bytes, offer_of, peeked, stale};
 
 use crate::core_state::Core;
@@ -69,7 +70,8 @@ fn look(state: &Core, slot: &mut Slot) -> bool
     }
 }
 
-/// Looks for what goes next to the container. Where nothing does, the bytes stay; without memory all is as it was.
+/// Looks for what goes next to the container. Where nothing does, the bytes stay; without memory
+/// all is as it was.
 fn look_up(state: &Core, slot: &mut UpSlot, alloc: Global, setup: &Setup) -> Result<bool, Memory>
     ensures some { IfOk result (λ yes. yes ≡ is_some (pick state.now Up)) }
     ensures offer { OnOk result (IsUpOffer state.now slot.new) }
@@ -93,14 +95,15 @@ fn look_up(state: &Core, slot: &mut UpSlot, alloc: Global, setup: &Setup) -> Res
 }
 
 impl Bridge {
-    /// The pair with this number, accepted at this moment in milliseconds. Its client may open this virtual host.
-    pub fn new(vhost: ByteText, number: u32, moment: u64) -> Bridge
+    /// The pair with this number, accepted at this moment in milliseconds. Its client may open this
+    /// virtual host.
+    pub fn new(alloc: Global, vhost: ByteText, number: u32, moment: u64) -> Bridge
         ensures state { result.state ≡ new_state vhost number moment }
         ensures client { result.client.ready ≡ false }
         ensures up { result.up.ready ≡ false }
     {
         Bridge {
-            state: Core::new(vhost, number, moment),
+            state: Core::new(alloc, vhost, number, moment),
             client: Slot::new(),
             up: UpSlot::new(),
         }
@@ -124,18 +127,40 @@ impl Bridge {
         self.state.tell(moment);
     }
 
-    /// A unit of the client is taken up. If there is no memory for it, the pair ran out of memory before it.
-    pub fn client_unit(&mut self, alloc: Global, unit: Unit91) -> Result<(), Memory>
+    /// A unit of the client waits to be taken up. If there is no memory for it, the pair ran out of
+    /// memory before it.
+    pub fn client_unit(&mut self, unit: Unit91) -> Result<(), Memory>
         requires { self.old.state.out_of_memory ≡ false }
-        ensures ok { OnOk result (self.new ≡ moved (Came unit) self.old) }
+        ensures ok { OnOk result (self.new ≡ moved (Queued unit) self.old) }
         ensures err { OnErr result (self.new ≡ moved OutOfMemory self.old) }
         ensures calm { OnOk result (self.new.state.out_of_memory ≡ false) }
         ensures met { OnErr result (self.new.state.out_of_memory ≡ true) }
         ensures kept { Keeps self.old self.new }
     {
         self.take_back();
-        match self.state.client_unit(alloc, unit) {
+        match self.state.client_unit(unit) {
             Ok(()) => Ok(()),
+            Err(error) => {
+                self.state.run_out();
+                Err(error)
+            }
+        }
+    }
+
+    /// The first unit of the client that can be taken up is, if there is one. If there is no memory
+    /// for it, the pair ran out of memory before it.
+    pub fn take_next(&mut self, alloc: Global) -> Result<bool, Memory>
+        requires { self.old.state.out_of_memory ≡ false }
+        ensures some { IfOk result (λ yes. yes ≡ is_some (next_unit self.old.state)) }
+        ensures ok { OnOk result (self.new ≡ advanced self.old) }
+        ensures err { OnErr result (self.new ≡ moved OutOfMemory self.old) }
+        ensures calm { OnOk result (self.new.state.out_of_memory ≡ false) }
+        ensures met { OnErr result (self.new.state.out_of_memory ≡ true) }
+        ensures kept { Keeps self.old self.new }
+    {
+        self.take_back();
+        match self.state.take_next(alloc) {
+            Ok(yes) => Ok(yes),
             Err(error) => {
                 self.state.run_out();
                 Err(error)
@@ -154,7 +179,8 @@ impl Bridge {
         self.state.take_up();
     }
 
-    /// A unit of the container came. If there is no memory for it, the pair ran out of memory before it.
+    /// A unit of the container came. If there is no memory for it, the pair ran out of memory
+    /// before it.
     #[tactic(auto, using(crate::proofs::Calm::heard_calm))]
     pub fn up_unit(&mut self, alloc: Global, unit: &Unit10) -> Result<(), Memory>
         requires { self.old.state.out_of_memory ≡ false }
@@ -212,7 +238,8 @@ impl Bridge {
         self.state.is_out_of_memory()
     }
 
-    /// As what the client's next bytes are cut. A frame that is awaited has room for 4,096 bytes at least.
+    /// As what the client's next bytes are cut. A frame that is awaited has room for 4,096 bytes at
+    /// least.
     pub fn awaits(&self) -> Awaited91
         ensures value { result ≡ awaits self.now.state.conn }
         ensures range { AreWithin self.now.state.conn.limits }
@@ -236,9 +263,16 @@ impl Bridge {
 
     /// A request of the client waits for the upstream end.
     pub fn waits(&self) -> bool
-        ensures { result ≡ waits self.now.state }
+        ensures { result ≡ (waits self.now.state).some }
     {
         self.state.waits()
+    }
+
+    /// How many units of the client aren't taken up yet.
+    pub fn queued(&self) -> usize
+        ensures { result ≡ length self.now.state.queue }
+    {
+        self.state.queued()
     }
 
     /// The client's end ended or failed, and that isn't taken up yet.
@@ -285,8 +319,10 @@ impl Bridge {
 
     // ---- what goes
 
-    /// Looks for what goes next to an end. What is found is offered, and its bytes are `bytes`. Without memory for them the
-    /// pair ran out of memory; after that, and for what ends a connection, a look takes none.
+    /// Looks for what goes next to an end. What is found is offered, and its bytes are `bytes`.
+    /// Without memory for them the pair ran out of memory; after that, and for what ends a
+    /// connection, a look takes none.
+    #[tactic(auto, using(crate::proofs::Calm::calm_pick))]
     pub fn peek(&mut self, alloc: Global, setup: &Setup, end: End) -> Result<bool, Memory>
         requires free { is_busy self.old.state end ≡ false }
         ensures some { IfOk result (λ yes. yes ≡ is_some (pick self.old.state end)) }

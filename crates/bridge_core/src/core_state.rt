@@ -1,43 +1,64 @@
-//! The state of a pair: its client's connection, its upstream end, what is due to the client, and the moments that count.
+//! The state of a pair: its client's connection, its upstream end, what is due to the client, and
+//! the moments that count.
 
-ghost use Rattle.std.specs.Prelude.{◌≡◌, ◌||◌, true, false, not, OnOk, OnErr, Some, None};
+ghost use Rattle.std.specs.Prelude.{◌≡◌, ◌<◌, ◌||◌, ◌++◌, true, false, not, OnOk, OnErr, IfOk};
+ghost use Rattle.std.specs.Prelude.{IfSome, Some, None, is_some, length, slice_get, take};
 ghost use Rattle.gate_outside.specs.declared.ports.End.TheVariants.{Client, Up};
-ghost use Rattle.gate_model.specs.State.{Moment, Came, TakenUp, Heard, Joined};
+ghost use Rattle.gate_model.specs.State.{Moment, Queued, TakenUp, Heard, Joined};
 ghost use Rattle.gate_model.specs.State.{Lost, Gave, Whole, OutOfMemory, new_state, step};
 ghost use Rattle.gate_model.specs.State.{none_pending, is_foreign, closes_at, close_if};
 ghost use Rattle.gate_model.specs.State.{is_limit_reached, has_left, last_pending, without};
-ghost use Rattle.gate_model.specs.State.{with_last, fail, is_settled, lost_up, met, opened, unbuilt};
-ghost use Rattle.gate_model.specs.State.{waits, with_meaning};
+ghost use Rattle.gate_model.specs.State.{with_last, fail, fail_life, is_settled, lost_up, met};
+ghost use Rattle.gate_model.specs.State.{begun_session, came, close_waits, conn_given, next_unit};
+ghost use Rattle.gate_model.specs.State.{opened, place, waits, with_meaning, with_session};
+ghost use Rattle.gate_model.specs.State.{without_begin, without_life};
 ghost use Rattle.gate_model.specs.Due.{is_awaiting, is_beat_due, is_busy, is_connect_due};
 ghost use Rattle.gate_model.specs.Due.{is_shut_due, is_bad, is_unheard, is_overdue, can_leave};
-ghost use Rattle.gate_model.specs.Due.{can_take_up, client_rows, may_go};
-ghost use Rattle.gate_model.specs.Upstream.{awaited_of, condition_in, first, up_first};
+ghost use Rattle.gate_model.specs.Due.{can_take_up, channel_closes, channel_oks, client_rows};
+ghost use Rattle.gate_model.specs.Due.{begins, client_units, ends};
+ghost use Rattle.gate_model.specs.Due.{flow_oks, if_so, is_held, last_closes, may_answer};
+ghost use Rattle.gate_model.specs.Due.{may_end, may_go, may_tell, open_oks, openings, rows_in};
+ghost use Rattle.gate_model.specs.Due.{up_rows};
+ghost use Rattle.gate_model.specs.Lives.{freed_life, life_at, lives_by, refusal_on, with_life};
+ghost use Rattle.gate_model.specs.Queue.{can_take};
+ghost use Rattle.gate_model.specs.Upstream.{awaited_of, condition_in, first};
 ghost use Rattle.close_translate.specs.Conditions.{code_by};
-ghost use Rattle.close_translate.specs.declared.conditions.Scope.TheVariants as scope;
 ghost use Rattle.machine_091.specs.Limits.{AreWithin};
 ghost use Rattle.machine_091.specs.Refusals.{refusal_with};
-ghost use Rattle.machine_091.specs.State.{awaits, is_closing};
+ghost use Rattle.machine_091.specs.State.{awaits};
 ghost use Rattle.machine_091.specs.declared.unit.Want91.TheVariants as want;
+ghost use Rattle.machine_10.specs.Parts.{parts_of};
 ghost use Rattle.machine_10.specs.Transitions.{meaning_of};
 ghost use Rattle.performatives_10.specs.Fields.{maybe};
 ghost use Rattle.performatives_10.specs.View.{error_tree};
+ghost use Rattle.bridge_core.specs.Behind.{answering_units, closing_units, end_units, ended_units};
+ghost use Rattle.bridge_core.specs.Behind.{last_units, session_units};
+ghost use Rattle.bridge_core.specs.Flows.{FlowsFit};
 ghost use Rattle.bridge_core.specs.Going.{KeepsGoing};
 ghost use Rattle.bridge_core.specs.Logins.{IsLoginOf, IsLoginWant};
+ghost use Rattle.bridge_core.specs.Offers.{with_next};
 
+use crate::channel_rows::{
+    any_waits, first_begin, first_close, first_close_ok, first_end, first_flow_ok, first_open_ok,
+    is_waiting_on,
+};
+use crate::lives::{Lives, old_life};
+use crate::queue::{Queue, channel_of, waits_for_all};
 use crate::up_core::UpCore;
 use close_translate::{
-    CONNECTION_FORCED, INTERNAL_ERROR, NOT_ALLOWED, NOT_IMPLEMENTED, RESOURCE_ERROR, Scope,
+    CONNECTION_FORCED, INTERNAL_ERROR, NOT_ALLOWED, PRECONDITION_FAILED, RESOURCE_ERROR, Scope,
     code_of, condition_of,
 };
 use gate_model::{
-    BEAT_PER_SECOND, CLOSING_LIMIT, HANDSHAKE_LIMIT, Outgoing, Pending, Reply, SentLast, UpUnit,
+    BEAT_PER_SECOND, CLOSING_LIMIT, HANDSHAKE_LIMIT, Life, Outgoing, Pending, Reply, SentLast,
+    UpUnit,
 };
 use gate_outside::{End, Linked};
 use gate_relay::{Loss, Side};
 use machine_10::{Awaited10, Conn10, Unit10, Want10};
 use machine_091::{Awaited91, Conn91, Phase91, Refusal, Stream91, Unit91, Want91, connection_laws};
-use methods_091::{Method91, ids};
-use performatives_10::{Condition, Error10};
+use methods_091::Method91;
+use performatives_10::{Condition, Error10, Perf};
 use std::alloc::Global;
 use std::marker::Model;
 use wire_base::{ByteText, Memory};
@@ -50,7 +71,9 @@ pub struct Core {
     pending: Pending,
     in_progress: Option<Reply>,
     sent_last: SentLast,
+    lives: Lives,
     up: UpCore,
+    queue: Queue,
     accepted_at: u64,
     moment: u64,
     last_sent_at: u64,
@@ -73,7 +96,9 @@ impl Model for Core {
       pending = a.pending;
       in_progress = a.in_progress;
       sent_last = a.sent_last;
+      lives = a.lives;
       up = a.up;
+      queue = a.queue;
       accepted_at = a.accepted_at;
       moment = a.moment;
       last_sent_at = a.last_sent_at;
@@ -114,12 +139,17 @@ fn refusal_with(code: u16, class: u16, method: u16) -> Refusal
     }
 }
 
-/// No channel is built yet, so this method of one can't be met.
-fn unbuilt(method: &Method91) -> Refusal
-    ensures { result ≡ unbuilt method.now }
+/// The gateway's channel.close on this channel, for a fault of its session.
+fn refusal_on(channel: u16, code: u16) -> Refusal
+    ensures { result ≡ refusal_on channel code }
 {
-    let (class, id) = ids(method);
-    refusal_with(NOT_IMPLEMENTED, class, id)
+    Refusal {
+        code,
+        scope: Scope::Channel,
+        channel,
+        class: 0,
+        method: 0,
+    }
 }
 
 /// Lets go of what a unit of the container meant, once it is met.
@@ -134,16 +164,21 @@ fn release(want: Want10) {
     }
 }
 
-/// The reply code for the error of a container's close.
+/// Lets go of a method, once it is met.
+fn release_method(method: Method91) {
+    drop(method);
+}
+
+/// The reply code for the error of a container's close, or of its end.
 #[tactic(auto, using(crate::proofs::Errors::condition_is))]
-fn closing_code(error: &Option<Error10>) -> u16
-    ensures { result ≡ code_by (condition_in (maybe error_tree error.now)) scope.Connection }
+fn closing_code(error: &Option<Error10>, scope: Scope) -> u16
+    ensures { result ≡ code_by (condition_in (maybe error_tree error.now)) scope }
 {
     let condition = match error {
         None => None,
         Some(error) => Some(error.condition.as_slice()),
     };
-    code_of(condition, Scope::Connection)
+    code_of(condition, scope)
 }
 
 /// The client's first bytes were no protocol header.
@@ -241,7 +276,12 @@ fn without(pending: Pending, unit: Reply) -> Pending
             no_memory: false,
             ..pending
         },
-        Reply::Heartbeat => pending,
+        Reply::Heartbeat
+        | Reply::ChannelOpenOk(_)
+        | Reply::FlowOk(_)
+        | Reply::ChannelCloseOk(_)
+        | Reply::CrossedOk(_)
+        | Reply::ChannelClose(_, _) => pending,
     }
 }
 
@@ -266,7 +306,12 @@ fn with_last(sent: SentLast, unit: Option<Reply>) -> SentLast
         | Some(Reply::Start)
         | Some(Reply::Tune)
         | Some(Reply::OpenOk)
-        | Some(Reply::Heartbeat) => sent,
+        | Some(Reply::Heartbeat)
+        | Some(Reply::ChannelOpenOk(_))
+        | Some(Reply::FlowOk(_))
+        | Some(Reply::ChannelCloseOk(_))
+        | Some(Reply::CrossedOk(_))
+        | Some(Reply::ChannelClose(_, _)) => sent,
     }
 }
 
@@ -295,8 +340,9 @@ fn is_unheard(conn: &Conn91) -> bool
 }
 
 impl Core {
-    /// The pair with this number was accepted at this moment, and its client may open this virtual host.
-    pub fn new(vhost: ByteText, number: u32, moment: u64) -> Core
+    /// The pair with this number was accepted at this moment, and its client may open this virtual
+    /// host.
+    pub fn new(alloc: Global, vhost: ByteText, number: u32, moment: u64) -> Core
         ensures { result ≡ new_state vhost number moment }
     {
         Core {
@@ -309,7 +355,9 @@ impl Core {
                 close_ok: false,
                 close: false,
             },
+            lives: Lives::new(),
             up: UpCore::new(),
+            queue: Queue::new(alloc),
             accepted_at: moment,
             moment,
             last_sent_at: moment,
@@ -334,27 +382,66 @@ impl Core {
         self.late |= late;
     }
 
-    /// A method of a channel is refused, since no channel is built yet.
-    fn refuse_unbuilt(&mut self, closing: bool, channel: u16, method: &Method91)
-        ensures { self.new ≡ met closing (want.Method channel method.now) self.old }
+    /// A method of a channel changes what is due there.
+    #[tactic(auto, using(crate::proofs::Flows::life_fits, crate::proofs::Flows::same_life))]
+    fn meet_method(&mut self, channel: u16, method: &Method91)
+        requires { FlowsFit self.old.lives }
+        ensures { self.new ≡ record self.old { lives = lives_by (want.Method channel method.now) self.old.lives } }
     {
-        self.pending.close = Some(unbuilt(method));
-        self.conn.closing(Scope::Connection, 0);
-        self.up
-            .set_condition(closing, Some(condition_of(NOT_IMPLEMENTED)));
+        let life = self.lives.at(channel);
+        match method {
+            Method91::ChannelOpen => self.lives.set(
+                channel,
+                Life {
+                    waits: true,
+                    begin: true,
+                    ..old_life(life)
+                },
+            ),
+            Method91::ChannelFlow { .. } => self.lives.set(
+                channel,
+                Life {
+                    flow_oks: life.flow_oks + 1,
+                    ..life
+                },
+            ),
+            Method91::ChannelClose { .. } => self.lives.set(
+                channel,
+                Life {
+                    awaits_end: !life.over,
+                    over: true,
+                    close_ok: true,
+                    ..old_life(life)
+                },
+            ),
+            _ => {}
+        }
+    }
+
+    /// The client answered the gateway's channel.close.
+    fn free(&mut self, channel: u16)
+        ensures { self.new ≡ record self.old { lives = with_life channel (freed_life (life_at self.old.lives channel)) self.old.lives } }
+    {
+        let life = self.lives.at(channel);
+        self.lives.set(
+            channel,
+            Life {
+                crossed_ok: life.crossed_ok || life.close_ok,
+                ..old_life(life)
+            },
+        );
     }
 
     /// What a unit of the client wants is met. `closing` says that the connection closed before it.
     fn meet(&mut self, alloc: Global, closing: bool, want: Want91)
-        requires { IsLoginWant want }
+        requires login { IsLoginWant want }
+        requires flows { FlowsFit self.old.lives }
         ensures { self.new ≡ met closing want self.old }
     {
         match want {
-            Want91::Nothing
-            | Want91::Tuned
-            | Want91::OpenUp
-            | Want91::ChannelCloseOk(_)
-            | Want91::CloseOk => self.up.set_condition(closing, None),
+            Want91::Nothing | Want91::Tuned | Want91::OpenUp | Want91::CloseOk => {
+                self.up.set_condition(closing, None);
+            }
             Want91::Start => {
                 self.pending.start = true;
                 self.up.set_condition(closing, None);
@@ -364,7 +451,15 @@ impl Core {
                 self.up.log_in(alloc, mechanism, response);
                 self.up.set_condition(closing, None);
             }
-            Want91::Method(channel, method) => self.refuse_unbuilt(closing, channel, &method),
+            Want91::Method(channel, method) => {
+                self.meet_method(channel, &method);
+                release_method(method);
+                self.up.set_condition(closing, None);
+            }
+            Want91::ChannelCloseOk(channel) => {
+                self.free(channel);
+                self.up.set_condition(closing, None);
+            }
             Want91::Close => {
                 self.pending.close_ok = true;
                 self.pending.close = None;
@@ -379,10 +474,21 @@ impl Core {
         }
     }
 
-    /// A unit of the client is taken up. Where there is no memory for it all is as it was.
-    pub fn client_unit(&mut self, alloc: Global, unit: Unit91) -> Result<(), Memory>
+    /// A unit of the client waits to be taken up. Where there is no memory for it all is as it was.
+    pub fn client_unit(&mut self, unit: Unit91) -> Result<(), Memory>
         requires { self.old.out_of_memory ≡ false }
-        ensures ok { OnOk result (self.new ≡ step self.old (Came unit)) }
+        ensures ok { OnOk result (self.new ≡ step self.old (Queued unit)) }
+        ensures err { OnErr result (self.new ≡ self.old) }
+        ensures kept { KeepsGoing self.old self.new }
+    {
+        self.queue.push(unit)
+    }
+
+    /// This unit, which waits no more, is taken up. Where there is no memory for it all is as it
+    /// was.
+    fn come(&mut self, alloc: Global, unit: Unit91) -> Result<(), Memory>
+        requires { FlowsFit self.old.lives }
+        ensures ok { OnOk result (self.new ≡ came self.old unit) }
         ensures err { OnErr result (self.new ≡ self.old) }
         ensures kept { KeepsGoing self.old self.new }
     {
@@ -398,6 +504,63 @@ impl Core {
                 Ok(())
             }
             Err(error) => Err(error),
+        }
+    }
+
+    /// The unit at this place can be taken up.
+    fn can_take(&self, place: usize) -> bool
+        requires { place < length self.now.queue }
+        ensures { IfSome (slice_get self.now.queue place) (λ u. result ≡ can_take (waits self.now) (take place self.now.queue) u) }
+    {
+        match self.queue.get(place) {
+            None => false,
+            Some(unit) => {
+                if waits_for_all(unit) {
+                    place == 0 && !self.waits()
+                } else {
+                    let channel = channel_of(unit);
+                    !self.conn.is_opening()
+                        && !self.waits_on(channel)
+                        && !self.queue.holds_before(place, channel)
+                }
+            }
+        }
+    }
+
+    /// The place of the first unit that can be taken up.
+    #[tactic(auto, using(crate::proofs::Places::place_more))]
+    fn place(&self) -> Option<usize>
+        ensures place { result ≡ place self.now }
+        ensures within { IfSome result (λ i. i < length self.now.queue) }
+    {
+        for i in 0..self.queue.len() {
+            if self.can_take(i) {
+                return Some(i);
+            }
+        }
+        None
+    }
+
+    /// The first unit that can be taken up is taken up, if there is one. Without memory for it the
+    /// pair is to run out of memory.
+    pub fn take_next(&mut self, alloc: Global) -> Result<bool, Memory>
+        requires { self.old.out_of_memory ≡ false }
+        ensures some { IfOk result (λ yes. yes ≡ is_some (next_unit self.old)) }
+        ensures ok { OnOk result (self.new ≡ with_next (next_unit self.old) self.old) }
+        ensures err { OnErr result (step self.new OutOfMemory ≡ step self.old OutOfMemory) }
+        ensures calm { self.new.out_of_memory ≡ false }
+        ensures kept { KeepsGoing self.old self.new }
+    {
+        match self.place() {
+            None => Ok(false),
+            Some(place) => {
+                if self.lives.is_crowded() {
+                    return Err(Memory);
+                }
+                let unit = self.queue.remove(place);
+                self.come(alloc, unit)?;
+                Ok(true)
+            }
         }
     }
 
@@ -420,8 +583,75 @@ impl Core {
         ensures kept { KeepsGoing self.old self.new }
     {
         if self.conn.is_opening() {
-            self.conn.opened();
+            self.conn.opened(self.up.channel_max());
             self.pending.open_ok = true;
+        }
+    }
+
+    /// The session of a channel is at fault: the channel closes, unless that is closing already.
+    fn fail_life(&mut self, channel: u16, code: u16, why: Option<Condition>)
+        ensures step { self.new ≡ fail_life channel code why self.old }
+        ensures kept { KeepsGoing self.old self.new }
+    {
+        if self.conn.is_open(channel) {
+            self.conn.closing(Scope::Channel, channel);
+            let life = self.lives.at(channel);
+            self.lives.set(
+                channel,
+                Life {
+                    over: true,
+                    close: Some(refusal_on(channel, code)),
+                    why,
+                    ..old_life(life)
+                },
+            );
+        }
+    }
+
+    /// The container's begin came.
+    fn begin_session(&mut self, channel: u16)
+        ensures step { self.new ≡ begun_session channel self.old }
+        ensures kept { KeepsGoing self.old self.new }
+    {
+        let life = self.lives.at(channel);
+        self.lives.set(
+            channel,
+            Life {
+                waits: false,
+                open_ok: life.open_ok || life.waits,
+                ..life
+            },
+        );
+    }
+
+    /// A performative of a session came.
+    #[tactic(auto, unfolding(machine_10::specs::Parts::parts_of))]
+    fn hear_session(&mut self, channel: u16, perf: &Perf)
+        ensures step { self.new ≡ with_session channel (parts_of perf.now) self.old }
+        ensures kept { KeepsGoing self.old self.new }
+    {
+        match perf {
+            Perf::Begin(_) => self.begin_session(channel),
+            Perf::Attach(_) => self.fail(INTERNAL_ERROR, Some(Condition::NotAllowed)),
+            Perf::Flow(flow) => {
+                if flow.handle.is_some() {
+                    self.fail_life(
+                        channel,
+                        PRECONDITION_FAILED,
+                        Some(Condition::UnattachedHandle),
+                    );
+                }
+            }
+            Perf::Disposition(_) => {}
+            Perf::End(end) => {
+                let code = closing_code(&end.error, Scope::Channel);
+                self.fail_life(channel, code, None);
+            }
+            _ => self.fail_life(
+                channel,
+                PRECONDITION_FAILED,
+                Some(Condition::UnattachedHandle),
+            ),
         }
     }
 
@@ -432,11 +662,12 @@ impl Core {
         ensures kept { KeepsGoing self.old self.new }
     {
         match want {
-            Want10::Nothing | Want10::Session(_, _, _) => {}
+            Want10::Nothing => {}
+            Want10::Session(channel, perf, _) => self.hear_session(*channel, perf),
             Want10::Init => self.up.ask_init(),
             Want10::AmqpHeader => self.up.ask_amqp_header(),
             Want10::Opened => self.open(),
-            Want10::Closed(error) => self.fail(closing_code(error), None),
+            Want10::Closed(error) => self.fail(closing_code(error, Scope::Connection), None),
             Want10::Refused => self.fail(NOT_ALLOWED, None),
             Want10::Violation(condition) => self.fail(INTERNAL_ERROR, Some(*condition)),
         }
@@ -525,8 +756,89 @@ impl Core {
         self.up
             .set_condition(self.conn.is_closing(), Some(condition));
         self.conn.closing(Scope::Connection, 0);
+        self.queue.clear();
         self.closed_at = closes_at(self.closed_at, true, self.moment);
         self.out_of_memory = true;
+    }
+
+    /// What is due on a channel once the first byte of this unit was sent, and what that makes of
+    /// the connection.
+    fn give_channel(&mut self, unit: Reply)
+        ensures { self.new ≡ record self.old { conn = conn_given unit self.old.conn; lives = without_life unit self.old.lives } }
+    {
+        match unit {
+            Reply::ChannelOpenOk(channel) => {
+                let life = self.lives.at(channel);
+                self.lives.set(
+                    channel,
+                    Life {
+                        open_ok: false,
+                        ..life
+                    },
+                );
+            }
+            Reply::FlowOk(channel) => {
+                let life = self.lives.at(channel);
+                let flow_oks = life.flow_oks.saturating_sub(1);
+                self.lives.set(channel, Life { flow_oks, ..life });
+            }
+            Reply::ChannelCloseOk(channel) => {
+                let life = self.lives.at(channel);
+                self.lives.set(
+                    channel,
+                    Life {
+                        close_ok: false,
+                        ..life
+                    },
+                );
+                self.conn.closed(channel);
+            }
+            Reply::CrossedOk(channel) => {
+                let life = self.lives.at(channel);
+                self.lives.set(
+                    channel,
+                    Life {
+                        crossed_ok: false,
+                        ..life
+                    },
+                );
+            }
+            Reply::ChannelClose(channel, _) => {
+                let life = self.lives.at(channel);
+                self.lives.set(
+                    channel,
+                    Life {
+                        close: None,
+                        ..life
+                    },
+                );
+                self.conn.told(channel);
+            }
+            _ => {}
+        }
+    }
+
+    /// What is due to the container on a channel once the first byte of this unit was sent.
+    fn give_session(&mut self, unit: UpUnit)
+        ensures { self.new ≡ record self.old { lives = without_begin unit self.old.lives } }
+    {
+        match unit {
+            UpUnit::Begin(channel) => {
+                let life = self.lives.at(channel);
+                self.lives.set(
+                    channel,
+                    Life {
+                        begin: false,
+                        ..life
+                    },
+                );
+            }
+            UpUnit::End(channel, _) => {
+                let life = self.lives.at(channel);
+                self.lives.set(channel, Life { why: None, ..life });
+            }
+            _ => {}
+        }
     }
 
     /// The first byte of a unit was sent.
@@ -535,10 +847,14 @@ impl Core {
     {
         match unit {
             Outgoing::ToClient(unit) => {
+                self.give_channel(unit);
                 self.pending = without(self.pending, unit);
                 self.in_progress = Some(unit);
             }
-            Outgoing::ToUp(unit) => self.up.begin(unit),
+            Outgoing::ToUp(unit) => {
+                self.give_session(unit);
+                self.up.begin(unit);
+            }
         }
     }
 
@@ -563,6 +879,13 @@ impl Core {
         self.out_of_memory || !self.up.is_live() || self.up.has_closed()
     }
 
+    /// How many units of the client aren't taken up yet.
+    pub fn queued(&self) -> usize
+        ensures { result ≡ length self.now.queue }
+    {
+        self.queue.len()
+    }
+
     /// The client's end ended or failed, and that isn't taken up yet.
     pub fn is_leaving(&self) -> bool
         ensures { result ≡ self.now.leaving }
@@ -570,11 +893,39 @@ impl Core {
         self.leaving
     }
 
-    /// A request of the client waits for the upstream end.
-    pub fn waits(&self) -> bool
-        ensures { result ≡ waits self.now }
+    /// The client's connection.close waits for the container's close.
+    fn close_waits(&self) -> bool
+        ensures { result ≡ close_waits self.now }
     {
-        self.conn.is_opening() || (self.client_closed && !self.is_settled())
+        self.client_closed && !self.is_settled()
+    }
+
+    /// A request of the client waits for the upstream end.
+    #[tactic(auto, using(crate::proofs::Waits::some_waits))]
+    pub fn waits(&self) -> bool
+        ensures { result ≡ (waits self.now).some }
+    {
+        self.conn.is_opening()
+            || self.close_waits()
+            || any_waits(
+                self.lives.all(),
+                self.conn.is_closing(),
+                self.is_settled(),
+                self.up.container(),
+            )
+    }
+
+    /// A request of a channel does.
+    fn waits_on(&self, channel: u16) -> bool
+        ensures { result ≡ (waits self.now).channel channel }
+    {
+        is_waiting_on(
+            self.conn.is_closing(),
+            self.is_settled(),
+            self.up.container(),
+            channel,
+            self.lives.at(channel),
+        )
     }
 
     /// A heartbeat is due.
@@ -587,11 +938,10 @@ impl Core {
             && BEAT_PER_SECOND * interval <= self.moment.saturating_sub(self.last_sent_at)
     }
 
-    /// The unit to the client that goes next.
-    pub fn next_client(&self) -> Option<Reply>
-        ensures { result ≡ first (client_rows self.now) }
+    /// The first unit that opens the connection.
+    fn next_opening(&self) -> Option<Reply>
+        ensures { result ≡ first (openings (may_go (is_settled self.now) self.now.pending)) }
     {
-        let settled = self.is_settled();
         if self.pending.protocol {
             Some(Reply::Protocol)
         } else if self.pending.start {
@@ -600,32 +950,235 @@ impl Core {
             Some(Reply::Tune)
         } else if self.pending.open_ok {
             Some(Reply::OpenOk)
-        } else if settled && self.pending.close_ok {
-            Some(Reply::CloseOk)
-        } else if let Some(refusal) = self.next_close(settled) {
-            Some(Reply::Close(refusal))
-        } else if self.pending.no_memory {
-            Some(Reply::NoMemory)
-        } else if self.is_beat_due() {
-            Some(Reply::Heartbeat)
         } else {
             None
         }
     }
 
-    /// The gateway's close, if nothing of the upstream end is waited for.
-    fn next_close(&self, settled: bool) -> Option<Refusal>
-        ensures { result ≡ (may_go settled self.now.pending).close }
+    /// The first answer on a channel.
+    fn next_answer(&self) -> Option<Reply>
+        ensures { result ≡ first (if_so (may_answer self.now) (open_oks self.now ++ flow_oks self.now)) }
     {
-        if settled { self.pending.close } else { None }
+        if self.out_of_memory || self.conn.is_closing() {
+            return None;
+        }
+        match first_open_ok(self.lives.all()) {
+            Some(unit) => Some(unit),
+            None => first_flow_ok(self.lives.all()),
+        }
+    }
+
+    /// What ends channels may go.
+    fn may_end(&self) -> bool
+        ensures { result ≡ may_end self.now }
+    {
+        !(self.out_of_memory || self.sent_last.close || self.sent_last.close_ok)
+    }
+
+    /// The first channel.close-ok for which nothing is waited for.
+    fn settled_ok(&self) -> Option<Reply>
+        ensures { result ≡ first (channel_oks self.now) }
+    {
+        first_close_ok(self.lives.all(), self.is_settled(), self.up.container())
+    }
+
+    /// The first channel.close-ok that may go.
+    fn next_channel_ok(&self) -> Option<Reply>
+        ensures { result ≡ first (if_so (may_end self.now) (channel_oks self.now)) }
+    {
+        if self.may_end() {
+            self.settled_ok()
+        } else {
+            None
+        }
+    }
+
+    /// The gateway's channel.close may go: the client didn't close the connection either.
+    fn may_tell(&self) -> bool
+        ensures { result ≡ may_tell self.now }
+    {
+        self.may_end() && !matches!(self.conn.phase(), Phase91::Closed)
+    }
+
+    /// The first channel.close that may go.
+    fn next_channel_close(&self) -> Option<Reply>
+        ensures { result ≡ first (if_so (may_tell self.now) (channel_closes self.now)) }
+    {
+        if !self.may_tell() {
+            return None;
+        }
+        first_close(self.lives.all(), self.is_settled(), self.up.container())
+    }
+
+    /// The gateway's close, if nothing of the upstream end is waited for, or the last unit.
+    fn next_close(&self) -> Option<Reply>
+        ensures { result ≡ first (last_closes (may_go (is_settled self.now) self.now.pending)) }
+    {
+        match self.pending.close {
+            Some(refusal) if self.is_settled() => Some(Reply::Close(refusal)),
+            _ => {
+                if self.pending.no_memory {
+                    Some(Reply::NoMemory)
+                } else {
+                    None
+                }
+            }
+        }
+    }
+
+    /// The first of the gateway's close and what ends channels.
+    #[tactic(auto, using(crate::proofs::Firsts::first_some, crate::proofs::Firsts::first_none))]
+    fn next_last(&self) -> Option<Reply>
+        ensures { result ≡ first (last_units self.now) }
+    {
+        match self.next_close() {
+            Some(unit) => Some(unit),
+            None => self.next_channel_close(),
+        }
+    }
+
+    /// The first of what answers a channel.close, and of these.
+    #[tactic(auto, using(crate::proofs::Firsts::first_some, crate::proofs::Firsts::first_none))]
+    fn next_ended(&self) -> Option<Reply>
+        ensures { result ≡ first (ended_units self.now) }
+    {
+        match self.next_channel_ok() {
+            Some(unit) => Some(unit),
+            None => self.next_last(),
+        }
+    }
+
+    /// The first of the client's close-ok, and of these.
+    fn next_closing(&self) -> Option<Reply>
+        ensures { result ≡ first (closing_units self.now) }
+    {
+        if self.pending.close_ok && self.is_settled() {
+            Some(Reply::CloseOk)
+        } else {
+            self.next_ended()
+        }
+    }
+
+    /// The first of the answers on channels, and of these.
+    #[tactic(auto, using(crate::proofs::Firsts::first_some, crate::proofs::Firsts::first_none))]
+    fn next_answering(&self) -> Option<Reply>
+        ensures { result ≡ first (answering_units self.now) }
+    {
+        match self.next_answer() {
+            Some(unit) => Some(unit),
+            None => self.next_closing(),
+        }
+    }
+
+    /// The first of all but a heartbeat.
+    #[tactic(auto, using(crate::proofs::Firsts::first_some, crate::proofs::Firsts::first_none))]
+    fn next_unit(&self) -> Option<Reply>
+        ensures { result ≡ first (client_units self.now) }
+    {
+        match self.next_opening() {
+            Some(unit) => Some(unit),
+            None => self.next_answering(),
+        }
+    }
+
+    /// The unit to the client that goes next.
+    #[tactic(auto, using(crate::proofs::Firsts::first_some, crate::proofs::Firsts::first_none))]
+    pub fn next_client(&self) -> Option<Reply>
+        ensures { result ≡ first (client_rows self.now) }
+    {
+        match self.next_unit() {
+            Some(unit) => Some(unit),
+            None => {
+                if self.is_beat_due() {
+                    Some(Reply::Heartbeat)
+                } else {
+                    None
+                }
+            }
+        }
+    }
+
+    /// The first begin of a session.
+    fn first_begin(&self) -> Option<UpUnit>
+        ensures { result ≡ first (begins self.now) }
+    {
+        first_begin(self.lives.all(), self.up.container())
+    }
+
+    /// The first end of one.
+    fn first_end(&self, closing: bool) -> Option<UpUnit>
+        ensures { result ≡ first (ends closing self.now) }
+    {
+        first_end(self.lives.all(), closing, self.up.container(), &self.conn)
+    }
+
+    /// The unit to the container that goes next while the connection closes.
+    #[tactic(auto, using(crate::proofs::Firsts::first_some))]
+    fn next_ending(&self) -> Option<UpUnit>
+        ensures { result ≡ first (rows_in true self.now) }
+    {
+        match self.first_end(true) {
+            Some(unit) => Some(unit),
+            None => {
+                if self.up.sent().open {
+                    Some(UpUnit::Close(self.up.condition()))
+                } else {
+                    None
+                }
+            }
+        }
+    }
+
+    /// The first of the ends, and of an empty frame, while the connection doesn't close.
+    #[tactic(auto, using(crate::proofs::Firsts::first_some, crate::proofs::Firsts::first_none))]
+    fn next_end(&self) -> Option<UpUnit>
+        ensures { result ≡ first (end_units self.now) }
+    {
+        match self.first_end(false) {
+            Some(unit) => Some(unit),
+            None => {
+                if self.up.is_idle_due(self.moment) {
+                    Some(UpUnit::Empty)
+                } else {
+                    None
+                }
+            }
+        }
+    }
+
+    /// The first of the begins, and of these.
+    #[tactic(auto, using(crate::proofs::Firsts::first_some, crate::proofs::Firsts::first_none))]
+    fn next_session(&self) -> Option<UpUnit>
+        ensures { result ≡ first (session_units self.now) }
+    {
+        match self.first_begin() {
+            Some(unit) => Some(unit),
+            None => self.next_end(),
+        }
+    }
+
+    /// The unit to the container that goes next while the connection doesn't close.
+    #[tactic(auto, using(crate::proofs::Firsts::first_some, crate::proofs::Firsts::first_none))]
+    fn next_running(&self) -> Option<UpUnit>
+        ensures { result ≡ first (rows_in false self.now) }
+    {
+        match self.up.next_opening() {
+            Some(unit) => Some(unit),
+            None => self.next_session(),
+        }
     }
 
     /// The unit to the container that goes next.
     pub fn next_up(&self) -> Option<UpUnit>
-        ensures { result ≡ up_first (self.now.out_of_memory || is_closing self.now.conn) self.now.up self.now.moment }
+        ensures { result ≡ first (up_rows self.now) }
     {
-        self.up
-            .next(self.out_of_memory || self.conn.is_closing(), self.moment)
+        if !self.up.is_live() || self.up.sent().close {
+            None
+        } else if self.out_of_memory || self.conn.is_closing() {
+            self.next_ending()
+        } else {
+            self.next_running()
+        }
     }
 
     /// Whether a unit to an end is between its first byte and its last.
@@ -668,12 +1221,19 @@ impl Core {
         self.conn.awaits()
     }
 
+    /// The client isn't read.
+    fn is_held(&self) -> bool
+        ensures { result ≡ is_held self.now }
+    {
+        self.conn.is_opening() || self.close_waits() || self.queue.has_bad() || self.queue.is_full()
+    }
+
     /// Bytes of an end are awaited.
     pub fn is_awaiting(&self, end: End) -> bool
         ensures { result ≡ is_awaiting self.now end }
     {
         match end {
-            End::Client => !matches!(self.conn.awaits(), Awaited91::Nothing) && !self.waits(),
+            End::Client => !matches!(self.conn.awaits(), Awaited91::Nothing) && !self.is_held(),
             End::Up => self.up.is_live() && !matches!(self.up.awaits(), Awaited10::Nothing),
         }
     }
@@ -685,18 +1245,18 @@ impl Core {
         self.conn.is_opening() && self.up.is_absent()
     }
 
-    /// What the client sent can be taken up.
+    /// Something of the client can be taken up.
     pub fn can_take_up(&self) -> bool
         ensures { result ≡ can_take_up self.now }
     {
-        !self.out_of_memory && !self.waits()
+        (!self.out_of_memory && self.place().is_some()) || self.can_leave()
     }
 
-    /// That its end ended or failed can be taken up.
+    /// That its end ended or failed can be taken up, behind all else.
     pub fn can_leave(&self) -> bool
         ensures { result ≡ can_leave self.now }
     {
-        self.leaving && self.can_take_up()
+        self.leaving && !self.out_of_memory && self.queue.is_empty() && !self.waits()
     }
 
     /// The client's end is to be shut.

@@ -10,7 +10,10 @@ ghost use Rattle.gate_model.specs.declared.reply.Reply.TheVariants as reply;
 use close_translate::{RESOURCE_ERROR, code_name};
 use gate_model::Reply;
 use machine_091::Refusal;
-use methods_091::{put_close, put_close_ok};
+use methods_091::{
+    put_channel_close, put_channel_close_ok, put_channel_open_ok, put_close, put_close_ok,
+    put_flow_ok,
+};
 
 /// The protocol header of AMQP 0-9-1 (AMQP 0-9-1 4.2.2).
 const HEADER: [u8; 8] = [b'A', b'M', b'Q', b'P', 0, 0, 9, 1];
@@ -96,6 +99,21 @@ fn write_close(room: &mut [u8; 512], refusal: Refusal) -> usize
     put_close(room, refusal.code, name, refusal.class, refusal.method)
 }
 
+/// Writes a channel.close for a refusal, with the name of its code as text.
+fn write_channel_close(room: &mut [u8; 512], channel: u16, refusal: Refusal) -> usize
+    ensures { IsWrittenOver (spell_reply (reply.ChannelClose channel refusal)) room.old room.new result }
+{
+    let name = code_name(refusal.code);
+    put_channel_close(
+        room,
+        channel,
+        refusal.code,
+        name,
+        refusal.class,
+        refusal.method,
+    )
+}
+
 /// Writes the bytes of a unit to the client over the first ones of a room, and answers their count.
 pub fn spell_reply(room: &mut [u8; 512], reply: Reply) -> usize
     ensures written { IsWrittenOver (spell_reply reply) room.old room.new result }
@@ -110,5 +128,11 @@ pub fn spell_reply(room: &mut [u8; 512], reply: Reply) -> usize
         Reply::Close(refusal) => write_close(room, refusal),
         Reply::Heartbeat => write_over(room, heartbeat()),
         Reply::NoMemory => put_close(room, RESOURCE_ERROR, b"NO_MEMORY", 0, 0),
+        Reply::ChannelOpenOk(channel) => put_channel_open_ok(room, channel),
+        Reply::FlowOk(channel) => put_flow_ok(room, channel),
+        Reply::ChannelCloseOk(channel) | Reply::CrossedOk(channel) => {
+            put_channel_close_ok(room, channel)
+        }
+        Reply::ChannelClose(channel, refusal) => write_channel_close(room, channel, refusal),
     }
 }

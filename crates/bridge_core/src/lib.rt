@@ -3,8 +3,11 @@
 #![tactic(auto)]
 
 mod bridge;
+mod channel_rows;
 mod core_state;
 mod frames;
+mod lives;
+mod queue;
 mod slot;
 mod up_core;
 mod up_frames;

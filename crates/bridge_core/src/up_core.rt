@@ -6,10 +6,11 @@ ghost use Rattle.gate_relay.specs.Sides.{is_readable, is_absent};
 ghost use Rattle.machine_091.specs.RefusalsOpening.{is_login};
 ghost use Rattle.machine_10.specs.Transitions.{meaning_of};
 ghost use Rattle.bridge_core.specs.Logins.{IsLoginOf};
-ghost use Rattle.gate_model.specs.Upstream.{awaited_of, begun, closing_with, finished, first, has_closed};
-ghost use Rattle.gate_model.specs.Upstream.{has_gone_bad, heard_up, idle_in, rows_in};
+ghost use Rattle.gate_model.specs.Upstream.{awaited_of, begun, channel_max_of, closing_with};
+ghost use Rattle.gate_model.specs.Upstream.{container_given, finished, first, has_closed};
+ghost use Rattle.gate_model.specs.Upstream.{has_gone_bad, heard_up, idle_in, opening_rows};
 ghost use Rattle.gate_model.specs.Upstream.{is_idle_due, is_open_phase, linked, lost_by};
-ghost use Rattle.gate_model.specs.Upstream.{meaning_by, no_end, shut_by, up_first, with_begun};
+ghost use Rattle.gate_model.specs.Upstream.{meaning_by, no_end, shut_by, with_begun};
 ghost use Rattle.gate_model.specs.Upstream.{with_init, with_login, with_amqp_header, with_whole};
 ghost use Rattle.gate_model.specs.Upstream.{without_up};
 
@@ -86,7 +87,7 @@ fn without(pending: UpPending, unit: UpUnit) -> UpPending
             open: false,
             ..pending
         },
-        UpUnit::Close(_) | UpUnit::Empty => pending,
+        UpUnit::Close(_) | UpUnit::Empty | UpUnit::Begin(_) | UpUnit::End(_, _) => pending,
     }
 }
 
@@ -100,7 +101,12 @@ fn with_begun(sent: UpSent, unit: UpUnit) -> UpSent
             close: true,
             ..sent
         },
-        UpUnit::SaslHeader | UpUnit::SaslInit | UpUnit::AmqpHeader | UpUnit::Empty => sent,
+        UpUnit::SaslHeader
+        | UpUnit::SaslInit
+        | UpUnit::AmqpHeader
+        | UpUnit::Empty
+        | UpUnit::Begin(_)
+        | UpUnit::End(_, _) => sent,
     }
 }
 
@@ -114,6 +120,19 @@ fn with_whole(sent: UpSent, unit: Option<UpUnit>) -> UpSent
             ..sent
         },
         _ => sent,
+    }
+}
+
+/// The container's sessions once the first byte of a unit was sent.
+fn give(container: &mut Option<Conn10>, unit: UpUnit)
+    ensures { container.new ≡ container_given unit container.old }
+{
+    if let Some(container) = container {
+        match unit {
+            UpUnit::Begin(channel) => container.begin_sent(channel),
+            UpUnit::End(channel, _) => container.end_sent(channel),
+            _ => {}
+        }
     }
 }
 
@@ -238,6 +257,7 @@ impl UpCore {
     pub fn begin(&mut self, unit: UpUnit)
         ensures { self.new ≡ begun unit self.old }
     {
+        give(&mut self.container, unit);
         self.pending = without(self.pending, unit);
         self.in_progress = Some(unit);
         self.sent = with_begun(self.sent, unit);
@@ -337,17 +357,34 @@ impl UpCore {
         }
     }
 
+    /// The greatest number of a channel that the container takes.
+    pub fn channel_max(&self) -> u16
+        ensures { result ≡ channel_max_of self.now }
+    {
+        match &self.container {
+            None => 0,
+            Some(container) => container.channel_max(),
+        }
+    }
+
+    /// The error of the gateway's close.
+    pub fn condition(&self) -> Option<Condition>
+        ensures { result ≡ self.now.condition }
+    {
+        self.condition
+    }
+
     /// An empty frame is due.
-    fn is_idle_due(&self, moment: u64) -> bool
+    pub fn is_idle_due(&self, moment: u64) -> bool
         ensures { result ≡ is_idle_due self.now moment }
     {
         let idle = u64::from(self.idle());
         self.sent.open && idle != 0 && (idle + 1) / 2 <= moment.saturating_sub(self.last_sent_at)
     }
 
-    /// The next unit of the opening, or an empty frame.
-    fn next_opening(&self, moment: u64) -> Option<UpUnit>
-        ensures { result ≡ first (rows_in false self.now moment) }
+    /// The next unit of the opening.
+    pub fn next_opening(&self) -> Option<UpUnit>
+        ensures { result ≡ first (opening_rows self.now.pending) }
     {
         if self.pending.sasl_header {
             Some(UpUnit::SaslHeader)
@@ -357,27 +394,8 @@ impl UpCore {
             Some(UpUnit::AmqpHeader)
         } else if self.pending.open {
             Some(UpUnit::Open)
-        } else if self.is_idle_due(moment) {
-            Some(UpUnit::Empty)
         } else {
             None
-        }
-    }
-
-    /// The unit to the container that goes next, while none is in progress; `closing` says that the client's connection closes.
-    pub fn next(&self, closing: bool, moment: u64) -> Option<UpUnit>
-        ensures { result ≡ up_first closing self.now moment }
-    {
-        if !self.is_live() || self.sent.close {
-            None
-        } else if closing {
-            if self.sent.open {
-                Some(UpUnit::Close(self.condition))
-            } else {
-                None
-            }
-        } else {
-            self.next_opening(moment)
         }
     }
 }

@@ -1,24 +1,26 @@
 //! The bytes of the units that the gateway writes to a container.
 
 ghost use Rattle.std.specs.Prelude.{◌≡◌, ◌≤◌, [], length, true, IfOk, OnOk, OnErr};
+ghost use Rattle.frames_10.specs.Frames.{frame_text};
 ghost use Rattle.frames_10.specs.declared.frame.Kind10.TheVariants.{Amqp, Sasl};
 ghost use Rattle.performatives_10.specs.Closing.{IsWrittenOver, end_text};
 ghost use Rattle.performatives_10.specs.Writing.{perf_text, perf_tree};
-ghost use Rattle.performatives_10.specs.declared.closing.Ending.TheVariants.{Close};
+ghost use Rattle.performatives_10.specs.declared.closing.Ending.TheVariants.{Close, End};
 ghost use Rattle.machine_091.specs.RefusalsOpening.{is_login};
 ghost use Rattle.types_10.specs.Writing.{HasSpelling};
 ghost use Rattle.gate_model.specs.Due.{takes_memory_up};
 ghost use Rattle.gate_model.specs.Setup.{IsInForm};
-ghost use Rattle.gate_model.specs.Spelling.{container_id, frame_10, init_of, open_of, spell_up};
+ghost use Rattle.gate_model.specs.Spelling.{begin_perf, container_id, frame_10, frame_on};
+ghost use Rattle.gate_model.specs.Spelling.{init_of, open_of, spell_up};
 ghost use Rattle.bridge_core.specs.Logins.{IsLoginOf};
 
 use crate::frames::write_over;
 use frames_10::{Frame10, Kind10, put_frame10};
-use gate_model::{IDLE_STATED, Setup, UpUnit};
+use gate_model::{HANDLE_MAX, IDLE_STATED, Setup, UpUnit};
 use itoa::Buffer;
-use machine_10::{Conn10, FRAME_MAX};
+use machine_10::{Conn10, FRAME_MAX, WINDOW};
 use machine_091::CHANNEL_MAX;
-use performatives_10::{Condition, Ending, Open, Perf, SaslInit, put_end, put_perf};
+use performatives_10::{Begin, Condition, Ending, Open, Perf, SaslInit, put_end, put_perf};
 use std::alloc::Global;
 use wire_base::{ByteText, Memory};
 
@@ -93,6 +95,7 @@ fn release(perf: Perf) {
     match perf {
         Perf::Open(open) => drop(open),
         Perf::SaslInit(init) => drop(init),
+        Perf::Begin(begin) => drop(begin),
         _ => {}
     }
 }
@@ -103,11 +106,12 @@ fn write_perf(
     room: &mut [u8; 512],
     alloc: Global,
     kind: Kind10,
+    channel: u16,
     perf: &Perf,
 ) -> Result<usize, Memory>
     requires spelled { HasSpelling (perf_tree perf.now) }
     requires short { length (perf_text perf.now) ≤ 504 }
-    ensures ok { IfOk result (IsWrittenOver (frame_10 kind (perf_text perf.now)) room.old room.new) }
+    ensures ok { IfOk result (IsWrittenOver (frame_text (record { kind = kind; channel = channel; body = perf_text perf.now })) room.old room.new) }
     ensures small { IfOk result (λ count. count ≤ 512) }
     ensures err { OnErr result (room.new ≡ room.old) }
 {
@@ -118,7 +122,7 @@ fn write_perf(
         &mut text,
         &Frame10 {
             kind,
-            channel: 0,
+            channel,
             body,
         },
     )?;
@@ -137,7 +141,7 @@ fn write_open(
     ensures err { OnErr result (room.new ≡ room.old) }
 {
     let perf = open_of(alloc, setup, number)?;
-    let written = write_perf(room, alloc, Kind10::Amqp, &perf);
+    let written = write_perf(room, alloc, Kind10::Amqp, 0, &perf);
     release(perf);
     written
 }
@@ -151,9 +155,46 @@ fn write_init(room: &mut [u8; 512], alloc: Global, container: &Conn10) -> Result
     ensures err { OnErr result (room.new ≡ room.old) }
 {
     let perf = init_of(alloc, container)?;
-    let written = write_perf(room, alloc, Kind10::Sasl, &perf);
+    let written = write_perf(room, alloc, Kind10::Sasl, 0, &perf);
     release(perf);
     written
+}
+
+/// The begin of a session.
+fn begin() -> Perf
+    ensures { result ≡ begin_perf }
+{
+    Perf::Begin(Begin {
+        remote_channel: None,
+        next_outgoing_id: 0,
+        incoming_window: WINDOW,
+        outgoing_window: WINDOW,
+        handle_max: HANDLE_MAX,
+        offered_capabilities: None,
+        desired_capabilities: None,
+        properties: None,
+    })
+}
+
+/// Writes the begin of the session on a channel.
+#[tactic(auto, using(crate::proofs::Spellings::begin_spelled, crate::proofs::Spellings::begin_short))]
+fn write_begin(room: &mut [u8; 512], alloc: Global, channel: u16) -> Result<usize, Memory>
+    ensures ok { IfOk result (IsWrittenOver (frame_on channel (perf_text begin_perf)) room.old room.new) }
+    ensures small { IfOk result (λ count. count ≤ 512) }
+    ensures err { OnErr result (room.new ≡ room.old) }
+{
+    let perf = begin();
+    let written = write_perf(room, alloc, Kind10::Amqp, channel, &perf);
+    release(perf);
+    written
+}
+
+/// Writes the end of the session on a channel.
+fn write_end(room: &mut [u8; 512], channel: u16, condition: Option<Condition>) -> usize
+    ensures written { IsWrittenOver (end_text channel End condition) room.old room.new result }
+    ensures small { result ≤ 512 }
+{
+    put_end(room, channel, Ending::End, condition)
 }
 
 /// Writes a close.
@@ -164,8 +205,8 @@ fn write_close(room: &mut [u8; 512], condition: Option<Condition>) -> usize
     put_end(room, 0, Ending::Close, condition)
 }
 
-/// Writes the bytes of a unit to a container over the first ones of a room, and answers their count. Without memory the room
-/// is as it was.
+/// Writes the bytes of a unit to a container over the first ones of a room, and answers their
+/// count. Without memory the room is as it was.
 pub fn spell_up(
     room: &mut [u8; 512],
     alloc: Global,
@@ -190,5 +231,7 @@ pub fn spell_up(
         UpUnit::Open => write_open(room, alloc, setup, number),
         UpUnit::Close(condition) => Ok(write_close(room, condition)),
         UpUnit::Empty => Ok(write_over(room, empty_frame())),
+        UpUnit::Begin(channel) => write_begin(room, alloc, channel),
+        UpUnit::End(channel, condition) => Ok(write_end(room, channel, condition)),
     }
 }

@@ -27,12 +27,14 @@ use Rattle.machine_10.specs.State as states
 use Rattle.gate_relay.specs.Relayed as relayed
 use Rattle.gate_runs.specs.declared.limits.Limits.{Limits}
 use Rattle.gate_runs.specs.declared.served.Served.TheVariants.{PairsDone}
-use Rattle.gate_runs.specs.Marks.{History, Call, Refuse, TakeUp, RunOut, Finish}
+use Rattle.gate_runs.specs.Marks.{History, Call, Refuse, RunOut, Finish}
 use Rattle.gate_runs.specs.Stages.{Taking}
 use Rattle.gate_runs.specs.Journal.{journal}
-use Rattle.gate_runs.specs.Next.{next, Do, Settle, EndBy, Done, AskRead, AskWrite, AskShut, AskConnect, AskNow, AskAccept, AskIdle}
+use Rattle.gate_runs.specs.Next.{next, Do, EndBy, Done, AskRead, AskWrite, AskShut, AskConnect, AskNow, AskAccept, AskIdle}
 use Rattle.gate_runs.specs.Serving.{Follows}
 use Rattle.gate_model.specs.Frames.{limit_in}
+use Rattle.gate_model.specs.Lives as lives
+use Rattle.machine_091.specs.State as channels
 use Rattle.gate_model.specs.Spelling as frames
 use Rattle.gate_model.specs.Setup.{SetupText}
 use Rattle.gate_pair.specs.Meaning as meaning
@@ -41,7 +43,7 @@ use Rattle.gate_relay.specs.RelayWords.{RelayWords}
 
 -- what is computed here is opened by this one name
 all_open : ℕ
-unfolding meaning.pair_words relayed.read_room headers.header_scan wire.first_header scanning.scan_of scanning.stated_size scanning.frame_in frames.start_frame frames.tune_frame frames.open_ok_frame spelling.frame_text reading.text_in reading.all_items
+unfolding meaning.pair_words relayed.read_room lives.no_lives channels.no_channels headers.header_scan wire.first_header scanning.scan_of scanning.stated_size scanning.frame_in frames.start_frame frames.tune_frame frames.open_ok_frame spelling.frame_text reading.text_in reading.all_items
 all_open = 0
 
 -- and what a container's units are read by
@@ -330,11 +332,7 @@ then_the_open_goes : next words two_pairs answering ≡ Do (AskWrite 0 Up gate_o
 unfolding all_open both_open
 then_the_open_goes = refl
 
-what_waited_is_taken_up : next words two_pairs opened ≡ Settle 0
-unfolding all_open both_open
-what_waited_is_taken_up = refl
-
-then_the_client_is_let_in : next words two_pairs (TakeUp 0 ∷ opened) ≡ Do (AskWrite 0 Client open_ok)
+then_the_client_is_let_in : next words two_pairs opened ≡ Do (AskWrite 0 Client open_ok)
 unfolding all_open both_open
 then_the_client_is_let_in = refl
 

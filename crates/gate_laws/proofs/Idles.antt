@@ -1,5 +1,7 @@
--- A pair's words are steady, and wake by a connect that failed alone; so all is at rest at each idle.
-use Rattle.std.proofs.Common.{◌≡◌, ◌∙◌, ◌⊎◌, Bool, true, false, not, ◌&&◌, ◌||◌, if◌then◌else◌, ℕ, zero, suc, List, [], ◌∷◌, ◌++◌, length, drop, Option, inl, inr, refl, ap, sym, subst}
+-- A pair's words are steady, and the upstream end wakes by a connect alone; so all is at rest at each idle.
+use Rattle.std.proofs.Common.{◌≡◌, ◌∙◌, Bool, true, false, not, ◌&&◌, ◌||◌, if◌then◌else◌, ℕ, zero, suc, ◌+◌, List, [], ◌∷◌, ◌++◌, length, take, Option, None, Some, refl, ap, sym, subst}
+use Rattle.std.specs.Prelude.{is_some}
+use Rattle.std.specs.List.{list_any}
 use Rattle.gate_outside.specs.declared.ports.End.{End}
 use Rattle.gate_outside.specs.declared.ports.End.TheVariants.{Client, Up}
 use Rattle.gate_outside.specs.declared.ports.Linked.TheVariants as link
@@ -9,72 +11,79 @@ use Rattle.gate_relay.specs.Sides.{is_readable}
 use Rattle.gate_relay.specs.declared.sides.Side.{Side}
 use Rattle.machine_091.specs.State.{awaits, is_closing, is_opening}
 use Rattle.machine_091.specs.Transitions.{unit_step}
-use Rattle.machine_091.specs.declared.state.Awaited91.{Awaited91}
-use Rattle.machine_091.specs.declared.state.Awaited91.TheVariants as awaited
 use Rattle.machine_091.specs.declared.unit.Unit91.{Unit91}
-use Rattle.machine_091.specs.declared.unit.Unit91.TheVariants as unit
 use Rattle.machine_091.specs.declared.unit.Want91.{Want91}
 use Rattle.machine_10.specs.declared.state.Upstream.{Upstream}
 use Rattle.performatives_10.specs.declared.condition.Condition.{Condition}
-use Rattle.wire_base.specs.declared.scan.Scan.{Scan}
-use Rattle.wire_base.specs.declared.scan.Scan.TheVariants.{Whole, More, Bad}
-use Rattle.gate_model.specs.Due.{can_leave, can_take_up, is_awaited, is_awaiting}
+use Rattle.gate_model.specs.declared.life.Life.{Life}
+use Rattle.gate_model.specs.Due.{can_leave, can_take_unit, can_take_up, is_awaited, is_awaiting, is_held}
 use Rattle.gate_model.specs.Folds.{connection, container_kept}
+use Rattle.gate_model.specs.Lives.{any_life, is_done, life_at, session_in}
 use Rattle.gate_model.specs.Picks.{ArePicks}
+use Rattle.gate_model.specs.Queue.{Waits, can_take, channel_of, holds, is_bad_unit, is_empty, is_full, place_from, place_in, waits_for_all}
 use Rattle.gate_model.specs.Setup.{SetupText}
-use Rattle.gate_model.specs.State.{State, Step, Came, Joined, TakenUp, before, came, condition_by, keep_login, left, step, waits}
+use Rattle.gate_model.specs.State.{State, Step, Came, Joined, TakenUp, before, came, close_waits, condition_by, dequeued, is_channel_settled, is_settled, keep_login, left, life_waits, next_unit, place, step, waits}
 use Rattle.gate_model.specs.Upstream.{UpState, awaited_of, closing_with, has_closed, is_awaited_up}
 use Rattle.gate_model.proofs.Connections.{clash}
 use Rattle.gate_model.proofs.Known.{closing_is, conn_is, keep_is, known, side_is}
+use Rattle.gate_model.proofs.Queues.{empty_is}
+use Rattle.gate_model.proofs.Times.{and_both, and_left, and_right}
 use Rattle.gate_model.proofs.Ups.{is_early}
-use Rattle.gate_pair.specs.Cutting.{after, as_step, cut_all, cut_of, on_scan, read_end, unit_scan}
-use Rattle.gate_pair.specs.Meaning.{Told, pair_words, settled, state_of, steps, steps_of, takes_up, told}
+use Rattle.gate_pair.specs.Cutting as cutting
+use Rattle.gate_pair.specs.Cutting.{after, on_next, settle}
+use Rattle.gate_pair.specs.Meaning.{Told, pair_words, settled, state_of, steps, steps_of, told}
+use Rattle.gate_pair.proofs.Memories.{memory_of}
+use Rattle.gate_pair.proofs.Queued.{settle_done}
 use Rattle.gate_pair.proofs.Saids.{after_before}
 use Rattle.gate_turn_laws.specs.Quiet.{IsSteady, WakesNone}
 use Rattle.gate_laws.proofs.Reached.{login_late, unit_late, unreached}
 
 -- ---- steady words
 
+both_none : (a b : Bool) → a ≡ false → b ≡ false → (a || b) ≡ false
+both_none true b e f = absurd cc
+both_none false b e f = f
+
+and_none : (a : Bool) {b : Bool} → b ≡ false → (a && b) ≡ false
+and_none true e = e
+and_none false e = refl
+
+-- where the client's end can be taken up all of its units were, and that it left is known
+leaves_none : (w : State) → can_leave w ≡ true → w.queue ≡ []
+leaves_none w e =
+    let rest : (not w.out_of_memory && (is_empty w.queue && not (waits w).some)) ≡ true = and_right w.leaving _ e in
+    empty_is w.queue (and_left (is_empty w.queue) _ (and_right (not w.out_of_memory) _ rest))
+
+is_there : (w : State) → can_leave w ≡ true → (not w.out_of_memory && w.leaving) ≡ true
+is_there w e = and_both (not w.out_of_memory) w.leaving (and_left (not w.out_of_memory) _ (and_right w.leaving _ e)) (and_left w.leaving _ e)
+
 -- the client's units, taken up as far as they can be
 abbrev fresh_of : Told → List Step
-fresh_of t = (cut_all Client (before (steps t)) t.client.unread).fresh
+fresh_of t = settle (before (steps t)) []
 
--- its end stays where it isn't taken up
-stays : (out leaving wait : Bool) → (leaving && (not out && not wait)) ≡ false → ((not out && not wait) && (leaving || wait)) ≡ false
-stays true leaving wait e = refl
-stays false leaving true e = refl
-stays false true false e = absurd cc
-stays false false false e = refl
-
-goes : (w : State) (out leaving wait : Bool) → (leaving && (not out && not wait)) ≡ true → w.out_of_memory ≡ out → w.leaving ≡ leaving → takes_up (step w TakenUp) wait ≡ false
-goes w true leaving wait can o l = by leaving can
+-- that its end left is taken up behind all of them
+none_left : (w : State) → is_some (place w) ≡ false → (b : Bool) → can_leave w ≡ b → can_take_up (if b then step w TakenUp else w) ≡ false
+none_left w none false can = both_none (can_take_unit w) (can_leave w) (and_none (not w.out_of_memory) none) can
+none_left w none true can = by (not w.out_of_memory && w.leaving) (is_there w can)
   where
-    by : (b : Bool) → (b && false) ≡ true → takes_up (step w TakenUp) wait ≡ false
-    by true e = absurd cc
+    by : (b : Bool) → b ≡ true → can_take_up (if b then left w else w) ≡ false
+    by true e =
+        both_none (can_take_unit (left w)) (can_leave (left w))
+        (and_none (not w.out_of_memory) (ap (λ (us : List Unit91). is_some (place_in (waits (left w)) us)) (leaves_none w can))) refl
     by false e = absurd cc
-goes w false false wait can o l = absurd cc
-goes w false true true can o l = absurd cc
-goes w false true false can o l =
-    ap (λ (b : Bool). takes_up (if b then left w else w) false) (ap (λ (b : Bool). not b && w.leaving) o ∙ l) ∙ none (can_take_up (left w))
-  where
-    none : (b : Bool) → (b && false) ≡ false
-    none true = refl
-    none false = refl
 
-none_left : (t : Told) → takes_up (before (steps (settled t))) (settled t).stopped ≡ false
-none_left t = by (can_leave w) refl
+pub settled_rest : (t : Told) → (before (steps t)).out_of_memory ≡ false → can_take_up (before (steps (settled t))) ≡ false
+settled_rest t calm = by (can_leave w) refl
   where
     w : State
     w = before (fresh_of t ++ steps t)
 
-    by : (b : Bool) → can_leave w ≡ b
-        → takes_up (before (((if b then TakenUp ∷ [] else []) ++ fresh_of t) ++ steps t)) (waits (after (fresh_of t) (before (steps t)))) ≡ false
-    by true can =
-        ap (λ (v : State). takes_up (step w TakenUp) (waits v)) (sym (after_before (fresh_of t) (steps t)))
-        ∙ goes w w.out_of_memory w.leaving (waits w) can refl refl
-    by false can =
-        ap (λ (v : State). takes_up w (waits v)) (sym (after_before (fresh_of t) (steps t)))
-        ∙ stays w.out_of_memory w.leaving (waits w) can
+    none : is_some (place w) ≡ false
+    none = subst (λ (v : State). is_some (place v) ≡ false) (sym (after_before (fresh_of t) (steps t))) (settle_done (before (steps t)) [] calm)
+
+    by : (b : Bool) → can_leave w ≡ b → can_take_up (before (((if b then TakenUp ∷ [] else []) ++ fresh_of t) ++ steps t)) ≡ false
+    by true can = none_left w none true can
+    by false can = none_left w none false can
 
 pub steady : (s : SetupText) → IsSteady (pair_words s)
 unfolding pair_words
@@ -84,44 +93,12 @@ steady s = record {
   takes = λ stuck bytes h. refl;
   connects = λ stuck bytes h. refl;
   offer = offer_same;
-  settled = λ h calm. none_left (told s h);
+  settled = λ h calm. settled_rest (told s h) (memory_of s h ∙ calm);
 }
   where
     offer_same : (end stuck : End) (bytes : List ℕ) (h : List Entry) → (pair_words s).offer end (Stuck stuck bytes ∷ h) ≡ (pair_words s).offer end h
     offer_same Client stuck bytes h = refl
     offer_same Up stuck bytes h = refl
-
--- ---- the client's end by a take-up
-
--- nothing of it is taken up, or a unit of it was awaited
-none_or_awaited : (w : State) (bytes : List ℕ) → ((cut_all Client w bytes).fresh ≡ []) ⊎ (is_awaiting w Client ≡ true)
-none_or_awaited w [] = inl refl
-none_or_awaited w (byte ∷ bytes) = by (waits w) (awaits w.conn)
-  where
-    by : (wait : Bool) (a : Awaited91)
-        → ((on_scan (if wait then More else as_step Came unit.Bad (unit_scan a (byte ∷ bytes))) (cut_of [] (byte ∷ bytes)) (λ s. cut_of (s ∷ []) [])
-        (λ s n. read_end Client w (length bytes) (s ∷ []) (drop n (byte ∷ bytes)))).fresh ≡ []) ⊎ ((is_awaited a && not wait) ≡ true)
-    by true a = inl refl
-    by false awaited.Nothing = inl refl
-    by false awaited.Header = inr refl
-    by false (awaited.Frame size) = inr refl
-
-client_settled : (t : Told) → is_awaiting (before (steps (settled t))) Client ≡ true → is_awaiting (before (steps t)) Client ≡ true
-client_settled t e = elim (none_or_awaited (before (steps t)) t.client.unread) [
-  | inl none ↦ subst (λ (g : List Step). is_awaiting (before (g ++ steps t)) Client ≡ true) none (by (can_leave w) e)
-  | inr a ↦ a
-]
-  where
-    w : State
-    w = before (fresh_of t ++ steps t)
-
-    taken : (b : Bool) → is_awaiting (if b then left w else w) Client ≡ true → is_awaiting w Client ≡ true
-    taken true e = absurd cc
-    taken false e = e
-
-    by : (b : Bool) → is_awaiting (before (((if b then TakenUp ∷ [] else []) ++ fresh_of t) ++ steps t)) Client ≡ true → is_awaiting w Client ≡ true
-    by true e = taken (not w.out_of_memory && w.leaving) e
-    by false e = e
 
 -- ---- the upstream end by a take-up
 
@@ -145,7 +122,7 @@ wanted_up closing x s = by closing
 came_kept : (w v : State) (u : Unit91) → Kept w v → Kept w (step v (Came u))
 came_kept w v u k = by v.out_of_memory
   where
-    by : (b : Bool) → Kept w (if b then v else came v u)
+    by : (b : Bool) → Kept w (if b then v else came (dequeued v) u)
     by true = k
     by false = record {
       side = ap (λ (s : UpState). s.side) (wanted_up (is_closing v.conn) (unit_step v.conn u).1 v.up) ∙ k.side;
@@ -155,17 +132,13 @@ came_kept w v u k = by v.out_of_memory
       late = λ late. unit_late v.conn u (k.late late);
     }
 
-reads_kept : (w : State) (f : ℕ) (g : List Step) (bytes : List ℕ) → Kept w (after g w) → Kept w (after (read_end Client w f g bytes).fresh w)
-reads_kept w zero g bytes k = k
-reads_kept w (suc f) g bytes k = by (reads_kept w f) (waits (after g w)) (unit_scan (awaits (after g w).conn) bytes)
+takes_kept : (w : State) (f : ℕ) (g : List Step) → Kept w (after g w) → Kept w (after (cutting.settled w f g) w)
+takes_kept w zero g k = k
+takes_kept w (suc f) g k = by (next_unit (after g w)) (λ u. takes_kept w f (Came u ∷ g) (came_kept w (after g w) u k))
   where
-    by : ((g : List Step) (bytes : List ℕ) → Kept w (after g w) → Kept w (after (read_end Client w f g bytes).fresh w)) → (wait : Bool) (x : Scan Unit91 ℕ)
-        → Kept w (after (on_scan (if wait then More else as_step Came unit.Bad x) (cut_of g bytes) (λ s. cut_of (s ∷ g) [])
-        (λ s n. read_end Client w f (s ∷ g) (drop n bytes))).fresh w)
-    by later true x = k
-    by later false More = k
-    by later false (Whole u n) = later (Came u ∷ g) (drop n bytes) (came_kept w (after g w) u k)
-    by later false (Bad code) = came_kept w (after g w) (unit.Bad code) k
+    by : (o : Option Unit91) → ((u : Unit91) → Kept w (after (cutting.settled w f (Came u ∷ g)) w)) → Kept w (after (on_next o g (λ u. cutting.settled w f (Came u ∷ g))) w)
+    by None rec = k
+    by (Some u) rec = rec u
 
 taken_kept : (w v : State) → Kept w v → Kept w (step v TakenUp)
 taken_kept w v k = by (not v.out_of_memory && v.leaving)
@@ -183,7 +156,7 @@ settled_kept t = by (can_leave (before (fresh_of t ++ steps t)))
   where
     cut : Kept (before (steps t)) (before (fresh_of t ++ steps t))
     cut = subst (Kept (before (steps t))) (sym (after_before (fresh_of t) (steps t)))
-        (reads_kept (before (steps t)) (length t.client.unread) [] t.client.unread (record { side = refl; container = λ late. refl; late = λ late. late }))
+        (takes_kept (before (steps t)) (length (before (steps t)).queue) [] (record { side = refl; container = λ late. refl; late = λ late. late }))
 
     by : (b : Bool) → Kept (before (steps t)) (before (((if b then TakenUp ∷ [] else []) ++ fresh_of t) ++ steps t))
     by true = taken_kept (before (steps t)) (before (fresh_of t ++ steps t)) cut
@@ -213,44 +186,116 @@ up_settled t p e = by (is_early w.conn.phase) refl
 -- ---- a connect that opens an end
 
 -- what waits for an end that isn't open waits for one that is
-still_waits : (opening closed out open' over : Bool) → (not (opening || (closed && not (out || (false || over))))) ≡ true
-    → (not (opening || (closed && not (out || (not open' || over))))) ≡ true
-still_waits true closed out open' over e = absurd cc
-still_waits false false out open' over e = refl
-still_waits false true true open' over e = refl
-still_waits false true false true over e = e
-still_waits false true false false over e = refl
+record Waited (q v : Waits) : Type 0 where
+  opening : q.opening ≡ true → v.opening ≡ true
+  some : q.some ≡ true → v.some ≡ true
+  channel : (n : ℕ) → q.channel n ≡ true → v.channel n ≡ true
 
 both : (a b c : Bool) → (b ≡ true → c ≡ true) → (a && b) ≡ true → (a && c) ≡ true
 both true b c f e = f e
 both false b c f e = absurd cc
 
-first_of_both : (a b c : Bool) → (a ≡ true → c ≡ true) → (a && b) ≡ true → (c && b) ≡ true
-first_of_both true true c f e = ap (λ (x : Bool). x && true) (f refl)
-first_of_both true false c f e = absurd cc
-first_of_both false b c f e = absurd cc
+either_of : (a b c d : Bool) → (a ≡ true → c ≡ true) → (b ≡ true → d ≡ true) → (a || b) ≡ true → (c || d) ≡ true
+either_of true b c d f g e = ap (λ (x : Bool). x || d) (f refl)
+either_of false b true d f g e = refl
+either_of false b false d f g e = g e
 
-waits_before : (w : State) → not (waits (step w (Joined link.Ok))) ≡ true → not (waits w) ≡ true
-waits_before w e = still_waits (is_opening w.conn) w.client_closed w.out_of_memory (is_readable w.up.side) (has_closed w.up) e
+neither : (a b : Bool) → (a ≡ true → b ≡ true) → not b ≡ true → not a ≡ true
+neither true b f e = let wrong : not b ≡ not true = ap not (f refl) in absurd cc
+neither false b f e = refl
 
-client_linked : (w : State) → is_awaiting (step w (Joined link.Ok)) Client ≡ true → is_awaiting w Client ≡ true
-client_linked w e = both (is_awaited (awaits w.conn)) (not (waits (step w (Joined link.Ok)))) (not (waits w)) (waits_before w) e
+two_of : (a b c d : Bool) → (a ≡ true → c ≡ true) → (b ≡ true → d ≡ true) → (a && b) ≡ true → (c && d) ≡ true
+two_of true true c d f g e = ap (λ (x : Bool). x && d) (f refl) ∙ g refl
+two_of true false c d f g e = absurd cc
+two_of false b c d f g e = absurd cc
 
-takes_linked : (w : State) (stopped : Bool) → takes_up (step w (Joined link.Ok)) stopped ≡ true → takes_up w stopped ≡ true
-takes_linked w stopped e =
-    first_of_both (not w.out_of_memory && not (waits (step w (Joined link.Ok)))) (w.leaving || stopped) (not w.out_of_memory && not (waits w))
-    (both (not w.out_of_memory) (not (waits (step w (Joined link.Ok)))) (not (waits w)) (waits_before w)) e
+abbrev joined : State → State
+joined w = step w (Joined link.Ok)
+
+-- where nothing is waited for of an end that is open, nothing is of one that isn't
+settled_before : (w : State) → is_settled (joined w) ≡ true → is_settled w ≡ true
+settled_before w e = by w.out_of_memory (not (is_readable w.up.side)) (has_closed w.up) e
+  where
+    by : (out closed over : Bool) → (out || (false || over)) ≡ true → (out || (closed || over)) ≡ true
+    by true closed over e = refl
+    by false true over e = refl
+    by false false over e = e
+
+channel_before : (w : State) (n : ℕ) → is_channel_settled (joined w) n ≡ true → is_channel_settled w n ≡ true
+channel_before w n e =
+    let done : Bool = is_done (session_in w.up.container n) in either_of (is_settled (joined w)) done (is_settled w) done (settled_before w) (λ x. x) e
+
+life_more : (w : State) (n : ℕ) (l : Life) → life_waits w n l ≡ true → life_waits (joined w) n l ≡ true
+life_more w n l =
+    both (not (is_closing w.conn)) (l.waits || (l.awaits_end && not (is_channel_settled w n))) (l.waits || (l.awaits_end && not (is_channel_settled (joined w) n)))
+    (either_of l.waits (l.awaits_end && not (is_channel_settled w n)) l.waits _ (λ x. x)
+    (both l.awaits_end (not (is_channel_settled w n)) (not (is_channel_settled (joined w) n)) (neither (is_channel_settled (joined w) n) (is_channel_settled w n) (channel_before w n))))
+
+any_more : (t u : ℕ → Life → Bool) (n : ℕ) (ls : List Life) → ((k : ℕ) (l : Life) → t k l ≡ true → u k l ≡ true) → any_life t n ls ≡ true → any_life u n ls ≡ true
+any_more t u n [] f e = e
+any_more t u n (l ∷ ls) f e = either_of (t n l) (any_life t (n + 1) ls) (u n l) (any_life u (n + 1) ls) (f n l) (any_more t u (n + 1) ls f) e
+
+close_more : (w : State) → close_waits w ≡ true → close_waits (joined w) ≡ true
+close_more w = both w.client_closed (not (is_settled w)) (not (is_settled (joined w))) (neither (is_settled (joined w)) (is_settled w) (settled_before w))
+
+waits_more : (w : State) → Waited (waits w) (waits (joined w))
+waits_more w =
+    let opening : Bool = is_opening w.conn in
+    let lives : Bool = any_life (life_waits w) 0 w.lives in
+    record {
+      opening = λ x. x;
+      some = either_of opening (close_waits w || lives) opening _ (λ x. x)
+          (either_of (close_waits w) lives (close_waits (joined w)) _ (close_more w) (any_more (life_waits w) (life_waits (joined w)) 0 w.lives (life_more w)));
+      channel = λ n. life_more w n (life_at w.lives n);
+    }
+
+client_linked : (w : State) → is_awaiting (joined w) Client ≡ true → is_awaiting w Client ≡ true
+client_linked w =
+    let rest : Bool = list_any is_bad_unit w.queue || is_full w.queue in
+    both (is_awaited (awaits w.conn)) (not (is_held (joined w))) (not (is_held w))
+    (neither (is_held w) (is_held (joined w))
+    (either_of (is_opening w.conn) (close_waits w || rest) (is_opening w.conn) (close_waits (joined w) || rest) (λ x. x)
+    (either_of (close_waits w) rest (close_waits (joined w)) rest (close_more w) (λ x. x))))
+
+-- a unit that can be taken up though more waits can be where less does
+can_before : (q v : Waits) (earlier : List Unit91) (u : Unit91) → Waited q v → can_take v earlier u ≡ true → can_take q earlier u ≡ true
+can_before q v earlier u x = by (waits_for_all u)
+  where
+    n : ℕ
+    n = channel_of u
+
+    by : (b : Bool) → (if b then is_empty earlier && not v.some else not v.opening && not (v.channel n) && not (list_any (holds n) earlier)) ≡ true
+        → (if b then is_empty earlier && not q.some else not q.opening && not (q.channel n) && not (list_any (holds n) earlier)) ≡ true
+    by true = both (is_empty earlier) (not v.some) (not q.some) (neither q.some v.some x.some)
+    by false =
+        two_of (not v.opening && not (v.channel n)) (not (list_any (holds n) earlier)) (not q.opening && not (q.channel n)) (not (list_any (holds n) earlier))
+        (two_of (not v.opening) (not (v.channel n)) (not q.opening) (not (q.channel n)) (neither q.opening v.opening x.opening)
+        (neither (q.channel n) (v.channel n) (x.channel n))) (λ e. e)
+
+place_before : (q v : Waits) (all : List Unit91) (k : ℕ) (us : List Unit91) → Waited q v → is_some (place_from v all k us) ≡ true → is_some (place_from q all k us) ≡ true
+place_before q v all k [] x e = e
+place_before q v all k (u ∷ us) x e =
+    by (can_take v (take k all) u) (can_take q (take k all) u) (can_before q v (take k all) u x) (place_before q v all (k + 1) us x) e
+  where
+    by : (b c : Bool) → (b ≡ true → c ≡ true) → (is_some (place_from v all (k + 1) us) ≡ true → is_some (place_from q all (k + 1) us) ≡ true)
+        → is_some (if b then Some k else place_from v all (k + 1) us) ≡ true → is_some (if c then Some k else place_from q all (k + 1) us) ≡ true
+    by b true can later e = refl
+    by true false can later e = let wrong : false ≡ true = can refl in absurd cc
+    by false false can later e = later e
+
+takes_linked : (w : State) → can_take_up (joined w) ≡ true → can_take_up w ≡ true
+takes_linked w =
+    either_of (can_take_unit (joined w)) (can_leave (joined w)) (can_take_unit w) (can_leave w)
+    (both (not w.out_of_memory) (is_some (place (joined w))) (is_some (place w)) (place_before (waits w) (waits (joined w)) w.queue 0 w.queue (waits_more w)))
+    (both w.leaving _ _ (both (not w.out_of_memory) _ _
+    (both (is_empty w.queue) (not (waits (joined w)).some) (not (waits w).some) (neither (waits w).some (waits (joined w)).some (waits_more w).some))))
 
 -- ---- both
 
 pub wakes_none : (s : SetupText) → ((h : List Entry) → IsRelayed (pair_words s) h → ArePicks (steps_of s h)) → WakesNone (pair_words s)
 unfolding pair_words
 wakes_none s picks = record {
-  settled = λ end h r. by end (told s h) (picks h r);
+  settled = λ h r. up_settled (told s h) (picks h r);
   client = λ h e. client_linked (state_of s h) e;
-  takes = λ h e. takes_linked (state_of s h) (told s h).stopped e;
+  takes = λ h e. takes_linked (state_of s h) e;
 }
-  where
-    by : (end : End) (t : Told) → ArePicks (steps t) → is_awaiting (before (steps (settled t))) end ≡ true → is_awaiting (before (steps t)) end ≡ true
-    by Client t p e = client_settled t e
-    by Up t p e = up_settled t p e

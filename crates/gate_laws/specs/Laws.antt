@@ -12,9 +12,11 @@ use Rattle.gate_turn_laws.specs.Log.{IsPlain, IsWholeRun}
 use Rattle.gate_turn_laws.specs.Quiet.{IdlesAtRest, IdlesInSilence}
 use Rattle.gate_model.specs.Asked.{AreCalledFor, GoesWhenDue}
 use Rattle.gate_model.specs.Frames.{FitsClients}
+use Rattle.gate_model.specs.Once.{AnswersOnce}
+use Rattle.gate_model.specs.Order.{TakesInOrder}
 use Rattle.gate_model.specs.Picks.{ArePicks}
 use Rattle.gate_model.specs.Setup.{SetupText}
-use Rattle.gate_model.specs.Waiting.{EndsWhenSettled, OpensWhenOpened}
+use Rattle.gate_model.specs.Waiting.{ChannelsEndWhenSettled, EndsWhenSettled, OpensWhenOpened}
 use Rattle.gate_pair.specs.Answers.{IsAnswered}
 use Rattle.gate_pair.specs.Lawful.{AreLawful}
 use Rattle.gate_pair.specs.Meaning.{pair_words, steps_of}
@@ -27,8 +29,14 @@ pub record IsLawfulPair (s : SetupText) (h : List Entry) : Type 0 where
   pub picks : ArePicks (steps_of s h)
   -- each end took what it was sent, and its client what answers it and tells what happened upstream
   pub answers : IsAnswered s h
-  -- a client is told of the end of its connection, and of its begin, once the container is through
+  -- a client's units are taken up in the order of their channel, and each request on one is
+  -- answered at most once
+  pub order : TakesInOrder (steps_of s h)
+  pub once : AnswersOnce (steps_of s h)
+  -- a client is told of the end of its connection or a channel, and of the connection's begin, once
+  -- the container is through
   pub ends : EndsWhenSettled (steps_of s h)
+  pub channels : ChannelsEndWhenSettled (steps_of s h)
   pub opens : OpensWhenOpened (steps_of s h)
   -- the container is sent what was called for, and a close where that may go
   pub called : AreCalledFor (steps_of s h)

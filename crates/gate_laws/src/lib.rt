@@ -7,9 +7,11 @@
 ghost use Rattle.std.specs.Prelude.{◌≡◌, ℕ, false, Option, Some, List};
 ghost use Rattle.gate_model.specs.Asked.{AreCalledFor, GoesWhenDue};
 ghost use Rattle.gate_model.specs.Frames.{FitsClients};
+ghost use Rattle.gate_model.specs.Once.{AnswersOnce};
+ghost use Rattle.gate_model.specs.Order.{TakesInOrder};
 ghost use Rattle.gate_model.specs.Picks.{ArePicks};
 ghost use Rattle.gate_model.specs.Setup.{SetupText};
-ghost use Rattle.gate_model.specs.Waiting.{EndsWhenSettled, OpensWhenOpened};
+ghost use Rattle.gate_model.specs.Waiting.{ChannelsEndWhenSettled, EndsWhenSettled, OpensWhenOpened};
 ghost use Rattle.gate_pair.specs.Answers.{IsAnswered};
 ghost use Rattle.gate_pair.specs.Lawful.{AreLawful};
 ghost use Rattle.gate_pair.specs.Meaning.{pair_words, steps_of};
@@ -50,12 +52,36 @@ pub fn clients_are_answered()
     gate_pair::clients_are_answered();
 }
 
+/// The units of each channel of a client are taken up in the order in which they came, each once; those
+/// that were not wait in that order.
+pub fn units_keep_their_order()
+    ensures { (s : SetupText) (c : Limits) (m : History) → Follows (pair_words s) c m → (p : ℕ)
+        → TakesInOrder (steps_of s (journal p m)) }
+{
+    entries_are_lawful();
+    gate_model::units_keep_their_order();
+}
+
+/// On each channel no more channel.open-oks went than channel.opens were taken up, and the same of
+/// channel.flow and its flow-ok, and of channel.close and its close-ok.
+pub fn channels_are_answered_once()
+    ensures { (s : SetupText) (c : Limits) (m : History) → Follows (pair_words s) c m → (p : ℕ)
+        → AnswersOnce (steps_of s (journal p m)) }
+{
+    entries_are_lawful();
+    gate_model::channels_are_answered_once();
+}
+
 /// A connection.close of the gateway or a close-ok goes only where nothing of the upstream end is
 /// waited for: the pair ran out of memory, the end isn't open, or the container's close came.
-/// connection.open-ok goes only after the container's open.
+/// connection.open-ok goes only after the container's open. A channel.close of the gateway or its
+/// close-ok goes only where nothing is waited for on its channel: no session began there, or the
+/// container's end came.
 pub fn replies_wait()
     ensures ends { (s : SetupText) (c : Limits) (m : History) → Follows (pair_words s) c m → (p : ℕ)
         → EndsWhenSettled (steps_of s (journal p m)) }
+    ensures channels { (s : SetupText) (c : Limits) (m : History) → Follows (pair_words s) c m
+        → (p : ℕ) → ChannelsEndWhenSettled (steps_of s (journal p m)) }
     ensures opens { (s : SetupText) (c : Limits) (m : History) → Follows (pair_words s) c m → (p : ℕ)
         → OpensWhenOpened (steps_of s (journal p m)) }
 {
@@ -103,8 +129,9 @@ pub fn times_are_kept()
 
 /// At each idle all is at rest: each end of a live pair of which a unit is awaited was read dry in
 /// this turn, what is offered was stuck, nothing can be taken up, and no end is to be shut. No further
-/// client can come, and nothing moved. An end that was opened in this turn is an exception, and in a
-/// turn in which the connect failed the client's end and what of it waited.
+/// client can come, and nothing moved. An end that was opened in this turn is an exception, and so is
+/// the client's where something of it was taken up; in a turn in which the connect failed, so is what
+/// of it waited.
 pub fn idle_is_at_rest()
     ensures rests { (s : SetupText) (c : Limits) (m : History) → Follows (pair_words s) c m
         → IdlesAtRest (pair_words s) c m }
@@ -122,6 +149,8 @@ pub fn runs_are_lawful()
 {
     entries_are_lawful();
     clients_are_answered();
+    units_keep_their_order();
+    channels_are_answered_once();
     replies_wait();
     containers_are_asked();
     frames_fit_clients();

@@ -1,5 +1,5 @@
 -- The error of the gateway's close to a container: what the first closing event says.
-use Rattle.std.proofs.Common.{◌≡◌, ℕ, Bool, true, false, not, ◌&&◌, ◌||◌, if◌then◌else◌, List, [], ◌∷◌, Option, None, Some, refl, sym, ap, ◌∙◌, subst}
+use Rattle.std.proofs.Common.{Bool, List, None, Option, Some, [], ap, false, if◌then◌else◌, inl, inr, not, refl, subst, sym, true, ℕ, ◌&&◌, ◌++◌, ◌==◌, ◌||◌, ◌∙◌, ◌∷◌, ◌≡◌, ◌⊎◌}
 use Rattle.std.specs.List.{list_any}
 use Rattle.std.proofs.lemmas.List.Folds.{list_any-append}
 use Rattle.gate_outside.specs.declared.ports.End.TheVariants.{Client, Up}
@@ -7,8 +7,10 @@ use Rattle.gate_outside.specs.declared.ports.Linked.TheVariants as link
 use Rattle.close_translate.specs.declared.codes.TheConstants.{CONNECTION_FORCED}
 use Rattle.gate_relay.specs.declared.loss.Loss.TheVariants as loss
 use Rattle.gate_relay.specs.declared.sides.Side.TheVariants as side
-use Rattle.machine_091.specs.Calls.{after_ended, after_opened}
-use Rattle.machine_091.specs.State.{is_closing, is_opening}
+use Rattle.machine_091.specs.Calls.{after_closing, after_ended, after_opened}
+use Rattle.machine_10.specs.Reading.{field}
+use Rattle.performatives_10.specs.Fields.{is_absent}
+use Rattle.machine_091.specs.State.{is_closing, is_open, is_opening}
 use Rattle.machine_091.specs.Transitions.{unit_step}
 use Rattle.machine_091.specs.Transitions as machine
 use Rattle.machine_091.specs.declared.state.Connection.{Connection}
@@ -24,30 +26,36 @@ use Rattle.gate_model.specs.declared.outgoing.UpUnit.TheVariants as up
 use Rattle.gate_model.specs.Asked.{closing_condition, condition_at, condition_told, is_opening_unit, is_up_close}
 use Rattle.gate_model.specs.Folds.{Peers, accepted_in, conn_by, connection, container, leaving_in, peers, peers_came, peers_heard, ran_out_in, sent_up}
 use Rattle.gate_model.specs.Picks.{ArePicks}
-use Rattle.gate_model.specs.State.{State, Step, Began, Moment, Came, TakenUp, Heard, Joined, Lost, Gave, Whole, OutOfMemory, after_want, before, came, close_if, condition_by, conn_step, fail, failed, heard, is_limit_reached, left, with_meaning}
-use Rattle.gate_model.specs.Upstream.{UpState, heard_up, lost_by, meaning_by, shut_by}
-use Rattle.gate_model.proofs.Connections.{clash, close_closes, opening_early, step_closes}
+use Rattle.gate_model.specs.State.{Began, Came, Gave, Heard, Joined, Lost, Moment, OutOfMemory, Queued, State, Step, TakenUp, Whole, before, came, close, close_if, condition_by, conn_step, dequeued, fail, failed, heard, is_limit_reached, left, runs, with_meaning}
+use Rattle.gate_model.specs.Upstream.{UpState, channel_max_in, heard_up, lost_by, meaning_by, shut_by}
+use Rattle.close_translate.specs.declared.codes.TheConstants.{INTERNAL_ERROR}
+use Rattle.close_translate.specs.declared.conditions.Scope.TheVariants as scope
+use Rattle.performatives_10.specs.declared.condition.Condition.TheVariants.{NotAllowed}
+use Rattle.machine_10.specs.declared.state.Upstream.{Upstream}
+use Rattle.gate_model.proofs.Connections.{clash, close_closes, closing_only, only_closing, only_given, opening_early, step_closes}
+use Rattle.gate_model.proofs.Sessions.{conn_cases, session_by}
 use Rattle.gate_model.proofs.Known.{Known, closing_is, conn_is, container_is, keep_is, known, memory_is}
 use Rattle.gate_model.proofs.Openings.{is_opening_first}
 use Rattle.gate_model.proofs.Outcomes.{Outcome, Greets, Parts, LogsIn, Tunes, Asks, Passes, Refuses, Parting, Calls, Asking, Frees, Closes, Answers, Ignores, outcome}
 use Rattle.gate_model.proofs.Said.{shuts_in}
-use Rattle.gate_model.proofs.Ups.{Picked, Closing, Opening, Telling, goes_up}
+use Rattle.gate_model.proofs.Ups.{Picked, goes_up, is_a_close}
 
 -- ---- a connection that is closing stays so
 
-meaning_closes : (m : Meaning) (c : Connection) → is_closing c ≡ true → is_closing (conn_by m c) ≡ true
-meaning_closes ten.Nothing c e = e
-meaning_closes ten.Init c e = e
-meaning_closes ten.AmqpHeader c e = e
-meaning_closes ten.Opened c e = by (is_opening c) refl
+meaning_closes : (m : Meaning) (o : Option Upstream) (c : Connection) → is_closing c ≡ true → is_closing (conn_by m o c) ≡ true
+meaning_closes ten.Nothing o c e = e
+meaning_closes ten.Init o c e = e
+meaning_closes ten.AmqpHeader o c e = e
+meaning_closes ten.Opened o c e = by (is_opening c) refl
   where
-    by : (b : Bool) → is_opening c ≡ b → is_closing (if b then after_opened c else c) ≡ true
+    by : (b : Bool) → is_opening c ≡ b → is_closing (if b then after_opened (channel_max_in o) c else c) ≡ true
     by true f = absurd (opening_early c f e)
     by false f = e
-meaning_closes (ten.OfSession g p payload) c e = e
-meaning_closes (ten.Closed x) c e = close_closes c.phase
-meaning_closes ten.Refused c e = close_closes c.phase
-meaning_closes (ten.Violation why) c e = close_closes c.phase
+meaning_closes (ten.OfSession g p payload) o c e =
+    conn_cases (λ (d : Connection). is_closing d ≡ true) g p c e (close_closes c.phase) (closing_only (only_closing g c) ∙ e)
+meaning_closes (ten.Closed x) o c e = close_closes c.phase
+meaning_closes ten.Refused o c e = close_closes c.phase
+meaning_closes (ten.Violation why) o c e = close_closes c.phase
 
 limit_closes : (b : Bool) (c : Connection) → is_closing c ≡ true → is_closing (close_if b c) ≡ true
 limit_closes true c e = close_closes c.phase
@@ -60,17 +68,19 @@ closes_if false p q e f = f
 closes_on : (s : Step) (h : List Step) → ArePicks (s ∷ h) → is_closing (connection h) ≡ true → is_closing (connection (s ∷ h)) ≡ true
 closes_on (Began vhost n ms) h p e = absurd (clash _ e (ap (λ (x : List Step). is_closing (connection x)) p.0))
 closes_on (Moment ms) h p e = limit_closes (is_limit_reached (connection h) (accepted_in h) ms) (connection h) e
+closes_on (Queued u) h p e = e
 closes_on (Came u) h p e = closes_if (ran_out_in h) (peers h) (peers_came (peers h) u) e (step_closes (connection h) u e)
 closes_on TakenUp h p e =
     closes_if (not (ran_out_in h) && leaving_in h) (record (peers h) { client = after_ended (connection h) }) (peers h) refl e
-closes_on (Heard u) h p e = closes_if (ran_out_in h) (peers h) (peers_heard (peers h) u) e (meaning_closes (meaning_by (container h) u) (connection h) e)
+closes_on (Heard u) h p e = closes_if (ran_out_in h) (peers h) (peers_heard (peers h) u) e (meaning_closes (meaning_by (container h) u) _ (connection h) e)
 closes_on (Joined link.Ok) h p e = e
 closes_on (Joined link.Failed) h p e = close_closes (connection h).phase
 closes_on (Lost Client how) h p e = e
 closes_on (Lost Up loss.Ended) h p e = close_closes (connection h).phase
 closes_on (Lost Up loss.Failed) h p e = close_closes (connection h).phase
 closes_on (Lost Up loss.Shut) h p e = e
-closes_on (Gave u) h p e = e
+closes_on (Gave (ToClient u)) h p e = closing_only (only_given u (connection h)) ∙ e
+closes_on (Gave (ToUp u)) h p e = e
 closes_on (Whole end) h p e = e
 closes_on OutOfMemory h p e = close_closes (connection h).phase
 
@@ -93,7 +103,7 @@ remembers h p e = by (ran_out_in h) refl
 unit_told : (c : Connection) (u : Unit91) → is_closing (conn_step c u) ≡ false → condition_by (unit_step c u).1 ≡ None
 unit_told c u = by (unit_step c u) (outcome c u)
   where
-    by : (x : machine.Step) → Outcome c u x → is_closing (after_want x.1 x.0) ≡ false → condition_by x.1 ≡ None
+    by : (x : machine.Step) → Outcome c u x → is_closing (x.0) ≡ false → condition_by x.1 ≡ None
     by _ (Greets e) k = refl
     by _ (Parts e) k = refl
     by _ (LogsIn m r e) k = refl
@@ -102,31 +112,40 @@ unit_told c u = by (unit_step c u) (outcome c u)
     by _ Passes k = refl
     by _ (Refuses r a f e) k = absurd cc
     by _ (Parting e) k = refl
-    by _ (Calls n s m e) k = absurd (clash _ (close_closes c.phase) k)
-    by _ (Asking n m e) k = absurd (clash _ (close_closes c.phase) k)
-    by _ (Frees n) k = refl
+    by _ (Calls n s m e) k = refl
+    by _ (Asking n m e) k = refl
+    by _ (Frees n e) k = refl
     by _ (Closes e) k = refl
     by _ (Answers e) k = refl
     by _ (Ignores e) k = refl
 
-meaning_told : (m : Meaning) (c : Connection) → is_closing (conn_by m c) ≡ false → condition_told m ≡ None
-meaning_told ten.Nothing c e = refl
-meaning_told ten.Init c e = refl
-meaning_told ten.AmqpHeader c e = refl
-meaning_told ten.Opened c e = refl
-meaning_told (ten.OfSession g p payload) c e = refl
-meaning_told (ten.Closed x) c e = refl
-meaning_told ten.Refused c e = refl
-meaning_told (ten.Violation why) c e = absurd (clash _ (close_closes c.phase) e)
+meaning_told : (m : Meaning) (o : Option Upstream) (c : Connection) → is_closing (conn_by m o c) ≡ false → condition_told m ≡ None
+meaning_told ten.Nothing o c e = refl
+meaning_told ten.Init o c e = refl
+meaning_told ten.AmqpHeader o c e = refl
+meaning_told ten.Opened o c e = refl
+meaning_told (ten.OfSession g p payload) o c e = by (p.0 == 17) (p.0 == 18) e
+  where
+    rest : Connection
+    rest = if p.0 == 19 && is_absent (field p.1 4) then c else if p.0 == 21 then c else if is_open c g then after_closing scope.Channel g c else c
+
+    by : (a b : Bool) → is_closing (if a then c else if b then close c else rest) ≡ false → (if (if a then false else b) then Some NotAllowed else None) ≡ None
+    by true b e = refl
+    by false true e = absurd (clash _ (close_closes c.phase) e)
+    by false false e = refl
+meaning_told (ten.Closed x) o c e = refl
+meaning_told ten.Refused o c e = refl
+meaning_told (ten.Violation why) o c e = absurd (clash _ (close_closes c.phase) e)
 
 step_told : (s : Step) (h : List Step) → ran_out_in h ≡ false → is_closing (connection (s ∷ h)) ≡ false → condition_at s h ≡ None
 step_told (Began vhost n ms) h m e = refl
 step_told (Moment ms) h m e = refl
+step_told (Queued u) h m e = refl
 step_told (Came u) h m e =
     unit_told (connection h) u (subst (λ (b : Bool). is_closing (if b then peers h else peers_came (peers h) u).client ≡ false) m e)
 step_told TakenUp h m e = refl
 step_told (Heard u) h m e =
-    meaning_told (meaning_by (container h) u) (connection h)
+    meaning_told (meaning_by (container h) u) _ (connection h)
     (subst (λ (b : Bool). is_closing (if b then peers h else peers_heard (peers h) u).client ≡ false) m e)
 step_told (Joined answer) h m e = refl
 step_told (Lost end how) h m e = refl
@@ -172,21 +191,24 @@ meaning_condition ten.Init w c b e f n = quiet (is_closing c) w.up.condition b f
 meaning_condition ten.AmqpHeader w c b e f n = quiet (is_closing c) w.up.condition b f n
 meaning_condition ten.Opened w c b e f n = by (is_opening w.conn)
   where
-    by : (x : Bool) → (if x then record w { conn = after_opened w.conn; pending = record w.pending { open_ok = true } } else w).up.condition ≡ (if is_closing c then b else None)
+    by : (x : Bool) → (if x then runs w else w).up.condition ≡ (if is_closing c then b else None)
     by true = quiet (is_closing c) w.up.condition b f n
     by false = quiet (is_closing c) w.up.condition b f n
-meaning_condition (ten.OfSession g p payload) w c b e f n = quiet (is_closing c) w.up.condition b f n
+meaning_condition (ten.OfSession g p payload) w c b e f n =
+    session_by (λ (x : Bool) (d : Connection) (v : State). v.up.condition ≡ (if is_closing c then b else (if x then Some NotAllowed else None))) g p w
+    (quiet (is_closing c) w.up.condition b f n) (fail_condition _ (Some NotAllowed) w ∙ told w c b (Some NotAllowed) e f)
+    (quiet (is_closing c) w.up.condition b f n) (λ code why. quiet (is_closing c) w.up.condition b f n)
 meaning_condition (ten.Closed x) w c b e f n = fail_condition _ None w ∙ told w c b None e f
 meaning_condition ten.Refused w c b e f n = fail_condition _ None w ∙ told w c b None e f
 meaning_condition (ten.Violation why) w c b e f n = fail_condition _ (Some why) w ∙ told w c b (Some why) e f
 
-came_condition : (w : State) (u : Unit91) → (came w u).up.condition ≡ (if is_closing w.conn then w.up.condition else condition_by (unit_step w.conn u).1)
+came_condition : (w : State) (u : Unit91) → (came (dequeued w) u).up.condition ≡ (if is_closing w.conn then w.up.condition else condition_by (unit_step w.conn u).1)
 came_condition w u =
     ap (λ (s : UpState). s.condition) (closing_is (is_closing w.conn) (condition_by (unit_step w.conn u).1) _)
     ∙ ap (λ (s : UpState). if is_closing w.conn then s.condition else condition_by (unit_step w.conn u).1) (keep_is (unit_step w.conn u).1 w.up)
 
 conditions_came : (w : State) (u : Unit91) (m : Bool) (c : Connection) (b : Option Condition) → w.conn ≡ c → w.up.condition ≡ b → (m ≡ true → is_closing c ≡ true)
-    → (if m then w else came w u).up.condition ≡ (if is_closing c then b else condition_by (unit_step c u).1)
+    → (if m then w else came (dequeued w) u).up.condition ≡ (if is_closing c then b else condition_by (unit_step c u).1)
 conditions_came w u true c b e f n = passed (is_closing c) w.up.condition b _ f (n refl)
 conditions_came w u false c b e f n =
     came_condition w u ∙ told w c b (condition_by (unit_step w.conn u).1) e f
@@ -209,14 +231,23 @@ conditions_failed : (w : State) (s : UpState) (c : Connection) (b : Option Condi
     → (fail CONNECTION_FORCED None (record w { up = s })).up.condition ≡ (if is_closing c then b else None)
 conditions_failed w s c b e f = fail_condition CONNECTION_FORCED None (record w { up = s }) ∙ told (record w { up = s }) c b None e f
 
+queued_condition : (h : List Step) (u : Unit91) → (before h).up.condition ≡ closing_condition h → (is_closing (connection h) ≡ false → closing_condition h ≡ None)
+    → (before (Queued u ∷ h)).up.condition ≡ (if is_closing (connection h) then closing_condition h else None)
+queued_condition h u e f = by (before h).out_of_memory
+  where
+    by : (b : Bool) → (if b then before h else record (before h) { queue = (before h).queue ++ u ∷ [] }).up.condition ≡ (if is_closing (connection h) then closing_condition h else None)
+    by true = quiet _ _ _ e f
+    by false = quiet _ _ _ e f
+
 pub condition_is : (h : List Step) → ArePicks h → (before h).up.condition ≡ closing_condition h
 condition_is [] p = refl
 condition_is (Began vhost n ms ∷ h) p =
     subst (λ (x : List Step). (before (Began vhost n ms ∷ x)).up.condition ≡ closing_condition (Began vhost n ms ∷ x)) (sym p.0) refl
 condition_is (Moment ms ∷ h) p = quiet _ _ _ (condition_is h p.1) (none_told h p.1)
+condition_is (Queued u ∷ h) p = queued_condition h u (condition_is h p.1) (none_told h p.1)
 condition_is (Came u ∷ h) p =
     let k : Known h = known h p.1 in
-    ap (λ (m : Bool). (if m then before h else came (before h) u).up.condition) (memory_is k)
+    ap (λ (m : Bool). (if m then before h else came (dequeued (before h)) u).up.condition) (memory_is k)
     ∙ conditions_came (before h) u (ran_out_in h) (connection h) (closing_condition h) (conn_is k) (condition_is h p.1) (shuts_in k)
 condition_is (TakenUp ∷ h) p =
     let k : Known h = known h p.1 in
@@ -261,37 +292,29 @@ or_one : (b : Bool) → (b || false) ≡ b
 or_one true = refl
 or_one false = refl
 
-closes_by : (h : List Step) (u : UpUnit) → ArePicks h → Picked ((before h).out_of_memory || is_closing (before h).conn) (before h).up (before h).moment u
+closes_by : (h : List Step) (u : UpUnit) → ArePicks h → Picked ((before h).out_of_memory || is_closing (before h).conn) (before h) u
     → (list_any is_up_close (sent_up h) ≡ true → is_closing (connection h) ≡ true) → (list_any is_up_close (sent_up h) || is_up_close u) ≡ true
     → is_closing (connection h) ≡ true
-closes_by h u p g f e = by g
+closes_by h u p g f e = by (is_a_close g)
   where
     old : is_up_close u ≡ false → is_closing (connection h) ≡ true
     old n = f (sym (ap (λ (b : Bool). list_any is_up_close (sent_up h) || b) n ∙ or_one _) ∙ e)
 
-    isnt : (u : UpUnit) → is_opening_unit u ≡ true → is_up_close u ≡ false
-    isnt up.SaslHeader e = refl
-    isnt up.SaslInit e = refl
-    isnt up.AmqpHeader e = refl
-    isnt up.Open e = refl
-    isnt (up.Close c) e = absurd cc
-    isnt up.Empty e = refl
-
-    by : Picked ((before h).out_of_memory || is_closing (before h).conn) (before h).up (before h).moment u → is_closing (connection h) ≡ true
-    by (Closing k o same) = closing_now h true p k
-    by (Opening k same) = old (isnt u (is_opening_first (before h).up.pending u same))
-    by (Telling k i same) = old (ap is_up_close same)
+    by : (is_up_close u ≡ false) ⊎ (((before h).out_of_memory || is_closing (before h).conn) ≡ true) → is_closing (connection h) ≡ true
+    by (inl n) = old n
+    by (inr k) = closing_now h true p k
 
 pub closes_sent : (h : List Step) → ArePicks h → list_any is_up_close (sent_up h) ≡ true → is_closing (connection h) ≡ true
 closes_sent [] p e = absurd cc
 closes_sent (Began vhost n ms ∷ h) p e = closes_on (Began vhost n ms) h p (closes_sent h p.1 e)
 closes_sent (Moment ms ∷ h) p e = closes_on (Moment ms) h p (closes_sent h p.1 e)
+closes_sent (Queued u ∷ h) p e = closes_on (Queued u) h p (closes_sent h p.1 e)
 closes_sent (Came u ∷ h) p e = closes_on (Came u) h p (closes_sent h p.1 e)
 closes_sent (TakenUp ∷ h) p e = closes_on TakenUp h p (closes_sent h p.1 e)
 closes_sent (Heard u ∷ h) p e = closes_on (Heard u) h p (closes_sent h p.1 e)
 closes_sent (Joined answer ∷ h) p e = closes_on (Joined answer) h p (closes_sent h p.1 e)
 closes_sent (Lost end how ∷ h) p e = closes_on (Lost end how) h p (closes_sent h p.1 e)
-closes_sent (Gave (ToClient u) ∷ h) p e = closes_sent h p.1 e
+closes_sent (Gave (ToClient u) ∷ h) p e = closes_on (Gave (ToClient u)) h p (closes_sent h p.1 e)
 closes_sent (Gave (ToUp u) ∷ h) p e =
     closes_by h u p.1 (goes_up (before h) u p.0.1).why (closes_sent h p.1)
     (sym (list_any-append is_up_close (sent_up h) (u ∷ []) ∙ ap (λ (b : Bool). list_any is_up_close (sent_up h) || b) (or_one (is_up_close u))) ∙ e)

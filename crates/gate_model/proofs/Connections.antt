@@ -2,8 +2,14 @@
 use Rattle.std.proofs.Common.{◌≡◌, ℕ, ◌-◌, ◌≤◌, nat_le, Bool, true, false, not, ◌&&◌, ◌||◌, Option, None, Some, refl, sym, ap, ◌∙◌, subst, arith}
 use Rattle.std.specs.Prelude.{is_some}
 use Rattle.std.proofs.lemmas.Bool.Decides.{nat_tests}
-use Rattle.machine_091.specs.Calls.{after_ended, after_opened, closing_phase, opened_phase}
-use Rattle.machine_091.specs.State.{awaits, is_closing, is_closing_phase, is_open_phase, is_opening}
+use Rattle.std.specs.Prelude.{List, slice_set}
+use Rattle.close_translate.specs.declared.conditions.Scope.TheVariants as scope
+use Rattle.machine_091.specs.Calls.{after_closed, after_closing, after_ended, after_opened, after_told, closing_channel, closing_phase, freed_channel, opened_phase, told_channel}
+use Rattle.machine_091.specs.declared.state.Channel91.{Channel91}
+use Rattle.machine_091.specs.declared.state.Channel91.TheVariants as channel
+use Rattle.gate_model.specs.declared.reply.Reply.{Reply}
+use Rattle.gate_model.specs.declared.reply.Reply.TheVariants as reply
+use Rattle.machine_091.specs.State.{awaits, channel_at, is_closing, is_closing_phase, is_open_phase, is_opening, with_channel}
 use Rattle.machine_091.specs.Transitions.{greeted, stream_after, unit_step}
 use Rattle.machine_091.specs.Transitions as machine
 use Rattle.machine_091.specs.declared.state.Connection.{Connection}
@@ -15,7 +21,7 @@ use Rattle.machine_091.specs.declared.unit.Unit91.{Unit91}
 use Rattle.machine_091.specs.declared.unit.Unit91.TheVariants as unit
 use Rattle.gate_model.specs.declared.timers.TheConstants.{HANDSHAKE_LIMIT}
 use Rattle.gate_model.specs.Picks.{MayComeAs}
-use Rattle.gate_model.specs.State.{after_want, close, close_if, closes_at, conn_step, has_left, is_limit_reached}
+use Rattle.gate_model.specs.State.{close, close_if, closes_at, conn_given, conn_step, has_left, is_limit_reached}
 use Rattle.gate_model.proofs.Outcomes.{Outcome, Greets, Parts, LogsIn, Tunes, Asks, Passes, Refuses, Parting, Calls, Asking, Frees, Closes, Answers, Ignores, outcome}
 
 -- ---- phases
@@ -65,8 +71,8 @@ opening_phase c = by c.phase c.asked
 pub opening_early : (c : Connection) → is_opening c ≡ true → is_closing c ≡ true → ⊥
 opening_early c e k = other_phase c.phase phase.Open (opening_phase c e) refl k
 
-pub opened_runs : (c : Connection) → is_opening c ≡ true → (after_opened c).phase ≡ phase.Running
-opened_runs c = by c.phase c.asked
+pub opened_runs : (most : ℕ) (c : Connection) → is_opening c ≡ true → (after_opened most c).phase ≡ phase.Running
+opened_runs most c = by c.phase c.asked
   where
     by : (p : Phase91) (b : Bool) → (is_open_phase p && b) ≡ true → opened_phase b p ≡ phase.Running
     by phase.Header b e = absurd cc
@@ -78,10 +84,78 @@ opened_runs c = by c.phase c.asked
     by phase.Closing b e = absurd cc
     by phase.Closed b e = absurd cc
 
+-- ---- channels
+
+-- nothing but the channels differ
+pub record OnlyChannels (c d : Connection) : Type 0 where
+  pub channels : List Channel91
+  pub same : d ≡ record c { channels = channels }
+
+none_differ : (c : Connection) → OnlyChannels c c
+none_differ c = record { channels = c.channels; same = refl }
+
+one_differs : (c : Connection) (n : ℕ) (s : Channel91) → OnlyChannels c (with_channel c n s)
+one_differs c n s = record { channels = slice_set c.channels n s; same = refl }
+
+pub only_closing : (n : ℕ) (c : Connection) → OnlyChannels c (after_closing scope.Channel n c)
+only_closing n c = by (channel_at c n)
+  where
+    by : (s : Channel91) → OnlyChannels c (closing_channel s n c)
+    by channel.Free = none_differ c
+    by channel.Open = one_differs c n channel.Closing
+    by channel.Closing = none_differ c
+    by channel.Told = none_differ c
+
+only_told : (n : ℕ) (c : Connection) → OnlyChannels c (after_told n c)
+only_told n c = by (channel_at c n)
+  where
+    by : (s : Channel91) → OnlyChannels c (told_channel s n c)
+    by channel.Free = none_differ c
+    by channel.Open = none_differ c
+    by channel.Closing = one_differs c n channel.Told
+    by channel.Told = none_differ c
+
+only_closed : (n : ℕ) (c : Connection) → OnlyChannels c (after_closed n c)
+only_closed n c = by (channel_at c n)
+  where
+    by : (s : Channel91) → OnlyChannels c (freed_channel s n c)
+    by channel.Free = none_differ c
+    by channel.Open = none_differ c
+    by channel.Closing = one_differs c n channel.Free
+    by channel.Told = none_differ c
+
+-- so it is where a unit went to the client
+pub only_given : (u : Reply) (c : Connection) → OnlyChannels c (conn_given u c)
+only_given reply.Protocol c = none_differ c
+only_given reply.Start c = none_differ c
+only_given reply.Tune c = none_differ c
+only_given reply.OpenOk c = none_differ c
+only_given reply.CloseOk c = none_differ c
+only_given (reply.Close r) c = none_differ c
+only_given reply.NoMemory c = none_differ c
+only_given reply.Heartbeat c = none_differ c
+only_given (reply.ChannelOpenOk n) c = none_differ c
+only_given (reply.FlowOk n) c = none_differ c
+only_given (reply.ChannelCloseOk n) c = only_closed n c
+only_given (reply.CrossedOk n) c = none_differ c
+only_given (reply.ChannelClose n r) c = only_told n c
+
+pub phase_only : {c d : Connection} → OnlyChannels c d → d.phase ≡ c.phase
+phase_only o = ap (λ (x : Connection). x.phase) o.same
+
+pub stream_only : {c d : Connection} → OnlyChannels c d → d.stream ≡ c.stream
+stream_only o = ap (λ (x : Connection). x.stream) o.same
+
+pub limits_only : {c d : Connection} → OnlyChannels c d → d.limits ≡ c.limits
+limits_only o = ap (λ (x : Connection). x.limits) o.same
+
+pub closing_only : {c d : Connection} → OnlyChannels c d → is_closing d ≡ is_closing c
+closing_only o = ap is_closing_phase (phase_only o)
+
 -- ---- after a unit
 
 abbrev Next : machine.Step → Connection
-Next x = after_want x.1 x.0
+Next x = x.0
 
 pub step_closes : (c : Connection) (u : Unit91) → is_closing c ≡ true → is_closing (conn_step c u) ≡ true
 step_closes c u k = by (unit_step c u) (outcome c u)
@@ -95,9 +169,9 @@ step_closes c u k = by (unit_step c u) (outcome c u)
     by _ Passes = k
     by _ (Refuses r a f e) = refl
     by _ (Parting e) = refl
-    by _ (Calls n s m e) = close_closes c.phase
-    by _ (Asking n m e) = close_closes c.phase
-    by _ (Frees n) = k
+    by _ (Calls n s m e) = k
+    by _ (Asking n m e) = k
+    by _ (Frees n e) = k
     by _ (Closes e) = refl
     by _ (Answers e) = refl
     by _ (Ignores e) = k
@@ -117,7 +191,7 @@ step_asked c u k = by (unit_step c u) (outcome c u)
     by _ (Parting e) = refl
     by _ (Calls n s m e) = refl
     by _ (Asking n m e) = refl
-    by _ (Frees n) = refl
+    by _ (Frees n e) = refl
     by _ (Closes e) = refl
     by _ (Answers e) = refl
     by _ (Ignores e) = refl
@@ -136,7 +210,7 @@ step_stays_asked c u k = by (unit_step c u) (outcome c u)
     by _ (Parting e) = k
     by _ (Calls n s m e) = k
     by _ (Asking n m e) = k
-    by _ (Frees n) = k
+    by _ (Frees n e) = k
     by _ (Closes e) = k
     by _ (Answers e) = k
     by _ (Ignores e) = k
@@ -166,7 +240,7 @@ step_here c u = by (unit_step c u) (outcome c u)
     by _ (Parting e) k = k
     by _ (Calls n s m e) k = k
     by _ (Asking n m e) k = k
-    by _ (Frees n) k = k
+    by _ (Frees n e) k = k
     by _ (Closes e) k = k
     by _ (Answers e) k = absurd cc
     by _ (Ignores e) k = stays_here u c.stream k

@@ -1,5 +1,5 @@
 -- What goes to a client fits it: each unit is short, and no frame-max that is agreed to is less than 4,096.
-use Rattle.std.proofs.Common.{◌≡◌, ℕ, ◌≤◌, Bool, true, false, if◌then◌else◌, List, [], ◌∷◌, refl, sym, subst, arith}
+use Rattle.std.proofs.Common.{Bool, List, Option, [], arith, false, if◌then◌else◌, refl, subst, sym, true, ℕ, ◌∷◌, ◌≡◌, ◌≤◌}
 use Rattle.gate_outside.specs.declared.ports.End.TheVariants.{Client, Up}
 use Rattle.machine_091.specs.Limits.{AreWithin}
 use Rattle.machine_091.specs.Transitions.{unit_step}
@@ -10,7 +10,7 @@ use Rattle.machine_091.specs.declared.unit.Want91.{Want91}
 use Rattle.machine_091.specs.declared.unit.Want91.TheVariants as want
 use Rattle.gate_model.specs.Folds.{Peers, accepted_in, conn_by, connection, peers, peers_came, peers_heard, ran_out_in}
 use Rattle.gate_model.specs.Upstream.{meaning_by}
-use Rattle.gate_model.specs.declared.outgoing.Outgoing.TheVariants.{ToClient}
+use Rattle.gate_model.specs.declared.outgoing.Outgoing.TheVariants.{ToClient, ToUp}
 use Rattle.machine_091.specs.Calls.{after_opened}
 use Rattle.machine_091.specs.State.{is_opening, new_connection}
 use Rattle.machine_10.specs.Transitions as ten
@@ -18,27 +18,23 @@ use Rattle.machine_10.specs.Transitions.{Meaning}
 use Rattle.gate_outside.specs.declared.ports.Linked.TheVariants as link
 use Rattle.gate_relay.specs.declared.loss.Loss.TheVariants as loss
 use Rattle.gate_model.specs.Frames.{FitsClients, limit_after, limit_in}
-use Rattle.gate_model.specs.State.{Step, Began, Moment, Came, TakenUp, Heard, Joined, Lost, Gave, Whole, OutOfMemory, after_want, close_if, conn_step, is_limit_reached}
+use Rattle.gate_model.specs.State.{Began, Came, Gave, Heard, Joined, Lost, Moment, OutOfMemory, Queued, Step, TakenUp, Whole, close_if, conn_step, is_limit_reached}
+use Rattle.close_translate.specs.declared.conditions.Scope.TheVariants as scope
+use Rattle.machine_10.specs.declared.state.Upstream.{Upstream}
+use Rattle.gate_model.specs.Upstream.{channel_max_in}
+use Rattle.gate_model.proofs.Connections.{OnlyChannels, limits_only, only_closing, only_given}
+use Rattle.gate_model.proofs.Sessions.{conn_cases}
 use Rattle.gate_model.proofs.Spelled.{spelled_small}
 
 -- no unit of the client takes the limits out of their range
 abbrev pub LimitsStay : Type 0
 LimitsStay = (c : Connection) (u : Unit91) → AreWithin c.limits → AreWithin (unit_step c u).0.limits
 
-want_limits : (w : Want91) (c : Connection) → (after_want w c).limits ≡ c.limits
-want_limits want.Nothing c = refl
-want_limits want.Start c = refl
-want_limits (want.Login m r) c = refl
-want_limits want.Tuned c = refl
-want_limits want.OpenUp c = refl
-want_limits (want.Method n m) c = refl
-want_limits (want.ChannelCloseOk n) c = refl
-want_limits want.Close c = refl
-want_limits want.CloseOk c = refl
-want_limits (want.Refuse r) c = refl
-
 within_step : LimitsStay → (c : Connection) (u : Unit91) → AreWithin c.limits → AreWithin (conn_step c u).limits
-within_step l c u m = subst AreWithin (sym (want_limits (unit_step c u).1 (unit_step c u).0)) (l c u m)
+within_step l c u m = l c u m
+
+within_only : {c d : Connection} → OnlyChannels c d → AreWithin c.limits → AreWithin d.limits
+within_only o m = subst AreWithin (sym (limits_only o)) m
 
 within_if : (b : Bool) (p q : Peers) → AreWithin p.client.limits → AreWithin q.client.limits → AreWithin (if b then p else q).client.limits
 within_if true p q m n = m
@@ -48,19 +44,20 @@ within_close : (b : Bool) (c : Connection) → AreWithin c.limits → AreWithin 
 within_close true c m = m
 within_close false c m = m
 
-within_meaning : (m : Meaning) (c : Connection) → AreWithin c.limits → AreWithin (conn_by m c).limits
-within_meaning ten.Nothing c m = m
-within_meaning ten.Init c m = m
-within_meaning ten.AmqpHeader c m = m
-within_meaning ten.Opened c m = by (is_opening c)
+within_meaning : (m : Meaning) (o : Option Upstream) (c : Connection) → AreWithin c.limits → AreWithin (conn_by m o c).limits
+within_meaning ten.Nothing o c m = m
+within_meaning ten.Init o c m = m
+within_meaning ten.AmqpHeader o c m = m
+within_meaning ten.Opened o c m = by (is_opening c)
   where
-    by : (b : Bool) → AreWithin (if b then after_opened c else c).limits
+    by : (b : Bool) → AreWithin (if b then after_opened (channel_max_in o) c else c).limits
     by true = m
     by false = m
-within_meaning (ten.OfSession g p payload) c m = m
-within_meaning (ten.Closed e) c m = m
-within_meaning ten.Refused c m = m
-within_meaning (ten.Violation why) c m = m
+within_meaning (ten.OfSession g p payload) o c m =
+    conn_cases (λ (d : Connection). AreWithin d.limits) g p c m m (within_only (only_closing g c) m)
+within_meaning (ten.Closed e) o c m = m
+within_meaning ten.Refused o c m = m
+within_meaning (ten.Violation why) o c m = m
 
 within_new : (vhost : List ℕ) → AreWithin (new_connection vhost).limits
 within_new vhost = record { frame_min = omega arith; frame_max = omega arith; channel_min = omega arith; channel_max = omega arith }
@@ -69,17 +66,19 @@ pub within : LimitsStay → (h : List Step) → AreWithin (connection h).limits
 within l [] = within_new []
 within l (Began vhost n ms ∷ h) = within_new vhost
 within l (Moment ms ∷ h) = within_close (is_limit_reached (connection h) (accepted_in h) ms) (connection h) (within l h)
+within l (Queued u ∷ h) = within l h
 within l (Came u ∷ h) = within_if (ran_out_in h) (peers h) (peers_came (peers h) u) (within l h) (within_step l (connection h) u (within l h))
 within l (TakenUp ∷ h) = within_if _ _ (peers h) (within l h) (within l h)
 within l (Heard u ∷ h) =
-    within_if (ran_out_in h) (peers h) (peers_heard (peers h) u) (within l h) (within_meaning (meaning_by (peers h).container u) (connection h) (within l h))
+    within_if (ran_out_in h) (peers h) (peers_heard (peers h) u) (within l h) (within_meaning (meaning_by (peers h).container u) _ (connection h) (within l h))
 within l (Joined link.Ok ∷ h) = within l h
 within l (Joined link.Failed ∷ h) = within l h
 within l (Lost Client how ∷ h) = within l h
 within l (Lost Up loss.Ended ∷ h) = within l h
 within l (Lost Up loss.Failed ∷ h) = within l h
 within l (Lost Up loss.Shut ∷ h) = within l h
-within l (Gave u ∷ h) = within l h
+within l (Gave (ToClient u) ∷ h) = within_only (only_given u (connection h)) (within l h)
+within l (Gave (ToUp u) ∷ h) = within l h
 within l (Whole end ∷ h) = within l h
 within l (OutOfMemory ∷ h) = within l h
 

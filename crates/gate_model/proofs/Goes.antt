@@ -1,29 +1,37 @@
 -- What goes to a container, and when its end is shut, is what the folds say.
-use Rattle.std.proofs.Common.{◌≡◌, ℕ, ◌+◌, ◌-◌, ◌/◌, ◌==◌, ◌<◌, ◌≤◌, nat_le, Bool, true, false, not, ◌&&◌, ◌||◌, if◌then◌else◌, List, [], ◌∷◌, ◌++◌, Option, None, Some, refl, sym, ap, ◌∙◌, subst, arith}
+use Rattle.std.proofs.Common.{suc, zero, Bool, List, None, Option, Some, [], ap, arith, false, if◌then◌else◌, inl, inr, length, nat_le, not, refl, subst, suc, sym, true, ℕ, ◌&&◌, ◌++◌, ◌+◌, ◌-◌, ◌/◌, ◌<◌, ◌==◌, ◌||◌, ◌∙◌, ◌∷◌, ◌≡◌, ◌≤◌}
 use Rattle.std.specs.List.{list_any}
 use Rattle.std.proofs.lemmas.Bool.Decides.{nat_tests}
+use Rattle.std.proofs.lemmas.List.Elements.{filter-append}
 use Rattle.gate_outside.specs.declared.ports.End.TheVariants.{Up}
 use Rattle.gate_relay.specs.Sides.{is_readable}
 use Rattle.gate_relay.specs.declared.sides.Side.{Side}
 use Rattle.gate_relay.specs.declared.sides.Side.TheVariants as side
-use Rattle.machine_091.specs.State.{is_closing}
+use Rattle.machine_091.specs.State.{is_closing, is_open}
 use Rattle.machine_10.specs.declared.state.Upstream.{Upstream}
 use Rattle.gate_model.specs.declared.outgoing.Outgoing.TheVariants.{ToClient, ToUp}
 use Rattle.gate_model.specs.declared.outgoing.UpUnit.{UpUnit}
 use Rattle.gate_model.specs.declared.outgoing.UpUnit.TheVariants as up
 use Rattle.gate_model.specs.declared.timers.TheConstants.{CLOSING_LIMIT}
-use Rattle.gate_model.specs.Asked.{AreCalledFor, Goes, GoesWhenDue, MayGo, MayTell, ShutUpFor, Failed, Ended, Overdue, Closed, ClosedBad, ClosedLast, Unopened, ShutsUpAtOnce, due_up, is_opening_unit, is_up_close, openings_of, sent_up_whole}
-use Rattle.gate_model.specs.Due.{has_ended, has_failed, is_overdue, is_shut_due, pick}
+use Rattle.gate_model.specs.Asked.{AreCalledFor, Goes, GoesWhenDue, MayEnd, Answers, Leaves, MayGo, MayTell, ShutUpFor, Failed, Ended, Overdue, Closed, ClosedBad, ClosedLast, Unopened, ShutsUpAtOnce, due_up, is_opening_unit, is_up_close, openings_of, sent_up_whole}
+use Rattle.gate_model.specs.Due.{begins, ends, has_ended, has_failed, is_end_due, is_overdue, is_shut_due, pick, rows_in}
+use Rattle.gate_model.specs.Lives.{each, is_begun, is_ended, is_free, session_in}
+use Rattle.gate_model.specs.declared.life.Life.{Life}
+use Rattle.machine_091.specs.declared.state.Connection.{Connection}
+use Rattle.machine_10.specs.declared.state.Session.{Session}
+use Rattle.machine_10.specs.declared.state.Session.TheVariants as session
 use Rattle.gate_model.specs.Folds.{closed_in, connection, container, moment_in, sent_up, sent_up_at, side_in}
 use Rattle.gate_model.specs.Picks.{ArePicks}
-use Rattle.gate_model.specs.State.{State, Step, Began, Moment, Came, TakenUp, Heard, Joined, Lost, Gave, Whole, OutOfMemory, before}
-use Rattle.gate_model.specs.Upstream.{has_closed, has_gone_bad, idle_in, is_bad_stream, is_closed_stream, is_idle_by, is_idle_due, opening_rows, rows_in, stream_in, when_up}
+use Rattle.gate_model.specs.State.{Began, Came, Gave, Heard, Joined, Lost, Moment, OutOfMemory, Queued, State, Step, TakenUp, Whole, before}
+use Rattle.gate_model.specs.Upstream.{first, has_closed, has_gone_bad, idle_in, is_bad_stream, is_closed_stream, is_idle_by, is_idle_due, opening_rows, stream_in, when_up}
 use Rattle.gate_model.proofs.Closings.{closes_sent, closing_now, condition_is}
 use Rattle.gate_model.proofs.Connections.{clash}
 use Rattle.gate_model.proofs.Known.{Known, closed_is, conn_is, container_is, known, memory_is, moment_is, side_is}
-use Rattle.gate_model.proofs.Openings.{is_opening_first, openings_due}
+use Rattle.gate_model.proofs.Lives.{lives_all}
+use Rattle.gate_model.proofs.Openings.{is_opening_first, no_empty, openings_due}
+use Rattle.gate_model.proofs.Rows.{first_each}
 use Rattle.gate_model.proofs.Times.{Either, OnLeft, OnRight, and_both, and_left, and_right, either, in_left, in_right}
-use Rattle.gate_model.proofs.Ups.{GoesUp, Picked, Closing, Opening, Telling, UpSays, goes_up, up_says}
+use Rattle.gate_model.proofs.Ups.{GoesUp, Picked, Begins, Closing, Ends, Opening, Telling, UpSays, goes_up, up_says}
 
 -- ---- the opening
 
@@ -42,15 +50,39 @@ no_close_sent h p e = by (before h).up.sent.close refl
     by true f = absurd (clash _ (closes_sent h p (sym (up_says h p).close_is ∙ f)) e)
     by false f = refl
 
+-- what is due but for the opening
+abbrev others : State → List UpUnit
+others w = begins w ++ (ends false w ++ when_up (is_idle_due w.up w.moment) up.Empty)
+
 rows_while : (h : List Step) → ArePicks h → is_closing (connection h) ≡ false → is_readable (side_in h) ≡ true
-    → due_up (before h) ≡ opening_rows (before h).up.pending ++ when_up (is_idle_due (before h).up (before h).moment) up.Empty
+    → due_up (before h) ≡ opening_rows (before h).up.pending ++ others (before h)
 rows_while h p e f = by _ _ _ (ap is_readable (side_is (known h p)) ∙ f) (no_close_sent h p e) (unclosed_now h p e)
   where
-    by : (r c k : Bool) → r ≡ true → c ≡ false → k ≡ false → (if r && not c then rows_in k (before h).up (before h).moment else []) ≡ rows_in false (before h).up (before h).moment
+    by : (r c k : Bool) → r ≡ true → c ≡ false → k ≡ false → (if r && not c then rows_in k (before h) else []) ≡ rows_in false (before h)
     by true false false a b c = refl
     by true false true a b c = absurd cc
     by true true k a b c = absurd cc
     by false b k a c d = absurd cc
+
+no_opening : (f : ℕ → Life → List UpUnit) (n : ℕ) (ls : List Life) → ((k : ℕ) (l : Life) → openings_of (f k l) ≡ []) → openings_of (each f n ls) ≡ []
+no_opening f n [] none = refl
+no_opening f n (l ∷ ls) none =
+    filter-append is_opening_unit (f n l) (each f (n + 1) ls) ∙ ap (λ (x : List UpUnit). x ++ openings_of (each f (n + 1) ls)) (none n l)
+    ∙ no_opening f (n + 1) ls none
+
+when_none : (b : Bool) (u : UpUnit) → is_opening_unit u ≡ false → openings_of (when_up b u) ≡ []
+when_none true u e = ap (λ (x : Bool). if x then u ∷ [] else []) e
+when_none false u e = refl
+
+others_none : (w : State) → openings_of (others w) ≡ []
+others_none w =
+    filter-append is_opening_unit (begins w) _
+    ∙ ap (λ (x : List UpUnit). x ++ openings_of (ends false w ++ when_up (is_idle_due w.up w.moment) up.Empty))
+    (no_opening _ 0 w.lives (λ k l. when_none (l.begin && is_free (session_in w.up.container k)) (up.Begin k) refl))
+    ∙ filter-append is_opening_unit (ends false w) _
+    ∙ ap (λ (x : List UpUnit). x ++ openings_of (when_up (is_idle_due w.up w.moment) up.Empty))
+    (no_opening _ 0 w.lives (λ k l. when_none (is_end_due false w k) (up.End k l.why) refl))
+    ∙ no_empty (is_idle_due w.up w.moment)
 
 pub are_called_for : (h : List Step) → ArePicks h → AreCalledFor h
 are_called_for h p =
@@ -58,7 +90,7 @@ are_called_for h p =
     record {
       all = s.ups.same;
       due = λ e f. ap (λ (x : List UpUnit). openings_of (sent_up h) ++ openings_of x) (rows_while h p e f)
-          ∙ ap (λ (x : List UpUnit). openings_of (sent_up h) ++ x) (openings_due (before h).up.pending _) ∙ s.ups.same;
+          ∙ ap (λ (x : List UpUnit). openings_of (sent_up h) ++ x) (openings_due (before h).up.pending (others (before h)) (others_none (before h))) ∙ s.ups.same;
     }
 
 -- ---- each unit
@@ -102,17 +134,113 @@ opening_goes h up.AmqpHeader e k = k
 opening_goes h up.Open e k = k
 opening_goes h (up.Close c) e k = absurd cc
 opening_goes h up.Empty e k = absurd cc
+opening_goes h (up.Begin n) e k = absurd cc
+opening_goes h (up.End n why) e k = absurd cc
 
-may_go_up : (h : List Step) (u : UpUnit) → ArePicks h → Picked ((before h).out_of_memory || is_closing (before h).conn) (before h).up (before h).moment u → MayGo h u
-may_go_up h u p (Closing k o e) =
+-- ---- sessions
+
+-- a begin goes for a life of which it is due, where no session is
+may_begin : (h : List Step) (u : UpUnit) → ArePicks h → is_closing (connection h) ≡ false → first (begins (before h)) ≡ Some u → MayGo h u
+may_begin h u p k e = first_each (MayGo h) _ 0 (before h).lives u one e
+  where
+    one : (n : ℕ) (l : Life) (v : UpUnit) → first (when_up (l.begin && is_free (session_in (before h).up.container n)) (up.Begin n)) ≡ Some v → MayGo h v
+    one n l v e = by (l.begin && is_free (session_in (before h).up.container n)) refl e
+      where
+        by : (b : Bool) → (l.begin && is_free (session_in (before h).up.container n)) ≡ b → first (when_up b (up.Begin n)) ≡ Some v → MayGo h v
+        by true f e =
+            let here : up.Begin n ≡ v = cc in
+            subst (MayGo h) here (record {
+              running = k;
+              free = ap (λ (o : Option Upstream). is_free (session_in o n)) (sym (container_is (known h p))) ∙ and_right l.begin _ f;
+            })
+        by false f e = absurd cc
+
+not_true : (b : Bool) → not b ≡ true → b ≡ false
+not_true true e = absurd cc
+not_true false e = refl
+
+-- what makes an end due, the folds say
+may_end : (h : List Step) (n : ℕ) (closing : Bool) → ArePicks h → ((before h).out_of_memory || is_closing (before h).conn) ≡ closing
+    → is_end_due closing (before h) n ≡ true → MayEnd h n
+may_end h n closing p c e = by (either _ _ e)
+  where
+    k : Known h
+    k = known h p
+
+    session_is : session_in (before h).up.container n ≡ session_in (container h) n
+    session_is = ap (λ (o : Option Upstream). session_in o n) (container_is k)
+
+    leaves : is_begun (session_in (before h).up.container n) ≡ true → Either closing (not (is_open (before h).conn n)) → MayEnd h n
+    leaves b (OnLeft x) = Leaves (ap is_begun (sym session_is) ∙ b) (inl (closing_now h true p (c ∙ x)))
+    leaves b (OnRight x) = Leaves (ap is_begun (sym session_is) ∙ b) (inr (ap (λ (d : Connection). is_open d n) (sym (conn_is k)) ∙ not_true _ x))
+
+    by : Either (is_ended (session_in (before h).up.container n)) (is_begun (session_in (before h).up.container n) && (closing || not (is_open (before h).conn n))) → MayEnd h n
+    by (OnLeft x) = Answers (ap is_ended (sym session_is) ∙ x)
+    by (OnRight x) = leaves (and_left _ _ x) (either _ _ (and_right (is_begun (session_in (before h).up.container n)) _ x))
+
+may_ends : (h : List Step) (u : UpUnit) (closing : Bool) → ArePicks h → ((before h).out_of_memory || is_closing (before h).conn) ≡ closing
+    → first (ends closing (before h)) ≡ Some u → MayGo h u
+may_ends h u closing p c e = first_each (MayGo h) _ 0 (before h).lives u one e
+  where
+    one : (n : ℕ) (l : Life) (v : UpUnit) → first (when_up (is_end_due closing (before h) n) (up.End n l.why)) ≡ Some v → MayGo h v
+    one n l v e = by (is_end_due closing (before h) n) refl e
+      where
+        by : (b : Bool) → is_end_due closing (before h) n ≡ b → first (when_up b (up.End n l.why)) ≡ Some v → MayGo h v
+        by true f e = let here : up.End n l.why ≡ v = cc in subst (MayGo h) here (may_end h n closing p c f)
+        by false f e = absurd cc
+
+append_left : {A : Type 0} (xs ys : List A) → xs ++ ys ≡ [] → xs ≡ []
+append_left [] ys e = refl
+append_left (x ∷ xs) ys e = absurd cc
+
+append_right : {A : Type 0} (xs ys : List A) → xs ++ ys ≡ [] → ys ≡ []
+append_right [] ys e = e
+append_right (x ∷ xs) ys e = absurd cc
+
+-- where no end is due to a connection that closes, no session is left
+none_each : (f : ℕ → Life → List UpUnit) (n : ℕ) (ls : List Life) (k : ℕ) → k < length ls → each f n ls ≡ [] → (l : Life) × (f (n + k) l ≡ [])
+none_each f n [] k lt e = absurd (none lt)
+  where
+    none : k < 0 → ⊥
+    none x = omega (arith, x)
+none_each f n (l ∷ ls) zero lt e = (l, ap (λ (m : ℕ). f m l) (omega arith) ∙ append_left (f n l) (each f (n + 1) ls) e)
+none_each f n (l ∷ ls) (suc k) lt e =
+    let rest : (m : Life) × (f ((n + 1) + k) m ≡ []) = none_each f (n + 1) ls k (omega (arith, lt)) (append_right (f n l) (each f (n + 1) ls) e) in
+    (rest.0, ap (λ (m : ℕ). f m rest.0) (omega arith) ∙ rest.1)
+
+no_session_left : (w : State) (n : ℕ) → n < length w.lives → ends true w ≡ []
+    → (is_ended (session_in w.up.container n) || is_begun (session_in w.up.container n)) ≡ false
+no_session_left w n lt e =
+    let x : (l : Life) × (when_up (is_end_due true w (0 + n)) (up.End (0 + n) l.why) ≡ []) =
+    none_each (λ (k : ℕ) (l : Life). when_up (is_end_due true w k) (up.End k l.why)) 0 w.lives n lt e in
+    by (session_in w.up.container n) x.0 (ap (λ (k : ℕ). when_up (is_end_due true w k) (up.End k x.0.why)) (omega arith) ∙ x.1)
+  where
+    by : (s : Session) (l : Life) → when_up (is_ended s || (is_begun s && true)) (up.End n l.why) ≡ [] → (is_ended s || is_begun s) ≡ false
+    by session.Free l e = refl
+    by session.Asked l e = absurd cc
+    by session.Left l e = refl
+    by (session.Open m) l e = absurd cc
+    by (session.Leaving m) l e = refl
+    by (session.Ended m) l e = absurd cc
+
+may_go_up : (h : List Step) (u : UpUnit) → ArePicks h → Picked ((before h).out_of_memory || is_closing (before h).conn) (before h) u → MayGo h u
+may_go_up h u p (Closing k n o e) =
     subst (λ (x : UpUnit). MayGo h x) (sym e)
-    (record { opened = sym (up_says h p).open_is ∙ o; closing = closing_now h true p k; why_is = condition_is h p })
+    (record {
+      opened = sym (up_says h p).open_is ∙ o;
+      closing = closing_now h true p k;
+      why_is = condition_is h p;
+      ended = λ m lt. ap (λ (c : Option Upstream). is_ended (session_in c m) || is_begun (session_in c m)) (sym (container_is (known h p)))
+          ∙ no_session_left (before h) m (subst (λ (x : ℕ). m < x) (sym (lives_all h p)) lt) n;
+    })
 may_go_up h u p (Opening k e) = opening_goes h u (is_opening_first (before h).up.pending u e) (closing_now h false p k)
+may_go_up h u p (Begins k e) = may_begin h u p (closing_now h false p k) e
+may_go_up h u p (Ends e) = may_ends h u _ p refl e
 may_go_up h u p (Telling k i e) = subst (λ (x : UpUnit). MayGo h x) (sym e) (may_tell h p (closing_now h false p k) i)
 
 goes : (h : List Step) (u : UpUnit) → ArePicks h → pick (before h) Up ≡ Some (ToUp u) → Goes h u
 goes h u p e =
-    let g : GoesUp ((before h).out_of_memory || is_closing (before h).conn) (before h).up (before h).moment u = goes_up (before h) u e in
+    let g : GoesUp ((before h).out_of_memory || is_closing (before h).conn) (before h) u = goes_up (before h) u e in
     record {
       may = may_go_up h u p g.why;
       open_end = ap is_readable (sym (side_is (known h p))) ∙ g.readable;
@@ -125,6 +253,7 @@ goes_when_due (Gave (ToUp u) ∷ h) p = (goes h u p.1 p.0.1, goes_when_due h p.1
 goes_when_due (Gave (ToClient u) ∷ h) p = goes_when_due h p.1
 goes_when_due (Began vhost n ms ∷ h) p = goes_when_due h p.1
 goes_when_due (Moment ms ∷ h) p = goes_when_due h p.1
+goes_when_due (Queued u ∷ h) p = goes_when_due h p.1
 goes_when_due (Came u ∷ h) p = goes_when_due h p.1
 goes_when_due (TakenUp ∷ h) p = goes_when_due h p.1
 goes_when_due (Heard u ∷ h) p = goes_when_due h p.1

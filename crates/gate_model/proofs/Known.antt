@@ -1,13 +1,13 @@
 -- The state knows what the folds say of both connections, of the upstream end, of the moments and of the pair's memory.
-use Rattle.std.proofs.Common.{◌≡◌, ℕ, ◌-◌, ◌≤◌, nat_le, Bool, true, false, not, ◌&&◌, ◌||◌, if◌then◌else◌, List, [], ◌∷◌, Option, None, Some, refl, sym, ap, ◌∙◌, subst, arith}
+use Rattle.std.proofs.Common.{◌≡◌, ℕ, ◌-◌, ◌==◌, ◌≤◌, nat_le, Bool, true, false, not, ◌&&◌, ◌||◌, if◌then◌else◌, List, [], ◌∷◌, ◌++◌, Option, None, Some, refl, sym, ap, ◌∙◌, subst, arith}
 use Rattle.std.specs.Prelude.{is_some}
 use Rattle.gate_outside.specs.declared.ports.End.TheVariants.{Client, Up}
 use Rattle.gate_outside.specs.declared.ports.Linked.TheVariants as link
 use Rattle.gate_relay.specs.declared.loss.Loss.TheVariants as loss
 use Rattle.gate_relay.specs.declared.sides.Side.{Side}
 use Rattle.gate_relay.specs.declared.sides.Side.TheVariants as side
-use Rattle.machine_091.specs.Calls.{after_ended, after_opened}
-use Rattle.machine_091.specs.State.{awaits, is_closing, is_closing_phase, is_opening}
+use Rattle.machine_091.specs.Calls.{after_closing, after_ended, after_opened}
+use Rattle.machine_091.specs.State.{is_closing, is_closing_phase, is_open, is_opening}
 use Rattle.machine_091.specs.Transitions.{unit_step}
 use Rattle.machine_091.specs.declared.state.Connection.{Connection}
 use Rattle.machine_091.specs.declared.unit.Unit91.{Unit91}
@@ -20,11 +20,21 @@ use Rattle.machine_10.specs.declared.unit.Unit10.{Unit10}
 use Rattle.performatives_10.specs.declared.condition.Condition.{Condition}
 use Rattle.gate_model.specs.declared.outgoing.Outgoing.TheVariants.{ToClient, ToUp}
 use Rattle.gate_model.specs.declared.timers.TheConstants.{HANDSHAKE_LIMIT}
-use Rattle.gate_model.specs.Folds.{Peers, accepted_in, closed_in, conn_by, connection, container, container_kept, leaving_in, moment_in, number_in, peers, peers_came, peers_heard, ran_out_in, side_in}
-use Rattle.gate_model.specs.Picks.{ArePicks, MayComeAs}
-use Rattle.gate_model.specs.State.{State, Step, Began, Moment, Came, TakenUp, Heard, Joined, Lost, Gave, Whole, OutOfMemory, before, came, close, close_if, closes_at, conn_step, fail, failed, has_left, heard, is_limit_reached, keep_login, left, new_state, ran_out, told, with_meaning}
-use Rattle.gate_model.specs.Upstream.{UpState, closing_with, ended_in, heard_up, meaning_by}
-use Rattle.gate_model.proofs.Connections.{asked_if, clash, close_closes, close_same, closes_again, closes_some, ended_if, implied, late_later, late_step, none_comes, opened_runs, opening_early, step_closes, step_here, stream_if}
+use Rattle.gate_model.specs.Folds.{Peers, accepted_in, closed_in, conn_by, conn_session, connection, container, container_kept, leaving_in, moment_in, number_in, peers, peers_came, peers_heard, ran_out_in, side_in}
+use Rattle.gate_model.specs.Picks.{ArePicks}
+use Rattle.close_translate.specs.Conditions.{code_by}
+use Rattle.close_translate.specs.declared.codes.TheConstants.{INTERNAL_ERROR, PRECONDITION_FAILED}
+use Rattle.close_translate.specs.declared.conditions.Scope.TheVariants as scope
+use Rattle.machine_10.specs.Parts.{Parts}
+use Rattle.machine_10.specs.Reading.{field}
+use Rattle.performatives_10.specs.Fields.{is_absent}
+use Rattle.performatives_10.specs.declared.condition.Condition.TheVariants.{NotAllowed, UnattachedHandle}
+use Rattle.gate_model.specs.Lives.{refusal_on}
+use Rattle.gate_model.specs.State.{State, Step, Began, Moment, Queued, Came, TakenUp, Heard, Joined, Lost, Gave, Whole, OutOfMemory, before, begun_session, came, close, close_if, closes_at, conn_given, conn_step, dequeued, fail, fail_life, failed, has_left, heard, is_limit_reached, keep_login, left, life_failed, new_state, ran_out, runs, told, with_meaning, with_session}
+use Rattle.gate_model.specs.Upstream.{UpState, channel_max_of, closing_with, condition_in, container_given, ended_in, heard_up, meaning_by}
+use Rattle.gate_model.proofs.Connections.{OnlyChannels, asked_if, clash, close_closes, close_same, closes_again, closes_some, closing_only, ended_if, implied, late_later, late_step, only_closing, only_given, opened_runs, opening_early, step_closes, step_here, stream_if}
+use Rattle.gate_model.proofs.Queues.{none_left, none_next}
+use Rattle.gate_model.proofs.Sessions.{session_by, session_cases}
 
 -- ---- what both know
 
@@ -83,9 +93,12 @@ pub record Sound (memory leaving late : Bool) (c : Connection) (accepted moment 
 abbrev pub SoundIn : State → Bool → Type 0
 SoundIn w l = Sound w.out_of_memory w.leaving w.late w.conn w.accepted_at w.moment w.closed_at l
 
-pub record Known (h : List Step) : Type 0 where
-  pub same : seen (before h) ≡ seen_in h
-  pub sound : SoundIn (before h) (leaving_in h)
+pub record KnownIn (w : State) (h : List Step) : Type 0 where
+  pub same : seen w ≡ seen_in h
+  pub sound : SoundIn w (leaving_in h)
+
+abbrev pub Known : List Step → Type 0
+Known h = KnownIn (before h) h
 
 pub conn_is : {h : List Step} → Known h → (before h).conn ≡ connection h
 conn_is k = ap (λ (x : Seen). x.conn) k.same
@@ -136,7 +149,7 @@ keep_is (want.Refuse r) s = refl
 abbrev seen_came : Seen → Unit91 → Seen
 seen_came x u = with_peers x (if x.memory then peers_of x else peers_came (peers_of x) u)
 
-came_is : (w : State) (u : Unit91) (l : Bool) → SoundIn w l → seen (if w.out_of_memory then w else came w u) ≡ seen_came (seen w) u
+came_is : (w : State) (u : Unit91) (l : Bool) → SoundIn w l → seen (if w.out_of_memory then w else came (dequeued w) u) ≡ seen_came (seen w) u
 came_is w u l s = by w.out_of_memory
   where
     taken : UpState → Seen
@@ -147,7 +160,7 @@ came_is w u l s = by w.out_of_memory
       closed = closes_at w.closed_at (is_closing (conn_step w.conn u)) w.moment;
     }
 
-    by : (b : Bool) → seen (if b then w else came w u) ≡ with_peers (seen w) (if b then peers_of (seen w) else peers_came (peers_of (seen w)) u)
+    by : (b : Bool) → seen (if b then w else came (dequeued w) u) ≡ with_peers (seen w) (if b then peers_of (seen w) else peers_came (peers_of (seen w)) u)
     by true = kept w l s
     by false = ap taken (closing_is (is_closing w.conn) _ _) ∙ ap taken (keep_is (unit_step w.conn u).1 w.up)
 
@@ -178,22 +191,35 @@ fail_is code why w l s = by (is_closing w.conn) refl
     by true e = kept w l s ∙ ap (λ (c : Connection). with_peers (seen w) (record (peers_of (seen w)) { client = c })) (sym (close_same w.conn e))
     by false e = ap (λ (b : Bool). record (seen w) { conn = close w.conn; closed = closes_at w.closed_at b w.moment }) (sym (close_closes w.conn.phase))
 
+-- the channels alone change
+only_is : (w : State) (l : Bool) (d : Connection) → SoundIn w l → OnlyChannels w.conn d
+    → record (seen w) { conn = d } ≡ with_peers (seen w) (record (peers_of (seen w)) { client = d })
+only_is w l d s o =
+    ap (λ (x : Option ℕ). record (seen w) { conn = d; closed = x })
+    (sym (closes_again w.closed_at (is_closing d) w.moment (λ x. s.closing (sym (closing_only o) ∙ x))))
+
+session_is : (n : ℕ) (p : Parts) (w : State) (l : Bool) → SoundIn w l
+    → seen (with_session n p w) ≡ with_peers (seen w) (record (peers_of (seen w)) { client = conn_session n p w.conn })
+session_is n p w l s =
+    session_by (λ (b : Bool) (c : Connection) (v : State). seen v ≡ with_peers (seen w) (record (peers_of (seen w)) { client = c })) n p w (kept w l s)
+    (fail_is _ _ w l s) (kept w l s) (λ code why. only_is w l (after_closing scope.Channel n w.conn) s (only_closing n w.conn))
+
 meaning_is : (m : Meaning) (w : State) (l : Bool) → SoundIn w l
-    → seen (with_meaning m w) ≡ with_peers (seen w) (record (peers_of (seen w)) { client = conn_by m w.conn })
+    → seen (with_meaning m w) ≡ with_peers (seen w) (record (peers_of (seen w)) { client = conn_by m w.up.container w.conn })
 meaning_is ten.Nothing w l s = kept w l s
 meaning_is ten.Init w l s = kept w l s
 meaning_is ten.AmqpHeader w l s = kept w l s
 meaning_is ten.Opened w l s = by (is_opening w.conn) refl
   where
     by : (b : Bool) → is_opening w.conn ≡ b
-        → seen (if b then record w { conn = after_opened w.conn; pending = record w.pending { open_ok = true } } else w)
-        ≡ with_peers (seen w) (record (peers_of (seen w)) { client = if b then after_opened w.conn else w.conn })
+        → seen (if b then runs w else w)
+        ≡ with_peers (seen w) (record (peers_of (seen w)) { client = if b then after_opened (channel_max_of w.up) w.conn else w.conn })
     by true e =
-        let no : is_closing (after_opened w.conn) ≡ false = ap is_closing_phase (opened_runs w.conn e) in
-        ap (λ (o : Option ℕ). record (seen w) { conn = after_opened w.conn; closed = o })
-        (sym (closes_again w.closed_at (is_closing (after_opened w.conn)) w.moment (λ x. absurd (clash _ x no))))
+        let no : is_closing (after_opened (channel_max_of w.up) w.conn) ≡ false = ap is_closing_phase (opened_runs (channel_max_of w.up) w.conn e) in
+        ap (λ (o : Option ℕ). record (seen w) { conn = after_opened (channel_max_of w.up) w.conn; closed = o })
+        (sym (closes_again w.closed_at (is_closing (after_opened (channel_max_of w.up) w.conn)) w.moment (λ x. absurd (clash _ x no))))
     by false e = kept w l s
-meaning_is (ten.OfSession g p payload) w l s = kept w l s
+meaning_is (ten.OfSession g p payload) w l s = session_is g p w l s
 meaning_is (ten.Closed e) w l s = fail_is _ None w l s
 meaning_is ten.Refused w l s = fail_is _ None w l s
 meaning_is (ten.Violation c) w l s = fail_is _ (Some c) w l s
@@ -281,13 +307,24 @@ sound_told w ms l le s =
     stays true e = close_closes w.conn.phase
     stays false e = e
 
-sound_came : (w : State) (u : Unit91) (l : Bool) → MayComeAs (awaits w.conn) u → SoundIn w l → SoundIn (if w.out_of_memory then w else came w u) l
-sound_came w u l may s = by w.out_of_memory refl
-  where
-    none : has_left w.conn.stream ≡ true → ⊥
-    none x = none_comes w.conn u x may
+-- a state of which the channels alone changed
+sound_only : (w : State) (d : Connection) (l : Bool) → OnlyChannels w.conn d → SoundIn w l → SoundIn (record w { conn = d }) l
+sound_only w d l o s =
+    subst (λ (x : Connection). SoundIn (record w { conn = x }) l) (sym o.same)
+    (record {
+      leaves = s.leaves;
+      left_is = s.left_is;
+      ended = λ x. ap (λ (c : Connection). record c { channels = o.channels }) (s.ended x);
+      late_is = s.late_is;
+      late_closes = s.late_closes;
+      closing = s.closing;
+      shuts = s.shuts;
+    })
 
-    by : (b : Bool) → w.out_of_memory ≡ b → SoundIn (if b then w else came w u) l
+sound_came : (w : State) (u : Unit91) (l : Bool) → (has_left w.conn.stream ≡ true → ⊥) → SoundIn w l → SoundIn (if w.out_of_memory then w else came (dequeued w) u) l
+sound_came w u l none s = by w.out_of_memory refl
+  where
+    by : (b : Bool) → w.out_of_memory ≡ b → SoundIn (if b then w else came (dequeued w) u) l
     by true m = s
     by false m = record {
       leaves = s.leaves;
@@ -329,24 +366,29 @@ sound_fail code why w l s = by (is_closing w.conn)
       shuts = λ x. close_closes w.conn.phase;
     }
 
+sound_session : (n : ℕ) (p : Parts) (w : State) (l : Bool) → SoundIn w l → SoundIn (with_session n p w) l
+sound_session n p w l s =
+    session_cases (λ (v : State). SoundIn v l) n p w s (sound_fail _ _ w l s) s
+    (λ code why. sound_only w (after_closing scope.Channel n w.conn) l (only_closing n w.conn) s)
+
 sound_meaning : (m : Meaning) (w : State) (l : Bool) → SoundIn w l → SoundIn (with_meaning m w) l
 sound_meaning ten.Nothing w l s = s
 sound_meaning ten.Init w l s = s
 sound_meaning ten.AmqpHeader w l s = s
 sound_meaning ten.Opened w l s = by (is_opening w.conn) refl
   where
-    by : (b : Bool) → is_opening w.conn ≡ b → SoundIn (if b then record w { conn = after_opened w.conn; pending = record w.pending { open_ok = true } } else w) l
+    by : (b : Bool) → is_opening w.conn ≡ b → SoundIn (if b then runs w else w) l
     by true e = record {
       leaves = s.leaves;
       left_is = s.left_is;
       ended = λ x. absurd (opening_early w.conn e (sym (ap is_closing (s.ended x))));
       late_is = s.late_is;
       late_closes = λ x. absurd (opening_early w.conn e (s.late_closes x));
-      closing = λ x. absurd (clash _ x (ap is_closing_phase (opened_runs w.conn e)));
+      closing = λ x. absurd (clash _ x (ap is_closing_phase (opened_runs (channel_max_of w.up) w.conn e)));
       shuts = λ x. absurd (opening_early w.conn e (s.shuts x));
     }
     by false e = s
-sound_meaning (ten.OfSession g p payload) w l s = s
+sound_meaning (ten.OfSession g p payload) w l s = sound_session g p w l s
 sound_meaning (ten.Closed e) w l s = sound_fail _ None w l s
 sound_meaning ten.Refused w l s = sound_fail _ None w l s
 sound_meaning (ten.Violation c) w l s = sound_fail _ (Some c) w l s
@@ -391,6 +433,14 @@ sound_memory w l s = record {
 still : {h : List Step} → Known h → seen (before h) ≡ with_peers (seen_in h) (peers h)
 still {h} k = kept (before h) (leaving_in h) k.sound ∙ ap (λ (x : Seen). with_peers x (peers_of x)) k.same
 
+-- a unit that waits changes none of that
+known_queued : (h : List Step) (u : Unit91) → Known h → Known (Queued u ∷ h)
+known_queued h u k = by (before h).out_of_memory
+  where
+    by : (b : Bool) → KnownIn (if b then before h else record (before h) { queue = (before h).queue ++ u ∷ [] }) (Queued u ∷ h)
+    by true = record { same = still k; sound = k.sound }
+    by false = record { same = still k; sound = k.sound }
+
 pub known : (h : List Step) → ArePicks h → Known h
 known [] p = record { same = refl; sound = sound_new [] 0 0 }
 known (Began vhost n ms ∷ h) p =
@@ -401,11 +451,12 @@ known (Moment ms ∷ h) p =
       same = told_is (before h) ms _ k.sound ∙ ap (λ (x : Seen). seen_told x ms) k.same;
       sound = sound_told (before h) ms _ (subst (λ (n : ℕ). n ≤ ms) (sym (moment_is k)) p.0) k.sound;
     }
+known (Queued u ∷ h) p = known_queued h u (known h p.1)
 known (Came u ∷ h) p =
     let k : Known h = known h p.1 in
     record {
       same = came_is (before h) u _ k.sound ∙ ap (λ (x : Seen). seen_came x u) k.same;
-      sound = sound_came (before h) u _ (subst (λ (c : Connection). MayComeAs (awaits c) u) (sym (conn_is k)) p.0.0) k.sound;
+      sound = sound_came (before h) u _ (λ x. none_next (before h) u (none_left h p.1 x) p.0) k.sound;
     }
 known (TakenUp ∷ h) p =
     let k : Known h = known h p.1 in
@@ -445,8 +496,16 @@ known (Lost Up loss.Failed ∷ h) p =
 known (Lost Up loss.Shut ∷ h) p =
     let k : Known h = known h p.1 in
     record { same = ap (λ (x : Seen). record x { side = side.Gone }) (still k); sound = k.sound }
-known (Gave (ToClient u) ∷ h) p = let k : Known h = known h p.1 in record { same = still k; sound = k.sound }
-known (Gave (ToUp u) ∷ h) p = let k : Known h = known h p.1 in record { same = still k; sound = k.sound }
+known (Gave (ToClient u) ∷ h) p =
+    let k : Known h = known h p.1 in
+    record {
+      same = only_is (before h) (leaving_in h) (conn_given u (before h).conn) k.sound (only_given u (before h).conn)
+          ∙ ap (λ (x : Seen). with_peers x (record (peers_of x) { client = conn_given u x.conn })) k.same;
+      sound = sound_only (before h) (conn_given u (before h).conn) (leaving_in h) (only_given u (before h).conn) k.sound;
+    }
+known (Gave (ToUp u) ∷ h) p =
+    let k : Known h = known h p.1 in
+    record { same = ap (λ (x : Seen). record x { container = container_given u x.container }) (still k); sound = k.sound }
 known (Whole Client ∷ h) p = let k : Known h = known h p.1 in record { same = still k; sound = k.sound }
 known (Whole Up ∷ h) p = let k : Known h = known h p.1 in record { same = still k; sound = k.sound }
 known (OutOfMemory ∷ h) p =

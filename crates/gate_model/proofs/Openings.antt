@@ -340,6 +340,8 @@ no_init up.AmqpHeader p e = e
 no_init up.Open p e = e
 no_init (up.Close c) p e = e
 no_init up.Empty p e = e
+no_init (up.Begin n) p e = e
+no_init (up.End n why) p e = e
 
 no_amqp : (u : UpUnit) (p : UpPending) → p.amqp_header ≡ false → (without_up u p).amqp_header ≡ false
 no_amqp up.SaslHeader p e = e
@@ -348,6 +350,8 @@ no_amqp up.AmqpHeader p e = refl
 no_amqp up.Open p e = e
 no_amqp (up.Close c) p e = e
 no_amqp up.Empty p e = e
+no_amqp (up.Begin n) p e = e
+no_amqp (up.End n why) p e = e
 
 no_open : (u : UpUnit) (p : UpPending) → p.«open» ≡ false → (without_up u p).«open» ≡ false
 no_open up.SaslHeader p e = e
@@ -356,6 +360,8 @@ no_open up.AmqpHeader p e = e
 no_open up.Open p e = refl
 no_open (up.Close c) p e = e
 no_open up.Empty p e = e
+no_open (up.Begin n) p e = e
+no_open (up.End n why) p e = e
 
 up_to_without : (at : Phase10) (u : UpUnit) (p : UpPending) → UpTo at p → UpTo at (without_up u p)
 up_to_without at u p s = record {
@@ -394,6 +400,8 @@ ups_other p q at went u e s = by u e (openings_next went u false e ∙ append-ni
     by up.Open e f = absurd cc
     by (up.Close c) e f = kept (up.Close c) f
     by up.Empty e f = kept up.Empty f
+    by (up.Begin n) e f = kept (up.Begin n) f
+    by (up.End n why) e f = kept (up.End n why) f
 
 -- ---- units of the opening among those that are due
 
@@ -411,11 +419,11 @@ all_openings p =
     (keep p.init up.SaslInit _ refl ∙ ap (λ (x : List UpUnit). when_up p.init up.SaslInit ++ x)
     (keep p.amqp_header up.AmqpHeader _ refl ∙ ap (λ (x : List UpUnit). when_up p.amqp_header up.AmqpHeader ++ x) (keep_last p.«open» up.Open refl)))
 
-no_empty : (b : Bool) → openings_of (when_up b up.Empty) ≡ []
+pub no_empty : (b : Bool) → openings_of (when_up b up.Empty) ≡ []
 no_empty true = refl
 no_empty false = refl
 
-pub openings_due : (p : UpPending) (b : Bool) → openings_of (opening_rows p ++ when_up b up.Empty) ≡ opening_rows p
-openings_due p b =
-    filter-append is_opening_unit (opening_rows p) (when_up b up.Empty)
-    ∙ ap (λ (x : List UpUnit). openings_of (opening_rows p) ++ x) (no_empty b) ∙ append-nil (openings_of (opening_rows p)) ∙ all_openings p
+pub openings_due : (p : UpPending) (us : List UpUnit) → openings_of us ≡ [] → openings_of (opening_rows p ++ us) ≡ opening_rows p
+openings_due p us e =
+    filter-append is_opening_unit (opening_rows p) us
+    ∙ ap (λ (x : List UpUnit). openings_of (opening_rows p) ++ x) e ∙ append-nil (openings_of (opening_rows p)) ∙ all_openings p

@@ -6,6 +6,7 @@ use Rattle.machine_091.specs.Transitions.{asked_by, stream_after, unit_step, wit
 use Rattle.machine_091.specs.Transitions as machine
 use Rattle.machine_091.specs.declared.limits.Limits.{Limits}
 use Rattle.machine_091.specs.declared.state.Channel91.{Channel91}
+use Rattle.machine_091.specs.declared.state.Channel91.TheVariants as channel
 use Rattle.machine_091.specs.declared.state.Connection.{Connection}
 use Rattle.machine_091.specs.declared.state.Phase91.TheVariants as phase
 use Rattle.machine_091.specs.declared.state.Stream91.TheVariants as stream
@@ -28,7 +29,7 @@ pub data Outcome (c : Connection) (u : Unit91) : machine.Step → Type 0 where
   Parting : is_running c.phase ≡ true → Outcome c u (record c { phase = phase.Closed }, want.Close)
   Calls : (n : ℕ) (s : Channel91) (m : Method91) → is_running c.phase ≡ true → Outcome c u (with_channel c n s, want.Method n m)
   Asking : (n : ℕ) (m : Method91) → is_running c.phase ≡ true → Outcome c u (c, want.Method n m)
-  Frees : (n : ℕ) → Outcome c u (c, want.ChannelCloseOk n)
+  Frees : (n : ℕ) → is_running c.phase ≡ true → Outcome c u (with_channel c n channel.Free, want.ChannelCloseOk n)
   Closes : c.phase ≡ phase.Closing → Outcome c u (record c { phase = phase.Closed }, want.Close)
   Answers : is_closing c ≡ true → Outcome c u (record c { phase = phase.Closed; stream = stream.Answered }, want.CloseOk)
   Ignores : is_closing c ≡ true → Outcome c u (with_stream u c, want.Nothing)
@@ -46,7 +47,7 @@ outcome c u = step_rows (λ (x : machine.Step). Outcome c u x) c u (record {
   opened = λ n m e min max. Calls n _ m e;
   ended = λ n m e min max. Calls n _ m e;
   stopped = λ n m e. Asking n m e;
-  freed = λ n e. Frees n;
+  freed = λ n e min max. Frees n e;
   crossed = λ e. Closes e;
   answered = λ e. Answers e;
   passed = λ e. Ignores e;

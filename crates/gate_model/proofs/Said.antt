@@ -1,6 +1,6 @@
 -- What was sent to a client without heartbeats, and then what is due to it, are the replies to its units; after the pair ran
 -- out of memory they are the last units.
-use Rattle.std.proofs.Common.{◌≡◌, ℕ, Bool, true, false, not, ◌&&◌, ◌||◌, if◌then◌else◌, List, [], ◌∷◌, ◌++◌, Option, None, Some, append_assoc, append-nil, refl, sym, ap, ◌∙◌, subst}
+use Rattle.std.proofs.Common.{◌⊎◌, inl, inr, Bool, List, None, Option, Some, [], ap, append-nil, append_assoc, false, if◌then◌else◌, nat_lt, not, refl, subst, sym, true, ℕ, ◌&&◌, ◌++◌, ◌||◌, ◌∙◌, ◌∷◌, ◌≡◌}
 use Rattle.std.specs.Prelude.{filter, map}
 use Rattle.std.proofs.lemmas.List.Elements.{filter-append}
 use Rattle.gate_outside.specs.declared.ports.End.TheVariants.{Client, Up}
@@ -23,22 +23,31 @@ use Rattle.machine_091.specs.declared.unit.Unit91.TheVariants as unit
 use Rattle.machine_091.specs.declared.unit.Want91.{Want91}
 use Rattle.methods_091.specs.declared.method.Method91.{Method91}
 use Rattle.machine_091.specs.declared.unit.Want91.TheVariants as want
+use Rattle.gate_model.specs.declared.life.Life.{Life}
+use Rattle.gate_model.specs.Lives.{each}
+use Rattle.close_translate.specs.declared.codes.TheConstants.{INTERNAL_ERROR}
+use Rattle.close_translate.specs.declared.conditions.Scope.TheVariants as scope
+use Rattle.machine_091.specs.Calls.{after_closing}
+use Rattle.performatives_10.specs.declared.condition.Condition.TheVariants.{NotAllowed}
 use Rattle.gate_model.specs.declared.reply.Pending.{Pending}
 use Rattle.gate_model.specs.declared.reply.Reply.{Reply}
 use Rattle.gate_model.specs.declared.reply.Reply.TheVariants as reply
 use Rattle.gate_model.specs.Answers.{AreAnswered, AreReplies, All, Overtaken, TakenBack, is_close, is_close_ok, last_units}
-use Rattle.gate_model.specs.Due.{closes, is_beat_due, may_go, pick, rows, when}
-use Rattle.gate_model.specs.Folds.{Peers, answers_of, conn_by, connection, failure_to, is_answer, leaving_in, peers, peers_came, peers_heard, ran_out_in, replies, replies_to, reply_by, reply_to, sent, sent_since, until_memory}
-use Rattle.gate_model.specs.Picks.{ArePicks, MayComeAs}
-use Rattle.gate_model.specs.State.{State, Step, Began, Moment, Came, TakenUp, Heard, Joined, Lost, Gave, Whole, OutOfMemory, after_want, before, came, close, close_if, conn_step, fail, failed, failure, has_left, heard, is_foreign, is_limit_reached, is_settled, last_pending, left, none_pending, turns_foreign, unbuilt, with_header, with_meaning, with_want, without}
+use Rattle.gate_model.specs.Due.{channel_closes, channel_oks, client_units, close_oks, close_oks_on, closes, flow_oks, if_so, is_beat_due, last_closes, may_answer, may_end, may_go, may_tell, open_oks, openings, pick, refused_on, rows, when}
+use Rattle.gate_model.specs.Folds.{Peers, answers_of, conn_by, conn_session, session_closes, connection, failure_to, is_answer, leaving_in, peers, peers_came, peers_heard, ran_out_in, replies, replies_to, reply_by, reply_to, sent, sent_since, until_memory}
+use Rattle.gate_model.specs.Picks.{ArePicks}
+use Rattle.gate_model.specs.State.{Began, Came, Gave, Heard, Joined, Lost, Moment, OutOfMemory, Queued, State, Step, TakenUp, Whole, before, came, close, close_if, conn_step, dequeued, fail, failed, failure, has_left, heard, is_channel_settled, is_foreign, is_limit_reached, is_settled, last_pending, left, none_pending, runs, turns_foreign, with_header, with_meaning, with_session, with_want, without}
 use Rattle.gate_relay.specs.Sides.{is_readable}
-use Rattle.gate_model.specs.Upstream.{first, has_closed, heard_up, meaning_by}
+use Rattle.gate_model.specs.Upstream.{channel_max_in, container_by, first, has_closed, heard_up, meaning_by}
 use Rattle.gate_model.specs.declared.outgoing.Outgoing.TheVariants.{ToClient, ToUp}
 use Rattle.machine_10.specs.Transitions as ten
 use Rattle.machine_10.specs.Transitions.{Meaning}
 use Rattle.machine_10.specs.declared.state.Upstream.{Upstream}
 use Rattle.machine_10.specs.declared.unit.Unit10.{Unit10}
-use Rattle.gate_model.proofs.Connections.{clash, close_same, none_comes, opened_runs, opening_early, opening_phase, step_here}
+use Rattle.gate_model.proofs.Connections.{OnlyChannels, clash, close_same, only_closing, only_given, opened_runs, opening_early, opening_phase, step_here}
+use Rattle.gate_model.proofs.Queues.{none_left, none_next}
+use Rattle.gate_model.proofs.Rows.{Has, HasNone, HasFirst, first_each, first_none, first_some, has, same_first}
+use Rattle.gate_model.proofs.Sessions.{session_by}
 use Rattle.gate_model.proofs.Known.{Known, conn_is, container_is, known, memory_is}
 use Rattle.gate_model.proofs.Outcomes.{Outcome, Greets, Parts, LogsIn, Tunes, Asks, Passes, Refuses, Parting, Calls, Asking, Frees, Closes, Answers, Ignores, outcome}
 
@@ -219,17 +228,8 @@ said_next : (c : Connection) (u : Unit91) (d : Pending) (said all : List Reply) 
     → IsSaid (conn_step c u).phase (with_header (turns_foreign c u) (with_want (unit_step c u).1 d)) said (all ++ replies_to c u) gone
 said_next c u d said all gone s = by (unit_step c u) (outcome c u)
   where
-    -- a method of a channel
-    called : (n : ℕ) (m : Method91) → is_running c.phase ≡ true
-        → After (is_foreign c.stream && not (is_foreign c.stream)) (closing_phase c.phase) (want.Method n m) d said all gone
-    called n m e =
-        subst (λ (p : Phase91). After (is_foreign c.stream && not (is_foreign c.stream)) (closing_phase p) (want.Method n m) d said all gone)
-        (sym (running_phase c.phase e))
-        (plainly _ phase.Closing (want.Method n m) d said all gone (never c.stream)
-        (after_refusal d said all (unbuilt m) (said_in {q = phase.Running} d said all gone (running_phase c.phase e) s)))
-
     by : (x : machine.Step) → Outcome c u x
-        → After (is_foreign x.0.stream && not (is_foreign c.stream)) (after_want x.1 x.0).phase x.1 d said all gone
+        → After (is_foreign x.0.stream && not (is_foreign c.stream)) (x.0).phase x.1 d said all gone
     by _ (Greets e) =
         let t = said_in {q = phase.Header} d said all gone e s in
         plainly _ phase.Start want.Start d said all gone refl
@@ -260,9 +260,9 @@ said_next c u d said all gone s = by (unit_step c u) (outcome c u)
     by _ (Parting e) =
         let t = shuts_of d said all (said_in {q = phase.Running} d said all gone (running_phase c.phase e) s) in
         plainly _ phase.Closed want.Close d said all gone (never c.stream) (ClosesNot refl t.calm (after_close d said all gone d.close refl t))
-    by _ (Calls n x m e) = called n m e
-    by _ (Asking n m e) = called n m e
-    by _ (Frees n) = plainly _ c.phase (want.ChannelCloseOk n) d said all gone (never c.stream) (after_nothing c.phase d said all gone s)
+    by _ (Calls n x m e) = plainly _ c.phase (want.Method n m) d said all gone (never c.stream) (after_nothing c.phase d said all gone s)
+    by _ (Asking n m e) = plainly _ c.phase (want.Method n m) d said all gone (never c.stream) (after_nothing c.phase d said all gone s)
+    by _ (Frees n e) = plainly _ c.phase (want.ChannelCloseOk n) d said all gone (never c.stream) (after_nothing c.phase d said all gone s)
     by _ (Closes e) =
         let t = said_in {q = phase.Closing} d said all gone e s in
         plainly _ phase.Closed want.Close d said all gone (never c.stream) (ClosesNot refl t.calm (after_close d said all gone d.close refl t))
@@ -389,6 +389,11 @@ no_tune reply.CloseOk d e = e
 no_tune (reply.Close c) d e = e
 no_tune reply.NoMemory d e = e
 no_tune reply.Heartbeat d e = e
+no_tune (reply.ChannelOpenOk n) d e = e
+no_tune (reply.FlowOk n) d e = e
+no_tune (reply.ChannelCloseOk n) d e = e
+no_tune (reply.CrossedOk n) d e = e
+no_tune (reply.ChannelClose n r) d e = e
 
 no_open_ok : (r : Reply) (d : Pending) → d.open_ok ≡ false → (without r d).open_ok ≡ false
 no_open_ok reply.Protocol d e = e
@@ -399,6 +404,11 @@ no_open_ok reply.CloseOk d e = e
 no_open_ok (reply.Close c) d e = e
 no_open_ok reply.NoMemory d e = e
 no_open_ok reply.Heartbeat d e = e
+no_open_ok (reply.ChannelOpenOk n) d e = e
+no_open_ok (reply.FlowOk n) d e = e
+no_open_ok (reply.ChannelCloseOk n) d e = e
+no_open_ok (reply.CrossedOk n) d e = e
+no_open_ok (reply.ChannelClose n r) d e = e
 
 no_close_ok : (r : Reply) (d : Pending) → d.close_ok ≡ false → (without r d).close_ok ≡ false
 no_close_ok reply.Protocol d e = e
@@ -409,6 +419,11 @@ no_close_ok reply.CloseOk d e = refl
 no_close_ok (reply.Close c) d e = e
 no_close_ok reply.NoMemory d e = e
 no_close_ok reply.Heartbeat d e = e
+no_close_ok (reply.ChannelOpenOk n) d e = e
+no_close_ok (reply.FlowOk n) d e = e
+no_close_ok (reply.ChannelCloseOk n) d e = e
+no_close_ok (reply.CrossedOk n) d e = e
+no_close_ok (reply.ChannelClose n r) d e = e
 
 no_close : (r : Reply) (d : Pending) → d.close ≡ None → (without r d).close ≡ None
 no_close reply.Protocol d e = e
@@ -419,6 +434,11 @@ no_close reply.CloseOk d e = e
 no_close (reply.Close c) d e = refl
 no_close reply.NoMemory d e = e
 no_close reply.Heartbeat d e = e
+no_close (reply.ChannelOpenOk n) d e = e
+no_close (reply.FlowOk n) d e = e
+no_close (reply.ChannelCloseOk n) d e = e
+no_close (reply.CrossedOk n) d e = e
+no_close (reply.ChannelClose n r) d e = e
 
 no_wanting : (r : Reply) (d : Pending) → d.no_memory ≡ false → (without r d).no_memory ≡ false
 no_wanting reply.Protocol d e = e
@@ -429,6 +449,11 @@ no_wanting reply.CloseOk d e = e
 no_wanting (reply.Close c) d e = e
 no_wanting reply.NoMemory d e = refl
 no_wanting reply.Heartbeat d e = e
+no_wanting (reply.ChannelOpenOk n) d e = e
+no_wanting (reply.FlowOk n) d e = e
+no_wanting (reply.ChannelCloseOk n) d e = e
+no_wanting (reply.CrossedOk n) d e = e
+no_wanting (reply.ChannelClose n r) d e = e
 
 said_went : (p : Phase91) (d : Pending) (r : Reply) (said all : List Reply) (gone : Bool) → Leads r d → IsSaid p d said all gone
     → IsSaid p (without r d) (said ++ r ∷ []) all gone
@@ -456,22 +481,165 @@ said_went p d r said all gone l s = by p s
     by phase.Closing s = shuts s
     by phase.Closed s = over s
 
--- the unit that is picked is the first of those that are due and wait for nothing, or a heartbeat where none is
+-- the first of a row of channels
+pub data IsOfChannel (w : State) (r : Reply) : Type 0 where
+  InAnswers : first (open_oks w ++ flow_oks w) ≡ Some r → IsOfChannel w r
+  InOks : first (channel_oks w) ≡ Some r → IsOfChannel w r
+  InCloses : first (channel_closes w) ≡ Some r → IsOfChannel w r
+
+-- the unit that is picked is the first of those of the connection that are due and wait for nothing, or of a row of channels, or a
+-- heartbeat where none is
 pub data Picked (w : State) (r : Reply) : Type 0 where
   IsDue : first (rows (may_go (is_settled w) w.pending)) ≡ Some r → Picked w r
-  Beats : rows (may_go (is_settled w) w.pending) ≡ [] → is_beat_due w ≡ true → r ≡ reply.Heartbeat → Picked w r
+  OnChannel : IsOfChannel w r → Picked w r
+  Beats : client_units w ≡ [] → is_beat_due w ≡ true → r ≡ reply.Heartbeat → Picked w r
 
-picked_by : (w : State) (r : Reply) (rs : List Reply) (beats : Bool) → rows (may_go (is_settled w) w.pending) ≡ rs → is_beat_due w ≡ beats
+-- what is first of the units of channels is one of its row
+in_if : (b : Bool) (us : List Reply) (r : Reply) → first (if_so b us) ≡ Some r → first us ≡ Some r
+in_if true us r e = e
+in_if false us r e = absurd cc
+
+-- the rows of what is due to the connection, put together
+rows_are : (p : Pending) → rows p ≡ openings p ++ (close_oks p ++ last_closes p)
+rows_are p = by p.protocol p.start p.tune p.open_ok
+  where
+    by : (a b c d : Bool)
+        → when a reply.Protocol ++ (when b reply.Start ++ (when c reply.Tune ++ (when d reply.OpenOk ++ (close_oks p ++ last_closes p))))
+        ≡ (when a reply.Protocol ++ (when b reply.Start ++ (when c reply.Tune ++ when d reply.OpenOk))) ++ (close_oks p ++ last_closes p)
+    by true true true true = refl
+    by true true true false = refl
+    by true true false true = refl
+    by true true false false = refl
+    by true false true true = refl
+    by true false true false = refl
+    by true false false true = refl
+    by true false false false = refl
+    by false true true true = refl
+    by false true true false = refl
+    by false true false true = refl
+    by false true false false = refl
+    by false false true true = refl
+    by false false true false = refl
+    by false false false true = refl
+    by false false false false = refl
+
+-- the first of what is due is the first of the rows of the connection, or of those of channels
+units_first : (w : State) (r : Reply) → first (client_units w) ≡ Some r
+    → (first (rows (may_go (is_settled w) w.pending)) ≡ Some r) ⊎ IsOfChannel w r
+units_first w r e = one (has (openings p))
+  where
+    p : Pending
+    p = may_go (is_settled w) w.pending
+
+    answers : List Reply
+    answers = if_so (may_answer w) (open_oks w ++ flow_oks w)
+
+    ends : List Reply
+    ends = if_so (may_end w) (channel_oks w)
+
+    closes_ : List Reply
+    closes_ = if_so (may_tell w) (channel_closes w)
+
+    -- behind the openings
+    rest : List Reply
+    rest = answers ++ (close_oks p ++ (ends ++ (last_closes p ++ closes_)))
+
+    due_by : (o : Option Reply) → first (openings p ++ (close_oks p ++ last_closes p)) ≡ o → first (rows p) ≡ o
+    due_by o f = ap first (rows_are p) ∙ f
+
+    four_ : openings p ≡ [] → close_oks p ≡ [] → first (last_closes p ++ closes_) ≡ Some r → Has (last_closes p) → (first (rows p) ≡ Some r) ⊎ IsOfChannel w r
+    four_ a c f (HasFirst u g) =
+        let is : u ≡ r = same_first (first (last_closes p ++ closes_)) u r (first_some (last_closes p) closes_ u g) f in
+        inl (due_by (Some r) (first_none (openings p) _ a ∙ first_none (close_oks p) _ c ∙ g ∙ ap Some is))
+    four_ a c f (HasNone g) = inr (InCloses (in_if (may_tell w) (channel_closes w) r (sym (first_none (last_closes p) closes_ g) ∙ f)))
+
+    three : openings p ≡ [] → close_oks p ≡ [] → first (ends ++ (last_closes p ++ closes_)) ≡ Some r → Has ends → (first (rows p) ≡ Some r) ⊎ IsOfChannel w r
+    three a c f (HasFirst u g) =
+        let is : u ≡ r = same_first (first (ends ++ (last_closes p ++ closes_))) u r (first_some ends _ u g) f in
+        inr (InOks (in_if (may_end w) (channel_oks w) r (g ∙ ap Some is)))
+    three a c f (HasNone g) = four_ a c (sym (first_none ends _ g) ∙ f) (has (last_closes p))
+
+    two : openings p ≡ [] → first (close_oks p ++ (ends ++ (last_closes p ++ closes_))) ≡ Some r → Has (close_oks p) → (first (rows p) ≡ Some r) ⊎ IsOfChannel w r
+    two a f (HasFirst u g) =
+        let is : u ≡ r = same_first (first (close_oks p ++ (ends ++ (last_closes p ++ closes_)))) u r (first_some (close_oks p) _ u g) f in
+        inl (due_by (Some r) (first_none (openings p) _ a ∙ first_some (close_oks p) (last_closes p) r (g ∙ ap Some is)))
+    two a f (HasNone g) = three a g (sym (first_none (close_oks p) _ g) ∙ f) (has ends)
+
+    behind : openings p ≡ [] → first rest ≡ Some r → Has answers → (first (rows p) ≡ Some r) ⊎ IsOfChannel w r
+    behind a f (HasFirst u g) =
+        let is : u ≡ r = same_first (first rest) u r (first_some answers _ u g) f in
+        inr (InAnswers (in_if (may_answer w) (open_oks w ++ flow_oks w) r (g ∙ ap Some is)))
+    behind a f (HasNone g) = two a (sym (first_none answers _ g) ∙ f) (has (close_oks p))
+
+    one : Has (openings p) → (first (rows p) ≡ Some r) ⊎ IsOfChannel w r
+    one (HasFirst u g) =
+        let is : u ≡ r = same_first (first (client_units w)) u r (first_some (openings p) rest u g) e in
+        inl (due_by (Some r) (first_some (openings p) _ r (g ∙ ap Some is)))
+    one (HasNone g) = behind g (sym (first_none (openings p) rest g) ∙ e) (has answers)
+
+picked_by : (w : State) (r : Reply) (rs : List Reply) (beats : Bool) → client_units w ≡ rs → is_beat_due w ≡ beats
     → first (map ToClient (rs ++ when beats reply.Heartbeat)) ≡ Some (ToClient r) → Picked w r
 picked_by w r [] true e beat f = Beats e beat (let here : reply.Heartbeat ≡ r = cc in sym here)
 picked_by w r [] false e beat f = absurd cc
-picked_by w r (x ∷ rs) beats e beat f = IsDue (ap first e ∙ (let here : x ≡ r = cc in ap Some here))
+picked_by w r (x ∷ rs) beats e beat f = by (units_first w r (ap first e ∙ (let here : x ≡ r = cc in ap Some here)))
+  where
+    by : (first (rows (may_go (is_settled w) w.pending)) ≡ Some r) ⊎ IsOfChannel w r → Picked w r
+    by (inl g) = IsDue g
+    by (inr g) = OnChannel g
 
 pub picked : (w : State) (r : Reply) → pick w Client ≡ Some (ToClient r) → Picked w r
-picked w r e = picked_by w r (rows (may_go (is_settled w) w.pending)) (is_beat_due w) refl refl e
+picked w r e = picked_by w r (client_units w) (is_beat_due w) refl refl e
 
 answers_next : (rs : List Reply) (r : Reply) → answers_of (rs ++ r ∷ []) ≡ answers_of rs ++ answers_of (r ∷ [])
 answers_next rs r = filter-append is_answer rs (r ∷ [])
+
+-- a unit of a channel is no answer of the connection, and takes nothing of what is due to it
+pub record IsOther (r : Reply) : Type 0 where
+  pub answers : is_answer r ≡ false
+  pub beats : r ≡ reply.Heartbeat → ⊥
+  pub leaves : (d : Pending) → without r d ≡ d
+
+pub of_channel : (w : State) (r : Reply) → IsOfChannel w r → IsOther r
+of_channel w r (InAnswers e) = by (has (open_oks w))
+  where
+    opens : (k : ℕ) (l : Life) (v : Reply) → first (when l.open_ok (reply.ChannelOpenOk k)) ≡ Some v → IsOther v
+    opens k l v e = in_case l.open_ok e
+      where
+        in_case : (b : Bool) → first (when b (reply.ChannelOpenOk k)) ≡ Some v → IsOther v
+        in_case true e = let here : reply.ChannelOpenOk k ≡ v = cc in subst IsOther here (record { answers = refl; beats = λ e. cc; leaves = λ d. refl })
+        in_case false e = absurd cc
+
+    flows : (k : ℕ) (l : Life) (v : Reply) → first (when (nat_lt 0 l.flow_oks) (reply.FlowOk k)) ≡ Some v → IsOther v
+    flows k l v e = in_case (nat_lt 0 l.flow_oks) e
+      where
+        in_case : (b : Bool) → first (when b (reply.FlowOk k)) ≡ Some v → IsOther v
+        in_case true e = let here : reply.FlowOk k ≡ v = cc in subst IsOther here (record { answers = refl; beats = λ e. cc; leaves = λ d. refl })
+        in_case false e = absurd cc
+
+    by : Has (open_oks w) → IsOther r
+    by (HasFirst u g) = subst IsOther (same_first (first (open_oks w ++ flow_oks w)) u r (first_some (open_oks w) (flow_oks w) u g) e) (first_each IsOther _ 0 w.lives u opens g)
+    by (HasNone g) = first_each IsOther _ 0 w.lives r flows (sym (first_none (open_oks w) (flow_oks w) g) ∙ e)
+of_channel w r (InOks e) = first_each IsOther _ 0 w.lives r one e
+  where
+    one : (k : ℕ) (l : Life) (v : Reply) → first (close_oks_on k (l.close_ok && is_channel_settled w k) l) ≡ Some v → IsOther v
+    one k l v e = in_case l.crossed_ok (l.close_ok && is_channel_settled w k) e
+      where
+        in_case : (b c : Bool) → first (when b (reply.CrossedOk k) ++ when c (reply.ChannelCloseOk k)) ≡ Some v → IsOther v
+        in_case true c e = let here : reply.CrossedOk k ≡ v = cc in subst IsOther here (record { answers = refl; beats = λ e. cc; leaves = λ d. refl })
+        in_case false true e = let here : reply.ChannelCloseOk k ≡ v = cc in subst IsOther here (record { answers = refl; beats = λ e. cc; leaves = λ d. refl })
+        in_case false false e = absurd cc
+of_channel w r (InCloses e) = first_each IsOther _ 0 w.lives r one e
+  where
+    one : (k : ℕ) (l : Life) (v : Reply) → first (refused_on (is_channel_settled w k) k l.close) ≡ Some v → IsOther v
+    one k l v e = in_case (is_channel_settled w k) l.close e
+      where
+        in_case : (b : Bool) (o : Option Refusal) → first (refused_on b k o) ≡ Some v → IsOther v
+        in_case true (Some x) e = let here : reply.ChannelClose k x ≡ v = cc in subst IsOther here (record { answers = refl; beats = λ e. cc; leaves = λ d. refl })
+        in_case false (Some x) e = absurd cc
+        in_case b None e = absurd cc
+
+answers_other : (went : List Reply) (r : Reply) → is_answer r ≡ false → answers_of (went ++ r ∷ []) ≡ answers_of went
+answers_other went r e = answers_next went r ∙ ap (λ (b : Bool). answers_of went ++ (if b then r ∷ [] else [])) e ∙ append-nil (answers_of went)
 
 -- a reply that went is due no more, and a heartbeat is no reply
 said_picked : (p : Phase91) (w : State) (r : Reply) (went all : List Reply) (gone : Bool) → Picked w r → IsSaid p w.pending (answers_of went) all gone
@@ -481,6 +649,10 @@ said_picked p w r went all gone (IsDue e) s =
     let more : answers_of (went ++ r ∷ []) ≡ answers_of went ++ r ∷ [] =
     answers_next went r ∙ ap (λ (b : Bool). answers_of went ++ (if b then r ∷ [] else [])) l.answers in
     subst (λ (x : List Reply). IsSaid p (without r w.pending) x all gone) (sym more) (said_went p w.pending r (answers_of went) all gone l s)
+said_picked p w r went all gone (OnChannel o) s =
+    let x : IsOther r = of_channel w r o in
+    subst (λ (d : Pending). IsSaid p d (answers_of (went ++ r ∷ [])) all gone) (sym (x.leaves w.pending))
+    (subst (λ (y : List Reply). IsSaid p w.pending y all gone) (sym (answers_other went r x.answers)) s)
 said_picked p w r went all gone (Beats none due e) s =
     subst (λ (x : Reply). IsSaid p (without x w.pending) (answers_of (went ++ x ∷ [])) all gone) (sym e)
     (subst (λ (x : List Reply). IsSaid p w.pending x all gone) (sym (answers_next went reply.Heartbeat ∙ append-nil (answers_of went))) s)
@@ -496,6 +668,9 @@ picked_same w r went m (IsDue e) =
     ap (λ (x : List Reply). x ++ rows (without r w.pending)) (answers_next went r ∙ ap (λ (b : Bool). answers_of went ++ (if b then r ∷ [] else [])) l.answers)
     ∙ append_assoc (answers_of went) (r ∷ []) (rows (without r w.pending))
     ∙ ap (λ (x : List Reply). answers_of went ++ x) (sym l.parts)
+picked_same w r went m (OnChannel o) =
+    let x : IsOther r = of_channel w r o in
+    ap (λ (y : List Reply). y ++ rows (without r w.pending)) (answers_other went r x.answers) ∙ ap (λ (d : Pending). answers_of went ++ rows d) (x.leaves w.pending)
 picked_same w r went m (Beats none due e) =
     subst (λ (x : Reply). answers_of (went ++ x ∷ []) ++ rows (without x w.pending) ≡ answers_of went ++ rows w.pending) (sym e)
     (ap (λ (x : List Reply). x ++ rows w.pending) (answers_next went reply.Heartbeat ∙ append-nil (answers_of went)))
@@ -553,16 +728,16 @@ isnt_left true b f g = absurd (f refl)
 isnt_left false true f g = absurd (f (g refl))
 isnt_left false false f g = refl
 
-says_came : (w : State) (u : Unit91) (b : Bool) (c : Peers) (went since all last : List Reply) → MayComeAs (awaits c.client) u → w.conn ≡ c.client
+says_came : (w : State) (u : Unit91) (b : Bool) (c : Peers) (went since all last : List Reply) → (has_left c.client.stream ≡ true → ⊥) → w.conn ≡ c.client
     → SaysIn b c.client.phase w.pending went since all (has_left c.client.stream) last
     → let d : Peers = if b then c else peers_came c u in
-    SaysIn b d.client.phase (if b then w else came w u).pending went since (if b then all else all ++ replies_to c.client u) (has_left d.client.stream) last
+    SaysIn b d.client.phase (if b then w else came (dequeued w) u).pending went since (if b then all else all ++ replies_to c.client u) (has_left d.client.stream) last
 says_came w u true c went since all last may e s = s
 says_came w u false p went since all last may e s =
     let c : Connection = p.client in
-    let here : has_left c.stream ≡ has_left (conn_step c u).stream = isnt_left (has_left c.stream) (has_left (conn_step c u).stream) (λ x. none_comes c u x may) (step_here c u) in
+    let here : has_left c.stream ≡ has_left (conn_step c u).stream = isnt_left (has_left c.stream) (has_left (conn_step c u).stream) may (step_here c u) in
     record {
-      said = λ m. subst (λ (g : Bool). IsSaid (conn_step c u).phase (came w u).pending (answers_of went) (all ++ replies_to c u) g) here
+      said = λ m. subst (λ (g : Bool). IsSaid (conn_step c u).phase (came (dequeued w) u).pending (answers_of went) (all ++ replies_to c u) g) here
           (subst (λ (x : Connection). IsSaid (conn_step c u).phase (with_header (turns_foreign x u) (with_want (unit_step x u).1 w.pending)) (answers_of went) (all ++ replies_to c u) (has_left c.stream)) (sym e)
           (said_next c u w.pending (answers_of went) all (has_left c.stream) (s.said m)));
       ending = λ m. absurd (clash false m refl);
@@ -603,30 +778,40 @@ says_fail w code why b c went since all last e shuts s =
       ending = λ m. absurd (clash _ (shuts m) k);
     }
 
-says_meaning : (m : Meaning) (w : State) (b : Bool) (c : Connection) (went since all last : List Reply) → w.conn ≡ c → (b ≡ true → is_closing c ≡ true)
+says_meaning : (m : Meaning) (w : State) (b : Bool) (c : Connection) (o : Option Upstream) (went since all last : List Reply) → w.conn ≡ c → w.up.container ≡ o → (b ≡ true → is_closing c ≡ true)
     → SaysIn b c.phase w.pending went since all (has_left c.stream) last
-    → SaysIn b (conn_by m c).phase (with_meaning m w).pending went since (all ++ reply_by c m) (has_left (conn_by m c).stream) last
-says_meaning ten.Nothing w b c went since all last e shuts s = says_nothing b c w.pending went since all last s
-says_meaning ten.Init w b c went since all last e shuts s = says_nothing b c w.pending went since all last s
-says_meaning ten.AmqpHeader w b c went since all last e shuts s = says_nothing b c w.pending went since all last s
-says_meaning ten.Opened w b c went since all last e shuts s =
-    subst (λ (x : Connection). SaysIn b (conn_by ten.Opened c).phase (if is_opening x then record w { conn = after_opened w.conn; pending = record w.pending { open_ok = true } } else w).pending went since (all ++ reply_by c ten.Opened) (has_left (conn_by ten.Opened c).stream) last) (sym e)
+    → SaysIn b (conn_by m o c).phase (with_meaning m w).pending went since (all ++ reply_by c m) (has_left (conn_by m o c).stream) last
+says_meaning ten.Nothing w b c o went since all last e f shuts s = says_nothing b c w.pending went since all last s
+says_meaning ten.Init w b c o went since all last e f shuts s = says_nothing b c w.pending went since all last s
+says_meaning ten.AmqpHeader w b c o went since all last e f shuts s = says_nothing b c w.pending went since all last s
+says_meaning ten.Opened w b c o went since all last e f shuts s =
+    subst (λ (x : Connection). SaysIn b (conn_by ten.Opened o c).phase (if is_opening x then runs w else w).pending went since (all ++ reply_by c ten.Opened) (has_left (conn_by ten.Opened o c).stream) last) (sym e)
     (by (is_opening c) refl)
   where
     by : (k : Bool) → is_opening c ≡ k
-        → let d : Connection = if k then after_opened c else c in
-        SaysIn b d.phase (if k then record w { conn = after_opened w.conn; pending = record w.pending { open_ok = true } } else w).pending went since (all ++ when k reply.OpenOk) (has_left d.stream) last
+        → let d : Connection = if k then after_opened (channel_max_in o) c else c in
+        SaysIn b d.phase (if k then runs w else w).pending went since (all ++ when k reply.OpenOk) (has_left d.stream) last
     by true k = record {
       said = λ m. let t = said_in {q = phase.Open} w.pending (answers_of went) all (has_left c.stream) (opening_phase c k) (s.said m) in
-          subst (λ (p : Phase91). IsSaid p (record w.pending { open_ok = true }) (answers_of went) (all ++ reply.OpenOk ∷ []) (has_left c.stream)) (sym (opened_runs c k))
+          subst (λ (p : Phase91). IsSaid p (record w.pending { open_ok = true }) (answers_of went) (all ++ reply.OpenOk ∷ []) (has_left c.stream)) (sym (opened_runs (channel_max_in o) c k))
           (said_opened w.pending (answers_of went) all t.0 t.1);
       ending = λ m. absurd (opening_early c k (shuts m));
     }
     by false k = says_nothing b c w.pending went since all last s
-says_meaning (ten.OfSession g p payload) w b c went since all last e shuts s = says_nothing b c w.pending went since all last s
-says_meaning (ten.Closed x) w b c went since all last e shuts s = says_fail w _ None b c went since all last e shuts s
-says_meaning ten.Refused w b c went since all last e shuts s = says_fail w _ None b c went since all last e shuts s
-says_meaning (ten.Violation x) w b c went since all last e shuts s = says_fail w _ (Some x) b c went since all last e shuts s
+says_meaning (ten.OfSession g p payload) w b c o went since all last e f shuts s =
+    subst (λ (x : Connection). SaysIn b (conn_session g p x).phase (with_session g p w).pending went since (all ++ (if session_closes p then failure_to c INTERNAL_ERROR else [])) (has_left (conn_session g p x).stream) last) e
+    (session_by (λ (y : Bool) (d : Connection) (v : State). SaysIn b d.phase v.pending went since (all ++ (if y then failure_to c INTERNAL_ERROR else [])) (has_left d.stream) last) g p w
+    (same w.pending) (subst (λ (x : Connection). SaysIn b (close x).phase (fail INTERNAL_ERROR (Some NotAllowed) w).pending went since (all ++ failure_to c INTERNAL_ERROR) (has_left x.stream) last) (sym e) (says_fail w _ (Some NotAllowed) b c went since all last e shuts s))
+    (same w.pending) (λ code why. moved (after_closing scope.Channel g w.conn) (only_closing g w.conn)))
+  where
+    same : (d : Pending) → SaysIn b w.conn.phase w.pending went since (all ++ []) (has_left w.conn.stream) last
+    same d = subst (λ (x : Connection). SaysIn b x.phase w.pending went since (all ++ []) (has_left x.stream) last) (sym e) (says_nothing b c w.pending went since all last s)
+
+    moved : (d : Connection) → OnlyChannels w.conn d → SaysIn b d.phase w.pending went since (all ++ []) (has_left d.stream) last
+    moved d x = subst (λ (y : Connection). SaysIn b y.phase w.pending went since (all ++ []) (has_left y.stream) last) (sym x.same) (same w.pending)
+says_meaning (ten.Closed x) w b c o went since all last e f shuts s = says_fail w _ None b c went since all last e shuts s
+says_meaning ten.Refused w b c o went since all last e f shuts s = says_fail w _ None b c went since all last e shuts s
+says_meaning (ten.Violation x) w b c o went since all last e f shuts s = says_fail w _ (Some x) b c went since all last e shuts s
 
 says_heard : (w : State) (u : Unit10) (b : Bool) (p : Peers) (went since all last : List Reply) → w.conn ≡ p.client → w.up.container ≡ p.container
     → (b ≡ true → is_closing p.client ≡ true) → SaysIn b p.client.phase w.pending went since all (has_left p.client.stream) last
@@ -635,8 +820,8 @@ says_heard : (w : State) (u : Unit10) (b : Bool) (p : Peers) (went since all las
 says_heard w u true p went since all last e f shuts s = s
 says_heard w u false p went since all last e f shuts s =
     let m : Meaning = meaning_by p.container u in
-    subst (λ (x : Option Upstream). SaysIn false (conn_by m p.client).phase (with_meaning (meaning_by x u) (record w { up = heard_up u w.up })).pending went since (all ++ reply_by p.client m) (has_left (conn_by m p.client).stream) last) (sym f)
-    (says_meaning m (record w { up = heard_up u w.up }) false p.client went since all last e shuts s)
+    subst (λ (x : Option Upstream). SaysIn false (conn_by m (container_by p.container u) p.client).phase (with_meaning (meaning_by x u) (record w { up = heard_up u w.up })).pending went since (all ++ reply_by p.client m) (has_left (conn_by m (container_by p.container u) p.client).stream) last) (sym f)
+    (says_meaning m (record w { up = heard_up u w.up }) false p.client (container_by p.container u) went since all last e (ap (λ (x : Option Upstream). container_by x u) f) shuts s)
 
 -- the connection is closing once the pair ran out of memory
 pub shuts_in : {h : List Step} → Known h → ran_out_in h ≡ true → is_closing (connection h) ≡ true
@@ -648,11 +833,17 @@ says (Began vhost n ms ∷ h) p = subst (λ (x : List Step). Says (Began vhost n
 says (Moment ms ∷ h) p =
     let s : Says h = says h p.1 in
     record { said = λ m. said_if (is_limit_reached (connection h) _ ms) (connection h) (before h).pending (answers_of (sent h)) (replies h) (s.said m); ending = s.ending }
+says (Queued u ∷ h) p = by (before h).out_of_memory (says h p.1)
+  where
+    by : (b : Bool) → Says h → SaysIn (ran_out_in h) (connection h).phase (if b then before h else record (before h) { queue = (before h).queue ++ u ∷ [] }).pending (sent h) (sent_since h) (replies h) (has_left (connection h).stream) (last_of (until_memory h))
+    by true s = s
+    by false s = s
 says (Came u ∷ h) p =
     let k : Known h = known h p.1 in
-    subst (λ (x : Bool). SaysIn (ran_out_in h) (connection (Came u ∷ h)).phase (if x then before h else came (before h) u).pending (sent h) (sent_since h) (replies (Came u ∷ h)) (has_left (connection (Came u ∷ h)).stream) (last_of (until_memory h)))
+    subst (λ (x : Bool). SaysIn (ran_out_in h) (connection (Came u ∷ h)).phase (if x then before h else came (dequeued (before h)) u).pending (sent h) (sent_since h) (replies (Came u ∷ h)) (has_left (connection (Came u ∷ h)).stream) (last_of (until_memory h)))
     (sym (memory_is k))
-    (says_came (before h) u (ran_out_in h) (peers h) (sent h) (sent_since h) (replies h) (last_of (until_memory h)) p.0.0 (conn_is k) (says h p.1))
+    (says_came (before h) u (ran_out_in h) (peers h) (sent h) (sent_since h) (replies h) (last_of (until_memory h))
+    (λ x. none_next (before h) u (none_left h p.1 (ap (λ (c : Connection). has_left c.stream) (conn_is k) ∙ x)) p.0) (conn_is k) (says h p.1))
 says (TakenUp ∷ h) p =
     let k : Known h = known h p.1 in
     subst (λ (x : Bool). SaysIn (ran_out_in h) (connection (TakenUp ∷ h)).phase (if not x && (before h).leaving then left (before h) else before h).pending (sent h) (sent_since h) (replies h) (has_left (connection (TakenUp ∷ h)).stream) (last_of (until_memory h)))
@@ -682,7 +873,8 @@ says (Gave (ToClient u) ∷ h) p =
     let s : Says h = says h p.1 in
     let it : Picked (before h) u = picked (before h) u p.0.1 in
     record {
-      said = λ m. said_picked (connection h).phase (before h) u (sent h) (replies h) (has_left (connection h).stream) it (s.said m);
+      said = λ m. subst (λ (c : Connection). IsSaid c.phase (without u (before h).pending) (answers_of (sent h ++ u ∷ [])) (replies h) (has_left c.stream)) (sym (only_given u (connection h)).same)
+          (said_picked (connection h).phase (before h) u (sent h) (replies h) (has_left (connection h).stream) it (s.said m));
       ending = λ m. picked_same (before h) u (sent_since h) (memory_is (known h p.1) ∙ m) it ∙ s.ending m;
     }
 says (Gave (ToUp u) ∷ h) p = says h p.1

@@ -7,7 +7,8 @@ use Rattle.frames_091.specs.declared.frame.Frame91.{Frame91}
 use Rattle.methods_091.specs.Closing.{close_text}
 use Rattle.gate_model.specs.declared.reply.Reply.{Reply}
 use Rattle.gate_model.specs.declared.reply.Reply.TheVariants as reply
-use Rattle.gate_model.specs.Spelling.{open_ok_frame, spell_reply, start_frame, tune_frame}
+use Rattle.gate_model.specs.Spelling.{close_on, open_ok_frame, spell_reply, start_frame, tune_frame}
+use Rattle.machine_091.specs.declared.unit.Refusal.{Refusal}
 
 frame_some : (f : Frame91) → 0 < length (frame_text f)
 unfolding frame_text
@@ -34,6 +35,11 @@ spelled_some reply.CloseOk = frame_some _
 spelled_some (reply.Close r) = frame_some _
 spelled_some reply.NoMemory = frame_some _
 spelled_some reply.Heartbeat = frame_some _
+spelled_some (reply.ChannelOpenOk n) = frame_some _
+spelled_some (reply.FlowOk n) = frame_some _
+spelled_some (reply.ChannelCloseOk n) = frame_some _
+spelled_some (reply.CrossedOk n) = frame_some _
+spelled_some (reply.ChannelClose n r) = frame_some _
 
 close_small : (code : ℕ) (text : List ℕ) (class method : ℕ) → length text ≤ 255 → length (close_text code text class method) ≤ 512
 unfolding frame_text
@@ -43,8 +49,14 @@ close_small code text class method short = grind (arith, length-append, short)
 name_small : (code : ℕ) → length (name_of code) ≤ 255
 name_small code = grind arith
 
+-- the same on a channel
+close_on_small : (n : ℕ) (r : Refusal) → length (name_of r.code) ≤ 255 → length (close_on n r) ≤ 512
+unfolding frame_text
+close_on_small n r short = grind (arith, length-append, short)
+
 pub spelled_small : (r : Reply) → length (spell_reply r) ≤ 512
 unfolding start_frame tune_frame open_ok_frame frame_text
 spelled_small (reply.Close r) = close_small r.code (name_of r.code) r.class r.method (name_small r.code)
 spelled_small reply.NoMemory = close_small 506 (codes "NO_MEMORY") 0 0 (omega arith)
+spelled_small (reply.ChannelClose n r) = close_on_small n r (name_small r.code)
 spelled_small r = omega arith

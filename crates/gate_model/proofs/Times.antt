@@ -26,11 +26,12 @@ use Rattle.gate_model.specs.Upstream.{first, heard_up, meaning_by}
 use Rattle.gate_model.specs.declared.outgoing.Outgoing.TheVariants.{ToClient, ToUp}
 use Rattle.gate_model.specs.Folds.{accepted_in, closed_in, connection, failed_in, moment_in, sent, sent_at}
 use Rattle.gate_model.specs.Picks.{ArePicks}
-use Rattle.gate_model.specs.State.{State, Step, Began, Moment, Came, TakenUp, Heard, Joined, Lost, Gave, Whole, OutOfMemory, before, came, fail, failed, has_left, heard, is_limit_reached, is_settled, left, new_state, opened, with_last, with_meaning}
+use Rattle.gate_model.specs.State.{Began, Came, Gave, Heard, Joined, Lost, Moment, OutOfMemory, Queued, State, Step, TakenUp, Whole, before, came, dequeued, fail, failed, has_left, heard, is_limit_reached, is_settled, left, new_state, opened, runs, with_last, with_meaning}
 use Rattle.gate_model.specs.Times.{BeatsAtOnce, BeatsWhenDue, IsLate, LateCloses, MayBeat, ShutFor, Failed, Left, Answered, Greeted, Closed, ClosedBad, ClosedLast, Unheard, NotOpened, Overdue, ShutsAtOnce, is_any_close, is_protocol, sent_whole}
 use Rattle.gate_model.proofs.Connections.{clash}
 use Rattle.gate_model.proofs.Known.{Known, accepted_is, closed_is, conn_is, known, memory_is, moment_is}
-use Rattle.gate_model.proofs.Said.{Picked, IsDue, Beats, calm_now, picked, first_due}
+use Rattle.gate_model.proofs.Sessions.{session_cases}
+use Rattle.gate_model.proofs.Said.{Beats, IsDue, OnChannel, Picked, calm_now, first_due, of_channel, picked}
 
 -- ---- what was sent
 
@@ -79,6 +80,11 @@ is_protocol_after reply.CloseOk s = or_false s.protocol
 is_protocol_after (reply.Close r) s = or_false s.protocol
 is_protocol_after reply.NoMemory s = or_false s.protocol
 is_protocol_after reply.Heartbeat s = or_false s.protocol
+is_protocol_after (reply.ChannelOpenOk n) s = or_false s.protocol
+is_protocol_after (reply.FlowOk n) s = or_false s.protocol
+is_protocol_after (reply.ChannelCloseOk n) s = or_false s.protocol
+is_protocol_after (reply.CrossedOk n) s = or_false s.protocol
+is_protocol_after (reply.ChannelClose n r) s = or_false s.protocol
 
 is_close_ok_after : (u : Reply) (s : SentLast) → (with_last (Some u) s).close_ok ≡ (s.close_ok || is_close_ok u)
 is_close_ok_after reply.Protocol s = or_false s.close_ok
@@ -89,6 +95,11 @@ is_close_ok_after reply.CloseOk s = or_true s.close_ok
 is_close_ok_after (reply.Close r) s = or_false s.close_ok
 is_close_ok_after reply.NoMemory s = or_false s.close_ok
 is_close_ok_after reply.Heartbeat s = or_false s.close_ok
+is_close_ok_after (reply.ChannelOpenOk n) s = or_false s.close_ok
+is_close_ok_after (reply.FlowOk n) s = or_false s.close_ok
+is_close_ok_after (reply.ChannelCloseOk n) s = or_false s.close_ok
+is_close_ok_after (reply.CrossedOk n) s = or_false s.close_ok
+is_close_ok_after (reply.ChannelClose n r) s = or_false s.close_ok
 
 is_close_after : (u : Reply) (s : SentLast) → (with_last (Some u) s).close ≡ (s.close || is_any_close u)
 is_close_after reply.Protocol s = or_false s.close
@@ -99,6 +110,11 @@ is_close_after reply.CloseOk s = or_false s.close
 is_close_after (reply.Close r) s = or_true s.close
 is_close_after reply.NoMemory s = or_true s.close
 is_close_after reply.Heartbeat s = or_false s.close
+is_close_after (reply.ChannelOpenOk n) s = or_false s.close
+is_close_after (reply.FlowOk n) s = or_false s.close
+is_close_after (reply.ChannelCloseOk n) s = or_false s.close
+is_close_after (reply.CrossedOk n) s = or_false s.close
+is_close_after (reply.ChannelClose n r) s = or_false s.close
 
 or_one : (b : Bool) → (b || false) ≡ b
 or_one true = refl
@@ -146,7 +162,7 @@ part_fail code why w = by (is_closing w.conn)
 part_opened : (w : State) → part (opened w) ≡ part w
 part_opened w = by (is_opening w.conn)
   where
-    by : (b : Bool) → part (if b then record w { conn = after_opened w.conn; pending = record w.pending { open_ok = true } } else w) ≡ part w
+    by : (b : Bool) → part (if b then runs w else w) ≡ part w
     by true = refl
     by false = refl
 
@@ -155,7 +171,7 @@ part_meaning ten.Nothing w = refl
 part_meaning ten.Init w = refl
 part_meaning ten.AmqpHeader w = refl
 part_meaning ten.Opened w = part_opened w
-part_meaning (ten.OfSession g p payload) w = refl
+part_meaning (ten.OfSession g p payload) w = session_cases (λ (v : State). part v ≡ part w) g p w refl (part_fail _ _ w) refl (λ code why. refl)
 part_meaning (ten.Closed e) w = part_fail _ None w
 part_meaning ten.Refused w = part_fail _ None w
 part_meaning (ten.Violation c) w = part_fail _ (Some c) w
@@ -164,8 +180,10 @@ pub sends : (h : List Step) → ArePicks h → Sends h
 sends [] p = sends_new
 sends (Began vhost n ms ∷ h) p = subst (λ (x : List Step). Sends (Began vhost n ms ∷ x)) (sym p.0) (sends_began vhost n ms)
 sends (Moment ms ∷ h) p = sends h p.1
+sends (Queued u ∷ h) p =
+    subst (λ (x : Part). SendsIn x (sent h) (sent_whole h) (sent_at h) (failed_in h)) (sym (part_came (before h) (record (before h) { queue = (before h).queue ++ u ∷ [] }) (before h).out_of_memory refl)) (sends h p.1)
 sends (Came u ∷ h) p =
-    subst (λ (x : Part). SendsIn x (sent h) (sent_whole h) (sent_at h) (failed_in h)) (sym (part_came (before h) (came (before h) u) (before h).out_of_memory refl)) (sends h p.1)
+    subst (λ (x : Part). SendsIn x (sent h) (sent_whole h) (sent_at h) (failed_in h)) (sym (part_came (before h) (came (dequeued (before h)) u) (before h).out_of_memory refl)) (sends h p.1)
 sends (TakenUp ∷ h) p =
     subst (λ (x : Part). SendsIn x (sent h) (sent_whole h) (sent_at h) (failed_in h)) (sym (part_left (before h) (left (before h)) _ refl)) (sends h p.1)
 sends (Heard u ∷ h) p =
@@ -242,6 +260,7 @@ may_beat h p f e = by (picked (before h) reply.Heartbeat e)
   where
     by : Picked (before h) reply.Heartbeat → MayBeat h
     by (IsDue x) = absurd (clash false (first_due (is_settled (before h)) (before h).pending reply.Heartbeat (calm_now h p) x).answers refl)
+    by (OnChannel x) = absurd ((of_channel (before h) reply.Heartbeat x).beats refl)
     by (Beats none due same) =
         let w : State = before h in
         let k : Known h = known h p in
@@ -283,6 +302,11 @@ beats_given h reply.OpenOk p f e b = b
 beats_given h reply.CloseOk p f e b = b
 beats_given h (reply.Close r) p f e b = b
 beats_given h reply.NoMemory p f e b = b
+beats_given h (reply.ChannelOpenOk n) p f e b = b
+beats_given h (reply.FlowOk n) p f e b = b
+beats_given h (reply.ChannelCloseOk n) p f e b = b
+beats_given h (reply.CrossedOk n) p f e b = b
+beats_given h (reply.ChannelClose n r) p f e b = b
 beats_given h reply.Heartbeat p f e b = (may_beat h p f e, b)
 
 pub beats_when_due : (h : List Step) → ArePicks h → BeatsWhenDue h
@@ -291,6 +315,7 @@ beats_when_due (Gave (ToClient u) ∷ h) p = beats_given h u p.1 p.0.0 p.0.1 (be
 beats_when_due (Gave (ToUp u) ∷ h) p = beats_when_due h p.1
 beats_when_due (Began vhost n ms ∷ h) p = beats_when_due h p.1
 beats_when_due (Moment ms ∷ h) p = beats_when_due h p.1
+beats_when_due (Queued u ∷ h) p = beats_when_due h p.1
 beats_when_due (Came u ∷ h) p = beats_when_due h p.1
 beats_when_due (TakenUp ∷ h) p = beats_when_due h p.1
 beats_when_due (Heard u ∷ h) p = beats_when_due h p.1

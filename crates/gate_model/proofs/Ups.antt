@@ -1,5 +1,5 @@
 -- What the state knows of the units to a container, by the folds.
-use Rattle.std.proofs.Common.{◌≡◌, ℕ, Bool, true, false, not, ◌&&◌, ◌||◌, if◌then◌else◌, List, [], ◌∷◌, ◌++◌, Option, None, Some, append-nil, refl, sym, ap, ◌∙◌, subst}
+use Rattle.std.proofs.Common.{◌≡◌, ℕ, ◌+◌, ◌⊎◌, inl, inr, Bool, true, false, not, ◌&&◌, ◌||◌, if◌then◌else◌, List, [], ◌∷◌, ◌++◌, Option, None, Some, append-nil, refl, sym, ap, ◌∙◌, subst}
 use Rattle.std.specs.Prelude.{is_some, map}
 use Rattle.std.specs.List.{list_any}
 use Rattle.std.specs.Option.{option_map, option_to_list}
@@ -29,15 +29,23 @@ use Rattle.gate_model.specs.declared.outgoing.UpPending.{UpPending}
 use Rattle.gate_model.specs.declared.outgoing.UpSent.{UpSent}
 use Rattle.gate_model.specs.declared.outgoing.UpUnit.{UpUnit}
 use Rattle.gate_model.specs.declared.outgoing.UpUnit.TheVariants as up
-use Rattle.gate_model.specs.Asked.{called, called_by, called_from, due_up, is_opening_unit, is_up_close, is_up_open, sent_up_whole}
-use Rattle.gate_model.specs.Due.{pick}
+use Rattle.gate_model.specs.Asked.{called, called_by, called_from, is_opening_unit, is_up_close, is_up_open, sent_up_whole}
+use Rattle.gate_model.specs.Due.{begins, close_behind, ends, is_end_due, pick, rows_in, up_rows}
 use Rattle.gate_model.specs.Folds.{Peers, accepted_in, conn_by, connection, container, container_kept, leaving_in, moment_in, peers, peers_came, peers_heard, ran_out_in, sent_up, sent_up_at}
 use Rattle.gate_model.specs.Picks.{ArePicks}
-use Rattle.gate_model.specs.State.{State, Step, Began, Moment, Came, TakenUp, Heard, Joined, Lost, Gave, Whole, OutOfMemory, after_want, before, came, close_if, fail, failed, heard, is_limit_reached, left, with_meaning}
-use Rattle.gate_model.specs.Upstream.{UpState, begun, closing_with, container_by, ended_in, first, heard_up, is_idle_due, meaning_by, no_end, nothing_due, opening_rows, rows_in, up_rows, when_up, with_begun, with_whole, without_up}
-use Rattle.gate_model.proofs.Connections.{clash}
+use Rattle.gate_model.specs.State.{State, Step, Began, Moment, Queued, Came, TakenUp, Heard, Joined, Lost, Gave, Whole, OutOfMemory, before, came, close_if, dequeued, fail, failed, heard, is_limit_reached, left, runs, with_meaning, with_session}
+use Rattle.gate_model.specs.Lives.{each, is_free, session_in}
+use Rattle.gate_model.specs.declared.life.Life.{Life}
+use Rattle.machine_10.specs.Calls.{asked, left as left_session, may_begin}
+use Rattle.machine_10.specs.State.{session_at}
+use Rattle.machine_10.specs.declared.state.Session.{Session}
+use Rattle.machine_10.specs.declared.state.Session.TheVariants as session
+use Rattle.gate_model.specs.Upstream.{UpState, begun, channel_max_in, closing_with, container_by, container_given, ended_in, first, heard_up, is_idle_due, meaning_by, no_end, nothing_due, opening_rows, when_up, with_begun, with_whole, without_up}
+use Rattle.gate_model.proofs.Connections.{clash, only_closing, only_given, phase_only}
+use Rattle.gate_model.proofs.Rows.{first_each}
+use Rattle.gate_model.proofs.Sessions.{conn_cases, session_cases}
 use Rattle.gate_model.proofs.Known.{Known, conn_is, container_is, keep_is, known, memory_is, moment_is}
-use Rattle.gate_model.proofs.Openings.{UpTo, Ups, phase_in, up_to_closed, ups_gone, ups_heard, ups_other}
+use Rattle.gate_model.proofs.Openings.{UpTo, Ups, is_opening_first, phase_in, up_to_closed, ups_gone, ups_heard, ups_other}
 use Rattle.gate_model.proofs.Outcomes.{Outcome, Greets, Parts, LogsIn, Tunes, Asks, Passes, Refuses, Parting, Calls, Asking, Frees, Closes, Answers, Ignores, outcome}
 
 -- ---- before the login there is no container
@@ -69,7 +77,7 @@ early_came p u f = by (unit_step p.client u) (outcome p.client u)
     c : Connection
     c = p.client
 
-    by : (x : machine.Step) → Outcome c u x → is_early (after_want x.1 x.0).phase ≡ true → container_kept p.container x.1 ≡ None
+    by : (x : machine.Step) → Outcome c u x → is_early (x.0).phase ≡ true → container_kept p.container x.1 ≡ None
     by _ (Greets e) k = f (ap is_early e)
     by _ (Parts e) k = absurd cc
     by _ (LogsIn m r e) k = absurd cc
@@ -78,9 +86,9 @@ early_came p u f = by (unit_step p.client u) (outcome p.client u)
     by _ Passes k = f k
     by _ (Refuses r a f e) k = absurd cc
     by _ (Parting e) k = absurd cc
-    by _ (Calls n s m e) k = absurd (clash _ k (closing_late c.phase))
-    by _ (Asking n m e) k = absurd (clash _ k (closing_late c.phase))
-    by _ (Frees n) k = f k
+    by _ (Calls n s m e) k = f k
+    by _ (Asking n m e) k = f k
+    by _ (Frees n e) k = f k
     by _ (Closes e) k = absurd cc
     by _ (Answers e) k = absurd cc
     by _ (Ignores e) k = f k
@@ -95,19 +103,21 @@ early_opened asked phase.Running e = absurd cc
 early_opened asked phase.Closing e = absurd cc
 early_opened asked phase.Closed e = absurd cc
 
-early_meaning : (m : Meaning) (c : Connection) → is_early (conn_by m c).phase ≡ true → is_early c.phase ≡ true
-early_meaning ten.Nothing c e = e
-early_meaning ten.Init c e = e
-early_meaning ten.AmqpHeader c e = e
-early_meaning ten.Opened c e = by (is_opening c) e
+early_meaning : (m : Meaning) (o : Option Upstream) (c : Connection) → is_early (conn_by m o c).phase ≡ true → is_early c.phase ≡ true
+early_meaning ten.Nothing o c e = e
+early_meaning ten.Init o c e = e
+early_meaning ten.AmqpHeader o c e = e
+early_meaning ten.Opened o c e = by (is_opening c) e
   where
-    by : (b : Bool) → is_early (if b then after_opened c else c).phase ≡ true → is_early c.phase ≡ true
+    by : (b : Bool) → is_early (if b then after_opened (channel_max_in o) c else c).phase ≡ true → is_early c.phase ≡ true
     by true e = early_opened c.asked c.phase e
     by false e = e
-early_meaning (ten.OfSession g p payload) c e = e
-early_meaning (ten.Closed x) c e = absurd (clash _ e (closing_late c.phase))
-early_meaning ten.Refused c e = absurd (clash _ e (closing_late c.phase))
-early_meaning (ten.Violation why) c e = absurd (clash _ e (closing_late c.phase))
+early_meaning (ten.OfSession g p payload) o c e =
+    conn_cases (λ (d : Connection). is_early d.phase ≡ true → is_early c.phase ≡ true) g p c (λ x. x) (λ x. absurd (clash _ x (closing_late c.phase)))
+    (λ x. sym (ap is_early (phase_only (only_closing g c))) ∙ x) e
+early_meaning (ten.Closed x) o c e = absurd (clash _ e (closing_late c.phase))
+early_meaning ten.Refused o c e = absurd (clash _ e (closing_late c.phase))
+early_meaning (ten.Violation why) o c e = absurd (clash _ e (closing_late c.phase))
 
 early_if : (b : Bool) (p q : Peers) → Early p → Early q → Early (if b then p else q)
 early_if true p q f g = f
@@ -121,18 +131,20 @@ pub early : (h : List Step) → Early (peers h)
 early [] e = refl
 early (Began vhost n ms ∷ h) e = refl
 early (Moment ms ∷ h) e = early h (early_close (is_limit_reached (connection h) (accepted_in h) ms) (connection h) e)
+early (Queued u ∷ h) e = early h e
 early (Came u ∷ h) e = early_if (ran_out_in h) (peers h) (peers_came (peers h) u) (early h) (early_came (peers h) u (early h)) e
 early (TakenUp ∷ h) e = early_if (not (ran_out_in h) && leaving_in h) (record (peers h) { client = after_ended (connection h) }) (peers h) (λ x. absurd cc) (early h) e
 early (Heard u ∷ h) e =
     early_if (ran_out_in h) (peers h) (peers_heard (peers h) u) (early h)
-    (λ x. ap (λ (o : Option Upstream). container_by o u) (early h (early_meaning (meaning_by (container h) u) (connection h) x))) e
+    (λ x. ap (λ (o : Option Upstream). container_by o u) (early h (early_meaning (meaning_by (container h) u) _ (connection h) x))) e
 early (Joined link.Ok ∷ h) e = early h e
 early (Joined link.Failed ∷ h) e = absurd (clash _ e (closing_late (connection h).phase))
 early (Lost Client how ∷ h) e = early h e
 early (Lost Up loss.Ended ∷ h) e = absurd (clash _ e (closing_late (connection h).phase))
 early (Lost Up loss.Failed ∷ h) e = absurd (clash _ e (closing_late (connection h).phase))
 early (Lost Up loss.Shut ∷ h) e = early h e
-early (Gave u ∷ h) e = early h e
+early (Gave (ToClient u) ∷ h) e = early h (sym (ap is_early (phase_only (only_given u (connection h)))) ∙ e)
+early (Gave (ToUp u) ∷ h) e = ap (container_given u) (early h e)
 early (Whole end ∷ h) e = early h e
 early (OutOfMemory ∷ h) e = absurd (clash _ e (closing_late (connection h).phase))
 
@@ -185,7 +197,7 @@ kept_phase c u o f = by (unit_step c u) (outcome c u)
     by _ (Parting e) = refl
     by _ (Calls n s m e) = refl
     by _ (Asking n m e) = refl
-    by _ (Frees n) = refl
+    by _ (Frees n e) = refl
     by _ (Closes e) = refl
     by _ (Answers e) = refl
     by _ (Ignores e) = refl
@@ -194,10 +206,17 @@ part_closing : (b : Bool) (why : Option Condition) (s : UpState) → part (closi
 part_closing true why s = refl
 part_closing false why s = refl
 
-part_came : (w : State) (u : Unit91) → (is_early w.conn.phase ≡ true → w.up.container ≡ None) → part (if w.out_of_memory then w else came w u).up ≡ part w.up
+part_queued : (w : State) (u : Unit91) → part (if w.out_of_memory then w else record w { queue = w.queue ++ u ∷ [] }).up ≡ part w.up
+part_queued w u = by w.out_of_memory
+  where
+    by : (b : Bool) → part (if b then w else record w { queue = w.queue ++ u ∷ [] }).up ≡ part w.up
+    by true = refl
+    by false = refl
+
+part_came : (w : State) (u : Unit91) → (is_early w.conn.phase ≡ true → w.up.container ≡ None) → part (if w.out_of_memory then w else came (dequeued w) u).up ≡ part w.up
 part_came w u f = by w.out_of_memory
   where
-    by : (b : Bool) → part (if b then w else came w u).up ≡ part w.up
+    by : (b : Bool) → part (if b then w else came (dequeued w) u).up ≡ part w.up
     by true = refl
     by false =
         part_closing (is_closing w.conn) _ _ ∙ ap part (keep_is (unit_step w.conn u).1 w.up)
@@ -223,10 +242,10 @@ part_meaning ten.Init w = refl
 part_meaning ten.AmqpHeader w = refl
 part_meaning ten.Opened w = by (is_opening w.conn)
   where
-    by : (b : Bool) → part (if b then record w { conn = after_opened w.conn; pending = record w.pending { open_ok = true } } else w).up ≡ part w.up
+    by : (b : Bool) → part (if b then runs w else w).up ≡ part w.up
     by true = refl
     by false = refl
-part_meaning (ten.OfSession g p payload) w = refl
+part_meaning (ten.OfSession g p payload) w = session_cases (λ (v : State). part v.up ≡ part w.up) g p w refl (part_fail _ _ w) refl (λ code why. refl)
 part_meaning (ten.Closed x) w = part_fail _ None w
 part_meaning ten.Refused w = part_fail _ None w
 part_meaning (ten.Violation why) w = part_fail _ (Some why) w
@@ -286,34 +305,41 @@ up_lost x w code went whole at q e k =
 
 -- ---- the unit that goes
 
-pub data Picked (closing : Bool) (s : UpState) (ms : ℕ) (u : UpUnit) : Type 0 where
-  Closing : closing ≡ true → s.sent.«open» ≡ true → u ≡ up.Close s.condition → Picked closing s ms u
-  Opening : closing ≡ false → first (opening_rows s.pending) ≡ Some u → Picked closing s ms u
-  Telling : closing ≡ false → is_idle_due s ms ≡ true → u ≡ up.Empty → Picked closing s ms u
+pub data Picked (closing : Bool) (w : State) (u : UpUnit) : Type 0 where
+  Closing : closing ≡ true → ends true w ≡ [] → w.up.sent.«open» ≡ true → u ≡ up.Close w.up.condition → Picked closing w u
+  Opening : closing ≡ false → first (opening_rows w.up.pending) ≡ Some u → Picked closing w u
+  Begins : closing ≡ false → first (begins w) ≡ Some u → Picked closing w u
+  Ends : first (ends closing w) ≡ Some u → Picked closing w u
+  Telling : closing ≡ false → is_idle_due w.up w.moment ≡ true → u ≡ up.Empty → Picked closing w u
 
-pub record GoesUp (closing : Bool) (s : UpState) (ms : ℕ) (u : UpUnit) : Type 0 where
-  pub readable : is_readable s.side ≡ true
-  pub unclosed : s.sent.close ≡ false
-  pub why : Picked closing s ms u
+pub record GoesUp (closing : Bool) (w : State) (u : UpUnit) : Type 0 where
+  pub readable : is_readable w.up.side ≡ true
+  pub unclosed : w.up.sent.close ≡ false
+  pub why : Picked closing w u
 
-picked_in : (closing : Bool) (s : UpState) (ms : ℕ) (u : UpUnit) → first (rows_in closing s ms) ≡ Some u → Picked closing s ms u
-picked_in true s ms u e = by s.sent.«open» refl e
+picked_in : (closing : Bool) (w : State) (u : UpUnit) → first (rows_in closing w) ≡ Some u → Picked closing w u
+picked_in true w u e = by (ends true w) w.up.sent.«open» refl refl e
   where
-    by : (b : Bool) → s.sent.«open» ≡ b → first (when_up b (up.Close s.condition)) ≡ Some u → Picked true s ms u
-    by true f e = Closing refl f (let here : up.Close s.condition ≡ u = cc in sym here)
-    by false f e = absurd cc
-picked_in false s ms u e = by (opening_rows s.pending) (is_idle_due s ms) refl refl e
-  where
-    by : (us : List UpUnit) (b : Bool) → opening_rows s.pending ≡ us → is_idle_due s ms ≡ b → first (us ++ when_up b up.Empty) ≡ Some u → Picked false s ms u
-    by [] true f g e = Telling refl g (let here : up.Empty ≡ u = cc in sym here)
+    by : (us : List UpUnit) (b : Bool) → ends true w ≡ us → w.up.sent.«open» ≡ b → first (us ++ close_behind us w.up) ≡ Some u → Picked true w u
+    by (x ∷ us) b f g e = Ends (ap first f ∙ e)
+    by [] true f g e = Closing refl f g (let here : up.Close w.up.condition ≡ u = cc in sym here)
     by [] false f g e = absurd cc
-    by (x ∷ us) b f g e = Opening refl (ap first f ∙ e)
-
-goes_by : (closing : Bool) (s : UpState) (ms : ℕ) (u : UpUnit) → first (up_rows closing s ms) ≡ Some u → GoesUp closing s ms u
-goes_by closing s ms u e = by (is_readable s.side) s.sent.close refl refl e
+picked_in false w u e = by (opening_rows w.up.pending) (begins w) (ends false w) (is_idle_due w.up w.moment) refl refl refl refl e
   where
-    by : (r c : Bool) → is_readable s.side ≡ r → s.sent.close ≡ c → first (if r && not c then rows_in closing s ms else []) ≡ Some u → GoesUp closing s ms u
-    by true false f g e = record { readable = f; unclosed = g; why = picked_in closing s ms u e }
+    by : (os bs es : List UpUnit) (b : Bool) → opening_rows w.up.pending ≡ os → begins w ≡ bs → ends false w ≡ es → is_idle_due w.up w.moment ≡ b
+        → first (os ++ (bs ++ (es ++ when_up b up.Empty))) ≡ Some u → Picked false w u
+    by (x ∷ os) bs es b f g k l e = Opening refl (ap first f ∙ e)
+    by [] (x ∷ bs) es b f g k l e = Begins refl (ap first g ∙ e)
+    by [] [] (x ∷ es) b f g k l e = Ends (ap first k ∙ e)
+    by [] [] [] true f g k l e = Telling refl l (let here : up.Empty ≡ u = cc in sym here)
+    by [] [] [] false f g k l e = absurd cc
+
+goes_by : (w : State) (u : UpUnit) → first (up_rows w) ≡ Some u → GoesUp (w.out_of_memory || is_closing w.conn) w u
+goes_by w u e = by (is_readable w.up.side) w.up.sent.close refl refl e
+  where
+    by : (r c : Bool) → is_readable w.up.side ≡ r → w.up.sent.close ≡ c
+        → first (if r && not c then rows_in (w.out_of_memory || is_closing w.conn) w else []) ≡ Some u → GoesUp (w.out_of_memory || is_closing w.conn) w u
+    by true false f g e = record { readable = f; unclosed = g; why = picked_in (w.out_of_memory || is_closing w.conn) w u e }
     by true true f g e = absurd cc
     by false c f g e = absurd cc
 
@@ -321,14 +347,71 @@ unmap : (us : List UpUnit) (u : UpUnit) → first (map ToUp us) ≡ Some (ToUp u
 unmap [] u e = absurd cc
 unmap (x ∷ us) u e = let here : x ≡ u = cc in ap Some here
 
-pub goes_up : (w : State) (u : UpUnit) → pick w Up ≡ Some (ToUp u) → GoesUp (w.out_of_memory || is_closing w.conn) w.up w.moment u
-goes_up w u e = goes_by (w.out_of_memory || is_closing w.conn) w.up w.moment u (unmap (due_up w) u e)
+pub goes_up : (w : State) (u : UpUnit) → pick w Up ≡ Some (ToUp u) → GoesUp (w.out_of_memory || is_closing w.conn) w u
+goes_up w u e = goes_by w u (unmap (up_rows w) u e)
 
-ups_begun : (s : UpState) (closing : Bool) (ms : ℕ) (u : UpUnit) (q : UpPending) (at : Phase10) (went : List UpUnit) → Picked closing s ms u → Ups s.pending q at went
-    → Ups (without_up u s.pending) q at (went ++ u ∷ [])
-ups_begun s closing ms u q at went (Closing k o e) x = ups_other s.pending q at went u (ap is_opening_unit e) x
-ups_begun s closing ms u q at went (Opening k e) x = ups_gone s.pending q at went u e x
-ups_begun s closing ms u q at went (Telling k i e) x = ups_other s.pending q at went u (ap is_opening_unit e) x
+-- the begins and the ends are what they are called
+record IsBegin (w : State) (u : UpUnit) : Type 0 where
+  number : ℕ
+  is : u ≡ up.Begin number
+
+begin_is : (w : State) (u : UpUnit) → first (begins w) ≡ Some u → IsBegin w u
+begin_is w u e = first_each (IsBegin w) _ 0 w.lives u one e
+  where
+    one : (k : ℕ) (l : Life) (v : UpUnit) → first (when_up (l.begin && is_free (session_in w.up.container k)) (up.Begin k)) ≡ Some v → IsBegin w v
+    one k l v e = by (l.begin && is_free (session_in w.up.container k)) e
+      where
+        by : (b : Bool) → first (when_up b (up.Begin k)) ≡ Some v → IsBegin w v
+        by true e = let here : up.Begin k ≡ v = cc in record { number = k; is = sym here }
+        by false e = absurd cc
+
+record IsEnd (w : State) (u : UpUnit) : Type 0 where
+  number : ℕ
+  why : Option Condition
+  is : u ≡ up.End number why
+
+end_is : (closing : Bool) (w : State) (u : UpUnit) → first (ends closing w) ≡ Some u → IsEnd w u
+end_is closing w u e = first_each (IsEnd w) _ 0 w.lives u one e
+  where
+    one : (k : ℕ) (l : Life) (v : UpUnit) → first (when_up (is_end_due closing w k) (up.End k l.why)) ≡ Some v → IsEnd w v
+    one k l v e = by (is_end_due closing w k) e
+      where
+        by : (b : Bool) → first (when_up b (up.End k l.why)) ≡ Some v → IsEnd w v
+        by true e = let here : up.End k l.why ≡ v = cc in record { number = k; why = l.why; is = sym here }
+        by false e = absurd cc
+
+isnt_opening : (w : State) (closing : Bool) (u : UpUnit) → Picked closing w u → (is_opening_unit u ≡ false) ⊎ (first (opening_rows w.up.pending) ≡ Some u)
+isnt_opening w closing u (Closing k n o e) = inl (ap is_opening_unit e)
+isnt_opening w closing u (Opening k e) = inr e
+isnt_opening w closing u (Begins k e) = inl (ap is_opening_unit (begin_is w u e).is)
+isnt_opening w closing u (Ends e) = inl (ap is_opening_unit (end_is closing w u e).is)
+isnt_opening w closing u (Telling k i e) = inl (ap is_opening_unit e)
+
+opening_closes : (u : UpUnit) → is_opening_unit u ≡ true → is_up_close u ≡ false
+opening_closes up.SaslHeader e = refl
+opening_closes up.SaslInit e = refl
+opening_closes up.AmqpHeader e = refl
+opening_closes up.Open e = refl
+opening_closes (up.Close c) e = absurd cc
+opening_closes up.Empty e = absurd cc
+opening_closes (up.Begin n) e = absurd cc
+opening_closes (up.End n why) e = absurd cc
+
+-- a close goes to a connection that closes
+pub is_a_close : {closing : Bool} {w : State} {u : UpUnit} → Picked closing w u → (is_up_close u ≡ false) ⊎ (closing ≡ true)
+is_a_close (Closing k n o e) = inr k
+is_a_close {closing} {w} {u} (Opening k e) = inl (opening_closes u (is_opening_first w.up.pending u e))
+is_a_close {closing} {w} {u} (Begins k e) = inl (ap is_up_close (begin_is w u e).is)
+is_a_close {closing} {w} {u} (Ends e) = inl (ap is_up_close (end_is closing w u e).is)
+is_a_close (Telling k i e) = inl (ap is_up_close e)
+
+ups_begun : (w : State) (closing : Bool) (u : UpUnit) (q : UpPending) (at : Phase10) (went : List UpUnit) → Picked closing w u → Ups w.up.pending q at went
+    → Ups (without_up u w.up.pending) q at (went ++ u ∷ [])
+ups_begun w closing u q at went p x = by (isnt_opening w closing u p)
+  where
+    by : (is_opening_unit u ≡ false) ⊎ (first (opening_rows w.up.pending) ≡ Some u) → Ups (without_up u w.up.pending) q at (went ++ u ∷ [])
+    by (inl e) = ups_other w.up.pending q at went u e x
+    by (inr e) = ups_gone w.up.pending q at went u e x
 
 -- ---- what was sent
 
@@ -351,6 +434,8 @@ open_after up.AmqpHeader s = or_false s.«open»
 open_after up.Open s = or_true s.«open»
 open_after (up.Close c) s = or_false s.«open»
 open_after up.Empty s = or_false s.«open»
+open_after (up.Begin n) s = or_false s.«open»
+open_after (up.End n why) s = or_false s.«open»
 
 close_after : (u : UpUnit) (s : UpSent) → (with_begun u s).close ≡ (s.close || is_up_close u)
 close_after up.SaslHeader s = or_false s.close
@@ -359,6 +444,8 @@ close_after up.AmqpHeader s = or_false s.close
 close_after up.Open s = or_false s.close
 close_after (up.Close c) s = or_true s.close
 close_after up.Empty s = or_false s.close
+close_after (up.Begin n) s = or_false s.close
+close_after (up.End n why) s = or_false s.close
 
 whole_begun : (u : UpUnit) (s : UpSent) → (with_begun u s).whole_close ≡ s.whole_close
 whole_begun up.SaslHeader s = refl
@@ -367,6 +454,8 @@ whole_begun up.AmqpHeader s = refl
 whole_begun up.Open s = refl
 whole_begun (up.Close c) s = refl
 whole_begun up.Empty s = refl
+whole_begun (up.Begin n) s = refl
+whole_begun (up.End n why) s = refl
 
 whole_after : (u : UpUnit) (s : UpSent) → (with_whole (Some u) s).whole_close ≡ (s.whole_close || is_up_close u)
 whole_after up.SaslHeader s = or_false s.whole_close
@@ -375,6 +464,8 @@ whole_after up.AmqpHeader s = or_false s.whole_close
 whole_after up.Open s = or_false s.whole_close
 whole_after (up.Close c) s = or_true s.whole_close
 whole_after up.Empty s = or_false s.whole_close
+whole_after (up.Begin n) s = or_false s.whole_close
+whole_after (up.End n why) s = or_false s.whole_close
 
 open_whole : (u : UpUnit) (s : UpSent) → (with_whole (Some u) s).«open» ≡ s.«open»
 open_whole up.SaslHeader s = refl
@@ -383,6 +474,8 @@ open_whole up.AmqpHeader s = refl
 open_whole up.Open s = refl
 open_whole (up.Close c) s = refl
 open_whole up.Empty s = refl
+open_whole (up.Begin n) s = refl
+open_whole (up.End n why) s = refl
 
 close_whole : (u : UpUnit) (s : UpSent) → (with_whole (Some u) s).close ≡ s.close
 close_whole up.SaslHeader s = refl
@@ -391,6 +484,8 @@ close_whole up.AmqpHeader s = refl
 close_whole up.Open s = refl
 close_whole (up.Close c) s = refl
 close_whole up.Empty s = refl
+close_whole (up.Begin n) s = refl
+close_whole (up.End n why) s = refl
 
 any_more : (test : UpUnit → Bool) (went : List UpUnit) (u : UpUnit) (old new : Bool) → old ≡ list_any test went → new ≡ (old || test u)
     → new ≡ list_any test (went ++ u ∷ [])
@@ -402,11 +497,41 @@ free None e = refl
 free (Some u) e = absurd cc
 
 -- the first byte of a unit
-up_begun : (s : UpState) (closing : Bool) (ms : ℕ) (u : UpUnit) (went whole : List UpUnit) (at : ℕ) (q : UpPending)
-    → is_some (option_map ToUp s.in_progress) ≡ false → GoesUp closing s ms u → UpSaysIn (part s) went whole at q
-    → UpSaysIn (part (begun u s)) (went ++ u ∷ []) whole at q
-up_begun s closing ms u went whole at q e g k = record {
-  ups = ups_begun s closing ms u q (phase_in s.container) went g.why k.ups;
+-- sessions don't change how far the container's connection is
+phase_given : (u : UpUnit) (o : Option Upstream) → phase_in (container_given u o) ≡ phase_in o
+phase_given u None = refl
+phase_given up.SaslHeader (Some c) = refl
+phase_given up.SaslInit (Some c) = refl
+phase_given up.AmqpHeader (Some c) = refl
+phase_given up.Open (Some c) = refl
+phase_given (up.Close why) (Some c) = refl
+phase_given up.Empty (Some c) = refl
+phase_given (up.Begin n) (Some c) = by (may_begin c n) (session_at c n)
+  where
+    by : (b : Bool) (x : Session) → (if b then asked x n c else c).phase ≡ c.phase
+    by true session.Free = refl
+    by true session.Asked = refl
+    by true session.Left = refl
+    by true (session.Open m) = refl
+    by true (session.Leaving m) = refl
+    by true (session.Ended m) = refl
+    by false x = refl
+phase_given (up.End n why) (Some c) = by (session_at c n)
+  where
+    by : (x : Session) → (left_session x n c).phase ≡ c.phase
+    by session.Free = refl
+    by session.Asked = refl
+    by session.Left = refl
+    by (session.Open m) = refl
+    by (session.Leaving m) = refl
+    by (session.Ended m) = refl
+
+up_begun : (w : State) (closing : Bool) (u : UpUnit) (went whole : List UpUnit) (at : ℕ) (q : UpPending)
+    → is_some (option_map ToUp w.up.in_progress) ≡ false → GoesUp closing w u → UpSaysIn (part w.up) went whole at q
+    → UpSaysIn (part (begun u w.up)) (went ++ u ∷ []) whole at q
+up_begun w closing u went whole at q e g k = let s : UpState = w.up in record {
+  ups = subst (λ (x : Phase10). Ups (without_up u s.pending) q x (went ++ u ∷ [])) (sym (phase_given u s.container))
+      (ups_begun w closing u q (phase_in s.container) went g.why k.ups);
   going_is = ap (λ (x : List UpUnit). x ++ u ∷ []) (k.going_is ∙ ap (λ (o : Option UpUnit). whole ++ option_to_list o) (free s.in_progress e) ∙ append-nil whole);
   open_is = any_more is_up_open went u s.sent.«open» _ k.open_is (open_after u s.sent);
   close_is = any_more is_up_close went u s.sent.close _ k.close_is (close_after u s.sent);
@@ -480,6 +605,8 @@ pub up_says : (h : List Step) → ArePicks h → UpSays h
 up_says [] p = up_none
 up_says (Began vhost n ms ∷ h) p = subst (λ (x : List Step). UpSays (Began vhost n ms ∷ x)) (sym p.0) up_none
 up_says (Moment ms ∷ h) p = up_says h p.1
+up_says (Queued u ∷ h) p =
+    subst (λ (x : Part). UpSaysIn x (sent_up h) (sent_up_whole h) (sent_up_at h) (called h)) (sym (part_queued (before h) u)) (up_says h p.1)
 up_says (Came u ∷ h) p =
     subst (λ (x : Part). UpSaysIn x (sent_up h) (sent_up_whole h) (sent_up_at h) (called h)) (sym (part_came (before h) u (early_now (known h p.1)))) (up_says h p.1)
 up_says (TakenUp ∷ h) p =
@@ -501,7 +628,7 @@ up_says (Lost Up loss.Failed ∷ h) p = up_lost side.Failed (before h) _ (sent_u
 up_says (Lost Up loss.Shut ∷ h) p = up_gone (part (before h).up) (sent_up h) (sent_up_whole h) (sent_up_at h) (called h) (up_says h p.1)
 up_says (Gave (ToClient u) ∷ h) p = up_says h p.1
 up_says (Gave (ToUp u) ∷ h) p =
-    up_begun (before h).up _ _ u (sent_up h) (sent_up_whole h) (sent_up_at h) (called h) p.0.0 (goes_up (before h) u p.0.1) (up_says h p.1)
+    up_begun (before h) _ u (sent_up h) (sent_up_whole h) (sent_up_at h) (called h) p.0.0 (goes_up (before h) u p.0.1) (up_says h p.1)
 up_says (Whole Client ∷ h) p = up_says h p.1
 up_says (Whole Up ∷ h) p =
     up_whole (part (before h).up) (before h).up.in_progress (sent_up h) (sent_up_whole h) (sent_up_at h) (before h).moment (moment_in h) (called h) refl p.0

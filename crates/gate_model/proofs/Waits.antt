@@ -12,6 +12,7 @@ use Rattle.machine_091.specs.declared.unit.Refusal.{Refusal}
 use Rattle.machine_091.specs.declared.unit.Unit91.{Unit91}
 use Rattle.machine_091.specs.declared.unit.Want91.{Want91}
 use Rattle.machine_091.specs.declared.unit.Want91.TheVariants as want
+use Rattle.machine_10.specs.Parts.{Parts}
 use Rattle.machine_10.specs.Transitions as ten
 use Rattle.machine_10.specs.Transitions.{Meaning}
 use Rattle.machine_10.specs.declared.state.Upstream.{Upstream}
@@ -22,14 +23,15 @@ use Rattle.gate_model.specs.declared.reply.Pending.{Pending}
 use Rattle.gate_model.specs.declared.reply.Reply.{Reply}
 use Rattle.gate_model.specs.declared.reply.Reply.TheVariants as reply
 use Rattle.gate_model.specs.Due.{may_go, rows}
-use Rattle.gate_model.specs.Folds.{container, ran_out_in}
+use Rattle.gate_model.specs.Folds.{container, is_answer, ran_out_in}
 use Rattle.gate_model.specs.Picks.{ArePicks}
-use Rattle.gate_model.specs.State.{State, Step, Began, Moment, Came, TakenUp, Heard, Joined, Lost, Gave, Whole, OutOfMemory, before, came, fail, failed, heard, is_settled, last_pending, left, turns_foreign, with_header, with_meaning, with_want, without}
+use Rattle.gate_model.specs.State.{Began, Came, Gave, Heard, Joined, Lost, Moment, OutOfMemory, Queued, State, Step, TakenUp, Whole, before, came, dequeued, fail, failed, heard, is_settled, last_pending, left, turns_foreign, with_header, with_meaning, with_session, with_want, without}
 use Rattle.gate_model.specs.Upstream.{first, has_closed, heard_up, is_closed_stream, meaning_by, stream_in}
 use Rattle.gate_model.specs.Waiting.{EndsWhenSettled, OpensWhenOpened, Settled, RanOut, NotOpen, HasClosed, is_ending, is_opened, opened_in}
 use Rattle.gate_model.proofs.Connections.{clash}
 use Rattle.gate_model.proofs.Known.{Known, container_is, known, memory_is, side_is}
-use Rattle.gate_model.proofs.Said.{Picked, IsDue, Beats, calm_now, picked}
+use Rattle.gate_model.proofs.Sessions.{session_cases}
+use Rattle.gate_model.proofs.Said.{Beats, IsDue, OnChannel, Picked, calm_now, of_channel, picked}
 
 -- ---- what ends the connection
 
@@ -55,7 +57,7 @@ ends_settled settled d r calm e is = by settled d.protocol d.start d.tune d.open
     by false false false false false ok close false calm same = absurd cc
 
 -- what the state says of that, the folds say
-settled_in : (h : List Step) → Known h → is_settled (before h) ≡ true → Settled h
+pub settled_in : (h : List Step) → Known h → is_settled (before h) ≡ true → Settled h
 settled_in h k e = by (before h).out_of_memory (is_readable (before h).up.side) refl refl e
   where
     by : (m b : Bool) → (before h).out_of_memory ≡ m → is_readable (before h).up.side ≡ b → (m || (not b || has_closed (before h).up)) ≡ true → Settled h
@@ -63,8 +65,24 @@ settled_in h k e = by (before h).out_of_memory (is_readable (before h).up.side) 
     by false false f g e = NotOpen (ap is_readable (sym (side_is k)) ∙ g)
     by false true f g e = HasClosed (ap (λ (o : Option Upstream). is_closed_stream (stream_in o)) (sym (container_is k)) ∙ e)
 
+isnt_ending : (u : Reply) → is_answer u ≡ false → is_ending u ≡ false
+isnt_ending reply.Protocol e = absurd cc
+isnt_ending reply.Start e = absurd cc
+isnt_ending reply.Tune e = absurd cc
+isnt_ending reply.OpenOk e = absurd cc
+isnt_ending reply.CloseOk e = absurd cc
+isnt_ending (reply.Close r) e = absurd cc
+isnt_ending reply.NoMemory e = absurd cc
+isnt_ending reply.Heartbeat e = refl
+isnt_ending (reply.ChannelOpenOk n) e = refl
+isnt_ending (reply.FlowOk n) e = refl
+isnt_ending (reply.ChannelCloseOk n) e = refl
+isnt_ending (reply.CrossedOk n) e = refl
+isnt_ending (reply.ChannelClose n r) e = refl
+
 ends_picked : (h : List Step) (u : Reply) → ArePicks h → Picked (before h) u → is_ending u ≡ true → Settled h
 ends_picked h u p (IsDue e) is = settled_in h (known h p) (ends_settled (is_settled (before h)) (before h).pending u (calm_now h p) e is)
+ends_picked h u p (OnChannel o) is = absurd (clash (is_ending u) is (isnt_ending u (of_channel (before h) u o).answers))
 ends_picked h u p (Beats none due same) is = absurd (clash (is_ending u) is (ap is_ending same))
 
 pub ends_when_settled : (h : List Step) → ArePicks h → EndsWhenSettled h
@@ -73,6 +91,7 @@ ends_when_settled (Gave (ToClient u) ∷ h) p = (ends_picked h u p.1 (picked (be
 ends_when_settled (Gave (ToUp u) ∷ h) p = ends_when_settled h p.1
 ends_when_settled (Began vhost n ms ∷ h) p = ends_when_settled h p.1
 ends_when_settled (Moment ms ∷ h) p = ends_when_settled h p.1
+ends_when_settled (Queued u ∷ h) p = ends_when_settled h p.1
 ends_when_settled (Came u ∷ h) p = ends_when_settled h p.1
 ends_when_settled (TakenUp ∷ h) p = ends_when_settled h p.1
 ends_when_settled (Heard u ∷ h) p = ends_when_settled h p.1
@@ -95,10 +114,17 @@ open_ok_after b want.Close d = refl
 open_ok_after b want.CloseOk d = refl
 open_ok_after b (want.Refuse r) d = refl
 
-open_ok_came : (w : State) (u : Unit91) → (if w.out_of_memory then w else came w u).pending.open_ok ≡ w.pending.open_ok
+open_ok_queued : (w : State) (us : List Unit91) → (if w.out_of_memory then w else record w { queue = us }).pending.open_ok ≡ w.pending.open_ok
+open_ok_queued w us = by w.out_of_memory
+  where
+    by : (b : Bool) → (if b then w else record w { queue = us }).pending.open_ok ≡ w.pending.open_ok
+    by true = refl
+    by false = refl
+
+open_ok_came : (w : State) (u : Unit91) → (if w.out_of_memory then w else came (dequeued w) u).pending.open_ok ≡ w.pending.open_ok
 open_ok_came w u = by w.out_of_memory
   where
-    by : (b : Bool) → (if b then w else came w u).pending.open_ok ≡ w.pending.open_ok
+    by : (b : Bool) → (if b then w else came (dequeued w) u).pending.open_ok ≡ w.pending.open_ok
     by true = refl
     by false = open_ok_after (turns_foreign w.conn u) (unit_step w.conn u).1 w.pending
 
@@ -112,6 +138,9 @@ open_ok_fail code why w = by (is_closing w.conn)
     by : (b : Bool) → (if b then w else failed code why w).pending.open_ok ≡ w.pending.open_ok
     by true = refl
     by false = refl
+
+open_ok_session : (g : ℕ) (p : Parts) (w : State) → (with_session g p w).pending.open_ok ≡ w.pending.open_ok
+open_ok_session g p w = session_cases (λ (v : State). v.pending.open_ok ≡ w.pending.open_ok) g p w refl (open_ok_fail _ _ w) refl (λ code why. refl)
 
 open_ok_meaning : (m : Meaning) (w : State) → (with_meaning m w).pending.open_ok ≡ true → (w.pending.open_ok || is_opened m) ≡ true
 open_ok_meaning m w e = by m e
@@ -129,7 +158,7 @@ open_ok_meaning m w e = by m e
     by ten.Init e = or_left _ _ e
     by ten.AmqpHeader e = or_left _ _ e
     by ten.Opened e = or_true w.pending.open_ok
-    by (ten.OfSession g p payload) e = or_left _ _ e
+    by (ten.OfSession g p payload) e = or_left _ _ (sym (open_ok_session g p w) ∙ e)
     by (ten.Closed x) e = or_left _ _ (sym (open_ok_fail _ None w) ∙ e)
     by ten.Refused e = or_left _ _ (sym (open_ok_fail _ None w) ∙ e)
     by (ten.Violation c) e = or_left _ _ (sym (open_ok_fail _ (Some c) w) ∙ e)
@@ -162,6 +191,11 @@ open_ok_gone reply.CloseOk d e = e
 open_ok_gone (reply.Close r) d e = e
 open_ok_gone reply.NoMemory d e = e
 open_ok_gone reply.Heartbeat d e = e
+open_ok_gone (reply.ChannelOpenOk n) d e = e
+open_ok_gone (reply.FlowOk n) d e = e
+open_ok_gone (reply.ChannelCloseOk n) d e = e
+open_ok_gone (reply.CrossedOk n) d e = e
+open_ok_gone (reply.ChannelClose n r) d e = e
 
 open_ok_last : (p : Phase91) (d : Pending) → (last_pending p d).open_ok ≡ false
 open_ok_last phase.Header d = refl
@@ -178,6 +212,7 @@ open_ok_opened [] p e = absurd cc
 open_ok_opened (Began vhost n ms ∷ h) p e =
     let none : (before (Began vhost n ms ∷ [])).pending.open_ok ≡ true = subst (λ (x : List Step). (before (Began vhost n ms ∷ x)).pending.open_ok ≡ true) p.0 e in absurd cc
 open_ok_opened (Moment ms ∷ h) p e = open_ok_opened h p.1 e
+open_ok_opened (Queued u ∷ h) p e = open_ok_opened h p.1 (sym (open_ok_queued (before h) _) ∙ e)
 open_ok_opened (Came u ∷ h) p e = open_ok_opened h p.1 (sym (open_ok_came (before h) u) ∙ e)
 open_ok_opened (TakenUp ∷ h) p e = open_ok_opened h p.1 (sym (open_ok_taken (before h) _) ∙ e)
 open_ok_opened (Heard u ∷ h) p e =
@@ -206,6 +241,11 @@ is_open_ok reply.CloseOk = false
 is_open_ok (reply.Close r) = false
 is_open_ok reply.NoMemory = false
 is_open_ok reply.Heartbeat = false
+is_open_ok (reply.ChannelOpenOk n) = false
+is_open_ok (reply.FlowOk n) = false
+is_open_ok (reply.ChannelCloseOk n) = false
+is_open_ok (reply.CrossedOk n) = false
+is_open_ok (reply.ChannelClose n r) = false
 
 is_other : (it : Reply) → is_open_ok it ≡ false → Some it ≡ Some reply.OpenOk → ⊥
 is_other it isnt same = let here : it ≡ reply.OpenOk = cc in clash (is_open_ok it) (ap is_open_ok here) isnt
@@ -231,6 +271,7 @@ open_ok_first settled d e = by settled d.protocol d.start d.tune d.open_ok d.clo
 
 opens_picked : (h : List Step) → ArePicks h → Picked (before h) reply.OpenOk → opened_in h ≡ true
 opens_picked h p (IsDue e) = open_ok_opened h p (open_ok_first (is_settled (before h)) (before h).pending e)
+opens_picked h p (OnChannel o) = absurd (clash true refl (of_channel (before h) reply.OpenOk o).answers)
 opens_picked h p (Beats none due same) = absurd cc
 
 opens_given : (h : List Step) (u : Reply) → ArePicks h → Picked (before h) u → OpensWhenOpened h → OpensWhenOpened (Gave (ToClient u) ∷ h)
@@ -242,6 +283,11 @@ opens_given h reply.CloseOk p f o = o
 opens_given h (reply.Close r) p f o = o
 opens_given h reply.NoMemory p f o = o
 opens_given h reply.Heartbeat p f o = o
+opens_given h (reply.ChannelOpenOk n) p f o = o
+opens_given h (reply.FlowOk n) p f o = o
+opens_given h (reply.ChannelCloseOk n) p f o = o
+opens_given h (reply.CrossedOk n) p f o = o
+opens_given h (reply.ChannelClose n r) p f o = o
 
 pub opens_when_opened : (h : List Step) → ArePicks h → OpensWhenOpened h
 opens_when_opened [] p = tt
@@ -249,6 +295,7 @@ opens_when_opened (Gave (ToClient u) ∷ h) p = opens_given h u p.1 (picked (bef
 opens_when_opened (Gave (ToUp u) ∷ h) p = opens_when_opened h p.1
 opens_when_opened (Began vhost n ms ∷ h) p = opens_when_opened h p.1
 opens_when_opened (Moment ms ∷ h) p = opens_when_opened h p.1
+opens_when_opened (Queued u ∷ h) p = opens_when_opened h p.1
 opens_when_opened (Came u ∷ h) p = opens_when_opened h p.1
 opens_when_opened (TakenUp ∷ h) p = opens_when_opened h p.1
 opens_when_opened (Heard u ∷ h) p = opens_when_opened h p.1

@@ -28,6 +28,11 @@ is_close reply.CloseOk = false
 is_close (reply.Close r) = true
 is_close reply.NoMemory = false
 is_close reply.Heartbeat = false
+is_close (reply.ChannelOpenOk n) = false
+is_close (reply.FlowOk n) = false
+is_close (reply.ChannelCloseOk n) = false
+is_close (reply.CrossedOk n) = false
+is_close (reply.ChannelClose n r) = false
 
 abbrev pub is_close_ok : Reply → Bool
 is_close_ok reply.Protocol = false
@@ -38,6 +43,11 @@ is_close_ok reply.CloseOk = true
 is_close_ok (reply.Close r) = false
 is_close_ok reply.NoMemory = false
 is_close_ok reply.Heartbeat = false
+is_close_ok (reply.ChannelOpenOk n) = false
+is_close_ok (reply.FlowOk n) = false
+is_close_ok (reply.ChannelCloseOk n) = false
+is_close_ok (reply.CrossedOk n) = false
+is_close_ok (reply.ChannelClose n r) = false
 
 -- the units that are due once the pair ran out of memory, by the connection and the units that were
 -- due before: nothing before the client's header, then a close for that; once the gateway closed,

@@ -1,5 +1,5 @@
 -- What goes to a container and why, and when its end is shut: told by folds that know no state.
-use Rattle.std.specs.Prelude.{◌≡◌, ◌↔◌, ℕ, ◌+◌, ◌/◌, ◌<◌, ◌≤◌, Bool, true, false, ◌||◌, List, []}
+use Rattle.std.specs.Prelude.{◌≡◌, ◌↔◌, ℕ, ◌+◌, ◌/◌, ◌<◌, ◌≤◌, Bool, true, false, ◌||◌, ◌⊎◌, List, []}
 use Rattle.std.specs.Prelude.{◌∷◌, ◌++◌, filter, Option, None, Some, if◌then◌else◌}
 use Rattle.std.specs.List.{list_any}
 use Rattle.gate_outside.specs.declared.ports.End.TheVariants.{Up}
@@ -8,7 +8,7 @@ use Rattle.gate_relay.specs.Sides.{is_readable}
 use Rattle.gate_relay.specs.declared.sides.Side.TheVariants as side
 use Rattle.close_translate.specs.Conditions.{condition_of}
 use Rattle.close_translate.specs.declared.codes.TheConstants.{RESOURCE_ERROR}
-use Rattle.machine_091.specs.State.{is_closing}
+use Rattle.machine_091.specs.State.{is_closing, is_open}
 use Rattle.machine_091.specs.Transitions.{unit_step}
 use Rattle.machine_10.specs.Transitions as ten
 use Rattle.machine_10.specs.Transitions.{Meaning}
@@ -20,13 +20,15 @@ use Rattle.gate_model.specs.declared.outgoing.UpPending.{UpPending}
 use Rattle.gate_model.specs.declared.outgoing.UpUnit.{UpUnit}
 use Rattle.gate_model.specs.declared.outgoing.UpUnit.TheVariants as up
 use Rattle.gate_model.specs.declared.timers.TheConstants.{CLOSING_LIMIT}
-use Rattle.gate_model.specs.Due.{is_shut_due}
+use Rattle.gate_model.specs.Due.{is_shut_due, up_rows}
 use Rattle.gate_model.specs.Folds.{closed_in, connection, container, moment_in, ran_out_in}
-use Rattle.gate_model.specs.Folds.{sent_up, sent_up_at, side_in}
+use Rattle.performatives_10.specs.declared.condition.Condition.TheVariants.{NotAllowed}
+use Rattle.gate_model.specs.Folds.{sent_up, sent_up_at, session_closes, side_in}
+use Rattle.gate_model.specs.Lives.{is_begun, is_ended, is_free, session_in}
 use Rattle.gate_model.specs.State.{State, Step, Came, Gave, Heard, Joined, OutOfMemory, Whole}
 use Rattle.gate_model.specs.State.{before, condition_by}
 use Rattle.gate_model.specs.Upstream.{idle_in, is_bad_stream, is_closed_stream, meaning_by}
-use Rattle.gate_model.specs.Upstream.{nothing_due, opening_rows, opens_by, stream_in, up_rows}
+use Rattle.gate_model.specs.Upstream.{nothing_due, opening_rows, opens_by, stream_in}
 
 -- ---- the opening
 
@@ -38,6 +40,8 @@ is_opening_unit up.AmqpHeader = true
 is_opening_unit up.Open = true
 is_opening_unit (up.Close why) = false
 is_opening_unit up.Empty = false
+is_opening_unit (up.Begin n) = false
+is_opening_unit (up.End n why) = false
 
 abbrev pub openings_of : List UpUnit → List UpUnit
 openings_of us = filter is_opening_unit us
@@ -68,7 +72,7 @@ called (s ∷ h) = called h
 
 -- the units that are due to a container while none to it is in progress
 abbrev pub due_up : State → List UpUnit
-due_up w = up_rows (w.out_of_memory || is_closing w.conn) w.up w.moment
+due_up w = up_rows w
 
 -- the units of the opening that were sent are the first of those that were called for, in their
 -- order and each at most once. While the end is open and the client's connection isn't closing, the
@@ -88,6 +92,8 @@ is_up_open up.AmqpHeader = false
 is_up_open up.Open = true
 is_up_open (up.Close why) = false
 is_up_open up.Empty = false
+is_up_open (up.Begin n) = false
+is_up_open (up.End n why) = false
 
 abbrev pub is_up_close : UpUnit → Bool
 is_up_close up.SaslHeader = false
@@ -96,6 +102,8 @@ is_up_close up.AmqpHeader = false
 is_up_close up.Open = false
 is_up_close (up.Close why) = true
 is_up_close up.Empty = false
+is_up_close (up.Begin n) = false
+is_up_close (up.End n why) = false
 
 -- a unit of the container that is out of order has its condition, and no other has one
 abbrev pub condition_told : Meaning → Option Condition
@@ -103,7 +111,7 @@ condition_told ten.Nothing = None
 condition_told ten.Init = None
 condition_told ten.AmqpHeader = None
 condition_told ten.Opened = None
-condition_told (ten.OfSession g p payload) = None
+condition_told (ten.OfSession g p payload) = if session_closes p then Some NotAllowed else None
 condition_told (ten.Closed e) = None
 condition_told ten.Refused = None
 condition_told (ten.Violation why) = Some why
@@ -127,6 +135,8 @@ pub record MayClose (h : List Step) (why : Option Condition) : Type 0 where
   pub opened : list_any is_up_open (sent_up h) ≡ true
   pub closing : is_closing (connection h) ≡ true
   pub why_is : why ≡ closing_condition h
+  -- no session is left that began and didn't end
+  pub ended : (n : ℕ) → n < 256 → (is_ended (session_in (container h) n) || is_begun (session_in (container h) n)) ≡ false
 
 -- ---- frames that tell that the gateway is alive
 
@@ -138,6 +148,21 @@ pub record MayTell (h : List Step) : Type 0 where
   pub opened : list_any is_up_open (sent_up h) ≡ true
   pub quiet : sent_up_at h + (idle_in (container h) + 1) / 2 ≤ moment_in h
 
+-- ---- sessions
+
+-- a session begins once the one of that number before it has ended
+pub record MayBegin (h : List Step) (n : ℕ) : Type 0 where
+  pub running : is_closing (connection h) ≡ false
+  pub free : is_free (session_in (container h) n) ≡ true
+
+-- one ends for the container's end, or for a channel or connection that closes; and only one that
+-- has begun
+pub data MayEnd (h : List Step) (n : ℕ) : Type 0 where
+  Answers : is_ended (session_in (container h) n) ≡ true → MayEnd h n
+  Leaves : is_begun (session_in (container h) n) ≡ true
+      → (is_closing (connection h) ≡ true) ⊎ (is_open (connection h) n ≡ false)
+      → MayEnd h n
+
 -- ---- all units
 
 -- those of the opening go while the client's connection isn't closing
@@ -148,6 +173,8 @@ MayGo h up.AmqpHeader = is_closing (connection h) ≡ false
 MayGo h up.Open = is_closing (connection h) ≡ false
 MayGo h (up.Close why) = MayClose h why
 MayGo h up.Empty = MayTell h
+MayGo h (up.Begin n) = MayBegin h n
+MayGo h (up.End n why) = MayEnd h n
 
 -- each unit went where it might, through an end that was open, and none after the close
 pub record Goes (h : List Step) (u : UpUnit) : Type 0 where

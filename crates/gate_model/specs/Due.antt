@@ -1,29 +1,38 @@
 -- What a state owes: the units to an end, in the order in which they go, and the shutting of an
 -- end; and what it waits for.
-use Rattle.std.specs.Prelude.{ℕ, ◌-◌, ◌*◌, ◌==◌, nat_le, Bool, true, false, not, ◌&&◌, ◌||◌, List}
-use Rattle.std.specs.Prelude.{[], ◌∷◌, ◌++◌, map, Option, None, Some, is_some}
+use Rattle.std.specs.Prelude.{ℕ, ◌-◌, ◌*◌, ◌==◌, nat_le, nat_lt, Bool, true, false, not, ◌&&◌, ◌||◌}
+use Rattle.std.specs.Prelude.{List, [], ◌∷◌, ◌++◌, map, Option, None, Some, is_some}
+use Rattle.std.specs.Prelude.{if◌then◌else◌}
+use Rattle.std.specs.List.{list_any}
 use Rattle.std.specs.Option.{option_map}
 use Rattle.gate_outside.specs.declared.ports.End.{End}
 use Rattle.gate_outside.specs.declared.ports.End.TheVariants.{Client, Up}
 use Rattle.gate_relay.specs.declared.sides.Side.{Side}
 use Rattle.gate_relay.specs.declared.sides.Side.TheVariants as side
 use Rattle.gate_relay.specs.Sides.{is_absent, is_readable}
-use Rattle.machine_091.specs.State.{awaits, is_closing, is_opening, is_over}
+use Rattle.machine_091.specs.State.{awaits, is_closing, is_open, is_opening}
+use Rattle.machine_091.specs.State.{is_over}
 use Rattle.machine_091.specs.declared.state.Awaited91.{Awaited91}
 use Rattle.machine_091.specs.declared.state.Awaited91.TheVariants as awaited
+use Rattle.machine_091.specs.declared.state.Phase91.{Phase91}
+use Rattle.machine_091.specs.declared.state.Phase91.TheVariants as phase
 use Rattle.machine_091.specs.declared.state.Stream91.{Stream91}
 use Rattle.machine_091.specs.declared.state.Stream91.TheVariants as stream
 use Rattle.machine_091.specs.declared.unit.Refusal.{Refusal}
 use Rattle.gate_model.specs.declared.reply.Reply.{Reply}
 use Rattle.gate_model.specs.declared.reply.Reply.TheVariants as reply
 use Rattle.gate_model.specs.declared.reply.Pending.{Pending}
+use Rattle.gate_model.specs.declared.life.Life.{Life}
 use Rattle.gate_model.specs.declared.timers.TheConstants.{BEAT_PER_SECOND, CLOSING_LIMIT}
 use Rattle.gate_model.specs.declared.outgoing.Outgoing.{Outgoing}
 use Rattle.gate_model.specs.declared.outgoing.Outgoing.TheVariants.{ToClient, ToUp}
 use Rattle.gate_model.specs.declared.outgoing.UpUnit.{UpUnit}
 use Rattle.gate_model.specs.declared.outgoing.UpUnit.TheVariants as up
-use Rattle.gate_model.specs.State.{State, is_settled, waits}
-use Rattle.gate_model.specs.Upstream.{awaited_of, first, has_closed, has_gone_bad, is_awaited_up, up_rows}
+use Rattle.gate_model.specs.Lives.{each, is_begun, is_ended, is_free, session_in}
+use Rattle.gate_model.specs.Queue.{is_bad_unit, is_empty, is_full}
+use Rattle.gate_model.specs.State.{State, close_waits, is_channel_settled, is_settled, place, waits}
+use Rattle.gate_model.specs.Upstream.{UpState, awaited_of, first, has_closed, has_gone_bad}
+use Rattle.gate_model.specs.Upstream.{is_awaited_up, is_idle_due, opening_rows, when_up}
 
 -- ---- units
 
@@ -42,6 +51,18 @@ rows p =
     ++ (when p.open_ok reply.OpenOk
     ++ (when p.close_ok reply.CloseOk ++ (closes p.close ++ when p.no_memory reply.NoMemory)))))
 
+-- of them those that open the connection, its close-ok, and its close
+abbrev pub openings : Pending → List Reply
+openings p =
+    when p.protocol reply.Protocol ++ (when p.start reply.Start ++ (when p.tune reply.Tune
+    ++ when p.open_ok reply.OpenOk))
+
+abbrev pub close_oks : Pending → List Reply
+close_oks p = when p.close_ok reply.CloseOk
+
+abbrev pub last_closes : Pending → List Reply
+last_closes p = closes p.close ++ when p.no_memory reply.NoMemory
+
 -- those of which none waits for the upstream end: what ends the connection does
 abbrev pub may_go : Bool → Pending → Pending
 may_go true p = p
@@ -56,14 +77,105 @@ is_beat_by close_ok interval ms last =
 abbrev pub is_beat_due : State → Bool
 is_beat_due w = is_beat_by w.sent_last.close_ok w.conn.limits.heartbeat w.moment w.last_sent_at
 
--- the units that are due to a client
+-- ---- units of channels
+
+abbrev pub open_oks : State → List Reply
+open_oks w = each (λ n l. when l.open_ok (reply.ChannelOpenOk n)) 0 w.lives
+
+abbrev pub flow_oks : State → List Reply
+flow_oks w = each (λ n l. when (nat_lt 0 l.flow_oks) (reply.FlowOk n)) 0 w.lives
+
+-- one to a channel.close that crossed the gateway's waits for nothing
+abbrev pub close_oks_on : ℕ → Bool → Life → List Reply
+close_oks_on n settled l =
+    when l.crossed_ok (reply.CrossedOk n) ++ when settled (reply.ChannelCloseOk n)
+
+abbrev pub channel_oks : State → List Reply
+channel_oks w =
+    each (λ n l. close_oks_on n (l.close_ok && is_channel_settled w n) l) 0 w.lives
+
+abbrev pub refused_on : Bool → ℕ → Option Refusal → List Reply
+refused_on settled n None = []
+refused_on settled n (Some r) = when settled (reply.ChannelClose n r)
+
+abbrev pub channel_closes : State → List Reply
+channel_closes w = each (λ n l. refused_on (is_channel_settled w n) n l.close) 0 w.lives
+
+-- answers on channels go until the connection closes, and what ends channels until a
+-- connection.close or its close-ok went
+abbrev pub may_answer : State → Bool
+may_answer w = not (w.out_of_memory || is_closing w.conn)
+
+abbrev pub may_end : State → Bool
+may_end w = not (w.out_of_memory || (w.sent_last.close || w.sent_last.close_ok))
+
+-- and the gateway's channel.close until the client closed the connection
+abbrev pub is_closed_phase : Phase91 → Bool
+is_closed_phase phase.Header = false
+is_closed_phase phase.Start = false
+is_closed_phase phase.Tune = false
+is_closed_phase phase.Open = false
+is_closed_phase phase.Running = false
+is_closed_phase phase.Closing = false
+is_closed_phase phase.Closed = true
+
+abbrev pub may_tell : State → Bool
+may_tell w = may_end w && not (is_closed_phase w.conn.phase)
+
+abbrev pub if_so : Bool → List Reply → List Reply
+if_so true us = us
+if_so false us = []
+
+-- the units that are due to a client, but for a heartbeat: each row by rising numbers of channels,
+-- of which the connection is 0
+abbrev pub client_units : State → List Reply
+client_units w =
+    let p = may_go (is_settled w) w.pending in
+    openings p ++ (if_so (may_answer w) (open_oks w ++ flow_oks w)
+    ++ (close_oks p ++ (if_so (may_end w) (channel_oks w)
+    ++ (last_closes p ++ if_so (may_tell w) (channel_closes w)))))
+
 abbrev pub client_rows : State → List Reply
-client_rows w = rows (may_go (is_settled w) w.pending) ++ when (is_beat_due w) reply.Heartbeat
+client_rows w = client_units w ++ when (is_beat_due w) reply.Heartbeat
+
+-- ---- units to the container
+
+-- a begin is due once channel.open was taken up and the session of that number before it ended
+abbrev pub begins : State → List UpUnit
+begins w = each (λ n l. when_up (l.begin && is_free (session_in w.up.container n)) (up.Begin n)) 0 w.lives
+
+-- an end is due where the container's came, or where the channel or the connection closes
+abbrev pub is_end_due : Bool → State → ℕ → Bool
+is_end_due closing w n =
+    is_ended (session_in w.up.container n)
+    || (is_begun (session_in w.up.container n)
+    && (closing || not (is_open w.conn n)))
+
+abbrev pub ends : Bool → State → List UpUnit
+ends closing w = each (λ n l. when_up (is_end_due closing w n) (up.End n l.why)) 0 w.lives
+
+-- the close goes behind all ends, where the open was sent
+abbrev pub close_behind : List UpUnit → UpState → List UpUnit
+close_behind [] s = when_up s.sent.«open» (up.Close s.condition)
+close_behind (u ∷ us) s = []
+
+-- while the connection isn't closing and once it is
+abbrev pub rows_in : Bool → State → List UpUnit
+rows_in true w = ends true w ++ close_behind (ends true w) w.up
+rows_in false w =
+    opening_rows w.up.pending ++ (begins w
+    ++ (ends false w ++ when_up (is_idle_due w.up w.moment) up.Empty))
+
+-- through an end that is open, and none after the close
+abbrev pub up_rows : State → List UpUnit
+up_rows w =
+    if is_readable w.up.side && not w.up.sent.close
+    then rows_in (w.out_of_memory || is_closing w.conn) w else []
 
 -- the units that are due to an end while none to it is in progress
 abbrev pub due : State → End → List Outgoing
 due w Client = map ToClient (client_rows w)
-due w Up = map ToUp (up_rows (w.out_of_memory || is_closing w.conn) w.up w.moment)
+due w Up = map ToUp (up_rows w)
 
 -- units of the opening whose spelling takes memory
 abbrev pub takes_memory_up : UpUnit → Bool
@@ -73,6 +185,8 @@ takes_memory_up up.AmqpHeader = false
 takes_memory_up up.Open = true
 takes_memory_up (up.Close c) = false
 takes_memory_up up.Empty = false
+takes_memory_up (up.Begin n) = true
+takes_memory_up (up.End n why) = false
 
 abbrev pub takes_memory : Option Outgoing → Bool
 takes_memory None = false
@@ -98,21 +212,31 @@ is_awaited awaited.Header = true
 is_awaited (awaited.Frame size) = true
 is_awaited awaited.Nothing = false
 
--- bytes of an end are awaited; the client isn't read while a request of it waits
+-- the client isn't read while its connection.open or connection.close waits, behind bytes with
+-- which no unit begins, and while much isn't taken up
+abbrev pub is_held : State → Bool
+is_held w = is_opening w.conn || (close_waits w || (list_any is_bad_unit w.queue || is_full w.queue))
+
+-- bytes of an end are awaited
 abbrev pub is_awaiting : State → End → Bool
-is_awaiting w Client = is_awaited (awaits w.conn) && not (waits w)
+is_awaiting w Client = is_awaited (awaits w.conn) && not (is_held w)
 is_awaiting w Up = is_readable w.up.side && is_awaited_up (awaited_of w.up.container)
 
 -- the connection upstream is to be asked for
 abbrev pub is_connect_due : State → Bool
 is_connect_due w = is_opening w.conn && is_absent w.up.side
 
--- what the client sent can be taken up: its end too
-abbrev pub can_take_up : State → Bool
-can_take_up w = not w.out_of_memory && not (waits w)
-
+-- that the client's end ended or failed can be taken up, behind all else
 abbrev pub can_leave : State → Bool
-can_leave w = w.leaving && can_take_up w
+can_leave w = w.leaving && (not w.out_of_memory && (is_empty w.queue && not (waits w).some))
+
+-- a unit of the client can be taken up
+abbrev pub can_take_unit : State → Bool
+can_take_unit w = not w.out_of_memory && is_some (place w)
+
+-- something of the client can
+abbrev pub can_take_up : State → Bool
+can_take_up w = can_take_unit w || can_leave w
 
 abbrev pub is_bad : Stream91 → Bool
 is_bad stream.Header = false
@@ -151,12 +275,12 @@ has_ended side.Ended = true
 has_ended side.Failed = false
 has_ended side.Gone = false
 
--- the client's end is to be shut: it failed; a limit of time was reached; its end was taken up or its
--- close-ok came; the gateway's header or close-ok was sent whole, or its close and the client's
+-- the client's end is to be shut: it failed; a limit of time was reached; its end was taken up or
+-- its close-ok came; the gateway's header or close-ok was sent whole, or its close and the client's
 -- bytes went bad or the pair ran out of memory; or the pair ran out of memory before the client's
 -- header. The upstream end is to be shut: it failed or ended; the limit of time was reached; the
--- gateway's close was sent whole, and the container closed, its bytes went bad or the pair ran out of
--- memory; or the connection closes and the gateway's open wasn't sent
+-- gateway's close was sent whole, and the container closed, its bytes went bad or the pair ran out
+-- of memory; or the connection closes and the gateway's open wasn't sent
 abbrev pub is_shut_due : State → End → Bool
 is_shut_due w Client =
     w.failed || (is_overdue w.closed_at w.moment || (w.late || (is_over w.conn

@@ -1,7 +1,7 @@
 -- What the steps say of a client and of its container, by folds that know no state: both
 -- connections, the replies to the client, the units that were sent, and moments. The laws speak of
 -- these.
-use Rattle.std.specs.Prelude.{ℕ, Bool, true, false, not, ◌&&◌, if◌then◌else◌, List, [], ◌∷◌}
+use Rattle.std.specs.Prelude.{ℕ, ◌==◌, Bool, true, false, not, ◌&&◌, if◌then◌else◌, List, [], ◌∷◌}
 use Rattle.std.specs.Prelude.{◌++◌, filter, Option, None, Some}
 use Rattle.gate_outside.specs.declared.ports.End.TheVariants.{Client, Up}
 use Rattle.gate_outside.specs.declared.ports.Linked.TheVariants as link
@@ -12,13 +12,15 @@ use Rattle.close_translate.specs.Conditions.{code_by}
 use Rattle.close_translate.specs.declared.codes.TheConstants.{CONNECTION_FORCED, INTERNAL_ERROR}
 use Rattle.close_translate.specs.declared.codes.TheConstants.{NOT_ALLOWED}
 use Rattle.close_translate.specs.declared.conditions.Scope.TheVariants as scope
-use Rattle.machine_091.specs.Calls.{after_ended, after_opened}
-use Rattle.machine_091.specs.State.{new_connection, is_closing, is_opening}
+use Rattle.machine_091.specs.Calls.{after_closing, after_ended, after_opened}
+use Rattle.machine_091.specs.State.{new_connection, is_closing, is_open, is_opening}
 use Rattle.machine_091.specs.Transitions.{unit_step}
 use Rattle.machine_091.specs.declared.state.Connection.{Connection}
 use Rattle.machine_091.specs.declared.unit.Unit91.{Unit91}
 use Rattle.machine_091.specs.declared.unit.Want91.{Want91}
 use Rattle.machine_091.specs.declared.unit.Want91.TheVariants as want
+use Rattle.machine_10.specs.Parts.{Parts}
+use Rattle.machine_10.specs.Reading.{field}
 use Rattle.machine_10.specs.Transitions as ten
 use Rattle.machine_10.specs.Transitions.{Meaning}
 use Rattle.machine_10.specs.declared.state.Upstream.{Upstream}
@@ -27,11 +29,13 @@ use Rattle.gate_model.specs.declared.outgoing.Outgoing.TheVariants.{ToClient, To
 use Rattle.gate_model.specs.declared.outgoing.UpUnit.{UpUnit}
 use Rattle.gate_model.specs.declared.reply.Reply.{Reply}
 use Rattle.gate_model.specs.declared.reply.Reply.TheVariants as reply
-use Rattle.gate_model.specs.State.{Step, Began, Moment, Came, TakenUp, Heard, Joined, Lost, Gave}
+use Rattle.gate_model.specs.State.{Step, Began, Moment, Queued, Came, TakenUp, Heard, Joined, Lost, Gave}
 use Rattle.gate_model.specs.State.{Whole, OutOfMemory, close, close_if, closes_at, conn_step}
-use Rattle.gate_model.specs.State.{failure, is_limit_reached, turns_foreign, unbuilt}
-use Rattle.gate_model.specs.Upstream.{condition_in, container_by, container_for, ended_in}
+use Rattle.gate_model.specs.State.{conn_given, failure, is_limit_reached, turns_foreign}
+use Rattle.gate_model.specs.Upstream.{channel_max_in, condition_in, container_by, container_for}
+use Rattle.gate_model.specs.Upstream.{container_given, ended_in}
 use Rattle.gate_model.specs.Upstream.{meaning_by}
+use Rattle.performatives_10.specs.Fields.{is_absent}
 use Rattle.gate_model.specs.Due.{when}
 
 -- ---- moments
@@ -89,17 +93,32 @@ side_in (Lost Up loss.Failed ∷ h) = side.Failed
 side_in (Lost Up loss.Shut ∷ h) = side.Gone
 side_in (s ∷ h) = side_in h
 
+-- an attach answers none of the gateway's
+abbrev pub session_closes : Parts → Bool
+session_closes p = if p.0 == 17 then false else p.0 == 18
+
+-- the client's connection after a unit of a session: an end and what names a link close the
+-- channel, and an attach the connection
+abbrev pub conn_session : ℕ → Parts → Connection → Connection
+conn_session n p c =
+    if p.0 == 17 then c
+    else if p.0 == 18 then close c
+    else if p.0 == 19 && is_absent (field p.1 4) then c
+    else if p.0 == 21 then c
+    else if is_open c n then after_closing scope.Channel n c
+    else c
+
 -- the client's connection after that: the container's open makes it run, and its close, a refused
 -- login and a unit out of order close it
-abbrev pub conn_by : Meaning → Connection → Connection
-conn_by ten.Nothing c = c
-conn_by ten.Init c = c
-conn_by ten.AmqpHeader c = c
-conn_by ten.Opened c = if is_opening c then after_opened c else c
-conn_by (ten.OfSession g p payload) c = c
-conn_by (ten.Closed e) c = close c
-conn_by ten.Refused c = close c
-conn_by (ten.Violation why) c = close c
+abbrev pub conn_by : Meaning → Option Upstream → Connection → Connection
+conn_by ten.Nothing o c = c
+conn_by ten.Init o c = c
+conn_by ten.AmqpHeader o c = c
+conn_by ten.Opened o c = if is_opening c then after_opened (channel_max_in o) c else c
+conn_by (ten.OfSession g p payload) o c = conn_session g p c
+conn_by (ten.Closed e) o c = close c
+conn_by ten.Refused o c = close c
+conn_by (ten.Violation why) o c = close c
 
 -- both connections: of the client, by its units, by the handshake limit, by its end and by what
 -- happens upstream; of the container, by the client's login and the container's units. After the
@@ -128,7 +147,7 @@ peers_came p u = record {
 
 abbrev pub peers_heard : Peers → Unit10 → Peers
 peers_heard p u = record {
-  client = conn_by (meaning_by p.container u) p.client;
+  client = conn_by (meaning_by p.container u) (container_by p.container u) p.client;
   container = container_by p.container u;
 }
 
@@ -138,6 +157,7 @@ peers (Began vhost n ms ∷ h) = record { client = new_connection vhost; contain
 peers (Moment ms ∷ h) = record (peers h) {
   client = close_if (is_limit_reached (peers h).client (accepted_in h) ms) (peers h).client;
 }
+peers (Queued u ∷ h) = peers h
 peers (Came u ∷ h) = if ran_out_in h then peers h else peers_came (peers h) u
 peers (TakenUp ∷ h) =
     if not (ran_out_in h) && leaving_in h then
@@ -152,7 +172,8 @@ peers (Lost Up loss.Ended ∷ h) =
 peers (Lost Up loss.Failed ∷ h) =
     record { client = close (peers h).client; container = ended_in (peers h).container }
 peers (Lost Up loss.Shut ∷ h) = peers h
-peers (Gave u ∷ h) = peers h
+peers (Gave (ToClient u) ∷ h) = record (peers h) { client = conn_given u (peers h).client }
+peers (Gave (ToUp u) ∷ h) = record (peers h) { container = container_given u (peers h).container }
 peers (Whole end ∷ h) = peers h
 peers (OutOfMemory ∷ h) = record (peers h) { client = close (peers h).client }
 
@@ -177,7 +198,7 @@ reply_to want.Start = reply.Start ∷ []
 reply_to (want.Login mechanism response) = reply.Tune ∷ []
 reply_to want.Tuned = []
 reply_to want.OpenUp = []
-reply_to (want.Method n m) = reply.Close (unbuilt m) ∷ []
+reply_to (want.Method n m) = []
 reply_to (want.ChannelCloseOk n) = []
 reply_to want.Close = reply.CloseOk ∷ []
 reply_to want.CloseOk = []
@@ -198,7 +219,7 @@ reply_by c ten.Nothing = []
 reply_by c ten.Init = []
 reply_by c ten.AmqpHeader = []
 reply_by c ten.Opened = when (is_opening c) reply.OpenOk
-reply_by c (ten.OfSession g p payload) = []
+reply_by c (ten.OfSession g p payload) = if session_closes p then failure_to c INTERNAL_ERROR else []
 reply_by c (ten.Closed e) = failure_to c (code_by (condition_in e) scope.Connection)
 reply_by c ten.Refused = failure_to c NOT_ALLOWED
 reply_by c (ten.Violation why) = failure_to c INTERNAL_ERROR
@@ -235,9 +256,14 @@ until_memory [] = []
 until_memory (OutOfMemory ∷ h) = h
 until_memory (s ∷ h) = until_memory h
 
--- a unit that answers one of the client's; a heartbeat answers none
+-- a unit of the connection that answers one of the client's; a heartbeat answers none
 abbrev pub is_answer : Reply → Bool
 is_answer reply.Heartbeat = false
+is_answer (reply.ChannelOpenOk n) = false
+is_answer (reply.FlowOk n) = false
+is_answer (reply.ChannelCloseOk n) = false
+is_answer (reply.CrossedOk n) = false
+is_answer (reply.ChannelClose n r) = false
 is_answer u = true
 
 -- units without the heartbeats among them

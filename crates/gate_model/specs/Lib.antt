@@ -3,7 +3,11 @@ pub mod Asked
 pub mod Due
 pub mod Folds
 pub mod Frames
+pub mod Lives
+pub mod Once
+pub mod Order
 pub mod Picks
+pub mod Queue
 pub mod Setup
 pub mod Spelling
 pub mod State

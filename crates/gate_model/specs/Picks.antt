@@ -1,6 +1,7 @@
 -- The lists of steps that a pair makes: what goes out is the pick, moments don't fall, what comes
 -- in is what is awaited, and the pair runs out of memory once.
-use Rattle.std.specs.Prelude.{◌≡◌, ◌≤◌, false, true, List, [], ◌∷◌, Some}
+use Rattle.std.specs.Prelude.{◌≡◌, ◌≤◌, false, true, List, [], ◌∷◌, Some, is_some}
+use Rattle.std.specs.List.{list_any}
 use Rattle.close_translate.specs.declared.codes.TheConstants.{FRAME_ERROR}
 use Rattle.machine_091.specs.State.{awaits}
 use Rattle.machine_091.specs.declared.state.Awaited91.{Awaited91}
@@ -14,8 +15,9 @@ use Rattle.machine_10.specs.declared.unit.Unit10.{Unit10}
 use Rattle.machine_10.specs.declared.unit.Unit10.TheVariants as unit_10
 use Rattle.performatives_10.specs.declared.condition.Condition.TheVariants.{FramingError}
 use Rattle.gate_model.specs.declared.outgoing.Outgoing.TheVariants.{ToClient, ToUp}
-use Rattle.gate_model.specs.State.{Step, Began, Moment, Came, TakenUp, Heard, Joined, Lost}
-use Rattle.gate_model.specs.State.{Gave, Whole, OutOfMemory, before, waits}
+use Rattle.gate_model.specs.Queue.{is_bad_unit}
+use Rattle.gate_model.specs.State.{State, Step, Began, Moment, Queued, Came, TakenUp, Heard, Joined}
+use Rattle.gate_model.specs.State.{Lost, Gave, Whole, OutOfMemory, before, next_unit, place}
 use Rattle.gate_model.specs.Due.{can_leave, is_busy, is_connect_due, pick}
 use Rattle.gate_model.specs.Folds.{connection, container, moment_in, ran_out_in}
 use Rattle.gate_model.specs.Upstream.{awaited_of}
@@ -30,7 +32,8 @@ MayComeAs (awaited.Frame size) (unit.Frame f) = Unit {0}
 MayComeAs (awaited.Frame size) (unit.Bad code) = code ≡ FRAME_ERROR
 MayComeAs awaited.Nothing u = ⊥
 
--- a header of the kind that is awaited or of the other one, frames, or bytes with which no unit begins
+-- a header of the kind that is awaited or of the other one, frames, or bytes with which no unit
+-- begins
 abbrev pub MayBeHeard : Awaited10 → Unit10 → Type 0
 MayBeHeard (awaited_10.Header k) (unit_10.Header kind) = Unit {0}
 MayBeHeard (awaited_10.Header k) (unit_10.Frame f) = ⊥
@@ -40,11 +43,18 @@ MayBeHeard awaited_10.Frame (unit_10.Frame f) = Unit {0}
 MayBeHeard awaited_10.Frame (unit_10.Bad why) = why ≡ FramingError
 MayBeHeard awaited_10.Nothing u = ⊥
 
+-- a further unit comes once none before it can be taken up, and none behind bytes with which no
+-- unit begins
+pub record MayQueue (w : State) : Type 0 where
+  pub taken : is_some (place w) ≡ false
+  pub good : list_any is_bad_unit w.queue ≡ false
+
 -- what a step wants of those before it
 abbrev pub MayStep : List Step → Step → Type 0
 MayStep h (Began vhost n ms) = h ≡ []
 MayStep h (Moment ms) = moment_in h ≤ ms
-MayStep h (Came u) = MayComeAs (awaits (connection h)) u × (waits (before h) ≡ false)
+MayStep h (Queued u) = MayComeAs (awaits (before h).conn) u × MayQueue (before h)
+MayStep h (Came u) = next_unit (before h) ≡ Some u
 MayStep h TakenUp = can_leave (before h) ≡ true
 MayStep h (Heard u) = MayBeHeard (awaited_of (container h)) u
 MayStep h (Joined answer) = is_connect_due (before h) ≡ true

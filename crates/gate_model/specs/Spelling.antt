@@ -1,5 +1,5 @@
 -- The bytes of the units to a client and to a container, in the standards' terms.
-use Rattle.std.specs.Prelude.{ℕ, List, [], ◌∷◌, ◌++◌, length, codes, decimal, Option, None, Some}
+use Rattle.std.specs.Prelude.{ℕ, true, List, [], ◌∷◌, ◌++◌, length, codes, decimal, Option, None, Some}
 use Rattle.std.specs.Int.{w32, to_be_bytes}
 use Rattle.close_translate.specs.Codes.{name_of}
 use Rattle.close_translate.specs.declared.codes.TheConstants.{RESOURCE_ERROR}
@@ -8,6 +8,11 @@ use Rattle.frames_091.specs.Frames.{frame_text}
 use Rattle.frames_091.specs.Headers.{header_bytes}
 use Rattle.machine_091.specs.declared.limits.TheConstants.{CHANNEL_MAX, FRAME_MAX, HEARTBEAT}
 use Rattle.methods_091.specs.Closing.{control_text, close_text, close_ok_text}
+use Rattle.machine_091.specs.declared.unit.Refusal.{Refusal}
+use Rattle.methods_091.specs.Writing.{method_text}
+use Rattle.methods_091.specs.declared.method.Method91.{Method91}
+use Rattle.methods_091.specs.declared.method.Method91.TheVariants.{ChannelClose, ChannelCloseOk}
+use Rattle.methods_091.specs.declared.method.Method91.TheVariants.{ChannelFlowOk, ChannelOpenOk}
 use Rattle.methods_091.specs.declared.method.Method91.TheVariants.{ConnectionOpenOk, ConnectionTune}
 use Rattle.frames_10.specs.Frames as frames_10
 use Rattle.frames_10.specs.Headers as headers_10
@@ -16,7 +21,7 @@ use Rattle.frames_10.specs.declared.frame.Kind10.TheVariants.{Amqp, Sasl}
 use Rattle.machine_10.specs.declared.limits.TheConstants as limits_10
 use Rattle.performatives_10.specs.Closing.{end_text}
 use Rattle.performatives_10.specs.Writing.{perf_text}
-use Rattle.performatives_10.specs.declared.closing.Ending.TheVariants.{Close}
+use Rattle.performatives_10.specs.declared.closing.Ending.TheVariants.{Close, End}
 use Rattle.performatives_10.specs.declared.performative.Perf.{Perf}
 use Rattle.performatives_10.specs.declared.performative.Perf.TheVariants as perf
 use Rattle.machine_10.specs.declared.state.Upstream.{Upstream}
@@ -27,6 +32,7 @@ use Rattle.gate_model.specs.declared.outgoing.UpUnit.TheVariants as up
 use Rattle.gate_model.specs.declared.reply.Reply.{Reply}
 use Rattle.gate_model.specs.Setup.{SetupText}
 use Rattle.gate_model.specs.State.{State}
+use Rattle.gate_model.specs.declared.limits.TheConstants.{HANDLE_MAX}
 use Rattle.gate_model.specs.declared.timers.TheConstants.{IDLE_STATED}
 use Rattle.gate_model.specs.declared.reply.Reply.TheVariants as reply
 
@@ -83,6 +89,25 @@ heartbeat_frame = frame_text (record { kind = Heartbeat; channel = 0; payload = 
 unfoldable pub open_ok_frame : List ℕ
 open_ok_frame = control_text ConnectionOpenOk
 
+-- ---- on a channel
+
+abbrev pub channel_text : ℕ → Method91 → List ℕ
+channel_text n m = frame_text (record { kind = Method; channel = n; payload = method_text m })
+
+-- channel.open-ok, whose reserved field is an empty long string, and flow-ok of a channel that is
+-- active (AMQP 0-9-1 1.5.2.2 and 1.5.2.4)
+abbrev pub open_ok_on : ℕ → List ℕ
+open_ok_on n = channel_text n ChannelOpenOk
+
+abbrev pub flow_ok_on : ℕ → List ℕ
+flow_ok_on n = channel_text n (ChannelFlowOk true)
+
+abbrev pub close_ok_on : ℕ → List ℕ
+close_ok_on n = channel_text n ChannelCloseOk
+
+abbrev pub close_on : ℕ → Refusal → List ℕ
+close_on n r = channel_text n (ChannelClose r.code (name_of r.code) r.class r.method)
+
 -- the bytes of a unit to the client; a close has the name of its code as its text, and the ids of
 -- the method that it refuses
 abbrev pub spell_reply : Reply → List ℕ
@@ -94,6 +119,11 @@ spell_reply reply.CloseOk = close_ok_text
 spell_reply (reply.Close r) = close_text r.code (name_of r.code) r.class r.method
 spell_reply reply.NoMemory = close_text RESOURCE_ERROR (codes "NO_MEMORY") 0 0
 spell_reply reply.Heartbeat = heartbeat_frame
+spell_reply (reply.ChannelOpenOk n) = open_ok_on n
+spell_reply (reply.FlowOk n) = flow_ok_on n
+spell_reply (reply.ChannelCloseOk n) = close_ok_on n
+spell_reply (reply.CrossedOk n) = close_ok_on n
+spell_reply (reply.ChannelClose n r) = close_on n r
 
 -- ---- units to the container
 
@@ -134,6 +164,22 @@ init_of c = perf.SaslInit (record {
 abbrev pub frame_10 : Kind10 → List ℕ → List ℕ
 frame_10 kind body = frames_10.frame_text (record { kind = kind; channel = 0; body = body })
 
+-- the begin of a session, which states the gateway's windows and handles (AMQP 1.0 2.7.2)
+abbrev pub begin_perf : Perf
+begin_perf = perf.Begin (record {
+  remote_channel = None;
+  next_outgoing_id = 0;
+  incoming_window = limits_10.WINDOW;
+  outgoing_window = limits_10.WINDOW;
+  handle_max = HANDLE_MAX;
+  offered_capabilities = None;
+  desired_capabilities = None;
+  properties = None;
+})
+
+abbrev pub frame_on : ℕ → List ℕ → List ℕ
+frame_on n body = frames_10.frame_text (record { kind = Amqp; channel = n; body = body })
+
 abbrev pub init_text : Option Upstream → List ℕ
 init_text None = []
 init_text (Some c) = frame_10 Sasl (perf_text (init_of c))
@@ -146,6 +192,8 @@ spell_up c up.AmqpHeader = headers_10.header_bytes Amqp
 spell_up c up.Open = frame_10 Amqp (perf_text (open_of c.setup c.number))
 spell_up c (up.Close why) = end_text 0 Close why
 spell_up c up.Empty = frame_10 Amqp []
+spell_up c (up.Begin n) = frame_on n (perf_text begin_perf)
+spell_up c (up.End n why) = end_text n End why
 
 abbrev pub spell : Context → Outgoing → List ℕ
 spell c (ToClient r) = spell_reply r

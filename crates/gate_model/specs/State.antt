@@ -1,9 +1,9 @@
 -- What the steps of a pair amount to. All lists of steps are newest first.
-use Rattle.std.specs.Prelude.{ℕ, ◌-◌, nat_le, Bool, true, false, not, ◌&&◌, ◌||◌, if◌then◌else◌}
-use Rattle.std.specs.Prelude.{List, [], ◌∷◌, Option, None, Some}
+use Rattle.std.specs.Prelude.{ℕ, ◌-◌, ◌==◌, nat_le, Bool, true, false, not, ◌&&◌, ◌||◌, if◌then◌else◌}
+use Rattle.std.specs.Prelude.{List, [], ◌∷◌, ◌++◌, Option, None, Some}
 use Rattle.close_translate.specs.Conditions.{code_by, condition_of}
 use Rattle.close_translate.specs.declared.codes.TheConstants.{CONNECTION_FORCED, INTERNAL_ERROR}
-use Rattle.close_translate.specs.declared.codes.TheConstants.{NOT_ALLOWED, NOT_IMPLEMENTED}
+use Rattle.close_translate.specs.declared.codes.TheConstants.{NOT_ALLOWED, PRECONDITION_FAILED}
 use Rattle.close_translate.specs.declared.codes.TheConstants.{RESOURCE_ERROR}
 use Rattle.close_translate.specs.declared.conditions.Scope.TheVariants as scope
 use Rattle.gate_outside.specs.declared.ports.End.{End}
@@ -15,8 +15,9 @@ use Rattle.gate_relay.specs.declared.sides.Side.TheVariants as side
 use Rattle.gate_relay.specs.Sides.{is_readable}
 use Rattle.gate_relay.specs.declared.loss.Loss.{Loss}
 use Rattle.gate_relay.specs.declared.loss.Loss.TheVariants as loss
-use Rattle.machine_091.specs.Calls.{after_closing, after_ended, after_opened}
-use Rattle.machine_091.specs.State.{new_connection, is_closing, is_opening}
+use Rattle.machine_091.specs.Calls.{after_closed, after_closing, after_ended, after_opened}
+use Rattle.machine_091.specs.Calls.{after_told}
+use Rattle.machine_091.specs.State.{new_connection, is_closing, is_open, is_opening}
 use Rattle.machine_091.specs.Refusals.{refusal_with}
 use Rattle.machine_091.specs.Transitions.{unit_step}
 use Rattle.machine_091.specs.declared.state.Connection.{Connection}
@@ -35,23 +36,35 @@ use Rattle.gate_model.specs.declared.reply.SentLast.{SentLast}
 use Rattle.gate_model.specs.declared.outgoing.Outgoing.{Outgoing}
 use Rattle.gate_model.specs.declared.outgoing.Outgoing.TheVariants.{ToClient, ToUp}
 use Rattle.gate_model.specs.declared.timers.TheConstants.{HANDSHAKE_LIMIT}
-use Rattle.gate_model.specs.Upstream.{UpState, begun, closing_with, condition_in, finished}
+use Rattle.gate_model.specs.Upstream.{UpState, begun, channel_max_of, closing_with}
+use Rattle.gate_model.specs.Upstream.{condition_in, finished}
 use Rattle.gate_model.specs.Upstream.{has_closed, heard_up, linked, lost_by, meaning_by, no_end}
 use Rattle.gate_model.specs.Upstream.{shut_by, with_amqp_header, with_init, with_login}
 use Rattle.machine_10.specs.Transitions as ten
 use Rattle.machine_10.specs.Transitions.{Meaning}
 use Rattle.machine_10.specs.declared.unit.Unit10.{Unit10}
-use Rattle.methods_091.specs.Rows.{class_of, id_of}
-use Rattle.methods_091.specs.View.{kind_of}
-use Rattle.methods_091.specs.declared.method.Method91.{Method91}
+use Rattle.machine_10.specs.Parts.{Parts}
+use Rattle.machine_10.specs.Reading.{field}
+use Rattle.performatives_10.specs.Fields.{is_absent}
+use Rattle.performatives_10.specs.declared.condition.Condition.TheVariants.{NotAllowed}
+use Rattle.performatives_10.specs.declared.condition.Condition.TheVariants.{UnattachedHandle}
+use Rattle.gate_model.specs.declared.life.Life.{Life}
+use Rattle.gate_model.specs.declared.outgoing.UpUnit.{UpUnit}
+use Rattle.gate_model.specs.declared.outgoing.UpUnit.TheVariants as up
+use Rattle.gate_model.specs.Lives.{any_life, begun_life, failed_life, is_done, life_at, lives_by}
+use Rattle.gate_model.specs.Lives.{no_lives, refusal_on, session_in, with_life}
+use Rattle.gate_model.specs.Queue.{Waits, place_in, unit_at, without_at}
 use Rattle.performatives_10.specs.declared.condition.Condition.{Condition}
 
 pub data Step : Type 0 where
-  -- the pair with this number was accepted at this moment, and its client may open this virtual host
+  -- the pair with this number was accepted at this moment, and its client may open this virtual
+  -- host
   Began : List ℕ → ℕ → ℕ → Step
   -- a moment was given
   Moment : ℕ → Step
-  -- a whole unit of the client, or bytes with which none begins, was taken up
+  -- the client's stream had a whole unit, or bytes with which none begins
+  Queued : Unit91 → Step
+  -- this one, the first that could be, was taken up
   Came : Unit91 → Step
   -- that the client's end ended or failed was taken up
   TakenUp : Step
@@ -77,8 +90,12 @@ pub record State : Type 0 where
   -- the unit to the client of which the first byte was sent, and not the last
   pub in_progress : Option Reply
   pub sent_last : SentLast
+  -- what is due on each channel, to either end
+  pub lives : List Life
   -- the upstream end
   pub up : UpState
+  -- the units of the client that aren't taken up yet, in their order
+  pub queue : List Unit91
   -- the moments of the accept, of the last clock reading, and of the last unit that was sent whole,
   -- in milliseconds
   pub accepted_at : ℕ
@@ -119,7 +136,9 @@ new_state vhost number ms = record {
   pending = none_pending;
   in_progress = None;
   sent_last = none_sent;
+  lives = no_lives;
   up = no_end;
+  queue = [];
   accepted_at = ms;
   moment = ms;
   last_sent_at = ms;
@@ -161,26 +180,9 @@ fail code why w = if is_closing w.conn then w else failed code why w
 
 -- ---- a unit of the client
 
--- no channel is built yet, so no method of one can be met
-abbrev pub unbuilt : Method91 → Refusal
-unbuilt m = refusal_with NOT_IMPLEMENTED (class_of (kind_of m)) (id_of (kind_of m))
-
--- what a unit wants decides whether the connection closes
-abbrev pub after_want : Want91 → Connection → Connection
-after_want want.Nothing c = c
-after_want want.Start c = c
-after_want (want.Login mechanism response) c = c
-after_want want.Tuned c = c
-after_want want.OpenUp c = c
-after_want (want.Method n m) c = close c
-after_want (want.ChannelCloseOk n) c = c
-after_want want.Close c = c
-after_want want.CloseOk c = c
-after_want (want.Refuse r) c = c
-
 -- the connection after a unit
 abbrev pub conn_step : Connection → Unit91 → Connection
-conn_step c u = after_want (unit_step c u).1 (unit_step c u).0
+conn_step c u = (unit_step c u).0
 
 -- what becomes due by what a unit wants: the gateway's close is due no more once the client closed
 abbrev pub with_want : Want91 → Pending → Pending
@@ -189,20 +191,21 @@ with_want want.Start p = record p { start = true }
 with_want (want.Login mechanism response) p = record p { tune = true }
 with_want want.Tuned p = p
 with_want want.OpenUp p = p
-with_want (want.Method n m) p = record p { close = Some (unbuilt m) }
+with_want (want.Method n m) p = p
 with_want (want.ChannelCloseOk n) p = p
 with_want want.Close p = record p { close_ok = true; close = None }
 with_want want.CloseOk p = p
 with_want (want.Refuse r) p = record p { close = Some r }
 
--- the error of the gateway's close to the container, where what a unit wants is the closing event: that of a refusal
+-- the error of the gateway's close to the container, where what a unit wants is the closing event:
+-- that of a refusal
 abbrev pub condition_by : Want91 → Option Condition
 condition_by want.Nothing = None
 condition_by want.Start = None
 condition_by (want.Login mechanism response) = None
 condition_by want.Tuned = None
 condition_by want.OpenUp = None
-condition_by (want.Method n m) = Some (condition_of NOT_IMPLEMENTED)
+condition_by (want.Method n m) = None
 condition_by (want.ChannelCloseOk n) = None
 condition_by want.Close = None
 condition_by want.CloseOk = None
@@ -252,8 +255,8 @@ with_header foreign p = record p { protocol = p.protocol || foreign }
 -- what a unit of the client wants is met; the connection closed before it, or not
 abbrev pub met : Bool → Want91 → State → State
 met closing x w = record w {
-  conn = after_want x w.conn;
   pending = with_want x w.pending;
+  lives = lives_by x w.lives;
   up = closing_with closing (condition_by x) (keep_login x w.up);
   client_closed = w.client_closed || (not closing && is_close_want x);
 }
@@ -278,20 +281,51 @@ joined w link.Ok = record w { up = linked w.moment w.up }
 joined w link.Failed = fail CONNECTION_FORCED None (record w { up = shut_by w.up })
 
 -- the container opened: the client's connection runs, unless it closes already
-abbrev pub opened : State → State
-opened w =
-    if is_opening w.conn then
-    record w { conn = after_opened w.conn; pending = record w.pending { open_ok = true } }
-    else w
+abbrev pub runs : State → State
+runs w = record w {
+  conn = after_opened (channel_max_of w.up) w.conn;
+  pending = record w.pending { open_ok = true };
+}
 
--- what a unit of the container means: a refused login isn't allowed, a close has the code of its condition, and a unit out of
--- order is an error of the container
+abbrev pub opened : State → State
+opened w = if is_opening w.conn then runs w else w
+
+-- ---- sessions
+
+-- the container is at fault on a session: its channel closes, unless that is closing already
+abbrev pub life_failed : ℕ → Refusal → Option Condition → State → State
+life_failed n r why w = record w {
+  conn = after_closing scope.Channel n w.conn;
+  lives = with_life n (failed_life r why (life_at w.lives n)) w.lives;
+}
+
+abbrev pub fail_life : ℕ → ℕ → Option Condition → State → State
+fail_life n code why w =
+    if is_open w.conn n then life_failed n (refusal_on n code) why w else w
+
+-- the container's begin, end, and what else belongs to a session, by the code of its descriptor
+-- (AMQP 1.0 2.7): no link is attached yet, so what names one ends the session, and an attach
+-- answers none of the gateway's
+abbrev pub begun_session : ℕ → State → State
+begun_session n w = record w { lives = with_life n (begun_life (life_at w.lives n)) w.lives }
+
+abbrev pub with_session : ℕ → Parts → State → State
+with_session n p w =
+    if p.0 == 17 then begun_session n w
+    else if p.0 == 18 then fail INTERNAL_ERROR (Some NotAllowed) w
+    else if p.0 == 19 && is_absent (field p.1 4) then w
+    else if p.0 == 21 then w
+    else if p.0 == 23 then fail_life n (code_by (condition_in (field p.1 0)) scope.Channel) None w
+    else fail_life n PRECONDITION_FAILED (Some UnattachedHandle) w
+
+-- what a unit of the container means: a refused login isn't allowed, a close has the code of its
+-- condition, and a unit out of order is an error of the container
 abbrev pub with_meaning : Meaning → State → State
 with_meaning ten.Nothing w = w
 with_meaning ten.Init w = record w { up = with_init w.up }
 with_meaning ten.AmqpHeader w = record w { up = with_amqp_header w.up }
 with_meaning ten.Opened w = opened w
-with_meaning (ten.OfSession g p payload) w = w
+with_meaning (ten.OfSession g p payload) w = with_session g p w
 with_meaning (ten.Closed e) w = fail (code_by (condition_in e) scope.Connection) None w
 with_meaning ten.Refused w = fail NOT_ALLOWED None w
 with_meaning (ten.Violation c) w = fail INTERNAL_ERROR (Some c) w
@@ -299,13 +333,44 @@ with_meaning (ten.Violation c) w = fail INTERNAL_ERROR (Some c) w
 abbrev pub heard : State → Unit10 → State
 heard w u = with_meaning (meaning_by w.up.container u) (record w { up = heard_up u w.up })
 
--- nothing of the upstream end is waited for: there is none, it is lost, the container closed, or the pair ran out of memory
+-- nothing of the upstream end is waited for: there is none, it is lost, the container closed, or
+-- the pair ran out of memory
 abbrev pub is_settled : State → Bool
 is_settled w = w.out_of_memory || (not (is_readable w.up.side) || has_closed w.up)
 
--- a request of the client waits for the upstream end: connection.open, or connection.close
-abbrev pub waits : State → Bool
-waits w = is_opening w.conn || (w.client_closed && not (is_settled w))
+-- nothing of the container is waited for on a channel: the same, or its session has no begin or the
+-- container's end
+abbrev pub is_channel_settled : State → ℕ → Bool
+is_channel_settled w n = is_settled w || is_done (session_in w.up.container n)
+
+-- connection.close of the client waits for the container's close
+abbrev pub close_waits : State → Bool
+close_waits w = w.client_closed && not (is_settled w)
+
+-- channel.open waits for the container's begin, and channel.close of an open channel for its end;
+-- the closing event of the connection decides both
+abbrev pub life_waits : State → ℕ → Life → Bool
+life_waits w n l =
+    not (is_closing w.conn) && (l.waits || (l.awaits_end && not (is_channel_settled w n)))
+
+abbrev pub waits : State → Waits
+waits w = record {
+  opening = is_opening w.conn;
+  some = is_opening w.conn || (close_waits w || any_life (life_waits w) 0 w.lives);
+  channel = λ n. life_waits w n (life_at w.lives n);
+}
+
+-- ---- taking up
+
+-- the place of the unit that is taken up next
+abbrev pub place : State → Option ℕ
+place w = place_in (waits w) w.queue
+
+abbrev pub next_unit : State → Option Unit91
+next_unit w = unit_at (place w) w.queue
+
+abbrev pub dequeued : State → State
+dequeued w = record w { queue = without_at (place w) w.queue }
 
 -- ---- a moment
 
@@ -381,6 +446,7 @@ ran_out w = record w {
   conn = close w.conn;
   pending = last_pending w.conn.phase w.pending;
   up = closing_with (is_closing w.conn) (Some (condition_of RESOURCE_ERROR)) w.up;
+  queue = [];
   closed_at = closes_at w.closed_at true w.moment;
   out_of_memory = true;
 }
@@ -397,10 +463,65 @@ without reply.CloseOk p = record p { close_ok = false }
 without (reply.Close r) p = record p { close = None }
 without reply.NoMemory p = record p { no_memory = false }
 without reply.Heartbeat p = p
+without (reply.ChannelOpenOk n) p = p
+without (reply.FlowOk n) p = p
+without (reply.ChannelCloseOk n) p = p
+without (reply.CrossedOk n) p = p
+without (reply.ChannelClose n r) p = p
+
+-- the same on its channel
+abbrev pub without_life : Reply → List Life → List Life
+without_life reply.Protocol ls = ls
+without_life reply.Start ls = ls
+without_life reply.Tune ls = ls
+without_life reply.OpenOk ls = ls
+without_life reply.CloseOk ls = ls
+without_life (reply.Close r) ls = ls
+without_life reply.NoMemory ls = ls
+without_life reply.Heartbeat ls = ls
+without_life (reply.ChannelOpenOk n) ls = with_life n (record (life_at ls n) { open_ok = false }) ls
+without_life (reply.FlowOk n) ls =
+    with_life n (record (life_at ls n) { flow_oks = (life_at ls n).flow_oks - 1 }) ls
+without_life (reply.ChannelCloseOk n) ls = with_life n (record (life_at ls n) { close_ok = false }) ls
+without_life (reply.CrossedOk n) ls = with_life n (record (life_at ls n) { crossed_ok = false }) ls
+without_life (reply.ChannelClose n r) ls = with_life n (record (life_at ls n) { close = None }) ls
+
+-- and what it makes of the connection: the gateway's channel.close-ok ends a life, and its
+-- channel.close awaits an answer
+abbrev pub conn_given : Reply → Connection → Connection
+conn_given reply.Protocol c = c
+conn_given reply.Start c = c
+conn_given reply.Tune c = c
+conn_given reply.OpenOk c = c
+conn_given reply.CloseOk c = c
+conn_given (reply.Close r) c = c
+conn_given reply.NoMemory c = c
+conn_given reply.Heartbeat c = c
+conn_given (reply.ChannelOpenOk n) c = c
+conn_given (reply.FlowOk n) c = c
+conn_given (reply.ChannelCloseOk n) c = after_closed n c
+conn_given (reply.CrossedOk n) c = c
+conn_given (reply.ChannelClose n r) c = after_told n c
+
+-- the same of a unit to the container
+abbrev pub without_begin : UpUnit → List Life → List Life
+without_begin up.SaslHeader ls = ls
+without_begin up.SaslInit ls = ls
+without_begin up.AmqpHeader ls = ls
+without_begin up.Open ls = ls
+without_begin (up.Close why) ls = ls
+without_begin up.Empty ls = ls
+without_begin (up.Begin n) ls = with_life n (record (life_at ls n) { begin = false }) ls
+without_begin (up.End n why) ls = with_life n (record (life_at ls n) { why = None }) ls
 
 abbrev pub gave : State → Outgoing → State
-gave w (ToClient u) = record w { pending = without u w.pending; in_progress = Some u }
-gave w (ToUp u) = record w { up = begun u w.up }
+gave w (ToClient u) = record w {
+  conn = conn_given u w.conn;
+  pending = without u w.pending;
+  in_progress = Some u;
+  lives = without_life u w.lives;
+}
+gave w (ToUp u) = record w { lives = without_begin u w.lives; up = begun u w.up }
 
 abbrev pub with_last : Option Reply → SentLast → SentLast
 with_last None s = s
@@ -412,6 +533,11 @@ with_last (Some reply.CloseOk) s = record s { close_ok = true }
 with_last (Some (reply.Close r)) s = record s { close = true }
 with_last (Some reply.NoMemory) s = record s { close = true }
 with_last (Some reply.Heartbeat) s = s
+with_last (Some (reply.ChannelOpenOk n)) s = s
+with_last (Some (reply.FlowOk n)) s = s
+with_last (Some (reply.ChannelCloseOk n)) s = s
+with_last (Some (reply.CrossedOk n)) s = s
+with_last (Some (reply.ChannelClose n r)) s = s
 
 abbrev pub wrote : State → End → State
 wrote w Client = record w {
@@ -433,7 +559,8 @@ step w (Began vhost number ms) = record w {
   last_sent_at = ms;
 }
 step w (Moment ms) = told w ms
-step w (Came u) = if w.out_of_memory then w else came w u
+step w (Queued u) = if w.out_of_memory then w else record w { queue = w.queue ++ u ∷ [] }
+step w (Came u) = if w.out_of_memory then w else came (dequeued w) u
 step w TakenUp = if not w.out_of_memory && w.leaving then left w else w
 step w (Heard u) = if w.out_of_memory then w else heard w u
 step w (Joined answer) = joined w answer

@@ -12,10 +12,10 @@ use Rattle.gate_model.specs.declared.reply.Reply.{Reply}
 use Rattle.gate_model.specs.declared.reply.Reply.TheVariants as reply
 use Rattle.gate_model.specs.declared.timers.TheConstants.{BEAT_PER_SECOND, CLOSING_LIMIT}
 use Rattle.gate_model.specs.declared.timers.TheConstants.{HANDSHAKE_LIMIT}
-use Rattle.gate_model.specs.Due.{is_busy, is_shut_due, is_unheard, may_go, pick, rows}
+use Rattle.gate_model.specs.Due.{client_units, is_busy, is_shut_due, is_unheard, pick}
 use Rattle.gate_model.specs.Folds.{accepted_in, closed_in, connection, failed_in, moment_in}
 use Rattle.gate_model.specs.Folds.{ran_out_in, sent, sent_at}
-use Rattle.gate_model.specs.State.{Step, Gave, Whole, before, has_left, is_settled}
+use Rattle.gate_model.specs.State.{Step, Gave, Whole, before, has_left}
 
 -- units of which the last byte was sent, in their order
 abbrev pub sent_whole : List Step → List Reply
@@ -32,6 +32,11 @@ is_protocol reply.CloseOk = false
 is_protocol (reply.Close r) = false
 is_protocol reply.NoMemory = false
 is_protocol reply.Heartbeat = false
+is_protocol (reply.ChannelOpenOk n) = false
+is_protocol (reply.FlowOk n) = false
+is_protocol (reply.ChannelCloseOk n) = false
+is_protocol (reply.CrossedOk n) = false
+is_protocol (reply.ChannelClose n r) = false
 
 -- a connection.close of the gateway
 abbrev pub is_any_close : Reply → Bool
@@ -43,6 +48,11 @@ is_any_close reply.CloseOk = false
 is_any_close (reply.Close r) = true
 is_any_close reply.NoMemory = true
 is_any_close reply.Heartbeat = false
+is_any_close (reply.ChannelOpenOk n) = false
+is_any_close (reply.FlowOk n) = false
+is_any_close (reply.ChannelCloseOk n) = false
+is_any_close (reply.CrossedOk n) = false
+is_any_close (reply.ChannelClose n r) = false
 
 -- ---- heartbeats
 
@@ -52,7 +62,7 @@ pub record MayBeat (h : List Step) : Type 0 where
   pub agreed : 0 < (connection h).limits.heartbeat
   pub quiet : sent_at h + BEAT_PER_SECOND * (connection h).limits.heartbeat ≤ moment_in h
   pub unclosed : list_any is_close_ok (sent h) ≡ false
-  pub alone : rows (may_go (is_settled (before h)) (before h).pending) ≡ []
+  pub alone : client_units (before h) ≡ []
   pub free : is_busy (before h) Client ≡ false
 
 -- each heartbeat was sent where it might be

@@ -5,7 +5,7 @@ use Rattle.std.specs.Str.{bytes_eq}
 use Rattle.gate_relay.specs.declared.sides.Side.{Side}
 use Rattle.gate_relay.specs.declared.sides.Side.TheVariants as side
 use Rattle.gate_relay.specs.Sides.{is_readable}
-use Rattle.machine_10.specs.Calls.{after_ended}
+use Rattle.machine_10.specs.Calls.{after_begin_sent, after_end_sent, after_ended}
 use Rattle.machine_10.specs.State.{awaits, new_upstream}
 use Rattle.machine_10.specs.declared.state.Awaited10.{Awaited10}
 use Rattle.machine_10.specs.declared.state.Awaited10.TheVariants as awaited
@@ -87,6 +87,14 @@ is_bad_stream stream.Bad = true
 is_bad_stream stream.Closed = false
 is_bad_stream stream.Ended = false
 
+-- the greatest number of a channel that it takes
+abbrev pub channel_max_in : Option Upstream → ℕ
+channel_max_in None = 0
+channel_max_in (Some c) = c.stated.channel_max
+
+abbrev pub channel_max_of : UpState → ℕ
+channel_max_of s = channel_max_in s.container
+
 abbrev pub stream_in : Option Upstream → Stream10
 stream_in None = stream.Frames
 stream_in (Some c) = c.stream
@@ -167,6 +175,8 @@ without_up up.AmqpHeader p = record p { amqp_header = false }
 without_up up.Open p = record p { «open» = false }
 without_up (up.Close c) p = p
 without_up up.Empty p = p
+without_up (up.Begin n) p = p
+without_up (up.End n why) p = p
 
 abbrev pub with_begun : UpUnit → UpSent → UpSent
 with_begun up.SaslHeader s = s
@@ -175,9 +185,27 @@ with_begun up.AmqpHeader s = s
 with_begun up.Open s = record s { «open» = true }
 with_begun (up.Close c) s = record s { close = true }
 with_begun up.Empty s = s
+with_begun (up.Begin n) s = s
+with_begun (up.End n why) s = s
+
+-- the container's sessions after it
+abbrev pub sessions_given : UpUnit → Upstream → Upstream
+sessions_given up.SaslHeader c = c
+sessions_given up.SaslInit c = c
+sessions_given up.AmqpHeader c = c
+sessions_given up.Open c = c
+sessions_given (up.Close why) c = c
+sessions_given up.Empty c = c
+sessions_given (up.Begin n) c = after_begin_sent n c
+sessions_given (up.End n why) c = after_end_sent n c
+
+abbrev pub container_given : UpUnit → Option Upstream → Option Upstream
+container_given u None = None
+container_given u (Some c) = Some (sessions_given u c)
 
 abbrev pub begun : UpUnit → UpState → UpState
 begun u s = record s {
+  container = container_given u s.container;
   pending = without_up u s.pending;
   in_progress = Some u;
   sent = with_begun u s.sent;
@@ -191,6 +219,8 @@ with_whole (Some up.AmqpHeader) s = s
 with_whole (Some up.Open) s = s
 with_whole (Some (up.Close c)) s = record s { whole_close = true }
 with_whole (Some up.Empty) s = s
+with_whole (Some (up.Begin n)) s = s
+with_whole (Some (up.End n why)) s = s
 
 abbrev pub finished : ℕ → UpState → UpState
 finished ms s = record s {
@@ -250,16 +280,3 @@ is_idle_by idle ms last = not (idle == 0) && nat_le ((idle + 1) / 2) (ms - last)
 
 abbrev pub is_idle_due : UpState → ℕ → Bool
 is_idle_due s ms = s.sent.«open» && is_idle_by (idle_in s.container) ms s.last_sent_at
-
--- the units to a container of which the end is open, unless the gateway closed: those of the opening, and frames that tell that it is
--- alive; or once the client's connection is closing the close, where the open was sent
-abbrev pub rows_in : Bool → UpState → ℕ → List UpUnit
-rows_in true s ms = when_up s.sent.«open» (up.Close s.condition)
-rows_in false s ms = opening_rows s.pending ++ when_up (is_idle_due s ms) up.Empty
-
-abbrev pub up_rows : Bool → UpState → ℕ → List UpUnit
-up_rows closing s ms = if is_readable s.side && not s.sent.close then rows_in closing s ms else []
-
--- the one that goes
-abbrev pub up_first : Bool → UpState → ℕ → Option UpUnit
-up_first closing s ms = first (up_rows closing s ms)

@@ -1,6 +1,6 @@
 -- What goes to a client only once nothing of the upstream end is waited for, and only once the
 -- container opened.
-use Rattle.std.specs.Prelude.{◌≡◌, Bool, true, false, not, ◌&&◌, ◌||◌, List, [], ◌∷◌}
+use Rattle.std.specs.Prelude.{◌≡◌, ℕ, Bool, true, false, not, ◌&&◌, ◌||◌, List, [], ◌∷◌, Option, None, Some}
 use Rattle.gate_relay.specs.Sides.{is_readable}
 use Rattle.machine_10.specs.Transitions as ten
 use Rattle.machine_10.specs.Transitions.{Meaning}
@@ -8,6 +8,7 @@ use Rattle.gate_model.specs.declared.outgoing.Outgoing.TheVariants.{ToClient}
 use Rattle.gate_model.specs.declared.reply.Reply.{Reply}
 use Rattle.gate_model.specs.declared.reply.Reply.TheVariants as reply
 use Rattle.gate_model.specs.Folds.{container, ran_out_in, side_in}
+use Rattle.gate_model.specs.Lives.{is_done, session_in}
 use Rattle.gate_model.specs.State.{Step, Gave, Heard}
 use Rattle.gate_model.specs.Upstream.{is_closed_stream, meaning_by, stream_in}
 
@@ -28,6 +29,41 @@ is_ending reply.CloseOk = true
 is_ending (reply.Close r) = true
 is_ending reply.NoMemory = true
 is_ending reply.Heartbeat = false
+is_ending (reply.ChannelOpenOk n) = false
+is_ending (reply.FlowOk n) = false
+is_ending (reply.ChannelCloseOk n) = false
+is_ending (reply.CrossedOk n) = false
+is_ending (reply.ChannelClose n r) = false
+
+-- nothing of the container is waited for on a channel: its session didn't begin, or the container's
+-- end came
+pub data SettledOn (h : List Step) (n : ℕ) : Type 0 where
+  OfAll : Settled h → SettledOn h n
+  NoneThere : is_done (session_in (container h) n) ≡ true → SettledOn h n
+
+-- the channel that a channel.close of the gateway, or a close-ok, ends; that of a close-ok to a
+-- crossing channel.close ended before
+abbrev pub ended_by : Reply → Option ℕ
+ended_by reply.Protocol = None
+ended_by reply.Start = None
+ended_by reply.Tune = None
+ended_by reply.OpenOk = None
+ended_by reply.CloseOk = None
+ended_by (reply.Close r) = None
+ended_by reply.NoMemory = None
+ended_by reply.Heartbeat = None
+ended_by (reply.ChannelOpenOk n) = None
+ended_by (reply.FlowOk n) = None
+ended_by (reply.ChannelCloseOk n) = Some n
+ended_by (reply.CrossedOk n) = None
+ended_by (reply.ChannelClose n r) = Some n
+
+-- each went where nothing was waited for on its channel
+abbrev pub ChannelsEndWhenSettled : List Step → Type 0
+ChannelsEndWhenSettled [] = Unit {0}
+ChannelsEndWhenSettled (Gave (ToClient u) ∷ h) =
+    ((n : ℕ) → ended_by u ≡ Some n → SettledOn h n) × ChannelsEndWhenSettled h
+ChannelsEndWhenSettled (s ∷ h) = ChannelsEndWhenSettled h
 
 -- each of these went where nothing was waited for
 abbrev pub EndsWhenSettled : List Step → Type 0

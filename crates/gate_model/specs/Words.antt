@@ -12,6 +12,9 @@ pub use Rattle.gate_model.specs.Answers.{AreAnswered, AreReplies, last_units}
 pub use Rattle.gate_model.specs.Asked.{AreCalledFor, GoesWhenDue, ShutUpFor, ShutsUpAtOnce}
 pub use Rattle.gate_model.specs.Asked.{called, closing_condition, due_up, sent_up_whole}
 pub use Rattle.gate_model.specs.Frames.{FitsClients, limit_in}
+pub use Rattle.gate_model.specs.Once.{AnswersOnce, wanted_in, went_in}
+pub use Rattle.gate_model.specs.Order.{TakesInOrder}
 pub use Rattle.gate_model.specs.Times.{BeatsWhenDue, BeatsAtOnce, LateCloses, MayBeat, ShutFor}
 pub use Rattle.gate_model.specs.Times.{ShutsAtOnce, sent_whole}
-pub use Rattle.gate_model.specs.Waiting.{EndsWhenSettled, OpensWhenOpened, Settled}
+pub use Rattle.gate_model.specs.Waiting.{ChannelsEndWhenSettled, EndsWhenSettled}
+pub use Rattle.gate_model.specs.Waiting.{OpensWhenOpened, Settled, SettledOn}

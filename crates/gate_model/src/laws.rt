@@ -8,11 +8,13 @@ ghost use Rattle.gate_model.specs.Answers.{AreAnswered};
 ghost use Rattle.gate_model.specs.Asked.{AreCalledFor, GoesWhenDue, ShutsUpAtOnce};
 ghost use Rattle.gate_model.specs.Frames.{FitsClients};
 ghost use Rattle.gate_model.specs.Folds.{connection, container, moment_in, number_in, ran_out_in, side_in};
+ghost use Rattle.gate_model.specs.Once.{AnswersOnce};
+ghost use Rattle.gate_model.specs.Order.{TakesInOrder};
 ghost use Rattle.gate_model.specs.Picks.{ArePicks};
 ghost use Rattle.gate_model.specs.Spelling.{spell_reply};
 ghost use Rattle.gate_model.specs.State.{Step, before};
 ghost use Rattle.gate_model.specs.Times.{BeatsAtOnce, BeatsWhenDue, LateCloses, ShutsAtOnce};
-ghost use Rattle.gate_model.specs.Waiting.{EndsWhenSettled, OpensWhenOpened};
+ghost use Rattle.gate_model.specs.Waiting.{ChannelsEndWhenSettled, EndsWhenSettled, OpensWhenOpened};
 
 use machine_091::connection_laws;
 
@@ -42,10 +44,27 @@ pub fn clients_are_answered()
 
 /// A connection.close of the gateway or a close-ok goes only where nothing of the upstream end is
 /// waited for: the pair ran out of memory, the end isn't open, or the container's close came.
-/// connection.open-ok goes only after the container's open.
+/// connection.open-ok goes only after the container's open. A channel.close of the gateway or its
+/// close-ok goes only where nothing is waited for on its channel: no session began there, or the
+/// container's end came.
 pub fn replies_wait()
     ensures ends { (h : List Step) → ArePicks h → EndsWhenSettled h }
+    ensures channels { (h : List Step) → ArePicks h → ChannelsEndWhenSettled h }
     ensures opens { (h : List Step) → ArePicks h → OpensWhenOpened h }
+{}
+
+/// The units of each channel are taken up in the order in which they came, each once; those that
+/// were not are in the queue, in that order.
+#[tactic(auto, using(crate::proofs::Orders::takes_in_order))]
+pub fn units_keep_their_order()
+    ensures { (h : List Step) → ArePicks h → TakesInOrder h }
+{}
+
+/// On each channel no more channel.open-oks went than channel.opens were taken up, and the same of
+/// channel.flow and its flow-ok, and of channel.close and its close-ok.
+#[tactic(auto, using(crate::proofs::Once::answers_once))]
+pub fn channels_are_answered_once()
+    ensures { (h : List Step) → ArePicks h → AnswersOnce h }
 {}
 
 /// A heartbeat goes exactly where an interval was agreed to, for half of it no byte was sent, no

@@ -5,15 +5,20 @@
 #![tactic(auto)]
 
 mod laws;
+mod life;
+mod limits;
 mod outgoing;
 mod reply;
 mod setup;
 mod timers;
 
 pub use laws::{
-    clients_are_answered, containers_are_asked, containers_are_left, frames_fit_clients,
-    replies_wait, states_are_known, times_are_kept, units_are_short,
+    channels_are_answered_once, clients_are_answered, containers_are_asked, containers_are_left,
+    frames_fit_clients, replies_wait, states_are_known, times_are_kept, units_are_short,
+    units_keep_their_order,
 };
+pub use life::Life;
+pub use limits::{HANDLE_MAX, QUEUE_BYTES, QUEUE_UNITS};
 pub use outgoing::{Outgoing, UpPending, UpSent, UpUnit};
 pub use reply::{Pending, Reply, SentLast};
 pub use setup::Setup;

@@ -16,6 +16,10 @@ pub enum UpUnit {
     Close(Option<Condition>),
     /// A frame without a body.
     Empty,
+    /// The begin of the session on this channel.
+    Begin(u16),
+    /// Its end, perhaps with an error.
+    End(u16, Option<Condition>),
 }
 
 /// A unit to an end.

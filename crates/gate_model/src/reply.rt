@@ -21,6 +21,17 @@ pub enum Reply {
     NoMemory,
     /// A heartbeat
     Heartbeat,
+    /// channel.open-ok of this channel
+    ChannelOpenOk(u16),
+    /// channel.flow-ok of this channel
+    FlowOk(u16),
+    /// channel.close-ok of this channel
+    ChannelCloseOk(u16),
+    /// channel.close-ok to a channel.close that crossed the gateway's, after the client answered
+    /// that
+    CrossedOk(u16),
+    /// channel.close of this channel, for this refusal
+    ChannelClose(u16, Refusal),
 }
 
 /// The units that are due to a client, and of which no byte was sent.

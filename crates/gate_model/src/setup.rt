@@ -7,8 +7,8 @@ ghost use Rattle.gate_model.specs.Setup.{IsInForm};
 use std::marker::Model;
 use wire_base::ByteText;
 
-/// What all pairs of a run share: which virtual host clients may open, and what containers are told. Contracts see its
-/// texts.
+/// What all pairs of a run share: which virtual host clients may open, and what containers are
+/// told. Contracts see its texts.
 #[derive(Drop)]
 pub struct Setup {
     name: ByteText,
@@ -27,8 +27,9 @@ impl Model for Setup {
 }
 
 impl Setup {
-    /// The name by which containers know the gateway, which is ASCII and has at most 100 bytes; the host that they are asked
-    /// for, which is UTF-8 and has at most 200 bytes; and the virtual host, which has at most 255 bytes.
+    /// The name by which containers know the gateway, which is ASCII and has at most 100 bytes; the
+    /// host that they are asked for, which is UTF-8 and has at most 200 bytes; and the virtual
+    /// host, which has at most 255 bytes.
     pub fn new(name: ByteText, host: Option<ByteText>, vhost: ByteText) -> Setup
         requires { IsInForm (record { name = name; host = host; vhost = vhost }) }
         ensures { result ≡ record { name = name; host = host; vhost = vhost } }

@@ -10,5 +10,6 @@ pub const CLOSING_LIMIT: u64 = 10_000;
 /// agreed to: half of it (AMQP 0-9-1 4.2.7).
 pub const BEAT_PER_SECOND: u64 = 500;
 
-/// The time-out for silence that the gateway's open states to a container (AMQP 1.0 2.4.5 and 2.7.1).
+/// The time-out for silence that the gateway's open states to a container (AMQP 1.0 2.4.5 and
+/// 2.7.1).
 pub const IDLE_STATED: u32 = 60_000;

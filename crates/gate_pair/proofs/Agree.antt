@@ -1,5 +1,5 @@
 -- What the entries say of the accept, of the ends and of the moment at which each took its last byte is what their steps say.
-use Rattle.std.proofs.Common.{◌≡◌, ◌∙◌, ℕ, Bool, true, false, ◌||◌, if◌then◌else◌, List, [], ◌∷◌, ◌++◌, drop, length, nat_lt, map, Option, None, Some, refl, sym, ap, subst}
+use Rattle.std.proofs.Common.{◌≡◌, ◌∙◌, ℕ, Bool, true, false, if◌then◌else◌, List, [], ◌∷◌, ◌++◌, drop, length, nat_lt, map, Option, None, Some, refl, sym, ap, subst}
 use Rattle.std.specs.Prelude.{is_some}
 use Rattle.std.specs.Option.{option_map}
 use Rattle.gate_outside.specs.declared.ports.End.{End}
@@ -19,13 +19,13 @@ use Rattle.machine_091.specs.State.{is_closing}
 use Rattle.gate_model.specs.declared.outgoing.Outgoing.TheVariants.{ToClient, ToUp}
 use Rattle.gate_model.specs.declared.outgoing.UpUnit.{UpUnit}
 use Rattle.gate_model.specs.declared.reply.Reply.{Reply}
-use Rattle.gate_model.specs.Due.{client_rows, is_busy}
+use Rattle.gate_model.specs.Due.{client_rows, is_busy, up_rows}
 use Rattle.gate_model.specs.Folds.{accepted_in, failed_in, moment_in, sent_at, sent_up_at, side_in}
 use Rattle.gate_model.specs.Setup.{SetupText}
 use Rattle.gate_model.specs.Spelling.{context_of, spell}
 use Rattle.gate_model.specs.State as state
 use Rattle.gate_model.specs.State.{State, Step, Came, Gave, Heard, Joined, Lost, TakenUp, Whole, before}
-use Rattle.gate_model.specs.Upstream.{UpState, closing_with, first, lost_by, shut_by, up_rows}
+use Rattle.gate_model.specs.Upstream.{UpState, closing_with, first, lost_by, shut_by}
 use Rattle.gate_pair.specs.Meaning.{begins, ends, given, offered, pair_words, state_of, steps_of, told}
 use Rattle.gate_pair.specs.Times.{accepted_of, has_failed, last_taken_at, last_taken_up_at}
 use Rattle.gate_pair.proofs.Picks.{offered_is}
@@ -81,6 +81,7 @@ leave_up : (g h : List Step) → AreTaken g → LeavesUp g h
 leave_up [] h a = record { side_is = refl; at_is = refl }
 leave_up (state.Began vhost n ms ∷ g) h a = absurd a.0
 leave_up (state.Moment ms ∷ g) h a = absurd a.0
+leave_up (state.Queued u ∷ g) h a = let x = leave_up g h a.1 in record { side_is = x.side_is; at_is = x.at_is }
 leave_up (Came u ∷ g) h a = let x = leave_up g h a.1 in record { side_is = x.side_is; at_is = x.at_is }
 leave_up (TakenUp ∷ g) h a = let x = leave_up g h a.1 in record { side_is = x.side_is; at_is = x.at_is }
 leave_up (Heard u ∷ g) h a = let x = leave_up g h a.1 in record { side_is = x.side_is; at_is = x.at_is }
@@ -221,7 +222,7 @@ took_client s g n ms rest bytes c e m x = begun (is_busy (before g) Client) refl
 
 took_up : (s : SetupText) (g : List Step) (n ms : ℕ) (rest bytes : List ℕ) (c : Clock) → offered s Up (before g) rest ≡ Some bytes → moment_in g ≡ ms → Agrees g c
     → Agrees ((ends Up n bytes ++ begins Up (before g)) ++ g) (at_last Up ms c)
-took_up s g n ms rest bytes c e m x = begun (is_busy (before g) Up) refl (up_rows ((before g).out_of_memory || is_closing (before g).conn) (before g).up (before g).moment) e
+took_up s g n ms rest bytes c e m x = begun (is_busy (before g) Up) refl (up_rows (before g)) e
   where
     begun : (b : Bool) → is_busy (before g) Up ≡ b → (us : List UpUnit) → (if b then Some rest else option_map (spell (context_of s (before g))) (first (map ToUp us))) ≡ Some bytes
         → Agrees ((ends Up n bytes ++ (if b then [] else given (first (map ToUp us)))) ++ g) (at_last Up ms c)

@@ -13,10 +13,11 @@ use Rattle.machine_10.specs.declared.unit.Unit10.TheVariants as unit_10
 use Rattle.performatives_10.specs.declared.condition.Condition.{Condition}
 use Rattle.wire_base.specs.declared.scan.Scan.{Scan}
 use Rattle.wire_base.specs.declared.scan.Scan.TheVariants.{Whole, More, Bad}
-use Rattle.gate_model.specs.State.{State, Step, Came, Heard, OutOfMemory, step, waits}
+use Rattle.gate_model.specs.State.{State, Step, Queued, Heard, OutOfMemory, step}
 use Rattle.gate_model.specs.Upstream.{awaited_of}
-use Rattle.gate_pair.specs.Cutting.{Cut, after, as_step, cut_all, cut_of, on_scan, read_end, step_scan, unit_scan, up_scan}
-use Rattle.gate_pair.specs.PairStates.{Reads, ReadsInPart}
+use Rattle.gate_pair.specs.Cutting.{Cut, after, as_step, behind, cut_all, cut_of, on_scan, read_end, settle, step_scan, unit_scan, up_scan}
+use Rattle.gate_pair.specs.PairStates.{IsCut, QueuesInPart, Reads, ReadsInPart, Settles, SettlesInPart}
+use Rattle.gate_pair.proofs.Settlings.{Grows, grows_more, less_one, settled_grows}
 
 pub drop_list : {A : Type 0} (n at : ℕ) (xs : List A) → drop n (drop at xs) ≡ drop (at + n) xs
 drop_list n zero xs = ap (λ m. drop m xs) (let e : n ≡ 0 + n = omega arith in e)
@@ -31,30 +32,36 @@ pub record Reading (end : End) (old now : State) (bytes : List ℕ) (at left : �
   pub here : now ≡ after k old
   pub same : read_end end old left k (drop at bytes) ≡ cut_all end old bytes
 
-pub read_start : (end : End) (old : State) (bytes : List ℕ) → Reading end old old bytes 0 (length bytes)
-read_start end old bytes = record { k = []; here = refl; same = refl }
+-- what can be taken up was, at the start and behind a unit
+abbrev pub Follows : End → State → State → Type 0
+Follows Client v next = Settles v next
+Follows Up v next = next ≡ v
+
+follows_is : (end : End) (old v next : State) (g : List Step) → v ≡ after g old → Follows end v next → next ≡ after (behind end old g) old
+follows_is Client old v next g e f = f old g e
+follows_is Up old v next g e f = f ∙ e
+
+pub read_start : (end : End) (old now : State) (bytes : List ℕ) → Follows end old now → Reading end old now bytes 0 (length bytes)
+read_start end old now bytes f = record { k = behind end old []; here = follows_is end old old now [] refl f; same = refl }
 
 step_read : (end : End) (old now : State) (k : List Step) (f : ℕ) (rest : List ℕ) (x : Scan Step Step) → now ≡ after k old → step_scan end now rest ≡ x →
-    read_end end old (suc f) k rest ≡ on_scan x (cut_of k rest) (λ s. cut_of (s ∷ k) []) (λ s n. read_end end old f (s ∷ k) (drop n rest))
+    read_end end old (suc f) k rest ≡ on_scan x (cut_of k rest) (λ s. cut_of (behind end old (s ∷ k)) []) (λ s n. read_end end old f (behind end old (s ∷ k)) (drop n rest))
 step_read end old now k f rest x here e =
-    ap (λ y. on_scan y (cut_of k rest) (λ s. cut_of (s ∷ k) []) (λ s n. read_end end old f (s ∷ k) (drop n rest)))
+    ap (λ y. on_scan y (cut_of k rest) (λ s. cut_of (behind end old (s ∷ k)) []) (λ s n. read_end end old f (behind end old (s ∷ k)) (drop n rest)))
     (ap (λ (w : State). step_scan end w rest) (sym here) ∙ e)
-
-pub less_one : (n i : ℕ) → i < n → n - i ≡ suc (n - (i + 1))
-less_one n i lt = omega arith
 
 left_at : (end : End) (old now : State) (bytes : List ℕ) (at i : ℕ) → i < length bytes → Reading end old now bytes at (length bytes - i) → Reading end old now bytes at (suc (length bytes - (i + 1)))
 left_at end old now bytes at i lt r = subst (Reading end old now bytes at) (less_one (length bytes) i lt) r
 
 pub whole_at : (end : End) (old now next : State) (bytes : List ℕ) (at i n : ℕ) (s : Step) → i < length bytes → Reading end old now bytes at (length bytes - i)
-    → step_scan end now (drop at bytes) ≡ Whole s n → next ≡ step now s → Reading end old next bytes (at + n) (length bytes - (i + 1))
+    → step_scan end now (drop at bytes) ≡ Whole s n → Follows end (step now s) next → Reading end old next bytes (at + n) (length bytes - (i + 1))
 whole_at end old now next bytes at i n s lt r e m =
     let f = length bytes - (i + 1) in
     let x = left_at end old now bytes at i lt r in
     record {
-      k = s ∷ x.k;
-      here = m ∙ ap (λ (w : State). step w s) x.here;
-      same = ap (read_end end old f (s ∷ x.k)) (sym (drop_list n at bytes)) ∙ sym (step_read end old now x.k f (drop at bytes) (Whole s n) x.here e) ∙ x.same;
+      k = behind end old (s ∷ x.k);
+      here = follows_is end old (step now s) next (s ∷ x.k) (ap (λ (w : State). step w s) x.here) m;
+      same = ap (read_end end old f (behind end old (s ∷ x.k))) (sym (drop_list n at bytes)) ∙ sym (step_read end old now x.k f (drop at bytes) (Whole s n) x.here e) ∙ x.same;
     }
 
 pub more_at : (end : End) (old now : State) (bytes : List ℕ) (at i : ℕ) → i < length bytes → Reading end old now bytes at (length bytes - i)
@@ -65,33 +72,42 @@ more_at end old now bytes at i lt r e =
     record { now = x.here ∙ ap (λ (c : Cut). after c.fresh old) all; left = ap (λ (c : Cut). c.unread) all }
 
 pub bad_at : (end : End) (old now next : State) (bytes : List ℕ) (at i : ℕ) (s : Step) → i < length bytes → Reading end old now bytes at (length bytes - i)
-    → step_scan end now (drop at bytes) ≡ Bad s → next ≡ step now s → Reads end bytes (length bytes) old next
+    → step_scan end now (drop at bytes) ≡ Bad s → Follows end (step now s) next → Reads end bytes (length bytes) old next
 bad_at end old now next bytes at i s lt r e m =
     let x = left_at end old now bytes at i lt r in
     let all = sym (step_read end old now x.k (length bytes - (i + 1)) (drop at bytes) (Bad s) x.here e) ∙ x.same in
     record {
-      now = m ∙ ap (λ (w : State). step w s) x.here ∙ ap (λ (c : Cut). after c.fresh old) all;
+      now = follows_is end old (step now s) next (s ∷ x.k) (ap (λ (w : State). step w s) x.here) m ∙ ap (λ (c : Cut). after c.fresh old) all;
       left = drop-length bytes ∙ ap (λ (c : Cut). c.unread) all;
     }
 
 -- a read adds steps in front
-pub record Grows (k all : List Step) : Type 0 where
-  pub newer : List Step
-  pub parts : all ≡ newer ++ k
+behind_grows : (end : End) (old : State) (k : List Step) → Grows k (behind end old k)
+behind_grows Client old k = settled_grows old (length (after k old).queue) k
+behind_grows Up old k = record { newer = []; parts = refl }
+
+step_grows : (end : End) (old : State) (s : Step) (k : List Step) → Grows k (behind end old (s ∷ k))
+step_grows end old s k = grows_more k (s ∷ k) (behind end old (s ∷ k)) (record { newer = s ∷ []; parts = refl }) (behind_grows end old (s ∷ k))
 
 pub read_grows : (end : End) (old : State) (f : ℕ) (k : List Step) (bytes : List ℕ) → Grows k (read_end end old f k bytes).fresh
 read_grows end old zero k bytes = record { newer = []; parts = refl }
-read_grows end old (suc f) k bytes = by (step_scan end (after k old) bytes) (λ s n. read_grows end old f (s ∷ k) (drop n bytes))
+read_grows end old (suc f) k bytes = by (step_scan end (after k old) bytes) (λ s n. read_grows end old f (behind end old (s ∷ k)) (drop n bytes))
   where
-    by : (x : Scan Step Step) → ((s : Step) (n : ℕ) → Grows (s ∷ k) (read_end end old f (s ∷ k) (drop n bytes)).fresh)
-        → Grows k (on_scan x (cut_of k bytes) (λ s. cut_of (s ∷ k) []) (λ s n. read_end end old f (s ∷ k) (drop n bytes))).fresh
+    by : (x : Scan Step Step) → ((s : Step) (n : ℕ) → Grows (behind end old (s ∷ k)) (read_end end old f (behind end old (s ∷ k)) (drop n bytes)).fresh)
+        → Grows k (on_scan x (cut_of k bytes) (λ s. cut_of (behind end old (s ∷ k)) []) (λ s n. read_end end old f (behind end old (s ∷ k)) (drop n bytes))).fresh
     by More rec = record { newer = []; parts = refl }
-    by (Bad s) rec = record { newer = s ∷ []; parts = refl }
-    by (Whole s n) rec =
-        let g = rec s n in
-        record { newer = g.newer ++ s ∷ []; parts = g.parts ∙ sym (append_assoc g.newer (s ∷ []) k) }
+    by (Bad s) rec = step_grows end old s k
+    by (Whole s n) rec = grows_more k (behind end old (s ∷ k)) _ (step_grows end old s k) (rec s n)
 
--- the pair ran out of memory within a read: units before that place count
+-- the pair ran out of memory within a read: steps before that place count
+cut_behind : (old next : State) (k all : List Step) → Grows k all → IsCut old next k → IsCut old next all
+cut_behind old next k all g c = record {
+  newer = g.newer ++ c.newer;
+  older = c.older;
+  parts = g.parts ∙ ap (λ (x : List Step). g.newer ++ x) c.parts ∙ sym (append_assoc g.newer c.newer c.older);
+  now = c.now;
+}
+
 pub cut_at : (end : End) (old now next : State) (bytes : List ℕ) (at left : ℕ) → Reading end old now bytes at left → next ≡ step now OutOfMemory → ReadsInPart end bytes old next
 cut_at end old now next bytes at left r e =
     let g = read_grows end old left r.k (drop at bytes) in
@@ -102,22 +118,53 @@ cut_at end old now next bytes at left r e =
       now = e ∙ ap (λ (w : State). step w OutOfMemory) r.here;
     }
 
--- before its first unit
+-- before it began
 pub none_cut : (end : End) (old next : State) (bytes : List ℕ) → next ≡ step old OutOfMemory → ReadsInPart end bytes old next
-none_cut end old next bytes e = cut_at end old old next bytes 0 (length bytes) (read_start end old bytes) e
+none_cut end old next bytes e =
+    let grown : Grows [] (cut_all end old bytes).fresh =
+    grows_more [] (behind end old []) _ (behind_grows end old []) (read_grows end old (length bytes) (behind end old []) bytes) in
+    record { newer = grown.newer; older = []; parts = grown.parts; now = e }
+
+-- within what is taken up before its first unit, and behind one
+pub start_cut_at : (old next : State) (bytes : List ℕ) → SettlesInPart old next → ReadsInPart Client bytes old next
+start_cut_at old next bytes f =
+    cut_behind old next (settle old []) _ (read_grows Client old (length bytes) (settle old []) bytes) (f old [] refl)
+
+pub whole_cut_at : (old now next : State) (bytes : List ℕ) (at i n : ℕ) (s : Step) → i < length bytes → Reading Client old now bytes at (length bytes - i)
+    → step_scan Client now (drop at bytes) ≡ Whole s n → QueuesInPart s now next → ReadsInPart Client bytes old next
+whole_cut_at old now next bytes at i n s lt r e f =
+    let left = length bytes - (i + 1) in
+    let x = left_at Client old now bytes at i lt r in
+    let k : List Step = settle old (s ∷ x.k) in
+    let all = sym (step_read Client old now x.k left (drop at bytes) (Whole s n) x.here e) ∙ x.same in
+    subst (λ (c : Cut). IsCut old next c.fresh) all
+    (cut_behind old next k _ (read_grows Client old left k (drop n (drop at bytes))) (f old x.k x.here))
+
+pub bad_cut_at : (old now next : State) (bytes : List ℕ) (at i : ℕ) (s : Step) → i < length bytes → Reading Client old now bytes at (length bytes - i)
+    → step_scan Client now (drop at bytes) ≡ Bad s → QueuesInPart s now next → ReadsInPart Client bytes old next
+bad_cut_at old now next bytes at i s lt r e f =
+    let x = left_at Client old now bytes at i lt r in
+    let all = sym (step_read Client old now x.k (length bytes - (i + 1)) (drop at bytes) (Bad s) x.here e) ∙ x.same in
+    subst (λ (c : Cut). IsCut old next c.fresh) all (f old x.k x.here)
+
+-- a unit that is queued, and what is taken up behind it
+pub queued_all : (now mid next : State) (s : Step) → mid ≡ step now s → Settles mid next → Settles (step now s) next
+queued_all now mid next s e f w g is = f w g (e ∙ is)
+
+pub cut_at_once : (now next : State) (s : Step) → next ≡ step now OutOfMemory → QueuesInPart s now next
+cut_at_once now next s e w g is =
+    let grown = step_grows Client w s g in
+    record { newer = grown.newer; older = g; parts = grown.parts; now = e ∙ ap (λ (v : State). step v OutOfMemory) is }
+
+pub cut_later : (now mid next : State) (s : Step) → mid ≡ step now s → SettlesInPart mid next → QueuesInPart s now next
+cut_later now mid next s e f w g is = f w (s ∷ g) (e ∙ ap (λ (v : State). step v s) is)
 
 -- ---- what a scan finds, as steps
 
--- nothing of the client is taken up while a request of it waits
-pub scan_waits : (w : State) (bytes : List ℕ) → waits w ≡ true → step_scan Client w bytes ≡ More
-scan_waits w bytes e = ap (λ (b : Bool). if b then More else as_step Came unit.Bad (unit_scan (awaits w.conn) bytes)) e
-
--- else what its scan finds
-pub scan_goes : (w : State) (a : Awaited91) (bytes rest : List ℕ) (x : Scan Unit91 ℕ) → waits w ≡ false → a ≡ awaits w.conn → rest ≡ bytes → x ≡ unit_scan a rest
-    → step_scan Client w bytes ≡ as_step Came unit.Bad x
-scan_goes w a bytes rest x free e same is =
-    ap (λ (b : Bool). if b then More else as_step Came unit.Bad (unit_scan (awaits w.conn) bytes)) free
-    ∙ ap (as_step Came unit.Bad) (ap (λ (c : Awaited91). unit_scan c bytes) (sym e) ∙ ap (unit_scan a) (sym same) ∙ sym is)
+pub scan_goes : (w : State) (a : Awaited91) (bytes rest : List ℕ) (x : Scan Unit91 ℕ) → a ≡ awaits w.conn → rest ≡ bytes → x ≡ unit_scan a rest
+    → step_scan Client w bytes ≡ as_step Queued unit.Bad x
+scan_goes w a bytes rest x e same is =
+    ap (as_step Queued unit.Bad) (ap (λ (c : Awaited91). unit_scan c bytes) (sym e) ∙ ap (unit_scan a) (sym same) ∙ sym is)
 
 pub scan_hears : (w : State) (a : Awaited10) (bytes rest : List ℕ) (x : Scan Unit10 Condition) → a ≡ awaited_of w.up.container → rest ≡ bytes → x ≡ up_scan a rest
     → step_scan Up w bytes ≡ as_step Heard unit_10.Bad x

@@ -4,10 +4,9 @@ use Rattle.std.specs.Prelude.{is_some}
 use Rattle.std.proofs.lemmas.List.{drop-append-le, length-drop}
 use Rattle.gate_outside.specs.declared.ports.End.{End}
 use Rattle.gate_outside.specs.declared.ports.End.TheVariants.{Client, Up}
-use Rattle.gate_outside.specs.declared.ports.Linked.TheVariants as link
-use Rattle.gate_relay.specs.declared.loss.Loss.TheVariants as loss
 use Rattle.gate_relay.specs.Entries as entry
 use Rattle.gate_relay.specs.Entries.{Entry, is_out_of_memory}
+use Rattle.gate_relay.specs.Guards.{reads}
 use Rattle.gate_relay.specs.Relayed.{IsRelayed}
 use Rattle.gate_relay.specs.Sides.{is_readable, side_of, sides}
 use Rattle.close_translate.specs.declared.codes.TheConstants.{FRAME_ERROR}
@@ -16,18 +15,17 @@ use Rattle.frames_091.specs.Headers.{header_scan}
 use Rattle.frames_10.specs.FrameScan as frames_10
 use Rattle.frames_10.specs.Headers as headers_10
 use Rattle.frames_10.specs.declared.frame.Kind10.{Kind10}
-use Rattle.machine_091.specs.Calls.{after_ended, after_opened}
-use Rattle.machine_091.specs.State.{awaits, is_opening}
+use Rattle.machine_091.specs.State.{awaits}
 use Rattle.machine_091.specs.declared.state.Awaited91.{Awaited91}
 use Rattle.machine_091.specs.declared.state.Awaited91.TheVariants as awaited
 use Rattle.machine_091.specs.declared.state.Connection.{Connection}
 use Rattle.machine_091.specs.declared.unit.Unit91.{Unit91}
 use Rattle.machine_091.specs.declared.unit.Unit91.TheVariants as unit
-use Rattle.machine_10.specs.Transitions as ten
-use Rattle.machine_10.specs.Transitions.{Meaning}
+use Rattle.machine_10.specs.State.{awaited_in}
 use Rattle.machine_10.specs.declared.limits.TheConstants.{FRAME_MAX}
 use Rattle.machine_10.specs.declared.state.Awaited10.{Awaited10}
 use Rattle.machine_10.specs.declared.state.Awaited10.TheVariants as awaited_10
+use Rattle.machine_10.specs.declared.state.Stream10.{Stream10}
 use Rattle.machine_10.specs.declared.state.Upstream.{Upstream}
 use Rattle.machine_10.specs.declared.unit.Unit10.{Unit10}
 use Rattle.machine_10.specs.declared.unit.Unit10.TheVariants as unit_10
@@ -37,19 +35,24 @@ use Rattle.wire_base.specs.declared.scan.Scan.{Scan}
 use Rattle.wire_base.specs.declared.scan.Scan.TheVariants.{Whole, More, Bad}
 use Rattle.gate_model.specs.declared.outgoing.Outgoing.{Outgoing}
 use Rattle.gate_model.specs.Due.{can_leave, is_busy, pick}
-use Rattle.gate_model.specs.Folds.{Peers, accepted_in, conn_by, connection, container, leaving_in, peers, peers_heard, ran_out_in}
-use Rattle.gate_model.specs.Picks.{ArePicks}
+use Rattle.gate_model.specs.Folds.{connection, container}
+use Rattle.gate_model.specs.declared.outgoing.UpUnit.{UpUnit}
+use Rattle.gate_model.specs.Picks.{ArePicks, MayStep}
 use Rattle.gate_model.specs.Setup.{SetupText}
 use Rattle.gate_model.specs.State as state
-use Rattle.gate_model.specs.State.{State, Step, Came, Heard, TakenUp, before, close_if, is_limit_reached, waits}
-use Rattle.gate_model.specs.Upstream.{awaited_of, ended_in, is_awaited_up, meaning_by}
+use Rattle.gate_model.specs.State.{State, Step, Came, Heard, Queued, TakenUp, before, next_unit, step}
+use Rattle.gate_model.specs.Upstream.{awaited_of, container_given, ended_in, is_awaited_up, sessions_given}
 use Rattle.gate_model.proofs.Known.{conn_is, container_is, known}
-use Rattle.gate_pair.specs.Answers.{AreCut, AreHeard, CutsInto, CutsUpInto, Finds, heard_bytes}
-use Rattle.gate_pair.specs.Cutting.{Cut, IsWithin, after, as_step, as_unit, cut_all, cut_of, on_scan, read_end, step_scan, unit_scan, up_scan}
+use Rattle.gate_model.proofs.Times.{and_right}
+use Rattle.gate_pair.specs.Answers.{AreCut, AreHeard, CutsInto, CutsUpInto, Finds, NoneWhole, heard_bytes}
+use Rattle.gate_pair.specs.Cutting.{Cut, IsWithin, after, as_step, as_unit, behind, cut_all, cut_of, on_next, on_scan, read_end, settle, settled, step_scan, unit_scan, up_scan}
 use Rattle.gate_pair.specs.Meaning.{begins, ends, given, leaves, pair_words, state_of, steps_of, told}
-use Rattle.gate_pair.proofs.Logins.{AreLoggedIn, Comes, Ends, IsUnheard, Moves, Stays, follows, moves, stays_some}
-use Rattle.gate_pair.proofs.Picks.{FindsMay, found_may, picks}
+use Rattle.gate_pair.proofs.Logins.{AreLoggedIn, Comes, Ends, IsUnheard, Keeps, Moves, Sends, Stays, follows, keeps_given, moves, stays_some}
+use Rattle.gate_pair.proofs.Memories.{memory_of}
+use Rattle.gate_pair.proofs.Picks.{FindsMay, found_since, good_at, picks, read_calm}
+use Rattle.gate_pair.proofs.Queued.{IsGood, IsGoodAt, IsReadyAt, behind_picks, behind_ready}
 use Rattle.gate_pair.proofs.Saids.{after_before}
+use Rattle.gate_pair.proofs.Taken.{AreTaken, FindsTaken, IsTaken, behind_taken, found}
 use Rattle.gate_pair.proofs.Within.{no_unit, none_found, up_within, within}
 
 -- ---- what scans find
@@ -107,7 +110,7 @@ finds_more {U} {C} bad scan st bytes more left u f = by (scan bytes) refl f
 
 client_more : AreSettled → (g : List Step) (bytes more left : List ℕ) → CutsInto g bytes left → CutsInto g (bytes ++ more) (left ++ more)
 client_more st [] bytes more left c = ap (λ (x : List ℕ). x ++ more) c
-client_more st (Came u ∷ g) bytes more left c =
+client_more st (Queued u ∷ g) bytes more left c =
     let a : Awaited91 = awaits (connection g) in
     (c.0 ++ more, client_more st g bytes more c.0 c.1, finds_more unit.Bad (unit_scan a) (client_settles st a) c.0 more left u c.2)
 client_more st (x ∷ g) bytes more left c = client_more st g bytes more left c
@@ -131,7 +134,7 @@ cuts_more st Up = up_more st
 
 -- a step that is no unit of an end
 abbrev IsOther : End → Step → Type 0
-IsOther Client (Came u) = ⊥
+IsOther Client (Queued u) = ⊥
 IsOther Up (Heard u) = ⊥
 IsOther end x = Unit {0}
 
@@ -140,7 +143,7 @@ AreOther end [] = Unit {0}
 AreOther end (x ∷ g) = IsOther end x × AreOther end g
 
 other_cuts : (end : End) (x : Step) (g : List Step) (bytes left : List ℕ) → IsOther end x → CutsOf end g bytes left → CutsOf end (x ∷ g) bytes left
-other_cuts Client (Came u) g bytes left o c = absurd o
+other_cuts Client (Queued u) g bytes left o c = absurd o
 other_cuts Client x g bytes left o c = c
 other_cuts Up (Heard u) g bytes left o c = absurd o
 other_cuts Up x g bytes left o c = c
@@ -150,7 +153,7 @@ abbrev Cuts : End → List Step → List ℕ → Type 0
 Cuts end g bytes = (left : List ℕ) × CutsOf end g bytes left
 
 cuts_older : (end : End) (x : Step) (g : List Step) (bytes : List ℕ) → Cuts end (x ∷ g) bytes → Cuts end g bytes
-cuts_older Client (Came u) g bytes c = (c.1.0, c.1.1)
+cuts_older Client (Queued u) g bytes c = (c.1.0, c.1.1)
 cuts_older Client x g bytes c = c
 cuts_older Up (Heard u) g bytes c = (c.1.0, c.1.1)
 cuts_older Up x g bytes c = c
@@ -162,49 +165,10 @@ cuts_drop end (suc n) (x ∷ k) g bytes c = cuts_drop end n k g bytes (cuts_olde
 
 -- ---- no further unit is whole
 
--- of the client, unless a request of it waited; bytes of a container come after the login
-abbrev NoneFound : End → Bool → List Step → List ℕ → Type 0
-NoneFound Client stopped g left = stopped ≡ false → unit_scan (awaits (connection g)) left ≡ More
-NoneFound Up stopped g left = (up_scan (awaited_of (container g)) left ≡ More) × (is_some (container g) ≡ false → left ≡ [])
-
-scan_opened : (b : Bool) (c : Connection) (left : List ℕ) → unit_scan (awaits c) left ≡ More → unit_scan (awaits (if b then after_opened c else c)) left ≡ More
-scan_opened true c left e = e
-scan_opened false c left e = e
-
-scan_ended : (b : Bool) (p : Peers) (left : List ℕ) → unit_scan (awaits p.client) left ≡ More
-    → unit_scan (awaits (if b then record p { client = after_ended p.client } else p).client) left ≡ More
-scan_ended true p left e = refl
-scan_ended false p left e = e
-
-scan_closed : (b : Bool) (c : Connection) (left : List ℕ) → unit_scan (awaits c) left ≡ More → unit_scan (awaits (close_if b c)) left ≡ More
-scan_closed true c left e = e
-scan_closed false c left e = e
-
-scan_meant : (m : Meaning) (c : Connection) (left : List ℕ) → unit_scan (awaits c) left ≡ More → unit_scan (awaits (conn_by m c)) left ≡ More
-scan_meant ten.Opened c left e = scan_opened (is_opening c) c left e
-scan_meant m c left e = e
-
-scan_heard : (b : Bool) (p : Peers) (u : Unit10) (left : List ℕ) → unit_scan (awaits p.client) left ≡ More
-    → unit_scan (awaits (if b then p else peers_heard p u).client) left ≡ More
-scan_heard true p u left e = e
-scan_heard false p u left e = scan_meant (meaning_by p.container u) p.client left e
-
-client_none : (x : Step) (g : List Step) (left : List ℕ) → IsOther Client x → ArePicks (x ∷ g) → unit_scan (awaits (connection g)) left ≡ More
-    → unit_scan (awaits (connection (x ∷ g))) left ≡ More
-client_none (Came u) g left o p e = absurd o
-client_none (state.Began vhost n ms) g left o p e = subst (λ (k : List Step). unit_scan (awaits (connection k)) left ≡ More) p.0 e
-client_none (state.Moment ms) g left o p e = scan_closed (is_limit_reached (connection g) (accepted_in g) ms) (connection g) left e
-client_none TakenUp g left o p e = scan_ended (not (ran_out_in g) && leaving_in g) (peers g) left e
-client_none (Heard u) g left o p e = scan_heard (ran_out_in g) (peers g) u left e
-client_none (state.Joined link.Ok) g left o p e = e
-client_none (state.Joined link.Failed) g left o p e = e
-client_none (state.Lost Client how) g left o p e = e
-client_none (state.Lost Up loss.Ended) g left o p e = e
-client_none (state.Lost Up loss.Failed) g left o p e = e
-client_none (state.Lost Up loss.Shut) g left o p e = e
-client_none (state.Gave u) g left o p e = e
-client_none (state.Whole end) g left o p e = e
-client_none state.OutOfMemory g left o p e = e
+-- as one is awaited; bytes of a container come after the login
+abbrev NoneFound : End → List Step → List ℕ → Type 0
+NoneFound Client g left = unit_scan (awaits (connection g)) left ≡ More
+NoneFound Up g left = (up_scan (awaited_of (container g)) left ≡ More) × (is_some (container g) ≡ false → left ≡ [])
 
 abbrev NoneUp : Option Upstream → List ℕ → Type 0
 NoneUp o left = (up_scan (awaited_of o) left ≡ More) × (is_some o ≡ false → left ≡ [])
@@ -216,36 +180,52 @@ up_ended : (o : Option Upstream) (left : List ℕ) → NoneUp o left → NoneUp 
 up_ended None left e = e
 up_ended (Some c) left e = (refl, λ x. clashes x)
 
+-- a unit to it leaves what is awaited
+up_given : (u : UpUnit) (o : Option Upstream) (left : List ℕ) → NoneUp o left → NoneUp (container_given u o) left
+up_given u None left e = e
+up_given u (Some c) left e =
+    let k : Keeps c (sessions_given u c) = keeps_given u c in
+    (ap (λ (s : Stream10). up_scan (awaited_in s) left) k.stream ∙ e.0, λ x. clashes x)
+
 up_none : (o o' : Option Upstream) (left : List ℕ) → Moves o o' → NoneUp o left → NoneUp o' left
 up_none o _ left Stays e = e
 up_none o _ left (Comes c none) e =
     let empty : left ≡ [] = e.1 (ap is_some none) in
     (ap (up_scan (awaited_of (Some c))) empty ∙ no_unit (awaited_of (Some c)), λ x. clashes x)
 up_none o _ left Ends e = up_ended o left e
+up_none o _ left (Sends u) e = up_given u o left e
 
 unheard : (x : Step) → IsOther Up x → IsUnheard x
 unheard (Heard u) o = absurd o
 unheard x o = tt
 
-none_stays : (end : End) (stopped : Bool) (x : Step) (g : List Step) (left : List ℕ) → IsOther end x → ArePicks (x ∷ g) → NoneFound end stopped g left → NoneFound end stopped (x ∷ g) left
-none_stays Client stopped x g left o p e = λ f. client_none x g left o p (e f)
-none_stays Up stopped x g left o p e = up_none (container g) (container (x ∷ g)) left (moves x g (unheard x o) p) e
+none_empty : (end : End) (g : List Step) (left : List ℕ) → left ≡ [] → NoneFound end g left
+none_empty Client g left e = ap (unit_scan (awaits (connection g))) e ∙ none_found (awaits (connection g))
+none_empty Up g left e = (ap (up_scan (awaited_of (container g))) e ∙ no_unit (awaited_of (container g)), λ f. e)
 
-none_empty : (end : End) (stopped : Bool) (g : List Step) (left : List ℕ) → left ≡ [] → NoneFound end stopped g left
-none_empty Client stopped g left e = λ f. ap (unit_scan (awaits (connection g))) e ∙ none_found (awaits (connection g))
-none_empty Up stopped g left e = (ap (up_scan (awaited_of (container g))) e ∙ no_unit (awaited_of (container g)), λ f. e)
+-- of a container that stays so until it is read again
+abbrev NoneLeft : End → List Step → List ℕ → Type 0
+NoneLeft Client g left = Unit {0}
+NoneLeft Up g left = NoneFound Up g left
+
+left_of : (end : End) (g : List Step) (left : List ℕ) → NoneFound end g left → NoneLeft end g left
+left_of Client g left e = tt
+left_of Up g left e = e
+
+left_stays : (end : End) (x : Step) (g : List Step) (left : List ℕ) → IsOther end x → ArePicks (x ∷ g) → NoneLeft end g left → NoneLeft end (x ∷ g) left
+left_stays Client x g left o p e = tt
+left_stays Up x g left o p e = up_none (container g) (container (x ∷ g)) left (moves x g (unheard x o) p) e
 
 -- all of some bytes was cut
-record IsCutBy (end : End) (stopped : Bool) (g : List Step) (bytes left : List ℕ) : Type 0 where
+record IsCutBy (end : End) (g : List Step) (bytes left : List ℕ) : Type 0 where
   cuts : CutsOf end g bytes left
-  none : NoneFound end stopped g left
+  none : NoneLeft end g left
 
-cut_stays : {stopped : Bool} {bytes left : List ℕ} (end : End) (k g : List Step) → AreOther end k → ArePicks (k ++ g) → IsCutBy end stopped g bytes left
-    → IsCutBy end stopped (k ++ g) bytes left
+cut_stays : {bytes left : List ℕ} (end : End) (k g : List Step) → AreOther end k → ArePicks (k ++ g) → IsCutBy end g bytes left → IsCutBy end (k ++ g) bytes left
 cut_stays end [] g o p c = c
-cut_stays {stopped} {bytes} {left} end (x ∷ k) g o p c =
-    let d : IsCutBy end stopped (k ++ g) bytes left = cut_stays end k g o.1 p.1 c in
-    record { cuts = other_cuts end x (k ++ g) bytes left o.0 d.cuts; none = none_stays end stopped x (k ++ g) left o.0 p d.none }
+cut_stays {bytes} {left} end (x ∷ k) g o p c =
+    let d : IsCutBy end (k ++ g) bytes left = cut_stays end k g o.1 p.1 c in
+    record { cuts = other_cuts end x (k ++ g) bytes left o.0 d.cuts; none = left_stays end x (k ++ g) left o.0 p d.none }
 
 -- ---- a read
 
@@ -260,19 +240,18 @@ units_stay l Up x g p e = stays_some (container g) (container (x ∷ g)) (follow
 
 -- what a scan makes of a cut
 abbrev CutsBy : End → List Step → List ℕ → List ℕ → Scan Step Step → Type 0
-CutsBy end g all bytes More = NoneFound end (waits (before g)) g bytes
+CutsBy end g all bytes More = NoneFound end g bytes
 CutsBy end g all bytes (Bad x) = CutsOf end (x ∷ g) all []
 CutsBy end g all bytes (Whole x n) = CutsOf end (x ∷ g) all (drop n bytes) × (1 ≤ n) × (n ≤ length bytes)
 
 cuts_by : (end : End) (g : List Step) (all bytes : List ℕ) → ArePicks g → HasUnits end g → CutsOf end g all bytes → CutsBy end g all bytes (step_scan end (before g) bytes)
 cuts_by Client g all bytes p i c =
-    by (waits (before g)) refl (unit_scan (awaits (before g).conn) bytes) (ap (λ (d : Connection). unit_scan (awaits d) bytes) (sym (conn_is (known g p))))
+    by (unit_scan (awaits (before g).conn) bytes) (ap (λ (d : Connection). unit_scan (awaits d) bytes) (sym (conn_is (known g p))))
   where
-    by : (b : Bool) → waits (before g) ≡ b → (x : Scan Unit91 ℕ) → unit_scan (awaits (connection g)) bytes ≡ x → CutsBy Client g all bytes (if b then More else as_step Came unit.Bad x)
-    by true w x e = λ f. clashes (sym w ∙ f)
-    by false w More e = λ f. e
-    by false w (Bad code) e = (bytes, c, subst (λ (x : Scan Unit91 ℕ). Finds unit.Bad x (unit.Bad code) bytes []) (sym e) refl)
-    by false w (Whole u n) e =
+    by : (x : Scan Unit91 ℕ) → unit_scan (awaits (connection g)) bytes ≡ x → CutsBy Client g all bytes (as_step Queued unit.Bad x)
+    by More e = e
+    by (Bad code) e = (bytes, c, subst (λ (x : Scan Unit91 ℕ). Finds unit.Bad x (unit.Bad code) bytes []) (sym e) refl)
+    by (Whole u n) e =
         let least : IsWithin {C = ℕ} bytes (Whole u n) = subst (IsWithin bytes) e (within (awaits (connection g)) bytes) in
         ((bytes, c, subst (λ (x : Scan Unit91 ℕ). Finds unit.Bad x u bytes (drop n bytes)) (sym e) (refl, refl)), least.0, least.1)
 cuts_by Up g all bytes p i c =
@@ -289,25 +268,51 @@ no_bytes : (bytes : List ℕ) → length bytes ≤ 0 → bytes ≡ []
 no_bytes [] few = refl
 no_bytes (b ∷ bytes) few = absurd (omega (arith, few))
 
-abbrev IsCutAs : End → List Step → List ℕ → Cut → Type 0
-IsCutAs end g all c = IsCutBy end (waits (after c.fresh (before g))) (c.fresh ++ g) all c.unread
-
-read_cuts : AreLoggedIn → (end : End) (g : List Step) (f : ℕ) (k : List Step) (bytes all : List ℕ) → ArePicks (k ++ g) → HasUnits end (k ++ g) → length bytes ≤ f
-    → CutsOf end (k ++ g) all bytes → IsCutAs end g all (read_end end (before g) f k bytes)
-read_cuts l end g zero k bytes all p i few c = record { cuts = c; none = none_empty end _ (k ++ g) bytes (no_bytes bytes few) }
-read_cuts l end g (suc f) k bytes all p i few c =
-    by (step_scan end (after k (before g)) bytes)
-    (subst (λ (w : State). FindsMay (k ++ g) (step_scan end w bytes)) (after_before k g) (found_may end (k ++ g) bytes p))
-    (subst (λ (w : State). CutsBy end (k ++ g) all bytes (step_scan end w bytes)) (after_before k g) (cuts_by end (k ++ g) all bytes p i c))
-    (λ x n q less d. read_cuts l end g f (x ∷ k) (drop n bytes) all q (units_stay l end x (k ++ g) q i) less d)
+-- what is taken up behind a unit is no unit that came
+settled_cuts : (w : State) (f : ℕ) (k g : List Step) (all left : List ℕ) → CutsInto (k ++ g) all left → CutsInto (settled w f k ++ g) all left
+settled_cuts w zero k g all left c = c
+settled_cuts w (suc f) k g all left c = by (next_unit (after k w)) (λ u. settled_cuts w f (Came u ∷ k) g all left c)
   where
-    by : (x : Scan Step Step) → FindsMay (k ++ g) x → CutsBy end (k ++ g) all bytes x
-        → ((x : Step) (n : ℕ) → ArePicks ((x ∷ k) ++ g) → length (drop n bytes) ≤ f → CutsOf end ((x ∷ k) ++ g) all (drop n bytes)
-        → IsCutAs end g all (read_end end (before g) f (x ∷ k) (drop n bytes)))
-        → IsCutAs end g all (on_scan x (cut_of k bytes) (λ x. cut_of (x ∷ k) []) (λ x n. read_end end (before g) f (x ∷ k) (drop n bytes)))
-    by More m d rec = record { cuts = c; none = subst (λ (w : State). NoneFound end (waits w) (k ++ g) bytes) (after_before k g) d }
-    by (Bad x) m d rec = record { cuts = d; none = none_empty end _ ((x ∷ k) ++ g) [] refl }
-    by (Whole x n) m d rec = rec x n (m, p) (omega (arith, d.1, d.2, few, length-drop n bytes)) d.0
+    by : (o : Option Unit91) → ((u : Unit91) → CutsInto (settled w f (Came u ∷ k) ++ g) all left) → CutsInto (on_next o k (λ u. settled w f (Came u ∷ k)) ++ g) all left
+    by None rec = c
+    by (Some u) rec = rec u
+
+behind_cuts : (end : End) (w : State) (k g : List Step) (all left : List ℕ) → CutsOf end (k ++ g) all left → CutsOf end (behind end w k ++ g) all left
+behind_cuts Client w k g all left c = settled_cuts w (length (after k w).queue) k g all left c
+behind_cuts Up w k g all left c = c
+
+behind_units : (end : End) (w : State) (k g : List Step) → HasUnits end (k ++ g) → HasUnits end (behind end w k ++ g)
+behind_units Client w k g i = tt
+behind_units Up w k g i = i
+
+-- a read leaves bytes with which no unit begins
+record IsReadBy (end : End) (g : List Step) (all left : List ℕ) : Type 0 where
+  cuts : CutsOf end g all left
+  none : NoneFound end g left
+
+abbrev IsReadAs : End → List Step → List ℕ → Cut → Type 0
+IsReadAs end g all c = IsReadBy end (c.fresh ++ g) all c.unread
+
+read_cuts : AreLoggedIn → (end : End) (g : List Step) (f : ℕ) (k : List Step) (bytes all : List ℕ) → ArePicks (k ++ g) → (before g).out_of_memory ≡ false → AreTaken k
+    → IsReadyAt end (after k (before g)) → HasUnits end (k ++ g) → length bytes ≤ f → CutsOf end (k ++ g) all bytes → IsReadAs end g all (read_end end (before g) f k bytes)
+read_cuts l end g zero k bytes all p calm a r i few c = record { cuts = c; none = none_empty end (k ++ g) bytes (no_bytes bytes few) }
+read_cuts l end g (suc f) k bytes all p calm a r i few c =
+    by (step_scan end (after k w) bytes) (found end (after k w) bytes) (found_since end g k bytes p calm a r)
+    (subst (λ (v : State). CutsBy end (k ++ g) all bytes (step_scan end v bytes)) (after_before k g) (cuts_by end (k ++ g) all bytes p i c))
+    (λ x n t m less d.
+    read_cuts l end g f (behind end w (x ∷ k)) (drop n bytes) all (behind_picks end g (x ∷ k) (m.0, p)) calm (behind_taken end w (x ∷ k) (t, a))
+    (behind_ready end w (x ∷ k) m.1) (behind_units end w (x ∷ k) g (units_stay l end x (k ++ g) (m.0, p) i)) less (behind_cuts end w (x ∷ k) g all (drop n bytes) d))
+  where
+    w : State
+    w = before g
+
+    by : (x : Scan Step Step) → FindsTaken x → FindsMay end (k ++ g) (after k w) x → CutsBy end (k ++ g) all bytes x
+        → ((x : Step) (n : ℕ) → IsTaken x → MayStep (k ++ g) x × IsGoodAt end (step (after k w) x) → length (drop n bytes) ≤ f → CutsOf end ((x ∷ k) ++ g) all (drop n bytes)
+        → IsReadAs end g all (read_end end w f (behind end w (x ∷ k)) (drop n bytes)))
+        → IsReadAs end g all (on_scan x (cut_of k bytes) (λ x. cut_of (behind end w (x ∷ k)) []) (λ x n. read_end end w f (behind end w (x ∷ k)) (drop n bytes)))
+    by More t m d rec = record { cuts = c; none = d }
+    by (Bad x) t m d rec = record { cuts = behind_cuts end w (x ∷ k) g all [] d; none = none_empty end (behind end w (x ∷ k) ++ g) [] refl }
+    by (Whole x n) t m d rec = rec x n t m (omega (arith, d.1, d.2, few, length-drop n bytes)) d.0
 
 -- what is cut of an end is no unit of the other
 abbrev other : End → End
@@ -319,7 +324,7 @@ FindsOther end More = Unit {0}
 FindsOther end (Bad x) = IsOther end x
 FindsOther end (Whole x n) = IsOther end x
 
-client_other : (x : Scan Unit91 ℕ) → FindsOther Up (as_step Came unit.Bad x)
+client_other : (x : Scan Unit91 ℕ) → FindsOther Up (as_step Queued unit.Bad x)
 client_other More = tt
 client_other (Bad code) = tt
 client_other (Whole u n) = tt
@@ -330,27 +335,43 @@ up_other (Bad why) = tt
 up_other (Whole u n) = tt
 
 found_other : (end : End) (w : State) (bytes : List ℕ) → FindsOther (other end) (step_scan end w bytes)
-found_other Client w bytes = by (waits w)
-  where
-    by : (b : Bool) → FindsOther Up (if b then More else as_step Came unit.Bad (unit_scan (awaits w.conn) bytes))
-    by true = tt
-    by false = client_other (unit_scan (awaits w.conn) bytes)
+found_other Client w bytes = client_other (unit_scan (awaits w.conn) bytes)
 found_other Up w bytes = up_other (up_scan (awaited_of w.up.container) bytes)
+
+came_other : (end : End) (u : Unit91) → IsOther end (Came u)
+came_other Client u = tt
+came_other Up u = tt
+
+settled_other : (end : End) (w : State) (f : ℕ) (k : List Step) → AreOther end k → AreOther end (settled w f k)
+settled_other end w zero k o = o
+settled_other end w (suc f) k o = by (next_unit (after k w)) (λ u. settled_other end w f (Came u ∷ k) (came_other end u, o))
+  where
+    by : (x : Option Unit91) → ((u : Unit91) → AreOther end (settled w f (Came u ∷ k))) → AreOther end (on_next x k (λ u. settled w f (Came u ∷ k)))
+    by None rec = o
+    by (Some u) rec = rec u
+
+settle_other : (end : End) (w : State) → AreOther end (settle w [])
+settle_other end w = settled_other end w (length w.queue) [] tt
+
+behind_other : (end : End) (w : State) (k : List Step) → AreOther (other end) k → AreOther (other end) (behind end w k)
+behind_other Client w k o = settled_other Up w (length (after k w).queue) k o
+behind_other Up w k o = o
 
 read_other : (end : End) (w : State) (f : ℕ) (k : List Step) (bytes : List ℕ) → AreOther (other end) k → AreOther (other end) (read_end end w f k bytes).fresh
 read_other end w zero k bytes o = o
 read_other end w (suc f) k bytes o =
-    by (step_scan end (after k w) bytes) (found_other end (after k w) bytes) (λ x n q. read_other end w f (x ∷ k) (drop n bytes) (q, o))
+    by (step_scan end (after k w) bytes) (found_other end (after k w) bytes)
+    (λ x n q. read_other end w f (behind end w (x ∷ k)) (drop n bytes) (behind_other end w (x ∷ k) (q, o)))
   where
     by : (x : Scan Step Step) → FindsOther (other end) x
-        → ((x : Step) (n : ℕ) → IsOther (other end) x → AreOther (other end) (read_end end w f (x ∷ k) (drop n bytes)).fresh)
-        → AreOther (other end) (on_scan x (cut_of k bytes) (λ x. cut_of (x ∷ k) []) (λ x n. read_end end w f (x ∷ k) (drop n bytes))).fresh
+        → ((x : Step) (n : ℕ) → IsOther (other end) x → AreOther (other end) (read_end end w f (behind end w (x ∷ k)) (drop n bytes)).fresh)
+        → AreOther (other end) (on_scan x (cut_of k bytes) (λ x. cut_of (behind end w (x ∷ k)) []) (λ x n. read_end end w f (behind end w (x ∷ k)) (drop n bytes))).fresh
     by More q rec = o
-    by (Bad x) q rec = (q, o)
+    by (Bad x) q rec = behind_other end w (x ∷ k) (q, o)
     by (Whole x n) q rec = rec x n q
 
 cut_other : (end : End) (w : State) (bytes : List ℕ) → AreOther (other end) (cut_all end w bytes).fresh
-cut_other end w bytes = read_other end w (length bytes) [] bytes tt
+cut_other end w bytes = read_other end w (length bytes) (behind end w []) bytes (behind_other end w [] tt)
 
 -- ---- steps that are no units of an end
 
@@ -384,102 +405,84 @@ took_other end e n bytes w =
 -- ---- all entries
 
 -- until the pair ran out of memory what is unread is what is left
-record Hears (end : End) (stopped failed : Bool) (g : List Step) (bytes unread : List ℕ) : Type 0 where
+record Hears (end : End) (failed : Bool) (g : List Step) (bytes unread : List ℕ) : Type 0 where
   cuts : Cuts end g bytes
-  all : failed ≡ false → IsCutBy end stopped g bytes unread
+  all : failed ≡ false → IsCutBy end g bytes unread
 
 cuts_stay : (end : End) (k g : List Step) (bytes left : List ℕ) → AreOther end k → CutsOf end g bytes left → CutsOf end (k ++ g) bytes left
 cuts_stay end [] g bytes left o c = c
 cuts_stay end (x ∷ k) g bytes left o c = other_cuts end x (k ++ g) bytes left o.0 (cuts_stay end k g bytes left o.1 c)
 
-hears_on : {stopped failed : Bool} {bytes unread : List ℕ} (end : End) (k g : List Step) → AreOther end k → ArePicks (k ++ g) → Hears end stopped failed g bytes unread
-    → Hears end stopped failed (k ++ g) bytes unread
+hears_on : {failed : Bool} {bytes unread : List ℕ} (end : End) (k g : List Step) → AreOther end k → ArePicks (k ++ g) → Hears end failed g bytes unread
+    → Hears end failed (k ++ g) bytes unread
 hears_on {bytes = bytes} end k g o p x = record {
   cuts = (x.cuts.0, cuts_stay end k g bytes x.cuts.0 o x.cuts.1);
   all = λ m. cut_stays end k g o p (x.all m);
 }
 
-hears_grouped : {stopped failed : Bool} {bytes unread : List ℕ} (end : End) (a b g : List Step) → Hears end stopped failed (a ++ (b ++ g)) bytes unread
-    → Hears end stopped failed ((a ++ b) ++ g) bytes unread
-hears_grouped {stopped} {failed} {bytes} {unread} end a b g x = subst (λ (y : List Step). Hears end stopped failed y bytes unread) (sym (append_assoc a b g)) x
-
 -- nothing more came of an end
-more_none : {stopped failed : Bool} {bytes unread : List ℕ} (end : End) (g : List Step) → Hears end stopped failed g bytes unread → Hears end stopped failed g (bytes ++ []) unread
-more_none {stopped} {failed} {bytes} {unread} end g x = subst (λ (b : List ℕ). Hears end stopped failed g b unread) (sym (append-nil bytes)) x
+more_none : {failed : Bool} {bytes unread : List ℕ} (end : End) (g : List Step) → Hears end failed g bytes unread → Hears end failed g (bytes ++ []) unread
+more_none {failed} {bytes} {unread} end g x = subst (λ (b : List ℕ). Hears end failed g b unread) (sym (append-nil bytes)) x
 
 -- the pair ran out of memory
-fails : {stopped : Bool} {bytes unread : List ℕ} (end : End) (g : List Step) → Cuts end g bytes → Hears end stopped true g bytes unread
+fails : {bytes unread : List ℕ} (end : End) (g : List Step) → Cuts end g bytes → Hears end true g bytes unread
 fails end g c = record { cuts = c; all = λ m. clashes m }
 
-fails_cut : {bytes : List ℕ} (end : End) (cut : ℕ) (k g : List Step) → IsOther end state.OutOfMemory → Cuts end (k ++ g) bytes → Hears end false true (state.OutOfMemory ∷ drop cut k ++ g) bytes []
+fails_cut : {bytes : List ℕ} (end : End) (cut : ℕ) (k g : List Step) → IsOther end state.OutOfMemory → Cuts end (k ++ g) bytes → Hears end true (state.OutOfMemory ∷ drop cut k ++ g) bytes []
 fails_cut {bytes} end cut k g o c =
     let d : Cuts end (drop cut k ++ g) bytes = cuts_drop end cut k g bytes c in
     fails end (state.OutOfMemory ∷ drop cut k ++ g) (d.0, other_cuts end state.OutOfMemory (drop cut k ++ g) bytes d.0 o d.1)
 
--- a read, or a take-up of what waited
-hears_cut : {failed : Bool} (end : End) (g : List Step) (all : List ℕ) (c : Cut) → IsCutAs end g all c → Hears end (waits (after c.fresh (before g))) failed (c.fresh ++ g) all c.unread
-hears_cut end g all c x = record { cuts = (c.unread, x.cuts); all = λ m. x }
+-- a read
+hears_cut : {failed : Bool} (end : End) (g : List Step) (all : List ℕ) (c : Cut) → IsReadAs end g all c → Hears end failed (c.fresh ++ g) all c.unread
+hears_cut end g all c x =
+    record { cuts = (c.unread, x.cuts); all = λ m. record { cuts = x.cuts; none = left_of end (c.fresh ++ g) c.unread x.none } }
 
-reads_on : AreSettled → AreLoggedIn → (end : End) (stopped : Bool) (g : List Step) (all unread bytes : List ℕ) → ArePicks g → HasUnits end g → IsCutBy end stopped g all unread
-    → IsCutAs end g (all ++ bytes) (cut_all end (before g) (unread ++ bytes))
-reads_on st l end stopped g all unread bytes p i c =
-    read_cuts l end g (length (unread ++ bytes)) [] (unread ++ bytes) (all ++ bytes) p i (omega arith) (cuts_more st end g all bytes unread c.cuts)
+reads_on : AreSettled → AreLoggedIn → (end : End) (g : List Step) (all unread bytes : List ℕ) → ArePicks g → (before g).out_of_memory ≡ false → IsGoodAt end (before g) → HasUnits end g
+    → IsCutBy end g all unread → IsReadAs end g (all ++ bytes) (cut_all end (before g) (unread ++ bytes))
+reads_on st l end g all unread bytes p calm good i c =
+    let w : State = before g in
+    read_cuts l end g (length (unread ++ bytes)) (behind end w []) (unread ++ bytes) (all ++ bytes) (behind_picks end g [] p) calm (behind_taken end w [] tt)
+    (behind_ready end w [] good) (behind_units end w [] g i) (omega arith) (behind_cuts end w [] g (all ++ bytes) (unread ++ bytes) (cuts_more st end g all bytes unread c.cuts))
 
-settles_on : AreLoggedIn → (stopped : Bool) (g : List Step) (all unread : List ℕ) → ArePicks g → IsCutBy Client stopped g all unread → IsCutAs Client g all (cut_all Client (before g) unread)
-settles_on l stopped g all unread p c = read_cuts l Client g (length unread) [] unread all p tt (omega arith) c.cuts
-
--- no unit of the container waits behind a request
-unstopped : {stopped failed : Bool} {bytes unread : List ℕ} (g : List Step) → Hears Up stopped failed g bytes unread → Hears Up false failed g bytes unread
-unstopped g x = record { cuts = x.cuts; all = λ m. record { cuts = (x.all m).cuts; none = (x.all m).none } }
-
-record BothHear (stopped failed : Bool) (g : List Step) (bytes unread up_bytes up_unread : List ℕ) : Type 0 where
-  client : Hears Client stopped failed g bytes unread
-  up : Hears Up false failed g up_bytes up_unread
+record BothHear (failed : Bool) (g : List Step) (bytes unread up_bytes up_unread : List ℕ) : Type 0 where
+  client : Hears Client failed g bytes unread
+  up : Hears Up failed g up_bytes up_unread
 
 abbrev HearsAll : SetupText → List Entry → Type 0
-HearsAll s h =
-    BothHear (told s h).stopped (is_out_of_memory h) (steps_of s h) (heard_bytes Client h) (told s h).client.unread (heard_bytes Up h) (told s h).up.unread
+HearsAll s h = BothHear (is_out_of_memory h) (steps_of s h) (heard_bytes Client h) (told s h).client.unread (heard_bytes Up h) (told s h).up.unread
 
-both_on : {stopped failed : Bool} {a b c d : List ℕ} (k g : List Step) → ((end : End) → AreOther end k) → ArePicks (k ++ g) → BothHear stopped failed g a b c d
-    → BothHear stopped failed (k ++ g) a b c d
-both_on k g o p x = record {
-  client = hears_on Client k g (o Client) p x.client;
-  up = hears_on Up k g (o Up) p x.up;
-}
+both_on : {failed : Bool} {a b c d : List ℕ} (k g : List Step) → ((end : End) → AreOther end k) → ArePicks (k ++ g) → BothHear failed g a b c d → BothHear failed (k ++ g) a b c d
+both_on k g o p x = record { client = hears_on Client k g (o Client) p x.client; up = hears_on Up k g (o Up) p x.up }
 
 one_other : (x : Step) → IsOther Client x → IsOther Up x → (end : End) → AreOther end (x ∷ [])
 one_other x c u Client = (c, tt)
 one_other x c u Up = (u, tt)
 
-and_left : (a b : Bool) → (a && b) ≡ true → a ≡ true
-and_left true b e = refl
-and_left false b e = absurd cc
-
-and_right : (a b : Bool) → (a && b) ≡ true → b ≡ true
-and_right true b e = e
-and_right false b e = absurd cc
-
-isnt : (a : Bool) → not a ≡ true → a ≡ false
-isnt true e = absurd cc
-isnt false e = refl
-
--- a read is asked for before the pair ran out of memory
-read_calm : (r m a : Bool) → (r && (not m && a)) ≡ true → m ≡ false
-read_calm r m a e = isnt m (and_left (not m) a (and_right r _ e))
-
 awaited_some : (o : Option Upstream) → is_awaited_up (awaited_of o) ≡ true → is_some o ≡ true
 awaited_some None e = absurd cc
 awaited_some (Some c) e = refl
 
--- and of a container after the login
+-- bytes of a container are read after the login
 read_units : (r m b a : Bool) (o : Option Upstream) → is_awaited_up (awaited_of o) ≡ a → (r && (not m && (b && a))) ≡ true → is_some o ≡ true
 read_units r m b a o f e = awaited_some o (f ∙ and_right b a (and_right (not m) _ (and_right r _ e)))
+
+-- a read of the client
+client_reads : AreSettled → AreLoggedIn → (s : SetupText) (h : List Entry) (bytes : List ℕ) → IsRelayed (pair_words s) h → reads (pair_words s) Client h ≡ true
+    → Hears Client (is_out_of_memory h) (steps_of s h) (heard_bytes Client h) (told s h).client.unread
+    → IsReadAs Client (steps_of s h) (heard_bytes Client h ++ bytes) (cut_all Client (state_of s h) ((told s h).client.unread ++ bytes))
+unfolding pair_words
+client_reads st l s h bytes r e x =
+    let p : ArePicks (steps_of s h) = picks s h r in
+    let good : IsGood (state_of s h) = good_at s h e in
+    let calm : is_out_of_memory h ≡ false = read_calm (is_readable (side_of Client (sides h))) (is_out_of_memory h) _ e in
+    reads_on st l Client (steps_of s h) (heard_bytes Client h) (told s h).client.unread bytes p good.calm good tt (x.all calm)
 
 hears : AreSettled → AreLoggedIn → (s : SetupText) (h : List Entry) → IsRelayed (pair_words s) h → HearsAll s h
 unfolding pair_words
 hears st l s [] r = record {
-  client = record { cuts = ([], refl); all = λ m. record { cuts = refl; none = none_empty Client false [] [] refl } };
-  up = record { cuts = ([], refl); all = λ m. record { cuts = refl; none = none_empty Up false [] [] refl } };
+  client = record { cuts = ([], refl); all = λ m. record { cuts = refl; none = tt } };
+  up = record { cuts = ([], refl); all = λ m. record { cuts = refl; none = none_empty Up [] [] refl } };
 }
 hears st l s (entry.Began n ms ∷ h) r =
     let x = state.Began s.vhost n ms in both_on (x ∷ []) (steps_of s h) (one_other x tt tt) (picks s (entry.Began n ms ∷ h) r) (hears st l s h r.2)
@@ -489,49 +492,33 @@ hears st l s (entry.Refused ∷ h) r =
 hears st l s (entry.Moment ms ∷ h) r =
     let x = state.Moment ms in both_on (x ∷ []) (steps_of s h) (one_other x tt tt) (picks s (entry.Moment ms ∷ h) r) (hears st l s h r.2)
 hears st l s (entry.Came Client bytes ∷ h) r =
-    let calm : is_out_of_memory h ≡ false = read_calm (is_readable (side_of Client (sides h))) (is_out_of_memory h) _ r.0.0 in
     let x = hears st l s h r.2 in
-    let t = told s h in
     let g : List Step = steps_of s h in
-    let all : List ℕ = t.client.unread ++ bytes in
+    let c : Cut = cut_all Client (before g) ((told s h).client.unread ++ bytes) in
     record {
-      client = hears_cut Client g (heard_bytes Client h ++ bytes) (cut_all Client (before g) all)
-          (reads_on st l Client t.stopped g (heard_bytes Client h) t.client.unread bytes (picks s h r.2) tt (x.client.all calm));
-      up = more_none Up _
-          (hears_on Up (cut_all Client (before g) all).fresh g (cut_other Client (before g) all) (picks s (entry.Came Client bytes ∷ h) r) x.up);
+      client = hears_cut Client g (heard_bytes Client h ++ bytes) c (client_reads st l s h bytes r.2 r.0.0 x.client);
+      up = more_none Up _ (hears_on Up c.fresh g (cut_other Client (before g) ((told s h).client.unread ++ bytes)) (picks s (entry.Came Client bytes ∷ h) r) x.up);
     }
 hears st l s (entry.Came Up bytes ∷ h) r =
-    let calm : is_out_of_memory h ≡ false = read_calm (is_readable (side_of Up (sides h))) (is_out_of_memory h) _ r.0.0 in
+    let readable : Bool = is_readable (side_of Up (sides h)) in
+    let calm : is_out_of_memory h ≡ false = read_calm readable (is_out_of_memory h) _ r.0.0 in
     let x = hears st l s h r.2 in
-    let t = told s h in
     let g : List Step = steps_of s h in
     let p = picks s h r.2 in
-    let all : List ℕ = t.up.unread ++ bytes in
+    let all : List ℕ = (told s h).up.unread ++ bytes in
     let login : is_some (container g) ≡ true =
-    ap is_some (sym (container_is (known g p)))
-    ∙ read_units (is_readable (side_of Up (sides h))) (is_out_of_memory h) (is_readable (before g).up.side) _ (before g).up.container refl r.0.0 in
+    ap is_some (sym (container_is (known g p))) ∙ read_units readable (is_out_of_memory h) (is_readable (before g).up.side) _ (before g).up.container refl r.0.0 in
     record {
-      client = more_none Client _
-          (hears_on Client (cut_all Up (before g) all).fresh g (cut_other Up (before g) all) (picks s (entry.Came Up bytes ∷ h) r) x.client);
-      up = unstopped _
-          (hears_cut Up g (heard_bytes Up h ++ bytes) (cut_all Up (before g) all) (reads_on st l Up false g (heard_bytes Up h) t.up.unread bytes p login (x.up.all calm)));
+      client = more_none Client _ (hears_on Client (cut_all Up (before g) all).fresh g (cut_other Up (before g) all) (picks s (entry.Came Up bytes ∷ h) r) x.client);
+      up = hears_cut Up g (heard_bytes Up h ++ bytes) (cut_all Up (before g) all)
+          (reads_on st l Up g (heard_bytes Up h) (told s h).up.unread bytes p (memory_of s h ∙ calm) tt login (x.up.all calm));
     }
 hears st l s (entry.Dry end ∷ h) r = hears st l s h r.2
 hears st l s (entry.Settled ∷ h) r =
-    let calm : is_out_of_memory h ≡ false = isnt (is_out_of_memory h) (and_left (not (is_out_of_memory h)) _ r.0) in
-    let x = hears st l s h r.2 in
-    let t = told s h in
     let g : List Step = steps_of s h in
-    let c : Cut = cut_all Client (before g) t.client.unread in
-    let k : List Step = leaves (before (c.fresh ++ g)) in
-    let p : ArePicks ((k ++ c.fresh) ++ g) = picks s (entry.Settled ∷ h) r in
-    record {
-      client = hears_grouped Client k c.fresh g
-          (hears_on Client k (c.fresh ++ g) (leaves_other Client (before (c.fresh ++ g))) (subst ArePicks (append_assoc k c.fresh g) p)
-          (hears_cut Client g (heard_bytes Client h) c (settles_on l t.stopped g (heard_bytes Client h) t.client.unread (picks s h r.2) (x.client.all calm))));
-      up = hears_on Up (k ++ c.fresh) g
-          (both_other Up k c.fresh (leaves_other Up (before (c.fresh ++ g))) (cut_other Client (before g) t.client.unread)) p x.up;
-    }
+    let k : List Step = settle (before g) [] in
+    let t : List Step = leaves (before (k ++ g)) in
+    both_on (t ++ k) g (λ end. both_other end t k (leaves_other end (before (k ++ g))) (settle_other end (before g))) (picks s (entry.Settled ∷ h) r) (hears st l s h r.2)
 hears st l s (entry.Joined answer ∷ h) r =
     let x = state.Joined answer in both_on (x ∷ []) (steps_of s h) (one_other x tt tt) (picks s (entry.Joined answer ∷ h) r) (hears st l s h r.2)
 hears st l s (entry.Took Client bytes n ∷ h) r =
@@ -549,22 +536,40 @@ hears st l s (entry.OutOfMemory cut ∷ h) r =
     record { client = fails_cut Client cut t.fresh t.past tt x.client.cuts; up = fails_cut Up cut t.fresh t.past tt x.up.cuts }
 hears st l s (entry.Over ∷ h) r = hears st l s h r.2
 
+-- no further unit of the client was whole when it was read last
+none_whole : AreSettled → AreLoggedIn → (s : SetupText) (h : List Entry) → IsRelayed (pair_words s) h → is_out_of_memory h ≡ false → NoneWhole s h (told s h).client.unread
+none_whole st l s [] r m = refl
+none_whole st l s (entry.Began n ms ∷ h) r m = none_whole st l s h r.2 m
+none_whole st l s (entry.Refused ∷ h) r m = clashes m
+none_whole st l s (entry.Moment ms ∷ h) r m = none_whole st l s h r.2 m
+none_whole st l s (entry.Came Client bytes ∷ h) r m = (client_reads st l s h bytes r.2 r.0.0 (hears st l s h r.2).client).none
+none_whole st l s (entry.Came Up bytes ∷ h) r m = none_whole st l s h r.2 m
+none_whole st l s (entry.Dry end ∷ h) r m = none_whole st l s h r.2 m
+none_whole st l s (entry.Settled ∷ h) r m = none_whole st l s h r.2 m
+none_whole st l s (entry.Joined answer ∷ h) r m = none_whole st l s h r.2 m
+none_whole st l s (entry.Took Client bytes n ∷ h) r m = none_whole st l s h r.2 m
+none_whole st l s (entry.Took Up bytes n ∷ h) r m = none_whole st l s h r.2 m
+none_whole st l s (entry.Stuck end bytes ∷ h) r m = none_whole st l s h r.2 m
+none_whole st l s (entry.Lost end how ∷ h) r m = none_whole st l s h r.2 m
+none_whole st l s (entry.OutOfMemory cut ∷ h) r m = clashes m
+none_whole st l s (entry.Over ∷ h) r m = none_whole st l s h r.2 m
+
 -- ---- what they say of each end
 
 pub are_cut : AreSettled → AreLoggedIn → (s : SetupText) (h : List Entry) → IsRelayed (pair_words s) h → AreCut s h
 are_cut st l s h r = by (is_out_of_memory h) refl
   where
-    x : Hears Client (told s h).stopped (is_out_of_memory h) (steps_of s h) (heard_bytes Client h) (told s h).client.unread
+    x : Hears Client (is_out_of_memory h) (steps_of s h) (heard_bytes Client h) (told s h).client.unread
     x = (hears st l s h r).client
 
     by : (b : Bool) → is_out_of_memory h ≡ b → AreCut s h
     by true e = record { left = x.cuts.0; cuts = x.cuts.1; none = λ m. clashes (sym e ∙ m) }
-    by false e = record { left = (told s h).client.unread; cuts = (x.all e).cuts; none = λ m. (x.all e).none }
+    by false e = record { left = (told s h).client.unread; cuts = (x.all e).cuts; none = none_whole st l s h r }
 
 pub are_heard : AreSettled → AreLoggedIn → (s : SetupText) (h : List Entry) → IsRelayed (pair_words s) h → AreHeard s h
 are_heard st l s h r = by (is_out_of_memory h) refl
   where
-    x : Hears Up false (is_out_of_memory h) (steps_of s h) (heard_bytes Up h) (told s h).up.unread
+    x : Hears Up (is_out_of_memory h) (steps_of s h) (heard_bytes Up h) (told s h).up.unread
     x = (hears st l s h r).up
 
     by : (b : Bool) → is_out_of_memory h ≡ b → AreHeard s h

@@ -11,7 +11,7 @@ use Rattle.gate_relay.specs.Guards.{connects, offers, reads, takes_up}
 use Rattle.gate_relay.specs.Relayed as relayed
 use Rattle.gate_relay.specs.Relayed.{IsRelayed, MayCome, RunsOut}
 use Rattle.gate_relay.specs.Sides.{is_absent, is_open_side, is_readable, is_writable, side_of, sides}
-use Rattle.machine_091.specs.State.{awaits, is_closing, is_opening}
+use Rattle.machine_091.specs.State.{awaits, is_opening}
 use Rattle.machine_091.specs.declared.state.Connection.{Connection}
 use Rattle.machine_10.specs.declared.state.Upstream.{Upstream}
 use Rattle.gate_model.specs.declared.outgoing.Outgoing.{Outgoing}
@@ -19,25 +19,17 @@ use Rattle.gate_model.specs.declared.outgoing.Outgoing.TheVariants.{ToClient, To
 use Rattle.gate_model.specs.declared.outgoing.UpUnit.{UpUnit}
 use Rattle.gate_model.specs.declared.outgoing.UpUnit.TheVariants as up
 use Rattle.gate_model.specs.declared.reply.Reply.{Reply}
-use Rattle.gate_model.specs.Due.{client_rows, is_awaited, is_awaiting, is_busy, pick, takes_memory, takes_memory_up}
+use Rattle.gate_model.specs.Due.{can_leave, can_take_unit, client_rows, is_awaited, is_awaiting, is_busy, is_held, pick, takes_memory, takes_memory_up, up_rows}
 use Rattle.gate_model.specs.Setup.{SetupText}
 use Rattle.gate_model.specs.Spelling.{Context, context_of, spell}
-use Rattle.gate_model.specs.State.{State, waits}
-use Rattle.gate_model.specs.Upstream.{awaited_of, first, is_awaited_up, up_rows}
+use Rattle.gate_model.specs.State.{State, place}
+use Rattle.gate_model.specs.Upstream.{awaited_of, first, is_awaited_up}
 use Rattle.gate_model.proofs.Known.{Known, conn_is, container_is, known, number_is}
-use Rattle.gate_pair.specs.Lawful.{AreLawful, IsAskedFor, IsAwaited, IsHeard, IsOfferOf, IsOffered, IsTakenUp, Keeps, RunsOutIn, InRead, InTakeUp, InOpening, Shuts, WhereDue, AtTheEnd, AtRefusal, TellsName}
+use Rattle.gate_model.proofs.Times.{Either, OnLeft, OnRight, and_left, and_right, either}
+use Rattle.gate_pair.specs.Lawful.{AreLawful, IsAskedFor, IsAwaited, IsHeard, IsOfferOf, IsOffered, IsTakenUp, Keeps, RunsOutIn, InRead, InTakeUp, InSpelling, Shuts, WhereDue, AtTheEnd, AtRefusal, TakesMemory}
 use Rattle.gate_pair.specs.Meaning.{needs_memory, offered, pair_words, state_of, steps_of, stream_of, told}
-use Rattle.gate_pair.specs.Meaning as meaning
 use Rattle.gate_pair.proofs.Picks.{picks}
 use Rattle.gate_pair.proofs.Timings.{AreTimed, due_at}
-
-and_left : (a b : Bool) → (a && b) ≡ true → a ≡ true
-and_left true b e = refl
-and_left false b e = absurd cc
-
-and_right : (a b : Bool) → (a && b) ≡ true → b ≡ true
-and_right true b e = e
-and_right false b e = absurd cc
 
 isnt : (a : Bool) → not a ≡ true → a ≡ false
 isnt true e = absurd cc
@@ -52,7 +44,7 @@ knows s h r = known (steps_of s h) (picks s h r)
 awaited : (s : SetupText) (end : End) (h : List Entry) → IsRelayed (pair_words s) h → is_awaiting (state_of s h) end ≡ true → IsAwaited s end h
 awaited s Client h r e = (
   ap (λ (c : Connection). is_awaited (awaits c)) (sym (conn_is (knows s h r))) ∙ and_left (is_awaited (awaits (state_of s h).conn)) _ e,
-  isnt (waits (state_of s h)) (and_right (is_awaited (awaits (state_of s h).conn)) _ e),
+  isnt (is_held (state_of s h)) (and_right (is_awaited (awaits (state_of s h).conn)) _ e),
 )
 awaited s Up h r e =
     ap (λ (o : Option Upstream). is_awaited_up (awaited_of o)) (sym (container_is (knows s h r))) ∙ and_right (is_readable (state_of s h).up.side) _ e
@@ -69,21 +61,16 @@ heard s end h r e =
 
 -- ---- what is taken up, and the connection upstream
 
-either_of : (a b : Bool) → (a || b) ≡ true → (b ≡ true) ⊎ (a ≡ true)
-either_of true b e = inr refl
-either_of false b e = inl e
+some_taken : (w : State) → Either (can_take_unit w) (can_leave w) → (is_some (place w) ≡ true) ⊎ (can_leave w ≡ true)
+some_taken w (OnLeft e) = inl (and_right (not w.out_of_memory) _ e)
+some_taken w (OnRight e) = inr e
 
 taken_up : (s : SetupText) (h : List Entry) → takes_up (pair_words s) h ≡ true → IsTakenUp s h
 unfolding pair_words
-taken_up s h e =
-    let w : State = state_of s h in
-    let both : meaning.takes_up w (told s h).stopped ≡ true = and_right (not (is_out_of_memory h)) _ e in
-    let can : (not w.out_of_memory && not (waits w)) ≡ true = and_left (not w.out_of_memory && not (waits w)) _ both in
-    record {
-      calm = isnt (is_out_of_memory h) (and_left (not (is_out_of_memory h)) _ e);
-      settled = isnt (waits w) (and_right (not w.out_of_memory) _ can);
-      some = either_of w.leaving (told s h).stopped (and_right (not w.out_of_memory && not (waits w)) _ both);
-    }
+taken_up s h e = record {
+  calm = isnt (is_out_of_memory h) (and_left (not (is_out_of_memory h)) _ e);
+  some = some_taken (state_of s h) (either _ _ (and_right (not (is_out_of_memory h)) _ e));
+}
 
 asked_for : (s : SetupText) (h : List Entry) → IsRelayed (pair_words s) h → connects (pair_words s) h ≡ true → IsAskedFor s h
 unfolding pair_words
@@ -140,28 +127,30 @@ client_takes : (us : List Reply) → takes_memory (first (map ToClient us)) ≡ 
 client_takes [] e = absurd cc
 client_takes (u ∷ us) e = absurd cc
 
-tells_name : (u : UpUnit) → takes_memory_up u ≡ true → TellsName u
-tells_name up.SaslHeader e = absurd cc
-tells_name up.SaslInit e = inl refl
-tells_name up.AmqpHeader e = absurd cc
-tells_name up.Open e = inr refl
-tells_name (up.Close c) e = absurd cc
-tells_name up.Empty e = absurd cc
+takes_some : (u : UpUnit) → takes_memory_up u ≡ true → TakesMemory u
+takes_some up.SaslHeader e = absurd cc
+takes_some up.SaslInit e = inl refl
+takes_some up.AmqpHeader e = absurd cc
+takes_some up.Open e = inr (inl refl)
+takes_some (up.Close c) e = absurd cc
+takes_some up.Empty e = absurd cc
+takes_some (up.Begin n) e = inr (inr (n, refl))
+takes_some (up.End n why) e = absurd cc
 
 writable_by : (b : Bool) (o : Option (List ℕ)) → is_some (if b then o else None) ≡ true → b ≡ true
 writable_by true o e = refl
 writable_by false o e = absurd cc
 
-in_opening : (s : SetupText) (h : List Entry) (us : List UpUnit) → is_writable (side_of Up (sides h)) ≡ true → is_busy (state_of s h) Up ≡ false
+in_spelling : (s : SetupText) (h : List Entry) (us : List UpUnit) → is_writable (side_of Up (sides h)) ≡ true → is_busy (state_of s h) Up ≡ false
     → pick (state_of s h) Up ≡ first (map ToUp us) → takes_memory (first (map ToUp us)) ≡ true → RunsOutIn s 0 h
-in_opening s h [] w free e f = absurd cc
-in_opening s h (u ∷ us) w free e f = InOpening u h w free e (tells_name u f)
+in_spelling s h [] w free e f = absurd cc
+in_spelling s h (u ∷ us) w free e f = InSpelling u h w free e (takes_some u f)
 
 at_write : (s : SetupText) (end : End) (h : List Entry) → is_some (offers (pair_words s) end h) ≡ true → needs_memory (state_of s h) end ≡ true → RunsOutIn s 0 h
 at_write s Client h e f = absurd (client_takes (client_rows (state_of s h)) (and_right (not (is_busy (state_of s h) Client)) _ f))
 at_write s Up h e f =
     let w : State = state_of s h in
-    in_opening s h (up_rows (w.out_of_memory || is_closing w.conn) w.up w.moment) (writable_by (is_writable (side_of Up (sides h))) _ e)
+    in_spelling s h (up_rows w) (writable_by (is_writable (side_of Up (sides h))) _ e)
     (isnt (is_busy w Up) (and_left (not (is_busy w Up)) _ f)) refl (and_right (not (is_busy w Up)) _ f)
 
 runs_out : (s : SetupText) (cut : ℕ) (h : List Entry) → RunsOut (pair_words s) cut h → RunsOutIn s cut h

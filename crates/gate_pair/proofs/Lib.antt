@@ -5,8 +5,10 @@ pub mod Lawfuls
 pub mod Logins
 pub mod Memories
 pub mod Picks
+pub mod Queued
 pub mod Saids
 pub mod Sent
+pub mod Settlings
 pub mod Sounds
 pub mod Taken
 pub mod Tells

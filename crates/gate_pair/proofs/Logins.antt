@@ -11,8 +11,12 @@ use Rattle.machine_091.specs.Calls.{after_ended}
 use Rattle.machine_091.specs.Transitions.{unit_step}
 use Rattle.machine_091.specs.Transitions as machine
 use Rattle.machine_091.specs.declared.unit.Unit91.{Unit91}
+use Rattle.machine_10.specs.Calls.{after_begin_sent, after_end_sent, asked, left, may_begin}
 use Rattle.machine_10.specs.Laws.{GoesOn}
+use Rattle.machine_10.specs.State.{session_at, with_session}
 use Rattle.machine_10.specs.Transitions as ten
+use Rattle.machine_10.specs.declared.state.Session.{Session}
+use Rattle.machine_10.specs.declared.state.Session.TheVariants as session
 use Rattle.machine_10.specs.declared.state.Upstream.{Upstream}
 use Rattle.machine_10.specs.declared.unit.Unit10.{Unit10}
 use Rattle.gate_model.specs.declared.outgoing.Outgoing.TheVariants.{ToClient, ToUp}
@@ -25,8 +29,8 @@ use Rattle.gate_model.specs.Folds.{Peers, connection, container, container_kept,
 use Rattle.gate_model.specs.Picks.{ArePicks}
 use Rattle.gate_model.specs.Setup.{SetupText}
 use Rattle.gate_model.specs.Spelling.{Context, context_of, init_text, spell}
-use Rattle.gate_model.specs.State.{Step, Began, Moment, Came, TakenUp, Heard, Joined, Lost, Gave, Whole, OutOfMemory, before}
-use Rattle.gate_model.specs.Upstream.{container_by, ended_in, opening_rows, when_up}
+use Rattle.gate_model.specs.State.{Step, Began, Moment, Queued, Came, TakenUp, Heard, Joined, Lost, Gave, Whole, OutOfMemory, before}
+use Rattle.gate_model.specs.Upstream.{container_by, container_given, ended_in, opening_rows, sessions_given, when_up}
 use Rattle.gate_model.proofs.Known.{container_is, known, number_is}
 use Rattle.gate_model.proofs.Outcomes.{Outcome, Greets, Parts, LogsIn, Tunes, Asks, Passes, Refuses, Parting, Calls, Asking, Frees, Closes, Answers, Ignores, outcome}
 use Rattle.gate_model.proofs.Ups.{Early, early, is_early}
@@ -44,6 +48,7 @@ pub data Moves (o : Option Upstream) : Option Upstream → Type 0 where
   Stays : Moves o o
   Comes : (c : Upstream) → o ≡ None → Moves o (Some c)
   Ends : Moves o (ended_in o)
+  Sends : (u : UpUnit) → Moves o (container_given u o)
 
 abbrev pub IsUnheard : Step → Type 0
 IsUnheard (Heard u) = ⊥
@@ -63,7 +68,7 @@ moves_came p u f = by (unit_step p.client u) (outcome p.client u)
     by _ (Parting e) = Stays
     by _ (Calls n s m e) = Stays
     by _ (Asking n m e) = Stays
-    by _ (Frees n) = Stays
+    by _ (Frees n e) = Stays
     by _ (Closes e) = Stays
     by _ (Answers e) = Stays
     by _ (Ignores e) = Stays
@@ -75,6 +80,7 @@ moves_if o false p q f g = g
 pub moves : (x : Step) (g : List Step) → IsUnheard x → ArePicks (x ∷ g) → Moves (container g) (container (x ∷ g))
 moves (Began vhost n ms) g i p = subst (λ (g : List Step). Moves (container g) None) (sym p.0) Stays
 moves (Moment ms) g i p = Stays
+moves (Queued u) g i p = Stays
 moves (Came u) g i p = moves_if (container g) (ran_out_in g) (peers g) (peers_came (peers g) u) Stays (moves_came (peers g) u (early g))
 moves TakenUp g i p = moves_if (container g) (not (ran_out_in g) && leaving_in g) (record (peers g) { client = after_ended (connection g) }) (peers g) Stays Stays
 moves (Heard u) g i p = absurd i
@@ -84,7 +90,8 @@ moves (Lost Client how) g i p = Stays
 moves (Lost Up loss.Ended) g i p = Ends
 moves (Lost Up loss.Failed) g i p = Ends
 moves (Lost Up loss.Shut) g i p = Stays
-moves (Gave u) g i p = Stays
+moves (Gave (ToClient u)) g i p = Stays
+moves (Gave (ToUp u)) g i p = Sends u
 moves (Whole end) g i p = Stays
 moves OutOfMemory g i p = Stays
 
@@ -102,10 +109,60 @@ follows_ended : (o : Option Upstream) → Follows o (ended_in o)
 follows_ended None = tt
 follows_ended (Some c) = (refl, refl)
 
+-- a unit that goes to a container leaves its login and its stream
+pub record Keeps (c d : Upstream) : Type 0 where
+  pub mechanism : d.mechanism ≡ c.mechanism
+  pub response : d.response ≡ c.response
+  pub stream : d.stream ≡ c.stream
+
+keeps_all : (c : Upstream) → Keeps c c
+keeps_all c = record { mechanism = refl; response = refl; stream = refl }
+
+keeps_session : (c : Upstream) (n : ℕ) (x : Session) → Keeps c (with_session c n x)
+keeps_session c n x = record { mechanism = refl; response = refl; stream = refl }
+
+keeps_begin : (n : ℕ) (c : Upstream) → Keeps c (after_begin_sent n c)
+keeps_begin n c = by (may_begin c n) (session_at c n)
+  where
+    by : (b : Bool) (x : Session) → Keeps c (if b then asked x n c else c)
+    by false x = keeps_all c
+    by true session.Free = keeps_session c n session.Asked
+    by true session.Asked = keeps_all c
+    by true session.Left = keeps_all c
+    by true (session.Open m) = keeps_all c
+    by true (session.Leaving m) = keeps_all c
+    by true (session.Ended m) = keeps_all c
+
+keeps_end : (n : ℕ) (c : Upstream) → Keeps c (after_end_sent n c)
+keeps_end n c = by (session_at c n)
+  where
+    by : (x : Session) → Keeps c (left x n c)
+    by session.Free = keeps_all c
+    by session.Asked = keeps_session c n session.Left
+    by session.Left = keeps_all c
+    by (session.Open m) = keeps_session c n (session.Leaving m)
+    by (session.Leaving m) = keeps_all c
+    by (session.Ended m) = keeps_session c n session.Free
+
+pub keeps_given : (u : UpUnit) (c : Upstream) → Keeps c (sessions_given u c)
+keeps_given up.SaslHeader c = keeps_all c
+keeps_given up.SaslInit c = keeps_all c
+keeps_given up.AmqpHeader c = keeps_all c
+keeps_given up.Open c = keeps_all c
+keeps_given (up.Close why) c = keeps_all c
+keeps_given up.Empty c = keeps_all c
+keeps_given (up.Begin n) c = keeps_begin n c
+keeps_given (up.End n why) c = keeps_end n c
+
+follows_given : (u : UpUnit) (o : Option Upstream) → Follows o (container_given u o)
+follows_given u None = tt
+follows_given u (Some c) = let k : Keeps c (sessions_given u c) = keeps_given u c in (k.mechanism, k.response)
+
 follows_moves : (o o' : Option Upstream) → Moves o o' → Follows o o'
 follows_moves o _ Stays = follows_same o
 follows_moves o _ (Comes c none) = subst (λ (o : Option Upstream). Follows o (Some c)) (sym none) tt
 follows_moves o _ Ends = follows_ended o
+follows_moves o _ (Sends u) = follows_given u o
 
 follows_heard : AreLoggedIn → (o : Option Upstream) (u : Unit10) → Follows o (container_by o u)
 follows_heard l None u = tt
@@ -128,6 +185,8 @@ is_init up.AmqpHeader = false
 is_init up.Open = false
 is_init (up.Close why) = false
 is_init up.Empty = false
+is_init (up.Begin n) = false
+is_init (up.End n why) = false
 
 pub stays_some : (o o' : Option Upstream) → Follows o o' → is_some o ≡ true → is_some o' ≡ true
 stays_some None o f e = absurd cc
@@ -160,6 +219,8 @@ opening_inits (up.AmqpHeader ∷ us) e = opening_inits us e
 opening_inits (up.Open ∷ us) e = opening_inits us e
 opening_inits (up.Close why ∷ us) e = opening_inits us e
 opening_inits (up.Empty ∷ us) e = opening_inits us e
+opening_inits (up.Begin n ∷ us) e = opening_inits us e
+opening_inits (up.End n why ∷ us) e = opening_inits us e
 
 pass_over : (b : Bool) (u : UpUnit) (us : List UpUnit) → is_init u ≡ false → list_any is_init (when_up b u ++ us) ≡ list_any is_init us
 pass_over true u us e = ap (λ (x : Bool). x || list_any is_init us) e
@@ -213,6 +274,8 @@ unit_same c d up.Open e f i =
     ap (λ (n : ℕ). spell (record c { number = n }) (ToUp up.Open)) f ∙ ap (λ (s : SetupText). spell (record d { setup = s }) (ToUp up.Open)) e
 unit_same c d (up.Close why) e f i = refl
 unit_same c d up.Empty e f i = refl
+unit_same c d (up.Begin n) e f i = refl
+unit_same c d (up.End n why) e f i = refl
 
 up_same : (c d : Context) (us : List UpUnit) → c.setup ≡ d.setup → c.number ≡ d.number → (list_any is_init us ≡ true → init_text c.container ≡ init_text d.container)
     → spelled c (map ToUp us) ≡ spelled d (map ToUp us)
@@ -221,7 +284,7 @@ up_same c d (u ∷ us) e f i =
     joins (unit_same c d u e f (λ x. i (or_left (is_init u) (list_any is_init us) x)))
     (up_same c d us e f (λ x. i (or_right (is_init u) (list_any is_init us) x)))
 
-client_same : (c d : Context) (us : List Reply) → spelled c (map ToClient us) ≡ spelled d (map ToClient us)
+pub client_same : (c d : Context) (us : List Reply) → spelled c (map ToClient us) ≡ spelled d (map ToClient us)
 client_same c d [] = refl
 client_same c d (u ∷ us) = ap (λ (b : List ℕ). spell c (ToClient u) ++ b) (client_same c d us)
 
@@ -234,6 +297,14 @@ bytes_stay l s Up (Began vhost n ms) g p =
 bytes_stay l s Up x g p =
     up_same (context_in s (x ∷ g)) (context_in s g) (sent_up g) refl refl
     (λ e. init_same (container g) (container (x ∷ g)) (init_some l g p.1 e) (follows l x g p))
+
+-- nor one that goes the bytes of its own
+init_given : (u : UpUnit) (o : Option Upstream) → init_text (container_given u o) ≡ init_text o
+init_given u None = refl
+init_given u (Some c) = let k : Keeps c (sessions_given u c) = keeps_given u c in init_same (Some c) (Some (sessions_given u c)) refl (k.mechanism, k.response)
+
+pub gave_stay : (s : SetupText) (u : UpUnit) (g : List Step) → spell (context_in s (Gave (ToUp u) ∷ g)) (ToUp u) ≡ spell (context_in s g) (ToUp u)
+gave_stay s u g = unit_same (context_in s (Gave (ToUp u) ∷ g)) (context_in s g) u refl refl (λ e. init_given u (container g))
 
 -- a state knows what decides them
 pub context_is : (s : SetupText) (g : List Step) → ArePicks g → context_of s (before g) ≡ context_in s g

@@ -1,21 +1,21 @@
 -- What entries that are asked for say is a list of steps whose outgoing ones are picks. No loop is in sight here.
-use Rattle.std.proofs.Common.{◌≡◌, ◌∙◌, ℕ, zero, suc, ◌≤◌, Bool, true, false, not, ◌&&◌, if◌then◌else◌, List, [], ◌∷◌, ◌++◌, drop, length, nat_lt, Option, None, Some, refl, sym, ap, subst, append_assoc}
+use Rattle.std.proofs.Common.{◌≡◌, ◌∙◌, ℕ, zero, suc, ◌≤◌, Bool, true, false, not, ◌&&◌, ◌||◌, if◌then◌else◌, List, [], ◌∷◌, ◌++◌, drop, length, nat_lt, Option, None, Some, refl, sym, ap, subst, append_assoc}
 use Rattle.std.specs.Option.{option_map}
 use Rattle.gate_outside.specs.declared.ports.End.{End}
 use Rattle.gate_outside.specs.declared.ports.End.TheVariants.{Client, Up}
 use Rattle.gate_relay.specs.Entries as entry
 use Rattle.gate_relay.specs.Entries.{Entry, is_out_of_memory, is_over, moment_of}
+use Rattle.gate_relay.specs.Guards.{reads}
 use Rattle.gate_relay.specs.Relayed.{IsRelayed, is_new}
-use Rattle.gate_relay.specs.Sides.{is_absent, is_writable, sides, side_of}
+use Rattle.gate_relay.specs.Sides.{is_absent, is_readable, is_writable, sides, side_of}
 use Rattle.close_translate.specs.declared.codes.TheConstants.{FRAME_ERROR}
 use Rattle.frames_091.specs.FrameScan.{scan_of}
 use Rattle.frames_091.specs.Headers.{header_scan}
 use Rattle.frames_10.specs.FrameScan as frames_10
 use Rattle.frames_10.specs.Headers as headers_10
-use Rattle.machine_091.specs.State.{awaits}
+use Rattle.machine_091.specs.State.{awaits, is_opening}
 use Rattle.machine_091.specs.declared.state.Awaited91.{Awaited91}
 use Rattle.machine_091.specs.declared.state.Awaited91.TheVariants as awaited
-use Rattle.machine_091.specs.declared.state.Connection.{Connection}
 use Rattle.machine_091.specs.declared.unit.Unit91.{Unit91}
 use Rattle.machine_091.specs.declared.unit.Unit91.TheVariants as unit
 use Rattle.machine_10.specs.declared.limits.TheConstants.{FRAME_MAX}
@@ -30,32 +30,35 @@ use Rattle.wire_base.specs.declared.scan.Scan.{Scan}
 use Rattle.wire_base.specs.declared.scan.Scan.TheVariants.{Whole, More, Bad}
 use Rattle.gate_model.specs.declared.outgoing.Outgoing.{Outgoing}
 use Rattle.gate_model.specs.declared.outgoing.Outgoing.TheVariants.{ToClient, ToUp}
-use Rattle.gate_model.specs.Due.{can_leave, is_busy, is_connect_due, pick}
-use Rattle.gate_model.specs.Folds.{connection, container, ran_out_in}
-use Rattle.gate_model.specs.Picks.{ArePicks, MayBeHeard, MayComeAs, MayStep}
+use Rattle.gate_model.specs.Due.{can_leave, is_awaited, is_busy, is_connect_due, pick}
+use Rattle.gate_model.specs.Folds.{container, ran_out_in}
+use Rattle.gate_model.specs.Picks.{ArePicks, MayBeHeard, MayComeAs, MayQueue, MayStep}
+use Rattle.gate_model.specs.Queue.{is_bad_unit, is_full}
 use Rattle.gate_model.specs.Setup.{SetupText}
 use Rattle.gate_model.specs.Spelling.{context_of, spell}
 use Rattle.gate_model.specs.State as state
-use Rattle.gate_model.specs.State.{State, Step, Came, Gave, Heard, TakenUp, before, waits}
+use Rattle.gate_model.specs.State.{State, Step, Gave, Heard, Queued, TakenUp, before, close_waits, step}
 use Rattle.gate_model.specs.Upstream.{awaited_of}
-use Rattle.gate_model.proofs.Known.{conn_is, container_is, known}
+use Rattle.gate_model.proofs.Known.{container_is, known}
 use Rattle.gate_model.proofs.Known as knows
-use Rattle.gate_pair.specs.Cutting.{after, as_step, as_unit, cut_of, on_scan, read_end, step_scan, unit_scan, up_scan}
-use Rattle.gate_pair.specs.Meaning.{begins, ends, given, leaves, offered, pair_words, state_of, steps, steps_of, told, took_in}
+use Rattle.gate_model.proofs.Times.{and_left, and_right}
+use Rattle.gate_pair.specs.Cutting.{after, as_step, as_unit, behind, cut_all, cut_of, on_scan, read_end, settle, step_scan, unit_scan, up_scan}
+use Rattle.gate_pair.specs.Meaning.{begins, ends, given, leaves, offered, pair_words, state_of, steps_of, told}
 use Rattle.gate_pair.proofs.Memories.{memory_of}
+use Rattle.gate_pair.proofs.Queued.{IsGood, IsGoodAt, IsReady, IsReadyAt, behind_picks, behind_ready, none_of_both, queued_good, settle_picks}
 use Rattle.gate_pair.proofs.Saids.{after_before}
 use Rattle.gate_pair.proofs.Sounds.{client_picks, up_picks}
-use Rattle.gate_pair.proofs.Taken.{cut_leaves, fresh_leave, moment_is}
+use Rattle.gate_pair.proofs.Taken.{AreTaken, FindsTaken, IsTaken, all_leave, behind_taken, cut_leaves, found, fresh_leave, moment_is}
 
 -- ---- units come as they are awaited
 
 abbrev FindsAs : Awaited91 → Scan Unit91 ℕ → Type 0
 FindsAs a More = Unit {0}
 FindsAs a (Bad code) = MayComeAs a (unit.Bad code)
-FindsAs a (Whole u n) = MayComeAs a u
+FindsAs a (Whole u n) = MayComeAs a u × (is_bad_unit u ≡ false)
 
 header_as : {A F : Type 0} (s : Scan A F) → FindsAs awaited.Header (as_unit (λ x. unit.Protocol) 0 s)
-header_as (Whole x n) = tt
+header_as (Whole x n) = (tt, refl)
 header_as More = tt
 header_as (Bad f) = refl
 
@@ -64,7 +67,7 @@ found_as awaited.Header bytes = header_as (header_scan bytes)
 found_as (awaited.Frame size) bytes = by (scan_of size bytes)
   where
     by : {F : Type 0} (s : Scan _ F) → FindsAs (awaited.Frame size) (as_unit unit.Frame FRAME_ERROR s)
-    by (Whole x n) = tt
+    by (Whole x n) = (tt, refl)
     by More = tt
     by (Bad f) = refl
 found_as awaited.Nothing bytes = tt
@@ -89,46 +92,95 @@ heard_as awaited_10.Frame bytes = by (frames_10.scan_of FRAME_MAX bytes)
     by (Bad f) = refl
 heard_as awaited_10.Nothing bytes = tt
 
--- a step that is found may come
-abbrev pub FindsMay : List Step → Scan Step Step → Type 0
-FindsMay h More = Unit {0}
-FindsMay h (Bad s) = MayStep h s
-FindsMay h (Whole s n) = MayStep h s
+-- a step that is found may come, and is no bad unit where it is whole
+abbrev pub FindsMay : End → List Step → State → Scan Step Step → Type 0
+FindsMay end h w More = Unit {0}
+FindsMay end h w (Bad s) = MayStep h s
+FindsMay end h w (Whole s n) = MayStep h s × IsGoodAt end (step w s)
 
-pub found_may : (end : End) (h : List Step) (bytes : List ℕ) → ArePicks h → FindsMay h (step_scan end (before h) bytes)
-found_may Client h bytes p = by (waits (before h)) refl (unit_scan (awaits (before h).conn) bytes) (found_as (awaits (before h).conn) bytes)
+client_may : (h : List Step) (bytes : List ℕ) → (before h).out_of_memory ≡ false → IsReady (before h) → FindsMay Client h (before h) (step_scan Client (before h) bytes)
+client_may h bytes calm r = by (unit_scan (awaits (before h).conn) bytes) (found_as (awaits (before h).conn) bytes)
   where
-    may : (u : Unit91) → MayComeAs (awaits (before h).conn) u → MayComeAs (awaits (connection h)) u
-    may u m = subst (λ (c : Connection). MayComeAs (awaits c) u) (conn_is (known h p)) m
+    queue : MayQueue (before h)
+    queue = record { taken = r.taken; good = r.good }
 
-    by : (b : Bool) → waits (before h) ≡ b → (x : Scan Unit91 ℕ) → FindsAs (awaits (before h).conn) x → FindsMay h (if b then More else as_step Came unit.Bad x)
-    by true e x m = tt
-    by false e More m = tt
-    by false e (Bad code) m = (may (unit.Bad code) m, e)
-    by false e (Whole u n) m = (may u m, e)
-found_may Up h bytes p = by (up_scan (awaited_of (before h).up.container) bytes) (heard_as (awaited_of (before h).up.container) bytes)
+    by : (x : Scan Unit91 ℕ) → FindsAs (awaits (before h).conn) x → FindsMay Client h (before h) (as_step Queued unit.Bad x)
+    by More m = tt
+    by (Bad code) m = (m, queue)
+    by (Whole u n) m = ((m.0, queue), queued_good (before h) u calm r.good m.1)
+
+up_may : (h : List Step) (bytes : List ℕ) → ArePicks h → FindsMay Up h (before h) (step_scan Up (before h) bytes)
+up_may h bytes p = by (up_scan (awaited_of (before h).up.container) bytes) (heard_as (awaited_of (before h).up.container) bytes)
   where
     may : (u : Unit10) → MayBeHeard (awaited_of (before h).up.container) u → MayBeHeard (awaited_of (container h)) u
     may u m = subst (λ (c : Option Upstream). MayBeHeard (awaited_of c) u) (container_is (known h p)) m
 
-    by : (x : Scan Unit10 Condition) → HearsAs (awaited_of (before h).up.container) x → FindsMay h (as_step Heard unit_10.Bad x)
+    by : (x : Scan Unit10 Condition) → HearsAs (awaited_of (before h).up.container) x → FindsMay Up h (before h) (as_step Heard unit_10.Bad x)
     by More m = tt
     by (Bad why) m = may (unit_10.Bad why) m
-    by (Whole u n) m = may u m
+    by (Whole u n) m = (may u m, tt)
 
-read_picks : (end : End) (h : List Step) (f : ℕ) (g : List Step) (bytes : List ℕ) → ArePicks (g ++ h) → ArePicks ((read_end end (before h) f g bytes).fresh ++ h)
-read_picks end h zero g bytes p = p
-read_picks end h (suc f) g bytes p =
-    by (step_scan end (after g (before h)) bytes)
-    (subst (λ (w : State). FindsMay (g ++ h) (step_scan end w bytes)) (after_before g h) (found_may end (g ++ h) bytes p))
-    (λ s n q. read_picks end h f (s ∷ g) (drop n bytes) q)
+pub found_may : (end : End) (h : List Step) (bytes : List ℕ) → ArePicks h → (before h).out_of_memory ≡ false → IsReadyAt end (before h)
+    → FindsMay end h (before h) (step_scan end (before h) bytes)
+found_may Client h bytes p calm r = client_may h bytes calm r
+found_may Up h bytes p calm r = up_may h bytes p
+
+-- the same since a state
+pub found_since : (end : End) (h g : List Step) (bytes : List ℕ) → ArePicks (g ++ h) → (before h).out_of_memory ≡ false → AreTaken g → IsReadyAt end (after g (before h))
+    → FindsMay end (g ++ h) (after g (before h)) (step_scan end (after g (before h)) bytes)
+found_since end h g bytes p calm a r =
+    let same : before (g ++ h) ≡ after g (before h) = after_before g h in
+    subst (λ (w : State). FindsMay end (g ++ h) w (step_scan end w bytes)) same
+    (found_may end (g ++ h) bytes p (ap (λ (w : State). w.out_of_memory) same ∙ (all_leave g (before h) a).memory_is ∙ calm)
+    (subst (IsReadyAt end) (sym same) r))
+
+read_picks : (end : End) (h : List Step) (f : ℕ) (g : List Step) (bytes : List ℕ) → ArePicks (g ++ h) → (before h).out_of_memory ≡ false → AreTaken g
+    → IsReadyAt end (after g (before h)) → ArePicks ((read_end end (before h) f g bytes).fresh ++ h)
+read_picks end h zero g bytes p calm a r = p
+read_picks end h (suc f) g bytes p calm a r =
+    by (step_scan end (after g (before h)) bytes) (found end (after g (before h)) bytes) (found_since end h g bytes p calm a r)
+    (λ s n t m. read_picks end h f (behind end (before h) (s ∷ g)) (drop n bytes) (behind_picks end h (s ∷ g) (m.0, p)) calm (behind_taken end (before h) (s ∷ g) (t, a))
+    (behind_ready end (before h) (s ∷ g) m.1))
   where
-    by : (x : Scan Step Step) → FindsMay (g ++ h) x
-        → ((s : Step) (n : ℕ) → ArePicks ((s ∷ g) ++ h) → ArePicks ((read_end end (before h) f (s ∷ g) (drop n bytes)).fresh ++ h))
-        → ArePicks ((on_scan x (cut_of g bytes) (λ s. cut_of (s ∷ g) []) (λ s n. read_end end (before h) f (s ∷ g) (drop n bytes))).fresh ++ h)
-    by More m rec = p
-    by (Bad s) m rec = (m, p)
-    by (Whole s n) m rec = rec s n (m, p)
+    w : State
+    w = before h
+
+    by : (x : Scan Step Step) → FindsTaken x → FindsMay end (g ++ h) (after g w) x
+        → ((s : Step) (n : ℕ) → IsTaken s → MayStep (g ++ h) s × IsGoodAt end (step (after g w) s)
+        → ArePicks ((read_end end w f (behind end w (s ∷ g)) (drop n bytes)).fresh ++ h))
+        → ArePicks ((on_scan x (cut_of g bytes) (λ s. cut_of (behind end w (s ∷ g)) []) (λ s n. read_end end w f (behind end w (s ∷ g)) (drop n bytes))).fresh ++ h)
+    by More t m rec = p
+    by (Bad s) t m rec = behind_picks end h (s ∷ g) (m, p)
+    by (Whole s n) t m rec = rec s n t m
+
+cut_picks : (end : End) (h : List Step) (bytes : List ℕ) → ArePicks h → (before h).out_of_memory ≡ false → IsGoodAt end (before h)
+    → ArePicks ((cut_all end (before h) bytes).fresh ++ h)
+cut_picks end h bytes p calm good =
+    read_picks end h (length bytes) (behind end (before h) []) bytes (behind_picks end h [] p) calm (behind_taken end (before h) [] tt)
+    (behind_ready end (before h) [] good)
+
+-- an end is read while the pair has memory, and the client while no unit that waits is bad
+isnt : (a : Bool) → not a ≡ true → a ≡ false
+isnt true e = absurd cc
+isnt false e = refl
+
+pub read_calm : (r m a : Bool) → (r && (not m && a)) ≡ true → m ≡ false
+read_calm r m a e = isnt m (and_left (not m) a (and_right r _ e))
+
+read_good : (r m a o c b f : Bool) → (r && (not m && (a && not (o || (c || (b || f)))))) ≡ true → b ≡ false
+read_good r m a o c b f e =
+    let held : (o || (c || (b || f))) ≡ false = isnt _ (and_right a _ (and_right (not m) _ (and_right r _ e))) in
+    (none_of_both b f (none_of_both c _ (none_of_both o _ held).1).1).0
+
+pub good_at : (s : SetupText) (h : List Entry) → reads (pair_words s) Client h ≡ true → IsGood (state_of s h)
+unfolding pair_words
+good_at s h e =
+    let w : State = state_of s h in
+    let readable : Bool = is_readable (side_of Client (sides h)) in
+    record {
+      calm = memory_of s h ∙ read_calm readable (is_out_of_memory h) _ e;
+      good = read_good readable (is_out_of_memory h) (is_awaited (awaits w.conn)) (is_opening w.conn) (close_waits w) _ (is_full w.queue) e;
+    }
 
 -- ---- units that go are those that are offered
 
@@ -214,14 +266,16 @@ picks s (entry.Began p ms ∷ h) r = (ap (steps_of s) r.0, picks s h r.2)
 picks s (entry.Refused ∷ h) r = let p = picks s h r.2 in (memory_in s h p ∙ new_calm h r.0, p)
 picks s (entry.Moment ms ∷ h) r = (subst (λ (n : ℕ). n ≤ ms) (sym (moment_is s h)) r.0, picks s h r.2)
 picks s (entry.Came Client bytes ∷ h) r =
-    read_picks Client (steps_of s h) (length ((told s h).client.unread ++ bytes)) [] ((told s h).client.unread ++ bytes) (picks s h r.2)
-picks s (entry.Came Up bytes ∷ h) r = read_picks Up (steps_of s h) (length ((told s h).up.unread ++ bytes)) [] ((told s h).up.unread ++ bytes) (picks s h r.2)
+    let good : IsGood (state_of s h) = good_at s h r.0.0 in
+    cut_picks Client (steps_of s h) ((told s h).client.unread ++ bytes) (picks s h r.2) good.calm good
+picks s (entry.Came Up bytes ∷ h) r =
+    cut_picks Up (steps_of s h) ((told s h).up.unread ++ bytes) (picks s h r.2)
+    (memory_of s h ∙ read_calm (is_readable (side_of Up (sides h))) (is_out_of_memory h) _ r.0.0) tt
 picks s (entry.Dry end ∷ h) r = picks s h r.2
 picks s (entry.Settled ∷ h) r =
-    let t = told s h in
-    let u = took_in t.client.unread t in
-    subst ArePicks (sym (append_assoc (leaves (before (steps u))) u.fresh u.past))
-    (leaves_picks (steps u) (read_picks Client (steps t) (length t.client.unread) [] t.client.unread (picks s h r.2)))
+    let g : List Step = steps_of s h in
+    let k : List Step = settle (before g) [] in
+    subst ArePicks (sym (append_assoc (leaves (before (k ++ g))) k g)) (leaves_picks (k ++ g) (settle_picks g [] (picks s h r.2)))
 picks s (entry.Joined answer ∷ h) r = (connect_is (is_absent (side_of Up (sides h))) (is_out_of_memory h) (is_connect_due (state_of s h)) r.0, picks s h r.2)
 picks s (entry.Took Client bytes n ∷ h) r =
     took_picks Client s (steps_of s h) n (told s h).client.rest bytes

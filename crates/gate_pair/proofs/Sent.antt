@@ -26,7 +26,7 @@ use Rattle.gate_model.specs.State.{State, Step, Gave, Whole, before, step}
 use Rattle.gate_model.specs.Upstream.{UpState, first, linked, lost_by, shut_by}
 use Rattle.gate_pair.specs.Answers.{AreSent, OwesNone, context_in, sent_to, spelled, taken_bytes}
 use Rattle.gate_pair.specs.Meaning.{begins, ends, given, offered, pair_words, state_of, steps_of, stream_of, told}
-use Rattle.gate_pair.proofs.Logins.{AreLoggedIn, bytes_stay, context_is}
+use Rattle.gate_pair.proofs.Logins.{AreLoggedIn, bytes_stay, client_same, context_is, gave_stay}
 use Rattle.gate_pair.proofs.Picks.{offered_is, picks}
 use Rattle.gate_pair.proofs.Sounds.{client_picks, up_picks}
 use Rattle.gate_pair.proofs.Taken.{AreTaken, IsTaken, closing_keeps, fail_leaves, drop_taken, fresh_taken, taken_leaves}
@@ -56,6 +56,7 @@ quiet_going Client (state.Began vhost n ms) w q = refl
 quiet_going Up (state.Began vhost n ms) w q = refl
 quiet_going Client (state.Moment ms) w q = refl
 quiet_going Up (state.Moment ms) w q = refl
+quiet_going end (state.Queued u) w q = taken_going end (state.Queued u) w tt
 quiet_going end (state.Came u) w q = taken_going end (state.Came u) w tt
 quiet_going end state.TakenUp w q = taken_going end state.TakenUp w tt
 quiet_going end (state.Heard u) w q = taken_going end (state.Heard u) w tt
@@ -141,14 +142,17 @@ spelled_next c [] u = append-nil (spell c u)
 spelled_next c (x ∷ us) u = ap (λ (b : List ℕ). spell c x ++ b) (spelled_next c us u) ∙ sym (append_assoc (spell c x) (spelled c us) (spell c u))
 
 -- the first byte of a unit
-gave_bytes : (s : SetupText) (end : End) (g : List Step) (u : Outgoing) → ArePicks g → pick (before g) end ≡ Some u
+gave_bytes : AreLoggedIn → (s : SetupText) (end : End) (g : List Step) (u : Outgoing) → ArePicks g → is_busy (before g) end ≡ false → pick (before g) end ≡ Some u
     → bytes_in s end (Gave u ∷ g) ≡ bytes_in s end g ++ spell (context_of s (before g)) u
-gave_bytes s Client g (ToClient r) p e =
+gave_bytes l s Client g (ToClient r) p free e =
     ap (spelled (context_in s g)) (map-append ToClient (sent g) (r ∷ [])) ∙ spelled_next (context_in s g) (map ToClient (sent g)) (ToClient r)
-gave_bytes s Client g (ToUp r) p e = absurd (client_picks (before g) r e)
-gave_bytes s Up g (ToClient r) p e = absurd (up_picks (before g) r e)
-gave_bytes s Up g (ToUp r) p e =
-    ap (spelled (context_in s g)) (map-append ToUp (sent_up g) (r ∷ [])) ∙ spelled_next (context_in s g) (map ToUp (sent_up g)) (ToUp r)
+gave_bytes l s Client g (ToUp r) p free e = absurd (client_picks (before g) r e)
+gave_bytes l s Up g (ToClient r) p free e = absurd (up_picks (before g) r e)
+gave_bytes l s Up g (ToUp r) p free e =
+    let c : Context = context_in s (Gave (ToUp r) ∷ g) in
+    ap (spelled c) (map-append ToUp (sent_up g) (r ∷ [])) ∙ spelled_next c (map ToUp (sent_up g)) (ToUp r)
+    ∙ ap (λ (b : List ℕ). b ++ spell c (ToUp r)) (bytes_stay l s Up (Gave (ToUp r)) g ((free, e), p))
+    ∙ ap (λ (b : List ℕ). bytes_in s Up g ++ b) (gave_stay s r g)
     ∙ ap (λ (c : Context). bytes_in s Up g ++ spell c (ToUp r)) (sym (context_is s g p))
 
 gave_busy : (end : End) (w : State) (u : Outgoing) → pick w end ≡ Some u → is_busy (step w (Gave u)) end ≡ true
@@ -181,9 +185,9 @@ goes_on s end g n taken bytes busy e = by (nat_lt n (length bytes)) refl
     by true f = record { bytes = all; free = λ x. clashes (sym busy ∙ x) }
     by false f = record { bytes = all ∙ sym (whole_bytes s end g); free = λ x. none_left n bytes f }
 
-took_sends : (s : SetupText) (end : End) (g : List Step) (n : ℕ) (taken rest bytes : List ℕ) → ArePicks g → offered s end (before g) rest ≡ Some bytes
+took_sends : AreLoggedIn → (s : SetupText) (end : End) (g : List Step) (n : ℕ) (taken rest bytes : List ℕ) → ArePicks g → offered s end (before g) rest ≡ Some bytes
     → SendsIn s end g taken rest → SendsIn s end ((ends end n bytes ++ begins end (before g)) ++ g) (taken ++ take n bytes) (drop n bytes)
-took_sends s end g n taken rest bytes p e x = begun (is_busy (before g) end) refl (pick (before g) end) refl e
+took_sends l s end g n taken rest bytes p e x = begun (is_busy (before g) end) refl (pick (before g) end) refl e
   where
     begun : (b : Bool) → is_busy (before g) end ≡ b → (o : Option Outgoing) → pick (before g) end ≡ o → (if b then Some rest else option_map (spell (context_of s (before g))) o) ≡ Some bytes
         → SendsIn s end ((ends end n bytes ++ (if b then [] else given o)) ++ g) (taken ++ take n bytes) (drop n bytes)
@@ -197,7 +201,7 @@ took_sends s end g n taken rest bytes p e x = begun (is_busy (before g) end) ref
         let none : taken ≡ bytes_in s end g = sym (append-nil taken) ∙ ap (λ (b : List ℕ). taken ++ b) (sym (x.free is)) ∙ x.bytes in
         subst (λ (k : List Step). SendsIn s end k (taken ++ take n bytes) (drop n bytes)) (sym (append_assoc (ends end n bytes) (Gave u ∷ []) g))
         (goes_on s end (Gave u ∷ g) n taken bytes (gave_busy end (before g) u at)
-        (ap (λ (b : List ℕ). b ++ bytes) none ∙ ap (λ (b : List ℕ). bytes_in s end g ++ b) (sym same) ∙ sym (gave_bytes s end g u p at)))
+        (ap (λ (b : List ℕ). b ++ bytes) none ∙ ap (λ (b : List ℕ). bytes_in s end g ++ b) (sym same) ∙ sym (gave_bytes l s end g u p is at)))
 
 -- what it leaves of the other end
 abbrev other : End → End
@@ -208,7 +212,7 @@ gave_same : (s : SetupText) (end : End) (g : List Step) (u : Outgoing) → pick 
 gave_same s Client g (ToClient r) e = record { bytes = refl; busy = refl }
 gave_same s Client g (ToUp r) e = absurd (client_picks (before g) r e)
 gave_same s Up g (ToClient r) e = absurd (up_picks (before g) r e)
-gave_same s Up g (ToUp r) e = record { bytes = refl; busy = refl }
+gave_same s Up g (ToUp r) e = record { bytes = client_same (context_in s (Gave (ToUp r) ∷ g)) (context_in s g) (sent g); busy = refl }
 
 whole_same : (s : SetupText) (end : End) (g : List Step) → SameSent s (other end) g (Whole end ∷ g)
 whole_same s Client g = record { bytes = refl; busy = refl }
@@ -265,7 +269,7 @@ sends l s (entry.Took Client bytes n ∷ h) r =
     let x = sends l s h r.2 in
     let e = offered_is (is_writable (side_of Client (sides h))) (offered s Client (state_of s h) (told s h).client.rest) bytes r.0.0 in
     record {
-      client = took_sends s Client (steps_of s h) n (taken_bytes Client h) (told s h).client.rest bytes (picks s h r.2) e x.client;
+      client = took_sends l s Client (steps_of s h) n (taken_bytes Client h) (told s h).client.rest bytes (picks s h r.2) e x.client;
       up = more_none s Up _ (sends_same s Up (steps_of s h) _ (took_same s Client (steps_of s h) n bytes) x.up);
     }
 sends l s (entry.Took Up bytes n ∷ h) r =
@@ -273,7 +277,7 @@ sends l s (entry.Took Up bytes n ∷ h) r =
     let e = offered_is (is_writable (side_of Up (sides h))) (offered s Up (state_of s h) (told s h).up.rest) bytes r.0.0 in
     record {
       client = more_none s Client _ (sends_same s Client (steps_of s h) _ (took_same s Up (steps_of s h) n bytes) x.client);
-      up = took_sends s Up (steps_of s h) n (taken_bytes Up h) (told s h).up.rest bytes (picks s h r.2) e x.up;
+      up = took_sends l s Up (steps_of s h) n (taken_bytes Up h) (told s h).up.rest bytes (picks s h r.2) e x.up;
     }
 sends l s (entry.Stuck end bytes ∷ h) r = sends l s h r.2
 sends l s (entry.Lost end how ∷ h) r = both_quiet l s (state.Lost end how) (steps_of s h) tt (picks s (entry.Lost end how ∷ h) r) (sends l s h r.2)

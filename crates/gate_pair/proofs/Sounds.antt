@@ -1,5 +1,5 @@
 -- What holds of a pair's bridge holds after each step: the login that is due to the container is known, so that what is offered has bytes.
-use Rattle.std.proofs.Common.{◌≡◌, ◌∙◌, ℕ, ◌<◌, Bool, true, false, not, ◌&&◌, ◌||◌, map, if◌then◌else◌, List, [], ◌∷◌, ◌++◌, length, Option, None, Some, refl, sym, ap, subst, arith}
+use Rattle.std.proofs.Common.{append_assoc, drop, ◌+◌, ◌≡◌, ◌∙◌, ℕ, ◌<◌, Bool, true, false, not, ◌&&◌, ◌||◌, map, if◌then◌else◌, List, [], ◌∷◌, ◌++◌, length, Option, None, Some, refl, sym, ap, subst, arith}
 use Rattle.std.specs.Prelude.{is_some}
 use Rattle.std.specs.Option.{option_map}
 use Rattle.gate_outside.specs.declared.ports.End.{End}
@@ -15,6 +15,7 @@ use Rattle.machine_091.specs.State.{is_closing, is_opening}
 use Rattle.machine_091.specs.Transitions as nine
 use Rattle.machine_091.specs.declared.unit.Want91.{Want91}
 use Rattle.machine_091.specs.declared.unit.Want91.TheVariants as want
+use Rattle.machine_091.specs.declared.unit.Unit91.{Unit91}
 use Rattle.machine_10.specs.Transitions as ten
 use Rattle.machine_10.specs.Transitions.{Meaning}
 use Rattle.machine_10.specs.declared.state.Upstream.{Upstream}
@@ -28,15 +29,19 @@ use Rattle.gate_model.specs.declared.outgoing.Outgoing.TheVariants.{ToClient, To
 use Rattle.gate_model.specs.declared.outgoing.UpUnit.{UpUnit}
 use Rattle.gate_model.specs.declared.outgoing.UpUnit.TheVariants as unit
 use Rattle.gate_model.specs.declared.reply.Reply.{Reply}
-use Rattle.gate_model.specs.Due.{client_rows, is_busy, pick}
+use Rattle.gate_model.specs.Due.{client_rows, close_behind, ends, is_busy, is_end_due, pick, rows_in, up_rows}
+use Rattle.gate_model.specs.Lives.{each, is_free, session_in}
+use Rattle.gate_model.specs.declared.life.Life.{Life}
 use Rattle.gate_model.specs.Setup.{SetupText}
 use Rattle.gate_model.specs.Spelling.{context_of, init_text, spell}
 use Rattle.gate_model.specs.State as state
-use Rattle.gate_model.specs.State.{State, Step, condition_by, fail, failed, heard, keep_login, step, with_meaning}
-use Rattle.gate_model.specs.Upstream.{UpState, closing_with, ended_in, first, heard_up, is_idle_due, lost_by, meaning_by, rows_in, shut_by, up_rows, when_up, without_up}
+use Rattle.gate_model.specs.State.{State, Step, condition_by, fail, failed, heard, keep_login, next_unit, runs, step, with_meaning}
+use Rattle.gate_model.specs.Upstream.{UpState, closing_with, container_given, ended_in, first, heard_up, is_idle_due, lost_by, meaning_by, shut_by, when_up, without_up}
+use Rattle.gate_model.proofs.Sessions.{session_cases}
 use Rattle.gate_model.proofs.Spelled.{spelled_some}
-use Rattle.bridge_core.specs.Offers.{BridgeState, Keeps, bytes_of, client_bytes, moved, peeked}
-use Rattle.gate_pair.specs.PairStates.{IsSound, KnowsLogin, StaysSound}
+use Rattle.bridge_core.specs.Offers.{BridgeState, Keeps, advanced, bytes_of, client_bytes, moved, peeked, with_next}
+use Rattle.gate_pair.specs.Meaning.{offered}
+use Rattle.gate_pair.specs.PairStates.{IsSound, KnowsLogin, StaysSound, ready_at}
 
 -- ---- the login
 
@@ -77,10 +82,10 @@ meaning_container ten.Init w = refl
 meaning_container ten.AmqpHeader w = refl
 meaning_container ten.Opened w = by (is_opening w.conn)
   where
-    by : (b : Bool) → (if b then record w { conn = after_opened w.conn; pending = record w.pending { open_ok = true } } else w).up.container ≡ w.up.container
+    by : (b : Bool) → (if b then runs w else w).up.container ≡ w.up.container
     by true = refl
     by false = refl
-meaning_container (ten.OfSession g p payload) w = refl
+meaning_container (ten.OfSession g p payload) w = session_cases (λ (v : State). v.up.container ≡ w.up.container) g p w refl (fail_container _ _ w) refl (λ code why. refl)
 meaning_container (ten.Closed e) w = fail_container _ None w
 meaning_container ten.Refused w = fail_container _ None w
 meaning_container (ten.Violation c) w = fail_container _ (Some c) w
@@ -113,20 +118,31 @@ joined_knows : (w : State) (answer : Linked) → KnowsLogin w.up → KnowsLogin 
 joined_knows w link.Ok k = λ e. absurd cc
 joined_knows w link.Failed k = fail_knows _ None (record w { up = shut_by w.up }) k
 
-begun_knows : (u : UpUnit) (s : UpState) → KnowsLogin s → (without_up u s.pending).init ≡ true → is_some s.container ≡ true
-begun_knows unit.SaslHeader s k = k
+given_some : (u : UpUnit) (c : Option Upstream) → is_some c ≡ true → is_some (container_given u c) ≡ true
+given_some u None e = absurd cc
+given_some u (Some c) e = refl
+
+begun_knows : (u : UpUnit) (s : UpState) → KnowsLogin s → (without_up u s.pending).init ≡ true → is_some (container_given u s.container) ≡ true
+begun_knows unit.SaslHeader s k = λ e. given_some unit.SaslHeader s.container (k e)
 begun_knows unit.SaslInit s k = λ e. absurd cc
-begun_knows unit.AmqpHeader s k = k
-begun_knows unit.Open s k = k
-begun_knows (unit.Close c) s k = k
-begun_knows unit.Empty s k = k
+begun_knows unit.AmqpHeader s k = λ e. given_some unit.AmqpHeader s.container (k e)
+begun_knows unit.Open s k = λ e. given_some unit.Open s.container (k e)
+begun_knows (unit.Close c) s k = λ e. given_some (unit.Close c) s.container (k e)
+begun_knows unit.Empty s k = λ e. given_some unit.Empty s.container (k e)
+begun_knows (unit.Begin n) s k = λ e. given_some (unit.Begin n) s.container (k e)
+begun_knows (unit.End n why) s k = λ e. given_some (unit.End n why) s.container (k e)
 
 pub step_knows : (s : Step) (w : State) → KnowsLogin w.up → KnowsLogin (step w s).up
 step_knows (state.Began vhost n ms) w k = k
 step_knows (state.Moment ms) w k = k
+step_knows (state.Queued u) w k = by w.out_of_memory
+  where
+    by : (b : Bool) → KnowsLogin (if b then w else record w { queue = w.queue ++ u ∷ [] }).up
+    by true = k
+    by false = k
 step_knows (state.Came u) w k = by w.out_of_memory
   where
-    by : (b : Bool) → KnowsLogin (if b then w else state.came w u).up
+    by : (b : Bool) → KnowsLogin (if b then w else state.came (state.dequeued w) u).up
     by true = k
     by false =
         closing_knows (is_closing w.conn) (condition_by (nine.unit_step w.conn u).1) (keep_login (nine.unit_step w.conn u).1 w.up)
@@ -164,30 +180,63 @@ pub client_picks : (w : State) (u : UpUnit) → pick w Client ≡ Some (ToUp u) 
 client_picks w u e = client_first (client_rows w) u e
 
 pub up_picks : (w : State) (u : Reply) → pick w Up ≡ Some (ToClient u) → ⊥
-up_picks w u e = up_first_is (up_rows (w.out_of_memory || is_closing w.conn) w.up w.moment) u e
+up_picks w u e = up_first_is (up_rows w) u e
+
+-- no begin, end, close or empty frame is the login
+abbrev NoLogin : List UpUnit → Type 0
+NoLogin us = first (map ToUp us) ≡ Some (ToUp unit.SaslInit) → ⊥
+
+when_none : (b : Bool) (u : UpUnit) (us : List UpUnit) → (Some (ToUp u) ≡ Some (ToUp unit.SaslInit) → ⊥) → NoLogin us → NoLogin (when_up b u ++ us)
+when_none true u us isnt none e = isnt e
+when_none false u us isnt none e = none e
+
+begins_none : (c : Option Upstream) (n : ℕ) (ls : List Life) (us : List UpUnit) → NoLogin us
+    → NoLogin (each (λ k l. when_up (l.begin && is_free (session_in c k)) (unit.Begin k)) n ls ++ us)
+begins_none c n [] us none e = none e
+begins_none c n (l ∷ ls) us none e =
+    let rest : List UpUnit = each (λ k l. when_up (l.begin && is_free (session_in c k)) (unit.Begin k)) (n + 1) ls in
+    when_none (l.begin && is_free (session_in c n)) (unit.Begin n) (rest ++ us) (λ f. cc) (begins_none c (n + 1) ls us none)
+    (ap (λ (vs : List UpUnit). first (map ToUp vs)) (sym (append_assoc (when_up (l.begin && is_free (session_in c n)) (unit.Begin n)) rest us)) ∙ e)
+
+ends_none : (closing : Bool) (w : State) (n : ℕ) (ls : List Life) (us : List UpUnit) → NoLogin us
+    → NoLogin (each (λ k l. when_up (is_end_due closing w k) (unit.End k l.why)) n ls ++ us)
+ends_none closing w n [] us none e = none e
+ends_none closing w n (l ∷ ls) us none e =
+    let rest : List UpUnit = each (λ k l. when_up (is_end_due closing w k) (unit.End k l.why)) (n + 1) ls in
+    when_none (is_end_due closing w n) (unit.End n l.why) (rest ++ us) (λ f. cc) (ends_none closing w (n + 1) ls us none)
+    (ap (λ (vs : List UpUnit). first (map ToUp vs)) (sym (append_assoc (when_up (is_end_due closing w n) (unit.End n l.why)) rest us)) ∙ e)
+
+idle_none : (b : Bool) → NoLogin (when_up b unit.Empty)
+idle_none true e = absurd cc
+idle_none false e = absurd cc
+
+close_none : (us : List UpUnit) (s : UpState) → NoLogin (close_behind us s)
+close_none [] s e = by s.sent.«open» e
+  where
+    by : (b : Bool) → NoLogin (when_up b (unit.Close s.condition))
+    by true e = absurd cc
+    by false e = absurd cc
+close_none (u ∷ us) s e = absurd cc
 
 -- the login goes where it is due
-login_due : (closing : Bool) (s : UpState) (ms : ℕ) → first (map ToUp (up_rows closing s ms)) ≡ Some (ToUp unit.SaslInit) → s.pending.init ≡ true
-login_due closing s ms e = by (is_readable s.side && not s.sent.close) closing e
+login_due : (w : State) → first (map ToUp (up_rows w)) ≡ Some (ToUp unit.SaslInit) → w.up.pending.init ≡ true
+login_due w e = by (is_readable w.up.side && not w.up.sent.close) (w.out_of_memory || is_closing w.conn) e
   where
-    rows : (a b c d f : Bool)
-        → first (map ToUp ((when_up a unit.SaslHeader ++ (when_up b unit.SaslInit ++ (when_up c unit.AmqpHeader ++ when_up d unit.Open))) ++ when_up f unit.Empty)) ≡ Some (ToUp unit.SaslInit)
+    rows : (a b c d : Bool) (us : List UpUnit) → NoLogin us
+        → first (map ToUp ((when_up a unit.SaslHeader ++ (when_up b unit.SaslInit ++ (when_up c unit.AmqpHeader ++ when_up d unit.Open))) ++ us)) ≡ Some (ToUp unit.SaslInit)
         → b ≡ true
-    rows true b c d f e = absurd cc
-    rows false true c d f e = refl
-    rows false false true d f e = absurd cc
-    rows false false false true f e = absurd cc
-    rows false false false false true e = absurd cc
-    rows false false false false false e = absurd cc
+    rows true b c d us none e = absurd cc
+    rows false true c d us none e = refl
+    rows false false true d us none e = absurd cc
+    rows false false false true us none e = absurd cc
+    rows false false false false us none e = absurd (none e)
 
-    closes : (b : Bool) → first (map ToUp (when_up b (unit.Close s.condition))) ≡ Some (ToUp unit.SaslInit) → s.pending.init ≡ true
-    closes true e = absurd cc
-    closes false e = absurd cc
-
-    by : (b closing : Bool) → first (map ToUp (if b then rows_in closing s ms else [])) ≡ Some (ToUp unit.SaslInit) → s.pending.init ≡ true
+    by : (b closing : Bool) → first (map ToUp (if b then rows_in closing w else [])) ≡ Some (ToUp unit.SaslInit) → w.up.pending.init ≡ true
     by false closing e = absurd cc
-    by true true e = closes s.sent.«open» e
-    by true false e = rows s.pending.sasl_header s.pending.init s.pending.amqp_header s.pending.«open» (is_idle_due s ms) e
+    by true true e = absurd (ends_none true w 0 w.lives (close_behind (ends true w) w.up) (close_none (ends true w) w.up) e)
+    by true false e =
+        rows w.up.pending.sasl_header w.up.pending.init w.up.pending.amqp_header w.up.pending.«open» _
+        (begins_none w.up.container 0 w.lives _ (ends_none false w 0 w.lives _ (idle_none (is_idle_due w.up w.moment)))) e
 
 frame_some : (f : Frame10) → 0 < length (frames_10.frame_text f)
 unfolding text_behind
@@ -202,11 +251,13 @@ pub picked_some : (s : SetupText) (w : State) (end : End) (u : Outgoing) → Kno
 picked_some s w end (ToClient u) k e = spelled_some u
 picked_some s w end (ToUp unit.SaslHeader) k e = omega arith
 picked_some s w Client (ToUp unit.SaslInit) k e = absurd (client_picks w unit.SaslInit e)
-picked_some s w Up (ToUp unit.SaslInit) k e = init_some w.up.container (k (login_due (w.out_of_memory || is_closing w.conn) w.up w.moment e))
+picked_some s w Up (ToUp unit.SaslInit) k e = init_some w.up.container (k (login_due w e))
 picked_some s w end (ToUp unit.AmqpHeader) k e = omega arith
 picked_some s w end (ToUp unit.Open) k e = frame_some _
 picked_some s w end (ToUp (unit.Close c)) k e = frame_some _
 picked_some s w end (ToUp unit.Empty) k e = frame_some _
+picked_some s w end (ToUp (unit.Begin n)) k e = frame_some _
+picked_some s w end (ToUp (unit.End n why)) k e = frame_some _
 
 -- ---- steps
 
@@ -228,6 +279,20 @@ sound_more b c d x y = λ client up s. y client up (x client up s)
 
 pub moved_stays : (s : Step) (b d : BridgeState) → d ≡ moved s b → Keeps b d → StaysSound b d
 moved_stays s b d is k = λ client up x. moved_sound s b d client up x is k
+
+-- a unit that is taken up, if there is one
+next_knows : (o : Option Unit91) (w : State) → KnowsLogin w.up → KnowsLogin (with_next o w).up
+next_knows None w k = k
+next_knows (Some u) w k = step_knows (state.Came u) w k
+
+pub advanced_stays : (b d : BridgeState) → d ≡ advanced b → Keeps b d → StaysSound b d
+advanced_stays b d is k = λ client up x. record {
+  login = subst (λ (v : BridgeState). KnowsLogin v.state.up) (sym is) (next_knows (next_unit b.state) b.state x.login);
+  client_left = λ e. subst (λ (bytes : List ℕ). client < length bytes) (sym k.client) (x.client_left (ap (λ (o : Option Reply). is_some (option_map ToClient o)) (sym k.going) ∙ e));
+  up_left = λ e. subst (λ (bytes : List ℕ). up < length bytes) (sym k.up) (x.up_left (ap (λ (o : Option UpUnit). is_some (option_map ToUp o)) (sym k.going_up) ∙ e));
+  client_bytes = λ e. clash d.client.ready (ap (λ (v : BridgeState). v.client.ready) is) e;
+  up_bytes = λ e. clash d.up.ready (ap (λ (v : BridgeState). v.up.ready) is) e;
+}
 
 -- ---- looks
 
@@ -256,3 +321,24 @@ looked_stays s Up b free = λ client up x. record {
         → (o : Option Outgoing) → pick b.state Up ≡ o → is_some o ≡ true → 0 < length (bytes_of (context_of s b.state) o b.up.bytes)
     by some None p e = absurd cc
     by some (Some u) p e = some u p
+
+-- what a look found is what is offered
+pub looked_ready : (s : SetupText) (end : End) (b : BridgeState) (at : ℕ) (rest : List ℕ) → is_busy b.state end ≡ false
+    → ready_at end at (peeked s end b) ≡ offered s end b.state rest
+looked_ready s Client b at rest free = by (is_busy b.state Client) (pick b.state Client) refl free
+  where
+    by : (busy : Bool) (o : Option Outgoing) → pick b.state Client ≡ o → busy ≡ false
+        → (if busy then Some (drop at (client_bytes o b.client.bytes)) else if is_some o then Some (client_bytes o b.client.bytes) else None)
+        ≡ (if busy then Some rest else option_map (spell (context_of s b.state)) o)
+    by true o p f = absurd cc
+    by false None p f = refl
+    by false (Some (ToClient u)) p f = refl
+    by false (Some (ToUp u)) p f = absurd (client_picks b.state u p)
+looked_ready s Up b at rest free = by (is_busy b.state Up) (pick b.state Up) free
+  where
+    by : (busy : Bool) (o : Option Outgoing) → busy ≡ false
+        → (if busy then Some (drop at (bytes_of (context_of s b.state) o b.up.bytes)) else if is_some o then Some (bytes_of (context_of s b.state) o b.up.bytes) else None)
+        ≡ (if busy then Some rest else option_map (spell (context_of s b.state)) o)
+    by true o f = absurd cc
+    by false None f = refl
+    by false (Some u) f = refl

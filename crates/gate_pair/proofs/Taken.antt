@@ -19,17 +19,19 @@ use Rattle.gate_model.specs.Due.{can_leave, is_busy, pick}
 use Rattle.gate_model.specs.Folds.{accepted_in, failed_in, moment_in, ran_out_in, sent, sent_at, sent_up}
 use Rattle.gate_model.specs.Setup.{SetupText}
 use Rattle.gate_model.specs.State as state
-use Rattle.gate_model.specs.State.{State, Step, Came, Heard, Gave, Joined, TakenUp, before, came, condition_by, fail, failed, heard, keep_login, left, step, waits, with_meaning}
+use Rattle.gate_model.specs.State.{State, Step, Came, Heard, Gave, Joined, TakenUp, before, came, condition_by, fail, failed, heard, keep_login, left, next_unit, step, with_meaning}
 use Rattle.gate_model.specs.Upstream.{UpState, awaited_of, closing_with, heard_up, meaning_by}
 use Rattle.machine_091.specs.Transitions.{unit_step}
 use Rattle.machine_091.specs.declared.unit.Want91.{Want91}
 use Rattle.machine_091.specs.declared.unit.Want91.TheVariants as want
-use Rattle.gate_pair.specs.Cutting.{after, as_step, cut_all, cut_of, on_scan, read_end, step_scan, unit_scan, up_scan}
-use Rattle.gate_pair.specs.Meaning.{begins, ends, given, leaves, steps, steps_of, took_in, told}
+use Rattle.gate_pair.specs.Cutting.{after, as_step, behind, cut_all, cut_of, on_next, on_scan, read_end, settle, settled, step_scan, unit_scan, up_scan}
+use Rattle.gate_pair.specs.Meaning.{begins, ends, given, leaves, steps, steps_of, told}
+use Rattle.gate_model.proofs.Sessions.{session_cases}
 
 abbrev pub IsTaken : Step → Type 0
 IsTaken (state.Began vhost n ms) = ⊥
 IsTaken (state.Moment ms) = ⊥
+IsTaken (state.Queued u) = Unit {0}
 IsTaken (Came u) = Unit {0}
 IsTaken TakenUp = Unit {0}
 IsTaken (Heard u) = Unit {0}
@@ -54,12 +56,12 @@ both_taken (s ∷ g) h a b = (a.0, both_taken g h a.1 b)
 
 -- ---- what is found in bytes
 
-abbrev FindsTaken : Scan Step Step → Type 0
+abbrev pub FindsTaken : Scan Step Step → Type 0
 FindsTaken More = Unit {0}
 FindsTaken (Bad s) = IsTaken s
 FindsTaken (Whole s n) = IsTaken s
 
-client_found : (x : Scan Unit91 ℕ) → FindsTaken (as_step Came unit.Bad x)
+client_found : (x : Scan Unit91 ℕ) → FindsTaken (as_step state.Queued unit.Bad x)
 client_found More = tt
 client_found (Bad code) = tt
 client_found (Whole u n) = tt
@@ -69,26 +71,39 @@ up_found More = tt
 up_found (Bad code) = tt
 up_found (Whole u n) = tt
 
-found : (end : End) (w : State) (bytes : List ℕ) → FindsTaken (step_scan end w bytes)
-found Client w bytes = by (waits w)
-  where
-    by : (b : Bool) → FindsTaken (if b then More else as_step Came unit.Bad (unit_scan (awaits w.conn) bytes))
-    by true = tt
-    by false = client_found (unit_scan (awaits w.conn) bytes)
+pub found : (end : End) (w : State) (bytes : List ℕ) → FindsTaken (step_scan end w bytes)
+found Client w bytes = client_found (unit_scan (awaits w.conn) bytes)
 found Up w bytes = up_found (up_scan (awaited_of w.up.container) bytes)
+
+settled_taken : (w : State) (f : ℕ) (g : List Step) → AreTaken g → AreTaken (settled w f g)
+settled_taken w zero g a = a
+settled_taken w (suc f) g a = by (next_unit (after g w)) (λ u. settled_taken w f (Came u ∷ g) (tt, a))
+  where
+    by : (o : Option Unit91) → ((u : Unit91) → AreTaken (settled w f (Came u ∷ g))) → AreTaken (on_next o g (λ u. settled w f (Came u ∷ g)))
+    by None rec = a
+    by (Some u) rec = rec u
+
+pub settle_taken : (w : State) (g : List Step) → AreTaken g → AreTaken (settle w g)
+settle_taken w g a = settled_taken w (length (after g w).queue) g a
+
+pub behind_taken : (end : End) (w : State) (g : List Step) → AreTaken g → AreTaken (behind end w g)
+behind_taken Client w g a = settle_taken w g a
+behind_taken Up w g a = a
 
 read_taken : (end : End) (w : State) (f : ℕ) (g : List Step) (bytes : List ℕ) → AreTaken g → AreTaken (read_end end w f g bytes).fresh
 read_taken end w zero g bytes a = a
-read_taken end w (suc f) g bytes a = by (step_scan end (after g w) bytes) (found end (after g w) bytes) (λ s n t. read_taken end w f (s ∷ g) (drop n bytes) (t, a))
+read_taken end w (suc f) g bytes a =
+    by (step_scan end (after g w) bytes) (found end (after g w) bytes)
+    (λ s n t. read_taken end w f (behind end w (s ∷ g)) (drop n bytes) (behind_taken end w (s ∷ g) (t, a)))
   where
-    by : (x : Scan Step Step) → FindsTaken x → ((s : Step) (n : ℕ) → IsTaken s → AreTaken (read_end end w f (s ∷ g) (drop n bytes)).fresh)
-        → AreTaken (on_scan x (cut_of g bytes) (λ s. cut_of (s ∷ g) []) (λ s n. read_end end w f (s ∷ g) (drop n bytes))).fresh
+    by : (x : Scan Step Step) → FindsTaken x → ((s : Step) (n : ℕ) → IsTaken s → AreTaken (read_end end w f (behind end w (s ∷ g)) (drop n bytes)).fresh)
+        → AreTaken (on_scan x (cut_of g bytes) (λ s. cut_of (behind end w (s ∷ g)) []) (λ s n. read_end end w f (behind end w (s ∷ g)) (drop n bytes))).fresh
     by More t rec = a
-    by (Bad s) t rec = (t, a)
+    by (Bad s) t rec = behind_taken end w (s ∷ g) (t, a)
     by (Whole s n) t rec = rec s n t
 
 pub cut_taken : (end : End) (w : State) (bytes : List ℕ) → AreTaken (cut_all end w bytes).fresh
-cut_taken end w bytes = read_taken end w (length bytes) [] bytes tt
+cut_taken end w bytes = read_taken end w (length bytes) (behind end w []) bytes (behind_taken end w [] tt)
 
 leaves_taken : (w : State) → AreTaken (leaves w)
 leaves_taken w = by (can_leave w)
@@ -106,9 +121,8 @@ fresh_taken s (entry.Came Client bytes ∷ h) = cut_taken Client (before (steps_
 fresh_taken s (entry.Came Up bytes ∷ h) = cut_taken Up (before (steps_of s h)) ((told s h).up.unread ++ bytes)
 fresh_taken s (entry.Dry end ∷ h) = tt
 fresh_taken s (entry.Settled ∷ h) =
-    let t = told s h in
-    both_taken (leaves (before (steps (took_in t.client.unread t)))) (took_in t.client.unread t).fresh
-    (leaves_taken (before (steps (took_in t.client.unread t)))) (cut_taken Client (before (steps t)) t.client.unread)
+    let g : List Step = settle (before (steps_of s h)) [] in
+    both_taken (leaves (before (g ++ steps_of s h))) g (leaves_taken (before (g ++ steps_of s h))) (settle_taken (before (steps_of s h)) [] tt)
 fresh_taken s (entry.Joined answer ∷ h) = tt
 fresh_taken s (entry.Took Client bytes n ∷ h) = tt
 fresh_taken s (entry.Took Up bytes n ∷ h) = tt
@@ -153,7 +167,9 @@ meaning_leaves ten.Nothing w = leaves_all w
 meaning_leaves ten.Init w = record { memory_is = refl; going_is = refl; going_up_is = refl; number_is = refl }
 meaning_leaves ten.AmqpHeader w = record { memory_is = refl; going_is = refl; going_up_is = refl; number_is = refl }
 meaning_leaves ten.Opened w = if_second (is_opening w.conn) w _ (record { memory_is = refl; going_is = refl; going_up_is = refl; number_is = refl })
-meaning_leaves (ten.OfSession g p payload) w = leaves_all w
+meaning_leaves (ten.OfSession g p payload) w =
+    session_cases (Leaves w) g p w (record { memory_is = refl; going_is = refl; going_up_is = refl; number_is = refl }) (fail_leaves _ _ w) (leaves_all w)
+    (λ code why. record { memory_is = refl; going_is = refl; going_up_is = refl; number_is = refl })
 meaning_leaves (ten.Closed e) w = fail_leaves _ None w
 meaning_leaves ten.Refused w = fail_leaves _ None w
 meaning_leaves (ten.Violation c) w = fail_leaves _ (Some c) w
@@ -199,7 +215,10 @@ left_leaves w = record {
 pub taken_leaves : (s : Step) (w : State) → IsTaken s → Leaves w (step w s)
 taken_leaves (state.Began vhost n ms) w t = absurd t
 taken_leaves (state.Moment ms) w t = absurd t
-taken_leaves (Came u) w t = if_first w.out_of_memory w (came w u) (came_leaves w u)
+taken_leaves (state.Queued u) w t = if_first w.out_of_memory w _ (record { memory_is = refl; going_is = refl; going_up_is = refl; number_is = refl })
+taken_leaves (Came u) w t =
+    if_first w.out_of_memory w (came (state.dequeued w) u)
+    (leaves_more w (state.dequeued w) (came (state.dequeued w) u) (record { memory_is = refl; going_is = refl; going_up_is = refl; number_is = refl }) (came_leaves (state.dequeued w) u))
 taken_leaves TakenUp w t = if_second (not w.out_of_memory && w.leaving) w (left w) (left_leaves w)
 taken_leaves (Heard u) w t = if_first w.out_of_memory w (heard w u) (heard_leaves w u)
 taken_leaves (Joined answer) w t = absurd t
@@ -227,6 +246,9 @@ pub leave_folds : (g h : List Step) → AreTaken g → LeavesFolds g h
 leave_folds [] h a = record { sent_is = refl; sent_up_is = refl; sent_at_is = refl; moment_is = refl; accepted_is = refl; memory_is = refl; failed_is = refl }
 leave_folds (state.Began vhost n ms ∷ g) h a = absurd a.0
 leave_folds (state.Moment ms ∷ g) h a = absurd a.0
+leave_folds (state.Queued u ∷ g) h a =
+    let x = leave_folds g h a.1 in
+    record { sent_is = x.sent_is; sent_up_is = x.sent_up_is; sent_at_is = x.sent_at_is; moment_is = x.moment_is; accepted_is = x.accepted_is; memory_is = x.memory_is; failed_is = x.failed_is }
 leave_folds (Came u ∷ g) h a =
     let x = leave_folds g h a.1 in
     record { sent_is = x.sent_is; sent_up_is = x.sent_up_is; sent_at_is = x.sent_at_is; moment_is = x.moment_is; accepted_is = x.accepted_is; memory_is = x.memory_is; failed_is = x.failed_is }

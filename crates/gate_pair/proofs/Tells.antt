@@ -3,6 +3,7 @@ use Rattle.std.proofs.Common.{◌≡◌, ◌↔◌, ◌∙◌, ℕ, ◌+◌, ◌
 use Rattle.std.specs.List.{list_any}
 use Rattle.std.proofs.lemmas.Bool.Decides.{nat_tests}
 use Rattle.gate_outside.specs.declared.ports.End.TheVariants.{Up}
+use Rattle.performatives_10.specs.declared.condition.Condition.{Condition}
 use Rattle.gate_relay.specs.Sides.{is_readable}
 use Rattle.machine_091.specs.State.{is_closing}
 use Rattle.machine_10.specs.declared.state.Upstream.{Upstream}
@@ -10,15 +11,17 @@ use Rattle.gate_model.specs.declared.outgoing.Outgoing.TheVariants.{ToUp}
 use Rattle.gate_model.specs.declared.outgoing.UpUnit.{UpUnit}
 use Rattle.gate_model.specs.declared.outgoing.UpUnit.TheVariants as up
 use Rattle.gate_model.specs.Asked.{Goes, GoesWhenDue, is_up_close, is_up_open}
-use Rattle.gate_model.specs.Due.{is_busy, pick}
+use Rattle.gate_model.specs.Due.{begins, close_behind, ends, is_busy, is_end_due, pick, rows_in, up_rows}
 use Rattle.gate_model.specs.Folds.{connection, container, moment_in, sent_up, sent_up_at, side_in}
 use Rattle.gate_model.specs.Picks.{ArePicks}
 use Rattle.gate_model.specs.State.{State, Step, Gave, before}
-use Rattle.gate_model.specs.Upstream.{UpState, first, idle_in, is_idle_by, is_idle_due, opening_rows, rows_in, up_rows, when_up}
+use Rattle.gate_model.specs.Lives.{is_free, session_in}
+use Rattle.gate_model.specs.Upstream.{first, idle_in, is_idle_by, is_idle_due, opening_rows, when_up}
 use Rattle.gate_model.proofs.Closings.{closes_sent, closing_now}
 use Rattle.gate_model.proofs.Connections.{clash}
 use Rattle.gate_model.proofs.Known.{Known, container_is, known, moment_is, side_is}
 use Rattle.gate_model.proofs.Openings.{is_opening_first}
+use Rattle.gate_model.proofs.Rows.{first_each}
 use Rattle.gate_model.proofs.Times.{and_both}
 use Rattle.gate_model.proofs.Ups.{UpSays, up_says}
 
@@ -30,6 +33,8 @@ pub record MayTellIn (g : List Step) : Type 0 where
   pub readable : is_readable (side_in g) ≡ true
   pub unclosed : is_closing (connection g) ≡ false
   pub alone : opening_rows (before g).up.pending ≡ []
+  pub begun : begins (before g) ≡ []
+  pub ended : ends false (before g) ≡ []
 
 -- ---- one that goes
 
@@ -37,37 +42,66 @@ first_up : (us : List UpUnit) (u : UpUnit) → first (map ToUp us) ≡ Some (ToU
 first_up [] u e = absurd cc
 first_up (x ∷ us) u e = let here : x ≡ u = cc in ap Some here
 
--- no unit of the opening is due with it
-none_opening : (s : UpState) (us : List UpUnit) (b : Bool) → opening_rows s.pending ≡ us → first (us ++ when_up b up.Empty) ≡ Some up.Empty → us ≡ []
-none_opening s [] b f e = refl
-none_opening s (x ∷ us) b f e = absurd (clash _ (is_opening_first s.pending up.Empty (ap first f ∙ e)) refl)
+-- no other unit is due with it
+record AreNone (w : State) : Type 0 where
+  opening : opening_rows w.up.pending ≡ []
+  begun : begins w ≡ []
+  ended : ends false w ≡ []
 
-alone_in : (closing : Bool) (s : UpState) (ms : ℕ) → first (rows_in closing s ms) ≡ Some up.Empty → opening_rows s.pending ≡ []
-alone_in true s ms e = by s.sent.«open» e
+no_begin : (w : State) → first (begins w) ≡ Some up.Empty → ⊥
+no_begin w e = first_each (λ (u : UpUnit). u ≡ up.Empty → ⊥) _ 0 w.lives up.Empty (λ n l v. one (l.begin && is_free (session_in w.up.container n)) n v) e refl
   where
-    by : (b : Bool) → first (when_up b (up.Close s.condition)) ≡ Some up.Empty → opening_rows s.pending ≡ []
-    by true f = absurd cc
-    by false f = absurd cc
-alone_in false s ms e = none_opening s (opening_rows s.pending) (is_idle_due s ms) refl e
+    one : (b : Bool) (n : ℕ) (v : UpUnit) → first (when_up b (up.Begin n)) ≡ Some v → v ≡ up.Empty → ⊥
+    one true n v f same = let wrong : Some (up.Begin n) ≡ Some up.Empty = f ∙ ap Some same in absurd cc
+    one false n v f same = absurd cc
 
-alone_by : (closing : Bool) (s : UpState) (ms : ℕ) → first (up_rows closing s ms) ≡ Some up.Empty → opening_rows s.pending ≡ []
-alone_by closing s ms e = by (is_readable s.side && not s.sent.close) e
+no_end : (closing : Bool) (w : State) → first (ends closing w) ≡ Some up.Empty → ⊥
+no_end closing w e = first_each (λ (u : UpUnit). u ≡ up.Empty → ⊥) _ 0 w.lives up.Empty (λ n l v. one (is_end_due closing w n) n l.why v) e refl
   where
-    by : (b : Bool) → first (if b then rows_in closing s ms else []) ≡ Some up.Empty → opening_rows s.pending ≡ []
-    by true f = alone_in closing s ms f
+    one : (b : Bool) (n : ℕ) (why : Option Condition) (v : UpUnit) → first (when_up b (up.End n why)) ≡ Some v → v ≡ up.Empty → ⊥
+    one true n why v f same = let wrong : Some (up.End n why) ≡ Some up.Empty = f ∙ ap Some same in absurd cc
+    one false n why v f same = absurd cc
+
+alone_closing : (w : State) → first (rows_in true w) ≡ Some up.Empty → ⊥
+alone_closing w e = by (ends true w) w.up.sent.«open» refl e
+  where
+    by : (us : List UpUnit) (b : Bool) → ends true w ≡ us → first (us ++ close_behind us (record w.up { sent = record w.up.sent { «open» = b } })) ≡ Some up.Empty → ⊥
+    by (x ∷ us) b f g = no_end true w (ap first f ∙ g)
+    by [] true f g = absurd cc
+    by [] false f g = absurd cc
+
+alone_in : (closing : Bool) (w : State) → first (rows_in closing w) ≡ Some up.Empty → AreNone w
+alone_in true w e = absurd (alone_closing w e)
+alone_in false w e = by (opening_rows w.up.pending) (begins w) (ends false w) refl refl refl e
+  where
+    by : (os bs es : List UpUnit) → opening_rows w.up.pending ≡ os → begins w ≡ bs → ends false w ≡ es
+        → first (os ++ (bs ++ (es ++ when_up (is_idle_due w.up w.moment) up.Empty))) ≡ Some up.Empty → AreNone w
+    by (x ∷ os) bs es f g k e = absurd (clash _ (is_opening_first w.up.pending up.Empty (ap first f ∙ e)) refl)
+    by [] (x ∷ bs) es f g k e = absurd (no_begin w (ap first g ∙ e))
+    by [] [] (x ∷ es) f g k e = absurd (no_end false w (ap first k ∙ e))
+    by [] [] [] f g k e = record { opening = f; begun = g; ended = k }
+
+alone_by : (w : State) → first (up_rows w) ≡ Some up.Empty → AreNone w
+alone_by w e = by (is_readable w.up.side && not w.up.sent.close) e
+  where
+    by : (b : Bool) → first (if b then rows_in (w.out_of_memory || is_closing w.conn) w else []) ≡ Some up.Empty → AreNone w
+    by true f = alone_in (w.out_of_memory || is_closing w.conn) w f
     by false f = absurd cc
 
 tells : ((g : List Step) → ArePicks g → GoesWhenDue g) → (g : List Step) → ArePicks g → is_busy (before g) Up ≡ false → pick (before g) Up ≡ Some (ToUp up.Empty) → MayTellIn g
 tells law g p free e =
     let w : State = before g in
     let x : Goes g up.Empty = (law (Gave (ToUp up.Empty) ∷ g) ((free, e), p)).0 in
+    let none : AreNone w = alone_by w (first_up (up_rows w) up.Empty e) in
     record {
       stated = x.may.stated;
       opened = x.may.opened;
       quiet = x.may.quiet;
       readable = x.open_end;
       unclosed = x.may.unclosed;
-      alone = alone_by (w.out_of_memory || is_closing w.conn) w.up w.moment (first_up (up_rows (w.out_of_memory || is_closing w.conn) w.up w.moment) up.Empty e);
+      alone = none.opening;
+      begun = none.begun;
+      ended = none.ended;
     }
 
 -- ---- one that may
@@ -85,13 +119,15 @@ no_close : (b c : Bool) → b ≡ c → (c ≡ true → ⊥) → b ≡ false
 no_close true c e f = absurd (f (sym e))
 no_close false c e f = refl
 
-one_due : (closing readable closed : Bool) (s : UpState) (ms : ℕ) → closing ≡ false → readable ≡ true → closed ≡ false → opening_rows s.pending ≡ [] → is_idle_due s ms ≡ true
-    → (if readable && not closed then rows_in closing s ms else []) ≡ up.Empty ∷ []
-one_due true r c s ms e f k none due = absurd cc
-one_due false false c s ms e f k none due = absurd cc
-one_due false true true s ms e f k none due = absurd cc
-one_due false true false s ms e f k none due =
-    ap (λ (us : List UpUnit). us ++ when_up (is_idle_due s ms) up.Empty) none ∙ ap (λ (b : Bool). when_up b up.Empty) due
+one_due : (w : State) (closing readable closed : Bool) → closing ≡ false → readable ≡ true → closed ≡ false → AreNone w → is_idle_due w.up w.moment ≡ true
+    → (if readable && not closed then rows_in closing w else []) ≡ up.Empty ∷ []
+one_due w true r c e f k none due = absurd cc
+one_due w false false c e f k none due = absurd cc
+one_due w false true true e f k none due = absurd cc
+one_due w false true false e f k none due =
+    let idle : List UpUnit = when_up (is_idle_due w.up w.moment) up.Empty in
+    ap (λ (us : List UpUnit). us ++ (begins w ++ (ends false w ++ idle))) none.opening ∙ ap (λ (us : List UpUnit). us ++ (ends false w ++ idle)) none.begun
+    ∙ ap (λ (us : List UpUnit). us ++ idle) none.ended ∙ ap (λ (b : Bool). when_up b up.Empty) due
 
 tells_now : (g : List Step) → ArePicks g → MayTellIn g → pick (before g) Up ≡ Some (ToUp up.Empty)
 tells_now g p m = ap (λ (us : List UpUnit). first (map ToUp us)) rows
@@ -119,10 +155,10 @@ tells_now g p m = ap (λ (us : List UpUnit). first (map ToUp us)) rows
         and_both w.up.sent.«open» (is_idle_by (idle_in w.up.container) w.moment w.up.last_sent_at) (s.open_is ∙ m.opened)
         (idle_by (idle_in w.up.container) w.moment w.up.last_sent_at (subst (λ (o : Option Upstream). 0 < idle_in o) (sym (container_is k)) m.stated) quiet)
 
-    rows : up_rows (w.out_of_memory || is_closing w.conn) w.up w.moment ≡ up.Empty ∷ []
+    rows : up_rows w ≡ up.Empty ∷ []
     rows =
-        one_due (w.out_of_memory || is_closing w.conn) (is_readable w.up.side) w.up.sent.close w.up w.moment (sym (closing_now g _ p refl) ∙ m.unclosed)
-        (ap is_readable (side_is k) ∙ m.readable) unclosed m.alone due
+        one_due w (w.out_of_memory || is_closing w.conn) (is_readable w.up.side) w.up.sent.close (sym (closing_now g _ p refl) ∙ m.unclosed)
+        (ap is_readable (side_is k) ∙ m.readable) unclosed (record { opening = m.alone; begun = m.begun; ended = m.ended }) due
 
 pub tells_at_once : ((g : List Step) → ArePicks g → GoesWhenDue g) → (g : List Step) → ArePicks g → is_busy (before g) Up ≡ false
     → (pick (before g) Up ≡ Some (ToUp up.Empty)) ↔ MayTellIn g

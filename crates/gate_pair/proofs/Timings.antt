@@ -92,6 +92,8 @@ tell_in s h r free m = record {
   readable = ap is_readable (sym (agrees s h r).side_is) ∙ m.readable;
   unclosed = m.unclosed;
   alone = m.alone;
+  begun = m.begun;
+  ended = m.ended;
   free = free;
 }
 
@@ -104,6 +106,8 @@ tell_of s h r m = record {
   readable = ap is_readable (agrees s h r).side_is ∙ m.readable;
   unclosed = m.unclosed;
   alone = m.alone;
+  begun = m.begun;
+  ended = m.ended;
 }
 
 abbrev Tells : SetupText → List Entry → Type 0

@@ -57,7 +57,7 @@ Finds bad More u bytes left = ⊥
 -- behind them
 abbrev pub CutsInto : List Step → List ℕ → List ℕ → Type 0
 CutsInto [] bytes left = left ≡ bytes
-CutsInto (state.Came u ∷ g) bytes left =
+CutsInto (state.Queued u ∷ g) bytes left =
     (rest : List ℕ) × CutsInto g bytes rest
     × Finds unit.Bad (unit_scan (awaits (connection g)) rest) u rest left
 CutsInto (s ∷ g) bytes left = CutsInto g bytes left
@@ -71,13 +71,19 @@ CutsUpInto (state.Heard u ∷ g) bytes left =
     × Finds unit_10.Bad (up_scan (awaited_of (container g)) rest) u rest left
 CutsUpInto (s ∷ g) bytes left = CutsUpInto g bytes left
 
+-- once the client was read last, these bytes were no whole unit of it, as one was awaited then
+abbrev pub NoneWhole : SetupText → List Entry → List ℕ → Type 0
+NoneWhole s [] left = left ≡ []
+NoneWhole s (Came Client bytes ∷ h) left =
+    unit_scan (awaits (connection (steps_of s (Came Client bytes ∷ h)))) left ≡ More
+NoneWhole s (e ∷ h) left = NoneWhole s h left
+
 -- the client's units are those with which its bytes begin, however these were cut by reads
 pub record AreCut (s : SetupText) (h : List Entry) : Type 0 where
   pub left : List ℕ
   pub cuts : CutsInto (steps_of s h) (heard_bytes Client h) left
-  -- and no further unit is whole, unless the pair ran out of memory or a request waited
-  pub none : is_out_of_memory h ≡ false → (told s h).stopped ≡ false
-      → unit_scan (awaits (connection (steps_of s h))) left ≡ More
+  -- and no further unit was whole, unless the pair ran out of memory
+  pub none : is_out_of_memory h ≡ false → NoneWhole s h left
 
 -- and so are the container's
 pub record AreHeard (s : SetupText) (h : List Entry) : Type 0 where

@@ -1,7 +1,7 @@
--- How the bytes of a read are cut into the units of an end (AMQP 0-9-1 4.2.2 and 4.2.3; AMQP 1.0 2.2
--- and 2.3).
-use Rattle.std.specs.Prelude.{ℕ, zero, suc, ◌≤◌, if◌then◌else◌, List, [], ◌∷◌, length}
-use Rattle.std.specs.Prelude.{drop}
+-- How the bytes of a read are cut into the units of an end (AMQP 0-9-1 4.2.2 and 4.2.3; AMQP 1.0
+-- 2.2 and 2.3).
+use Rattle.std.specs.Prelude.{ℕ, zero, suc, ◌≤◌, List, [], ◌∷◌, length}
+use Rattle.std.specs.Prelude.{drop, Option, None, Some}
 use Rattle.close_translate.specs.declared.codes.TheConstants.{FRAME_ERROR}
 use Rattle.frames_091.specs.FrameScan.{scan_of}
 use Rattle.frames_091.specs.Headers.{header_scan}
@@ -24,7 +24,7 @@ use Rattle.performatives_10.specs.declared.condition.Condition.{Condition}
 use Rattle.performatives_10.specs.declared.condition.Condition.TheVariants.{FramingError}
 use Rattle.wire_base.specs.declared.scan.Scan.{Scan}
 use Rattle.wire_base.specs.declared.scan.Scan.TheVariants.{Whole, More, Bad}
-use Rattle.gate_model.specs.State.{State, Step, Came, Heard, step, waits}
+use Rattle.gate_model.specs.State.{State, Step, Queued, Came, Heard, next_unit, step}
 use Rattle.gate_model.specs.Upstream.{awaited_of}
 
 -- ---- units
@@ -35,8 +35,8 @@ as_unit make code (Whole x n) = Whole (make x) n
 as_unit make code More = More
 as_unit make code (Bad fault) = Bad code
 
--- the client's unit with which bytes begin, as one is awaited, or a reply code; bytes of no protocol
--- header have none, and where nothing is awaited nothing is found
+-- the client's unit with which bytes begin, as one is awaited, or a reply code; bytes of no
+-- protocol header have none, and where nothing is awaited nothing is found
 abbrev pub unit_scan : Awaited91 → List ℕ → Scan Unit91 ℕ
 unit_scan awaited.Header bytes = as_unit (λ header. unit.Protocol) 0 (header_scan bytes)
 unit_scan (awaited.Frame size) bytes = as_unit unit.Frame FRAME_ERROR (scan_of size bytes)
@@ -75,14 +75,33 @@ as_step make bad (Whole u n) = Whole (make u) n
 as_step make bad More = More
 as_step make bad (Bad code) = Bad (make (bad code))
 
--- the step that the bytes of an end begin with; none is taken up of the client while a request of it
--- waits
+-- the step that the bytes of an end begin with: a unit of the client waits to be taken up
 abbrev pub step_scan : End → State → List ℕ → Scan Step Step
-step_scan Client w bytes =
-    if waits w then More else as_step Came unit.Bad (unit_scan (awaits w.conn) bytes)
+step_scan Client w bytes = as_step Queued unit.Bad (unit_scan (awaits w.conn) bytes)
 step_scan Up w bytes = as_step Heard unit_10.Bad (up_scan (awaited_of w.up.container) bytes)
 
--- the steps of a read, and the bytes that are no unit yet or wait
+-- ---- taking up
+
+abbrev pub on_next : Option Unit91 → List Step → (Unit91 → List Step) → List Step
+on_next None none some = none
+on_next (Some u) none some = some u
+
+-- units of the client are taken up as long as one can be; g are the steps since the state w
+abbrev pub settled : State → ℕ → List Step → List Step
+settled w zero g = g
+settled w (suc f) g = on_next (next_unit (after g w)) g (λ u. settled w f (Came u ∷ g))
+
+abbrev pub settle : State → List Step → List Step
+settle w g = settled w (length (after g w).queue) g
+
+-- so it is behind each unit of the client
+abbrev pub behind : End → State → List Step → List Step
+behind Client w g = settle w g
+behind Up w g = g
+
+-- ---- reads
+
+-- the steps of a read, and the bytes that are no unit yet
 pub record Cut : Type 0 where
   pub fresh : List Step
   pub unread : List ℕ
@@ -95,13 +114,13 @@ on_scan More more bad whole = more
 on_scan (Bad s) more bad whole = bad s
 on_scan (Whole s n) more bad whole = whole s n
 
--- each unit is taken up before the next is cut, as it is awaited then; there are no more units than
--- bytes. Bytes with which no unit begins end the stream
+-- what can be taken up is, before the next unit is cut, as it is awaited then; there are no more
+-- units than bytes. Bytes with which no unit begins end the stream
 abbrev pub read_end : End → State → ℕ → List Step → List ℕ → Cut
 read_end end w zero g bytes = cut_of g bytes
 read_end end w (suc f) g bytes =
-    on_scan (step_scan end (after g w) bytes) (cut_of g bytes) (λ s. cut_of (s ∷ g) [])
-    (λ s n. read_end end w f (s ∷ g) (drop n bytes))
+    on_scan (step_scan end (after g w) bytes) (cut_of g bytes) (λ s. cut_of (behind end w (s ∷ g)) [])
+    (λ s n. read_end end w f (behind end w (s ∷ g)) (drop n bytes))
 
 abbrev pub cut_all : End → State → List ℕ → Cut
-cut_all end w bytes = read_end end w (length bytes) [] bytes
+cut_all end w bytes = read_end end w (length bytes) (behind end w []) bytes

@@ -1,5 +1,6 @@
 -- The entries of a pair are lawful: each stands where what came before it allows it.
 use Rattle.std.specs.Prelude.{◌≡◌, ℕ, ◌≤◌, ◌⊎◌, Bool, true, false, List, [], ◌∷◌, length, Some}
+use Rattle.std.specs.Prelude.{is_some}
 use Rattle.gate_outside.specs.declared.ports.End.{End}
 use Rattle.gate_outside.specs.declared.ports.End.TheVariants.{Client, Up}
 use Rattle.gate_relay.specs.declared.loss.Loss.TheVariants as loss
@@ -14,11 +15,11 @@ use Rattle.gate_model.specs.declared.outgoing.Outgoing.{Outgoing}
 use Rattle.gate_model.specs.declared.outgoing.Outgoing.TheVariants.{ToUp}
 use Rattle.gate_model.specs.declared.outgoing.UpUnit.{UpUnit}
 use Rattle.gate_model.specs.declared.outgoing.UpUnit.TheVariants as up
-use Rattle.gate_model.specs.Due.{is_awaited, is_busy, pick}
+use Rattle.gate_model.specs.Due.{can_leave, is_awaited, is_busy, is_held, pick}
 use Rattle.gate_model.specs.Folds.{connection, container}
 use Rattle.gate_model.specs.Setup.{SetupText}
 use Rattle.gate_model.specs.Spelling.{spell}
-use Rattle.gate_model.specs.State.{waits}
+use Rattle.gate_model.specs.State.{place}
 use Rattle.gate_model.specs.Upstream.{awaited_of, is_awaited_up}
 use Rattle.gate_pair.specs.Answers.{context_in}
 use Rattle.gate_pair.specs.Meaning.{state_of, steps_of, stream_of, told}
@@ -26,11 +27,12 @@ use Rattle.gate_pair.specs.Times.{ShutDueAt}
 
 -- ---- reads
 
--- a unit of an end is awaited: of the client, of which no request waits for the upstream end, or of
--- the container
+-- a unit of an end is awaited: of the client, which isn't held while its connection.open or
+-- connection.close waits, behind bytes with which no unit begins, or while many units of it wait;
+-- or of the container
 abbrev pub IsAwaited : SetupText → End → List Entry → Type 0
 IsAwaited s Client h =
-    (is_awaited (awaits (connection (steps_of s h))) ≡ true) × (waits (state_of s h) ≡ false)
+    (is_awaited (awaits (connection (steps_of s h))) ≡ true) × (is_held (state_of s h) ≡ false)
 IsAwaited s Up h = is_awaited_up (awaited_of (container (steps_of s h))) ≡ true
 
 -- an end is read: it is open for that, a unit of it is awaited, and the pair didn't run out of
@@ -42,12 +44,11 @@ pub record IsHeard (s : SetupText) (end : End) (h : List Entry) : Type 0 where
 
 -- ---- what is taken up of the client
 
--- units of it waited behind a request, or its end ended or failed and that wasn't taken up; no
--- request of it waits any more, and the pair didn't run out of memory
+-- some unit of it waits for none before it and for no request any more, or its end ended or failed
+-- and that can be taken up; and the pair didn't run out of memory
 pub record IsTakenUp (s : SetupText) (h : List Entry) : Type 0 where
   pub calm : is_out_of_memory h ≡ false
-  pub settled : waits (state_of s h) ≡ false
-  pub some : ((told s h).stopped ≡ true) ⊎ ((state_of s h).leaving ≡ true)
+  pub some : (is_some (place (state_of s h)) ≡ true) ⊎ (can_leave (state_of s h) ≡ true)
 
 -- ---- the connection upstream
 
@@ -83,10 +84,10 @@ pub data Shuts (s : SetupText) (end : End) (h : List Entry) : Type 0 where
 
 -- ---- out of memory
 
--- a unit of the opening that tells the container a name: that of the login's mechanism, or the
--- gateway's own (AMQP 1.0 5.3.3.2 and 2.7.1)
-abbrev pub TellsName : UpUnit → Type 0
-TellsName u = (u ≡ up.SaslInit) ⊎ (u ≡ up.Open)
+-- a unit whose spelling takes memory: one that tells the container a name, which are the login and
+-- the gateway's open, and a begin (AMQP 1.0 5.3.3.2, 2.7.1 and 2.7.2)
+abbrev pub TakesMemory : UpUnit → Type 0
+TakesMemory u = (u ≡ up.SaslInit) ⊎ ((u ≡ up.Open) ⊎ ((n : ℕ) × (u ≡ up.Begin n)))
 
 -- after its accept the pair runs out of memory in a read or in a take-up, of which the newest steps
 -- then don't count, or where such a unit goes next; and nowhere else
@@ -94,8 +95,8 @@ pub data RunsOutIn (s : SetupText) : ℕ → List Entry → Type 0 where
   InRead : (cut : ℕ) (end : End) (bytes : List ℕ) (g : List Entry)
       → RunsOutIn s cut (Came end bytes ∷ g)
   InTakeUp : (cut : ℕ) (g : List Entry) → RunsOutIn s cut (Settled ∷ g)
-  InOpening : (u : UpUnit) (h : List Entry) → is_writable (side_of Up (sides h)) ≡ true
-      → is_busy (state_of s h) Up ≡ false → pick (state_of s h) Up ≡ Some (ToUp u) → TellsName u
+  InSpelling : (u : UpUnit) (h : List Entry) → is_writable (side_of Up (sides h)) ≡ true
+      → is_busy (state_of s h) Up ≡ false → pick (state_of s h) Up ≡ Some (ToUp u) → TakesMemory u
       → RunsOutIn s 0 h
 
 -- ---- all entries

@@ -1,6 +1,6 @@
--- What the entries of a pair say: its steps, the bytes of each end that are no unit yet or wait, and
+-- What the entries of a pair say: its steps, the bytes of each end that are no unit yet, and
 -- the rest of each unit in progress.
-use Rattle.std.specs.Prelude.{ℕ, nat_lt, Bool, false, not, ◌&&◌, ◌||◌, if◌then◌else◌, List, [], ◌∷◌}
+use Rattle.std.specs.Prelude.{ℕ, nat_lt, Bool, not, ◌&&◌, if◌then◌else◌, List, [], ◌∷◌}
 use Rattle.std.specs.Prelude.{◌++◌, length, drop, Option, Some, None}
 use Rattle.std.specs.Option.{option_map}
 use Rattle.gate_outside.specs.declared.ports.End.{End}
@@ -14,11 +14,11 @@ use Rattle.gate_model.specs.Due.{is_shut_due, pick, takes_memory}
 use Rattle.gate_model.specs.Setup.{SetupText}
 use Rattle.gate_model.specs.Spelling.{context_of, spell}
 use Rattle.gate_model.specs.State.{State, Step, Began, Moment, TakenUp, Joined, Lost, Gave, Whole}
-use Rattle.gate_model.specs.State.{OutOfMemory, before, waits}
-use Rattle.gate_pair.specs.Cutting.{after, cut_all}
+use Rattle.gate_model.specs.State.{OutOfMemory, before}
+use Rattle.gate_pair.specs.Cutting.{Cut, cut_all, settle}
 
 pub record Stream : Type 0 where
-  -- bytes of an end that are no unit yet, or that wait
+  -- bytes of an end that are no unit yet
   pub unread : List ℕ
   -- what is left of the unit to it that is in progress
   pub rest : List ℕ
@@ -30,8 +30,6 @@ pub record Told : Type 0 where
   pub past : List Step
   pub client : Stream
   pub up : Stream
-  -- a request of the client waits, so that units of it may wait behind it
-  pub stopped : Bool
 
 abbrev pub steps : Told → List Step
 steps t = t.fresh ++ t.past
@@ -66,34 +64,24 @@ made g t = record t { fresh = []; past = g ++ steps t }
 abbrev pub brought : List Step → Told → Told
 brought g t = record t { fresh = g; past = steps t }
 
--- the client's bytes, cut as far as they can be taken up
-abbrev pub took_in : List ℕ → Told → Told
-took_in bytes t =
-    let c = cut_all Client (before (steps t)) bytes in
-    record t {
-      fresh = c.fresh;
-      past = steps t;
-      client = record t.client { unread = c.unread };
-      stopped = waits (after c.fresh (before (steps t)));
-    }
-
-abbrev pub heard : List ℕ → Told → Told
-heard bytes t =
-    let c = cut_all Up (before (steps t)) bytes in
-    record t { fresh = c.fresh; past = steps t; up = record t.up { unread = c.unread } }
+-- the bytes of an end, cut into units
+abbrev pub heard : End → List ℕ → Told → Cut
+heard end bytes t = cut_all end (before (steps t)) bytes
 
 abbrev pub came : End → List ℕ → Told → Told
-came Client bytes t = took_in (t.client.unread ++ bytes) t
-came Up bytes t = heard (t.up.unread ++ bytes) t
+came Client bytes t =
+    let c = heard Client (t.client.unread ++ bytes) t in
+    record t { fresh = c.fresh; past = steps t; client = record t.client { unread = c.unread } }
+came Up bytes t =
+    let c = heard Up (t.up.unread ++ bytes) t in
+    record t { fresh = c.fresh; past = steps t; up = record t.up { unread = c.unread } }
 
 -- behind the client's units, that its end ended or failed is taken up
 abbrev pub leaves : State → List Step
 leaves w = if can_leave w then TakenUp ∷ [] else []
 
 abbrev pub settled : Told → Told
-settled t =
-    let u = took_in t.client.unread t in
-    record u { fresh = leaves (before (steps u)) ++ u.fresh }
+settled t = let g = settle (before (steps t)) [] in record t { fresh = leaves (before (g ++ steps t)) ++ g; past = steps t }
 
 abbrev pub took : End → ℕ → List ℕ → Told → Told
 took Client n bytes t =
@@ -116,7 +104,6 @@ ran_out cut t = record {
   past = OutOfMemory ∷ drop cut t.fresh ++ t.past;
   client = forgotten t.client;
   up = forgotten t.up;
-  stopped = false;
 }
 
 abbrev pub tell : SetupText → Entry → Told → Told
@@ -137,7 +124,7 @@ abbrev pub no_stream : Stream
 no_stream = record { unread = []; rest = [] }
 
 abbrev pub nothing : Told
-nothing = record { fresh = []; past = []; client = no_stream; up = no_stream; stopped = false }
+nothing = record { fresh = []; past = []; client = no_stream; up = no_stream }
 
 abbrev pub told : SetupText → List Entry → Told
 told s [] = nothing
@@ -149,10 +136,6 @@ steps_of s h = steps (told s h)
 abbrev pub state_of : SetupText → List Entry → State
 state_of s h = before (steps_of s h)
 
--- something of the client can be taken up: units that waited, or that its end ended or failed
-abbrev pub takes_up : State → Bool → Bool
-takes_up w stopped = can_take_up w && (w.leaving || stopped)
-
 -- the unit that goes next to an end takes memory
 abbrev pub needs_memory : State → End → Bool
 needs_memory w end = not (is_busy w end) && takes_memory (pick w end)
@@ -161,7 +144,7 @@ needs_memory w end = not (is_busy w end) && takes_memory (pick w end)
 unfoldable pub pair_words : SetupText → RelayWords
 pair_words s = record {
   awaits = λ end h. is_awaiting (state_of s h) end;
-  takes_up = λ h. takes_up (state_of s h) (told s h).stopped;
+  takes_up = λ h. can_take_up (state_of s h);
   connects = λ h. is_connect_due (state_of s h);
   offer = λ end h. offered s end (state_of s h) (stream_of end (told s h)).rest;
   takes_memory = λ end h. needs_memory (state_of s h) end;

@@ -1,5 +1,5 @@
 -- A pair's state is what its entries say.
-use Rattle.std.specs.Prelude.{◌≡◌, ℕ, ◌<◌, ◌≤◌, Bool, true, false, if◌then◌else◌, List, []}
+use Rattle.std.specs.Prelude.{◌≡◌, ℕ, ◌<◌, ◌≤◌, Bool, true, false, if◌then◌else◌, List, [], ◌∷◌}
 use Rattle.std.specs.Prelude.{◌++◌, length, drop, Option, Some, None, IfSome, is_some}
 use Rattle.gate_outside.specs.declared.ports.End.{End}
 use Rattle.gate_outside.specs.declared.ports.End.TheVariants.{Client, Up}
@@ -9,10 +9,10 @@ use Rattle.gate_model.specs.Setup.{SetupText}
 use Rattle.gate_model.specs.State.{State, Step, OutOfMemory, before, step}
 use Rattle.gate_model.specs.Upstream.{UpState}
 use Rattle.bridge_core.specs.Offers.{BridgeState, offer_of}
-use Rattle.gate_pair.specs.Cutting.{Cut, after, cut_all}
+use Rattle.gate_pair.specs.Cutting.{Cut, after, cut_all, settle}
 use Rattle.gate_pair.specs.Meaning.{Stream, Told, begins, ends, ran_out, steps, told}
 
--- the bytes of an end that are no unit yet or wait, and how many bytes of the unit in progress were
+-- the bytes of an end that are no unit yet, and how many bytes of the unit in progress were
 -- sent
 pub record Half : Type 0 where
   pub unread : List ℕ
@@ -22,7 +22,6 @@ pub record PairState : Type 0 where
   pub bridge : BridgeState
   pub client : Half
   pub up : Half
-  pub stopped : Bool
 
 abbrev pub half_of : End → PairState → Half
 half_of Client p = p.client
@@ -33,7 +32,6 @@ pub record Said : Type 0 where
   pub state : State
   pub client : Stream
   pub up : Stream
-  pub stopped : Bool
 
 abbrev pub rest_at : Bool → ℕ → List ℕ → List ℕ
 rest_at busy at bytes = if busy then drop at bytes else []
@@ -50,11 +48,10 @@ said p = record {
   state = p.bridge.state;
   client = stream_at Client p.bridge p.client;
   up = stream_at Up p.bridge p.up;
-  stopped = p.stopped;
 }
 
 abbrev pub said_of : Told → Said
-said_of t = record { state = before (steps t); client = t.client; up = t.up; stopped = t.stopped }
+said_of t = record { state = before (steps t); client = t.client; up = t.up }
 
 abbrev pub Represents : SetupText → PairState → List Entry → Type 0
 Represents s p h = said p ≡ said_of (told s h)
@@ -126,12 +123,22 @@ pub record IsCut (old new : State) (all : List Step) : Type 0 where
 abbrev pub ReadsInPart : End → List ℕ → State → State → Type 0
 ReadsInPart end bytes old new = IsCut old new (cut_all end old bytes).fresh
 
+-- what can be taken up is, whatever the steps before; and the pair ran out of memory within that,
+-- or within a unit and that
+abbrev pub Settles : State → State → Type 0
+Settles old new = (w : State) (g : List Step) → old ≡ after g w → new ≡ after (settle w g) w
+
+abbrev pub SettlesInPart : State → State → Type 0
+SettlesInPart old new = (w : State) (g : List Step) → old ≡ after g w → IsCut w new (settle w g)
+
+abbrev pub QueuesInPart : Step → State → State → Type 0
+QueuesInPart s old new = (w : State) (g : List Step) → old ≡ after g w → IsCut w new (settle w (s ∷ g))
+
 -- a pair without the bytes that are no unit yet
 abbrev pub forgotten : PairState → PairState
 forgotten p = record p {
   client = record p.client { unread = [] };
   up = record p.up { unread = [] };
-  stopped = false;
 }
 
 -- the pair ran out of memory within these steps; what is in progress goes on
@@ -139,11 +146,6 @@ pub record CutIn (all : List Step) (old new : PairState) : Type 0 where
   pub cut : IsCut old.bridge.state new.bridge.state all
   pub client : (said new).client ≡ record (said old).client { unread = [] }
   pub up : (said new).up ≡ record (said old).up { unread = [] }
-  pub stopped : new.stopped ≡ false
-
--- within the units that the client's bytes are cut into
-abbrev pub CutInClient : PairState → PairState → Type 0
-CutInClient old new = CutIn (cut_all Client old.bridge.state old.client.unread).fresh old new
 
 -- the pair ran out of memory within the newest entry
 abbrev pub FailedIn : (Told → Told) → PairState → PairState → Type 0

@@ -20,10 +20,10 @@ use Rattle.gate_model.specs.declared.timers.TheConstants.{BEAT_PER_SECOND, CLOSI
 use Rattle.gate_model.specs.declared.timers.TheConstants.{HANDSHAKE_LIMIT}
 use Rattle.gate_model.specs.Answers.{is_close_ok}
 use Rattle.gate_model.specs.Asked.{is_up_close, is_up_open, sent_up_whole}
-use Rattle.gate_model.specs.Due.{is_busy, is_unheard, may_go, pick, rows}
+use Rattle.gate_model.specs.Due.{begins, client_units, ends, is_busy, is_unheard, pick}
 use Rattle.gate_model.specs.Folds.{closed_in, connection, container, sent, sent_up}
 use Rattle.gate_model.specs.Setup.{SetupText}
-use Rattle.gate_model.specs.State.{has_left, is_settled}
+use Rattle.gate_model.specs.State.{has_left}
 use Rattle.gate_model.specs.Times.{is_any_close, is_protocol, sent_whole}
 use Rattle.gate_model.specs.Upstream.{idle_in, is_bad_stream, is_closed_stream, opening_rows}
 use Rattle.gate_model.specs.Upstream.{stream_in}
@@ -59,14 +59,14 @@ has_failed (e ∷ h) = has_failed h
 
 -- a heartbeat may go: an interval is agreed to, in seconds, and for half of it the client took no
 -- byte; close-ok wasn't sent, no other unit may go, and none is in progress (AMQP 0-9-1 4.2.7).
--- Of the units that are due the gateway's close and close-ok may not go while something of the
--- upstream end is waited for
+-- The gateway's close and close-ok, of the connection or a channel, may not go while something of
+-- the upstream end is waited for
 pub record MayBeatAt (s : SetupText) (h : List Entry) : Type 0 where
   pub agreed : 0 < (connection (steps_of s h)).limits.heartbeat
   pub quiet : last_taken_at h + BEAT_PER_SECOND * (connection (steps_of s h)).limits.heartbeat
       ≤ moment_of h
   pub unclosed : list_any is_close_ok (sent (steps_of s h)) ≡ false
-  pub alone : rows (may_go (is_settled (state_of s h)) (state_of s h).pending) ≡ []
+  pub alone : client_units (state_of s h) ≡ []
   pub free : is_busy (state_of s h) Client ≡ false
 
 -- each heartbeat that the client took a first byte of went where it might
@@ -90,6 +90,8 @@ pub record MayTellAt (s : SetupText) (h : List Entry) : Type 0 where
   pub readable : is_readable (side_of Up (sides h)) ≡ true
   pub unclosed : is_closing (connection (steps_of s h)) ≡ false
   pub alone : opening_rows (state_of s h).up.pending ≡ []
+  pub begun : begins (state_of s h) ≡ []
+  pub ended : ends false (state_of s h) ≡ []
   pub free : is_busy (state_of s h) Up ≡ false
 
 -- each empty frame that the container took a first byte of went where it might

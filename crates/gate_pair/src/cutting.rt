@@ -3,8 +3,10 @@
 ghost use Rattle.std.specs.Prelude.{◌≡◌, ◌≤◌, false, true, length, OnOk, OnErr, IfOk};
 ghost use Rattle.gate_outside.specs.declared.ports.End.TheVariants.{Client, Up};
 ghost use Rattle.bridge_core.specs.Offers.{Keeps};
+ghost use Rattle.gate_model.specs.State.{Queued, step};
 ghost use Rattle.gate_pair.specs.Cutting.{IsLongEnough, IsWithin, unit_scan, up_scan};
-ghost use Rattle.gate_pair.specs.PairStates.{Reads, ReadsInPart, StaysSound};
+ghost use Rattle.gate_pair.specs.PairStates.{QueuesInPart, Reads, ReadsInPart, Settles};
+ghost use Rattle.gate_pair.specs.PairStates.{SettlesInPart, StaysSound};
 
 use bridge_core::Bridge;
 use close_translate::FRAME_ERROR;
@@ -92,9 +94,52 @@ fn scan_up(
     }
 }
 
-/// Cuts the client's bytes into units, each of which is taken up before the next is cut, until a
-/// request of it waits. The result is how many bytes were cut off. If the pair runs out of memory,
-/// units before that place count.
+/// Takes up the client's units as long as one can be.
+pub fn settle_all(bridge: &mut Bridge, alloc: Global) -> Result<(), Memory>
+    requires { bridge.old.state.out_of_memory ≡ false }
+    ensures ok { OnOk result (Settles bridge.old.state bridge.new.state) }
+    ensures err { OnErr result (SettlesInPart bridge.old.state bridge.new.state) }
+    ensures calm { OnOk result (bridge.new.state.out_of_memory ≡ false) }
+    ensures met { OnErr result (bridge.new.state.out_of_memory ≡ true) }
+    ensures kept { Keeps bridge.old bridge.new }
+    ensures sound { StaysSound bridge.old bridge.new }
+{
+    let count = bridge.queued();
+    for i in 0..count {
+        match bridge.take_next(alloc) {
+            Ok(more) => {
+                if !more {
+                    return Ok(());
+                }
+            }
+            Err(error) => return Err(error),
+        }
+    }
+    Ok(())
+}
+
+/// A unit of the client waits, and what can be taken up is.
+fn queue_unit(bridge: &mut Bridge, alloc: Global, unit: Unit91) -> Result<(), Memory>
+    requires { bridge.old.state.out_of_memory ≡ false }
+    ensures ok { OnOk result (Settles (step bridge.old.state (Queued unit)) bridge.new.state) }
+    ensures err { OnErr result (QueuesInPart (Queued unit) bridge.old.state bridge.new.state) }
+    ensures calm { OnOk result (bridge.new.state.out_of_memory ≡ false) }
+    ensures met { OnErr result (bridge.new.state.out_of_memory ≡ true) }
+    ensures kept { Keeps bridge.old bridge.new }
+    ensures sound { StaysSound bridge.old bridge.new }
+{
+    match bridge.client_unit(unit) {
+        Ok(()) => match settle_all(bridge, alloc) {
+            Ok(()) => Ok(()),
+            Err(error) => Err(error),
+        },
+        Err(error) => Err(error),
+    }
+}
+
+/// Cuts the client's bytes into units, and takes up what can be before each and at last. The result
+/// is how many bytes were cut off. If the pair runs out of memory, what was done before that place
+/// counts.
 #[tactic(auto, using(crate::proofs::Within::long_enough))]
 pub fn cut_client(bridge: &mut Bridge, alloc: Global, bytes: &[u8]) -> Result<usize, Memory>
     requires { bridge.old.state.out_of_memory ≡ false }
@@ -106,22 +151,23 @@ pub fn cut_client(bridge: &mut Bridge, alloc: Global, bytes: &[u8]) -> Result<us
     ensures kept { Keeps bridge.old bridge.new }
     ensures sound { StaysSound bridge.old bridge.new }
 {
+    match settle_all(bridge, alloc) {
+        Ok(()) => {}
+        Err(error) => return Err(error),
+    }
     let mut at = 0;
     let count = bytes.len();
     for i in 0..count {
-        if bridge.waits() {
-            return Ok(at);
-        }
         let (_, rest) = bytes.split_at(at);
         match scan_unit(alloc, bridge.awaits(), rest) {
             Ok(Scan::More) => return Ok(at),
             Ok(Scan::Bad(code)) => {
-                return match bridge.client_unit(alloc, Unit91::Bad(code)) {
+                return match queue_unit(bridge, alloc, Unit91::Bad(code)) {
                     Ok(()) => Ok(count),
                     Err(error) => Err(error),
                 };
             }
-            Ok(Scan::Whole(unit, n)) => match bridge.client_unit(alloc, unit) {
+            Ok(Scan::Whole(unit, n)) => match queue_unit(bridge, alloc, unit) {
                 Ok(()) => at += n,
                 Err(error) => return Err(error),
             },

@@ -4,12 +4,14 @@
 ghost use Rattle.std.specs.Prelude.{◌≡◌, ℕ, ◌<◌, ◌≤◌, true, false, List, length, OnOk};
 ghost use Rattle.std.specs.Prelude.{OnErr, IfOk, IfSome, Some, is_some};
 ghost use Rattle.gate_outside.specs.declared.ports.End.TheVariants.{Client, Up};
-ghost use Rattle.gate_pair.specs.Meaning.{Told, came, needs_memory, offered, ran_out, settled};
-ghost use Rattle.gate_pair.specs.Meaning.{took, took_in};
-ghost use Rattle.gate_pair.specs.PairStates.{Advances, CutInClient, FailedIn, IsOffered, forgotten};
+ghost use Rattle.bridge_core.specs.Offers.{Keeps};
+ghost use Rattle.gate_pair.specs.Cutting.{after};
+ghost use Rattle.gate_pair.specs.Meaning.{Told, came, leaves, needs_memory, offered, ran_out};
+ghost use Rattle.gate_pair.specs.Meaning.{settled, took};
+ghost use Rattle.gate_pair.specs.PairStates.{Advances, FailedIn, IsOffered, StaysSound, forgotten};
 ghost use Rattle.gate_pair.specs.PairStates.{half_of, is_ready, said, said_of, said_stream};
 
-use crate::cutting::{cut_client, cut_up};
+use crate::cutting::{cut_client, cut_up, settle_all};
 use crate::half::Half;
 use bridge_core::Bridge;
 use gate_model::Setup;
@@ -25,8 +27,6 @@ pub struct Pair {
     bridge: Bridge,
     client: Half,
     up: Half,
-    /// A request of the client waits, so that units of it may wait behind it.
-    stopped: bool,
 }
 
 impl Model for Pair {
@@ -38,7 +38,6 @@ impl Model for Pair {
       bridge = a.bridge;
       client = a.client;
       up = a.up;
-      stopped = a.stopped;
     } };
 
     ghost invariant = { λ a. IsSound a.bridge a.client.at a.up.at };
@@ -68,6 +67,19 @@ fn advance(bridge: &mut Bridge, end: End, at: usize, count: usize) -> usize
     }
 }
 
+/// That the client's end ended or failed is taken up, where it can be.
+fn leave(bridge: &mut Bridge)
+    requires { bridge.old.state.out_of_memory ≡ false }
+    ensures step { bridge.new.state ≡ after (leaves bridge.old.state) bridge.old.state }
+    ensures calm { bridge.new.state.out_of_memory ≡ false }
+    ensures kept { Keeps bridge.old bridge.new }
+    ensures sound { StaysSound bridge.old bridge.new }
+{
+    if bridge.can_leave() {
+        bridge.take_up();
+    }
+}
+
 impl Pair {
     /// Drops the bytes that are no unit yet.
     fn forget(&mut self)
@@ -75,32 +87,9 @@ impl Pair {
     {
         self.client.forget();
         self.up.forget();
-        self.stopped = false;
     }
 
-    /// The client's bytes are cut into units, as far as they can be taken up. The others stay.
-    fn take_in(&mut self, alloc: Global) -> Result<(), Memory>
-        requires { self.old.bridge.state.out_of_memory ≡ false }
-        ensures ok { OnOk result ((t : Told) → said self.old ≡ said_of t
-            → said self.new ≡ said_of (took_in t.client.unread t)) }
-        ensures err { OnErr result (CutInClient self.old self.new) }
-        ensures calm { OnOk result (self.new.bridge.state.out_of_memory ≡ false) }
-        ensures met { OnErr result (self.new.bridge.state.out_of_memory ≡ true) }
-    {
-        match cut_client(&mut self.bridge, alloc, self.client.unread()) {
-            Ok(at) => {
-                self.client.discard(at);
-                self.stopped = self.bridge.waits();
-                Ok(())
-            }
-            Err(error) => {
-                self.forget();
-                Err(error)
-            }
-        }
-    }
-
-    /// Bytes came from the client.
+    /// Bytes came from the client. They are cut into units, and what is no unit yet stays.
     fn came_client(&mut self, alloc: Global, bytes: &[u8]) -> Result<(), Memory>
         requires { self.old.bridge.state.out_of_memory ≡ false }
         ensures ok { OnOk result ((t : Told) → said self.old ≡ said_of t
@@ -110,7 +99,16 @@ impl Pair {
         ensures met { OnErr result (self.new.bridge.state.out_of_memory ≡ true) }
     {
         match self.client.append(bytes) {
-            Ok(()) => self.take_in(alloc),
+            Ok(()) => match cut_client(&mut self.bridge, alloc, self.client.unread()) {
+                Ok(at) => {
+                    self.client.discard(at);
+                    Ok(())
+                }
+                Err(error) => {
+                    self.forget();
+                    Err(error)
+                }
+            },
             Err(error) => {
                 self.bridge.run_out();
                 self.forget();
@@ -157,14 +155,15 @@ impl Pair {
         ensures calm { OnOk result (self.new.bridge.state.out_of_memory ≡ false) }
         ensures met { OnErr result (self.new.bridge.state.out_of_memory ≡ true) }
     {
-        match self.take_in(alloc) {
+        match settle_all(&mut self.bridge, alloc) {
             Ok(()) => {
-                if self.bridge.can_leave() {
-                    self.bridge.take_up();
-                }
+                leave(&mut self.bridge);
                 Ok(())
             }
-            Err(error) => Err(error),
+            Err(error) => {
+                self.forget();
+                Err(error)
+            }
         }
     }
 
@@ -259,10 +258,9 @@ impl Relay for Pair {
     fn new(alloc: Global, setup: &Setup, number: u32, moment: u64) -> Result<Pair, Memory> {
         let vhost = setup.vhost().copy(alloc)?;
         Ok(Pair {
-            bridge: Bridge::new(vhost, number, moment),
+            bridge: Bridge::new(alloc, vhost, number, moment),
             client: Half::new(alloc),
             up: Half::new(alloc),
-            stopped: false,
         })
     }
 
@@ -301,7 +299,7 @@ impl Relay for Pair {
 
     #[tactic(auto, unfolding(crate::specs::Meaning::pair_words))]
     fn takes_up(&self) -> bool {
-        self.bridge.can_take_up() && (self.bridge.is_leaving() || self.stopped)
+        self.bridge.can_take_up()
     }
 
     fn settle(&mut self, alloc: Global, _setup: &Setup) -> Result<(), Memory> {

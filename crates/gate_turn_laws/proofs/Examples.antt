@@ -52,7 +52,7 @@ steady = record {
 }
 
 pub wakes_none : WakesNone words
-wakes_none = record { settled = λ end h r e. e; client = λ h e. e; takes = λ h e. e }
+wakes_none = record { settled = λ h r e. e; client = λ h e. e; takes = λ h e. e }
 
 pub follows : Follows words limits run
 follows = (

@@ -1,5 +1,5 @@
 -- Of words that don't wake, at idle an end that was opened in this turn alone isn't read dry, unless the connect failed in it.
-use Rattle.std.proofs.Common.{◌≡◌, Bool, true, false, not, ◌&&◌, List, [], ◌∷◌, refl, sym, ◌∙◌, inl, inr}
+use Rattle.std.proofs.Common.{◌≡◌, ◌⊎◌, Bool, true, false, not, ◌&&◌, List, [], ◌∷◌, refl, sym, ◌∙◌, inl, inr}
 use Rattle.gate_outside.specs.declared.ports.End.TheVariants.{Client, Up}
 use Rattle.gate_outside.specs.declared.ports.Linked.TheVariants as linked
 use Rattle.gate_outside.specs.declared.log.LogEntry.TheVariants.{Accept, Connect, Read, Write, Shut, Idle, Now}
@@ -25,26 +25,32 @@ read_before false m a b on none now = cc
 taken_before : (m a b : Bool) → (a ≡ true → b ≡ true) → (not m && b) ≡ false → (not m && a) ≡ true → ⊥
 taken_before m a b on none now = read_before true m a b on none now
 
--- the client's end comes to be awaited by a connect that failed alone
-client_wakes : (w : RelayWords) (h : List Entry) → WakesNone w → IsRelayed w h → Wakes (reads w Client) h → InTurn (Joined linked.Failed) h
+-- the client's end comes to be awaited by a take-up or a connect that failed alone
+abbrev ClientWakes : List Entry → Type 0
+ClientWakes h = InTurn Settled h ⊎ InTurn (Joined linked.Failed) h
+
+later : (x : Entry) (h : List Entry) → (InTurn Settled h → InTurn Settled (x ∷ h)) → (InTurn (Joined linked.Failed) h → InTurn (Joined linked.Failed) (x ∷ h)) → ClientWakes h
+    → ClientWakes (x ∷ h)
+later x h f g (inl a) = inl (f a)
+later x h f g (inr a) = inr (g a)
+
+client_wakes : (w : RelayWords) (h : List Entry) → WakesNone w → IsRelayed w h → Wakes (reads w Client) h → ClientWakes h
 client_wakes w [] k r a = absurd a
-client_wakes w (Began p ms ∷ h) k r a = inr (client_wakes w h k r.2 a)
-client_wakes w (Refused ∷ h) k r a = inr (client_wakes w h k r.2 a)
 client_wakes w (Moment ms ∷ h) k r a = absurd a
-client_wakes w (Came end bytes ∷ h) k r a = inr (client_wakes w h k r.2 a)
-client_wakes w (Dry end ∷ h) k r a = inr (client_wakes w h k r.2 a)
-client_wakes w (Settled ∷ h) k r (inl n) =
-    absurd (read_before (is_readable (side_of Client (sides h))) (is_out_of_memory h) (w.awaits Client (Settled ∷ h)) (w.awaits Client h) (k.settled Client h r.2) n.0 n.1)
-client_wakes w (Settled ∷ h) k r (inr a) = inr (client_wakes w h k r.2 a)
+client_wakes w (Settled ∷ h) k r a = inl (inl refl)
 client_wakes w (Joined linked.Ok ∷ h) k r (inl n) =
     absurd (read_before (is_readable (side_of Client (sides h))) (is_out_of_memory h) (w.awaits Client (Joined linked.Ok ∷ h)) (w.awaits Client h) (k.client h) n.0 n.1)
-client_wakes w (Joined linked.Ok ∷ h) k r (inr a) = inr (client_wakes w h k r.2 a)
-client_wakes w (Joined linked.Failed ∷ h) k r a = inl refl
-client_wakes w (Took end bytes n ∷ h) k r a = inr (client_wakes w h k r.2 a)
-client_wakes w (Stuck end bytes ∷ h) k r a = inr (client_wakes w h k r.2 a)
-client_wakes w (Lost end how ∷ h) k r a = inr (client_wakes w h k r.2 a)
-client_wakes w (OutOfMemory cut ∷ h) k r a = inr (client_wakes w h k r.2 a)
-client_wakes w (Over ∷ h) k r a = inr (client_wakes w h k r.2 a)
+client_wakes w (Joined linked.Ok ∷ h) k r (inr a) = later (Joined linked.Ok) h (λ x. inr x) (λ x. inr x) (client_wakes w h k r.2 a)
+client_wakes w (Joined linked.Failed ∷ h) k r a = inr (inl refl)
+client_wakes w (Began p ms ∷ h) k r a = later (Began p ms) h (λ x. inr x) (λ x. inr x) (client_wakes w h k r.2 a)
+client_wakes w (Refused ∷ h) k r a = later Refused h (λ x. inr x) (λ x. inr x) (client_wakes w h k r.2 a)
+client_wakes w (Came end bytes ∷ h) k r a = later (Came end bytes) h (λ x. inr x) (λ x. inr x) (client_wakes w h k r.2 a)
+client_wakes w (Dry end ∷ h) k r a = later (Dry end) h (λ x. inr x) (λ x. inr x) (client_wakes w h k r.2 a)
+client_wakes w (Took end bytes n ∷ h) k r a = later (Took end bytes n) h (λ x. inr x) (λ x. inr x) (client_wakes w h k r.2 a)
+client_wakes w (Stuck end bytes ∷ h) k r a = later (Stuck end bytes) h (λ x. inr x) (λ x. inr x) (client_wakes w h k r.2 a)
+client_wakes w (Lost end how ∷ h) k r a = later (Lost end how) h (λ x. inr x) (λ x. inr x) (client_wakes w h k r.2 a)
+client_wakes w (OutOfMemory cut ∷ h) k r a = later (OutOfMemory cut) h (λ x. inr x) (λ x. inr x) (client_wakes w h k r.2 a)
+client_wakes w (Over ∷ h) k r a = later Over h (λ x. inr x) (λ x. inr x) (client_wakes w h k r.2 a)
 
 -- the upstream end by one that opened it
 up_wakes : (w : RelayWords) (h : List Entry) → WakesNone w → IsRelayed w h → Wakes (reads w Up) h → InTurn (Joined linked.Ok) h
@@ -55,7 +61,7 @@ up_wakes w (Moment ms ∷ h) k r a = absurd a
 up_wakes w (Came end bytes ∷ h) k r a = inr (up_wakes w h k r.2 a)
 up_wakes w (Dry end ∷ h) k r a = inr (up_wakes w h k r.2 a)
 up_wakes w (Settled ∷ h) k r (inl n) =
-    absurd (read_before (is_readable (side_of Up (sides h))) (is_out_of_memory h) (w.awaits Up (Settled ∷ h)) (w.awaits Up h) (k.settled Up h r.2) n.0 n.1)
+    absurd (read_before (is_readable (side_of Up (sides h))) (is_out_of_memory h) (w.awaits Up (Settled ∷ h)) (w.awaits Up h) (k.settled h r.2) n.0 n.1)
 up_wakes w (Settled ∷ h) k r (inr a) = inr (up_wakes w h k r.2 a)
 up_wakes w (Joined linked.Ok ∷ h) k r a = inl refl
 up_wakes w (Joined linked.Failed ∷ h) k r (inl n) = let clash : false ≡ true = n.1 in absurd cc

@@ -31,11 +31,11 @@ pub record IsSteady (w : RelayWords) : Type 0 where
       → w.offer end (Stuck stuck bytes ∷ h) ≡ w.offer end h
   pub settled : (h : List Entry) → is_out_of_memory h ≡ false → w.takes_up (Settled ∷ h) ≡ false
 
--- by a take-up no end comes to be awaited, in entries that a loop may make; and by a connect that
--- opens an end at most that one, and nothing more can be taken up
+-- by a take-up the upstream end doesn't come to be awaited, in entries that a loop may make; and by
+-- a connect that opens an end at most that one, and nothing more can be taken up
 pub record WakesNone (w : RelayWords) : Type 0 where
-  pub settled : (end : End) (h : List Entry) → IsRelayed w h → w.awaits end (Settled ∷ h) ≡ true
-      → w.awaits end h ≡ true
+  pub settled : (h : List Entry) → IsRelayed w h → w.awaits Up (Settled ∷ h) ≡ true
+      → w.awaits Up h ≡ true
   pub client : (h : List Entry) → w.awaits Client (Joined linked.Ok ∷ h) ≡ true
       → w.awaits Client h ≡ true
   pub takes : (h : List Entry) → w.takes_up (Joined linked.Ok ∷ h) ≡ true → w.takes_up h ≡ true
@@ -69,9 +69,11 @@ pub record IsQuiet (w : RelayWords) (h : List Entry) : Type 0 where
   pub stays : (end : End) → shuts w end h ≡ false
 
 -- the same of words that don't wake: an end that was opened in this turn, upstream, is an
--- exception; and where the connect failed in it, so are the client's end and what of it waited
+-- exception, and so is the client's where something of it was taken up in this turn; where the
+-- connect failed in it, the client's end and what of it waited
 pub record IsSilent (w : RelayWords) (h : List Entry) : Type 0 where
-  pub client : reads w Client h ≡ true → InTurn (Dry Client) h ⊎ InTurn (Joined linked.Failed) h
+  pub client : reads w Client h ≡ true
+      → InTurn (Dry Client) h ⊎ (InTurn Settled h ⊎ InTurn (Joined linked.Failed) h)
   pub up : reads w Up h ≡ true → InTurn (Dry Up) h ⊎ InTurn (Joined linked.Ok) h
   pub taken : takes_up w h ≡ true → InTurn (Joined linked.Failed) h
 

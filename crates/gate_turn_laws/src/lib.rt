@@ -111,8 +111,8 @@ pub fn pairs_run_out_once()
 /// idle. In this turn each end of a live pair that is to be read was read dry, unless it came to be
 /// awaited behind its read. What is offered was stuck. Nothing can be taken up, unless that came with the
 /// connect. No connection and no shut is due, no further client can come, and nothing moved. Where the
-/// words don't wake either, an end that was opened in this turn is an exception, and in a turn in which
-/// the connect failed the client's end and what of it waited.
+/// words don't wake either, an end that was opened in this turn is an exception, and so is the client's
+/// where something of it was taken up; in a turn in which the connect failed, so is what of it waited.
 #[tactic(auto, using(crate::proofs::Quiet::idles_at_rest, crate::proofs::Silence::idles_in_silence))]
 pub fn idle_is_at_rest()
     ensures rests { (w : RelayWords) (c : Limits) (m : History) → IsSteady w → Follows w c m

@@ -4,11 +4,11 @@ use Rattle.std.proofs.lemmas.List.Sums.{sum_by-cons}
 use Rattle.std.specs.Prelude.{slice_get, slice_set, count_by}
 use Rattle.close_translate.specs.declared.conditions.Scope.{Scope}
 use Rattle.close_translate.specs.declared.conditions.Scope.TheVariants as scope
-use Rattle.machine_091.specs.Calls.{opened_phase, after_opened, closing_channel, closing_phase, after_closing, freed_channel, after_closed}
-use Rattle.machine_091.specs.Laws.{Call91, Take, Opened, Closing, Closed, Ended, after_call, after_calls, is_used, AreInRange}
+use Rattle.machine_091.specs.Calls.{opened_phase, after_opened, closing_channel, closing_phase, after_closing, told_channel, after_told, freed_channel, after_closed}
+use Rattle.machine_091.specs.Laws.{Call91, Take, Opened, Closing, Told, Closed, Ended, after_call, after_calls, is_used, AreInRange}
 use Rattle.machine_091.specs.Limits.{AreWithin}
 use Rattle.machine_091.specs.State.{no_channels, new_connection, is_running, is_closing_phase, channel_at, or_free, with_channel}
-use Rattle.machine_091.specs.Transitions.{Step, unit_step}
+use Rattle.machine_091.specs.Transitions.{Step, closed_by, unit_step}
 use Rattle.machine_091.specs.declared.state.Channel91.{Channel91}
 use Rattle.machine_091.specs.declared.state.Channel91.TheVariants as channel
 use Rattle.machine_091.specs.declared.state.Connection.{Connection}
@@ -90,9 +90,9 @@ sound_step c u h = step_rows (λ (x : Step). Sound x.0) c u (record {
   asked = λ e. record { within = h.within; min = h.min; max = h.max; fresh = h.fresh };
   closed = λ e. record { within = h.within; min = h.min; max = h.max; fresh = λ r k. absurd cc };
   opened = λ n m e min max. running_set c n channel.Open h e min max;
-  ended = λ n m e min max. running_set c n channel.Closing h e min max;
+  ended = λ n m e min max. running_set c n (closed_by (channel_at c n)) h e min max;
   stopped = λ n m e. h;
-  freed = λ n e. h;
+  freed = λ n e min max. running_set c n channel.Free h e min max;
   crossed = λ e. record { within = h.within; min = h.min; max = h.max; fresh = λ r k. absurd cc };
   answered = λ e. record { within = h.within; min = h.min; max = h.max; fresh = λ r k. absurd cc };
   passed = λ e. record { within = h.within; min = h.min; max = h.max; fresh = h.fresh };
@@ -100,10 +100,10 @@ sound_step c u h = step_rows (λ (x : Step). Sound x.0) c u (record {
 
 -- ---- the other calls
 
-sound_opened : (c : Connection) → Sound c → Sound (after_opened c)
-sound_opened c h = by c.phase refl
+sound_opened : (most : ℕ) (c : Connection) → Sound c → Sound (after_opened most c)
+sound_opened most c h = by c.phase refl
   where
-    by : (p : Phase91) → c.phase ≡ p → Sound (record c { phase = opened_phase c.asked p })
+    by : (p : Phase91) → c.phase ≡ p → Sound (record c { phase = opened_phase c.asked p; carried_max = most })
     by phase.Header e = record { within = h.within; min = h.min; max = h.max; fresh = λ r k. h.fresh (ap is_running e) (ap is_closing_phase e) }
     by phase.Start e = record { within = h.within; min = h.min; max = h.max; fresh = λ r k. h.fresh (ap is_running e) (ap is_closing_phase e) }
     by phase.Tune e = record { within = h.within; min = h.min; max = h.max; fresh = λ r k. h.fresh (ap is_running e) (ap is_closing_phase e) }
@@ -134,6 +134,16 @@ sound_closing scope.Channel n c h = by (channel_at c n) refl
     by channel.Free e = h
     by channel.Open e = used_set c n channel.Closing h (ap is_used e)
     by channel.Closing e = h
+    by channel.Told e = h
+
+sound_told : (n : ℕ) (c : Connection) → Sound c → Sound (after_told n c)
+sound_told n c h = by (channel_at c n) refl
+  where
+    by : (x : Channel91) → channel_at c n ≡ x → Sound (told_channel x n c)
+    by channel.Free e = h
+    by channel.Open e = h
+    by channel.Closing e = used_set c n channel.Told h (ap is_used e)
+    by channel.Told e = h
 
 sound_closed : (n : ℕ) (c : Connection) → Sound c → Sound (after_closed n c)
 sound_closed n c h = by (channel_at c n) refl
@@ -142,11 +152,13 @@ sound_closed n c h = by (channel_at c n) refl
     by channel.Free e = h
     by channel.Open e = h
     by channel.Closing e = used_set c n channel.Free h (ap is_used e)
+    by channel.Told e = h
 
 sound_call : (x : Call91) (c : Connection) → Sound c → Sound (after_call x c)
 sound_call (Take u) c h = sound_step c u h
-sound_call Opened c h = sound_opened c h
+sound_call (Opened most) c h = sound_opened most c h
 sound_call (Closing s n) c h = sound_closing s n c h
+sound_call (Told n) c h = sound_told n c h
 sound_call (Closed n) c h = sound_closed n c h
 sound_call Ended c h = record { within = h.within; min = h.min; max = h.max; fresh = λ r k. absurd cc }
 

@@ -17,7 +17,7 @@ use Rattle.machine_091.specs.RefusalsFrames.{first, channel_order, is_opening, s
 use Rattle.machine_091.specs.RefusalsOpening.{text_at, number_at, is_login, opening_refusal, opening_refusal_in}
 use Rattle.machine_091.specs.RefusalsRunning.{is_active, running_refusal}
 use Rattle.machine_091.specs.State.{is_running, is_closing_phase, with_channel, channel_at}
-use Rattle.machine_091.specs.Transitions.{Step, asked_by, header_step, stream_after, opening_effect, channel_effect, running_effect, method_effect, frame_effect, unit_effect, ruled_step, ordered_step, is_unit_of, closed_step, closing_step, step_in, unit_step}
+use Rattle.machine_091.specs.Transitions.{Step, asked_by, closed_by, header_step, stream_after, opening_effect, channel_effect, running_effect, method_effect, frame_effect, unit_effect, ruled_step, ordered_step, is_unit_of, closed_step, closing_step, step_in, unit_step}
 use Rattle.machine_091.specs.declared.ids.TheConstants.{CONNECTION_CLOSE, CONNECTION_CLOSE_OK, CHANNEL_OPEN, CHANNEL_CLOSE, CHANNEL_FLOW}
 use Rattle.machine_091.specs.declared.state.Channel91.TheVariants as channel
 use Rattle.machine_091.specs.declared.state.Connection.{Connection}
@@ -45,9 +45,10 @@ pub record HoldsByRow (P : Step → Type 0) (c : Connection) (u : Unit91) : Type
   pub opened : (n : ℕ) (m : Method91) → is_running c.phase ≡ true → 1 ≤ n → n ≤ c.limits.channel_max
       → P (with_channel c n channel.Open, want.Method n m)
   pub ended : (n : ℕ) (m : Method91) → is_running c.phase ≡ true → 1 ≤ n → n ≤ c.limits.channel_max
-      → P (with_channel c n channel.Closing, want.Method n m)
+      → P (with_channel c n (closed_by (channel_at c n)), want.Method n m)
   pub stopped : (n : ℕ) (m : Method91) → is_running c.phase ≡ true → P (c, want.Method n m)
-  pub freed : (n : ℕ) → is_running c.phase ≡ true → P (c, want.ChannelCloseOk n)
+  pub freed : (n : ℕ) → is_running c.phase ≡ true → 1 ≤ n → n ≤ c.limits.channel_max
+      → P (with_channel c n channel.Free, want.ChannelCloseOk n)
   pub crossed : c.phase ≡ phase.Closing → P (record c { phase = phase.Closed }, want.Close)
   pub answered : is_closing_phase c.phase ≡ true
       → P (record c { phase = phase.Closed; stream = stream.Answered }, want.CloseOk)
@@ -128,12 +129,12 @@ channel_rows P c u n k args rows runs min max =
   where
     by : (opens closes stops : Bool)
         → P (cond {A = Step} opens (with_channel c n channel.Open, want.Method n method.ChannelOpen)
-        (cond {A = Step} closes (with_channel c n channel.Closing, want.Method n (method.ChannelClose (number_at 0 args) (text_at 1 args) (number_at 2 args) (number_at 3 args)))
-        (cond {A = Step} stops (c, want.Method n (method.ChannelFlow (is_active args))) (c, want.ChannelCloseOk n))))
+        (cond {A = Step} closes (with_channel c n (closed_by (channel_at c n)), want.Method n (method.ChannelClose (number_at 0 args) (text_at 1 args) (number_at 2 args) (number_at 3 args)))
+        (cond {A = Step} stops (c, want.Method n (method.ChannelFlow (is_active args))) (with_channel c n channel.Free, want.ChannelCloseOk n))))
     by true closes stops = rows.opened n method.ChannelOpen runs min max
     by false true stops = rows.ended n (method.ChannelClose (number_at 0 args) (text_at 1 args) (number_at 2 args) (number_at 3 args)) runs min max
     by false false true = rows.stopped n (method.ChannelFlow (is_active args)) runs
-    by false false false = rows.freed n runs
+    by false false false = rows.freed n runs min max
 
 running_rows : (P : Step → Type 0) (c : Connection) (u : Unit91) (n : ℕ) (payload : List ℕ) (k : Kind) (args : List Arg) → HoldsByRow P c u
     → is_running c.phase ≡ true → channel_order c n (is_opening payload) ≡ None → P (running_effect c n k args)
@@ -150,7 +151,7 @@ method_rows P c u f (Ok m) rows none =
     by (is_running c.phase) refl (own_none c f (Ok m) none)
   where
     by : (b : Bool) → is_running c.phase ≡ b
-        → cond {A = Option Ruling} b (running_refusal f.channel m.0 m.1) (opening_refusal c m.1) ≡ None
+        → cond {A = Option Ruling} b (running_refusal c.carried_max f.channel m.0 m.1) (opening_refusal c m.1) ≡ None
         → P (cond {A = Step} b (running_effect c f.channel m.0 m.1) (opening_effect c m.1 c.phase))
     by true e own = running_rows P c u f.channel f.payload m.0 m.1 rows e (channel_none c f (Ok m) none)
     by false e own = opening_rows P c u m.1 rows own

@@ -60,7 +60,7 @@ limits_stay c u w = step_rows (λ (x : Step). AreWithin x.0.limits) c u (record 
   opened = λ n m e min max. w;
   ended = λ n m e min max. w;
   stopped = λ n m e. w;
-  freed = λ n e. w;
+  freed = λ n e min max. w;
   crossed = λ e. w;
   answered = λ e. w;
   passed = λ e. w;
@@ -82,7 +82,7 @@ none_runs c u = step_rows (λ (x : Step). x.0.phase ≡ phase.Running → c.phas
   opened = λ n m e min max k. k;
   ended = λ n m e min max k. k;
   stopped = λ n m e k. k;
-  freed = λ n e k. k;
+  freed = λ n e min max k. k;
   crossed = λ e k. absurd cc;
   answered = λ e k. absurd cc;
   passed = λ e k. k;
@@ -102,7 +102,7 @@ closed_stays c u at = step_rows (λ (x : Step). StaysClosed c x) c u (record {
   opened = λ n m e min max. let k : is_running c.phase ≡ false = ap is_running at in absurd cc;
   ended = λ n m e min max. let k : is_running c.phase ≡ false = ap is_running at in absurd cc;
   stopped = λ n m e. let k : is_running c.phase ≡ false = ap is_running at in absurd cc;
-  freed = λ n e. let k : is_running c.phase ≡ false = ap is_running at in absurd cc;
+  freed = λ n e min max. let k : is_running c.phase ≡ false = ap is_running at in absurd cc;
   crossed = λ e. absurd cc;
   answered = λ e. record { phase = refl; limits = refl; channels = refl; want = inr refl };
   passed = λ e. record { phase = at; limits = refl; channels = refl; want = inl refl };
@@ -156,7 +156,7 @@ refusal_closes c u r = step_rows (λ (x : Step). x.1 ≡ want.Refuse r → Close
   opened = λ n m e min max k. absurd cc;
   ended = λ n m e min max k. absurd cc;
   stopped = λ n m e k. absurd cc;
-  freed = λ n e k. absurd cc;
+  freed = λ n e min max k. absurd cc;
   crossed = λ e k. absurd cc;
   answered = λ e k. absurd cc;
   passed = λ e k. absurd cc;
@@ -202,7 +202,7 @@ logins_named c u a b = step_rows (λ (x : Step). x.1 ≡ want.Login a b → is_l
   opened = λ n m e min max k. absurd cc;
   ended = λ n m e min max k. absurd cc;
   stopped = λ n m e k. absurd cc;
-  freed = λ n e k. absurd cc;
+  freed = λ n e min max k. absurd cc;
   crossed = λ e k. absurd cc;
   answered = λ e k. absurd cc;
   passed = λ e k. absurd cc;

@@ -1,5 +1,6 @@
--- What each call but that for a unit makes of a connection: the container upstream opened; a closing event that no unit told; the end of
--- a channel's life; the end of the client's stream (AMQP 0-9-1 2.2.4 and 1.5).
+-- What each call but that for a unit makes of a connection: the container upstream opened; a
+-- closing event that no unit told; the gateway's channel.close and channel.close-ok; the end of the
+-- client's stream (AMQP 0-9-1 2.2.4 and 1.5).
 use Rattle.std.specs.Prelude.{ℕ, Bool, if◌then◌else◌}
 use Rattle.close_translate.specs.declared.conditions.Scope.{Scope}
 use Rattle.close_translate.specs.declared.conditions.Scope.TheVariants as scope
@@ -21,8 +22,9 @@ opened_phase asked phase.Running = phase.Running
 opened_phase asked phase.Closing = phase.Closing
 opened_phase asked phase.Closed = phase.Closed
 
-abbrev pub after_opened : Connection → Connection
-after_opened c = record c { phase = opened_phase c.asked c.phase }
+-- it takes channels up to this number
+abbrev pub after_opened : ℕ → Connection → Connection
+after_opened max c = record c { phase = opened_phase c.asked c.phase; carried_max = max }
 
 -- the phase after the closing event of the connection
 abbrev pub closing_phase : Phase91 → Phase91
@@ -39,17 +41,30 @@ abbrev pub closing_channel : Channel91 → ℕ → Connection → Connection
 closing_channel channel.Free n c = c
 closing_channel channel.Open n c = with_channel c n channel.Closing
 closing_channel channel.Closing n c = c
+closing_channel channel.Told n c = c
 
 -- a closing event of the connection or of a channel
 abbrev pub after_closing : Scope → ℕ → Connection → Connection
 after_closing scope.Channel n c = closing_channel (channel_at c n) n c
 after_closing scope.Connection n c = record c { phase = closing_phase c.phase }
 
--- the end of a channel's life, where it is closing
+-- the gateway's channel.close went out, where the channel is closing
+abbrev pub told_channel : Channel91 → ℕ → Connection → Connection
+told_channel channel.Free n c = c
+told_channel channel.Open n c = c
+told_channel channel.Closing n c = with_channel c n channel.Told
+told_channel channel.Told n c = c
+
+abbrev pub after_told : ℕ → Connection → Connection
+after_told n c = told_channel (channel_at c n) n c
+
+-- the gateway's channel.close-ok ends the life of a channel, unless its channel.close went out:
+-- then the client's answer does
 abbrev pub freed_channel : Channel91 → ℕ → Connection → Connection
 freed_channel channel.Free n c = c
 freed_channel channel.Open n c = c
 freed_channel channel.Closing n c = with_channel c n channel.Free
+freed_channel channel.Told n c = c
 
 abbrev pub after_closed : ℕ → Connection → Connection
 after_closed n c = freed_channel (channel_at c n) n c

@@ -1,4 +1,5 @@
--- What the check of a frame against the order of refusals answers: that the frame counts, with its method, or what the order says of it.
+-- What the check of a frame against the order of refusals answers: that the frame counts, with its
+-- method, or what the order says of it.
 use Rattle.std.specs.Prelude.{◌≡◌, ℕ, Bool, true, false, Option, Some, None, Result, Ok, Err}
 use Rattle.frames_091.specs.declared.frame.Frame91.{Frame91}
 use Rattle.frames_091.specs.declared.frame.Kind91.TheVariants.{Method, Heartbeat}
@@ -13,11 +14,12 @@ use Rattle.machine_091.specs.State.{is_running, channel_at}
 use Rattle.machine_091.specs.declared.state.Connection.{Connection}
 use Rattle.machine_091.specs.declared.unit.Ruling.{Ruling}
 
--- a method that counts: the expected one, or once the connection runs one in its state that isn't refused
+-- a method that counts: the expected one, or once the connection runs one in its state that isn't
+-- refused
 abbrev pub IsCounted : Bool → Connection → ℕ → Method91 → Type 0
 IsCounted false c n m = is_expected c (kind_of m) ≡ true
 IsCounted true c n m =
-    (running_state (channel_at c n) n (kind_of m) ≡ None) × (running_refusal n (kind_of m) (args_of m) ≡ None)
+    (running_state (channel_at c n) n (kind_of m) ≡ None) × (running_refusal c.carried_max n (kind_of m) (args_of m) ≡ None)
 
 -- the check of a method frame
 abbrev pub IsMethodChecked : Connection → Frame91 → Result Method91 Ruling → Type 0

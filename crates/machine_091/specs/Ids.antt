@@ -1,4 +1,5 @@
--- The ids of methods (AMQP 0-9-1 4.2.4): those that stand in a method frame, and those of a method that was read.
+-- The ids of methods (AMQP 0-9-1 4.2.4): those that stand in a method frame, and those of a method
+-- that was read.
 use Rattle.std.specs.Prelude.{ℕ, Bool, ◌&&◌, ◌==◌, nat_lt, if◌then◌else◌, List, length, take, drop}
 use Rattle.std.specs.Int.{w16, from_be_bytes}
 use Rattle.methods_091.specs.Rows.{Kind, class_of, id_of}

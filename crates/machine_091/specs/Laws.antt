@@ -1,8 +1,9 @@
--- Any calls on a connection, and what holds after them (AMQP 0-9-1 2.2.4, 1.4.2.6 and 1.5). Lists of calls are newest first.
+-- Any calls on a connection, and what holds after them (AMQP 0-9-1 2.2.4, 1.4.2.6 and 1.5). Lists
+-- of calls are newest first.
 use Rattle.std.specs.Prelude.{◌≡◌, ℕ, ◌≤◌, Bool, true, false, ◌⊎◌, List, [], ◌∷◌, count_by}
 use Rattle.close_translate.specs.declared.conditions.Scope.{Scope}
 use Rattle.close_translate.specs.declared.conditions.Scope.TheVariants as scope
-use Rattle.machine_091.specs.Calls.{after_opened, after_closing, after_closed, after_ended}
+use Rattle.machine_091.specs.Calls.{after_opened, after_closing, after_told, after_closed, after_ended}
 use Rattle.machine_091.specs.State.{new_connection, channel_at}
 use Rattle.machine_091.specs.Transitions.{Step, unit_step}
 use Rattle.machine_091.specs.declared.state.Channel91.{Channel91}
@@ -17,19 +18,22 @@ use Rattle.machine_091.specs.declared.unit.Want91.TheVariants as want
 pub data Call91 : Type 0 where
   -- the client's next unit
   Take : Unit91 → Call91
-  -- the container upstream opened
-  Opened : Call91
+  -- the container upstream opened, and takes channels up to this number
+  Opened : ℕ → Call91
   -- a closing event that no unit told
   Closing : Scope → ℕ → Call91
-  -- the end of a channel's life
+  -- the gateway's channel.close
+  Told : ℕ → Call91
+  -- its channel.close-ok
   Closed : ℕ → Call91
   -- the end of the client's stream
   Ended : Call91
 
 abbrev pub after_call : Call91 → Connection → Connection
 after_call (Take u) c = (unit_step c u).0
-after_call Opened c = after_opened c
+after_call (Opened max) c = after_opened max c
 after_call (Closing s n) c = after_closing s n c
+after_call (Told n) c = after_told n c
 after_call (Closed n) c = after_closed n c
 after_call Ended c = after_ended c
 
@@ -43,6 +47,7 @@ abbrev pub is_used : Channel91 → Bool
 is_used channel.Free = false
 is_used channel.Open = true
 is_used channel.Closing = true
+is_used channel.Told = true
 
 -- the channels that are used have numbers from 1 to the greatest; so they are no more than that
 pub record AreInRange (c : Connection) : Type 0 where
@@ -58,7 +63,8 @@ pub record Closes (c : Connection) (r : Refusal) (after : Connection) : Type 0 w
   pub limits : after.limits ≡ c.limits
   pub channels : after.channels ≡ c.channels
 
--- a step of a connection that is closed leaves it closed, with its limits and channels; it answers nothing, except the client's close-ok
+-- a step of a connection that is closed leaves it closed, with its limits and channels; it answers
+-- nothing, except the client's close-ok
 pub record StaysClosed (c : Connection) (x : Step) : Type 0 where
   pub phase : x.0.phase ≡ phase.Closed
   pub limits : x.0.limits ≡ c.limits

@@ -1,4 +1,5 @@
--- The limits of a connection (AMQP 0-9-1 1.4.2.6): the gateway's own, and those that a tune-ok agrees to.
+-- The limits of a connection (AMQP 0-9-1 1.4.2.6): the gateway's own, and those that a tune-ok
+-- agrees to.
 use Rattle.std.specs.Prelude.{ℕ, Bool, ◌&&◌, ◌||◌, ◌==◌, ◌≤◌, nat_le, if◌then◌else◌}
 use Rattle.machine_091.specs.declared.limits.Limits.{Limits}
 use Rattle.machine_091.specs.declared.limits.TheConstants.{FRAME_MAX, FRAME_MIN_SIZE, CHANNEL_MAX}
@@ -7,7 +8,8 @@ use Rattle.machine_091.specs.declared.limits.TheConstants.{FRAME_MAX, FRAME_MIN_
 abbrev pub own_limits : Limits
 own_limits = record { frame_max = FRAME_MAX; channel_max = CHANNEL_MAX; heartbeat = 0 }
 
--- limits that are no greater than the gateway's own, with frames of 4,096 bytes at least; 0 stands for the gateway's own
+-- limits that are no greater than the gateway's own, with frames of 4,096 bytes at least; 0 stands
+-- for the gateway's own
 abbrev pub is_agreed : ℕ → ℕ → Bool
 is_agreed channel_max frame_max =
     nat_le channel_max CHANNEL_MAX

@@ -1,6 +1,7 @@
--- The order of refusals (AMQP 0-9-1 2.2.4, 4.2.3, 4.2.6 and 1.5): one list of places, of which the first that applies counts. It is the
--- same list before a connection runs and once it does. What each place asks stands in RefusalsFrames, RefusalsOpening and
--- RefusalsRunning. Contents aren't taken yet.
+-- The order of refusals (AMQP 0-9-1 2.2.4, 4.2.3, 4.2.6 and 1.5): one list of places, of which the
+-- first that applies counts. It is the same list before a connection runs and once it does. What
+-- each place asks stands in RefusalsFrames, RefusalsOpening and RefusalsRunning. Contents aren't
+-- taken yet.
 use Rattle.std.specs.Prelude.{ℕ, false, if◌then◌else◌, List, [], ◌∷◌, Option, None, Ok, Err}
 use Rattle.close_translate.specs.declared.codes.TheConstants.{FRAME_ERROR, UNEXPECTED_FRAME}
 use Rattle.close_translate.specs.declared.conditions.Scope.TheVariants as scope
@@ -9,7 +10,7 @@ use Rattle.frames_091.specs.declared.frame.Kind91.{Kind91}
 use Rattle.frames_091.specs.declared.frame.Kind91.TheVariants as frame
 use Rattle.methods_091.specs.Reading.{Read, method_in}
 use Rattle.machine_091.specs.Ids.{class_in, id_in}
-use Rattle.machine_091.specs.RefusalsFrames.{refused, first, heartbeat_order, content_order, is_opening, is_ending, channel_order, closing_order, reading_order}
+use Rattle.machine_091.specs.RefusalsFrames.{refused, first, heartbeat_order, content_order, is_opening, is_closing, is_answering, channel_order, closing_order, reading_order}
 use Rattle.machine_091.specs.RefusalsOpening.{expected_order, opening_refusal}
 use Rattle.machine_091.specs.RefusalsRunning.{class_order, running_state, running_refusal}
 use Rattle.machine_091.specs.State.{is_running, channel_at}
@@ -28,7 +29,8 @@ heartbeat_place f frame.Header = None
 heartbeat_place f frame.Body = None
 heartbeat_place f frame.Method = None
 
--- a content where none may be; a method other than the expected one, and on channel 0 of a running connection one of another class
+-- a content where none may be; a method other than the expected one, and on channel 0 of a running
+-- connection one of another class
 abbrev pub order_place : Connection → Frame91 → Read → Kind91 → Option Ruling
 order_place c f read frame.Heartbeat = None
 order_place c f read frame.Header = content_order (is_running c.phase) f.channel
@@ -45,9 +47,9 @@ channel_place c f frame.Method = channel_order c f.channel (is_opening f.payload
 -- what a closing channel passes over unread
 abbrev pub closing_place : Connection → Frame91 → Kind91 → Option Ruling
 closing_place c f frame.Heartbeat = None
-closing_place c f frame.Header = closing_order c f.channel false
-closing_place c f frame.Body = closing_order c f.channel false
-closing_place c f frame.Method = closing_order c f.channel (is_ending f.payload)
+closing_place c f frame.Header = closing_order c f.channel false false
+closing_place c f frame.Body = closing_order c f.channel false false
+closing_place c f frame.Method = closing_order c f.channel (is_closing f.payload) (is_answering f.payload)
 
 -- a content that no method awaits
 abbrev pub content_place : Kind91 → Option Ruling
@@ -77,7 +79,7 @@ own_place c n read frame.Heartbeat = None
 own_place c n read frame.Header = None
 own_place c n read frame.Body = None
 own_place c n (Err e) frame.Method = None
-own_place c n (Ok m) frame.Method = if is_running c.phase then running_refusal n m.0 m.1 else opening_refusal c m.1
+own_place c n (Ok m) frame.Method = if is_running c.phase then running_refusal c.carried_max n m.0 m.1 else opening_refusal c m.1
 
 -- the order
 abbrev pub places : Connection → Frame91 → Read → Kind91 → List (Option Ruling)
@@ -96,7 +98,8 @@ places c f read k =
 abbrev pub frame_ruling : Connection → Frame91 → Option Ruling
 frame_ruling c f = first (places c f (method_in f.payload) f.kind)
 
--- before all these places: bytes with which no unit begins, and a second protocol header, whose first byte is the kind of no frame
+-- before all these places: bytes with which no unit begins, and a second protocol header, whose
+-- first byte is the kind of no frame
 abbrev pub unit_ruling : Connection → Unit91 → Option Ruling
 unit_ruling c unit.Protocol = refused FRAME_ERROR
 unit_ruling c (unit.Bad code) = refused code

@@ -1,4 +1,5 @@
--- The places of the order of refusals that ask the same of each frame, in every phase (AMQP 0-9-1 4.2.3, 4.2.6, 4.2.7 and 1.5).
+-- The places of the order of refusals that ask the same of each frame, in every phase (AMQP 0-9-1
+-- 4.2.3, 4.2.6, 4.2.7 and 1.5).
 use Rattle.std.specs.Prelude.{ℕ, Bool, true, ◌&&◌, ◌==◌, nat_lt, if◌then◌else◌, List, [], ◌∷◌, length, Option, Some, None, Ok, Err}
 use Rattle.close_translate.specs.declared.codes.TheConstants.{FRAME_ERROR, CHANNEL_ERROR, UNEXPECTED_FRAME, NOT_IMPLEMENTED, SYNTAX_ERROR}
 use Rattle.frames_091.specs.declared.frame.Frame91.{Frame91}
@@ -43,14 +44,18 @@ abbrev pub is_opening : List ℕ → Bool
 is_opening payload = is_in CHANNEL_OPEN payload
 
 -- the methods that end a channel
-abbrev pub is_ending : List ℕ → Bool
-is_ending payload = if is_in CHANNEL_CLOSE payload then true else is_in CHANNEL_CLOSE_OK payload
+abbrev pub is_closing : List ℕ → Bool
+is_closing payload = is_in CHANNEL_CLOSE payload
+
+abbrev pub is_answering : List ℕ → Bool
+is_answering payload = is_in CHANNEL_CLOSE_OK payload
 
 -- a channel that isn't open, unless it is opened; and one that is open, where it is opened again
 abbrev pub state_order : Channel91 → Bool → Option Ruling
 state_order channel.Free opening = if opening then None else refused CHANNEL_ERROR
 state_order channel.Open opening = if opening then refused CHANNEL_ERROR else None
 state_order channel.Closing opening = None
+state_order channel.Told opening = None
 
 -- a channel above the greatest, or one in another state
 abbrev pub channel_order : Connection → ℕ → Bool → Option Ruling
@@ -59,14 +64,16 @@ channel_order c n opening =
     else if nat_lt c.limits.channel_max n then refused CHANNEL_ERROR
     else state_order (channel_at c n) opening
 
--- on a closing channel all is passed over unread, except what ends the channel
-abbrev pub passed_over : Channel91 → Bool → Option Ruling
-passed_over channel.Free ending = None
-passed_over channel.Open ending = None
-passed_over channel.Closing ending = if ending then None else Some ruling.PassedOver
+-- on a closing channel all is passed over unread, except channel.close, and channel.close-ok where
+-- the gateway's channel.close went out
+abbrev pub passed_over : Channel91 → Bool → Bool → Option Ruling
+passed_over channel.Free closes answers = None
+passed_over channel.Open closes answers = None
+passed_over channel.Closing closes answers = if closes then None else Some ruling.PassedOver
+passed_over channel.Told closes answers = if closes then None else if answers then None else Some ruling.PassedOver
 
-abbrev pub closing_order : Connection → ℕ → Bool → Option Ruling
-closing_order c n ending = if n == 0 then None else passed_over (channel_at c n) ending
+abbrev pub closing_order : Connection → ℕ → Bool → Bool → Option Ruling
+closing_order c n closes answers = if n == 0 then None else passed_over (channel_at c n) closes answers
 
 -- ---- reading a method
 

@@ -1,5 +1,5 @@
--- The places of the order of refusals that ask of a method before the connection runs: the one that is expected, and what it says
--- (AMQP 0-9-1 2.2.4 and 1.4.2).
+-- The places of the order of refusals that ask of a method before the connection runs: the one that
+-- is expected, and what it says (AMQP 0-9-1 2.2.4 and 1.4.2).
 use Rattle.std.specs.Prelude.{ℕ, zero, suc, codes, Bool, false, ◌&&◌, ◌||◌, nat_le, if◌then◌else◌, List, [], ◌∷◌, length, Option, None, Ok, Err}
 use Rattle.std.specs.Str.{bytes_eq}
 use Rattle.close_translate.specs.declared.codes.TheConstants.{COMMAND_INVALID, NOT_ALLOWED}

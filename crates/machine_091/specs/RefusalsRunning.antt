@@ -1,7 +1,7 @@
--- The places of the order of refusals that ask of a method once the connection runs: its class on channel 0, its state, and whether this
--- gateway does it (AMQP 0-9-1 1.4 to 1.8).
+-- The places of the order of refusals that ask of a method once the connection runs: its class on
+-- channel 0, its state, and whether this gateway does it (AMQP 0-9-1 1.4 to 1.8).
 use Rattle.std.specs.Prelude.{ℕ, Bool, true, false, ◌==◌, ◌%◌, nat_lt, if◌then◌else◌, List, ◌∷◌, length, Option, None}
-use Rattle.close_translate.specs.declared.codes.TheConstants.{COMMAND_INVALID, NOT_IMPLEMENTED}
+use Rattle.close_translate.specs.declared.codes.TheConstants.{COMMAND_INVALID, NOT_IMPLEMENTED, RESOURCE_ERROR}
 use Rattle.methods_091.specs.Arguments.{Arg}
 use Rattle.methods_091.specs.Arguments as arg
 use Rattle.methods_091.specs.Rows.{Kind, class_of, id_of}
@@ -21,7 +21,8 @@ class_order n payload =
     else refused COMMAND_INVALID)
     else None
 
--- the methods that a server sends and no client does: the answers, whose ids end in 1, basic.return, basic.deliver and basic.get-empty
+-- the methods that a server sends and no client does: the answers, whose ids end in 1,
+-- basic.return, basic.deliver and basic.get-empty
 abbrev pub is_servers : Kind → Bool
 is_servers k =
     if id_of k % 10 == 1 then true
@@ -34,9 +35,10 @@ abbrev pub answer_order : Channel91 → Option Ruling
 answer_order channel.Free = refused COMMAND_INVALID
 answer_order channel.Open = refused COMMAND_INVALID
 answer_order channel.Closing = None
+answer_order channel.Told = None
 
--- on channel 0 each method but connection.close is out of its state; on another channel a method of the class connection, one that a
--- server sends, and a channel.close-ok that answers nothing
+-- on channel 0 each method but connection.close is out of its state; on another channel a method of
+-- the class connection, one that a server sends, and a channel.close-ok that answers nothing
 abbrev pub running_state : Channel91 → ℕ → Kind → Option Ruling
 running_state s n k =
     if n == 0 then (if is_of_kind CONNECTION_CLOSE k then None else refused COMMAND_INVALID)
@@ -50,11 +52,15 @@ abbrev pub is_active : List Arg → Bool
 is_active (arg.bits (b ∷ bs) ∷ args) = b
 is_active args = false
 
--- a channel.flow that stops the flow, and all that this gateway doesn't do
-abbrev pub running_refusal : ℕ → Kind → List Arg → Option Ruling
-running_refusal n k args =
+-- a channel that the container upstream can't carry
+abbrev pub carried_order : ℕ → ℕ → Option Ruling
+carried_order max n = if nat_lt max n then refused RESOURCE_ERROR else None
+
+-- such a channel, a channel.flow that stops the flow, and all that this gateway doesn't do
+abbrev pub running_refusal : ℕ → ℕ → Kind → List Arg → Option Ruling
+running_refusal max n k args =
     if n == 0 then None
-    else if is_of_kind CHANNEL_OPEN k then None
+    else if is_of_kind CHANNEL_OPEN k then carried_order max n
     else if is_of_kind CHANNEL_CLOSE k then None
     else if is_of_kind CHANNEL_CLOSE_OK k then None
     else if is_of_kind CHANNEL_FLOW k then (if is_active args then None else refused NOT_IMPLEMENTED)

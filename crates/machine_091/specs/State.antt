@@ -1,5 +1,5 @@
--- The state of a client's connection (AMQP 0-9-1 2.2.4 and 1.5): before any unit, what is awaited of its client, and which channels are
--- open.
+-- The state of a client's connection (AMQP 0-9-1 2.2.4 and 1.5): before any unit, what is awaited
+-- of its client, and which channels are open.
 use Rattle.std.specs.Prelude.{ℕ, Bool, true, false, ◌&&◌, List, replicate, slice_get, slice_set, Option, None, Some}
 use Rattle.machine_091.specs.Limits.{own_limits}
 use Rattle.machine_091.specs.declared.state.Awaited91.{Awaited91}
@@ -24,6 +24,7 @@ new_connection vhost = record {
   stream = stream.Header;
   asked = false;
   limits = own_limits;
+  carried_max = 0;
   channels = no_channels;
 }
 
@@ -110,6 +111,7 @@ abbrev pub is_open_channel : Channel91 → Bool
 is_open_channel channel.Free = false
 is_open_channel channel.Open = true
 is_open_channel channel.Closing = false
+is_open_channel channel.Told = false
 
 -- a channel is open, and neither it nor the connection is closing
 abbrev pub is_open : Connection → ℕ → Bool

@@ -1,4 +1,5 @@
--- The transitions of a connection (AMQP 0-9-1 2.2.4 and 1.5): for each phase and each unit the state after it, and what the unit wants.
+-- The transitions of a connection (AMQP 0-9-1 2.2.4 and 1.5): for each phase and each unit the
+-- state after it, and what the unit wants.
 use Rattle.std.specs.Prelude.{ℕ, Bool, true, false, ◌&&◌, ◌||◌, ◌==◌, if◌then◌else◌, List, Option, Some, None, Ok, Err}
 use Rattle.frames_091.specs.declared.frame.Kind91.{Kind91}
 use Rattle.frames_091.specs.declared.frame.Kind91.TheVariants as frame
@@ -12,8 +13,9 @@ use Rattle.machine_091.specs.Refusals.{unit_ruling, refusal_of}
 use Rattle.machine_091.specs.RefusalsOpening.{text_at, number_at}
 use Rattle.machine_091.specs.RefusalsRunning.{is_active}
 use Rattle.close_translate.specs.declared.codes.TheConstants.{NOT_ALLOWED}
-use Rattle.machine_091.specs.State.{is_open_phase, is_running, with_channel}
+use Rattle.machine_091.specs.State.{channel_at, is_open_phase, is_running, with_channel}
 use Rattle.machine_091.specs.declared.ids.TheConstants.{CONNECTION_CLOSE, CONNECTION_CLOSE_OK, CHANNEL_OPEN, CHANNEL_FLOW, CHANNEL_CLOSE}
+use Rattle.machine_091.specs.declared.state.Channel91.{Channel91}
 use Rattle.machine_091.specs.declared.state.Channel91.TheVariants as channel
 use Rattle.machine_091.specs.declared.state.Connection.{Connection}
 use Rattle.machine_091.specs.declared.state.Phase91.{Phase91}
@@ -72,13 +74,20 @@ opening_effect c args phase.Running = (c, want.Nothing)
 opening_effect c args phase.Closing = (c, want.Nothing)
 opening_effect c args phase.Closed = (c, want.Nothing)
 
+-- a channel that its client closes; the gateway's channel.close may have gone out
+abbrev pub closed_by : Channel91 → Channel91
+closed_by channel.Free = channel.Closing
+closed_by channel.Open = channel.Closing
+closed_by channel.Closing = channel.Closing
+closed_by channel.Told = channel.Told
+
 -- a method of a channel: channel.open, close, flow and close-ok
 abbrev pub channel_effect : Connection → ℕ → Kind → List Arg → Step
 channel_effect c n k args =
     if is_of_kind CHANNEL_OPEN k then (with_channel c n channel.Open, want.Method n method.ChannelOpen)
-    else if is_of_kind CHANNEL_CLOSE k then (with_channel c n channel.Closing, want.Method n (method.ChannelClose (number_at 0 args) (text_at 1 args) (number_at 2 args) (number_at 3 args)))
+    else if is_of_kind CHANNEL_CLOSE k then (with_channel c n (closed_by (channel_at c n)), want.Method n (method.ChannelClose (number_at 0 args) (text_at 1 args) (number_at 2 args) (number_at 3 args)))
     else if is_of_kind CHANNEL_FLOW k then (c, want.Method n (method.ChannelFlow (is_active args)))
-    else (c, want.ChannelCloseOk n)
+    else (with_channel c n channel.Free, want.ChannelCloseOk n)
 
 -- a method once the connection runs: on channel 0 it is connection.close
 abbrev pub running_effect : Connection → ℕ → Kind → List Arg → Step
@@ -102,7 +111,8 @@ unit_effect c (unit.Frame f) = frame_effect c f.channel f.payload f.kind
 unit_effect c unit.Protocol = (c, want.Nothing)
 unit_effect c (unit.Bad code) = (c, want.Nothing)
 
--- a connection.open counts as one also where it names another virtual host; in the phase that expects it no other unit gets that code
+-- a connection.open counts as one also where it names another virtual host; in the phase that
+-- expects it no other unit gets that code
 abbrev pub asked_by : Connection → ℕ → Bool
 asked_by c code = c.asked || (is_open_phase c.phase && code == NOT_ALLOWED)
 

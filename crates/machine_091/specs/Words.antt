@@ -1,4 +1,5 @@
--- The words of this crate, from one place. Its types and constants can't be passed on: they are taken from specs.declared.
+-- The words of this crate, from one place. Its types and constants can't be passed on: they are
+-- taken from specs.declared.
 pub use Rattle.machine_091.specs.State.{new_connection, is_running, is_opening, is_closing, is_over, is_open, awaits, channel_at}
 pub use Rattle.machine_091.specs.Limits.{own_limits, AreWithin}
 pub use Rattle.machine_091.specs.Calls.{after_opened, after_closing, after_closed, after_ended}

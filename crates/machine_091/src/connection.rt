@@ -1,7 +1,7 @@
 //! A client's connection: the calls on it.
 
 ghost use Rattle.std.specs.Prelude.{◌≡◌, ◌≤◌, IfOk, OnOk, OnErr};
-ghost use Rattle.machine_091.specs.Calls.{after_opened, after_closing, after_closed, after_ended};
+ghost use Rattle.machine_091.specs.Calls.{after_opened, after_closing, after_told, after_closed, after_ended};
 ghost use Rattle.machine_091.specs.Limits.{AreWithin};
 ghost use Rattle.machine_091.specs.State.{new_connection, awaits, is_opening, is_closing, is_over, is_open};
 ghost use Rattle.machine_091.specs.Transitions.{unit_step};
@@ -48,8 +48,8 @@ impl Conn91 {
         Ok(Conn91 { state })
     }
 
-    /// Takes the client's next unit, and answers what it wants, or that it is refused: by the first place of the order of
-    /// refusals that applies.
+    /// Takes the client's next unit, and answers what it wants, or that it is refused: by the first
+    /// place of the order of refusals that applies.
     ///
     /// # Errors
     ///
@@ -63,30 +63,40 @@ impl Conn91 {
         self.state.take(alloc, &unit)
     }
 
-    /// The container upstream opened. If the client asked for that by connection.open, channels may be opened from now on.
-    pub fn opened(&mut self)
-        ensures { self.new ≡ after_opened self.old }
+    /// The container upstream opened, and takes channels up to this number. If the client asked for
+    /// that by connection.open, channels may be opened from now on.
+    pub fn opened(&mut self, channel_max: u16)
+        ensures { self.new ≡ after_opened channel_max self.old }
     {
-        self.state.open();
+        self.state.open(channel_max);
     }
 
-    /// A closing event came that no unit told: of the connection, or of this channel if it is open. Units but those that close are
-    /// passed over from now on.
+    /// A closing event came that no unit told: of the connection, or of this channel if it is open.
+    /// Units but those that close are passed over from now on.
     pub fn closing(&mut self, scope: Scope, channel: u16)
         ensures { self.new ≡ after_closing scope channel self.old }
     {
         self.state.begin_close(scope, channel);
     }
 
-    /// The life of a closing channel ended: the gateway's channel.close-ok was sent, or the client answered the gateway's
-    /// channel.close. Its number is free again.
+    /// The gateway's channel.close of a closing channel was sent: the client's channel.close-ok
+    /// counts from now on, and frees the channel.
+    pub fn told(&mut self, channel: u16)
+        ensures { self.new ≡ after_told channel self.old }
+    {
+        self.state.tell_channel(channel);
+    }
+
+    /// The gateway's channel.close-ok was sent. The channel's number is free again, unless the
+    /// gateway's own channel.close was sent: then the client's channel.close-ok frees it.
     pub fn closed(&mut self, channel: u16)
         ensures { self.new ≡ after_closed channel self.old }
     {
         self.state.free_channel(channel);
     }
 
-    /// The client's end ended, or the client was given up: this is its connection.close, without an answer.
+    /// The client's end ended, or the client was given up: this is its connection.close, without an
+    /// answer.
     pub fn ended(&mut self)
         ensures { self.new ≡ after_ended self.old }
     {
@@ -115,7 +125,8 @@ impl Conn91 {
         self.state.stream
     }
 
-    /// connection.open came where it was expected, to whichever virtual host. This stays so for ever.
+    /// connection.open came where it was expected, to whichever virtual host. This stays so for
+    /// ever.
     pub fn is_asked(&self) -> bool
         ensures { result ≡ self.now.asked }
     {
@@ -136,7 +147,8 @@ impl Conn91 {
         self.state.is_closing()
     }
 
-    /// The client's end is to be shut, whatever is due to it: its connection.close-ok came, or it ended.
+    /// The client's end is to be shut, whatever is due to it: its connection.close-ok came, or it
+    /// ended.
     pub fn is_over(&self) -> bool
         ensures { result ≡ is_over self.now }
     {

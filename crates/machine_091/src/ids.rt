@@ -1,4 +1,5 @@
-//! The ids of the methods that a connection knows (AMQP 0-9-1 1.4 to 1.8): the class id and the method id.
+//! The ids of the methods that a connection knows (AMQP 0-9-1 1.4 to 1.8): the class id and the
+//! method id.
 
 ghost use Rattle.std.specs.Prelude.{◌≡◌};
 ghost use Rattle.methods_091.specs.Rows.{class_of, id_of};

@@ -13,11 +13,13 @@ ghost use Rattle.machine_091.specs.declared.unit.Want91.TheVariants as want;
 
 /// The laws of a connection, for proofs to cite; the call does nothing.
 pub fn connection_laws()
-    // After any calls frames of 4,096 to 131,072 bytes are agreed, and channels from 1 to at most 255.
+    // After any calls frames of 4,096 to 131,072 bytes are agreed, and channels from 1 to at most
+    // 255.
     ensures limits { (vhost : List ℕ) (h : List Call91) → AreWithin (after_calls vhost h).limits }
     // No unit takes the limits of any connection out of that range.
     ensures limits_stay { (c : Connection) (u : Unit91) → AreWithin c.limits → AreWithin (unit_step c u).0.limits }
-    // After any calls the channels that are open or closing have numbers from 1 to the agreed greatest, and are no more than that.
+    // After any calls the channels that are open or closing have numbers from 1 to the agreed
+    // greatest, and are no more than that.
     ensures channels { (vhost : List ℕ) (h : List Call91) → AreInRange (after_calls vhost h) }
     // A refusal closes the connection, and leaves its limits and channels.
     ensures refusals { (c : Connection) (u : Unit91) (r : Refusal)

@@ -1,5 +1,5 @@
-//! The connection of an AMQP 0-9-1 client and its channels: what each unit of the client means, or why it is refused. All methods of a
-//! channel but those that open, close and stop it are refused.
+//! The connection of an AMQP 0-9-1 client and its channels: what each unit of the client means, or
+//! why it is refused. All methods of a channel but those that open, close and stop it are refused.
 #![tactic(auto)]
 
 mod connection;

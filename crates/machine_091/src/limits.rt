@@ -3,13 +3,15 @@
 ghost use Rattle.std.specs.Prelude.{◌≡◌};
 ghost use Rattle.machine_091.specs.Limits.{own_limits, agreed_limits, is_agreed};
 
-/// The greatest size of a frame that the gateway takes, in bytes. It stands until the client agrees to another.
+/// The greatest size of a frame that the gateway takes, in bytes. It stands until the client agrees
+/// to another.
 pub const FRAME_MAX: u32 = 131_072;
 
 /// The least size of a frame that both sides must take, in bytes (AMQP 0-9-1 4.2.3).
 pub const FRAME_MIN_SIZE: u32 = 4_096;
 
-/// The greatest number of a channel that the gateway takes. It stands until the client agrees to another.
+/// The greatest number of a channel that the gateway takes. It stands until the client agrees to
+/// another.
 pub const CHANNEL_MAX: u16 = 255;
 
 /// The interval of heartbeats that the gateway states, in seconds.
@@ -40,8 +42,8 @@ pub(crate) fn own_limits() -> Limits
     }
 }
 
-/// Whether the gateway agrees to these limits: none is above its own, and frames aren't shorter than all must take. 0 stands for
-/// the gateway's own.
+/// Whether the gateway agrees to these limits: none is above its own, and frames aren't shorter
+/// than all must take. 0 stands for the gateway's own.
 pub(crate) fn is_agreed(channel_max: u16, frame_max: u32) -> bool
     ensures { result ≡ is_agreed channel_max frame_max }
 {

@@ -7,8 +7,8 @@ ghost use Rattle.machine_091.specs.State.{is_running};
 
 use crate::ids::ids_in;
 use crate::refusals_frames::{
-    channel_order, closing_order, content_ruling, fault_code, heartbeat_order, is_ending,
-    is_opening,
+    channel_order, closing_order, content_ruling, fault_code, heartbeat_order, is_answering,
+    is_closing, is_opening,
 };
 use crate::refusals_opening::{expected_order, opening_refusal};
 use crate::refusals_running::{class_order, running_refusal, running_state};
@@ -39,7 +39,12 @@ fn check_opening(
     if let Some(ruling) = channel_order(conn, frame.channel, is_opening(payload)) {
         return Ok(Err(ruling));
     }
-    if let Some(ruling) = closing_order(conn, frame.channel, is_ending(payload)) {
+    if let Some(ruling) = closing_order(
+        conn,
+        frame.channel,
+        is_closing(payload),
+        is_answering(payload),
+    ) {
         return Ok(Err(ruling));
     }
     match read {
@@ -67,7 +72,12 @@ fn check_running(
     if let Some(ruling) = channel_order(conn, frame.channel, is_opening(payload)) {
         return Ok(Err(ruling));
     }
-    if let Some(ruling) = closing_order(conn, frame.channel, is_ending(payload)) {
+    if let Some(ruling) = closing_order(
+        conn,
+        frame.channel,
+        is_closing(payload),
+        is_answering(payload),
+    ) {
         return Ok(Err(ruling));
     }
     let method = match read_method(alloc, payload)? {
@@ -77,7 +87,7 @@ fn check_running(
     if let Some(ruling) = running_state(conn.channel(frame.channel), frame.channel, &method) {
         return Ok(Err(ruling));
     }
-    match running_refusal(frame.channel, &method) {
+    match running_refusal(conn.carried_max, frame.channel, &method) {
         Some(ruling) => Ok(Err(ruling)),
         None => Ok(Ok(method)),
     }
@@ -98,8 +108,8 @@ fn check_method(
     }
 }
 
-/// Checks a frame against the order of refusals: its method, `None` for a heartbeat, if the frame counts; else what the order
-/// says of it.
+/// Checks a frame against the order of refusals: its method, `None` for a heartbeat, if the frame
+/// counts; else what the order says of it.
 pub(crate) fn check_frame(
     alloc: Global,
     conn: &Connection,

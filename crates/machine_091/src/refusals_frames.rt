@@ -1,7 +1,7 @@
 //! The places of the order of refusals that ask the same of each frame, in every phase.
 
 ghost use Rattle.std.specs.Prelude.{◌≡◌, false, [], ◌∷◌, Some};
-ghost use Rattle.machine_091.specs.RefusalsFrames.{refused, first, heartbeat_order, content_order, is_opening, is_ending, state_order, channel_order, passed_over, closing_order, fault_code};
+ghost use Rattle.machine_091.specs.RefusalsFrames.{refused, first, heartbeat_order, content_order, is_opening, is_closing, is_answering, state_order, channel_order, passed_over, closing_order, fault_code};
 ghost use Rattle.machine_091.specs.State.{is_running};
 
 use crate::ids::{CHANNEL_CLOSE, CHANNEL_CLOSE_OK, CHANNEL_OPEN, is_in};
@@ -44,11 +44,18 @@ pub(crate) fn is_opening(payload: &[u8]) -> bool
     is_in(CHANNEL_OPEN, payload)
 }
 
-/// A payload that begins with the ids of channel.close or channel.close-ok.
-pub(crate) fn is_ending(payload: &[u8]) -> bool
-    ensures { result ≡ is_ending payload.now }
+/// A payload that begins with the ids of channel.close.
+pub(crate) fn is_closing(payload: &[u8]) -> bool
+    ensures { result ≡ is_closing payload.now }
 {
-    is_in(CHANNEL_CLOSE, payload) || is_in(CHANNEL_CLOSE_OK, payload)
+    is_in(CHANNEL_CLOSE, payload)
+}
+
+/// A payload that begins with the ids of channel.close-ok.
+pub(crate) fn is_answering(payload: &[u8]) -> bool
+    ensures { result ≡ is_answering payload.now }
+{
+    is_in(CHANNEL_CLOSE_OK, payload)
 }
 
 /// A channel that isn't open, or that is opened again.
@@ -59,7 +66,7 @@ fn state_order(state: Channel91, opening: bool) -> Option<Ruling>
         Channel91::Free if opening => None,
         Channel91::Free => Some(Ruling::Refused(CHANNEL_ERROR)),
         Channel91::Open if opening => Some(Ruling::Refused(CHANNEL_ERROR)),
-        Channel91::Open | Channel91::Closing => None,
+        Channel91::Open | Channel91::Closing | Channel91::Told => None,
     }
 }
 
@@ -77,16 +84,22 @@ pub(crate) fn channel_order(conn: &Connection, channel: u16, opening: bool) -> O
 }
 
 /// What a closing channel passes over unread.
-pub(crate) fn closing_order(conn: &Connection, channel: u16, ending: bool) -> Option<Ruling>
-    ensures { result ≡ closing_order conn.now channel ending }
+pub(crate) fn closing_order(
+    conn: &Connection,
+    channel: u16,
+    closes: bool,
+    answers: bool,
+) -> Option<Ruling>
+    ensures { result ≡ closing_order conn.now channel closes answers }
 {
     if channel == 0 {
         return None;
     }
     match conn.channel(channel) {
         Channel91::Free | Channel91::Open => None,
-        Channel91::Closing if ending => None,
-        Channel91::Closing => Some(Ruling::PassedOver),
+        Channel91::Closing if closes => None,
+        Channel91::Told if closes || answers => None,
+        Channel91::Closing | Channel91::Told => Some(Ruling::PassedOver),
     }
 }
 
@@ -103,7 +116,7 @@ pub(crate) fn fault_code(fault: MethodFault) -> u16
 /// What the order says of a content header or body. No method awaits one yet.
 pub(crate) fn content_ruling(conn: &Connection, channel: u16) -> Ruling
     ensures { Some result ≡ first (content_order (is_running conn.now.phase) channel ∷ channel_order conn.now channel false
-        ∷ closing_order conn.now channel false ∷ refused UNEXPECTED_FRAME ∷ []) }
+        ∷ closing_order conn.now channel false false ∷ refused UNEXPECTED_FRAME ∷ []) }
 {
     if let Some(ruling) = content_order(conn.is_running(), channel) {
         return ruling;
@@ -111,7 +124,7 @@ pub(crate) fn content_ruling(conn: &Connection, channel: u16) -> Ruling
     if let Some(ruling) = channel_order(conn, channel, false) {
         return ruling;
     }
-    match closing_order(conn, channel, false) {
+    match closing_order(conn, channel, false, false) {
         Some(ruling) => ruling,
         None => Ruling::Refused(UNEXPECTED_FRAME),
     }

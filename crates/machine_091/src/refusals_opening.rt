@@ -1,4 +1,5 @@
-//! The places of the order of refusals that ask of a method before the connection runs: the one that is expected, and what it says.
+//! The places of the order of refusals that ask of a method before the connection runs: the one
+//! that is expected, and what it says.
 
 ghost use Rattle.std.specs.Prelude.{◌≡◌, ◌≢◌, true, false, Ok};
 ghost use Rattle.std.specs.Str.{bytes_eq};
@@ -49,7 +50,8 @@ fn is_login(mechanism: &ByteText, response: &ByteText) -> bool
         && response.as_slice().len() <= RESPONSE_MAX
 }
 
-/// What the expected method itself is refused for: another login, other limits, or another virtual host.
+/// What the expected method itself is refused for: another login, other limits, or another virtual
+/// host.
 pub(crate) fn opening_refusal(conn: &Connection, method: &Method91) -> Option<Ruling>
     requires { is_expected conn.now (kind_of method.now) ≡ true }
     ensures { result ≡ opening_refusal conn.now (args_of method.now) }

@@ -1,17 +1,17 @@
-//! The places of the order of refusals that ask of a method once the connection runs: its class on channel 0, its state, and whether
-//! this gateway does it.
+//! The places of the order of refusals that ask of a method once the connection runs: its class on
+//! channel 0, its state, and whether this gateway does it.
 
 ghost use Rattle.std.specs.Prelude.{◌≡◌};
 ghost use Rattle.methods_091.specs.View.{kind_of, args_of};
-ghost use Rattle.machine_091.specs.RefusalsRunning.{class_order, is_servers, answer_order, running_state, running_refusal};
+ghost use Rattle.machine_091.specs.RefusalsRunning.{carried_order, class_order, is_servers, answer_order, running_state, running_refusal};
 
 use crate::ids::{
-    BASIC_DELIVER, BASIC_GET_EMPTY, BASIC_RETURN, CHANNEL_CLOSE_OK, CONNECTION, CONNECTION_CLOSE,
-    ids_in, is_method,
+    BASIC_DELIVER, BASIC_GET_EMPTY, BASIC_RETURN, CHANNEL_CLOSE_OK, CHANNEL_OPEN, CONNECTION,
+    CONNECTION_CLOSE, ids_in, is_method,
 };
 use crate::state::Channel91;
 use crate::unit::Ruling;
-use close_translate::{COMMAND_INVALID, NOT_IMPLEMENTED};
+use close_translate::{COMMAND_INVALID, NOT_IMPLEMENTED, RESOURCE_ERROR};
 use methods_091::{Method91, ids};
 
 /// On channel 0 a method of another class than connection.
@@ -43,7 +43,7 @@ fn answer_order(state: Channel91) -> Option<Ruling>
 {
     match state {
         Channel91::Free | Channel91::Open => Some(Ruling::Refused(COMMAND_INVALID)),
-        Channel91::Closing => None,
+        Channel91::Closing | Channel91::Told => None,
     }
 }
 
@@ -68,15 +68,29 @@ pub(crate) fn running_state(state: Channel91, channel: u16, method: &Method91) -
     }
 }
 
-/// A method that this gateway doesn't do.
-pub(crate) fn running_refusal(channel: u16, method: &Method91) -> Option<Ruling>
-    ensures { result ≡ running_refusal channel (kind_of method.now) (args_of method.now) }
+/// A channel that the container upstream can't carry.
+fn carried_order(carried_max: u16, channel: u16) -> Option<Ruling>
+    ensures { result ≡ carried_order carried_max channel }
+{
+    if carried_max < channel {
+        Some(Ruling::Refused(RESOURCE_ERROR))
+    } else {
+        None
+    }
+}
+
+/// A channel that the container upstream can't carry, and a method that this gateway doesn't do.
+pub(crate) fn running_refusal(carried_max: u16, channel: u16, method: &Method91) -> Option<Ruling>
+    ensures { result ≡ running_refusal carried_max channel (kind_of method.now) (args_of method.now) }
 {
     if channel == 0 {
         return None;
     }
+    if is_method(method, CHANNEL_OPEN) {
+        return carried_order(carried_max, channel);
+    }
     let done = match method {
-        Method91::ChannelOpen | Method91::ChannelClose { .. } | Method91::ChannelCloseOk => true,
+        Method91::ChannelClose { .. } | Method91::ChannelCloseOk => true,
         Method91::ChannelFlow { active } => *active,
         _ => false,
     };

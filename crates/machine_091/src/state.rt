@@ -22,8 +22,8 @@ pub enum Phase91 {
     Running,
     /// A closing event came. connection.close and connection.close-ok alone still count.
     Closing,
-    /// The client closed, or answered the gateway's close, or its end ended, or its first bytes were no protocol header.
-    /// connection.close-ok alone still counts.
+    /// The client closed, or answered the gateway's close, or its end ended, or its first bytes
+    /// were no protocol header. connection.close-ok alone still counts.
     Closed,
 }
 
@@ -50,8 +50,11 @@ pub enum Channel91 {
     /// It isn't open.
     Free,
     Open,
-    /// A closing event of it came. channel.close and channel.close-ok alone still count.
+    /// A closing event of it came. channel.close alone still counts.
     Closing,
+    /// The gateway's channel.close of it was sent. channel.close and channel.close-ok alone still
+    /// count.
+    Told,
 }
 
 /// What is awaited of the client's bytes.
@@ -75,6 +78,8 @@ pub struct Connection {
     /// connection.open came where it was expected, to whichever virtual host.
     pub(crate) asked: bool,
     pub(crate) limits: Limits,
+    /// The greatest number of a channel that the container upstream takes; 0 until it opened.
+    pub(crate) carried_max: u16,
     /// By their numbers. Nothing is ever on channel 0.
     pub(crate) channels: [Channel91; 256],
 }
@@ -91,6 +96,7 @@ impl Connection {
             stream: Stream91::Header,
             asked: false,
             limits: own_limits(),
+            carried_max: 0,
             channels: [Channel91::Free; 256],
         }
     }
@@ -105,6 +111,7 @@ impl Connection {
             stream: self.stream,
             asked: self.asked,
             limits: self.limits,
+            carried_max: self.carried_max,
             channels: self.channels,
         })
     }

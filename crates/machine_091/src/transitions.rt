@@ -1,17 +1,18 @@
-//! The transitions of a connection: for each phase and unit the state after it and what the unit wants, and what the other calls
-//! change. No other file sets a phase, a stream or a channel.
+//! The transitions of a connection: for each phase and unit the state after it and what the unit
+//! wants, and what the other calls change. No other file sets a phase, a stream or a channel.
 
 ghost use Rattle.std.specs.Prelude.{◌≡◌, true, false, None, Ok, IfOk, OnOk, OnErr};
 ghost use Rattle.methods_091.specs.View.{kind_of, args_of, parts_of};
-ghost use Rattle.machine_091.specs.Calls.{after_opened, after_closing, after_closed, after_ended};
+ghost use Rattle.machine_091.specs.Calls.{after_opened, after_closing, after_told, after_closed, after_ended};
 ghost use Rattle.machine_091.specs.Checked.{IsCounted};
 ghost use Rattle.machine_091.specs.Ids.{is_of_kind};
 ghost use Rattle.machine_091.specs.Limits.{agreed_limits};
 ghost use Rattle.machine_091.specs.RefusalsOpening.{is_expected, text_at, number_at};
 ghost use Rattle.machine_091.specs.RefusalsRunning.{running_state, running_refusal};
 ghost use Rattle.machine_091.specs.Refusals.{refusal_of};
-ghost use Rattle.machine_091.specs.State.{is_running, channel_at};
-ghost use Rattle.machine_091.specs.Transitions.{asked_by, header_step, stream_after, is_unit_of, opening_effect, running_effect, method_effect, ordered_step, closed_step, closing_step, unit_step};
+ghost use Rattle.machine_091.specs.State.{is_running, channel_at, with_channel};
+ghost use Rattle.machine_091.specs.declared.state.Channel91.TheVariants.{Free};
+ghost use Rattle.machine_091.specs.Transitions.{asked_by, header_step, stream_after, is_unit_of, opening_effect, running_effect, method_effect, ordered_step, closed_by, closed_step, closing_step, unit_step};
 ghost use Rattle.machine_091.specs.declared.state.Phase91.TheVariants as phase;
 ghost use Rattle.machine_091.specs.declared.unit.Want91.TheVariants as want;
 
@@ -72,6 +73,16 @@ fn limits_in(method: &Method91) -> Limits
     }
 }
 
+/// A channel that its client closes.
+fn closed_by(state: Channel91) -> Channel91
+    ensures { result ≡ closed_by state }
+{
+    match state {
+        Channel91::Free | Channel91::Open | Channel91::Closing => Channel91::Closing,
+        Channel91::Told => Channel91::Told,
+    }
+}
+
 impl Connection {
     // ---- the calls
 
@@ -91,10 +102,11 @@ impl Connection {
         }
     }
 
-    /// The container upstream opened.
-    pub(crate) fn open(&mut self)
-        ensures { self.new ≡ after_opened self.old }
+    /// The container upstream opened, and takes channels up to this number.
+    pub(crate) fn open(&mut self, channel_max: u16)
+        ensures { self.new ≡ after_opened channel_max self.old }
     {
+        self.carried_max = channel_max;
         if self.is_opening() {
             self.phase = Phase91::Running;
         }
@@ -118,7 +130,16 @@ impl Connection {
         }
     }
 
-    /// The life of a closing channel ended.
+    /// The gateway's channel.close of a closing channel was sent.
+    pub(crate) fn tell_channel(&mut self, channel: u16)
+        ensures { self.new ≡ after_told channel self.old }
+    {
+        if self.channel(channel) == Channel91::Closing {
+            self.set_channel(channel, Channel91::Told);
+        }
+    }
+
+    /// The gateway's channel.close-ok of a channel was sent.
     pub(crate) fn free_channel(&mut self, channel: u16)
         ensures { self.new ≡ after_closed channel self.old }
     {
@@ -226,10 +247,27 @@ impl Connection {
         }
     }
 
+    /// The client closes a channel.
+    fn close_channel(&mut self, channel: u16)
+        ensures { self.new ≡ with_channel self.old channel (closed_by (channel_at self.old channel)) }
+    {
+        let state = closed_by(self.channel(channel));
+        self.set_channel(channel, state);
+    }
+
+    /// The client answers the gateway's channel.close.
+    fn end_channel(&mut self, channel: u16) -> Want91
+        ensures state { self.new ≡ with_channel self.old channel Free }
+        ensures want { result ≡ want.ChannelCloseOk channel }
+    {
+        self.set_channel(channel, Channel91::Free);
+        Want91::ChannelCloseOk(channel)
+    }
+
     /// A method once the connection runs: on channel 0 it is connection.close.
     fn apply_running(&mut self, channel: u16, method: Method91) -> Want91
         requires state { running_state (channel_at self.old channel) channel (kind_of method) ≡ None }
-        requires own { running_refusal channel (kind_of method) (args_of method) ≡ None }
+        requires own { running_refusal self.old.carried_max channel (kind_of method) (args_of method) ≡ None }
         ensures state { self.new ≡ (running_effect self.old channel (kind_of method) (args_of method)).0 }
         ensures want { result ≡ (running_effect self.old channel (kind_of method) (args_of method)).1 }
     {
@@ -239,9 +277,9 @@ impl Connection {
         }
         match method {
             Method91::ChannelOpen => self.set_channel(channel, Channel91::Open),
-            Method91::ChannelClose { .. } => self.set_channel(channel, Channel91::Closing),
+            Method91::ChannelClose { .. } => self.close_channel(channel),
             Method91::ChannelFlow { .. } => {}
-            _ => return Want91::ChannelCloseOk(channel),
+            _ => return self.end_channel(channel),
         }
         Want91::Method(channel, method)
     }
@@ -298,7 +336,8 @@ struct Ending {
     answers: bool,
 }
 
-/// What a unit is to a connection that closes: a method frame on channel 0 may be its close or its close-ok.
+/// What a unit is to a connection that closes: a method frame on channel 0 may be its close or its
+/// close-ok.
 fn ending_in(alloc: Global, unit: &Unit91) -> Result<Ending, Memory>
     ensures closes { IfOk result (λ ending. ending.closes ≡ is_unit_of CONNECTION_CLOSE unit.now) }
     ensures answers { IfOk result (λ ending. ending.answers ≡ is_unit_of CONNECTION_CLOSE_OK unit.now) }

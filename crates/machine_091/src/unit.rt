@@ -11,8 +11,8 @@ pub enum Unit91 {
     /// The protocol header of AMQP 0-9-1.
     Protocol,
     Frame(Frame91),
-    /// Bytes with which no unit begins, and the reply code that they get: the stream ends there. Where the protocol header is
-    /// awaited they are those of no header, which has no code.
+    /// Bytes with which no unit begins, and the reply code that they get: the stream ends there.
+    /// Where the protocol header is awaited they are those of no header, which has no code.
     Bad(u16),
 }
 

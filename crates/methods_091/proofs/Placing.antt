@@ -1,22 +1,42 @@
--- The frame of a connection.close, put together from its parts.
-use Rattle.std.proofs.Common.{◌≡◌, ℕ, ◌+◌, ◌%◌, ◌≤◌, List, [], ◌∷◌, ◌++◌, length, append_assoc, ap, arith}
+-- The frame of a method, put together from its parts.
+use Rattle.std.proofs.Common.{◌≡◌, ℕ, ◌+◌, ◌%◌, ◌≤◌, List, [], ◌∷◌, ◌++◌, length, append_assoc, ap, ◌∙◌, arith, refl}
 use Rattle.std.proofs.lemmas.List.{length-append}
 use Rattle.std.specs.Int.{w16, w32, to_be_bytes}
 use Rattle.frames_091.specs.Frames.{frame_text}
-use Rattle.methods_091.specs.Closing.{close_text}
-use Rattle.methods_091.specs.Writing.{method_text}
-use Rattle.methods_091.specs.declared.method.Method91.TheVariants.{ConnectionClose}
+use Rattle.methods_091.specs.Closing.{head_text, payload_text, closing_text}
 
--- the parts of the frame, in the order in which they are written
-abbrev pub close_parts : List ℕ → List ℕ → ℕ → List ℕ → List ℕ → List ℕ → List ℕ
-close_parts size code count text class method =
-    ((((((((1 ∷ 0 ∷ 0 ∷ []) ++ size) ++ 0 ∷ 10 ∷ 0 ∷ 50 ∷ []) ++ code) ++ count ∷ []) ++ text) ++ class) ++ method) ++ 206 ∷ []
+-- what stands before a payload
+pub head_is : (n size : ℕ) (first second : List ℕ) → first ≡ to_be_bytes w16 n → second ≡ to_be_bytes w32 size
+    → ((1 ∷ []) ++ first) ++ second ≡ head_text n size
+head_is n size first second a b = rw (a, b) refl
 
-pub close_is : (code class method : ℕ) (text size first second third : List ℕ) → length text ≤ 255 → size ≡ to_be_bytes w32 (11 + length text) → first ≡ to_be_bytes w16 code → second ≡ to_be_bytes w16 class
-    → third ≡ to_be_bytes w16 method → close_parts size first (length text) text second third ≡ close_text code text class method
+-- what stands before a payload, the payload, and the end byte
+pub payload_is : (n size : ℕ) (payload : List ℕ) → size ≡ length payload → (head_text n size ++ payload) ++ 206 ∷ [] ≡ payload_text n payload
 unfolding frame_text
-close_is code class method text size first second third short a b c d =
-    let payload : length (method_text (ConnectionClose code text class method)) ≡ 11 + length text = omega (arith, length-append text (to_be_bytes w16 class ++ to_be_bytes w16 method)) in
-    let count : length text % 256 ≡ length text = omega arith in
-    let front : List ℕ = ((((1 ∷ 0 ∷ 0 ∷ []) ++ to_be_bytes w32 (11 + length text)) ++ 0 ∷ 10 ∷ 0 ∷ 50 ∷ []) ++ to_be_bytes w16 code) ++ length text ∷ [] in
-    rw (a, b, c, d, payload, count) (ap (λ (rest : List ℕ). front ++ (rest ++ 206 ∷ [])) (append_assoc text (to_be_bytes w16 class) (to_be_bytes w16 method)))
+payload_is n size payload a = rw (a) refl
+
+-- the parts of the frame of a method that closes, in the order in which they are written
+abbrev pub close_parts : List ℕ → List ℕ → List ℕ → ℕ → List ℕ → List ℕ → List ℕ → List ℕ
+close_parts head ids code count text class method =
+    ((((((head ++ ids) ++ code) ++ count ∷ []) ++ text) ++ class) ++ method) ++ 206 ∷ []
+
+-- the parts, with the payload's put together
+parts_are : (head ids code : List ℕ) (count : ℕ) (text class method : List ℕ)
+    → close_parts head ids code count text class method ≡ (head ++ (ids ++ code ++ (count ∷ text) ++ class ++ method)) ++ 206 ∷ []
+parts_are head ids code count text class method = simp append_assoc
+
+-- how long the payload is
+payload_long : (ids code counted class method : List ℕ)
+    → length (ids ++ code ++ counted ++ class ++ method) ≡ length ids + length code + length counted + length class + length method
+payload_long ids code counted class method = simp length-append
+
+pub close_is : (n code class method : ℕ) (ids text first second third : List ℕ) → length ids ≡ 4 → length text ≤ 255 → first ≡ to_be_bytes w16 code → second ≡ to_be_bytes w16 class
+    → third ≡ to_be_bytes w16 method → close_parts (head_text n (11 + length text)) ids first (length text) text second third ≡ closing_text n ids code text class method
+close_is n code class method ids text first second third four short a b c =
+    let head : List ℕ = head_text n (11 + length text) in
+    let payload : ℕ → List ℕ = λ count. ids ++ to_be_bytes w16 code ++ (count ∷ text) ++ to_be_bytes w16 class ++ to_be_bytes w16 method in
+    let sum = payload_long ids (to_be_bytes w16 code) ((length text % 256) ∷ text) (to_be_bytes w16 class) (to_be_bytes w16 method) in
+    let size : 11 + length text ≡ length (payload (length text % 256)) = omega (arith, four, sum) in
+    let count : length text ≡ length text % 256 = omega arith in
+    let parts = parts_are head ids (to_be_bytes w16 code) (length text) text (to_be_bytes w16 class) (to_be_bytes w16 method) in
+    rw (a, b, c) (parts ∙ ap (λ k. (head ++ payload k) ++ 206 ∷ []) count ∙ payload_is n (11 + length text) (payload (length text % 256)) size)

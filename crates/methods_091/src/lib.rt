@@ -15,7 +15,10 @@ mod queue;
 mod reading;
 mod writing;
 
-pub use closing::{put_close, put_close_ok};
+pub use closing::{
+    put_channel_close, put_channel_close_ok, put_channel_open_ok, put_close, put_close_ok,
+    put_flow_ok,
+};
 pub use laws::method_laws;
 pub use method::{Method91, ids};
 pub use reading::{MethodFault, read_method};

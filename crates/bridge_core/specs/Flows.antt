@@ -1,0 +1,12 @@
+-- That channel.flow-oks can be counted.
+use Rattle.std.specs.Prelude.{◌<◌, ◌^◌, ◌-◌, List}
+use Rattle.std.specs.List.{All}
+use Rattle.gate_model.specs.declared.life.Life.{Life}
+
+-- one more can be
+abbrev pub HasRoom : Life → Type 0
+HasRoom l = l.flow_oks < 2 ^ 32 - 1
+
+-- on each channel
+abbrev pub FlowsFit : List Life → Type 0
+FlowsFit ls = All HasRoom ls

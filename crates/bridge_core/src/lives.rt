@@ -1,0 +1,103 @@
+//! The channels of a client: what is due on each.
+
+ghost use Rattle.std.specs.Prelude.{◌≡◌, false};
+ghost use Rattle.gate_model.specs.Lives.{life_at, no_life, no_lives, old_life, with_life};
+ghost use Rattle.bridge_core.specs.Flows.{FlowsFit};
+
+use gate_model::Life;
+use std::marker::Model;
+
+/// The channels of a client are numbered below this (AMQP 0-9-1 1.4.2.5).
+pub const CHANNELS: usize = 256;
+
+/// Nothing is due.
+pub const NO_LIFE: Life = Life {
+    waits: false,
+    begin: false,
+    open_ok: false,
+    flow_oks: 0,
+    awaits_end: false,
+    over: false,
+    close_ok: false,
+    crossed_ok: false,
+    close: None,
+    why: None,
+};
+
+/// What stays due for the life before.
+pub fn old_life(life: Life) -> Life
+    ensures { result ≡ old_life life }
+{
+    Life {
+        crossed_ok: life.crossed_ok,
+        why: life.why,
+        ..NO_LIFE
+    }
+}
+
+/// What is due on each channel.
+#[derive(Drop)]
+pub struct Lives {
+    lives: [Life; 256],
+    crowded: bool,
+}
+
+impl Model for Lives {
+    ghost use Rattle.std.specs.Prelude.{◌≡◌, List, false};
+    ghost use Rattle.gate_model.specs.declared.life.Life.{Life};
+    ghost use Rattle.bridge_core.specs.Flows.{FlowsFit};
+
+    ghost Value = { List Life };
+
+    ghost view = { λ a. a.lives };
+
+    ghost invariant = { λ a. a.crowded ≡ false → FlowsFit a.lives };
+}
+
+impl Lives {
+    /// Nothing is due on any channel.
+    #[tactic(auto, using(crate::proofs::Flows::none_fit), unfolding(gate_model::specs::Lives::no_lives))]
+    pub fn new() -> Lives
+        ensures { result ≡ no_lives }
+    {
+        Lives {
+            lives: [NO_LIFE; 256],
+            crowded: false,
+        }
+    }
+
+    /// What is due on each channel, by its number.
+    pub fn all(&self) -> &[Life; 256]
+        ensures { result.now ≡ self.now }
+    {
+        &self.lives
+    }
+
+    /// What is due on a channel.
+    pub fn at(&self, channel: u16) -> Life
+        ensures { result ≡ life_at self.now channel }
+    {
+        match self.lives.as_slice().get(channel as usize) {
+            None => NO_LIFE,
+            Some(life) => *life,
+        }
+    }
+
+    /// What is due on a channel is this.
+    #[tactic(auto, using(crate::proofs::Flows::set_fits, crate::proofs::Flows::set_beyond))]
+    pub fn set(&mut self, channel: u16, life: Life)
+        ensures { self.new ≡ with_life channel life self.old }
+    {
+        if (channel as usize) < CHANNELS {
+            self.lives[channel as usize] = life;
+            self.crowded = self.crowded || life.flow_oks == u32::MAX;
+        }
+    }
+
+    /// Whether some channel may have as many channel.flow-oks due as can be counted.
+    pub fn is_crowded(&self) -> bool
+        ensures { result ≡ false → FlowsFit self.now }
+    {
+        self.crowded
+    }
+}

@@ -1,0 +1,164 @@
+//! The units of a client that aren't taken up yet.
+
+ghost use Rattle.std.specs.Prelude.{◌≡◌, ◌<◌, ◌++◌, ◌∷◌, [], OnOk, OnErr, length, option_copied, slice_get, take, Some};
+ghost use Rattle.std.specs.List.{list_any};
+ghost use Rattle.gate_model.specs.Queue.{holds, is_bad_unit, is_empty, is_full, payload_of};
+ghost use Rattle.gate_model.specs.Queue.{removed, waits_for_all, channel_of};
+
+use frames_091::Kind91;
+use gate_model::{QUEUE_BYTES, QUEUE_UNITS};
+use machine_091::Unit91;
+use std::alloc::Global;
+use std::marker::Model;
+use wire_base::Memory;
+
+/// The units of a client that aren't taken up yet, in their order.
+#[derive(Drop)]
+pub struct Queue {
+    units: Vec<Unit91>,
+    bytes: usize,
+}
+
+impl Model for Queue {
+    ghost use Rattle.std.specs.Prelude.{◌≡◌, List};
+    ghost use Rattle.machine_091.specs.declared.unit.Unit91.{Unit91};
+    ghost use Rattle.gate_model.specs.Queue.{payloads};
+
+    ghost Value = { List Unit91 };
+
+    ghost view = { λ a. a.units.items };
+
+    ghost invariant = { λ a. a.bytes ≡ payloads a.units.items };
+}
+
+/// The channel that a unit is of: of the connection is what isn't a frame.
+pub fn channel_of(unit: &Unit91) -> u16
+    ensures { result ≡ channel_of unit.now }
+{
+    match unit {
+        Unit91::Frame(frame) => frame.channel,
+        Unit91::Protocol | Unit91::Bad(_) => 0,
+    }
+}
+
+/// It waits for all that came before it.
+pub fn waits_for_all(unit: &Unit91) -> bool
+    ensures { result ≡ waits_for_all unit.now }
+{
+    match unit {
+        Unit91::Frame(frame) => frame.channel == 0 || matches!(frame.kind, Kind91::Heartbeat),
+        Unit91::Protocol | Unit91::Bad(_) => true,
+    }
+}
+
+/// The bytes that count of a unit.
+fn payload_of(unit: &Unit91) -> usize
+    ensures { result ≡ payload_of unit.now }
+{
+    match unit {
+        Unit91::Frame(frame) => frame.payload.as_slice().len(),
+        Unit91::Protocol | Unit91::Bad(_) => 0,
+    }
+}
+
+/// A unit of a channel waits for this one.
+fn holds(channel: u16, unit: &Unit91) -> bool
+    ensures { result ≡ holds channel unit.now }
+{
+    let of = channel_of(unit);
+    of == 0 || of == channel
+}
+
+impl Queue {
+    /// All is taken up.
+    pub fn new(alloc: Global) -> Queue
+        ensures { result ≡ [] }
+    {
+        Queue {
+            units: Vec::new(alloc),
+            bytes: 0,
+        }
+    }
+
+    /// A unit waits behind the others. Without memory all is as it was.
+    #[tactic(auto, using(crate::proofs::Payloads::payloads_more))]
+    pub fn push(&mut self, unit: Unit91) -> Result<(), Memory>
+        ensures ok { OnOk result (self.new ≡ self.old ++ unit ∷ []) }
+        ensures err { OnErr result (self.new ≡ self.old) }
+    {
+        let Some(bytes) = self.bytes.checked_add(payload_of(&unit)) else {
+            return Err(Memory);
+        };
+        match self.units.push(unit) {
+            Ok(()) => {
+                self.bytes = bytes;
+                Ok(())
+            }
+            Err(_) => Err(Memory),
+        }
+    }
+
+    /// No unit waits any more.
+    pub fn clear(&mut self)
+        ensures { self.new ≡ [] }
+    {
+        self.units.clear();
+        self.bytes = 0;
+    }
+
+    /// How many units wait.
+    pub fn len(&self) -> usize
+        ensures { result ≡ length self.now }
+    {
+        self.units.len()
+    }
+
+    /// The unit at a place.
+    pub fn get(&self, place: usize) -> Option<&Unit91>
+        ensures { option_copied result ≡ slice_get self.now place }
+    {
+        self.units.get(place)
+    }
+
+    /// All is taken up.
+    pub fn is_empty(&self) -> bool
+        ensures { result ≡ is_empty self.now }
+    {
+        self.units.len() == 0
+    }
+
+    /// So much waits that the client isn't read.
+    pub fn is_full(&self) -> bool
+        ensures { result ≡ is_full self.now }
+    {
+        QUEUE_UNITS <= self.units.len() || QUEUE_BYTES <= self.bytes
+    }
+
+    /// Bytes with which no unit begins are among what waits.
+    pub fn has_bad(&self) -> bool
+        ensures { result ≡ list_any is_bad_unit self.now }
+    {
+        self.units.iter().any(|u| matches!(u, Unit91::Bad(_)))
+    }
+
+    /// Whether one of the first units holds those of a channel.
+    pub fn holds_before(&self, place: usize, channel: u16) -> bool
+        requires { place < length self.now }
+        ensures { result ≡ list_any (holds channel) (take place self.now) }
+    {
+        let (front, _) = self.units.as_slice().split_at(place);
+        front.iter().any(|u| holds(channel, u))
+    }
+
+    /// The unit at a place doesn't wait any more.
+    #[tactic(auto, using(crate::proofs::Payloads::payloads_less))]
+    pub fn remove(&mut self, place: usize) -> Unit91
+        requires { place < length self.old }
+        ensures unit { slice_get self.old place ≡ Some result }
+        ensures rest { self.new ≡ removed place self.old }
+    {
+        let unit = self.units.remove(place);
+        self.bytes -= payload_of(&unit);
+        unit
+    }
+}

@@ -1,0 +1,590 @@
+-- What is due on a channel and what went there answers what was asked there.
+use Rattle.std.proofs.Common.{◌≡◌, ◌≢◌, ◌⊎◌, ℕ, zero, suc, ◌+◌, ◌-◌, ◌==◌, ◌<◌, ◌≤◌, Bool, true, false, not, ◌&&◌, ◌||◌, if◌then◌else◌, List, [], ◌∷◌, ◌++◌, Option, None, Some, replicate, arith, inl, inr, refl, sym, ap, ◌∙◌, subst}
+use Rattle.std.specs.Prelude.{nat_lt, slice_get, slice_set}
+use Rattle.std.proofs.lemmas.Bool.Decides.{nat_tests}
+use Rattle.gate_outside.specs.declared.ports.End.TheVariants.{Client, Up}
+use Rattle.gate_outside.specs.declared.ports.Linked.TheVariants as link
+use Rattle.gate_relay.specs.declared.loss.Loss.TheVariants as loss
+use Rattle.machine_091.specs.State.{is_closing, is_opening}
+use Rattle.machine_091.specs.Transitions.{unit_step}
+use Rattle.machine_091.specs.declared.state.Connection.{Connection}
+use Rattle.machine_091.specs.declared.unit.Refusal.{Refusal}
+use Rattle.machine_091.specs.declared.unit.Unit91.{Unit91}
+use Rattle.machine_091.specs.declared.unit.Want91.{Want91}
+use Rattle.machine_091.specs.declared.unit.Want91.TheVariants as want
+use Rattle.machine_10.specs.Transitions as ten
+use Rattle.machine_10.specs.Transitions.{Meaning}
+use Rattle.machine_10.specs.declared.unit.Unit10.{Unit10}
+use Rattle.methods_091.specs.declared.method.Method91.{Method91}
+use Rattle.methods_091.specs.declared.method.Method91.TheVariants as method
+use Rattle.performatives_10.specs.declared.condition.Condition.{Condition}
+use Rattle.gate_model.specs.declared.life.Life.{Life}
+use Rattle.gate_model.specs.declared.outgoing.Outgoing.TheVariants.{ToClient, ToUp}
+use Rattle.gate_model.specs.declared.outgoing.UpUnit.{UpUnit}
+use Rattle.gate_model.specs.declared.outgoing.UpUnit.TheVariants as up
+use Rattle.gate_model.specs.declared.reply.Reply.{Reply}
+use Rattle.gate_model.specs.declared.reply.Reply.TheVariants as reply
+use Rattle.gate_model.specs.Due.{close_oks_on, flow_oks, open_oks, refused_on, when}
+use Rattle.gate_model.specs.Folds.{connection, is_answer, ran_out_in}
+use Rattle.gate_model.specs.Lives.{begun_life, each, failed_life, freed_life, life_at, lives_by, method_life, no_life, no_lives, or_none, with_life}
+use Rattle.gate_model.specs.Once.{AnswersOnce, is_channel_close, is_channel_flow, is_channel_open, is_close_ok_on, is_flow_ok_on, is_method_on, is_open_ok_on, one_if, wanted_in, went_in}
+use Rattle.gate_model.specs.Picks.{ArePicks}
+use Rattle.gate_model.specs.State.{Began, Came, Gave, Heard, Joined, Lost, Moment, OutOfMemory, Queued, State, Step, TakenUp, Whole, before, came, dequeued, fail, failed, heard, is_channel_settled, is_settled, left, runs, with_meaning, without_begin, without_life}
+use Rattle.gate_model.specs.Upstream.{first, heard_up, meaning_by}
+use Rattle.gate_model.proofs.Known.{conn_is, known, memory_is}
+use Rattle.gate_model.proofs.Rows.{Has, HasFirst, HasNone, first_none, first_some, has, same_first}
+use Rattle.gate_model.proofs.Said.{Beats, InAnswers, InCloses, InOks, IsDue, IsOfChannel, OnChannel, Picked, calm_now, first_due, picked}
+use Rattle.gate_model.proofs.Sessions.{session_cases}
+use Rattle.gate_model.proofs.Times.{and_left}
+
+-- ---- lives by their numbers
+
+same_or_not : (k n : ℕ) → (k ≡ n) ⊎ (k ≢ n)
+same_or_not zero zero = inl refl
+same_or_not zero (suc n) = inr (λ e. cc)
+same_or_not (suc k) zero = inr (λ e. cc)
+same_or_not (suc k) (suc n) = elim (same_or_not k n) [ inl e ↦ inl (ap suc e) | inr d ↦ inr (λ e. d (let less : k ≡ n = omega (arith, e) in less)) ]
+
+-- a life that is set is found under its number alone, which may be of none
+data SetAt (ls : List Life) (k n : ℕ) (l : Life) : Type 0 where
+  Here : k ≡ n → life_at (with_life k l ls) n ≡ l → SetAt ls k n l
+  Elsewhere : k ≢ n → life_at (with_life k l ls) n ≡ life_at ls n → SetAt ls k n l
+  Beyond : k ≡ n → life_at ls n ≡ no_life → life_at (with_life k l ls) n ≡ no_life → SetAt ls k n l
+
+set_more : (x : Life) (ls : List Life) (k n : ℕ) (l : Life) → SetAt ls k n l → SetAt (x ∷ ls) (suc k) (suc n) l
+set_more x ls k n l (Here e f) = Here (ap suc e) f
+set_more x ls k n l (Elsewhere d f) = Elsewhere (λ e. d (let less : k ≡ n = omega (arith, e) in less)) f
+set_more x ls k n l (Beyond e f g) = Beyond (ap suc e) f g
+
+set_at : (ls : List Life) (k n : ℕ) (l : Life) → SetAt ls k n l
+set_at [] k n l = elim (same_or_not k n) [ inl e ↦ Beyond e refl refl | inr d ↦ Elsewhere d refl ]
+set_at (x ∷ ls) zero zero l = Here refl refl
+set_at (x ∷ ls) zero (suc n) l = Elsewhere (λ e. cc) refl
+set_at (x ∷ ls) (suc k) zero l = Elsewhere (λ e. cc) refl
+set_at (x ∷ ls) (suc k) (suc n) l = set_more x ls k n l (set_at ls k n l)
+
+none_at : (k n : ℕ) → or_none (slice_get (replicate k no_life) n) ≡ no_life
+none_at zero n = refl
+none_at (suc k) zero = refl
+none_at (suc k) (suc n) = none_at k n
+
+new_at : (n : ℕ) → life_at no_lives n ≡ no_life
+unfolding no_lives
+new_at n = none_at 256 n
+
+-- the first of a row of lives is of one of them
+first_from : {A : Type 0} (P : A → Type 0) (f : ℕ → Life → List A) (n : ℕ) (ls : List Life) (u : A)
+    → ((k : ℕ) (v : A) → first (f (n + k) (life_at ls k)) ≡ Some v → P v) → first (each f n ls) ≡ Some u → P u
+first_from P f n [] u is e = absurd cc
+first_from {A = A} P f n (l ∷ ls) u is e = by (has (f n l)) (first_from P f (n + 1) ls u later)
+  where
+    later : (k : ℕ) (v : A) → first (f ((n + 1) + k) (life_at ls k)) ≡ Some v → P v
+    later k v g = is (suc k) v (ap (λ (m : ℕ). first (f m (life_at ls k))) (let same : n + suc k ≡ (n + 1) + k = omega arith in same) ∙ g)
+
+    by : Has (f n l) → (first (each f (n + 1) ls) ≡ Some u → P u) → P u
+    by (HasFirst v g) more =
+        let same : v ≡ u = same_first (first (f n l ++ each f (n + 1) ls)) v u (first_some (f n l) _ v g) e in
+        is zero u (ap (λ (m : ℕ). first (f m l)) (let here : n + zero ≡ n = omega arith in here) ∙ g ∙ ap Some same)
+    by (HasNone g) more = more (sym (first_none (f n l) _ g) ∙ e)
+
+first_at : {A : Type 0} (P : A → Type 0) (f : ℕ → Life → List A) (ls : List Life) (u : A)
+    → ((k : ℕ) (v : A) → first (f k (life_at ls k)) ≡ Some v → P v) → first (each f 0 ls) ≡ Some u → P u
+first_at {A = A} P f ls u is e =
+    first_from P f 0 ls u (λ k v g. is k v (ap (λ (m : ℕ). first (f m (life_at ls k))) (let same : k ≡ 0 + k = omega arith in same) ∙ g)) e
+
+-- ---- what goes is due
+
+abbrev IsOwed : List Life → Reply → Type 0
+IsOwed ls reply.Protocol = Unit {0}
+IsOwed ls reply.Start = Unit {0}
+IsOwed ls reply.Tune = Unit {0}
+IsOwed ls reply.OpenOk = Unit {0}
+IsOwed ls reply.CloseOk = Unit {0}
+IsOwed ls (reply.Close r) = Unit {0}
+IsOwed ls reply.NoMemory = Unit {0}
+IsOwed ls reply.Heartbeat = Unit {0}
+IsOwed ls (reply.ChannelOpenOk k) = (life_at ls k).open_ok ≡ true
+IsOwed ls (reply.FlowOk k) = 0 < (life_at ls k).flow_oks
+IsOwed ls (reply.ChannelCloseOk k) = (life_at ls k).close_ok ≡ true
+IsOwed ls (reply.CrossedOk k) = (life_at ls k).crossed_ok ≡ true
+IsOwed ls (reply.ChannelClose k r) = Unit {0}
+
+owed_answer : (ls : List Life) (u : Reply) → is_answer u ≡ true → IsOwed ls u
+owed_answer ls reply.Protocol e = tt
+owed_answer ls reply.Start e = tt
+owed_answer ls reply.Tune e = tt
+owed_answer ls reply.OpenOk e = tt
+owed_answer ls reply.CloseOk e = tt
+owed_answer ls (reply.Close r) e = tt
+owed_answer ls reply.NoMemory e = tt
+owed_answer ls reply.Heartbeat e = tt
+owed_answer ls (reply.ChannelOpenOk k) e = absurd cc
+owed_answer ls (reply.FlowOk k) e = absurd cc
+owed_answer ls (reply.ChannelCloseOk k) e = absurd cc
+owed_answer ls (reply.CrossedOk k) e = absurd cc
+owed_answer ls (reply.ChannelClose k r) e = tt
+
+owed_when : (ls : List Life) (b : Bool) (u v : Reply) → (b ≡ true → IsOwed ls u) → first (when b u) ≡ Some v → IsOwed ls v
+owed_when ls true u v f e = let here : u ≡ v = cc in subst (IsOwed ls) here (f refl)
+owed_when ls false u v f e = absurd cc
+
+owed_ok : (ls : List Life) (k : ℕ) (b c : Bool) (v : Reply) → (b ≡ true → IsOwed ls (reply.CrossedOk k)) → (c ≡ true → IsOwed ls (reply.ChannelCloseOk k))
+    → first (when b (reply.CrossedOk k) ++ when c (reply.ChannelCloseOk k)) ≡ Some v → IsOwed ls v
+owed_ok ls k true c v f g e = let here : reply.CrossedOk k ≡ v = cc in subst (IsOwed ls) here (f refl)
+owed_ok ls k false c v f g e = owed_when ls c (reply.ChannelCloseOk k) v g e
+
+owed_refused : (ls : List Life) (b : Bool) (k : ℕ) (o : Option Refusal) (v : Reply) → first (refused_on b k o) ≡ Some v → IsOwed ls v
+owed_refused ls true k (Some x) v e = let here : reply.ChannelClose k x ≡ v = cc in subst (IsOwed ls) here tt
+owed_refused ls false k (Some x) v e = absurd cc
+owed_refused ls b k None v e = absurd cc
+
+some_flows : (n : ℕ) → nat_lt 0 n ≡ true → 0 < n
+some_flows n e = grind (arith, nat_tests)
+
+owed_on : (w : State) (r : Reply) → IsOfChannel w r → IsOwed w.lives r
+owed_on w r (InAnswers e) = by (has (open_oks w))
+  where
+    opens : (k : ℕ) (v : Reply) → first (when (life_at w.lives k).open_ok (reply.ChannelOpenOk k)) ≡ Some v → IsOwed w.lives v
+    opens k v e = owed_when w.lives (life_at w.lives k).open_ok (reply.ChannelOpenOk k) v (λ x. x) e
+
+    flows : (k : ℕ) (v : Reply) → first (when (nat_lt 0 (life_at w.lives k).flow_oks) (reply.FlowOk k)) ≡ Some v → IsOwed w.lives v
+    flows k v e = owed_when w.lives (nat_lt 0 (life_at w.lives k).flow_oks) (reply.FlowOk k) v (some_flows _) e
+
+    by : Has (open_oks w) → IsOwed w.lives r
+    by (HasFirst u g) =
+        subst (IsOwed w.lives) (same_first (first (open_oks w ++ flow_oks w)) u r (first_some (open_oks w) (flow_oks w) u g) e)
+        (first_at (IsOwed w.lives) _ w.lives u opens g)
+    by (HasNone g) = first_at (IsOwed w.lives) _ w.lives r flows (sym (first_none (open_oks w) (flow_oks w) g) ∙ e)
+owed_on w r (InOks e) =
+    first_at (IsOwed w.lives) (λ (n : ℕ) (l : Life). close_oks_on n (l.close_ok && is_channel_settled w n) l) w.lives r
+    (λ k v f. owed_ok w.lives k (life_at w.lives k).crossed_ok _ v (λ x. x) (λ x. and_left (life_at w.lives k).close_ok _ x) f) e
+owed_on w r (InCloses e) =
+    first_at (IsOwed w.lives) (λ (n : ℕ) (l : Life). refused_on (is_channel_settled w n) n l.close) w.lives r
+    (λ k v f. owed_refused w.lives _ k (life_at w.lives k).close v f) e
+
+owed_picked : (h : List Step) (r : Reply) → ArePicks h → Picked (before h) r → IsOwed (before h).lives r
+owed_picked h r p (IsDue x) = owed_answer (before h).lives r (first_due (is_settled (before h)) (before h).pending r (calm_now h p) x).answers
+owed_picked h r p (OnChannel x) = owed_on (before h) r x
+owed_picked h r p (Beats none due same) = subst (IsOwed (before h).lives) (sym same) tt
+
+-- ---- a count of what is due on a channel
+
+-- a count of a life that a request of its channel raises by one, that an answer lowers by one, and that nothing else raises
+record Counts (n : ℕ) (v : Life → ℕ) (asks : Want91 → Bool) (answers : Reply → Bool) : Type 0 where
+  none : v no_life ≡ 0
+  asked : (m : Method91) (l : Life) → v (method_life m l) ≤ v l + one_if (asks (want.Method n m))
+  freed : (l : Life) → v (freed_life l) ≤ v l
+  begun : (l : Life) → v (begun_life l) ≤ v l
+  failed : (r : Refusal) (why : Option Condition) (l : Life) → v (failed_life r why l) ≤ v l
+  begins : (l : Life) → v (record l { begin = false }) ≤ v l
+  ends : (l : Life) → v (record l { why = None }) ≤ v l
+  opened : (l : Life) → l.open_ok ≡ true → v (record l { open_ok = false }) + one_if (answers (reply.ChannelOpenOk n)) ≤ v l
+  flowed : (l : Life) → 0 < l.flow_oks → v (record l { flow_oks = l.flow_oks - 1 }) + one_if (answers (reply.FlowOk n)) ≤ v l
+  closed : (l : Life) → l.close_ok ≡ true → v (record l { close_ok = false }) + one_if (answers (reply.ChannelCloseOk n)) ≤ v l
+  crossed : (l : Life) → l.crossed_ok ≡ true → v (record l { crossed_ok = false }) + one_if (answers (reply.CrossedOk n)) ≤ v l
+  told : (r : Refusal) (l : Life) → v (record l { close = None }) + one_if (answers (reply.ChannelClose n r)) ≤ v l
+  of_connection : (u : Reply) → is_answer u ≡ true → answers u ≡ false
+  beats : answers reply.Heartbeat ≡ false
+  elsewhere_open : (k : ℕ) → k ≢ n → answers (reply.ChannelOpenOk k) ≡ false
+  elsewhere_flow : (k : ℕ) → k ≢ n → answers (reply.FlowOk k) ≡ false
+  elsewhere_close : (k : ℕ) → k ≢ n → answers (reply.ChannelCloseOk k) ≡ false
+  elsewhere_crossed : (k : ℕ) → k ≢ n → answers (reply.CrossedOk k) ≡ false
+  elsewhere_told : (k : ℕ) (r : Refusal) → k ≢ n → answers (reply.ChannelClose k r) ≡ false
+
+abbrev Value : (Life → ℕ) → ℕ → State → ℕ
+Value v n w = v (life_at w.lives n)
+
+-- ---- steps that raise none
+
+-- a life becomes another one, of a count no higher
+set_less : (v : Life → ℕ) (n k : ℕ) (ls : List Life) (l : Life) (more : ℕ) → (k ≡ n → v l ≤ v (life_at ls n) + more) → v (life_at (with_life k l ls) n) ≤ v (life_at ls n) + more
+set_less v n k ls l more less = by (set_at ls k n l)
+  where
+    by : SetAt ls k n l → v (life_at (with_life k l ls) n) ≤ v (life_at ls n) + more
+    by (Here e f) = subst (λ (x : Life). v x ≤ v (life_at ls n) + more) (sym f) (less e)
+    by (Elsewhere d f) = let same : v (life_at (with_life k l ls) n) ≡ v (life_at ls n) = ap v f in omega (arith, same)
+    by (Beyond e f g) = let same : v (life_at (with_life k l ls) n) ≡ v (life_at ls n) = ap v (g ∙ sym f) in omega (arith, same)
+
+same_less : (a b : ℕ) → a ≤ b → a ≤ b + 0
+same_less a b e = omega (arith, e)
+
+none_less : (a b : ℕ) → a ≤ b + 0 → a ≤ b
+none_less a b e = omega (arith, e)
+
+-- one that another becomes by its own rule
+rule_less : (v : Life → ℕ) (n k : ℕ) (ls : List Life) (f : Life → Life) → ((l : Life) → v (f l) ≤ v l) → v (life_at (with_life k (f (life_at ls k)) ls) n) ≤ v (life_at ls n)
+rule_less v n k ls f less =
+    none_less _ _ (set_less v n k ls (f (life_at ls k)) 0 (λ e. subst (λ (m : ℕ). v (f (life_at ls m)) ≤ v (life_at ls n) + 0) (sym e) (same_less _ _ (less (life_at ls n)))))
+
+fail_less : (v : Life → ℕ) (n code : ℕ) (why : Option Condition) (w : State) → Value v n (fail code why w) ≤ Value v n w
+fail_less v n code why w = by (is_closing w.conn)
+  where
+    by : (b : Bool) → Value v n (if b then w else failed code why w) ≤ Value v n w
+    by true = omega arith
+    by false = omega arith
+
+meaning_less : {n : ℕ} {v : Life → ℕ} {asks : Want91 → Bool} {answers : Reply → Bool} → Counts n v asks answers → (m : Meaning) (w : State) → Value v n (with_meaning m w) ≤ Value v n w
+meaning_less c ten.Nothing w = omega arith
+meaning_less c ten.Init w = omega arith
+meaning_less c ten.AmqpHeader w = omega arith
+meaning_less {n} {v} c ten.Opened w = by (is_opening w.conn)
+  where
+    by : (b : Bool) → Value v n (if b then runs w else w) ≤ Value v n w
+    by true = omega arith
+    by false = omega arith
+meaning_less {n} {v} c (ten.OfSession g p payload) w =
+    session_cases (λ (x : State). Value v n x ≤ Value v n w) g p w (rule_less v n g w.lives begun_life c.begun) (fail_less v n _ _ w) (omega arith)
+    (λ code why. rule_less v n g w.lives (failed_life _ why) (c.failed _ why))
+meaning_less {n} {v} c (ten.Closed x) w = fail_less v n _ _ w
+meaning_less {n} {v} c ten.Refused w = fail_less v n _ _ w
+meaning_less {n} {v} c (ten.Violation x) w = fail_less v n _ _ w
+
+heard_less : {n : ℕ} {v : Life → ℕ} {asks : Want91 → Bool} {answers : Reply → Bool} → Counts n v asks answers → (w : State) (u : Unit10)
+    → Value v n (if w.out_of_memory then w else heard w u) ≤ Value v n w
+heard_less {n} {v} c w u = by w.out_of_memory
+  where
+    by : (b : Bool) → Value v n (if b then w else heard w u) ≤ Value v n w
+    by true = omega arith
+    by false = meaning_less c (meaning_by w.up.container u) (record w { up = heard_up u w.up })
+
+begun_less : {n : ℕ} {v : Life → ℕ} {asks : Want91 → Bool} {answers : Reply → Bool} → Counts n v asks answers → (u : UpUnit) (ls : List Life)
+    → v (life_at (without_begin u ls) n) ≤ v (life_at ls n)
+begun_less c up.SaslHeader ls = omega arith
+begun_less c up.SaslInit ls = omega arith
+begun_less c up.AmqpHeader ls = omega arith
+begun_less c up.Open ls = omega arith
+begun_less c (up.Close why) ls = omega arith
+begun_less c up.Empty ls = omega arith
+begun_less {n} {v} c (up.Begin k) ls = rule_less v n k ls (λ (l : Life). record l { begin = false }) c.begins
+begun_less {n} {v} c (up.End k why) ls = rule_less v n k ls (λ (l : Life). record l { why = None }) c.ends
+
+-- ---- a request
+
+wanted_less : {n : ℕ} {v : Life → ℕ} {asks : Want91 → Bool} {answers : Reply → Bool} → Counts n v asks answers → (x : Want91) (ls : List Life)
+    → v (life_at (lives_by x ls) n) ≤ v (life_at ls n) + one_if (asks x)
+wanted_less c want.Nothing ls = omega arith
+wanted_less c want.Start ls = omega arith
+wanted_less c (want.Login m r) ls = omega arith
+wanted_less c want.Tuned ls = omega arith
+wanted_less c want.OpenUp ls = omega arith
+wanted_less {n} {v} {asks} c (want.Method k m) ls =
+    set_less v n k ls (method_life m (life_at ls k)) (one_if (asks (want.Method k m)))
+    (λ e. subst (λ (i : ℕ). v (method_life m (life_at ls i)) ≤ v (life_at ls n) + one_if (asks (want.Method i m))) (sym e) (c.asked m (life_at ls n)))
+wanted_less {n} {v} c (want.ChannelCloseOk k) ls = let less = rule_less v n k ls freed_life c.freed in omega (arith, less)
+wanted_less c want.Close ls = omega arith
+wanted_less c want.CloseOk ls = omega arith
+wanted_less c (want.Refuse r) ls = omega arith
+
+came_less : {n : ℕ} {v : Life → ℕ} {asks : Want91 → Bool} {answers : Reply → Bool} → Counts n v asks answers → (w : State) (u : Unit91) (b : Bool) (total : ℕ)
+    → (went : ℕ) → went + Value v n w ≤ total
+    → went + Value v n (if b then w else came (dequeued w) u) ≤ (if b then total else total + one_if (asks (unit_step w.conn u).1))
+came_less c w u true total went e = e
+came_less {n} {v} {asks} c w u false total went e =
+    let less : v (life_at (lives_by (unit_step w.conn u).1 w.lives) n) ≤ v (life_at w.lives n) + one_if (asks (unit_step w.conn u).1) = wanted_less c (unit_step w.conn u).1 w.lives in
+    omega (arith, e, less)
+
+-- ---- an answer
+
+-- of this channel or of another
+set_given : (v : Life → ℕ) (n k : ℕ) (ls : List Life) (l : Life) (b : Bool) → v no_life ≡ 0 → (k ≡ n → v l + one_if b ≤ v (life_at ls n)) → (k ≢ n → b ≡ false)
+    → v (life_at (with_life k l ls) n) + one_if b ≤ v (life_at ls n)
+set_given v n k ls l b none here elsewhere = by (set_at ls k n l)
+  where
+    by : SetAt ls k n l → v (life_at (with_life k l ls) n) + one_if b ≤ v (life_at ls n)
+    by (Here e f) = subst (λ (x : Life). v x + one_if b ≤ v (life_at ls n)) (sym f) (here e)
+    by (Elsewhere d f) =
+        let other : one_if b ≡ 0 = ap one_if (elsewhere d) in
+        let same : v (life_at (with_life k l ls) n) ≡ v (life_at ls n) = ap v f in
+        omega (arith, other, same)
+    by (Beyond e f g) =
+        let old : v (life_at ls n) ≡ 0 = ap v f ∙ none in
+        let new : v (life_at (with_life k l ls) n) ≡ 0 = ap v g ∙ none in
+        let less : v l + one_if b ≤ v (life_at ls n) = here e in
+        omega (arith, old, new, less)
+
+unset_given : (a : ℕ) (b : Bool) → b ≡ false → a + one_if b ≤ a
+unset_given a b e = let none : one_if b ≡ 0 = ap one_if e in omega (arith, none)
+
+given_less : {n : ℕ} {v : Life → ℕ} {asks : Want91 → Bool} {answers : Reply → Bool} → Counts n v asks answers → (u : Reply) (ls : List Life) → IsOwed ls u
+    → v (life_at (without_life u ls) n) + one_if (answers u) ≤ v (life_at ls n)
+given_less c reply.Protocol ls o = unset_given _ _ (c.of_connection reply.Protocol refl)
+given_less c reply.Start ls o = unset_given _ _ (c.of_connection reply.Start refl)
+given_less c reply.Tune ls o = unset_given _ _ (c.of_connection reply.Tune refl)
+given_less c reply.OpenOk ls o = unset_given _ _ (c.of_connection reply.OpenOk refl)
+given_less c reply.CloseOk ls o = unset_given _ _ (c.of_connection reply.CloseOk refl)
+given_less c (reply.Close r) ls o = unset_given _ _ (c.of_connection (reply.Close r) refl)
+given_less c reply.NoMemory ls o = unset_given _ _ (c.of_connection reply.NoMemory refl)
+given_less c reply.Heartbeat ls o = unset_given _ _ c.beats
+given_less {n} {v} {asks} {answers} c (reply.ChannelOpenOk k) ls o =
+    set_given v n k ls (record (life_at ls k) { open_ok = false }) (answers (reply.ChannelOpenOk k)) c.none
+    (λ e. subst (λ (i : ℕ). (life_at ls i).open_ok ≡ true → v (record (life_at ls i) { open_ok = false }) + one_if (answers (reply.ChannelOpenOk i)) ≤ v (life_at ls n)) (sym e)
+    (c.opened (life_at ls n)) o)
+    (c.elsewhere_open k)
+given_less {n} {v} {asks} {answers} c (reply.FlowOk k) ls o =
+    set_given v n k ls (record (life_at ls k) { flow_oks = (life_at ls k).flow_oks - 1 }) (answers (reply.FlowOk k)) c.none
+    (λ e. subst (λ (i : ℕ). 0 < (life_at ls i).flow_oks → v (record (life_at ls i) { flow_oks = (life_at ls i).flow_oks - 1 }) + one_if (answers (reply.FlowOk i)) ≤ v (life_at ls n)) (sym e)
+    (c.flowed (life_at ls n)) o)
+    (c.elsewhere_flow k)
+given_less {n} {v} {asks} {answers} c (reply.ChannelCloseOk k) ls o =
+    set_given v n k ls (record (life_at ls k) { close_ok = false }) (answers (reply.ChannelCloseOk k)) c.none
+    (λ e. subst (λ (i : ℕ). (life_at ls i).close_ok ≡ true → v (record (life_at ls i) { close_ok = false }) + one_if (answers (reply.ChannelCloseOk i)) ≤ v (life_at ls n)) (sym e)
+    (c.closed (life_at ls n)) o)
+    (c.elsewhere_close k)
+given_less {n} {v} {asks} {answers} c (reply.CrossedOk k) ls o =
+    set_given v n k ls (record (life_at ls k) { crossed_ok = false }) (answers (reply.CrossedOk k)) c.none
+    (λ e. subst (λ (i : ℕ). (life_at ls i).crossed_ok ≡ true → v (record (life_at ls i) { crossed_ok = false }) + one_if (answers (reply.CrossedOk i)) ≤ v (life_at ls n)) (sym e)
+    (c.crossed (life_at ls n)) o)
+    (c.elsewhere_crossed k)
+given_less {n} {v} {asks} {answers} c (reply.ChannelClose k r) ls o =
+    set_given v n k ls (record (life_at ls k) { close = None }) (answers (reply.ChannelClose k r)) c.none
+    (λ e. subst (λ (i : ℕ). v (record (life_at ls i) { close = None }) + one_if (answers (reply.ChannelClose i r)) ≤ v (life_at ls n)) (sym e) (c.told r (life_at ls n)))
+    (c.elsewhere_told k r)
+
+-- ---- all steps
+
+keeps : (went a b total : ℕ) → b ≤ a → went + a ≤ total → went + b ≤ total
+keeps went a b total less e = omega (arith, less, e)
+
+queued_less : (v : Life → ℕ) (n : ℕ) (w : State) (us : List Unit91) → Value v n (if w.out_of_memory then w else record w { queue = us }) ≤ Value v n w
+queued_less v n w us = by w.out_of_memory
+  where
+    by : (b : Bool) → Value v n (if b then w else record w { queue = us }) ≤ Value v n w
+    by true = omega arith
+    by false = omega arith
+
+left_less : (v : Life → ℕ) (n : ℕ) (w : State) (b : Bool) → Value v n (if b then left w else w) ≤ Value v n w
+left_less v n w true = omega arith
+left_less v n w false = omega arith
+
+came_counts : {n : ℕ} {v : Life → ℕ} {asks : Want91 → Bool} {answers : Reply → Bool} → Counts n v asks answers → (u : Unit91) (h : List Step) → ArePicks h
+    → went_in answers h + Value v n (before h) ≤ wanted_in asks h → went_in answers h + Value v n (before (Came u ∷ h)) ≤ wanted_in asks (Came u ∷ h)
+came_counts {n} {v} {asks} {answers} c u h p e =
+    subst (λ (d : Connection). went_in answers h + Value v n (before (Came u ∷ h)) ≤ (if ran_out_in h then wanted_in asks h else wanted_in asks h + one_if (asks (unit_step d u).1)))
+    (conn_is (known h p))
+    (subst (λ (b : Bool). went_in answers h + Value v n (before (Came u ∷ h)) ≤ (if b then wanted_in asks h else wanted_in asks h + one_if (asks (unit_step (before h).conn u).1)))
+    (memory_is (known h p)) (came_less c (before h) u (before h).out_of_memory (wanted_in asks h) (went_in answers h) e))
+
+counts : {n : ℕ} {v : Life → ℕ} {asks : Want91 → Bool} {answers : Reply → Bool} → Counts n v asks answers → (h : List Step) → ArePicks h
+    → went_in answers h + Value v n (before h) ≤ wanted_in asks h
+counts {n} {v} c [] p = let none : v (life_at no_lives n) ≡ 0 = ap v (new_at n) ∙ c.none in omega (arith, none)
+counts {n} {v} c (Began vhost i ms ∷ h) p = counts c h p.1
+counts c (Moment ms ∷ h) p = counts c h p.1
+counts {n} {v} c (Queued u ∷ h) p = keeps _ _ _ _ (queued_less v n (before h) _) (counts c h p.1)
+counts c (Came u ∷ h) p = came_counts c u h p.1 (counts c h p.1)
+counts {n} {v} c (TakenUp ∷ h) p = keeps _ _ _ _ (left_less v n (before h) _) (counts c h p.1)
+counts c (Heard u ∷ h) p = keeps _ _ _ _ (heard_less c (before h) u) (counts c h p.1)
+counts c (Joined link.Ok ∷ h) p = counts c h p.1
+counts {n} {v} c (Joined link.Failed ∷ h) p = keeps _ _ _ _ (fail_less v n _ None _) (counts c h p.1)
+counts c (Lost Client loss.Ended ∷ h) p = counts c h p.1
+counts c (Lost Client loss.Failed ∷ h) p = counts c h p.1
+counts c (Lost Client loss.Shut ∷ h) p = counts c h p.1
+counts {n} {v} c (Lost Up loss.Ended ∷ h) p = keeps _ _ _ _ (fail_less v n _ None _) (counts c h p.1)
+counts {n} {v} c (Lost Up loss.Failed ∷ h) p = keeps _ _ _ _ (fail_less v n _ None _) (counts c h p.1)
+counts c (Lost Up loss.Shut ∷ h) p = counts c h p.1
+counts {n} {v} {asks} {answers} c (Gave (ToClient u) ∷ h) p =
+    let less : v (life_at (without_life u (before h).lives) n) + one_if (answers u) ≤ v (life_at (before h).lives n) =
+    given_less c u (before h).lives (owed_picked h u p.1 (picked (before h) u p.0.1)) in
+    let old : went_in answers h + v (life_at (before h).lives n) ≤ wanted_in asks h = counts c h p.1 in
+    omega (arith, less, old)
+counts {n} {v} c (Gave (ToUp u) ∷ h) p = keeps _ _ _ _ (begun_less c u (before h).lives) (counts c h p.1)
+counts c (Whole Client ∷ h) p = counts c h p.1
+counts c (Whole Up ∷ h) p = counts c h p.1
+counts c (OutOfMemory ∷ h) p = counts c h p.1
+
+answered_at_most : {n : ℕ} {v : Life → ℕ} {asks : Want91 → Bool} {answers : Reply → Bool} → Counts n v asks answers → (h : List Step) → ArePicks h
+    → went_in answers h ≤ wanted_in asks h
+answered_at_most c h p = let all = counts c h p in omega (arith, all)
+
+-- ---- the three kinds
+
+itself : (n : ℕ) → (n == n) ≡ true
+itself n = grind (arith, nat_tests)
+
+isnt : (k n : ℕ) → k ≢ n → (k == n) ≡ false
+isnt k n d = by (k == n) refl
+  where
+    by : (b : Bool) → (k == n) ≡ b → b ≡ false
+    by true e = let same : k ≡ n = grind (arith, nat_tests, e) in absurd (d same)
+    by false e = refl
+
+no_answer_open : (n : ℕ) (u : Reply) → is_answer u ≡ true → is_open_ok_on n u ≡ false
+no_answer_open n reply.Protocol e = refl
+no_answer_open n reply.Start e = refl
+no_answer_open n reply.Tune e = refl
+no_answer_open n reply.OpenOk e = refl
+no_answer_open n reply.CloseOk e = refl
+no_answer_open n (reply.Close r) e = refl
+no_answer_open n reply.NoMemory e = refl
+no_answer_open n reply.Heartbeat e = refl
+no_answer_open n (reply.ChannelOpenOk m) e = absurd cc
+no_answer_open n (reply.FlowOk m) e = absurd cc
+no_answer_open n (reply.ChannelCloseOk m) e = absurd cc
+no_answer_open n (reply.CrossedOk m) e = absurd cc
+no_answer_open n (reply.ChannelClose m r) e = absurd cc
+
+no_answer_flow : (n : ℕ) (u : Reply) → is_answer u ≡ true → is_flow_ok_on n u ≡ false
+no_answer_flow n reply.Protocol e = refl
+no_answer_flow n reply.Start e = refl
+no_answer_flow n reply.Tune e = refl
+no_answer_flow n reply.OpenOk e = refl
+no_answer_flow n reply.CloseOk e = refl
+no_answer_flow n (reply.Close r) e = refl
+no_answer_flow n reply.NoMemory e = refl
+no_answer_flow n reply.Heartbeat e = refl
+no_answer_flow n (reply.ChannelOpenOk m) e = absurd cc
+no_answer_flow n (reply.FlowOk m) e = absurd cc
+no_answer_flow n (reply.ChannelCloseOk m) e = absurd cc
+no_answer_flow n (reply.CrossedOk m) e = absurd cc
+no_answer_flow n (reply.ChannelClose m r) e = absurd cc
+
+no_answer_close : (n : ℕ) (u : Reply) → is_answer u ≡ true → is_close_ok_on n u ≡ false
+no_answer_close n reply.Protocol e = refl
+no_answer_close n reply.Start e = refl
+no_answer_close n reply.Tune e = refl
+no_answer_close n reply.OpenOk e = refl
+no_answer_close n reply.CloseOk e = refl
+no_answer_close n (reply.Close r) e = refl
+no_answer_close n reply.NoMemory e = refl
+no_answer_close n reply.Heartbeat e = refl
+no_answer_close n (reply.ChannelOpenOk m) e = absurd cc
+no_answer_close n (reply.FlowOk m) e = absurd cc
+no_answer_close n (reply.ChannelCloseOk m) e = absurd cc
+no_answer_close n (reply.CrossedOk m) e = absurd cc
+no_answer_close n (reply.ChannelClose m r) e = absurd cc
+
+-- channel.open and its open-ok
+abbrev opens_of : Life → ℕ
+opens_of l = one_if l.waits + one_if l.open_ok
+
+opened_or : (a b : Bool) → one_if false + one_if (a || b) ≤ one_if b + one_if a
+opened_or true true = omega arith
+opened_or true false = omega arith
+opened_or false true = omega arith
+opened_or false false = omega arith
+
+opens_asked : (n : ℕ) (m : Method91) (l : Life) → opens_of (method_life m l) ≤ opens_of l + one_if ((n == n) && is_channel_open m)
+opens_asked n method.ChannelOpen l = let here : one_if ((n == n) && true) ≡ 1 = ap (λ (b : Bool). one_if (b && true)) (itself n) in omega (arith, here)
+opens_asked n (method.ChannelFlow active) l = omega arith
+opens_asked n (method.ChannelClose code text class id) l = omega arith
+opens_asked n m l = omega arith
+
+opens_gone : (n : ℕ) (l : Life) → l.open_ok ≡ true → opens_of (record l { open_ok = false }) + one_if (n == n) ≤ opens_of l
+opens_gone n l e =
+    let here : one_if (n == n) ≡ 1 = ap one_if (itself n) in
+    let was : one_if l.open_ok ≡ 1 = ap one_if e in
+    omega (arith, here, was)
+
+opens : (n : ℕ) → Counts n opens_of (is_method_on is_channel_open n) (is_open_ok_on n)
+opens n = record {
+  none = refl;
+  asked = opens_asked n;
+  freed = λ l. omega arith;
+  begun = λ l. opened_or l.open_ok l.waits;
+  failed = λ r why l. omega arith;
+  begins = λ l. omega arith;
+  ends = λ l. omega arith;
+  opened = opens_gone n;
+  flowed = λ l e. omega arith;
+  closed = λ l e. omega arith;
+  crossed = λ l e. omega arith;
+  told = λ r l. omega arith;
+  of_connection = no_answer_open n;
+  beats = refl;
+  elsewhere_open = λ k d. isnt k n d;
+  elsewhere_flow = λ k d. refl;
+  elsewhere_close = λ k d. refl;
+  elsewhere_crossed = λ k d. refl;
+  elsewhere_told = λ k r d. refl;
+}
+
+-- channel.flow and its flow-ok
+abbrev flows_of : Life → ℕ
+flows_of l = l.flow_oks
+
+flows_asked : (n : ℕ) (m : Method91) (l : Life) → flows_of (method_life m l) ≤ flows_of l + one_if ((n == n) && is_channel_flow m)
+flows_asked n method.ChannelOpen l = omega arith
+flows_asked n (method.ChannelFlow active) l = let here : one_if ((n == n) && true) ≡ 1 = ap (λ (b : Bool). one_if (b && true)) (itself n) in omega (arith, here)
+flows_asked n (method.ChannelClose code text class id) l = omega arith
+flows_asked n m l = omega arith
+
+flows_gone : (n : ℕ) (l : Life) → 0 < l.flow_oks → (l.flow_oks - 1) + one_if (n == n) ≤ l.flow_oks
+flows_gone n l e = let here : one_if (n == n) ≡ 1 = ap one_if (itself n) in omega (arith, here, e)
+
+flows : (n : ℕ) → Counts n flows_of (is_method_on is_channel_flow n) (is_flow_ok_on n)
+flows n = record {
+  none = refl;
+  asked = flows_asked n;
+  freed = λ l. omega arith;
+  begun = λ l. omega arith;
+  failed = λ r why l. omega arith;
+  begins = λ l. omega arith;
+  ends = λ l. omega arith;
+  opened = λ l e. omega arith;
+  flowed = flows_gone n;
+  closed = λ l e. omega arith;
+  crossed = λ l e. omega arith;
+  told = λ r l. omega arith;
+  of_connection = no_answer_flow n;
+  beats = refl;
+  elsewhere_open = λ k d. refl;
+  elsewhere_flow = λ k d. isnt k n d;
+  elsewhere_close = λ k d. refl;
+  elsewhere_crossed = λ k d. refl;
+  elsewhere_told = λ k r d. refl;
+}
+
+-- channel.close and its close-ok
+abbrev closes_of : Life → ℕ
+closes_of l = one_if l.close_ok + one_if l.crossed_ok
+
+closes_asked : (n : ℕ) (m : Method91) (l : Life) → closes_of (method_life m l) ≤ closes_of l + one_if ((n == n) && is_channel_close m)
+closes_asked n method.ChannelOpen l = omega arith
+closes_asked n (method.ChannelFlow active) l = omega arith
+closes_asked n (method.ChannelClose code text class id) l =
+    let here : one_if ((n == n) && true) ≡ 1 = ap (λ (b : Bool). one_if (b && true)) (itself n) in omega (arith, here)
+closes_asked n m l = omega arith
+
+closed_or : (a b : Bool) → one_if false + one_if (a || b) ≤ one_if b + one_if a
+closed_or a b = opened_or a b
+
+closes_gone : (n : ℕ) (l : Life) → l.close_ok ≡ true → closes_of (record l { close_ok = false }) + one_if (n == n) ≤ closes_of l
+closes_gone n l e =
+    let here : one_if (n == n) ≡ 1 = ap one_if (itself n) in
+    let was : one_if l.close_ok ≡ 1 = ap one_if e in
+    omega (arith, here, was)
+
+crosses_gone : (n : ℕ) (l : Life) → l.crossed_ok ≡ true → closes_of (record l { crossed_ok = false }) + one_if (n == n) ≤ closes_of l
+crosses_gone n l e =
+    let here : one_if (n == n) ≡ 1 = ap one_if (itself n) in
+    let was : one_if l.crossed_ok ≡ 1 = ap one_if e in
+    omega (arith, here, was)
+
+closes : (n : ℕ) → Counts n closes_of (is_method_on is_channel_close n) (is_close_ok_on n)
+closes n = record {
+  none = refl;
+  asked = closes_asked n;
+  freed = λ l. closed_or l.crossed_ok l.close_ok;
+  begun = λ l. omega arith;
+  failed = λ r why l. omega arith;
+  begins = λ l. omega arith;
+  ends = λ l. omega arith;
+  opened = λ l e. omega arith;
+  flowed = λ l e. omega arith;
+  closed = closes_gone n;
+  crossed = crosses_gone n;
+  told = λ r l. omega arith;
+  of_connection = no_answer_close n;
+  beats = refl;
+  elsewhere_open = λ k d. refl;
+  elsewhere_flow = λ k d. refl;
+  elsewhere_close = λ k d. isnt k n d;
+  elsewhere_crossed = λ k d. isnt k n d;
+  elsewhere_told = λ k r d. refl;
+}
+
+pub answers_once : (h : List Step) → ArePicks h → AnswersOnce h
+answers_once h p = record {
+  opens = λ n. answered_at_most (opens n) h p;
+  flows = λ n. answered_at_most (flows n) h p;
+  closes = λ n. answered_at_most (closes n) h p;
+}

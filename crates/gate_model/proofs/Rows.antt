@@ -1,0 +1,34 @@
+-- The first of rows of lives, and of lists put together.
+use Rattle.std.proofs.Common.{◌≡◌, ℕ, ◌+◌, Bool, true, false, List, [], ◌∷◌, ◌++◌, Option, None, Some, refl, sym, ap, ◌∙◌}
+use Rattle.gate_model.specs.declared.life.Life.{Life}
+use Rattle.gate_model.specs.Lives.{each}
+use Rattle.gate_model.specs.Upstream.{first}
+
+-- each unit of a row of lives is of that row
+pub first_each : {A : Type 0} (P : A → Type 0) (f : ℕ → Life → List A) (n : ℕ) (ls : List Life) (u : A)
+    → ((k : ℕ) (l : Life) (v : A) → first (f k l) ≡ Some v → P v) → first (each f n ls) ≡ Some u → P u
+first_each P f n [] u each_is e = absurd cc
+first_each {A = A} P f n (l ∷ ls) u each_is e = by (f n l) refl e (first_each P f (n + 1) ls u each_is)
+  where
+    by : (us : List A) → f n l ≡ us → first (us ++ each f (n + 1) ls) ≡ Some u → (first (each f (n + 1) ls) ≡ Some u → P u) → P u
+    by [] g e more = more e
+    by (x ∷ us) g e more = each_is n l u (ap first g ∙ e)
+
+-- a list is none, or has a first
+pub data Has {A : Type 0} (us : List A) : Type 0 where
+  HasNone : us ≡ [] → Has us
+  HasFirst : (u : A) → first us ≡ Some u → Has us
+
+pub has : {A : Type 0} (us : List A) → Has us
+has [] = HasNone refl
+has (u ∷ us) = HasFirst u refl
+
+pub first_none : {A : Type 0} (us vs : List A) → us ≡ [] → first (us ++ vs) ≡ first vs
+first_none {A = A} us vs e = ap (λ (x : List A). first (x ++ vs)) e
+
+pub first_some : {A : Type 0} (us vs : List A) (u : A) → first us ≡ Some u → first (us ++ vs) ≡ Some u
+first_some [] vs u e = absurd cc
+first_some (x ∷ us) vs u e = e
+
+pub same_first : {A : Type 0} (o : Option A) (u v : A) → o ≡ Some u → o ≡ Some v → u ≡ v
+same_first o u v e f = let same : Some u ≡ Some v = sym e ∙ f in cc

@@ -1,0 +1,150 @@
+-- The lives of channels: what is due on each channel of a client, which a session of the container
+-- of the same number carries (AMQP 0-9-1 1.5; AMQP 1.0 2.5).
+use Rattle.std.specs.Prelude.{ℕ, zero, ◌+◌, ◌-◌, nat_lt, Bool, true, false, not, ◌&&◌, ◌||◌, List, [], ◌∷◌, ◌++◌, replicate, slice_get, slice_set, Option, None, Some}
+use Rattle.close_translate.specs.declared.conditions.Scope.TheVariants as scope
+use Rattle.machine_091.specs.declared.unit.Refusal.{Refusal}
+use Rattle.machine_091.specs.declared.unit.Want91.{Want91}
+use Rattle.machine_091.specs.declared.unit.Want91.TheVariants as want
+use Rattle.machine_10.specs.State.{session_at}
+use Rattle.machine_10.specs.declared.state.Session.{Session}
+use Rattle.machine_10.specs.declared.state.Session.TheVariants as session
+use Rattle.machine_10.specs.declared.state.Upstream.{Upstream}
+use Rattle.methods_091.specs.declared.method.Method91.{Method91}
+use Rattle.methods_091.specs.declared.method.Method91.TheVariants as method
+use Rattle.performatives_10.specs.declared.condition.Condition.{Condition}
+use Rattle.gate_model.specs.declared.life.Life.{Life}
+
+-- ---- one life
+
+abbrev pub no_life : Life
+no_life = record {
+  waits = false;
+  begin = false;
+  open_ok = false;
+  flow_oks = 0;
+  awaits_end = false;
+  over = false;
+  close_ok = false;
+  crossed_ok = false;
+  close = None;
+  why = None;
+}
+
+-- what is due for the life before: a close-ok, and the error of the end of its session
+abbrev pub old_life : Life → Life
+old_life l = record no_life { crossed_ok = l.crossed_ok; why = l.why }
+
+-- channel.open was taken up
+abbrev pub asked_life : Life → Life
+asked_life l = record (old_life l) { waits = true; begin = true }
+
+-- the container's begin came: channel.open-ok is due, where that was awaited
+abbrev pub begun_life : Life → Life
+begun_life l = record l { waits = false; open_ok = l.open_ok || l.waits }
+
+abbrev pub flowed_life : Life → Life
+flowed_life l = record l { flow_oks = l.flow_oks + 1 }
+
+-- its client closes it: nothing but channel.close-ok is due to it any more
+abbrev pub closed_life : Life → Life
+closed_life l =
+    record (old_life l) { awaits_end = not l.over; over = true; close_ok = true }
+
+-- the container is at fault: channel.close is due, and nothing else
+abbrev pub failed_life : Refusal → Option Condition → Life → Life
+failed_life r why l = record (old_life l) { over = true; close = Some r; why = why }
+
+-- the client answered channel.close: its own, that crossed the gateway's, is still to be answered
+abbrev pub freed_life : Life → Life
+freed_life l = record (old_life l) { crossed_ok = l.crossed_ok || l.close_ok }
+
+-- ---- all lives, by the numbers of channels
+
+unfoldable pub no_lives : List Life
+no_lives = replicate 256 no_life
+
+-- no number above the last is of a channel
+abbrev pub or_none : Option Life → Life
+or_none None = no_life
+or_none (Some l) = l
+
+abbrev pub life_at : List Life → ℕ → Life
+life_at ls n = or_none (slice_get ls n)
+
+abbrev pub with_life : ℕ → Life → List Life → List Life
+with_life n l ls = slice_set ls n l
+
+-- what the lives are after a method of a channel
+abbrev pub method_life : Method91 → Life → Life
+method_life method.ChannelOpen l = asked_life l
+method_life (method.ChannelFlow active) l = flowed_life l
+method_life (method.ChannelClose code text class id) l = closed_life l
+method_life m l = l
+
+abbrev pub lives_by : Want91 → List Life → List Life
+lives_by want.Nothing ls = ls
+lives_by want.Start ls = ls
+lives_by (want.Login mechanism response) ls = ls
+lives_by want.Tuned ls = ls
+lives_by want.OpenUp ls = ls
+lives_by (want.Method n m) ls = with_life n (method_life m (life_at ls n)) ls
+lives_by (want.ChannelCloseOk n) ls = with_life n (freed_life (life_at ls n)) ls
+lives_by want.Close ls = ls
+lives_by want.CloseOk ls = ls
+lives_by (want.Refuse r) ls = ls
+
+-- what each life has, by rising numbers of channels
+abbrev pub each : {A : Type 0} → (ℕ → Life → List A) → ℕ → List Life → List A
+each f n [] = []
+each f n (l ∷ ls) = f n l ++ each f (n + 1) ls
+
+-- some life passes a test
+abbrev pub any_life : (ℕ → Life → Bool) → ℕ → List Life → Bool
+any_life t n [] = false
+any_life t n (l ∷ ls) = t n l || any_life t (n + 1) ls
+
+-- ---- sessions
+
+-- the session of a channel; there is none without a container
+abbrev pub session_in : Option Upstream → ℕ → Session
+session_in None n = session.Free
+session_in (Some c) n = session_at c n
+
+abbrev pub is_free : Session → Bool
+is_free session.Free = true
+is_free session.Asked = false
+is_free session.Left = false
+is_free (session.Open m) = false
+is_free (session.Leaving m) = false
+is_free (session.Ended m) = false
+
+-- nothing of the container is waited for: no begin went, or its end came
+abbrev pub is_done : Session → Bool
+is_done session.Free = true
+is_done session.Asked = false
+is_done session.Left = false
+is_done (session.Open m) = false
+is_done (session.Leaving m) = false
+is_done (session.Ended m) = true
+
+-- the gateway's end is to answer the container's
+abbrev pub is_ended : Session → Bool
+is_ended session.Free = false
+is_ended session.Asked = false
+is_ended session.Left = false
+is_ended (session.Open m) = false
+is_ended (session.Leaving m) = false
+is_ended (session.Ended m) = true
+
+-- the gateway's begin went, and no end of either side
+abbrev pub is_begun : Session → Bool
+is_begun session.Free = false
+is_begun session.Asked = true
+is_begun session.Left = false
+is_begun (session.Open m) = true
+is_begun (session.Leaving m) = false
+is_begun (session.Ended m) = false
+
+-- what is told of a channel whose session is at fault
+abbrev pub refusal_on : ℕ → ℕ → Refusal
+refusal_on n code = record { code = code; scope = scope.Channel; channel = n; class = 0; method = 0 }

@@ -1,0 +1,29 @@
+//! The channels of a client: what is due on each, to the client and to the container.
+
+use machine_091::Refusal;
+use performatives_10::Condition;
+
+/// What is due on a channel, and on the session of the same number that carries it.
+#[derive(Clone, Copy, Debug, PartialEq, Eq)]
+pub struct Life {
+    /// channel.open was taken up, and the container's begin is awaited.
+    pub waits: bool,
+    /// The gateway's begin is due.
+    pub begin: bool,
+    /// channel.open-ok is due.
+    pub open_ok: bool,
+    /// So many channel.flow-oks are due.
+    pub flow_oks: u32,
+    /// channel.close was taken up of a channel that was open, and the container's end is awaited.
+    pub awaits_end: bool,
+    /// The closing event of the channel came.
+    pub over: bool,
+    /// channel.close-ok is due, once nothing of the session is waited for.
+    pub close_ok: bool,
+    /// channel.close-ok is due for the life before, which the client's own channel.close-ok ended.
+    pub crossed_ok: bool,
+    /// channel.close is due for this refusal, at the same point.
+    pub close: Option<Refusal>,
+    /// The error of the gateway's end.
+    pub why: Option<Condition>,
+}

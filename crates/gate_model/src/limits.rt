@@ -1,0 +1,10 @@
+//! How much a pair holds and states.
+
+/// A client isn't read while so many of its units aren't taken up.
+pub const QUEUE_UNITS: usize = 1_024;
+
+/// It isn't read either while their payloads have so many bytes.
+pub const QUEUE_BYTES: usize = 67_108_864;
+
+/// The greatest handle of a session that the gateway's begin states (AMQP 1.0 2.7.2).
+pub const HANDLE_MAX: u32 = 255;
