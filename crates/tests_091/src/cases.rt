@@ -4,7 +4,7 @@ use crate::closes::{code_text, condition_text, error_text};
 use crate::contents::{content_text, frames_text};
 use crate::frames::{frame_text, header_text};
 use crate::machine::connection_text;
-use crate::methods::{close_ok_text, close_text, method_text};
+use crate::methods::{answer_text, channel_close_text, close_ok_text, close_text, method_text};
 use crate::numbers::{changed_text, reader_text, reserved_text};
 use crate::tables::{kinds_text, table_text};
 use crate::words::{line_of, number_first, put_run, short_of};
@@ -109,8 +109,13 @@ fn read_text(
     Ok(Some(text))
 }
 
-/// A close by its numbers and its text.
-fn closing_text(alloc: Global, names: &Names, words: &str) -> Result<Option<String>, Memory> {
+/// A close by its numbers and its text: of a channel, or of the connection.
+fn closing_text(
+    alloc: Global,
+    names: &Names,
+    channel: Option<u16>,
+    words: &str,
+) -> Result<Option<String>, Memory> {
     let Some((code, rest)) = number_first(words) else {
         return Ok(None);
     };
@@ -128,10 +133,27 @@ fn closing_text(alloc: Global, names: &Names, words: &str) -> Result<Option<Stri
         u16::try_from(class),
         u16::try_from(method),
     ) {
-        (Ok(code), Ok(class), Ok(method)) => {
-            close_text(alloc, code, class, method, bytes.as_slice())
-        }
+        (Ok(code), Ok(class), Ok(method)) => match channel {
+            None => close_text(alloc, code, class, method, bytes.as_slice()),
+            Some(channel) => {
+                channel_close_text(alloc, channel, code, class, method, bytes.as_slice())
+            }
+        },
         _ => Ok(None),
+    }
+}
+
+/// What is written on a channel: a close, or an answer.
+fn channel_text(alloc: Global, names: &Names, words: &str) -> Result<Option<String>, Memory> {
+    let Some((channel, rest)) = number_first(words) else {
+        return Ok(None);
+    };
+    let Ok(channel) = u16::try_from(channel) else {
+        return Ok(None);
+    };
+    match rest.strip_prefix("close ") {
+        Some(rest) => closing_text(alloc, names, Some(channel), rest),
+        None => answer_text(alloc, channel, rest),
     }
 }
 
@@ -191,7 +213,8 @@ fn case_text(alloc: Global, names: &Names, line: &str) -> Result<Option<String>,
         }
         "content-of" => frames_text(alloc, names, rest),
         "cuts" => read_text(alloc, names, rest, true),
-        "close" => closing_text(alloc, names, rest),
+        "close" => closing_text(alloc, names, None, rest),
+        "on" => channel_text(alloc, names, rest),
         "close-ok" => Ok(Some(close_ok_text(alloc)?)),
         "kinds" => Ok(Some(kinds_text(alloc)?)),
         "code" | "error" => coded_text(alloc, verb, rest),

@@ -166,10 +166,12 @@ fn make_event(conn: &mut Conn91, words: &str) -> bool {
     let (word, rest) = words.split_once(' ').unwrap_or((words, ""));
     let channel = rest.parse::<u16>().ok();
     match (word, channel) {
-        ("opened", None) => conn.opened(),
+        ("opened", None) => conn.opened(u16::MAX),
+        ("opened", Some(channel_max)) => conn.opened(channel_max),
         ("ended", None) => conn.ended(),
         ("closing", None) => conn.closing(Scope::Connection, 0),
         ("closing", Some(channel)) => conn.closing(Scope::Channel, channel),
+        ("told", Some(channel)) => conn.told(channel),
         ("closed", Some(channel)) => conn.closed(channel),
         _ => return false,
     }

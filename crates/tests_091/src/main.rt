@@ -11,6 +11,7 @@
 //! | `cuts` and one of these | the same, and the answer at each shorter length; of `Syntax` its place alone |
 //! | `content-of FRAME / FRAME ..` | what each frame of a content comes to: `header BYTES`, `body BYTES` |
 //! | `close CODE CLASS METHOD BYTES`, `close-ok` | the frame that is written without memory |
+//! | `on CHANNEL close CODE CLASS METHOD BYTES`, and `on CHANNEL` with `close-ok`, `open-ok` or `flow-ok` | the same on a channel |
 //! | `code N`, `condition SCOPE BYTES`, `condition SCOPE` | the name of a reply code, and the code for an error condition |
 //! | `error N` | the error condition for a reply code |
 //! | `u8 END BYTES`, `u16`, `u32`, `u64`, `short`, `long` | what the readers take from the front of bytes that end at an offset |
@@ -20,7 +21,8 @@
 //! | `take UNIT`, `try UNIT` | what a unit wants, and the state after it if it is another one; `try` leaves the connection as it was |
 //!
 //! A unit is `protocol`, `bad CODE`, `frame BYTES`, or `method CHANNEL BYTES` and so on by its kind; in its place may stand another
-//! event: `opened`, `closing`, `closing CHANNEL`, `closed CHANNEL`, `ended`.
+//! event: `opened`, `opened CHANNEL` where the container takes channels up to that number, `closing`, `closing CHANNEL`,
+//! `told CHANNEL`, `closed CHANNEL`, `ended`.
 //!
 //! Behind what was read stands what is written of it: `=` the same bytes. A fault is its name and its place. Bytes are digits,
 //! texts and names with commas between them.

@@ -3,7 +3,10 @@
 ghost use Rattle.methods_091.specs.Writing.{CanPut};
 
 use crate::words::{put_other, put_squeezed, put_written};
-use methods_091::{Method91, MethodFault, ids, put_close, put_close_ok, put_method, read_method};
+use methods_091::{
+    Method91, MethodFault, ids, put_channel_close, put_channel_close_ok, put_channel_open_ok,
+    put_close, put_close_ok, put_flow_ok, put_method, read_method,
+};
 use std::alloc::Global;
 use tests_support::{part, put_bytes};
 use wire_base::{At, ByteText, Memory};
@@ -97,4 +100,35 @@ pub fn close_ok_text(alloc: Global) -> Result<String, Memory> {
     let mut out = [0x5A; 512];
     let size = put_close_ok(&mut out);
     closed_text(alloc, &out, size)
+}
+
+/// channel.close, written without memory; `None` where the text is too long.
+pub fn channel_close_text(
+    alloc: Global,
+    channel: u16,
+    code: u16,
+    class: u16,
+    method: u16,
+    words: &[u8],
+) -> Result<Option<String>, Memory> {
+    if words.len() > 255 {
+        return Ok(None);
+    }
+    let mut out = [0x5A; 512];
+    let size = put_channel_close(&mut out, channel, code, words, class, method);
+    let text = closed_text(alloc, &out, size)?;
+    Ok(Some(text))
+}
+
+/// An answer on a channel, written without memory; `None` where the word is none.
+pub fn answer_text(alloc: Global, channel: u16, word: &str) -> Result<Option<String>, Memory> {
+    let mut out = [0x5A; 512];
+    let size = match word {
+        "open-ok" => put_channel_open_ok(&mut out, channel),
+        "flow-ok" => put_flow_ok(&mut out, channel),
+        "close-ok" => put_channel_close_ok(&mut out, channel),
+        _ => return Ok(None),
+    };
+    let text = closed_text(alloc, &out, size)?;
+    Ok(Some(text))
 }
