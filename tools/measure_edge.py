@@ -1,20 +1,26 @@
 #!/usr/bin/env python3
 """Measures the running gateway over loopback sockets.
 
-    python3 tools/measure_edge.py crates/amqp_gate/out/amqp_gate
+    python3 tools/measure_edge.py crates/amqp_gate/out/amqp_gate [--only WORD ..]
 
-It starts the program on free ports of 127.0.0.1, ends each by its process id, and prints one figure a line:
+It starts the program on free ports of 127.0.0.1, ends each by its process id, and prints one figure a line. The words are:
 
-- system calls a second and the share of a core, with no client and with 256 idle ones, over 5 seconds each;
-- the time from connect to the whole connection.start (153 bytes), as the median and the 90th of 100 of 400 clients one after
-  another, alone and beside 255 idle ones;
-- what a client's opening in one piece costs in writes to it, and which;
-- what 100 clients get from a gateway with 50 descriptors, and what those that waited get after 30 of the first have left;
-- whether a standard output that nobody reads stalls clients, and that its lines come once it is read;
-- what is reported of a client that resets its connection, and what is told of addresses that can't be used.
+- idle: system calls a second and the share of a core over 5 seconds each, with no client, with 256 that only got
+  connection.start, and with 256 whose connections are open on both sides;
+- latency: the time from connect to the whole connection.start (153 bytes), as the median and the 90th of 100, of clients one
+  after another, alone and beside 255 idle ones, and of clients with a rest of 20 ms before each;
+- writes: the system's calls that a client's opening in one piece takes, to the client and to the container;
+- descriptors: what 100 clients get from a gateway with 50 descriptors, and what those that waited get after others have left:
+  of clients that only send the header, and of those that open their connections;
+- output: whether a standard output that nobody reads stalls clients, and that its lines come once it is read;
+- ends: what is reported of a client that resets its connection, what one gets that sent much more than was read before it was
+  refused, and what is told where no container listens;
+- addresses: what is told of addresses that can't be used.
 
-System calls are counted by `perf` (raw_syscalls:sys_enter) and shown by `strace`, so it is run as root. Nothing is asserted, and
-this is no part of the build. `--nice N` runs both sides at that priority, for a machine with other work.
+No container is needed: where connections are opened, the script starts one of its own, which logs every client in, answers its open
+and its close, and does no more. System calls are counted by `perf` (raw_syscalls:sys_enter) and shown by `strace`, so it is run
+as root. Nothing is asserted, and this is no part of the build. `--nice N` runs both sides at that priority, for a machine with
+other work.
 """
 
 import argparse
@@ -26,7 +32,9 @@ import shutil
 import socket
 import struct
 import subprocess
+import sys
 import tempfile
+import threading
 import time
 
 HEADER = b"AMQP\x00\x00\x09\x01"
@@ -53,6 +61,23 @@ OPENING = (
     + method(10, 31, struct.pack(">HIH", 255, 131072, 0))
     + method(10, 40, short(b"/") + short(b"") + b"\0")
 )
+TUNE = 20
+OPEN_OK = method(10, 41, short(b""))
+
+
+def frame10(kind, body):
+    return struct.pack(">IBBH", 8 + len(body), 2, kind, 0) + body
+
+
+SASL = b"AMQP\x03\x01\x00\x00"
+AMQP = b"AMQP\x00\x01\x00\x00"
+# What the container says to a frame, by the code of its performative: sasl-init, open, close.
+ANSWERS = {
+    0x41: frame10(1, bytes.fromhex("00 53 44 C0 03 01 50 00")),
+    0x10: frame10(0, bytes.fromhex("00 53 10 C0 07 01 A1 04") + b"peer"),
+    0x18: frame10(0, bytes.fromhex("00 53 18 45")),
+}
+MECHANISMS = frame10(1, bytes.fromhex("00 53 40 C0 08 01 A3 05") + b"PLAIN")
 
 
 def free_port():
@@ -61,26 +86,99 @@ def free_port():
         return probe.getsockname()[1]
 
 
-class Gateway:
-    """A running gateway on a port of its own, ended at the end of the block."""
+def contained(unit):
+    """What the container answers to a header or a frame."""
+    if unit == SASL:
+        return SASL + MECHANISMS
+    if unit == AMQP:
+        return AMQP
+    return ANSWERS.get(unit[10], b"") if len(unit) > 10 else b""
 
-    def __init__(self, program, descriptors=None, out=None):
+
+def contain(stream):
+    """The container's side of one connection."""
+    held = b""
+    while more := stream.recv(65536):
+        held += more
+        while len(held) >= 8:
+            size = 8 if held[:4] == b"AMQP" else int.from_bytes(held[:4], "big")
+            if len(held) < size:
+                break
+            stream.sendall(contained(held[:size]))
+            held = held[size:]
+
+
+def greet(stream):
+    """A server that answers eight bytes as a gateway does, with as many bytes, to compare times with."""
+    receive(stream, len(HEADER))
+    stream.sendall(bytes(START))
+
+
+def listen(port, act, at_once):
+    """Does so with each that connects: with all at once, one thread each, or with one after another."""
+
+    def alone(stream):
+        with stream:
+            try:
+                act(stream)
+            except OSError:
+                pass
+
+    with socket.create_server(("127.0.0.1", port), backlog=512) as listener:
+        while True:
+            stream = listener.accept()[0]
+            if at_once:
+                threading.Thread(target=alone, args=(stream,), daemon=True).start()
+            else:
+                alone(stream)
+
+
+class Peer:
+    """This script as a server, in a process of its own, ended at the end of the block."""
+
+    def __init__(self, kind):
+        self.port = free_port()
+        words = [sys.executable, os.path.abspath(__file__), kind, "--port", str(self.port)]
+        self.process = subprocess.Popen(words)
+
+    def __enter__(self):
+        for _ in range(500):
+            if listens(self.port):
+                return self
+            time.sleep(0.02)
+        raise SystemExit("the script's own server does not listen")
+
+    def __exit__(self, *_):
+        self.process.kill()
+        self.process.wait()
+
+
+def listens(port):
+    """Whether something listens on a port, told without a connection."""
+    with open("/proc/net/tcp") as table:
+        rows = [line.split() for line in table][1:]
+    return any(row[1].endswith(f":{port:04X}") and row[3] == "0A" for row in rows)
+
+
+class Gateway:
+    """A running gateway on a port of its own, ended at the end of the block. Without a container nothing listens upstream."""
+
+    def __init__(self, program, descriptors=None, out=None, container=None):
         self.port = free_port()
         self.said = tempfile.TemporaryFile()
         limit = None
         if descriptors:
             limit = lambda: resource.setrlimit(resource.RLIMIT_NOFILE, (descriptors, descriptors))
-        words = [program, "serve", "--listen", f"127.0.0.1:{self.port}"]
+        self.upstream = container.port if container else free_port()
+        words = [program, "serve", "--listen", f"127.0.0.1:{self.port}", "--upstream", f"127.0.0.1:{self.upstream}"]
         self.process = subprocess.Popen(words, stdout=out or self.said, stderr=self.said, preexec_fn=limit)
 
     def __enter__(self):
         for _ in range(200):
-            try:
-                socket.create_connection(("127.0.0.1", self.port)).close()
+            if listens(self.port):
                 time.sleep(0.2)
                 return self
-            except OSError:
-                time.sleep(0.02)
+            time.sleep(0.02)
         raise SystemExit("the gateway does not listen")
 
     def __exit__(self, *_):
@@ -104,6 +202,19 @@ class Gateway:
         stream.close()
         return None
 
+    def opened(self):
+        """A client whose connection is open on both sides, or None."""
+        stream = self.client()
+        stream.sendall(OPENING)
+        if met(stream) == "open":
+            return stream
+        stream.close()
+        return None
+
+    def told(self):
+        """What was told beside the report, each line once."""
+        return sorted({line for line in self.lines() if not line.startswith("pair")})
+
     def lines(self):
         self.said.seek(0)
         return self.said.read().decode(errors="replace").splitlines()
@@ -117,6 +228,20 @@ def receive(stream, count):
             break
         got += more
     return got
+
+
+def met(stream):
+    """What a client met that sent its opening in one piece."""
+    try:
+        got = receive(stream, START + TUNE + len(OPEN_OK))
+    except OSError as error:
+        return type(error).__name__
+    answer = got[START + TUNE :]
+    if answer == OPEN_OK:
+        return "open"
+    if len(answer) < 13:
+        return f"{len(got)} bytes and the end"
+    return f"closed with {int.from_bytes(answer[11:13], 'big')}"
 
 
 def processor_seconds(pid):
@@ -143,11 +268,12 @@ def idle(gateway, name):
     print(f"{name}: {told} system calls/s, {share:.3f} of a core")
 
 
-def latency(gateway, name, clients=400):
+def latency(server, name, clients=400, rest=0.0):
     times = []
     for _ in range(clients):
+        time.sleep(rest)
         begun = time.perf_counter()
-        stream = gateway.client()
+        stream = socket.create_connection(("127.0.0.1", server.port), timeout=2)
         stream.sendall(HEADER)
         receive(stream, START)
         times.append((time.perf_counter() - begun) * 1e6)
@@ -160,22 +286,76 @@ def idle_clients(gateway, count):
     return [gateway.started() for _ in range(count)]
 
 
-def writes(gateway):
+def all_idle(program):
+    with Gateway(program) as gateway:
+        idle(gateway, "no client")
+    with Gateway(program) as gateway:
+        held = idle_clients(gateway, 256)
+        idle(gateway, f"{len([it for it in held if it])} idle clients that got connection.start")
+        del held
+    with Peer("contain") as container, Gateway(program, container=container) as gateway:
+        held = [gateway.opened() for _ in range(256)]
+        idle(gateway, f"{len([it for it in held if it])} idle clients, open on both sides")
+        del held
+
+
+def latencies(program):
+    with Peer("greet") as server:
+        latency(server, "a server of ten lines of Python")
+        latency(server, "the same, after a rest of 20 ms", 100, 0.02)
+    with Gateway(program) as gateway:
+        latency(gateway, "alone")
+        latency(gateway, "alone, after a rest of 20 ms", 100, 0.02)
+    with Gateway(program) as gateway:
+        held = idle_clients(gateway, 255)
+        latency(gateway, "beside 255 idle clients")
+        latency(gateway, "beside 255 idle clients, after a rest of 20 ms", 100, 0.02)
+        del held
+
+
+def writes(program):
     """The writes that an opening in one piece takes, by strace."""
-    with tempfile.NamedTemporaryFile("r") as log:
-        words = ["strace", "-f", "-s", "0", "-e", "trace=sendto,sendmsg,write,writev", "-o", log.name, "-p", str(gateway.process.pid)]
-        tracer = subprocess.Popen(words, stderr=subprocess.PIPE, text=True)
+    if not shutil.which("strace"):
+        return
+    with Peer("contain") as container, Gateway(program, container=container) as gateway, tempfile.NamedTemporaryFile("r") as log:
+        words = ["strace", "-f", "-yy", "-s", "0", "-e", "trace=sendto,sendmsg,write,writev", "-o", log.name]
+        tracer = subprocess.Popen(words + ["-p", str(gateway.process.pid)], stderr=subprocess.PIPE, text=True)
         tracer.stderr.readline()
         stream = gateway.client()
         stream.sendall(OPENING)
+        said = met(stream)
         time.sleep(0.3)
         stream.close()
         tracer.terminate()
         tracer.wait()
-        found = [line for line in log if "sendto" in line]
-    print(f"an opening in one piece: {len(found)} writes to the client")
-    for line in found:
-        print("   ", line.strip())
+        found = [line for line in log if "TCP:" in line]
+        up = [line for line in found if f"->127.0.0.1:{gateway.upstream}]" in line]
+    for name, lines in (("the client", [line for line in found if line not in up]), ("the container", up)):
+        counts = [line.rpartition("=")[2].strip() for line in lines]
+        print(f"an opening in one piece ({said}): {len(lines)} writes to {name}, of {', '.join(counts)} bytes")
+
+
+def opened_with_few_descriptors(program):
+    with Peer("contain") as container, Gateway(program, descriptors=50, container=container) as gateway:
+        clients = [gateway.client() for _ in range(100)]
+        for stream in clients:
+            stream.sendall(OPENING)
+        time.sleep(1)
+        answered = tell_met("50 descriptors, 100 clients that open", clients)
+        for stream in answered:
+            stream.close()
+        time.sleep(1)
+        tell_met("    after those left", [stream for stream in clients if stream not in answered])
+        print(f"    the service {'goes on' if gateway.process.poll() is None else 'has ended'}, and told {gateway.told()}")
+
+
+def tell_met(name, clients):
+    """Tells what these clients met, and gives those that met anything."""
+    ready = select.select(clients, [], [], 0)[0]
+    found = [met(stream) for stream in ready]
+    counts = [f"{found.count(what)} {what}" for what in sorted(set(found))]
+    print(f"{name}: {', '.join(counts)}, {len(clients) - len(ready)} wait")
+    return ready
 
 
 def few_descriptors(program):
@@ -195,14 +375,15 @@ def few_descriptors(program):
         if gateway.process.poll() is not None:
             print(f"    and the service ended with status {gateway.process.returncode}: {gateway.lines()[-1:]}")
             return
-        for stream in served[:30]:
+        leaving = served[:30]
+        for stream in leaving:
             stream.close()
         time.sleep(1)
         late = [stream for stream in clients if stream not in served]
         ready = select.select(late, [], [], 0)[0]
         later = [stream for stream in ready if got_start(stream)]
         told = [line for line in gateway.lines() if line.startswith("a client waits")]
-        print(f"    after 30 of them left: {len(later)} of those that waited got it; the service goes on, {len(told)} lines told")
+        print(f"    after {len(leaving)} of them left: {len(later)} of those that waited got it; {len(told)} lines told")
 
 
 def unread_output(program, clients=6000):
@@ -239,6 +420,39 @@ def reset(program):
         print(f"a client that resets: {gateway.lines()[-1:]}, and the next one {'is' if gateway.started() else 'is not'} served")
 
 
+def without_container(program):
+    with Gateway(program) as gateway:
+        found = []
+        for _ in range(3):
+            with gateway.client() as stream:
+                stream.sendall(OPENING)
+                found.append(met(stream))
+        time.sleep(0.2)
+        print(f"3 clients without a container: {', '.join(found)}; told {gateway.told()}")
+
+
+def refused_late(program):
+    with Gateway(program) as gateway:
+        stream = gateway.client()
+        sent = threading.Thread(target=lambda: send_all(stream, b"GET / HTTP/1.1\r\n" + bytes(1_000_000)))
+        sent.start()
+        time.sleep(0.3)
+        try:
+            got = receive(stream, 100)
+            print(f"a client that is refused while it sends a megabyte: {len(got)} bytes and the end")
+        except OSError as error:
+            print(f"a client that is refused while it sends a megabyte: {type(error).__name__}")
+        stream.close()
+        sent.join()
+
+
+def send_all(stream, data):
+    try:
+        stream.sendall(data)
+    except OSError:
+        pass
+
+
 def addresses(program):
     with socket.socket() as taken:
         taken.bind(("127.0.0.1", 0))
@@ -247,6 +461,11 @@ def addresses(program):
             ran = subprocess.run([program, "serve", "--listen", address], capture_output=True, text=True, timeout=60)
             told = "; ".join(ran.stderr.splitlines())
             print(f"--listen {address}: status {ran.returncode}, {ran.stdout.strip()!r}, told {told!r}")
+    for address in ("no.such.host.invalid:5672", "127.0.0.1"):
+        words = [program, "serve", "--listen", "127.0.0.1:0", "--upstream", address, "--turns", "5"]
+        ran = subprocess.run(words, capture_output=True, text=True, timeout=60)
+        told = "; ".join(ran.stderr.splitlines())
+        print(f"--upstream {address}: status {ran.returncode}, {ran.stdout.strip()!r}, told {told!r}")
 
 
 def got_start(stream):
@@ -256,30 +475,33 @@ def got_start(stream):
         return False
 
 
+MEASURES = {
+    "idle": [all_idle],
+    "latency": [latencies],
+    "writes": [writes],
+    "descriptors": [few_descriptors, opened_with_few_descriptors],
+    "output": [unread_output],
+    "ends": [reset, refused_late, without_container],
+    "addresses": [addresses],
+}
+
+
 def main():
     parser = argparse.ArgumentParser()
     parser.add_argument("program")
     parser.add_argument("--nice", type=int, default=0)
+    parser.add_argument("--only", nargs="+", choices=MEASURES, default=list(MEASURES))
+    # Behind the word `contain` or `greet` the script is such a server, as it starts itself.
+    parser.add_argument("--port", type=int)
     given = parser.parse_args()
+    if given.port:
+        if given.program == "contain":
+            listen(given.port, contain, at_once=True)
+        listen(given.port, greet, at_once=False)
     os.nice(given.nice)
-    with Gateway(given.program) as gateway:
-        idle(gateway, "no client")
-        latency(gateway, "alone")
-    with Gateway(given.program) as gateway:
-        held = idle_clients(gateway, 255)
-        latency(gateway, "beside 255 idle clients")
-        del held
-    with Gateway(given.program) as gateway:
-        held = idle_clients(gateway, 256)
-        idle(gateway, f"{len([it for it in held if it])} idle clients")
-        del held
-    if shutil.which("strace"):
-        with Gateway(given.program) as gateway:
-            writes(gateway)
-    few_descriptors(given.program)
-    unread_output(given.program)
-    reset(given.program)
-    addresses(given.program)
+    for word in given.only:
+        for measure in MEASURES[word]:
+            measure(given.program)
 
 
 if __name__ == "__main__":

@@ -1,7 +1,9 @@
 //! Where clients come in: the listener, and the sockets that the system watches.
 
-use crate::sockets::{address_of, next_client};
-use crate::standard_error::{tell_accept, tell_listening};
+use crate::open_ends::{ENDS, PAIRS};
+use crate::pace::Pace;
+use crate::sockets::{address_of, next_client, spare_descriptors};
+use crate::standard_error::{may_read, tell_accept, tell_full, tell_listening, tell_room};
 use crate::waiting::Watch;
 use gate_outside::End;
 use mio::net::{TcpListener, TcpStream};
@@ -9,10 +11,8 @@ use std::alloc::Global;
 use std::io;
 use std::io::Eprint;
 use std::net::Net;
+use std::os::fd::AsRawFd;
 use wire_base::Memory;
-
-/// How long after a line on a failed accept none is written, in milliseconds.
-const QUIET: u64 = 1_000;
 
 /// The listener, and what is watched.
 #[derive(Drop)]
@@ -21,8 +21,10 @@ pub(crate) struct Door {
     listener: TcpListener,
     /// Whether a client may wait.
     pub(crate) knocked: bool,
-    // The moment from which a failed accept may be told again.
-    quiet_until: u64,
+    /// The descriptors that the system had left for ends, as many as 256 pairs have at most.
+    pub(crate) descriptors: usize,
+    // When a client that isn't accepted may be told.
+    pace: Pace,
 }
 
 impl Door {
@@ -33,19 +35,30 @@ impl Door {
         alloc: Global,
         text: &str,
     ) -> Result<Option<Door>, Memory> {
-        let Some(watch) = Watch::new(runtime, alloc)? else {
-            return Ok(None);
+        let watch = match Watch::new(runtime, alloc)? {
+            Ok(watch) => watch,
+            Err(error) => {
+                tell_listening(runtime, text, &Err(error));
+                return Ok(None);
+            }
         };
         let bound = bind(runtime, &watch, text);
         tell_listening(runtime, text, &bound);
-        Ok(
-            bound.ok().map(|listener| Door {
-                watch,
-                listener,
-                knocked: true,
-                quiet_until: 0,
-            }),
-        )
+        let Ok(listener) = bound else {
+            return Ok(None);
+        };
+        // One is left for a file that the program opens later.
+        let descriptors = spare_descriptors(alloc, &listener, ENDS + 1)?.saturating_sub(1);
+        if descriptors < ENDS {
+            tell_room(runtime, descriptors / 2, PAIRS);
+        }
+        Ok(Some(Door {
+            watch,
+            listener,
+            knocked: true,
+            descriptors,
+            pace: Pace::new(),
+        }))
     }
 
     /// The next client's stream, watched under the pair's number.
@@ -57,9 +70,16 @@ impl Door {
 
     /// Tells of a client that could not be accepted, unless that was told just before.
     pub(crate) fn tell(&mut self, runtime: &impl Eprint, error: &io::Error, moment: u64) {
-        if self.quiet_until <= moment {
+        if self.pace.is_due(moment) {
             tell_accept(runtime, error);
-            self.quiet_until = moment.saturating_add(QUIET);
+        }
+    }
+
+    /// Tells of a client that waits while there is no room beside so many, if one does, unless that
+    /// was told just before.
+    pub(crate) fn tell_full(&mut self, runtime: &impl Eprint, clients: usize, moment: u64) {
+        if self.pace.is_due(moment) && may_read(self.listener.as_raw_fd()) {
+            tell_full(runtime, clients);
         }
     }
 }

@@ -10,6 +10,7 @@ mod link;
 mod open_ends;
 mod outbox;
 mod outgoing;
+mod pace;
 mod partings;
 mod pieces;
 mod real_ports;
@@ -19,6 +20,7 @@ mod standard_error;
 #[cfg(test)]
 mod tests;
 mod unsent;
+mod upstream;
 mod waiting;
 
 pub use outbox::{Outbox, OutboxSink, StandardOut};

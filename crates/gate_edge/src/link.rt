@@ -17,6 +17,8 @@ pub(crate) struct Link<S: Read + Write> {
     /// The stream, and what waits to be sent there.
     pub(crate) out: Outgoing<S>,
     pub(crate) readable: bool,
+    /// The buffer that is kept for the other end of the pair, until that is opened.
+    pub(crate) kept: Option<Unsent>,
 }
 
 impl<S: Read + Write> Link<S> {
@@ -29,6 +31,7 @@ impl<S: Read + Write> Link<S> {
         Link {
             out: Outgoing::new(stream, unsent),
             readable: true,
+            kept: None,
         }
     }
 
@@ -53,7 +56,11 @@ impl<S: Read + Write> Link<S> {
         }
         let read = read_into(&mut self.out.writer, piece, buf);
         self.readable = !is_used_up(&read);
-        got_of(&read)
+        let got = got_of(&read);
+        if got == Got::Failed {
+            self.out.why = read.err();
+        }
+        got
     }
 
     /// The system said that the stream may be read, or written.

@@ -5,7 +5,7 @@ ghost use Rattle.std.specs.Prelude.{IsTrue, IfOk, IfSome, IfNone, slice_get, vec
 ghost use Rattle.std.specs.List.{position};
 ghost use Rattle.gate_outside.specs.Ends.{is_end, is_open, closed};
 ghost use Rattle.gate_outside.specs.OpenEnds.{AreBelow, AreDistinct};
-ghost use Rattle.gate_edge.specs.OpenEnds.{clients_of, AreBelow-prop, AreDistinct-prop};
+ghost use Rattle.gate_edge.specs.OpenEnds.{clients_of, HasRoom, AreBelow-prop, AreDistinct-prop};
 ghost use Rattle.gate_edge.specs.declared.open_ends.TheConstants.{PAIRS, ENDS};
 
 use crate::link::Link;
@@ -29,12 +29,16 @@ const PLACES: usize = 2_048;
 
 /// The pairs accepted so far, and the open ends in the order of their opening, each with its link.
 /// All memory is taken when this is made.
+///
+/// There is a buffer for each descriptor that ends may have. An end that is open has one, and so has
+/// an end whose bytes still go out after it was shut. A client's end that is accepted keeps one more
+/// for the upstream end of its pair, so an accepted client is never refused for want of either.
 #[derive(Drop)]
 pub(crate) struct OpenEnds<S: Read + Write> {
     pub(crate) pairs: u32,
     pub(crate) ends: Vec<(u32, End)>,
     pub(crate) links: Vec<Link<S>>,
-    spare: Vec<Unsent>,
+    pub(crate) spare: Vec<Unsent>,
     clients: usize,
     // Where an end stands in the list, by its pair. A place may be that of another end, so it is
     // looked at before use.
@@ -76,8 +80,9 @@ fn clients_in(ends: &[(u32, End)]) -> usize
 }
 
 impl<S: Read + Write + Drop> OpenEnds<S> {
-    /// No pair was accepted yet, and no end is open.
-    pub(crate) fn new(alloc: Global) -> Result<OpenEnds<S>, Memory>
+    /// No pair was accepted yet, and no end is open. There are so many buffers.
+    pub(crate) fn new(alloc: Global, buffers: usize) -> Result<OpenEnds<S>, Memory>
+        ensures spare { IfOk result (λ all. vec_len all.spare ≡ buffers) }
         ensures pairs { IfOk result (λ all. all.pairs ≡ 0) }
         ensures ends { IfOk result (λ all. all.ends.items ≡ []) }
     {
@@ -85,25 +90,31 @@ impl<S: Read + Write + Drop> OpenEnds<S> {
             pairs: 0,
             ends: Vec::with_capacity(alloc, ENDS)?,
             links: Vec::with_capacity(alloc, ENDS)?,
-            spare: spare_buffers(alloc)?,
+            spare: spare_buffers(alloc, buffers)?,
             clients: 0,
             places: vec![in alloc; 0; PLACES]?,
         })
     }
 
-    /// Whether one more end fits.
+    /// Whether one more end fits into the list.
     pub(crate) fn has_space(&self) -> bool
-        ensures { IsTrue result ↔ (vec_len self.now.ends < ENDS) × (0 < vec_len self.now.spare) }
+        ensures { IsTrue result ↔ vec_len self.now.ends < ENDS }
     {
-        self.ends.len() < ENDS && !self.spare.is_empty()
+        self.ends.len() < ENDS
     }
 
-    /// Whether one more client's end fits.
+    /// Whether there is room for one more client's end, and for the upstream end of its pair.
     pub(crate) fn has_room(&self) -> bool
-        ensures { IsTrue result ↔ (clients_of self.now.ends.items < PAIRS)
-            × (vec_len self.now.ends < ENDS) × (0 < vec_len self.now.spare) }
+        ensures { IsTrue result ↔ HasRoom (vec_len self.now.spare) self.now.ends.items }
     {
-        self.clients < PAIRS && self.has_space()
+        self.clients < PAIRS && self.has_space() && self.spare.len() >= 2
+    }
+
+    /// How many clients' ends are open.
+    pub(crate) fn clients(&self) -> usize
+        ensures { result ≡ clients_of self.now.ends.items }
+    {
+        self.clients
     }
 
     /// Where an end stands among the open ones.
@@ -120,39 +131,50 @@ impl<S: Read + Write + Drop> OpenEnds<S> {
         scan(&self.ends, pair, end)
     }
 
-    /// Opens the next pair's client's end.
+    /// Opens the next pair's client's end, and keeps a buffer for its upstream end.
     pub(crate) fn accept(&mut self, stream: S)
         requires number { self.old.pairs < 4294967295 }
-        requires clients { clients_of self.old.ends.items < PAIRS }
-        requires ends { vec_len self.old.ends < ENDS }
-        requires spare { 0 < vec_len self.old.spare }
+        requires room { HasRoom (vec_len self.old.spare) self.old.ends.items }
         ensures pairs { self.new.pairs ≡ self.old.pairs + 1 }
         ensures ends { self.new.ends.items
             ≡ self.old.ends.items ++ (self.old.pairs, End.Client) ∷ [] }
+        ensures spare { vec_len self.new.spare + 2 ≡ vec_len self.old.spare }
     {
         let pair = self.pairs;
-        let Some(unsent) = self.spare.pop() else {
+        let (Some(unsent), Some(kept)) = (self.spare.pop(), self.spare.pop()) else {
             unreachable!()
         };
+        let mut link = Link::new(stream, unsent);
+        link.kept = Some(kept);
         remember(&mut self.places, self.ends.len(), pair, End::Client);
         self.pairs += 1;
         self.clients += 1;
         self.ends.push_reserved((pair, End::Client));
-        self.links.push_reserved(Link::new(stream, unsent));
+        self.links.push_reserved(link);
+    }
+
+    /// A buffer for a pair's upstream end: that which its client's end keeps, or else a spare one.
+    pub(crate) fn buffer_for(&mut self, pair: u32) -> Option<Unsent>
+        ensures pairs { self.new.pairs ≡ self.old.pairs }
+        ensures ends { self.new.ends.items ≡ self.old.ends.items }
+        ensures none { IfNone result (vec_len self.old.spare ≡ 0) }
+    {
+        if let Some(at) = self.find(pair, End::Client)
+            && let Some(unsent) = self.links[at].kept.take()
+        {
+            return Some(unsent);
+        }
+        self.spare.pop()
     }
 
     /// Opens a pair's upstream end.
-    pub(crate) fn connect(&mut self, pair: u32, stream: S)
+    pub(crate) fn connect(&mut self, pair: u32, stream: S, unsent: Unsent)
         requires known { pair < self.old.pairs }
         requires free { is_open pair End.Up self.old.ends.items ≡ false }
         requires ends { vec_len self.old.ends < ENDS }
-        requires spare { 0 < vec_len self.old.spare }
         ensures pairs { self.new.pairs ≡ self.old.pairs }
         ensures ends { self.new.ends.items ≡ self.old.ends.items ++ (pair, End.Up) ∷ [] }
     {
-        let Some(unsent) = self.spare.pop() else {
-            unreachable!()
-        };
         remember(&mut self.places, self.ends.len(), pair, End::Up);
         self.ends.push_reserved((pair, End::Up));
         self.links.push_reserved(Link::new(stream, unsent));
@@ -166,10 +188,21 @@ impl<S: Read + Write + Drop> OpenEnds<S> {
     {
         let at = self.find(pair, end)?;
         self.ends.remove(at);
-        let link = self.links.remove(at);
+        let mut link = self.links.remove(at);
         self.clients = clients_in(&self.ends);
         remember_all(&mut self.places, &self.ends);
+        self.give_back_kept(link.kept.take());
         Some(link)
+    }
+
+    /// Takes back the buffer that an end kept, if it did.
+    fn give_back_kept(&mut self, kept: Option<Unsent>)
+        ensures pairs { self.new.pairs ≡ self.old.pairs }
+        ensures ends { self.new.ends.items ≡ self.old.ends.items }
+    {
+        if let Some(unsent) = kept {
+            self.give_back(unsent);
+        }
     }
 
     /// Takes back the buffer of an end that was closed.
@@ -225,10 +258,12 @@ fn remember_all(places: &mut [usize], ends: &[(u32, End)]) {
     }
 }
 
-/// A buffer for each end.
-fn spare_buffers(alloc: Global) -> Result<Vec<Unsent>, Memory> {
-    let mut spare = Vec::with_capacity(alloc, ENDS)?;
-    for _ in 0..ENDS {
+/// So many buffers.
+fn spare_buffers(alloc: Global, count: usize) -> Result<Vec<Unsent>, Memory>
+    ensures { IfOk result (λ spare. vec_len spare ≡ count) }
+{
+    let mut spare = Vec::with_capacity(alloc, count)?;
+    for _k in 0..count {
         spare.push(Unsent::new(alloc, BUFFER)?)?;
     }
     Ok(spare)

@@ -4,12 +4,12 @@ ghost use Rattle.std.specs.Prelude.{◌≡◌, ◌<◌, ◌≤◌, length, IfOk,
 
 use crate::faults::raise;
 use crate::outgoing::Outgoing;
-use crate::standard_error::may_write;
+use crate::standard_error::{may_write, tell_output};
 use crate::unsent::Unsent;
 use gate_outside::{Put, Sink, Sunk};
 use std::alloc::Global;
 use std::cell::RefCell;
-use std::io::{ErrorKind, Stdout, Write};
+use std::io::{Eprint, ErrorKind, Stdout, Write};
 use std::rt::Clock;
 use std::time::Duration;
 use std::{io, thread};
@@ -93,6 +93,15 @@ impl<W: Write + Drop> Outbox<W> {
         out.ready = true;
         out.flush();
         out.ready
+    }
+
+    /// Tells why a write to the writer failed, if one did, or that no more bytes fit.
+    pub(crate) fn tell(&self, runtime: &impl Eprint) {
+        if let Ok(out) = self.out.try_borrow()
+            && (out.failed || out.unsent.is_full())
+        {
+            tell_output(runtime, &out.why);
+        }
     }
 
     /// Sends what waits, for a second at most where the writer takes nothing. Whether all of it

@@ -8,6 +8,7 @@ ghost use Rattle.gate_edge.specs.Streams.{put_bytes, SameInAll};
 use crate::answers::{is_used_up, put_of};
 use crate::unsent::Unsent;
 use gate_outside::Put;
+use std::io;
 use std::io::Write;
 
 /// A writer with a buffer before it. A write is asked of the system only while it may take
@@ -19,6 +20,8 @@ pub(crate) struct Outgoing<W: Write> {
     pub(crate) unsent: Unsent,
     pub(crate) ready: bool,
     pub(crate) failed: bool,
+    /// What the system said where it failed.
+    pub(crate) why: Option<io::Error>,
 }
 
 impl<W: Write> Outgoing<W> {
@@ -34,6 +37,7 @@ impl<W: Write> Outgoing<W> {
             unsent,
             ready: true,
             failed: false,
+            why: None,
         }
     }
 
@@ -85,6 +89,7 @@ impl<W: Write> Outgoing<W> {
             Put::Failed => {
                 self.failed = true;
                 self.unsent.clear();
+                self.why = written.err();
             }
         }
     }

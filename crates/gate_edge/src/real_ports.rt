@@ -3,8 +3,7 @@
 ghost use Rattle.std.specs.Prelude.{◌≡◌, ◌<◌, ◌≤◌, ◌↔◌, [], IfOk, IsSome, None, vec_len};
 ghost use Rattle.gate_outside.specs.Counts.{Rose};
 ghost use Rattle.gate_outside.specs.Ends.{IsNumbered, pairs_after, ends_accepted};
-ghost use Rattle.gate_edge.specs.OpenEnds.{clients_of};
-ghost use Rattle.gate_edge.specs.declared.open_ends.TheConstants.{PAIRS};
+ghost use Rattle.gate_edge.specs.OpenEnds.{HasRoom};
 ghost use Rattle.gate_edge.specs.declared.pieces.TheConstants.{PIECE};
 
 use crate::answers::{accepted_of, is_used_up, is_waiting, is_waiting_to_accept};
@@ -15,15 +14,15 @@ use crate::open_ends::{ENDS, OpenEnds};
 use crate::outbox::Outbox;
 use crate::partings::Parting;
 use crate::pieces::PIECE;
-use crate::sockets::{address_of, link_to};
 use crate::unsent::Unsent;
+use crate::upstream::Upstream;
 use crate::waiting::{Said, said_by};
 use gate_outside::{Accepted, End, Got, Linked, Next, Ports, Put};
 use mio::net::TcpStream;
 use std::alloc::Global;
 use std::io;
 use std::io::{Eprint, Write};
-use std::net::{Net, Shutdown, SocketAddr};
+use std::net::{Net, Shutdown};
 use std::rt::Clock;
 use std::time::{Duration, Instant};
 use wire_base::Memory;
@@ -40,11 +39,13 @@ const LAST_TURNS: u32 = 10_000;
 
 /// Ports over non-blocking sockets. They tell no log.
 ///
-/// Room for 256 pairs is taken when the ports are made, and accept answers NotYet while that many
-/// clients are open, or as many ends as those pairs have. Where the listening address is not given
-/// or cannot be bound each accept fails, and without an upstream address each connect. No error of
-/// one accept is a fault: it is told on the standard error, once a second at most, and answered
-/// NotYet.
+/// Room for 256 pairs is taken when the ports are made, or for as many as the system has
+/// descriptors left for, two for each. Accept answers NotYet while there is no room for a client and
+/// for the upstream end of its pair; so a client that was accepted isn't refused for want of it.
+/// Where the listening address is not given or cannot be bound each accept fails, and without an
+/// upstream address each connect. No error of one accept is a fault: it is answered NotYet. It is
+/// told on the standard error, once a second at most, and so are a client that waits for room and a
+/// connection to the container that fails.
 ///
 /// A call on an end asks the system only where it may do something: `now` learns what is ready, and
 /// `idle` waits for it, for 10 ms at most. What a write takes is buffered, 65,536 bytes an end, and
@@ -56,7 +57,7 @@ pub struct RealPorts<'a, R: Net + Clock + Eprint, W: Write> {
     runtime: &'a R,
     outbox: &'a Outbox<W>,
     door: Option<Door>,
-    upstream: Option<SocketAddr>,
+    upstream: Upstream,
     start: Option<Instant>,
     held: OpenEnds<TcpStream>,
     partings: Vec<Parting<TcpStream>>,
@@ -87,16 +88,21 @@ impl<'a, R: Net + Clock + Eprint, W: Write + Drop> RealPorts<'a, R, W> {
         ensures last { IfOk result (λ ports. ⟦<RealPorts<'a, R, W> as Ports>⟧.last ports ≡ 0) }
         ensures log { IfOk result (λ ports. ⟦<RealPorts<'a, R, W> as Ports>⟧.log ports ≡ None) }
     {
+        let door = match listen {
+            Some(text) => Door::open(runtime, alloc, text)?,
+            None => None,
+        };
+        let buffers = match &door {
+            Some(door) => door.descriptors,
+            None => 0,
+        };
         Ok(RealPorts {
             runtime,
             outbox,
-            door: match listen {
-                Some(text) => Door::open(runtime, alloc, text)?,
-                None => None,
-            },
-            upstream: upstream.and_then(|text| address_of(runtime, text).ok()),
+            door,
+            upstream: Upstream::look_up(runtime, upstream),
             start: Instant::now(runtime).ok(),
-            held: OpenEnds::new(alloc)?,
+            held: OpenEnds::new(alloc, buffers)?,
             partings: Vec::with_capacity(alloc, ENDS)?,
             piece: vec![in alloc; 0; PIECE]?,
             faults: 0,
@@ -107,8 +113,9 @@ impl<'a, R: Net + Clock + Eprint, W: Write + Drop> RealPorts<'a, R, W> {
     }
 
     /// Waits until the bytes of ends that were shut are sent, for 1,000 ms at most. To be called
-    /// when the service has ended.
+    /// when the service has ended. The standard error is told why the outbox failed, if it did.
     pub fn finish(&mut self) {
+        self.outbox.tell(self.runtime);
         for _ in 0..LAST_TURNS {
             if self.partings.is_empty() {
                 return;
@@ -117,18 +124,6 @@ impl<'a, R: Net + Clock + Eprint, W: Write + Drop> RealPorts<'a, R, W> {
             self.now();
         }
     }
-}
-
-/// A stream that begins to connect, watched under the pair's number.
-fn upstream_of<R: Net>(
-    net: &R,
-    door: Option<&Door>,
-    address: Option<SocketAddr>,
-    pair: u32,
-) -> Option<TcpStream> {
-    let mut stream = link_to(net, address?).ok()?;
-    door?.watch.add_end(&mut stream, pair, End::Up).ok()?;
-    Some(stream)
 }
 
 /// The milliseconds since the start, where the clock tells them.
@@ -231,14 +226,19 @@ impl<'a, R: Net + Clock + Eprint, W: Write + Drop> Ports for RealPorts<'a, R, W>
         ensures ends { self.new.held.ends.items ≡ ends_accepted result self.old.held.ends.items }
         ensures last { self.new.last ≡ self.old.last }
         ensures failed { result ≡ Accepted.Failed ↔ self.old.door ≡ None }
-        ensures full { IsSome self.old.door → PAIRS ≤ clients_of self.old.held.ends.items
+        ensures full { IsSome self.old.door
+            → (HasRoom (vec_len self.old.held.spare) self.old.held.ends.items → ⊥)
             → result ≡ Accepted.NotYet }
     {
         let Some(door) = &mut self.door else {
             raise(&mut self.faults);
             return Accepted::Failed;
         };
-        if !door.knocked || !self.held.has_room() {
+        if !door.knocked {
+            return Accepted::NotYet;
+        }
+        if !self.held.has_room() {
+            door.tell_full(self.runtime, self.held.clients(), self.last);
             return Accepted::NotYet;
         }
         let client = door.client(self.held.pairs);
@@ -253,12 +253,16 @@ impl<'a, R: Net + Clock + Eprint, W: Write + Drop> Ports for RealPorts<'a, R, W>
     }
 
     fn connect(&mut self, pair: u32) -> Linked {
-        let stream = upstream_of(self.runtime, self.door.as_ref(), self.upstream, pair);
-        if let Some(stream) = stream
-            && self.held.has_space()
-        {
-            self.held.connect(pair, stream);
-            return Linked::Ok;
+        match self.upstream.stream(self.runtime, self.door.as_ref(), pair) {
+            Ok(stream) => {
+                if self.held.has_space()
+                    && let Some(unsent) = self.held.buffer_for(pair)
+                {
+                    self.held.connect(pair, stream, unsent);
+                    return Linked::Ok;
+                }
+            }
+            Err(error) => self.upstream.tell(self.runtime, Some(error), self.last),
         }
         raise(&mut self.faults);
         Linked::Failed
@@ -271,6 +275,10 @@ impl<'a, R: Net + Clock + Eprint, W: Write + Drop> Ports for RealPorts<'a, R, W>
         let got = self.held.links[at].read(&mut self.piece, buf);
         if got == Got::Failed {
             raise(&mut self.faults);
+            if end == End::Up {
+                let why = self.held.links[at].out.why.take();
+                self.upstream.tell(self.runtime, why, self.last);
+            }
         }
         got
     }
@@ -282,6 +290,10 @@ impl<'a, R: Net + Clock + Eprint, W: Write + Drop> Ports for RealPorts<'a, R, W>
         let put = self.held.links[at].out.write(bytes);
         if put == Put::Failed {
             raise(&mut self.faults);
+            if end == End::Up {
+                let why = self.held.links[at].out.why.take();
+                self.upstream.tell(self.runtime, why, self.last);
+            }
         }
         put
     }

@@ -1,11 +1,15 @@
 //! Sockets: how they are made, and what is asked of the system for each.
 
+ghost use Rattle.std.specs.Prelude.{◌≤◌, IfOk};
+
 use libc::net as c;
 use mio::net::{TcpListener, TcpStream};
+use std::alloc::Global;
 use std::io;
 use std::io::ErrorKind;
 use std::net::{Net, SocketAddr, ToSocketAddrs};
-use std::os::fd::AsRawFd;
+use std::os::fd::{AsFd, AsRawFd};
+use wire_base::Memory;
 
 /// The next client's stream.
 pub(crate) fn next_client(listener: &TcpListener) -> io::Result<TcpStream> {
@@ -38,6 +42,24 @@ fn keep_alive(stream: &TcpStream) -> io::Result<()> {
         return Err(io::Error::from_raw_os_error(os::errno()));
     }
     Ok(())
+}
+
+/// How many descriptors the system still gives, so many at most. They are all given back.
+pub(crate) fn spare_descriptors<F: AsFd>(
+    alloc: Global,
+    of: &F,
+    most: usize,
+) -> Result<usize, Memory>
+    ensures { IfOk result (λ n. n ≤ most) }
+{
+    let mut copies = Vec::with_capacity(alloc, most)?;
+    for _k in 0..most {
+        match of.as_fd().try_clone_to_owned() {
+            Ok(copy) => copies.push(copy)?,
+            Err(_) => break,
+        }
+    }
+    Ok(copies.len())
 }
 
 /// The first address of a name or of numbers, with a port. It may wait for the system.

@@ -5,12 +5,22 @@ use libc::types::pollfd;
 use mio::net::TcpListener;
 use std::io;
 use std::io::Eprint;
+use std::net::SocketAddr;
 
 /// Whether a write to a descriptor would not wait, as far as the system knows.
 pub(crate) fn may_write(fd: i32) -> bool {
+    is_ready(fd, c::POLLOUT)
+}
+
+/// The same of a read, or of an accept.
+pub(crate) fn may_read(fd: i32) -> bool {
+    is_ready(fd, c::POLLIN)
+}
+
+fn is_ready(fd: i32, events: i16) -> bool {
     let mut asked = [pollfd {
         fd,
-        events: c::POLLOUT,
+        events,
         revents: 0,
     }];
     c::poll(&mut asked, 0) != 0
@@ -35,6 +45,58 @@ pub(crate) fn tell_accept(runtime: &impl Eprint, error: &io::Error) {
     if may_write(libc::STDERR_FILENO) {
         let _ = eprintln!(runtime; "a client waits, and cannot be accepted: {error}");
     }
+}
+
+/// Tells for how many clients there is room, of how many.
+pub(crate) fn tell_room(runtime: &impl Eprint, clients: usize, of: usize) {
+    if may_write(libc::STDERR_FILENO) {
+        let _ = eprintln!(runtime; "descriptors for {clients} clients at once, of {of}");
+    }
+}
+
+/// Tells that a client waits since so many are open.
+pub(crate) fn tell_full(runtime: &impl Eprint, clients: usize) {
+    if may_write(libc::STDERR_FILENO) {
+        let _ = eprintln!(runtime; "a client waits, and cannot be accepted: {clients} are open");
+    }
+}
+
+/// Tells why the container's address can't be used.
+pub(crate) fn tell_unknown(runtime: &impl Eprint, text: &str, error: &io::Error) {
+    if may_write(libc::STDERR_FILENO) {
+        let _ = eprintln!(runtime; "cannot use {text} as the container's address: {error}");
+    }
+}
+
+/// Tells why a connection to the container failed.
+pub(crate) fn tell_container(
+    runtime: &impl Eprint,
+    address: Option<SocketAddr>,
+    error: &Option<io::Error>,
+) {
+    if !may_write(libc::STDERR_FILENO) {
+        return;
+    }
+    let _ = match (address, error) {
+        (Some(address), Some(error)) => {
+            eprintln!(runtime; "the container at {address} failed: {error}")
+        }
+        (Some(address), None) => {
+            eprintln!(runtime; "the container at {address} failed: no byte was taken")
+        }
+        (None, _) => eprintln!(runtime; "the container's address is not known"),
+    };
+}
+
+/// Tells why the standard output failed: what the system said, or else that it took nothing.
+pub(crate) fn tell_output(runtime: &impl Eprint, error: &Option<io::Error>) {
+    if !may_write(libc::STDERR_FILENO) {
+        return;
+    }
+    let _ = match error {
+        Some(error) => eprintln!(runtime; "the standard output failed: {error}"),
+        None => eprintln!(runtime; "the standard output failed: no byte was taken"),
+    };
 }
 
 /// Tells a line.

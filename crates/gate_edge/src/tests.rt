@@ -7,6 +7,7 @@ use crate::link::Link;
 use crate::open_ends::OpenEnds;
 use crate::outbox::{Outbox, OutboxSink};
 use crate::outgoing::Outgoing;
+use crate::pace::Pace;
 use crate::partings::Parting;
 use crate::standard::{ReaderSource, WriterSink};
 use crate::unsent::Unsent;
@@ -251,7 +252,7 @@ fn open(all: &mut OpenEnds<Late>, pairs: u32) {
 
 #[test]
 fn ends_are_found_while_others_come_and_go(rt: HostRuntime) -> Result<(), Fail> {
-    let mut all = OpenEnds::new(rt.alloc())?;
+    let mut all = OpenEnds::new(rt.alloc(), 512)?;
     open(&mut all, 300);
     assert_eq!(rt; all.pairs, 256);
     assert_eq!(rt; all.find(256, End::Client), None);
@@ -270,4 +271,62 @@ fn ends_are_found_while_others_come_and_go(rt: HostRuntime) -> Result<(), Fail> 
         assert_eq!(rt; all.find(pair + 255, End::Client), Some(255));
     }
     Ok(())
+}
+
+/// Connects the upstream end of a pair, if a buffer is left.
+fn link(all: &mut OpenEnds<Late>, pair: u32) -> bool {
+    if pair < all.pairs
+        && all.has_space()
+        && all.find(pair, End::Up).is_none()
+        && let Some(unsent) = all.buffer_for(pair)
+    {
+        all.connect(pair, stream(0, Then::WouldWait), unsent);
+        return true;
+    }
+    false
+}
+
+#[test]
+fn an_accepted_client_has_room_upstream(rt: HostRuntime) -> Result<(), Fail> {
+    let mut all = OpenEnds::new(rt.alloc(), 5)?;
+    open(&mut all, 9);
+    assert_eq!(rt; all.pairs, 2);
+    // The fifth buffer goes to an upstream end whose client's end is gone, and then none is left.
+    assert!(rt;
+        link(&mut all, 0),
+        "the client's end of pair 0 keeps a buffer"
+    );
+    let closed = all.close(0, End::Client);
+    assert!(rt; closed.is_some(), "pair 0 was open");
+    assert!(rt; !all.has_room(), "one buffer is spare");
+    assert!(rt;
+        link(&mut all, 1),
+        "the client's end of pair 1 keeps a buffer"
+    );
+    if let Some(closed) = closed {
+        all.give_back(closed.out.unsent);
+    }
+    assert!(rt; all.has_room(), "two buffers are spare");
+    open(&mut all, 9);
+    assert_eq!(rt; all.pairs, 3);
+    // One that leaves before its upstream end is opened gives both back.
+    if let Some(closed) = all.close(2, End::Client) {
+        all.give_back(closed.out.unsent);
+    }
+    assert!(rt; all.has_room(), "both buffers of pair 2 are back");
+    Ok(())
+}
+
+#[test]
+fn a_line_is_told_once_a_second(rt: HostRuntime) {
+    let mut pace = Pace::new();
+    for (moment, want) in [
+        (0, true),
+        (0, false),
+        (999, false),
+        (1_000, true),
+        (1_999, false),
+    ] {
+        assert_eq!(rt; pace.is_due(moment), want, "at {moment}");
+    }
 }

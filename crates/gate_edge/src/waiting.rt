@@ -39,11 +39,11 @@ pub(crate) enum Said {
 
 impl Watch {
     /// No socket is watched yet.
-    pub(crate) fn new(net: &impl Net, alloc: Global) -> Result<Option<Watch>, Memory> {
+    pub(crate) fn new(net: &impl Net, alloc: Global) -> Result<io::Result<Watch>, Memory> {
         let events = Events::with_capacity(alloc, EVENTS)?;
         match Poll::new(net) {
-            Ok(poll) => Ok(Some(Watch { poll, events })),
-            Err(_) => Ok(None),
+            Ok(poll) => Ok(Ok(Watch { poll, events })),
+            Err(error) => Ok(Err(error)),
         }
     }
 

@@ -13,7 +13,7 @@ invariant_of-self g c =
       reserved_ends = omega arith;
       reserved_links = omega arith;
       counted = rw c.push_reserved.ensures.items (omega (arith, more, old.counted));
-      few = rw c.push_reserved.ensures.items (omega (arith, more, c.requires.clients));
+      few = rw c.push_reserved.ensures.items (omega (arith, more, c.requires.room.0));
       below = rw c.push_reserved.ensures.items
           (below_push _ _ _ Client (below_more _ _ _ (omega arith) old.below) (omega arith));
       distinct = rw c.push_reserved.ensures.items

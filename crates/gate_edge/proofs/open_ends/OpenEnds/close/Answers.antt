@@ -33,4 +33,5 @@ invariant_of-self g c =
 
 pub returns-clause-ends : goal.returns-clause-ends
 returns-clause-ends g c =
-    left-closed _ _ c.in_ok-at.at c.args.pair c.args.end c.remove.ensures.items c.args.self.now.distinct c.in_ok-at.ensures.some
+    c.give_back_kept.ensures.ends
+    ∙ left-closed _ _ c.in_ok-at.at c.args.pair c.args.end c.remove.ensures.items c.args.self.now.distinct c.in_ok-at.ensures.some
