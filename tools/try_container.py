@@ -1,36 +1,53 @@
 #!/usr/bin/env python3
-"""Tries the gateway between a client library of AMQP 0-9-1 and a container of AMQP 1.0, over loopback.
+"""Tries the gateway between client libraries of AMQP 0-9-1 and a container of AMQP 1.0, over loopback.
 
-    python3 tools/try_container.py --container 'COMMAND' | --upstream ADDRESS [--gateway 'COMMAND'] [--client pika|amqp]
-                                   [--hold SECONDS] [--heartbeat SECONDS] [--end-container] [--words 'WORD ..']
+    python3 tools/try_container.py --container 'COMMAND' | --upstream ADDRESS [--gateway 'COMMAND'] [--client NAME,NAME..]
+                                   [--channels COUNT] [--hold SECONDS] [--heartbeat SECONDS] [--wait SECONDS] [--end-container]
+                                   [--words 'WORD ..']
 
 It starts the container as `COMMAND --port P`, unless one listens at an address already, and the gateway as `COMMAND serve ..` on
-a free port, with as many pairs as there are clients and with a capture. The gateway is crates/amqp_gate/out/amqp_gate, as `rt
-run` leaves it there, if no command names another; `--words` adds words to those behind `serve`. Then come these clients, one
-after another:
+a free port, with as many pairs as there are connections and with a capture. The gateway is crates/amqp_gate/out/amqp_gate, as `rt
+run` leaves it there, if no command names another, and has `--wait` seconds to listen; `--words` adds words to those behind `serve`.
+Then come these connections of each client, one after another:
 
-- one that opens a connection, holds it and closes it;
+- one that opens channels, closes them, opens one more, holds it, closes it, and closes;
 - one that asks for another virtual host, and one that sends another password;
-- one whose socket ends while its connection is open;
-- with `--end-container`, one that is open while the container is ended.
+- one that ends without a close while a channel is open;
+- with `--end-container`, one of each that has a channel open while the container is ended.
 
 What each of them met is printed with the time that it took, and in the end what the container and the gateway said, the
 gateway's status, and whether a replay of the capture is the same. Nothing is asserted, and this is no part of the build.
 
-The Python that runs it must have the client's library: pika, or py-amqp. Each program is ended by its process id.
+| Client | Library | Debian's packages |
+|---|---|---|
+| `pika` | pika | python3-pika |
+| `amqp` | py-amqp | python3-amqp |
+| `go` | amqp091-go | golang-go, golang-github-rabbitmq-amqp091-go-dev |
+| `php` | php-amqplib | php-cli, php-amqplib |
+| `bunny` | Bunny | ruby-bunny |
+| `java` | RabbitMQ's library for Java | librabbitmq-client-java, libslf4j-java, and a JDK |
+
+One that isn't installed is left out, and a line says so; the two for Python are looked for in the Python that runs this. The others
+are the programs of tools/clients. Each program is ended by its process id.
 """
 
 import argparse
+import importlib.util
 import os
 import shlex
+import shutil
 import socket
 import subprocess
 import sys
 import tempfile
+import threading
 import time
 
 ROOT = os.path.dirname(os.path.dirname(os.path.abspath(__file__)))
 BUILT = os.path.join(ROOT, "crates", "amqp_gate", "out", "amqp_gate")
+CLIENTS = os.path.join(ROOT, "tools", "clients")
+GO_PATH = "/usr/share/gocode"
+JARS = ":".join(f"/usr/share/java/{name}.jar" for name in ("amqp-client", "slf4j-api", "slf4j-nop"))
 
 
 def free_port():
@@ -47,7 +64,8 @@ def listens(port):
 
 
 def wait_for(port, program, seconds=180):
-    for _ in range(seconds * 10):
+    until = time.monotonic() + seconds
+    while time.monotonic() < until:
         if listens(port):
             return
         if program.poll() is not None:
@@ -78,6 +96,7 @@ class PikaClient:
     def __init__(self, port, heartbeat, vhost="/", password="guest"):
         import pika
 
+        self.channels = []
         self.connection = pika.BlockingConnection(
             pika.ConnectionParameters(
                 host="127.0.0.1",
@@ -100,6 +119,12 @@ class PikaClient:
             f"frames to {agreed.frame_max}, heartbeat {agreed.heartbeat}"
         )
 
+    def open_channel(self):
+        self.channels.append(self.connection.channel())
+
+    def close_channel(self):
+        self.channels.pop().close()
+
     def hold(self, seconds):
         self.connection.process_data_events(time_limit=seconds)
 
@@ -116,6 +141,7 @@ class AmqpClient:
     def __init__(self, port, heartbeat, vhost="/", password="guest"):
         import amqp
 
+        self.channels = []
         self.connection = amqp.Connection(
             f"127.0.0.1:{port}",
             userid="guest",
@@ -132,6 +158,12 @@ class AmqpClient:
             f"open: {inner.server_properties['product']!r}, channels to {inner.channel_max}, "
             f"frames to {inner.frame_max}, heartbeat {inner.heartbeat}"
         )
+
+    def open_channel(self):
+        self.channels.append(self.connection.channel())
+
+    def close_channel(self):
+        self.channels.pop().close()
 
     def hold(self, seconds):
         until = time.monotonic() + seconds
@@ -150,11 +182,102 @@ class AmqpClient:
         self.connection.transport.sock.close()
 
 
-class Trial:
-    """The clients' side of a trial."""
+class Met(Exception):
+    """What a program of tools/clients met."""
 
-    def __init__(self, kind, port, heartbeat, hold):
-        self.kind, self.port, self.heartbeat, self.hold = kind, port, heartbeat, hold
+
+def met(error):
+    return str(error) if isinstance(error, Met) else told(error)
+
+
+class ProgramClient:
+    """A connection by a program that reads commands line by line and answers each in one line."""
+
+    def __init__(self, command, port, heartbeat, vhost="/", password="guest"):
+        self.program = subprocess.Popen(
+            command, stdin=subprocess.PIPE, stdout=subprocess.PIPE, stderr=subprocess.DEVNULL, text=True
+        )
+        try:
+            self.said = self.ask(f"connect {port} {vhost} {password} {heartbeat}")
+        except Met:
+            end(self.program)
+            raise
+
+    def ask(self, line):
+        try:
+            self.program.stdin.write(line + "\n")
+            self.program.stdin.flush()
+        except BrokenPipeError:
+            raise Met("the program ended") from None
+        answer = self.program.stdout.readline().strip()
+        if not answer:
+            raise Met("the program ended")
+        if answer.startswith("error "):
+            raise Met(answer.removeprefix("error "))
+        return answer
+
+    def says(self):
+        return self.said
+
+    def open_channel(self):
+        self.ask("channel")
+
+    def close_channel(self):
+        self.ask("close-channel")
+
+    def hold(self, seconds):
+        self.ask(f"hold {seconds}")
+
+    def close(self):
+        self.ask("close")
+        end(self.program)
+
+    def drop(self):
+        self.program.kill()
+        self.program.wait()
+
+
+def succeeds(command, **options):
+    return subprocess.run(command, stdout=subprocess.DEVNULL, stderr=subprocess.DEVNULL, **options).returncode == 0
+
+
+def build_go(folder):
+    """The program in Go, built in a folder; None where Go or the library isn't there."""
+    built = os.path.join(folder, "client-go")
+    settings = dict(os.environ, GO111MODULE="off", GOPATH=os.environ.get("GOPATH", GO_PATH), GOCACHE=os.path.join(folder, "go"))
+    if not shutil.which("go") or not succeeds(["go", "build", "-o", built, os.path.join(CLIENTS, "client.go")], env=settings):
+        return None
+    return [built]
+
+
+def command_of(name, folder):
+    """The command of a program of tools/clients; None where it can't run."""
+    if name == "go":
+        return build_go(folder)
+    if name == "php":
+        probe, command = ["php", "-r", 'require "PhpAmqpLib/autoload.php";'], ["php", os.path.join(CLIENTS, "client.php")]
+    elif name == "bunny":
+        probe, command = ["ruby", "-e", 'require "bunny"'], ["ruby", os.path.join(CLIENTS, "client.rb")]
+    else:
+        built = ["javac", "-cp", JARS, "-d", folder, os.path.join(CLIENTS, "Client.java")]
+        probe, command = built, ["java", "-cp", f"{folder}:{JARS}", "Client"]
+    return command if shutil.which(probe[0]) and succeeds(probe) else None
+
+
+def kind_of(name, folder):
+    """What opens a connection by a client; None where the client isn't installed."""
+    if name in ("pika", "amqp"):
+        found = importlib.util.find_spec(name) is not None
+        return (PikaClient if name == "pika" else AmqpClient) if found else None
+    command = command_of(name, folder)
+    return command and (lambda port, heartbeat, **options: ProgramClient(command, port, heartbeat, **options))
+
+
+class Trial:
+    """The side of one client in a trial."""
+
+    def __init__(self, name, kind, port, options):
+        self.name, self.kind, self.port, self.options = name, kind, port, options
 
     def step(self, title, act):
         """Does something, and says what came of it; what it answered, or None where it failed."""
@@ -163,40 +286,83 @@ class Trial:
             answer = act()
             said = answer.says() if hasattr(answer, "says") else "done"
         except Exception as error:  # whatever the library raises is what is to be seen
-            answer, said = None, told(error)
-        print(f"  {title}: {said} ({time.monotonic() - begin:.3f} s)", flush=True)
+            answer, said = None, met(error)
+        print(f"  {self.name} {title}: {said} ({time.monotonic() - begin:.3f} s)", flush=True)
         return answer
 
     def opened(self, **options):
-        return self.step("connects", lambda: self.kind(self.port, self.heartbeat, **options))
+        return self.step("connects", lambda: self.kind(self.port, self.options.heartbeat, **options))
 
     def held(self, client, seconds):
         return self.step(f"holds it for {seconds} s", lambda: client.hold(seconds))
 
+    def channels(self, client, count):
+        for number in range(count):
+            self.step(f"opens channel {number + 1}", client.open_channel)
 
-def clients(trial, container, end_container):
-    print("a client that opens, holds and closes", flush=True)
-    client = trial.opened()
-    if client:
-        trial.held(client, trial.hold)
-        trial.step("closes", client.close)
-    print("one that asks for another virtual host", flush=True)
-    trial.opened(vhost="other")
-    print("one that sends another password", flush=True)
-    client = trial.opened(password="wrong")
-    if client:
-        trial.step("closes", client.close)
-    print("one whose socket ends", flush=True)
-    client = trial.opened()
-    if client:
-        trial.step("drops", client.drop)
-        time.sleep(1)
-    if end_container:
-        print("one whose container ends", flush=True)
+    def goes(self):
+        """The connections that come one after another."""
+        client = self.opened()
+        if client:
+            self.channels(client, self.options.channels)
+            for _ in range(self.options.channels):
+                self.step("closes a channel", client.close_channel)
+            self.step("opens one more", client.open_channel)
+            self.held(client, self.options.hold)
+            self.step("closes it", client.close_channel)
+            self.step("closes", client.close)
+        print(f"{self.name}, for another virtual host", flush=True)
+        self.opened(vhost="other")
+        print(f"{self.name}, with another password", flush=True)
+        client = self.opened(password="wrong")
+        if client:
+            self.step("closes", client.close)
+        print(f"{self.name}, which ends without a close", flush=True)
+        client = self.opened()
+        if client:
+            self.channels(client, 1)
+            self.step("ends", client.drop)
+
+
+def wait_for_end(trial, client, kill):
+    """Says what a connection meets once the container is killed, and how long after that."""
+    try:
+        client.hold(30)
+        said = "nothing"
+    except Exception as error:
+        said = met(error)
+    behind = f"{time.monotonic() - kill[0]:.3f} s behind the kill" if kill else "before the kill"
+    print(f"  {trial.name} meets: {said} ({behind})", flush=True)
+
+
+def end_under(trials, container):
+    """Ends the container while a connection of each client has a channel."""
+    print("a container that ends", flush=True)
+    kill, threads = [], []
+    for trial in trials:
         client = trial.opened()
         if client:
-            trial.step("ends the container", lambda: end(container))
-            trial.held(client, 5)
+            trial.channels(client, 1)
+            threads.append(threading.Thread(target=wait_for_end, args=(trial, client, kill)))
+    for thread in threads:
+        thread.start()
+    time.sleep(1)
+    kill.append(time.monotonic())
+    container.kill()
+    for thread in threads:
+        thread.join()
+
+
+def installed(names, folder):
+    """The clients that can run, each with what opens its connections."""
+    found = []
+    for name in names:
+        kind = kind_of(name, folder)
+        if kind:
+            found.append((name, kind))
+        else:
+            print(f"{name}: not installed, and left out", flush=True)
+    return found
 
 
 def say_file(title, path):
@@ -210,9 +376,11 @@ def main():
     parser.add_argument("--container")
     parser.add_argument("--upstream")
     parser.add_argument("--gateway", default=BUILT)
-    parser.add_argument("--client", choices=["pika", "amqp"], default="pika")
+    parser.add_argument("--client", default="pika,amqp,go,php,bunny,java")
+    parser.add_argument("--channels", type=int, default=3)
     parser.add_argument("--hold", type=float, default=3)
     parser.add_argument("--heartbeat", type=int, default=0)
+    parser.add_argument("--wait", type=int, default=180)
     parser.add_argument("--end-container", action="store_true")
     parser.add_argument("--words", default="")
     options = parser.parse_args()
@@ -220,12 +388,14 @@ def main():
         parser.error("one of --container and --upstream is wanted")
     if options.end_container and options.container is None:
         parser.error("only a container that is started here can be ended")
-    kind = PikaClient if options.client == "pika" else AmqpClient
-    count = 5 if options.end_container else 4
     port, up_port = free_port(), free_port()
     upstream = options.upstream or f"127.0.0.1:{up_port}"
     with tempfile.TemporaryDirectory() as folder:
         at = lambda name: os.path.join(folder, name)
+        found = installed(options.client.split(","), folder)
+        count = (5 if options.end_container else 4) * len(found)
+        if not found:
+            sys.exit("no client is installed")
         with open(at("container"), "w") as said, open(at("report"), "w") as out, open(at("errors"), "w") as errors:
             words = ["serve", "--listen", f"127.0.0.1:{port}", "--upstream", upstream]
             words += ["--pairs", str(count), "--capture", at("capture")] + shlex.split(options.words)
@@ -236,8 +406,13 @@ def main():
                     container = subprocess.Popen(command, stdout=said, stderr=subprocess.STDOUT)
                     wait_for(up_port, container)
                 gateway = subprocess.Popen(shlex.split(options.gateway) + words, stdout=out, stderr=errors)
-                wait_for(port, gateway)
-                clients(Trial(kind, port, options.heartbeat, options.hold), container, options.end_container)
+                wait_for(port, gateway, options.wait)
+                trials = [Trial(name, kind, port, options) for name, kind in found]
+                for trial in trials:
+                    print(trial.name, flush=True)
+                    trial.goes()
+                if options.end_container:
+                    end_under(trials, container)
                 try:
                     gateway.wait(30)
                 except subprocess.TimeoutExpired:
