@@ -8,11 +8,11 @@ use Rattle.gate_model.specs.declared.life.Life.{Life}
 use Rattle.gate_model.specs.declared.outgoing.Outgoing.TheVariants.{ToUp}
 use Rattle.gate_model.specs.declared.outgoing.UpUnit.{UpUnit}
 use Rattle.gate_model.specs.declared.outgoing.UpUnit.TheVariants as up
-use Rattle.gate_model.specs.Due.{close_behind, ends, pick, rows_in, takes_memory, takes_memory_up}
-use Rattle.gate_model.specs.Lives.{each}
+use Rattle.gate_model.specs.Due.{close_behind, ends, pick, rows_in, session_flows, takes_memory, takes_memory_up, unless_out}
+use Rattle.gate_model.specs.Lives.{each, life_at}
 use Rattle.bridge_core.specs.ChannelRows.{end_row, is_end_due_by}
 use Rattle.close_translate.specs.Conditions.{code_by}
-use Rattle.close_translate.specs.declared.codes.TheConstants.{INTERNAL_ERROR}
+use Rattle.close_translate.specs.declared.codes.TheConstants.{INTERNAL_ERROR, PRECONDITION_FAILED}
 use Rattle.close_translate.specs.declared.conditions.Scope.TheVariants as scope
 use Rattle.machine_091.specs.State.{is_closing, is_open, is_opening}
 use Rattle.machine_10.specs.Parts.{Parts}
@@ -20,10 +20,10 @@ use Rattle.machine_10.specs.Reading.{field}
 use Rattle.machine_10.specs.Transitions.{Meaning}
 use Rattle.machine_10.specs.Transitions as means
 use Rattle.machine_10.specs.declared.unit.Unit10.{Unit10}
-use Rattle.performatives_10.specs.Fields.{is_absent}
+use Rattle.gate_model.specs.Session.{fault_of, is_of_session}
 use Rattle.performatives_10.specs.declared.condition.Condition.{Condition}
 use Rattle.performatives_10.specs.declared.condition.Condition.TheVariants.{NotAllowed}
-use Rattle.gate_model.specs.State.{State, Heard, begun_session, fail, fail_life, heard, step, with_meaning, with_session}
+use Rattle.gate_model.specs.State.{State, Heard, begun_session, carried, fail, fail_life, heard, step, with_meaning, with_session}
 use Rattle.gate_model.specs.Upstream.{UpState, condition_in, first, heard_up, meaning_by, when_up}
 
 either : (b : Bool) (v w : State) → v.out_of_memory ≡ false → w.out_of_memory ≡ false → (if b then v else w).out_of_memory ≡ false
@@ -38,11 +38,13 @@ life_calm n code why w e = either (is_open w.conn n) _ w e e
 
 session_calm : (n : ℕ) (p : Parts) (w : State) → w.out_of_memory ≡ false → (with_session n p w).out_of_memory ≡ false
 session_calm n p w e =
-    either (p.0 == 17) (begun_session n w) _ e
-    (either (p.0 == 18) (fail INTERNAL_ERROR (Some NotAllowed) w) _ (fail_calm _ _ w e)
-    (either (p.0 == 19 && is_absent (field p.1 4)) w _ e
-    (either (p.0 == 21) w _ e
-    (either (p.0 == 23) (fail_life n (code_by (condition_in (field p.1 0)) scope.Channel) None w) _ (life_calm n _ _ w e) (life_calm n _ _ w e)))))
+    let v : State = carried n p w in
+    let fault : Condition = fault_of p (life_at w.lives n).session in
+    either (p.0 == 17) (begun_session n v) _ e
+    (either (p.0 == 18) (fail INTERNAL_ERROR (Some NotAllowed) v) _ (fail_calm _ _ v e)
+    (either (p.0 == 19 && is_of_session p.1) v _ e
+    (either (p.0 == 21) v _ e
+    (either (p.0 == 23) (fail_life n (code_by (condition_in (field p.1 0)) scope.Channel) None v) (fail_life n PRECONDITION_FAILED (Some fault) v) (life_calm n _ _ v e) (life_calm n _ _ v e)))))
 
 meaning_calm : (m : Meaning) (w : State) → w.out_of_memory ≡ false → (with_meaning m w).out_of_memory ≡ false
 meaning_calm means.Nothing w e = e
@@ -81,10 +83,12 @@ close_free [] s = by s.sent.«open»
     by false = refl
 close_free (u ∷ us) s = refl
 
-up_free : (b k : Bool) (w : State) → k ≡ true → Takes (if b then rows_in k w else []) ≡ false
-up_free true true w e = ends_free w.up.container w.conn 0 w.lives _ (close_free (ends true w) w.up)
-up_free true false w e = absurd cc
-up_free false k w e = refl
+up_free : (b k : Bool) (w : State) → k ≡ true → w.out_of_memory ≡ true → Takes (if b then rows_in k w else []) ≡ false
+up_free true true w e m =
+    ap (λ (x : Bool). Takes (unless_out x (session_flows w) ++ (ends true w ++ close_behind (ends true w) w.up))) m
+    ∙ ends_free w.up.container w.conn 0 w.lives _ (close_free (ends true w) w.up)
+up_free true false w e m = absurd cc
+up_free false k w e m = refl
 
 pub calm_pick : (w : State) → takes_memory (pick w Up) ≡ true → w.out_of_memory ≡ false
 calm_pick w e = by w.out_of_memory refl
@@ -96,6 +100,6 @@ calm_pick w e = by w.out_of_memory refl
     by : (m : Bool) → w.out_of_memory ≡ m → m ≡ false
     by false f = refl
     by true f =
-        let free : takes_memory (pick w Up) ≡ false = up_free (is_readable w.up.side && not w.up.sent.close) (w.out_of_memory || is_closing w.conn) w (late w.out_of_memory (is_closing w.conn) f) in
+        let free : takes_memory (pick w Up) ≡ false = up_free (is_readable w.up.side && not w.up.sent.close) (w.out_of_memory || is_closing w.conn) w (late w.out_of_memory (is_closing w.conn) f) f in
         let wrong : true ≡ false = sym e ∙ free in
         absurd cc

@@ -2,7 +2,7 @@
 use Rattle.std.proofs.Common.{◌≡◌, ℕ, ◌+◌, ◌≤◌, List, length, length-append, arith}
 use Rattle.frames_10.specs.Frames.{frame_text, text_behind}
 use Rattle.frames_10.specs.declared.frame.Kind10.{Kind10}
-use Rattle.types_10.specs.Tree.{Tree, binary, described, list, scalar, string, symbol, Trees, tree}
+use Rattle.types_10.specs.Tree.{Tree, binary, described, list, scalar, string, symbol, Trees, tree, uint}
 use Rattle.types_10.specs.Writing.{list_kind, value_text, written, written_each}
 use Rattle.types_10.specs.Measures.{head_len}
 use Rattle.types_10.proofs.Measures.{whole_len}
@@ -26,6 +26,11 @@ symbol_short s = omega (arith, whole_len (scalar (symbol s)), symbol_head s)
 
 pub binary_short : (s : List ℕ) → length (value_text (scalar (binary s))) ≤ length s + 5
 binary_short s = omega (arith, whole_len (scalar (binary s)), binary_head s)
+
+-- ---- numbers
+
+pub uint_short : (n : ℕ) → length (value_text (scalar (uint n))) ≤ 5
+uint_short n = grind arith
 
 -- ---- lists
 

@@ -5,6 +5,7 @@ use Rattle.machine_091.specs.declared.state.Connection.{Connection}
 use Rattle.machine_10.specs.declared.state.Upstream.{Upstream}
 use Rattle.gate_model.specs.declared.life.Life.{Life}
 use Rattle.gate_model.specs.Lives.{any_life, each, no_life}
+use Rattle.gate_model.specs.Due.{flows_on}
 use Rattle.bridge_core.specs.ChannelRows.{begin_row, close_ok_row, close_row, end_row, flow_ok_row, is_waiting_on, open_ok_row}
 
 each_more : {A : Type 0} (f : ℕ → Life → List A) (k i : ℕ) (ls : List Life) → i < length ls
@@ -38,6 +39,10 @@ close_oks_more settled c k i ls lt = each_more (close_ok_row settled c) k i ls l
 pub closes_more : (settled : Bool) (c : Option Upstream) (k i : ℕ) (ls : List Life) → i < length ls
     → each (close_row settled c) k (drop i ls) ≡ close_row settled c k (slice_index_or ls i no_life) ++ each (close_row settled c) (k + 1) (drop (i + 1) ls)
 closes_more settled c k i ls lt = each_more (close_row settled c) k i ls lt
+
+pub flows_more : (c : Option Upstream) (k i : ℕ) (ls : List Life) → i < length ls
+    → each (flows_on c) k (drop i ls) ≡ flows_on c k (slice_index_or ls i no_life) ++ each (flows_on c) (k + 1) (drop (i + 1) ls)
+flows_more c k i ls lt = each_more (flows_on c) k i ls lt
 
 pub begins_more : (c : Option Upstream) (k i : ℕ) (ls : List Life) → i < length ls
     → each (begin_row c) k (drop i ls) ≡ begin_row c k (slice_index_or ls i no_life) ++ each (begin_row c) (k + 1) (drop (i + 1) ls)

@@ -17,8 +17,8 @@ use Rattle.machine_10.specs.declared.state.Upstream.{Upstream}
 use Rattle.machine_091.specs.RefusalsOpening.{is_login}
 use Rattle.machine_091.specs.declared.limits.TheConstants.{RESPONSE_MAX}
 use Rattle.gate_model.specs.Setup.{IsHost, IsInForm, IsName, SetupText}
-use Rattle.gate_model.specs.Spelling.{begin_perf, container_id, init_of, open_of}
-use Rattle.bridge_core.proofs.Lengths.{binary_short, described_len, each_len, list_short, string_short, symbol_short}
+use Rattle.gate_model.specs.Spelling.{begin_perf, container_id, flow_perf, init_of, open_of}
+use Rattle.bridge_core.proofs.Lengths.{binary_short, described_len, each_len, list_short, string_short, symbol_short, uint_short}
 
 -- ---- the trees
 
@@ -157,3 +157,33 @@ begin_short = omega arith
 
 pub begin_spelled : HasSpelling (perf_tree begin_perf)
 begin_spelled = (omega arith, (tt, (tt, (tt, (tt, (tt, (tt, tt)))))), omega arith)
+
+-- ---- a flow
+
+abbrev flow_trees : ℕ → ℕ → Trees
+flow_trees i o = tree (scalar (uint i)) (tree (scalar (uint 2048)) (tree (scalar (uint o)) (tree (scalar (uint 2048)) no_trees)))
+
+abbrev flow_tree : ℕ → ℕ → Tree
+flow_tree i o = described (scalar (ulong 19)) (list (flow_trees i o))
+
+flow_is : (i o : ℕ) → perf_tree (flow_perf i o) ≡ flow_tree i o
+flow_is i o = refl
+
+flow_tree_short : (i o : ℕ) → length (value_text (flow_tree i o)) ≤ 504
+flow_tree_short i o =
+    omega (
+      arith,
+      described_len (scalar (ulong 19)) (list (flow_trees i o)),
+      list_short (flow_trees i o),
+      each_len (scalar (uint i)) (tree (scalar (uint 2048)) (tree (scalar (uint o)) (tree (scalar (uint 2048)) no_trees))),
+      each_len (scalar (uint 2048)) (tree (scalar (uint o)) (tree (scalar (uint 2048)) no_trees)),
+      each_len (scalar (uint o)) (tree (scalar (uint 2048)) no_trees),
+      uint_short i,
+      uint_short o,
+    )
+
+pub flow_short : (i o : ℕ) → length (perf_text (flow_perf i o)) ≤ 504
+flow_short i o = subst (λ t. length (value_text t) ≤ 504) (sym (flow_is i o)) (flow_tree_short i o)
+
+pub flow_spelled : (i o : ℕ) → HasSpelling (perf_tree (flow_perf i o))
+flow_spelled i o = subst HasSpelling (sym (flow_is i o)) (omega arith, (tt, (tt, (tt, (tt, (tt, tt))))), omega (arith, flow_tree_short i o))

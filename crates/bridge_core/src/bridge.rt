@@ -3,10 +3,12 @@
 ghost use Rattle.std.specs.Prelude.{◌≡◌, ◌≤◌, true, false, length, OnOk, OnErr, IfOk};
 ghost use Rattle.std.specs.Prelude.{IfSome, IsSome, is_some};
 ghost use Rattle.gate_outside.specs.declared.ports.End.TheVariants.{Client, Up};
-ghost use Rattle.gate_model.specs.State.{Moment, Queued, TakenUp, Heard, Joined, Lost, Gave};
+ghost use Rattle.gate_model.specs.State.{Moment, Fed, Silent, Queued, TakenUp, Heard, Joined};
+ghost use Rattle.gate_model.specs.State.{Lost, Gave};
 ghost use Rattle.gate_model.specs.State.{Whole, OutOfMemory, new_state, next_unit, waits};
 ghost use Rattle.gate_model.specs.Due.{can_leave, can_take_up, is_awaiting, is_busy};
-ghost use Rattle.gate_model.specs.Due.{is_connect_due, is_shut_due, pick, takes_memory};
+ghost use Rattle.gate_model.specs.Due.{is_connect_due, is_shut_due, is_silent, pick};
+ghost use Rattle.gate_model.specs.Due.{takes_memory};
 ghost use Rattle.gate_model.specs.Spelling.{context_of};
 ghost use Rattle.gate_model.specs.Upstream.{awaited_of};
 ghost use Rattle.machine_091.specs.Limits.{AreWithin};
@@ -125,6 +127,33 @@ impl Bridge {
     {
         self.take_back();
         self.state.tell(moment);
+    }
+
+    /// Bytes of an end came.
+    pub fn feed(&mut self, end: End)
+        ensures step { self.new ≡ moved (Fed end) self.old }
+        ensures memory { self.new.state.out_of_memory ≡ self.old.state.out_of_memory }
+        ensures kept { Keeps self.old self.new }
+    {
+        self.take_back();
+        self.state.feed(end);
+    }
+
+    /// An end is to be given up.
+    pub fn is_silent(&self, end: End) -> bool
+        ensures { result ≡ is_silent self.now.state end }
+    {
+        self.state.is_silent(end)
+    }
+
+    /// An end is given up.
+    pub fn silence(&mut self, end: End)
+        ensures step { self.new ≡ moved (Silent end) self.old }
+        ensures memory { self.new.state.out_of_memory ≡ self.old.state.out_of_memory }
+        ensures kept { Keeps self.old self.new }
+    {
+        self.take_back();
+        self.state.silence(end);
     }
 
     /// A unit of the client waits to be taken up. If there is no memory for it, the pair ran out of

@@ -1,13 +1,16 @@
 //! The first unit of each kind that may go on a channel, by rising numbers.
 
-ghost use Rattle.std.specs.Prelude.{◌≡◌, ◌||◌};
+ghost use Rattle.std.specs.Prelude.{◌≡◌, ◌&&◌, ◌||◌};
 ghost use Rattle.bridge_core.specs.ChannelRows.{begin_row, close_ok_row, close_row, end_row};
 ghost use Rattle.bridge_core.specs.ChannelRows.{flow_ok_row, is_end_due_by, is_settled_on};
 ghost use Rattle.bridge_core.specs.ChannelRows.{is_waiting_on, open_ok_row};
-ghost use Rattle.gate_model.specs.Lives.{any_life, each, is_free, session_in};
+ghost use Rattle.gate_model.specs.Due.{flows_on};
+ghost use Rattle.gate_model.specs.Session.{is_flow_owed};
+ghost use Rattle.gate_model.specs.Lives.{any_life, each, is_carried, is_free, session_in};
 ghost use Rattle.gate_model.specs.Upstream.{first};
 
-use gate_model::{Life, Reply, UpUnit};
+use crate::sessions::is_flow_owed;
+use gate_model::{Life, Reply, SessionState, UpUnit};
 use machine_10::{Conn10, Session};
 use machine_091::Conn91;
 
@@ -140,6 +143,38 @@ pub fn first_begin(lives: &[Life; 256], container: &Option<Conn10>) -> Option<Up
     for i in 0..256u16 {
         if lives[i as usize].begin && is_free(container, i) {
             return Some(UpUnit::Begin(i));
+        }
+    }
+    None
+}
+
+/// Both begins of a session went, and the gateway's end didn't.
+fn is_carried(container: &Option<Conn10>, channel: u16) -> bool
+    ensures { result ≡ is_carried (session_in container.now channel) }
+{
+    matches!(
+        session_of(container, channel),
+        Session::Open(_) | Session::Ended(_)
+    )
+}
+
+/// The flow of a session is due on a channel.
+fn is_flow_due(container: &Option<Conn10>, channel: u16, session: SessionState) -> bool
+    ensures { result ≡ (is_carried (session_in container.now channel) && is_flow_owed session) }
+{
+    is_carried(container, channel) && is_flow_owed(session)
+}
+
+/// The first flow of a session.
+#[tactic(auto, using(crate::proofs::Rows::flows_more))]
+pub fn first_flow(lives: &[Life; 256], container: &Option<Conn10>) -> Option<UpUnit>
+    ensures { result ≡ first (each (flows_on container.now) 0 lives.now) }
+{
+    for i in 0..256u16 {
+        let session = lives[i as usize].session;
+        if is_flow_due(container, i, session) {
+            let (incoming, outgoing) = session.windows.ids();
+            return Some(UpUnit::Flow(i, incoming, outgoing));
         }
     }
     None

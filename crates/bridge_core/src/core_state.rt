@@ -4,21 +4,22 @@
 ghost use Rattle.std.specs.Prelude.{◌≡◌, ◌<◌, ◌||◌, ◌++◌, true, false, not, OnOk, OnErr, IfOk};
 ghost use Rattle.std.specs.Prelude.{IfSome, Some, None, is_some, length, slice_get, take};
 ghost use Rattle.gate_outside.specs.declared.ports.End.TheVariants.{Client, Up};
-ghost use Rattle.gate_model.specs.State.{Moment, Queued, TakenUp, Heard, Joined};
+ghost use Rattle.gate_model.specs.State.{Moment, Fed, Silent, Queued, TakenUp, Heard, Joined};
 ghost use Rattle.gate_model.specs.State.{Lost, Gave, Whole, OutOfMemory, new_state, step};
 ghost use Rattle.gate_model.specs.State.{none_pending, is_foreign, closes_at, close_if};
 ghost use Rattle.gate_model.specs.State.{is_limit_reached, has_left, last_pending, without};
 ghost use Rattle.gate_model.specs.State.{with_last, fail, fail_life, is_settled, lost_up, met};
-ghost use Rattle.gate_model.specs.State.{begun_session, came, close_waits, conn_given, next_unit};
+ghost use Rattle.gate_model.specs.State.{begun_session, came, carried, met_session};
+ghost use Rattle.gate_model.specs.State.{close_waits, conn_given, next_unit};
 ghost use Rattle.gate_model.specs.State.{opened, place, waits, with_meaning, with_session};
-ghost use Rattle.gate_model.specs.State.{without_begin, without_life};
+ghost use Rattle.gate_model.specs.State.{fed_by, is_held, left, without_begin, without_life};
 ghost use Rattle.gate_model.specs.Due.{is_awaiting, is_beat_due, is_busy, is_connect_due};
 ghost use Rattle.gate_model.specs.Due.{is_shut_due, is_bad, is_unheard, is_overdue, can_leave};
 ghost use Rattle.gate_model.specs.Due.{can_take_up, channel_closes, channel_oks, client_rows};
 ghost use Rattle.gate_model.specs.Due.{begins, client_units, ends};
-ghost use Rattle.gate_model.specs.Due.{flow_oks, if_so, is_held, last_closes, may_answer};
+ghost use Rattle.gate_model.specs.Due.{flow_oks, if_so, is_silent, last_closes, may_answer};
 ghost use Rattle.gate_model.specs.Due.{may_end, may_go, may_tell, open_oks, openings, rows_in};
-ghost use Rattle.gate_model.specs.Due.{up_rows};
+ghost use Rattle.gate_model.specs.Due.{session_flows, unless_out, up_rows};
 ghost use Rattle.gate_model.specs.Lives.{freed_life, life_at, lives_by, refusal_on, with_life};
 ghost use Rattle.gate_model.specs.Queue.{can_take};
 ghost use Rattle.gate_model.specs.Upstream.{awaited_of, condition_in, first};
@@ -32,26 +33,27 @@ ghost use Rattle.machine_10.specs.Transitions.{meaning_of};
 ghost use Rattle.performatives_10.specs.Fields.{maybe};
 ghost use Rattle.performatives_10.specs.View.{error_tree};
 ghost use Rattle.bridge_core.specs.Behind.{answering_units, closing_units, end_units, ended_units};
-ghost use Rattle.bridge_core.specs.Behind.{last_units, session_units};
+ghost use Rattle.bridge_core.specs.Behind.{flow_units, last_units, parting_units, session_units};
 ghost use Rattle.bridge_core.specs.Flows.{FlowsFit};
 ghost use Rattle.bridge_core.specs.Going.{KeepsGoing};
 ghost use Rattle.bridge_core.specs.Logins.{IsLoginOf, IsLoginWant};
 ghost use Rattle.bridge_core.specs.Offers.{with_next};
 
 use crate::channel_rows::{
-    any_waits, first_begin, first_close, first_close_ok, first_end, first_flow_ok, first_open_ok,
-    is_waiting_on,
+    any_waits, first_begin, first_close, first_close_ok, first_end, first_flow, first_flow_ok,
+    first_open_ok, is_waiting_on,
 };
 use crate::lives::{Lives, old_life};
 use crate::queue::{Queue, channel_of, waits_for_all};
+use crate::sessions::{carried_by, fault_of, flow_sent};
 use crate::up_core::UpCore;
 use close_translate::{
     CONNECTION_FORCED, INTERNAL_ERROR, NOT_ALLOWED, PRECONDITION_FAILED, RESOURCE_ERROR, Scope,
     code_of, condition_of,
 };
 use gate_model::{
-    BEAT_PER_SECOND, CLOSING_LIMIT, HANDSHAKE_LIMIT, Life, Outgoing, Pending, Reply, SentLast,
-    UpUnit,
+    BEAT_PER_SECOND, CLOSING_LIMIT, HANDSHAKE_LIMIT, Life, Outgoing, Pending, Reply,
+    SILENCE_PER_SECOND, SentLast, UpUnit,
 };
 use gate_outside::{End, Linked};
 use gate_relay::{Loss, Side};
@@ -77,11 +79,14 @@ pub struct Core {
     accepted_at: u64,
     moment: u64,
     last_sent_at: u64,
+    fed_at: u64,
     closed_at: Option<u64>,
     client_closed: bool,
     late: bool,
     leaving: bool,
     failed: bool,
+    given_up: bool,
+    gone: bool,
     out_of_memory: bool,
 }
 
@@ -102,11 +107,14 @@ impl Model for Core {
       accepted_at = a.accepted_at;
       moment = a.moment;
       last_sent_at = a.last_sent_at;
+      fed_at = a.fed_at;
       closed_at = a.closed_at;
       client_closed = a.client_closed;
       late = a.late;
       leaving = a.leaving;
       failed = a.failed;
+      given_up = a.given_up;
+      gone = a.gone;
       out_of_memory = a.out_of_memory;
     } };
 }
@@ -203,6 +211,13 @@ fn closes_at(closed_at: Option<u64>, closing: bool, moment: u64) -> Option<u64>
         Some(at) => Some(at),
         None => { if closing { Some(moment) } else { None } }
     }
+}
+
+/// The moment from which a client's silence counts, once it is held at a moment or not.
+fn fed_by(held: bool, moment: u64, fed_at: u64) -> u64
+    ensures { result ≡ fed_by held moment fed_at }
+{
+    if held { moment } else { fed_at }
 }
 
 /// No connection.open came within the handshake limit.
@@ -361,11 +376,14 @@ impl Core {
             accepted_at: moment,
             moment,
             last_sent_at: moment,
+            fed_at: moment,
             closed_at: None,
             client_closed: false,
             late: false,
             leaving: false,
             failed: false,
+            given_up: false,
+            gone: false,
             out_of_memory: false,
         }
     }
@@ -375,6 +393,7 @@ impl Core {
         ensures step { self.new ≡ step self.old (Moment moment) }
         ensures kept { KeepsGoing self.old self.new }
     {
+        self.fed_at = fed_by(self.is_held(), moment, self.fed_at);
         let late = is_limit_reached(&self.conn, self.accepted_at, moment);
         close_if(&mut self.conn, late);
         self.moment = moment;
@@ -500,6 +519,7 @@ impl Core {
                 let turns = is_foreign(&self.conn) && !foreign;
                 self.meet(alloc, closing, want);
                 self.pending.protocol |= turns;
+                self.fed_at = fed_by(self.is_held(), self.moment, self.fed_at);
                 self.closed_at = closes_at(self.closed_at, self.conn.is_closing(), self.moment);
                 Ok(())
             }
@@ -624,10 +644,33 @@ impl Core {
         );
     }
 
+    /// What a performative makes of the session of a channel.
+    #[tactic(auto, using(crate::proofs::Flows::echoes_fit))]
+    fn carry(&mut self, channel: u16, perf: &Perf)
+        requires { FlowsFit self.old.lives }
+        ensures step { self.new ≡ carried channel (parts_of perf.now) self.old }
+        ensures kept { KeepsGoing self.old self.new }
+    {
+        let life = self.lives.at(channel);
+        let session = carried_by(life.session, perf);
+        self.lives.set(channel, Life { session, ..life });
+    }
+
     /// A performative of a session came.
-    #[tactic(auto, unfolding(machine_10::specs::Parts::parts_of))]
     fn hear_session(&mut self, channel: u16, perf: &Perf)
+        requires { FlowsFit self.old.lives }
         ensures step { self.new ≡ with_session channel (parts_of perf.now) self.old }
+        ensures kept { KeepsGoing self.old self.new }
+    {
+        let fault = fault_of(self.lives.at(channel).session, perf);
+        self.carry(channel, perf);
+        self.meet_session(channel, perf, fault);
+    }
+
+    /// What a performative of a session asks for, but for its windows.
+    #[tactic(auto, unfolding(machine_10::specs::Parts::parts_of))]
+    fn meet_session(&mut self, channel: u16, perf: &Perf, fault: Condition)
+        ensures step { self.new ≡ met_session channel (parts_of perf.now) fault self.old }
         ensures kept { KeepsGoing self.old self.new }
     {
         match perf {
@@ -635,11 +678,7 @@ impl Core {
             Perf::Attach(_) => self.fail(INTERNAL_ERROR, Some(Condition::NotAllowed)),
             Perf::Flow(flow) => {
                 if flow.handle.is_some() {
-                    self.fail_life(
-                        channel,
-                        PRECONDITION_FAILED,
-                        Some(Condition::UnattachedHandle),
-                    );
+                    self.fail_life(channel, PRECONDITION_FAILED, Some(fault));
                 }
             }
             Perf::Disposition(_) => {}
@@ -647,17 +686,14 @@ impl Core {
                 let code = closing_code(&end.error, Scope::Channel);
                 self.fail_life(channel, code, None);
             }
-            _ => self.fail_life(
-                channel,
-                PRECONDITION_FAILED,
-                Some(Condition::UnattachedHandle),
-            ),
+            _ => self.fail_life(channel, PRECONDITION_FAILED, Some(fault)),
         }
     }
 
     /// What a unit of the container means.
     #[tactic(auto, unfolding(machine_10::specs::Transitions::meaning_of))]
     fn mean(&mut self, want: &Want10)
+        requires { FlowsFit self.old.lives }
         ensures step { self.new ≡ with_meaning (meaning_of want.now) self.old }
         ensures kept { KeepsGoing self.old self.new }
     {
@@ -680,6 +716,9 @@ impl Core {
         ensures err { OnErr result (self.new ≡ self.old) }
         ensures kept { KeepsGoing self.old self.new }
     {
+        if self.lives.is_crowded() {
+            return Err(Memory);
+        }
         match self.up.hear(alloc, unit) {
             Ok(want) => {
                 self.mean(&want);
@@ -711,11 +750,64 @@ impl Core {
         ensures kept { KeepsGoing self.old self.new }
     {
         if self.leaving {
-            self.up.set_condition(self.conn.is_closing(), None);
-            self.conn.ended();
-            self.pending.close = None;
-            self.closed_at = closes_at(self.closed_at, true, self.moment);
-            self.leaving = false;
+            self.leave();
+        }
+    }
+
+    /// The client's end is taken up as a connection.close that wants no answer.
+    fn leave(&mut self)
+        ensures step { self.new ≡ left self.old }
+        ensures kept { KeepsGoing self.old self.new }
+    {
+        self.up.set_condition(self.conn.is_closing(), None);
+        self.conn.ended();
+        self.pending.close = None;
+        self.closed_at = closes_at(self.closed_at, true, self.moment);
+        self.leaving = false;
+    }
+
+    /// Bytes of an end came.
+    pub fn feed(&mut self, end: End)
+        ensures step { self.new ≡ step self.old (Fed end) }
+        ensures kept { KeepsGoing self.old self.new }
+    {
+        match end {
+            End::Client => self.fed_at = self.moment,
+            End::Up => self.up.feed(self.moment),
+        }
+    }
+
+    /// An end is to be given up.
+    pub fn is_silent(&self, end: End) -> bool
+        ensures { result ≡ is_silent self.now end }
+    {
+        match end {
+            End::Client => {
+                let agreed = u64::from(self.conn.heartbeat());
+                self.is_awaiting(End::Client)
+                    && !(self.given_up || self.gone || self.leaving || self.out_of_memory)
+                    && agreed != 0
+                    && SILENCE_PER_SECOND * agreed <= self.moment.saturating_sub(self.fed_at)
+            }
+            End::Up => self.up.is_silent(self.moment),
+        }
+    }
+
+    /// An end is given up.
+    pub fn silence(&mut self, end: End)
+        ensures step { self.new ≡ step self.old (Silent end) }
+        ensures kept { KeepsGoing self.old self.new }
+    {
+        match end {
+            End::Client => {
+                self.leave();
+                self.queue.clear();
+                self.given_up = true;
+            }
+            End::Up => {
+                self.up.give_up();
+                self.fail(CONNECTION_FORCED, Some(Condition::ResourceLimitExceeded));
+            }
         }
     }
 
@@ -725,7 +817,7 @@ impl Core {
         ensures kept { KeepsGoing self.old self.new }
     {
         match (end, how) {
-            (End::Client, Loss::Shut) => {}
+            (End::Client, Loss::Shut) => self.gone = true,
             (End::Client, Loss::Ended) => self.leaving |= !has_left(&self.conn),
             (End::Client, Loss::Failed) => {
                 self.leaving |= !has_left(&self.conn);
@@ -833,6 +925,11 @@ impl Core {
                     },
                 );
             }
+            UpUnit::Flow(channel, _, _) => {
+                let life = self.lives.at(channel);
+                let session = flow_sent(life.session);
+                self.lives.set(channel, Life { session, ..life });
+            }
             UpUnit::End(channel, _) => {
                 let life = self.lives.at(channel);
                 self.lives.set(channel, Life { why: None, ..life });
@@ -876,7 +973,7 @@ impl Core {
     fn is_settled(&self) -> bool
         ensures { result ≡ is_settled self.now }
     {
-        self.out_of_memory || !self.up.is_live() || self.up.has_closed()
+        self.out_of_memory || !self.up.is_live() || self.up.has_closed() || self.up.is_given_up()
     }
 
     /// How many units of the client aren't taken up yet.
@@ -1112,10 +1209,17 @@ impl Core {
         first_end(self.lives.all(), closing, self.up.container(), &self.conn)
     }
 
-    /// The unit to the container that goes next while the connection closes.
+    /// The first flow of a session.
+    fn first_flow(&self) -> Option<UpUnit>
+        ensures { result ≡ first (session_flows self.now) }
+    {
+        first_flow(self.lives.all(), self.up.container())
+    }
+
+    /// The first of the ends, and of the close behind them.
     #[tactic(auto, using(crate::proofs::Firsts::first_some))]
-    fn next_ending(&self) -> Option<UpUnit>
-        ensures { result ≡ first (rows_in true self.now) }
+    fn next_parting(&self) -> Option<UpUnit>
+        ensures { result ≡ first (parting_units self.now) }
     {
         match self.first_end(true) {
             Some(unit) => Some(unit),
@@ -1126,6 +1230,28 @@ impl Core {
                     None
                 }
             }
+        }
+    }
+
+    /// The first flow of a session, unless the pair ran out of memory.
+    fn last_flow(&self) -> Option<UpUnit>
+        ensures { result ≡ first (unless_out self.now.out_of_memory (session_flows self.now)) }
+    {
+        if self.out_of_memory {
+            None
+        } else {
+            self.first_flow()
+        }
+    }
+
+    /// The unit to the container that goes next while the connection closes.
+    #[tactic(auto, using(crate::proofs::Firsts::first_some, crate::proofs::Firsts::first_none))]
+    fn next_ending(&self) -> Option<UpUnit>
+        ensures { result ≡ first (rows_in true self.now) }
+    {
+        match self.last_flow() {
+            Some(unit) => Some(unit),
+            None => self.next_parting(),
         }
     }
 
@@ -1146,6 +1272,17 @@ impl Core {
         }
     }
 
+    /// The first of the flows of sessions, and of these.
+    #[tactic(auto, using(crate::proofs::Firsts::first_some, crate::proofs::Firsts::first_none))]
+    fn next_flow(&self) -> Option<UpUnit>
+        ensures { result ≡ first (flow_units self.now) }
+    {
+        match self.first_flow() {
+            Some(unit) => Some(unit),
+            None => self.next_end(),
+        }
+    }
+
     /// The first of the begins, and of these.
     #[tactic(auto, using(crate::proofs::Firsts::first_some, crate::proofs::Firsts::first_none))]
     fn next_session(&self) -> Option<UpUnit>
@@ -1153,7 +1290,7 @@ impl Core {
     {
         match self.first_begin() {
             Some(unit) => Some(unit),
-            None => self.next_end(),
+            None => self.next_flow(),
         }
     }
 
@@ -1233,7 +1370,10 @@ impl Core {
         ensures { result ≡ is_awaiting self.now end }
     {
         match end {
-            End::Client => !matches!(self.conn.awaits(), Awaited91::Nothing) && !self.is_held(),
+            End::Client => {
+                (!matches!(self.conn.awaits(), Awaited91::Nothing) || self.given_up)
+                    && !self.is_held()
+            }
             End::Up => self.up.is_live() && !matches!(self.up.awaits(), Awaited10::Nothing),
         }
     }

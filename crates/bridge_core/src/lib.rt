@@ -8,6 +8,7 @@ mod core_state;
 mod frames;
 mod lives;
 mod queue;
+mod sessions;
 mod slot;
 mod up_core;
 mod up_frames;

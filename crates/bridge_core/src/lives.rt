@@ -4,6 +4,7 @@ ghost use Rattle.std.specs.Prelude.{◌≡◌, false};
 ghost use Rattle.gate_model.specs.Lives.{life_at, no_life, no_lives, old_life, with_life};
 ghost use Rattle.bridge_core.specs.Flows.{FlowsFit};
 
+use crate::sessions::no_session;
 use gate_model::Life;
 use std::marker::Model;
 
@@ -11,18 +12,23 @@ use std::marker::Model;
 pub const CHANNELS: usize = 256;
 
 /// Nothing is due.
-pub const NO_LIFE: Life = Life {
-    waits: false,
-    begin: false,
-    open_ok: false,
-    flow_oks: 0,
-    awaits_end: false,
-    over: false,
-    close_ok: false,
-    crossed_ok: false,
-    close: None,
-    why: None,
-};
+pub fn no_life() -> Life
+    ensures { result ≡ no_life }
+{
+    Life {
+        waits: false,
+        begin: false,
+        open_ok: false,
+        flow_oks: 0,
+        awaits_end: false,
+        over: false,
+        close_ok: false,
+        crossed_ok: false,
+        close: None,
+        why: None,
+        session: no_session(),
+    }
+}
 
 /// What stays due for the life before.
 pub fn old_life(life: Life) -> Life
@@ -31,7 +37,8 @@ pub fn old_life(life: Life) -> Life
     Life {
         crossed_ok: life.crossed_ok,
         why: life.why,
-        ..NO_LIFE
+        session: life.session,
+        ..no_life()
     }
 }
 
@@ -56,12 +63,12 @@ impl Model for Lives {
 
 impl Lives {
     /// Nothing is due on any channel.
-    #[tactic(auto, using(crate::proofs::Flows::none_fit), unfolding(gate_model::specs::Lives::no_lives))]
+    #[tactic(auto, unfolding(gate_model::specs::Lives::no_lives))]
     pub fn new() -> Lives
         ensures { result ≡ no_lives }
     {
         Lives {
-            lives: [NO_LIFE; 256],
+            lives: [no_life(); 256],
             crowded: false,
         }
     }
@@ -78,7 +85,7 @@ impl Lives {
         ensures { result ≡ life_at self.now channel }
     {
         match self.lives.as_slice().get(channel as usize) {
-            None => NO_LIFE,
+            None => no_life(),
             Some(life) => *life,
         }
     }
@@ -89,12 +96,15 @@ impl Lives {
         ensures { self.new ≡ with_life channel life self.old }
     {
         if (channel as usize) < CHANNELS {
+            let session = life.session;
+            let full = life.flow_oks == u32::MAX || session.echoes == u32::MAX;
             self.lives[channel as usize] = life;
-            self.crowded = self.crowded || life.flow_oks == u32::MAX;
+            self.crowded = self.crowded || full;
         }
     }
 
-    /// Whether some channel may have as many channel.flow-oks due as can be counted.
+    /// Whether some channel may have as many channel.flow-oks due, or as many flows of its session
+    /// asked for, as can be counted.
     pub fn is_crowded(&self) -> bool
         ensures { result ≡ false → FlowsFit self.now }
     {

@@ -9,12 +9,13 @@ ghost use Rattle.bridge_core.specs.Logins.{IsLoginOf};
 ghost use Rattle.gate_model.specs.Upstream.{awaited_of, begun, channel_max_of, closing_with};
 ghost use Rattle.gate_model.specs.Upstream.{container_given, finished, first, has_closed};
 ghost use Rattle.gate_model.specs.Upstream.{has_gone_bad, heard_up, idle_in, opening_rows};
-ghost use Rattle.gate_model.specs.Upstream.{is_idle_due, is_open_phase, linked, lost_by};
+ghost use Rattle.gate_model.specs.Upstream.{is_idle_due, is_open_phase, is_up_silent, linked};
+ghost use Rattle.gate_model.specs.Upstream.{lost_by};
 ghost use Rattle.gate_model.specs.Upstream.{meaning_by, no_end, shut_by, with_begun};
 ghost use Rattle.gate_model.specs.Upstream.{with_init, with_login, with_amqp_header, with_whole};
 ghost use Rattle.gate_model.specs.Upstream.{without_up};
 
-use gate_model::{UpPending, UpSent, UpUnit};
+use gate_model::{UP_SILENCE, UpPending, UpSent, UpUnit};
 use gate_relay::Side;
 use machine_10::{Awaited10, Conn10, Phase10, Stream10, Unit10, Want10, connection_laws};
 use performatives_10::Condition;
@@ -32,6 +33,8 @@ pub struct UpCore {
     sent: UpSent,
     condition: Option<Condition>,
     last_sent_at: u64,
+    fed_at: u64,
+    silent: bool,
 }
 
 impl Model for UpCore {
@@ -48,6 +51,8 @@ impl Model for UpCore {
       sent = a.sent;
       condition = a.condition;
       last_sent_at = a.last_sent_at;
+      fed_at = a.fed_at;
+      silent = a.silent;
     } };
 
     ghost invariant = { λ a. IsLoginOf a.container };
@@ -87,7 +92,11 @@ fn without(pending: UpPending, unit: UpUnit) -> UpPending
             open: false,
             ..pending
         },
-        UpUnit::Close(_) | UpUnit::Empty | UpUnit::Begin(_) | UpUnit::End(_, _) => pending,
+        UpUnit::Close(_)
+        | UpUnit::Empty
+        | UpUnit::Begin(_)
+        | UpUnit::Flow(_, _, _)
+        | UpUnit::End(_, _) => pending,
     }
 }
 
@@ -106,6 +115,7 @@ fn with_begun(sent: UpSent, unit: UpUnit) -> UpSent
         | UpUnit::AmqpHeader
         | UpUnit::Empty
         | UpUnit::Begin(_)
+        | UpUnit::Flow(_, _, _)
         | UpUnit::End(_, _) => sent,
     }
 }
@@ -158,6 +168,8 @@ impl UpCore {
             },
             condition: None,
             last_sent_at: 0,
+            fed_at: 0,
+            silent: false,
         }
     }
 
@@ -187,6 +199,35 @@ impl UpCore {
             open: false,
         };
         self.last_sent_at = moment;
+        self.fed_at = moment;
+    }
+
+    /// Bytes of it came.
+    pub fn feed(&mut self, moment: u64)
+        ensures { self.new ≡ record self.old { fed_at = moment } }
+    {
+        self.fed_at = moment;
+    }
+
+    /// No byte of it came for too long.
+    pub fn is_silent(&self, moment: u64) -> bool
+        ensures { result ≡ is_up_silent self.now moment }
+    {
+        self.is_live() && !self.silent && UP_SILENCE <= moment.saturating_sub(self.fed_at)
+    }
+
+    /// It is given up.
+    pub fn give_up(&mut self)
+        ensures { self.new ≡ record self.old { silent = true } }
+    {
+        self.silent = true;
+    }
+
+    /// It was given up.
+    pub fn is_given_up(&self) -> bool
+        ensures { result ≡ self.now.silent }
+    {
+        self.silent
     }
 
     /// The end was shut, or couldn't be reached.

@@ -10,7 +10,8 @@ ghost use Rattle.machine_091.specs.RefusalsOpening.{is_login};
 ghost use Rattle.types_10.specs.Writing.{HasSpelling};
 ghost use Rattle.gate_model.specs.Due.{takes_memory_up};
 ghost use Rattle.gate_model.specs.Setup.{IsInForm};
-ghost use Rattle.gate_model.specs.Spelling.{begin_perf, container_id, frame_10, frame_on};
+ghost use Rattle.gate_model.specs.Spelling.{begin_perf, container_id, flow_perf, frame_10};
+ghost use Rattle.gate_model.specs.Spelling.{frame_on};
 ghost use Rattle.gate_model.specs.Spelling.{init_of, open_of, spell_up};
 ghost use Rattle.bridge_core.specs.Logins.{IsLoginOf};
 
@@ -20,7 +21,7 @@ use gate_model::{HANDLE_MAX, IDLE_STATED, Setup, UpUnit};
 use itoa::Buffer;
 use machine_10::{Conn10, FRAME_MAX, WINDOW};
 use machine_091::CHANNEL_MAX;
-use performatives_10::{Begin, Condition, Ending, Open, Perf, SaslInit, put_end, put_perf};
+use performatives_10::{Begin, Condition, Ending, Flow, Open, Perf, SaslInit, put_end, put_perf};
 use std::alloc::Global;
 use wire_base::{ByteText, Memory};
 
@@ -96,6 +97,7 @@ fn release(perf: Perf) {
         Perf::Open(open) => drop(open),
         Perf::SaslInit(init) => drop(init),
         Perf::Begin(begin) => drop(begin),
+        Perf::Flow(flow) => drop(flow),
         _ => {}
     }
 }
@@ -189,6 +191,44 @@ fn write_begin(room: &mut [u8; 512], alloc: Global, channel: u16) -> Result<usiz
     written
 }
 
+/// The flow of a session.
+fn flow(incoming: u32, outgoing: u32) -> Perf
+    ensures { result ≡ flow_perf incoming outgoing }
+{
+    Perf::Flow(Flow {
+        next_incoming_id: Some(incoming),
+        incoming_window: WINDOW,
+        next_outgoing_id: outgoing,
+        outgoing_window: WINDOW,
+        handle: None,
+        delivery_count: None,
+        link_credit: None,
+        available: None,
+        drain: false,
+        echo: false,
+        properties: None,
+    })
+}
+
+/// Writes the flow of the session on a channel.
+#[tactic(auto, using(crate::proofs::Spellings::flow_spelled, crate::proofs::Spellings::flow_short))]
+fn write_flow(
+    room: &mut [u8; 512],
+    alloc: Global,
+    channel: u16,
+    incoming: u32,
+    outgoing: u32,
+) -> Result<usize, Memory>
+    ensures ok { IfOk result (IsWrittenOver (frame_on channel (perf_text (flow_perf incoming outgoing))) room.old room.new) }
+    ensures small { IfOk result (λ count. count ≤ 512) }
+    ensures err { OnErr result (room.new ≡ room.old) }
+{
+    let perf = flow(incoming, outgoing);
+    let written = write_perf(room, alloc, Kind10::Amqp, channel, &perf);
+    release(perf);
+    written
+}
+
 /// Writes the end of the session on a channel.
 fn write_end(room: &mut [u8; 512], channel: u16, condition: Option<Condition>) -> usize
     ensures written { IsWrittenOver (end_text channel End condition) room.old room.new result }
@@ -232,6 +272,9 @@ pub fn spell_up(
         UpUnit::Close(condition) => Ok(write_close(room, condition)),
         UpUnit::Empty => Ok(write_over(room, empty_frame())),
         UpUnit::Begin(channel) => write_begin(room, alloc, channel),
+        UpUnit::Flow(channel, incoming, outgoing) => {
+            write_flow(room, alloc, channel, incoming, outgoing)
+        }
         UpUnit::End(channel, condition) => Ok(write_end(room, channel, condition)),
     }
 }

@@ -68,7 +68,8 @@ impl UpSlot {
         self.chosen = None;
     }
 
-    /// A unit of this pair is offered. Only those of the opening that tell a name take memory;
+    /// A unit of this pair is offered. Only those that open a connection or a session, and
+    /// flows, take memory;
     /// without it all is as it was.
     #[tactic(auto, using(crate::proofs::Rooms::written))]
     pub fn choose(

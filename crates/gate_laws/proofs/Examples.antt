@@ -243,6 +243,19 @@ then_the_clock : next words two_pairs (Call (Write 0 Client heartbeat (put.Took 
 unfolding all_open
 then_the_clock = refl
 
+-- after twice of it the client is given up: its end is shut, once the heartbeat that is due went
+
+abbrev beaten_by : ℕ → History
+beaten_by ms = Call (Write 0 Client heartbeat (put.Took 8)) ∷ silent ms tuned
+
+not_given_up_yet : next words two_pairs (beaten_by 2002) ≡ Do AskNow
+unfolding all_open
+not_given_up_yet = refl
+
+then_given_up : next words two_pairs (beaten_by 2003) ≡ Do (AskShut 0 Client)
+unfolding all_open
+then_given_up = refl
+
 -- or a login, tune-ok and open in one read: the connection upstream is asked for, and while the open waits the client isn't read.
 -- Where it fails the client is told so
 

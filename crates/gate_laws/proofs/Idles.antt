@@ -16,13 +16,13 @@ use Rattle.machine_091.specs.declared.unit.Want91.{Want91}
 use Rattle.machine_10.specs.declared.state.Upstream.{Upstream}
 use Rattle.performatives_10.specs.declared.condition.Condition.{Condition}
 use Rattle.gate_model.specs.declared.life.Life.{Life}
-use Rattle.gate_model.specs.Due.{can_leave, can_take_unit, can_take_up, is_awaited, is_awaiting, is_held}
+use Rattle.gate_model.specs.Due.{can_leave, can_take_unit, can_take_up, is_awaited, is_awaiting}
 use Rattle.gate_model.specs.Folds.{connection, container_kept}
 use Rattle.gate_model.specs.Lives.{any_life, is_done, life_at, session_in}
 use Rattle.gate_model.specs.Picks.{ArePicks}
 use Rattle.gate_model.specs.Queue.{Waits, can_take, channel_of, holds, is_bad_unit, is_empty, is_full, place_from, place_in, waits_for_all}
 use Rattle.gate_model.specs.Setup.{SetupText}
-use Rattle.gate_model.specs.State.{State, Step, Came, Joined, TakenUp, before, came, close_waits, condition_by, dequeued, is_channel_settled, is_settled, keep_login, left, life_waits, next_unit, place, step, waits}
+use Rattle.gate_model.specs.State.{State, Step, Came, Joined, TakenUp, before, came, close_waits, condition_by, dequeued, is_channel_settled, is_held, is_settled, keep_login, left, life_waits, next_unit, place, step, waits}
 use Rattle.gate_model.specs.Upstream.{UpState, awaited_of, closing_with, has_closed, is_awaited_up}
 use Rattle.gate_model.proofs.Connections.{clash}
 use Rattle.gate_model.proofs.Known.{closing_is, conn_is, keep_is, known, side_is}
@@ -214,7 +214,7 @@ joined w = step w (Joined link.Ok)
 
 -- where nothing is waited for of an end that is open, nothing is of one that isn't
 settled_before : (w : State) → is_settled (joined w) ≡ true → is_settled w ≡ true
-settled_before w e = by w.out_of_memory (not (is_readable w.up.side)) (has_closed w.up) e
+settled_before w e = by w.out_of_memory (not (is_readable w.up.side)) (has_closed w.up || w.up.silent) e
   where
     by : (out closed over : Bool) → (out || (false || over)) ≡ true → (out || (closed || over)) ≡ true
     by true closed over e = refl
@@ -252,7 +252,7 @@ waits_more w =
 client_linked : (w : State) → is_awaiting (joined w) Client ≡ true → is_awaiting w Client ≡ true
 client_linked w =
     let rest : Bool = list_any is_bad_unit w.queue || is_full w.queue in
-    both (is_awaited (awaits w.conn)) (not (is_held (joined w))) (not (is_held w))
+    both (is_awaited (awaits w.conn) || w.given_up) (not (is_held (joined w))) (not (is_held w))
     (neither (is_held w) (is_held (joined w))
     (either_of (is_opening w.conn) (close_waits w || rest) (is_opening w.conn) (close_waits (joined w) || rest) (λ x. x)
     (either_of (close_waits w) rest (close_waits (joined w)) rest (close_more w) (λ x. x))))

@@ -23,7 +23,7 @@ use Rattle.performatives_10.specs.Fields.{is_absent as is_missing}
 use Rattle.gate_model.specs.declared.outgoing.Outgoing.TheVariants.{ToClient, ToUp}
 use Rattle.gate_model.specs.Folds.{Peers, accepted_in, conn_by, conn_session, connection, container, container_kept, leaving_in, peers, peers_came, peers_heard, ran_out_in, side_in}
 use Rattle.gate_model.specs.Picks.{ArePicks}
-use Rattle.gate_model.specs.State.{Step, Began, Moment, Queued, Came, TakenUp, Heard, Joined, Lost, Gave, Whole, OutOfMemory, before, close, close_if, conn_step, is_limit_reached}
+use Rattle.gate_model.specs.State.{Step, Began, Moment, Fed, Silent, Queued, Came, TakenUp, Heard, Joined, Lost, Gave, Whole, OutOfMemory, before, close, close_if, conn_step, is_limit_reached}
 use Rattle.gate_model.specs.Upstream.{channel_max_in, meaning_by}
 use Rattle.gate_model.proofs.Connections.{clash, only_closing, only_given, phase_only}
 use Rattle.gate_model.proofs.Known.{conn_is, known}
@@ -151,6 +151,9 @@ unreached (Moment ms ∷ h) p e =
     unreached h p.1
     (was_early (is_early (connection h).phase) (is_early (close_if (is_limit_reached (connection h) (accepted_in h) ms) (connection h)).phase)
     (limit_late (is_limit_reached (connection h) (accepted_in h) ms) (connection h)) e)
+unreached (Fed end ∷ h) p e = unreached h p.1 e
+unreached (Silent Client ∷ h) p e = absurd cc
+unreached (Silent Up ∷ h) p e = absurd (clash _ e (closing_late (connection h).phase))
 unreached (Queued u ∷ h) p e = unreached h p.1 e
 unreached (Came u ∷ h) p e = unreached h p.1 (either_early (ran_out_in h) (peers h) (peers_came (peers h) u) (unit_late (connection h) u) e)
 unreached (TakenUp ∷ h) p e = unreached h p.1 (by (not (ran_out_in h) && leaving_in h) e)

@@ -20,6 +20,7 @@ use Rattle.gate_model.specs.Waiting.{ChannelsEndWhenSettled, EndsWhenSettled, Op
 use Rattle.gate_pair.specs.Answers.{IsAnswered}
 use Rattle.gate_pair.specs.Lawful.{AreLawful}
 use Rattle.gate_pair.specs.Meaning.{pair_words, steps_of}
+use Rattle.gate_pair.specs.Silence.{GivesUp}
 use Rattle.gate_pair.specs.Times.{KeepsTimes}
 
 -- what holds of the entries of each pair, in a run whose pairs share s
@@ -45,6 +46,8 @@ pub record IsLawfulPair (s : SetupText) (h : List Entry) : Type 0 where
   pub frames : FitsClients (steps_of s h)
   -- heartbeats and empty frames go, and each end is shut, where time or another cause makes that due
   pub times : KeepsTimes s h
+  -- each end is given up at the first moment at which no byte of it came for too long
+  pub silences : GivesUp s h
 
 pub record IsLawfulRun (s : SetupText) (c : Limits) (m : History) : Type 0 where
   pub pairs : (p : ℕ) → IsLawfulPair s (journal p m)

@@ -15,6 +15,7 @@ ghost use Rattle.gate_model.specs.Waiting.{ChannelsEndWhenSettled, EndsWhenSettl
 ghost use Rattle.gate_pair.specs.Answers.{IsAnswered};
 ghost use Rattle.gate_pair.specs.Lawful.{AreLawful};
 ghost use Rattle.gate_pair.specs.Meaning.{pair_words, steps_of};
+ghost use Rattle.gate_pair.specs.Silence.{GivesUp};
 ghost use Rattle.gate_pair.specs.Times.{KeepsTimes};
 ghost use Rattle.gate_runs.specs.declared.limits.Limits.{Limits};
 ghost use Rattle.gate_runs.specs.Journal.{journal};
@@ -23,8 +24,8 @@ ghost use Rattle.gate_runs.specs.Serving.{Follows};
 ghost use Rattle.gate_turn_laws.specs.Quiet.{IdlesAtRest, IdlesInSilence};
 ghost use Rattle.gate_laws.specs.Laws.{IsLawfulRun};
 
-/// The entries of each pair are lawful: an end is read where it is open and a unit of it is awaited.
-/// What is offered to it is the unit in progress or the one that goes next, whole; it is shut where
+/// The entries of each pair are lawful: an end is read where it is open and a unit of it is awaited,
+/// or where it is a client's that was given up. What is offered to it is the unit in progress or the one that goes next, whole; it is shut where
 /// that is due. The connection upstream is asked for once, where a connection.open waits for it.
 /// What goes out is what is due first, and units come as they are awaited.
 pub fn entries_are_lawful()
@@ -53,7 +54,7 @@ pub fn clients_are_answered()
 }
 
 /// The units of each channel of a client are taken up in the order in which they came, each once; those
-/// that were not wait in that order.
+/// that were not wait in that order. All that wait when the client is given up are passed over there.
 pub fn units_keep_their_order()
     ensures { (s : SetupText) (c : Limits) (m : History) → Follows (pair_words s) c m → (p : ℕ)
         → TakesInOrder (steps_of s (journal p m)) }
@@ -73,10 +74,10 @@ pub fn channels_are_answered_once()
 }
 
 /// A connection.close of the gateway or a close-ok goes only where nothing of the upstream end is
-/// waited for: the pair ran out of memory, the end isn't open, or the container's close came.
-/// connection.open-ok goes only after the container's open. A channel.close of the gateway or its
-/// close-ok goes only where nothing is waited for on its channel: no session began there, or the
-/// container's end came.
+/// waited for: the pair ran out of memory, the end isn't open, the container's close came, or it was
+/// given up. connection.open-ok goes only after the container's open. A channel.close of the gateway
+/// or its close-ok goes only where nothing is waited for on its channel: no session began there, or
+/// the container's end came.
 pub fn replies_wait()
     ensures ends { (s : SetupText) (c : Limits) (m : History) → Follows (pair_words s) c m → (p : ℕ)
         → EndsWhenSettled (steps_of s (journal p m)) }
@@ -127,6 +128,18 @@ pub fn times_are_kept()
     gate_pair::times_are_kept();
 }
 
+/// A client that is read is given up exactly at the first moment at which, for twice the interval that
+/// was agreed to, no byte of it came, counted from its last byte, or from the end of the last time that
+/// it was held; a container at the first at which none came for 120,000 ms, counted from its last byte,
+/// or from the connect. Each is given up once at most, while its end is open.
+pub fn silent_ends_are_given_up()
+    ensures { (s : SetupText) (c : Limits) (m : History) → Follows (pair_words s) c m → (p : ℕ)
+        → GivesUp s (journal p m) }
+{
+    gate_turn_laws::entries_are_asked();
+    gate_pair::silent_ends_are_given_up();
+}
+
 /// At each idle all is at rest: each end of a live pair of which a unit is awaited was read dry in
 /// this turn, what is offered was stuck, nothing can be taken up, and no end is to be shut. No further
 /// client can come, and nothing moved. An end that was opened in this turn is an exception, and so is
@@ -155,6 +168,7 @@ pub fn runs_are_lawful()
     containers_are_asked();
     frames_fit_clients();
     times_are_kept();
+    silent_ends_are_given_up();
     idle_is_at_rest();
     gate_turn_laws::runs_keep_turns();
     gate_turn_laws::report_follows_marks();

@@ -20,13 +20,14 @@ use Rattle.machine_10.specs.Transitions.{Meaning}
 use Rattle.machine_10.specs.declared.state.Upstream.{Upstream}
 use Rattle.machine_10.specs.declared.unit.Unit10.{Unit10}
 use Rattle.performatives_10.specs.declared.condition.Condition.{Condition}
+use Rattle.performatives_10.specs.declared.condition.Condition.TheVariants.{ResourceLimitExceeded}
 use Rattle.gate_model.specs.declared.outgoing.Outgoing.TheVariants.{ToClient, ToUp}
 use Rattle.gate_model.specs.declared.outgoing.UpUnit.{UpUnit}
 use Rattle.gate_model.specs.declared.outgoing.UpUnit.TheVariants as up
 use Rattle.gate_model.specs.Asked.{closing_condition, condition_at, condition_told, is_opening_unit, is_up_close}
 use Rattle.gate_model.specs.Folds.{Peers, accepted_in, conn_by, connection, container, leaving_in, peers, peers_came, peers_heard, ran_out_in, sent_up}
 use Rattle.gate_model.specs.Picks.{ArePicks}
-use Rattle.gate_model.specs.State.{Began, Came, Gave, Heard, Joined, Lost, Moment, OutOfMemory, Queued, State, Step, TakenUp, Whole, before, came, close, close_if, condition_by, conn_step, dequeued, fail, failed, heard, is_limit_reached, left, runs, with_meaning}
+use Rattle.gate_model.specs.State.{Began, Came, Gave, Heard, Joined, Lost, Moment, OutOfMemory, Queued, State, Step, TakenUp, Whole, before, came, close, close_if, condition_by, conn_step, dequeued, fail, failed, heard, is_limit_reached, left, runs, with_meaning, Fed, Silent, carried}
 use Rattle.gate_model.specs.Upstream.{UpState, channel_max_in, heard_up, lost_by, meaning_by, shut_by}
 use Rattle.close_translate.specs.declared.codes.TheConstants.{INTERNAL_ERROR}
 use Rattle.close_translate.specs.declared.conditions.Scope.TheVariants as scope
@@ -68,6 +69,9 @@ closes_if false p q e f = f
 closes_on : (s : Step) (h : List Step) → ArePicks (s ∷ h) → is_closing (connection h) ≡ true → is_closing (connection (s ∷ h)) ≡ true
 closes_on (Began vhost n ms) h p e = absurd (clash _ e (ap (λ (x : List Step). is_closing (connection x)) p.0))
 closes_on (Moment ms) h p e = limit_closes (is_limit_reached (connection h) (accepted_in h) ms) (connection h) e
+closes_on (Fed end) h p e = e
+closes_on (Silent Client) h p e = refl
+closes_on (Silent Up) h p e = close_closes (connection h).phase
 closes_on (Queued u) h p e = e
 closes_on (Came u) h p e = closes_if (ran_out_in h) (peers h) (peers_came (peers h) u) e (step_closes (connection h) u e)
 closes_on TakenUp h p e =
@@ -140,6 +144,9 @@ meaning_told (ten.Violation why) o c e = absurd (clash _ (close_closes c.phase) 
 step_told : (s : Step) (h : List Step) → ran_out_in h ≡ false → is_closing (connection (s ∷ h)) ≡ false → condition_at s h ≡ None
 step_told (Began vhost n ms) h m e = refl
 step_told (Moment ms) h m e = refl
+step_told (Fed end) h m e = refl
+step_told (Silent Client) h m e = refl
+step_told (Silent Up) h m e = absurd (clash _ (close_closes (connection h).phase) e)
 step_told (Queued u) h m e = refl
 step_told (Came u) h m e =
     unit_told (connection h) u (subst (λ (b : Bool). is_closing (if b then peers h else peers_came (peers h) u).client ≡ false) m e)
@@ -196,7 +203,7 @@ meaning_condition ten.Opened w c b e f n = by (is_opening w.conn)
     by false = quiet (is_closing c) w.up.condition b f n
 meaning_condition (ten.OfSession g p payload) w c b e f n =
     session_by (λ (x : Bool) (d : Connection) (v : State). v.up.condition ≡ (if is_closing c then b else (if x then Some NotAllowed else None))) g p w
-    (quiet (is_closing c) w.up.condition b f n) (fail_condition _ (Some NotAllowed) w ∙ told w c b (Some NotAllowed) e f)
+    (quiet (is_closing c) w.up.condition b f n) (fail_condition _ (Some NotAllowed) (carried g p w) ∙ told (carried g p w) c b (Some NotAllowed) e f)
     (quiet (is_closing c) w.up.condition b f n) (λ code why. quiet (is_closing c) w.up.condition b f n)
 meaning_condition (ten.Closed x) w c b e f n = fail_condition _ None w ∙ told w c b None e f
 meaning_condition ten.Refused w c b e f n = fail_condition _ None w ∙ told w c b None e f
@@ -231,6 +238,11 @@ conditions_failed : (w : State) (s : UpState) (c : Connection) (b : Option Condi
     → (fail CONNECTION_FORCED None (record w { up = s })).up.condition ≡ (if is_closing c then b else None)
 conditions_failed w s c b e f = fail_condition CONNECTION_FORCED None (record w { up = s }) ∙ told (record w { up = s }) c b None e f
 
+conditions_silent : (w : State) (s : UpState) (c : Connection) (b : Option Condition) → w.conn ≡ c → s.condition ≡ b
+    → (fail CONNECTION_FORCED (Some ResourceLimitExceeded) (record w { up = s })).up.condition ≡ (if is_closing c then b else Some ResourceLimitExceeded)
+conditions_silent w s c b e f =
+    fail_condition CONNECTION_FORCED (Some ResourceLimitExceeded) (record w { up = s }) ∙ told (record w { up = s }) c b (Some ResourceLimitExceeded) e f
+
 queued_condition : (h : List Step) (u : Unit91) → (before h).up.condition ≡ closing_condition h → (is_closing (connection h) ≡ false → closing_condition h ≡ None)
     → (before (Queued u ∷ h)).up.condition ≡ (if is_closing (connection h) then closing_condition h else None)
 queued_condition h u e f = by (before h).out_of_memory
@@ -244,6 +256,13 @@ condition_is [] p = refl
 condition_is (Began vhost n ms ∷ h) p =
     subst (λ (x : List Step). (before (Began vhost n ms ∷ x)).up.condition ≡ closing_condition (Began vhost n ms ∷ x)) (sym p.0) refl
 condition_is (Moment ms ∷ h) p = quiet _ _ _ (condition_is h p.1) (none_told h p.1)
+condition_is (Fed Client ∷ h) p = quiet _ _ _ (condition_is h p.1) (none_told h p.1)
+condition_is (Fed Up ∷ h) p = quiet _ _ _ (condition_is h p.1) (none_told h p.1)
+condition_is (Silent Client ∷ h) p =
+    let k : Known h = known h p.1 in
+    conditions_taken (before h) true (connection h) (closing_condition h) (conn_is k) (condition_is h p.1) (none_told h p.1)
+condition_is (Silent Up ∷ h) p =
+    conditions_silent (before h) (record (before h).up { silent = true }) (connection h) (closing_condition h) (conn_is (known h p.1)) (condition_is h p.1)
 condition_is (Queued u ∷ h) p = queued_condition h u (condition_is h p.1) (none_told h p.1)
 condition_is (Came u ∷ h) p =
     let k : Known h = known h p.1 in
@@ -308,6 +327,8 @@ pub closes_sent : (h : List Step) → ArePicks h → list_any is_up_close (sent_
 closes_sent [] p e = absurd cc
 closes_sent (Began vhost n ms ∷ h) p e = closes_on (Began vhost n ms) h p (closes_sent h p.1 e)
 closes_sent (Moment ms ∷ h) p e = closes_on (Moment ms) h p (closes_sent h p.1 e)
+closes_sent (Fed end ∷ h) p e = closes_on (Fed end) h p (closes_sent h p.1 e)
+closes_sent (Silent end ∷ h) p e = closes_on (Silent end) h p (closes_sent h p.1 e)
 closes_sent (Queued u ∷ h) p e = closes_on (Queued u) h p (closes_sent h p.1 e)
 closes_sent (Came u ∷ h) p e = closes_on (Came u) h p (closes_sent h p.1 e)
 closes_sent (TakenUp ∷ h) p e = closes_on TakenUp h p (closes_sent h p.1 e)

@@ -12,7 +12,7 @@ use Rattle.gate_model.specs.Due.{flow_oks, may_go, open_oks, refused_on, rows, w
 use Rattle.gate_model.specs.Folds.{container, is_answer}
 use Rattle.gate_model.specs.Lives.{is_done, session_in}
 use Rattle.gate_model.specs.Picks.{ArePicks}
-use Rattle.gate_model.specs.State.{Began, Came, Gave, Heard, Joined, Lost, Moment, OutOfMemory, Queued, State, Step, TakenUp, Whole, before, is_channel_settled, is_settled}
+use Rattle.gate_model.specs.State.{Began, Came, Gave, Heard, Joined, Lost, Moment, OutOfMemory, Queued, State, Step, TakenUp, Whole, before, is_channel_settled, is_settled, Fed, Silent}
 use Rattle.gate_model.specs.Upstream.{first}
 use Rattle.gate_model.specs.Waiting.{ChannelsEndWhenSettled, NoneThere, OfAll, SettledOn, ended_by}
 use Rattle.gate_model.proofs.Connections.{clash}
@@ -100,6 +100,8 @@ channels_end_when_settled (Gave (ToClient u) ∷ h) p =
 channels_end_when_settled (Gave (ToUp u) ∷ h) p = channels_end_when_settled h p.1
 channels_end_when_settled (Began vhost n ms ∷ h) p = channels_end_when_settled h p.1
 channels_end_when_settled (Moment ms ∷ h) p = channels_end_when_settled h p.1
+channels_end_when_settled (Fed end ∷ h) p = channels_end_when_settled h p.1
+channels_end_when_settled (Silent end ∷ h) p = channels_end_when_settled h p.1
 channels_end_when_settled (Queued u ∷ h) p = channels_end_when_settled h p.1
 channels_end_when_settled (Came u ∷ h) p = channels_end_when_settled h p.1
 channels_end_when_settled (TakenUp ∷ h) p = channels_end_when_settled h p.1

@@ -18,7 +18,7 @@ use Rattle.machine_10.specs.Transitions.{Meaning}
 use Rattle.gate_outside.specs.declared.ports.Linked.TheVariants as link
 use Rattle.gate_relay.specs.declared.loss.Loss.TheVariants as loss
 use Rattle.gate_model.specs.Frames.{FitsClients, limit_after, limit_in}
-use Rattle.gate_model.specs.State.{Began, Came, Gave, Heard, Joined, Lost, Moment, OutOfMemory, Queued, Step, TakenUp, Whole, close_if, conn_step, is_limit_reached}
+use Rattle.gate_model.specs.State.{Began, Came, Gave, Heard, Joined, Lost, Moment, OutOfMemory, Queued, Step, TakenUp, Whole, close_if, conn_step, is_limit_reached, Fed, Silent}
 use Rattle.close_translate.specs.declared.conditions.Scope.TheVariants as scope
 use Rattle.machine_10.specs.declared.state.Upstream.{Upstream}
 use Rattle.gate_model.specs.Upstream.{channel_max_in}
@@ -66,6 +66,9 @@ pub within : LimitsStay → (h : List Step) → AreWithin (connection h).limits
 within l [] = within_new []
 within l (Began vhost n ms ∷ h) = within_new vhost
 within l (Moment ms ∷ h) = within_close (is_limit_reached (connection h) (accepted_in h) ms) (connection h) (within l h)
+within l (Fed end ∷ h) = within l h
+within l (Silent Client ∷ h) = within l h
+within l (Silent Up ∷ h) = within l h
 within l (Queued u ∷ h) = within l h
 within l (Came u ∷ h) = within_if (ran_out_in h) (peers h) (peers_came (peers h) u) (within l h) (within_step l (connection h) u (within l h))
 within l (TakenUp ∷ h) = within_if _ _ (peers h) (within l h) (within l h)

@@ -9,21 +9,25 @@ use Rattle.gate_relay.specs.declared.sides.Side.{Side}
 use Rattle.gate_relay.specs.declared.sides.Side.TheVariants as side
 use Rattle.machine_091.specs.State.{is_closing, is_open}
 use Rattle.machine_10.specs.declared.state.Upstream.{Upstream}
+use Rattle.gate_model.specs.declared.life.SessionState.{SessionState}
+use Rattle.gate_model.specs.Session.{is_flow_owed}
 use Rattle.gate_model.specs.declared.outgoing.Outgoing.TheVariants.{ToClient, ToUp}
 use Rattle.gate_model.specs.declared.outgoing.UpUnit.{UpUnit}
 use Rattle.gate_model.specs.declared.outgoing.UpUnit.TheVariants as up
 use Rattle.gate_model.specs.declared.timers.TheConstants.{CLOSING_LIMIT}
-use Rattle.gate_model.specs.Asked.{AreCalledFor, Goes, GoesWhenDue, MayEnd, Answers, Leaves, MayGo, MayTell, ShutUpFor, Failed, Ended, Overdue, Closed, ClosedBad, ClosedLast, Unopened, ShutsUpAtOnce, due_up, is_opening_unit, is_up_close, openings_of, sent_up_whole}
-use Rattle.gate_model.specs.Due.{begins, ends, has_ended, has_failed, is_end_due, is_overdue, is_shut_due, pick, rows_in}
-use Rattle.gate_model.specs.Lives.{each, is_begun, is_ended, is_free, session_in}
+use Rattle.gate_model.specs.Asked.{Answers, AreCalledFor, Closed, ClosedBad, ClosedLast, Ended, Failed, Goes, GoesWhenDue, Leaves, MayEnd, MayFlow, MayGo, MayTell, Overdue, ShutUpFor, ShutsUpAtOnce, Unopened, due_up, is_opening_unit, is_up_close, openings_of, sent_up_whole}
+use Rattle.gate_model.specs.Due.{begins, ends, flows_on, session_flows, has_ended, has_failed, is_end_due, is_overdue, is_shut_due, pick, rows_in}
+use Rattle.gate_model.specs.Lives.{each, is_begun, is_carried, is_ended, is_free, life_at, session_in}
 use Rattle.gate_model.specs.declared.life.Life.{Life}
 use Rattle.machine_091.specs.declared.state.Connection.{Connection}
 use Rattle.machine_10.specs.declared.state.Session.{Session}
 use Rattle.machine_10.specs.declared.state.Session.TheVariants as session
-use Rattle.gate_model.specs.Folds.{closed_in, connection, container, moment_in, sent_up, sent_up_at, side_in}
+use Rattle.gate_model.specs.Folds.{carrying, closed_in, connection, container, moment_in, sent_up, sent_up_at, side_in}
 use Rattle.gate_model.specs.Picks.{ArePicks}
-use Rattle.gate_model.specs.State.{Began, Came, Gave, Heard, Joined, Lost, Moment, OutOfMemory, Queued, State, Step, TakenUp, Whole, before}
+use Rattle.gate_model.specs.State.{Began, Came, Gave, Heard, Joined, Lost, Moment, OutOfMemory, Queued, State, Step, TakenUp, Whole, before, Fed, Silent}
 use Rattle.gate_model.specs.Upstream.{first, has_closed, has_gone_bad, idle_in, is_bad_stream, is_closed_stream, is_idle_by, is_idle_due, opening_rows, stream_in, when_up}
+use Rattle.gate_model.proofs.Once.{first_at}
+use Rattle.gate_model.proofs.Carrying.{carries}
 use Rattle.gate_model.proofs.Closings.{closes_sent, closing_now, condition_is}
 use Rattle.gate_model.proofs.Connections.{clash}
 use Rattle.gate_model.proofs.Known.{Known, closed_is, conn_is, container_is, known, memory_is, moment_is, side_is}
@@ -31,7 +35,7 @@ use Rattle.gate_model.proofs.Lives.{lives_all}
 use Rattle.gate_model.proofs.Openings.{is_opening_first, no_empty, openings_due}
 use Rattle.gate_model.proofs.Rows.{first_each}
 use Rattle.gate_model.proofs.Times.{Either, OnLeft, OnRight, and_both, and_left, and_right, either, in_left, in_right}
-use Rattle.gate_model.proofs.Ups.{GoesUp, Picked, Begins, Closing, Ends, Opening, Telling, UpSays, goes_up, up_says}
+use Rattle.gate_model.proofs.Ups.{GoesUp, Picked, Begins, Closing, Ends, Flows, Opening, Telling, UpSays, goes_up, up_says}
 
 -- ---- the opening
 
@@ -52,7 +56,7 @@ no_close_sent h p e = by (before h).up.sent.close refl
 
 -- what is due but for the opening
 abbrev others : State → List UpUnit
-others w = begins w ++ (ends false w ++ when_up (is_idle_due w.up w.moment) up.Empty)
+others w = begins w ++ (session_flows w ++ (ends false w ++ when_up (is_idle_due w.up w.moment) up.Empty))
 
 rows_while : (h : List Step) → ArePicks h → is_closing (connection h) ≡ false → is_readable (side_in h) ≡ true
     → due_up (before h) ≡ opening_rows (before h).up.pending ++ others (before h)
@@ -76,13 +80,14 @@ when_none false u e = refl
 
 others_none : (w : State) → openings_of (others w) ≡ []
 others_none w =
-    filter-append is_opening_unit (begins w) _
-    ∙ ap (λ (x : List UpUnit). x ++ openings_of (ends false w ++ when_up (is_idle_due w.up w.moment) up.Empty))
-    (no_opening _ 0 w.lives (λ k l. when_none (l.begin && is_free (session_in w.up.container k)) (up.Begin k) refl))
-    ∙ filter-append is_opening_unit (ends false w) _
-    ∙ ap (λ (x : List UpUnit). x ++ openings_of (when_up (is_idle_due w.up w.moment) up.Empty))
-    (no_opening _ 0 w.lives (λ k l. when_none (is_end_due false w k) (up.End k l.why) refl))
+    none_more (begins w) _ (no_opening _ 0 w.lives (λ k l. when_none (l.begin && is_free (session_in w.up.container k)) (up.Begin k) refl))
+    ∙ none_more (session_flows w) _
+    (no_opening _ 0 w.lives (λ k l. when_none (is_carried (session_in w.up.container k) && is_flow_owed l.session) (up.Flow k _ _) refl))
+    ∙ none_more (ends false w) _ (no_opening _ 0 w.lives (λ k l. when_none (is_end_due false w k) (up.End k l.why) refl))
     ∙ no_empty (is_idle_due w.up w.moment)
+  where
+    none_more : (us vs : List UpUnit) → openings_of us ≡ [] → openings_of (us ++ vs) ≡ openings_of vs
+    none_more us vs e = filter-append is_opening_unit us vs ∙ ap (λ (x : List UpUnit). x ++ openings_of vs) e
 
 pub are_called_for : (h : List Step) → ArePicks h → AreCalledFor h
 are_called_for h p =
@@ -134,6 +139,7 @@ opening_goes h up.AmqpHeader e k = k
 opening_goes h up.Open e k = k
 opening_goes h (up.Close c) e k = absurd cc
 opening_goes h up.Empty e k = absurd cc
+opening_goes h (up.Flow n i o) e k = absurd cc
 opening_goes h (up.Begin n) e k = absurd cc
 opening_goes h (up.End n why) e k = absurd cc
 
@@ -153,6 +159,31 @@ may_begin h u p k e = first_each (MayGo h) _ 0 (before h).lives u one e
               running = k;
               free = ap (λ (o : Option Upstream). is_free (session_in o n)) (sym (container_is (known h p))) ∙ and_right l.begin _ f;
             })
+        by false f e = absurd cc
+
+-- a flow goes for a session that is carried, of which one is owed
+may_flow : (h : List Step) (u : UpUnit) → ArePicks h → first (session_flows (before h)) ≡ Some u → MayGo h u
+may_flow h u p e = first_at (MayGo h) (flows_on (before h).up.container) (before h).lives u one e
+  where
+    here : (n : ℕ) → (life_at (before h).lives n).session ≡ carrying n h → is_carried (session_in (before h).up.container n) ≡ true
+        → is_flow_owed (life_at (before h).lives n).session ≡ true
+        → MayFlow h n (life_at (before h).lives n).session.windows.next_incoming (life_at (before h).lives n).session.windows.next_outgoing
+    here n s c o = record {
+      carried = ap (λ (x : Option Upstream). is_carried (session_in x n)) (sym (container_is (known h p))) ∙ c;
+      owed = sym (ap is_flow_owed s) ∙ o;
+      incoming = ap (λ (x : SessionState). x.windows.next_incoming) s;
+      outgoing = ap (λ (x : SessionState). x.windows.next_outgoing) s;
+    }
+
+    one : (n : ℕ) (v : UpUnit) → first (flows_on (before h).up.container n (life_at (before h).lives n)) ≡ Some v → MayGo h v
+    one n v e = by (is_carried (session_in (before h).up.container n) && is_flow_owed (life_at (before h).lives n).session) refl e
+      where
+        by : (b : Bool) → (is_carried (session_in (before h).up.container n) && is_flow_owed (life_at (before h).lives n).session) ≡ b
+            → first (when_up b (up.Flow n (life_at (before h).lives n).session.windows.next_incoming (life_at (before h).lives n).session.windows.next_outgoing)) ≡ Some v → MayGo h v
+        by true f e =
+            let at : up.Flow n _ _ ≡ v = cc in
+            let owed : is_flow_owed (life_at (before h).lives n).session ≡ true = and_right (is_carried (session_in (before h).up.container n)) _ f in
+            subst (MayGo h) at (here n (carries h p n owed) (and_left _ _ f) owed)
         by false f e = absurd cc
 
 not_true : (b : Bool) → not b ≡ true → b ≡ false
@@ -235,6 +266,7 @@ may_go_up h u p (Closing k n o e) =
     })
 may_go_up h u p (Opening k e) = opening_goes h u (is_opening_first (before h).up.pending u e) (closing_now h false p k)
 may_go_up h u p (Begins k e) = may_begin h u p (closing_now h false p k) e
+may_go_up h u p (Flows e) = may_flow h u p e
 may_go_up h u p (Ends e) = may_ends h u _ p refl e
 may_go_up h u p (Telling k i e) = subst (λ (x : UpUnit). MayGo h x) (sym e) (may_tell h p (closing_now h false p k) i)
 
@@ -253,6 +285,8 @@ goes_when_due (Gave (ToUp u) ∷ h) p = (goes h u p.1 p.0.1, goes_when_due h p.1
 goes_when_due (Gave (ToClient u) ∷ h) p = goes_when_due h p.1
 goes_when_due (Began vhost n ms ∷ h) p = goes_when_due h p.1
 goes_when_due (Moment ms ∷ h) p = goes_when_due h p.1
+goes_when_due (Fed end ∷ h) p = goes_when_due h p.1
+goes_when_due (Silent end ∷ h) p = goes_when_due h p.1
 goes_when_due (Queued u ∷ h) p = goes_when_due h p.1
 goes_when_due (Came u ∷ h) p = goes_when_due h p.1
 goes_when_due (TakenUp ∷ h) p = goes_when_due h p.1

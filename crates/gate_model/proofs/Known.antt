@@ -18,9 +18,10 @@ use Rattle.machine_10.specs.Transitions.{Meaning}
 use Rattle.machine_10.specs.declared.state.Upstream.{Upstream}
 use Rattle.machine_10.specs.declared.unit.Unit10.{Unit10}
 use Rattle.performatives_10.specs.declared.condition.Condition.{Condition}
+use Rattle.performatives_10.specs.declared.condition.Condition.TheVariants.{ResourceLimitExceeded}
 use Rattle.gate_model.specs.declared.outgoing.Outgoing.TheVariants.{ToClient, ToUp}
 use Rattle.gate_model.specs.declared.timers.TheConstants.{HANDSHAKE_LIMIT}
-use Rattle.gate_model.specs.Folds.{Peers, accepted_in, closed_in, conn_by, conn_session, connection, container, container_kept, leaving_in, moment_in, number_in, peers, peers_came, peers_heard, ran_out_in, side_in}
+use Rattle.gate_model.specs.Folds.{Peers, accepted_in, closed_in, conn_by, conn_session, connection, container, container_kept, leaving_in, moment_in, number_in, peers, peers_came, peers_heard, ran_out_in, side_in, silent_in, up_fed_at}
 use Rattle.gate_model.specs.Picks.{ArePicks}
 use Rattle.close_translate.specs.Conditions.{code_by}
 use Rattle.close_translate.specs.declared.codes.TheConstants.{INTERNAL_ERROR, PRECONDITION_FAILED}
@@ -30,7 +31,7 @@ use Rattle.machine_10.specs.Reading.{field}
 use Rattle.performatives_10.specs.Fields.{is_absent}
 use Rattle.performatives_10.specs.declared.condition.Condition.TheVariants.{NotAllowed, UnattachedHandle}
 use Rattle.gate_model.specs.Lives.{refusal_on}
-use Rattle.gate_model.specs.State.{State, Step, Began, Moment, Queued, Came, TakenUp, Heard, Joined, Lost, Gave, Whole, OutOfMemory, before, begun_session, came, close, close_if, closes_at, conn_given, conn_step, dequeued, fail, fail_life, failed, has_left, heard, is_limit_reached, keep_login, left, life_failed, new_state, ran_out, runs, told, with_meaning, with_session}
+use Rattle.gate_model.specs.State.{State, Step, Began, Moment, Queued, Came, TakenUp, Heard, Joined, Lost, Gave, Whole, OutOfMemory, before, begun_session, came, close, close_if, closes_at, conn_given, conn_step, dequeued, fail, fail_life, failed, has_left, heard, is_limit_reached, keep_login, left, life_failed, new_state, ran_out, runs, told, with_meaning, with_session, Fed, Silent, carried}
 use Rattle.gate_model.specs.Upstream.{UpState, channel_max_of, closing_with, condition_in, container_given, ended_in, heard_up, meaning_by}
 use Rattle.gate_model.proofs.Connections.{OnlyChannels, asked_if, clash, close_closes, close_same, closes_again, closes_some, closing_only, ended_if, implied, late_later, late_step, only_closing, only_given, opened_runs, opening_early, step_closes, step_here, stream_if}
 use Rattle.gate_model.proofs.Queues.{none_left, none_next}
@@ -47,6 +48,8 @@ pub record Seen : Type 0 where
   pub accepted : ℕ
   pub moment : ℕ
   pub closed : Option ℕ
+  pub silent : Bool
+  pub up_fed : ℕ
 
 abbrev pub seen : State → Seen
 seen w = record {
@@ -58,6 +61,8 @@ seen w = record {
   accepted = w.accepted_at;
   moment = w.moment;
   closed = w.closed_at;
+  silent = w.up.silent;
+  up_fed = w.up.fed_at;
 }
 
 abbrev pub seen_in : List Step → Seen
@@ -70,6 +75,8 @@ seen_in h = record {
   accepted = accepted_in h;
   moment = moment_in h;
   closed = closed_in h;
+  silent = silent_in h;
+  up_fed = up_fed_at h;
 }
 
 abbrev peers_of : Seen → Peers
@@ -121,6 +128,12 @@ moment_is k = ap (λ (x : Seen). x.moment) k.same
 pub closed_is : {h : List Step} → Known h → (before h).closed_at ≡ closed_in h
 closed_is k = ap (λ (x : Seen). x.closed) k.same
 
+pub silent_is : {h : List Step} → Known h → (before h).up.silent ≡ silent_in h
+silent_is k = ap (λ (x : Seen). x.silent) k.same
+
+pub up_fed_is : {h : List Step} → Known h → (before h).up.fed_at ≡ up_fed_at h
+up_fed_is k = ap (λ (x : Seen). x.up_fed) k.same
+
 pub memory_is : {h : List Step} → Known h → (before h).out_of_memory ≡ ran_out_in h
 memory_is k = ap (λ (x : Seen). x.memory) k.same
 
@@ -158,6 +171,8 @@ came_is w u l s = by w.out_of_memory
       container = t.container;
       side = t.side;
       closed = closes_at w.closed_at (is_closing (conn_step w.conn u)) w.moment;
+      silent = t.silent;
+      up_fed = t.fed_at;
     }
 
     by : (b : Bool) → seen (if b then w else came (dequeued w) u) ≡ with_peers (seen w) (if b then peers_of (seen w) else peers_came (peers_of (seen w)) u)
@@ -167,6 +182,17 @@ came_is w u l s = by w.out_of_memory
 abbrev seen_taken : Seen → Bool → Seen
 seen_taken x l = with_peers x (if not x.memory && l then record (peers_of x) { client = after_ended x.conn } else peers_of x)
 
+left_is : (w : State) → seen (left w) ≡ with_peers (seen w) (record (peers_of (seen w)) { client = after_ended w.conn })
+left_is w =
+    ap (λ (t : UpState). record (seen w) {
+      conn = after_ended w.conn;
+      container = t.container;
+      side = t.side;
+      closed = closes_at w.closed_at true w.moment;
+      silent = t.silent;
+      up_fed = t.fed_at;
+    }) (closing_is (is_closing w.conn) None w.up)
+
 taken_is : (w : State) (l : Bool) → SoundIn w l → seen (if not w.out_of_memory && w.leaving then left w else w) ≡ seen_taken (seen w) l
 taken_is w l s = by w.out_of_memory w.leaving l refl refl s.leaves (s.left_is)
   where
@@ -175,8 +201,7 @@ taken_is w l s = by w.out_of_memory w.leaving l refl refl s.leaves (s.left_is)
         → seen (if not b && d then left w else w) ≡ with_peers (seen w) (if not b && l' then record (peers_of (seen w)) { client = after_ended w.conn } else peers_of (seen w))
     by true d l' m e f g = kept w l s
     by false true true m e f g =
-        ap (λ (t : UpState). record (seen w) { conn = after_ended w.conn; container = t.container; side = t.side; closed = closes_at w.closed_at true w.moment })
-        (closing_is (is_closing w.conn) None w.up)
+        left_is w
     by false true false m e f g = absurd (clash false (f e) refl)
     by false false false m e f g = kept w l s
     by false false true m e f g =
@@ -202,7 +227,7 @@ session_is : (n : ℕ) (p : Parts) (w : State) (l : Bool) → SoundIn w l
     → seen (with_session n p w) ≡ with_peers (seen w) (record (peers_of (seen w)) { client = conn_session n p w.conn })
 session_is n p w l s =
     session_by (λ (b : Bool) (c : Connection) (v : State). seen v ≡ with_peers (seen w) (record (peers_of (seen w)) { client = c })) n p w (kept w l s)
-    (fail_is _ _ w l s) (kept w l s) (λ code why. only_is w l (after_closing scope.Channel n w.conn) s (only_closing n w.conn))
+    (fail_is _ _ (carried n p w) l s) (kept w l s) (λ code why. only_is w l (after_closing scope.Channel n w.conn) s (only_closing n w.conn))
 
 meaning_is : (m : Meaning) (w : State) (l : Bool) → SoundIn w l
     → seen (with_meaning m w) ≡ with_peers (seen w) (record (peers_of (seen w)) { client = conn_by m w.up.container w.conn })
@@ -253,7 +278,15 @@ seen_memory x = record (with_peers x (record (peers_of x) { client = close x.con
 
 memory_is_out : (w : State) → seen (ran_out w) ≡ seen_memory (seen w)
 memory_is_out w =
-    ap (λ (t : UpState). record (seen w) { memory = true; conn = close w.conn; container = t.container; side = t.side; closed = closes_at w.closed_at true w.moment })
+    ap (λ (t : UpState). record (seen w) {
+      memory = true;
+      conn = close w.conn;
+      container = t.container;
+      side = t.side;
+      closed = closes_at w.closed_at true w.moment;
+      silent = t.silent;
+      up_fed = t.fed_at;
+    })
     (closing_is (is_closing w.conn) _ w.up)
     ∙ ap (λ (b : Bool). record (seen w) { memory = true; conn = close w.conn; closed = closes_at w.closed_at b w.moment }) (sym (close_closes w.conn.phase))
 
@@ -336,19 +369,22 @@ sound_came w u l none s = by w.out_of_memory refl
       shuts = λ x. absurd (clash _ x m);
     }
 
+sound_left : (w : State) (l : Bool) → SoundIn w l → SoundIn (left w) l
+sound_left w l s = record {
+  leaves = λ x. absurd (clash false x refl);
+  left_is = λ x y z. refl;
+  ended = λ x. refl;
+  late_is = s.late_is;
+  late_closes = λ x. refl;
+  closing = λ x. closes_some w.closed_at true w.moment refl;
+  shuts = λ x. refl;
+}
+
 sound_taken : (w : State) (l : Bool) → SoundIn w l → SoundIn (if not w.out_of_memory && w.leaving then left w else w) l
 sound_taken w l s = by (not w.out_of_memory && w.leaving)
   where
     by : (b : Bool) → SoundIn (if b then left w else w) l
-    by true = record {
-      leaves = λ x. absurd (clash false x refl);
-      left_is = λ x y z. refl;
-      ended = λ x. refl;
-      late_is = s.late_is;
-      late_closes = λ x. refl;
-      closing = λ x. closes_some w.closed_at true w.moment refl;
-      shuts = λ x. refl;
-    }
+    by true = sound_left w l s
     by false = s
 
 sound_fail : (code : ℕ) (why : Option Condition) (w : State) (l : Bool) → SoundIn w l → SoundIn (fail code why w) l
@@ -368,7 +404,7 @@ sound_fail code why w l s = by (is_closing w.conn)
 
 sound_session : (n : ℕ) (p : Parts) (w : State) (l : Bool) → SoundIn w l → SoundIn (with_session n p w) l
 sound_session n p w l s =
-    session_cases (λ (v : State). SoundIn v l) n p w s (sound_fail _ _ w l s) s
+    session_cases (λ (v : State). SoundIn v l) n p w s (sound_fail _ _ (carried n p w) l s) s
     (λ code why. sound_only w (after_closing scope.Channel n w.conn) l (only_closing n w.conn) s)
 
 sound_meaning : (m : Meaning) (w : State) (l : Bool) → SoundIn w l → SoundIn (with_meaning m w) l
@@ -451,6 +487,23 @@ known (Moment ms ∷ h) p =
       same = told_is (before h) ms _ k.sound ∙ ap (λ (x : Seen). seen_told x ms) k.same;
       sound = sound_told (before h) ms _ (subst (λ (n : ℕ). n ≤ ms) (sym (moment_is k)) p.0) k.sound;
     }
+known (Fed Client ∷ h) p = let k : Known h = known h p.1 in record { same = still k; sound = k.sound }
+known (Fed Up ∷ h) p =
+    let k : Known h = known h p.1 in
+    record { same = ap (λ (x : Seen). record x { up_fed = x.moment }) (still k); sound = k.sound }
+known (Silent Client ∷ h) p =
+    let k : Known h = known h p.1 in
+    record {
+      same = left_is (before h) ∙ ap (λ (x : Seen). with_peers x (record (peers_of x) { client = after_ended x.conn })) k.same;
+      sound = sound_left (before h) _ k.sound;
+    }
+known (Silent Up ∷ h) p =
+    let k : Known h = known h p.1 in
+    record {
+      same = fail_is _ (Some ResourceLimitExceeded) _ (leaving_in h) k.sound
+          ∙ ap (λ (x : Seen). record (with_peers x (record (peers_of x) { client = close x.conn })) { silent = true }) k.same;
+      sound = sound_fail _ _ _ _ k.sound;
+    }
 known (Queued u ∷ h) p = known_queued h u (known h p.1)
 known (Came u ∷ h) p =
     let k : Known h = known h p.1 in
@@ -466,7 +519,7 @@ known (Heard u ∷ h) p =
     record { same = heard_is (before h) u _ k.sound ∙ ap (λ (x : Seen). seen_heard x u) k.same; sound = sound_heard (before h) u _ k.sound }
 known (Joined link.Ok ∷ h) p =
     let k : Known h = known h p.1 in
-    record { same = ap (λ (x : Seen). record x { side = side.Open }) (still k); sound = k.sound }
+    record { same = ap (λ (x : Seen). record x { side = side.Open; up_fed = x.moment }) (still k); sound = k.sound }
 known (Joined link.Failed ∷ h) p =
     let k : Known h = known h p.1 in
     record {

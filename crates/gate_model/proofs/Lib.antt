@@ -1,3 +1,4 @@
+pub mod Carrying
 pub mod Closings
 pub mod Connections
 pub mod Ends
@@ -13,6 +14,7 @@ pub mod Queues
 pub mod Rows
 pub mod Said
 pub mod Sessions
+pub mod Silences
 pub mod Spelled
 pub mod Times
 pub mod Ups

@@ -22,7 +22,7 @@ use Rattle.gate_model.specs.declared.reply.Reply.{Reply}
 use Rattle.gate_model.specs.declared.reply.Reply.TheVariants as reply
 use Rattle.gate_model.specs.Lives.{lives_by, no_lives, no_life, with_life}
 use Rattle.gate_model.specs.Picks.{ArePicks}
-use Rattle.gate_model.specs.State.{State, Step, Began, Moment, Queued, Came, TakenUp, Heard, Joined, Lost, Gave, Whole, OutOfMemory, before, came, dequeued, fail, failed, heard, left, runs, with_meaning, with_session, without_begin, without_life}
+use Rattle.gate_model.specs.State.{State, Step, Began, Moment, Queued, Came, TakenUp, Heard, Joined, Lost, Gave, Whole, OutOfMemory, before, came, carried, dequeued, fail, failed, heard, left, runs, with_meaning, with_session, without_begin, without_life, Fed, Silent}
 use Rattle.gate_model.specs.Upstream.{heard_up, meaning_by}
 use Rattle.gate_model.proofs.Sessions.{session_cases}
 
@@ -70,7 +70,8 @@ meaning_all ten.Opened w e = by (is_opening w.conn)
     by true = e
     by false = e
 meaning_all (ten.OfSession g p payload) w e =
-    session_cases (λ (v : State). All v.lives) g p w (after_set w.lives g _ e) (fail_all _ _ w e) e (λ code why. after_set w.lives g _ e)
+    let kept : All (carried g p w).lives = after_set w.lives g _ e in
+    session_cases (λ (v : State). All v.lives) g p w (after_set _ g _ kept) (fail_all _ _ (carried g p w) kept) kept (λ code why. after_set _ g _ kept)
 meaning_all (ten.Closed x) w e = fail_all _ _ w e
 meaning_all ten.Refused w e = fail_all _ _ w e
 meaning_all (ten.Violation c) w e = fail_all _ _ w e
@@ -97,6 +98,7 @@ begun_all up.AmqpHeader ls e = e
 begun_all up.Open ls e = e
 begun_all (up.Close why) ls e = e
 begun_all up.Empty ls e = e
+begun_all (up.Flow n i o) ls e = after_set ls n _ e
 begun_all (up.Begin n) ls e = after_set ls n _ e
 begun_all (up.End n why) ls e = after_set ls n _ e
 
@@ -129,6 +131,10 @@ pub lives_all : (h : List Step) → ArePicks h → length (before h).lives ≡ 2
 lives_all [] p = new_all
 lives_all (Began vhost n ms ∷ h) p = lives_all h p.1
 lives_all (Moment ms ∷ h) p = lives_all h p.1
+lives_all (Fed Client ∷ h) p = lives_all h p.1
+lives_all (Fed Up ∷ h) p = lives_all h p.1
+lives_all (Silent Client ∷ h) p = lives_all h p.1
+lives_all (Silent Up ∷ h) p = fail_all _ _ _ (lives_all h p.1)
 lives_all (Queued u ∷ h) p = queued_all (before h) _ (lives_all h p.1)
 lives_all (Came u ∷ h) p = came_all (before h) u (lives_all h p.1)
 lives_all (TakenUp ∷ h) p = left_all (before h) _ (lives_all h p.1)

@@ -19,6 +19,8 @@ use Rattle.methods_091.specs.declared.method.Method91.{Method91}
 use Rattle.methods_091.specs.declared.method.Method91.TheVariants as method
 use Rattle.performatives_10.specs.declared.condition.Condition.{Condition}
 use Rattle.gate_model.specs.declared.life.Life.{Life}
+use Rattle.gate_model.specs.declared.life.SessionState.{SessionState}
+use Rattle.gate_model.specs.Session.{carried_by, flow_sent}
 use Rattle.gate_model.specs.declared.outgoing.Outgoing.TheVariants.{ToClient, ToUp}
 use Rattle.gate_model.specs.declared.outgoing.UpUnit.{UpUnit}
 use Rattle.gate_model.specs.declared.outgoing.UpUnit.TheVariants as up
@@ -29,7 +31,7 @@ use Rattle.gate_model.specs.Folds.{connection, is_answer, ran_out_in}
 use Rattle.gate_model.specs.Lives.{begun_life, each, failed_life, freed_life, life_at, lives_by, method_life, no_life, no_lives, or_none, with_life}
 use Rattle.gate_model.specs.Once.{AnswersOnce, is_channel_close, is_channel_flow, is_channel_open, is_close_ok_on, is_flow_ok_on, is_method_on, is_open_ok_on, one_if, wanted_in, went_in}
 use Rattle.gate_model.specs.Picks.{ArePicks}
-use Rattle.gate_model.specs.State.{Began, Came, Gave, Heard, Joined, Lost, Moment, OutOfMemory, Queued, State, Step, TakenUp, Whole, before, came, dequeued, fail, failed, heard, is_channel_settled, is_settled, left, runs, with_meaning, without_begin, without_life}
+use Rattle.gate_model.specs.State.{Began, Came, Gave, Heard, Joined, Lost, Moment, OutOfMemory, Queued, State, Step, TakenUp, Whole, before, came, carried, dequeued, fail, failed, heard, is_channel_settled, is_settled, left, runs, with_meaning, without_begin, without_life, Fed, Silent}
 use Rattle.gate_model.specs.Upstream.{first, heard_up, meaning_by}
 use Rattle.gate_model.proofs.Known.{conn_is, known, memory_is}
 use Rattle.gate_model.proofs.Rows.{Has, HasFirst, HasNone, first_none, first_some, has, same_first}
@@ -39,14 +41,14 @@ use Rattle.gate_model.proofs.Times.{and_left}
 
 -- ---- lives by their numbers
 
-same_or_not : (k n : ℕ) → (k ≡ n) ⊎ (k ≢ n)
+pub same_or_not : (k n : ℕ) → (k ≡ n) ⊎ (k ≢ n)
 same_or_not zero zero = inl refl
 same_or_not zero (suc n) = inr (λ e. cc)
 same_or_not (suc k) zero = inr (λ e. cc)
 same_or_not (suc k) (suc n) = elim (same_or_not k n) [ inl e ↦ inl (ap suc e) | inr d ↦ inr (λ e. d (let less : k ≡ n = omega (arith, e) in less)) ]
 
 -- a life that is set is found under its number alone, which may be of none
-data SetAt (ls : List Life) (k n : ℕ) (l : Life) : Type 0 where
+pub data SetAt (ls : List Life) (k n : ℕ) (l : Life) : Type 0 where
   Here : k ≡ n → life_at (with_life k l ls) n ≡ l → SetAt ls k n l
   Elsewhere : k ≢ n → life_at (with_life k l ls) n ≡ life_at ls n → SetAt ls k n l
   Beyond : k ≡ n → life_at ls n ≡ no_life → life_at (with_life k l ls) n ≡ no_life → SetAt ls k n l
@@ -56,7 +58,7 @@ set_more x ls k n l (Here e f) = Here (ap suc e) f
 set_more x ls k n l (Elsewhere d f) = Elsewhere (λ e. d (let less : k ≡ n = omega (arith, e) in less)) f
 set_more x ls k n l (Beyond e f g) = Beyond (ap suc e) f g
 
-set_at : (ls : List Life) (k n : ℕ) (l : Life) → SetAt ls k n l
+pub set_at : (ls : List Life) (k n : ℕ) (l : Life) → SetAt ls k n l
 set_at [] k n l = elim (same_or_not k n) [ inl e ↦ Beyond e refl refl | inr d ↦ Elsewhere d refl ]
 set_at (x ∷ ls) zero zero l = Here refl refl
 set_at (x ∷ ls) zero (suc n) l = Elsewhere (λ e. cc) refl
@@ -68,7 +70,7 @@ none_at zero n = refl
 none_at (suc k) zero = refl
 none_at (suc k) (suc n) = none_at k n
 
-new_at : (n : ℕ) → life_at no_lives n ≡ no_life
+pub new_at : (n : ℕ) → life_at no_lives n ≡ no_life
 unfolding no_lives
 new_at n = none_at 256 n
 
@@ -87,7 +89,7 @@ first_from {A = A} P f n (l ∷ ls) u is e = by (has (f n l)) (first_from P f (n
         is zero u (ap (λ (m : ℕ). first (f m l)) (let here : n + zero ≡ n = omega arith in here) ∙ g ∙ ap Some same)
     by (HasNone g) more = more (sym (first_none (f n l) _ g) ∙ e)
 
-first_at : {A : Type 0} (P : A → Type 0) (f : ℕ → Life → List A) (ls : List Life) (u : A)
+pub first_at : {A : Type 0} (P : A → Type 0) (f : ℕ → Life → List A) (ls : List Life) (u : A)
     → ((k : ℕ) (v : A) → first (f k (life_at ls k)) ≡ Some v → P v) → first (each f 0 ls) ≡ Some u → P u
 first_at {A = A} P f ls u is e =
     first_from P f 0 ls u (λ k v g. is k v (ap (λ (m : ℕ). first (f m (life_at ls k))) (let same : k ≡ 0 + k = omega arith in same) ∙ g)) e
@@ -176,6 +178,7 @@ record Counts (n : ℕ) (v : Life → ℕ) (asks : Want91 → Bool) (answers : R
   freed : (l : Life) → v (freed_life l) ≤ v l
   begun : (l : Life) → v (begun_life l) ≤ v l
   failed : (r : Refusal) (why : Option Condition) (l : Life) → v (failed_life r why l) ≤ v l
+  carries : (s : SessionState) (l : Life) → v (record l { session = s }) ≤ v l
   begins : (l : Life) → v (record l { begin = false }) ≤ v l
   ends : (l : Life) → v (record l { why = None }) ≤ v l
   opened : (l : Life) → l.open_ok ≡ true → v (record l { open_ok = false }) + one_if (answers (reply.ChannelOpenOk n)) ≤ v l
@@ -223,6 +226,9 @@ fail_less v n code why w = by (is_closing w.conn)
     by true = omega arith
     by false = omega arith
 
+less_both : (a b c : ℕ) → a ≤ b → b ≤ c → a ≤ c
+less_both a b c e f = omega (arith, e, f)
+
 meaning_less : {n : ℕ} {v : Life → ℕ} {asks : Want91 → Bool} {answers : Reply → Bool} → Counts n v asks answers → (m : Meaning) (w : State) → Value v n (with_meaning m w) ≤ Value v n w
 meaning_less c ten.Nothing w = omega arith
 meaning_less c ten.Init w = omega arith
@@ -233,8 +239,11 @@ meaning_less {n} {v} c ten.Opened w = by (is_opening w.conn)
     by true = omega arith
     by false = omega arith
 meaning_less {n} {v} c (ten.OfSession g p payload) w =
-    session_cases (λ (x : State). Value v n x ≤ Value v n w) g p w (rule_less v n g w.lives begun_life c.begun) (fail_less v n _ _ w) (omega arith)
-    (λ code why. rule_less v n g w.lives (failed_life _ why) (c.failed _ why))
+    let s : SessionState = carried_by p (life_at w.lives g).session in
+    let x : State = carried g p w in
+    let kept : Value v n x ≤ Value v n w = rule_less v n g w.lives (λ (l : Life). record l { session = s }) (c.carries s) in
+    session_cases (λ (y : State). Value v n y ≤ Value v n w) g p w (less_both _ _ _ (rule_less v n g x.lives begun_life c.begun) kept) (less_both _ _ _ (fail_less v n _ _ x) kept) kept
+    (λ code why. less_both _ _ _ (rule_less v n g x.lives (failed_life _ why) (c.failed _ why)) kept)
 meaning_less {n} {v} c (ten.Closed x) w = fail_less v n _ _ w
 meaning_less {n} {v} c ten.Refused w = fail_less v n _ _ w
 meaning_less {n} {v} c (ten.Violation x) w = fail_less v n _ _ w
@@ -255,6 +264,9 @@ begun_less c up.AmqpHeader ls = omega arith
 begun_less c up.Open ls = omega arith
 begun_less c (up.Close why) ls = omega arith
 begun_less c up.Empty ls = omega arith
+begun_less {n} {v} c (up.Flow k i o) ls =
+    let s : SessionState = flow_sent (life_at ls k).session in
+    rule_less v n k ls (λ (l : Life). record l { session = s }) (c.carries s)
 begun_less {n} {v} c (up.Begin k) ls = rule_less v n k ls (λ (l : Life). record l { begin = false }) c.begins
 begun_less {n} {v} c (up.End k why) ls = rule_less v n k ls (λ (l : Life). record l { why = None }) c.ends
 
@@ -369,6 +381,10 @@ counts : {n : ℕ} {v : Life → ℕ} {asks : Want91 → Bool} {answers : Reply 
 counts {n} {v} c [] p = let none : v (life_at no_lives n) ≡ 0 = ap v (new_at n) ∙ c.none in omega (arith, none)
 counts {n} {v} c (Began vhost i ms ∷ h) p = counts c h p.1
 counts c (Moment ms ∷ h) p = counts c h p.1
+counts c (Fed Client ∷ h) p = counts c h p.1
+counts c (Fed Up ∷ h) p = counts c h p.1
+counts c (Silent Client ∷ h) p = counts c h p.1
+counts {n} {v} c (Silent Up ∷ h) p = keeps _ _ _ _ (fail_less v n _ _ _) (counts c h p.1)
 counts {n} {v} c (Queued u ∷ h) p = keeps _ _ _ _ (queued_less v n (before h) _) (counts c h p.1)
 counts c (Came u ∷ h) p = came_counts c u h p.1 (counts c h p.1)
 counts {n} {v} c (TakenUp ∷ h) p = keeps _ _ _ _ (left_less v n (before h) _) (counts c h p.1)
@@ -397,10 +413,10 @@ answered_at_most c h p = let all = counts c h p in omega (arith, all)
 
 -- ---- the three kinds
 
-itself : (n : ℕ) → (n == n) ≡ true
+pub itself : (n : ℕ) → (n == n) ≡ true
 itself n = grind (arith, nat_tests)
 
-isnt : (k n : ℕ) → k ≢ n → (k == n) ≡ false
+pub isnt : (k n : ℕ) → k ≢ n → (k == n) ≡ false
 isnt k n d = by (k == n) refl
   where
     by : (b : Bool) → (k == n) ≡ b → b ≡ false
@@ -481,6 +497,7 @@ opens n = record {
   freed = λ l. omega arith;
   begun = λ l. opened_or l.open_ok l.waits;
   failed = λ r why l. omega arith;
+  carries = λ s l. omega arith;
   begins = λ l. omega arith;
   ends = λ l. omega arith;
   opened = opens_gone n;
@@ -517,6 +534,7 @@ flows n = record {
   freed = λ l. omega arith;
   begun = λ l. omega arith;
   failed = λ r why l. omega arith;
+  carries = λ s l. omega arith;
   begins = λ l. omega arith;
   ends = λ l. omega arith;
   opened = λ l e. omega arith;
@@ -566,6 +584,7 @@ closes n = record {
   freed = λ l. closed_or l.crossed_ok l.close_ok;
   begun = λ l. omega arith;
   failed = λ r why l. omega arith;
+  carries = λ s l. omega arith;
   begins = λ l. omega arith;
   ends = λ l. omega arith;
   opened = λ l e. omega arith;

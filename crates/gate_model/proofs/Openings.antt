@@ -340,6 +340,7 @@ no_init up.AmqpHeader p e = e
 no_init up.Open p e = e
 no_init (up.Close c) p e = e
 no_init up.Empty p e = e
+no_init (up.Flow n i o) p e = e
 no_init (up.Begin n) p e = e
 no_init (up.End n why) p e = e
 
@@ -350,6 +351,7 @@ no_amqp up.AmqpHeader p e = refl
 no_amqp up.Open p e = e
 no_amqp (up.Close c) p e = e
 no_amqp up.Empty p e = e
+no_amqp (up.Flow n i o) p e = e
 no_amqp (up.Begin n) p e = e
 no_amqp (up.End n why) p e = e
 
@@ -360,6 +362,7 @@ no_open up.AmqpHeader p e = e
 no_open up.Open p e = refl
 no_open (up.Close c) p e = e
 no_open up.Empty p e = e
+no_open (up.Flow n i o) p e = e
 no_open (up.Begin n) p e = e
 no_open (up.End n why) p e = e
 
@@ -400,6 +403,7 @@ ups_other p q at went u e s = by u e (openings_next went u false e ∙ append-ni
     by up.Open e f = absurd cc
     by (up.Close c) e f = kept (up.Close c) f
     by up.Empty e f = kept up.Empty f
+    by (up.Flow n i o) e f = kept (up.Flow n i o) f
     by (up.Begin n) e f = kept (up.Begin n) f
     by (up.End n why) e f = kept (up.End n why) f
 

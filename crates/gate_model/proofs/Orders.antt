@@ -14,7 +14,7 @@ use Rattle.gate_model.specs.Folds.{ran_out_in}
 use Rattle.gate_model.specs.Order.{TakesInOrder, came_in, is_of, on_channel, taken_in}
 use Rattle.gate_model.specs.Picks.{ArePicks}
 use Rattle.gate_model.specs.Queue.{Waits, can_take, channel_of, holds, is_empty, place_from, place_in, removed, unit_at, waits_for_all, without_at}
-use Rattle.gate_model.specs.State.{State, Step, Began, Moment, Queued, Came, TakenUp, Heard, Joined, Lost, Gave, Whole, OutOfMemory, before, came, dequeued, fail, heard, left, next_unit, place, waits}
+use Rattle.gate_model.specs.State.{State, Step, Began, Moment, Queued, Came, TakenUp, Heard, Joined, Lost, Gave, Whole, OutOfMemory, before, came, dequeued, fail, heard, left, next_unit, place, waits, Fed, Silent}
 use Rattle.gate_model.proofs.Connections.{clash}
 use Rattle.gate_model.proofs.Known.{Known, known, memory_is}
 use Rattle.gate_model.proofs.Queues.{Rests, empty_is, rests_fail, rests_heard}
@@ -147,6 +147,10 @@ queued_in n h u w m f =
     ∙ ap (λ (x : List Unit91). on_channel n (taken_in h) ++ x) (sym (filter-append (is_of n) w.queue (u ∷ [])))
     ∙ ap (λ (b : Bool). on_channel n (taken_in h) ++ on_channel n (if b then w else record w { queue = w.queue ++ u ∷ [] }).queue) (sym m)
 
+-- what waits is passed over
+passed_in : (n : ℕ) (h : List Step) (us : List Unit91) → In n h us → on_channel n (came_in h) ≡ on_channel n (taken_in h ++ us) ++ on_channel n []
+passed_in n h us f = f ∙ sym (filter-append (is_of n) (taken_in h) us) ∙ sym (append-nil (on_channel n (taken_in h ++ us)))
+
 came_queue : (w : State) (u : Unit91) → w.out_of_memory ≡ false → (if w.out_of_memory then w else came (dequeued w) u).queue ≡ (dequeued w).queue
 came_queue w u m = ap (λ (b : Bool). (if b then w else came (dequeued w) u).queue) m
 
@@ -158,6 +162,10 @@ pub takes_in_order : (h : List Step) → ArePicks h → TakesInOrder h
 takes_in_order [] p n e = refl
 takes_in_order (Began vhost k ms ∷ h) p n e = same_queue n h _ _ refl (takes_in_order h p.1 n e)
 takes_in_order (Moment ms ∷ h) p n e = takes_in_order h p.1 n e
+takes_in_order (Fed Client ∷ h) p n e = takes_in_order h p.1 n e
+takes_in_order (Fed Up ∷ h) p n e = takes_in_order h p.1 n e
+takes_in_order (Silent Client ∷ h) p n e = passed_in n h (before h).queue (takes_in_order h p.1 n e)
+takes_in_order (Silent Up ∷ h) p n e = same_queue n h _ _ (rests_fail _ _ _).queue (takes_in_order h p.1 n e)
 takes_in_order (Queued u ∷ h) p n e = queued_in n h u (before h) (with_memory h p.1 e) (takes_in_order h p.1 n e)
 takes_in_order (Came u ∷ h) p n e =
     takes_in_order h p.1 n e ∙ took n (before h) (taken_in h) u p.0

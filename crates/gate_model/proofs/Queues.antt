@@ -13,11 +13,13 @@ use Rattle.machine_10.specs.Transitions as ten
 use Rattle.machine_10.specs.Transitions.{Meaning}
 use Rattle.machine_10.specs.declared.unit.Unit10.{Unit10}
 use Rattle.performatives_10.specs.declared.condition.Condition.{Condition}
+use Rattle.close_translate.specs.declared.codes.TheConstants.{INTERNAL_ERROR}
+use Rattle.performatives_10.specs.declared.condition.Condition.TheVariants.{NotAllowed}
 use Rattle.gate_model.specs.declared.outgoing.Outgoing.TheVariants.{ToClient, ToUp}
 use Rattle.gate_model.specs.Due.{can_leave}
 use Rattle.gate_model.specs.Picks.{ArePicks, MayComeAs}
 use Rattle.gate_model.specs.Queue.{is_empty, place_in, unit_at}
-use Rattle.gate_model.specs.State.{State, Step, Began, Moment, Queued, Came, TakenUp, Heard, Joined, Lost, Gave, Whole, OutOfMemory, before, came, dequeued, fail, failed, has_left, heard, left, next_unit, runs, waits, with_meaning, with_session}
+use Rattle.gate_model.specs.State.{State, Step, Began, Moment, Queued, Came, TakenUp, Heard, Joined, Lost, Gave, Whole, OutOfMemory, before, came, dequeued, fail, failed, has_left, heard, left, next_unit, runs, waits, with_meaning, with_session, Fed, Silent, carried}
 use Rattle.gate_model.specs.Upstream.{heard_up, meaning_by}
 use Rattle.gate_model.proofs.Connections.{clash, none_comes, only_closing, only_given, step_here, stream_if, stream_only}
 use Rattle.gate_model.proofs.Sessions.{session_cases}
@@ -40,7 +42,8 @@ rests_fail code why w = by (is_closing w.conn)
 
 rests_session : (n : ℕ) (p : Parts) (w : State) → Rests w (with_session n p w)
 rests_session n p w =
-    session_cases (Rests w) n p w (record { stream = refl; queue = refl }) (rests_fail _ _ w) (rests w)
+    let f : Rests (carried n p w) (fail INTERNAL_ERROR (Some NotAllowed) (carried n p w)) = rests_fail _ _ (carried n p w) in
+    session_cases (Rests w) n p w (record { stream = refl; queue = refl }) (record { stream = f.stream; queue = f.queue }) (record { stream = refl; queue = refl })
     (λ code why. record { stream = stream_only (only_closing n w.conn); queue = refl })
 
 rests_meaning : (m : Meaning) (w : State) → Rests w (with_meaning m w)
@@ -116,6 +119,11 @@ pub none_left : (h : List Step) → ArePicks h → NoneLeft (before h)
 none_left [] p = λ e. refl
 none_left (Began vhost n ms ∷ h) p = subst (λ (x : List Step). NoneLeft (before (Began vhost n ms ∷ x))) (sym p.0) (λ e. refl)
 none_left (Moment ms ∷ h) p = none_after (before h) (before (Moment ms ∷ h)) (record { stream = stream_if _ (before h).conn; queue = refl }) (none_left h p.1)
+none_left (Fed Client ∷ h) p = none_left h p.1
+none_left (Fed Up ∷ h) p = none_left h p.1
+none_left (Silent Client ∷ h) p = λ e. refl
+none_left (Silent Up ∷ h) p =
+    let r = rests_fail _ _ _ in none_after (before h) (before (Silent Up ∷ h)) (record { stream = r.stream; queue = r.queue }) (none_left h p.1)
 none_left (Queued u ∷ h) p = none_queued (before h) u p.0.0 (none_left h p.1)
 none_left (Came u ∷ h) p = none_came (before h) u p.0 (none_left h p.1)
 none_left (TakenUp ∷ h) p = none_taken (before h) (leaves_empty (before h) p.0)

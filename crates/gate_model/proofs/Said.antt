@@ -23,6 +23,7 @@ use Rattle.machine_091.specs.declared.unit.Unit91.TheVariants as unit
 use Rattle.machine_091.specs.declared.unit.Want91.{Want91}
 use Rattle.methods_091.specs.declared.method.Method91.{Method91}
 use Rattle.machine_091.specs.declared.unit.Want91.TheVariants as want
+use Rattle.performatives_10.specs.declared.condition.Condition.TheVariants.{ResourceLimitExceeded}
 use Rattle.gate_model.specs.declared.life.Life.{Life}
 use Rattle.gate_model.specs.Lives.{each}
 use Rattle.close_translate.specs.declared.codes.TheConstants.{INTERNAL_ERROR}
@@ -33,10 +34,10 @@ use Rattle.gate_model.specs.declared.reply.Pending.{Pending}
 use Rattle.gate_model.specs.declared.reply.Reply.{Reply}
 use Rattle.gate_model.specs.declared.reply.Reply.TheVariants as reply
 use Rattle.gate_model.specs.Answers.{AreAnswered, AreReplies, All, Overtaken, TakenBack, is_close, is_close_ok, last_units}
-use Rattle.gate_model.specs.Due.{channel_closes, channel_oks, client_units, close_oks, close_oks_on, closes, flow_oks, if_so, is_beat_due, last_closes, may_answer, may_end, may_go, may_tell, open_oks, openings, pick, refused_on, rows, when}
+use Rattle.gate_model.specs.Due.{channel_closes, channel_oks, client_units, close_oks, close_oks_on, closes, flow_oks, if_so, is_beat_due, last_closes, may_answer, may_end, may_go, may_tell, open_oks, openings, pick, refused_on, rows, when, is_awaiting, is_silent}
 use Rattle.gate_model.specs.Folds.{Peers, answers_of, conn_by, conn_session, session_closes, connection, failure_to, is_answer, leaving_in, peers, peers_came, peers_heard, ran_out_in, replies, replies_to, reply_by, reply_to, sent, sent_since, until_memory}
 use Rattle.gate_model.specs.Picks.{ArePicks}
-use Rattle.gate_model.specs.State.{Began, Came, Gave, Heard, Joined, Lost, Moment, OutOfMemory, Queued, State, Step, TakenUp, Whole, before, came, close, close_if, conn_step, dequeued, fail, failed, failure, has_left, heard, is_channel_settled, is_foreign, is_limit_reached, is_settled, last_pending, left, none_pending, runs, turns_foreign, with_header, with_meaning, with_session, with_want, without}
+use Rattle.gate_model.specs.State.{Began, Came, Gave, Heard, Joined, Lost, Moment, OutOfMemory, Queued, State, Step, TakenUp, Whole, before, came, close, close_if, conn_step, dequeued, fail, failed, failure, has_left, heard, is_channel_settled, is_foreign, is_limit_reached, is_settled, last_pending, left, none_pending, runs, turns_foreign, with_header, with_meaning, with_session, with_want, without, Fed, Silent, carried}
 use Rattle.gate_relay.specs.Sides.{is_readable}
 use Rattle.gate_model.specs.Upstream.{channel_max_in, container_by, first, has_closed, heard_up, meaning_by}
 use Rattle.gate_model.specs.declared.outgoing.Outgoing.TheVariants.{ToClient, ToUp}
@@ -658,7 +659,7 @@ said_picked p w r went all gone (Beats none due e) s =
     (subst (λ (x : List Reply). IsSaid p w.pending x all gone) (sym (answers_next went reply.Heartbeat ∙ append-nil (answers_of went))) s)
 
 settled_last : (w : State) → w.out_of_memory ≡ true → is_settled w ≡ true
-settled_last w e = ap (λ (b : Bool). b || (not (is_readable w.up.side) || has_closed w.up)) e
+settled_last w e = ap (λ (b : Bool). b || (not (is_readable w.up.side) || (has_closed w.up || w.up.silent))) e
 
 -- so what went and what is due stay the same together
 picked_same : (w : State) (r : Reply) (went : List Reply) → w.out_of_memory ≡ true → Picked w r
@@ -801,7 +802,7 @@ says_meaning ten.Opened w b c o went since all last e f shuts s =
 says_meaning (ten.OfSession g p payload) w b c o went since all last e f shuts s =
     subst (λ (x : Connection). SaysIn b (conn_session g p x).phase (with_session g p w).pending went since (all ++ (if session_closes p then failure_to c INTERNAL_ERROR else [])) (has_left (conn_session g p x).stream) last) e
     (session_by (λ (y : Bool) (d : Connection) (v : State). SaysIn b d.phase v.pending went since (all ++ (if y then failure_to c INTERNAL_ERROR else [])) (has_left d.stream) last) g p w
-    (same w.pending) (subst (λ (x : Connection). SaysIn b (close x).phase (fail INTERNAL_ERROR (Some NotAllowed) w).pending went since (all ++ failure_to c INTERNAL_ERROR) (has_left x.stream) last) (sym e) (says_fail w _ (Some NotAllowed) b c went since all last e shuts s))
+    (same w.pending) (subst (λ (x : Connection). SaysIn b (close x).phase (fail INTERNAL_ERROR (Some NotAllowed) (carried g p w)).pending went since (all ++ failure_to c INTERNAL_ERROR) (has_left x.stream) last) (sym e) (says_fail (carried g p w) _ (Some NotAllowed) b c went since all last e shuts s))
     (same w.pending) (λ code why. moved (after_closing scope.Channel g w.conn) (only_closing g w.conn)))
   where
     same : (d : Pending) → SaysIn b w.conn.phase w.pending went since (all ++ []) (has_left w.conn.stream) last
@@ -827,12 +828,36 @@ says_heard w u false p went since all last e f shuts s =
 pub shuts_in : {h : List Step} → Known h → ran_out_in h ≡ true → is_closing (connection h) ≡ true
 shuts_in k m = sym (ap is_closing (conn_is k)) ∙ k.sound.shuts (memory_is k ∙ m)
 
+-- a client is given up before the pair runs out of memory
+calm_silent : (w : State) → is_silent w Client ≡ true → w.out_of_memory ≡ false
+calm_silent w e = by (is_awaiting w Client) w.given_up w.gone w.leaving w.out_of_memory _ e
+  where
+    by : (a b c d m f : Bool) → (a && (not (b || (c || (d || m))) && f)) ≡ true → m ≡ false
+    by false b c d m f e = absurd cc
+    by true true c d m f e = absurd cc
+    by true false true d m f e = absurd cc
+    by true false false true m f e = absurd cc
+    by true false false false true f e = absurd cc
+    by true false false false false f e = refl
+
 pub says : (h : List Step) → ArePicks h → Says h
 says [] p = record { said = λ m. (refl, refl); ending = λ m. absurd (clash false m refl) }
 says (Began vhost n ms ∷ h) p = subst (λ (x : List Step). Says (Began vhost n ms ∷ x)) (sym p.0) (record { said = λ m. (refl, refl); ending = λ m. absurd (clash false m refl) })
 says (Moment ms ∷ h) p =
     let s : Says h = says h p.1 in
     record { said = λ m. said_if (is_limit_reached (connection h) _ ms) (connection h) (before h).pending (answers_of (sent h)) (replies h) (s.said m); ending = s.ending }
+says (Fed Client ∷ h) p = says h p.1
+says (Fed Up ∷ h) p = says h p.1
+says (Silent Client ∷ h) p =
+    let s : Says h = says h p.1 in
+    record {
+      said = λ m. said_left (connection h).phase (before h).pending (answers_of (sent h)) (replies h) (has_left (connection h).stream) (s.said m);
+      ending = λ m. absurd (clash _ (memory_is (known h p.1) ∙ m) (calm_silent (before h) p.0));
+    }
+says (Silent Up ∷ h) p =
+    let k : Known h = known h p.1 in
+    says_fail _ CONNECTION_FORCED (Some ResourceLimitExceeded) (ran_out_in h) (connection h) (sent h) (sent_since h) (replies h) (last_of (until_memory h)) (conn_is k) (shuts_in k)
+    (says h p.1)
 says (Queued u ∷ h) p = by (before h).out_of_memory (says h p.1)
   where
     by : (b : Bool) → Says h → SaysIn (ran_out_in h) (connection h).phase (if b then before h else record (before h) { queue = (before h).queue ++ u ∷ [] }).pending (sent h) (sent_since h) (replies h) (has_left (connection h).stream) (last_of (until_memory h))

@@ -26,7 +26,7 @@ use Rattle.gate_model.specs.Upstream.{first, heard_up, meaning_by}
 use Rattle.gate_model.specs.declared.outgoing.Outgoing.TheVariants.{ToClient, ToUp}
 use Rattle.gate_model.specs.Folds.{accepted_in, closed_in, connection, failed_in, moment_in, sent, sent_at}
 use Rattle.gate_model.specs.Picks.{ArePicks}
-use Rattle.gate_model.specs.State.{Began, Came, Gave, Heard, Joined, Lost, Moment, OutOfMemory, Queued, State, Step, TakenUp, Whole, before, came, dequeued, fail, failed, has_left, heard, is_limit_reached, is_settled, left, new_state, opened, runs, with_last, with_meaning}
+use Rattle.gate_model.specs.State.{Began, Came, Gave, Heard, Joined, Lost, Moment, OutOfMemory, Queued, State, Step, TakenUp, Whole, before, came, dequeued, fail, failed, has_left, heard, is_limit_reached, is_settled, left, new_state, opened, runs, with_last, with_meaning, Fed, Silent, carried}
 use Rattle.gate_model.specs.Times.{BeatsAtOnce, BeatsWhenDue, IsLate, LateCloses, MayBeat, ShutFor, Failed, Left, Answered, Greeted, Closed, ClosedBad, ClosedLast, Unheard, NotOpened, Overdue, ShutsAtOnce, is_any_close, is_protocol, sent_whole}
 use Rattle.gate_model.proofs.Connections.{clash}
 use Rattle.gate_model.proofs.Known.{Known, accepted_is, closed_is, conn_is, known, memory_is, moment_is}
@@ -171,7 +171,7 @@ part_meaning ten.Nothing w = refl
 part_meaning ten.Init w = refl
 part_meaning ten.AmqpHeader w = refl
 part_meaning ten.Opened w = part_opened w
-part_meaning (ten.OfSession g p payload) w = session_cases (λ (v : State). part v ≡ part w) g p w refl (part_fail _ _ w) refl (λ code why. refl)
+part_meaning (ten.OfSession g p payload) w = session_cases (λ (v : State). part v ≡ part w) g p w refl (part_fail _ _ (carried g p w)) refl (λ code why. refl)
 part_meaning (ten.Closed e) w = part_fail _ None w
 part_meaning ten.Refused w = part_fail _ None w
 part_meaning (ten.Violation c) w = part_fail _ (Some c) w
@@ -180,6 +180,10 @@ pub sends : (h : List Step) → ArePicks h → Sends h
 sends [] p = sends_new
 sends (Began vhost n ms ∷ h) p = subst (λ (x : List Step). Sends (Began vhost n ms ∷ x)) (sym p.0) (sends_began vhost n ms)
 sends (Moment ms ∷ h) p = sends h p.1
+sends (Fed Client ∷ h) p = sends h p.1
+sends (Fed Up ∷ h) p = sends h p.1
+sends (Silent Client ∷ h) p = sends h p.1
+sends (Silent Up ∷ h) p = subst (λ (x : Part). SendsIn x (sent h) (sent_whole h) (sent_at h) (failed_in h)) (sym (part_fail _ _ _)) (sends h p.1)
 sends (Queued u ∷ h) p =
     subst (λ (x : Part). SendsIn x (sent h) (sent_whole h) (sent_at h) (failed_in h)) (sym (part_came (before h) (record (before h) { queue = (before h).queue ++ u ∷ [] }) (before h).out_of_memory refl)) (sends h p.1)
 sends (Came u ∷ h) p =
@@ -315,6 +319,8 @@ beats_when_due (Gave (ToClient u) ∷ h) p = beats_given h u p.1 p.0.0 p.0.1 (be
 beats_when_due (Gave (ToUp u) ∷ h) p = beats_when_due h p.1
 beats_when_due (Began vhost n ms ∷ h) p = beats_when_due h p.1
 beats_when_due (Moment ms ∷ h) p = beats_when_due h p.1
+beats_when_due (Fed end ∷ h) p = beats_when_due h p.1
+beats_when_due (Silent end ∷ h) p = beats_when_due h p.1
 beats_when_due (Queued u ∷ h) p = beats_when_due h p.1
 beats_when_due (Came u ∷ h) p = beats_when_due h p.1
 beats_when_due (TakenUp ∷ h) p = beats_when_due h p.1

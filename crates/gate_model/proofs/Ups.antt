@@ -30,11 +30,12 @@ use Rattle.gate_model.specs.declared.outgoing.UpSent.{UpSent}
 use Rattle.gate_model.specs.declared.outgoing.UpUnit.{UpUnit}
 use Rattle.gate_model.specs.declared.outgoing.UpUnit.TheVariants as up
 use Rattle.gate_model.specs.Asked.{called, called_by, called_from, is_opening_unit, is_up_close, is_up_open, sent_up_whole}
-use Rattle.gate_model.specs.Due.{begins, close_behind, ends, is_end_due, pick, rows_in, up_rows}
+use Rattle.gate_model.specs.Due.{begins, close_behind, ends, flows_on, is_end_due, pick, rows_in, session_flows, unless_out, up_rows}
+use Rattle.gate_model.specs.Session.{is_flow_owed}
 use Rattle.gate_model.specs.Folds.{Peers, accepted_in, conn_by, connection, container, container_kept, leaving_in, moment_in, peers, peers_came, peers_heard, ran_out_in, sent_up, sent_up_at}
 use Rattle.gate_model.specs.Picks.{ArePicks}
-use Rattle.gate_model.specs.State.{State, Step, Began, Moment, Queued, Came, TakenUp, Heard, Joined, Lost, Gave, Whole, OutOfMemory, before, came, close_if, dequeued, fail, failed, heard, is_limit_reached, left, runs, with_meaning, with_session}
-use Rattle.gate_model.specs.Lives.{each, is_free, session_in}
+use Rattle.gate_model.specs.State.{State, Step, Began, Moment, Queued, Came, TakenUp, Heard, Joined, Lost, Gave, Whole, OutOfMemory, before, came, close_if, dequeued, fail, failed, heard, is_limit_reached, left, runs, with_meaning, with_session, Fed, Silent, carried}
+use Rattle.gate_model.specs.Lives.{each, is_carried, is_free, session_in}
 use Rattle.gate_model.specs.declared.life.Life.{Life}
 use Rattle.machine_10.specs.Calls.{asked, left as left_session, may_begin}
 use Rattle.machine_10.specs.State.{session_at}
@@ -131,6 +132,9 @@ pub early : (h : List Step) → Early (peers h)
 early [] e = refl
 early (Began vhost n ms ∷ h) e = refl
 early (Moment ms ∷ h) e = early h (early_close (is_limit_reached (connection h) (accepted_in h) ms) (connection h) e)
+early (Fed end ∷ h) e = early h e
+early (Silent Client ∷ h) e = absurd cc
+early (Silent Up ∷ h) e = absurd (clash _ e (closing_late (connection h).phase))
 early (Queued u ∷ h) e = early h e
 early (Came u ∷ h) e = early_if (ran_out_in h) (peers h) (peers_came (peers h) u) (early h) (early_came (peers h) u (early h)) e
 early (TakenUp ∷ h) e = early_if (not (ran_out_in h) && leaving_in h) (record (peers h) { client = after_ended (connection h) }) (peers h) (λ x. absurd cc) (early h) e
@@ -245,7 +249,7 @@ part_meaning ten.Opened w = by (is_opening w.conn)
     by : (b : Bool) → part (if b then runs w else w).up ≡ part w.up
     by true = refl
     by false = refl
-part_meaning (ten.OfSession g p payload) w = session_cases (λ (v : State). part v.up ≡ part w.up) g p w refl (part_fail _ _ w) refl (λ code why. refl)
+part_meaning (ten.OfSession g p payload) w = session_cases (λ (v : State). part v.up ≡ part w.up) g p w refl (part_fail _ _ (carried g p w)) refl (λ code why. refl)
 part_meaning (ten.Closed x) w = part_fail _ None w
 part_meaning ten.Refused w = part_fail _ None w
 part_meaning (ten.Violation why) w = part_fail _ (Some why) w
@@ -309,6 +313,7 @@ pub data Picked (closing : Bool) (w : State) (u : UpUnit) : Type 0 where
   Closing : closing ≡ true → ends true w ≡ [] → w.up.sent.«open» ≡ true → u ≡ up.Close w.up.condition → Picked closing w u
   Opening : closing ≡ false → first (opening_rows w.up.pending) ≡ Some u → Picked closing w u
   Begins : closing ≡ false → first (begins w) ≡ Some u → Picked closing w u
+  Flows : first (session_flows w) ≡ Some u → Picked closing w u
   Ends : first (ends closing w) ≡ Some u → Picked closing w u
   Telling : closing ≡ false → is_idle_due w.up w.moment ≡ true → u ≡ up.Empty → Picked closing w u
 
@@ -318,21 +323,28 @@ pub record GoesUp (closing : Bool) (w : State) (u : UpUnit) : Type 0 where
   pub why : Picked closing w u
 
 picked_in : (closing : Bool) (w : State) (u : UpUnit) → first (rows_in closing w) ≡ Some u → Picked closing w u
-picked_in true w u e = by (ends true w) w.up.sent.«open» refl refl e
+picked_in true w u e = by (unless_out w.out_of_memory (session_flows w)) (ends true w) w.up.sent.«open» (flows w.out_of_memory) refl refl e
   where
-    by : (us : List UpUnit) (b : Bool) → ends true w ≡ us → w.up.sent.«open» ≡ b → first (us ++ close_behind us w.up) ≡ Some u → Picked true w u
-    by (x ∷ us) b f g e = Ends (ap first f ∙ e)
-    by [] true f g e = Closing refl f g (let here : up.Close w.up.condition ≡ u = cc in sym here)
-    by [] false f g e = absurd cc
-picked_in false w u e = by (opening_rows w.up.pending) (begins w) (ends false w) (is_idle_due w.up w.moment) refl refl refl refl e
+    flows : (b : Bool) → first (unless_out b (session_flows w)) ≡ Some u → first (session_flows w) ≡ Some u
+    flows true e = absurd cc
+    flows false e = e
+
+    by : (fs us : List UpUnit) (b : Bool) → (first fs ≡ Some u → first (session_flows w) ≡ Some u) → ends true w ≡ us → w.up.sent.«open» ≡ b
+        → first (fs ++ (us ++ close_behind us w.up)) ≡ Some u → Picked true w u
+    by (x ∷ fs) us b k f g e = Flows (k e)
+    by [] (x ∷ us) b k f g e = Ends (ap first f ∙ e)
+    by [] [] true k f g e = Closing refl f g (let here : up.Close w.up.condition ≡ u = cc in sym here)
+    by [] [] false k f g e = absurd cc
+picked_in false w u e = by (opening_rows w.up.pending) (begins w) (session_flows w) (ends false w) (is_idle_due w.up w.moment) refl refl refl refl refl e
   where
-    by : (os bs es : List UpUnit) (b : Bool) → opening_rows w.up.pending ≡ os → begins w ≡ bs → ends false w ≡ es → is_idle_due w.up w.moment ≡ b
-        → first (os ++ (bs ++ (es ++ when_up b up.Empty))) ≡ Some u → Picked false w u
-    by (x ∷ os) bs es b f g k l e = Opening refl (ap first f ∙ e)
-    by [] (x ∷ bs) es b f g k l e = Begins refl (ap first g ∙ e)
-    by [] [] (x ∷ es) b f g k l e = Ends (ap first k ∙ e)
-    by [] [] [] true f g k l e = Telling refl l (let here : up.Empty ≡ u = cc in sym here)
-    by [] [] [] false f g k l e = absurd cc
+    by : (os bs fs es : List UpUnit) (b : Bool) → opening_rows w.up.pending ≡ os → begins w ≡ bs → session_flows w ≡ fs → ends false w ≡ es → is_idle_due w.up w.moment ≡ b
+        → first (os ++ (bs ++ (fs ++ (es ++ when_up b up.Empty)))) ≡ Some u → Picked false w u
+    by (x ∷ os) bs fs es b f g m k l e = Opening refl (ap first f ∙ e)
+    by [] (x ∷ bs) fs es b f g m k l e = Begins refl (ap first g ∙ e)
+    by [] [] (x ∷ fs) es b f g m k l e = Flows (ap first m ∙ e)
+    by [] [] [] (x ∷ es) b f g m k l e = Ends (ap first k ∙ e)
+    by [] [] [] [] true f g m k l e = Telling refl l (let here : up.Empty ≡ u = cc in sym here)
+    by [] [] [] [] false f g m k l e = absurd cc
 
 goes_by : (w : State) (u : UpUnit) → first (up_rows w) ≡ Some u → GoesUp (w.out_of_memory || is_closing w.conn) w u
 goes_by w u e = by (is_readable w.up.side) w.up.sent.close refl refl e
@@ -365,6 +377,22 @@ begin_is w u e = first_each (IsBegin w) _ 0 w.lives u one e
         by true e = let here : up.Begin k ≡ v = cc in record { number = k; is = sym here }
         by false e = absurd cc
 
+record IsFlow (w : State) (u : UpUnit) : Type 0 where
+  number : ℕ
+  incoming : ℕ
+  outgoing : ℕ
+  is : u ≡ up.Flow number incoming outgoing
+
+flow_is : (w : State) (u : UpUnit) → first (session_flows w) ≡ Some u → IsFlow w u
+flow_is w u e = first_each (IsFlow w) _ 0 w.lives u one e
+  where
+    one : (k : ℕ) (l : Life) (v : UpUnit) → first (flows_on w.up.container k l) ≡ Some v → IsFlow w v
+    one k l v e = by (is_carried (session_in w.up.container k) && is_flow_owed l.session) e
+      where
+        by : (b : Bool) → first (when_up b (up.Flow k l.session.windows.next_incoming l.session.windows.next_outgoing)) ≡ Some v → IsFlow w v
+        by true e = let here : up.Flow k l.session.windows.next_incoming l.session.windows.next_outgoing ≡ v = cc in record { number = k; incoming = _; outgoing = _; is = sym here }
+        by false e = absurd cc
+
 record IsEnd (w : State) (u : UpUnit) : Type 0 where
   number : ℕ
   why : Option Condition
@@ -384,6 +412,7 @@ isnt_opening : (w : State) (closing : Bool) (u : UpUnit) → Picked closing w u 
 isnt_opening w closing u (Closing k n o e) = inl (ap is_opening_unit e)
 isnt_opening w closing u (Opening k e) = inr e
 isnt_opening w closing u (Begins k e) = inl (ap is_opening_unit (begin_is w u e).is)
+isnt_opening w closing u (Flows e) = inl (ap is_opening_unit (flow_is w u e).is)
 isnt_opening w closing u (Ends e) = inl (ap is_opening_unit (end_is closing w u e).is)
 isnt_opening w closing u (Telling k i e) = inl (ap is_opening_unit e)
 
@@ -394,6 +423,7 @@ opening_closes up.AmqpHeader e = refl
 opening_closes up.Open e = refl
 opening_closes (up.Close c) e = absurd cc
 opening_closes up.Empty e = absurd cc
+opening_closes (up.Flow n i o) e = absurd cc
 opening_closes (up.Begin n) e = absurd cc
 opening_closes (up.End n why) e = absurd cc
 
@@ -402,6 +432,7 @@ pub is_a_close : {closing : Bool} {w : State} {u : UpUnit} → Picked closing w 
 is_a_close (Closing k n o e) = inr k
 is_a_close {closing} {w} {u} (Opening k e) = inl (opening_closes u (is_opening_first w.up.pending u e))
 is_a_close {closing} {w} {u} (Begins k e) = inl (ap is_up_close (begin_is w u e).is)
+is_a_close {closing} {w} {u} (Flows e) = inl (ap is_up_close (flow_is w u e).is)
 is_a_close {closing} {w} {u} (Ends e) = inl (ap is_up_close (end_is closing w u e).is)
 is_a_close (Telling k i e) = inl (ap is_up_close e)
 
@@ -434,6 +465,7 @@ open_after up.AmqpHeader s = or_false s.«open»
 open_after up.Open s = or_true s.«open»
 open_after (up.Close c) s = or_false s.«open»
 open_after up.Empty s = or_false s.«open»
+open_after (up.Flow n i o) s = or_false s.«open»
 open_after (up.Begin n) s = or_false s.«open»
 open_after (up.End n why) s = or_false s.«open»
 
@@ -444,6 +476,7 @@ close_after up.AmqpHeader s = or_false s.close
 close_after up.Open s = or_false s.close
 close_after (up.Close c) s = or_true s.close
 close_after up.Empty s = or_false s.close
+close_after (up.Flow n i o) s = or_false s.close
 close_after (up.Begin n) s = or_false s.close
 close_after (up.End n why) s = or_false s.close
 
@@ -454,6 +487,7 @@ whole_begun up.AmqpHeader s = refl
 whole_begun up.Open s = refl
 whole_begun (up.Close c) s = refl
 whole_begun up.Empty s = refl
+whole_begun (up.Flow n i o) s = refl
 whole_begun (up.Begin n) s = refl
 whole_begun (up.End n why) s = refl
 
@@ -464,6 +498,7 @@ whole_after up.AmqpHeader s = or_false s.whole_close
 whole_after up.Open s = or_false s.whole_close
 whole_after (up.Close c) s = or_true s.whole_close
 whole_after up.Empty s = or_false s.whole_close
+whole_after (up.Flow n i o) s = or_false s.whole_close
 whole_after (up.Begin n) s = or_false s.whole_close
 whole_after (up.End n why) s = or_false s.whole_close
 
@@ -474,6 +509,7 @@ open_whole up.AmqpHeader s = refl
 open_whole up.Open s = refl
 open_whole (up.Close c) s = refl
 open_whole up.Empty s = refl
+open_whole (up.Flow n i o) s = refl
 open_whole (up.Begin n) s = refl
 open_whole (up.End n why) s = refl
 
@@ -484,6 +520,7 @@ close_whole up.AmqpHeader s = refl
 close_whole up.Open s = refl
 close_whole (up.Close c) s = refl
 close_whole up.Empty s = refl
+close_whole (up.Flow n i o) s = refl
 close_whole (up.Begin n) s = refl
 close_whole (up.End n why) s = refl
 
@@ -506,6 +543,7 @@ phase_given up.AmqpHeader (Some c) = refl
 phase_given up.Open (Some c) = refl
 phase_given (up.Close why) (Some c) = refl
 phase_given up.Empty (Some c) = refl
+phase_given (up.Flow n i o) (Some c) = refl
 phase_given (up.Begin n) (Some c) = by (may_begin c n) (session_at c n)
   where
     by : (b : Bool) (x : Session) → (if b then asked x n c else c).phase ≡ c.phase
@@ -605,6 +643,12 @@ pub up_says : (h : List Step) → ArePicks h → UpSays h
 up_says [] p = up_none
 up_says (Began vhost n ms ∷ h) p = subst (λ (x : List Step). UpSays (Began vhost n ms ∷ x)) (sym p.0) up_none
 up_says (Moment ms ∷ h) p = up_says h p.1
+up_says (Fed Client ∷ h) p = up_says h p.1
+up_says (Fed Up ∷ h) p = up_says h p.1
+up_says (Silent Client ∷ h) p =
+    subst (λ (x : Part). UpSaysIn x (sent_up h) (sent_up_whole h) (sent_up_at h) (called h)) (sym (part_closing (is_closing (before h).conn) None (before h).up)) (up_says h p.1)
+up_says (Silent Up ∷ h) p =
+    subst (λ (x : Part). UpSaysIn x (sent_up h) (sent_up_whole h) (sent_up_at h) (called h)) (sym (part_fail _ _ _)) (up_says h p.1)
 up_says (Queued u ∷ h) p =
     subst (λ (x : Part). UpSaysIn x (sent_up h) (sent_up_whole h) (sent_up_at h) (called h)) (sym (part_queued (before h) u)) (up_says h p.1)
 up_says (Came u ∷ h) p =

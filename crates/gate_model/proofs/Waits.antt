@@ -25,11 +25,11 @@ use Rattle.gate_model.specs.declared.reply.Reply.TheVariants as reply
 use Rattle.gate_model.specs.Due.{may_go, rows}
 use Rattle.gate_model.specs.Folds.{container, is_answer, ran_out_in}
 use Rattle.gate_model.specs.Picks.{ArePicks}
-use Rattle.gate_model.specs.State.{Began, Came, Gave, Heard, Joined, Lost, Moment, OutOfMemory, Queued, State, Step, TakenUp, Whole, before, came, dequeued, fail, failed, heard, is_settled, last_pending, left, turns_foreign, with_header, with_meaning, with_session, with_want, without}
+use Rattle.gate_model.specs.State.{Began, Came, Gave, Heard, Joined, Lost, Moment, OutOfMemory, Queued, State, Step, TakenUp, Whole, before, came, dequeued, fail, failed, heard, is_settled, last_pending, left, turns_foreign, with_header, with_meaning, with_session, with_want, without, Fed, Silent, carried}
 use Rattle.gate_model.specs.Upstream.{first, has_closed, heard_up, is_closed_stream, meaning_by, stream_in}
-use Rattle.gate_model.specs.Waiting.{EndsWhenSettled, OpensWhenOpened, Settled, RanOut, NotOpen, HasClosed, is_ending, is_opened, opened_in}
+use Rattle.gate_model.specs.Waiting.{EndsWhenSettled, OpensWhenOpened, Settled, RanOut, NotOpen, HasClosed, is_ending, is_opened, opened_in, GivenUp}
 use Rattle.gate_model.proofs.Connections.{clash}
-use Rattle.gate_model.proofs.Known.{Known, container_is, known, memory_is, side_is}
+use Rattle.gate_model.proofs.Known.{Known, container_is, known, memory_is, side_is, silent_is}
 use Rattle.gate_model.proofs.Sessions.{session_cases}
 use Rattle.gate_model.proofs.Said.{Beats, IsDue, OnChannel, Picked, calm_now, of_channel, picked}
 
@@ -58,12 +58,14 @@ ends_settled settled d r calm e is = by settled d.protocol d.start d.tune d.open
 
 -- what the state says of that, the folds say
 pub settled_in : (h : List Step) → Known h → is_settled (before h) ≡ true → Settled h
-settled_in h k e = by (before h).out_of_memory (is_readable (before h).up.side) refl refl e
+settled_in h k e = by (before h).out_of_memory (is_readable (before h).up.side) (has_closed (before h).up) refl refl refl e
   where
-    by : (m b : Bool) → (before h).out_of_memory ≡ m → is_readable (before h).up.side ≡ b → (m || (not b || has_closed (before h).up)) ≡ true → Settled h
-    by true b f g e = RanOut (sym (memory_is k) ∙ f)
-    by false false f g e = NotOpen (ap is_readable (sym (side_is k)) ∙ g)
-    by false true f g e = HasClosed (ap (λ (o : Option Upstream). is_closed_stream (stream_in o)) (sym (container_is k)) ∙ e)
+    by : (m b c : Bool) → (before h).out_of_memory ≡ m → is_readable (before h).up.side ≡ b → has_closed (before h).up ≡ c
+        → (m || (not b || (c || (before h).up.silent))) ≡ true → Settled h
+    by true b c f g k' e = RanOut (sym (memory_is k) ∙ f)
+    by false false c f g k' e = NotOpen (ap is_readable (sym (side_is k)) ∙ g)
+    by false true true f g k' e = HasClosed (ap (λ (o : Option Upstream). is_closed_stream (stream_in o)) (sym (container_is k)) ∙ k')
+    by false true false f g k' e = GivenUp (sym (silent_is k) ∙ e)
 
 isnt_ending : (u : Reply) → is_answer u ≡ false → is_ending u ≡ false
 isnt_ending reply.Protocol e = absurd cc
@@ -91,6 +93,8 @@ ends_when_settled (Gave (ToClient u) ∷ h) p = (ends_picked h u p.1 (picked (be
 ends_when_settled (Gave (ToUp u) ∷ h) p = ends_when_settled h p.1
 ends_when_settled (Began vhost n ms ∷ h) p = ends_when_settled h p.1
 ends_when_settled (Moment ms ∷ h) p = ends_when_settled h p.1
+ends_when_settled (Fed end ∷ h) p = ends_when_settled h p.1
+ends_when_settled (Silent end ∷ h) p = ends_when_settled h p.1
 ends_when_settled (Queued u ∷ h) p = ends_when_settled h p.1
 ends_when_settled (Came u ∷ h) p = ends_when_settled h p.1
 ends_when_settled (TakenUp ∷ h) p = ends_when_settled h p.1
@@ -140,7 +144,7 @@ open_ok_fail code why w = by (is_closing w.conn)
     by false = refl
 
 open_ok_session : (g : ℕ) (p : Parts) (w : State) → (with_session g p w).pending.open_ok ≡ w.pending.open_ok
-open_ok_session g p w = session_cases (λ (v : State). v.pending.open_ok ≡ w.pending.open_ok) g p w refl (open_ok_fail _ _ w) refl (λ code why. refl)
+open_ok_session g p w = session_cases (λ (v : State). v.pending.open_ok ≡ w.pending.open_ok) g p w refl (open_ok_fail _ _ (carried g p w)) refl (λ code why. refl)
 
 open_ok_meaning : (m : Meaning) (w : State) → (with_meaning m w).pending.open_ok ≡ true → (w.pending.open_ok || is_opened m) ≡ true
 open_ok_meaning m w e = by m e
@@ -212,6 +216,10 @@ open_ok_opened [] p e = absurd cc
 open_ok_opened (Began vhost n ms ∷ h) p e =
     let none : (before (Began vhost n ms ∷ [])).pending.open_ok ≡ true = subst (λ (x : List Step). (before (Began vhost n ms ∷ x)).pending.open_ok ≡ true) p.0 e in absurd cc
 open_ok_opened (Moment ms ∷ h) p e = open_ok_opened h p.1 e
+open_ok_opened (Fed Client ∷ h) p e = open_ok_opened h p.1 e
+open_ok_opened (Fed Up ∷ h) p e = open_ok_opened h p.1 e
+open_ok_opened (Silent Client ∷ h) p e = open_ok_opened h p.1 e
+open_ok_opened (Silent Up ∷ h) p e = open_ok_opened h p.1 (sym (open_ok_fail _ _ _) ∙ e)
 open_ok_opened (Queued u ∷ h) p e = open_ok_opened h p.1 (sym (open_ok_queued (before h) _) ∙ e)
 open_ok_opened (Came u ∷ h) p e = open_ok_opened h p.1 (sym (open_ok_came (before h) u) ∙ e)
 open_ok_opened (TakenUp ∷ h) p e = open_ok_opened h p.1 (sym (open_ok_taken (before h) _) ∙ e)
@@ -295,6 +303,8 @@ opens_when_opened (Gave (ToClient u) ∷ h) p = opens_given h u p.1 (picked (bef
 opens_when_opened (Gave (ToUp u) ∷ h) p = opens_when_opened h p.1
 opens_when_opened (Began vhost n ms ∷ h) p = opens_when_opened h p.1
 opens_when_opened (Moment ms ∷ h) p = opens_when_opened h p.1
+opens_when_opened (Fed end ∷ h) p = opens_when_opened h p.1
+opens_when_opened (Silent end ∷ h) p = opens_when_opened h p.1
 opens_when_opened (Queued u ∷ h) p = opens_when_opened h p.1
 opens_when_opened (Came u ∷ h) p = opens_when_opened h p.1
 opens_when_opened (TakenUp ∷ h) p = opens_when_opened h p.1

@@ -21,11 +21,15 @@ use Rattle.gate_model.specs.declared.outgoing.UpUnit.{UpUnit}
 use Rattle.gate_model.specs.declared.outgoing.UpUnit.TheVariants as up
 use Rattle.gate_model.specs.declared.timers.TheConstants.{CLOSING_LIMIT}
 use Rattle.gate_model.specs.Due.{is_shut_due, up_rows}
-use Rattle.gate_model.specs.Folds.{closed_in, connection, container, moment_in, ran_out_in}
+use Rattle.gate_model.specs.Folds.{carrying, closed_in, connection, container, moment_in}
+use Rattle.gate_model.specs.Folds.{ran_out_in}
 use Rattle.performatives_10.specs.declared.condition.Condition.TheVariants.{NotAllowed}
+use Rattle.performatives_10.specs.declared.condition.Condition.TheVariants.{ResourceLimitExceeded}
 use Rattle.gate_model.specs.Folds.{sent_up, sent_up_at, session_closes, side_in}
-use Rattle.gate_model.specs.Lives.{is_begun, is_ended, is_free, session_in}
-use Rattle.gate_model.specs.State.{State, Step, Came, Gave, Heard, Joined, OutOfMemory, Whole}
+use Rattle.gate_model.specs.Lives.{is_begun, is_carried, is_ended, is_free, session_in}
+use Rattle.gate_model.specs.Session.{is_flow_owed}
+use Rattle.gate_model.specs.State.{State, Step, Came, Gave, Heard, Joined, OutOfMemory, Silent}
+use Rattle.gate_model.specs.State.{Whole}
 use Rattle.gate_model.specs.State.{before, condition_by}
 use Rattle.gate_model.specs.Upstream.{idle_in, is_bad_stream, is_closed_stream, meaning_by}
 use Rattle.gate_model.specs.Upstream.{nothing_due, opening_rows, opens_by, stream_in}
@@ -40,6 +44,7 @@ is_opening_unit up.AmqpHeader = true
 is_opening_unit up.Open = true
 is_opening_unit (up.Close why) = false
 is_opening_unit up.Empty = false
+is_opening_unit (up.Flow n i o) = false
 is_opening_unit (up.Begin n) = false
 is_opening_unit (up.End n why) = false
 
@@ -92,6 +97,7 @@ is_up_open up.AmqpHeader = false
 is_up_open up.Open = true
 is_up_open (up.Close why) = false
 is_up_open up.Empty = false
+is_up_open (up.Flow n i o) = false
 is_up_open (up.Begin n) = false
 is_up_open (up.End n why) = false
 
@@ -102,6 +108,7 @@ is_up_close up.AmqpHeader = false
 is_up_close up.Open = false
 is_up_close (up.Close why) = true
 is_up_close up.Empty = false
+is_up_close (up.Flow n i o) = false
 is_up_close (up.Begin n) = false
 is_up_close (up.End n why) = false
 
@@ -120,6 +127,7 @@ condition_told (ten.Violation why) = Some why
 abbrev pub condition_at : Step → List Step → Option Condition
 condition_at (Came u) h = condition_by (unit_step (connection h) u).1
 condition_at (Heard u) h = condition_told (meaning_by (container h) u)
+condition_at (Silent Up) h = Some ResourceLimitExceeded
 condition_at OutOfMemory h = Some (condition_of RESOURCE_ERROR)
 condition_at s h = None
 
@@ -163,6 +171,15 @@ pub data MayEnd (h : List Step) (n : ℕ) : Type 0 where
       → (is_closing (connection h) ≡ true) ⊎ (is_open (connection h) n ≡ false)
       → MayEnd h n
 
+-- a flow goes between the container's begin and the gateway's end, where the container asked for the
+-- state of the session and wasn't answered, or little is left of the window that the gateway stated
+-- (AMQP 1.0 2.5.6, 2.7.4); it tells the ids of the next transfer frames
+pub record MayFlow (h : List Step) (n i o : ℕ) : Type 0 where
+  pub carried : is_carried (session_in (container h) n) ≡ true
+  pub owed : is_flow_owed (carrying n h) ≡ true
+  pub incoming : i ≡ (carrying n h).windows.next_incoming
+  pub outgoing : o ≡ (carrying n h).windows.next_outgoing
+
 -- ---- all units
 
 -- those of the opening go while the client's connection isn't closing
@@ -173,6 +190,7 @@ MayGo h up.AmqpHeader = is_closing (connection h) ≡ false
 MayGo h up.Open = is_closing (connection h) ≡ false
 MayGo h (up.Close why) = MayClose h why
 MayGo h up.Empty = MayTell h
+MayGo h (up.Flow n i o) = MayFlow h n i o
 MayGo h (up.Begin n) = MayBegin h n
 MayGo h (up.End n why) = MayEnd h n
 

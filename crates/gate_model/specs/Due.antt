@@ -24,15 +24,19 @@ use Rattle.gate_model.specs.declared.reply.Reply.TheVariants as reply
 use Rattle.gate_model.specs.declared.reply.Pending.{Pending}
 use Rattle.gate_model.specs.declared.life.Life.{Life}
 use Rattle.gate_model.specs.declared.timers.TheConstants.{BEAT_PER_SECOND, CLOSING_LIMIT}
+use Rattle.gate_model.specs.declared.timers.TheConstants.{SILENCE_PER_SECOND}
 use Rattle.gate_model.specs.declared.outgoing.Outgoing.{Outgoing}
 use Rattle.gate_model.specs.declared.outgoing.Outgoing.TheVariants.{ToClient, ToUp}
 use Rattle.gate_model.specs.declared.outgoing.UpUnit.{UpUnit}
 use Rattle.gate_model.specs.declared.outgoing.UpUnit.TheVariants as up
-use Rattle.gate_model.specs.Lives.{each, is_begun, is_ended, is_free, session_in}
-use Rattle.gate_model.specs.Queue.{is_bad_unit, is_empty, is_full}
-use Rattle.gate_model.specs.State.{State, close_waits, is_channel_settled, is_settled, place, waits}
+use Rattle.gate_model.specs.Lives.{each, is_begun, is_carried, is_ended, is_free, session_in}
+use Rattle.gate_model.specs.Session.{is_flow_owed}
+use Rattle.machine_10.specs.declared.state.Upstream.{Upstream}
+use Rattle.gate_model.specs.Queue.{is_empty}
+use Rattle.gate_model.specs.State.{State, is_channel_settled, is_held, is_settled, place, waits}
 use Rattle.gate_model.specs.Upstream.{UpState, awaited_of, first, has_closed, has_gone_bad}
-use Rattle.gate_model.specs.Upstream.{is_awaited_up, is_idle_due, opening_rows, when_up}
+use Rattle.gate_model.specs.Upstream.{is_awaited_up, is_idle_due, is_up_silent, opening_rows}
+use Rattle.gate_model.specs.Upstream.{when_up}
 
 -- ---- units
 
@@ -144,6 +148,16 @@ client_rows w = client_units w ++ when (is_beat_due w) reply.Heartbeat
 abbrev pub begins : State → List UpUnit
 begins w = each (λ n l. when_up (l.begin && is_free (session_in w.up.container n)) (up.Begin n)) 0 w.lives
 
+-- a flow of a session is due between the container's begin and the gateway's end, where the
+-- container asked for one or little is left of the window that the gateway stated
+abbrev pub flows_on : Option Upstream → ℕ → Life → List UpUnit
+flows_on c n l =
+    when_up (is_carried (session_in c n) && is_flow_owed l.session)
+    (up.Flow n l.session.windows.next_incoming l.session.windows.next_outgoing)
+
+abbrev pub session_flows : State → List UpUnit
+session_flows w = each (flows_on w.up.container) 0 w.lives
+
 -- an end is due where the container's came, or where the channel or the connection closes
 abbrev pub is_end_due : Bool → State → ℕ → Bool
 is_end_due closing w n =
@@ -160,11 +174,17 @@ close_behind [] s = when_up s.sent.«open» (up.Close s.condition)
 close_behind (u ∷ us) s = []
 
 -- while the connection isn't closing and once it is
+abbrev pub unless_out : Bool → List UpUnit → List UpUnit
+unless_out true us = []
+unless_out false us = us
+
 abbrev pub rows_in : Bool → State → List UpUnit
-rows_in true w = ends true w ++ close_behind (ends true w) w.up
+rows_in true w =
+    unless_out w.out_of_memory (session_flows w)
+    ++ (ends true w ++ close_behind (ends true w) w.up)
 rows_in false w =
-    opening_rows w.up.pending ++ (begins w
-    ++ (ends false w ++ when_up (is_idle_due w.up w.moment) up.Empty))
+    opening_rows w.up.pending ++ (begins w ++ (session_flows w
+    ++ (ends false w ++ when_up (is_idle_due w.up w.moment) up.Empty)))
 
 -- through an end that is open, and none after the close
 abbrev pub up_rows : State → List UpUnit
@@ -185,6 +205,7 @@ takes_memory_up up.AmqpHeader = false
 takes_memory_up up.Open = true
 takes_memory_up (up.Close c) = false
 takes_memory_up up.Empty = false
+takes_memory_up (up.Flow n i o) = true
 takes_memory_up (up.Begin n) = true
 takes_memory_up (up.End n why) = false
 
@@ -212,15 +233,24 @@ is_awaited awaited.Header = true
 is_awaited (awaited.Frame size) = true
 is_awaited awaited.Nothing = false
 
--- the client isn't read while its connection.open or connection.close waits, behind bytes with
--- which no unit begins, and while much isn't taken up
-abbrev pub is_held : State → Bool
-is_held w = is_opening w.conn || (close_waits w || (list_any is_bad_unit w.queue || is_full w.queue))
-
--- bytes of an end are awaited
+-- bytes of an end are awaited: of a client that was given up too, until its end is shut
 abbrev pub is_awaiting : State → End → Bool
-is_awaiting w Client = is_awaited (awaits w.conn) && not (is_held w)
+is_awaiting w Client = (is_awaited (awaits w.conn) || w.given_up) && not (is_held w)
 is_awaiting w Up = is_readable w.up.side && is_awaited_up (awaited_of w.up.container)
+
+-- a client that is read is given up once no byte of it came for twice the interval that was agreed
+-- to, in seconds, counted from its last byte, or from the end of the last time that it was held
+-- (AMQP 0-9-1 4.2.7)
+abbrev pub is_silent_by : ℕ → ℕ → ℕ → Bool
+is_silent_by interval ms fed =
+    not (interval == 0) && nat_le (SILENCE_PER_SECOND * interval) (ms - fed)
+
+abbrev pub is_silent : State → End → Bool
+is_silent w Client =
+    is_awaiting w Client
+    && (not (w.given_up || (w.gone || (w.leaving || w.out_of_memory)))
+    && is_silent_by w.conn.limits.heartbeat w.moment w.fed_at)
+is_silent w Up = is_up_silent w.up w.moment
 
 -- the connection upstream is to be asked for
 abbrev pub is_connect_due : State → Bool

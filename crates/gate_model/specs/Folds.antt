@@ -29,14 +29,16 @@ use Rattle.gate_model.specs.declared.outgoing.Outgoing.TheVariants.{ToClient, To
 use Rattle.gate_model.specs.declared.outgoing.UpUnit.{UpUnit}
 use Rattle.gate_model.specs.declared.reply.Reply.{Reply}
 use Rattle.gate_model.specs.declared.reply.Reply.TheVariants as reply
-use Rattle.gate_model.specs.State.{Step, Began, Moment, Queued, Came, TakenUp, Heard, Joined, Lost, Gave}
+use Rattle.gate_model.specs.State.{Step, Began, Moment, Fed, Silent, Queued, Came, TakenUp, Heard, Joined, Lost, Gave}
 use Rattle.gate_model.specs.State.{Whole, OutOfMemory, close, close_if, closes_at, conn_step}
 use Rattle.gate_model.specs.State.{conn_given, failure, is_limit_reached, turns_foreign}
 use Rattle.gate_model.specs.Upstream.{channel_max_in, condition_in, container_by, container_for}
 use Rattle.gate_model.specs.Upstream.{container_given, ended_in}
 use Rattle.gate_model.specs.Upstream.{meaning_by}
-use Rattle.performatives_10.specs.Fields.{is_absent}
 use Rattle.gate_model.specs.Due.{when}
+use Rattle.gate_model.specs.Session.{carried_by, flow_sent, is_of_session, no_session}
+use Rattle.gate_model.specs.declared.life.SessionState.{SessionState}
+use Rattle.gate_model.specs.declared.outgoing.UpUnit.TheVariants as up
 
 -- ---- moments
 
@@ -60,6 +62,13 @@ sent_at (Began vhost n ms ∷ h) = ms
 sent_at (Whole Client ∷ h) = moment_in h
 sent_at (s ∷ h) = sent_at h
 
+-- the moment at which the container's last byte came, that of the connect before
+abbrev pub up_fed_at : List Step → ℕ
+up_fed_at [] = 0
+up_fed_at (Joined link.Ok ∷ h) = moment_in h
+up_fed_at (Fed Up ∷ h) = moment_in h
+up_fed_at (s ∷ h) = up_fed_at h
+
 -- ---- the client's end and its connection
 
 -- the pair ran out of memory
@@ -81,6 +90,18 @@ leaving_in (Lost Client loss.Ended ∷ h) = true
 leaving_in (Lost Client loss.Failed ∷ h) = true
 leaving_in (s ∷ h) = leaving_in h
 
+-- it was shut
+abbrev pub gone_in : List Step → Bool
+gone_in [] = false
+gone_in (Lost Client loss.Shut ∷ h) = true
+gone_in (s ∷ h) = gone_in h
+
+-- the client was given up
+abbrev pub given_up_in : List Step → Bool
+given_up_in [] = false
+given_up_in (Silent Client ∷ h) = true
+given_up_in (s ∷ h) = given_up_in h
+
 -- ---- the container
 
 -- how far the upstream end is
@@ -93,6 +114,12 @@ side_in (Lost Up loss.Failed ∷ h) = side.Failed
 side_in (Lost Up loss.Shut ∷ h) = side.Gone
 side_in (s ∷ h) = side_in h
 
+-- the container was given up
+abbrev pub silent_in : List Step → Bool
+silent_in [] = false
+silent_in (Silent Up ∷ h) = true
+silent_in (s ∷ h) = silent_in h
+
 -- an attach answers none of the gateway's
 abbrev pub session_closes : Parts → Bool
 session_closes p = if p.0 == 17 then false else p.0 == 18
@@ -103,7 +130,7 @@ abbrev pub conn_session : ℕ → Parts → Connection → Connection
 conn_session n p c =
     if p.0 == 17 then c
     else if p.0 == 18 then close c
-    else if p.0 == 19 && is_absent (field p.1 4) then c
+    else if p.0 == 19 && is_of_session p.1 then c
     else if p.0 == 21 then c
     else if is_open c n then after_closing scope.Channel n c
     else c
@@ -157,6 +184,9 @@ peers (Began vhost n ms ∷ h) = record { client = new_connection vhost; contain
 peers (Moment ms ∷ h) = record (peers h) {
   client = close_if (is_limit_reached (peers h).client (accepted_in h) ms) (peers h).client;
 }
+peers (Fed end ∷ h) = peers h
+peers (Silent Client ∷ h) = record (peers h) { client = after_ended (peers h).client }
+peers (Silent Up ∷ h) = record (peers h) { client = close (peers h).client }
 peers (Queued u ∷ h) = peers h
 peers (Came u ∷ h) = if ran_out_in h then peers h else peers_came (peers h) u
 peers (TakenUp ∷ h) =
@@ -187,6 +217,32 @@ container h = (peers h).container
 abbrev pub closed_in : List Step → Option ℕ
 closed_in [] = None
 closed_in (s ∷ h) = closes_at (closed_in h) (is_closing (connection (s ∷ h))) (moment_in (s ∷ h))
+
+-- ---- sessions
+
+-- the session of a channel, by the container's begin, flows and transfers, and by the gateway's
+-- flows (AMQP 1.0 2.7); it stays until the next begin
+abbrev pub carried_heard : ℕ → Meaning → SessionState → SessionState
+carried_heard n ten.Nothing s = s
+carried_heard n ten.Init s = s
+carried_heard n ten.AmqpHeader s = s
+carried_heard n ten.Opened s = s
+carried_heard n (ten.OfSession g p payload) s = if g == n then carried_by p s else s
+carried_heard n (ten.Closed e) s = s
+carried_heard n ten.Refused s = s
+carried_heard n (ten.Violation why) s = s
+
+abbrev pub carried_sent : ℕ → UpUnit → SessionState → SessionState
+carried_sent n (up.Flow m i o) s = if m == n then flow_sent s else s
+carried_sent n u s = s
+
+abbrev pub carrying : ℕ → List Step → SessionState
+carrying n [] = no_session
+carrying n (Heard u ∷ h) =
+    if ran_out_in h then carrying n h
+    else carried_heard n (meaning_by (container h) u) (carrying n h)
+carrying n (Gave (ToUp u) ∷ h) = carried_sent n u (carrying n h)
+carrying n (s ∷ h) = carrying n h
 
 -- ---- replies
 
@@ -232,6 +288,7 @@ replies (Came u ∷ h) = if ran_out_in h then replies h else replies h ++ replie
 replies (Heard u ∷ h) =
     if ran_out_in h then replies h
     else replies h ++ reply_by (connection h) (meaning_by (container h) u)
+replies (Silent Up ∷ h) = replies h ++ failure_to (connection h) CONNECTION_FORCED
 replies (Joined link.Failed ∷ h) = replies h ++ failure_to (connection h) CONNECTION_FORCED
 replies (Lost Up loss.Ended ∷ h) = replies h ++ failure_to (connection h) CONNECTION_FORCED
 replies (Lost Up loss.Failed ∷ h) = replies h ++ failure_to (connection h) CONNECTION_FORCED

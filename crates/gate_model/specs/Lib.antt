@@ -8,7 +8,9 @@ pub mod Once
 pub mod Order
 pub mod Picks
 pub mod Queue
+pub mod Session
 pub mod Setup
+pub mod Silence
 pub mod Spelling
 pub mod State
 pub mod Times

@@ -13,6 +13,8 @@ use Rattle.methods_091.specs.declared.method.Method91.{Method91}
 use Rattle.methods_091.specs.declared.method.Method91.TheVariants as method
 use Rattle.performatives_10.specs.declared.condition.Condition.{Condition}
 use Rattle.gate_model.specs.declared.life.Life.{Life}
+use Rattle.gate_model.specs.declared.life.SessionState.{SessionState}
+use Rattle.gate_model.specs.Session.{no_session}
 
 -- ---- one life
 
@@ -28,11 +30,12 @@ no_life = record {
   crossed_ok = false;
   close = None;
   why = None;
+  session = no_session;
 }
 
--- what is due for the life before: a close-ok, and the error of the end of its session
+-- what is due for the life before: a close-ok, and what concerns its session
 abbrev pub old_life : Life → Life
-old_life l = record no_life { crossed_ok = l.crossed_ok; why = l.why }
+old_life l = record no_life { crossed_ok = l.crossed_ok; why = l.why; session = l.session }
 
 -- channel.open was taken up
 abbrev pub asked_life : Life → Life
@@ -73,6 +76,10 @@ life_at ls n = or_none (slice_get ls n)
 
 abbrev pub with_life : ℕ → Life → List Life → List Life
 with_life n l ls = slice_set ls n l
+
+-- the session of a channel changes
+abbrev pub with_state : ℕ → SessionState → List Life → List Life
+with_state n s ls = with_life n (record (life_at ls n) { session = s }) ls
 
 -- what the lives are after a method of a channel
 abbrev pub method_life : Method91 → Life → Life
@@ -135,6 +142,15 @@ is_ended session.Left = false
 is_ended (session.Open m) = false
 is_ended (session.Leaving m) = false
 is_ended (session.Ended m) = true
+
+-- both begins went, and the gateway's end didn't
+abbrev pub is_carried : Session → Bool
+is_carried session.Free = false
+is_carried session.Asked = false
+is_carried session.Left = false
+is_carried (session.Open m) = true
+is_carried (session.Leaving m) = false
+is_carried (session.Ended m) = true
 
 -- the gateway's begin went, and no end of either side
 abbrev pub is_begun : Session → Bool

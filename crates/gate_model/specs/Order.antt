@@ -2,9 +2,10 @@
 -- 4.2.6 and 4.7).
 use Rattle.std.specs.Prelude.{◌≡◌, ℕ, ◌==◌, Bool, false, if◌then◌else◌, List, [], ◌∷◌, ◌++◌, filter}
 use Rattle.machine_091.specs.declared.unit.Unit91.{Unit91}
+use Rattle.gate_outside.specs.declared.ports.End.TheVariants.{Client}
 use Rattle.gate_model.specs.Folds.{ran_out_in}
 use Rattle.gate_model.specs.Queue.{channel_of}
-use Rattle.gate_model.specs.State.{Step, Queued, Came, before}
+use Rattle.gate_model.specs.State.{Step, Silent, Queued, Came, before}
 
 -- the units that came, in their order
 abbrev pub came_in : List Step → List Unit91
@@ -12,10 +13,11 @@ came_in [] = []
 came_in (Queued u ∷ h) = came_in h ++ u ∷ []
 came_in (s ∷ h) = came_in h
 
--- those that were taken up
+-- those that were taken up; all that wait when the client is given up are passed over there
 abbrev pub taken_in : List Step → List Unit91
 taken_in [] = []
 taken_in (Came u ∷ h) = taken_in h ++ u ∷ []
+taken_in (Silent Client ∷ h) = taken_in h ++ (before h).queue
 taken_in (s ∷ h) = taken_in h
 
 -- those of a channel

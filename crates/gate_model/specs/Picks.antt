@@ -16,9 +16,9 @@ use Rattle.machine_10.specs.declared.unit.Unit10.TheVariants as unit_10
 use Rattle.performatives_10.specs.declared.condition.Condition.TheVariants.{FramingError}
 use Rattle.gate_model.specs.declared.outgoing.Outgoing.TheVariants.{ToClient, ToUp}
 use Rattle.gate_model.specs.Queue.{is_bad_unit}
-use Rattle.gate_model.specs.State.{State, Step, Began, Moment, Queued, Came, TakenUp, Heard, Joined}
+use Rattle.gate_model.specs.State.{State, Step, Began, Moment, Fed, Silent, Queued, Came, TakenUp, Heard, Joined}
 use Rattle.gate_model.specs.State.{Lost, Gave, Whole, OutOfMemory, before, next_unit, place}
-use Rattle.gate_model.specs.Due.{can_leave, is_busy, is_connect_due, pick}
+use Rattle.gate_model.specs.Due.{can_leave, is_busy, is_connect_due, is_silent, pick}
 use Rattle.gate_model.specs.Folds.{connection, container, moment_in, ran_out_in}
 use Rattle.gate_model.specs.Upstream.{awaited_of}
 
@@ -53,6 +53,8 @@ pub record MayQueue (w : State) : Type 0 where
 abbrev pub MayStep : List Step → Step → Type 0
 MayStep h (Began vhost n ms) = h ≡ []
 MayStep h (Moment ms) = moment_in h ≤ ms
+MayStep h (Fed end) = Unit {0}
+MayStep h (Silent end) = is_silent (before h) end ≡ true
 MayStep h (Queued u) = MayComeAs (awaits (before h).conn) u × MayQueue (before h)
 MayStep h (Came u) = next_unit (before h) ≡ Some u
 MayStep h TakenUp = can_leave (before h) ≡ true

@@ -1,5 +1,5 @@
 -- The bytes of the units to a client and to a container, in the standards' terms.
-use Rattle.std.specs.Prelude.{ℕ, true, List, [], ◌∷◌, ◌++◌, length, codes, decimal, Option, None, Some}
+use Rattle.std.specs.Prelude.{ℕ, true, false, List, [], ◌∷◌, ◌++◌, length, codes, decimal, Option, None, Some}
 use Rattle.std.specs.Int.{w32, to_be_bytes}
 use Rattle.close_translate.specs.Codes.{name_of}
 use Rattle.close_translate.specs.declared.codes.TheConstants.{RESOURCE_ERROR}
@@ -177,6 +177,22 @@ begin_perf = perf.Begin (record {
   properties = None;
 })
 
+-- a flow of a session, which states the whole window again (AMQP 1.0 2.7.4)
+abbrev pub flow_perf : ℕ → ℕ → Perf
+flow_perf incoming outgoing = perf.Flow (record {
+  next_incoming_id = Some incoming;
+  incoming_window = limits_10.WINDOW;
+  next_outgoing_id = outgoing;
+  outgoing_window = limits_10.WINDOW;
+  handle = None;
+  delivery_count = None;
+  link_credit = None;
+  available = None;
+  drain = false;
+  echo = false;
+  properties = None;
+})
+
 abbrev pub frame_on : ℕ → List ℕ → List ℕ
 frame_on n body = frames_10.frame_text (record { kind = Amqp; channel = n; body = body })
 
@@ -192,6 +208,7 @@ spell_up c up.AmqpHeader = headers_10.header_bytes Amqp
 spell_up c up.Open = frame_10 Amqp (perf_text (open_of c.setup c.number))
 spell_up c (up.Close why) = end_text 0 Close why
 spell_up c up.Empty = frame_10 Amqp []
+spell_up c (up.Flow n i o) = frame_on n (perf_text (flow_perf i o))
 spell_up c (up.Begin n) = frame_on n (perf_text begin_perf)
 spell_up c (up.End n why) = end_text n End why
 

@@ -1,6 +1,7 @@
 -- What the steps of a pair amount to. All lists of steps are newest first.
 use Rattle.std.specs.Prelude.{ℕ, ◌-◌, ◌==◌, nat_le, Bool, true, false, not, ◌&&◌, ◌||◌, if◌then◌else◌}
 use Rattle.std.specs.Prelude.{List, [], ◌∷◌, ◌++◌, Option, None, Some}
+use Rattle.std.specs.List.{list_any}
 use Rattle.close_translate.specs.Conditions.{code_by, condition_of}
 use Rattle.close_translate.specs.declared.codes.TheConstants.{CONNECTION_FORCED, INTERNAL_ERROR}
 use Rattle.close_translate.specs.declared.codes.TheConstants.{NOT_ALLOWED, PRECONDITION_FAILED}
@@ -45,15 +46,15 @@ use Rattle.machine_10.specs.Transitions.{Meaning}
 use Rattle.machine_10.specs.declared.unit.Unit10.{Unit10}
 use Rattle.machine_10.specs.Parts.{Parts}
 use Rattle.machine_10.specs.Reading.{field}
-use Rattle.performatives_10.specs.Fields.{is_absent}
 use Rattle.performatives_10.specs.declared.condition.Condition.TheVariants.{NotAllowed}
-use Rattle.performatives_10.specs.declared.condition.Condition.TheVariants.{UnattachedHandle}
+use Rattle.performatives_10.specs.declared.condition.Condition.TheVariants.{ResourceLimitExceeded}
 use Rattle.gate_model.specs.declared.life.Life.{Life}
 use Rattle.gate_model.specs.declared.outgoing.UpUnit.{UpUnit}
 use Rattle.gate_model.specs.declared.outgoing.UpUnit.TheVariants as up
 use Rattle.gate_model.specs.Lives.{any_life, begun_life, failed_life, is_done, life_at, lives_by}
-use Rattle.gate_model.specs.Lives.{no_lives, refusal_on, session_in, with_life}
-use Rattle.gate_model.specs.Queue.{Waits, place_in, unit_at, without_at}
+use Rattle.gate_model.specs.Lives.{no_lives, refusal_on, session_in, with_life, with_state}
+use Rattle.gate_model.specs.Session.{carried_by, fault_of, flow_sent, is_of_session}
+use Rattle.gate_model.specs.Queue.{Waits, is_bad_unit, is_full, place_in, unit_at, without_at}
 use Rattle.performatives_10.specs.declared.condition.Condition.{Condition}
 
 pub data Step : Type 0 where
@@ -62,6 +63,10 @@ pub data Step : Type 0 where
   Began : List ℕ → ℕ → ℕ → Step
   -- a moment was given
   Moment : ℕ → Step
+  -- bytes of an end came
+  Fed : End → Step
+  -- an end is given up: no byte of it came for too long
+  Silent : End → Step
   -- the client's stream had a whole unit, or bytes with which none begins
   Queued : Unit91 → Step
   -- this one, the first that could be, was taken up
@@ -101,6 +106,8 @@ pub record State : Type 0 where
   pub accepted_at : ℕ
   pub moment : ℕ
   pub last_sent_at : ℕ
+  -- the moment of the client's last byte, or the last one at which it was held
+  pub fed_at : ℕ
   -- the moment of the closing event of the connection
   pub closed_at : Option ℕ
   -- that event was the client's connection.close
@@ -111,6 +118,10 @@ pub record State : Type 0 where
   pub leaving : Bool
   -- it failed
   pub failed : Bool
+  -- the client was given up
+  pub given_up : Bool
+  -- its end was shut
+  pub gone : Bool
   pub out_of_memory : Bool
 
 -- ---- at the accept
@@ -142,11 +153,14 @@ new_state vhost number ms = record {
   accepted_at = ms;
   moment = ms;
   last_sent_at = ms;
+  fed_at = ms;
   closed_at = None;
   client_closed = false;
   late = false;
   leaving = false;
   failed = false;
+  given_up = false;
+  gone = false;
   out_of_memory = false;
 }
 
@@ -177,6 +191,29 @@ failed code why w = record w {
 -- the upstream end is the cause, unless the connection closes already
 abbrev pub fail : ℕ → Option Condition → State → State
 fail code why w = if is_closing w.conn then w else failed code why w
+
+-- ---- what holds the client
+
+-- nothing of the upstream end is waited for: there is none, it is lost or was given up,
+-- the container closed, or the pair ran out of memory
+abbrev pub is_settled : State → Bool
+is_settled w =
+    w.out_of_memory || (not (is_readable w.up.side) || (has_closed w.up || w.up.silent))
+
+-- connection.close of the client waits for the container's close
+abbrev pub close_waits : State → Bool
+close_waits w = w.client_closed && not (is_settled w)
+
+-- the client isn't read while its connection.open or connection.close waits, behind bytes with which
+-- no unit begins, and while much isn't taken up
+abbrev pub is_held : State → Bool
+is_held w =
+    is_opening w.conn || (close_waits w || (list_any is_bad_unit w.queue || is_full w.queue))
+
+-- the moment of the client's last byte, once it is held or not
+abbrev pub fed_by : Bool → ℕ → ℕ → ℕ
+fed_by true ms at = ms
+fed_by false ms at = at
 
 -- ---- a unit of the client
 
@@ -270,6 +307,7 @@ came w u =
     let v = stepped w u in
     record v {
       pending = with_header (turns_foreign w.conn u) v.pending;
+      fed_at = fed_by (is_held v) w.moment w.fed_at;
       closed_at = closes_at w.closed_at (is_closing v.conn) w.moment;
     }
 
@@ -303,20 +341,28 @@ abbrev pub fail_life : ℕ → ℕ → Option Condition → State → State
 fail_life n code why w =
     if is_open w.conn n then life_failed n (refusal_on n code) why w else w
 
--- the container's begin, end, and what else belongs to a session, by the code of its descriptor
+-- the container's begin, its end, and what else belongs to a session, by the code of its descriptor
 -- (AMQP 1.0 2.7): no link is attached yet, so what names one ends the session, and an attach
 -- answers none of the gateway's
+abbrev pub carried : ℕ → Parts → State → State
+carried n p w = record w {
+  lives = with_state n (carried_by p (life_at w.lives n).session) w.lives;
+}
+
 abbrev pub begun_session : ℕ → State → State
 begun_session n w = record w { lives = with_life n (begun_life (life_at w.lives n)) w.lives }
 
-abbrev pub with_session : ℕ → Parts → State → State
-with_session n p w =
+abbrev pub met_session : ℕ → Parts → Condition → State → State
+met_session n p fault w =
     if p.0 == 17 then begun_session n w
     else if p.0 == 18 then fail INTERNAL_ERROR (Some NotAllowed) w
-    else if p.0 == 19 && is_absent (field p.1 4) then w
+    else if p.0 == 19 && is_of_session p.1 then w
     else if p.0 == 21 then w
     else if p.0 == 23 then fail_life n (code_by (condition_in (field p.1 0)) scope.Channel) None w
-    else fail_life n PRECONDITION_FAILED (Some UnattachedHandle) w
+    else fail_life n PRECONDITION_FAILED (Some fault) w
+
+abbrev pub with_session : ℕ → Parts → State → State
+with_session n p w = met_session n p (fault_of p (life_at w.lives n).session) (carried n p w)
 
 -- what a unit of the container means: a refused login isn't allowed, a close has the code of its
 -- condition, and a unit out of order is an error of the container
@@ -333,19 +379,10 @@ with_meaning (ten.Violation c) w = fail INTERNAL_ERROR (Some c) w
 abbrev pub heard : State → Unit10 → State
 heard w u = with_meaning (meaning_by w.up.container u) (record w { up = heard_up u w.up })
 
--- nothing of the upstream end is waited for: there is none, it is lost, the container closed, or
--- the pair ran out of memory
-abbrev pub is_settled : State → Bool
-is_settled w = w.out_of_memory || (not (is_readable w.up.side) || has_closed w.up)
-
 -- nothing of the container is waited for on a channel: the same, or its session has no begin or the
 -- container's end
 abbrev pub is_channel_settled : State → ℕ → Bool
 is_channel_settled w n = is_settled w || is_done (session_in w.up.container n)
-
--- connection.close of the client waits for the container's close
-abbrev pub close_waits : State → Bool
-close_waits w = w.client_closed && not (is_settled w)
 
 -- channel.open waits for the container's begin, and channel.close of an open channel for its end;
 -- the closing event of the connection decides both
@@ -372,6 +409,12 @@ next_unit w = unit_at (place w) w.queue
 abbrev pub dequeued : State → State
 dequeued w = record w { queue = without_at (place w) w.queue }
 
+-- ---- reads
+
+abbrev pub fed : State → End → State
+fed w Client = record w { fed_at = w.moment }
+fed w Up = record w { up = record w.up { fed_at = w.moment } }
+
 -- ---- a moment
 
 -- no connection.open came within the handshake limit
@@ -389,6 +432,7 @@ told w ms =
     record w {
       conn = close_if late w.conn;
       moment = ms;
+      fed_at = fed_by (is_held w) ms w.fed_at;
       closed_at = closes_at w.closed_at late ms;
       late = w.late || late;
     }
@@ -413,7 +457,7 @@ abbrev pub lost : State → End → Loss → State
 lost w Client loss.Ended = record w { leaving = w.leaving || not (has_left w.conn.stream) }
 lost w Client loss.Failed =
     record w { leaving = w.leaving || not (has_left w.conn.stream); failed = true }
-lost w Client loss.Shut = w
+lost w Client loss.Shut = record w { gone = true }
 lost w Up loss.Ended = lost_up side.Ended w
 lost w Up loss.Failed = lost_up side.Failed w
 lost w Up loss.Shut = record w { up = shut_by w.up }
@@ -427,6 +471,16 @@ left w = record w {
   closed_at = closes_at w.closed_at true w.moment;
   leaving = false;
 }
+
+-- ---- silence
+
+-- a client that is given up is one whose end ended, whatever waits: that is passed over. A container
+-- that is fails, and the client is told so
+abbrev pub silenced : State → End → State
+silenced w Client = record (left w) { queue = []; given_up = true }
+silenced w Up =
+    fail CONNECTION_FORCED (Some ResourceLimitExceeded)
+    (record w { up = record w.up { silent = true } })
 
 -- ---- out of memory
 
@@ -511,6 +565,7 @@ without_begin up.AmqpHeader ls = ls
 without_begin up.Open ls = ls
 without_begin (up.Close why) ls = ls
 without_begin up.Empty ls = ls
+without_begin (up.Flow n i o) ls = with_state n (flow_sent (life_at ls n).session) ls
 without_begin (up.Begin n) ls = with_life n (record (life_at ls n) { begin = false }) ls
 without_begin (up.End n why) ls = with_life n (record (life_at ls n) { why = None }) ls
 
@@ -557,8 +612,11 @@ step w (Began vhost number ms) = record w {
   accepted_at = ms;
   moment = ms;
   last_sent_at = ms;
+  fed_at = ms;
 }
 step w (Moment ms) = told w ms
+step w (Fed end) = fed w end
+step w (Silent end) = silenced w end
 step w (Queued u) = if w.out_of_memory then w else record w { queue = w.queue ++ u ∷ [] }
 step w (Came u) = if w.out_of_memory then w else came (dequeued w) u
 step w TakenUp = if not w.out_of_memory && w.leaving then left w else w

@@ -22,6 +22,7 @@ use Rattle.gate_model.specs.declared.outgoing.UpPending.{UpPending}
 use Rattle.gate_model.specs.declared.outgoing.UpSent.{UpSent}
 use Rattle.gate_model.specs.declared.outgoing.UpUnit.{UpUnit}
 use Rattle.gate_model.specs.declared.outgoing.UpUnit.TheVariants as up
+use Rattle.gate_model.specs.declared.timers.TheConstants.{UP_SILENCE}
 
 pub record UpState : Type 0 where
   -- how far the end is
@@ -37,6 +38,10 @@ pub record UpState : Type 0 where
   pub condition : Option Condition
   -- the moment at which the last unit was sent whole, that of the connect before
   pub last_sent_at : ℕ
+  -- that at which its last byte came, that of the connect before
+  pub fed_at : ℕ
+  -- no byte of it came for too long
+  pub silent : Bool
 
 abbrev pub nothing_due : UpPending
 nothing_due = record { sasl_header = false; init = false; amqp_header = false; «open» = false }
@@ -54,6 +59,8 @@ no_end = record {
   sent = nothing_sent;
   condition = None;
   last_sent_at = 0;
+  fed_at = 0;
+  silent = false;
 }
 
 -- ---- the login
@@ -165,6 +172,7 @@ linked ms s = record s {
   side = side.Open;
   pending = record nothing_due { sasl_header = true };
   last_sent_at = ms;
+  fed_at = ms;
 }
 
 -- a unit is due no more once its first byte was sent
@@ -175,6 +183,7 @@ without_up up.AmqpHeader p = record p { amqp_header = false }
 without_up up.Open p = record p { «open» = false }
 without_up (up.Close c) p = p
 without_up up.Empty p = p
+without_up (up.Flow n i o) p = p
 without_up (up.Begin n) p = p
 without_up (up.End n why) p = p
 
@@ -185,6 +194,7 @@ with_begun up.AmqpHeader s = s
 with_begun up.Open s = record s { «open» = true }
 with_begun (up.Close c) s = record s { close = true }
 with_begun up.Empty s = s
+with_begun (up.Flow n i o) s = s
 with_begun (up.Begin n) s = s
 with_begun (up.End n why) s = s
 
@@ -196,6 +206,7 @@ sessions_given up.AmqpHeader c = c
 sessions_given up.Open c = c
 sessions_given (up.Close why) c = c
 sessions_given up.Empty c = c
+sessions_given (up.Flow n i o) c = c
 sessions_given (up.Begin n) c = after_begin_sent n c
 sessions_given (up.End n why) c = after_end_sent n c
 
@@ -219,6 +230,7 @@ with_whole (Some up.AmqpHeader) s = s
 with_whole (Some up.Open) s = s
 with_whole (Some (up.Close c)) s = record s { whole_close = true }
 with_whole (Some up.Empty) s = s
+with_whole (Some (up.Flow n i o)) s = s
 with_whole (Some (up.Begin n)) s = s
 with_whole (Some (up.End n why)) s = s
 
@@ -280,3 +292,8 @@ is_idle_by idle ms last = not (idle == 0) && nat_le ((idle + 1) / 2) (ms - last)
 
 abbrev pub is_idle_due : UpState → ℕ → Bool
 is_idle_due s ms = s.sent.«open» && is_idle_by (idle_in s.container) ms s.last_sent_at
+
+-- a container is given up once no byte of it came for so long, from the connect on (AMQP 1.0 2.4.5)
+abbrev pub is_up_silent : UpState → ℕ → Bool
+is_up_silent s ms =
+    is_readable s.side && (not s.silent && nat_le UP_SILENCE (ms - s.fed_at))

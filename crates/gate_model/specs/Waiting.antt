@@ -7,17 +7,18 @@ use Rattle.machine_10.specs.Transitions.{Meaning}
 use Rattle.gate_model.specs.declared.outgoing.Outgoing.TheVariants.{ToClient}
 use Rattle.gate_model.specs.declared.reply.Reply.{Reply}
 use Rattle.gate_model.specs.declared.reply.Reply.TheVariants as reply
-use Rattle.gate_model.specs.Folds.{container, ran_out_in, side_in}
+use Rattle.gate_model.specs.Folds.{container, ran_out_in, side_in, silent_in}
 use Rattle.gate_model.specs.Lives.{is_done, session_in}
 use Rattle.gate_model.specs.State.{Step, Gave, Heard}
 use Rattle.gate_model.specs.Upstream.{is_closed_stream, meaning_by, stream_in}
 
--- nothing of the upstream end is waited for: the pair ran out of memory, the end isn't open, or the
--- container's close came
+-- nothing of the upstream end is waited for: the pair ran out of memory, the end isn't open, the
+-- container's close came, or it was given up
 pub data Settled (h : List Step) : Type 0 where
   RanOut : ran_out_in h ≡ true → Settled h
   NotOpen : is_readable (side_in h) ≡ false → Settled h
   HasClosed : is_closed_stream (stream_in (container h)) ≡ true → Settled h
+  GivenUp : silent_in h ≡ true → Settled h
 
 -- a connection.close of the gateway, or a close-ok
 abbrev pub is_ending : Reply → Bool

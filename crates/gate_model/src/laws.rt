@@ -11,6 +11,7 @@ ghost use Rattle.gate_model.specs.Folds.{connection, container, moment_in, numbe
 ghost use Rattle.gate_model.specs.Once.{AnswersOnce};
 ghost use Rattle.gate_model.specs.Order.{TakesInOrder};
 ghost use Rattle.gate_model.specs.Picks.{ArePicks};
+ghost use Rattle.gate_model.specs.Silence.{SilentAtOnce, SilentWhenDue};
 ghost use Rattle.gate_model.specs.Spelling.{spell_reply};
 ghost use Rattle.gate_model.specs.State.{Step, before};
 ghost use Rattle.gate_model.specs.Times.{BeatsAtOnce, BeatsWhenDue, LateCloses, ShutsAtOnce};
@@ -43,7 +44,8 @@ pub fn clients_are_answered()
 {}
 
 /// A connection.close of the gateway or a close-ok goes only where nothing of the upstream end is
-/// waited for: the pair ran out of memory, the end isn't open, or the container's close came.
+/// waited for: the pair ran out of memory, the end isn't open, the container's close came, or it was
+/// given up.
 /// connection.open-ok goes only after the container's open. A channel.close of the gateway or its
 /// close-ok goes only where nothing is waited for on its channel: no session began there, or the
 /// container's end came.
@@ -77,6 +79,15 @@ pub fn times_are_kept()
     ensures beats_at_once { (h : List Step) → ArePicks h → BeatsAtOnce h }
     ensures shuts_at_once { (h : List Step) → ArePicks h → ShutsAtOnce h }
     ensures late { (h : List Step) → ArePicks h → LateCloses h }
+{}
+
+/// A client that is read is given up exactly where an interval was agreed to and for twice of it no
+/// byte of it came, counted from its last byte, or from the end of the last time that it was held; a
+/// container where none came for 120,000 ms, counted from its last byte, or from the connect.
+#[tactic(auto, using(crate::proofs::Silences::silent_at_once, crate::proofs::Silences::silent_when_due))]
+pub fn silent_ends_are_given_up()
+    ensures due { (h : List Step) → ArePicks h → SilentWhenDue h }
+    ensures at_once { (h : List Step) → ArePicks h → SilentAtOnce h }
 {}
 
 /// The units of the opening that were sent to a container, and those that are due, are those that

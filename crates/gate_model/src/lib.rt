@@ -14,12 +14,14 @@ mod timers;
 
 pub use laws::{
     channels_are_answered_once, clients_are_answered, containers_are_asked, containers_are_left,
-    frames_fit_clients, replies_wait, states_are_known, times_are_kept, units_are_short,
-    units_keep_their_order,
+    frames_fit_clients, replies_wait, silent_ends_are_given_up, states_are_known, times_are_kept,
+    units_are_short, units_keep_their_order,
 };
-pub use life::Life;
+pub use life::{Life, SessionState};
 pub use limits::{HANDLE_MAX, QUEUE_BYTES, QUEUE_UNITS};
 pub use outgoing::{Outgoing, UpPending, UpSent, UpUnit};
 pub use reply::{Pending, Reply, SentLast};
 pub use setup::Setup;
-pub use timers::{BEAT_PER_SECOND, CLOSING_LIMIT, HANDSHAKE_LIMIT, IDLE_STATED};
+pub use timers::{
+    BEAT_PER_SECOND, CLOSING_LIMIT, HANDSHAKE_LIMIT, IDLE_STATED, SILENCE_PER_SECOND, UP_SILENCE,
+};

@@ -1,10 +1,23 @@
 //! The channels of a client: what is due on each, to the client and to the container.
 
+use machine_10::Session10;
 use machine_091::Refusal;
 use performatives_10::Condition;
 
+/// The session that carries a channel, and what is to be told of it.
+#[derive(Clone, Copy, Debug)]
+pub struct SessionState {
+    /// The windows and ids of both ends, since the container's begin.
+    pub windows: Session10,
+    /// The container asked so many times for the state of the session, and no flow answered yet.
+    pub echoes: u32,
+    /// Before the first of these, little was left of the window that the gateway stated: the next
+    /// flow is for that.
+    pub refills: bool,
+}
+
 /// What is due on a channel, and on the session of the same number that carries it.
-#[derive(Clone, Copy, Debug, PartialEq, Eq)]
+#[derive(Clone, Copy, Debug)]
 pub struct Life {
     /// channel.open was taken up, and the container's begin is awaited.
     pub waits: bool,
@@ -26,4 +39,6 @@ pub struct Life {
     pub close: Option<Refusal>,
     /// The error of the gateway's end.
     pub why: Option<Condition>,
+    /// The session of the same number.
+    pub session: SessionState,
 }

@@ -18,7 +18,10 @@ pub enum UpUnit {
     Empty,
     /// The begin of the session on this channel.
     Begin(u16),
-    /// Its end, perhaps with an error.
+    /// A flow that tells the state of this channel's session: the ids of the next transfer frame of
+    /// the container and of the gateway.
+    Flow(u16, u32, u32),
+    /// The end of the session on this channel, perhaps with an error.
     End(u16, Option<Condition>),
 }
 

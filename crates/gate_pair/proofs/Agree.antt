@@ -30,7 +30,8 @@ use Rattle.gate_pair.specs.Meaning.{begins, ends, given, offered, pair_words, st
 use Rattle.gate_pair.specs.Times.{accepted_of, has_failed, last_taken_at, last_taken_up_at}
 use Rattle.gate_pair.proofs.Picks.{offered_is}
 use Rattle.gate_pair.proofs.Saids.{after_before}
-use Rattle.gate_pair.proofs.Taken.{AreTaken, Leaves, all_leave, drop_taken, fail_leaves, fresh_taken, leave_folds, moment_is}
+use Rattle.gate_pair.proofs.Taken.{AreTaken, Leaves, all_leave, drop_taken, fail_leaves, fresh_taken, leave_folds, moment_is, silent_leaves}
+use Rattle.gate_pair.proofs.Ticks.{tick_all}
 
 -- what entries say
 pub record Clock : Type 0 where
@@ -81,6 +82,8 @@ leave_up : (g h : List Step) → AreTaken g → LeavesUp g h
 leave_up [] h a = record { side_is = refl; at_is = refl }
 leave_up (state.Began vhost n ms ∷ g) h a = absurd a.0
 leave_up (state.Moment ms ∷ g) h a = absurd a.0
+leave_up (state.Fed end ∷ g) h a = absurd a.0
+leave_up (state.Silent end ∷ g) h a = absurd a.0
 leave_up (state.Queued u ∷ g) h a = let x = leave_up g h a.1 in record { side_is = x.side_is; at_is = x.at_is }
 leave_up (Came u ∷ g) h a = let x = leave_up g h a.1 in record { side_is = x.side_is; at_is = x.at_is }
 leave_up (TakenUp ∷ g) h a = let x = leave_up g h a.1 in record { side_is = x.side_is; at_is = x.at_is }
@@ -121,11 +124,23 @@ agrees_older g h c a x =
     }
 
 -- an entry that brought such steps alone
-agrees_fresh : (s : SetupText) (e : Entry) (h : List Entry) → (told s (e ∷ h)).past ≡ steps_of s h → Agrees (steps_of s h) (clock h)
+agrees_fresh : (s : SetupText) (e : Entry) (h : List Entry) (g : List Step) → (told s (e ∷ h)).past ≡ g → Agrees g (clock h)
     → Agrees (steps_of s (e ∷ h)) (clock h)
-agrees_fresh s e h past x =
+agrees_fresh s e h g past x =
     let t = told s (e ∷ h) in
-    agrees_left t.fresh t.past (clock h) (fresh_taken s (e ∷ h)) (subst (λ (g : List Step). Agrees g (clock h)) (sym past) x)
+    agrees_left t.fresh t.past (clock h) (fresh_taken s (e ∷ h)) (subst (λ (k : List Step). Agrees k (clock h)) (sym past) x)
+
+-- an end that is given up
+agrees_silent : (end : End) (g : List Step) (c : Clock) → Agrees g c → Agrees (state.Silent end ∷ g) c
+agrees_silent end g c x =
+    let l = silent_leaves end (before g) in
+    record {
+      accepted_is = x.accepted_is;
+      failed_is = x.failed_is;
+      side_is = x.side_is;
+      at_is = λ e. x.at_is (sym (busy_is l) ∙ e);
+      up_at_is = λ e. x.up_at_is (sym (busy_up_is l) ∙ e);
+    }
 
 -- ---- ends
 
@@ -245,11 +260,11 @@ agrees s (entry.Began p ms ∷ h) r =
     subst (λ (x : List Entry). Agrees (steps_of s (entry.Began p ms ∷ x)) (clock (entry.Began p ms ∷ x))) (sym r.0)
     (record { accepted_is = refl; failed_is = refl; side_is = refl; at_is = λ e. refl; up_at_is = λ e. refl })
 agrees s (entry.Refused ∷ h) r = agrees_out (steps_of s h) (clock h) (agrees s h r.2)
-agrees s (entry.Moment ms ∷ h) r = agrees s h r.2
-agrees s (entry.Came Client bytes ∷ h) r = agrees_fresh s (entry.Came Client bytes) h refl (agrees s h r.2)
-agrees s (entry.Came Up bytes ∷ h) r = agrees_fresh s (entry.Came Up bytes) h refl (agrees s h r.2)
+agrees s (entry.Moment ms ∷ h) r = tick_all (λ (g : List Step). Agrees g (clock h)) (λ end g e x. agrees_silent end g (clock h) x) ms (told s h) (agrees s h r.2)
+agrees s (entry.Came Client bytes ∷ h) r = agrees_fresh s (entry.Came Client bytes) h (state.Fed Client ∷ steps_of s h) refl (agrees s h r.2)
+agrees s (entry.Came Up bytes ∷ h) r = agrees_fresh s (entry.Came Up bytes) h (state.Fed Up ∷ steps_of s h) refl (agrees s h r.2)
 agrees s (entry.Dry end ∷ h) r = agrees s h r.2
-agrees s (entry.Settled ∷ h) r = agrees_fresh s entry.Settled h refl (agrees s h r.2)
+agrees s (entry.Settled ∷ h) r = agrees_fresh s entry.Settled h (steps_of s h) refl (agrees s h r.2)
 agrees s (entry.Joined answer ∷ h) r = agrees_joined (steps_of s h) answer h (moment_is s h) (agrees s h r.2)
 agrees s (entry.Took Client bytes n ∷ h) r =
     took_client s (steps_of s h) n (moment_of h) (told s h).client.rest bytes (clock h)

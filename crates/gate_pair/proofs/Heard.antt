@@ -1,5 +1,5 @@
 -- Each end's units are those with which its bytes begin, however these were cut.
-use Rattle.std.proofs.Common.{◌≡◌, ◌≢◌, ◌∙◌, ℕ, zero, suc, ◌≤◌, Bool, true, false, not, ◌&&◌, if◌then◌else◌, List, [], ◌∷◌, ◌++◌, length, drop, nat_lt, Option, None, Some, refl, sym, ap, subst, arith, append_assoc, append-nil}
+use Rattle.std.proofs.Common.{◌≡◌, ◌≢◌, ◌∙◌, ℕ, zero, suc, ◌≤◌, Bool, true, false, not, ◌&&◌, if◌then◌else◌, List, [], ◌∷◌, ◌++◌, length, drop, nat_lt, Option, None, Some, refl, sym, ap, subst, arith, append-nil}
 use Rattle.std.specs.Prelude.{is_some}
 use Rattle.std.proofs.lemmas.List.{drop-append-le, length-drop}
 use Rattle.gate_outside.specs.declared.ports.End.{End}
@@ -49,10 +49,11 @@ use Rattle.gate_pair.specs.Cutting.{Cut, IsWithin, after, as_step, as_unit, behi
 use Rattle.gate_pair.specs.Meaning.{begins, ends, given, leaves, pair_words, state_of, steps_of, told}
 use Rattle.gate_pair.proofs.Logins.{AreLoggedIn, Comes, Ends, IsUnheard, Keeps, Moves, Sends, Stays, follows, keeps_given, moves, stays_some}
 use Rattle.gate_pair.proofs.Memories.{memory_of}
-use Rattle.gate_pair.proofs.Picks.{FindsMay, found_since, good_at, picks, read_calm}
+use Rattle.gate_pair.proofs.Picks.{FindsMay, fed_good, found_since, good_at, moment_picks, picks, read_calm}
 use Rattle.gate_pair.proofs.Queued.{IsGood, IsGoodAt, IsReadyAt, behind_picks, behind_ready}
 use Rattle.gate_pair.proofs.Saids.{after_before}
 use Rattle.gate_pair.proofs.Taken.{AreTaken, FindsTaken, IsTaken, behind_taken, found}
+use Rattle.gate_pair.proofs.Ticks.{tick_all}
 use Rattle.gate_pair.proofs.Within.{no_unit, none_found, up_within, within}
 
 -- ---- what scans find
@@ -470,13 +471,29 @@ read_units r m b a o f e = awaited_some o (f ∙ and_right b a (and_right (not m
 -- a read of the client
 client_reads : AreSettled → AreLoggedIn → (s : SetupText) (h : List Entry) (bytes : List ℕ) → IsRelayed (pair_words s) h → reads (pair_words s) Client h ≡ true
     → Hears Client (is_out_of_memory h) (steps_of s h) (heard_bytes Client h) (told s h).client.unread
-    → IsReadAs Client (steps_of s h) (heard_bytes Client h ++ bytes) (cut_all Client (state_of s h) ((told s h).client.unread ++ bytes))
+    → IsReadAs Client (state.Fed Client ∷ steps_of s h) (heard_bytes Client h ++ bytes) (cut_all Client (before (state.Fed Client ∷ steps_of s h)) ((told s h).client.unread ++ bytes))
 unfolding pair_words
 client_reads st l s h bytes r e x =
-    let p : ArePicks (steps_of s h) = picks s h r in
-    let good : IsGood (state_of s h) = good_at s h e in
+    let g : List Step = state.Fed Client ∷ steps_of s h in
+    let p : ArePicks g = (tt, picks s h r) in
+    let good : IsGood (before g) = fed_good (state_of s h) (good_at s h e) in
     let calm : is_out_of_memory h ≡ false = read_calm (is_readable (side_of Client (sides h))) (is_out_of_memory h) _ e in
-    reads_on st l Client (steps_of s h) (heard_bytes Client h) (told s h).client.unread bytes p good.calm good tt (x.all calm)
+    let y : Hears Client (is_out_of_memory h) g (heard_bytes Client h) (told s h).client.unread = hears_on Client (state.Fed Client ∷ []) (steps_of s h) (tt, tt) p x in
+    reads_on st l Client g (heard_bytes Client h) (told s h).client.unread bytes p good.calm good tt (y.all calm)
+
+-- bytes that came, before they are cut
+fed_hears : (s : SetupText) (end : End) (h : List Entry) → ArePicks (steps_of s h) → HearsAll s h
+    → BothHear (is_out_of_memory h) (state.Fed end ∷ steps_of s h) (heard_bytes Client h) (told s h).client.unread (heard_bytes Up h) (told s h).up.unread
+fed_hears s end h p x = both_on (state.Fed end ∷ []) (steps_of s h) (one_other (state.Fed end) tt tt) (tt, p) x
+
+-- a moment, at which ends may be given up
+ticked_hears : {failed : Bool} {a b c d : List ℕ} (s : SetupText) (ms : ℕ) (h : List Entry) → IsRelayed (pair_words s) (entry.Moment ms ∷ h) → BothHear failed (steps_of s h) a b c d
+    → BothHear failed (steps_of s (entry.Moment ms ∷ h)) a b c d
+ticked_hears {failed} {a} {b} {c} {d} s ms h r x =
+    let p : ArePicks (state.Moment ms ∷ steps_of s h) = moment_picks s ms h r in
+    (tick_all (λ (g : List Step). ArePicks g × BothHear failed g a b c d)
+    (λ end g e y. ((e, y.0), both_on (state.Silent end ∷ []) g (one_other (state.Silent end) tt tt) (e, y.0) y.1)) ms (told s h)
+    (p, both_on (state.Moment ms ∷ []) (steps_of s h) (one_other (state.Moment ms) tt tt) p x)).1
 
 hears : AreSettled → AreLoggedIn → (s : SetupText) (h : List Entry) → IsRelayed (pair_words s) h → HearsAll s h
 unfolding pair_words
@@ -489,22 +506,22 @@ hears st l s (entry.Began n ms ∷ h) r =
 hears st l s (entry.Refused ∷ h) r =
     let x = hears st l s h r.2 in
     record { client = fails Client _ x.client.cuts; up = fails Up _ x.up.cuts }
-hears st l s (entry.Moment ms ∷ h) r =
-    let x = state.Moment ms in both_on (x ∷ []) (steps_of s h) (one_other x tt tt) (picks s (entry.Moment ms ∷ h) r) (hears st l s h r.2)
+hears st l s (entry.Moment ms ∷ h) r = ticked_hears s ms h r (hears st l s h r.2)
 hears st l s (entry.Came Client bytes ∷ h) r =
-    let x = hears st l s h r.2 in
-    let g : List Step = steps_of s h in
+    let old = hears st l s h r.2 in
+    let x = fed_hears s Client h (picks s h r.2) old in
+    let g : List Step = state.Fed Client ∷ steps_of s h in
     let c : Cut = cut_all Client (before g) ((told s h).client.unread ++ bytes) in
     record {
-      client = hears_cut Client g (heard_bytes Client h ++ bytes) c (client_reads st l s h bytes r.2 r.0.0 x.client);
+      client = hears_cut Client g (heard_bytes Client h ++ bytes) c (client_reads st l s h bytes r.2 r.0.0 old.client);
       up = more_none Up _ (hears_on Up c.fresh g (cut_other Client (before g) ((told s h).client.unread ++ bytes)) (picks s (entry.Came Client bytes ∷ h) r) x.up);
     }
 hears st l s (entry.Came Up bytes ∷ h) r =
     let readable : Bool = is_readable (side_of Up (sides h)) in
     let calm : is_out_of_memory h ≡ false = read_calm readable (is_out_of_memory h) _ r.0.0 in
-    let x = hears st l s h r.2 in
-    let g : List Step = steps_of s h in
-    let p = picks s h r.2 in
+    let x = fed_hears s Up h (picks s h r.2) (hears st l s h r.2) in
+    let g : List Step = state.Fed Up ∷ steps_of s h in
+    let p : ArePicks g = (tt, picks s h r.2) in
     let all : List ℕ = (told s h).up.unread ++ bytes in
     let login : is_some (container g) ≡ true =
     ap is_some (sym (container_is (known g p))) ∙ read_units readable (is_out_of_memory h) (is_readable (before g).up.side) _ (before g).up.container refl r.0.0 in

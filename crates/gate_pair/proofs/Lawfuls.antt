@@ -19,14 +19,16 @@ use Rattle.gate_model.specs.declared.outgoing.Outgoing.TheVariants.{ToClient, To
 use Rattle.gate_model.specs.declared.outgoing.UpUnit.{UpUnit}
 use Rattle.gate_model.specs.declared.outgoing.UpUnit.TheVariants as up
 use Rattle.gate_model.specs.declared.reply.Reply.{Reply}
-use Rattle.gate_model.specs.Due.{can_leave, can_take_unit, client_rows, is_awaited, is_awaiting, is_busy, is_held, pick, takes_memory, takes_memory_up, up_rows}
+use Rattle.gate_model.specs.Due.{can_leave, can_take_unit, client_rows, is_awaited, is_awaiting, is_busy, pick, takes_memory, takes_memory_up, up_rows}
+use Rattle.gate_model.specs.Folds.{connection, given_up_in}
 use Rattle.gate_model.specs.Setup.{SetupText}
 use Rattle.gate_model.specs.Spelling.{Context, context_of, spell}
-use Rattle.gate_model.specs.State.{State, place}
+use Rattle.gate_model.specs.State.{State, is_held, place}
 use Rattle.gate_model.specs.Upstream.{awaited_of, first, is_awaited_up}
 use Rattle.gate_model.proofs.Known.{Known, conn_is, container_is, known, number_is}
+use Rattle.gate_model.proofs.Silences.{given_is}
 use Rattle.gate_model.proofs.Times.{Either, OnLeft, OnRight, and_left, and_right, either}
-use Rattle.gate_pair.specs.Lawful.{AreLawful, IsAskedFor, IsAwaited, IsHeard, IsOfferOf, IsOffered, IsTakenUp, Keeps, RunsOutIn, InRead, InTakeUp, InSpelling, Shuts, WhereDue, AtTheEnd, AtRefusal, TakesMemory}
+use Rattle.gate_pair.specs.Lawful.{AreLawful, AtRefusal, AtTheEnd, Beginning, Flowing, InRead, InSpelling, InTakeUp, IsAskedFor, IsAwaited, IsHeard, IsOfferOf, IsOffered, IsTakenUp, Keeps, Login, Opening, RunsOutIn, Shuts, TakesMemory, WhereDue}
 use Rattle.gate_pair.specs.Meaning.{needs_memory, offered, pair_words, state_of, steps_of, stream_of, told}
 use Rattle.gate_pair.proofs.Picks.{picks}
 use Rattle.gate_pair.proofs.Timings.{AreTimed, due_at}
@@ -42,10 +44,14 @@ knows s h r = known (steps_of s h) (picks s h r)
 -- ---- reads
 
 awaited : (s : SetupText) (end : End) (h : List Entry) → IsRelayed (pair_words s) h → is_awaiting (state_of s h) end ≡ true → IsAwaited s end h
-awaited s Client h r e = (
-  ap (λ (c : Connection). is_awaited (awaits c)) (sym (conn_is (knows s h r))) ∙ and_left (is_awaited (awaits (state_of s h).conn)) _ e,
-  isnt (is_held (state_of s h)) (and_right (is_awaited (awaits (state_of s h).conn)) _ e),
-)
+awaited s Client h r e =
+    let w : State = state_of s h in
+    (read (either _ _ (and_left (is_awaited (awaits w.conn) || w.given_up) _ e)), isnt (is_held w) (and_right (is_awaited (awaits w.conn) || w.given_up) _ e))
+  where
+    read : Either (is_awaited (awaits (state_of s h).conn)) (state_of s h).given_up
+        → (is_awaited (awaits (connection (steps_of s h))) ≡ true) ⊎ (given_up_in (steps_of s h) ≡ true)
+    read (OnLeft x) = inl (ap (λ (c : Connection). is_awaited (awaits c)) (sym (conn_is (knows s h r))) ∙ x)
+    read (OnRight x) = inr (sym (given_is (steps_of s h) (picks s h r)) ∙ x)
 awaited s Up h r e =
     ap (λ (o : Option Upstream). is_awaited_up (awaited_of o)) (sym (container_is (knows s h r))) ∙ and_right (is_readable (state_of s h).up.side) _ e
 
@@ -129,12 +135,13 @@ client_takes (u ∷ us) e = absurd cc
 
 takes_some : (u : UpUnit) → takes_memory_up u ≡ true → TakesMemory u
 takes_some up.SaslHeader e = absurd cc
-takes_some up.SaslInit e = inl refl
+takes_some up.SaslInit e = Login refl
 takes_some up.AmqpHeader e = absurd cc
-takes_some up.Open e = inr (inl refl)
+takes_some up.Open e = Opening refl
 takes_some (up.Close c) e = absurd cc
 takes_some up.Empty e = absurd cc
-takes_some (up.Begin n) e = inr (inr (n, refl))
+takes_some (up.Flow n i o) e = Flowing n i o refl
+takes_some (up.Begin n) e = Beginning n refl
 takes_some (up.End n why) e = absurd cc
 
 writable_by : (b : Bool) (o : Option (List ℕ)) → is_some (if b then o else None) ≡ true → b ≡ true

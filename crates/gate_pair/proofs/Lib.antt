@@ -9,9 +9,11 @@ pub mod Queued
 pub mod Saids
 pub mod Sent
 pub mod Settlings
+pub mod Silences
 pub mod Sounds
 pub mod Taken
 pub mod Tells
+pub mod Ticks
 pub mod Timings
 pub mod Within
 pub mod Writes

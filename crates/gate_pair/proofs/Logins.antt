@@ -29,7 +29,7 @@ use Rattle.gate_model.specs.Folds.{Peers, connection, container, container_kept,
 use Rattle.gate_model.specs.Picks.{ArePicks}
 use Rattle.gate_model.specs.Setup.{SetupText}
 use Rattle.gate_model.specs.Spelling.{Context, context_of, init_text, spell}
-use Rattle.gate_model.specs.State.{Step, Began, Moment, Queued, Came, TakenUp, Heard, Joined, Lost, Gave, Whole, OutOfMemory, before}
+use Rattle.gate_model.specs.State.{Step, Began, Moment, Fed, Silent, Queued, Came, TakenUp, Heard, Joined, Lost, Gave, Whole, OutOfMemory, before}
 use Rattle.gate_model.specs.Upstream.{container_by, container_given, ended_in, opening_rows, sessions_given, when_up}
 use Rattle.gate_model.proofs.Known.{container_is, known, number_is}
 use Rattle.gate_model.proofs.Outcomes.{Outcome, Greets, Parts, LogsIn, Tunes, Asks, Passes, Refuses, Parting, Calls, Asking, Frees, Closes, Answers, Ignores, outcome}
@@ -80,6 +80,9 @@ moves_if o false p q f g = g
 pub moves : (x : Step) (g : List Step) → IsUnheard x → ArePicks (x ∷ g) → Moves (container g) (container (x ∷ g))
 moves (Began vhost n ms) g i p = subst (λ (g : List Step). Moves (container g) None) (sym p.0) Stays
 moves (Moment ms) g i p = Stays
+moves (Fed end) g i p = Stays
+moves (Silent Client) g i p = Stays
+moves (Silent Up) g i p = Stays
 moves (Queued u) g i p = Stays
 moves (Came u) g i p = moves_if (container g) (ran_out_in g) (peers g) (peers_came (peers g) u) Stays (moves_came (peers g) u (early g))
 moves TakenUp g i p = moves_if (container g) (not (ran_out_in g) && leaving_in g) (record (peers g) { client = after_ended (connection g) }) (peers g) Stays Stays
@@ -151,6 +154,7 @@ keeps_given up.AmqpHeader c = keeps_all c
 keeps_given up.Open c = keeps_all c
 keeps_given (up.Close why) c = keeps_all c
 keeps_given up.Empty c = keeps_all c
+keeps_given (up.Flow n i o) c = keeps_all c
 keeps_given (up.Begin n) c = keeps_begin n c
 keeps_given (up.End n why) c = keeps_end n c
 
@@ -185,6 +189,7 @@ is_init up.AmqpHeader = false
 is_init up.Open = false
 is_init (up.Close why) = false
 is_init up.Empty = false
+is_init (up.Flow n i o) = false
 is_init (up.Begin n) = false
 is_init (up.End n why) = false
 
@@ -219,6 +224,7 @@ opening_inits (up.AmqpHeader ∷ us) e = opening_inits us e
 opening_inits (up.Open ∷ us) e = opening_inits us e
 opening_inits (up.Close why ∷ us) e = opening_inits us e
 opening_inits (up.Empty ∷ us) e = opening_inits us e
+opening_inits (up.Flow n i o ∷ us) e = opening_inits us e
 opening_inits (up.Begin n ∷ us) e = opening_inits us e
 opening_inits (up.End n why ∷ us) e = opening_inits us e
 
@@ -274,6 +280,7 @@ unit_same c d up.Open e f i =
     ap (λ (n : ℕ). spell (record c { number = n }) (ToUp up.Open)) f ∙ ap (λ (s : SetupText). spell (record d { setup = s }) (ToUp up.Open)) e
 unit_same c d (up.Close why) e f i = refl
 unit_same c d up.Empty e f i = refl
+unit_same c d (up.Flow n i o) e f x = refl
 unit_same c d (up.Begin n) e f i = refl
 unit_same c d (up.End n why) e f i = refl
 

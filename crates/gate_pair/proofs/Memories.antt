@@ -20,7 +20,8 @@ use Rattle.gate_pair.specs.Cutting.{after}
 use Rattle.gate_pair.specs.Meaning.{begins, ends, given, state_of, steps_of, told}
 use Rattle.gate_pair.specs.PairStates.{PairState, Represents, Said}
 use Rattle.gate_pair.proofs.Saids.{after_before}
-use Rattle.gate_pair.proofs.Taken.{all_leave, fail_leaves, fresh_taken}
+use Rattle.gate_pair.proofs.Taken.{all_leave, fail_leaves, fresh_taken, silent_leaves}
+use Rattle.gate_pair.proofs.Ticks.{tick_keeps}
 
 lost_memory : (w : State) (end : End) (how : Loss) → (step w (Lost end how)).out_of_memory ≡ w.out_of_memory
 lost_memory w Client loss.Ended = refl
@@ -50,22 +51,23 @@ took_memory end h n bytes =
     ends_memory end h (begins end (before h)) (nat_lt n (length bytes)) ∙ begins_memory h (is_busy (before h) end) (pick (before h) end)
 
 -- steps that an entry brings, which out of memory can take back
-fresh_memory : (s : SetupText) (e : Entry) (h : List Entry) → (told s (e ∷ h)).past ≡ steps_of s h → (state_of s h).out_of_memory ≡ is_out_of_memory h
+fresh_memory : (s : SetupText) (e : Entry) (h : List Entry) (g : List Step) → (told s (e ∷ h)).past ≡ g → (before g).out_of_memory ≡ is_out_of_memory h
     → (state_of s (e ∷ h)).out_of_memory ≡ is_out_of_memory h
-fresh_memory s e h past m =
+fresh_memory s e h g past m =
     let t = told s (e ∷ h) in
-    ap (λ (w : State). w.out_of_memory) (after_before t.fresh t.past ∙ ap (λ (g : List Step). after t.fresh (before g)) past)
-    ∙ (all_leave t.fresh (state_of s h) (fresh_taken s (e ∷ h))).memory_is ∙ m
+    ap (λ (w : State). w.out_of_memory) (after_before t.fresh t.past ∙ ap (λ (k : List Step). after t.fresh (before k)) past)
+    ∙ (all_leave t.fresh (before g) (fresh_taken s (e ∷ h))).memory_is ∙ m
 
 pub memory_of : (s : SetupText) (h : List Entry) → (state_of s h).out_of_memory ≡ is_out_of_memory h
 memory_of s [] = refl
 memory_of s (entry.Began p ms ∷ h) = memory_of s h
 memory_of s (entry.Refused ∷ h) = refl
-memory_of s (entry.Moment ms ∷ h) = memory_of s h
-memory_of s (entry.Came Client bytes ∷ h) = fresh_memory s (entry.Came Client bytes) h refl (memory_of s h)
-memory_of s (entry.Came Up bytes ∷ h) = fresh_memory s (entry.Came Up bytes) h refl (memory_of s h)
+memory_of s (entry.Moment ms ∷ h) =
+    tick_keeps (λ (g : List Step). (before g).out_of_memory) (λ end g. (silent_leaves end (before g)).memory_is) ms (told s h) ∙ memory_of s h
+memory_of s (entry.Came Client bytes ∷ h) = fresh_memory s (entry.Came Client bytes) h (state.Fed Client ∷ steps_of s h) refl (memory_of s h)
+memory_of s (entry.Came Up bytes ∷ h) = fresh_memory s (entry.Came Up bytes) h (state.Fed Up ∷ steps_of s h) refl (memory_of s h)
 memory_of s (entry.Dry end ∷ h) = memory_of s h
-memory_of s (entry.Settled ∷ h) = fresh_memory s entry.Settled h refl (memory_of s h)
+memory_of s (entry.Settled ∷ h) = fresh_memory s entry.Settled h (steps_of s h) refl (memory_of s h)
 memory_of s (entry.Joined answer ∷ h) = joined_memory (state_of s h) answer ∙ memory_of s h
 memory_of s (entry.Took Client bytes n ∷ h) = took_memory Client (steps_of s h) n bytes ∙ memory_of s h
 memory_of s (entry.Took Up bytes n ∷ h) = took_memory Up (steps_of s h) n bytes ∙ memory_of s h

@@ -31,7 +31,7 @@ use Rattle.wire_base.specs.declared.scan.Scan.TheVariants.{Whole, More, Bad}
 use Rattle.gate_model.specs.declared.outgoing.Outgoing.{Outgoing}
 use Rattle.gate_model.specs.declared.outgoing.Outgoing.TheVariants.{ToClient, ToUp}
 use Rattle.gate_model.specs.Due.{can_leave, is_awaited, is_busy, is_connect_due, pick}
-use Rattle.gate_model.specs.Folds.{container, ran_out_in}
+use Rattle.gate_model.specs.Folds.{container, moment_in, ran_out_in}
 use Rattle.gate_model.specs.Picks.{ArePicks, MayBeHeard, MayComeAs, MayQueue, MayStep}
 use Rattle.gate_model.specs.Queue.{is_bad_unit, is_full}
 use Rattle.gate_model.specs.Setup.{SetupText}
@@ -49,6 +49,7 @@ use Rattle.gate_pair.proofs.Queued.{IsGood, IsGoodAt, IsReady, IsReadyAt, behind
 use Rattle.gate_pair.proofs.Saids.{after_before}
 use Rattle.gate_pair.proofs.Sounds.{client_picks, up_picks}
 use Rattle.gate_pair.proofs.Taken.{AreTaken, FindsTaken, IsTaken, all_leave, behind_taken, cut_leaves, found, fresh_leave, moment_is}
+use Rattle.gate_pair.proofs.Ticks.{tick_all}
 
 -- ---- units come as they are awaited
 
@@ -179,8 +180,12 @@ good_at s h e =
     let readable : Bool = is_readable (side_of Client (sides h)) in
     record {
       calm = memory_of s h ∙ read_calm readable (is_out_of_memory h) _ e;
-      good = read_good readable (is_out_of_memory h) (is_awaited (awaits w.conn)) (is_opening w.conn) (close_waits w) _ (is_full w.queue) e;
+      good = read_good readable (is_out_of_memory h) (is_awaited (awaits w.conn) || w.given_up) (is_opening w.conn) (close_waits w) _ (is_full w.queue) e;
     }
+
+-- bytes that came change none of that
+pub fed_good : (w : State) → IsGood w → IsGood (step w (state.Fed Client))
+fed_good w x = record { calm = x.calm; good = x.good }
 
 -- ---- units that go are those that are offered
 
@@ -259,17 +264,21 @@ new_calm (entry.Over ∷ h) e = absurd cc
 pub memory_in : (s : SetupText) (h : List Entry) → ArePicks (steps_of s h) → ran_out_in (steps_of s h) ≡ is_out_of_memory h
 memory_in s h p = sym (knows.memory_is (known (steps_of s h) p)) ∙ memory_of s h
 
+-- moments don't fall
+later : (s : SetupText) (ms : ℕ) (h : List Entry) → moment_of h ≤ ms → moment_in (steps_of s h) ≤ ms
+later s ms h e = subst (λ (n : ℕ). n ≤ ms) (sym (moment_is s h)) e
+
 pub picks : (s : SetupText) (h : List Entry) → IsRelayed (pair_words s) h → ArePicks (steps_of s h)
 unfolding pair_words
 picks s [] r = tt
 picks s (entry.Began p ms ∷ h) r = (ap (steps_of s) r.0, picks s h r.2)
 picks s (entry.Refused ∷ h) r = let p = picks s h r.2 in (memory_in s h p ∙ new_calm h r.0, p)
-picks s (entry.Moment ms ∷ h) r = (subst (λ (n : ℕ). n ≤ ms) (sym (moment_is s h)) r.0, picks s h r.2)
+picks s (entry.Moment ms ∷ h) r = tick_all ArePicks (λ end g e p. (e, p)) ms (told s h) (later s ms h r.0, picks s h r.2)
 picks s (entry.Came Client bytes ∷ h) r =
     let good : IsGood (state_of s h) = good_at s h r.0.0 in
-    cut_picks Client (steps_of s h) ((told s h).client.unread ++ bytes) (picks s h r.2) good.calm good
+    cut_picks Client (state.Fed Client ∷ steps_of s h) ((told s h).client.unread ++ bytes) (tt, picks s h r.2) good.calm (fed_good (state_of s h) good)
 picks s (entry.Came Up bytes ∷ h) r =
-    cut_picks Up (steps_of s h) ((told s h).up.unread ++ bytes) (picks s h r.2)
+    cut_picks Up (state.Fed Up ∷ steps_of s h) ((told s h).up.unread ++ bytes) (tt, picks s h r.2)
     (memory_of s h ∙ read_calm (is_readable (side_of Up (sides h))) (is_out_of_memory h) _ r.0.0) tt
 picks s (entry.Dry end ∷ h) r = picks s h r.2
 picks s (entry.Settled ∷ h) r =
@@ -289,3 +298,7 @@ picks s (entry.OutOfMemory cut ∷ h) r =
     let p = picks s h r.2 in
     ((cut_leaves s cut h).memory_is ∙ sym (fresh_leave s h).memory_is ∙ memory_in s h p ∙ r.0.0, drop_picks cut (told s h).fresh (told s h).past p)
 picks s (entry.Over ∷ h) r = picks s h r.2
+
+-- before ends are given up at a moment
+pub moment_picks : (s : SetupText) (ms : ℕ) (h : List Entry) → IsRelayed (pair_words s) (entry.Moment ms ∷ h) → ArePicks (state.Moment ms ∷ steps_of s h)
+moment_picks s ms h r = (later s ms h r.0, picks s h r.2)

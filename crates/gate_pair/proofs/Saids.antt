@@ -1,6 +1,6 @@
 -- What a pair says after a read, also where it ran out of memory within it.
-use Rattle.std.proofs.Common.{◌≡◌, ◌∙◌, ℕ, ◌+◌, List, [], ◌∷◌, ◌++◌, Option, Bool, append_assoc, refl, sym, ap, subst, drop, length}
-use Rattle.std.specs.Prelude.{is_some}
+use Rattle.std.proofs.Common.{◌≡◌, ◌∙◌, ℕ, ◌+◌, List, [], ◌∷◌, ◌++◌, Option, append_assoc, refl, sym, ap, subst, drop, length}
+use Rattle.std.specs.Prelude.{Result, Ok, Err, OnErr, OnOk, is_some}
 use Rattle.std.specs.Option.{option_map}
 use Rattle.std.proofs.Math.Seq.{drop-append_seam}
 use Rattle.gate_outside.specs.declared.ports.End.{End}
@@ -9,12 +9,14 @@ use Rattle.gate_model.specs.declared.outgoing.Outgoing.TheVariants.{ToClient, To
 use Rattle.gate_model.specs.declared.outgoing.UpUnit.{UpUnit}
 use Rattle.gate_model.specs.declared.reply.Reply.{Reply}
 use Rattle.gate_model.specs.Due.{is_busy}
-use Rattle.gate_model.specs.State.{State, Step, OutOfMemory, before, step}
+use Rattle.gate_relay.specs.Entries.{Entry}
+use Rattle.gate_model.specs.Setup.{SetupText}
+use Rattle.gate_model.specs.State.{State, Step, Fed, OutOfMemory, before, step}
 use Rattle.bridge_core.specs.Offers.{BridgeState, Keeps, moved, offer_of}
 use Rattle.gate_pair.specs.Cutting.{Cut, after, cut_all, settle}
-use Rattle.gate_pair.specs.Meaning.{Stream, Told, came, leaves, settled, steps}
+use Rattle.gate_pair.specs.Meaning.{Stream, Told, came, leaves, made, ran_out, read_in, settled, steps, told}
 use Rattle.gate_pair.proofs.Cuts.{drop_list, none_cut}
-use Rattle.gate_pair.specs.PairStates.{CutIn, FailedIn, Half, IsCut, PairState, Reads, ReadsInPart, Said, Settles, rest_at, said, said_of, stream_at}
+use Rattle.gate_pair.specs.PairStates.{CutIn, FailedIn, Half, IsCut, PairState, Reads, ReadsInPart, Represents, Said, Settles, rest_at, said, said_of, stream_at}
 
 pub keeps_more : (a b c : BridgeState) → Keeps a b → Keeps b c → Keeps a c
 keeps_more a b c p q = record {
@@ -59,7 +61,7 @@ pair_of b x y = record { bridge = b; client = x; up = y }
 -- bytes of the client were cut
 pub taken_in : (all bytes : List ℕ) (n : ℕ) (b d : BridgeState) (x y z : Half) (old : PairState) → pair_of b x y ≡ old → all ≡ x.unread ++ bytes
     → Reads Client all n b.state d.state → Keeps b d → z ≡ record x { unread = drop n all }
-    → (t : Told) → said old ≡ said_of t → said (pair_of d z y) ≡ said_of (came Client bytes t)
+    → (t : Told) → said old ≡ said_of t → said (pair_of d z y) ≡ said_of (read_in Client bytes t)
 taken_in all bytes n b d x y z old was is r k half t e =
     let f : said (pair_of b x y) ≡ said_of t = ap said was ∙ e in
     let w : b.state ≡ before (steps t) = ap (λ (z : Said). z.state) f in
@@ -77,7 +79,7 @@ taken_in all bytes n b d x y z old was is r k half t e =
 -- bytes of the container were cut
 pub heard_in : (all bytes : List ℕ) (n : ℕ) (b d : BridgeState) (x y z : Half) (old : PairState) → pair_of b x y ≡ old → all ≡ y.unread ++ bytes
     → Reads Up all n b.state d.state → Keeps b d → z ≡ record y { unread = drop n all }
-    → (t : Told) → said old ≡ said_of t → said (pair_of d x z) ≡ said_of (came Up bytes t)
+    → (t : Told) → said old ≡ said_of t → said (pair_of d x z) ≡ said_of (read_in Up bytes t)
 heard_in all bytes n b d x y z old was is r k half t e =
     let f : said (pair_of b x y) ≡ said_of t = ap said was ∙ e in
     let w : b.state ≡ before (steps t) = ap (λ (z : Said). z.state) f in
@@ -130,34 +132,34 @@ same_half a b i j p q = cc
 
 -- of the client
 pub taken_failed : (all bytes : List ℕ) (b d : BridgeState) (x y z : Half) (old new : PairState) → pair_of b x y ≡ old → all ≡ x.unread ++ bytes → z.at ≡ x.at
-    → new ≡ pair_of d (record z { unread = [] }) (record y { unread = [] }) → ReadsInPart Client all b.state d.state → Keeps b d → FailedIn (came Client bytes) old new
+    → new ≡ pair_of d (record z { unread = [] }) (record y { unread = [] }) → ReadsInPart Client all b.state d.state → Keeps b d → FailedIn (read_in Client bytes) old new
 taken_failed all bytes b d x y z old new was is at now r k =
     let g : List Step = (cut_all Client b.state all).fresh in
-    failed_in (came Client bytes) old new 0 g
+    failed_in (read_in Client bytes) old new 0 g
     (cut_in g b d x y old new was
     (now ∙ ap (λ (h : Half). pair_of d h (record y { unread = [] })) (same_half [] [] z.at x.at refl at)) r k)
     (λ t e. ap (λ (z : Said). (cut_all Client z.state (z.client.unread ++ bytes)).fresh) (sym (ap said was ∙ e)) ∙ ap (λ (xs : List ℕ). (cut_all Client b.state xs).fresh) (sym is))
     (λ t e. refl) (λ t e. refl) (λ t e. refl)
 
 pub taken_lost : (bytes : List ℕ) (b d : BridgeState) (x y z : Half) (old new : PairState) → pair_of b x y ≡ old → z ≡ x
-    → new ≡ pair_of d (record z { unread = [] }) (record y { unread = [] }) → d ≡ moved OutOfMemory b → Keeps b d → FailedIn (came Client bytes) old new
+    → new ≡ pair_of d (record z { unread = [] }) (record y { unread = [] }) → d ≡ moved OutOfMemory b → Keeps b d → FailedIn (read_in Client bytes) old new
 taken_lost bytes b d x y z old new was half now is k =
     taken_failed (x.unread ++ bytes) bytes b d x y z old new was refl (ap (λ (h : Half). h.at) half) now
     (none_cut Client b.state d.state (x.unread ++ bytes) (ap (λ (v : BridgeState). v.state) is)) k
 
 -- of the container
 pub heard_failed : (all bytes : List ℕ) (b d : BridgeState) (x y z : Half) (old new : PairState) → pair_of b x y ≡ old → all ≡ y.unread ++ bytes → z.at ≡ y.at
-    → new ≡ pair_of d (record x { unread = [] }) (record z { unread = [] }) → ReadsInPart Up all b.state d.state → Keeps b d → FailedIn (came Up bytes) old new
+    → new ≡ pair_of d (record x { unread = [] }) (record z { unread = [] }) → ReadsInPart Up all b.state d.state → Keeps b d → FailedIn (read_in Up bytes) old new
 heard_failed all bytes b d x y z old new was is at now r k =
     let g : List Step = (cut_all Up b.state all).fresh in
-    failed_in (came Up bytes) old new 0 g
+    failed_in (read_in Up bytes) old new 0 g
     (cut_in g b d x y old new was
     (now ∙ ap (λ (h : Half). pair_of d (record x { unread = [] }) h) (same_half [] [] z.at y.at refl at)) r k)
     (λ t e. ap (λ (z : Said). (cut_all Up z.state (z.up.unread ++ bytes)).fresh) (sym (ap said was ∙ e)) ∙ ap (λ (xs : List ℕ). (cut_all Up b.state xs).fresh) (sym is))
     (λ t e. refl) (λ t e. refl) (λ t e. refl)
 
 pub heard_lost : (bytes : List ℕ) (b d : BridgeState) (x y z : Half) (old new : PairState) → pair_of b x y ≡ old → z ≡ y
-    → new ≡ pair_of d (record x { unread = [] }) (record z { unread = [] }) → d ≡ moved OutOfMemory b → Keeps b d → FailedIn (came Up bytes) old new
+    → new ≡ pair_of d (record x { unread = [] }) (record z { unread = [] }) → d ≡ moved OutOfMemory b → Keeps b d → FailedIn (read_in Up bytes) old new
 heard_lost bytes b d x y z old new was half now is k =
     heard_failed (y.unread ++ bytes) bytes b d x y z old new was refl (ap (λ (h : Half). h.at) half) now
     (none_cut Up b.state d.state (y.unread ++ bytes) (ap (λ (v : BridgeState). v.state) is)) k
@@ -194,3 +196,32 @@ settled_failed old new c =
         ap (λ (v : State). drop (length (leaves w)) (leaves v ++ settle (before (steps t)) [])) now
         ∙ ap (λ (g : List Step). drop (length (leaves w)) (leaves w ++ g)) fresh
         ∙ drop-append_seam (leaves w) all
+
+-- ---- bytes that came, and what was cut of them
+
+-- bytes of an end came, and then they were cut
+abbrev pub IsFed : End → PairState → PairState → Type 0
+IsFed end old mid = (t : Told) → said old ≡ said_of t → said mid ≡ said_of (made (Fed end ∷ []) t)
+
+on_ok : {A E P Q : Type 0} (r : Result A E) → (P → Q) → OnOk r P → OnOk r Q
+on_ok (Ok x) f e = f e
+on_ok (Err x) f e = tt
+
+on_err : {A E P Q : Type 0} (r : Result A E) → (P → Q) → OnErr r P → OnErr r Q
+on_err (Ok x) f e = tt
+on_err (Err x) f e = f e
+
+pub fed_in : {A E : Type 0} (s : SetupText) (end x : End) (bytes : List ℕ) (old mid new : PairState) (r : Result A E) → x ≡ end → IsFed x old mid
+    → OnOk r ((t : Told) → said mid ≡ said_of t → said new ≡ said_of (read_in end bytes t)) → OnOk r ((h : List Entry) → Represents s old h → said new ≡ said_of (came x bytes (told s h)))
+fed_in s end x bytes old mid new r is fed ok =
+    let here : IsFed end old mid = subst (λ (y : End). IsFed y old mid) is fed in
+    subst (λ (y : End). OnOk r ((h : List Entry) → Represents s old h → said new ≡ said_of (came y bytes (told s h)))) (sym is)
+    (on_ok r (λ f h e. f (made (Fed end ∷ []) (told s h)) (here (told s h) e)) ok)
+
+pub fed_failed : {A E : Type 0} (s : SetupText) (end x : End) (bytes : List ℕ) (old mid new : PairState) (r : Result A E) → x ≡ end → IsFed x old mid
+    → OnErr r (FailedIn (read_in end bytes) mid new)
+    → OnErr r ((cut : ℕ) × ((h : List Entry) → Represents s old h → said new ≡ said_of (ran_out cut (came x bytes (told s h)))))
+fed_failed s end x bytes old mid new r is fed err =
+    let here : IsFed end old mid = subst (λ (y : End). IsFed y old mid) is fed in
+    subst (λ (y : End). OnErr r ((cut : ℕ) × ((h : List Entry) → Represents s old h → said new ≡ said_of (ran_out cut (came y bytes (told s h)))))) (sym is)
+    (on_err r (λ f. (f.0, λ h e. f.1 (made (Fed end ∷ []) (told s h)) (here (told s h) e))) err)

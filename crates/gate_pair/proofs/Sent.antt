@@ -27,9 +27,10 @@ use Rattle.gate_model.specs.Upstream.{UpState, first, linked, lost_by, shut_by}
 use Rattle.gate_pair.specs.Answers.{AreSent, OwesNone, context_in, sent_to, spelled, taken_bytes}
 use Rattle.gate_pair.specs.Meaning.{begins, ends, given, offered, pair_words, state_of, steps_of, stream_of, told}
 use Rattle.gate_pair.proofs.Logins.{AreLoggedIn, bytes_stay, client_same, context_is, gave_stay}
-use Rattle.gate_pair.proofs.Picks.{offered_is, picks}
+use Rattle.gate_pair.proofs.Picks.{moment_picks, offered_is, picks}
 use Rattle.gate_pair.proofs.Sounds.{client_picks, up_picks}
-use Rattle.gate_pair.proofs.Taken.{AreTaken, IsTaken, closing_keeps, fail_leaves, drop_taken, fresh_taken, taken_leaves}
+use Rattle.gate_pair.proofs.Taken.{AreTaken, IsTaken, closing_keeps, fail_leaves, drop_taken, fresh_taken, silent_leaves, taken_leaves}
+use Rattle.gate_pair.proofs.Ticks.{tick_all}
 
 -- ---- steps that send nothing
 
@@ -56,6 +57,12 @@ quiet_going Client (state.Began vhost n ms) w q = refl
 quiet_going Up (state.Began vhost n ms) w q = refl
 quiet_going Client (state.Moment ms) w q = refl
 quiet_going Up (state.Moment ms) w q = refl
+quiet_going Client (state.Fed Client) w q = refl
+quiet_going Up (state.Fed Client) w q = refl
+quiet_going Client (state.Fed Up) w q = refl
+quiet_going Up (state.Fed Up) w q = refl
+quiet_going Client (state.Silent e) w q = ap (option_map ToClient) (silent_leaves e w).going_is
+quiet_going Up (state.Silent e) w q = ap (option_map ToUp) (silent_leaves e w).going_up_is
 quiet_going end (state.Queued u) w q = taken_going end (state.Queued u) w tt
 quiet_going end (state.Came u) w q = taken_going end (state.Came u) w tt
 quiet_going end state.TakenUp w q = taken_going end state.TakenUp w tt
@@ -251,16 +258,30 @@ both_taken l s k g t p = both_same s g (k ++ g) (λ end. taken_same l s end k g 
 more_none : {taken rest : List ℕ} (s : SetupText) (end : End) (g : List Step) → SendsIn s end g taken rest → SendsIn s end g (taken ++ []) rest
 more_none {taken} {rest} s end g x = subst (λ (b : List ℕ). SendsIn s end g b rest) (sym (append-nil taken)) x
 
+-- a moment, at which ends may be given up
+ticked_sends : {a b c d : List ℕ} → AreLoggedIn → (s : SetupText) (ms : ℕ) (h : List Entry) → IsRelayed (pair_words s) (entry.Moment ms ∷ h) → Both s (steps_of s h) a b c d
+    → Both s (steps_of s (entry.Moment ms ∷ h)) a b c d
+ticked_sends {a} {b} {c} {d} l s ms h r x =
+    let p : ArePicks (state.Moment ms ∷ steps_of s h) = moment_picks s ms h r in
+    (tick_all (λ (g : List Step). ArePicks g × Both s g a b c d)
+    (λ end g e y. ((e, y.0), both_quiet l s (state.Silent end) g tt (e, y.0) y.1)) ms (told s h)
+    (p, both_quiet l s (state.Moment ms) (steps_of s h) tt p x)).1
+
+-- a read
+read_sends : {a b c d : List ℕ} → AreLoggedIn → (s : SetupText) (end : End) (bytes : List ℕ) (h : List Entry) → ArePicks (steps_of s h)
+    → AreTaken (told s (entry.Came end bytes ∷ h)).fresh → ArePicks ((told s (entry.Came end bytes ∷ h)).fresh ++ state.Fed end ∷ steps_of s h) → Both s (steps_of s h) a b c d
+    → Both s ((told s (entry.Came end bytes ∷ h)).fresh ++ state.Fed end ∷ steps_of s h) a b c d
+read_sends l s end bytes h p t q x =
+    both_taken l s (told s (entry.Came end bytes ∷ h)).fresh (state.Fed end ∷ steps_of s h) t q (both_quiet l s (state.Fed end) (steps_of s h) tt (tt, p) x)
+
 sends : AreLoggedIn → (s : SetupText) (h : List Entry) → IsRelayed (pair_words s) h → Sends s h
 unfolding pair_words
 sends l s [] r = record { client = record { bytes = refl; free = λ e. refl }; up = record { bytes = refl; free = λ e. refl } }
 sends l s (entry.Began n ms ∷ h) r = both_quiet l s (state.Began s.vhost n ms) (steps_of s h) tt (picks s (entry.Began n ms ∷ h) r) (sends l s h r.2)
 sends l s (entry.Refused ∷ h) r = both_quiet l s state.OutOfMemory (steps_of s h) tt (picks s (entry.Refused ∷ h) r) (sends l s h r.2)
-sends l s (entry.Moment ms ∷ h) r = both_quiet l s (state.Moment ms) (steps_of s h) tt (picks s (entry.Moment ms ∷ h) r) (sends l s h r.2)
-sends l s (entry.Came Client bytes ∷ h) r =
-    let e = entry.Came Client bytes in both_taken l s (told s (e ∷ h)).fresh (steps_of s h) (fresh_taken s (e ∷ h)) (picks s (e ∷ h) r) (sends l s h r.2)
-sends l s (entry.Came Up bytes ∷ h) r =
-    let e = entry.Came Up bytes in both_taken l s (told s (e ∷ h)).fresh (steps_of s h) (fresh_taken s (e ∷ h)) (picks s (e ∷ h) r) (sends l s h r.2)
+sends l s (entry.Moment ms ∷ h) r = ticked_sends l s ms h r (sends l s h r.2)
+sends l s (entry.Came Client bytes ∷ h) r = read_sends l s Client bytes h (picks s h r.2) (fresh_taken s (entry.Came Client bytes ∷ h)) (picks s (entry.Came Client bytes ∷ h) r) (sends l s h r.2)
+sends l s (entry.Came Up bytes ∷ h) r = read_sends l s Up bytes h (picks s h r.2) (fresh_taken s (entry.Came Up bytes ∷ h)) (picks s (entry.Came Up bytes ∷ h) r) (sends l s h r.2)
 sends l s (entry.Dry end ∷ h) r = sends l s h r.2
 sends l s (entry.Settled ∷ h) r =
     let e = entry.Settled in both_taken l s (told s (e ∷ h)).fresh (steps_of s h) (fresh_taken s (e ∷ h)) (picks s (e ∷ h) r) (sends l s h r.2)

@@ -10,7 +10,6 @@ use Rattle.gate_relay.specs.declared.loss.Loss.{Loss}
 use Rattle.gate_relay.specs.declared.loss.Loss.TheVariants as loss
 use Rattle.gate_relay.specs.declared.sides.Side.TheVariants as side
 use Rattle.gate_relay.specs.Sides.{is_readable}
-use Rattle.machine_091.specs.Calls.{after_opened}
 use Rattle.machine_091.specs.State.{is_closing, is_opening}
 use Rattle.machine_091.specs.Transitions as nine
 use Rattle.machine_091.specs.declared.unit.Want91.{Want91}
@@ -29,13 +28,14 @@ use Rattle.gate_model.specs.declared.outgoing.Outgoing.TheVariants.{ToClient, To
 use Rattle.gate_model.specs.declared.outgoing.UpUnit.{UpUnit}
 use Rattle.gate_model.specs.declared.outgoing.UpUnit.TheVariants as unit
 use Rattle.gate_model.specs.declared.reply.Reply.{Reply}
-use Rattle.gate_model.specs.Due.{client_rows, close_behind, ends, is_busy, is_end_due, pick, rows_in, up_rows}
-use Rattle.gate_model.specs.Lives.{each, is_free, session_in}
+use Rattle.gate_model.specs.Due.{client_rows, close_behind, ends, flows_on, is_busy, is_end_due, pick, rows_in, unless_out, up_rows}
+use Rattle.gate_model.specs.Session.{is_flow_owed}
+use Rattle.gate_model.specs.Lives.{each, is_carried, is_free, session_in}
 use Rattle.gate_model.specs.declared.life.Life.{Life}
 use Rattle.gate_model.specs.Setup.{SetupText}
 use Rattle.gate_model.specs.Spelling.{context_of, init_text, spell}
 use Rattle.gate_model.specs.State as state
-use Rattle.gate_model.specs.State.{State, Step, condition_by, fail, failed, heard, keep_login, next_unit, runs, step, with_meaning}
+use Rattle.gate_model.specs.State.{State, Step, condition_by, fail, failed, heard, keep_login, next_unit, runs, step, with_meaning, carried}
 use Rattle.gate_model.specs.Upstream.{UpState, closing_with, container_given, ended_in, first, heard_up, is_idle_due, lost_by, meaning_by, shut_by, when_up, without_up}
 use Rattle.gate_model.proofs.Sessions.{session_cases}
 use Rattle.gate_model.proofs.Spelled.{spelled_some}
@@ -85,7 +85,7 @@ meaning_container ten.Opened w = by (is_opening w.conn)
     by : (b : Bool) → (if b then runs w else w).up.container ≡ w.up.container
     by true = refl
     by false = refl
-meaning_container (ten.OfSession g p payload) w = session_cases (λ (v : State). v.up.container ≡ w.up.container) g p w refl (fail_container _ _ w) refl (λ code why. refl)
+meaning_container (ten.OfSession g p payload) w = session_cases (λ (v : State). v.up.container ≡ w.up.container) g p w refl (fail_container _ _ (carried g p w)) refl (λ code why. refl)
 meaning_container (ten.Closed e) w = fail_container _ None w
 meaning_container ten.Refused w = fail_container _ None w
 meaning_container (ten.Violation c) w = fail_container _ (Some c) w
@@ -129,12 +129,17 @@ begun_knows unit.AmqpHeader s k = λ e. given_some unit.AmqpHeader s.container (
 begun_knows unit.Open s k = λ e. given_some unit.Open s.container (k e)
 begun_knows (unit.Close c) s k = λ e. given_some (unit.Close c) s.container (k e)
 begun_knows unit.Empty s k = λ e. given_some unit.Empty s.container (k e)
+begun_knows (unit.Flow n i o) s k = λ e. given_some (unit.Flow n i o) s.container (k e)
 begun_knows (unit.Begin n) s k = λ e. given_some (unit.Begin n) s.container (k e)
 begun_knows (unit.End n why) s k = λ e. given_some (unit.End n why) s.container (k e)
 
 pub step_knows : (s : Step) (w : State) → KnowsLogin w.up → KnowsLogin (step w s).up
 step_knows (state.Began vhost n ms) w k = k
 step_knows (state.Moment ms) w k = k
+step_knows (state.Fed Client) w k = k
+step_knows (state.Fed Up) w k = k
+step_knows (state.Silent Client) w k = closing_knows (is_closing w.conn) None w.up k
+step_knows (state.Silent Up) w k = fail_knows _ _ (record w { up = record w.up { silent = true } }) k
 step_knows (state.Queued u) w k = by w.out_of_memory
   where
     by : (b : Bool) → KnowsLogin (if b then w else record w { queue = w.queue ++ u ∷ [] }).up
@@ -198,6 +203,17 @@ begins_none c n (l ∷ ls) us none e =
     when_none (l.begin && is_free (session_in c n)) (unit.Begin n) (rest ++ us) (λ f. cc) (begins_none c (n + 1) ls us none)
     (ap (λ (vs : List UpUnit). first (map ToUp vs)) (sym (append_assoc (when_up (l.begin && is_free (session_in c n)) (unit.Begin n)) rest us)) ∙ e)
 
+flows_none : (c : Option Upstream) (n : ℕ) (ls : List Life) (us : List UpUnit) → NoLogin us → NoLogin (each (flows_on c) n ls ++ us)
+flows_none c n [] us none e = none e
+flows_none c n (l ∷ ls) us none e =
+    let rest : List UpUnit = each (flows_on c) (n + 1) ls in
+    when_none (is_carried (session_in c n) && is_flow_owed l.session) (unit.Flow n l.session.windows.next_incoming l.session.windows.next_outgoing) (rest ++ us) (λ f. cc) (flows_none c (n + 1) ls us none)
+    (ap (λ (vs : List UpUnit). first (map ToUp vs)) (sym (append_assoc (flows_on c n l) rest us)) ∙ e)
+
+unless_none : (b : Bool) (c : Option Upstream) (ls : List Life) (us : List UpUnit) → NoLogin us → NoLogin (unless_out b (each (flows_on c) 0 ls) ++ us)
+unless_none true c ls us none e = none e
+unless_none false c ls us none e = flows_none c 0 ls us none e
+
 ends_none : (closing : Bool) (w : State) (n : ℕ) (ls : List Life) (us : List UpUnit) → NoLogin us
     → NoLogin (each (λ k l. when_up (is_end_due closing w k) (unit.End k l.why)) n ls ++ us)
 ends_none closing w n [] us none e = none e
@@ -233,10 +249,10 @@ login_due w e = by (is_readable w.up.side && not w.up.sent.close) (w.out_of_memo
 
     by : (b closing : Bool) → first (map ToUp (if b then rows_in closing w else [])) ≡ Some (ToUp unit.SaslInit) → w.up.pending.init ≡ true
     by false closing e = absurd cc
-    by true true e = absurd (ends_none true w 0 w.lives (close_behind (ends true w) w.up) (close_none (ends true w) w.up) e)
+    by true true e = absurd (unless_none w.out_of_memory w.up.container w.lives _ (ends_none true w 0 w.lives (close_behind (ends true w) w.up) (close_none (ends true w) w.up)) e)
     by true false e =
         rows w.up.pending.sasl_header w.up.pending.init w.up.pending.amqp_header w.up.pending.«open» _
-        (begins_none w.up.container 0 w.lives _ (ends_none false w 0 w.lives _ (idle_none (is_idle_due w.up w.moment)))) e
+        (begins_none w.up.container 0 w.lives _ (flows_none w.up.container 0 w.lives _ (ends_none false w 0 w.lives _ (idle_none (is_idle_due w.up w.moment))))) e
 
 frame_some : (f : Frame10) → 0 < length (frames_10.frame_text f)
 unfolding text_behind
@@ -256,6 +272,7 @@ picked_some s w end (ToUp unit.AmqpHeader) k e = omega arith
 picked_some s w end (ToUp unit.Open) k e = frame_some _
 picked_some s w end (ToUp (unit.Close c)) k e = frame_some _
 picked_some s w end (ToUp unit.Empty) k e = frame_some _
+picked_some s w end (ToUp (unit.Flow n i o)) k e = frame_some _
 picked_some s w end (ToUp (unit.Begin n)) k e = frame_some _
 picked_some s w end (ToUp (unit.End n why)) k e = frame_some _
 

@@ -4,6 +4,8 @@ use Rattle.gate_outside.specs.declared.ports.End.{End}
 use Rattle.gate_outside.specs.declared.ports.End.TheVariants.{Client, Up}
 use Rattle.gate_relay.specs.Entries as entry
 use Rattle.gate_relay.specs.Entries.{Entry, moment_of}
+use Rattle.close_translate.specs.declared.codes.TheConstants.{INTERNAL_ERROR}
+use Rattle.performatives_10.specs.declared.condition.Condition.TheVariants.{NotAllowed}
 use Rattle.machine_091.specs.State.{awaits, is_closing, is_opening}
 use Rattle.machine_091.specs.declared.unit.Unit91.{Unit91}
 use Rattle.machine_091.specs.declared.unit.Unit91.TheVariants as unit
@@ -19,18 +21,21 @@ use Rattle.gate_model.specs.Due.{can_leave, is_busy, pick}
 use Rattle.gate_model.specs.Folds.{accepted_in, failed_in, moment_in, ran_out_in, sent, sent_at, sent_up}
 use Rattle.gate_model.specs.Setup.{SetupText}
 use Rattle.gate_model.specs.State as state
-use Rattle.gate_model.specs.State.{State, Step, Came, Heard, Gave, Joined, TakenUp, before, came, condition_by, fail, failed, heard, keep_login, left, next_unit, step, with_meaning}
+use Rattle.gate_model.specs.State.{State, Step, Came, Heard, Gave, Joined, TakenUp, before, came, condition_by, fail, failed, heard, keep_login, left, next_unit, step, with_meaning, carried}
 use Rattle.gate_model.specs.Upstream.{UpState, awaited_of, closing_with, heard_up, meaning_by}
 use Rattle.machine_091.specs.Transitions.{unit_step}
 use Rattle.machine_091.specs.declared.unit.Want91.{Want91}
 use Rattle.machine_091.specs.declared.unit.Want91.TheVariants as want
 use Rattle.gate_pair.specs.Cutting.{after, as_step, behind, cut_all, cut_of, on_next, on_scan, read_end, settle, settled, step_scan, unit_scan, up_scan}
-use Rattle.gate_pair.specs.Meaning.{begins, ends, given, leaves, steps, steps_of, told}
+use Rattle.gate_pair.specs.Meaning.{begins, ends, given, leaves, steps_of, told}
 use Rattle.gate_model.proofs.Sessions.{session_cases}
+use Rattle.gate_pair.proofs.Ticks.{tick_keeps}
 
 abbrev pub IsTaken : Step → Type 0
 IsTaken (state.Began vhost n ms) = ⊥
 IsTaken (state.Moment ms) = ⊥
+IsTaken (state.Fed end) = ⊥
+IsTaken (state.Silent end) = ⊥
 IsTaken (state.Queued u) = Unit {0}
 IsTaken (Came u) = Unit {0}
 IsTaken TakenUp = Unit {0}
@@ -117,8 +122,8 @@ fresh_taken s [] = tt
 fresh_taken s (entry.Began p ms ∷ h) = tt
 fresh_taken s (entry.Refused ∷ h) = tt
 fresh_taken s (entry.Moment ms ∷ h) = tt
-fresh_taken s (entry.Came Client bytes ∷ h) = cut_taken Client (before (steps_of s h)) ((told s h).client.unread ++ bytes)
-fresh_taken s (entry.Came Up bytes ∷ h) = cut_taken Up (before (steps_of s h)) ((told s h).up.unread ++ bytes)
+fresh_taken s (entry.Came Client bytes ∷ h) = cut_taken Client (before (state.Fed Client ∷ steps_of s h)) ((told s h).client.unread ++ bytes)
+fresh_taken s (entry.Came Up bytes ∷ h) = cut_taken Up (before (state.Fed Up ∷ steps_of s h)) ((told s h).up.unread ++ bytes)
 fresh_taken s (entry.Dry end ∷ h) = tt
 fresh_taken s (entry.Settled ∷ h) =
     let g : List Step = settle (before (steps_of s h)) [] in
@@ -168,7 +173,10 @@ meaning_leaves ten.Init w = record { memory_is = refl; going_is = refl; going_up
 meaning_leaves ten.AmqpHeader w = record { memory_is = refl; going_is = refl; going_up_is = refl; number_is = refl }
 meaning_leaves ten.Opened w = if_second (is_opening w.conn) w _ (record { memory_is = refl; going_is = refl; going_up_is = refl; number_is = refl })
 meaning_leaves (ten.OfSession g p payload) w =
-    session_cases (Leaves w) g p w (record { memory_is = refl; going_is = refl; going_up_is = refl; number_is = refl }) (fail_leaves _ _ w) (leaves_all w)
+    let f : Leaves (carried g p w) (fail INTERNAL_ERROR (Some NotAllowed) (carried g p w)) = fail_leaves _ _ (carried g p w) in
+    session_cases (Leaves w) g p w (record { memory_is = refl; going_is = refl; going_up_is = refl; number_is = refl })
+    (record { memory_is = f.memory_is; going_is = f.going_is; going_up_is = f.going_up_is; number_is = f.number_is })
+    (record { memory_is = refl; going_is = refl; going_up_is = refl; number_is = refl })
     (λ code why. record { memory_is = refl; going_is = refl; going_up_is = refl; number_is = refl })
 meaning_leaves (ten.Closed e) w = fail_leaves _ None w
 meaning_leaves ten.Refused w = fail_leaves _ None w
@@ -212,9 +220,23 @@ left_leaves w = record {
   number_is = refl;
 }
 
+-- an end that is given up leaves them too
+pub silent_leaves : (end : End) (w : State) → Leaves w (step w (state.Silent end))
+silent_leaves Client w = record {
+  memory_is = refl;
+  going_is = refl;
+  going_up_is = closing_keeps (is_closing w.conn) None w.up;
+  number_is = refl;
+}
+silent_leaves Up w =
+    let v : State = record w { up = record w.up { silent = true } } in
+    leaves_more w v (step w (state.Silent Up)) (record { memory_is = refl; going_is = refl; going_up_is = refl; number_is = refl }) (fail_leaves _ _ v)
+
 pub taken_leaves : (s : Step) (w : State) → IsTaken s → Leaves w (step w s)
 taken_leaves (state.Began vhost n ms) w t = absurd t
 taken_leaves (state.Moment ms) w t = absurd t
+taken_leaves (state.Fed end) w t = absurd t
+taken_leaves (state.Silent end) w t = absurd t
 taken_leaves (state.Queued u) w t = if_first w.out_of_memory w _ (record { memory_is = refl; going_is = refl; going_up_is = refl; number_is = refl })
 taken_leaves (Came u) w t =
     if_first w.out_of_memory w (came (state.dequeued w) u)
@@ -246,6 +268,8 @@ pub leave_folds : (g h : List Step) → AreTaken g → LeavesFolds g h
 leave_folds [] h a = record { sent_is = refl; sent_up_is = refl; sent_at_is = refl; moment_is = refl; accepted_is = refl; memory_is = refl; failed_is = refl }
 leave_folds (state.Began vhost n ms ∷ g) h a = absurd a.0
 leave_folds (state.Moment ms ∷ g) h a = absurd a.0
+leave_folds (state.Fed end ∷ g) h a = absurd a.0
+leave_folds (state.Silent end ∷ g) h a = absurd a.0
 leave_folds (state.Queued u ∷ g) h a =
     let x = leave_folds g h a.1 in
     record { sent_is = x.sent_is; sent_up_is = x.sent_up_is; sent_at_is = x.sent_at_is; moment_is = x.moment_is; accepted_is = x.accepted_is; memory_is = x.memory_is; failed_is = x.failed_is }
@@ -286,18 +310,18 @@ took_moment : (end : End) (n : ℕ) (bytes : List ℕ) (h : List Step) → momen
 took_moment end n bytes h =
     ends_moment end (nat_lt n (length bytes)) (begins end (before h)) h ∙ given_moment (is_busy (before h) end) (pick (before h) end) h
 
-fresh_moment : (s : SetupText) (e : Entry) (h : List Entry) → (told s (e ∷ h)).past ≡ steps_of s h → moment_in (steps_of s (e ∷ h)) ≡ moment_in (steps_of s h)
-fresh_moment s e h past = (fresh_leave s (e ∷ h)).moment_is ∙ ap moment_in past
+fresh_moment : (s : SetupText) (e : Entry) (h : List Entry) (g : List Step) → (told s (e ∷ h)).past ≡ g → moment_in (steps_of s (e ∷ h)) ≡ moment_in g
+fresh_moment s e h g past = (fresh_leave s (e ∷ h)).moment_is ∙ ap moment_in past
 
 pub moment_is : (s : SetupText) (h : List Entry) → moment_in (steps_of s h) ≡ moment_of h
 moment_is s [] = refl
 moment_is s (entry.Began p ms ∷ h) = refl
 moment_is s (entry.Refused ∷ h) = moment_is s h
-moment_is s (entry.Moment ms ∷ h) = refl
-moment_is s (entry.Came Client bytes ∷ h) = fresh_moment s (entry.Came Client bytes) h refl ∙ moment_is s h
-moment_is s (entry.Came Up bytes ∷ h) = fresh_moment s (entry.Came Up bytes) h refl ∙ moment_is s h
+moment_is s (entry.Moment ms ∷ h) = tick_keeps moment_in (λ end g. refl) ms (told s h)
+moment_is s (entry.Came Client bytes ∷ h) = fresh_moment s (entry.Came Client bytes) h (state.Fed Client ∷ steps_of s h) refl ∙ moment_is s h
+moment_is s (entry.Came Up bytes ∷ h) = fresh_moment s (entry.Came Up bytes) h (state.Fed Up ∷ steps_of s h) refl ∙ moment_is s h
 moment_is s (entry.Dry end ∷ h) = moment_is s h
-moment_is s (entry.Settled ∷ h) = fresh_moment s entry.Settled h refl ∙ moment_is s h
+moment_is s (entry.Settled ∷ h) = fresh_moment s entry.Settled h (steps_of s h) refl ∙ moment_is s h
 moment_is s (entry.Joined answer ∷ h) = moment_is s h
 moment_is s (entry.Took Client bytes n ∷ h) = took_moment Client n bytes (steps_of s h) ∙ moment_is s h
 moment_is s (entry.Took Up bytes n ∷ h) = took_moment Up n bytes (steps_of s h) ∙ moment_is s h

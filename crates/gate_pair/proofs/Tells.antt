@@ -11,11 +11,12 @@ use Rattle.gate_model.specs.declared.outgoing.Outgoing.TheVariants.{ToUp}
 use Rattle.gate_model.specs.declared.outgoing.UpUnit.{UpUnit}
 use Rattle.gate_model.specs.declared.outgoing.UpUnit.TheVariants as up
 use Rattle.gate_model.specs.Asked.{Goes, GoesWhenDue, is_up_close, is_up_open}
-use Rattle.gate_model.specs.Due.{begins, close_behind, ends, is_busy, is_end_due, pick, rows_in, up_rows}
+use Rattle.gate_model.specs.Due.{begins, close_behind, ends, is_busy, is_end_due, pick, rows_in, session_flows, unless_out, up_rows}
+use Rattle.gate_model.specs.Session.{is_flow_owed}
 use Rattle.gate_model.specs.Folds.{connection, container, moment_in, sent_up, sent_up_at, side_in}
 use Rattle.gate_model.specs.Picks.{ArePicks}
 use Rattle.gate_model.specs.State.{State, Step, Gave, before}
-use Rattle.gate_model.specs.Lives.{is_free, session_in}
+use Rattle.gate_model.specs.Lives.{is_carried, is_free, session_in}
 use Rattle.gate_model.specs.Upstream.{first, idle_in, is_idle_by, is_idle_due, opening_rows, when_up}
 use Rattle.gate_model.proofs.Closings.{closes_sent, closing_now}
 use Rattle.gate_model.proofs.Connections.{clash}
@@ -34,6 +35,7 @@ pub record MayTellIn (g : List Step) : Type 0 where
   pub unclosed : is_closing (connection g) ≡ false
   pub alone : opening_rows (before g).up.pending ≡ []
   pub begun : begins (before g) ≡ []
+  pub flowed : session_flows (before g) ≡ []
   pub ended : ends false (before g) ≡ []
 
 -- ---- one that goes
@@ -46,6 +48,7 @@ first_up (x ∷ us) u e = let here : x ≡ u = cc in ap Some here
 record AreNone (w : State) : Type 0 where
   opening : opening_rows w.up.pending ≡ []
   begun : begins w ≡ []
+  flowed : session_flows w ≡ []
   ended : ends false w ≡ []
 
 no_begin : (w : State) → first (begins w) ≡ Some up.Empty → ⊥
@@ -62,24 +65,40 @@ no_end closing w e = first_each (λ (u : UpUnit). u ≡ up.Empty → ⊥) _ 0 w.
     one true n why v f same = let wrong : Some (up.End n why) ≡ Some up.Empty = f ∙ ap Some same in absurd cc
     one false n why v f same = absurd cc
 
-alone_closing : (w : State) → first (rows_in true w) ≡ Some up.Empty → ⊥
-alone_closing w e = by (ends true w) w.up.sent.«open» refl e
+no_flow : (w : State) → first (session_flows w) ≡ Some up.Empty → ⊥
+no_flow w e =
+    first_each (λ (u : UpUnit). u ≡ up.Empty → ⊥) _ 0 w.lives up.Empty
+    (λ n l v. one (is_carried (session_in w.up.container n) && is_flow_owed l.session) n l.session.windows.next_incoming l.session.windows.next_outgoing v) e refl
   where
-    by : (us : List UpUnit) (b : Bool) → ends true w ≡ us → first (us ++ close_behind us (record w.up { sent = record w.up.sent { «open» = b } })) ≡ Some up.Empty → ⊥
-    by (x ∷ us) b f g = no_end true w (ap first f ∙ g)
-    by [] true f g = absurd cc
-    by [] false f g = absurd cc
+    one : (b : Bool) (n i o : ℕ) (v : UpUnit) → first (when_up b (up.Flow n i o)) ≡ Some v → v ≡ up.Empty → ⊥
+    one true n i o v f same = let wrong : Some (up.Flow n i o) ≡ Some up.Empty = f ∙ ap Some same in absurd cc
+    one false n i o v f same = absurd cc
+
+alone_closing : (w : State) → first (rows_in true w) ≡ Some up.Empty → ⊥
+alone_closing w e = by (unless_out w.out_of_memory (session_flows w)) (ends true w) w.up.sent.«open» (flows w.out_of_memory) refl e
+  where
+    flows : (b : Bool) → first (unless_out b (session_flows w)) ≡ Some up.Empty → ⊥
+    flows true f = absurd cc
+    flows false f = no_flow w f
+
+    by : (fs us : List UpUnit) (b : Bool) → (first fs ≡ Some up.Empty → ⊥) → ends true w ≡ us
+        → first (fs ++ (us ++ close_behind us (record w.up { sent = record w.up.sent { «open» = b } }))) ≡ Some up.Empty → ⊥
+    by (x ∷ fs) us b k f g = k g
+    by [] (x ∷ us) b k f g = no_end true w (ap first f ∙ g)
+    by [] [] true k f g = absurd cc
+    by [] [] false k f g = absurd cc
 
 alone_in : (closing : Bool) (w : State) → first (rows_in closing w) ≡ Some up.Empty → AreNone w
 alone_in true w e = absurd (alone_closing w e)
-alone_in false w e = by (opening_rows w.up.pending) (begins w) (ends false w) refl refl refl e
+alone_in false w e = by (opening_rows w.up.pending) (begins w) (session_flows w) (ends false w) refl refl refl refl e
   where
-    by : (os bs es : List UpUnit) → opening_rows w.up.pending ≡ os → begins w ≡ bs → ends false w ≡ es
-        → first (os ++ (bs ++ (es ++ when_up (is_idle_due w.up w.moment) up.Empty))) ≡ Some up.Empty → AreNone w
-    by (x ∷ os) bs es f g k e = absurd (clash _ (is_opening_first w.up.pending up.Empty (ap first f ∙ e)) refl)
-    by [] (x ∷ bs) es f g k e = absurd (no_begin w (ap first g ∙ e))
-    by [] [] (x ∷ es) f g k e = absurd (no_end false w (ap first k ∙ e))
-    by [] [] [] f g k e = record { opening = f; begun = g; ended = k }
+    by : (os bs fs es : List UpUnit) → opening_rows w.up.pending ≡ os → begins w ≡ bs → session_flows w ≡ fs → ends false w ≡ es
+        → first (os ++ (bs ++ (fs ++ (es ++ when_up (is_idle_due w.up w.moment) up.Empty)))) ≡ Some up.Empty → AreNone w
+    by (x ∷ os) bs fs es f g m k e = absurd (clash _ (is_opening_first w.up.pending up.Empty (ap first f ∙ e)) refl)
+    by [] (x ∷ bs) fs es f g m k e = absurd (no_begin w (ap first g ∙ e))
+    by [] [] (x ∷ fs) es f g m k e = absurd (no_flow w (ap first m ∙ e))
+    by [] [] [] (x ∷ es) f g m k e = absurd (no_end false w (ap first k ∙ e))
+    by [] [] [] [] f g m k e = record { opening = f; begun = g; flowed = m; ended = k }
 
 alone_by : (w : State) → first (up_rows w) ≡ Some up.Empty → AreNone w
 alone_by w e = by (is_readable w.up.side && not w.up.sent.close) e
@@ -101,6 +120,7 @@ tells law g p free e =
       unclosed = x.may.unclosed;
       alone = none.opening;
       begun = none.begun;
+      flowed = none.flowed;
       ended = none.ended;
     }
 
@@ -126,7 +146,8 @@ one_due w false false c e f k none due = absurd cc
 one_due w false true true e f k none due = absurd cc
 one_due w false true false e f k none due =
     let idle : List UpUnit = when_up (is_idle_due w.up w.moment) up.Empty in
-    ap (λ (us : List UpUnit). us ++ (begins w ++ (ends false w ++ idle))) none.opening ∙ ap (λ (us : List UpUnit). us ++ (ends false w ++ idle)) none.begun
+    ap (λ (us : List UpUnit). us ++ (begins w ++ (session_flows w ++ (ends false w ++ idle)))) none.opening
+    ∙ ap (λ (us : List UpUnit). us ++ (session_flows w ++ (ends false w ++ idle))) none.begun ∙ ap (λ (us : List UpUnit). us ++ (ends false w ++ idle)) none.flowed
     ∙ ap (λ (us : List UpUnit). us ++ idle) none.ended ∙ ap (λ (b : Bool). when_up b up.Empty) due
 
 tells_now : (g : List Step) → ArePicks g → MayTellIn g → pick (before g) Up ≡ Some (ToUp up.Empty)
@@ -158,7 +179,7 @@ tells_now g p m = ap (λ (us : List UpUnit). first (map ToUp us)) rows
     rows : up_rows w ≡ up.Empty ∷ []
     rows =
         one_due w (w.out_of_memory || is_closing w.conn) (is_readable w.up.side) w.up.sent.close (sym (closing_now g _ p refl) ∙ m.unclosed)
-        (ap is_readable (side_is k) ∙ m.readable) unclosed (record { opening = m.alone; begun = m.begun; ended = m.ended }) due
+        (ap is_readable (side_is k) ∙ m.readable) unclosed (record { opening = m.alone; begun = m.begun; flowed = m.flowed; ended = m.ended }) due
 
 pub tells_at_once : ((g : List Step) → ArePicks g → GoesWhenDue g) → (g : List Step) → ArePicks g → is_busy (before g) Up ≡ false
     → (pick (before g) Up ≡ Some (ToUp up.Empty)) ↔ MayTellIn g

@@ -93,6 +93,7 @@ tell_in s h r free m = record {
   unclosed = m.unclosed;
   alone = m.alone;
   begun = m.begun;
+  flowed = m.flowed;
   ended = m.ended;
   free = free;
 }
@@ -107,6 +108,7 @@ tell_of s h r m = record {
   unclosed = m.unclosed;
   alone = m.alone;
   begun = m.begun;
+  flowed = m.flowed;
   ended = m.ended;
 }
 

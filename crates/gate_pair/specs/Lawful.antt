@@ -15,11 +15,11 @@ use Rattle.gate_model.specs.declared.outgoing.Outgoing.{Outgoing}
 use Rattle.gate_model.specs.declared.outgoing.Outgoing.TheVariants.{ToUp}
 use Rattle.gate_model.specs.declared.outgoing.UpUnit.{UpUnit}
 use Rattle.gate_model.specs.declared.outgoing.UpUnit.TheVariants as up
-use Rattle.gate_model.specs.Due.{can_leave, is_awaited, is_busy, is_held, pick}
-use Rattle.gate_model.specs.Folds.{connection, container}
+use Rattle.gate_model.specs.Due.{can_leave, is_awaited, is_busy, pick}
+use Rattle.gate_model.specs.Folds.{connection, container, given_up_in}
 use Rattle.gate_model.specs.Setup.{SetupText}
 use Rattle.gate_model.specs.Spelling.{spell}
-use Rattle.gate_model.specs.State.{place}
+use Rattle.gate_model.specs.State.{is_held, place}
 use Rattle.gate_model.specs.Upstream.{awaited_of, is_awaited_up}
 use Rattle.gate_pair.specs.Answers.{context_in}
 use Rattle.gate_pair.specs.Meaning.{state_of, steps_of, stream_of, told}
@@ -29,10 +29,11 @@ use Rattle.gate_pair.specs.Times.{ShutDueAt}
 
 -- a unit of an end is awaited: of the client, which isn't held while its connection.open or
 -- connection.close waits, behind bytes with which no unit begins, or while many units of it wait;
--- or of the container
+-- or of the container. A client that was given up is read until its end is shut
 abbrev pub IsAwaited : SetupText → End → List Entry → Type 0
 IsAwaited s Client h =
-    (is_awaited (awaits (connection (steps_of s h))) ≡ true) × (is_held (state_of s h) ≡ false)
+    ((is_awaited (awaits (connection (steps_of s h))) ≡ true) ⊎ (given_up_in (steps_of s h) ≡ true))
+    × (is_held (state_of s h) ≡ false)
 IsAwaited s Up h = is_awaited_up (awaited_of (container (steps_of s h))) ≡ true
 
 -- an end is read: it is open for that, a unit of it is awaited, and the pair didn't run out of
@@ -85,9 +86,12 @@ pub data Shuts (s : SetupText) (end : End) (h : List Entry) : Type 0 where
 -- ---- out of memory
 
 -- a unit whose spelling takes memory: one that tells the container a name, which are the login and
--- the gateway's open, and a begin (AMQP 1.0 5.3.3.2, 2.7.1 and 2.7.2)
-abbrev pub TakesMemory : UpUnit → Type 0
-TakesMemory u = (u ≡ up.SaslInit) ⊎ ((u ≡ up.Open) ⊎ ((n : ℕ) × (u ≡ up.Begin n)))
+-- the gateway's open, a begin and a flow (AMQP 1.0 5.3.3.2, 2.7.1, 2.7.2 and 2.7.4)
+pub data TakesMemory (u : UpUnit) : Type 0 where
+  Login : u ≡ up.SaslInit → TakesMemory u
+  Opening : u ≡ up.Open → TakesMemory u
+  Beginning : (n : ℕ) → u ≡ up.Begin n → TakesMemory u
+  Flowing : (n incoming outgoing : ℕ) → u ≡ up.Flow n incoming outgoing → TakesMemory u
 
 -- after its accept the pair runs out of memory in a read or in a take-up, of which the newest steps
 -- then don't count, or where such a unit goes next; and nowhere else

@@ -3,5 +3,6 @@ pub mod Cutting
 pub mod Lawful
 pub mod Meaning
 pub mod PairStates
+pub mod Silence
 pub mod Times
 pub mod Words

@@ -10,10 +10,11 @@ use Rattle.gate_relay.specs.Entries.{Entry}
 use Rattle.gate_relay.specs.RelayWords.{RelayWords}
 use Rattle.gate_model.specs.declared.outgoing.Outgoing.{Outgoing}
 use Rattle.gate_model.specs.Due.{can_leave, can_take_up, is_awaiting, is_busy, is_connect_due}
-use Rattle.gate_model.specs.Due.{is_shut_due, pick, takes_memory}
+use Rattle.gate_model.specs.Due.{is_shut_due, is_silent, pick, takes_memory}
 use Rattle.gate_model.specs.Setup.{SetupText}
 use Rattle.gate_model.specs.Spelling.{context_of, spell}
-use Rattle.gate_model.specs.State.{State, Step, Began, Moment, TakenUp, Joined, Lost, Gave, Whole}
+use Rattle.gate_model.specs.State.{State, Step, Began, Moment, Fed, Silent, TakenUp, Joined, Lost}
+use Rattle.gate_model.specs.State.{Gave, Whole}
 use Rattle.gate_model.specs.State.{OutOfMemory, before}
 use Rattle.gate_pair.specs.Cutting.{Cut, cut_all, settle}
 
@@ -68,13 +69,28 @@ brought g t = record t { fresh = g; past = steps t }
 abbrev pub heard : End → List ℕ → Told → Cut
 heard end bytes t = cut_all end (before (steps t)) bytes
 
-abbrev pub came : End → List ℕ → Told → Told
-came Client bytes t =
+abbrev pub read_in : End → List ℕ → Told → Told
+read_in Client bytes t =
     let c = heard Client (t.client.unread ++ bytes) t in
     record t { fresh = c.fresh; past = steps t; client = record t.client { unread = c.unread } }
-came Up bytes t =
+read_in Up bytes t =
     let c = heard Up (t.up.unread ++ bytes) t in
     record t { fresh = c.fresh; past = steps t; up = record t.up { unread = c.unread } }
+
+-- a read, and the units that it ends
+abbrev pub came : End → List ℕ → Told → Told
+came end bytes t = read_in end bytes (made (Fed end ∷ []) t)
+
+-- an end is given up where no byte of it came for too long, the client first
+abbrev pub given_up : End → State → List Step
+given_up end w = if is_silent w end then Silent end ∷ [] else []
+
+abbrev pub watched : End → Told → Told
+watched end t = made (given_up end (before (steps t))) t
+
+-- a moment, and what it makes of silence
+abbrev pub ticked : ℕ → Told → Told
+ticked ms t = watched Up (watched Client (made (Moment ms ∷ []) t))
 
 -- behind the client's units, that its end ended or failed is taken up
 abbrev pub leaves : State → List Step
@@ -109,7 +125,7 @@ ran_out cut t = record {
 abbrev pub tell : SetupText → Entry → Told → Told
 tell s (entry.Began p ms) t = made (Began s.vhost p ms ∷ []) t
 tell s entry.Refused t = made (OutOfMemory ∷ []) t
-tell s (entry.Moment ms) t = made (Moment ms ∷ []) t
+tell s (entry.Moment ms) t = ticked ms t
 tell s (entry.Came end bytes) t = came end bytes t
 tell s (entry.Dry end) t = brought [] t
 tell s entry.Settled t = settled t

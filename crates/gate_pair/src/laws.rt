@@ -11,6 +11,7 @@ ghost use Rattle.gate_model.specs.Setup.{SetupText};
 ghost use Rattle.gate_pair.specs.Answers.{IsAnswered};
 ghost use Rattle.gate_pair.specs.Lawful.{AreLawful};
 ghost use Rattle.gate_pair.specs.Meaning.{pair_words, steps_of};
+ghost use Rattle.gate_pair.specs.Silence.{GivesUp};
 ghost use Rattle.gate_pair.specs.Times.{KeepsTimes};
 
 use frames_10::frame_laws10;
@@ -69,8 +70,18 @@ pub fn times_are_kept()
     gate_model::containers_are_left();
 }
 
+/// A client that is read is given up exactly at the first moment at which, for twice the interval
+/// that was agreed to, no byte of it came, counted from its last byte, or from the end of the last
+/// time that it was held; a container at the first at which none came for 120,000 ms, counted from
+/// its last byte, or from the connect. Each is given up once at most, while its end is open.
+pub fn silent_ends_are_given_up()
+    ensures { (s : SetupText) (h : List Entry) → IsRelayed (pair_words s) h → GivesUp s h }
+{
+    gate_model::silent_ends_are_given_up();
+}
+
 /// Each entry stands where what came before it allows it: an end is read where it is open for that
-/// and a unit of it is awaited. What is offered to it is the unit in progress or the one that goes
+/// and a unit of it is awaited, or it is a client's that was given up. What is offered to it is the unit in progress or the one that goes
 /// next, whole. It is shut where that is due, or at the end of the service. Units of the client
 /// that waited, and the loss of its end, are taken up once no request of it waits. The connection
 /// upstream is asked for once, where a connection.open waits for it. After its accept the pair runs

@@ -10,6 +10,6 @@ mod pair;
 
 pub use laws::{
     clients_are_answered, entries_are_lawful, entries_give_picks, frames_fit_clients,
-    times_are_kept,
+    silent_ends_are_given_up, times_are_kept,
 };
 pub use pair::Pair;

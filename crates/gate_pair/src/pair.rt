@@ -1,13 +1,14 @@
 //! A pair: its bridge, and for each end the bytes that are no unit yet, and how much of the unit in
 //! progress was sent.
 
-ghost use Rattle.std.specs.Prelude.{◌≡◌, ℕ, ◌<◌, ◌≤◌, true, false, List, length, OnOk};
+ghost use Rattle.std.specs.Prelude.{◌≡◌, ℕ, ◌<◌, ◌≤◌, true, false, List, [], ◌∷◌, length, OnOk};
 ghost use Rattle.std.specs.Prelude.{OnErr, IfOk, IfSome, Some, is_some};
 ghost use Rattle.gate_outside.specs.declared.ports.End.TheVariants.{Client, Up};
 ghost use Rattle.bridge_core.specs.Offers.{Keeps};
 ghost use Rattle.gate_pair.specs.Cutting.{after};
-ghost use Rattle.gate_pair.specs.Meaning.{Told, came, leaves, needs_memory, offered, ran_out};
-ghost use Rattle.gate_pair.specs.Meaning.{settled, took};
+ghost use Rattle.gate_model.specs.State.{Fed, Moment, before};
+ghost use Rattle.gate_pair.specs.Meaning.{Told, given_up, leaves, made, needs_memory, offered};
+ghost use Rattle.gate_pair.specs.Meaning.{ran_out, read_in, settled, steps, took};
 ghost use Rattle.gate_pair.specs.PairStates.{Advances, FailedIn, IsOffered, StaysSound, forgotten};
 ghost use Rattle.gate_pair.specs.PairStates.{half_of, is_ready, said, said_of, said_stream};
 
@@ -89,12 +90,41 @@ impl Pair {
         self.up.forget();
     }
 
+    /// A moment was given.
+    fn clock(&mut self, moment: u64)
+        ensures step { (t : Told) → said self.old ≡ said_of t
+            → said self.new ≡ said_of (made (Moment moment ∷ []) t) }
+        ensures memory { self.new.bridge.state.out_of_memory ≡ self.old.bridge.state.out_of_memory }
+    {
+        self.bridge.tell(moment);
+    }
+
+    /// Bytes of an end came.
+    fn feed(&mut self, end: End)
+        ensures step { (t : Told) → said self.old ≡ said_of t
+            → said self.new ≡ said_of (made (Fed end ∷ []) t) }
+        ensures memory { self.new.bridge.state.out_of_memory ≡ self.old.bridge.state.out_of_memory }
+    {
+        self.bridge.feed(end);
+    }
+
+    /// An end is given up, if no byte of it came for too long.
+    fn watch(&mut self, end: End)
+        ensures step { (t : Told) → said self.old ≡ said_of t
+            → said self.new ≡ said_of (made (given_up end (before (steps t))) t) }
+        ensures memory { self.new.bridge.state.out_of_memory ≡ self.old.bridge.state.out_of_memory }
+    {
+        if self.bridge.is_silent(end) {
+            self.bridge.silence(end);
+        }
+    }
+
     /// Bytes came from the client. They are cut into units, and what is no unit yet stays.
     fn came_client(&mut self, alloc: Global, bytes: &[u8]) -> Result<(), Memory>
         requires { self.old.bridge.state.out_of_memory ≡ false }
         ensures ok { OnOk result ((t : Told) → said self.old ≡ said_of t
-            → said self.new ≡ said_of (came Client bytes.now t)) }
-        ensures err { OnErr result (FailedIn (came Client bytes.now) self.old self.new) }
+            → said self.new ≡ said_of (read_in Client bytes.now t)) }
+        ensures err { OnErr result (FailedIn (read_in Client bytes.now) self.old self.new) }
         ensures calm { OnOk result (self.new.bridge.state.out_of_memory ≡ false) }
         ensures met { OnErr result (self.new.bridge.state.out_of_memory ≡ true) }
     {
@@ -121,8 +151,8 @@ impl Pair {
     fn came_up(&mut self, alloc: Global, bytes: &[u8]) -> Result<(), Memory>
         requires { self.old.bridge.state.out_of_memory ≡ false }
         ensures ok { OnOk result ((t : Told) → said self.old ≡ said_of t
-            → said self.new ≡ said_of (came Up bytes.now t)) }
-        ensures err { OnErr result (FailedIn (came Up bytes.now) self.old self.new) }
+            → said self.new ≡ said_of (read_in Up bytes.now t)) }
+        ensures err { OnErr result (FailedIn (read_in Up bytes.now) self.old self.new) }
         ensures calm { OnOk result (self.new.bridge.state.out_of_memory ≡ false) }
         ensures met { OnErr result (self.new.bridge.state.out_of_memory ≡ true) }
     {
@@ -270,7 +300,9 @@ impl Relay for Pair {
     }
 
     fn tell(&mut self, moment: u64) {
-        self.bridge.tell(moment);
+        self.clock(moment);
+        self.watch(End::Client);
+        self.watch(End::Up);
     }
 
     #[tactic(auto, unfolding(crate::specs::Meaning::pair_words))]
@@ -285,6 +317,7 @@ impl Relay for Pair {
         end: End,
         bytes: &[u8],
     ) -> Result<(), Memory> {
+        self.feed(end);
         match end {
             End::Client => self.came_client(alloc, bytes),
             End::Up => self.came_up(alloc, bytes),

@@ -34,7 +34,7 @@ fn room_from(id: u32, window: u32, next_outgoing: u32) -> u32
 
 /// The windows and ids of one session (AMQP 1.0 2.5.6), which the gateway begins with the outgoing id 0 and an incoming window
 /// of 2,048 transfer frames. Contracts see its state. Each call takes the same time, whatever came before.
-#[derive(Clone, Debug, Drop)]
+#[derive(Clone, Copy, Debug)]
 pub struct Session10 {
     state: Windows,
 }
@@ -45,6 +45,8 @@ impl Model for Session10 {
     ghost Value = { Windows };
 
     ghost view = { λ s. s.state };
+
+    ghost inverse = { λ w. record { state = w } };
 }
 
 impl Session10 {

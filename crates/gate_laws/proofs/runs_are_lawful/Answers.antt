@@ -17,6 +17,7 @@ returns c = λ s l m f. record {
     goes = c.containers_are_asked.ensures.goes s l m f p;
     frames = c.frames_fit_clients.ensures s l m f p;
     times = c.times_are_kept.ensures s l m f p;
+    silences = c.silent_ends_are_given_up.ensures s l m f p;
   };
   turns = c.runs_keep_turns.ensures (pair_words s) l m f;
   lines = c.report_follows_marks.ensures.whole (pair_words s) m;

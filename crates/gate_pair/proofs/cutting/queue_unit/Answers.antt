@@ -1,5 +1,5 @@
 use Rattle.std.proofs.Common.{ap}
-use Rattle.gate_model.specs.State.{OutOfMemory, Queued}
+use Rattle.gate_model.specs.State.{Queued}
 use Rattle.bridge_core.specs.Offers.{BridgeState}
 use Rattle.gate_pair.proofs.Cuts.{cut_at_once, cut_later}
 use Rattle.gate_pair.proofs.Sounds.{moved_stays, sound_more}

@@ -1,5 +1,4 @@
-use Rattle.std.proofs.Common.{◌∙◌, Option, ap, sym}
-use Rattle.machine_091.specs.declared.unit.Unit91.{Unit91}
+use Rattle.std.proofs.Common.{◌∙◌, ap, sym}
 use Rattle.gate_model.specs.State.{OutOfMemory}
 use Rattle.bridge_core.specs.Offers.{BridgeState}
 use Rattle.gate_pair.proofs.Saids.{keeps_more}
