@@ -1,0 +1,8 @@
+pub mod FaultLaws
+pub mod MessageLaws
+pub mod Places
+pub mod ReadingLaws
+pub mod Runs
+pub mod Standing
+pub mod Trimming
+pub mod Written

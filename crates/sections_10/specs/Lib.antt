@@ -1,0 +1,7 @@
+pub mod Faults
+pub mod Fields
+pub mod Grammar
+pub mod Reading
+pub mod Rows
+pub mod View
+pub mod Writing
