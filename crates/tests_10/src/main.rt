@@ -1,4 +1,4 @@
-//! Cases of AMQP 1.0: reads them line by line, and prints what `types_10` answers.
+//! Cases of AMQP 1.0: reads them line by line, and prints what `types_10` and `sections_10` answer.
 //!
 //! | Line | Answer |
 //! |---|---|
@@ -8,6 +8,7 @@
 //! | `lists N BYTES` | the same inside so many lists |
 //! | `sequence BYTES` | values one after another, a line each |
 //! | `write WORDS` | the value that the words build, and what is written of it: `uint 5, string "a", list 2` |
+//! | `message BYTES` | the message that fills the bytes, and what is written of it; `cuts message BYTES` also the answer at each shorter length |
 //! | `codes` | the format codes that are known |
 //!
 //! A fault is its name and its place.
@@ -15,15 +16,18 @@
 
 mod building;
 mod cases;
+mod messages;
 mod notation;
 mod values;
 
 use cases::Cases10;
+use sections_10::message_laws;
 use std::io;
 use tests_support::answer_lines;
 use types_10::value_laws;
 
 fn main(rt: HostRuntime) -> io::Result<()> {
     value_laws();
+    message_laws();
     answer_lines(&rt, &mut Cases10)
 }
