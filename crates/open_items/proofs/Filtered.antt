@@ -1,0 +1,129 @@
+-- Lists that are changed in place, and lists of what passes a test.
+use Rattle.std.proofs.Common.{◌≡◌, ◌∙◌, ℕ, ◌+◌, ◌≤◌, ◌<◌, List, [], ◌∷◌, ◌++◌, Bool, true, false, refl, sym, ap, subst, arith, cond, map, Some, take, drop, set, get_or, length}
+use Rattle.std.specs.Prelude.{filter, find, count_by, ◌||◌}
+use Rattle.std.specs.List.{AllByRecursion, list_any}
+use Rattle.std.proofs.lemmas.List.{length-append, length-map, length-take, length-drop, get_or_default}
+use Rattle.std.proofs.lemmas.List.Edits.{map_over_more}
+use Rattle.std.proofs.lemmas.List.Sums.{length-filter}
+
+-- one more element is changed in place
+pub changed_more : {X : Type 0} (f : X → X) (xs ys : List X) (i : ℕ) (d x : X) → i < length ys → ys ≡ map f (take i xs) ++ drop i xs → x ≡ f (get_or ys i d) → set ys i x ≡ map f (take (i + 1) xs) ++ drop (i + 1) xs
+changed_more {X} f xs ys i d x here so_far is =
+    let long : length (map f (take i xs) ++ drop i xs) ≡ length xs = simp (length-append, length-map, length-take, length-drop) (omega arith) in
+    let within : i < length xs = omega (arith, ap length so_far, long) in
+    ap (set ys i) is ∙ map_over_more f xs ys i (get_or ys i d) within so_far (get_or_default ys i d (get_or ys i d) here)
+
+module _ {X : Type 0} (o : X → Bool) where
+  -- what is left out stays out
+  pub filter-map-filter : (f : X → X) → ((x : X) → o x ≡ false → o (f x) ≡ false) → (xs : List X) → filter o (map f xs) ≡ filter o (map f (filter o xs))
+  filter-map-filter f stays [] = refl
+  filter-map-filter f stays (x ∷ xs) = by (o x) refl (filter-map-filter f stays xs)
+    where
+      by : (b : Bool) → o x ≡ b → filter o (map f xs) ≡ filter o (map f (filter o xs)) → cond (o (f x)) (f x ∷ filter o (map f xs)) (filter o (map f xs)) ≡ filter o (map f (cond b (x ∷ filter o xs) (filter o xs)))
+      by true e ih = ap (λ ys. cond (o (f x)) (f x ∷ ys) ys) ih
+      by false e ih = ap (λ b. cond b (f x ∷ filter o (map f xs)) (filter o (map f xs))) (stays x e) ∙ ih
+
+  pub filter-filter : (xs : List X) → filter o (filter o xs) ≡ filter o xs
+  filter-filter [] = refl
+  filter-filter (x ∷ xs) = by (o x) refl (filter-filter xs)
+    where
+      by : (b : Bool) → o x ≡ b → filter o (filter o xs) ≡ filter o xs → filter o (cond b (x ∷ filter o xs) (filter o xs)) ≡ cond b (x ∷ filter o xs) (filter o xs)
+      by true e ih = ap (λ b. cond b (x ∷ filter o (filter o xs)) (filter o (filter o xs))) e ∙ ap (λ ys. x ∷ ys) ih
+      by false e ih = ih
+
+  pub filter-push : (xs : List X) (y : X) → o y ≡ true → filter o (xs ++ y ∷ []) ≡ filter o xs ++ y ∷ []
+  filter-push [] y e = ap (λ b. cond b (y ∷ []) []) e
+  filter-push (x ∷ xs) y e = by (o x) (filter-push xs y e)
+    where
+      by : (b : Bool) → filter o (xs ++ y ∷ []) ≡ filter o xs ++ y ∷ [] → cond b (x ∷ filter o (xs ++ y ∷ [])) (filter o (xs ++ y ∷ [])) ≡ cond b (x ∷ filter o xs) (filter o xs) ++ y ∷ []
+      by true ih = ap (λ ys. x ∷ ys) ih
+      by false ih = ih
+
+  -- a test that only what is kept passes: it finds the same
+  pub find-filter : (p : X → Bool) → ((x : X) → o x ≡ false → p x ≡ false) → (xs : List X) → find p (filter o xs) ≡ find p xs
+  find-filter p only [] = refl
+  find-filter p only (x ∷ xs) = by (o x) refl (find-filter p only xs)
+    where
+      by : (b : Bool) → o x ≡ b → find p (filter o xs) ≡ find p xs → find p (cond b (x ∷ filter o xs) (filter o xs)) ≡ cond (p x) (Some x) (find p xs)
+      by true e ih = ap (cond (p x) (Some x)) ih
+      by false e ih = ih ∙ sym (ap (λ b. cond b (Some x) (find p xs)) (only x e))
+
+  -- the same ones pass it
+  pub filter-only : (p : X → Bool) → ((x : X) → o x ≡ false → p x ≡ false) → (xs : List X) → filter p (filter o xs) ≡ filter p xs
+  filter-only p only [] = refl
+  filter-only p only (x ∷ xs) = by (o x) refl (filter-only p only xs)
+    where
+      by : (b : Bool) → o x ≡ b → filter p (filter o xs) ≡ filter p xs → filter p (cond b (x ∷ filter o xs) (filter o xs)) ≡ cond (p x) (x ∷ filter p xs) (filter p xs)
+      by true e ih = ap (λ ys. cond (p x) (x ∷ ys) ys) ih
+      by false e ih = ih ∙ sym (ap (λ b. cond b (x ∷ filter p xs) (filter p xs)) (only x e))
+
+  -- as many pass it
+  pub count_by-filter : (p : X → Bool) → ((x : X) → o x ≡ false → p x ≡ false) → (xs : List X) → count_by p (filter o xs) ≡ count_by p xs
+  count_by-filter p only xs = sym (length-filter p (filter o xs)) ∙ ap length (filter-only p only xs) ∙ length-filter p xs
+
+  -- some pass it
+  pub list_any-filter : (p : X → Bool) → ((x : X) → o x ≡ false → p x ≡ false) → (xs : List X) → list_any p (filter o xs) ≡ list_any p xs
+  list_any-filter p only [] = refl
+  list_any-filter p only (x ∷ xs) = by (o x) refl (list_any-filter p only xs)
+    where
+      by : (b : Bool) → o x ≡ b → list_any p (filter o xs) ≡ list_any p xs → list_any p (cond b (x ∷ filter o xs) (filter o xs)) ≡ (p x || list_any p xs)
+      by true e ih = ap (λ b. p x || b) ih
+      by false e ih = ih ∙ sym (ap (λ b. b || list_any p xs) (only x e))
+
+module _ {X : Type 0} (p : X → Bool) where
+  length-filter-map-le : (f : X → X) → ((x : X) → p (f x) ≡ true → p x ≡ true) → (xs : List X) → length (filter p (map f xs)) ≤ length (filter p xs)
+  length-filter-map-le f fewer [] = omega arith
+  length-filter-map-le f fewer (x ∷ xs) = by (p (f x)) (p x) refl refl (length-filter-map-le f fewer xs)
+    where
+      by : (a b : Bool) → p (f x) ≡ a → p x ≡ b → length (filter p (map f xs)) ≤ length (filter p xs) → length (cond a (f x ∷ filter p (map f xs)) (filter p (map f xs))) ≤ length (cond b (x ∷ filter p xs) (filter p xs))
+      by true true e g ih = omega arith
+      by true false e g ih = absurd (let h : p x ≡ true = fewer x e in cc)
+      by false true e g ih = omega arith
+      by false false e g ih = ih
+
+  -- where none begins to pass, no more pass
+  pub count_by-map-le : (f : X → X) → ((x : X) → p (f x) ≡ true → p x ≡ true) → (xs : List X) → count_by p (map f xs) ≤ count_by p xs
+  count_by-map-le f fewer xs = rw (← length-filter p (map f xs), ← length-filter p xs) (length-filter-map-le f fewer xs)
+
+-- what holds of each
+
+pub all_each : {X : Type 0} (o : X → Bool) (f : X → X) (P Q : X → Type 0) → ((x : X) → P x → Q (f x)) → (xs : List X) → AllByRecursion P xs → AllByRecursion Q (filter o (map f xs))
+all_each o f P Q step [] a = tt
+all_each {X} o f P Q step (x ∷ xs) a = by (o (f x)) (all_each o f P Q step xs a.1)
+  where
+    by : (b : Bool) → AllByRecursion Q (filter o (map f xs)) → AllByRecursion Q (cond b (f x ∷ filter o (map f xs)) (filter o (map f xs)))
+    by true ih = (step x a.0, ih)
+    by false ih = ih
+
+pub all_map : {X : Type 0} (f : X → X) (P Q : X → Type 0) → ((x : X) → P x → Q (f x)) → (xs : List X) → AllByRecursion P xs → AllByRecursion Q (map f xs)
+all_map f P Q step [] a = tt
+all_map f P Q step (x ∷ xs) a = (step x a.0, all_map f P Q step xs a.1)
+
+pub all_filter : {X : Type 0} (o : X → Bool) (P : X → Type 0) (xs : List X) → AllByRecursion P xs → AllByRecursion P (filter o xs)
+all_filter o P [] a = tt
+all_filter {X} o P (x ∷ xs) a = by (o x) (all_filter o P xs a.1)
+  where
+    by : (b : Bool) → AllByRecursion P (filter o xs) → AllByRecursion P (cond b (x ∷ filter o xs) (filter o xs))
+    by true ih = (a.0, ih)
+    by false ih = ih
+
+pub all_weaker : {X : Type 0} (P Q : X → Type 0) → ((x : X) → P x → Q x) → (xs : List X) → AllByRecursion P xs → AllByRecursion Q xs
+all_weaker P Q w [] a = tt
+all_weaker P Q w (x ∷ xs) a = (w x a.0, all_weaker P Q w xs a.1)
+
+pub all_both : {X : Type 0} (P Q : X → Type 0) (xs : List X) → AllByRecursion P xs → AllByRecursion Q xs → AllByRecursion (λ x. P x × Q x) xs
+all_both P Q [] a b = tt
+all_both P Q (x ∷ xs) a b = ((a.0, b.0), all_both P Q xs a.1 b.1)
+
+pub all_push : {X : Type 0} (P : X → Type 0) (xs : List X) (y : X) → AllByRecursion P xs → P y → AllByRecursion P (xs ++ y ∷ [])
+all_push P [] y a h = (h, tt)
+all_push P (x ∷ xs) y a h = (a.0, all_push P xs y a.1 h)
+
+-- what is found passes, and has what each has
+pub all_find : {X : Type 0} (P : X → Type 0) (p : X → Bool) (xs : List X) (x : X) → AllByRecursion P xs → find p xs ≡ Some x → P x × (p x ≡ true)
+all_find P p [] x a e = absurd (cc)
+all_find {X} P p (y ∷ ys) x a e = by (p y) refl (all_find P p ys x a.1) e
+  where
+    by : (b : Bool) → p y ≡ b → (find p ys ≡ Some x → P x × (p x ≡ true)) → cond b (Some y) (find p ys) ≡ Some x → P x × (p x ≡ true)
+    by true is rec e = let same : y ≡ x = cc in subst (λ z. P z × (p z ≡ true)) same (a.0, is)
+    by false is rec e = rec e

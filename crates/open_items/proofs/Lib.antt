@@ -1,0 +1,4 @@
+pub mod Filtered
+pub mod Numbered
+pub mod Tracked
+pub mod Counted
