@@ -1,10 +1,10 @@
 -- Lists that are changed in place, and lists of what passes a test.
 use Rattle.std.proofs.Common.{◌≡◌, ◌∙◌, ℕ, ◌+◌, ◌≤◌, ◌<◌, List, [], ◌∷◌, ◌++◌, Bool, true, false, refl, sym, ap, subst, arith, cond, map, Some, take, drop, set, get_or, length}
-use Rattle.std.specs.Prelude.{filter, find, count_by, ◌||◌}
+use Rattle.std.specs.Prelude.{filter, find, count_by, ◌||◌, sum_by}
 use Rattle.std.specs.List.{AllByRecursion, list_any}
 use Rattle.std.proofs.lemmas.List.{length-append, length-map, length-take, length-drop, get_or_default}
 use Rattle.std.proofs.lemmas.List.Edits.{map_over_more}
-use Rattle.std.proofs.lemmas.List.Sums.{length-filter}
+use Rattle.std.proofs.lemmas.List.Sums.{length-filter, sum_by-cons}
 
 -- one more element is changed in place
 pub changed_more : {X : Type 0} (f : X → X) (xs ys : List X) (i : ℕ) (d x : X) → i < length ys → ys ≡ map f (take i xs) ++ drop i xs → x ≡ f (get_or ys i d) → set ys i x ≡ map f (take (i + 1) xs) ++ drop (i + 1) xs
@@ -57,6 +57,15 @@ module _ {X : Type 0} (o : X → Bool) where
       by true e ih = ap (λ ys. cond (p x) (x ∷ ys) ys) ih
       by false e ih = ih ∙ sym (ap (λ b. cond b (x ∷ filter p xs) (filter p xs)) (only x e))
 
+  -- a sum to which only what is kept adds
+  pub sum_by-filter : (g : X → ℕ) → ((x : X) → o x ≡ false → g x ≡ 0) → (xs : List X) → sum_by g (filter o xs) ≡ sum_by g xs
+  sum_by-filter g only [] = refl
+  sum_by-filter g only (x ∷ xs) = by (o x) refl (sum_by-filter g only xs) ∙ sym (sum_by-cons g x xs)
+    where
+      by : (b : Bool) → o x ≡ b → sum_by g (filter o xs) ≡ sum_by g xs → sum_by g (cond b (x ∷ filter o xs) (filter o xs)) ≡ g x + sum_by g xs
+      by true e ih = sum_by-cons g x (filter o xs) ∙ ap (λ n. g x + n) ih
+      by false e ih = let none : g x ≡ 0 = only x e in omega arith
+
   -- as many pass it
   pub count_by-filter : (p : X → Bool) → ((x : X) → o x ≡ false → p x ≡ false) → (xs : List X) → count_by p (filter o xs) ≡ count_by p xs
   count_by-filter p only xs = sym (length-filter p (filter o xs)) ∙ ap length (filter-only p only xs) ∙ length-filter p xs
@@ -84,6 +93,14 @@ module _ {X : Type 0} (p : X → Bool) where
   -- where none begins to pass, no more pass
   pub count_by-map-le : (f : X → X) → ((x : X) → p (f x) ≡ true → p x ≡ true) → (xs : List X) → count_by p (map f xs) ≤ count_by p xs
   count_by-map-le f fewer xs = rw (← length-filter p (map f xs), ← length-filter p xs) (length-filter-map-le f fewer xs)
+
+-- where none adds more than before
+pub sum_by-map-le : {X : Type 0} (g : X → ℕ) (f : X → X) → ((x : X) → g (f x) ≤ g x) → (xs : List X) → sum_by g (map f xs) ≤ sum_by g xs
+sum_by-map-le g f less [] = omega arith
+sum_by-map-le g f less (x ∷ xs) =
+    let here : g (f x) ≤ g x = less x in
+    let rest : sum_by g (map f xs) ≤ sum_by g xs = sum_by-map-le g f less xs in
+    rw (sum_by-cons g x xs, sum_by-cons g (f x) (map f xs)) (omega arith)
 
 -- what holds of each
 

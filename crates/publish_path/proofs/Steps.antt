@@ -1,0 +1,208 @@
+-- A change of each publish, as the open ones see it.
+use Rattle.std.proofs.Common.{◌≡◌, ◌∙◌, ℕ, List, [], ◌∷◌, ◌++◌, Bool, true, false, Option, Some, None, map, take, drop, refl, sym, subst, ap, arith, cond, ◌≤◌, ◌-◌, ◌+◌, length}
+use Rattle.std.specs.Prelude.{filter, find, not, ◌||◌, ◌&&◌, ◌==◌, is_some, sum_by, count_by, nat_lt}
+use Rattle.std.specs.Option.{option_map, option_or}
+use Rattle.std.specs.List.{list_any, AllByRecursion}
+use Rattle.std.proofs.lemmas.Grind.{common_steps}
+use Rattle.std.proofs.lemmas.List.{length-take-le, length-drop}
+use Rattle.std.proofs.Math.Seq.{take-length}
+use Rattle.std.proofs.Math.ListN.{drop_of_length-le}
+use Rattle.publish_path.specs.declared.publish.NextFrame.{NextFrame}
+use Rattle.publish_path.specs.Links.{link_of, can_send}
+use Rattle.std.proofs.lemmas.List.Sums.{sum_by_push}
+use Rattle.std.proofs.lemmas.Bool.Decides.{nat_tests}
+use Rattle.open_items.proofs.Filtered.{filter-map-filter, filter-filter, filter-push, find-filter, filter-only, all_find, count_by-filter, sum_by-filter, list_any-filter, count_by-map-le, sum_by-map-le}
+use Rattle.publish_path.specs.declared.publish.Publish.{Publish}
+use Rattle.publish_path.specs.declared.send_links.SendingLink.{SendingLink}
+use Rattle.publish_path.specs.declared.publish.Place.{Place}
+use Rattle.publish_path.specs.declared.publish.Place.TheVariants.{Waiting, Begun, Sent, Lost}
+use Rattle.publish_path.specs.declared.publish.Answer.{Answer}
+use Rattle.publish_path.specs.declared.publish.Answer.TheVariants.{Open, Owed, Settled}
+use Rattle.publish_path.specs.declared.publish.Confirm.{Confirm}
+use Rattle.publish_path.specs.declared.changes.Change.{Change}
+use Rattle.publish_path.specs.declared.changes.Change.TheVariants.{Framed, Told, LinkLost, Confirmed, Reported}
+use Rattle.publish_path.specs.Publishes.{is_waiting, is_begun, is_sending, is_settled, has_no_outcome, is_open, takes, has_more, place_then, framed, due_for, is_told, told, is_on, lost_place, lost_as, link_lost, covers, confirmed, reported, changed}
+use Rattle.publish_path.specs.Offers.{can_begin, frame_of, next_frame_of, waits_on, is_pending, next_confirm_of, is_held, held_count, held_size, held_bytes, owed_ack, is_owed, is_unanswered, alone, run_from, confirm_of}
+
+-- what is closed stays closed
+
+changed_stays : (change : Change) (p : Publish) → is_open p ≡ false → is_open (changed change p) ≡ false
+changed_stays (Framed number first id count) p e = grind (arith, common_steps)
+changed_stays (Told first last accepted) p e = grind (arith, common_steps)
+changed_stays (LinkLost link) p e = grind (arith, common_steps)
+changed_stays (Confirmed c) p e = grind (arith, common_steps)
+changed_stays (Reported number) p e = grind (arith, common_steps)
+
+pub changed_seen : (change : Change) (items : List Publish) → filter is_open (map (changed change) items) ≡ filter is_open (map (changed change) (filter is_open items))
+changed_seen change items = filter-map-filter is_open (changed change) (changed_stays change) items
+
+-- no more are held
+
+held_before : (change : Change) (p : Publish) → is_held (changed change p) ≡ true → is_held p ≡ true
+held_before (Framed number first id count) p e = grind (arith, common_steps)
+held_before (Told first last accepted) p e = e
+held_before (LinkLost link) p e = grind (arith, common_steps)
+held_before (Confirmed c) p e = e
+held_before (Reported number) p e = e
+
+pub count_falls : (change : Change) (items : List Publish) → held_count (map (changed change) items) ≤ held_count items
+count_falls change items = count_by-map-le is_held (changed change) (held_before change) items
+
+framed_size : (place : Place) (on more : Bool) (payload : List ℕ)
+    → cond (is_sending (cond (on && is_sending place) (place_then more) place)) (length (cond ((on && is_sending place) && not more) [] payload)) 0 ≤ cond (is_sending place) (length payload) 0
+framed_size Waiting true true payload = omega arith
+framed_size Waiting true false payload = omega arith
+framed_size Waiting false more payload = omega arith
+framed_size Begun true true payload = omega arith
+framed_size Begun true false payload = omega arith
+framed_size Begun false more payload = omega arith
+framed_size Sent true more payload = omega arith
+framed_size Sent false more payload = omega arith
+framed_size Lost true more payload = omega arith
+framed_size Lost false more payload = omega arith
+
+lost_size : (place : Place) (on : Bool) (payload : List ℕ) → cond (is_sending (cond on (lost_place place) place)) (length (cond on [] payload)) 0 ≤ cond (is_sending place) (length payload) 0
+lost_size place false payload = omega arith
+lost_size Waiting true payload = omega arith
+lost_size Begun true payload = omega arith
+lost_size Sent true payload = omega arith
+lost_size Lost true payload = omega arith
+
+size_before : (change : Change) (p : Publish) → held_size (changed change p) ≤ held_size p
+size_before (Framed number first id count) p = framed_size p.place (p.number == number) (has_more count p) p.payload
+size_before (Told first last accepted) p = omega arith
+size_before (LinkLost link) p = lost_size p.place (is_on link p.link) p.payload
+size_before (Confirmed c) p = omega arith
+size_before (Reported number) p = omega arith
+
+pub bytes_fall : (change : Change) (items : List Publish) → held_bytes (map (changed change) items) ≤ held_bytes items
+bytes_fall change items = sum_by-map-le held_size (changed change) (size_before change) items
+
+-- confirms
+
+-- of the unanswered ones, the first that has an outcome
+pub find_due : (items : List Publish) → find (λ p. is_owed p.answer) (filter is_unanswered items) ≡ find (λ p. is_unanswered p && is_owed p.answer) items
+find_due [] = refl
+find_due (p ∷ ps) = by (is_unanswered p) (find_due ps)
+  where
+    by : (b : Bool) → find (λ p. is_owed p.answer) (filter is_unanswered ps) ≡ find (λ p. is_unanswered p && is_owed p.answer) ps
+        → find (λ p. is_owed p.answer) (cond b (p ∷ filter is_unanswered ps) (filter is_unanswered ps)) ≡ cond (b && is_owed p.answer) (Some p) (find (λ p. is_unanswered p && is_owed p.answer) ps)
+    by true ih = ap (cond (is_owed p.answer) (Some p)) ih
+    by false ih = ih
+
+-- the run so far and what is left give the confirm of all
+abbrev pub rest_confirm : Option Confirm → List Publish → Option Confirm
+rest_confirm None ps = confirm_of ps
+rest_confirm (Some c) ps = Some (run_from c.number c.multiple c.ack ps)
+
+-- before a run, none had an outcome
+abbrev pub rest_due : Option Confirm → List Publish → List Publish → Type 0
+rest_due None ps all = find (λ p. is_unanswered p && is_owed p.answer) ps ≡ find (λ p. is_unanswered p && is_owed p.answer) all
+rest_due (Some c) ps all = Unit {0}
+
+-- the first unanswered one has no outcome: the first outcome goes alone
+pub first_alone_is : (p : Publish) (ps all : List Publish) → is_unanswered p ≡ true → owed_ack p.answer ≡ None
+    → confirm_of (filter is_unanswered (p ∷ ps)) ≡ confirm_of (filter is_unanswered all)
+    → find (λ p. is_unanswered p && is_owed p.answer) (p ∷ ps) ≡ find (λ p. is_unanswered p && is_owed p.answer) all
+    → option_map alone (find (λ p. is_unanswered p && is_owed p.answer) all) ≡ confirm_of (filter is_unanswered all)
+first_alone_is p ps all un none run due =
+    let here : confirm_of (filter is_unanswered (p ∷ ps)) ≡ option_map alone (find (λ q. is_owed q.answer) (filter is_unanswered ps)) = rw (un, none) refl in
+    let same : find (λ p. is_unanswered p && is_owed p.answer) (p ∷ ps) ≡ find (λ p. is_unanswered p && is_owed p.answer) ps = rw (un, none) refl in
+    ap (option_map alone) (sym due ∙ same ∙ sym (find_due ps)) ∙ sym here ∙ run
+
+-- what the open ones offer and count is what all do
+
+closed_size : (p : Publish) → is_open p ≡ false → held_size p ≡ 0
+closed_size p e = let no : is_held p ≡ false = grind (arith, common_steps) in ap (λ b. cond b (length p.payload) 0) no
+
+pub held_seen : (items : List Publish) → held_count (filter is_open items) ≡ held_count items
+held_seen items = count_by-filter is_open is_held (λ p e. grind (arith, common_steps)) items
+
+pub bytes_seen : (items : List Publish) → held_bytes (filter is_open items) ≡ held_bytes items
+bytes_seen items = sum_by-filter is_open held_size closed_size items
+
+pub begun_seen : (items : List Publish) → find (λ p. is_begun p.place) (filter is_open items) ≡ find (λ p. is_begun p.place) items
+begun_seen items = find-filter is_open (λ p. is_begun p.place) (λ p e. grind (arith, common_steps)) items
+
+pub begins_seen : (links : List SendingLink) (items : List Publish) → find (can_begin links) (filter is_open items) ≡ find (can_begin links) items
+begins_seen links items = find-filter is_open (can_begin links) (λ p e. grind (arith, common_steps)) items
+
+pub taking_seen : (number : ℕ) (items : List Publish) → find (takes number) (filter is_open items) ≡ find (takes number) items
+taking_seen number items = find-filter is_open (takes number) (λ p e. grind (arith, common_steps)) items
+
+pub waiting_seen : (link : ℕ) (items : List Publish) → list_any (waits_on link) (filter is_open items) ≡ list_any (waits_on link) items
+waiting_seen link items = list_any-filter is_open (waits_on link) (λ p e. grind (arith, common_steps)) items
+
+pub pending_seen : (link : Option ℕ) (items : List Publish) → count_by (is_pending link) (filter is_open items) ≡ count_by (is_pending link) items
+pending_seen link items = count_by-filter is_open (is_pending link) closed_pending items
+  where
+    closed_pending : (p : Publish) → is_open p ≡ false → is_pending link p ≡ false
+    closed_pending p e = grind (arith, common_steps)
+
+pub told_seen : (first last : ℕ) (items : List Publish) → list_any (is_told first last) (filter is_open items) ≡ list_any (is_told first last) items
+told_seen first last items = list_any-filter is_open (is_told first last) (λ p e. grind (arith, common_steps)) items
+
+pub confirm_seen : (items : List Publish) → next_confirm_of (filter is_open items) ≡ next_confirm_of items
+confirm_seen items = ap confirm_of (filter-only is_open is_unanswered (λ p e. grind (arith, common_steps)) items)
+
+pub line_seen : (items : List Publish) → find (λ p. is_some p.line) (filter is_open items) ≡ find (λ p. is_some p.line) items
+line_seen items = find-filter is_open (λ p. is_some p.line) (λ p e. grind (arith, common_steps)) items
+
+-- a publish that is added
+
+pub add_seen : (items : List Publish) (p : Publish) → p.place ≡ Waiting → filter is_open (filter is_open items ++ p ∷ []) ≡ filter is_open items ++ p ∷ []
+add_seen items p e =
+    filter-push is_open (filter is_open items) p (ap (λ w. is_sending w || not (is_settled p.answer) || is_some p.line) e) ∙ ap (λ ys. ys ++ p ∷ []) (filter-filter is_open items)
+
+pub add_count : (items : List Publish) (p : Publish) → held_count (items ++ p ∷ []) ≤ held_count items + 1
+add_count items p = rw (sum_by_push (λ x. cond (is_held x) 1 0) items p) (by (is_held p))
+  where
+    by : (b : Bool) → held_count items + cond b 1 0 ≤ held_count items + 1
+    by true = omega arith
+    by false = omega arith
+
+pub add_bytes : (items : List Publish) (p : Publish) → held_bytes (items ++ p ∷ []) ≤ held_bytes items + length p.payload
+add_bytes items p = rw (sum_by_push held_size items p) (by (is_held p))
+  where
+    by : (b : Bool) → held_bytes items + cond b (length p.payload) 0 ≤ held_bytes items + length p.payload
+    by true = omega arith
+    by false = omega arith
+
+-- the front of what is left has the length that is asked for
+pub length_part : (n : ℕ) (rest : List ℕ) → n ≤ length rest → length (take n rest) ≡ n
+length_part n rest le = length-take-le n rest le
+
+pub take_rest : (n : ℕ) (bytes : List ℕ) → take (length bytes - n) (drop n bytes) ≡ drop n bytes
+take_rest n bytes = ap (λ k. take k (drop n bytes)) (sym (length-drop n bytes)) ∙ take-length (drop n bytes)
+
+pub drop_past : (n : ℕ) (bytes : List ℕ) → length bytes ≤ n → drop n bytes ≡ []
+drop_past n bytes le = drop_of_length-le bytes le
+
+pub open_open : (items : List Publish) → filter is_open (filter is_open items) ≡ filter is_open items
+open_open items = filter-filter is_open items
+
+found_passes : (p : Publish → Bool) (items : List Publish) (x : Publish) → find p items ≡ Some x → p x ≡ true
+found_passes p items x e = (all_find (λ _. Unit {0}) p items x (each items) e).1
+  where
+    each : (xs : List Publish) → AllByRecursion (λ _. Unit {0}) xs
+    each [] = tt
+    each (y ∷ ys) = (tt, each ys)
+
+and_right : (a b : Bool) → (a && b) ≡ true → b ≡ true
+and_right true b e = e
+and_right false b e = absurd (cc)
+
+-- a transfer begins on a link that is attached and has credit
+pub first_can_send : (links : List SendingLink) (list : List Publish) (frame : NextFrame) → next_frame_of links list ≡ Some frame → frame.first ≡ true → can_send (link_of links frame.link) ≡ true
+first_can_send links list frame e first = by (find (λ p. is_begun p.place) list) (find (can_begin links) list) refl e
+  where
+    by : (a b : Option Publish) → find (can_begin links) list ≡ b → option_or (option_map (frame_of false) a) (option_map (frame_of true) b) ≡ Some frame → can_send (link_of links frame.link) ≡ true
+    by (Some p) b is e = absurd (let no : false ≡ frame.first = option_first e in cc)
+      where
+        option_first : Some (frame_of false p) ≡ Some frame → false ≡ frame.first
+        option_first e = cc
+    by None None is e = absurd (cc)
+    by None (Some p) is e =
+        let passes : can_begin links p ≡ true = found_passes (can_begin links) list p is in
+        let same : frame_of true p ≡ frame = cc in
+        subst (λ (f : NextFrame). can_send (link_of links f.link) ≡ true) same (and_right (is_waiting p.place) _ passes)

@@ -1,0 +1,5 @@
+pub mod Links
+pub mod Publishes
+pub mod Offers
+pub mod Journal
+pub mod Laws

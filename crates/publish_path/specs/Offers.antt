@@ -1,0 +1,127 @@
+-- What the open publishes make due, and what they count.
+use Rattle.std.specs.Prelude.{ℕ, Bool, true, false, not, ◌==◌, ◌&&◌, ◌||◌, ◌+◌, ◌-◌, if◌then◌else◌, List, [], ◌∷◌, map, filter, find, count_by, sum_by, length, drop, Option, Some, None, is_some, unwrap_or}
+use Rattle.std.specs.Option.{option_map, option_or}
+use Rattle.open_items.specs.declared.lost.LostItem.{LostItem}
+use Rattle.publish_path.specs.declared.publish.Publish.{Publish}
+use Rattle.publish_path.specs.declared.publish.Answer.{Answer}
+use Rattle.publish_path.specs.declared.publish.Answer.TheVariants.{Open, Owed, Settled}
+use Rattle.publish_path.specs.declared.publish.NextFrame.{NextFrame}
+use Rattle.publish_path.specs.declared.publish.Confirm.{Confirm}
+use Rattle.publish_path.specs.declared.send_links.SendingLink.{SendingLink}
+use Rattle.publish_path.specs.Links.{link_of, can_send, begun_on}
+use Rattle.publish_path.specs.Publishes.{is_waiting, is_begun, is_sending, has_no_outcome, is_settled, is_on, takes}
+
+-- frames
+
+-- it waits on an attached link with credit
+abbrev pub can_begin : List SendingLink → Publish → Bool
+can_begin links p = is_waiting p.place && can_send (link_of links p.link)
+
+abbrev pub frame_of : Bool → Publish → NextFrame
+frame_of first p = record { publish = p.number; link = p.link; first = first }
+
+-- a begun publish goes on; else the lowest number that can go begins
+abbrev pub next_frame_of : List SendingLink → List Publish → Option NextFrame
+next_frame_of links list =
+    option_or (option_map (frame_of false) (find (λ p. is_begun p.place) list))
+    (option_map (frame_of true) (find (can_begin links) list))
+
+-- the first frame of a transfer takes one of its link's credit
+abbrev pub links_after : NextFrame → List SendingLink → List SendingLink
+links_after frame links = if frame.first then map (begun_on frame.link) links else links
+
+abbrev pub left_of : Option Publish → List ℕ
+left_of None = []
+left_of (Some p) = drop p.gone p.payload
+
+-- the bytes of a publish's payload that are still to go
+abbrev pub rest_of : ℕ → List Publish → List ℕ
+rest_of number list = left_of (find (takes number) list)
+
+-- confirms
+
+-- the confirm that is owed: an ack, or else a nack
+abbrev pub owed_ack : Answer → Option Bool
+owed_ack Open = None
+owed_ack (Owed ack) = Some ack
+owed_ack Settled = None
+
+abbrev pub is_owed : Answer → Bool
+is_owed answer = is_some (owed_ack answer)
+
+abbrev pub is_ack : Answer → Bool
+is_ack answer = unwrap_or (owed_ack answer) false
+
+abbrev pub is_same : Bool → Option Bool → Bool
+is_same ack None = false
+is_same true (Some b) = b
+is_same false (Some b) = not b
+
+-- an ack, or a nack, is owed
+abbrev pub gives : Bool → Answer → Bool
+gives ack answer = is_same ack (owed_ack answer)
+
+-- it has a confirm number that no confirm covered
+abbrev pub is_unanswered : Publish → Bool
+is_unanswered p = is_some p.confirm && not (is_settled p.answer)
+
+abbrev pub number_or : ℕ → Option ℕ → ℕ
+number_or n None = n
+number_or n (Some number) = number
+
+-- an ack or a nack of this number alone
+abbrev pub alone : Publish → Confirm
+alone p = record { number = number_or 0 p.confirm; multiple = false; ack = is_ack p.answer }
+
+-- the longest run that gives the same, of which the one with number n is the last so far
+abbrev pub run_from : ℕ → Bool → Bool → List Publish → Confirm
+run_from n multiple ack [] = record { number = n; multiple = multiple; ack = ack }
+run_from n multiple ack (p ∷ ps) =
+    if gives ack p.answer then run_from (number_or 0 p.confirm) true ack ps
+    else record { number = n; multiple = multiple; ack = ack }
+
+-- of the unanswered ones: where the first has an outcome, the longest run from it that gives the same;
+-- else the first that has an outcome, alone
+abbrev pub confirm_of : List Publish → Option Confirm
+confirm_of [] = None
+confirm_of (p ∷ ps) =
+    if is_owed p.answer then Some (run_from (number_or 0 p.confirm) false (is_ack p.answer) ps)
+    else option_map alone (find (λ q. is_owed q.answer) ps)
+
+abbrev pub next_confirm_of : List Publish → Option Confirm
+next_confirm_of list = confirm_of (filter is_unanswered list)
+
+-- lines of the report
+
+abbrev pub line_of : ℕ → Publish → Option LostItem
+line_of life p = option_map (λ kind. record { life = life; number = p.number; kind = kind }) p.line
+
+abbrev pub item_of : ℕ → Option Publish → Option LostItem
+item_of life None = None
+item_of life (Some p) = line_of life p
+
+-- the line of the lowest number that has one
+abbrev pub next_line_of : ℕ → List Publish → Option LostItem
+next_line_of life list = item_of life (find (λ p. is_some p.line) list)
+
+-- counts
+
+abbrev pub is_held : Publish → Bool
+is_held p = is_sending p.place
+
+abbrev pub held_count : List Publish → ℕ
+held_count list = count_by is_held list
+
+abbrev pub held_size : Publish → ℕ
+held_size p = if is_held p then length p.payload else 0
+
+-- the lengths of the whole payloads of those held
+abbrev pub held_bytes : List Publish → ℕ
+held_bytes list = sum_by held_size list
+
+abbrev pub waits_on : ℕ → Publish → Bool
+waits_on link p = is_waiting p.place && (p.link == link)
+
+-- it waits, is begun, or has no outcome
+abbrev pub is_pending : Option ℕ → Publish → Bool
+is_pending link p = (is_sending p.place || has_no_outcome p.answer) && is_on link p.link

@@ -1,0 +1,199 @@
+-- The publishes of a life of a channel, from their taking up to their confirms: before any event, and
+-- after each.
+use Rattle.std.specs.Prelude.{ℕ, Bool, true, false, ◌+◌, ◌-◌, ◌%◌, ◌^◌, ◌==◌, ◌&&◌, ◌||◌, not, nat_le, nat_lt, if◌then◌else◌, List, [], ◌∷◌, ◌++◌, map, filter, length, Option, Some, None, is_some}
+use Rattle.std.specs.Option.{option_or}
+use Rattle.links_10.specs.Send.{past}
+use Rattle.open_items.specs.declared.lost.LostKind.{LostKind}
+use Rattle.open_items.specs.declared.lost.LostKind.TheVariants.{PublishLost, PublishUnknown}
+use Rattle.publish_path.specs.declared.publish.Publish.{Publish}
+use Rattle.publish_path.specs.declared.publish.Place.{Place}
+use Rattle.publish_path.specs.declared.publish.Place.TheVariants.{Waiting, Begun, Sent, Lost}
+use Rattle.publish_path.specs.declared.publish.Answer.{Answer}
+use Rattle.publish_path.specs.declared.publish.Answer.TheVariants.{Open, Owed, Settled}
+use Rattle.publish_path.specs.declared.publish.Confirm.{Confirm}
+use Rattle.publish_path.specs.declared.changes.Change.{Change}
+use Rattle.publish_path.specs.declared.changes.Change.TheVariants.{Framed, Told, LinkLost, Confirmed, Reported}
+
+pub record PublishState : Type 0 where
+  -- the number of the life
+  pub life : ℕ
+  -- the publishes for which something is still to come, by rising number
+  pub list : List Publish
+  -- the publishes taken up so far
+  pub numbers : ℕ
+  -- the confirm numbers given so far
+  pub confirms : ℕ
+  -- the delivery-id of the next transfer, in 32 bits (AMQP 1.0 2.6.12)
+  pub next_id : ℕ
+
+pub data PublishEvent : Type 0 where
+  -- a publish was taken up: its link, whether it is to be confirmed, and its payload
+  TakenUp : (link : ℕ) (confirm : Bool) (payload : List ℕ) → PublishEvent
+  -- a transfer frame went: its publish, whether it is the first, and the part of the payload
+  FrameSent : (number : ℕ) (first : Bool) (part : List ℕ) → PublishEvent
+  -- an outcome came for the delivery-ids from first to last (AMQP 1.0 2.7.6)
+  OutcomeCame : (first last : ℕ) (accepted : Bool) → PublishEvent
+  -- a link was refused, detached or lost, or each of them
+  LinkGone : (link : Option ℕ) → PublishEvent
+  -- a confirm went to the client (AMQP 0-9-1, confirm.select)
+  ConfirmSent : (confirm : Confirm) → PublishEvent
+  -- the line of a publish was reported
+  LineTold : (number : ℕ) → PublishEvent
+
+-- tests of a place and of an answer
+
+abbrev pub is_waiting : Place → Bool
+is_waiting Waiting = true
+is_waiting Begun = false
+is_waiting Sent = false
+is_waiting Lost = false
+
+abbrev pub is_begun : Place → Bool
+is_begun Waiting = false
+is_begun Begun = true
+is_begun Sent = false
+is_begun Lost = false
+
+-- frames of it are still to go
+abbrev pub is_sending : Place → Bool
+is_sending place = is_waiting place || is_begun place
+
+abbrev pub has_no_outcome : Answer → Bool
+has_no_outcome Open = true
+has_no_outcome (Owed ack) = false
+has_no_outcome Settled = false
+
+abbrev pub is_settled : Answer → Bool
+is_settled Open = false
+is_settled (Owed ack) = false
+is_settled Settled = true
+
+-- something is still to come: frames, an outcome, its confirm or its line
+abbrev pub is_open : Publish → Bool
+is_open p = is_sending p.place || not (is_settled p.answer) || is_some p.line
+
+-- what an event does to each publish
+
+-- a frame takes so many bytes of this publish's payload
+abbrev pub takes : ℕ → Publish → Bool
+takes number p = p.number == number && is_sending p.place
+
+-- bytes are left behind them
+abbrev pub has_more : ℕ → Publish → Bool
+has_more count p = nat_lt count (length p.payload - p.gone)
+
+abbrev pub place_then : Bool → Place
+place_then more = if more then Begun else Sent
+
+abbrev pub framed : ℕ → Bool → ℕ → ℕ → Publish → Publish
+framed number first id count p = record p {
+  id = if p.number == number && first then option_or p.id (Some id) else p.id;
+  payload = if takes number p && not (has_more count p) then [] else p.payload;
+  gone = if takes number p then (if has_more count p then p.gone + count else 0) else p.gone;
+  place = if takes number p then place_then (has_more count p) else p.place;
+}
+
+-- the delivery-ids from first to last, in 32 bits
+abbrev pub in_range : ℕ → ℕ → Option ℕ → Bool
+in_range first last None = false
+in_range first last (Some id) = nat_le (past id first) (past last first)
+
+-- what an outcome makes due: a confirm, where there is a confirm number
+abbrev pub due_for : Option ℕ → Bool → Answer
+due_for None accepted = Settled
+due_for (Some number) accepted = Owed accepted
+
+-- a transfer in the range that has no outcome
+abbrev pub is_told : ℕ → ℕ → Publish → Bool
+is_told first last p = has_no_outcome p.answer && in_range first last p.id
+
+abbrev pub told : ℕ → ℕ → Bool → Publish → Publish
+told first last accepted p = record p { answer = if is_told first last p then due_for p.confirm accepted else p.answer }
+
+-- this link, or any
+abbrev pub is_on : Option ℕ → ℕ → Bool
+is_on None link = true
+is_on (Some one) link = link == one
+
+abbrev pub lost_place : Place → Place
+lost_place Waiting = Lost
+lost_place Begun = Lost
+lost_place Sent = Sent
+lost_place Lost = Lost
+
+-- whether the container took a transfer that had begun isn't known
+abbrev pub lost_as : Bool → LostKind
+lost_as waiting = if waiting then PublishLost else PublishUnknown
+
+-- a loss is an outcome where there was none before; no frame goes any more
+abbrev pub link_lost : Option ℕ → Publish → Publish
+link_lost link p = record p {
+  payload = if is_on link p.link then [] else p.payload;
+  gone = if is_on link p.link then 0 else p.gone;
+  place = if is_on link p.link then lost_place p.place else p.place;
+  answer = if has_no_outcome p.answer && is_on link p.link then due_for p.confirm false else p.answer;
+  line = if has_no_outcome p.answer && is_on link p.link then Some (lost_as (is_waiting p.place)) else p.line;
+}
+
+-- the confirm numbers that a confirm covers
+abbrev pub covers : Confirm → Option ℕ → Bool
+covers c None = false
+covers c (Some number) = number == c.number || (c.multiple && nat_le number c.number)
+
+abbrev pub confirmed : Confirm → Publish → Publish
+confirmed c p = record p { answer = if covers c p.confirm then Settled else p.answer }
+
+abbrev pub reported : ℕ → Publish → Publish
+reported number p = record p { line = if p.number == number then None else p.line }
+
+abbrev pub changed : Change → Publish → Publish
+changed (Framed number first id count) p = framed number first id count p
+changed (Told first last accepted) p = told first last accepted p
+changed (LinkLost link) p = link_lost link p
+changed (Confirmed c) p = confirmed c p
+changed (Reported number) p = reported number p
+
+-- the publishes for which something is still to come, after a change of each
+abbrev pub each : (Publish → Publish) → PublishState → PublishState
+each f s = record s { list = filter is_open (map f s.list) }
+
+abbrev pub new_publish : ℕ → ℕ → Option ℕ → List ℕ → Publish
+new_publish number link confirm payload = record {
+  number = number;
+  link = link;
+  confirm = confirm;
+  id = None;
+  payload = payload;
+  gone = 0;
+  place = Waiting;
+  answer = Open;
+  line = None;
+}
+
+abbrev pub next_number : Bool → ℕ → Option ℕ
+next_number confirm confirms = if confirm then Some (confirms + 1) else None
+
+-- the state before any event, and after each
+
+abbrev pub no_publishes : ℕ → PublishState
+no_publishes life = record { life = life; list = []; numbers = 0; confirms = 0; next_id = 0 }
+
+abbrev pub after_event : PublishEvent → PublishState → PublishState
+after_event (TakenUp link confirm payload) s = record s {
+  list = s.list ++ new_publish (s.numbers + 1) link (next_number confirm s.confirms) payload ∷ [];
+  numbers = s.numbers + 1;
+  confirms = if confirm then s.confirms + 1 else s.confirms;
+}
+after_event (FrameSent number first part) s = record s {
+  list = filter is_open (map (framed number first s.next_id (length part)) s.list);
+  next_id = if first then (s.next_id + 1) % 2 ^ 32 else s.next_id;
+}
+after_event (OutcomeCame first last accepted) s = each (told first last accepted) s
+after_event (LinkGone link) s = each (link_lost link) s
+after_event (ConfirmSent c) s = each (confirmed c) s
+after_event (LineTold number) s = each (reported number) s
+
+-- newest first
+abbrev pub after_events : ℕ → List PublishEvent → PublishState
+after_events life [] = no_publishes life
+after_events life (x ∷ h) = after_event x (after_events life h)
