@@ -93,3 +93,30 @@ module _ {X F : Type 0} (number : X → ℕ) (Matches : X → F → Type 0) (to_
       → Tracks number Matches to_come fate n list → count_by c list ≡ how_many (λ k. t (fate k)) n
   how_many_passing fate n list same only k =
       sym (length-filter c list) ∙ sym (length-map (filter c list) number) ∙ ap length (numbers_passing fate n list same only k)
+
+-- the least number that passes
+
+least_above : (t : ℕ → Bool) (low m k : ℕ) → first (passing_above t low m) ≡ Some k → (low < k) × (k ≤ low + m) × (t k ≡ true) × ((j : ℕ) → low < j → j < k → t j ≡ false)
+least_above t low zero k e = absurd (cc)
+least_above t low (suc m) k e = by (t (low + 1)) refl (least_above t (low + 1) m k) e
+  where
+    by : (b : Bool) → t (low + 1) ≡ b
+        → (first (passing_above t (low + 1) m) ≡ Some k → (low + 1 < k) × (k ≤ (low + 1) + m) × (t k ≡ true) × ((j : ℕ) → low + 1 < j → j < k → t j ≡ false))
+        → first (cond b ((low + 1) ∷ passing_above t (low + 1) m) (passing_above t (low + 1) m)) ≡ Some k
+        → (low < k) × (k ≤ low + suc m) × (t k ≡ true) × ((j : ℕ) → low < j → j < k → t j ≡ false)
+    by true is rec e = let same : low + 1 ≡ k = cc in (omega arith, omega arith, subst (λ i. t i ≡ true) same is, λ j above below. absurd (omega arith))
+    by false is rec e =
+        let r = rec e in
+        let above : low + 1 < k = r.0 in
+        let within : k ≤ (low + 1) + m = r.1 in
+        (omega arith, omega arith, r.2, λ j over under. elim (cases_eq j (low + 1)) [
+          inl here ↦ subst (λ i. t i ≡ false) (sym here) is
+          | inr other ↦ r.3 j (omega arith) under
+        ])
+
+pub least_is : (t : ℕ → Bool) (n k : ℕ) → least t n ≡ Some k → (1 ≤ k) × (k ≤ n) × (t k ≡ true) × ((j : ℕ) → 1 ≤ j → j < k → t j ≡ false)
+least_is t n k e =
+    let r = least_above t 0 n k e in
+    let above : 0 < k = r.0 in
+    let within : k ≤ 0 + n = r.1 in
+    (omega arith, omega arith, r.2, λ j pos under. r.3 j (omega arith) under)

@@ -1,6 +1,6 @@
 -- Lists of items with rising numbers.
-use Rattle.std.proofs.Common.{◌≡◌, ◌∙◌, ℕ, ◌+◌, ◌≤◌, ◌<◌, List, [], ◌∷◌, ◌++◌, Bool, true, false, sym, subst, arith, cond, map, inl, inr}
-use Rattle.std.specs.Prelude.{filter, ◌⊎◌}
+use Rattle.std.proofs.Common.{◌≡◌, ◌∙◌, ℕ, ◌+◌, ◌≤◌, ◌<◌, List, [], ◌∷◌, ◌++◌, Bool, true, false, refl, sym, ap, subst, arith, cond, map, inl, inr, Option, Some, None}
+use Rattle.std.specs.Prelude.{filter, find, ◌⊎◌}
 use Rattle.std.specs.List.{AllByRecursion}
 
 module _ {X : Type 0} (number : X → ℕ) where
@@ -68,3 +68,15 @@ module _ {X : Type 0} (number : X → ℕ) where
   all_has P n [] a has = elim has [ ]
   all_has P n (x ∷ xs) a (inl e) = (x, e, a.0)
   all_has P n (x ∷ xs) a (inr has) = all_has P n xs a.1 has
+
+-- what is found by a test that only one number passes
+module _ {X : Type 0} (number : X → ℕ) (P : X → Type 0) (c : X → Bool) where
+  -- each item that passes has this number: then what is found is the one that has it, and passes
+  pub find_numbered : (n : ℕ) (xs : List X) → ((x : X) → c x ≡ true → number x ≡ n) → ((x : X) → P x → number x ≡ n → c x ≡ true) → AllByRecursion P xs → Has number n xs → (x : X) × (number x ≡ n) × P x × (find c xs ≡ Some x)
+  find_numbered n [] only passes a has = elim has [ ]
+  find_numbered n (x ∷ xs) only passes a (inl e) = (x, e, a.0, ap (λ b. cond b (Some x) (find c xs)) (passes x a.0 e))
+  find_numbered n (x ∷ xs) only passes a (inr has) = by (c x) refl (find_numbered n xs only passes a.1 has)
+    where
+      by : (b : Bool) → c x ≡ b → (y : X) × (number y ≡ n) × P y × (find c xs ≡ Some y) → (y : X) × (number y ≡ n) × P y × (cond b (Some x) (find c xs) ≡ Some y)
+      by true is r = (x, only x is, a.0, refl)
+      by false is r = r

@@ -1,12 +1,15 @@
-//! The publishes of a life of a channel.
+//! The publishes of a life of a channel, on their way to the container: from their taking up, over the
+//! frames of their transfers, to their outcomes, their confirms and their lines of the report.
 #![tactic(auto)]
 
 mod changes;
+mod laws;
 mod publish;
 mod publishes;
 mod searches;
 mod send_links;
 
+pub use laws::{confirms_lawfully, lines_lawfully, payloads_lawfully};
 pub use publish::{Confirm, NextFrame};
 pub use publishes::Publishes;
 pub use send_links::SendLinks;

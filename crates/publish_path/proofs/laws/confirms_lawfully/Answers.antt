@@ -1,0 +1,8 @@
+use Rattle.publish_path.proofs.Confirms.{confirm_is_lawful, confirm_is_offered}
+use Rattle.publish_path.proofs.laws.confirms_lawfully.Goals as goal
+
+pub returns-clause-lawful : goal.returns-clause-lawful
+returns-clause-lawful c = confirm_is_lawful
+
+pub returns-clause-offered : goal.returns-clause-offered
+returns-clause-offered c = confirm_is_offered
