@@ -1,7 +1,7 @@
 //! Each end numbers a session's links by handles of its own (AMQP 1.0 2.6.2). The container's attach
 //! names a link of the gateway, and its handle stands for this link in its later frames.
 
-ghost use Rattle.std.specs.Prelude.{◌≡◌, ◌≤◌, ◌<◌, ◌^◌, IfOk, true, Some, is_none, position};
+ghost use Rattle.std.specs.Prelude.{◌≡◌, ◌≤◌, ◌<◌, IfOk, true, Some, is_none, position};
 ghost use Rattle.std.specs.Bool.{OnTrue, OnFalse};
 ghost use Rattle.link_table.specs.Table.{new_table, state_of, free_of, named_by, is_free, is_named, is_asked, is_unsent, is_unread, after_limit, after_attach, after_attached, detached, with_sent, with_read, after_detach_sent, after_detach_read};
 

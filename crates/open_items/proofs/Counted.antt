@@ -108,11 +108,15 @@ least_above t low (suc m) k e = by (t (low + 1)) refl (least_above t (low + 1) m
     by false is rec e =
         let r = rec e in
         let above : low + 1 < k = r.0 in
-        let within : k ≤ (low + 1) + m = r.1 in
-        (omega arith, omega arith, r.2, λ j over under. elim (cases_eq j (low + 1)) [
-          inl here ↦ subst (λ i. t i ≡ false) (sym here) is
-          | inr other ↦ r.3 j (omega arith) under
-        ])
+        let within : k ≤ (low + 1) + m = r.1 in (
+          omega arith,
+          omega arith,
+          r.2,
+          λ j over under. elim (cases_eq j (low + 1)) [
+            | inl here ↦ subst (λ i. t i ≡ false) (sym here) is
+            | inr other ↦ r.3 j (omega arith) under
+          ],
+        )
 
 pub least_is : (t : ℕ → Bool) (n k : ℕ) → least t n ≡ Some k → (1 ≤ k) × (k ≤ n) × (t k ≡ true) × ((j : ℕ) → 1 ≤ j → j < k → t j ≡ false)
 least_is t n k e =

@@ -1,21 +1,23 @@
 -- The confirm that is offered is lawful, and one is offered wherever one is owed.
 use Rattle.std.proofs.Common.{◌≡◌, ◌∙◌, ℕ, ◌+◌, ◌≤◌, ◌<◌, List, [], ◌∷◌, ◌++◌, Bool, true, false, refl, sym, ap, subst, arith, Option, Some, None, cond, inl, inr, map}
-use Rattle.std.specs.Prelude.{not, ◌&&◌, ◌||◌, ◌==◌, find, filter, ◌⊎◌, nat_le, is_some, IfSome, if◌then◌else◌}
+use Rattle.std.specs.Prelude.{not, ◌&&◌, ◌||◌, ◌==◌, find, filter, ◌⊎◌, nat_le, is_some, IfSome, take_while}
 use Rattle.std.specs.Option.{option_map}
 use Rattle.std.specs.List.{AllByRecursion}
 use Rattle.std.proofs.lemmas.Grind.{common_steps}
 use Rattle.std.proofs.lemmas.Bool.Decides.{nat_tests}
-use Rattle.open_items.proofs.Filtered.{all_filter, all_both, all_weaker}
+use Rattle.open_items.proofs.Filtered.{all_filter, all_both}
 use Rattle.open_items.proofs.Numbered.{Rising, Has, all_has, rising_weaker}
 use Rattle.publish_path.specs.declared.publish.Publish.{Publish}
 use Rattle.publish_path.specs.declared.publish.Confirm.{Confirm}
 use Rattle.publish_path.specs.declared.publish.Answer.{Answer}
 use Rattle.publish_path.specs.declared.publish.Answer.TheVariants.{Open, Owed, Settled}
-use Rattle.publish_path.specs.Publishes.{PublishState, PublishEvent, TakenUp, FrameSent, OutcomeCame, LinkGone, ConfirmSent, LineTold, after_event, after_events, new_publish, next_number, framed, told, link_lost, confirmed, reported, is_open, is_settled, covers}
-use Rattle.publish_path.specs.Offers.{owed_ack, is_owed, is_ack, is_same, gives, is_unanswered, number_or, alone, run_from, confirm_of, next_confirm_of}
-use Rattle.publish_path.specs.Journal.{Fate, fate_of, numbers_of, IsTaken, is_to_go, is_done, is_to_come}
+use Rattle.publish_path.specs.Publishes.{PublishEvent, TakenUp, FrameSent, OutcomeCame, LinkGone, ConfirmSent, LineTold, after_events, next_number, told, link_lost, confirmed, reported, is_open, is_settled, covers}
+use Rattle.publish_path.specs.Offers.{is_owed, is_ack, gives, is_unanswered, number_or, alone, run_of, confirm_of, next_confirm_of}
+use Rattle.publish_path.specs.Journal.{Fate, fate_of, is_to_go, is_done, is_to_come}
 use Rattle.publish_path.specs.Laws.{IsUnanswered, IsLawfulConfirm}
-use Rattle.publish_path.proofs.Matching.{Matches, AnswerIs, settled_test}
+use Rattle.publish_path.specs.Searches.{run_from}
+use Rattle.publish_path.proofs.Steps.{run_is}
+use Rattle.publish_path.proofs.Matching.{AnswerIs, settled_test}
 use Rattle.publish_path.proofs.Keeping.{number_of, follows, Stands, stand}
 
 -- the confirm numbers rise
@@ -211,8 +213,8 @@ confirm_due (q ∷ qs) c r e = by (is_owed q.answer) refl e
         let same : alone p ≡ c = cc in
         subst (IsDue (q ∷ qs)) same (record { tag = d.tag; within = inr d.within; number = d.number; owed = d.owed; given = (not_given (alone p) q (apart p (confirm_number q) lt), d.given) })
 
-    by : (b : Bool) → is_owed q.answer ≡ b → cond b (Some (run_from (confirm_number q) false (is_ack q.answer) qs)) (option_map alone (find (λ q. is_owed q.answer) qs)) ≡ Some c → IsDue (q ∷ qs) c
-    by true o e = let same : run_from (confirm_number q) false (is_ack q.answer) qs ≡ c = cc in subst (IsDue (q ∷ qs)) same (run o)
+    by : (b : Bool) → is_owed q.answer ≡ b → cond b (Some (run_of q (take_while (λ x. gives (is_ack q.answer) x.answer) qs))) (option_map alone (find (λ q. is_owed q.answer) qs)) ≡ Some c → IsDue (q ∷ qs) c
+    by true o e = let same : run_of q (take_while (λ x. gives (is_ack q.answer) x.answer) qs) ≡ c = cc in subst (IsDue (q ∷ qs)) (sym (run_is q qs) ∙ same) (run o)
     by false o e = single (find (λ q. is_owed q.answer) qs) refl e
 
 -- from the list to the journal
@@ -321,7 +323,7 @@ none_owed (p ∷ ps) e = by (is_owed p.answer) refl e
     none None e = refl
     none (Some q) e = absurd (cc)
 
-    by : (b : Bool) → is_owed p.answer ≡ b → cond b (Some (run_from (confirm_number p) false (is_ack p.answer) ps)) (option_map alone (find (λ q. is_owed q.answer) ps)) ≡ None → (is_owed p.answer ≡ false) × AllByRecursion (λ p. is_owed p.answer ≡ false) ps
+    by : (b : Bool) → is_owed p.answer ≡ b → cond b (Some (run_of p (take_while (λ x. gives (is_ack p.answer) x.answer) ps))) (option_map alone (find (λ q. is_owed q.answer) ps)) ≡ None → (is_owed p.answer ≡ false) × AllByRecursion (λ p. is_owed p.answer ≡ false) ps
     by true is e = absurd (cc)
     by false is e = (is, none_found (λ q. is_owed q.answer) ps (none _ e))
 

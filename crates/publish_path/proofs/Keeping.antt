@@ -1,20 +1,17 @@
 -- After any events the open publishes are those of which the journal says that something is still to come,
 -- each as it says.
-use Rattle.std.proofs.Common.{◌≡◌, ◌∙◌, ℕ, ◌+◌, ◌%◌, ◌^◌, ◌≤◌, ◌<◌, List, [], ◌∷◌, ◌++◌, Bool, true, false, refl, sym, ap, subst, arith, Option, Some, None, cond, map, length}
-use Rattle.std.specs.Prelude.{not, ◌&&◌, ◌||◌, ◌==◌, filter, nat_lt, is_some, if◌then◌else◌}
+use Rattle.std.proofs.Common.{◌≡◌, ◌∙◌, ℕ, ◌+◌, ◌%◌, ◌^◌, ◌≤◌, ◌<◌, List, [], ◌∷◌, ◌++◌, Bool, true, false, refl, sym, ap, subst, arith, Option, Some, None, cond, length}
+use Rattle.std.specs.Prelude.{not, ◌&&◌, ◌||◌, ◌==◌, nat_lt, is_some}
 use Rattle.std.specs.List.{AllByRecursion}
-use Rattle.std.specs.Option.{option_or}
-use Rattle.std.proofs.lemmas.Grind.{common_steps}
 use Rattle.std.proofs.lemmas.Bool.Decides.{nat_tests}
 use Rattle.std.proofs.lemmas.List.{length-append}
 use Rattle.open_items.proofs.Filtered.{all_both, all_weaker}
 use Rattle.open_items.proofs.Numbered.{rising_above}
 use Rattle.open_items.proofs.Tracked.{Tracks, none_tracked, each_tracked, push_tracked}
-use Rattle.open_items.specs.declared.lost.LostKind.{LostKind}
 use Rattle.publish_path.specs.declared.publish.Publish.{Publish}
 use Rattle.publish_path.specs.declared.publish.Confirm.{Confirm}
 use Rattle.publish_path.specs.Publishes.{PublishState, PublishEvent, TakenUp, FrameSent, OutcomeCame, LinkGone, ConfirmSent, LineTold, after_event, after_events, new_publish, next_number, framed, told, link_lost, confirmed, reported, is_open, in_range, is_on, lost_as, covers}
-use Rattle.publish_path.specs.Journal.{Fate, new_fate, decided, fate_step, fate_of, numbers_of, confirms_of, next_id_of, takes_up, is_to_confirm, begins, is_undecided, waits, has_rest, goes_on, is_to_go, is_done, is_to_come}
+use Rattle.publish_path.specs.Journal.{Fate, decided, fate_step, fate_of, numbers_of, confirms_of, next_id_of, takes_up, is_to_confirm, begins, is_undecided, has_rest, is_to_go, is_done, is_to_come}
 use Rattle.publish_path.proofs.Matching.{Matches, framed_matches, told_matches, lost_matches, confirmed_matches, reported_matches, open_test}
 
 -- the numbers of the life

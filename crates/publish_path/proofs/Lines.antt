@@ -1,8 +1,7 @@
 -- The lines of the report: which one is due, and that each is told once.
 use Rattle.std.proofs.Common.{◌≡◌, ◌∙◌, ℕ, ◌+◌, ◌≤◌, ◌<◌, List, [], ◌∷◌, Bool, true, false, refl, sym, ap, subst, arith, Option, Some, None, cond}
-use Rattle.std.specs.Prelude.{not, ◌&&◌, ◌||◌, ◌==◌, find, is_some, IfSome, if◌then◌else◌}
+use Rattle.std.specs.Prelude.{not, ◌&&◌, ◌||◌, ◌==◌, find, is_some, IfSome}
 use Rattle.std.specs.Option.{option_map}
-use Rattle.std.proofs.lemmas.Grind.{common_steps}
 use Rattle.std.proofs.lemmas.Bool.Decides.{nat_tests}
 use Rattle.open_items.specs.declared.lost.LostItem.{LostItem}
 use Rattle.open_items.specs.declared.lost.LostKind.{LostKind}
@@ -11,9 +10,9 @@ use Rattle.open_items.proofs.Filtered.{all_find}
 use Rattle.open_items.proofs.Counted.{least_passing}
 use Rattle.publish_path.specs.declared.publish.Publish.{Publish}
 use Rattle.publish_path.specs.Publishes.{PublishEvent, TakenUp, FrameSent, OutcomeCame, LinkGone, ConfirmSent, LineTold, after_events, next_number, in_range, is_on, lost_as, covers}
-use Rattle.publish_path.specs.Offers.{line_of, item_of, next_line_of}
+use Rattle.publish_path.specs.Offers.{item_of, next_line_of}
 use Rattle.publish_path.specs.Journal.{Fate, new_fate, decided, fate_of, numbers_of, confirms_of, is_undecided, is_to_go, is_done, is_to_come}
-use Rattle.publish_path.specs.Laws.{IsLawfulLine, told_of, times_told, IsOwedLine, AreOwedLines}
+use Rattle.publish_path.specs.Laws.{IsLawfulLine, times_told, IsOwedLine, AreOwedLines}
 use Rattle.publish_path.proofs.Matching.{Matches}
 use Rattle.publish_path.proofs.Keeping.{number_of, follows, Stands, stand}
 

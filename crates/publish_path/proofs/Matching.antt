@@ -1,8 +1,7 @@
 -- An open publish is as the journal says of its number, and stays so at each event.
-use Rattle.std.proofs.Common.{◌≡◌, ◌∙◌, ℕ, ◌+◌, ◌-◌, ◌≤◌, ◌<◌, List, [], ◌∷◌, ◌++◌, Bool, true, false, refl, sym, ap, subst, arith, Option, Some, None, cond, length, drop}
-use Rattle.std.specs.Prelude.{not, ◌&&◌, ◌||◌, ◌==◌, nat_lt, nat_le, is_some, if◌then◌else◌}
+use Rattle.std.proofs.Common.{◌≡◌, ◌∙◌, ℕ, ◌+◌, ◌-◌, List, [], ◌++◌, Bool, true, false, refl, sym, ap, subst, arith, Option, Some, None, cond, length, drop}
+use Rattle.std.specs.Prelude.{not, ◌&&◌, ◌||◌, ◌==◌, nat_lt, is_some}
 use Rattle.std.specs.Option.{option_or}
-use Rattle.std.proofs.lemmas.Grind.{common_steps}
 use Rattle.std.proofs.lemmas.Bool.Decides.{nat_tests}
 use Rattle.std.proofs.lemmas.List.{length-append}
 use Rattle.open_items.specs.declared.lost.LostKind.{LostKind}
@@ -12,8 +11,8 @@ use Rattle.publish_path.specs.declared.publish.Answer.{Answer}
 use Rattle.publish_path.specs.declared.publish.Answer.TheVariants.{Open, Owed, Settled}
 use Rattle.publish_path.specs.declared.publish.Place.{Place}
 use Rattle.publish_path.specs.declared.publish.Place.TheVariants.{Waiting, Begun, Sent, Lost}
-use Rattle.publish_path.specs.Publishes.{PublishEvent, TakenUp, FrameSent, OutcomeCame, LinkGone, ConfirmSent, LineTold, is_waiting, is_begun, is_sending, has_no_outcome, is_settled, is_open, has_more, takes, place_then, framed, in_range, due_for, told, is_on, lost_place, lost_as, link_lost, covers, confirmed, reported}
-use Rattle.publish_path.specs.Journal.{Fate, decided, fate_step, next_id_of, is_undecided, waits, has_rest, goes_on, is_to_go, rest_by, is_done, is_to_come}
+use Rattle.publish_path.specs.Publishes.{PublishEvent, FrameSent, OutcomeCame, LinkGone, ConfirmSent, LineTold, is_waiting, is_begun, is_sending, has_no_outcome, is_settled, is_open, has_more, place_then, framed, in_range, due_for, told, is_on, lost_place, lost_as, link_lost, covers, confirmed, reported}
+use Rattle.publish_path.specs.Journal.{Fate, decided, fate_step, next_id_of, is_undecided, waits, goes_on, is_to_go, rest_by, is_done, is_to_come}
 
 -- the frames of a publish: its place, what it keeps, and what the journal says
 abbrev pub PlaceIs : Place → List ℕ → ℕ → List ℕ → List ℕ → Bool → Bool → Type 0

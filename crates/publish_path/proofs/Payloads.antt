@@ -1,7 +1,6 @@
 -- The frames of transfers: which one goes next, and what they carry.
-use Rattle.std.proofs.Common.{◌≡◌, ◌∙◌, ℕ, ◌+◌, ◌≤◌, ◌<◌, List, [], ◌∷◌, ◌++◌, Bool, true, false, refl, sym, ap, subst, arith, Option, Some, None, cond, length, drop, append_assoc}
+use Rattle.std.proofs.Common.{◌≡◌, ◌∙◌, ℕ, ◌+◌, List, [], ◌∷◌, ◌++◌, Bool, true, false, refl, sym, ap, subst, arith, Option, Some, None, cond, length, drop, append_assoc}
 use Rattle.std.specs.Prelude.{not, ◌&&◌, ◌||◌, ◌==◌, find, nat_lt, is_some, IfSome}
-use Rattle.std.specs.List.{AllByRecursion}
 use Rattle.std.specs.Option.{option_map, option_or}
 use Rattle.std.proofs.lemmas.Grind.{common_steps}
 use Rattle.std.proofs.lemmas.Bool.Decides.{nat_tests}
@@ -15,10 +14,10 @@ use Rattle.publish_path.specs.declared.publish.Publish.{Publish}
 use Rattle.publish_path.specs.declared.publish.NextFrame.{NextFrame}
 use Rattle.publish_path.specs.declared.send_links.SendingLink.{SendingLink}
 use Rattle.publish_path.specs.Links.{link_of, can_send}
-use Rattle.publish_path.specs.Publishes.{PublishEvent, TakenUp, FrameSent, OutcomeCame, LinkGone, ConfirmSent, LineTold, after_events, next_number, is_waiting, is_begun, is_sending, takes}
+use Rattle.publish_path.specs.Publishes.{PublishEvent, TakenUp, FrameSent, OutcomeCame, LinkGone, ConfirmSent, LineTold, after_events, next_number, is_begun, is_sending, takes}
 use Rattle.publish_path.specs.Offers.{can_begin, frame_of, next_frame_of, left_of, rest_of}
-use Rattle.publish_path.specs.Journal.{Fate, new_fate, fate_of, numbers_of, confirms_of, IsTaken, waits, has_rest, goes_on, is_to_go, is_done, is_to_come, rest_by}
-use Rattle.publish_path.specs.Laws.{frame_by, IsFrontOf, IsPart, AreParts, IsWhole, BeginsInOrder}
+use Rattle.publish_path.specs.Journal.{Fate, new_fate, fate_of, numbers_of, confirms_of, IsTaken, waits, goes_on, is_to_go, is_done, is_to_come, rest_by}
+use Rattle.publish_path.specs.Laws.{frame_by, IsFrontOf, AreParts, IsWhole, BeginsInOrder}
 use Rattle.publish_path.proofs.Matching.{Matches, begun_test, waits_test, sending_test, rest_test}
 use Rattle.publish_path.proofs.Keeping.{number_of, follows, Stands, stand}
 

@@ -1,8 +1,8 @@
 -- A change of each publish, as the open ones see it.
-use Rattle.std.proofs.Common.{◌≡◌, ◌∙◌, ℕ, List, [], ◌∷◌, ◌++◌, Bool, true, false, Option, Some, None, map, take, drop, refl, sym, subst, ap, arith, cond, ◌≤◌, ◌-◌, ◌+◌, length}
-use Rattle.std.specs.Prelude.{filter, find, not, ◌||◌, ◌&&◌, ◌==◌, is_some, sum_by, count_by, nat_lt}
+use Rattle.std.proofs.Common.{◌≡◌, ◌∙◌, ℕ, suc, List, [], ◌∷◌, ◌++◌, Bool, true, false, Option, Some, None, map, take, drop, refl, sym, subst, ap, arith, cond, ◌≤◌, ◌-◌, ◌+◌, length}
+use Rattle.std.specs.Prelude.{filter, find, not, ◌||◌, ◌&&◌, ◌==◌, is_some, count_by, if◌then◌else◌}
 use Rattle.std.specs.Option.{option_map, option_or}
-use Rattle.std.specs.List.{list_any, AllByRecursion}
+use Rattle.std.specs.List.{list_any, AllByRecursion, take_while, prefix_len}
 use Rattle.std.proofs.lemmas.Grind.{common_steps}
 use Rattle.std.proofs.lemmas.List.{length-take-le, length-drop}
 use Rattle.std.proofs.Math.Seq.{take-length}
@@ -10,19 +10,17 @@ use Rattle.std.proofs.Math.ListN.{drop_of_length-le}
 use Rattle.publish_path.specs.declared.publish.NextFrame.{NextFrame}
 use Rattle.publish_path.specs.Links.{link_of, can_send}
 use Rattle.std.proofs.lemmas.List.Sums.{sum_by_push}
-use Rattle.std.proofs.lemmas.Bool.Decides.{nat_tests}
 use Rattle.open_items.proofs.Filtered.{filter-map-filter, filter-filter, filter-push, find-filter, filter-only, all_find, count_by-filter, sum_by-filter, list_any-filter, count_by-map-le, sum_by-map-le}
 use Rattle.publish_path.specs.declared.publish.Publish.{Publish}
 use Rattle.publish_path.specs.declared.send_links.SendingLink.{SendingLink}
 use Rattle.publish_path.specs.declared.publish.Place.{Place}
 use Rattle.publish_path.specs.declared.publish.Place.TheVariants.{Waiting, Begun, Sent, Lost}
-use Rattle.publish_path.specs.declared.publish.Answer.{Answer}
-use Rattle.publish_path.specs.declared.publish.Answer.TheVariants.{Open, Owed, Settled}
 use Rattle.publish_path.specs.declared.publish.Confirm.{Confirm}
 use Rattle.publish_path.specs.declared.changes.Change.{Change}
 use Rattle.publish_path.specs.declared.changes.Change.TheVariants.{Framed, Told, LinkLost, Confirmed, Reported}
-use Rattle.publish_path.specs.Publishes.{is_waiting, is_begun, is_sending, is_settled, has_no_outcome, is_open, takes, has_more, place_then, framed, due_for, is_told, told, is_on, lost_place, lost_as, link_lost, covers, confirmed, reported, changed}
-use Rattle.publish_path.specs.Offers.{can_begin, frame_of, next_frame_of, waits_on, is_pending, next_confirm_of, is_held, held_count, held_size, held_bytes, owed_ack, is_owed, is_unanswered, alone, run_from, confirm_of}
+use Rattle.publish_path.specs.Publishes.{is_waiting, is_begun, is_sending, is_settled, is_open, takes, has_more, place_then, is_told, is_on, lost_place, changed}
+use Rattle.publish_path.specs.Searches.{run_from, found_confirm}
+use Rattle.publish_path.specs.Offers.{can_begin, frame_of, next_frame_of, waits_on, is_pending, next_confirm_of, is_held, held_count, held_size, held_bytes, owed_ack, is_ack, is_owed, gives, number_or, is_unanswered, alone, last_of, has_any, run_of, confirm_of}
 
 -- what is closed stays closed
 
@@ -90,9 +88,63 @@ find_due (p ∷ ps) = by (is_unanswered p) (find_due ps)
     by true ih = ap (cond (is_owed p.answer) (Some p)) ih
     by false ih = ih
 
+abbrev last_number : ℕ → List Publish → ℕ
+last_number n [] = n
+last_number n (p ∷ ps) = last_number (number_or 0 p.confirm) ps
+
+last_is : (p : Publish) (ps : List Publish) → number_or 0 (last_of p ps).confirm ≡ last_number (number_or 0 p.confirm) ps
+last_is p [] = refl
+last_is p (q ∷ qs) = last_is q qs
+
+front_more : (t : Publish → Bool) (p : Publish) (ps : List Publish) → t p ≡ true → take_while t (p ∷ ps) ≡ p ∷ take_while t ps
+front_more t p ps e = ap (λ b. take (cond b (1 + prefix_len t ps) 0) (p ∷ ps)) e ∙ ap (λ k. take k (p ∷ ps)) (one_more (prefix_len t ps))
+  where
+    one_more : (n : ℕ) → 1 + n ≡ suc n
+    one_more n = omega arith
+
+front_none : (t : Publish → Bool) (p : Publish) (ps : List Publish) → t p ≡ false → take_while t (p ∷ ps) ≡ []
+front_none t p ps e = ap (λ b. take (cond b (1 + prefix_len t ps) 0) (p ∷ ps)) e
+
+run_from_is : (n : ℕ) (m ack : Bool) (ps : List Publish) → run_from n m ack ps ≡ record { number = last_number n (take_while (λ q. gives ack q.answer) ps); multiple = m || has_any (take_while (λ q. gives ack q.answer) ps); ack = ack }
+run_from_is n true ack [] = refl
+run_from_is n false ack [] = refl
+run_from_is n m ack (p ∷ ps) = by (gives ack p.answer) refl m (run_from_is (number_or 0 p.confirm) true ack ps)
+  where
+    gives_it : Publish → Bool
+    gives_it q = gives ack q.answer
+
+    of_front : ℕ → Bool → List Publish → Confirm
+    of_front k b qs = record { number = last_number k qs; multiple = b || has_any qs; ack = ack }
+
+    or_true : (b : Bool) → (b || true) ≡ true
+    or_true true = refl
+    or_true false = refl
+
+    or_false : (b : Bool) → (b || false) ≡ b
+    or_false true = refl
+    or_false false = refl
+
+    by : (b : Bool) → gives ack p.answer ≡ b → (m : Bool) → run_from (number_or 0 p.confirm) true ack ps ≡ of_front (number_or 0 p.confirm) true (take_while gives_it ps)
+        → cond b (run_from (number_or 0 p.confirm) true ack ps) (record { number = n; multiple = m; ack = ack }) ≡ of_front n m (take_while gives_it (p ∷ ps))
+    by true e m ih =
+        ih ∙ ap (λ b. record { number = last_number (number_or 0 p.confirm) (take_while gives_it ps); multiple = b; ack = ack }) (sym (or_true m))
+        ∙ ap (of_front n m) (sym (front_more gives_it p ps e))
+    by false e m ih =
+        ap (λ b. record { number = n; multiple = b; ack = ack }) (sym (or_false m)) ∙ ap (of_front n m) (sym (front_none gives_it p ps e))
+
+-- the longest run is the one that the search finds
+pub run_is : (p : Publish) (ps : List Publish) → run_of p (take_while (λ q. gives (is_ack p.answer) q.answer) ps) ≡ run_from (number_or 0 p.confirm) false (is_ack p.answer) ps
+run_is p ps =
+    ap (λ n. record { number = n; multiple = has_any (take_while (λ q. gives (is_ack p.answer) q.answer) ps); ack = is_ack p.answer }) (last_is p (take_while (λ q. gives (is_ack p.answer) q.answer) ps))
+    ∙ sym (run_from_is (number_or 0 p.confirm) false (is_ack p.answer) ps)
+
+confirm_is : (us : List Publish) → confirm_of us ≡ found_confirm us
+confirm_is [] = refl
+confirm_is (p ∷ ps) = ap (λ r. if is_owed p.answer then Some r else option_map alone (find (λ q. is_owed q.answer) ps)) (run_is p ps)
+
 -- the run so far and what is left give the confirm of all
 abbrev pub rest_confirm : Option Confirm → List Publish → Option Confirm
-rest_confirm None ps = confirm_of ps
+rest_confirm None ps = found_confirm ps
 rest_confirm (Some c) ps = Some (run_from c.number c.multiple c.ack ps)
 
 -- before a run, none had an outcome
@@ -102,11 +154,11 @@ rest_due (Some c) ps all = Unit {0}
 
 -- the first unanswered one has no outcome: the first outcome goes alone
 pub first_alone_is : (p : Publish) (ps all : List Publish) → is_unanswered p ≡ true → owed_ack p.answer ≡ None
-    → confirm_of (filter is_unanswered (p ∷ ps)) ≡ confirm_of (filter is_unanswered all)
+    → found_confirm (filter is_unanswered (p ∷ ps)) ≡ found_confirm (filter is_unanswered all)
     → find (λ p. is_unanswered p && is_owed p.answer) (p ∷ ps) ≡ find (λ p. is_unanswered p && is_owed p.answer) all
-    → option_map alone (find (λ p. is_unanswered p && is_owed p.answer) all) ≡ confirm_of (filter is_unanswered all)
+    → option_map alone (find (λ p. is_unanswered p && is_owed p.answer) all) ≡ found_confirm (filter is_unanswered all)
 first_alone_is p ps all un none run due =
-    let here : confirm_of (filter is_unanswered (p ∷ ps)) ≡ option_map alone (find (λ q. is_owed q.answer) (filter is_unanswered ps)) = rw (un, none) refl in
+    let here : found_confirm (filter is_unanswered (p ∷ ps)) ≡ option_map alone (find (λ q. is_owed q.answer) (filter is_unanswered ps)) = rw (un, none) refl in
     let same : find (λ p. is_unanswered p && is_owed p.answer) (p ∷ ps) ≡ find (λ p. is_unanswered p && is_owed p.answer) ps = rw (un, none) refl in
     ap (option_map alone) (sym due ∙ same ∙ sym (find_due ps)) ∙ sym here ∙ run
 
@@ -142,8 +194,9 @@ pending_seen link items = count_by-filter is_open (is_pending link) closed_pendi
 pub told_seen : (first last : ℕ) (items : List Publish) → list_any (is_told first last) (filter is_open items) ≡ list_any (is_told first last) items
 told_seen first last items = list_any-filter is_open (is_told first last) (λ p e. grind (arith, common_steps)) items
 
-pub confirm_seen : (items : List Publish) → next_confirm_of (filter is_open items) ≡ next_confirm_of items
-confirm_seen items = ap confirm_of (filter-only is_open is_unanswered (λ p e. grind (arith, common_steps)) items)
+pub confirm_seen : (items : List Publish) → next_confirm_of (filter is_open items) ≡ found_confirm (filter is_unanswered items)
+confirm_seen items =
+    ap confirm_of (filter-only is_open is_unanswered (λ p e. grind (arith, common_steps)) items) ∙ confirm_is (filter is_unanswered items)
 
 pub line_seen : (items : List Publish) → find (λ p. is_some p.line) (filter is_open items) ≡ find (λ p. is_some p.line) items
 line_seen items = find-filter is_open (λ p. is_some p.line) (λ p e. grind (arith, common_steps)) items

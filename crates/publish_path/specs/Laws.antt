@@ -1,5 +1,5 @@
 -- What holds after any events of a life, by the fates of its publishes alone.
-use Rattle.std.specs.Prelude.{◌≡◌, ℕ, Bool, true, false, ◌+◌, ◌≤◌, ◌<◌, ◌==◌, ◌&&◌, if◌then◌else◌, List, [], ◌∷◌, ◌++◌, Option, Some, None, is_some, IfSome}
+use Rattle.std.specs.Prelude.{◌≡◌, ℕ, Bool, true, false, ◌+◌, ◌≤◌, ◌<◌, ◌==◌, ◌&&◌, if◌then◌else◌, List, [], ◌∷◌, ◌++◌, Option, Some, is_some}
 use Rattle.std.specs.Option.{option_map, option_or}
 use Rattle.open_items.specs.declared.lost.LostItem.{LostItem}
 use Rattle.open_items.specs.Numbers.{least}
@@ -16,11 +16,16 @@ use Rattle.publish_path.specs.Journal.{Fate, fate_of, numbers_of, IsTaken, waits
 abbrev pub IsUnanswered : List PublishEvent → ℕ → Type 0
 IsUnanswered h n = IsTaken h n × (is_some (fate_of n h).confirm ≡ true) × ((fate_of n h).answered ≡ false)
 
+-- and it has an outcome
+abbrev pub IsOwedConfirm : List PublishEvent → ℕ → Type 0
+IsOwedConfirm h n = IsUnanswered h n × (is_some (fate_of n h).outcome ≡ true)
+
 pub record IsLawfulConfirm (h : List PublishEvent) (c : Confirm) : Type 0 where
   -- its number is that of an unanswered publish
   pub named : (n : ℕ) × IsUnanswered h n × ((fate_of n h).confirm ≡ Some c.number)
   -- each unanswered publish that it covers was accepted, or each had another outcome
-  pub covered : (n : ℕ) → IsUnanswered h n → covers c (fate_of n h).confirm ≡ true → (fate_of n h).outcome ≡ Some c.ack
+  pub covered : (n : ℕ) → IsUnanswered h n → covers c (fate_of n h).confirm ≡ true
+      → (fate_of n h).outcome ≡ Some c.ack
 
 -- lines
 
@@ -29,6 +34,13 @@ pub record IsLawfulLine (j : ℕ) (h : List PublishEvent) (item : LostItem) : Ty
   pub life : item.life ≡ j
   pub taken : IsTaken h item.number
   pub line : (fate_of item.number h).line ≡ Some item.kind
+
+-- the least number that the report is owed a line of
+abbrev pub owed_line : List PublishEvent → Option ℕ
+owed_line h = least (λ n. is_some (fate_of n h).line) (numbers_of h)
+
+abbrev pub number_of : LostItem → ℕ
+number_of item = item.number
 
 -- how often the line of n was reported
 abbrev pub told_of : ℕ → PublishEvent → ℕ
@@ -58,12 +70,19 @@ AreOwedLines (x ∷ h) = IsOwedLine h x × AreOwedLines h
 
 -- payloads
 
--- the begun publish goes on; else the least number that waits on an attached link with credit begins
+abbrev pub frame_at : Bool → List PublishEvent → ℕ → NextFrame
+frame_at first h n = record { publish = n; link = (fate_of n h).link; first = first }
+
+-- it waits on an attached link with credit
+abbrev pub may_begin : List SendingLink → Fate → Bool
+may_begin links f = waits f && can_send (link_of links f.link)
+
+-- the begun publish goes on; else the least number that may begin does
 abbrev pub frame_by : List SendingLink → List PublishEvent → Option NextFrame
 frame_by links h =
     option_or
-    (option_map (λ n. record { publish = n; link = (fate_of n h).link; first = false }) (least (λ n. goes_on (fate_of n h)) (numbers_of h)))
-    (option_map (λ n. record { publish = n; link = (fate_of n h).link; first = true }) (least (λ n. waits (fate_of n h) && can_send (link_of links (fate_of n h).link)) (numbers_of h)))
+    (option_map (frame_at false h) (least (λ n. goes_on (fate_of n h)) (numbers_of h)))
+    (option_map (frame_at true h) (least (λ n. may_begin links (fate_of n h)) (numbers_of h)))
 
 abbrev pub IsFrontOf : List ℕ → List ℕ → Type 0
 IsFrontOf part all = (rest : List ℕ) × (part ++ rest ≡ all)
@@ -90,4 +109,6 @@ pub record IsWhole (f : Fate) : Type 0 where
 
 -- of one link, a lower number doesn't wait any more
 abbrev pub BeginsInOrder : List PublishEvent → NextFrame → Type 0
-BeginsInOrder h frame = frame.first ≡ true → (m : ℕ) → 1 ≤ m → m < frame.publish → (fate_of m h).link ≡ frame.link → waits (fate_of m h) ≡ false
+BeginsInOrder h frame =
+    frame.first ≡ true → (m : ℕ) → 1 ≤ m → m < frame.publish
+    → (fate_of m h).link ≡ frame.link → waits (fate_of m h) ≡ false

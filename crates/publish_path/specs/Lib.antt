@@ -1,5 +1,6 @@
 pub mod Links
 pub mod Publishes
 pub mod Offers
+pub mod Searches
 pub mod Journal
 pub mod Laws

@@ -1,6 +1,5 @@
 -- The sending links of a channel, in the order in which they were needed.
-use Rattle.std.specs.Prelude.{ℕ, Bool, true, false, not, ◌==◌, ◌&&◌, nat_le, if◌then◌else◌, List, [], ◌∷◌, ◌++◌, map, filter, find, Option, Some, None, bytes_eq}
-use Rattle.std.specs.Option.{option_map}
+use Rattle.std.specs.Prelude.{ℕ, Bool, true, false, not, ◌==◌, ◌&&◌, nat_le, if◌then◌else◌, List, filter, find, Option, Some, None, bytes_eq}
 use Rattle.links_10.specs.Send.{new_link, after_flow, after_begun, after_drain}
 use Rattle.publish_path.specs.declared.send_links.SendingLink.{SendingLink}
 use Rattle.publish_path.specs.declared.send_links.LinkChange.{LinkChange}

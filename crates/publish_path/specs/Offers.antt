@@ -1,5 +1,5 @@
 -- What the open publishes make due, and what they count.
-use Rattle.std.specs.Prelude.{ℕ, Bool, true, false, not, ◌==◌, ◌&&◌, ◌||◌, ◌+◌, ◌-◌, if◌then◌else◌, List, [], ◌∷◌, map, filter, find, count_by, sum_by, length, drop, Option, Some, None, is_some, unwrap_or}
+use Rattle.std.specs.Prelude.{ℕ, Bool, true, false, not, ◌==◌, ◌&&◌, ◌||◌, if◌then◌else◌, List, [], ◌∷◌, map, filter, find, count_by, sum_by, length, take, drop, take_while, Option, Some, None, is_some, unwrap_or}
 use Rattle.std.specs.Option.{option_map, option_or}
 use Rattle.open_items.specs.declared.lost.LostItem.{LostItem}
 use Rattle.publish_path.specs.declared.publish.Publish.{Publish}
@@ -9,7 +9,7 @@ use Rattle.publish_path.specs.declared.publish.NextFrame.{NextFrame}
 use Rattle.publish_path.specs.declared.publish.Confirm.{Confirm}
 use Rattle.publish_path.specs.declared.send_links.SendingLink.{SendingLink}
 use Rattle.publish_path.specs.Links.{link_of, can_send, begun_on}
-use Rattle.publish_path.specs.Publishes.{is_waiting, is_begun, is_sending, has_no_outcome, is_settled, is_on, takes}
+use Rattle.publish_path.specs.Publishes.{PublishEvent, FrameSent, is_waiting, is_begun, is_sending, has_no_outcome, is_settled, is_on, takes}
 
 -- frames
 
@@ -37,6 +37,11 @@ left_of (Some p) = drop p.gone p.payload
 -- the bytes of a publish's payload that are still to go
 abbrev pub rest_of : ℕ → List Publish → List ℕ
 rest_of number list = left_of (find (takes number) list)
+
+-- this frame went, with a part of so many bytes
+abbrev pub frame_sent : NextFrame → ℕ → List Publish → PublishEvent
+frame_sent frame bytes list =
+    FrameSent frame.publish frame.first (take bytes (rest_of frame.publish list))
 
 -- confirms
 
@@ -73,19 +78,28 @@ number_or n (Some number) = number
 abbrev pub alone : Publish → Confirm
 alone p = record { number = number_or 0 p.confirm; multiple = false; ack = is_ack p.answer }
 
--- the longest run that gives the same, of which the one with number n is the last so far
-abbrev pub run_from : ℕ → Bool → Bool → List Publish → Confirm
-run_from n multiple ack [] = record { number = n; multiple = multiple; ack = ack }
-run_from n multiple ack (p ∷ ps) =
-    if gives ack p.answer then run_from (number_or 0 p.confirm) true ack ps
-    else record { number = n; multiple = multiple; ack = ack }
+abbrev pub last_of : Publish → List Publish → Publish
+last_of p [] = p
+last_of p (q ∷ qs) = last_of q qs
+
+abbrev pub has_any : List Publish → Bool
+has_any [] = false
+has_any (p ∷ ps) = true
+
+-- an ack or a nack of p and of those behind it, by the number of the last
+abbrev pub run_of : Publish → List Publish → Confirm
+run_of p more = record {
+  number = number_or 0 (last_of p more).confirm;
+  multiple = has_any more;
+  ack = is_ack p.answer;
+}
 
 -- of the unanswered ones: where the first has an outcome, the longest run from it that gives the same;
 -- else the first that has an outcome, alone
 abbrev pub confirm_of : List Publish → Option Confirm
 confirm_of [] = None
 confirm_of (p ∷ ps) =
-    if is_owed p.answer then Some (run_from (number_or 0 p.confirm) false (is_ack p.answer) ps)
+    if is_owed p.answer then Some (run_of p (take_while (λ q. gives (is_ack p.answer) q.answer) ps))
     else option_map alone (find (λ q. is_owed q.answer) ps)
 
 abbrev pub next_confirm_of : List Publish → Option Confirm

@@ -197,3 +197,7 @@ after_event (LineTold number) s = each (reported number) s
 abbrev pub after_events : ℕ → List PublishEvent → PublishState
 after_events life [] = no_publishes life
 after_events life (x ∷ h) = after_event x (after_events life h)
+
+-- those for which something is still to come then
+abbrev pub open_after : ℕ → List PublishEvent → List Publish
+open_after life h = (after_events life h).list

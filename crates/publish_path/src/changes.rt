@@ -1,9 +1,8 @@
 //! What an event does to each publish of a life.
 
-ghost use Rattle.std.specs.Prelude.{◌≡◌, ◌-◌, ◌≤◌, map, filter, length, not, is_some, List, sum_by, count_by};
-ghost use Rattle.std.specs.Vec.{vec_capacity};
+ghost use Rattle.std.specs.Prelude.{◌≡◌, ◌-◌, ◌≤◌, map, filter};
 ghost use Rattle.publish_path.specs.declared.publish.Publish.{Publish};
-ghost use Rattle.publish_path.specs.Publishes.{is_waiting, is_sending, is_settled, has_no_outcome, is_open, framed, in_range, due_for, is_told, told, is_on, lost_as, link_lost, covers, confirmed, reported, changed};
+ghost use Rattle.publish_path.specs.Publishes.{is_sending, is_open, framed, in_range, due_for, is_told, told, is_on, link_lost, covers, confirmed, reported, changed};
 ghost use Rattle.publish_path.specs.Offers.{held_count, held_bytes};
 
 use crate::publish::{Answer, Confirm, Place, Publish};

@@ -8,6 +8,8 @@ mod publish;
 mod publishes;
 mod searches;
 mod send_links;
+#[cfg(test)]
+mod tests;
 
 pub use laws::{confirms_lawfully, lines_lawfully, payloads_lawfully};
 pub use publish::{Confirm, NextFrame};

@@ -1,10 +1,10 @@
 //! The publishes of a life of a channel: each call is one event, or a question on what is due.
 
-ghost use Rattle.std.specs.Prelude.{◌≡◌, ◌≢◌, ◌+◌, ◌-◌, ◌<◌, ◌≤◌, ◌^◌, ◌↔◌, [], List, filter, count_by, take, drop, length, true, false, if◌then◌else◌, ◌==◌, OnOk, OnErr, IfOk, IfSome, IsSome, IsNone, Some, None, option_copied};
+ghost use Rattle.std.specs.Prelude.{◌≡◌, ◌+◌, ◌-◌, ◌<◌, ◌≤◌, ◌^◌, ◌↔◌, [], filter, count_by, drop, length, true, false, if◌then◌else◌, ◌==◌, OnOk, OnErr, IfOk, IfSome, IsSome, IsNone, Some, None};
 ghost use Rattle.std.specs.List.{list_any};
-ghost use Rattle.publish_path.specs.Links.{link_of, can_send, begun_on};
-ghost use Rattle.publish_path.specs.Publishes.{PublishState, TakenUp, FrameSent, OutcomeCame, LinkGone, ConfirmSent, LineTold, no_publishes, after_event, new_publish, is_open, is_told};
-ghost use Rattle.publish_path.specs.Offers.{frame_of, next_frame_of, links_after, rest_of, next_confirm_of, next_line_of, held_count, held_bytes, waits_on, is_pending};
+ghost use Rattle.publish_path.specs.Links.{link_of, can_send};
+ghost use Rattle.publish_path.specs.Publishes.{PublishState, TakenUp, OutcomeCame, LinkGone, ConfirmSent, LineTold, no_publishes, after_event, new_publish, is_open, is_told};
+ghost use Rattle.publish_path.specs.Offers.{frame_of, next_frame_of, links_after, rest_of, frame_sent, next_confirm_of, next_line_of, held_count, held_bytes, waits_on, is_pending};
 
 use crate::changes::{Change, apply, compact};
 use crate::publish::{Answer, Confirm, NextFrame, Place, Publish};
@@ -179,7 +179,7 @@ impl Publishes {
     pub fn commit_frame(&mut self, links: &mut SendLinks, frame: NextFrame, bytes: u32)
         requires frame { next_frame_of links.old self.old.list ≡ Some frame }
         requires bytes { bytes ≤ length (rest_of frame.publish self.old.list) }
-        ensures publishes { self.new ≡ after_event (FrameSent frame.publish frame.first (take bytes (rest_of frame.publish self.old.list))) self.old }
+        ensures publishes { self.new ≡ after_event (frame_sent frame bytes self.old.list) self.old }
         ensures links { links.new ≡ links_after frame links.old }
     {
         let change = Change::Framed {

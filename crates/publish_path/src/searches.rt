@@ -1,11 +1,11 @@
 //! Searches and counts over the publishes of a life.
 
-ghost use Rattle.std.specs.Prelude.{◌≡◌, ◌<◌, ◌^◌, find, count_by, is_some, option_copied, ◌&&◌, true, IfSome};
+ghost use Rattle.std.specs.Prelude.{◌≡◌, ◌<◌, ◌^◌, find, filter, count_by, is_some, option_copied, ◌&&◌, true, IfSome};
 ghost use Rattle.std.specs.Option.{option_map};
 ghost use Rattle.std.specs.List.{list_any};
-ghost use Rattle.publish_path.specs.Publishes.{is_waiting, is_begun, is_sending, is_settled, has_no_outcome, takes, is_told, is_on};
-ghost use Rattle.publish_path.specs.Links.{link_of, can_send};
-ghost use Rattle.publish_path.specs.Offers.{can_begin, owed_ack, is_owed, is_ack, is_unanswered, is_held, held_count, held_size, held_bytes, waits_on, is_pending, number_or, alone, next_confirm_of};
+ghost use Rattle.publish_path.specs.Publishes.{is_begun, takes, is_told};
+ghost use Rattle.publish_path.specs.Offers.{can_begin, owed_ack, is_owed, is_unanswered, held_count, held_size, held_bytes, waits_on, is_pending, number_or, alone};
+ghost use Rattle.publish_path.specs.Searches.{found_confirm};
 
 use crate::changes::{is_link, is_publish_sending, is_publish_told};
 use crate::publish::{Answer, Confirm, Place, Publish};
@@ -176,7 +176,7 @@ fn first_alone(items: &[Publish]) -> Option<Confirm>
 /// the first outcome alone.
 #[tactic(auto, using(crate::proofs::Steps::find_due))]
 pub fn first_confirm(items: &[Publish]) -> Option<Confirm>
-    ensures { result ≡ next_confirm_of items.now }
+    ensures { result ≡ found_confirm (filter is_unanswered items.now) }
 {
     let mut run: Option<Confirm> = None;
     for p in items {

@@ -1,8 +1,7 @@
 //! The sending links of a channel (AMQP 1.0 2.6), by their numbers and their addresses.
 
-ghost use Rattle.std.specs.Prelude.{◌≡◌, List, [], ◌∷◌, ◌++◌, map, find, filter, not, true, OnOk, OnErr, IsSome, IsNone, bytes_eq, option_copied};
+ghost use Rattle.std.specs.Prelude.{◌≡◌, List, [], ◌∷◌, ◌++◌, map, find, true, OnOk, OnErr, IsSome, option_copied};
 ghost use Rattle.std.specs.Option.{option_map};
-ghost use Rattle.links_10.specs.declared.send.Sending.{Sending};
 ghost use Rattle.publish_path.specs.declared.send_links.SendingLink.{SendingLink};
 ghost use Rattle.publish_path.specs.Links.{has_number, has_address, link_of, link_to, can_send, asked_link, now_attached, flowed, drained, begun_on, link_changed, without};
 

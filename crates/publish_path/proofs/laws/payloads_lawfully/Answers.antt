@@ -8,7 +8,7 @@ pub returns-clause-order : goal.returns-clause-order
 returns-clause-order c = begins_in_order
 
 pub returns-clause-rest : goal.returns-clause-rest
-returns-clause-rest c = rest_kept
+returns-clause-rest c = λ life n h taken. rest_kept life h n taken
 
 pub returns-clause-whole : goal.returns-clause-whole
 returns-clause-whole c = whole

@@ -1,4 +1,4 @@
-use Rattle.std.proofs.Common.{◌∙◌, ap, sym, List}
+use Rattle.std.proofs.Common.{◌∙◌, ap, sym}
 use Rattle.std.specs.Prelude.{count_by}
 use Rattle.publish_path.specs.Publishes.{PublishState}
 use Rattle.publish_path.specs.Offers.{is_pending}
