@@ -53,13 +53,14 @@ pub record Fate : Type 0 where
   -- its confirm number: its place, from 1, among those that are to be confirmed
   pub confirm : Option ℕ
   pub payload : List ℕ
-  -- its transfer: whether a frame of it went, the delivery-id, and the payloads of its frames, joined
+  -- its transfer (AMQP 1.0 2.6.12, 2.6.14): whether a frame of it went, the delivery-id, and the parts
+  -- of its frames, joined
   pub begun : Bool
   pub id : Option ℕ
   pub sent : List ℕ
   -- its link was lost
   pub cut : Bool
-  -- its first outcome: whether that is accepted
+  -- its first outcome: whether that is accepted (AMQP 1.0 3.4); a loss is one, and isn't
   pub outcome : Option Bool
   -- a confirm covered it
   pub answered : Bool
@@ -88,7 +89,7 @@ is_undecided f = not (is_some f.outcome) && not f.answered
 abbrev pub decided : Bool → Bool → Option Bool → Option Bool
 decided test accepted outcome = if test then option_or outcome (Some accepted) else outcome
 
--- after an event, of publish n; the last event stands behind h
+-- what publish n becomes by an event that stands behind h
 abbrev pub fate_step : ℕ → List PublishEvent → PublishEvent → Fate → Fate
 fate_step n h (TakenUp link confirm payload) f =
     if n == numbers_of h + 1 then new_fate link (next_number confirm (confirms_of h)) payload else f

@@ -12,7 +12,7 @@ use Rattle.publish_path.specs.Journal.{Fate, fate_of, numbers_of, IsTaken, waits
 
 -- confirms
 
--- n has a confirm number, and no confirm covered it
+-- n was taken up, has a confirm number, and no confirm covered it
 abbrev pub IsUnanswered : List PublishEvent → ℕ → Type 0
 IsUnanswered h n = IsTaken h n × (is_some (fate_of n h).confirm ≡ true) × ((fate_of n h).answered ≡ false)
 

@@ -26,7 +26,7 @@ next_frame_of links list =
     option_or (option_map (frame_of false) (find (λ p. is_begun p.place) list))
     (option_map (frame_of true) (find (can_begin links) list))
 
--- the first frame of a transfer takes one of its link's credit
+-- the first frame of a transfer takes one of its link's credit (AMQP 1.0 2.6.7)
 abbrev pub links_after : NextFrame → List SendingLink → List SendingLink
 links_after frame links = if frame.first then map (begun_on frame.link) links else links
 

@@ -23,19 +23,20 @@ pub record PublishState : Type 0 where
   pub numbers : ℕ
   -- the confirm numbers given so far
   pub confirms : ℕ
-  -- the delivery-id of the next transfer, in 32 bits (AMQP 1.0 2.6.12)
+  -- the delivery-id of the next transfer, in 32 bits (AMQP 1.0 2.7.5)
   pub next_id : ℕ
 
 pub data PublishEvent : Type 0 where
   -- a publish was taken up: its link, whether it is to be confirmed, and its payload
   TakenUp : (link : ℕ) (confirm : Bool) (payload : List ℕ) → PublishEvent
-  -- a transfer frame went: its publish, whether it is the first, and the part of the payload
+  -- a transfer frame went: its publish, whether it is the first, and its part of the payload (AMQP 1.0
+  -- 2.6.14)
   FrameSent : (number : ℕ) (first : Bool) (part : List ℕ) → PublishEvent
-  -- an outcome came for the delivery-ids from first to last (AMQP 1.0 2.7.6)
+  -- an outcome came for the delivery-ids from first to last (AMQP 1.0 2.7.6, 3.4)
   OutcomeCame : (first last : ℕ) (accepted : Bool) → PublishEvent
   -- a link was refused, detached or lost, or each of them
   LinkGone : (link : Option ℕ) → PublishEvent
-  -- a confirm went to the client (AMQP 0-9-1, confirm.select)
+  -- an ack or a nack went to the client
   ConfirmSent : (confirm : Confirm) → PublishEvent
   -- the line of a publish was reported
   LineTold : (number : ℕ) → PublishEvent
@@ -93,7 +94,7 @@ framed number first id count p = record p {
   place = if takes number p then place_then (has_more count p) else p.place;
 }
 
--- the delivery-ids from first to last, in 32 bits
+-- the delivery-ids from first to last, in 32 bits (AMQP 1.0 2.7.6, 2.8.10)
 abbrev pub in_range : ℕ → ℕ → Option ℕ → Bool
 in_range first last None = false
 in_range first last (Some id) = nat_le (past id first) (past last first)
@@ -135,7 +136,7 @@ link_lost link p = record p {
   line = if has_no_outcome p.answer && is_on link p.link then Some (lost_as (is_waiting p.place)) else p.line;
 }
 
--- the confirm numbers that a confirm covers
+-- the confirm numbers that a confirm covers: with multiple, all up to its own (AMQP 0-9-1 1.8.3.13)
 abbrev pub covers : Confirm → Option ℕ → Bool
 covers c None = false
 covers c (Some number) = number == c.number || (c.multiple && nat_le number c.number)
