@@ -1,0 +1,5 @@
+pub mod Fields
+pub mod ImageLaws
+pub mod Images
+pub mod Loops
+pub mod Numbers

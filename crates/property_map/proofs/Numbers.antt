@@ -1,0 +1,65 @@
+-- Decimal numbers, as they are parsed.
+use Rattle.std.proofs.Common.{◌≡◌, ℕ, zero, suc, ◌<◌, ◌^◌, Bool, true, false, cond, eqb, ltb, ◌&&◌, List, [], ◌∷◌, length, get_or, Result, Ok, Err, refl, sym, ap, ◌∙◌, arith}
+use Rattle.std.specs.Char.{is_ascii_digit}
+use Rattle.std.specs.List.{list_all}
+use Rattle.std.specs.Str.{all_ascii_digits, IsUtf8}
+use Rattle.std.specs.Str.Parse.{digits_value, ParsesUnsigned}
+use Rattle.std.proofs.lemmas.Bool.{ltb-true}
+use Rattle.std.proofs.lemmas.Bool.Decides.{nat_tests}
+use Rattle.std.proofs.lemmas.Result.{OkIff-at_err}
+use Rattle.std.proofs.lemmas.Str.{IsUtf8-from_ascii}
+use Rattle.std.proofs.lemmas.Str.Parse.{IsNumeralModel, numerals_by_value, tells_all_ascii_digits, parse_digits}
+use Rattle.property_map.specs.Rows.{is_decimal, ttl_in}
+use Rattle.property_map.specs.declared.fault.MapFault.TheVariants as fault
+
+both_first : (a b : Bool) → (a && b) ≡ true → a ≡ true
+both_first true b e = refl
+both_first false b e = absurd (cc e)
+
+both_second : (a b : Bool) → (a && b) ≡ true → b ≡ true
+both_second true b e = e
+both_second false b e = absurd (cc e)
+
+digits_same : (s : List ℕ) → list_all is_ascii_digit s ≡ all_ascii_digits s
+digits_same [] = refl
+digits_same (c ∷ cs) = ap (λ (b : Bool). is_ascii_digit c && b) (digits_same cs)
+
+digit_small : (c : ℕ) → is_ascii_digit c ≡ true → c < 128
+digit_small c e = grind (arith, nat_tests)
+
+digits_small : (s : List ℕ) → list_all is_ascii_digit s ≡ true → (i : ℕ) → get_or s i 0 < 128
+digits_small [] e i = omega arith
+digits_small (c ∷ cs) e zero = digit_small c (both_first (is_ascii_digit c) (list_all is_ascii_digit cs) e)
+digits_small (c ∷ cs) e (suc i) = digits_small cs (both_second (is_ascii_digit c) (list_all is_ascii_digit cs) e) i
+
+-- a decimal number is digits, and one at least
+decimal_digits : (s : List ℕ) → is_decimal s ≡ true → (list_all is_ascii_digit s ≡ true) × (0 < length s)
+decimal_digits [] e = absurd (cc e)
+decimal_digits (c ∷ []) e = (e, omega arith)
+decimal_digits (c ∷ d ∷ cs) e = at (eqb c 48) e
+  where
+    at : (b : Bool) → cond b false (list_all is_ascii_digit (c ∷ d ∷ cs)) ≡ true → (list_all is_ascii_digit (c ∷ d ∷ cs) ≡ true) × (0 < length (c ∷ d ∷ cs))
+    at true e = absurd (cc e)
+    at false e = (e, omega arith)
+
+ttl_fails : (s : List ℕ) → (is_decimal s ≡ true → digits_value 10 s < 4294967296 → ⊥) → ttl_in s ≡ Err fault.Expiration
+ttl_fails s h = at (is_decimal s) (ltb (digits_value 10 s) 4294967296) refl refl
+  where
+    at : (a b : Bool) → is_decimal s ≡ a → ltb (digits_value 10 s) 4294967296 ≡ b → cond (a && b) (Ok (digits_value 10 s)) (Err fault.Expiration) ≡ Err fault.Expiration
+    at false b d e = refl
+    at true false d e = refl
+    at true true d e = absurd (h d (ltb-true _ _ e))
+
+-- what is no text is no number
+pub no_text : (s : List ℕ) → (IsUtf8 s → ⊥) → ttl_in s ≡ Err fault.Expiration
+no_text s h = ttl_fails s (λ d small. h (IsUtf8-from_ascii s (digits_small s (decimal_digits s d).0)))
+
+own : IsNumeralModel (λ ds. all_ascii_digits ds ≡ true) (digits_value 10)
+own = numerals_by_value (λ ds. all_ascii_digits ds ≡ true) tells_all_ascii_digits
+
+-- what can't be parsed is too great
+pub not_parsed : {E : Type 0} (s : List ℕ) (r : Result ℕ E) (d : E) → ParsesUnsigned 32 10 s r → r ≡ Err d → ttl_in s ≡ Err fault.Expiration
+not_parsed s r d p e =
+    ttl_fails s (λ is small.
+    let digits = decimal_digits s is in
+    OkIff-at_err r ((0 < length s) × (digits_value 10 s < 2 ^ 32)) (digits_value 10 s) d (parse_digits own 32 s r p (sym (digits_same s) ∙ digits.0)) e (digits.1, omega (arith, small)))

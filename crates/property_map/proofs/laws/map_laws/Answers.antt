@@ -1,0 +1,8 @@
+use Rattle.property_map.proofs.ImageLaws.{image_is_right, one_image}
+use Rattle.property_map.proofs.laws.map_laws.Goals as goal
+
+pub returns-clause-right : goal.returns-clause-right
+returns-clause-right c = image_is_right
+
+pub returns-clause-one : goal.returns-clause-one
+returns-clause-one c = one_image

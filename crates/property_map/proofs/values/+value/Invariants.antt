@@ -1,0 +1,28 @@
+use Rattle.std.proofs.Common.{◌≡◌, ◌+◌, ◌*◌, ◌-◌, [], length}
+use Rattle.tables_091.specs.Tree.{depth, list_depth, entries_depth, trees_of, members_of}
+use Rattle.tables_091.specs.View.{field_tree}
+use Rattle.property_map.specs.Values.{values_in, pairs_in}
+use Rattle.property_map.proofs.Loops.{values_behind, values_from, pairs_behind, pairs_from}
+use Rattle.property_map.proofs.values.+value.Given as goal
+
+abbrev pub decreases-value_of : goal.decreases-value_of
+decreases-value_of l = 2 * depth (field_tree l.field.now)
+
+abbrev pub decreases-values_of : goal.decreases-values_of
+decreases-values_of l = 2 * list_depth l.list.now + 1
+
+abbrev pub decreases-pairs_of : goal.decreases-pairs_of
+decreases-pairs_of l = 2 * entries_depth l.table.now + 1
+
+-- what was made, and what is still made
+abbrev pub invariant-values_of-loop-k : goal.invariant-values_of-loop-k
+invariant-values_of-loop-k l = values_behind l.values (values_from l.list l.k) ≡ values_in (trees_of l.list)
+
+abbrev pub decreases-values_of-loop-k : goal.decreases-values_of-loop-k
+decreases-values_of-loop-k l = length l.list - l.k
+
+abbrev pub invariant-pairs_of-loop-k : goal.invariant-pairs_of-loop-k
+invariant-pairs_of-loop-k l = pairs_behind l.pairs (pairs_from l.table l.k) ≡ pairs_in [] (members_of l.table)
+
+abbrev pub decreases-pairs_of-loop-k : goal.decreases-pairs_of-loop-k
+decreases-pairs_of-loop-k l = length l.table - l.k
