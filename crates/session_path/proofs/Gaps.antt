@@ -1,0 +1,22 @@
+-- The lowest number that no link has.
+use Rattle.std.proofs.Common.{◌≡◌, ◌∙◌, ℕ, suc, ◌+◌, ◌-◌, ◌<◌, ◌≤◌, ◌≢◌, List, [], ◌∷◌, ◌++◌, Bool, true, false, Option, Some, None, map, take, drop, refl, sym, subst, ap, arith, cond, length, get_or, add-one, drop-cons}
+use Rattle.std.specs.Prelude.{◌==◌, if◌then◌else◌}
+use Rattle.std.proofs.lemmas.Bool.Decides.{nat_tests}
+use Rattle.session_path.specs.declared.path.PathLink.{PathLink}
+use Rattle.session_path.specs.Links.{gap}
+
+pub gap_more : (ls : List PathLink) (i n : ℕ) (d : PathLink) → i < length ls → (get_or ls i d).link ≡ n → n + gap n (drop i ls) ≡ (n + 1) + gap (n + 1) (drop (i + 1) ls)
+gap_more ls i n d lt e =
+    let is : ((get_or ls i d).link == n) ≡ true = grind (arith, nat_tests) in
+    ap (λ xs. n + gap n xs) (drop-cons ls i d lt) ∙ (ap (λ b. n + cond b (gap (n + 1) (drop (suc i) ls) + 1) 0) is ∙ (by (gap (n + 1) (drop (suc i) ls)) ∙ ap (λ k. (n + 1) + gap (n + 1) (drop k ls)) (sym (add-one i))))
+  where
+    by : (g : ℕ) → n + (g + 1) ≡ (n + 1) + g
+    by g = omega arith
+
+pub gap_none : (ls : List PathLink) (i n : ℕ) (d : PathLink) → i < length ls → (get_or ls i d).link ≢ n → n + gap n (drop i ls) ≡ n
+gap_none ls i n d lt ne =
+    let is : ((get_or ls i d).link == n) ≡ false = grind (arith, nat_tests) in
+    ap (λ xs. n + gap n xs) (drop-cons ls i d lt) ∙ ap (λ b. n + cond b (gap (n + 1) (drop (suc i) ls) + 1) 0) is ∙ by
+  where
+    by : n + 0 ≡ n
+    by = omega arith

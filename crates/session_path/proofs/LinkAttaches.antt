@@ -1,0 +1,203 @@
+-- The container attaches a link no more often than the gateway asked under its name.
+use Rattle.std.proofs.Common.{◌≡◌, ◌∙◌, ℕ, zero, suc, ◌+◌, ◌-◌, ◌<◌, ◌≤◌, ◌≢◌, List, [], ◌∷◌, ◌++◌, Bool, true, false, Option, Some, None, map, refl, sym, subst, ap, arith, cond, length}
+use Rattle.std.specs.Prelude.{find, is_some, not, ◌==◌, ◌&&◌, ◌||◌, insert}
+use Rattle.std.specs.List.{AllByRecursion}
+use Rattle.open_items.proofs.Filtered.{all_weaker, all_find}
+use Rattle.link_table.specs.Table.{free_of, named_by}
+use Rattle.publish_path.specs.Links.{link_to}
+use Rattle.publish_path.specs.declared.publish.Confirm.{Confirm}
+use Rattle.publish_path.specs.declared.publish.NextFrame.{NextFrame}
+use Rattle.publish_path.specs.declared.publish.Publish.{Publish}
+use Rattle.session_path.specs.declared.path.AttachFault.{AttachFault}
+use Rattle.session_path.specs.declared.path.AttachFault.TheVariants.{NotAsked, HandleInUse}
+use Rattle.session_path.specs.declared.path.PathLink.{PathLink}
+use Rattle.session_path.specs.declared.path.PathOk.{PathOk}
+use Rattle.session_path.specs.declared.path.Settling.{Settling}
+use Rattle.session_path.specs.Links.{LinksState, Rises, answered, asked_as, asked_on, at_handle, attached_as, attach_fault, attached, detached_on, flowed_on, free_number, gone_from, gone_on, is_asked_as, is_at, is_left, is_left_at, is_wanted, left_by, link_asked, link_detached, link_flowed, linked_to, put, put_for, told_by, told_on, told_once, wanted_link, with_link_to}
+use Rattle.session_path.specs.Path.{PathState, flow_of, owes_flow}
+use Rattle.session_path.specs.Events.{PathEvent, Began, Published, Selected, Owed, AttachCame, FlowCame, DetachCame, DispositionCame, AttachSent, LinkFlowSent, TransferSent, SettleSent, DetachSent, ConfirmWent, OkSent, LineWent, SessionLost, after_event, after_events}
+use Rattle.session_path.specs.Attaches.{asks_as, attaches_as, times_asked, times_attached}
+use Rattle.session_path.proofs.Ties.{and_left, and_right, eq_of, eq_to, ne_to, rises_above}
+use Rattle.session_path.proofs.Tied.{Tied, tied_after}
+
+abbrev one : Bool → ℕ
+one b = cond b 1 0
+
+-- how many links are asked for under this name
+abbrev waiting : ℕ → List PathLink → ℕ
+waiting name [] = 0
+waiting name (l ∷ ls) = one (is_asked_as name l) + waiting name ls
+
+put_above : (x : PathLink) (ls : List PathLink) → AllByRecursion (λ k. x.link + 1 ≤ k.link) ls → put x ls ≡ ls
+put_above x [] a = refl
+put_above x (l ∷ ls) a =
+    ap (λ b. cond b x l ∷ put x ls) (ne_to l.link x.link (λ s. let le = a.0 in omega arith)) ∙ ap (λ ks. l ∷ ks) (put_above x ls a.1)
+
+waiting_put : (name m : ℕ) (p : PathLink → Bool) (ls : List PathLink) (l x : PathLink) → Rises m ls → find p ls ≡ Some l → x.link ≡ l.link
+    → waiting name (put x ls) + one (is_asked_as name l) ≡ waiting name ls + one (is_asked_as name x)
+waiting_put name m p [] l x r e same = absurd (cc)
+waiting_put name m p (y ∷ ys) l x r e same = by (p y) refl (λ f. waiting_put name (y.link + 1) p ys l x r.1 f same) e
+  where
+    above : AllByRecursion (λ k. y.link + 1 ≤ k.link) ys
+    above = rises_above (y.link + 1) ys r.1
+
+    swap : (a b c : ℕ) → (a + b) + c ≡ (c + b) + a
+    swap a b c = omega arith
+
+    more : (a b c d f : ℕ) → b + c ≡ d + f → (a + b) + c ≡ (a + d) + f
+    more a b c d f h = omega arith
+
+    by : (b : Bool) → p y ≡ b → (find p ys ≡ Some l → waiting name (put x ys) + one (is_asked_as name l) ≡ waiting name ys + one (is_asked_as name x)) → cond b (Some y) (find p ys) ≡ Some l
+        → waiting name (cond (y.link == x.link) x y ∷ put x ys) + one (is_asked_as name l) ≡ waiting name (y ∷ ys) + one (is_asked_as name x)
+    by true is ih e =
+        let is_l : y ≡ l = cc in
+        let number : y.link ≡ x.link = ap (λ (z : PathLink). z.link) is_l ∙ sym same in
+        ap (λ b. waiting name (cond b x y ∷ put x ys) + one (is_asked_as name l)) (eq_to y.link x.link number)
+        ∙ (ap (λ ks. waiting name (x ∷ ks) + one (is_asked_as name l)) (put_above x ys (subst (λ n. AllByRecursion (λ k. n + 1 ≤ k.link) ys) number above))
+        ∙ (swap (one (is_asked_as name x)) (waiting name ys) (one (is_asked_as name l))
+        ∙ ap (λ (z : PathLink). (one (is_asked_as name z) + waiting name ys) + one (is_asked_as name x)) (sym is_l)))
+    by false is ih e =
+        let a : y.link + 1 ≤ l.link = (all_find (λ k. y.link + 1 ≤ k.link) p ys l above e).0 in
+        ap (λ b. waiting name (cond b x y ∷ put x ys) + one (is_asked_as name l)) (ne_to y.link x.link (λ s. omega arith))
+        ∙ more (one (is_asked_as name y)) (waiting name (put x ys)) (one (is_asked_as name l)) (waiting name ys) (one (is_asked_as name x)) (ih e)
+
+waiting_insert : (name n i : ℕ) (ls : List PathLink) → waiting name (insert ls i (wanted_link n)) ≡ waiting name ls
+waiting_insert name n zero ls = omega arith
+waiting_insert name n (suc i) [] = omega arith
+waiting_insert name n (suc i) (l ∷ ls) = ap (λ k. one (is_asked_as name l) + k) (waiting_insert name n i ls)
+
+waiting_gone : (name h : ℕ) (ls : List PathLink) → waiting name (gone_from h ls) ≤ waiting name ls
+waiting_gone name h [] = omega arith
+waiting_gone name h (l ∷ ls) = by (is_left_at h l.stage) (waiting_gone name h ls)
+  where
+    by : (b : Bool) → waiting name (gone_from h ls) ≤ waiting name ls → waiting name (cond (not b) (l ∷ gone_from h ls) (gone_from h ls)) ≤ one (is_asked_as name l) + waiting name ls
+    by true e = omega arith
+    by false e = omega arith
+
+-- the steps: no more are asked for than before
+
+waiting_linked : (name : ℕ) (address : List ℕ) (s : LinksState) → waiting name (linked_to address s).links ≤ waiting name s.links
+waiting_linked name address s = by (is_some (link_to s.sending address))
+  where
+    by : (b : Bool) → waiting name (cond b s (with_link_to address s)).links ≤ waiting name s.links
+    by true = omega arith
+    by false = let e = waiting_insert name (free_number s.links) (free_number s.links) s.links in omega arith
+
+flowed_one : (name h : ℕ) (count : Option ℕ) (credit : ℕ) (drain echo : Bool) (s : LinksState) (o : Option PathLink) → Tied s → find (is_at h) s.links ≡ o
+    → waiting name (flowed_on o count credit drain echo s).links ≤ waiting name s.links
+flowed_one name h count credit drain echo s None t e = omega arith
+flowed_one name h count credit drain echo s (Some l) t e = let a = waiting_put name 0 (is_at h) s.links l (told_by drain echo l) t.rising e refl in omega arith
+
+waiting_flowed : (name peer : ℕ) (count : Option ℕ) (credit : ℕ) (drain echo : Bool) (s : LinksState) → Tied s → waiting name (link_flowed peer count credit drain echo s).links ≤ waiting name s.links
+waiting_flowed name peer count credit drain echo s t = by (named_by s.handles peer)
+  where
+    by : (o : Option ℕ) → waiting name (flowed_on (at_handle o s.links) count credit drain echo s).links ≤ waiting name s.links
+    by None = omega arith
+    by (Some h) = flowed_one name h count credit drain echo s (find (is_at h) s.links) t refl
+
+detached_one : (name h : ℕ) (s : LinksState) (o : Option PathLink) → Tied s → find (is_at h) s.links ≡ o → waiting name (detached_on o s).links ≤ waiting name s.links
+detached_one name h s None t e = omega arith
+detached_one name h s (Some l) t e = let a = waiting_put name 0 (is_at h) s.links l (left_by l) t.rising e refl in omega arith
+
+waiting_detached : (name peer : ℕ) (s : LinksState) → Tied s → waiting name (link_detached peer s).links ≤ waiting name s.links
+waiting_detached name peer s t = by (named_by s.handles peer)
+  where
+    by : (o : Option ℕ) → waiting name (detached_on (at_handle o s.links) s).links ≤ waiting name s.links
+    by None = omega arith
+    by (Some h) = detached_one name h s (find (is_at h) s.links) t refl
+
+waiting_told : (name : ℕ) (list : List Publish) (s : LinksState) → Tied s → waiting name (told_on (flow_of list s) s).links ≤ waiting name s.links
+waiting_told name list s t = by (flow_of list s) refl
+  where
+    by : (o : Option PathLink) → find (owes_flow list s.sending) s.links ≡ o → waiting name (told_on o s).links ≤ waiting name s.links
+    by None e = omega arith
+    by (Some l) e = let a = waiting_put name 0 (owes_flow list s.sending) s.links l (told_once l) t.rising e refl in omega arith
+
+waiting_left : (name : ℕ) (s : LinksState) (o : Option PathLink) → waiting name (gone_on o s).links ≤ waiting name s.links
+waiting_left name s None = omega arith
+waiting_left name s (Some l) = waiting_gone name _ s.links
+
+-- one more at most, under its own name
+waiting_asked : (name own : ℕ) (s : LinksState) → Tied s → waiting name (link_asked own s).links ≤ waiting name s.links + one (own == name)
+waiting_asked name own s t = by (find is_wanted s.links) refl (free_of s.handles)
+  where
+    by : (o : Option PathLink) → find is_wanted s.links ≡ o → (f : Option ℕ) → waiting name (asked_on o f own s).links ≤ waiting name s.links + one (own == name)
+    by None e f = omega arith
+    by (Some l) e None = omega arith
+    by (Some l) e (Some h) = let a = waiting_put name 0 is_wanted s.links l (asked_as h own l) t.rising e refl in omega arith
+
+-- one that attaches isn't asked for any more
+waiting_attached : (name own peer : ℕ) (target : Bool) (s : LinksState) → Tied s
+    → one ((own == name) && not (is_some (attach_fault own peer s))) + waiting name (attached own peer target s).links ≤ waiting name s.links
+waiting_attached name own peer target s t = by (find (is_asked_as own) s.links) refl (is_some (named_by s.handles peer))
+  where
+    none : (b : Bool) (k : ℕ) → one (b && false) + k ≤ k
+    none true k = omega arith
+    none false k = omega arith
+
+    answer : (l : PathLink) (b : Bool) → is_asked_as name (answered b l) ≡ false
+    answer l true = refl
+    answer l false = refl
+
+    less : (l : PathLink) (b : Bool) → (own == name) ≡ b → is_asked_as own l ≡ true → one b ≤ one (is_asked_as name l)
+    less l true e is =
+        let same : is_asked_as name l ≡ true = subst (λ n. is_asked_as n l ≡ true) (eq_of own name e) is in
+        subst (λ b. 1 ≤ one b) (sym same) (omega arith)
+    less l false e is = omega arith
+
+    true_and : (b : Bool) → one (b && true) ≤ one b
+    true_and true = omega arith
+    true_and false = omega arith
+
+    by : (o : Option PathLink) → find (is_asked_as own) s.links ≡ o → (used : Bool)
+        → one ((own == name) && not (is_some (cond (not (is_some o)) (Some NotAsked) (cond used (Some HandleInUse) None))))
+        + waiting name (cond (is_some (cond (not (is_some o)) (Some NotAsked) (cond used (Some HandleInUse) None))) s (attached_as o peer target s)).links ≤ waiting name s.links
+    by None e used = none (own == name) (waiting name s.links)
+    by (Some l) e true = none (own == name) (waiting name s.links)
+    by (Some l) e false =
+        let a : waiting name (put (answered target l) s.links) + one (is_asked_as name l) ≡ waiting name s.links + 0 = waiting_put name 0 (is_asked_as own) s.links l (answered target l) t.rising e refl ∙ ap (λ b. waiting name s.links + one b) (answer l target) in
+        let b : one (own == name) ≤ one (is_asked_as name l) = less l (own == name) refl (all_find (λ k. 0 ≤ k.link) (is_asked_as own) s.links l (rises_above 0 s.links t.rising) e).1 in
+        let c : one ((own == name) && true) ≤ one (own == name) = true_and (own == name) in
+        omega arith
+
+stays : (times asked old new : ℕ) → times + old ≤ asked → new ≤ old → (times + 0) + new ≤ asked + 0
+stays times asked old new h e = omega arith
+
+asks : (times asked old new more : ℕ) → times + old ≤ asked → new ≤ old + more → (times + 0) + new ≤ asked + more
+asks times asked old new more h e = omega arith
+
+comes : (times asked old new more : ℕ) → times + old ≤ asked → more + new ≤ old → (times + more) + new ≤ asked + 0
+comes times asked old new more h e = omega arith
+
+same : (k : ℕ) → k ≤ k
+same k = omega arith
+
+low : (k : ℕ) → 0 ≤ k
+low k = omega arith
+
+step : (name times asked : ℕ) (x : PathEvent) (s : PathState) → Tied s.links → times + waiting name s.links.links ≤ asked
+    → (times + attaches_as name s x) + waiting name (after_event x s).links.links ≤ asked + asks_as name x
+step name times asked (Began handle_max) s t e = stays times asked (waiting name s.links.links) _ e (same (waiting name s.links.links))
+step name times asked (Published address payload) s t e = stays times asked (waiting name s.links.links) _ e (waiting_linked name address s.links)
+step name times asked Selected s t e = stays times asked (waiting name s.links.links) _ e (same (waiting name s.links.links))
+step name times asked (Owed ok) s t e = stays times asked (waiting name s.links.links) _ e (same (waiting name s.links.links))
+step name times asked (AttachCame own peer target) s t e = comes times asked (waiting name s.links.links) _ _ e (waiting_attached name own peer target s.links t)
+step name times asked (FlowCame peer count credit drain echo) s t e = stays times asked (waiting name s.links.links) _ e (waiting_flowed name peer count credit drain echo s.links t)
+step name times asked (DetachCame peer) s t e = stays times asked (waiting name s.links.links) _ e (waiting_detached name peer s.links t)
+step name times asked (DispositionCame first last accepted settled) s t e = stays times asked (waiting name s.links.links) _ e (same (waiting name s.links.links))
+step name times asked (AttachSent own) s t e = asks times asked (waiting name s.links.links) _ (one (own == name)) e (waiting_asked name own s.links t)
+step name times asked LinkFlowSent s t e = stays times asked (waiting name s.links.links) _ e (waiting_told name s.publishes.list s.links t)
+step name times asked (TransferSent frame count) s t e = stays times asked (waiting name s.links.links) _ e (same (waiting name s.links.links))
+step name times asked (SettleSent settling) s t e = stays times asked (waiting name s.links.links) _ e (same (waiting name s.links.links))
+step name times asked DetachSent s t e = stays times asked (waiting name s.links.links) _ e (waiting_left name s.links (find is_left s.links.links))
+step name times asked (ConfirmWent confirm) s t e = stays times asked (waiting name s.links.links) _ e (same (waiting name s.links.links))
+step name times asked (OkSent ok) s t e = stays times asked (waiting name s.links.links) _ e (same (waiting name s.links.links))
+step name times asked (LineWent number) s t e = stays times asked (waiting name s.links.links) _ e (same (waiting name s.links.links))
+step name times asked SessionLost s t e = stays times asked (waiting name s.links.links) _ e (low (waiting name s.links.links))
+
+attached_waiting : (life name : ℕ) (h : List PathEvent) → times_attached life name h + waiting name (after_events life h).links.links ≤ times_asked name h
+attached_waiting life name [] = omega arith
+attached_waiting life name (x ∷ h) = step name (times_attached life name h) (times_asked name h) x (after_events life h) (tied_after life h) (attached_waiting life name h)
+
+pub attaches_are : (life name : ℕ) (h : List PathEvent) → times_attached life name h ≤ times_asked name h
+attaches_are life name h = let a = attached_waiting life name h in omega arith

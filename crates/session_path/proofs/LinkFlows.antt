@@ -1,0 +1,321 @@
+-- The flows on a link answer what the container asked, each once.
+use Rattle.std.proofs.Common.{◌≡◌, ◌∙◌, ℕ, zero, suc, ◌+◌, ◌-◌, ◌<◌, ◌≤◌, ◌≢◌, List, [], ◌∷◌, ◌++◌, Bool, true, false, Option, Some, None, map, refl, sym, subst, ap, arith, cond, length}
+use Rattle.std.specs.Prelude.{find, is_some, not, ◌==◌, ◌&&◌, ◌||◌, insert, nat_lt}
+use Rattle.std.specs.List.{AllByRecursion}
+use Rattle.std.proofs.lemmas.Bool.Decides.{nat_tests}
+use Rattle.open_items.proofs.Filtered.{all_weaker, all_both, all_find}
+use Rattle.link_table.specs.Table.{free_of, named_by}
+use Rattle.publish_path.specs.Links.{link_to}
+use Rattle.publish_path.specs.declared.publish.Confirm.{Confirm}
+use Rattle.publish_path.specs.declared.publish.NextFrame.{NextFrame}
+use Rattle.publish_path.specs.declared.publish.Publish.{Publish}
+use Rattle.publish_path.specs.declared.send_links.SendingLink.{SendingLink}
+use Rattle.session_path.specs.declared.path.PathLink.{PathLink}
+use Rattle.session_path.specs.declared.path.PathOk.{PathOk}
+use Rattle.session_path.specs.declared.path.Settling.{Settling}
+use Rattle.session_path.specs.declared.path.Stage.{Stage}
+use Rattle.session_path.specs.declared.path.Stage.TheVariants.{Wanted, Asked, Open, Refused, Left}
+use Rattle.session_path.specs.Links.{LinksState, AreApart, AreTied, Rises, answered, asked_as, asked_on, at_handle, attach_fault, attached, attached_as, detached_on, flowed_on, free_number, gap, gone_from, gone_on, handle_in, handle_of, has_number, is_asked_as, is_at, is_left, is_left_at, is_one, is_stage_left, is_wanted, left_by, link_asked, link_detached, link_flowed, linked_to, meets, named, one_if, put, put_for, told_by, told_on, told_once, wanted_link, with_link_to}
+use Rattle.session_path.specs.Path.{PathState, flow_of, may_drain, owes_flow}
+use Rattle.session_path.specs.Events.{PathEvent, Began, Published, Selected, Owed, AttachCame, FlowCame, DetachCame, DispositionCame, AttachSent, LinkFlowSent, TransferSent, SettleSent, DetachSent, ConfirmWent, OkSent, LineWent, SessionLost, after_event, after_events}
+use Rattle.session_path.specs.Flows.{causes_by, causes_on, flows_by, flows_on, is_link, owed_in, owed_on}
+use Rattle.session_path.proofs.Ties.{apart_from, eq_of, eq_to, ne_to, no_clash, rises_above}
+use Rattle.session_path.proofs.Wanted.{absent}
+use Rattle.session_path.proofs.Tied.{Tied, tied_after}
+
+-- what is found is the link with its number
+
+unique : (m : ℕ) (p : PathLink → Bool) (ls : List PathLink) (l : PathLink) → Rises m ls → find p ls ≡ Some l → AllByRecursion (λ k. (k.link == l.link) ≡ true → k ≡ l) ls
+unique m p [] l r e = tt
+unique m p (y ∷ ys) l r e = by (p y) refl (unique (y.link + 1) p ys l r.1) e
+  where
+    above : AllByRecursion (λ k. y.link + 1 ≤ k.link) ys
+    above = rises_above (y.link + 1) ys r.1
+
+    by : (b : Bool) → p y ≡ b → (find p ys ≡ Some l → AllByRecursion (λ k. (k.link == l.link) ≡ true → k ≡ l) ys) → cond b (Some y) (find p ys) ≡ Some l
+        → AllByRecursion (λ k. (k.link == l.link) ≡ true → k ≡ l) (y ∷ ys)
+    by true is ih e =
+        let same : y ≡ l = cc in
+        ((λ t. same), all_weaker (λ k. y.link + 1 ≤ k.link) _ (λ k a t. absurd (let f = eq_of k.link l.link t in let g : y.link ≡ l.link = ap (λ (z : PathLink). z.link) same in omega arith)) ys above)
+    by false is ih e =
+        ((λ t. absurd (let f = eq_of y.link l.link t in let a : y.link + 1 ≤ l.link = (all_find (λ k. y.link + 1 ≤ k.link) p ys l above e).0 in omega arith)), ih e)
+
+found_number : (m : ℕ) (p : PathLink → Bool) (ls : List PathLink) (l : PathLink) → Rises m ls → find p ls ≡ Some l → find (has_number l.link) ls ≡ Some l
+found_number m p [] l r e = absurd (cc)
+found_number m p (y ∷ ys) l r e = by (p y) refl (found_number (y.link + 1) p ys l r.1) e
+  where
+    above : AllByRecursion (λ k. y.link + 1 ≤ k.link) ys
+    above = rises_above (y.link + 1) ys r.1
+
+    by : (b : Bool) → p y ≡ b → (find p ys ≡ Some l → find (has_number l.link) ys ≡ Some l) → cond b (Some y) (find p ys) ≡ Some l → cond (y.link == l.link) (Some y) (find (has_number l.link) ys) ≡ Some l
+    by true is ih e =
+        let same : y ≡ l = cc in
+        ap (λ b. cond b (Some y) (find (has_number l.link) ys)) (eq_to y.link l.link (ap (λ (z : PathLink). z.link) same)) ∙ ap Some same
+    by false is ih e =
+        let a : y.link + 1 ≤ l.link = (all_find (λ k. y.link + 1 ≤ k.link) p ys l above e).0 in
+        ap (λ b. cond b (Some y) (find (has_number l.link) ys)) (ne_to y.link l.link (λ s. omega arith)) ∙ ih e
+
+-- a link in the place of the one with its number
+
+abbrev placed : PathLink → Option PathLink → Option PathLink
+placed x None = None
+placed x (Some l) = Some x
+
+find_put : (n : ℕ) (x : PathLink) (ls : List PathLink) → find (has_number n) (put x ls) ≡ cond (x.link == n) (placed x (find (has_number n) ls)) (find (has_number n) ls)
+find_put n x [] = by (x.link == n)
+  where
+    by : (b : Bool) → ◌≡◌ {A = Option PathLink} None (cond b None None)
+    by true = refl
+    by false = refl
+find_put n x (l ∷ ls) = by (l.link == x.link) refl (l.link == n) refl (x.link == n) refl (find_put n x ls)
+  where
+    by : (b : Bool) → (l.link == x.link) ≡ b → (c : Bool) → (l.link == n) ≡ c → (d : Bool) → (x.link == n) ≡ d
+        → find (has_number n) (put x ls) ≡ cond d (placed x (find (has_number n) ls)) (find (has_number n) ls)
+        → cond ((cond b x l).link == n) (Some (cond b x l)) (find (has_number n) (put x ls)) ≡ cond d (placed x (cond c (Some l) (find (has_number n) ls))) (cond c (Some l) (find (has_number n) ls))
+    by true e true f true g ih = ap (λ b. cond b (Some x) (find (has_number n) (put x ls))) g
+    by true e true f false g ih = absurd (no_clash (x.link == n) (eq_to x.link n (sym (eq_of l.link x.link e) ∙ eq_of l.link n f)) g)
+    by true e false f true g ih = absurd (no_clash (l.link == n) (eq_to l.link n (eq_of l.link x.link e ∙ eq_of x.link n g)) f)
+    by true e false f false g ih = ap (λ b. cond b (Some x) (find (has_number n) (put x ls))) g ∙ ih
+    by false e true f true g ih = absurd (no_clash (l.link == x.link) (eq_to l.link x.link (eq_of l.link n f ∙ sym (eq_of x.link n g))) e)
+    by false e true f false g ih = ap (λ b. cond b (Some l) (find (has_number n) (put x ls))) f
+    by false e false f d g ih = ap (λ b. cond b (Some l) (find (has_number n) (put x ls))) f ∙ ih
+
+-- what it is owed
+
+owed_put : (n : ℕ) (p : PathLink → Bool) (ls : List PathLink) (l x : PathLink) → Rises 0 ls → find p ls ≡ Some l → x.link ≡ l.link
+    → owed_on n (put x ls) + cond (l.link == n) (l.echoes + l.drains) 0 ≡ owed_on n ls + cond (l.link == n) (x.echoes + x.drains) 0
+owed_put n p ls l x r e same =
+    ap (λ o. owed_in o + cond (l.link == n) (l.echoes + l.drains) 0) (find_put n x ls)
+    ∙ (ap (λ b. owed_in (cond b (placed x (find (has_number n) ls)) (find (has_number n) ls)) + cond (l.link == n) (l.echoes + l.drains) 0) (ap (λ k. k == n) same)
+    ∙ by (l.link == n) refl)
+  where
+    swap : (a b : ℕ) → a + b ≡ b + a
+    swap a b = omega arith
+
+    by : (b : Bool) → (l.link == n) ≡ b
+        → owed_in (cond b (placed x (find (has_number n) ls)) (find (has_number n) ls)) + cond b (l.echoes + l.drains) 0 ≡ owed_in (find (has_number n) ls) + cond b (x.echoes + x.drains) 0
+    by true f =
+        let there : find (has_number n) ls ≡ Some l = subst (λ k. find (has_number k) ls ≡ Some l) (eq_of l.link n f) (found_number 0 p ls l r e) in
+        ap (λ o. owed_in (placed x o) + (l.echoes + l.drains)) there ∙ (swap (x.echoes + x.drains) (l.echoes + l.drains) ∙ ap (λ o. owed_in o + (x.echoes + x.drains)) (sym there))
+    by false f = refl
+
+-- the counts stay
+owed_same : (n : ℕ) (p : PathLink → Bool) (ls : List PathLink) (l x : PathLink) → Rises 0 ls → find p ls ≡ Some l → x.link ≡ l.link → x.echoes ≡ l.echoes → x.drains ≡ l.drains
+    → owed_on n (put x ls) ≡ owed_on n ls
+owed_same n p ls l x r e same f g =
+    let put_it = owed_put n p ls l x r e same in
+    by (l.link == n) put_it
+  where
+    by : (b : Bool) → owed_on n (put x ls) + cond b (l.echoes + l.drains) 0 ≡ owed_on n ls + cond b (x.echoes + x.drains) 0 → owed_on n (put x ls) ≡ owed_on n ls
+    by true h = omega arith
+    by false h = omega arith
+
+-- a link that is wanted
+
+none_at : (n : ℕ) (ls : List PathLink) → AllByRecursion (λ k. (k.link == n) ≡ false) ls → find (has_number n) ls ≡ None
+none_at n [] a = refl
+none_at n (l ∷ ls) a = ap (λ b. cond b (Some l) (find (has_number n) ls)) a.0 ∙ none_at n ls a.1
+
+owed_insert : (n k i : ℕ) (ls : List PathLink) → AllByRecursion (λ l. (l.link == k) ≡ false) ls → owed_on n (insert ls i (wanted_link k)) ≡ owed_on n ls
+owed_insert n k zero ls a = by (k == n) refl
+  where
+    by : (b : Bool) → (k == n) ≡ b → owed_in (cond b (Some (wanted_link k)) (find (has_number n) ls)) ≡ owed_in (find (has_number n) ls)
+    by true e = sym (ap owed_in (subst (λ m. find (has_number m) ls ≡ None) (eq_of k n e) (none_at k ls a)))
+    by false e = refl
+owed_insert n k (suc i) [] a = by (k == n)
+  where
+    by : (b : Bool) → owed_in (cond b (Some (wanted_link k)) None) ≡ 0
+    by true = refl
+    by false = refl
+owed_insert n k (suc i) (l ∷ ls) a = by (l.link == n) (owed_insert n k i ls a.1)
+  where
+    by : (b : Bool) → owed_on n (insert ls i (wanted_link k)) ≡ owed_on n ls → owed_in (cond b (Some l) (find (has_number n) (insert ls i (wanted_link k)))) ≡ owed_in (cond b (Some l) (find (has_number n) ls))
+    by true e = refl
+    by false e = e
+
+owed_linked : (n : ℕ) (address : List ℕ) (s : LinksState) → Tied s → owed_on n (linked_to address s).links ≡ owed_on n s.links
+owed_linked n address s t = by (is_some (link_to s.sending address))
+  where
+    by : (b : Bool) → owed_on n (cond b s (with_link_to address s)).links ≡ owed_on n s.links
+    by true = refl
+    by false = owed_insert n (free_number s.links) (free_number s.links) s.links (absent s.links t.rising)
+
+-- one that is no more
+
+left_one : (l k : PathLink) → is_left l ≡ true → meets l k ≡ false → is_left_at (handle_of l.stage) k.stage ≡ false
+left_one l k left apart = by l.stage k.stage left apart
+  where
+    by : (s u : Stage) → is_stage_left s ≡ true → is_one (handle_in s) (handle_in u) ≡ false → is_left_at (handle_of s) u ≡ false
+    by Wanted u e f = absurd (cc)
+    by (Asked h) u e f = absurd (cc)
+    by (Open h) u e f = absurd (cc)
+    by (Refused h) u e f = absurd (cc)
+    by (Left h) Wanted e f = refl
+    by (Left h) (Asked j) e f = refl
+    by (Left h) (Open j) e f = refl
+    by (Left h) (Refused j) e f = refl
+    by (Left h) (Left j) e f = ne_to j h (λ s. no_clash (h == j) (eq_to h j (sym s)) f)
+
+left_itself : (s : Stage) → is_stage_left s ≡ true → is_left_at (handle_of s) s ≡ true
+left_itself Wanted e = absurd (cc)
+left_itself (Asked h) e = absurd (cc)
+left_itself (Open h) e = absurd (cc)
+left_itself (Refused h) e = absurd (cc)
+left_itself (Left h) e = eq_to h h refl
+
+left_are : (ls : List PathLink) (l : PathLink) → Rises 0 ls → AreApart ls → find is_left ls ≡ Some l → AllByRecursion (λ k. is_left_at (handle_of l.stage) k.stage ≡ (k.link == l.link)) ls
+left_are ls l r a e =
+    all_weaker (λ k. ((k.link == l.link) ≡ false → meets l k ≡ false) × ((k.link == l.link) ≡ true → k ≡ l)) _ (λ k h. one k (k.link == l.link) refl h.0 h.1) ls
+    (all_both _ _ ls (apart_from is_left ls l e a) (unique 0 is_left ls l r e))
+  where
+    left : is_left l ≡ true
+    left = (all_find (λ k. 0 ≤ k.link) is_left ls l (rises_above 0 ls r) e).1
+
+    one : (k : PathLink) (b : Bool) → (k.link == l.link) ≡ b → ((k.link == l.link) ≡ false → meets l k ≡ false) → ((k.link == l.link) ≡ true → k ≡ l) → is_left_at (handle_of l.stage) k.stage ≡ b
+    one k true f apart same = ap (λ (z : PathLink). is_left_at (handle_of l.stage) z.stage) (same f) ∙ left_itself l.stage left
+    one k false f apart same = left_one l k left (apart f)
+
+owed_gone : (n h m : ℕ) (ls : List PathLink) → AllByRecursion (λ k. is_left_at h k.stage ≡ (k.link == m)) ls → owed_on n (gone_from h ls) ≡ cond (m == n) 0 (owed_on n ls)
+owed_gone n h m [] a = by (m == n)
+  where
+    by : (b : Bool) → ◌≡◌ {A = ℕ} 0 (cond b 0 0)
+    by true = refl
+    by false = refl
+owed_gone n h m (k ∷ ls) a = by (k.link == m) refl (is_left_at h k.stage) a.0 (k.link == n) refl (m == n) refl (owed_gone n h m ls a.1)
+  where
+    by : (b : Bool) → (k.link == m) ≡ b → (g : Bool) → g ≡ (k.link == m) → (c : Bool) → (k.link == n) ≡ c → (d : Bool) → (m == n) ≡ d
+        → owed_on n (gone_from h ls) ≡ cond d 0 (owed_on n ls)
+        → owed_in (find (has_number n) (cond (not g) (k ∷ gone_from h ls) (gone_from h ls))) ≡ cond d 0 (owed_in (cond c (Some k) (find (has_number n) ls)))
+    by b e true s c f true q ih = ih
+    by b e true s true f false q ih = absurd (no_clash (m == n) (eq_to m n (sym (eq_of k.link m (sym s)) ∙ eq_of k.link n f)) q)
+    by b e true s false f false q ih = ih
+    by b e false s true f true q ih = absurd (no_clash (k.link == m) (eq_to k.link m (eq_of k.link n f ∙ sym (eq_of m n q))) (sym s))
+    by b e false s true f false q ih = ap (λ b. owed_in (cond b (Some k) (find (has_number n) (gone_from h ls)))) f
+    by b e false s false f d q ih = ap (λ b. owed_in (cond b (Some k) (find (has_number n) (gone_from h ls)))) f ∙ ih
+
+-- the steps, where so many flows went and so many were owed
+
+attached_step : (n name peer : ℕ) (target : Bool) (s : LinksState) → Tied s → owed_on n (attached name peer target s).links ≡ owed_on n s.links
+attached_step n name peer target s t = by (is_some (attach_fault name peer s)) (step (find (is_asked_as name) s.links) refl)
+  where
+    step : (o : Option PathLink) → find (is_asked_as name) s.links ≡ o → owed_on n (attached_as o peer target s).links ≡ owed_on n s.links
+    step None e = refl
+    step (Some l) e = owed_same n (is_asked_as name) s.links l (answered target l) t.rising e refl refl refl
+
+    by : (b : Bool) → owed_on n (attached_as (find (is_asked_as name) s.links) peer target s).links ≡ owed_on n s.links → owed_on n (cond b s (attached_as (find (is_asked_as name) s.links) peer target s)).links ≡ owed_on n s.links
+    by true e = refl
+    by false e = e
+
+flowed_one : (n h flows causes : ℕ) (count : Option ℕ) (credit : ℕ) (drain echo : Bool) (s : LinksState) (o : Option PathLink) → Tied s → find (is_at h) s.links ≡ o → flows + owed_on n s.links ≡ causes
+    → (flows + 0) + owed_on n (flowed_on o count credit drain echo s).links ≡ causes + cond (is_link n o) (one_if echo + one_if drain) 0
+flowed_one n h flows causes count credit drain echo s None t e is = omega arith
+flowed_one n h flows causes count credit drain echo s (Some l) t e is = by (l.link == n) (owed_put n (is_at h) s.links l (told_by drain echo l) t.rising e refl)
+  where
+    by : (b : Bool) → owed_on n (put (told_by drain echo l) s.links) + cond b (l.echoes + l.drains) 0 ≡ owed_on n s.links + cond b ((l.echoes + one_if echo) + (l.drains + one_if drain)) 0
+        → (flows + 0) + owed_on n (put (told_by drain echo l) s.links) ≡ causes + cond b (one_if echo + one_if drain) 0
+    by true h = let a = one_if echo in let d = one_if drain in sum (owed_on n (put (told_by drain echo l) s.links)) (owed_on n s.links) l.echoes l.drains (one_if echo) (one_if drain) flows causes h is
+      where
+        sum : (new old e d a b f c : ℕ) → new + (e + d) ≡ old + ((e + a) + (d + b)) → f + old ≡ c → (f + 0) + new ≡ c + (a + b)
+        sum new old e d a b f c p q = omega arith
+    by false h = omega arith
+
+flowed_step : (n peer flows causes : ℕ) (count : Option ℕ) (credit : ℕ) (drain echo : Bool) (s : LinksState) → Tied s → flows + owed_on n s.links ≡ causes
+    → (flows + 0) + owed_on n (link_flowed peer count credit drain echo s).links ≡ causes + cond (is_link n (named peer s)) (one_if echo + one_if drain) 0
+flowed_step n peer flows causes count credit drain echo s t is = by (named_by s.handles peer)
+  where
+    by : (o : Option ℕ) → (flows + 0) + owed_on n (flowed_on (at_handle o s.links) count credit drain echo s).links ≡ causes + cond (is_link n (at_handle o s.links)) (one_if echo + one_if drain) 0
+    by None = omega arith
+    by (Some h) = flowed_one n h flows causes count credit drain echo s (find (is_at h) s.links) t refl is
+
+detached_one : (n h : ℕ) (s : LinksState) (o : Option PathLink) → Tied s → find (is_at h) s.links ≡ o → owed_on n (detached_on o s).links ≡ owed_on n s.links
+detached_one n h s None t e = refl
+detached_one n h s (Some l) t e = owed_same n (is_at h) s.links l (left_by l) t.rising e refl refl refl
+
+detached_step : (n peer : ℕ) (s : LinksState) → Tied s → owed_on n (link_detached peer s).links ≡ owed_on n s.links
+detached_step n peer s t = by (named_by s.handles peer)
+  where
+    by : (o : Option ℕ) → owed_on n (detached_on (at_handle o s.links) s).links ≡ owed_on n s.links
+    by None = refl
+    by (Some h) = detached_one n h s (find (is_at h) s.links) t refl
+
+asked_step : (n name : ℕ) (s : LinksState) → Tied s → owed_on n (link_asked name s).links ≡ owed_on n s.links
+asked_step n name s t = by (find is_wanted s.links) refl (free_of s.handles)
+  where
+    by : (o : Option PathLink) → find is_wanted s.links ≡ o → (f : Option ℕ) → owed_on n (asked_on o f name s).links ≡ owed_on n s.links
+    by None e f = refl
+    by (Some l) e None = refl
+    by (Some l) e (Some h) = owed_same n is_wanted s.links l (asked_as h name l) t.rising e refl refl refl
+
+gone_step : (n flows causes : ℕ) (s : LinksState) → Tied s → flows + owed_on n s.links ≡ causes
+    → (flows + 0) + owed_on n (gone_on (find is_left s.links) s).links ≡ cond (is_link n (find is_left s.links)) flows causes
+gone_step n flows causes s t is = by (find is_left s.links) refl
+  where
+    by : (o : Option PathLink) → find is_left s.links ≡ o → (flows + 0) + owed_on n (gone_on o s).links ≡ cond (is_link n o) flows causes
+    by None e = omega arith
+    by (Some l) e = ap (λ k. (flows + 0) + k) (owed_gone n (handle_of l.stage) l.link s.links (left_are s.links l t.rising t.apart e)) ∙ one (l.link == n)
+      where
+        one : (b : Bool) → (flows + 0) + cond b 0 (owed_on n s.links) ≡ cond b flows causes
+        one true = omega arith
+        one false = omega arith
+
+-- a flow that is due answers one cause
+told_less : (list : List Publish) (sending : List SendingLink) (l : PathLink) → owes_flow list sending l ≡ true → (l.echoes - 1) + cond (l.echoes == 0) (l.drains - 1) l.drains + 1 ≡ l.echoes + l.drains
+told_less list sending l e = by (is_left l) l.echoes l.drains (may_drain list sending l) e
+  where
+    plain : (k d : ℕ) → (suc k - 1) + d + 1 ≡ suc k + d
+    plain k d = omega arith
+
+    by : (b : Bool) (echoes drains : ℕ) (m : Bool) → (not b && (nat_lt 0 echoes || (nat_lt 0 drains && m))) ≡ true → (echoes - 1) + cond (echoes == 0) (drains - 1) drains + 1 ≡ echoes + drains
+    by true echoes drains m e = absurd (cc)
+    by false zero zero m e = absurd (cc)
+    by false zero (suc d) m e = omega arith
+    by false (suc k) d m e = ap (λ b. (suc k - 1) + cond b (d - 1) d + 1) (ne_to (suc k) 0 (λ s. omega arith)) ∙ plain k d
+
+told_step : (n flows causes : ℕ) (list : List Publish) (s : LinksState) → Tied s → flows + owed_on n s.links ≡ causes
+    → (flows + cond (is_link n (flow_of list s)) 1 0) + owed_on n (told_on (flow_of list s) s).links ≡ causes
+told_step n flows causes list s t is = by (flow_of list s) refl
+  where
+    sum : (new old e d e' d' f c : ℕ) → new + (e + d) ≡ old + (e' + d') → (e' + d') + 1 ≡ e + d → f + old ≡ c → (f + 1) + new ≡ c
+    sum new old e d e' d' f c p q r = omega arith
+
+    by : (o : Option PathLink) → find (owes_flow list s.sending) s.links ≡ o → (flows + cond (is_link n o) 1 0) + owed_on n (told_on o s).links ≡ causes
+    by None e = omega arith
+    by (Some l) e = one (l.link == n) (owed_put n (owes_flow list s.sending) s.links l (told_once l) t.rising e refl)
+      where
+        owes : owes_flow list s.sending l ≡ true
+        owes = (all_find (λ k. 0 ≤ k.link) (owes_flow list s.sending) s.links l (rises_above 0 s.links t.rising) e).1
+
+        one : (b : Bool) → owed_on n (put (told_once l) s.links) + cond b (l.echoes + l.drains) 0 ≡ owed_on n s.links + cond b ((told_once l).echoes + (told_once l).drains) 0
+            → (flows + cond b 1 0) + owed_on n (put (told_once l) s.links) ≡ causes
+        one true h = sum (owed_on n (put (told_once l) s.links)) (owed_on n s.links) l.echoes l.drains (told_once l).echoes (told_once l).drains flows causes h (told_less list s.sending l owes) is
+        one false h = omega arith
+
+kept : (flows old new causes : ℕ) → flows + old ≡ causes → new ≡ old → (flows + 0) + new ≡ causes
+kept flows old new causes e f = omega arith
+
+lost : (flows : ℕ) → (flows + 0) + 0 ≡ flows
+lost flows = omega arith
+
+step : (n flows causes : ℕ) (x : PathEvent) (s : PathState) → Tied s.links → flows + owed_on n s.links.links ≡ causes
+    → (flows + flows_by n s x) + owed_on n (after_event x s).links.links ≡ causes_by n s flows causes x
+step n flows causes (Began handle_max) s t e = kept flows (owed_on n s.links.links) _ causes e refl
+step n flows causes (Published address payload) s t e = kept flows (owed_on n s.links.links) _ causes e (owed_linked n address s.links t)
+step n flows causes Selected s t e = kept flows (owed_on n s.links.links) _ causes e refl
+step n flows causes (Owed ok) s t e = kept flows (owed_on n s.links.links) _ causes e refl
+step n flows causes (AttachCame name peer target) s t e = kept flows (owed_on n s.links.links) _ causes e (attached_step n name peer target s.links t)
+step n flows causes (FlowCame peer count credit drain echo) s t e = flowed_step n peer flows causes count credit drain echo s.links t e
+step n flows causes (DetachCame peer) s t e = kept flows (owed_on n s.links.links) _ causes e (detached_step n peer s.links t)
+step n flows causes (DispositionCame first last accepted settled) s t e = kept flows (owed_on n s.links.links) _ causes e refl
+step n flows causes (AttachSent name) s t e = kept flows (owed_on n s.links.links) _ causes e (asked_step n name s.links t)
+step n flows causes LinkFlowSent s t e = told_step n flows causes s.publishes.list s.links t e
+step n flows causes (TransferSent frame count) s t e = kept flows (owed_on n s.links.links) _ causes e refl
+step n flows causes (SettleSent settling) s t e = kept flows (owed_on n s.links.links) _ causes e refl
+step n flows causes DetachSent s t e = gone_step n flows causes s.links t e
+step n flows causes (ConfirmWent confirm) s t e = kept flows (owed_on n s.links.links) _ causes e refl
+step n flows causes (OkSent ok) s t e = kept flows (owed_on n s.links.links) _ causes e refl
+step n flows causes (LineWent number) s t e = kept flows (owed_on n s.links.links) _ causes e refl
+step n flows causes SessionLost s t e = lost flows
+
+pub flows_are : (life n : ℕ) (h : List PathEvent) → flows_on life n h + owed_on n (after_events life h).links.links ≡ causes_on life n h
+flows_are life n [] = refl
+flows_are life n (x ∷ h) = step n (flows_on life n h) (causes_on life n h) x (after_events life h) (tied_after life h) (flows_are life n h)

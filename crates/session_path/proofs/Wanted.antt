@@ -1,0 +1,172 @@
+-- A link that is wanted: its number, its place and its credit.
+use Rattle.std.proofs.Common.{rules, ◌≡◌, ◌∙◌, ℕ, zero, suc, ◌+◌, ◌-◌, ◌<◌, ◌≤◌, ◌≢◌, List, [], ◌∷◌, ◌++◌, Bool, true, false, Option, Some, None, map, take, drop, refl, sym, subst, ap, arith, cond, length, add-one, inl, inr}
+use Rattle.std.specs.Prelude.{◌⊎◌, filter, find, not, ◌||◌, ◌&&◌, ◌==◌, insert, remove, bytes_eq, is_some}
+use Rattle.std.specs.Option.{option_map}
+use Rattle.std.specs.List.{list_any, AllByRecursion}
+use Rattle.std.proofs.lemmas.Bool.Decides.{nat_tests}
+use Rattle.open_items.proofs.Filtered.{all_map, all_weaker, all_push}
+use Rattle.link_table.specs.Table.{HandleTable}
+use Rattle.publish_path.specs.declared.send_links.SendingLink.{SendingLink}
+use Rattle.publish_path.specs.Links.{asked_link, has_address, link_of, link_to, without}
+use Rattle.session_path.specs.declared.path.PathLink.{PathLink}
+use Rattle.session_path.specs.Path.{number_of}
+use Rattle.session_path.specs.Links.{LinksState, linked_to, with_link_to, handle_in, is_left, gap, free_number, wanted_link, with_wanted, Rises, is_one, meets, AreApart, stands, is_kept, AreTied}
+use Rattle.session_path.proofs.Ties.{and_left, eq_of, eq_to, ne_to, no_clash, or_left, or_right, or_true, rises_above}
+
+-- an item put into a list
+
+all_insert : {X : Type 0} (P : X → Type 0) (xs : List X) (i : ℕ) (y : X) → AllByRecursion P xs → P y → AllByRecursion P (insert xs i y)
+all_insert P [] zero y a h = (h, tt)
+all_insert P [] (suc i) y a h = (h, tt)
+all_insert P (x ∷ xs) zero y a h = (h, a)
+all_insert P (x ∷ xs) (suc i) y a h = (a.0, all_insert P xs i y a.1 h)
+
+any_old : {X : Type 0} (p : X → Bool) (xs : List X) (i : ℕ) (y : X) → list_any p xs ≡ true → list_any p (insert xs i y) ≡ true
+any_old p [] zero y e = absurd (cc)
+any_old p [] (suc i) y e = absurd (cc)
+any_old p (x ∷ xs) zero y e = or_right (p y) _ e
+any_old p (x ∷ xs) (suc i) y e = by (any_old p xs i y) (or_true (p x) (list_any p xs) e)
+  where
+    by : (list_any p xs ≡ true → list_any p (insert xs i y) ≡ true) → (p x ≡ true) ⊎ (list_any p xs ≡ true) → (p x || list_any p (insert xs i y)) ≡ true
+    by ih (inl h) = or_left _ _ h
+    by ih (inr h) = or_right (p x) _ (ih h)
+
+any_new : {X : Type 0} (p : X → Bool) (xs : List X) (i : ℕ) (y : X) → p y ≡ true → list_any p (insert xs i y) ≡ true
+any_new p [] zero y e = or_left _ _ e
+any_new p [] (suc i) y e = or_left _ _ e
+any_new p (x ∷ xs) zero y e = or_left _ _ e
+any_new p (x ∷ xs) (suc i) y e = or_right (p x) _ (any_new p xs i y e)
+
+pub remove_insert : {X : Type 0} (xs : List X) (i : ℕ) (y : X) → i ≤ length xs → remove (insert xs i y) i ≡ xs
+remove_insert [] zero y le = refl
+remove_insert [] (suc i) y le = absurd (omega arith)
+remove_insert (x ∷ xs) zero y le = refl
+remove_insert (x ∷ xs) (suc i) y le = ap (λ zs. x ∷ zs) (remove_insert xs i y (omega arith))
+
+-- its number
+
+more : (m g : ℕ) → m + (g + 1) ≡ (m + 1) + g
+more m g = omega arith
+
+rises_wanted : (m : ℕ) (ls : List PathLink) → Rises m ls → Rises m (insert ls (gap m ls) (wanted_link (m + gap m ls)))
+rises_wanted m [] r = (omega arith, tt)
+rises_wanted m (l ∷ ls) r = by (l.link == m) refl (rises_wanted (m + 1) ls)
+  where
+    by : (b : Bool) → (l.link == m) ≡ b → (Rises (m + 1) ls → Rises (m + 1) (insert ls (gap (m + 1) ls) (wanted_link ((m + 1) + gap (m + 1) ls))))
+        → Rises m (insert (l ∷ ls) (cond b (gap (m + 1) ls + 1) 0) (wanted_link (m + cond b (gap (m + 1) ls + 1) 0)))
+    by true e ih =
+        let same = eq_of l.link m e in
+        subst (λ n. Rises m (insert (l ∷ ls) (gap (m + 1) ls + 1) (wanted_link n))) (sym (more m (gap (m + 1) ls)))
+        (subst (λ i. Rises m (insert (l ∷ ls) i (wanted_link ((m + 1) + gap (m + 1) ls)))) (sym (add-one (gap (m + 1) ls)))
+        (r.0, subst (λ n. Rises (n + 1) (insert ls (gap (m + 1) ls) (wanted_link ((m + 1) + gap (m + 1) ls)))) (sym same) (ih (subst (λ n. Rises (n + 1) ls) same r.1))))
+    by false e ih = (omega arith, (let a = r.0 in let ne : l.link ≢ m = (λ s. no_clash (l.link == m) (eq_to l.link m s) e) in omega arith, r.1))
+
+-- no link has it
+not_there : (m : ℕ) (ls : List PathLink) → Rises m ls → AllByRecursion (λ k. (k.link == (m + gap m ls)) ≡ false) ls
+not_there m [] r = tt
+not_there m (l ∷ ls) r = by (l.link == m) refl (not_there (m + 1) ls)
+  where
+    by : (b : Bool) → (l.link == m) ≡ b → (Rises (m + 1) ls → AllByRecursion (λ k. (k.link == ((m + 1) + gap (m + 1) ls)) ≡ false) ls)
+        → AllByRecursion (λ k. (k.link == (m + cond b (gap (m + 1) ls + 1) 0)) ≡ false) (l ∷ ls)
+    by true e ih =
+        let same = eq_of l.link m e in
+        subst (λ n. AllByRecursion (λ k. (k.link == n) ≡ false) (l ∷ ls)) (sym (more m (gap (m + 1) ls)))
+        (ne_to l.link ((m + 1) + gap (m + 1) ls) (λ s. omega arith), ih (subst (λ n. Rises (n + 1) ls) same r.1))
+    by false e ih =
+        let ne : l.link ≢ m = (λ s. no_clash (l.link == m) (eq_to l.link m s) e) in
+        (ne_to l.link (m + 0) (λ s. ne (s ∙ zero_more m)), all_weaker (λ k. l.link + 1 ≤ k.link) _ (λ k above. ne_to k.link (m + 0) (λ s. let a = r.0 in omega arith)) ls (rises_above (l.link + 1) ls r.1))
+      where
+        zero_more : (m : ℕ) → m + 0 ≡ m
+        zero_more m = omega arith
+
+not_kept : (n : ℕ) (ls : List PathLink) (x : SendingLink) → AllByRecursion (λ k. (k.link == n) ≡ false) ls → is_kept ls x ≡ true → (x.link == n) ≡ false
+not_kept n [] x a e = absurd (cc)
+not_kept n (l ∷ ls) x a e = by (not_kept n ls x a.1) (or_true ((l.link == x.link) && not (is_left l)) (is_kept ls x) e)
+  where
+    by : (is_kept ls x ≡ true → (x.link == n) ≡ false) → (((l.link == x.link) && not (is_left l)) ≡ true) ⊎ (is_kept ls x ≡ true) → (x.link == n) ≡ false
+    by ih (inl h) = ap (λ k. k == n) (sym (eq_of l.link x.link (and_left _ _ h))) ∙ a.0
+    by ih (inr h) = ih h
+
+find_none : (n : ℕ) (xs : List SendingLink) → AllByRecursion (λ x. (x.link == n) ≡ false) xs → link_of xs n ≡ None
+find_none n [] a = refl
+find_none n (x ∷ xs) a = ap (λ b. cond b (Some x) (link_of xs n)) a.0 ∙ find_none n xs a.1
+
+zero_plus : (g : ℕ) → 0 + g ≡ g
+zero_plus g = omega arith
+
+pub free_none : (sending : List SendingLink) (ls : List PathLink) (t : HandleTable) → AreTied sending ls t → link_of sending (free_number ls) ≡ None
+free_none sending ls t tied =
+    find_none (free_number ls) sending (all_weaker (λ x. is_kept ls x ≡ true) _ (λ x k. not_kept (free_number ls) ls x nowhere k) sending tied.kept)
+  where
+    nowhere : AllByRecursion (λ k. (k.link == gap 0 ls) ≡ false) ls
+    nowhere = subst (λ n. AllByRecursion (λ k. (k.link == n) ≡ false) ls) (zero_plus (gap 0 ls)) (not_there 0 ls tied.rising)
+
+-- its handle
+
+one_none : (o : Option ℕ) → is_one o None ≡ false
+one_none None = refl
+one_none (Some h) = refl
+
+apart_insert : (ls : List PathLink) (i n : ℕ) → AreApart ls → AreApart (insert ls i (wanted_link n))
+apart_insert [] zero n a = (tt, tt)
+apart_insert [] (suc i) n a = (tt, tt)
+apart_insert (l ∷ ls) zero n a = ((refl, all_weaker (λ k. meets l k ≡ false) _ (λ k h. refl) ls a.0), a)
+apart_insert (l ∷ ls) (suc i) n a = (all_insert (λ k. meets l k ≡ false) ls i (wanted_link n) a.0 (one_none (handle_in l.stage)), apart_insert ls i n a.1)
+
+-- the links with it
+
+pub wanted_tied : (address : List ℕ) (sending : List SendingLink) (ls : List PathLink) (t : HandleTable)
+    → AreTied sending ls t → AreTied (sending ++ asked_link (free_number ls) address ∷ []) (with_wanted (free_number ls) ls) t
+wanted_tied address sending ls t tied = record {
+  rising = subst (λ n. Rises 0 (insert ls (gap 0 ls) (wanted_link n))) (zero_plus (gap 0 ls)) (rises_wanted 0 ls tied.rising);
+  apart = apart_insert ls (free_number ls) (free_number ls) tied.apart;
+  standing = all_insert (λ k. stands t k.stage ≡ true) ls (free_number ls) (wanted_link (free_number ls)) tied.standing refl;
+  kept = all_push (λ x. is_kept (with_wanted (free_number ls) ls) x ≡ true) sending (asked_link (free_number ls) address)
+      (all_weaker (λ x. is_kept ls x ≡ true) _ (λ x k. any_old (λ l. (l.link == x.link) && not (is_left l)) ls (free_number ls) (wanted_link (free_number ls)) k) sending tied.kept)
+      (any_new (λ l. (l.link == free_number ls) && not (is_left l)) ls (free_number ls) (wanted_link (free_number ls)) (ap (λ b. b && true) (eq_to (free_number ls) (free_number ls) refl)));
+}
+
+-- its credit
+
+pub without_new : (n : ℕ) (address : List ℕ) (xs : List SendingLink) → link_of xs n ≡ None → without n (xs ++ asked_link n address ∷ []) ≡ xs
+without_new n address [] e = ap (λ b. cond (not b) (asked_link n address ∷ []) []) (eq_to n n refl)
+without_new n address (x ∷ xs) e = by (x.link == n) refl (without_new n address xs) e
+  where
+    by : (b : Bool) → (x.link == n) ≡ b → (link_of xs n ≡ None → without n (xs ++ asked_link n address ∷ []) ≡ xs) → cond b (Some x) (link_of xs n) ≡ None
+        → cond (not b) (x ∷ without n (xs ++ asked_link n address ∷ [])) (without n (xs ++ asked_link n address ∷ [])) ≡ x ∷ xs
+    by true is ih e = absurd (cc)
+    by false is ih e = ap (λ ys. x ∷ ys) (ih e)
+
+pub there_now : (n : ℕ) (address : List ℕ) (xs : List SendingLink) → link_of (xs ++ asked_link n address ∷ []) n ≡ None → ⊥
+there_now n address [] e = let is : (n == n) ≡ true = eq_to n n refl in let some : link_of (asked_link n address ∷ []) n ≡ Some (asked_link n address) = ap (λ b. cond b (Some (asked_link n address)) None) is in absurd (cc)
+there_now n address (x ∷ xs) e = by (x.link == n) (there_now n address xs) e
+  where
+    by : (b : Bool) → (link_of (xs ++ asked_link n address ∷ []) n ≡ None → ⊥) → cond b (Some x) (link_of (xs ++ asked_link n address ∷ []) n) ≡ None → ⊥
+    by true ih e = absurd (cc)
+    by false ih e = ih e
+
+pub link_to_new : (n : ℕ) (address : List ℕ) (xs : List SendingLink) → bytes_eq address address ≡ true → link_to xs address ≡ None → link_to (xs ++ asked_link n address ∷ []) address ≡ Some (asked_link n address)
+link_to_new n address [] same e = ap (λ b. cond b (Some (asked_link n address)) None) same
+link_to_new n address (x ∷ xs) same e = by (has_address address x) (link_to_new n address xs same) e
+  where
+    by : (b : Bool) → (link_to xs address ≡ None → link_to (xs ++ asked_link n address ∷ []) address ≡ Some (asked_link n address)) → cond b (Some x) (link_to xs address) ≡ None
+        → cond b (Some x) (link_to (xs ++ asked_link n address ∷ []) address) ≡ Some (asked_link n address)
+    by true ih e = absurd (cc)
+    by false ih e = ih e
+
+pub map_none : (o : Option SendingLink) → option_map (λ l. l.link) o ≡ None → o ≡ None
+map_none None e = refl
+map_none (Some x) e = absurd (cc)
+
+same_bytes : (xs : List ℕ) → bytes_eq xs xs ≡ true
+same_bytes [] = refl
+same_bytes (x ∷ xs) = ap (λ b. b && bytes_eq xs xs) (eq_to x x refl) ∙ same_bytes xs
+
+pub number_new : (address : List ℕ) (s : LinksState) → link_to s.sending address ≡ None → free_number s.links ≡ number_of (link_to (linked_to address s).sending address)
+number_new address s e =
+    sym (ap (λ (o : Option SendingLink). number_of (link_to (cond (is_some o) s (with_link_to address s)).sending address)) e
+    ∙ ap number_of (link_to_new (free_number s.links) address s.sending (same_bytes address) e))
+
+-- no link has the lowest free number
+pub absent : (ls : List PathLink) → Rises 0 ls → AllByRecursion (λ k. (k.link == free_number ls) ≡ false) ls
+absent ls r = subst (λ n. AllByRecursion (λ k. (k.link == n) ≡ false) ls) (zero_plus (gap 0 ls)) (not_there 0 ls r)

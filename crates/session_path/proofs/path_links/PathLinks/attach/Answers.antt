@@ -1,0 +1,18 @@
+use Rattle.std.proofs.Common.{◌≡◌, ◌∙◌, Some, true, false, map, refl, sym, ap}
+use Rattle.std.specs.Prelude.{find, is_some, option_copied}
+use Rattle.session_path.specs.declared.path.PathLink.{PathLink}
+use Rattle.session_path.specs.Links.{is_asked_as, attached_if}
+use Rattle.link_table.specs.Table.{is_asked, state_of}
+use Rattle.session_path.proofs.Ties.{is_asked_for, answered_tied}
+use Rattle.session_path.proofs.path_links.PathLinks.attach.Goals as goal
+
+pub attached-requires : goal.attached-requires
+attached-requires c =
+    let e : find (is_asked_as c.args.name) c.self.inside.links.items ≡ Some c.in-Some.l.now = sym (ap (find (is_asked_as c.args.name)) c.as_slice.ensures.value) ∙ sym c.first_asked_as.ensures ∙ ap option_copied c.in-Some.is in
+    rw c.handle.ensures (is_asked_for c.args.name _ _ _ c.in-Some.l.now c.self.invariant e)
+
+pub invariant_of-self-2 : goal.invariant_of-self-2
+invariant_of-self-2 c =
+    let e : find (is_asked_as c.args.name) c.self.inside.links.items ≡ Some c.in-Some.l.now = sym (ap (find (is_asked_as c.args.name)) c.as_slice.ensures.value) ∙ sym c.first_asked_as.ensures ∙ ap option_copied c.in-Some.is in
+    rw (c.put_link.ensures, c.answered.ensures, c.attach_if.ensures, c.if-not-attached.ensures.attached, c.handle.ensures)
+    (answered_tied c.args.name c.args.peer c.args.target _ _ _ c.in-Some.l.now c.self.invariant e)

@@ -1,0 +1,57 @@
+-- The attaches of links, by their names.
+use Rattle.std.specs.Prelude.{ℕ, Bool, true, false, not, ◌+◌, ◌==◌, ◌&&◌, if◌then◌else◌, List, [], ◌∷◌, Option, Some, None, is_some}
+use Rattle.publish_path.specs.declared.publish.Confirm.{Confirm}
+use Rattle.publish_path.specs.declared.publish.NextFrame.{NextFrame}
+use Rattle.session_path.specs.declared.path.PathOk.{PathOk}
+use Rattle.session_path.specs.declared.path.Settling.{Settling}
+use Rattle.session_path.specs.Links.{attach_fault}
+use Rattle.session_path.specs.Path.{PathState}
+use Rattle.session_path.specs.Events.{PathEvent, Began, Published, Selected, Owed, AttachCame, FlowCame, DetachCame, DispositionCame, AttachSent, LinkFlowSent, TransferSent, SettleSent, DetachSent, ConfirmWent, OkSent, LineWent, SessionLost, after_events}
+
+-- an attach of the gateway under the name with this number
+abbrev pub asks_as : ℕ → PathEvent → ℕ
+asks_as name (Began handle_max) = 0
+asks_as name (Published address payload) = 0
+asks_as name Selected = 0
+asks_as name (Owed ok) = 0
+asks_as name (AttachCame own peer target) = 0
+asks_as name (FlowCame peer count credit drain echo) = 0
+asks_as name (DetachCame peer) = 0
+asks_as name (DispositionCame first last accepted settled) = 0
+asks_as name (AttachSent own) = if own == name then 1 else 0
+asks_as name LinkFlowSent = 0
+asks_as name (TransferSent frame count) = 0
+asks_as name (SettleSent settling) = 0
+asks_as name DetachSent = 0
+asks_as name (ConfirmWent confirm) = 0
+asks_as name (OkSent ok) = 0
+asks_as name (LineWent number) = 0
+asks_as name SessionLost = 0
+
+abbrev pub times_asked : ℕ → List PathEvent → ℕ
+times_asked name [] = 0
+times_asked name (x ∷ h) = times_asked name h + asks_as name x
+
+-- one of the container under this name, which isn't at fault
+abbrev pub attaches_as : ℕ → PathState → PathEvent → ℕ
+attaches_as name s (Began handle_max) = 0
+attaches_as name s (Published address payload) = 0
+attaches_as name s Selected = 0
+attaches_as name s (Owed ok) = 0
+attaches_as name s (AttachCame own peer target) = if own == name && not (is_some (attach_fault own peer s.links)) then 1 else 0
+attaches_as name s (FlowCame peer count credit drain echo) = 0
+attaches_as name s (DetachCame peer) = 0
+attaches_as name s (DispositionCame first last accepted settled) = 0
+attaches_as name s (AttachSent own) = 0
+attaches_as name s LinkFlowSent = 0
+attaches_as name s (TransferSent frame count) = 0
+attaches_as name s (SettleSent settling) = 0
+attaches_as name s DetachSent = 0
+attaches_as name s (ConfirmWent confirm) = 0
+attaches_as name s (OkSent ok) = 0
+attaches_as name s (LineWent number) = 0
+attaches_as name s SessionLost = 0
+
+abbrev pub times_attached : ℕ → ℕ → List PathEvent → ℕ
+times_attached life name [] = 0
+times_attached life name (x ∷ h) = times_attached life name h + attaches_as name (after_events life h) x

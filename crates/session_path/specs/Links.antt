@@ -1,0 +1,317 @@
+-- The sending links of a session: their credit, how far each is, and their handles.
+use Rattle.std.specs.Prelude.{◌≡◌, ℕ, Bool, true, false, not, ◌+◌, ◌-◌, ◌≤◌, ◌==◌, ◌&&◌, nat_lt, min, if◌then◌else◌, List, [], ◌∷◌, ◌++◌, map, filter, find, insert, Option, Some, None, is_some, codes, decimal}
+use Rattle.std.specs.List.{list_any, AllByRecursion}
+use Rattle.link_table.specs.declared.handles.Attachment.{Attachment}
+use Rattle.link_table.specs.declared.handles.HandleState.{HandleState}
+use Rattle.link_table.specs.declared.handles.HandleState.TheVariants as state
+use Rattle.link_table.specs.Table.{HandleTable, after_attach, after_attached, after_detach_read, after_detach_sent, after_limit, free_of, is_asked, named_by, new_table, state_of}
+use Rattle.publish_path.specs.Links.{asked_link, drained, flowed, link_to, now_attached, without}
+use Rattle.publish_path.specs.declared.send_links.SendingLink.{SendingLink}
+use Rattle.session_path.specs.declared.path.AttachFault.{AttachFault}
+use Rattle.session_path.specs.declared.path.AttachFault.TheVariants.{NotAsked, HandleInUse}
+use Rattle.session_path.specs.declared.path.PathLink.{PathLink}
+use Rattle.session_path.specs.declared.path.Stage.{Stage}
+use Rattle.session_path.specs.declared.path.Stage.TheVariants.{Wanted, Asked, Open, Refused, Left}
+
+pub record LinksState : Type 0 where
+  -- the credit of each link that isn't lost, by address
+  pub sending : List SendingLink
+  -- how far each link is, in the order of their numbers
+  pub links : List PathLink
+  -- the handles of the session (AMQP 1.0 2.6.2)
+  pub handles : HandleTable
+
+-- ---- one link
+
+abbrev pub handle_in : Stage → Option ℕ
+handle_in Wanted = None
+handle_in (Asked h) = Some h
+handle_in (Open h) = Some h
+handle_in (Refused h) = Some h
+handle_in (Left h) = Some h
+
+-- its handle; 0 where it has none
+abbrev pub handle_of : Stage → ℕ
+handle_of Wanted = 0
+handle_of (Asked h) = h
+handle_of (Open h) = h
+handle_of (Refused h) = h
+handle_of (Left h) = h
+
+abbrev pub is_stage_wanted : Stage → Bool
+is_stage_wanted Wanted = true
+is_stage_wanted (Asked h) = false
+is_stage_wanted (Open h) = false
+is_stage_wanted (Refused h) = false
+is_stage_wanted (Left h) = false
+
+abbrev pub is_stage_asked : Stage → Bool
+is_stage_asked Wanted = false
+is_stage_asked (Asked h) = true
+is_stage_asked (Open h) = false
+is_stage_asked (Refused h) = false
+is_stage_asked (Left h) = false
+
+abbrev pub is_stage_left : Stage → Bool
+is_stage_left Wanted = false
+is_stage_left (Asked h) = false
+is_stage_left (Open h) = false
+is_stage_left (Refused h) = false
+is_stage_left (Left h) = true
+
+-- both attached with this handle of the gateway, and none detached
+abbrev pub is_stage_at : ℕ → Stage → Bool
+is_stage_at h Wanted = false
+is_stage_at h (Asked k) = false
+is_stage_at h (Open k) = k == h
+is_stage_at h (Refused k) = k == h
+is_stage_at h (Left k) = false
+
+abbrev pub is_wanted : PathLink → Bool
+is_wanted l = is_stage_wanted l.stage
+
+abbrev pub is_left : PathLink → Bool
+is_left l = is_stage_left l.stage
+
+abbrev pub is_at : ℕ → PathLink → Bool
+is_at h l = is_stage_at h l.stage
+
+-- the names of links on a connection: `l-` and the number of the attach, from 0
+abbrev pub link_name : ℕ → List ℕ
+link_name n = codes "l-" ++ decimal n
+
+-- its attach was sent under the name with this number, and isn't answered
+abbrev pub is_asked_as : ℕ → PathLink → Bool
+is_asked_as name l = is_stage_asked l.stage && (l.name == name)
+
+abbrev pub has_number : ℕ → PathLink → Bool
+has_number n l = l.link == n
+
+-- a link takes the place of the one with its number
+abbrev pub put_for : PathLink → PathLink → PathLink
+put_for x l = if has_number x.link l then x else l
+
+abbrev pub put : PathLink → List PathLink → List PathLink
+put x links = map (put_for x) links
+
+-- ---- all of them
+
+abbrev pub no_links : LinksState
+no_links = record { sending = []; links = []; handles = new_table 255 }
+
+-- the container's begin came, with the greatest handle that it takes (AMQP 1.0 2.7.2)
+abbrev pub limited : ℕ → LinksState → LinksState
+limited handle_max s = record s { handles = after_limit (min 255 handle_max) s.handles }
+
+-- no link is left
+abbrev pub all_lost : LinksState → LinksState
+all_lost s = record s { sending = []; links = [] }
+
+-- how many links stand in front with the numbers n, n + 1 ..
+abbrev pub gap : ℕ → List PathLink → ℕ
+gap n [] = 0
+gap n (l ∷ ls) = if l.link == n then gap (n + 1) ls + 1 else 0
+
+-- the lowest number that no link has: the links stand by rising number
+abbrev pub free_number : List PathLink → ℕ
+free_number links = gap 0 links
+
+abbrev pub wanted_link : ℕ → PathLink
+wanted_link n = record { link = n; stage = Wanted; name = 0; echoes = 0; drains = 0; draining = false }
+
+-- a link with this number is wanted: all that are below it stand in front of it
+abbrev pub with_wanted : ℕ → List PathLink → List PathLink
+with_wanted n links = insert links n (wanted_link n)
+
+-- a link to this address is wanted
+abbrev pub with_link_to : List ℕ → LinksState → LinksState
+with_link_to address s = record s {
+  sending = s.sending ++ asked_link (free_number s.links) address ∷ [];
+  links = with_wanted (free_number s.links) s.links;
+}
+
+-- it is there, or is wanted from now on
+abbrev pub linked_to : List ℕ → LinksState → LinksState
+linked_to address s = if is_some (link_to s.sending address) then s else with_link_to address s
+
+-- ---- what the container sends
+
+-- its attach answers the link that was asked for under this name; without a target it refuses that
+abbrev pub answered_stage : Bool → ℕ → Stage
+answered_stage target h = if target then Open h else Refused h
+
+abbrev pub answered : Bool → PathLink → PathLink
+answered target l = record l { stage = answered_stage target (handle_of l.stage) }
+
+abbrev pub attached_if : Bool → ℕ → List SendingLink → List SendingLink
+attached_if target n sending = if target then map (now_attached n) sending else sending
+
+abbrev pub attached_as : Option PathLink → ℕ → Bool → LinksState → LinksState
+attached_as None peer target s = s
+attached_as (Some l) peer target s = record {
+  sending = attached_if target l.link s.sending;
+  links = put (answered target l) s.links;
+  handles = after_attached (handle_of l.stage) peer s.handles;
+}
+
+-- an attach under a name that no attach of the gateway asks for, and one with a handle of the
+-- container that names another link
+abbrev pub attach_fault : ℕ → ℕ → LinksState → Option AttachFault
+attach_fault name peer s =
+    if not (is_some (find (is_asked_as name) s.links)) then Some NotAsked
+    else if is_some (named_by s.handles peer) then Some HandleInUse
+    else None
+
+abbrev pub attached : ℕ → ℕ → Bool → LinksState → LinksState
+attached name peer target s =
+    if is_some (attach_fault name peer s) then s
+    else attached_as (find (is_asked_as name) s.links) peer target s
+
+-- the link that a handle of the container names
+abbrev pub at_handle : Option ℕ → List PathLink → Option PathLink
+at_handle None links = None
+at_handle (Some h) links = find (is_at h) links
+
+abbrev pub named : ℕ → LinksState → Option PathLink
+named peer s = at_handle (named_by s.handles peer) s.links
+
+-- a flow on a link: its credit, and what it asks for
+abbrev pub one_if : Bool → ℕ
+one_if b = if b then 1 else 0
+
+abbrev pub told_by : Bool → Bool → PathLink → PathLink
+told_by drain echo l = record l {
+  echoes = l.echoes + one_if echo;
+  drains = l.drains + one_if drain;
+  draining = drain;
+}
+
+abbrev pub flowed_on : Option PathLink → Option ℕ → ℕ → Bool → Bool → LinksState → LinksState
+flowed_on None count credit drain echo s = s
+flowed_on (Some l) count credit drain echo s = record s {
+  sending = map (flowed l.link count credit) s.sending;
+  links = put (told_by drain echo l) s.links;
+}
+
+abbrev pub link_flowed : ℕ → Option ℕ → ℕ → Bool → Bool → LinksState → LinksState
+link_flowed peer count credit drain echo s = flowed_on (named peer s) count credit drain echo s
+
+-- its detach: the link is lost for the publishes, and the gateway's detach is due
+abbrev pub left_by : PathLink → PathLink
+left_by l = record l { stage = Left (handle_of l.stage) }
+
+abbrev pub detached_on : Option PathLink → LinksState → LinksState
+detached_on None s = s
+detached_on (Some l) s = record {
+  sending = without l.link s.sending;
+  links = put (left_by l) s.links;
+  handles = after_detach_read (handle_of l.stage) s.handles;
+}
+
+abbrev pub link_detached : ℕ → LinksState → LinksState
+link_detached peer s = detached_on (named peer s) s
+
+-- ---- what goes to the container
+
+-- the attach of the first link that is wanted, under this name, with the lowest free handle
+abbrev pub asked_as : ℕ → ℕ → PathLink → PathLink
+asked_as handle name l = record l { stage = Asked handle; name = name }
+
+abbrev pub asked_on : Option PathLink → Option ℕ → ℕ → LinksState → LinksState
+asked_on None o name s = s
+asked_on (Some l) None name s = s
+asked_on (Some l) (Some h) name s = record s {
+  links = put (asked_as h name l) s.links;
+  handles = after_attach h s.handles;
+}
+
+abbrev pub link_asked : ℕ → LinksState → LinksState
+link_asked name s = asked_on (find is_wanted s.links) (free_of s.handles) name s
+
+-- a flow of a link answers what was asked first of these: its state, and then that its credit is given
+-- back
+abbrev pub told_once : PathLink → PathLink
+told_once l = record l {
+  echoes = l.echoes - 1;
+  drains = if l.echoes == 0 then l.drains - 1 else l.drains;
+}
+
+abbrev pub drained_if : Bool → ℕ → List SendingLink → List SendingLink
+drained_if drain n sending = if drain then map (drained n) sending else sending
+
+abbrev pub told_on : Option PathLink → LinksState → LinksState
+told_on None s = s
+told_on (Some l) s = record s {
+  sending = drained_if (l.echoes == 0) l.link s.sending;
+  links = put (told_once l) s.links;
+}
+
+-- the detach of the first link that the container detached: it is no more
+abbrev pub is_left_at : ℕ → Stage → Bool
+is_left_at h Wanted = false
+is_left_at h (Asked k) = false
+is_left_at h (Open k) = false
+is_left_at h (Refused k) = false
+is_left_at h (Left k) = k == h
+
+abbrev pub gone_from : ℕ → List PathLink → List PathLink
+gone_from h links = filter (λ k. not (is_left_at h k.stage)) links
+
+abbrev pub gone_on : Option PathLink → LinksState → LinksState
+gone_on None s = s
+gone_on (Some l) s = record s {
+  links = gone_from (handle_of l.stage) s.links;
+  handles = after_detach_sent (handle_of l.stage) s.handles;
+}
+
+abbrev pub link_gone : LinksState → LinksState
+link_gone s = gone_on (find is_left s.links) s
+
+-- ---- what holds of them at all times
+
+-- their numbers rise, from n on
+abbrev pub Rises : ℕ → List PathLink → Type 0
+Rises n [] = Unit {0}
+Rises n (l ∷ ls) = (n ≤ l.link) × Rises (l.link + 1) ls
+
+-- no two have one handle
+abbrev pub is_one : Option ℕ → Option ℕ → Bool
+is_one None o = false
+is_one (Some h) None = false
+is_one (Some h) (Some k) = h == k
+
+abbrev pub meets : PathLink → PathLink → Bool
+meets l k = is_one (handle_in l.stage) (handle_in k.stage)
+
+abbrev pub AreApart : List PathLink → Type 0
+AreApart [] = Unit {0}
+AreApart (l ∷ ls) = AllByRecursion (λ k. meets l k ≡ false) ls × AreApart ls
+
+-- both ends attached; the container detached
+abbrev pub is_whole : HandleState → Bool
+is_whole state.Free = false
+is_whole state.Asked = false
+is_whole (state.Attached a) = not a.detach_sent && not a.detach_read
+
+abbrev pub is_half : HandleState → Bool
+is_half state.Free = false
+is_half state.Asked = false
+is_half (state.Attached a) = not a.detach_sent && a.detach_read
+
+-- the handle of a link stands for what the link is
+abbrev pub stands : HandleTable → Stage → Bool
+stands t Wanted = true
+stands t (Asked h) = is_asked (state_of t h)
+stands t (Open h) = is_whole (state_of t h)
+stands t (Refused h) = is_whole (state_of t h)
+stands t (Left h) = is_half (state_of t h)
+
+-- a link whose credit is kept is one that the container didn't detach
+abbrev pub is_kept : List PathLink → SendingLink → Bool
+is_kept links x = list_any (λ l. has_number x.link l && not (is_left l)) links
+
+pub record AreTied (sending : List SendingLink) (links : List PathLink) (t : HandleTable) : Type 0 where
+  pub rising : Rises 0 links
+  pub apart : AreApart links
+  pub standing : AllByRecursion (λ l. stands t l.stage ≡ true) links
+  pub kept : AllByRecursion (λ x. is_kept links x ≡ true) sending

@@ -1,0 +1,209 @@
+//! The links of a session in the order of their numbers: searches, and the change of one.
+
+ghost use Rattle.std.specs.Prelude.{◌≡◌, ◌+◌, ◌≤◌, length, find, map, IfSome, IfOk, option_copied};
+ghost use Rattle.session_path.specs.Links.{handle_of, is_wanted, is_left, is_at, is_asked_as, put_for, put, free_number, one_if, told_by, wanted_link, answered, left_by, asked_as, told_once, is_left_at, gone_from};
+
+use crate::path::{PathLink, Stage};
+use wire_base::Memory;
+
+/// The handle of a link; 0 where it has none.
+pub fn handle(stage: Stage) -> u32
+    ensures { result ≡ handle_of stage }
+{
+    match stage {
+        Stage::Wanted => 0,
+        Stage::Asked(handle) => handle,
+        Stage::Open(handle) => handle,
+        Stage::Refused(handle) => handle,
+        Stage::Left(handle) => handle,
+    }
+}
+
+fn is_link_wanted(l: &PathLink) -> bool
+    ensures { result ≡ is_wanted l.now }
+{
+    matches!(l.stage, Stage::Wanted)
+}
+
+pub fn is_link_left(l: &PathLink) -> bool
+    ensures { result ≡ is_left l.now }
+{
+    matches!(l.stage, Stage::Left(_))
+}
+
+fn is_link_at(l: &PathLink, handle: u32) -> bool
+    ensures { result ≡ is_at handle l.now }
+{
+    match l.stage {
+        Stage::Open(own) => own == handle,
+        Stage::Refused(own) => own == handle,
+        _ => false,
+    }
+}
+
+fn is_link_left_at(l: &PathLink, handle: u32) -> bool
+    ensures { result ≡ is_left_at handle l.now.stage }
+{
+    match l.stage {
+        Stage::Left(own) => own == handle,
+        _ => false,
+    }
+}
+
+fn is_link_asked_as(l: &PathLink, name: u64) -> bool
+    ensures { result ≡ is_asked_as name l.now }
+{
+    matches!(l.stage, Stage::Asked(_)) && l.name == name
+}
+
+/// The first link whose attach is due.
+pub fn first_wanted(links: &[PathLink]) -> Option<&PathLink>
+    ensures { option_copied result ≡ find is_wanted links.now }
+{
+    links.iter().find(|l| is_link_wanted(l))
+}
+
+/// The first link whose detach is due.
+pub fn first_left(links: &[PathLink]) -> Option<&PathLink>
+    ensures { option_copied result ≡ find is_left links.now }
+{
+    links.iter().find(|l| is_link_left(l))
+}
+
+/// The link that both attached with this handle of the gateway.
+pub fn first_at(links: &[PathLink], handle: u32) -> Option<&PathLink>
+    ensures { option_copied result ≡ find (is_at handle) links.now }
+{
+    links.iter().find(|l| is_link_at(l, handle))
+}
+
+/// The link whose attach under this name isn't answered.
+pub fn first_asked_as(links: &[PathLink], name: u64) -> Option<&PathLink>
+    ensures { option_copied result ≡ find (is_asked_as name) links.now }
+{
+    links.iter().find(|l| is_link_asked_as(l, name))
+}
+
+fn put_one(this: &mut PathLink, link: PathLink)
+    ensures { this.new ≡ put_for link this.old }
+{
+    if this.link == link.link {
+        *this = link;
+    }
+}
+
+/// A link takes the place of the one with its number.
+pub fn put_link(links: &mut Vec<PathLink>, link: PathLink)
+    ensures { links.new.items ≡ put link links.old.items }
+{
+    for this in links.iter_mut() {
+        put_one(this, link);
+    }
+}
+
+/// Leaves out what the container detached with this handle of the gateway.
+pub fn drop_left(links: &mut Vec<PathLink>, handle: u32)
+    ensures { links.new.items ≡ gone_from handle links.old.items }
+{
+    links.retain(|l| !is_link_left_at(l, handle));
+}
+
+/// The lowest number that no link has.
+pub fn lowest_free(links: &[PathLink]) -> usize
+    ensures number { result ≡ free_number links.now }
+    ensures within { result ≤ length links.now }
+{
+    let mut n = 0;
+    for this in links {
+        if this.link as usize != n {
+            return n;
+        }
+        n += 1;
+    }
+    n
+}
+
+/// A link whose attach is due.
+pub fn wanted(link: u32) -> PathLink
+    ensures { result ≡ wanted_link link }
+{
+    PathLink {
+        link,
+        stage: Stage::Wanted,
+        name: 0,
+        echoes: 0,
+        drains: 0,
+        draining: false,
+    }
+}
+
+pub fn asked(l: PathLink, handle: u32, name: u64) -> PathLink
+    ensures { result ≡ asked_as handle name l }
+{
+    PathLink {
+        stage: Stage::Asked(handle),
+        name,
+        ..l
+    }
+}
+
+pub fn answered(l: PathLink, target: bool) -> PathLink
+    ensures { result ≡ answered target l }
+{
+    let own = handle(l.stage);
+    let stage = if target {
+        Stage::Open(own)
+    } else {
+        Stage::Refused(own)
+    };
+    PathLink { stage, ..l }
+}
+
+pub fn left(l: PathLink) -> PathLink
+    ensures { result ≡ left_by l }
+{
+    PathLink {
+        stage: Stage::Left(handle(l.stage)),
+        ..l
+    }
+}
+
+fn one_more(count: u32, by: bool) -> Option<u32>
+    ensures { IfSome result (λ n. n ≡ count + one_if by) }
+{
+    if by {
+        count.checked_add(1)
+    } else {
+        Some(count)
+    }
+}
+
+/// What a flow of the container asks of its link; `Memory` if a count is full.
+pub fn told(l: PathLink, drain: bool, echo: bool) -> Result<PathLink, Memory>
+    ensures { IfOk result (λ x. x ≡ told_by drain echo l) }
+{
+    match (one_more(l.echoes, echo), one_more(l.drains, drain)) {
+        (Some(echoes), Some(drains)) => Ok(PathLink {
+            echoes,
+            drains,
+            draining: drain,
+            ..l
+        }),
+        _ => Err(Memory),
+    }
+}
+
+pub fn told_once(l: PathLink) -> PathLink
+    ensures { result ≡ told_once l }
+{
+    let drains = if l.echoes == 0 {
+        l.drains.saturating_sub(1)
+    } else {
+        l.drains
+    };
+    PathLink {
+        echoes: l.echoes.saturating_sub(1),
+        drains,
+        ..l
+    }
+}

@@ -1,0 +1,407 @@
+//! The sending links of a session: each call is one step of them.
+
+ghost use Rattle.std.specs.Prelude.{◌≡◌, ◌≤◌, ◌<◌, ◌+◌, ◌^◌, ◌++◌, ◌∷◌, [], ◌==◌, if◌then◌else◌, length, find, map, option_copied, Some, None, OnOk, OnErr, IfOk};
+ghost use Rattle.publish_path.specs.Links.{asked_link, link_of, link_to, flowed, without};
+ghost use Rattle.publish_path.specs.Offers.{held_bytes, held_count, next_frame_of, rest_of, frame_sent, links_after};
+ghost use Rattle.publish_path.specs.Publishes.{TakenUp, after_event};
+ghost use Rattle.session_path.specs.Path.{credit_in, flow_of, number_of, owes_flow};
+ghost use Rattle.link_table.specs.Table.{free_of};
+ghost use Rattle.session_path.specs.Due.{attach_of, count_in, due_in, flow_due};
+ghost use Rattle.session_path.specs.Links.{attached_if, drained_if, free_number, linked_to, with_link_to, with_wanted, told_on, no_links, limited, all_lost, link_asked, attach_fault, attached, is_wanted, is_left, named, link_flowed, link_detached, link_gone};
+
+use crate::links::{
+    answered, asked, drop_left, first_asked_as, first_at, first_left, first_wanted, handle,
+    is_link_left, left, lowest_free, put_link, told, told_once, wanted,
+};
+use crate::path::{AttachDue, AttachFault, FlowDue, PathLink};
+use link_table::Handles;
+use publish_path::{NextFrame, Publishes, SendLinks};
+use std::alloc::Global;
+use std::marker::Model;
+use wire_base::{ByteText, Memory};
+
+/// The greatest handle that the gateway takes.
+const GREATEST_HANDLE: u32 = 255;
+
+/// The numbers of links have 32 bits.
+const MOST_LINKS: usize = 4_294_967_295;
+
+/// A flow of the container on a link (AMQP 1.0 2.7.4).
+#[derive(Clone, Copy, Debug)]
+pub struct LinkFlow {
+    /// Its delivery-count, if it was set.
+    pub count: Option<u32>,
+    pub credit: u32,
+    pub drain: bool,
+    pub echo: bool,
+}
+
+/// The sending links of a session. Contracts see their credit, how far each is, and their handles.
+#[derive(Drop)]
+pub struct PathLinks {
+    sending: SendLinks,
+    links: Vec<PathLink>,
+    handles: Handles,
+}
+
+impl Model for PathLinks {
+    ghost use Rattle.session_path.specs.Links.{LinksState, AreTied};
+
+    ghost Value = { LinksState };
+
+    ghost view = { λ a. record { sending = a.sending; links = a.links.items; handles = a.handles } };
+
+    ghost invariant = { λ a. AreTied a.sending a.links.items a.handles };
+}
+
+impl PathLinks {
+    /// No links, and handles up to 255, all free. It takes the memory of the handles.
+    pub fn new(alloc: Global) -> Result<PathLinks, Memory>
+        ensures { IfOk result (λ links. links ≡ no_links) }
+    {
+        let handles = Handles::new(alloc, GREATEST_HANDLE)?;
+        Ok(PathLinks {
+            sending: SendLinks::new(alloc),
+            links: Vec::new(alloc),
+            handles,
+        })
+    }
+
+    /// The container's begin came: no handle above its greatest is taken from now on.
+    pub fn limit(&mut self, handle_max: u32)
+        ensures { self.new ≡ limited handle_max self.old }
+    {
+        self.handles.limit(handle_max.min(GREATEST_HANDLE));
+    }
+
+    /// No link is left.
+    pub fn lose_all(&mut self)
+        ensures { self.new ≡ all_lost self.old }
+    {
+        let alloc = *self.links.allocator();
+        self.sending = SendLinks::new(alloc);
+        self.links.clear();
+    }
+
+    /// A publish with this payload was taken up, for this address: on the link to it, or else on one that
+    /// is wanted from now on.
+    pub fn publish(
+        &mut self,
+        publishes: &mut Publishes,
+        address: ByteText,
+        confirm: bool,
+        payload: ByteText,
+    ) -> Result<(), Memory>
+        requires numbers { publishes.old.numbers < 2 ^ 62 }
+        requires count { held_count publishes.old.list + 1 < 2 ^ 32 }
+        requires bytes { held_bytes publishes.old.list + length payload < 2 ^ 64 }
+        ensures ok_links { OnOk result (self.new ≡ linked_to address self.old) }
+        ensures ok_publishes { OnOk result (publishes.new ≡ after_event (TakenUp (number_of (link_to (linked_to address self.old).sending address)) confirm payload) publishes.old) }
+        ensures err_links { OnErr result (self.new ≡ self.old) }
+        ensures err_publishes { OnErr result (publishes.new ≡ publishes.old) }
+    {
+        match self.sending.find(address.as_slice()) {
+            Some(link) => {
+                publishes.add(link, confirm, payload)?;
+                Ok(())
+            }
+            None => self.publish_on_new(publishes, address, confirm, payload),
+        }
+    }
+
+    fn publish_on_new(
+        &mut self,
+        publishes: &mut Publishes,
+        address: ByteText,
+        confirm: bool,
+        payload: ByteText,
+    ) -> Result<(), Memory>
+        requires address { link_to self.old.sending address ≡ None }
+        requires numbers { publishes.old.numbers < 2 ^ 62 }
+        requires count { held_count publishes.old.list + 1 < 2 ^ 32 }
+        requires bytes { held_bytes publishes.old.list + length payload < 2 ^ 64 }
+        ensures ok_links { OnOk result (self.new ≡ with_link_to address self.old) }
+        ensures ok_publishes { OnOk result (publishes.new ≡ after_event (TakenUp (free_number self.old.links) confirm payload) publishes.old) }
+        ensures err_links { OnErr result (self.new ≡ self.old) }
+        ensures err_publishes { OnErr result (publishes.new ≡ publishes.old) }
+    {
+        let link = add_link(&mut self.links, &mut self.sending, address)?;
+        match publishes.add(link, confirm, payload) {
+            Ok(_) => Ok(()),
+            Err(memory) => {
+                remove_one(&mut self.sending, link);
+                self.links.remove(link as usize);
+                Err(memory)
+            }
+        }
+    }
+
+    /// The first attach that is due was sent, under this name. Nothing changes where none is.
+    pub fn ask(&mut self, name: u64)
+        ensures { self.new ≡ link_asked name self.old }
+    {
+        let Some(l) = first_wanted(self.links.as_slice()) else {
+            return;
+        };
+        let l = *l;
+        let Some(own) = self.handles.free() else {
+            return;
+        };
+        self.handles.attach(own);
+        put_link(&mut self.links, asked(l, own, name));
+    }
+
+    /// The container's attach came, under this name and with this handle. Nothing changes where it is at
+    /// fault.
+    pub fn attach(&mut self, name: u64, peer: u32, target: bool) -> Option<AttachFault>
+        ensures fault { result ≡ attach_fault name peer self.old }
+        ensures links { self.new ≡ attached name peer target self.old }
+    {
+        let Some(l) = first_asked_as(self.links.as_slice(), name) else {
+            return Some(AttachFault::NotAsked);
+        };
+        let l = *l;
+        if !self.handles.attached(handle(l.stage), peer) {
+            return Some(AttachFault::HandleInUse);
+        }
+        attach_if(&mut self.sending, l.link, target);
+        put_link(&mut self.links, answered(l, target));
+        None
+    }
+
+    /// The link that this handle of the container names: both ends attached it.
+    pub fn named(&self, peer: u32) -> Option<PathLink>
+        ensures { result ≡ named peer self.now }
+    {
+        let own = self.handles.of_peer(peer)?;
+        match first_at(self.links.as_slice(), own) {
+            Some(l) => Some(*l),
+            None => None,
+        }
+    }
+
+    /// A flow came on the link that this handle of the container names; nothing changes where it names
+    /// none. `Memory` if a count of the link is full.
+    pub fn flow(&mut self, peer: u32, flow: LinkFlow) -> Result<(), Memory>
+        ensures ok { OnOk result (self.new ≡ link_flowed peer flow.count flow.credit flow.drain flow.echo self.old) }
+        ensures err { OnErr result (self.new ≡ self.old) }
+    {
+        let Some(own) = self.handles.of_peer(peer) else {
+            return Ok(());
+        };
+        let Some(l) = first_at(self.links.as_slice(), own) else {
+            return Ok(());
+        };
+        let l = *l;
+        let link = told(l, flow.drain, flow.echo)?;
+        flow_one(&mut self.sending, l.link, flow);
+        put_link(&mut self.links, link);
+        Ok(())
+    }
+
+    /// The container detached the link that this handle of it names; nothing changes where it names none.
+    pub fn detach(&mut self, peer: u32)
+        ensures { self.new ≡ link_detached peer self.old }
+    {
+        let Some(own) = self.handles.of_peer(peer) else {
+            return;
+        };
+        let Some(l) = first_at(self.links.as_slice(), own) else {
+            return;
+        };
+        let l = *l;
+        self.handles.detach_read(handle(l.stage));
+        remove_one(&mut self.sending, l.link);
+        put_link(&mut self.links, left(l));
+    }
+
+    /// The attach that is due.
+    pub fn next_attach(&self) -> Option<AttachDue>
+        ensures { result ≡ attach_of (find is_wanted self.now.links) (free_of self.now.handles) }
+    {
+        let Some(l) = first_wanted(self.links.as_slice()) else {
+            return None;
+        };
+        let link = l.link;
+        match self.handles.free() {
+            Some(handle) => Some(AttachDue { link, handle }),
+            None => None,
+        }
+    }
+
+    /// The link whose detach is due.
+    pub fn next_detach(&self) -> Option<PathLink>
+        ensures { result ≡ find is_left self.now.links }
+    {
+        match first_left(self.links.as_slice()) {
+            Some(l) => Some(*l),
+            None => None,
+        }
+    }
+
+    /// The first detach that is due was sent. Nothing changes where none is.
+    pub fn drop_first_left(&mut self)
+        ensures { self.new ≡ link_gone self.old }
+    {
+        let Some(l) = first_left(self.links.as_slice()) else {
+            return;
+        };
+        let own = handle(l.stage);
+        self.handles.detach_sent(own);
+        drop_left(&mut self.links, own);
+    }
+
+    /// The flow that is due.
+    pub fn next_flow(&self, publishes: &Publishes) -> Option<FlowDue>
+        ensures { result ≡ due_in self.now.sending (flow_of publishes.now.list self.now) }
+    {
+        match first_owing(self.links.as_slice(), publishes, &self.sending) {
+            Some(l) => Some(flow_due(&self.sending, *l)),
+            None => None,
+        }
+    }
+
+    /// The flow that is due was sent. Nothing changes where none is.
+    pub fn flow_sent(&mut self, publishes: &Publishes)
+        ensures { self.new ≡ told_on (flow_of publishes.now.list self.old) self.old }
+    {
+        let Some(l) = first_owing(self.links.as_slice(), publishes, &self.sending) else {
+            return;
+        };
+        let l = *l;
+        drain_if(&mut self.sending, l.link, l.echoes == 0);
+        put_link(&mut self.links, told_once(l));
+    }
+
+    /// The frame of a transfer that is due.
+    pub fn next_frame(&self, publishes: &Publishes, window: u32) -> Option<NextFrame>
+        ensures { result ≡ (if window == 0 then None else next_frame_of self.now.sending publishes.now.list) }
+    {
+        publishes.next_frame(&self.sending, window)
+    }
+
+    /// This frame was sent, with so many bytes of its publish's payload.
+    pub fn commit_frame(&mut self, publishes: &mut Publishes, frame: NextFrame, bytes: u32)
+        requires frame { next_frame_of self.old.sending publishes.old.list ≡ Some frame }
+        requires bytes { bytes ≤ length (rest_of frame.publish publishes.old.list) }
+        ensures publishes { publishes.new ≡ after_event (frame_sent frame bytes publishes.old.list) publishes.old }
+        ensures links { self.new ≡ record self.old { sending = links_after frame self.old.sending } }
+    {
+        publishes.commit_frame(&mut self.sending, frame, bytes);
+    }
+}
+
+fn credit_of(sending: &SendLinks, link: u32) -> u32
+    ensures { result ≡ credit_in (link_of sending.now link) }
+{
+    match sending.get(link) {
+        Some(state) => state.credit(),
+        None => 0,
+    }
+}
+
+fn count_of(sending: &SendLinks, link: u32) -> u32
+    ensures { result ≡ count_in (link_of sending.now link) }
+{
+    match sending.get(link) {
+        Some(state) => state.count(),
+        None => 0,
+    }
+}
+
+fn flow_due(sending: &SendLinks, l: PathLink) -> FlowDue
+    ensures { result ≡ flow_due sending.now l }
+{
+    FlowDue {
+        link: l.link,
+        handle: handle(l.stage),
+        count: count_of(sending, l.link),
+        credit: credit_of(sending, l.link),
+        drains: l.echoes == 0,
+        draining: l.draining,
+    }
+}
+
+fn is_owing(l: &PathLink, publishes: &Publishes, sending: &SendLinks) -> bool
+    ensures { result ≡ owes_flow publishes.now.list sending.now l.now }
+{
+    if is_link_left(l) {
+        return false;
+    }
+    l.echoes > 0 || l.drains > 0 && (!publishes.waits(l.link) || credit_of(sending, l.link) == 0)
+}
+
+fn first_owing<'a>(
+    links: &'a [PathLink],
+    publishes: &Publishes,
+    sending: &SendLinks,
+) -> Option<&'a PathLink>
+    ensures { option_copied result ≡ find (owes_flow publishes.now.list sending.now) links.now }
+{
+    links.iter().find(|l| is_owing(l, publishes, sending))
+}
+
+#[tactic(auto, using(crate::proofs::Credit::attach_none))]
+fn attach_if(sending: &mut SendLinks, link: u32, target: bool)
+    ensures { sending.new ≡ attached_if target link sending.old }
+{
+    if target && sending.get(link).is_some() {
+        sending.attached(link);
+    }
+}
+
+#[tactic(auto, using(crate::proofs::Credit::flow_none))]
+fn flow_one(sending: &mut SendLinks, link: u32, flow: LinkFlow)
+    ensures { sending.new ≡ map (flowed link flow.count flow.credit) sending.old }
+{
+    if sending.get(link).is_some() {
+        sending.flow(link, flow.count, flow.credit);
+    }
+}
+
+#[tactic(auto, using(crate::proofs::Credit::remove_none))]
+fn remove_one(sending: &mut SendLinks, link: u32)
+    ensures { sending.new ≡ without link sending.old }
+{
+    if sending.get(link).is_some() {
+        sending.remove(link);
+    }
+}
+
+#[tactic(auto, using(crate::proofs::Credit::drain_none))]
+fn drain_if(sending: &mut SendLinks, link: u32, drain: bool)
+    ensures { sending.new ≡ drained_if drain link sending.old }
+{
+    if drain && sending.get(link).is_some() {
+        sending.drain(link);
+    }
+}
+
+/// A link to an address that has none is wanted.
+#[tactic(auto, using(crate::proofs::Wanted::remove_insert))]
+fn add_link(
+    links: &mut Vec<PathLink>,
+    sending: &mut SendLinks,
+    address: ByteText,
+) -> Result<u32, Memory>
+    requires number { link_of sending.old (free_number links.old.items) ≡ None }
+    requires address { link_to sending.old address ≡ None }
+    ensures number { IfOk result (λ n. n ≡ free_number links.old.items) }
+    ensures within { OnOk result (free_number links.old.items ≤ length links.old.items) }
+    ensures links { OnOk result (links.new.items ≡ with_wanted (free_number links.old.items) links.old.items) }
+    ensures sending { OnOk result (sending.new ≡ sending.old ++ asked_link (free_number links.old.items) address ∷ []) }
+    ensures links_kept { OnErr result (links.new.items ≡ links.old.items) }
+    ensures sending_kept { OnErr result (sending.new ≡ sending.old) }
+{
+    let n = lowest_free(links.as_slice());
+    if n >= MOST_LINKS {
+        return Err(Memory);
+    }
+    let link = n as u32;
+    links.insert(n, wanted(link))?;
+    if let Err(memory) = sending.add(link, address) {
+        links.remove(n);
+        return Err(memory);
+    }
+    Ok(link)
+}
