@@ -1,5 +1,5 @@
 -- The sending links of a channel, in the order in which they were needed.
-use Rattle.std.specs.Prelude.{ℕ, Bool, true, false, not, ◌==◌, ◌&&◌, nat_le, if◌then◌else◌, List, filter, find, Option, Some, None, bytes_eq}
+use Rattle.std.specs.Prelude.{ℕ, Bool, true, false, not, ◌==◌, ◌&&◌, nat_le, if◌then◌else◌, List, [], filter, find, Option, Some, None, bytes_eq}
 use Rattle.links_10.specs.Send.{new_link, after_flow, after_begun, after_drain}
 use Rattle.publish_path.specs.declared.send_links.SendingLink.{SendingLink}
 use Rattle.publish_path.specs.declared.send_links.LinkChange.{LinkChange}
@@ -16,6 +16,14 @@ link_of links link = find (has_number link) links
 
 abbrev pub link_to : List SendingLink → List ℕ → Option SendingLink
 link_to links address = find (has_address address) links
+
+-- the address of a link's target; empty where there is no such link
+abbrev pub address_in : Option SendingLink → List ℕ
+address_in None = []
+address_in (Some l) = l.address
+
+abbrev pub address_of : List SendingLink → ℕ → List ℕ
+address_of links link = address_in (link_of links link)
 
 -- attached, with credit for a transfer
 abbrev pub can_send : Option SendingLink → Bool

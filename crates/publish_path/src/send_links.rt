@@ -3,7 +3,7 @@
 ghost use Rattle.std.specs.Prelude.{◌≡◌, List, [], ◌∷◌, ◌++◌, map, find, true, OnOk, OnErr, IsSome, option_copied};
 ghost use Rattle.std.specs.Option.{option_map};
 ghost use Rattle.publish_path.specs.declared.send_links.SendingLink.{SendingLink};
-ghost use Rattle.publish_path.specs.Links.{has_number, has_address, link_of, link_to, can_send, asked_link, now_attached, flowed, drained, begun_on, link_changed, without};
+ghost use Rattle.publish_path.specs.Links.{has_number, has_address, link_of, link_to, address_of, can_send, asked_link, now_attached, flowed, drained, begun_on, link_changed, without};
 
 use links_10::SendLink;
 use std::alloc::Global;
@@ -156,6 +156,17 @@ impl SendLinks {
         match with_address(self.links.as_slice(), address) {
             Some(this) => Some(this.link),
             None => None,
+        }
+    }
+
+    /// The address of this link's target, which its attach states (AMQP 1.0 3.5.4); empty where
+    /// there is no such link.
+    pub fn address(&self, link: u32) -> &[u8]
+        ensures { result.now ≡ address_of self.now link }
+    {
+        match with_number(self.links.as_slice(), link) {
+            Some(this) => this.address.as_slice(),
+            None => &[],
         }
     }
 

@@ -1,6 +1,6 @@
 -- A change of the credit of a link that has none changes nothing.
 use Rattle.std.proofs.Common.{◌≡◌, ◌∙◌, ℕ, List, [], ◌∷◌, Bool, true, false, Option, Some, None, map, refl, ap, cond}
-use Rattle.std.specs.Prelude.{filter, find, not, ◌==◌}
+use Rattle.std.specs.Prelude.{not}
 use Rattle.links_10.specs.Send.{after_flow, after_drain}
 use Rattle.publish_path.specs.declared.send_links.SendingLink.{SendingLink}
 use Rattle.publish_path.specs.Links.{has_number, link_of, now_attached, flowed, drained, without}

@@ -1,6 +1,6 @@
 -- The lowest number that no link has.
-use Rattle.std.proofs.Common.{◌≡◌, ◌∙◌, ℕ, suc, ◌+◌, ◌-◌, ◌<◌, ◌≤◌, ◌≢◌, List, [], ◌∷◌, ◌++◌, Bool, true, false, Option, Some, None, map, take, drop, refl, sym, subst, ap, arith, cond, length, get_or, add-one, drop-cons}
-use Rattle.std.specs.Prelude.{◌==◌, if◌then◌else◌}
+use Rattle.std.proofs.Common.{◌≡◌, ◌∙◌, ℕ, suc, ◌+◌, ◌<◌, ◌≢◌, List, true, false, drop, sym, ap, arith, cond, length, get_or, add-one, drop-cons}
+use Rattle.std.specs.Prelude.{◌==◌}
 use Rattle.std.proofs.lemmas.Bool.Decides.{nat_tests}
 use Rattle.session_path.specs.declared.path.PathLink.{PathLink}
 use Rattle.session_path.specs.Links.{gap}

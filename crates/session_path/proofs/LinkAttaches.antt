@@ -1,23 +1,18 @@
 -- The container attaches a link no more often than the gateway asked under its name.
-use Rattle.std.proofs.Common.{◌≡◌, ◌∙◌, ℕ, zero, suc, ◌+◌, ◌-◌, ◌<◌, ◌≤◌, ◌≢◌, List, [], ◌∷◌, ◌++◌, Bool, true, false, Option, Some, None, map, refl, sym, subst, ap, arith, cond, length}
-use Rattle.std.specs.Prelude.{find, is_some, not, ◌==◌, ◌&&◌, ◌||◌, insert}
+use Rattle.std.proofs.Common.{◌≡◌, ◌∙◌, ℕ, zero, suc, ◌+◌, ◌≤◌, List, [], ◌∷◌, Bool, true, false, Option, Some, None, refl, sym, subst, ap, arith, cond}
+use Rattle.std.specs.Prelude.{find, is_some, not, ◌==◌, ◌&&◌, insert}
 use Rattle.std.specs.List.{AllByRecursion}
-use Rattle.open_items.proofs.Filtered.{all_weaker, all_find}
+use Rattle.open_items.proofs.Filtered.{all_find}
 use Rattle.link_table.specs.Table.{free_of, named_by}
 use Rattle.publish_path.specs.Links.{link_to}
-use Rattle.publish_path.specs.declared.publish.Confirm.{Confirm}
-use Rattle.publish_path.specs.declared.publish.NextFrame.{NextFrame}
 use Rattle.publish_path.specs.declared.publish.Publish.{Publish}
-use Rattle.session_path.specs.declared.path.AttachFault.{AttachFault}
 use Rattle.session_path.specs.declared.path.AttachFault.TheVariants.{NotAsked, HandleInUse}
 use Rattle.session_path.specs.declared.path.PathLink.{PathLink}
-use Rattle.session_path.specs.declared.path.PathOk.{PathOk}
-use Rattle.session_path.specs.declared.path.Settling.{Settling}
-use Rattle.session_path.specs.Links.{LinksState, Rises, answered, asked_as, asked_on, at_handle, attached_as, attach_fault, attached, detached_on, flowed_on, free_number, gone_from, gone_on, is_asked_as, is_at, is_left, is_left_at, is_wanted, left_by, link_asked, link_detached, link_flowed, linked_to, put, put_for, told_by, told_on, told_once, wanted_link, with_link_to}
+use Rattle.session_path.specs.Links.{LinksState, Rises, answered, asked_as, asked_on, at_handle, attached_as, attach_fault, attached, detached_on, flowed_on, free_number, gone_from, gone_on, is_asked_as, is_at, is_left, is_left_at, is_wanted, left_by, link_asked, link_detached, link_flowed, linked_to, put, told_by, told_on, told_once, wanted_link, with_link_to}
 use Rattle.session_path.specs.Path.{PathState, flow_of, owes_flow}
 use Rattle.session_path.specs.Events.{PathEvent, Began, Published, Selected, Owed, AttachCame, FlowCame, DetachCame, DispositionCame, AttachSent, LinkFlowSent, TransferSent, SettleSent, DetachSent, ConfirmWent, OkSent, LineWent, SessionLost, after_event, after_events}
 use Rattle.session_path.specs.Attaches.{asks_as, attaches_as, times_asked, times_attached}
-use Rattle.session_path.proofs.Ties.{and_left, and_right, eq_of, eq_to, ne_to, rises_above}
+use Rattle.session_path.proofs.Ties.{eq_of, eq_to, ne_to, rises_above}
 use Rattle.session_path.proofs.Tied.{Tied, tied_after}
 
 abbrev one : Bool → ℕ

@@ -1,21 +1,16 @@
 -- The flows on a link answer what the container asked, each once.
-use Rattle.std.proofs.Common.{◌≡◌, ◌∙◌, ℕ, zero, suc, ◌+◌, ◌-◌, ◌<◌, ◌≤◌, ◌≢◌, List, [], ◌∷◌, ◌++◌, Bool, true, false, Option, Some, None, map, refl, sym, subst, ap, arith, cond, length}
+use Rattle.std.proofs.Common.{◌≡◌, ◌∙◌, ℕ, zero, suc, ◌+◌, ◌-◌, ◌≤◌, List, [], ◌∷◌, Bool, true, false, Option, Some, None, refl, sym, subst, ap, arith, cond}
 use Rattle.std.specs.Prelude.{find, is_some, not, ◌==◌, ◌&&◌, ◌||◌, insert, nat_lt}
 use Rattle.std.specs.List.{AllByRecursion}
-use Rattle.std.proofs.lemmas.Bool.Decides.{nat_tests}
 use Rattle.open_items.proofs.Filtered.{all_weaker, all_both, all_find}
 use Rattle.link_table.specs.Table.{free_of, named_by}
 use Rattle.publish_path.specs.Links.{link_to}
-use Rattle.publish_path.specs.declared.publish.Confirm.{Confirm}
-use Rattle.publish_path.specs.declared.publish.NextFrame.{NextFrame}
 use Rattle.publish_path.specs.declared.publish.Publish.{Publish}
 use Rattle.publish_path.specs.declared.send_links.SendingLink.{SendingLink}
 use Rattle.session_path.specs.declared.path.PathLink.{PathLink}
-use Rattle.session_path.specs.declared.path.PathOk.{PathOk}
-use Rattle.session_path.specs.declared.path.Settling.{Settling}
 use Rattle.session_path.specs.declared.path.Stage.{Stage}
 use Rattle.session_path.specs.declared.path.Stage.TheVariants.{Wanted, Asked, Open, Refused, Left}
-use Rattle.session_path.specs.Links.{LinksState, AreApart, AreTied, Rises, answered, asked_as, asked_on, at_handle, attach_fault, attached, attached_as, detached_on, flowed_on, free_number, gap, gone_from, gone_on, handle_in, handle_of, has_number, is_asked_as, is_at, is_left, is_left_at, is_one, is_stage_left, is_wanted, left_by, link_asked, link_detached, link_flowed, linked_to, meets, named, one_if, put, put_for, told_by, told_on, told_once, wanted_link, with_link_to}
+use Rattle.session_path.specs.Links.{LinksState, AreApart, Rises, answered, asked_as, asked_on, at_handle, attach_fault, attached, attached_as, detached_on, flowed_on, free_number, gone_from, gone_on, handle_in, handle_of, has_number, is_asked_as, is_at, is_left, is_left_at, is_one, is_stage_left, is_wanted, left_by, link_asked, link_detached, link_flowed, linked_to, meets, named, one_if, put, told_by, told_on, told_once, wanted_link, with_link_to}
 use Rattle.session_path.specs.Path.{PathState, flow_of, may_drain, owes_flow}
 use Rattle.session_path.specs.Events.{PathEvent, Began, Published, Selected, Owed, AttachCame, FlowCame, DetachCame, DispositionCame, AttachSent, LinkFlowSent, TransferSent, SettleSent, DetachSent, ConfirmWent, OkSent, LineWent, SessionLost, after_event, after_events}
 use Rattle.session_path.specs.Flows.{causes_by, causes_on, flows_by, flows_on, is_link, owed_in, owed_on}

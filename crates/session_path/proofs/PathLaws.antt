@@ -2,17 +2,14 @@
 use Rattle.std.proofs.Common.{◌≡◌, ◌∙◌, ℕ, List, [], ◌∷◌, ◌++◌, Bool, true, false, Option, Some, None, drop, refl, sym, ap}
 use Rattle.std.specs.Prelude.{not, ◌&&◌}
 use Rattle.std.specs.List.{list_any}
-use Rattle.publish_path.specs.declared.publish.Confirm.{Confirm}
-use Rattle.publish_path.specs.declared.publish.NextFrame.{NextFrame}
 use Rattle.publish_path.specs.Links.{link_to}
 use Rattle.publish_path.specs.Offers.{frame_sent}
 use Rattle.publish_path.specs.Publishes.{PublishEvent, PublishState, TakenUp, OutcomeCame, LinkGone, ConfirmSent, LineTold, is_told, after_event as publish_event, after_events as publishes_after}
 use Rattle.session_path.specs.Links.{linked_to, named}
 use Rattle.session_path.specs.Path.{PathState, last_or, lost_on, number_of, settle_if}
 use Rattle.session_path.specs.Events.{PathEvent, Began, Published, Selected, Owed, AttachCame, FlowCame, DetachCame, DispositionCame, AttachSent, LinkFlowSent, TransferSent, SettleSent, DetachSent, ConfirmWent, OkSent, LineWent, SessionLost, after_event, after_events, losses, publish_events, publishes_of}
-use Rattle.session_path.specs.Laws.{IsFrontOf, AreAnswers, AreSettles, answers, is_outcome_of, oks_owed, oks_sent, owed_by, owes, settles, settles_owed, settles_sent}
+use Rattle.session_path.specs.Laws.{IsFrontOf, AreAnswers, AreSettles, answers, oks_owed, oks_sent, owed_by, owes, settles, settles_owed, settles_sent}
 use Rattle.session_path.specs.declared.path.PathLink.{PathLink}
-use Rattle.session_path.specs.declared.path.PathOk.{PathOk}
 use Rattle.session_path.specs.declared.path.Settling.{Settling}
 
 lost_step : (life : ℕ) (o : Option PathLink) (p : PublishState) (h : List PublishEvent) → p ≡ publishes_after life h → lost_on o p ≡ publishes_after life (losses o ++ h)

@@ -1,14 +1,10 @@
 -- After any events of a path its links are tied.
-use Rattle.std.proofs.Common.{◌≡◌, ◌∙◌, ℕ, List, [], ◌∷◌, ◌++◌, Bool, true, false, Option, Some, None, refl, sym, ap, cond}
+use Rattle.std.proofs.Common.{◌≡◌, ℕ, List, [], ◌∷◌, Bool, true, false, Option, Some, None, refl, cond}
 use Rattle.std.specs.Prelude.{◌==◌, find, is_some}
 use Rattle.link_table.specs.Table.{free_of, named_by}
 use Rattle.publish_path.specs.Links.{link_to}
-use Rattle.publish_path.specs.declared.publish.Confirm.{Confirm}
-use Rattle.publish_path.specs.declared.publish.NextFrame.{NextFrame}
 use Rattle.publish_path.specs.declared.publish.Publish.{Publish}
 use Rattle.session_path.specs.declared.path.PathLink.{PathLink}
-use Rattle.session_path.specs.declared.path.PathOk.{PathOk}
-use Rattle.session_path.specs.declared.path.Settling.{Settling}
 use Rattle.session_path.specs.Links.{LinksState, AreTied, asked_on, at_handle, attach_fault, attached, attached_as, detached_on, flowed_on, gone_on, is_asked_as, is_at, is_left, is_wanted, link_asked, link_detached, link_flowed, link_gone, linked_to, told_on, with_link_to}
 use Rattle.session_path.specs.Path.{PathState, flow_of, owes_flow}
 use Rattle.session_path.specs.Events.{PathEvent, Began, Published, Selected, Owed, AttachCame, FlowCame, DetachCame, DispositionCame, AttachSent, LinkFlowSent, TransferSent, SettleSent, DetachSent, ConfirmWent, OkSent, LineWent, SessionLost, after_event, after_events}

@@ -1,16 +1,16 @@
 -- The links of a session, their handles and their credit stay tied by each step.
-use Rattle.std.proofs.Common.{◌≡◌, ◌∙◌, ℕ, suc, ◌+◌, ◌-◌, ◌<◌, ◌≤◌, ◌≢◌, List, [], ◌∷◌, ◌++◌, Bool, true, false, Option, Some, None, map, take, drop, refl, sym, subst, ap, arith, cond, length, get_or, set, inl, inr}
-use Rattle.std.specs.Prelude.{◌⊎◌, nat_le, filter, find, not, ◌||◌, ◌&&◌, ◌==◌, is_some, if◌then◌else◌, insert, position, slice_index_or}
-use Rattle.std.specs.List.{list_any, AllByRecursion}
-use Rattle.std.proofs.lemmas.Bool.{cases_eq, cases_lt}
+use Rattle.std.proofs.Common.{◌≡◌, ◌∙◌, ℕ, ◌+◌, ◌<◌, ◌≤◌, ◌≢◌, List, [], ◌∷◌, Bool, true, false, Option, Some, None, map, refl, sym, subst, ap, arith, cond, length, get_or, inl, inr}
+use Rattle.std.specs.Prelude.{◌⊎◌, nat_le, filter, find, not, ◌||◌, ◌&&◌, ◌==◌, position}
+use Rattle.std.specs.List.{AllByRecursion}
+use Rattle.std.proofs.lemmas.Bool.{cases_lt}
 use Rattle.std.proofs.lemmas.Bool.Decides.{nat_tests}
 use Rattle.std.proofs.lemmas.List.{get_or-set_same, get_or-set_other, get_or_past}
 use Rattle.std.proofs.lemmas.List.Quantifiers.{position-Some}
-use Rattle.open_items.proofs.Filtered.{all_map, all_filter, all_weaker, all_both, all_push, all_find}
+use Rattle.open_items.proofs.Filtered.{all_map, all_filter, all_weaker, all_both, all_find}
 use Rattle.link_table.specs.declared.handles.HandleState.{HandleState}
 use Rattle.link_table.specs.declared.handles.HandleState.TheVariants.{Free}
 use Rattle.link_table.specs.declared.handles.HandleState.TheVariants as state
-use Rattle.link_table.specs.Table.{HandleTable, is_asked, is_free, is_unread, is_unsent, up_to, state_of, with_state, with_read, with_sent, free_of, after_attach, after_attached, after_detach_read, after_detach_sent}
+use Rattle.link_table.specs.Table.{HandleTable, is_asked, is_free, is_unread, is_unsent, up_to, state_of, with_state, with_read, free_of, after_attach, after_attached, after_detach_read, after_detach_sent}
 use Rattle.publish_path.specs.declared.send_links.SendingLink.{SendingLink}
 use Rattle.publish_path.specs.Links.{without, now_attached, flowed, drained, begun_on}
 use Rattle.publish_path.specs.Offers.{links_after}

@@ -1,10 +1,9 @@
 -- A link that is wanted: its number, its place and its credit.
-use Rattle.std.proofs.Common.{rules, ◌≡◌, ◌∙◌, ℕ, zero, suc, ◌+◌, ◌-◌, ◌<◌, ◌≤◌, ◌≢◌, List, [], ◌∷◌, ◌++◌, Bool, true, false, Option, Some, None, map, take, drop, refl, sym, subst, ap, arith, cond, length, add-one, inl, inr}
-use Rattle.std.specs.Prelude.{◌⊎◌, filter, find, not, ◌||◌, ◌&&◌, ◌==◌, insert, remove, bytes_eq, is_some}
+use Rattle.std.proofs.Common.{◌≡◌, ◌∙◌, ℕ, zero, suc, ◌+◌, ◌≤◌, ◌≢◌, List, [], ◌∷◌, ◌++◌, Bool, true, false, Option, Some, None, refl, sym, subst, ap, arith, cond, length, add-one, inl, inr}
+use Rattle.std.specs.Prelude.{◌⊎◌, not, ◌||◌, ◌&&◌, ◌==◌, insert, remove, bytes_eq, is_some}
 use Rattle.std.specs.Option.{option_map}
 use Rattle.std.specs.List.{list_any, AllByRecursion}
-use Rattle.std.proofs.lemmas.Bool.Decides.{nat_tests}
-use Rattle.open_items.proofs.Filtered.{all_map, all_weaker, all_push}
+use Rattle.open_items.proofs.Filtered.{all_weaker, all_push}
 use Rattle.link_table.specs.Table.{HandleTable}
 use Rattle.publish_path.specs.declared.send_links.SendingLink.{SendingLink}
 use Rattle.publish_path.specs.Links.{asked_link, has_address, link_of, link_to, without}

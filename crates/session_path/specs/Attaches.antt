@@ -1,9 +1,5 @@
 -- The attaches of links, by their names.
-use Rattle.std.specs.Prelude.{ℕ, Bool, true, false, not, ◌+◌, ◌==◌, ◌&&◌, if◌then◌else◌, List, [], ◌∷◌, Option, Some, None, is_some}
-use Rattle.publish_path.specs.declared.publish.Confirm.{Confirm}
-use Rattle.publish_path.specs.declared.publish.NextFrame.{NextFrame}
-use Rattle.session_path.specs.declared.path.PathOk.{PathOk}
-use Rattle.session_path.specs.declared.path.Settling.{Settling}
+use Rattle.std.specs.Prelude.{ℕ, not, ◌+◌, ◌==◌, ◌&&◌, if◌then◌else◌, List, [], ◌∷◌, is_some}
 use Rattle.session_path.specs.Links.{attach_fault}
 use Rattle.session_path.specs.Path.{PathState}
 use Rattle.session_path.specs.Events.{PathEvent, Began, Published, Selected, Owed, AttachCame, FlowCame, DetachCame, DispositionCame, AttachSent, LinkFlowSent, TransferSent, SettleSent, DetachSent, ConfirmWent, OkSent, LineWent, SessionLost, after_events}

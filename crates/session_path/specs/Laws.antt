@@ -1,9 +1,7 @@
 -- What holds after any events of a session's path, by the events alone.
-use Rattle.std.specs.Prelude.{◌≡◌, ℕ, Bool, true, false, not, ◌&&◌, if◌then◌else◌, List, [], ◌∷◌, ◌++◌, Option, Some, None}
+use Rattle.std.specs.Prelude.{◌≡◌, ℕ, Bool, not, ◌&&◌, List, [], ◌∷◌, ◌++◌, Option}
 use Rattle.std.specs.List.{list_any}
 use Rattle.publish_path.specs.Publishes.{is_told, open_after}
-use Rattle.publish_path.specs.declared.publish.Confirm.{Confirm}
-use Rattle.publish_path.specs.declared.publish.NextFrame.{NextFrame}
 use Rattle.session_path.specs.Path.{last_or, settle_if}
 use Rattle.session_path.specs.Events.{PathEvent, Began, Published, Selected, Owed, AttachCame, FlowCame, DetachCame, DispositionCame, AttachSent, LinkFlowSent, TransferSent, SettleSent, DetachSent, ConfirmWent, OkSent, LineWent, SessionLost, publishes_of}
 use Rattle.session_path.specs.declared.path.PathOk.{PathOk}

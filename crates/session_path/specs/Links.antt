@@ -1,7 +1,6 @@
 -- The sending links of a session: their credit, how far each is, and their handles.
-use Rattle.std.specs.Prelude.{◌≡◌, ℕ, Bool, true, false, not, ◌+◌, ◌-◌, ◌≤◌, ◌==◌, ◌&&◌, nat_lt, min, if◌then◌else◌, List, [], ◌∷◌, ◌++◌, map, filter, find, insert, Option, Some, None, is_some, codes, decimal}
+use Rattle.std.specs.Prelude.{◌≡◌, ℕ, Bool, true, false, not, ◌+◌, ◌-◌, ◌≤◌, ◌==◌, ◌&&◌, min, if◌then◌else◌, List, [], ◌∷◌, ◌++◌, map, filter, find, insert, Option, Some, None, is_some, codes, decimal}
 use Rattle.std.specs.List.{list_any, AllByRecursion}
-use Rattle.link_table.specs.declared.handles.Attachment.{Attachment}
 use Rattle.link_table.specs.declared.handles.HandleState.{HandleState}
 use Rattle.link_table.specs.declared.handles.HandleState.TheVariants as state
 use Rattle.link_table.specs.Table.{HandleTable, after_attach, after_attached, after_detach_read, after_detach_sent, after_limit, free_of, is_asked, named_by, new_table, state_of}

@@ -3,7 +3,7 @@ use Rattle.std.specs.Prelude.{ℕ, Bool, true, false, not, ◌==◌, ◌&&◌, �
 use Rattle.std.specs.List.{list_any}
 use Rattle.publish_path.specs.Links.{link_of, link_to}
 use Rattle.publish_path.specs.Offers.{frame_sent, links_after, waits_on}
-use Rattle.publish_path.specs.Publishes.{PublishState, PublishEvent, TakenUp, OutcomeCame, LinkGone, ConfirmSent, LineTold, after_event, is_told, no_publishes}
+use Rattle.publish_path.specs.Publishes.{PublishState, TakenUp, OutcomeCame, LinkGone, ConfirmSent, LineTold, after_event, is_told, no_publishes}
 use Rattle.publish_path.specs.declared.publish.Confirm.{Confirm}
 use Rattle.publish_path.specs.declared.publish.NextFrame.{NextFrame}
 use Rattle.publish_path.specs.declared.publish.Publish.{Publish}

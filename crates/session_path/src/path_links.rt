@@ -1,7 +1,7 @@
 //! The sending links of a session: each call is one step of them.
 
 ghost use Rattle.std.specs.Prelude.{◌≡◌, ◌≤◌, ◌<◌, ◌+◌, ◌^◌, ◌++◌, ◌∷◌, [], ◌==◌, if◌then◌else◌, length, find, map, option_copied, Some, None, OnOk, OnErr, IfOk};
-ghost use Rattle.publish_path.specs.Links.{asked_link, link_of, link_to, flowed, without};
+ghost use Rattle.publish_path.specs.Links.{address_of, asked_link, link_of, link_to, flowed, without};
 ghost use Rattle.publish_path.specs.Offers.{held_bytes, held_count, next_frame_of, rest_of, frame_sent, links_after};
 ghost use Rattle.publish_path.specs.Publishes.{TakenUp, after_event};
 ghost use Rattle.session_path.specs.Path.{credit_in, flow_of, number_of, owes_flow};
@@ -213,6 +213,13 @@ impl PathLinks {
         self.handles.detach_read(handle(l.stage));
         remove_one(&mut self.sending, l.link);
         put_link(&mut self.links, left(l));
+    }
+
+    /// The address of this link's target; empty where there is no such link, or it is lost.
+    pub fn address(&self, link: u32) -> &[u8]
+        ensures { result.now ≡ address_of self.now.sending link }
+    {
+        self.sending.address(link)
     }
 
     /// The attach that is due.

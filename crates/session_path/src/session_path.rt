@@ -1,7 +1,8 @@
 //! The publishing side of a session: each call is one event, or a question on what is due.
 
-ghost use Rattle.std.specs.Prelude.{◌≡◌, ◌≤◌, ◌+◌, ◌<◌, ◌^◌, ◌↔◌, [], length, drop, Some, None, IsSome, IsNone, IfSome, OnOk, OnErr, IfOk, is_some};
-ghost use Rattle.publish_path.specs.Offers.{next_frame_of, next_confirm_of, rest_of};
+ghost use Rattle.std.specs.Prelude.{◌≡◌, ◌≤◌, ◌+◌, ◌<◌, ◌↔◌, [], length, Some, None, IsSome, IsNone, IfSome, OnOk, OnErr, IfOk};
+ghost use Rattle.publish_path.specs.Links.{address_of};
+ghost use Rattle.publish_path.specs.Offers.{next_frame_of, rest_of};
 ghost use Rattle.session_path.specs.Links.{attach_fault, named};
 ghost use Rattle.session_path.specs.Path.{PathState, opened, began, lost, owed, published, selected, attach_came, flow_came, detach_came, outcome_came, last_or, attach_sent, link_flow_sent, transfer_sent, settle_sent, detach_sent, confirm_sent, ok_sent, line_told};
 ghost use Rattle.session_path.specs.Due.{first_of, next_attach, next_flow, next_frame, next_settle, next_detach, next_confirm, next_ok, next_line, is_done, held, held_size_of};
@@ -11,6 +12,7 @@ use crate::path_links::{LinkFlow, PathLinks};
 use open_items::LostItem;
 use publish_path::{Confirm, NextFrame, Publishes};
 use std::alloc::Global;
+use std::collections::VecDeque;
 use std::marker::Model;
 use wire_base::{ByteText, Memory};
 
@@ -22,9 +24,9 @@ const MOST_PUBLISHES: u64 = 4_611_686_018_427_387_904;
 pub struct SessionPath {
     publishes: Publishes,
     links: PathLinks,
-    settles: Vec<Settling>,
+    settles: VecDeque<Settling>,
     confirms: bool,
-    oks: Vec<PathOk>,
+    oks: VecDeque<PathOk>,
     /// How many publishes were taken up.
     taken: u64,
 }
@@ -55,22 +57,10 @@ fn last_of(first: u32, last: Option<u32>) -> u32
     }
 }
 
-fn first_in<T: Copy>(items: &[T]) -> Option<T>
-    ensures { result ≡ first_of items.now }
+fn first_in<T: Copy>(items: &VecDeque<T>) -> Option<T>
+    ensures { result ≡ first_of items.now.items }
 {
-    if items.is_empty() {
-        None
-    } else {
-        Some(items[0])
-    }
-}
-
-fn drop_first<T: Drop>(items: &mut Vec<T>)
-    ensures { items.new.items ≡ drop 1 items.old.items }
-{
-    if !items.is_empty() {
-        items.remove(0);
-    }
+    items.front().copied()
 }
 
 impl SessionPath {
@@ -82,9 +72,9 @@ impl SessionPath {
         Ok(SessionPath {
             publishes: Publishes::new(alloc, life),
             links,
-            settles: Vec::new(alloc),
+            settles: VecDeque::new(alloc),
             confirms: false,
-            oks: Vec::new(alloc),
+            oks: VecDeque::new(alloc),
             taken: 0,
         })
     }
@@ -117,7 +107,7 @@ impl SessionPath {
         ensures ok { OnOk result (self.new ≡ owed ok self.old) }
         ensures err { OnErr result (self.new ≡ self.old) }
     {
-        self.oks.push(ok)?;
+        self.oks.push_back(ok)?;
         Ok(())
     }
 
@@ -189,7 +179,7 @@ impl SessionPath {
             .publishes
             .outcome(ids.first, last_of(ids.first, ids.last), accepted);
         if !settled && told {
-            self.settles.push(ids)?;
+            self.settles.push_back(ids)?;
         }
         Ok(())
     }
@@ -221,7 +211,7 @@ impl SessionPath {
     pub fn settle_sent(&mut self)
         ensures { self.new ≡ settle_sent self.old }
     {
-        drop_first(&mut self.settles);
+        self.settles.pop_front();
     }
 
     /// The detach that is due was sent.
@@ -243,7 +233,7 @@ impl SessionPath {
     pub fn ok_sent(&mut self)
         ensures { self.new ≡ ok_sent self.old }
     {
-        drop_first(&mut self.oks);
+        self.oks.pop_front();
     }
 
     /// The line of the report that is due, which is then reported.
@@ -260,6 +250,14 @@ impl SessionPath {
         ensures { result ≡ next_attach self.now }
     {
         self.links.next_attach()
+    }
+
+    /// The address of this link's target, which its attach states (AMQP 1.0 3.5.4); empty where
+    /// there is no such link, or the container detached it.
+    pub fn address(&self, link: u32) -> &[u8]
+        ensures { result.now ≡ address_of self.now.links.sending link }
+    {
+        self.links.address(link)
     }
 
     /// The flow on a link that is due.
@@ -280,7 +278,7 @@ impl SessionPath {
     pub fn next_settle(&self) -> Option<Settling>
         ensures { result ≡ next_settle self.now }
     {
-        first_in(self.settles.as_slice())
+        first_in(&self.settles)
     }
 
     /// The link whose detach is due.
@@ -301,7 +299,7 @@ impl SessionPath {
     pub fn next_ok(&self) -> Option<PathOk>
         ensures { result ≡ next_ok self.now }
     {
-        first_in(self.oks.as_slice())
+        first_in(&self.oks)
     }
 
     /// No publish waits, is begun, or lacks an outcome.

@@ -1,5 +1,5 @@
 use Rattle.std.proofs.Common.{◌∙◌, sym, arith}
-use Rattle.session_path.proofs.Gaps.{gap_more, gap_none}
+use Rattle.session_path.proofs.Gaps.{gap_more}
 use Rattle.session_path.proofs.links.lowest_free.Goals as goal
 
 pub loop-this-preserved : goal.loop-this-preserved

@@ -1,6 +1,4 @@
-use Rattle.std.proofs.Common.{◌≡◌, ◌∙◌, Some, true, false, map, refl, sym, ap}
-use Rattle.std.specs.Prelude.{find, is_some, option_copied}
-use Rattle.session_path.specs.declared.path.PathLink.{PathLink}
+use Rattle.std.proofs.Common.{◌∙◌, sym}
 use Rattle.session_path.proofs.Ties.{asked_tied}
 use Rattle.session_path.proofs.path_links.PathLinks.ask.Goals as goal
 

@@ -1,8 +1,6 @@
-use Rattle.std.proofs.Common.{◌≡◌, ◌∙◌, Some, true, false, map, refl, sym, ap}
-use Rattle.std.specs.Prelude.{find, is_some, option_copied}
-use Rattle.session_path.specs.declared.path.PathLink.{PathLink}
-use Rattle.session_path.specs.Links.{is_asked_as, attached_if}
-use Rattle.link_table.specs.Table.{is_asked, state_of}
+use Rattle.std.proofs.Common.{◌≡◌, ◌∙◌, Some, sym, ap}
+use Rattle.std.specs.Prelude.{find, option_copied}
+use Rattle.session_path.specs.Links.{is_asked_as}
 use Rattle.session_path.proofs.Ties.{is_asked_for, answered_tied}
 use Rattle.session_path.proofs.path_links.PathLinks.attach.Goals as goal
 

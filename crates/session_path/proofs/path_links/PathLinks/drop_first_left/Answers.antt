@@ -1,6 +1,5 @@
-use Rattle.std.proofs.Common.{◌≡◌, ◌∙◌, Some, true, false, map, refl, sym, ap}
-use Rattle.std.specs.Prelude.{find, is_some, option_copied}
-use Rattle.session_path.specs.declared.path.PathLink.{PathLink}
+use Rattle.std.proofs.Common.{◌≡◌, ◌∙◌, Some, sym, ap}
+use Rattle.std.specs.Prelude.{find, option_copied}
 use Rattle.session_path.specs.Links.{is_left}
 use Rattle.session_path.proofs.Ties.{is_unsent_at, gone_tied}
 use Rattle.session_path.proofs.path_links.PathLinks.drop_first_left.Goals as goal

@@ -1,7 +1,6 @@
-use Rattle.std.proofs.Common.{◌≡◌, ◌∙◌, Some, true, false, map, refl, sym, ap}
-use Rattle.std.specs.Prelude.{find, is_some, option_copied}
-use Rattle.session_path.specs.declared.path.PathLink.{PathLink}
-use Rattle.session_path.specs.Links.{is_at, told_by}
+use Rattle.std.proofs.Common.{◌≡◌, ◌∙◌, Some, sym, ap}
+use Rattle.std.specs.Prelude.{find, option_copied}
+use Rattle.session_path.specs.Links.{is_at}
 use Rattle.session_path.proofs.Ties.{flowed_tied}
 use Rattle.session_path.proofs.path_links.PathLinks.flow.Goals as goal
 

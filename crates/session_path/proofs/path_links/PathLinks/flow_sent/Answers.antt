@@ -1,6 +1,5 @@
-use Rattle.std.proofs.Common.{◌≡◌, ◌∙◌, Some, true, false, map, refl, sym, ap}
-use Rattle.std.specs.Prelude.{find, is_some, option_copied, ◌==◌}
-use Rattle.session_path.specs.declared.path.PathLink.{PathLink}
+use Rattle.std.proofs.Common.{◌≡◌, ◌∙◌, Some, sym, ap}
+use Rattle.std.specs.Prelude.{find, option_copied, ◌==◌}
 use Rattle.session_path.specs.Path.{owes_flow}
 use Rattle.session_path.proofs.Ties.{told_once_tied, not_left_and}
 use Rattle.session_path.proofs.path_links.PathLinks.flow_sent.Goals as goal

@@ -1,4 +1,4 @@
-use Rattle.std.proofs.Common.{◌≡◌, ◌∙◌, ℕ, Some, None, sym, ap, subst}
+use Rattle.std.proofs.Common.{◌≡◌, ◌∙◌, ℕ, None, sym, ap, subst}
 use Rattle.std.specs.Prelude.{OnOk}
 use Rattle.publish_path.specs.Links.{link_to}
 use Rattle.publish_path.specs.Publishes.{TakenUp, after_event}

@@ -1,5 +1,5 @@
-use Rattle.std.proofs.Common.{◌≡◌, ◌∙◌, List, [], ◌∷◌, ◌++◌, Some, true, false, map, refl, sym, ap}
-use Rattle.std.specs.Prelude.{insert, remove}
+use Rattle.std.proofs.Common.{◌≡◌, ◌∙◌, List, [], ◌∷◌, ◌++◌, ap}
+use Rattle.std.specs.Prelude.{remove}
 use Rattle.link_table.specs.Table.{HandleTable}
 use Rattle.publish_path.specs.Links.{asked_link, without}
 use Rattle.publish_path.specs.declared.send_links.SendingLink.{SendingLink}
