@@ -1,5 +1,15 @@
-pub mod Fields
+pub mod FieldLoops
+pub mod HeaderLengths
+pub mod HeaderTrips
 pub mod ImageLaws
+pub mod ImageSpells
+pub mod ImageTexts
 pub mod Images
 pub mod Loops
+pub mod NameSets
 pub mod Numbers
+pub mod Places
+pub mod Rooms
+pub mod RoundTrips
+pub mod Steps
+pub mod ValueTrips

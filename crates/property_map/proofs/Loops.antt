@@ -1,17 +1,17 @@
 -- Values, pairs and headers, as loops make them one by one.
-use Rattle.std.proofs.Common.{◌≡◌, ℕ, zero, suc, ◌+◌, ◌<◌, ◌≤◌, Bool, true, false, ◌||◌, List, [], ◌∷◌, ◌++◌, length, take, drop, map, Some, slice_get, Result, Ok, Err, refl, sym, ap, ◌∙◌, append_assoc, append-nil, arith}
-use Rattle.std.specs.Str.{bytes_eq}
+use Rattle.std.proofs.Common.{◌≡◌, ℕ, zero, suc, ◌+◌, ◌≤◌, Bool, true, false, List, [], ◌∷◌, ◌++◌, length, take, drop, map, Some, slice_get, Result, Ok, Err, refl, sym, ap, subst, ◌∙◌, append_assoc, append-nil, arith}
 use Rattle.wire_base.specs.Reading.{◌>>=◌, Stops}
 use Rattle.wire_base.specs.declared.stop.Stop.{Stop}
 use Rattle.wire_base.specs.declared.stop.Stop.TheVariants as stop
 use Rattle.tables_091.specs.Tree as field
 use Rattle.types_10.specs.Tree as value
-use Rattle.property_map.specs.Texts.{is_among}
+use Rattle.property_map.specs.Names.{Holds}
 use Rattle.property_map.specs.Values.{name_in, value_in, values_in, pairs_in}
 use Rattle.property_map.specs.Headers.{header_name_in, holds_others, with_header, headers_in}
 use Rattle.property_map.specs.declared.fault.MapFault.{MapFault}
 use Rattle.property_map.specs.declared.headers.HeaderMaps.{HeaderMaps}
-use Rattle.property_map.proofs.Fields.{there_is, rest_at, rest_past}
+use Rattle.property_map.specs.declared.names.Names.{Names}
+use Rattle.property_map.proofs.Places.{rest_at, rest_past}
 
 -- ---- values
 
@@ -112,6 +112,12 @@ names_next (n ∷ ns) zero m e = ap (λ (o : List ℕ). o ∷ []) (first n m e)
     first : (n m : Entry) → Some n ≡ Some m → n.0 ≡ m.0
     first n m e = cc
 names_next (n ∷ ns) (suc k) m e = ap (λ (os : List (List ℕ)). n.0 ∷ os) (names_next ns k m e)
+
+-- a set that stands for the names before an entry, and for this one, stands for those before the next
+pub names_more : (names : Names) (ms : List Entry) (k : ℕ) (m : Entry) → slice_get ms k ≡ Some m → Holds names (names_before ms k ++ m.0 ∷ []) → Holds names (names_before ms (k + 1))
+names_more names ms k m is h =
+    let one : k + 1 ≡ suc k = omega arith in
+    subst (Holds names) (sym (rw one (names_next ms k m is))) h
 
 abbrev key : List ℕ → value.Tree
 key s = value.scalar (value.string s)
@@ -250,29 +256,3 @@ headers_over application annotation ms k total past so_far =
     let whole : maps_joined application annotation (maps_of [] []) ≡ maps_of application annotation =
     ap (λ (ps : List Pair). maps_of ps (annotation ++ [])) (append-nil application) ∙ ap (λ (qs : List Pair). maps_of application qs) (append-nil annotation) in
     sym so_far ∙ ap (maps_behind application annotation) here ∙ ap (λ (maps : HeaderMaps). Ok maps) whole
-
--- ---- names
-
-one_more : (name : List ℕ) (names : List (List ℕ)) (s : List ℕ) → bytes_eq s name ≡ false → is_among name names ≡ false → is_among name (names ++ s ∷ []) ≡ false
-one_more name [] s e h = rw e refl
-one_more name (t ∷ ts) s e h = at (bytes_eq t name) h (λ g. one_more name ts s e g)
-  where
-    at : (b : Bool) → (b || is_among name ts) ≡ false → (is_among name ts ≡ false → is_among name (ts ++ s ∷ []) ≡ false) → (b || is_among name (ts ++ s ∷ [])) ≡ false
-    at true h more = absurd (cc h)
-    at false h more = more h
-
-pub among_next : (name : List ℕ) (ms : List Entry) (k : ℕ) (m : Entry) → slice_get ms k ≡ Some m → bytes_eq m.0 name ≡ false → is_among name (names_before ms k) ≡ false → is_among name (names_before ms (k + 1)) ≡ false
-among_next name ms k m is e so_far =
-    let one : k + 1 ≡ suc k = omega arith in
-    rw one (ap (is_among name) (names_next ms k m is) ∙ one_more name (names_before ms k) m.0 e so_far)
-
-or_true : (b : Bool) → (b || true) ≡ true
-or_true true = refl
-or_true false = refl
-
-pub among_at : (name : List ℕ) (ms : List Entry) (k count : ℕ) (m : Entry) → slice_get ms k ≡ Some m → k < count → bytes_eq m.0 name ≡ true → true ≡ is_among name (names_before ms count)
-among_at name [] k count m is h e = absurd (cc is)
-among_at name (n ∷ ns) k zero m is h e = absurd (omega (arith, h))
-among_at name (n ∷ ns) zero (suc count) m is h e = let same : n ≡ m = there_is n m is in rw (same, e) refl
-among_at name (n ∷ ns) (suc k) (suc count) m is h e =
-    sym (or_true (bytes_eq n.0 name)) ∙ ap (λ (b : Bool). bytes_eq n.0 name || b) (among_at name ns k count m is (omega (arith, h)) e)

@@ -1,15 +1,18 @@
 -- Decimal numbers, as they are parsed.
-use Rattle.std.proofs.Common.{◌≡◌, ℕ, zero, suc, ◌<◌, ◌^◌, Bool, true, false, cond, eqb, ltb, ◌&&◌, List, [], ◌∷◌, length, get_or, Result, Ok, Err, refl, sym, ap, ◌∙◌, arith}
+use Rattle.std.proofs.Common.{◌≡◌, ℕ, zero, suc, ◌<◌, ◌^◌, Bool, true, false, cond, eqb, ltb, ◌&&◌, List, [], ◌∷◌, length, get_or, decimal, Result, Ok, Err, refl, sym, ap, subst, ◌∙◌, arith}
 use Rattle.std.specs.Char.{is_ascii_digit}
 use Rattle.std.specs.List.{list_all}
 use Rattle.std.specs.Str.{all_ascii_digits, IsUtf8}
 use Rattle.std.specs.Str.Parse.{digits_value, ParsesUnsigned}
 use Rattle.std.proofs.lemmas.Bool.{ltb-true}
 use Rattle.std.proofs.lemmas.Bool.Decides.{nat_tests}
+use Rattle.std.proofs.lemmas.Fmt.{decimal-digits_value}
 use Rattle.std.proofs.lemmas.Result.{OkIff-at_err}
+use Rattle.wire_base.proofs.Laws.{ok_is}
 use Rattle.std.proofs.lemmas.Str.{IsUtf8-from_ascii}
 use Rattle.std.proofs.lemmas.Str.Parse.{IsNumeralModel, numerals_by_value, tells_all_ascii_digits, parse_digits}
 use Rattle.property_map.specs.Rows.{is_decimal, ttl_in}
+use Rattle.property_map.specs.declared.fault.MapFault.{MapFault}
 use Rattle.property_map.specs.declared.fault.MapFault.TheVariants as fault
 
 both_first : (a b : Bool) → (a && b) ≡ true → a ≡ true
@@ -56,6 +59,28 @@ no_text s h = ttl_fails s (λ d small. h (IsUtf8-from_ascii s (digits_small s (d
 
 own : IsNumeralModel (λ ds. all_ascii_digits ds ≡ true) (digits_value 10)
 own = numerals_by_value (λ ds. all_ascii_digits ds ≡ true) tells_all_ascii_digits
+
+-- a decimal number that begins with zero is zero alone
+alone : (s : List ℕ) → is_decimal s ≡ true → get_or s 0 0 ≡ 48 → length s ≡ 1
+alone [] e h = absurd (cc e)
+alone (c ∷ []) e h = omega arith
+alone (c ∷ d ∷ cs) e h = let never : false ≡ true = sym (ap (λ (x : ℕ). is_decimal (x ∷ d ∷ cs)) h) ∙ e in absurd (cc never)
+
+abbrev text_ok : List ℕ → Result (List ℕ) MapFault
+text_ok s = Ok s
+
+-- what was read of a decimal number is written as this number
+pub ttl_back : (s : List ℕ) (n : ℕ) → ttl_in s ≡ Ok n → text_ok (decimal n) ≡ Ok s
+ttl_back s n = at (is_decimal s) (ltb (digits_value 10 s) 4294967296) refl refl
+  where
+    at : (a b : Bool) → is_decimal s ≡ a → ltb (digits_value 10 s) 4294967296 ≡ b → cond (a && b) (Ok (digits_value 10 s)) (Err fault.Expiration) ≡ Ok n → text_ok (decimal n) ≡ Ok s
+    at false b d e h = absurd (cc h)
+    at true false d e h = absurd (cc h)
+    at true true d e h =
+        let digits = decimal_digits s d in
+        let small : digits_value 10 s < 2 ^ 64 = omega (arith, ltb-true _ _ e) in
+        let same : decimal (digits_value 10 s) ≡ s = decimal-digits_value own s (sym (digits_same s) ∙ digits.0) digits.1 (alone s d) small in
+        subst (λ (k : ℕ). text_ok (decimal k) ≡ Ok s) (ok_is {F = MapFault} (digits_value 10 s) n h) (ap text_ok same)
 
 -- what can't be parsed is too great
 pub not_parsed : {E : Type 0} (s : List ℕ) (r : Result ℕ E) (d : E) → ParsesUnsigned 32 10 s r → r ≡ Err d → ttl_in s ≡ Err fault.Expiration

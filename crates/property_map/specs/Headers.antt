@@ -1,5 +1,5 @@
--- The property headers in AMQP 1.0 (AMQP 0-9-1 1.8.3.3; AMQP 1.0 3.2.3 and 3.2.5). A property of the application holds no other value, so
--- what holds others goes to an annotation.
+-- The property headers in AMQP 1.0 (AMQP 0-9-1 1.8.3.3; AMQP 1.0 3.2.3 and 3.2.5). A property of
+-- the application holds no other value, so what holds others goes to an annotation.
 use Rattle.std.specs.Prelude.{ℕ, nat_lt, Bool, true, false, List, [], ◌∷◌, ◌++◌, if◌then◌else◌, Ok, Err, Result}
 use Rattle.wire_base.specs.Reading.{◌>>=◌}
 use Rattle.tables_091.specs.Tree as field

@@ -1,5 +1,5 @@
--- The image of a message of AMQP 0-9-1 in AMQP 1.0 (AMQP 1.0 3.2): what each section says, by the rows of the table; and the first fault, in the
--- order of the rows.
+-- The image of a message of AMQP 0-9-1 in AMQP 1.0 (AMQP 1.0 3.2): what each section says, by the
+-- rows of the table; and the first fault, in the order of the rows.
 use Rattle.std.specs.Prelude.{◌≡◌, ◌⊎◌, ℕ, false, List, [], ◌∷◌, ◌++◌, Bool, Option, Some, None, option_map, Ok, Err, Result, codes}
 use Rattle.types_10.specs.Tree.{Tree, scalar, mapping, pairs_of, string, symbol}
 use Rattle.types_10.specs.View.{value_tree}

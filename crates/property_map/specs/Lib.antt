@@ -1,6 +1,14 @@
+pub mod Back
+pub mod Fields
 pub mod Headers
 pub mod Image
+pub mod Image091
+pub mod Names
+pub mod Room
 pub mod Rows
+pub mod Rows091
 pub mod Said
+pub mod Spelling
+pub mod Steps
 pub mod Texts
 pub mod Values

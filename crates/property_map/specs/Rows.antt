@@ -1,5 +1,6 @@
--- The table of what a message of AMQP 0-9-1 says in AMQP 1.0 (AMQP 0-9-1 1.8.3; AMQP 1.0 3.2): one definition a row, with what is written, or the
--- fault. A row whose property is absent says nothing, and has no fault.
+-- The table of what a message of AMQP 0-9-1 says in AMQP 1.0 (AMQP 0-9-1 1.8.3; AMQP 1.0 3.2): one
+-- definition a row, with what is written, or the fault. A row whose property is absent says
+-- nothing, and has no fault.
 use Rattle.std.specs.Prelude.{ℕ, ◌==◌, ◌&&◌, nat_lt, Bool, true, false, if◌then◌else◌, List, [], ◌∷◌, Option, Some, None, Ok, Err, Result, ℤ}
 use Rattle.std.specs.Char.{is_ascii_digit}
 use Rattle.std.specs.List.{list_all}
@@ -29,8 +30,8 @@ content_type_row = maybe_in (symbol_in prop.ContentType)
 abbrev pub content_encoding_row : Option (List ℕ) → Result (Option (List ℕ)) MapFault
 content_encoding_row = maybe_in (symbol_in prop.ContentEncoding)
 
--- headers: properties of the application, and a map as an annotation; for each header NotUtf8 of its name, Reserved, Repeated and the
--- faults of its value, and then Depth
+-- headers: properties of the application, and a map as an annotation; for each header NotUtf8 of
+-- its name, Reserved, Repeated and the faults of its value, and then Depth
 abbrev pub headers_row : Option (List (List ℕ × Tree)) → Result (Option HeaderMaps) MapFault
 headers_row = maybe_in table_in
 

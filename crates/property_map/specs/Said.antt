@@ -1,4 +1,5 @@
--- What the rows of a message say, one after another, up to the first at fault (AMQP 0-9-1 1.8.3; AMQP 1.0 3.2).
+-- What the rows of a message say, one after another, up to the first at fault (AMQP 0-9-1 1.8.3;
+-- AMQP 1.0 3.2).
 use Rattle.std.specs.Prelude.{◌≡◌, List, Option, Some, None, option_map, ℕ, Ok, Result}
 use Rattle.wire_base.specs.Reading.{◌>>=◌}
 use Rattle.wire_base.specs.declared.stop.Stop.{Stop}

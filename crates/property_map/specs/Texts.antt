@@ -1,5 +1,6 @@
--- Texts and times of one protocol in the other (AMQP 0-9-1 4.2.5; AMQP 1.0 1.6): what is made of one, or why nothing is.
-use Rattle.std.specs.Prelude.{ℕ, ◌*◌, nat_le, nat_eq, if◌then◌else◌, Bool, List, Option, Some, None, Ok, Err, Result, ℤ, pos, codes}
+-- Texts and times of one protocol in the other (AMQP 0-9-1 4.2.5; AMQP 1.0 1.6): what is made of
+-- one, or why nothing is.
+use Rattle.std.specs.Prelude.{ℕ, ◌*◌, ◌/◌, nat_le, nat_eq, if◌then◌else◌, Bool, List, Option, Some, None, Ok, Err, Result, ℤ, pos, negsuc, length, codes}
 use Rattle.std.specs.Char.{is_ascii}
 use Rattle.std.specs.List.{list_all, list_any, starts_with}
 use Rattle.std.specs.Str.{is_utf8, bytes_eq}
@@ -23,6 +24,15 @@ last_second = 9223372036854775
 -- seconds as milliseconds
 abbrev pub milliseconds_in : PropName → ℕ → Result ℤ MapFault
 milliseconds_in name n = if nat_le n last_second then Ok (pos (1000 * n)) else Err (fault.Time name)
+
+-- a text that becomes a short string: it has at most 255 bytes
+abbrev pub short_in : PropName → List ℕ → Result (List ℕ) MapFault
+short_in name s = if nat_le (length s) 255 then Ok s else Err (fault.TooLong name)
+
+-- milliseconds as seconds, rounded down; a time before 1970 has none
+abbrev pub seconds_in : PropName → ℤ → Result ℕ MapFault
+seconds_in name (pos n) = Ok (n / 1000)
+seconds_in name (negsuc n) = Err (fault.Time name)
 
 -- what may be absent
 abbrev pub maybe_in : {A B : Type 0} → (A → Result B MapFault) → Option A → Result (Option B) MapFault

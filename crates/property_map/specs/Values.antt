@@ -1,4 +1,5 @@
--- Fields as values of AMQP 1.0 (AMQP 0-9-1 4.2.5.5; AMQP 1.0 1.6), each with what is written of it, or the first fault inside.
+-- Fields as values of AMQP 1.0 (AMQP 0-9-1 4.2.5.5; AMQP 1.0 1.6), each with what is written of it,
+-- or the first fault inside.
 use Rattle.std.specs.Prelude.{ℕ, List, [], ◌∷◌, ◌++◌, if◌then◌else◌, Ok, Err, Result}
 use Rattle.wire_base.specs.Reading.{◌>>=◌}
 use Rattle.tables_091.specs.Tree as field

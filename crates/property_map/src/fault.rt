@@ -29,7 +29,8 @@ pub enum PropName {
     Body,
 }
 
-/// Why a message of one protocol has no image in the other. A fault inside the headers is one of `Headers`.
+/// Why a message of one protocol has no image in the other. A fault inside the headers is one of
+/// `Headers`.
 #[derive(Debug, Drop)]
 pub enum MapFault {
     /// A text that is to be a string isn't UTF-8.

@@ -1,15 +1,17 @@
 //! The property headers in AMQP 1.0.
 
-ghost use Rattle.std.specs.Prelude.{◌≡◌, ◌≤◌, nat_le, [], take, map, length};
+ghost use Rattle.std.specs.Prelude.{◌≡◌, ℕ, nat_le, List, [], ◌∷◌, ◌++◌, OnOk};
 ghost use Rattle.wire_base.specs.Reading.{Gives};
 ghost use Rattle.tables_091.specs.Tree.{depth, list_depth, entries_depth};
 ghost use Rattle.tables_091.specs.View.{field_tree};
 ghost use Rattle.property_map.specs.Headers.{header_name_in, holds_others, headers_in, table_in};
+ghost use Rattle.property_map.specs.Names.{Holds};
 ghost use Rattle.property_map.specs.Rows.{headers_row};
 
 use crate::fault::{MapFault, PropName};
+use crate::names::Names;
 use crate::texts::{is_reserved, string_of};
-use crate::values::{is_named, value_of};
+use crate::values::value_of;
 use std::alloc::Global;
 use tables_091::{Field, FieldList, Table};
 use types_10::{PairList, Value10};
@@ -79,22 +81,18 @@ fn table_is_within(table: &Table, most: u8) -> bool
 
 // ---- headers
 
-/// The name of a header as a key.
-fn header_key(
-    alloc: Global,
-    table: &Table,
-    place: usize,
-    name: &ByteText,
-) -> Result<ByteText, Stop<MapFault>>
-    requires { place ≤ length table.now }
-    ensures { Gives (λ s. s) result
-        (header_name_in (map (λ m. m.0) (take place table.now)) name.now) }
+/// The name of a header as a key, after those that are there.
+fn header_key(alloc: Global, names: &mut Names, name: &ByteText) -> Result<ByteText, Stop<MapFault>>
+    ensures gives { (before : List (List ℕ)) → Holds names.old before
+        → Gives (λ s. s) result (header_name_in before name.now) }
+    ensures more { (before : List (List ℕ)) → Holds names.old before
+        → OnOk result (Holds names.new (before ++ name.now ∷ [])) }
 {
     let key = string_of(alloc, PropName::Headers, name)?;
     if is_reserved(key.as_slice()) {
         return Err(Stop::Fault(MapFault::Reserved(key)));
     }
-    if is_named(table, place, key.as_slice()) {
+    if !names.add(alloc, key.as_slice())? {
         return Err(Stop::Fault(MapFault::Repeated(key)));
     }
     Ok(key)
@@ -111,6 +109,7 @@ fn holds_others(field: &Field) -> bool
 fn maps_of(alloc: Global, table: &Table) -> Result<HeaderMaps, Stop<MapFault>>
     ensures { Gives (λ maps. maps) result (headers_in [] table.now) }
 {
+    let mut names = Names::empty(alloc);
     let mut application = PairList::empty(alloc);
     let mut annotation = PairList::empty(alloc);
     let mut k = 0;
@@ -118,7 +117,7 @@ fn maps_of(alloc: Global, table: &Table) -> Result<HeaderMaps, Stop<MapFault>>
         let Some((name, field)) = table.get(k) else {
             break;
         };
-        let key = header_key(alloc, table, k, name)?;
+        let key = header_key(alloc, &mut names, name)?;
         let value = value_of(alloc, field)?;
         if holds_others(field) {
             annotation.push((Value10::String(key), value))?;

@@ -5,6 +5,7 @@ ghost use Rattle.types_10.specs.View.{value_tree};
 ghost use Rattle.property_map.specs.Image.{a_string, header_with, annotation, nested_map, map_of, annotations_with, application_of, IsImage10, IsFault10};
 ghost use Rattle.property_map.specs.Said.{IsMessageOf, IsStop10};
 
+use crate::annotations::{APP_ID, CLUSTER_ID, EXCHANGE, HEADERS, KIND};
 use crate::fault::MapFault;
 use crate::headers::HeaderMaps;
 use crate::message::Message091;
@@ -13,17 +14,6 @@ use sections_10::{Body10, Message10, MsgHeader, MsgProps};
 use std::alloc::Global;
 use types_10::{PairList, Value10};
 use wire_base::{ByteText, Memory, Stop};
-
-/// The names of annotations.
-const EXCHANGE: &[u8] = b"x-opt-091-exchange";
-
-const KIND: &[u8] = b"x-opt-091-type";
-
-const APP_ID: &[u8] = b"x-opt-091-app-id";
-
-const CLUSTER_ID: &[u8] = b"x-opt-091-cluster-id";
-
-const HEADERS: &[u8] = b"x-opt-091-headers";
 
 /// The header, where one of its fields is there.
 fn header_of(durable: Option<bool>, priority: Option<u8>, ttl: Option<u32>) -> Option<MsgHeader>
@@ -185,11 +175,12 @@ fn image_of(alloc: Global, m: &Message091) -> Result<Message10, Stop<MapFault>>
 ///
 /// # Errors
 ///
-/// The first fault, in the order of the properties: first the exchange and the routing key, then the properties as they stand in a
-/// content header. `NotUtf8`, `NotAscii`: of a text. `Reserved`, `Repeated`: of the name of a header. `ValueKind`: a header or a
-/// field inside is a decimal. `Depth`: the headers are 16 deep, and are told so only where each is right. `DeliveryMode`: it is
-/// neither 1 nor 2. `Expiration`: it is no decimal number below 2^32, or has needless zeros. `Time`: a time whose milliseconds don't
-/// fit 63 bits.
+/// The first fault, in the order of the properties: first the exchange and the routing key, then
+/// the properties as they stand in a content header. `NotUtf8`, `NotAscii`: of a text. `Reserved`,
+/// `Repeated`: of the name of a header. `ValueKind`: a header or a field inside is a decimal.
+/// `Depth`: the headers are 16 deep, and are told so only where each is right. `DeliveryMode`: it
+/// is neither 1 nor 2. `Expiration`: it is no decimal number below 2^32, or has needless zeros.
+/// `Time`: a time whose milliseconds don't fit 63 bits.
 ///
 /// `Memory` where the allocator has no room.
 pub fn to_10(alloc: Global, m: &Message091) -> Result<Message10, MapFault>

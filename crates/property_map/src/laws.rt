@@ -1,9 +1,11 @@
 //! What holds of images. Only laws stand here.
 
-ghost use Rattle.std.specs.Prelude.{◌≡◌, None};
+ghost use Rattle.std.specs.Prelude.{◌≡◌, ℕ, List, None, Ok};
 ghost use Rattle.sections_10.specs.View.{kept_of};
 ghost use Rattle.sections_10.specs.declared.message.Message10.{Message10};
 ghost use Rattle.property_map.specs.Image.{IsImage10, first_fault};
+ghost use Rattle.property_map.specs.Image091.{image_in};
+ghost use Rattle.property_map.specs.Back.{Fits, IsSame};
 ghost use Rattle.property_map.specs.declared.message.Message091.{Message091};
 
 /// The laws of images, for proofs to cite; the call does nothing.
@@ -13,4 +15,8 @@ pub fn map_laws()
     // A message has one image at most, as far as its sections say something.
     ensures one { (m : Message091) (a b : Message10) → IsImage10 m a → IsImage10 m b
         → kept_of a ≡ kept_of b }
+    // A message that has an image, and fits, comes back from it, with its headers in any order.
+    ensures back { (m : Message091) (image : Message10) (queue : List ℕ) (room : ℕ)
+        → IsImage10 m image → Fits room m
+        → (out : Message091) × (image_in queue room image ≡ Ok out) × IsSame m out }
 {}

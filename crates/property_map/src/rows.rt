@@ -1,4 +1,5 @@
-//! What a message of AMQP 0-9-1 says in AMQP 1.0, row by row: the first row at fault ends the reading.
+//! What a message of AMQP 0-9-1 says in AMQP 1.0, row by row: the first row at fault ends the
+//! reading.
 
 ghost use Rattle.std.specs.Prelude.{◌≡◌};
 ghost use Rattle.std.specs.Char.{is_ascii_digit};

@@ -5,7 +5,7 @@ ghost use Rattle.std.specs.Char.{is_ascii};
 ghost use Rattle.std.specs.List.{list_all};
 ghost use Rattle.std.specs.Str.{is_utf8};
 ghost use Rattle.wire_base.specs.Reading.{Gives};
-ghost use Rattle.property_map.specs.Texts.{string_in, symbol_in, milliseconds_in, maybe_in, is_reserved};
+ghost use Rattle.property_map.specs.Texts.{string_in, symbol_in, milliseconds_in, short_in, seconds_in, maybe_in, is_reserved};
 
 use crate::fault::{MapFault, PropName};
 use std::alloc::Global;
@@ -13,6 +13,9 @@ use wire_base::{ByteText, Stop};
 
 /// The last second that has a number of milliseconds below 2^63.
 const LAST_SECOND: u64 = 9_223_372_036_854_775;
+
+/// The most bytes of a short string.
+const SHORT_MAX: usize = 255;
 
 /// How the names begin that stand for what has no other place in AMQP 1.0.
 const RESERVED: &[u8] = b"x-opt-091-";
@@ -73,6 +76,30 @@ pub(crate) fn milliseconds_of(name: PropName, seconds: u64) -> Result<i64, Stop<
     Ok(1000 * seconds as i64)
 }
 
+/// A copy of a text that becomes a short string.
+pub(crate) fn short_of(
+    alloc: Global,
+    name: PropName,
+    text: &[u8],
+) -> Result<ByteText, Stop<MapFault>>
+    ensures { Gives (λ s. s) result (short_in name text.now) }
+{
+    if text.len() > SHORT_MAX {
+        return Err(Stop::Fault(MapFault::TooLong(name)));
+    }
+    Ok(ByteText::copy_of(alloc, text)?)
+}
+
+/// Milliseconds as seconds, rounded down.
+pub(crate) fn seconds_of(name: PropName, milliseconds: i64) -> Result<u64, Stop<MapFault>>
+    ensures { Gives (λ n. n) result (seconds_in name milliseconds) }
+{
+    match u64::try_from(milliseconds) {
+        Ok(milliseconds) => Ok(milliseconds / 1000),
+        Err(_) => Err(Stop::Fault(MapFault::Time(name))),
+    }
+}
+
 /// A copy of a text that may be there, and becomes a string.
 pub(crate) fn maybe_string(
     alloc: Global,
@@ -97,6 +124,20 @@ pub(crate) fn maybe_symbol(
 {
     match text {
         Some(text) => Ok(Some(symbol_of(alloc, name, text)?)),
+        None => Ok(None),
+    }
+}
+
+/// A copy of a text that may be there, and becomes a short string.
+pub(crate) fn maybe_short(
+    alloc: Global,
+    name: PropName,
+    text: &Option<ByteText>,
+) -> Result<Option<ByteText>, Stop<MapFault>>
+    ensures { Gives (λ s. s) result (maybe_in (short_in name) text.now) }
+{
+    match text {
+        Some(text) => Ok(Some(short_of(alloc, name, text.as_slice())?)),
         None => Ok(None),
     }
 }

@@ -1,51 +1,31 @@
 //! Fields of AMQP 0-9-1 as values of AMQP 1.0.
 
-ghost use Rattle.std.specs.Prelude.{◌≡◌, ◌≤◌, [], take, map, length};
+ghost use Rattle.std.specs.Prelude.{ℕ, List, [], ◌∷◌, ◌++◌, OnOk};
 ghost use Rattle.wire_base.specs.Reading.{Gives};
 ghost use Rattle.tables_091.specs.Tree as field;
 ghost use Rattle.tables_091.specs.View.{field_tree};
 ghost use Rattle.types_10.specs.Tree.{trees_of, pairs_of};
 ghost use Rattle.types_10.specs.View.{value_tree};
-ghost use Rattle.property_map.specs.Texts.{is_among};
+ghost use Rattle.property_map.specs.Names.{Holds};
 ghost use Rattle.property_map.specs.Values.{name_in, value_in, values_in, pairs_in};
 
 use crate::fault::{MapFault, PropName};
+use crate::names::Names;
 use crate::texts::{milliseconds_of, string_of};
 use std::alloc::Global;
 use tables_091::{Field, FieldList, Table};
 use types_10::{PairList, Value10, ValueList};
 use wire_base::{ByteText, Stop};
 
-/// Whether one of the first entries of a table has this name.
-pub(crate) fn is_named(table: &Table, count: usize, name: &[u8]) -> bool
-    requires { count ≤ length table.now }
-    ensures { result ≡ is_among name.now (map (λ m. m.0) (take count table.now)) }
-{
-    let mut k = 0;
-    while k < count {
-        let Some((other, _)) = table.get(k) else {
-            break;
-        };
-        if other.as_slice() == name {
-            return true;
-        }
-        k += 1;
-    }
-    false
-}
-
-/// The name of an entry as a key.
-fn key_of(
-    alloc: Global,
-    table: &Table,
-    place: usize,
-    name: &ByteText,
-) -> Result<ByteText, Stop<MapFault>>
-    requires { place ≤ length table.now }
-    ensures { Gives (λ s. s) result (name_in (map (λ m. m.0) (take place table.now)) name.now) }
+/// The name of an entry as a key, after those that are there.
+fn key_of(alloc: Global, names: &mut Names, name: &ByteText) -> Result<ByteText, Stop<MapFault>>
+    ensures gives { (before : List (List ℕ)) → Holds names.old before
+        → Gives (λ s. s) result (name_in before name.now) }
+    ensures more { (before : List (List ℕ)) → Holds names.old before
+        → OnOk result (Holds names.new (before ++ name.now ∷ [])) }
 {
     let key = string_of(alloc, PropName::Headers, name)?;
-    if is_named(table, place, key.as_slice()) {
+    if !names.add(alloc, key.as_slice())? {
         return Err(Stop::Fault(MapFault::Repeated(key)));
     }
     Ok(key)
@@ -100,13 +80,14 @@ fn values_of(alloc: Global, list: &FieldList) -> Result<ValueList, Stop<MapFault
 fn pairs_of(alloc: Global, table: &Table) -> Result<PairList, Stop<MapFault>>
     ensures { Gives (λ ps. pairs_of ps) result (pairs_in [] (field.members_of table.now)) }
 {
+    let mut names = Names::empty(alloc);
     let mut pairs = PairList::empty(alloc);
     let mut k = 0;
     while k < table.len() {
         let Some((name, field)) = table.get(k) else {
             break;
         };
-        let key = key_of(alloc, table, k, name)?;
+        let key = key_of(alloc, &mut names, name)?;
         let value = value_of(alloc, field)?;
         pairs.push((Value10::String(key), value))?;
         k += 1;

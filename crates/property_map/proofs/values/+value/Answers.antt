@@ -5,8 +5,8 @@ use Rattle.tables_091.specs.Tree.{trees_of, members_of}
 use Rattle.tables_091.specs.View.{field_tree, entry_member}
 use Rattle.types_10.specs.View.{value_tree}
 use Rattle.property_map.specs.Values.{values_in, pairs_in}
-use Rattle.property_map.proofs.Fields.{found_at, none_past, list_holds, table_holds}
-use Rattle.property_map.proofs.Loops.{values_next, values_fail, values_over, pairs_next, pairs_fail_named, pairs_fail, pairs_over}
+use Rattle.property_map.proofs.Places.{found_at, none_past, list_holds, table_holds}
+use Rattle.property_map.proofs.Loops.{values_next, values_fail, values_over, pairs_next, pairs_fail_named, pairs_fail, pairs_over, names_before, names_more}
 use Rattle.property_map.proofs.values.+value.Goals.{values_of-else-loop-k-test, values_of-then-loop-k-test+in_default, pairs_of-else-loop-k-test, pairs_of-then-loop-k-test+in_default}
 use Rattle.property_map.proofs.values.+value.Goals as goal
 
@@ -43,7 +43,7 @@ pub pairs_of-returns-in_err-key : goal.pairs_of-returns-in_err-key
 pairs_of-returns-in_err-key t c =
     let p = err_from_is_err_and c.from_residual.result c.from_residual.ensures.1 in
     let is = found_at (λ e. entry_member e.now) c.get.result c.in-Some.field-0 c.args.table.now c.loop-k.k c.in-Some.is c.get.ensures in
-    rw (p.1, p.2) (pairs_fail_named c.in_err-key.field-0.0 c.loop-k.pairs c.args.table.now c.loop-k.k (entry_member c.in-Some.field-0.now) (pairs_in [] (members_of c.args.table.now)) is c.in_err-key.ensures c.loop-k.invariant)
+    rw (p.1, p.2) (pairs_fail_named c.in_err-key.field-0.0 c.loop-k.pairs c.args.table.now c.loop-k.k (entry_member c.in-Some.field-0.now) (pairs_in [] (members_of c.args.table.now)) is (c.in_err-key.ensures.gives (names_before c.args.table.now c.loop-k.k) c.loop-k.invariant.names) c.loop-k.invariant.made)
 
 pub pairs_of-value_of-requires : goal.pairs_of-value_of-requires
 pairs_of-value_of-requires t c =
@@ -55,18 +55,21 @@ pairs_of-returns-in_err-value t c =
     let p = err_from_is_err_and c.from_residual-in_err-value.result c.from_residual-in_err-value.ensures.1 in
     let is = found_at (λ e. entry_member e.now) c.get.result c.in-Some.field-0 c.args.table.now c.loop-k.k c.in-Some.is c.get.ensures in
     rw (p.1, p.2)
-    (pairs_fail c.in_err-value.field-0.0 c.loop-k.pairs c.args.table.now c.loop-k.k (entry_member c.in-Some.field-0.now) c.in_ok-key.key (pairs_in [] (members_of c.args.table.now)) is c.in_ok-key.ensures c.in_err-value.ensures c.loop-k.invariant)
+    (pairs_fail c.in_err-value.field-0.0 c.loop-k.pairs c.args.table.now c.loop-k.k (entry_member c.in-Some.field-0.now) c.in_ok-key.key (pairs_in [] (members_of c.args.table.now)) is (c.in_ok-key.ensures.gives (names_before c.args.table.now c.loop-k.k) c.loop-k.invariant.names) c.in_err-value.ensures c.loop-k.invariant.made)
 
 pub pairs_of-loop-k-preserved : goal.pairs_of-loop-k-preserved
 pairs_of-loop-k-preserved t c =
     let is = found_at (λ e. entry_member e.now) c.get.result c.in-Some.field-0 c.args.table.now c.loop-k.k c.in-Some.is c.get.ensures in
-    rw c.in_ok-push.ensures.ok
-    (pairs_next c.loop-k.pairs c.args.table.now c.loop-k.k (entry_member c.in-Some.field-0.now) c.in_ok-key.key (value_tree c.in_ok-value.value) (pairs_in [] (members_of c.args.table.now)) is c.in_ok-key.ensures c.in_ok-value.ensures c.loop-k.invariant)
+    record {
+      made = rw c.in_ok-push.ensures.ok
+          (pairs_next c.loop-k.pairs c.args.table.now c.loop-k.k (entry_member c.in-Some.field-0.now) c.in_ok-key.key (value_tree c.in_ok-value.value) (pairs_in [] (members_of c.args.table.now)) is (c.in_ok-key.ensures.gives (names_before c.args.table.now c.loop-k.k) c.loop-k.invariant.names) c.in_ok-value.ensures c.loop-k.invariant.made);
+      names = names_more c.key_of.new.names c.args.table.now c.loop-k.k (entry_member c.in-Some.field-0.now) is (c.in_ok-key.ensures.more (names_before c.args.table.now c.loop-k.k) c.loop-k.invariant.names);
+    }
 
 pub pairs_of-returns : goal.pairs_of-returns
 pairs_of-returns t c = elim c.loop-k-test.branch [
   | pairs_of-else-loop-k-test w ↦
-      pairs_over c.loop-k.pairs c.args.table.now c.loop-k.k (pairs_in [] (members_of c.args.table.now)) (grind (arith, nat_tests, w.loop-k-test.false, c.len.ensures)) c.loop-k.invariant
+      pairs_over c.loop-k.pairs c.args.table.now c.loop-k.k (pairs_in [] (members_of c.args.table.now)) (grind (arith, nat_tests, w.loop-k-test.false, c.len.ensures)) c.loop-k.invariant.made
   | pairs_of-then-loop-k-test+in_default w ↦
-      pairs_over c.loop-k.pairs c.args.table.now c.loop-k.k (pairs_in [] (members_of c.args.table.now)) (none_past (λ e. entry_member e.now) w.get.result c.args.table.now c.loop-k.k w.in_default.is w.get.ensures) c.loop-k.invariant
+      pairs_over c.loop-k.pairs c.args.table.now c.loop-k.k (pairs_in [] (members_of c.args.table.now)) (none_past (λ e. entry_member e.now) w.get.result c.args.table.now c.loop-k.k w.in_default.is w.get.ensures) c.loop-k.invariant.made
 ]

@@ -1,8 +1,9 @@
 use Rattle.std.proofs.Common.{◌≡◌, ◌+◌, ◌*◌, ◌-◌, [], length}
 use Rattle.tables_091.specs.Tree.{depth, list_depth, entries_depth, trees_of, members_of}
 use Rattle.tables_091.specs.View.{field_tree}
+use Rattle.property_map.specs.Names.{Holds}
 use Rattle.property_map.specs.Values.{values_in, pairs_in}
-use Rattle.property_map.proofs.Loops.{values_behind, values_from, pairs_behind, pairs_from}
+use Rattle.property_map.proofs.Loops.{values_behind, values_from, pairs_behind, pairs_from, names_before}
 use Rattle.property_map.proofs.values.+value.Given as goal
 
 abbrev pub decreases-value_of : goal.decreases-value_of
@@ -22,7 +23,7 @@ abbrev pub decreases-values_of-loop-k : goal.decreases-values_of-loop-k
 decreases-values_of-loop-k l = length l.list - l.k
 
 abbrev pub invariant-pairs_of-loop-k : goal.invariant-pairs_of-loop-k
-invariant-pairs_of-loop-k l = pairs_behind l.pairs (pairs_from l.table l.k) ≡ pairs_in [] (members_of l.table)
+invariant-pairs_of-loop-k l = record { made : pairs_behind l.pairs (pairs_from l.table l.k) ≡ pairs_in [] (members_of l.table); names : Holds l.names (names_before l.table l.k) }
 
 abbrev pub decreases-pairs_of-loop-k : goal.decreases-pairs_of-loop-k
 decreases-pairs_of-loop-k l = length l.table - l.k

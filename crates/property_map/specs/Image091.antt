@@ -1,0 +1,108 @@
+-- The image of a message of AMQP 1.0 in AMQP 0-9-1 (AMQP 1.0 3.2; AMQP 0-9-1 1.8.3): what the rows
+-- of the table say, one after another, or the first fault.
+use Rattle.std.specs.Prelude.{◌≡◌, ◌⊎◌, ℕ, nat_lt, Bool, List, None, option_map, Ok, Err, Result}
+use Rattle.wire_base.specs.Reading.{◌>>=◌}
+use Rattle.types_10.specs.View.{value_tree}
+use Rattle.content_091.specs.declared.header.Props.{Props}
+use Rattle.sections_10.specs.declared.message.Message10.{Message10}
+use Rattle.property_map.specs.Rows091.{header_in, properties_in, exchange_row, key_row, content_type_row, content_encoding_row, headers_row, delivery_mode_row, priority_row, correlation_id_row, reply_to_row, expiration_row, message_id_row, timestamp_row, kind_row, user_id_row, app_id_row, cluster_id_row, header_row, body_row}
+use Rattle.property_map.specs.declared.fault.MapFault.{MapFault}
+use Rattle.property_map.specs.declared.fault.MapFault.TheVariants as fault
+use Rattle.property_map.specs.declared.message.Message091.{Message091}
+
+-- ---- properties
+
+-- content-type to reply-to; those behind them absent
+unfoldable pub earlier_in : Message10 → Result Props MapFault
+earlier_in m = do
+  content_type ← content_type_row (properties_in m.properties).content_type
+  content_encoding ← content_encoding_row (properties_in m.properties).content_encoding
+  headers ← headers_row (option_map value_tree m.application) (option_map value_tree m.annotations)
+  delivery_mode ← delivery_mode_row (header_in m.header).durable
+  priority ← priority_row (header_in m.header).priority
+  correlation_id ← correlation_id_row (option_map value_tree (properties_in m.properties).correlation_id)
+  reply_to ← reply_to_row (properties_in m.properties).reply_to
+  Ok (record {
+    content_type = content_type;
+    content_encoding = content_encoding;
+    headers = headers;
+    delivery_mode = delivery_mode;
+    priority = priority;
+    correlation_id = correlation_id;
+    reply_to = reply_to;
+    expiration = None;
+    message_id = None;
+    timestamp = None;
+    kind = None;
+    user_id = None;
+    app_id = None;
+    cluster_id = None;
+  })
+
+-- expiration to cluster-id; those before them absent
+unfoldable pub later_in : Message10 → Result Props MapFault
+later_in m = do
+  expiration ← expiration_row (header_in m.header).ttl
+  message_id ← message_id_row (option_map value_tree (properties_in m.properties).message_id)
+  timestamp ← timestamp_row (properties_in m.properties).creation_time
+  kind ← kind_row (option_map value_tree m.annotations)
+  user_id ← user_id_row (properties_in m.properties).user_id
+  app_id ← app_id_row (option_map value_tree m.annotations)
+  cluster_id ← cluster_id_row (option_map value_tree m.annotations)
+  Ok (record {
+    content_type = None;
+    content_encoding = None;
+    headers = None;
+    delivery_mode = None;
+    priority = None;
+    correlation_id = None;
+    reply_to = None;
+    expiration = expiration;
+    message_id = message_id;
+    timestamp = timestamp;
+    kind = kind;
+    user_id = user_id;
+    app_id = app_id;
+    cluster_id = cluster_id;
+  })
+
+-- both
+abbrev pub both_of : Props → Props → Props
+both_of p q = record p {
+  expiration = q.expiration;
+  message_id = q.message_id;
+  timestamp = q.timestamp;
+  kind = q.kind;
+  user_id = q.user_id;
+  app_id = q.app_id;
+  cluster_id = q.cluster_id;
+}
+
+abbrev pub props_in : Message10 → Result Props MapFault
+props_in m = do
+  p ← earlier_in m
+  q ← later_in m
+  Ok (both_of p q)
+
+-- ---- the message
+
+-- a message of these parts
+abbrev pub with_body : List ℕ → List ℕ → Props → Result (List ℕ) MapFault → Result Message091 MapFault
+with_body exchange key props read = read >>= λ body. Ok (record { exchange = exchange; key = key; props = props; body = body })
+
+-- the image of a message from this queue, whose header fits this room
+unfoldable pub image_in : List ℕ → ℕ → Message10 → Result Message091 MapFault
+image_in queue room m = do
+  exchange ← exchange_row (option_map value_tree m.annotations)
+  key ← key_row (properties_in m.properties).subject queue
+  all ← props_in m
+  props ← header_row room all
+  with_body exchange key props (body_row m.body)
+
+-- what a call answers: the first fault of a message, but where memory ran out
+abbrev pub IsFault091 : List ℕ → ℕ → Message10 → MapFault → Type 0
+IsFault091 queue room m f = (f ≡ fault.Memory) ⊎ (image_in queue room m ≡ Err f)
+
+-- it was delivered before
+abbrev pub is_redelivered : Message10 → Bool
+is_redelivered m = nat_lt 0 (header_in m.header).delivery_count

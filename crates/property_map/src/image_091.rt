@@ -1,0 +1,267 @@
+//! The image of a message of AMQP 1.0 in AMQP 0-9-1.
+
+ghost use Rattle.std.specs.Prelude.{◌≡◌, None, IfOk, IfErr, Ok};
+ghost use Rattle.wire_base.specs.Reading.{Gives};
+ghost use Rattle.property_map.specs.Rows091.{header_in, properties_in, body_row};
+ghost use Rattle.property_map.specs.Image091.{earlier_in, later_in, both_of, props_in, with_body, image_in, IsFault091, is_redelivered};
+
+use crate::annotations::{APP_ID, CLUSTER_ID, KIND};
+use crate::fault::{MapFault, PropName};
+use crate::headers_091::headers_of;
+use crate::message::Message091;
+use crate::room::fitting;
+use crate::rows_091::{
+    body_of, exchange_of, expiration_of, key_of, maybe_id, mode_of, short_annotation, timestamp_of,
+};
+use crate::texts::maybe_short;
+use content_091::Props;
+use sections_10::{Body10, Message10, MsgHeader, MsgProps};
+use std::alloc::Global;
+use wire_base::{ByteText, Stop};
+
+// ---- sections that aren't there
+
+fn no_header() -> MsgHeader
+    ensures { result ≡ header_in None }
+{
+    MsgHeader {
+        durable: None,
+        priority: None,
+        ttl: None,
+        first_acquirer: false,
+        delivery_count: 0,
+    }
+}
+
+fn no_properties() -> MsgProps
+    ensures { result ≡ properties_in None }
+{
+    MsgProps {
+        message_id: None,
+        user_id: None,
+        to: None,
+        subject: None,
+        reply_to: None,
+        correlation_id: None,
+        content_type: None,
+        content_encoding: None,
+        absolute_expiry_time: None,
+        creation_time: None,
+        group_id: None,
+        group_sequence: None,
+        reply_to_group_id: None,
+    }
+}
+
+fn header_or<'a>(header: &'a Option<MsgHeader>, absent: &'a MsgHeader) -> &'a MsgHeader
+    requires { absent.now ≡ header_in None }
+    ensures { result.now ≡ header_in header.now }
+{
+    match header {
+        Some(header) => header,
+        None => absent,
+    }
+}
+
+fn properties_or<'a>(properties: &'a Option<MsgProps>, absent: &'a MsgProps) -> &'a MsgProps
+    requires { absent.now ≡ properties_in None }
+    ensures { result.now ≡ properties_in properties.now }
+{
+    match properties {
+        Some(properties) => properties,
+        None => absent,
+    }
+}
+
+// ---- properties
+
+/// The properties up to reply-to.
+#[tactic(auto, unfolding(crate::specs::Image091::earlier_in))]
+fn earlier_of(
+    alloc: Global,
+    m: &Message10,
+    h: &MsgHeader,
+    p: &MsgProps,
+) -> Result<Props, Stop<MapFault>>
+    requires header { h.now ≡ header_in m.now.header }
+    requires properties { p.now ≡ properties_in m.now.properties }
+    ensures { Gives (λ p. p) result (earlier_in m.now) }
+{
+    Ok(Props {
+        content_type: maybe_short(alloc, PropName::ContentType, &p.content_type)?,
+        content_encoding: maybe_short(alloc, PropName::ContentEncoding, &p.content_encoding)?,
+        headers: headers_of(alloc, &m.application, &m.annotations)?,
+        delivery_mode: mode_of(h.durable),
+        priority: h.priority,
+        correlation_id: maybe_id(alloc, PropName::CorrelationId, &p.correlation_id)?,
+        reply_to: maybe_short(alloc, PropName::ReplyTo, &p.reply_to)?,
+        expiration: None,
+        message_id: None,
+        timestamp: None,
+        kind: None,
+        user_id: None,
+        app_id: None,
+        cluster_id: None,
+    })
+}
+
+/// The properties from expiration on.
+#[tactic(auto, unfolding(crate::specs::Image091::later_in))]
+fn later_of(
+    alloc: Global,
+    m: &Message10,
+    h: &MsgHeader,
+    p: &MsgProps,
+) -> Result<Props, Stop<MapFault>>
+    requires header { h.now ≡ header_in m.now.header }
+    requires properties { p.now ≡ properties_in m.now.properties }
+    ensures { Gives (λ p. p) result (later_in m.now) }
+{
+    Ok(Props {
+        content_type: None,
+        content_encoding: None,
+        headers: None,
+        delivery_mode: None,
+        priority: None,
+        correlation_id: None,
+        reply_to: None,
+        expiration: expiration_of(alloc, h.ttl)?,
+        message_id: maybe_id(alloc, PropName::MessageId, &p.message_id)?,
+        timestamp: timestamp_of(p.creation_time)?,
+        kind: short_annotation(alloc, PropName::Kind, KIND, &m.annotations)?,
+        user_id: maybe_short(alloc, PropName::UserId, &p.user_id)?,
+        app_id: short_annotation(alloc, PropName::AppId, APP_ID, &m.annotations)?,
+        cluster_id: short_annotation(alloc, PropName::ClusterId, CLUSTER_ID, &m.annotations)?,
+    })
+}
+
+/// The properties up to reply-to of one, and from expiration on of the other.
+fn both_of(p: Props, q: Props) -> Props
+    ensures { result ≡ both_of p q }
+{
+    Props {
+        expiration: q.expiration,
+        message_id: q.message_id,
+        timestamp: q.timestamp,
+        kind: q.kind,
+        user_id: q.user_id,
+        app_id: q.app_id,
+        cluster_id: q.cluster_id,
+        ..p
+    }
+}
+
+/// All properties.
+fn props_of(
+    alloc: Global,
+    m: &Message10,
+    h: &MsgHeader,
+    p: &MsgProps,
+) -> Result<Props, Stop<MapFault>>
+    requires header { h.now ≡ header_in m.now.header }
+    requires properties { p.now ≡ properties_in m.now.properties }
+    ensures { Gives (λ p. p) result (props_in m.now) }
+{
+    let earlier = earlier_of(alloc, m, h, p)?;
+    match later_of(alloc, m, h, p) {
+        Ok(later) => Ok(both_of(earlier, later)),
+        Err(stop) => Err(stop),
+    }
+}
+
+/// A message of these parts, with the body of another one.
+fn message_with(
+    alloc: Global,
+    exchange: ByteText,
+    key: ByteText,
+    props: Props,
+    body: &Body10,
+) -> Result<Message091, Stop<MapFault>>
+    ensures { Gives (λ m. m) result (with_body exchange key props (body_row body.now)) }
+{
+    match body_of(alloc, body) {
+        Ok(body) => Ok(Message091 {
+            exchange,
+            key,
+            props,
+            body,
+        }),
+        Err(stop) => Err(stop),
+    }
+}
+
+// ---- the message
+
+/// The image of a message with this header and these properties, or its first fault.
+#[tactic(auto, unfolding(crate::specs::Image091::image_in))]
+fn image_with(
+    alloc: Global,
+    m: &Message10,
+    h: &MsgHeader,
+    p: &MsgProps,
+    queue: &[u8],
+    room: u32,
+) -> Result<Message091, Stop<MapFault>>
+    requires header { h.now ≡ header_in m.now.header }
+    requires properties { p.now ≡ properties_in m.now.properties }
+    ensures { Gives (λ m. m) result (image_in queue.now room m.now) }
+{
+    let exchange = exchange_of(alloc, &m.annotations)?;
+    let key = key_of(alloc, &p.subject, queue)?;
+    let all = props_of(alloc, m, h, p)?;
+    let props = fitting(room, all)?;
+    message_with(alloc, exchange, key, props, &m.body)
+}
+
+/// The image of a message, or its first fault.
+fn image_of(
+    alloc: Global,
+    m: &Message10,
+    queue: &[u8],
+    room: u32,
+) -> Result<Message091, Stop<MapFault>>
+    ensures { Gives (λ m. m) result (image_in queue.now room m.now) }
+{
+    let absent_header = no_header();
+    let absent_properties = no_properties();
+    let h = header_or(&m.header, &absent_header);
+    let p = properties_or(&m.properties, &absent_properties);
+    image_with(alloc, m, h, p, queue, room)
+}
+
+/// The image of a message in AMQP 0-9-1, as it comes from this queue. `room` is the longest payload
+/// of a content header.
+///
+/// # Errors
+///
+/// The first fault, in the order of the properties: first the exchange and the routing key, then
+/// the properties as they stand in a content header, then the header as a whole and the body.
+/// `TooLong`: a text or a name of more than 255 bytes, a header that is longer than `room`, or a
+/// body of more than 16,777,216 bytes. `ValueKind`: a value that AMQP 0-9-1 has no type for, a key
+/// that is neither a string nor a symbol, or an annotation or an id of another type. `Repeated`:
+/// two entries of a table have this name. `Time`: a time before 1970. `BodyKind`: a body that is
+/// neither bytes nor one text.
+///
+/// `Memory` where the allocator has no room.
+pub fn to_091(alloc: Global, m: &Message10, queue: &[u8], room: u32) -> Result<Message091, MapFault>
+    // The image, by the rows of the table.
+    ensures image { IfOk result (λ image. image_in queue.now room m.now ≡ Ok image) }
+    // Else the first row at fault.
+    ensures fault { IfErr result (IsFault091 queue.now room m.now) }
+{
+    match image_of(alloc, m, queue, room) {
+        Ok(image) => Ok(image),
+        Err(Stop::Memory) => Err(MapFault::Memory),
+        Err(Stop::Fault(fault)) => Err(fault),
+    }
+}
+
+/// Whether a message was delivered before.
+pub fn redelivered(m: &Message10) -> bool
+    ensures { result ≡ is_redelivered m.now }
+{
+    match &m.header {
+        Some(header) => header.delivery_count > 0,
+        None => false,
+    }
+}
