@@ -374,7 +374,7 @@ impl UpCore {
     {
         match &self.container {
             None => false,
-            Some(container) => matches!(container.stream(), Stream10::Closed),
+            Some(container) => matches!(container.stream(), Stream10::Closed | Stream10::Spent),
         }
     }
 

@@ -84,6 +84,7 @@ is_closed_stream (stream.Header k) = false
 is_closed_stream stream.Frames = false
 is_closed_stream stream.Bad = false
 is_closed_stream stream.Closed = true
+is_closed_stream stream.Spent = true
 is_closed_stream stream.Ended = false
 
 -- its bytes are no units any more
@@ -92,6 +93,7 @@ is_bad_stream (stream.Header k) = false
 is_bad_stream stream.Frames = false
 is_bad_stream stream.Bad = true
 is_bad_stream stream.Closed = false
+is_bad_stream stream.Spent = false
 is_bad_stream stream.Ended = false
 
 -- the greatest number of a channel that it takes

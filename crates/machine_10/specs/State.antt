@@ -61,7 +61,8 @@ abbrev pub awaited_in : Stream10 → Awaited10
 awaited_in (stream.Header k) = awaited.Header k
 awaited_in stream.Frames = awaited.Frame
 awaited_in stream.Bad = awaited.Nothing
-awaited_in stream.Closed = awaited.Nothing
+awaited_in stream.Closed = awaited.Frame
+awaited_in stream.Spent = awaited.Nothing
 awaited_in stream.Ended = awaited.Nothing
 
 abbrev pub awaits : Upstream → Awaited10

@@ -61,7 +61,8 @@ abbrev pub spoiled : Stream10 → Stream10
 spoiled (stream.Header k) = stream.Bad
 spoiled stream.Frames = stream.Bad
 spoiled stream.Bad = stream.Bad
-spoiled stream.Closed = stream.Closed
+spoiled stream.Closed = stream.Spent
+spoiled stream.Spent = stream.Spent
 spoiled stream.Ended = stream.Ended
 
 abbrev pub stream_after : Unit10 → Stream10 → Stream10
@@ -196,7 +197,7 @@ abbrev pub end_effect : Upstream → Option ℕ → Parts → List ℕ → Step
 end_effect c None p payload = (c, Nothing)
 end_effect c (Some g) p payload = ended_effect (session_at c g) c g p payload
 
--- the container's close ends its stream
+-- frames are awaited behind the container's close too, and passed over
 abbrev pub close_effect : Upstream → Tree → Step
 close_effect c e = (record c { phase = phase.Closed; stream = stream.Closed }, Closed e)
 
@@ -230,7 +231,7 @@ body_effect q c n Empty = (c, Nothing)
 body_effect q c n (Faulty e) = (c, Nothing)
 body_effect q c n (Whole p payload) = perf_effect q c n p payload
 
--- a frame that is refused; a close ends the container's stream all the same
+-- a frame that is refused; a close counts all the same
 abbrev pub refused_step : Upstream → Condition → Bool → Step
 refused_step c why false = violated c why c.stream
 refused_step c why true = (record c { phase = phase.Closed; stream = stream.Closed }, Violation why)

@@ -38,8 +38,10 @@ pub enum Stream10 {
     Frames,
     /// Bytes came with which no unit begins, or another header than the awaited one.
     Bad,
-    /// The container's close came.
+    /// The container's close came. Frames are awaited, and passed over.
     Closed,
+    /// After its close bytes came with which no unit begins.
+    Spent,
     /// The container's end ended, or was given up.
     Ended,
 }
@@ -157,8 +159,8 @@ impl Upstream {
     {
         match self.stream {
             Stream10::Header(kind) => Awaited10::Header(kind),
-            Stream10::Frames => Awaited10::Frame,
-            Stream10::Bad | Stream10::Closed | Stream10::Ended => Awaited10::Nothing,
+            Stream10::Frames | Stream10::Closed => Awaited10::Frame,
+            Stream10::Bad | Stream10::Spent | Stream10::Ended => Awaited10::Nothing,
         }
     }
 

@@ -32,7 +32,8 @@ fn spoiled(stream: Stream10) -> Stream10
 {
     match stream {
         Stream10::Header(_) | Stream10::Frames | Stream10::Bad => Stream10::Bad,
-        Stream10::Closed | Stream10::Ended => stream,
+        Stream10::Closed | Stream10::Spent => Stream10::Spent,
+        Stream10::Ended => stream,
     }
 }
 
@@ -189,7 +190,7 @@ impl Upstream {
         }
     }
 
-    /// A frame that is refused. A refused close ends the container's stream all the same.
+    /// A frame that is refused. A close counts all the same.
     #[tactic(auto, unfolding(crate::specs::Transitions::meaning_of))]
     fn refuse(&mut self, condition: Condition, closes: bool) -> Want10
         ensures state { self.new ≡ (refused_step self.old condition closes).0 }
