@@ -18,6 +18,7 @@ IsLoginWant want.Start = Unit {0}
 IsLoginWant want.Tuned = Unit {0}
 IsLoginWant want.OpenUp = Unit {0}
 IsLoginWant (want.Method n m) = Unit {0}
+IsLoginWant (want.Publish n m c) = Unit {0}
 IsLoginWant (want.ChannelCloseOk n) = Unit {0}
 IsLoginWant want.Close = Unit {0}
 IsLoginWant want.CloseOk = Unit {0}

@@ -44,6 +44,11 @@ impl Model for Bridge {
 
     ghost Value = { BridgeState };
 
+    ghost use Rattle.tables_091.specs.TreeCode.{tree_code};
+    ghost use Rattle.std.specs.Coded.{codes};
+
+    ghost coded = { Prim.hlevel (codes, tree_code) };
+
     ghost view = { λ a. record {
       state = a.state;
       client = record { ready = is_some a.client.chosen; bytes = a.client.bytes };

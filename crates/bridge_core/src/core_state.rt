@@ -45,6 +45,7 @@ use crate::channel_rows::{
 };
 use crate::lives::{Lives, old_life};
 use crate::queue::{Queue, channel_of, waits_for_all};
+use crate::requests::take;
 use crate::sessions::{carried_by, fault_of, flow_sent};
 use crate::up_core::UpCore;
 use close_translate::{
@@ -58,7 +59,7 @@ use gate_model::{
 use gate_outside::{End, Linked};
 use gate_relay::{Loss, Side};
 use machine_10::{Awaited10, Conn10, Unit10, Want10};
-use machine_091::{Awaited91, Conn91, Phase91, Refusal, Stream91, Unit91, Want91, connection_laws};
+use machine_091::{Awaited91, Conn91, Phase91, Refusal, Stream91, Unit91, Want91};
 use methods_091::Method91;
 use performatives_10::{Condition, Error10, Perf};
 use std::alloc::Global;
@@ -94,6 +95,11 @@ impl Model for Core {
     ghost use Rattle.gate_model.specs.State.{State};
 
     ghost Value = { State };
+
+    ghost use Rattle.tables_091.specs.TreeCode.{tree_code};
+    ghost use Rattle.std.specs.Coded.{codes};
+
+    ghost coded = { Prim.hlevel (codes, tree_code) };
 
     ghost view = { λ a. record {
       number = a.number;
@@ -451,6 +457,32 @@ impl Core {
         );
     }
 
+    /// A refusal closes the connection or a channel, and that is told.
+    fn meet_refusal(&mut self, closing: bool, refusal: Refusal)
+        ensures { self.new ≡ met closing (want.Refuse refusal) self.old }
+    {
+        let condition = condition_of(refusal.code);
+        match refusal.scope {
+            Scope::Connection => {
+                self.pending.close = Some(refusal);
+                self.up.set_condition(closing, Some(condition));
+            }
+            Scope::Channel => {
+                let life = self.lives.at(refusal.channel);
+                self.lives.set(
+                    refusal.channel,
+                    Life {
+                        over: true,
+                        close: Some(refusal),
+                        why: Some(condition),
+                        ..old_life(life)
+                    },
+                );
+                self.up.set_condition(closing, None);
+            }
+        }
+    }
+
     /// What a unit of the client wants is met. `closing` says that the connection closed before it.
     fn meet(&mut self, alloc: Global, closing: bool, want: Want91)
         requires login { IsLoginWant want }
@@ -485,11 +517,13 @@ impl Core {
                 self.client_closed |= !closing;
                 self.up.set_condition(closing, None);
             }
-            Want91::Refuse(refusal) => {
-                self.pending.close = Some(refusal);
-                self.up
-                    .set_condition(closing, Some(condition_of(refusal.code)));
+            // every basic.publish is refused
+            Want91::Publish(_, method, content) => {
+                drop(content);
+                release_method(method);
+                self.up.set_condition(closing, None);
             }
+            Want91::Refuse(refusal) => self.meet_refusal(closing, refusal),
         }
     }
 
@@ -511,10 +545,9 @@ impl Core {
         ensures err { OnErr result (self.new ≡ self.old) }
         ensures kept { KeepsGoing self.old self.new }
     {
-        connection_laws();
         let foreign = is_foreign(&self.conn);
         let closing = self.conn.is_closing();
-        match self.conn.take(alloc, unit) {
+        match take(&mut self.conn, alloc, unit) {
             Ok(want) => {
                 let turns = is_foreign(&self.conn) && !foreign;
                 self.meet(alloc, closing, want);

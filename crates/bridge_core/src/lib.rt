@@ -8,6 +8,7 @@ mod core_state;
 mod frames;
 mod lives;
 mod queue;
+mod requests;
 mod sessions;
 mod slot;
 mod up_core;

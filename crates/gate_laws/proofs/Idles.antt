@@ -10,7 +10,6 @@ use Rattle.gate_relay.specs.Relayed.{IsRelayed}
 use Rattle.gate_relay.specs.Sides.{is_readable}
 use Rattle.gate_relay.specs.declared.sides.Side.{Side}
 use Rattle.machine_091.specs.State.{awaits, is_closing, is_opening}
-use Rattle.machine_091.specs.Transitions.{unit_step}
 use Rattle.machine_091.specs.declared.unit.Unit91.{Unit91}
 use Rattle.machine_091.specs.declared.unit.Want91.{Want91}
 use Rattle.machine_10.specs.declared.state.Upstream.{Upstream}
@@ -22,6 +21,7 @@ use Rattle.gate_model.specs.Lives.{any_life, is_done, life_at, session_in}
 use Rattle.gate_model.specs.Picks.{ArePicks}
 use Rattle.gate_model.specs.Queue.{Waits, can_take, channel_of, holds, is_bad_unit, is_empty, is_full, place_from, place_in, waits_for_all}
 use Rattle.gate_model.specs.Setup.{SetupText}
+use Rattle.gate_model.specs.Requests.{client_step}
 use Rattle.gate_model.specs.State.{State, Step, Came, Joined, TakenUp, before, came, close_waits, condition_by, dequeued, is_channel_settled, is_held, is_settled, keep_login, left, life_waits, next_unit, place, step, waits}
 use Rattle.gate_model.specs.Upstream.{UpState, awaited_of, closing_with, has_closed, is_awaited_up}
 use Rattle.gate_model.proofs.Connections.{clash}
@@ -125,9 +125,9 @@ came_kept w v u k = by v.out_of_memory
     by : (b : Bool) → Kept w (if b then v else came (dequeued v) u)
     by true = k
     by false = record {
-      side = ap (λ (s : UpState). s.side) (wanted_up (is_closing v.conn) (unit_step v.conn u).1 v.up) ∙ k.side;
+      side = ap (λ (s : UpState). s.side) (wanted_up (is_closing v.conn) (client_step v.conn u).1 v.up) ∙ k.side;
       container = λ late.
-          ap (λ (s : UpState). s.container) (wanted_up (is_closing v.conn) (unit_step v.conn u).1 v.up)
+          ap (λ (s : UpState). s.container) (wanted_up (is_closing v.conn) (client_step v.conn u).1 v.up)
           ∙ login_late v.conn u v.up.container (k.late late) ∙ k.container late;
       late = λ late. unit_late v.conn u (k.late late);
     }

@@ -8,7 +8,6 @@ use Rattle.gate_relay.specs.Sides.{is_absent, is_readable}
 use Rattle.close_translate.specs.declared.conditions.Scope.TheVariants as scope
 use Rattle.machine_091.specs.Calls.{after_closing, after_ended, after_opened, closing_phase, opened_phase}
 use Rattle.machine_091.specs.State.{is_open, is_open_phase, is_opening}
-use Rattle.machine_091.specs.Transitions.{unit_step}
 use Rattle.machine_091.specs.Transitions as machine
 use Rattle.machine_091.specs.declared.state.Connection.{Connection}
 use Rattle.machine_091.specs.declared.state.Phase91.{Phase91}
@@ -23,11 +22,13 @@ use Rattle.performatives_10.specs.Fields.{is_absent as is_missing}
 use Rattle.gate_model.specs.declared.outgoing.Outgoing.TheVariants.{ToClient, ToUp}
 use Rattle.gate_model.specs.Folds.{Peers, accepted_in, conn_by, conn_session, connection, container, container_kept, leaving_in, peers, peers_came, peers_heard, ran_out_in, side_in}
 use Rattle.gate_model.specs.Picks.{ArePicks}
+use Rattle.gate_model.specs.Requests.{client_step}
 use Rattle.gate_model.specs.State.{Step, Began, Moment, Fed, Silent, Queued, Came, TakenUp, Heard, Joined, Lost, Gave, Whole, OutOfMemory, before, close, close_if, conn_step, is_limit_reached}
 use Rattle.gate_model.specs.Upstream.{channel_max_in, meaning_by}
-use Rattle.gate_model.proofs.Connections.{clash, only_closing, only_given, phase_only}
+use Rattle.gate_model.proofs.Connections.{clash, only_given, phase_only}
+use Rattle.gate_model.proofs.Outcomes.{only_closing}
 use Rattle.gate_model.proofs.Known.{conn_is, known}
-use Rattle.gate_model.proofs.Outcomes.{Outcome, Greets, Parts, LogsIn, Tunes, Asks, Passes, Refuses, Parting, Calls, Asking, Frees, Closes, Answers, Ignores, outcome}
+use Rattle.gate_model.proofs.Outcomes.{Outcome, Greets, Parts, LogsIn, Tunes, Asks, Passes, Refuses, Declines, Drops, Parting, Calls, Asking, Fills, Frees, Closes, Answers, Ignores, outcome}
 use Rattle.gate_model.proofs.Ups.{is_early}
 use Rattle.gate_turn_laws.proofs.Lists.{and_parts}
 
@@ -43,7 +44,7 @@ closing_late phase.Closing = refl
 closing_late phase.Closed = refl
 
 pub unit_late : (c : Connection) (u : Unit91) → is_early c.phase ≡ false → is_early (conn_step c u).phase ≡ false
-unit_late c u late = by (unit_step c u) (outcome c u)
+unit_late c u late = by (client_step c u) (outcome c u)
   where
     by : (x : machine.Step) → Outcome c u x → is_early x.0.phase ≡ false
     by _ (Greets e) = absurd (clash _ (ap is_early e) late)
@@ -52,18 +53,21 @@ unit_late c u late = by (unit_step c u) (outcome c u)
     by _ (Tunes l e) = refl
     by _ (Asks e) = late
     by _ Passes = late
-    by _ (Refuses r a f e) = refl
+    by _ (Refuses r a f e g) = refl
+    by _ (Declines r d o e g) = closing_late d.phase
+    by _ (Drops r d o e g) = ap is_early (phase_only o) ∙ late
     by _ (Parting e) = refl
     by _ (Calls n s m e) = late
     by _ (Asking n m e) = late
+    by _ (Fills n i e) = late
     by _ (Frees n e) = late
     by _ (Closes e) = refl
     by _ (Answers e) = refl
     by _ (Ignores e) = late
 
 -- the login is the one unit that tells a container
-pub login_late : (c : Connection) (u : Unit91) (o : Option Upstream) → is_early c.phase ≡ false → container_kept o (unit_step c u).1 ≡ o
-login_late c u o late = by (unit_step c u) (outcome c u)
+pub login_late : (c : Connection) (u : Unit91) (o : Option Upstream) → is_early c.phase ≡ false → container_kept o (client_step c u).1 ≡ o
+login_late c u o late = by (client_step c u) (outcome c u)
   where
     by : (x : machine.Step) → Outcome c u x → container_kept o x.1 ≡ o
     by _ (Greets e) = refl
@@ -72,10 +76,13 @@ login_late c u o late = by (unit_step c u) (outcome c u)
     by _ (Tunes l e) = refl
     by _ (Asks e) = refl
     by _ Passes = refl
-    by _ (Refuses r a f e) = refl
+    by _ (Refuses r a f e g) = refl
+    by _ (Declines r d o e g) = refl
+    by _ (Drops r d o e g) = refl
     by _ (Parting e) = refl
     by _ (Calls n s m e) = refl
     by _ (Asking n m e) = refl
+    by _ (Fills n i e) = refl
     by _ (Frees n e) = refl
     by _ (Closes e) = refl
     by _ (Answers e) = refl

@@ -4,7 +4,6 @@ use Rattle.gate_outside.specs.declared.ports.End.TheVariants.{Client, Up}
 use Rattle.gate_outside.specs.declared.ports.Linked.TheVariants as link
 use Rattle.gate_relay.specs.declared.loss.Loss.TheVariants as loss
 use Rattle.machine_091.specs.State.{is_closing, is_opening}
-use Rattle.machine_091.specs.Transitions.{unit_step}
 use Rattle.machine_091.specs.declared.unit.Unit91.{Unit91}
 use Rattle.machine_091.specs.declared.unit.Want91.{Want91}
 use Rattle.machine_091.specs.declared.unit.Want91.TheVariants as want
@@ -15,6 +14,7 @@ use Rattle.machine_10.specs.declared.unit.Unit10.{Unit10}
 use Rattle.methods_091.specs.declared.method.Method91.{Method91}
 use Rattle.methods_091.specs.declared.method.Method91.TheVariants as method
 use Rattle.performatives_10.specs.declared.condition.Condition.{Condition}
+use Rattle.close_translate.specs.Conditions.{condition_of}
 use Rattle.gate_model.specs.declared.life.Life.{Life}
 use Rattle.gate_model.specs.declared.life.SessionState.{SessionState}
 use Rattle.gate_model.specs.declared.outgoing.Outgoing.TheVariants.{ToClient, ToUp}
@@ -23,9 +23,10 @@ use Rattle.gate_model.specs.declared.outgoing.UpUnit.TheVariants as up
 use Rattle.gate_model.specs.declared.reply.Reply.{Reply}
 use Rattle.gate_model.specs.declared.reply.Reply.TheVariants as reply
 use Rattle.gate_model.specs.Folds.{carried_heard, carried_sent, carrying, container, ran_out_in}
-use Rattle.gate_model.specs.Lives.{life_at, lives_by, method_life, no_life, no_lives, with_life, with_state}
+use Rattle.gate_model.specs.Lives.{failed_life, life_at, lives_by, method_life, no_life, no_lives, with_life, with_state, is_of_channel}
 use Rattle.gate_model.specs.Picks.{ArePicks}
 use Rattle.gate_model.specs.Session.{carried_by, flow_sent, is_flow_owed, no_session}
+use Rattle.gate_model.specs.Requests.{client_step}
 use Rattle.gate_model.specs.State.{Began, Came, Fed, Gave, Heard, Joined, Lost, Moment, OutOfMemory, Queued, Silent, State, Step, TakenUp, Whole, before, came, carried, dequeued, fail, failed, heard, left, runs, with_meaning, without_begin, without_life}
 use Rattle.gate_model.specs.Upstream.{heard_up, meaning_by}
 use Rattle.gate_model.proofs.Known.{container_is, known, memory_is}
@@ -87,10 +88,16 @@ want_keeps n (want.Login m r) ls = refl
 want_keeps n want.Tuned ls = refl
 want_keeps n want.OpenUp ls = refl
 want_keeps n (want.Method k m) ls = keeps_at n k ls _ (method_keeps m (life_at ls k))
+want_keeps n (want.Publish k m x) ls = refl
 want_keeps n (want.ChannelCloseOk k) ls = keeps_at n k ls _ refl
 want_keeps n want.Close ls = refl
 want_keeps n want.CloseOk ls = refl
-want_keeps n (want.Refuse r) ls = refl
+want_keeps n (want.Refuse r) ls = by (is_of_channel r)
+  where
+    by : (b : Bool) → (life_at (if b then with_life r.channel (failed_life r (Some (condition_of r.code)) (life_at ls r.channel)) ls else ls) n).session
+        ≡ (life_at ls n).session
+    by true = keeps_at n r.channel ls _ refl
+    by false = refl
 
 given_keeps : (n : ℕ) (u : Reply) (ls : List Life) → at n (without_life u ls) ≡ at n ls
 given_keeps n reply.Protocol ls = refl
@@ -179,7 +186,7 @@ came_keeps n w u = by w.out_of_memory
   where
     by : (b : Bool) → at n (if b then w else came (dequeued w) u).lives ≡ at n w.lives
     by true = refl
-    by false = want_keeps n (unit_step w.conn u).1 w.lives
+    by false = want_keeps n (client_step w.conn u).1 w.lives
 
 queued_keeps : (n : ℕ) (w : State) (us : List Unit91) → at n (if w.out_of_memory then w else record w { queue = us }).lives ≡ at n w.lives
 queued_keeps n w us = by w.out_of_memory

@@ -11,7 +11,6 @@ use Rattle.machine_091.specs.Calls.{after_closing, after_ended, after_opened}
 use Rattle.machine_10.specs.Reading.{field}
 use Rattle.performatives_10.specs.Fields.{is_absent}
 use Rattle.machine_091.specs.State.{is_closing, is_open, is_opening}
-use Rattle.machine_091.specs.Transitions.{unit_step}
 use Rattle.machine_091.specs.Transitions as machine
 use Rattle.machine_091.specs.declared.state.Connection.{Connection}
 use Rattle.machine_091.specs.declared.unit.Unit91.{Unit91}
@@ -27,17 +26,19 @@ use Rattle.gate_model.specs.declared.outgoing.UpUnit.TheVariants as up
 use Rattle.gate_model.specs.Asked.{closing_condition, condition_at, condition_told, is_opening_unit, is_up_close}
 use Rattle.gate_model.specs.Folds.{Peers, accepted_in, conn_by, connection, container, leaving_in, peers, peers_came, peers_heard, ran_out_in, sent_up}
 use Rattle.gate_model.specs.Picks.{ArePicks}
+use Rattle.gate_model.specs.Requests.{client_step}
 use Rattle.gate_model.specs.State.{Began, Came, Gave, Heard, Joined, Lost, Moment, OutOfMemory, Queued, State, Step, TakenUp, Whole, before, came, close, close_if, condition_by, conn_step, dequeued, fail, failed, heard, is_limit_reached, left, runs, with_meaning, Fed, Silent, carried}
 use Rattle.gate_model.specs.Upstream.{UpState, channel_max_in, heard_up, lost_by, meaning_by, shut_by}
 use Rattle.close_translate.specs.declared.codes.TheConstants.{INTERNAL_ERROR}
 use Rattle.close_translate.specs.declared.conditions.Scope.TheVariants as scope
 use Rattle.performatives_10.specs.declared.condition.Condition.TheVariants.{NotAllowed}
 use Rattle.machine_10.specs.declared.state.Upstream.{Upstream}
-use Rattle.gate_model.proofs.Connections.{clash, close_closes, closing_only, only_closing, only_given, opening_early, step_closes}
+use Rattle.gate_model.proofs.Connections.{clash, close_closes, closing_only, only_given, opening_early, step_closes}
+use Rattle.gate_model.proofs.Outcomes.{only_closing}
 use Rattle.gate_model.proofs.Sessions.{conn_cases, session_by}
 use Rattle.gate_model.proofs.Known.{Known, closing_is, conn_is, container_is, keep_is, known, memory_is}
 use Rattle.gate_model.proofs.Openings.{is_opening_first}
-use Rattle.gate_model.proofs.Outcomes.{Outcome, Greets, Parts, LogsIn, Tunes, Asks, Passes, Refuses, Parting, Calls, Asking, Frees, Closes, Answers, Ignores, outcome}
+use Rattle.gate_model.proofs.Outcomes.{Outcome, Greets, Parts, LogsIn, Tunes, Asks, Passes, Refuses, Declines, Drops, Parting, Calls, Asking, Fills, Frees, Closes, Answers, Ignores, outcome}
 use Rattle.gate_model.proofs.Said.{shuts_in}
 use Rattle.gate_model.proofs.Ups.{Picked, goes_up, is_a_close}
 
@@ -104,8 +105,8 @@ remembers h p e = by (ran_out_in h) refl
     by true f = absurd (clash _ (shuts_in (known h p) f) e)
     by false f = refl
 
-unit_told : (c : Connection) (u : Unit91) → is_closing (conn_step c u) ≡ false → condition_by (unit_step c u).1 ≡ None
-unit_told c u = by (unit_step c u) (outcome c u)
+unit_told : (c : Connection) (u : Unit91) → is_closing (conn_step c u) ≡ false → condition_by (client_step c u).1 ≡ None
+unit_told c u = by (client_step c u) (outcome c u)
   where
     by : (x : machine.Step) → Outcome c u x → is_closing (x.0) ≡ false → condition_by x.1 ≡ None
     by _ (Greets e) k = refl
@@ -114,10 +115,13 @@ unit_told c u = by (unit_step c u) (outcome c u)
     by _ (Tunes l e) k = refl
     by _ (Asks e) k = refl
     by _ Passes k = refl
-    by _ (Refuses r a f e) k = absurd cc
+    by _ (Refuses r a f e g) k = absurd cc
+    by _ (Declines r d o e g) k = let closes = close_closes d.phase in absurd cc
+    by _ (Drops r d o e g) k = rw g refl
     by _ (Parting e) k = refl
     by _ (Calls n s m e) k = refl
     by _ (Asking n m e) k = refl
+    by _ (Fills n i e) k = refl
     by _ (Frees n e) k = refl
     by _ (Closes e) k = refl
     by _ (Answers e) k = refl
@@ -209,17 +213,17 @@ meaning_condition (ten.Closed x) w c b e f n = fail_condition _ None w ∙ told 
 meaning_condition ten.Refused w c b e f n = fail_condition _ None w ∙ told w c b None e f
 meaning_condition (ten.Violation why) w c b e f n = fail_condition _ (Some why) w ∙ told w c b (Some why) e f
 
-came_condition : (w : State) (u : Unit91) → (came (dequeued w) u).up.condition ≡ (if is_closing w.conn then w.up.condition else condition_by (unit_step w.conn u).1)
+came_condition : (w : State) (u : Unit91) → (came (dequeued w) u).up.condition ≡ (if is_closing w.conn then w.up.condition else condition_by (client_step w.conn u).1)
 came_condition w u =
-    ap (λ (s : UpState). s.condition) (closing_is (is_closing w.conn) (condition_by (unit_step w.conn u).1) _)
-    ∙ ap (λ (s : UpState). if is_closing w.conn then s.condition else condition_by (unit_step w.conn u).1) (keep_is (unit_step w.conn u).1 w.up)
+    ap (λ (s : UpState). s.condition) (closing_is (is_closing w.conn) (condition_by (client_step w.conn u).1) _)
+    ∙ ap (λ (s : UpState). if is_closing w.conn then s.condition else condition_by (client_step w.conn u).1) (keep_is (client_step w.conn u).1 w.up)
 
 conditions_came : (w : State) (u : Unit91) (m : Bool) (c : Connection) (b : Option Condition) → w.conn ≡ c → w.up.condition ≡ b → (m ≡ true → is_closing c ≡ true)
-    → (if m then w else came (dequeued w) u).up.condition ≡ (if is_closing c then b else condition_by (unit_step c u).1)
+    → (if m then w else came (dequeued w) u).up.condition ≡ (if is_closing c then b else condition_by (client_step c u).1)
 conditions_came w u true c b e f n = passed (is_closing c) w.up.condition b _ f (n refl)
 conditions_came w u false c b e f n =
-    came_condition w u ∙ told w c b (condition_by (unit_step w.conn u).1) e f
-    ∙ ap (λ (x : Connection). if is_closing c then b else condition_by (unit_step x u).1) e
+    came_condition w u ∙ told w c b (condition_by (client_step w.conn u).1) e f
+    ∙ ap (λ (x : Connection). if is_closing c then b else condition_by (client_step x u).1) e
 
 conditions_heard : (w : State) (u : Unit10) (m : Bool) (c : Connection) (o : Option Upstream) (b : Option Condition) → w.conn ≡ c → w.up.container ≡ o → w.up.condition ≡ b
     → (is_closing c ≡ false → b ≡ None) → (m ≡ true → is_closing c ≡ true)

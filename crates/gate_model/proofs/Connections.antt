@@ -4,13 +4,13 @@ use Rattle.std.specs.Prelude.{is_some}
 use Rattle.std.proofs.lemmas.Bool.Decides.{nat_tests}
 use Rattle.std.specs.Prelude.{List, slice_set}
 use Rattle.close_translate.specs.declared.conditions.Scope.TheVariants as scope
-use Rattle.machine_091.specs.Calls.{after_closed, after_closing, after_ended, after_opened, after_told, closing_channel, closing_phase, freed_channel, opened_phase, told_channel}
+use Rattle.machine_091.specs.Calls.{after_closed, after_closing, after_ended, after_opened, after_told, closing_contents, closing_phase, freed_channel, opened_phase, told_channel}
 use Rattle.machine_091.specs.declared.state.Channel91.{Channel91}
 use Rattle.machine_091.specs.declared.state.Channel91.TheVariants as channel
 use Rattle.gate_model.specs.declared.reply.Reply.{Reply}
 use Rattle.gate_model.specs.declared.reply.Reply.TheVariants as reply
 use Rattle.machine_091.specs.State.{awaits, channel_at, is_closing, is_closing_phase, is_open_phase, is_opening, with_channel}
-use Rattle.machine_091.specs.Transitions.{greeted, stream_after, unit_step}
+use Rattle.machine_091.specs.Transitions.{greeted, stream_after}
 use Rattle.machine_091.specs.Transitions as machine
 use Rattle.machine_091.specs.declared.state.Connection.{Connection}
 use Rattle.machine_091.specs.declared.state.Phase91.{Phase91}
@@ -21,8 +21,10 @@ use Rattle.machine_091.specs.declared.unit.Unit91.{Unit91}
 use Rattle.machine_091.specs.declared.unit.Unit91.TheVariants as unit
 use Rattle.gate_model.specs.declared.timers.TheConstants.{HANDSHAKE_LIMIT}
 use Rattle.gate_model.specs.Picks.{MayComeAs}
+use Rattle.gate_model.specs.Requests.{client_step}
 use Rattle.gate_model.specs.State.{close, close_if, closes_at, conn_given, conn_step, has_left, is_limit_reached}
-use Rattle.gate_model.proofs.Outcomes.{Outcome, Greets, Parts, LogsIn, Tunes, Asks, Passes, Refuses, Parting, Calls, Asking, Frees, Closes, Answers, Ignores, outcome}
+use Rattle.gate_model.proofs.Outcomes.{OnlyChannels, none_differ, one_differs, only_closing}
+use Rattle.gate_model.proofs.Outcomes.{Outcome, Greets, Parts, LogsIn, Tunes, Asks, Passes, Refuses, Declines, Drops, Parting, Calls, Asking, Fills, Frees, Closes, Answers, Ignores, outcome}
 
 -- ---- phases
 
@@ -45,7 +47,8 @@ close_closes phase.Closed = refl
 pub close_same : (c : Connection) → is_closing c ≡ true → close c ≡ c
 close_same c = by c.phase
   where
-    by : (p : Phase91) → is_closing_phase p ≡ true → record c { phase = closing_phase p } ≡ record c { phase = p }
+    by : (p : Phase91) → is_closing_phase p ≡ true
+        → record c { phase = closing_phase p; contents = closing_contents p c.contents } ≡ record c { phase = p }
     by phase.Header e = absurd cc
     by phase.Start e = absurd cc
     by phase.Tune e = absurd cc
@@ -85,26 +88,6 @@ opened_runs most c = by c.phase c.asked
     by phase.Closed b e = absurd cc
 
 -- ---- channels
-
--- nothing but the channels differ
-pub record OnlyChannels (c d : Connection) : Type 0 where
-  pub channels : List Channel91
-  pub same : d ≡ record c { channels = channels }
-
-none_differ : (c : Connection) → OnlyChannels c c
-none_differ c = record { channels = c.channels; same = refl }
-
-one_differs : (c : Connection) (n : ℕ) (s : Channel91) → OnlyChannels c (with_channel c n s)
-one_differs c n s = record { channels = slice_set c.channels n s; same = refl }
-
-pub only_closing : (n : ℕ) (c : Connection) → OnlyChannels c (after_closing scope.Channel n c)
-only_closing n c = by (channel_at c n)
-  where
-    by : (s : Channel91) → OnlyChannels c (closing_channel s n c)
-    by channel.Free = none_differ c
-    by channel.Open = one_differs c n channel.Closing
-    by channel.Closing = none_differ c
-    by channel.Told = none_differ c
 
 only_told : (n : ℕ) (c : Connection) → OnlyChannels c (after_told n c)
 only_told n c = by (channel_at c n)
@@ -149,6 +132,9 @@ stream_only o = ap (λ (x : Connection). x.stream) o.same
 pub limits_only : {c d : Connection} → OnlyChannels c d → d.limits ≡ c.limits
 limits_only o = ap (λ (x : Connection). x.limits) o.same
 
+asked_only : {c d : Connection} → OnlyChannels c d → d.asked ≡ c.asked
+asked_only o = ap (λ (x : Connection). x.asked) o.same
+
 pub closing_only : {c d : Connection} → OnlyChannels c d → is_closing d ≡ is_closing c
 closing_only o = ap is_closing_phase (phase_only o)
 
@@ -158,7 +144,7 @@ abbrev Next : machine.Step → Connection
 Next x = x.0
 
 pub step_closes : (c : Connection) (u : Unit91) → is_closing c ≡ true → is_closing (conn_step c u) ≡ true
-step_closes c u k = by (unit_step c u) (outcome c u)
+step_closes c u k = by (client_step c u) (outcome c u)
   where
     by : (x : machine.Step) → Outcome c u x → is_closing (Next x) ≡ true
     by _ (Greets e) = absurd (other_phase c.phase phase.Header e refl k)
@@ -167,10 +153,13 @@ step_closes c u k = by (unit_step c u) (outcome c u)
     by _ (Tunes l e) = absurd (other_phase c.phase phase.Tune e refl k)
     by _ (Asks e) = k
     by _ Passes = k
-    by _ (Refuses r a f e) = refl
+    by _ (Refuses r a f e g) = refl
+    by _ (Declines r d o e g) = close_closes d.phase
+    by _ (Drops r d o e g) = closing_only o ∙ k
     by _ (Parting e) = refl
     by _ (Calls n s m e) = k
     by _ (Asking n m e) = k
+    by _ (Fills n i e) = k
     by _ (Frees n e) = k
     by _ (Closes e) = refl
     by _ (Answers e) = refl
@@ -178,7 +167,7 @@ step_closes c u k = by (unit_step c u) (outcome c u)
 
 -- a closing connection isn't asked to open any more
 pub step_asked : (c : Connection) (u : Unit91) → is_closing c ≡ true → (conn_step c u).asked ≡ c.asked
-step_asked c u k = by (unit_step c u) (outcome c u)
+step_asked c u k = by (client_step c u) (outcome c u)
   where
     by : (x : machine.Step) → Outcome c u x → (Next x).asked ≡ c.asked
     by _ (Greets e) = refl
@@ -187,17 +176,20 @@ step_asked c u k = by (unit_step c u) (outcome c u)
     by _ (Tunes l e) = refl
     by _ (Asks e) = absurd (other_phase c.phase phase.Open e refl k)
     by _ Passes = refl
-    by _ (Refuses r a f e) = absurd (clash (is_closing c) k e)
+    by _ (Refuses r a f e g) = absurd (clash (is_closing c) k e)
+    by _ (Declines r d o e g) = asked_only o
+    by _ (Drops r d o e g) = asked_only o
     by _ (Parting e) = refl
     by _ (Calls n s m e) = refl
     by _ (Asking n m e) = refl
+    by _ (Fills n i e) = refl
     by _ (Frees n e) = refl
     by _ (Closes e) = refl
     by _ (Answers e) = refl
     by _ (Ignores e) = refl
 
 pub step_stays_asked : (c : Connection) (u : Unit91) → c.asked ≡ true → (conn_step c u).asked ≡ true
-step_stays_asked c u k = by (unit_step c u) (outcome c u)
+step_stays_asked c u k = by (client_step c u) (outcome c u)
   where
     by : (x : machine.Step) → Outcome c u x → (Next x).asked ≡ true
     by _ (Greets e) = k
@@ -206,10 +198,13 @@ step_stays_asked c u k = by (unit_step c u) (outcome c u)
     by _ (Tunes l e) = k
     by _ (Asks e) = refl
     by _ Passes = k
-    by _ (Refuses r a f e) = f k
+    by _ (Refuses r a f e g) = f k
+    by _ (Declines r d o e g) = asked_only o ∙ k
+    by _ (Drops r d o e g) = asked_only o ∙ k
     by _ (Parting e) = k
     by _ (Calls n s m e) = k
     by _ (Asking n m e) = k
+    by _ (Fills n i e) = k
     by _ (Frees n e) = k
     by _ (Closes e) = k
     by _ (Answers e) = k
@@ -227,7 +222,7 @@ stays_here (unit.Bad code) s e = absurd cc
 
 -- no unit ends the client's end
 pub step_here : (c : Connection) (u : Unit91) → has_left (conn_step c u).stream ≡ true → has_left c.stream ≡ true
-step_here c u = by (unit_step c u) (outcome c u)
+step_here c u = by (client_step c u) (outcome c u)
   where
     by : (x : machine.Step) → Outcome c u x → has_left (Next x).stream ≡ true → has_left c.stream ≡ true
     by _ (Greets e) k = absurd cc
@@ -236,10 +231,13 @@ step_here c u = by (unit_step c u) (outcome c u)
     by _ (Tunes l e) k = k
     by _ (Asks e) k = k
     by _ Passes k = k
-    by _ (Refuses r a f e) k = stays_here u c.stream k
+    by _ (Refuses r a f e g) k = stays_here u c.stream k
+    by _ (Declines r d o e g) k = sym (ap has_left (stream_only o)) ∙ k
+    by _ (Drops r d o e g) k = sym (ap has_left (stream_only o)) ∙ k
     by _ (Parting e) k = k
     by _ (Calls n s m e) k = k
     by _ (Asking n m e) k = k
+    by _ (Fills n i e) k = k
     by _ (Frees n e) k = k
     by _ (Closes e) k = k
     by _ (Answers e) k = absurd cc

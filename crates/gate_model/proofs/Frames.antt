@@ -1,8 +1,7 @@
 -- What goes to a client fits it: each unit is short, and no frame-max that is agreed to is less than 4,096.
-use Rattle.std.proofs.Common.{Bool, List, Option, [], arith, false, if◌then◌else◌, refl, subst, sym, true, ℕ, ◌∷◌, ◌≡◌, ◌≤◌}
+use Rattle.std.proofs.Common.{Bool, List, Option, Some, [], arith, false, if◌then◌else◌, refl, subst, sym, true, ℕ, ◌∷◌, ◌≡◌, ◌≤◌, None}
 use Rattle.gate_outside.specs.declared.ports.End.TheVariants.{Client, Up}
 use Rattle.machine_091.specs.Limits.{AreWithin}
-use Rattle.machine_091.specs.Transitions.{unit_step}
 use Rattle.machine_091.specs.declared.limits.TheConstants.{FRAME_MIN_SIZE}
 use Rattle.machine_091.specs.declared.state.Connection.{Connection}
 use Rattle.machine_091.specs.declared.unit.Unit91.{Unit91}
@@ -18,11 +17,18 @@ use Rattle.machine_10.specs.Transitions.{Meaning}
 use Rattle.gate_outside.specs.declared.ports.Linked.TheVariants as link
 use Rattle.gate_relay.specs.declared.loss.Loss.TheVariants as loss
 use Rattle.gate_model.specs.Frames.{FitsClients, limit_after, limit_in}
+use Rattle.close_translate.specs.declared.conditions.Scope.{Scope}
+use Rattle.machine_091.specs.Calls.{after_closing}
+use Rattle.machine_091.specs.Transitions.{unit_step}
+use Rattle.machine_091.specs.Transitions as machine
+use Rattle.machine_091.specs.declared.unit.Refusal.{Refusal}
+use Rattle.gate_model.specs.Requests.{client_step, refusal_of_want, refused_by}
 use Rattle.gate_model.specs.State.{Began, Came, Gave, Heard, Joined, Lost, Moment, OutOfMemory, Queued, Step, TakenUp, Whole, close_if, conn_step, is_limit_reached, Fed, Silent}
 use Rattle.close_translate.specs.declared.conditions.Scope.TheVariants as scope
 use Rattle.machine_10.specs.declared.state.Upstream.{Upstream}
 use Rattle.gate_model.specs.Upstream.{channel_max_in}
-use Rattle.gate_model.proofs.Connections.{OnlyChannels, limits_only, only_closing, only_given}
+use Rattle.gate_model.proofs.Connections.{limits_only, only_given}
+use Rattle.gate_model.proofs.Outcomes.{OnlyChannels, only_closing}
 use Rattle.gate_model.proofs.Sessions.{conn_cases}
 use Rattle.gate_model.proofs.Spelled.{spelled_small}
 
@@ -30,11 +36,20 @@ use Rattle.gate_model.proofs.Spelled.{spelled_small}
 abbrev pub LimitsStay : Type 0
 LimitsStay = (c : Connection) (u : Unit91) → AreWithin c.limits → AreWithin (unit_step c u).0.limits
 
-within_step : LimitsStay → (c : Connection) (u : Unit91) → AreWithin c.limits → AreWithin (conn_step c u).limits
-within_step l c u m = l c u m
-
 within_only : {c d : Connection} → OnlyChannels c d → AreWithin c.limits → AreWithin d.limits
 within_only o m = subst AreWithin (sym (limits_only o)) m
+
+-- nor do its refusals
+within_refused : (o : Option Refusal) (x : machine.Step) → AreWithin x.0.limits → AreWithin (refused_by o x).0.limits
+within_refused None x m = m
+within_refused (Some r) x m = by r.scope
+  where
+    by : (s : Scope) → AreWithin (after_closing s r.channel x.0).limits
+    by scope.Connection = m
+    by scope.Channel = within_only (only_closing r.channel x.0) m
+
+within_step : LimitsStay → (c : Connection) (u : Unit91) → AreWithin c.limits → AreWithin (conn_step c u).limits
+within_step l c u m = within_refused (refusal_of_want (unit_step c u).1) (unit_step c u) (l c u m)
 
 within_if : (b : Bool) (p q : Peers) → AreWithin p.client.limits → AreWithin q.client.limits → AreWithin (if b then p else q).client.limits
 within_if true p q m n = m
@@ -98,7 +113,7 @@ limit_least : LimitsStay → (h : List Step) → FRAME_MIN_SIZE ≤ limit_in h
 limit_least l [] = omega arith
 limit_least l (Came u ∷ h) =
     number_if (ran_out_in h) (limit_in h) _ (limit_least l h)
-    (after_least (limit_in h) (unit_step (connection h) u).0 (unit_step (connection h) u).1 (limit_least l h) (l (connection h) u (within l h)))
+    (after_least (limit_in h) (client_step (connection h) u).0 (client_step (connection h) u).1 (limit_least l h) (within_step l (connection h) u (within l h)))
 limit_least l (s ∷ h) = limit_least l h
 
 pub fits_clients : LimitsStay → (h : List Step) → FitsClients h

@@ -7,8 +7,9 @@ use Rattle.gate_relay.specs.declared.loss.Loss.TheVariants as loss
 use Rattle.gate_relay.specs.declared.sides.Side.{Side}
 use Rattle.gate_relay.specs.declared.sides.Side.TheVariants as side
 use Rattle.machine_091.specs.Calls.{after_closing, after_ended, after_opened}
+use Rattle.machine_091.specs.Contents.{no_contents}
+use Rattle.machine_091.specs.declared.contents.Incoming.{Incoming}
 use Rattle.machine_091.specs.State.{is_closing, is_closing_phase, is_open, is_opening}
-use Rattle.machine_091.specs.Transitions.{unit_step}
 use Rattle.machine_091.specs.declared.state.Connection.{Connection}
 use Rattle.machine_091.specs.declared.unit.Unit91.{Unit91}
 use Rattle.machine_091.specs.declared.unit.Want91.{Want91}
@@ -31,9 +32,11 @@ use Rattle.machine_10.specs.Reading.{field}
 use Rattle.performatives_10.specs.Fields.{is_absent}
 use Rattle.performatives_10.specs.declared.condition.Condition.TheVariants.{NotAllowed, UnattachedHandle}
 use Rattle.gate_model.specs.Lives.{refusal_on}
+use Rattle.gate_model.specs.Requests.{client_step}
 use Rattle.gate_model.specs.State.{State, Step, Began, Moment, Queued, Came, TakenUp, Heard, Joined, Lost, Gave, Whole, OutOfMemory, before, begun_session, came, close, close_if, closes_at, conn_given, conn_step, dequeued, fail, fail_life, failed, has_left, heard, is_limit_reached, keep_login, left, life_failed, new_state, ran_out, runs, told, with_meaning, with_session, Fed, Silent, carried}
 use Rattle.gate_model.specs.Upstream.{UpState, channel_max_of, closing_with, condition_in, container_given, ended_in, heard_up, meaning_by}
-use Rattle.gate_model.proofs.Connections.{OnlyChannels, asked_if, clash, close_closes, close_same, closes_again, closes_some, closing_only, ended_if, implied, late_later, late_step, only_closing, only_given, opened_runs, opening_early, step_closes, step_here, stream_if}
+use Rattle.gate_model.proofs.Connections.{asked_if, clash, close_closes, close_same, closes_again, closes_some, closing_only, ended_if, implied, late_later, late_step, only_given, opened_runs, opening_early, step_closes, step_here, stream_if}
+use Rattle.gate_model.proofs.Outcomes.{OnlyChannels, only_closing}
 use Rattle.gate_model.proofs.Queues.{none_left, none_next}
 use Rattle.gate_model.proofs.Sessions.{session_by, session_cases}
 
@@ -154,6 +157,7 @@ keep_is (want.Login m r) s = refl
 keep_is want.Tuned s = refl
 keep_is want.OpenUp s = refl
 keep_is (want.Method n m) s = refl
+keep_is (want.Publish n m c) s = refl
 keep_is (want.ChannelCloseOk n) s = refl
 keep_is want.Close s = refl
 keep_is want.CloseOk s = refl
@@ -177,7 +181,7 @@ came_is w u l s = by w.out_of_memory
 
     by : (b : Bool) → seen (if b then w else came (dequeued w) u) ≡ with_peers (seen w) (if b then peers_of (seen w) else peers_came (peers_of (seen w)) u)
     by true = kept w l s
-    by false = ap taken (closing_is (is_closing w.conn) _ _) ∙ ap taken (keep_is (unit_step w.conn u).1 w.up)
+    by false = ap taken (closing_is (is_closing w.conn) _ _) ∙ ap taken (keep_is (client_step w.conn u).1 w.up)
 
 abbrev seen_taken : Seen → Bool → Seen
 seen_taken x l = with_peers x (if not x.memory && l then record (peers_of x) { client = after_ended x.conn } else peers_of x)
@@ -347,7 +351,9 @@ sound_only w d l o s =
     (record {
       leaves = s.leaves;
       left_is = s.left_is;
-      ended = λ x. ap (λ (c : Connection). record c { channels = o.channels }) (s.ended x);
+      ended = λ x. subst (λ (xs : List (Option Incoming)). after_ended (record w.conn { channels = o.channels; contents = xs })
+          ≡ record w.conn { channels = o.channels; contents = xs }) (sym (o.none (sym (ap (λ (c : Connection). c.contents) (s.ended x)))))
+          (ap (λ (c : Connection). record c { channels = o.channels; contents = no_contents }) (s.ended x));
       late_is = s.late_is;
       late_closes = s.late_closes;
       closing = s.closing;

@@ -6,7 +6,6 @@ use Rattle.gate_outside.specs.declared.ports.End.TheVariants.{Client, Up}
 use Rattle.gate_outside.specs.declared.ports.Linked.TheVariants as link
 use Rattle.gate_relay.specs.declared.loss.Loss.TheVariants as loss
 use Rattle.machine_091.specs.State.{is_closing, is_opening}
-use Rattle.machine_091.specs.Transitions.{unit_step}
 use Rattle.machine_091.specs.declared.unit.Unit91.{Unit91}
 use Rattle.machine_091.specs.declared.unit.Want91.{Want91}
 use Rattle.machine_091.specs.declared.unit.Want91.TheVariants as want
@@ -14,14 +13,16 @@ use Rattle.machine_10.specs.Transitions as ten
 use Rattle.machine_10.specs.Transitions.{Meaning}
 use Rattle.machine_10.specs.declared.unit.Unit10.{Unit10}
 use Rattle.performatives_10.specs.declared.condition.Condition.{Condition}
+use Rattle.close_translate.specs.Conditions.{condition_of}
 use Rattle.gate_model.specs.declared.life.Life.{Life}
 use Rattle.gate_model.specs.declared.outgoing.Outgoing.TheVariants.{ToClient, ToUp}
 use Rattle.gate_model.specs.declared.outgoing.UpUnit.{UpUnit}
 use Rattle.gate_model.specs.declared.outgoing.UpUnit.TheVariants as up
 use Rattle.gate_model.specs.declared.reply.Reply.{Reply}
 use Rattle.gate_model.specs.declared.reply.Reply.TheVariants as reply
-use Rattle.gate_model.specs.Lives.{lives_by, no_lives, no_life, with_life}
+use Rattle.gate_model.specs.Lives.{failed_life, lives_by, no_life, no_lives, with_life, life_at, is_of_channel}
 use Rattle.gate_model.specs.Picks.{ArePicks}
+use Rattle.gate_model.specs.Requests.{client_step}
 use Rattle.gate_model.specs.State.{State, Step, Began, Moment, Queued, Came, TakenUp, Heard, Joined, Lost, Gave, Whole, OutOfMemory, before, came, carried, dequeued, fail, failed, heard, left, runs, with_meaning, with_session, without_begin, without_life, Fed, Silent}
 use Rattle.gate_model.specs.Upstream.{heard_up, meaning_by}
 use Rattle.gate_model.proofs.Sessions.{session_cases}
@@ -48,10 +49,15 @@ want_all (want.Login m r) ls e = e
 want_all want.Tuned ls e = e
 want_all want.OpenUp ls e = e
 want_all (want.Method n m) ls e = after_set ls n _ e
+want_all (want.Publish n m x) ls e = e
 want_all (want.ChannelCloseOk n) ls e = after_set ls n _ e
 want_all want.Close ls e = e
 want_all want.CloseOk ls e = e
-want_all (want.Refuse r) ls e = e
+want_all (want.Refuse r) ls e = by (is_of_channel r)
+  where
+    by : (b : Bool) → All (if b then with_life r.channel (failed_life r (Some (condition_of r.code)) (life_at ls r.channel)) ls else ls)
+    by true = after_set ls r.channel _ e
+    by false = e
 
 fail_all : (code : ℕ) (why : Option Condition) (w : State) → All w.lives → All (fail code why w).lives
 fail_all code why w e = by (is_closing w.conn)
@@ -107,7 +113,7 @@ came_all w u e = by w.out_of_memory
   where
     by : (b : Bool) → All (if b then w else came (dequeued w) u).lives
     by true = e
-    by false = want_all (unit_step w.conn u).1 w.lives e
+    by false = want_all (client_step w.conn u).1 w.lives e
 
 heard_all : (w : State) (u : Unit10) → All w.lives → All (if w.out_of_memory then w else heard w u).lives
 heard_all w u e = by w.out_of_memory

@@ -6,7 +6,6 @@ use Rattle.gate_outside.specs.declared.ports.End.TheVariants.{Client, Up}
 use Rattle.gate_outside.specs.declared.ports.Linked.TheVariants as link
 use Rattle.gate_relay.specs.declared.loss.Loss.TheVariants as loss
 use Rattle.machine_091.specs.State.{is_closing, is_opening}
-use Rattle.machine_091.specs.Transitions.{unit_step}
 use Rattle.machine_091.specs.declared.state.Connection.{Connection}
 use Rattle.machine_091.specs.declared.unit.Refusal.{Refusal}
 use Rattle.machine_091.specs.declared.unit.Unit91.{Unit91}
@@ -18,6 +17,7 @@ use Rattle.machine_10.specs.declared.unit.Unit10.{Unit10}
 use Rattle.methods_091.specs.declared.method.Method91.{Method91}
 use Rattle.methods_091.specs.declared.method.Method91.TheVariants as method
 use Rattle.performatives_10.specs.declared.condition.Condition.{Condition}
+use Rattle.close_translate.specs.Conditions.{condition_of}
 use Rattle.gate_model.specs.declared.life.Life.{Life}
 use Rattle.gate_model.specs.declared.life.SessionState.{SessionState}
 use Rattle.gate_model.specs.Session.{carried_by, flow_sent}
@@ -28,9 +28,10 @@ use Rattle.gate_model.specs.declared.reply.Reply.{Reply}
 use Rattle.gate_model.specs.declared.reply.Reply.TheVariants as reply
 use Rattle.gate_model.specs.Due.{close_oks_on, flow_oks, open_oks, refused_on, when}
 use Rattle.gate_model.specs.Folds.{connection, is_answer, ran_out_in}
-use Rattle.gate_model.specs.Lives.{begun_life, each, failed_life, freed_life, life_at, lives_by, method_life, no_life, no_lives, or_none, with_life}
+use Rattle.gate_model.specs.Lives.{begun_life, each, failed_life, freed_life, life_at, lives_by, method_life, no_life, no_lives, or_none, with_life, is_of_channel}
 use Rattle.gate_model.specs.Once.{AnswersOnce, is_channel_close, is_channel_flow, is_channel_open, is_close_ok_on, is_flow_ok_on, is_method_on, is_open_ok_on, one_if, wanted_in, went_in}
 use Rattle.gate_model.specs.Picks.{ArePicks}
+use Rattle.gate_model.specs.Requests.{client_step}
 use Rattle.gate_model.specs.State.{Began, Came, Gave, Heard, Joined, Lost, Moment, OutOfMemory, Queued, State, Step, TakenUp, Whole, before, came, carried, dequeued, fail, failed, heard, is_channel_settled, is_settled, left, runs, with_meaning, without_begin, without_life, Fed, Silent}
 use Rattle.gate_model.specs.Upstream.{first, heard_up, meaning_by}
 use Rattle.gate_model.proofs.Known.{conn_is, known, memory_is}
@@ -282,17 +283,28 @@ wanted_less c want.OpenUp ls = omega arith
 wanted_less {n} {v} {asks} c (want.Method k m) ls =
     set_less v n k ls (method_life m (life_at ls k)) (one_if (asks (want.Method k m)))
     (λ e. subst (λ (i : ℕ). v (method_life m (life_at ls i)) ≤ v (life_at ls n) + one_if (asks (want.Method i m))) (sym e) (c.asked m (life_at ls n)))
+wanted_less c (want.Publish k m x) ls = omega arith
 wanted_less {n} {v} c (want.ChannelCloseOk k) ls = let less = rule_less v n k ls freed_life c.freed in omega (arith, less)
 wanted_less c want.Close ls = omega arith
 wanted_less c want.CloseOk ls = omega arith
-wanted_less c (want.Refuse r) ls = omega arith
+wanted_less {n} {v} {asks} c (want.Refuse r) ls = by (is_of_channel r)
+  where
+    more : ℕ
+    more = one_if (asks (want.Refuse r))
+
+    failed : Life → Life
+    failed = failed_life r (Some (condition_of r.code))
+
+    by : (b : Bool) → v (life_at (if b then with_life r.channel (failed (life_at ls r.channel)) ls else ls) n) ≤ v (life_at ls n) + more
+    by true = let less = rule_less v n r.channel ls failed (c.failed r (Some (condition_of r.code))) in omega (arith, less)
+    by false = omega arith
 
 came_less : {n : ℕ} {v : Life → ℕ} {asks : Want91 → Bool} {answers : Reply → Bool} → Counts n v asks answers → (w : State) (u : Unit91) (b : Bool) (total : ℕ)
     → (went : ℕ) → went + Value v n w ≤ total
-    → went + Value v n (if b then w else came (dequeued w) u) ≤ (if b then total else total + one_if (asks (unit_step w.conn u).1))
+    → went + Value v n (if b then w else came (dequeued w) u) ≤ (if b then total else total + one_if (asks (client_step w.conn u).1))
 came_less c w u true total went e = e
 came_less {n} {v} {asks} c w u false total went e =
-    let less : v (life_at (lives_by (unit_step w.conn u).1 w.lives) n) ≤ v (life_at w.lives n) + one_if (asks (unit_step w.conn u).1) = wanted_less c (unit_step w.conn u).1 w.lives in
+    let less : v (life_at (lives_by (client_step w.conn u).1 w.lives) n) ≤ v (life_at w.lives n) + one_if (asks (client_step w.conn u).1) = wanted_less c (client_step w.conn u).1 w.lives in
     omega (arith, e, less)
 
 -- ---- an answer
@@ -371,9 +383,9 @@ left_less v n w false = omega arith
 came_counts : {n : ℕ} {v : Life → ℕ} {asks : Want91 → Bool} {answers : Reply → Bool} → Counts n v asks answers → (u : Unit91) (h : List Step) → ArePicks h
     → went_in answers h + Value v n (before h) ≤ wanted_in asks h → went_in answers h + Value v n (before (Came u ∷ h)) ≤ wanted_in asks (Came u ∷ h)
 came_counts {n} {v} {asks} {answers} c u h p e =
-    subst (λ (d : Connection). went_in answers h + Value v n (before (Came u ∷ h)) ≤ (if ran_out_in h then wanted_in asks h else wanted_in asks h + one_if (asks (unit_step d u).1)))
+    subst (λ (d : Connection). went_in answers h + Value v n (before (Came u ∷ h)) ≤ (if ran_out_in h then wanted_in asks h else wanted_in asks h + one_if (asks (client_step d u).1)))
     (conn_is (known h p))
-    (subst (λ (b : Bool). went_in answers h + Value v n (before (Came u ∷ h)) ≤ (if b then wanted_in asks h else wanted_in asks h + one_if (asks (unit_step (before h).conn u).1)))
+    (subst (λ (b : Bool). went_in answers h + Value v n (before (Came u ∷ h)) ≤ (if b then wanted_in asks h else wanted_in asks h + one_if (asks (client_step (before h).conn u).1)))
     (memory_is (known h p)) (came_less c (before h) u (before h).out_of_memory (wanted_in asks h) (went_in answers h) e))
 
 counts : {n : ℕ} {v : Life → ℕ} {asks : Want91 → Bool} {answers : Reply → Bool} → Counts n v asks answers → (h : List Step) → ArePicks h

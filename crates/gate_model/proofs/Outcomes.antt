@@ -1,9 +1,17 @@
 -- What a unit may do to a client's connection.
-use Rattle.std.proofs.Common.{◌≡◌, ℕ, ◌==◌, Bool, true, false, ◌&&◌, ◌||◌, List, ap}
+use Rattle.std.proofs.Common.{◌≡◌, ℕ, zero, suc, ◌∙◌, replicate, ◌∷◌, ◌==◌, Bool, true, false, ◌&&◌, ◌||◌, List, Option, None, Some, ap, refl}
+use Rattle.std.specs.Prelude.{slice_set, if◌then◌else◌}
 use Rattle.close_translate.specs.declared.codes.TheConstants.{NOT_ALLOWED}
-use Rattle.machine_091.specs.State.{is_closing, is_open_phase, is_running, with_channel}
+use Rattle.close_translate.specs.declared.conditions.Scope.TheVariants as scope
+use Rattle.machine_091.specs.Calls.{after_closing, closing_channel}
+use Rattle.frames_091.specs.declared.frame.Kind91.{Kind91}
+use Rattle.frames_091.specs.declared.frame.Kind91.TheVariants as frame
+use Rattle.machine_091.specs.Contents.{no_contents}
+use Rattle.machine_091.specs.Refusals.{channel_of, refusal_by, refusal_of}
+use Rattle.machine_091.specs.State.{channel_at, is_closing, is_open_phase, is_running, with_channel, with_content}
 use Rattle.machine_091.specs.Transitions.{asked_by, stream_after, unit_step, with_stream}
 use Rattle.machine_091.specs.Transitions as machine
+use Rattle.machine_091.specs.declared.contents.Incoming.{Incoming}
 use Rattle.machine_091.specs.declared.limits.Limits.{Limits}
 use Rattle.machine_091.specs.declared.state.Channel91.{Channel91}
 use Rattle.machine_091.specs.declared.state.Channel91.TheVariants as channel
@@ -12,9 +20,59 @@ use Rattle.machine_091.specs.declared.state.Phase91.TheVariants as phase
 use Rattle.machine_091.specs.declared.state.Stream91.TheVariants as stream
 use Rattle.machine_091.specs.declared.unit.Refusal.{Refusal}
 use Rattle.machine_091.specs.declared.unit.Unit91.{Unit91}
+use Rattle.machine_091.specs.declared.unit.Unit91.TheVariants as unit
 use Rattle.machine_091.specs.declared.unit.Want91.TheVariants as want
 use Rattle.machine_091.proofs.StepCases.{step_rows}
 use Rattle.methods_091.specs.declared.method.Method91.{Method91}
+use Rattle.gate_model.specs.Lives.{is_of_channel}
+use Rattle.gate_model.specs.Requests.{client_step, is_built, not_built, refusal_of_want, refused_by}
+use Rattle.gate_model.specs.State.{close}
+
+-- no content is in progress still, where none is set
+set_none : (count n : ℕ) → slice_set (replicate {A = Option Incoming} count None) n None ≡ replicate count None
+set_none zero n = refl
+set_none (suc count) zero = refl
+set_none (suc count) (suc n) = ap (λ (xs : List (Option Incoming)). None ∷ xs) (set_none count n)
+
+still_none : (xs : List (Option Incoming)) (n : ℕ) → xs ≡ no_contents → slice_set xs n None ≡ no_contents
+unfolding no_contents
+still_none xs n none = ap (λ (ys : List (Option Incoming)). slice_set ys n None) none ∙ set_none 256 n
+
+-- nothing but the channels and their contents differ, and no content begins
+pub record OnlyChannels (c d : Connection) : Type 0 where
+  pub channels : List Channel91
+  pub contents : List (Option Incoming)
+  pub none : c.contents ≡ no_contents → contents ≡ no_contents
+  pub same : d ≡ record c { channels = channels; contents = contents }
+
+pub none_differ : (c : Connection) → OnlyChannels c c
+none_differ c = record { channels = c.channels; contents = c.contents; none = λ e. e; same = refl }
+
+pub one_differs : (c : Connection) (n : ℕ) (s : Channel91) → OnlyChannels c (with_channel c n s)
+one_differs c n s =
+    record { channels = slice_set c.channels n s; contents = c.contents; none = λ e. e; same = refl }
+
+content_dropped : (c : Connection) (n : ℕ) → OnlyChannels c (with_content c n None)
+content_dropped c n = record {
+  channels = c.channels;
+  contents = slice_set c.contents n None;
+  none = still_none c.contents n;
+  same = refl;
+}
+
+pub only_closing : (n : ℕ) (c : Connection) → OnlyChannels c (after_closing scope.Channel n c)
+only_closing n c = by (channel_at c n)
+  where
+    by : (s : Channel91) → OnlyChannels c (closing_channel s n c)
+    by channel.Free = none_differ c
+    by channel.Open = record {
+      channels = slice_set c.channels n channel.Closing;
+      contents = slice_set c.contents n None;
+      none = still_none c.contents n;
+      same = refl;
+    }
+    by channel.Closing = none_differ c
+    by channel.Told = none_differ c
 
 -- each unit does one of these
 pub data Outcome (c : Connection) (u : Unit91) : machine.Step → Type 0 where
@@ -24,30 +82,65 @@ pub data Outcome (c : Connection) (u : Unit91) : machine.Step → Type 0 where
   Tunes : (limits : Limits) → c.phase ≡ phase.Tune → Outcome c u (record c { phase = phase.Open; limits = limits }, want.Tuned)
   Asks : c.phase ≡ phase.Open → Outcome c u (record c { asked = true }, want.OpenUp)
   Passes : Outcome c u (c, want.Nothing)
-  Refuses : (r : Refusal) (asked : Bool) → (c.asked ≡ true → asked ≡ true) → is_closing c ≡ false
-      → Outcome c u (record c { phase = phase.Closing; stream = stream_after u c.stream; asked = asked }, want.Refuse r)
-  Parting : is_running c.phase ≡ true → Outcome c u (record c { phase = phase.Closed }, want.Close)
+  Refuses : (r : Refusal) (asked : Bool) → (c.asked ≡ true → asked ≡ true) → is_closing c ≡ false → is_of_channel r ≡ false
+      → Outcome c u (record c { phase = phase.Closing; stream = stream_after u c.stream; asked = asked; contents = no_contents }, want.Refuse r)
+  Declines : (r : Refusal) (d : Connection) → OnlyChannels c d → is_running c.phase ≡ true → is_of_channel r ≡ false
+      → Outcome c u (close d, want.Refuse r)
+  Drops : (r : Refusal) (d : Connection) → OnlyChannels c d → is_running c.phase ≡ true → is_of_channel r ≡ true
+      → Outcome c u (d, want.Refuse r)
+  Parting : is_running c.phase ≡ true → Outcome c u (record c { phase = phase.Closed; contents = no_contents }, want.Close)
   Calls : (n : ℕ) (s : Channel91) (m : Method91) → is_running c.phase ≡ true → Outcome c u (with_channel c n s, want.Method n m)
   Asking : (n : ℕ) (m : Method91) → is_running c.phase ≡ true → Outcome c u (c, want.Method n m)
+  Fills : (n : ℕ) (i : Option Incoming) → is_running c.phase ≡ true → Outcome c u (with_content c n i, want.Nothing)
   Frees : (n : ℕ) → is_running c.phase ≡ true → Outcome c u (with_channel c n channel.Free, want.ChannelCloseOk n)
   Closes : c.phase ≡ phase.Closing → Outcome c u (record c { phase = phase.Closed }, want.Close)
   Answers : is_closing c ≡ true → Outcome c u (record c { phase = phase.Closed; stream = stream.Answered }, want.CloseOk)
   Ignores : is_closing c ≡ true → Outcome c u (with_stream u c, want.Nothing)
 
-pub outcome : (c : Connection) (u : Unit91) → Outcome c u (unit_step c u)
-outcome c u = step_rows (λ (x : machine.Step). Outcome c u x) c u (record {
+-- the order of refusals names a connection for all but what a channel's content is refused for
+of_unit : (code : ℕ) (u : Unit91) → is_of_channel (refusal_of code u) ≡ false
+of_unit code unit.Protocol = refl
+of_unit code (unit.Bad c) = refl
+of_unit code (unit.Frame f) = by f.kind
+  where
+    by : (k : Kind91) → is_of_channel (refusal_by k code f.payload) ≡ false
+    by frame.Method = refl
+    by frame.Header = refl
+    by frame.Body = refl
+    by frame.Heartbeat = refl
+
+-- so is what its refusals of requests make of it
+abbrev Told : (c : Connection) (u : Unit91) → machine.Step → Type 0
+Told c u x = Outcome c u (refused_by (refusal_of_want x.1) x)
+
+-- a method of a channel, which is built or not
+called : (c d : Connection) (u : Unit91) (n : ℕ) (m : Method91) → OnlyChannels c d → is_running c.phase ≡ true
+    → Outcome c u (d, want.Method n m) → Told c u (d, want.Method n m)
+called c d u n m only e calls = by (is_built m)
+  where
+    by : (b : Bool) → Outcome c u (refused_by (if b then None else Some (not_built m)) (d, want.Method n m))
+    by true = calls
+    by false = Declines (not_built m) d only e refl
+
+pub outcome : (c : Connection) (u : Unit91) → Outcome c u (client_step c u)
+outcome c u = step_rows (Told c u) c u (record {
   greeted = λ e. Greets e;
   foreign = λ e. Parts e;
-  refused = λ code e. Refuses _ (asked_by c code) (λ k. ap (λ (b : Bool). b || (is_open_phase c.phase && code == NOT_ALLOWED)) k) e;
-  nothing = Passes;
+  refused = λ code e ruled. Refuses _ (asked_by c code) (λ k. ap (λ (b : Bool). b || (is_open_phase c.phase && code == NOT_ALLOWED)) k) e (of_unit code u);
+  publish_refused = λ code e ruled. Refuses _ (asked_by c code) (λ k. ap (λ (b : Bool). b || (is_open_phase c.phase && code == NOT_ALLOWED)) k) e refl;
+  channel_refused = λ code on large ruled. Drops _ _ (only_closing (channel_of u) c) on.runs refl;
+  nothing = λ idle. Passes;
   login = λ a b e l. LogsIn a b e;
   tuned = λ channels size heartbeat e l. Tunes _ e;
   asked = λ e. Asks e;
   closed = λ e. Parting e;
-  opened = λ n m e min max. Calls n _ m e;
-  ended = λ n m e min max. Calls n _ m e;
-  stopped = λ n m e. Asking n m e;
-  freed = λ n e min max. Frees n e;
+  opened = λ n m of. called c _ u n m (one_differs c n _) of.runs (Calls n _ m of.runs);
+  ended = λ n m of. called c _ u n m (one_differs c n _) of.runs (Calls n _ m of.runs);
+  passed_on = λ n m of. called c _ u n m (none_differ c) of.runs (Asking n m of.runs);
+  begun = λ f k args is. Fills _ _ is.on.runs;
+  grown = λ f i a is. Fills _ _ is.on.runs;
+  published = λ f i a d is at_once. Declines (not_built i.method) _ (content_dropped c f.channel) is.on.runs refl;
+  freed = λ n of. Frees n of.runs;
   crossed = λ e. Closes e;
   answered = λ e. Answers e;
   passed = λ e. Ignores e;

@@ -21,7 +21,8 @@ use Rattle.gate_model.specs.Picks.{ArePicks, MayComeAs}
 use Rattle.gate_model.specs.Queue.{is_empty, place_in, unit_at}
 use Rattle.gate_model.specs.State.{State, Step, Began, Moment, Queued, Came, TakenUp, Heard, Joined, Lost, Gave, Whole, OutOfMemory, before, came, dequeued, fail, failed, has_left, heard, left, next_unit, runs, waits, with_meaning, with_session, Fed, Silent, carried}
 use Rattle.gate_model.specs.Upstream.{heard_up, meaning_by}
-use Rattle.gate_model.proofs.Connections.{clash, none_comes, only_closing, only_given, step_here, stream_if, stream_only}
+use Rattle.gate_model.proofs.Connections.{clash, none_comes, only_given, step_here, stream_if, stream_only}
+use Rattle.gate_model.proofs.Outcomes.{only_closing}
 use Rattle.gate_model.proofs.Sessions.{session_cases}
 
 -- ---- what no unit of the client changes

@@ -10,7 +10,7 @@ use Rattle.close_translate.specs.declared.codes.TheConstants.{CONNECTION_FORCED}
 use Rattle.performatives_10.specs.declared.condition.Condition.{Condition}
 use Rattle.machine_091.specs.Calls.{after_ended, after_opened, closing_phase}
 use Rattle.machine_091.specs.State.{awaits, is_closing, is_closing_phase, is_opening, is_running}
-use Rattle.machine_091.specs.Transitions.{greeted, stream_after, unit_step}
+use Rattle.machine_091.specs.Transitions.{greeted, stream_after}
 use Rattle.machine_091.specs.Transitions as machine
 use Rattle.machine_091.specs.declared.state.Connection.{Connection}
 use Rattle.machine_091.specs.declared.state.Phase91.{Phase91}
@@ -25,7 +25,7 @@ use Rattle.methods_091.specs.declared.method.Method91.{Method91}
 use Rattle.machine_091.specs.declared.unit.Want91.TheVariants as want
 use Rattle.performatives_10.specs.declared.condition.Condition.TheVariants.{ResourceLimitExceeded}
 use Rattle.gate_model.specs.declared.life.Life.{Life}
-use Rattle.gate_model.specs.Lives.{each}
+use Rattle.gate_model.specs.Lives.{each, is_of_channel}
 use Rattle.close_translate.specs.declared.codes.TheConstants.{INTERNAL_ERROR}
 use Rattle.close_translate.specs.declared.conditions.Scope.TheVariants as scope
 use Rattle.machine_091.specs.Calls.{after_closing}
@@ -37,6 +37,7 @@ use Rattle.gate_model.specs.Answers.{AreAnswered, AreReplies, All, Overtaken, Ta
 use Rattle.gate_model.specs.Due.{channel_closes, channel_oks, client_units, close_oks, close_oks_on, closes, flow_oks, if_so, is_beat_due, last_closes, may_answer, may_end, may_go, may_tell, open_oks, openings, pick, refused_on, rows, when, is_awaiting, is_silent}
 use Rattle.gate_model.specs.Folds.{Peers, answers_of, conn_by, conn_session, session_closes, connection, failure_to, is_answer, leaving_in, peers, peers_came, peers_heard, ran_out_in, replies, replies_to, reply_by, reply_to, sent, sent_since, until_memory}
 use Rattle.gate_model.specs.Picks.{ArePicks}
+use Rattle.gate_model.specs.Requests.{client_step}
 use Rattle.gate_model.specs.State.{Began, Came, Gave, Heard, Joined, Lost, Moment, OutOfMemory, Queued, State, Step, TakenUp, Whole, before, came, close, close_if, conn_step, dequeued, fail, failed, failure, has_left, heard, is_channel_settled, is_foreign, is_limit_reached, is_settled, last_pending, left, none_pending, runs, turns_foreign, with_header, with_meaning, with_session, with_want, without, Fed, Silent, carried}
 use Rattle.gate_relay.specs.Sides.{is_readable}
 use Rattle.gate_model.specs.Upstream.{channel_max_in, container_by, first, has_closed, heard_up, meaning_by}
@@ -45,12 +46,13 @@ use Rattle.machine_10.specs.Transitions as ten
 use Rattle.machine_10.specs.Transitions.{Meaning}
 use Rattle.machine_10.specs.declared.state.Upstream.{Upstream}
 use Rattle.machine_10.specs.declared.unit.Unit10.{Unit10}
-use Rattle.gate_model.proofs.Connections.{OnlyChannels, clash, close_same, only_closing, only_given, opened_runs, opening_early, opening_phase, step_here}
+use Rattle.gate_model.proofs.Connections.{clash, close_same, only_given, opened_runs, opening_early, opening_phase, phase_only, step_here, stream_only}
+use Rattle.gate_model.proofs.Outcomes.{OnlyChannels, only_closing}
 use Rattle.gate_model.proofs.Queues.{none_left, none_next}
 use Rattle.gate_model.proofs.Rows.{Has, HasNone, HasFirst, first_each, first_none, first_some, has, same_first}
 use Rattle.gate_model.proofs.Sessions.{session_by}
 use Rattle.gate_model.proofs.Known.{Known, conn_is, container_is, known, memory_is}
-use Rattle.gate_model.proofs.Outcomes.{Outcome, Greets, Parts, LogsIn, Tunes, Asks, Passes, Refuses, Parting, Calls, Asking, Frees, Closes, Answers, Ignores, outcome}
+use Rattle.gate_model.proofs.Outcomes.{Outcome, Greets, Parts, LogsIn, Tunes, Asks, Passes, Refuses, Declines, Drops, Parting, Calls, Asking, Fills, Frees, Closes, Answers, Ignores, outcome}
 
 -- ---- what is due, by the phase of the connection
 
@@ -181,6 +183,19 @@ after_refusal d said all r s = record {
   same = one_due said all (rows d) (rows (record d { close = Some r })) (reply.Close r) (close_due d r s.none s.calm) s.same;
 }
 
+-- what a refusal of the connection makes due, and one of a channel
+refused_connection : (d : Pending) (said all : List Reply) (gone : Bool) (r : Refusal) → is_of_channel r ≡ false → Runs_ d said all
+    → IsSaid phase.Closing (with_want (want.Refuse r) d) said (all ++ reply_to (want.Refuse r)) gone
+refused_connection d said all gone r g s =
+    subst (λ (b : Bool). IsSaid phase.Closing (if b then d else record d { close = Some r }) said (all ++ (if b then [] else reply.Close r ∷ [])) gone)
+    (sym g) (after_refusal d said all r s)
+
+refused_channel : (p : Phase91) (d : Pending) (said all : List Reply) (gone : Bool) (r : Refusal) → is_of_channel r ≡ true → IsSaid p d said all gone
+    → IsSaid p (with_want (want.Refuse r) d) said (all ++ reply_to (want.Refuse r)) gone
+refused_channel p d said all gone r g s =
+    subst (λ (b : Bool). IsSaid p (if b then d else record d { close = Some r }) said (all ++ (if b then [] else reply.Close r ∷ [])) gone)
+    (sym g) (after_nothing p d said all gone s)
+
 -- no header of the gateway becomes due
 no_header : (d : Pending) → with_header false d ≡ d
 no_header d = ap (λ (b : Bool). record d { protocol = b }) (or_false d.protocol)
@@ -226,9 +241,12 @@ said_in {p} {q} d said all gone e s = subst (λ (x : Phase91). IsSaid x d said a
 
 -- a unit was taken up
 said_next : (c : Connection) (u : Unit91) (d : Pending) (said all : List Reply) (gone : Bool) → IsSaid c.phase d said all gone
-    → IsSaid (conn_step c u).phase (with_header (turns_foreign c u) (with_want (unit_step c u).1 d)) said (all ++ replies_to c u) gone
-said_next c u d said all gone s = by (unit_step c u) (outcome c u)
+    → IsSaid (conn_step c u).phase (with_header (turns_foreign c u) (with_want (client_step c u).1 d)) said (all ++ replies_to c u) gone
+said_next c u d said all gone s = by (client_step c u) (outcome c u)
   where
+    same_stream : {x : Connection} → OnlyChannels c x → (is_foreign x.stream && not (is_foreign c.stream)) ≡ false
+    same_stream o = ap (λ (t : Stream91). is_foreign t && not (is_foreign c.stream)) (stream_only o) ∙ never c.stream
+
     by : (x : machine.Step) → Outcome c u x
         → After (is_foreign x.0.stream && not (is_foreign c.stream)) (x.0).phase x.1 d said all gone
     by _ (Greets e) =
@@ -256,13 +274,22 @@ said_next c u d said all gone s = by (unit_step c u) (outcome c u)
         plainly _ phase.Open want.Tuned d said all gone (never c.stream) (after_nothing phase.Open d said all gone (said_in {q = phase.Tune} d said all gone e s))
     by _ (Asks e) = plainly _ c.phase want.OpenUp d said all gone (never c.stream) (after_nothing c.phase d said all gone s)
     by _ Passes = plainly _ c.phase want.Nothing d said all gone (never c.stream) (after_nothing c.phase d said all gone s)
-    by _ (Refuses r a f e) =
-        plainly _ phase.Closing (want.Refuse r) d said all gone (never_after u c.stream) (after_refusal d said all r (runs_in c.phase d said all gone e s))
+    by _ (Refuses r a f e g) =
+        plainly _ phase.Closing (want.Refuse r) d said all gone (never_after u c.stream)
+        (refused_connection d said all gone r g (runs_in c.phase d said all gone e s))
+    by _ (Declines r x o e g) =
+        plainly _ (closing_phase x.phase) (want.Refuse r) d said all gone (same_stream o)
+        (said_in {p = phase.Closing} _ said _ gone (sym (ap closing_phase (phase_only o ∙ running_phase c.phase e)))
+        (refused_connection d said all gone r g (said_in {q = phase.Running} d said all gone (running_phase c.phase e) s)))
+    by _ (Drops r x o e g) =
+        plainly _ x.phase (want.Refuse r) d said all gone (same_stream o)
+        (said_in _ said _ gone (sym (phase_only o)) (refused_channel c.phase d said all gone r g s))
     by _ (Parting e) =
         let t = shuts_of d said all (said_in {q = phase.Running} d said all gone (running_phase c.phase e) s) in
         plainly _ phase.Closed want.Close d said all gone (never c.stream) (ClosesNot refl t.calm (after_close d said all gone d.close refl t))
     by _ (Calls n x m e) = plainly _ c.phase (want.Method n m) d said all gone (never c.stream) (after_nothing c.phase d said all gone s)
     by _ (Asking n m e) = plainly _ c.phase (want.Method n m) d said all gone (never c.stream) (after_nothing c.phase d said all gone s)
+    by _ (Fills n i e) = plainly _ c.phase want.Nothing d said all gone (never c.stream) (after_nothing c.phase d said all gone s)
     by _ (Frees n e) = plainly _ c.phase (want.ChannelCloseOk n) d said all gone (never c.stream) (after_nothing c.phase d said all gone s)
     by _ (Closes e) =
         let t = said_in {q = phase.Closing} d said all gone e s in
@@ -739,7 +766,7 @@ says_came w u false p went since all last may e s =
     let here : has_left c.stream ≡ has_left (conn_step c u).stream = isnt_left (has_left c.stream) (has_left (conn_step c u).stream) may (step_here c u) in
     record {
       said = λ m. subst (λ (g : Bool). IsSaid (conn_step c u).phase (came (dequeued w) u).pending (answers_of went) (all ++ replies_to c u) g) here
-          (subst (λ (x : Connection). IsSaid (conn_step c u).phase (with_header (turns_foreign x u) (with_want (unit_step x u).1 w.pending)) (answers_of went) (all ++ replies_to c u) (has_left c.stream)) (sym e)
+          (subst (λ (x : Connection). IsSaid (conn_step c u).phase (with_header (turns_foreign x u) (with_want (client_step x u).1 w.pending)) (answers_of went) (all ++ replies_to c u) (has_left c.stream)) (sym e)
           (said_next c u w.pending (answers_of went) all (has_left c.stream) (s.said m)));
       ending = λ m. absurd (clash false m refl);
     }

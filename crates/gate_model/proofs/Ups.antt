@@ -12,7 +12,6 @@ use Rattle.gate_relay.specs.declared.sides.Side.{Side}
 use Rattle.gate_relay.specs.declared.sides.Side.TheVariants as side
 use Rattle.machine_091.specs.Calls.{after_ended, after_opened, closing_phase, opened_phase}
 use Rattle.machine_091.specs.State.{is_closing, is_opening}
-use Rattle.machine_091.specs.Transitions.{unit_step}
 use Rattle.machine_091.specs.Transitions as machine
 use Rattle.machine_091.specs.declared.state.Connection.{Connection}
 use Rattle.machine_091.specs.declared.state.Phase91.{Phase91}
@@ -34,6 +33,7 @@ use Rattle.gate_model.specs.Due.{begins, close_behind, ends, flows_on, is_end_du
 use Rattle.gate_model.specs.Session.{is_flow_owed}
 use Rattle.gate_model.specs.Folds.{Peers, accepted_in, conn_by, connection, container, container_kept, leaving_in, moment_in, peers, peers_came, peers_heard, ran_out_in, sent_up, sent_up_at}
 use Rattle.gate_model.specs.Picks.{ArePicks}
+use Rattle.gate_model.specs.Requests.{client_step}
 use Rattle.gate_model.specs.State.{State, Step, Began, Moment, Queued, Came, TakenUp, Heard, Joined, Lost, Gave, Whole, OutOfMemory, before, came, close_if, dequeued, fail, failed, heard, is_limit_reached, left, runs, with_meaning, with_session, Fed, Silent, carried}
 use Rattle.gate_model.specs.Lives.{each, is_carried, is_free, session_in}
 use Rattle.gate_model.specs.declared.life.Life.{Life}
@@ -42,12 +42,13 @@ use Rattle.machine_10.specs.State.{session_at}
 use Rattle.machine_10.specs.declared.state.Session.{Session}
 use Rattle.machine_10.specs.declared.state.Session.TheVariants as session
 use Rattle.gate_model.specs.Upstream.{UpState, begun, channel_max_in, closing_with, container_by, container_given, ended_in, first, heard_up, is_idle_due, meaning_by, no_end, nothing_due, opening_rows, when_up, with_begun, with_whole, without_up}
-use Rattle.gate_model.proofs.Connections.{clash, only_closing, only_given, phase_only}
+use Rattle.gate_model.proofs.Connections.{clash, only_given, phase_only}
+use Rattle.gate_model.proofs.Outcomes.{only_closing}
 use Rattle.gate_model.proofs.Rows.{first_each}
 use Rattle.gate_model.proofs.Sessions.{conn_cases, session_cases}
 use Rattle.gate_model.proofs.Known.{Known, conn_is, container_is, keep_is, known, memory_is, moment_is}
 use Rattle.gate_model.proofs.Openings.{UpTo, Ups, is_opening_first, phase_in, up_to_closed, ups_gone, ups_heard, ups_other}
-use Rattle.gate_model.proofs.Outcomes.{Outcome, Greets, Parts, LogsIn, Tunes, Asks, Passes, Refuses, Parting, Calls, Asking, Frees, Closes, Answers, Ignores, outcome}
+use Rattle.gate_model.proofs.Outcomes.{Outcome, Greets, Parts, LogsIn, Tunes, Asks, Passes, Refuses, Declines, Drops, Parting, Calls, Asking, Fills, Frees, Closes, Answers, Ignores, outcome}
 
 -- ---- before the login there is no container
 
@@ -73,7 +74,7 @@ closing_late phase.Closing = refl
 closing_late phase.Closed = refl
 
 early_came : (p : Peers) (u : Unit91) → Early p → Early (peers_came p u)
-early_came p u f = by (unit_step p.client u) (outcome p.client u)
+early_came p u f = by (client_step p.client u) (outcome p.client u)
   where
     c : Connection
     c = p.client
@@ -85,10 +86,13 @@ early_came p u f = by (unit_step p.client u) (outcome p.client u)
     by _ (Tunes l e) k = absurd cc
     by _ (Asks e) k = f k
     by _ Passes k = f k
-    by _ (Refuses r a f e) k = absurd cc
+    by _ (Refuses r a f e g) k = absurd cc
+    by _ (Declines r d o e g) k = let late = closing_late d.phase in absurd cc
+    by _ (Drops r d o e g) k = f (sym (ap is_early (phase_only o)) ∙ k)
     by _ (Parting e) k = absurd cc
     by _ (Calls n s m e) k = f k
     by _ (Asking n m e) k = f k
+    by _ (Fills n i e) k = f k
     by _ (Frees n e) k = f k
     by _ (Closes e) k = absurd cc
     by _ (Answers e) k = absurd cc
@@ -187,8 +191,8 @@ UpSays h = UpSaysIn (part (before h).up) (sent_up h) (sent_up_whole h) (sent_up_
 -- ---- steps that change none of that, or little
 
 kept_phase : (c : Connection) (u : Unit91) (o : Option Upstream) → (is_early c.phase ≡ true → o ≡ None)
-    → phase_in (container_kept o (unit_step c u).1) ≡ phase_in o
-kept_phase c u o f = by (unit_step c u) (outcome c u)
+    → phase_in (container_kept o (client_step c u).1) ≡ phase_in o
+kept_phase c u o f = by (client_step c u) (outcome c u)
   where
     by : (x : machine.Step) → Outcome c u x → phase_in (container_kept o x.1) ≡ phase_in o
     by _ (Greets e) = refl
@@ -197,10 +201,13 @@ kept_phase c u o f = by (unit_step c u) (outcome c u)
     by _ (Tunes l e) = refl
     by _ (Asks e) = refl
     by _ Passes = refl
-    by _ (Refuses r a f e) = refl
+    by _ (Refuses r a f e g) = refl
+    by _ (Declines r d o e g) = refl
+    by _ (Drops r d o e g) = refl
     by _ (Parting e) = refl
     by _ (Calls n s m e) = refl
     by _ (Asking n m e) = refl
+    by _ (Fills n i e) = refl
     by _ (Frees n e) = refl
     by _ (Closes e) = refl
     by _ (Answers e) = refl
@@ -223,7 +230,7 @@ part_came w u f = by w.out_of_memory
     by : (b : Bool) → part (if b then w else came (dequeued w) u).up ≡ part w.up
     by true = refl
     by false =
-        part_closing (is_closing w.conn) _ _ ∙ ap part (keep_is (unit_step w.conn u).1 w.up)
+        part_closing (is_closing w.conn) _ _ ∙ ap part (keep_is (client_step w.conn u).1 w.up)
         ∙ ap (λ (x : Phase10). record (part w.up) { at = x }) (kept_phase w.conn u w.up.container f)
 
 part_taken : (w : State) (b : Bool) → part (if b then left w else w).up ≡ part w.up

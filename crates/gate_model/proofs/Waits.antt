@@ -5,7 +5,6 @@ use Rattle.gate_outside.specs.declared.ports.Linked.TheVariants as link
 use Rattle.gate_relay.specs.Sides.{is_readable}
 use Rattle.gate_relay.specs.declared.loss.Loss.TheVariants as loss
 use Rattle.machine_091.specs.State.{is_closing}
-use Rattle.machine_091.specs.Transitions.{unit_step}
 use Rattle.machine_091.specs.declared.state.Phase91.{Phase91}
 use Rattle.machine_091.specs.declared.state.Phase91.TheVariants as phase
 use Rattle.machine_091.specs.declared.unit.Refusal.{Refusal}
@@ -18,6 +17,7 @@ use Rattle.machine_10.specs.Transitions.{Meaning}
 use Rattle.machine_10.specs.declared.state.Upstream.{Upstream}
 use Rattle.machine_10.specs.declared.unit.Unit10.{Unit10}
 use Rattle.performatives_10.specs.declared.condition.Condition.{Condition}
+use Rattle.gate_model.specs.Lives.{is_of_channel}
 use Rattle.gate_model.specs.declared.outgoing.Outgoing.TheVariants.{ToClient, ToUp}
 use Rattle.gate_model.specs.declared.reply.Pending.{Pending}
 use Rattle.gate_model.specs.declared.reply.Reply.{Reply}
@@ -25,6 +25,7 @@ use Rattle.gate_model.specs.declared.reply.Reply.TheVariants as reply
 use Rattle.gate_model.specs.Due.{may_go, rows}
 use Rattle.gate_model.specs.Folds.{container, is_answer, ran_out_in}
 use Rattle.gate_model.specs.Picks.{ArePicks}
+use Rattle.gate_model.specs.Requests.{client_step}
 use Rattle.gate_model.specs.State.{Began, Came, Gave, Heard, Joined, Lost, Moment, OutOfMemory, Queued, State, Step, TakenUp, Whole, before, came, dequeued, fail, failed, heard, is_settled, last_pending, left, turns_foreign, with_header, with_meaning, with_session, with_want, without, Fed, Silent, carried}
 use Rattle.gate_model.specs.Upstream.{first, has_closed, heard_up, is_closed_stream, meaning_by, stream_in}
 use Rattle.gate_model.specs.Waiting.{EndsWhenSettled, OpensWhenOpened, Settled, RanOut, NotOpen, HasClosed, is_ending, is_opened, opened_in, GivenUp}
@@ -113,10 +114,15 @@ open_ok_after b (want.Login m r) d = refl
 open_ok_after b want.Tuned d = refl
 open_ok_after b want.OpenUp d = refl
 open_ok_after b (want.Method n m) d = refl
+open_ok_after b (want.Publish n m x) d = refl
 open_ok_after b (want.ChannelCloseOk n) d = refl
 open_ok_after b want.Close d = refl
 open_ok_after b want.CloseOk d = refl
-open_ok_after b (want.Refuse r) d = refl
+open_ok_after b (want.Refuse r) d = by (is_of_channel r)
+  where
+    by : (x : Bool) → (with_header b (if x then d else record d { close = Some r })).open_ok ≡ d.open_ok
+    by true = refl
+    by false = refl
 
 open_ok_queued : (w : State) (us : List Unit91) → (if w.out_of_memory then w else record w { queue = us }).pending.open_ok ≡ w.pending.open_ok
 open_ok_queued w us = by w.out_of_memory
@@ -130,7 +136,7 @@ open_ok_came w u = by w.out_of_memory
   where
     by : (b : Bool) → (if b then w else came (dequeued w) u).pending.open_ok ≡ w.pending.open_ok
     by true = refl
-    by false = open_ok_after (turns_foreign w.conn u) (unit_step w.conn u).1 w.pending
+    by false = open_ok_after (turns_foreign w.conn u) (client_step w.conn u).1 w.pending
 
 open_ok_taken : (w : State) (b : Bool) → (if b then left w else w).pending.open_ok ≡ w.pending.open_ok
 open_ok_taken w true = refl

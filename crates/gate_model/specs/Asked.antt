@@ -9,7 +9,6 @@ use Rattle.gate_relay.specs.declared.sides.Side.TheVariants as side
 use Rattle.close_translate.specs.Conditions.{condition_of}
 use Rattle.close_translate.specs.declared.codes.TheConstants.{RESOURCE_ERROR}
 use Rattle.machine_091.specs.State.{is_closing, is_open}
-use Rattle.machine_091.specs.Transitions.{unit_step}
 use Rattle.machine_10.specs.Transitions as ten
 use Rattle.machine_10.specs.Transitions.{Meaning}
 use Rattle.machine_10.specs.declared.state.Upstream.{Upstream}
@@ -28,7 +27,7 @@ use Rattle.performatives_10.specs.declared.condition.Condition.TheVariants.{Reso
 use Rattle.gate_model.specs.Folds.{sent_up, sent_up_at, session_closes, side_in}
 use Rattle.gate_model.specs.Lives.{is_begun, is_carried, is_ended, is_free, session_in}
 use Rattle.gate_model.specs.Session.{is_flow_owed}
-use Rattle.gate_model.specs.State.{State, Step, Came, Gave, Heard, Joined, OutOfMemory, Silent}
+use Rattle.gate_model.specs.State.{Came, Gave, Heard, Joined, OutOfMemory, Silent, State, Step, want_in}
 use Rattle.gate_model.specs.State.{Whole}
 use Rattle.gate_model.specs.State.{before, condition_by}
 use Rattle.gate_model.specs.Upstream.{idle_in, is_bad_stream, is_closed_stream, meaning_by}
@@ -125,7 +124,7 @@ condition_told (ten.Violation why) = Some why
 
 -- what a step says of the error of the gateway's close, if it is the closing event
 abbrev pub condition_at : Step → List Step → Option Condition
-condition_at (Came u) h = condition_by (unit_step (connection h) u).1
+condition_at (Came u) h = condition_by (want_in (connection h) u)
 condition_at (Heard u) h = condition_told (meaning_by (container h) u)
 condition_at (Silent Up) h = Some ResourceLimitExceeded
 condition_at OutOfMemory h = Some (condition_of RESOURCE_ERROR)

@@ -14,7 +14,6 @@ use Rattle.close_translate.specs.declared.codes.TheConstants.{NOT_ALLOWED}
 use Rattle.close_translate.specs.declared.conditions.Scope.TheVariants as scope
 use Rattle.machine_091.specs.Calls.{after_closing, after_ended, after_opened}
 use Rattle.machine_091.specs.State.{new_connection, is_closing, is_open, is_opening}
-use Rattle.machine_091.specs.Transitions.{unit_step}
 use Rattle.machine_091.specs.declared.state.Connection.{Connection}
 use Rattle.machine_091.specs.declared.unit.Unit91.{Unit91}
 use Rattle.machine_091.specs.declared.unit.Want91.{Want91}
@@ -29,9 +28,10 @@ use Rattle.gate_model.specs.declared.outgoing.Outgoing.TheVariants.{ToClient, To
 use Rattle.gate_model.specs.declared.outgoing.UpUnit.{UpUnit}
 use Rattle.gate_model.specs.declared.reply.Reply.{Reply}
 use Rattle.gate_model.specs.declared.reply.Reply.TheVariants as reply
-use Rattle.gate_model.specs.State.{Step, Began, Moment, Fed, Silent, Queued, Came, TakenUp, Heard, Joined, Lost, Gave}
+use Rattle.gate_model.specs.State.{Began, Came, Fed, Gave, Heard, Joined, Lost, Moment, Queued, Silent, Step, TakenUp, want_in}
 use Rattle.gate_model.specs.State.{Whole, OutOfMemory, close, close_if, closes_at, conn_step}
-use Rattle.gate_model.specs.State.{conn_given, failure, is_limit_reached, turns_foreign}
+use Rattle.gate_model.specs.Lives.{is_of_channel}
+use Rattle.gate_model.specs.State.{conn_given, failure, is_limit_reached, turns_foreign, want_in}
 use Rattle.gate_model.specs.Upstream.{channel_max_in, condition_in, container_by, container_for}
 use Rattle.gate_model.specs.Upstream.{container_given, ended_in}
 use Rattle.gate_model.specs.Upstream.{meaning_by}
@@ -161,6 +161,7 @@ container_kept o (want.Login mechanism response) = Some (container_for mechanism
 container_kept o want.Tuned = o
 container_kept o want.OpenUp = o
 container_kept o (want.Method n m) = o
+container_kept o (want.Publish n m c) = o
 container_kept o (want.ChannelCloseOk n) = o
 container_kept o want.Close = o
 container_kept o want.CloseOk = o
@@ -169,7 +170,7 @@ container_kept o (want.Refuse r) = o
 abbrev pub peers_came : Peers → Unit91 → Peers
 peers_came p u = record {
   client = conn_step p.client u;
-  container = container_kept p.container (unit_step p.client u).1;
+  container = container_kept p.container (want_in p.client u);
 }
 
 abbrev pub peers_heard : Peers → Unit10 → Peers
@@ -255,14 +256,15 @@ reply_to (want.Login mechanism response) = reply.Tune ∷ []
 reply_to want.Tuned = []
 reply_to want.OpenUp = []
 reply_to (want.Method n m) = []
+reply_to (want.Publish n m c) = []
 reply_to (want.ChannelCloseOk n) = []
 reply_to want.Close = reply.CloseOk ∷ []
 reply_to want.CloseOk = []
-reply_to (want.Refuse r) = reply.Close r ∷ []
+reply_to (want.Refuse r) = if is_of_channel r then [] else reply.Close r ∷ []
 
 -- bytes that begin no protocol header get the gateway's own
 abbrev pub replies_to : Connection → Unit91 → List Reply
-replies_to c u = when (turns_foreign c u) reply.Protocol ++ reply_to (unit_step c u).1
+replies_to c u = when (turns_foreign c u) reply.Protocol ++ reply_to (want_in c u)
 
 -- a client whose connection isn't closing yet is told of a failure upstream
 abbrev pub failure_to : Connection → ℕ → List Reply

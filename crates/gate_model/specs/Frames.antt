@@ -1,7 +1,6 @@
 -- The size of what is sent to a client.
 use Rattle.std.specs.Prelude.{ℕ, ◌≤◌, if◌then◌else◌, List, [], ◌∷◌, length}
 use Rattle.gate_model.specs.declared.outgoing.Outgoing.TheVariants.{ToClient}
-use Rattle.machine_091.specs.Transitions.{unit_step}
 use Rattle.machine_091.specs.declared.limits.TheConstants.{FRAME_MIN_SIZE}
 use Rattle.machine_091.specs.declared.state.Connection.{Connection}
 use Rattle.machine_091.specs.declared.unit.Want91.{Want91}
@@ -9,7 +8,7 @@ use Rattle.machine_091.specs.declared.unit.Want91.TheVariants as want
 use Rattle.gate_model.specs.Folds.{connection, ran_out_in}
 use Rattle.gate_model.specs.Spelling.{spell_reply}
 use Rattle.gate_model.specs.State as state
-use Rattle.gate_model.specs.State.{Came, Gave}
+use Rattle.gate_model.specs.State.{Came, Gave, conn_step, want_in}
 
 -- the greatest frame that a client takes, after a unit of it: a tune-ok that isn't refused agrees
 -- to one
@@ -22,7 +21,7 @@ abbrev pub limit_in : List state.Step → ℕ
 limit_in [] = FRAME_MIN_SIZE
 limit_in (Came u ∷ h) =
     if ran_out_in h then limit_in h
-    else limit_after (limit_in h) (unit_step (connection h) u).0 (unit_step (connection h) u).1
+    else limit_after (limit_in h) (conn_step (connection h) u) (want_in (connection h) u)
 limit_in (s ∷ h) = limit_in h
 
 -- no unit that was sent passes the limit of its moment

@@ -8,6 +8,7 @@ pub mod Once
 pub mod Order
 pub mod Picks
 pub mod Queue
+pub mod Requests
 pub mod Session
 pub mod Setup
 pub mod Silence

@@ -1,6 +1,8 @@
 -- The lives of channels: what is due on each channel of a client, which a session of the container
 -- of the same number carries (AMQP 0-9-1 1.5; AMQP 1.0 2.5).
-use Rattle.std.specs.Prelude.{ℕ, zero, ◌+◌, ◌-◌, nat_lt, Bool, true, false, not, ◌&&◌, ◌||◌, List, [], ◌∷◌, ◌++◌, replicate, slice_get, slice_set, Option, None, Some}
+use Rattle.std.specs.Prelude.{ℕ, zero, ◌+◌, ◌-◌, nat_lt, Bool, true, false, if◌then◌else◌, not, ◌&&◌, ◌||◌, List, [], ◌∷◌, ◌++◌, replicate, slice_get, slice_set, Option, None, Some}
+use Rattle.close_translate.specs.Conditions.{condition_of}
+use Rattle.close_translate.specs.declared.conditions.Scope.{Scope}
 use Rattle.close_translate.specs.declared.conditions.Scope.TheVariants as scope
 use Rattle.machine_091.specs.declared.unit.Refusal.{Refusal}
 use Rattle.machine_091.specs.declared.unit.Want91.{Want91}
@@ -15,6 +17,14 @@ use Rattle.performatives_10.specs.declared.condition.Condition.{Condition}
 use Rattle.gate_model.specs.declared.life.Life.{Life}
 use Rattle.gate_model.specs.declared.life.SessionState.{SessionState}
 use Rattle.gate_model.specs.Session.{no_session}
+
+abbrev pub is_channel : Scope → Bool
+is_channel scope.Channel = true
+is_channel scope.Connection = false
+
+-- what a refusal closes
+abbrev pub is_of_channel : Refusal → Bool
+is_of_channel r = is_channel r.scope
 
 -- ---- one life
 
@@ -88,6 +98,13 @@ method_life (method.ChannelFlow active) l = flowed_life l
 method_life (method.ChannelClose code text class id) l = closed_life l
 method_life m l = l
 
+-- a refusal of a channel closes that
+abbrev pub refused_life : Refusal → List Life → List Life
+refused_life r ls =
+    if is_of_channel r then
+    with_life r.channel (failed_life r (Some (condition_of r.code)) (life_at ls r.channel)) ls
+    else ls
+
 abbrev pub lives_by : Want91 → List Life → List Life
 lives_by want.Nothing ls = ls
 lives_by want.Start ls = ls
@@ -95,10 +112,11 @@ lives_by (want.Login mechanism response) ls = ls
 lives_by want.Tuned ls = ls
 lives_by want.OpenUp ls = ls
 lives_by (want.Method n m) ls = with_life n (method_life m (life_at ls n)) ls
+lives_by (want.Publish n m c) ls = ls
 lives_by (want.ChannelCloseOk n) ls = with_life n (freed_life (life_at ls n)) ls
 lives_by want.Close ls = ls
 lives_by want.CloseOk ls = ls
-lives_by (want.Refuse r) ls = ls
+lives_by (want.Refuse r) ls = refused_life r ls
 
 -- what each life has, by rising numbers of channels
 abbrev pub each : {A : Type 0} → (ℕ → Life → List A) → ℕ → List Life → List A

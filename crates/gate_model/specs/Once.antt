@@ -1,6 +1,5 @@
 -- Each request on a channel is answered at most once (AMQP 0-9-1 1.5.1).
 use Rattle.std.specs.Prelude.{ℕ, ◌+◌, ◌==◌, ◌≤◌, Bool, true, false, ◌&&◌, if◌then◌else◌, List, [], ◌∷◌}
-use Rattle.machine_091.specs.Transitions.{unit_step}
 use Rattle.machine_091.specs.declared.unit.Want91.{Want91}
 use Rattle.machine_091.specs.declared.unit.Want91.TheVariants as want
 use Rattle.methods_091.specs.declared.method.Method91.{Method91}
@@ -9,7 +8,7 @@ use Rattle.gate_model.specs.declared.outgoing.Outgoing.TheVariants.{ToClient}
 use Rattle.gate_model.specs.declared.reply.Reply.{Reply}
 use Rattle.gate_model.specs.declared.reply.Reply.TheVariants as reply
 use Rattle.gate_model.specs.Folds.{connection, ran_out_in}
-use Rattle.gate_model.specs.State.{Step, Came, Gave}
+use Rattle.gate_model.specs.State.{Came, Gave, Step, want_in}
 
 abbrev pub one_if : Bool → ℕ
 one_if true = 1
@@ -20,7 +19,7 @@ abbrev pub wanted_in : (Want91 → Bool) → List Step → ℕ
 wanted_in t [] = 0
 wanted_in t (Came u ∷ h) =
     if ran_out_in h then wanted_in t h
-    else wanted_in t h + one_if (t (unit_step (connection h) u).1)
+    else wanted_in t h + one_if (t (want_in (connection h) u))
 wanted_in t (s ∷ h) = wanted_in t h
 
 -- how many units to it, of which the first byte was sent, pass one
@@ -51,6 +50,7 @@ is_method_on t n (want.Login mechanism response) = false
 is_method_on t n want.Tuned = false
 is_method_on t n want.OpenUp = false
 is_method_on t n (want.Method k m) = k == n && t m
+is_method_on t n (want.Publish k m c) = false
 is_method_on t n (want.ChannelCloseOk k) = false
 is_method_on t n want.Close = false
 is_method_on t n want.CloseOk = false

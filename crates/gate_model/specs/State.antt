@@ -20,7 +20,6 @@ use Rattle.machine_091.specs.Calls.{after_closed, after_closing, after_ended, af
 use Rattle.machine_091.specs.Calls.{after_told}
 use Rattle.machine_091.specs.State.{new_connection, is_closing, is_open, is_opening}
 use Rattle.machine_091.specs.Refusals.{refusal_with}
-use Rattle.machine_091.specs.Transitions.{unit_step}
 use Rattle.machine_091.specs.declared.state.Connection.{Connection}
 use Rattle.machine_091.specs.declared.state.Phase91.{Phase91}
 use Rattle.machine_091.specs.declared.state.Phase91.TheVariants as phase
@@ -49,9 +48,10 @@ use Rattle.machine_10.specs.Reading.{field}
 use Rattle.performatives_10.specs.declared.condition.Condition.TheVariants.{NotAllowed}
 use Rattle.performatives_10.specs.declared.condition.Condition.TheVariants.{ResourceLimitExceeded}
 use Rattle.gate_model.specs.declared.life.Life.{Life}
+use Rattle.gate_model.specs.Requests.{client_step}
 use Rattle.gate_model.specs.declared.outgoing.UpUnit.{UpUnit}
 use Rattle.gate_model.specs.declared.outgoing.UpUnit.TheVariants as up
-use Rattle.gate_model.specs.Lives.{any_life, begun_life, failed_life, is_done, life_at, lives_by}
+use Rattle.gate_model.specs.Lives.{any_life, begun_life, failed_life, is_done, is_of_channel, life_at, lives_by}
 use Rattle.gate_model.specs.Lives.{no_lives, refusal_on, session_in, with_life, with_state}
 use Rattle.gate_model.specs.Session.{carried_by, fault_of, flow_sent, is_of_session}
 use Rattle.gate_model.specs.Queue.{Waits, is_bad_unit, is_full, place_in, unit_at, without_at}
@@ -217,9 +217,12 @@ fed_by false ms at = at
 
 -- ---- a unit of the client
 
--- the connection after a unit
+-- the connection after a unit, and what that wants
 abbrev pub conn_step : Connection → Unit91 → Connection
-conn_step c u = (unit_step c u).0
+conn_step c u = (client_step c u).0
+
+abbrev pub want_in : Connection → Unit91 → Want91
+want_in c u = (client_step c u).1
 
 -- what becomes due by what a unit wants: the gateway's close is due no more once the client closed
 abbrev pub with_want : Want91 → Pending → Pending
@@ -229,10 +232,11 @@ with_want (want.Login mechanism response) p = record p { tune = true }
 with_want want.Tuned p = p
 with_want want.OpenUp p = p
 with_want (want.Method n m) p = p
+with_want (want.Publish n m c) p = p
 with_want (want.ChannelCloseOk n) p = p
 with_want want.Close p = record p { close_ok = true; close = None }
 with_want want.CloseOk p = p
-with_want (want.Refuse r) p = record p { close = Some r }
+with_want (want.Refuse r) p = if is_of_channel r then p else record p { close = Some r }
 
 -- the error of the gateway's close to the container, where what a unit wants is the closing event:
 -- that of a refusal
@@ -243,10 +247,11 @@ condition_by (want.Login mechanism response) = None
 condition_by want.Tuned = None
 condition_by want.OpenUp = None
 condition_by (want.Method n m) = None
+condition_by (want.Publish n m c) = None
 condition_by (want.ChannelCloseOk n) = None
 condition_by want.Close = None
 condition_by want.CloseOk = None
-condition_by (want.Refuse r) = Some (condition_of r.code)
+condition_by (want.Refuse r) = if is_of_channel r then None else Some (condition_of r.code)
 
 -- a login is kept for the container
 abbrev pub keep_login : Want91 → UpState → UpState
@@ -256,6 +261,7 @@ keep_login (want.Login mechanism response) s = with_login mechanism response s
 keep_login want.Tuned s = s
 keep_login want.OpenUp s = s
 keep_login (want.Method n m) s = s
+keep_login (want.Publish n m c) s = s
 keep_login (want.ChannelCloseOk n) s = s
 keep_login want.Close s = s
 keep_login want.CloseOk s = s
@@ -268,6 +274,7 @@ is_close_want (want.Login mechanism response) = false
 is_close_want want.Tuned = false
 is_close_want want.OpenUp = false
 is_close_want (want.Method n m) = false
+is_close_want (want.Publish n m c) = false
 is_close_want (want.ChannelCloseOk n) = false
 is_close_want want.Close = true
 is_close_want want.CloseOk = false
@@ -284,7 +291,7 @@ is_foreign stream.Ended = false
 
 -- they just turned out to be none: the gateway's own header is due
 abbrev pub turns_foreign : Connection → Unit91 → Bool
-turns_foreign c u = is_foreign (unit_step c u).0.stream && not (is_foreign c.stream)
+turns_foreign c u = is_foreign (conn_step c u).stream && not (is_foreign c.stream)
 
 abbrev pub with_header : Bool → Pending → Pending
 with_header foreign p = record p { protocol = p.protocol || foreign }
@@ -300,7 +307,8 @@ met closing x w = record w {
 
 -- the connection after a unit, what is due by that, and the moment of the first closing event
 abbrev pub stepped : State → Unit91 → State
-stepped w u = met (is_closing w.conn) (unit_step w.conn u).1 (record w { conn = (unit_step w.conn u).0 })
+stepped w u =
+    met (is_closing w.conn) (want_in w.conn u) (record w { conn = conn_step w.conn u })
 
 abbrev pub came : State → Unit91 → State
 came w u =

@@ -8,7 +8,6 @@ use Rattle.gate_outside.specs.declared.ports.End.TheVariants.{Client, Up}
 use Rattle.gate_outside.specs.declared.ports.Linked.TheVariants as link
 use Rattle.gate_relay.specs.declared.loss.Loss.TheVariants as loss
 use Rattle.machine_091.specs.Calls.{after_ended}
-use Rattle.machine_091.specs.Transitions.{unit_step}
 use Rattle.machine_091.specs.Transitions as machine
 use Rattle.machine_091.specs.declared.unit.Unit91.{Unit91}
 use Rattle.machine_10.specs.Calls.{after_begin_sent, after_end_sent, asked, left, may_begin}
@@ -29,10 +28,11 @@ use Rattle.gate_model.specs.Folds.{Peers, connection, container, container_kept,
 use Rattle.gate_model.specs.Picks.{ArePicks}
 use Rattle.gate_model.specs.Setup.{SetupText}
 use Rattle.gate_model.specs.Spelling.{Context, context_of, init_text, spell}
+use Rattle.gate_model.specs.Requests.{client_step}
 use Rattle.gate_model.specs.State.{Step, Began, Moment, Fed, Silent, Queued, Came, TakenUp, Heard, Joined, Lost, Gave, Whole, OutOfMemory, before}
 use Rattle.gate_model.specs.Upstream.{container_by, container_given, ended_in, opening_rows, sessions_given, when_up}
 use Rattle.gate_model.proofs.Known.{container_is, known, number_is}
-use Rattle.gate_model.proofs.Outcomes.{Outcome, Greets, Parts, LogsIn, Tunes, Asks, Passes, Refuses, Parting, Calls, Asking, Frees, Closes, Answers, Ignores, outcome}
+use Rattle.gate_model.proofs.Outcomes.{Outcome, Greets, Parts, LogsIn, Tunes, Asks, Passes, Refuses, Declines, Drops, Parting, Calls, Asking, Fills, Frees, Closes, Answers, Ignores, outcome}
 use Rattle.gate_model.proofs.Ups.{Early, early, is_early}
 use Rattle.gate_pair.specs.Answers.{context_in, sent_to, spelled}
 
@@ -54,8 +54,8 @@ abbrev pub IsUnheard : Step → Type 0
 IsUnheard (Heard u) = ⊥
 IsUnheard x = Unit {0}
 
-moves_came : (p : Peers) (u : Unit91) → Early p → Moves p.container (container_kept p.container (unit_step p.client u).1)
-moves_came p u f = by (unit_step p.client u) (outcome p.client u)
+moves_came : (p : Peers) (u : Unit91) → Early p → Moves p.container (container_kept p.container (client_step p.client u).1)
+moves_came p u f = by (client_step p.client u) (outcome p.client u)
   where
     by : (x : machine.Step) → Outcome p.client u x → Moves p.container (container_kept p.container x.1)
     by _ (Greets e) = Stays
@@ -64,10 +64,13 @@ moves_came p u f = by (unit_step p.client u) (outcome p.client u)
     by _ (Tunes l e) = Stays
     by _ (Asks e) = Stays
     by _ Passes = Stays
-    by _ (Refuses r a f e) = Stays
+    by _ (Refuses r a f e g) = Stays
+    by _ (Declines r d o e g) = Stays
+    by _ (Drops r d o e g) = Stays
     by _ (Parting e) = Stays
     by _ (Calls n s m e) = Stays
     by _ (Asking n m e) = Stays
+    by _ (Fills n i e) = Stays
     by _ (Frees n e) = Stays
     by _ (Closes e) = Stays
     by _ (Answers e) = Stays

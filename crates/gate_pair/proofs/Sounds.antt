@@ -34,6 +34,7 @@ use Rattle.gate_model.specs.Lives.{each, is_carried, is_free, session_in}
 use Rattle.gate_model.specs.declared.life.Life.{Life}
 use Rattle.gate_model.specs.Setup.{SetupText}
 use Rattle.gate_model.specs.Spelling.{context_of, init_text, spell}
+use Rattle.gate_model.specs.Requests.{client_step}
 use Rattle.gate_model.specs.State as state
 use Rattle.gate_model.specs.State.{State, Step, condition_by, fail, failed, heard, keep_login, next_unit, runs, step, with_meaning, carried}
 use Rattle.gate_model.specs.Upstream.{UpState, closing_with, container_given, ended_in, first, heard_up, is_idle_due, lost_by, meaning_by, shut_by, when_up, without_up}
@@ -56,6 +57,7 @@ keeping_knows (want.Login a b) s k = λ e. refl
 keeping_knows want.Tuned s k = k
 keeping_knows want.OpenUp s k = k
 keeping_knows (want.Method n m) s k = k
+keeping_knows (want.Publish n m c) s k = k
 keeping_knows (want.ChannelCloseOk n) s k = k
 keeping_knows want.Close s k = k
 keeping_knows want.CloseOk s k = k
@@ -150,8 +152,8 @@ step_knows (state.Came u) w k = by w.out_of_memory
     by : (b : Bool) → KnowsLogin (if b then w else state.came (state.dequeued w) u).up
     by true = k
     by false =
-        closing_knows (is_closing w.conn) (condition_by (nine.unit_step w.conn u).1) (keep_login (nine.unit_step w.conn u).1 w.up)
-        (keeping_knows (nine.unit_step w.conn u).1 w.up k)
+        closing_knows (is_closing w.conn) (condition_by (client_step w.conn u).1) (keep_login (client_step w.conn u).1 w.up)
+        (keeping_knows (client_step w.conn u).1 w.up k)
 step_knows state.TakenUp w k = by (not w.out_of_memory && w.leaving)
   where
     by : (b : Bool) → KnowsLogin (if b then state.left w else w).up

@@ -20,10 +20,10 @@ use Rattle.gate_model.specs.declared.outgoing.Outgoing.{Outgoing}
 use Rattle.gate_model.specs.Due.{can_leave, is_busy, pick}
 use Rattle.gate_model.specs.Folds.{accepted_in, failed_in, moment_in, ran_out_in, sent, sent_at, sent_up}
 use Rattle.gate_model.specs.Setup.{SetupText}
+use Rattle.gate_model.specs.Requests.{client_step}
 use Rattle.gate_model.specs.State as state
 use Rattle.gate_model.specs.State.{State, Step, Came, Heard, Gave, Joined, TakenUp, before, came, condition_by, fail, failed, heard, keep_login, left, next_unit, step, with_meaning, carried}
 use Rattle.gate_model.specs.Upstream.{UpState, awaited_of, closing_with, heard_up, meaning_by}
-use Rattle.machine_091.specs.Transitions.{unit_step}
 use Rattle.machine_091.specs.declared.unit.Want91.{Want91}
 use Rattle.machine_091.specs.declared.unit.Want91.TheVariants as want
 use Rattle.gate_pair.specs.Cutting.{after, as_step, behind, cut_all, cut_of, on_next, on_scan, read_end, settle, settled, step_scan, unit_scan, up_scan}
@@ -189,6 +189,7 @@ keeping (want.Login a b) s = refl
 keeping want.Tuned s = refl
 keeping want.OpenUp s = refl
 keeping (want.Method n m) s = refl
+keeping (want.Publish n m c) s = refl
 keeping (want.ChannelCloseOk n) s = refl
 keeping want.Close s = refl
 keeping want.CloseOk s = refl
@@ -202,8 +203,8 @@ came_leaves : (w : State) (u : Unit91) → Leaves w (came w u)
 came_leaves w u = record {
   memory_is = refl;
   going_is = refl;
-  going_up_is = closing_keeps (is_closing w.conn) (condition_by (unit_step w.conn u).1) (keep_login (unit_step w.conn u).1 w.up)
-      ∙ keeping (unit_step w.conn u).1 w.up;
+  going_up_is = closing_keeps (is_closing w.conn) (condition_by (client_step w.conn u).1) (keep_login (client_step w.conn u).1 w.up)
+      ∙ keeping (client_step w.conn u).1 w.up;
   number_is = refl;
 }
 

@@ -35,6 +35,11 @@ impl Model for Pair {
 
     ghost Value = { PairState };
 
+    ghost use Rattle.tables_091.specs.TreeCode.{tree_code};
+    ghost use Rattle.std.specs.Coded.{codes};
+
+    ghost coded = { Prim.hlevel (codes, tree_code) };
+
     ghost view = { λ a. record {
       bridge = a.bridge;
       client = a.client;

@@ -1,36 +1,29 @@
 -- What holds of a connection after any calls: its limits, and which channels are used.
-use Rattle.std.proofs.Common.{◌≡◌, ℕ, zero, suc, ◌≤◌, ◌<◌, ◌+◌, Bool, true, false, cond, ◌⊎◌, inl, inr, List, [], ◌∷◌, replicate, Option, refl, sym, ◌∙◌, ap, subst, arith}
+use Rattle.std.proofs.Common.{◌≡◌, ℕ, zero, suc, ◌≤◌, ◌<◌, ◌+◌, Bool, true, false, cond, ◌⊎◌, inl, inr, List, [], ◌∷◌, replicate, Option, None, Some, refl, sym, ◌∙◌, ap, subst, arith}
 use Rattle.std.proofs.lemmas.List.Sums.{sum_by-cons}
 use Rattle.std.specs.Prelude.{slice_get, slice_set, count_by}
 use Rattle.close_translate.specs.declared.conditions.Scope.{Scope}
 use Rattle.close_translate.specs.declared.conditions.Scope.TheVariants as scope
+use Rattle.machine_091.specs.Contents.{begun}
 use Rattle.machine_091.specs.Calls.{opened_phase, after_opened, closing_channel, closing_phase, after_closing, told_channel, after_told, freed_channel, after_closed}
 use Rattle.machine_091.specs.Laws.{Call91, Take, Opened, Closing, Told, Closed, Ended, after_call, after_calls, is_used, AreInRange}
 use Rattle.machine_091.specs.Limits.{AreWithin}
+use Rattle.machine_091.specs.Methods.{publish_of}
+use Rattle.machine_091.specs.Refusals.{channel_of}
 use Rattle.machine_091.specs.State.{no_channels, new_connection, is_running, is_closing_phase, channel_at, or_free, with_channel}
 use Rattle.machine_091.specs.Transitions.{Step, closed_by, unit_step}
+use Rattle.machine_091.specs.declared.contents.Incoming.{Incoming}
 use Rattle.machine_091.specs.declared.state.Channel91.{Channel91}
 use Rattle.machine_091.specs.declared.state.Channel91.TheVariants as channel
 use Rattle.machine_091.specs.declared.state.Connection.{Connection}
 use Rattle.machine_091.specs.declared.state.Phase91.{Phase91}
 use Rattle.machine_091.specs.declared.state.Phase91.TheVariants as phase
 use Rattle.machine_091.specs.declared.unit.Unit91.{Unit91}
+use Rattle.machine_091.proofs.ContentLaws.{get_set}
 use Rattle.machine_091.proofs.StepCases.{step_rows}
 use Rattle.machine_091.proofs.StepLaws.{agreed_within}
 
 -- ---- a channel in another state
-
-get_set : (xs : List Channel91) (n m : ℕ) (s : Channel91) → (m ≡ n) ⊎ (slice_get (slice_set xs n s) m ≡ slice_get xs m)
-get_set [] n m s = inr refl
-get_set (x ∷ xs) zero zero s = inl refl
-get_set (x ∷ xs) zero (suc m) s = inr refl
-get_set (x ∷ xs) (suc n) zero s = inr refl
-get_set (x ∷ xs) (suc n) (suc m) s = by (get_set xs n m s)
-  where
-    by : (m ≡ n) ⊎ (slice_get (slice_set xs n s) m ≡ slice_get xs m)
-        → (suc m ≡ suc n) ⊎ (slice_get (slice_set xs n s) m ≡ slice_get xs m)
-    by (inl e) = inl (ap suc e)
-    by (inr e) = inr e
 
 -- what holds of the number that was set, and of the numbers of used channels before, holds of those after
 used_after : (P : ℕ → Type 0) (c : Connection) (n : ℕ) (s : Channel91) → P n
@@ -72,45 +65,11 @@ used_set c n s h used = sound_set c n s h none (h.min n used) (h.max n used)
     none : is_running c.phase ≡ false → is_closing_phase c.phase ≡ false → (m : ℕ) → is_used (channel_at (with_channel c n s) m) ≡ false
     none r k m = let clash : is_used (channel_at c n) ≡ false = h.fresh r k n in absurd cc
 
-sound_step : (c : Connection) (u : Unit91) → Sound c → Sound (unit_step c u).0
-sound_step c u h = step_rows (λ (x : Step). Sound x.0) c u (record {
-  greeted = λ e. record { within = h.within; min = h.min; max = h.max; fresh = λ r k. h.fresh (ap is_running e) (ap is_closing_phase e) };
-  foreign = λ e. record { within = h.within; min = h.min; max = h.max; fresh = λ r k. absurd cc };
-  refused = λ code e. record { within = h.within; min = h.min; max = h.max; fresh = λ r k. absurd cc };
-  nothing = h;
-  login = λ a b e named. record { within = h.within; min = h.min; max = h.max; fresh = λ r k. h.fresh (ap is_running e) (ap is_closing_phase e) };
-  tuned = λ channels size heartbeat e agreed.
-      let none : (n : ℕ) → is_used (channel_at c n) ≡ false = h.fresh (ap is_running e) (ap is_closing_phase e) in
-      record {
-        within = agreed_within channels size heartbeat agreed;
-        min = h.min;
-        max = λ n used. let k : is_used (channel_at c n) ≡ false = none n in absurd cc;
-        fresh = λ r k. none;
-      };
-  asked = λ e. record { within = h.within; min = h.min; max = h.max; fresh = h.fresh };
-  closed = λ e. record { within = h.within; min = h.min; max = h.max; fresh = λ r k. absurd cc };
-  opened = λ n m e min max. running_set c n channel.Open h e min max;
-  ended = λ n m e min max. running_set c n (closed_by (channel_at c n)) h e min max;
-  stopped = λ n m e. h;
-  freed = λ n e min max. running_set c n channel.Free h e min max;
-  crossed = λ e. record { within = h.within; min = h.min; max = h.max; fresh = λ r k. absurd cc };
-  answered = λ e. record { within = h.within; min = h.min; max = h.max; fresh = λ r k. absurd cc };
-  passed = λ e. record { within = h.within; min = h.min; max = h.max; fresh = h.fresh };
-})
+-- nothing of it asks for contents
+with_contents : (c : Connection) (xs : List (Option Incoming)) → Sound c → Sound (record c { contents = xs })
+with_contents c xs h = record { within = h.within; min = h.min; max = h.max; fresh = h.fresh }
 
--- ---- the other calls
-
-sound_opened : (most : ℕ) (c : Connection) → Sound c → Sound (after_opened most c)
-sound_opened most c h = by c.phase refl
-  where
-    by : (p : Phase91) → c.phase ≡ p → Sound (record c { phase = opened_phase c.asked p; carried_max = most })
-    by phase.Header e = record { within = h.within; min = h.min; max = h.max; fresh = λ r k. h.fresh (ap is_running e) (ap is_closing_phase e) }
-    by phase.Start e = record { within = h.within; min = h.min; max = h.max; fresh = λ r k. h.fresh (ap is_running e) (ap is_closing_phase e) }
-    by phase.Tune e = record { within = h.within; min = h.min; max = h.max; fresh = λ r k. h.fresh (ap is_running e) (ap is_closing_phase e) }
-    by phase.Open e = record { within = h.within; min = h.min; max = h.max; fresh = λ r k. h.fresh (ap is_running e) (ap is_closing_phase e) }
-    by phase.Running e = record { within = h.within; min = h.min; max = h.max; fresh = λ r k. absurd cc }
-    by phase.Closing e = record { within = h.within; min = h.min; max = h.max; fresh = λ r k. absurd cc }
-    by phase.Closed e = record { within = h.within; min = h.min; max = h.max; fresh = λ r k. absurd cc }
+-- ---- a closing event
 
 always_closing : (p : Phase91) → is_closing_phase (closing_phase p) ≡ true
 always_closing phase.Header = refl
@@ -132,9 +91,56 @@ sound_closing scope.Channel n c h = by (channel_at c n) refl
   where
     by : (x : Channel91) → channel_at c n ≡ x → Sound (closing_channel x n c)
     by channel.Free e = h
-    by channel.Open e = used_set c n channel.Closing h (ap is_used e)
+    by channel.Open e = with_contents (with_channel c n channel.Closing) (slice_set c.contents n None) (used_set c n channel.Closing h (ap is_used e))
     by channel.Closing e = h
     by channel.Told e = h
+
+-- ---- a unit
+
+sound_step : (c : Connection) (u : Unit91) → Sound c → Sound (unit_step c u).0
+sound_step c u h = step_rows (λ (x : Step). Sound x.0) c u (record {
+  greeted = λ e. record { within = h.within; min = h.min; max = h.max; fresh = λ r k. h.fresh (ap is_running e) (ap is_closing_phase e) };
+  foreign = λ e. record { within = h.within; min = h.min; max = h.max; fresh = λ r k. absurd cc };
+  refused = λ code e ruled. record { within = h.within; min = h.min; max = h.max; fresh = λ r k. absurd cc };
+  publish_refused = λ code e ruled. record { within = h.within; min = h.min; max = h.max; fresh = λ r k. absurd cc };
+  channel_refused = λ code on large ruled. sound_closing scope.Channel (channel_of u) c h;
+  nothing = λ idle. h;
+  login = λ a b e named. record { within = h.within; min = h.min; max = h.max; fresh = λ r k. h.fresh (ap is_running e) (ap is_closing_phase e) };
+  tuned = λ channels size heartbeat e agreed.
+      let none : (n : ℕ) → is_used (channel_at c n) ≡ false = h.fresh (ap is_running e) (ap is_closing_phase e) in
+      record {
+        within = agreed_within channels size heartbeat agreed;
+        min = h.min;
+        max = λ n used. let k : is_used (channel_at c n) ≡ false = none n in absurd cc;
+        fresh = λ r k. none;
+      };
+  asked = λ e. record { within = h.within; min = h.min; max = h.max; fresh = h.fresh };
+  closed = λ e. record { within = h.within; min = h.min; max = h.max; fresh = λ r k. absurd cc };
+  opened = λ n m o. running_set c n channel.Open h o.runs o.min o.max;
+  ended = λ n m o. running_set c n (closed_by (channel_at c n)) h o.runs o.min o.max;
+  passed_on = λ n m o. h;
+  begun = λ f k args b. with_contents c (slice_set c.contents f.channel (Some (begun (publish_of args)))) h;
+  grown = λ f i a t. with_contents c (slice_set c.contents f.channel (Some (record i { assembly = a }))) h;
+  published = λ f i a d t later. with_contents c (slice_set c.contents f.channel None) h;
+  freed = λ n o. running_set c n channel.Free h o.runs o.min o.max;
+  crossed = λ e. record { within = h.within; min = h.min; max = h.max; fresh = λ r k. absurd cc };
+  answered = λ e. record { within = h.within; min = h.min; max = h.max; fresh = λ r k. absurd cc };
+  passed = λ e. record { within = h.within; min = h.min; max = h.max; fresh = h.fresh };
+})
+
+-- ---- the other calls
+
+sound_opened : (most : ℕ) (c : Connection) → Sound c → Sound (after_opened most c)
+sound_opened most c h = by c.phase refl
+  where
+    by : (p : Phase91) → c.phase ≡ p → Sound (record c { phase = opened_phase c.asked p; carried_max = most })
+    by phase.Header e = record { within = h.within; min = h.min; max = h.max; fresh = λ r k. h.fresh (ap is_running e) (ap is_closing_phase e) }
+    by phase.Start e = record { within = h.within; min = h.min; max = h.max; fresh = λ r k. h.fresh (ap is_running e) (ap is_closing_phase e) }
+    by phase.Tune e = record { within = h.within; min = h.min; max = h.max; fresh = λ r k. h.fresh (ap is_running e) (ap is_closing_phase e) }
+    by phase.Open e = record { within = h.within; min = h.min; max = h.max; fresh = λ r k. h.fresh (ap is_running e) (ap is_closing_phase e) }
+    by phase.Running e = record { within = h.within; min = h.min; max = h.max; fresh = λ r k. absurd cc }
+    by phase.Closing e = record { within = h.within; min = h.min; max = h.max; fresh = λ r k. absurd cc }
+    by phase.Closed e = record { within = h.within; min = h.min; max = h.max; fresh = λ r k. absurd cc }
 
 sound_told : (n : ℕ) (c : Connection) → Sound c → Sound (after_told n c)
 sound_told n c h = by (channel_at c n) refl

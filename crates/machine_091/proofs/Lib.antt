@@ -1,3 +1,13 @@
 pub mod CallLaws
+pub mod ContentLaws
+pub mod ContentSteps
+pub mod IdLaws
+pub mod Joining
+pub mod MethodCases
+pub mod Orders
+pub mod Places
+pub mod Published
+pub mod Spelled
 pub mod StepCases
 pub mod StepLaws
+pub mod Taking

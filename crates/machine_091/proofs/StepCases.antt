@@ -1,7 +1,14 @@
 -- The rows of the table of transitions: what holds of each row holds of each step.
-use Rattle.std.proofs.Common.{◌≡◌, ℕ, ◌≤◌, Bool, true, false, cond, eqb, nat_lt, List, ◌∷◌, Option, None, Some, Ok, Err, refl, ap, arith}
-use Rattle.std.proofs.lemmas.Bool.Decides.{nat_tests}
-use Rattle.close_translate.specs.declared.codes.TheConstants.{CHANNEL_ERROR, NOT_ALLOWED}
+use Rattle.std.proofs.Common.{◌≡◌, ℕ, ◌≤◌, Bool, true, false, cond, eqb, ◌&&◌, List, [], ◌∷◌, ◌++◌, length, Option, None, Some, Ok, Err, refl, sym, ap, subst, ◌∙◌}
+use Rattle.std.proofs.lemmas.Bool.{eqb-true}
+use Rattle.close_translate.specs.declared.codes.TheConstants.{CONTENT_TOO_LARGE, FRAME_ERROR, NOT_ALLOWED, NOT_IMPLEMENTED}
+use Rattle.close_translate.specs.declared.conditions.Scope.TheVariants as scope
+use Rattle.content_091.specs.declared.assembly.Assembly.{Assembly}
+use Rattle.content_091.specs.declared.assembly.Content.{Content}
+use Rattle.content_091.specs.declared.assembly.ContentFault.{ContentFault}
+use Rattle.content_091.specs.declared.assembly.ContentFault.TheVariants as fault
+use Rattle.content_091.specs.declared.assembly.Step as content
+use Rattle.content_091.specs.declared.assembly.Step.TheVariants as step
 use Rattle.frames_091.specs.declared.frame.Frame91.{Frame91}
 use Rattle.frames_091.specs.declared.frame.Kind91.{Kind91}
 use Rattle.frames_091.specs.declared.frame.Kind91.TheVariants as frame
@@ -10,15 +17,21 @@ use Rattle.methods_091.specs.Arguments.{Arg}
 use Rattle.methods_091.specs.Reading.{Read, method_in}
 use Rattle.methods_091.specs.declared.method.Method91.{Method91}
 use Rattle.methods_091.specs.declared.method.Method91.TheVariants as method
+use Rattle.machine_091.specs.Calls.{after_closing}
+use Rattle.machine_091.specs.Contents.{IsOfContent, Taking, is_immediate, no_contents, taken}
+use Rattle.machine_091.specs.Contents as contents
 use Rattle.machine_091.specs.Ids.{is_of_kind}
 use Rattle.machine_091.specs.Limits.{is_agreed, agreed_limits}
-use Rattle.machine_091.specs.Refusals.{places, order_place, channel_place, closing_place, reading_place, state_place, own_place, unit_ruling, refusal_of}
-use Rattle.machine_091.specs.RefusalsFrames.{first, channel_order, is_opening, state_order, refused}
-use Rattle.machine_091.specs.RefusalsOpening.{text_at, number_at, is_login, opening_refusal, opening_refusal_in}
-use Rattle.machine_091.specs.RefusalsRunning.{is_active, running_refusal}
-use Rattle.machine_091.specs.State.{is_running, is_closing_phase, with_channel, channel_at}
-use Rattle.machine_091.specs.Transitions.{Step, asked_by, closed_by, header_step, stream_after, opening_effect, channel_effect, running_effect, method_effect, frame_effect, unit_effect, ruled_step, ordered_step, is_unit_of, closed_step, closing_step, step_in, unit_step}
-use Rattle.machine_091.specs.declared.ids.TheConstants.{CONNECTION_CLOSE, CONNECTION_CLOSE_OK, CHANNEL_OPEN, CHANNEL_CLOSE, CHANNEL_FLOW}
+use Rattle.machine_091.specs.Methods.{text_at, number_at, close_of, flow_of, declare_of, publish_of, select_of}
+use Rattle.machine_091.specs.Refusals.{places, channel_place, closing_place, reading_place, taken_by, unit_ruling, refusal_of, publish_refusal, channel_refusal, channel_of}
+use Rattle.machine_091.specs.RefusalsFrames.{first, content_order, channel_order, closing_order, is_opening, refused}
+use Rattle.machine_091.specs.RefusalsOpening.{is_login, opening_refusal, opening_refusal_in}
+use Rattle.machine_091.specs.RefusalsRunning.{running_refusal}
+use Rattle.machine_091.specs.State.{is_running, is_closing_phase, is_open_channel, is_open, with_channel, channel_at, with_content, content_at}
+use Rattle.machine_091.specs.Transitions.{Step, closed_by, header_step, stream_after, opening_effect, channel_effect, running_effect, method_effect, content_effect, frame_effect, unit_effect, ruled_step, ordered_step, is_unit_of, closed_step, closing_step, step_in, unit_step}
+use Rattle.machine_091.specs.Transitions as machine
+use Rattle.machine_091.specs.declared.contents.Incoming.{Incoming}
+use Rattle.machine_091.specs.declared.ids.TheConstants.{CONNECTION_CLOSE, CONNECTION_CLOSE_OK, CHANNEL_OPEN, CHANNEL_CLOSE, CHANNEL_FLOW, EXCHANGE_DECLARE, BASIC_PUBLISH, CONFIRM_SELECT}
 use Rattle.machine_091.specs.declared.state.Channel91.TheVariants as channel
 use Rattle.machine_091.specs.declared.state.Connection.{Connection}
 use Rattle.machine_091.specs.declared.state.Phase91.{Phase91}
@@ -29,64 +42,72 @@ use Rattle.machine_091.specs.declared.unit.Ruling.TheVariants as ruling
 use Rattle.machine_091.specs.declared.unit.Unit91.{Unit91}
 use Rattle.machine_091.specs.declared.unit.Unit91.TheVariants as unit
 use Rattle.machine_091.specs.declared.unit.Want91.TheVariants as want
+use Rattle.machine_091.proofs.ContentSteps.{content_places, taking_places, order_is, effect_is}
+use Rattle.machine_091.proofs.Places.{IsOnOpen, NoneOfMethod, none_of_method, none_within, rest_none, first_none, within, not_zero, content_open, method_apart, content_apart, over_closed, publish_open}
+
+-- ---- what is known where a frame counts
+
+-- a method of a channel on which no content is in progress
+pub record IsOfChannel (c : Connection) (u : Unit91) (n : ℕ) : Type 0 where
+  pub of : channel_of u ≡ n
+  pub runs : is_running c.phase ≡ true
+  pub min : 1 ≤ n
+  pub max : n ≤ c.limits.channel_max
+  pub none : content_at c n ≡ None
+
+-- a unit of no open channel
+abbrev pub IsIdle : Connection → Unit91 → Type 0
+IsIdle c u = is_open c (channel_of u) ≡ true → channel_of u ≡ 0
+
+-- a frame of a content that is taken, with what it came to
+pub record IsTaken (c : Connection) (u : Unit91) (f : Frame91) (i : Incoming) (a : Assembly) (s : content.Step) : Type 0 where
+  pub unit : u ≡ unit.Frame f
+  pub on : IsOnOpen c f.channel
+  pub kind : IsOfContent f.kind
+  pub at : content_at c f.channel ≡ Some i
+  pub is : taken f.kind f.payload (Some i) ≡ Ok (a, s)
+
+-- a basic.publish that counts
+pub record IsBeginning (c : Connection) (u : Unit91) (f : Frame91) (k : Kind) (args : List Arg) : Type 0 where
+  pub unit : u ≡ unit.Frame f
+  pub on : IsOnOpen c f.channel
+  pub kind : f.kind ≡ frame.Method
+  pub none : content_at c f.channel ≡ None
+  pub read : method_in f.payload ≡ Ok (k, args)
+  pub publish : is_of_kind BASIC_PUBLISH k ≡ true
+
+-- ---- the rows
 
 -- a predicate of steps holds of each row of the table for a unit
 pub record HoldsByRow (P : Step → Type 0) (c : Connection) (u : Unit91) : Type 0 where
   pub greeted : c.phase ≡ phase.Header → P (record c { phase = phase.Start; stream = stream.Frames }, want.Start)
   pub foreign : c.phase ≡ phase.Header → P (record c { phase = phase.Closed; stream = stream.Foreign }, want.Nothing)
-  pub refused : (code : ℕ) → is_closing_phase c.phase ≡ false
-      → P (record c { phase = phase.Closing; stream = stream_after u c.stream; asked = asked_by c code }, want.Refuse (refusal_of code u))
-  pub nothing : P (c, want.Nothing)
+  pub refused : (code : ℕ) → is_closing_phase c.phase ≡ false → unit_ruling c u ≡ Some (ruling.Refused code)
+      → P (machine.refused c u code, want.Refuse (refusal_of code u))
+  pub publish_refused : (code : ℕ) → is_closing_phase c.phase ≡ false → unit_ruling c u ≡ Some (ruling.MethodRefused code)
+      → P (machine.refused c u code, want.Refuse (publish_refusal code))
+  pub channel_refused : (code : ℕ) → IsOnOpen c (channel_of u) → code ≡ CONTENT_TOO_LARGE → unit_ruling c u ≡ Some (ruling.ChannelRefused code)
+      → P (after_closing scope.Channel (channel_of u) c, want.Refuse (channel_refusal code (channel_of u)))
+  pub nothing : IsIdle c u → P (c, want.Nothing)
   pub login : (a b : List ℕ) → c.phase ≡ phase.Start → is_login a b ≡ true → P (record c { phase = phase.Tune }, want.Login a b)
   pub tuned : (channels size heartbeat : ℕ) → c.phase ≡ phase.Tune → is_agreed channels size ≡ true
       → P (record c { phase = phase.Open; limits = agreed_limits channels size heartbeat }, want.Tuned)
   pub asked : c.phase ≡ phase.Open → P (record c { asked = true }, want.OpenUp)
-  pub closed : is_running c.phase ≡ true → P (record c { phase = phase.Closed }, want.Close)
-  pub opened : (n : ℕ) (m : Method91) → is_running c.phase ≡ true → 1 ≤ n → n ≤ c.limits.channel_max
-      → P (with_channel c n channel.Open, want.Method n m)
-  pub ended : (n : ℕ) (m : Method91) → is_running c.phase ≡ true → 1 ≤ n → n ≤ c.limits.channel_max
-      → P (with_channel c n (closed_by (channel_at c n)), want.Method n m)
-  pub stopped : (n : ℕ) (m : Method91) → is_running c.phase ≡ true → P (c, want.Method n m)
-  pub freed : (n : ℕ) → is_running c.phase ≡ true → 1 ≤ n → n ≤ c.limits.channel_max
-      → P (with_channel c n channel.Free, want.ChannelCloseOk n)
+  pub closed : is_running c.phase ≡ true → P (record c { phase = phase.Closed; contents = no_contents }, want.Close)
+  pub opened : (n : ℕ) (m : Method91) → IsOfChannel c u n → P (with_channel c n channel.Open, want.Method n m)
+  pub ended : (n : ℕ) (m : Method91) → IsOfChannel c u n → P (with_channel c n (closed_by (channel_at c n)), want.Method n m)
+  pub passed_on : (n : ℕ) (m : Method91) → IsOfChannel c u n → P (c, want.Method n m)
+  pub begun : (f : Frame91) (k : Kind) (args : List Arg) → IsBeginning c u f k args
+      → P (with_content c f.channel (Some (contents.begun (publish_of args))), want.Nothing)
+  pub grown : (f : Frame91) (i : Incoming) (a : Assembly) → IsTaken c u f i a step.More
+      → P (with_content c f.channel (Some (record i { assembly = a })), want.Nothing)
+  pub published : (f : Frame91) (i : Incoming) (a : Assembly) (d : Content) → IsTaken c u f i a (step.Whole d) → is_immediate i.method ≡ false
+      → P (with_content c f.channel None, want.Publish f.channel i.method d)
+  pub freed : (n : ℕ) → IsOfChannel c u n → P (with_channel c n channel.Free, want.ChannelCloseOk n)
   pub crossed : c.phase ≡ phase.Closing → P (record c { phase = phase.Closed }, want.Close)
   pub answered : is_closing_phase c.phase ≡ true
       → P (record c { phase = phase.Closed; stream = stream.Answered }, want.CloseOk)
   pub passed : is_closing_phase c.phase ≡ true → P (record c { stream = stream_after u c.stream }, want.Nothing)
-
--- ---- places that don't apply
-
-rest_none : (p : Option Ruling) (ps : List (Option Ruling)) → first (p ∷ ps) ≡ None → first ps ≡ None
-rest_none None ps e = e
-rest_none (Some r) ps e = absurd cc
-
-first_none : (p : Option Ruling) (ps : List (Option Ruling)) → first (p ∷ ps) ≡ None → p ≡ None
-first_none None ps e = refl
-first_none (Some r) ps e = absurd cc
-
-channel_none : (c : Connection) (f : Frame91) (read : Read) → first (places c f read frame.Method) ≡ None
-    → channel_order c f.channel (is_opening f.payload) ≡ None
-channel_none c f read e = first_none _ _ (rest_none (order_place c f read frame.Method) _ e)
-
-own_none : (c : Connection) (f : Frame91) (read : Read) → first (places c f read frame.Method) ≡ None
-    → own_place c f.channel read frame.Method ≡ None
-own_none c f read e =
-    first_none _ _
-    (rest_none (state_place c f.channel read frame.Method) _
-    (rest_none (reading_place read frame.Method) _
-    (rest_none (closing_place c f frame.Method) _
-    (rest_none (channel_place c f frame.Method) _ (rest_none (order_place c f read frame.Method) _ e)))))
-
--- a channel other than 0 whose place doesn't apply
-within : (c : Connection) (n : ℕ) (opening : Bool) → eqb n 0 ≡ false → channel_order c n opening ≡ None → n ≤ c.limits.channel_max
-within c n opening z e = by (eqb n 0) (nat_lt c.limits.channel_max n) z refl e
-  where
-    by : (zero above : Bool) → zero ≡ false → nat_lt c.limits.channel_max n ≡ above
-        → cond {A = Option Ruling} zero None (cond {A = Option Ruling} above (refused CHANNEL_ERROR) (state_order (channel_at c n) opening)) ≡ None
-        → n ≤ c.limits.channel_max
-    by true above z s e = absurd cc
-    by false true z s e = absurd cc
-    by false false z s e = grind (arith, nat_tests, s)
 
 -- ---- the rows
 
@@ -106,79 +127,192 @@ login_taken vhost args e = by (is_login (text_at 1 args) (text_at 2 args)) e
     by true e = refl
     by false e = absurd cc
 
-opening_rows : (P : Step → Type 0) (c : Connection) (u : Unit91) (args : List Arg) → HoldsByRow P c u
+-- before the connection runs no channel is open
+early : (c : Connection) (u : Unit91) → is_running c.phase ≡ false → IsIdle c u
+early c u e opened =
+    let none : is_open c (channel_of u) ≡ false = ap (λ (b : Bool). b && is_open_channel (channel_at c (channel_of u))) e in
+    absurd cc
+
+opening_rows : (P : Step → Type 0) (c : Connection) (u : Unit91) (args : List Arg) → HoldsByRow P c u → is_running c.phase ≡ false
     → opening_refusal c args ≡ None → P (opening_effect c args c.phase)
-opening_rows P c u args rows none = by c.phase refl none
+opening_rows P c u args rows e none = by c.phase refl none
   where
     by : (p : Phase91) → c.phase ≡ p → opening_refusal_in c.vhost args p ≡ None → P (opening_effect c args p)
-    by phase.Header e none = rows.nothing
-    by phase.Start e none = rows.login (text_at 1 args) (text_at 2 args) e (login_taken c.vhost args none)
-    by phase.Tune e none = rows.tuned (number_at 0 args) (number_at 1 args) (number_at 2 args) e (tuned_agreed c.vhost args none)
-    by phase.Open e none = rows.asked e
-    by phase.Running e none = rows.nothing
-    by phase.Closing e none = rows.nothing
-    by phase.Closed e none = rows.nothing
+    by phase.Header k none = rows.nothing (early c u e)
+    by phase.Start k none = rows.login (text_at 1 args) (text_at 2 args) k (login_taken c.vhost args none)
+    by phase.Tune k none = rows.tuned (number_at 0 args) (number_at 1 args) (number_at 2 args) k (tuned_agreed c.vhost args none)
+    by phase.Open k none = rows.asked k
+    by phase.Running k none = rows.nothing (early c u e)
+    by phase.Closing k none = rows.nothing (early c u e)
+    by phase.Closed k none = rows.nothing (early c u e)
 
-not_zero : (n : ℕ) → eqb n 0 ≡ false → 1 ≤ n
-not_zero n e = grind (arith, nat_tests, e)
-
-channel_rows : (P : Step → Type 0) (c : Connection) (u : Unit91) (n : ℕ) (k : Kind) (args : List Arg) → HoldsByRow P c u
-    → is_running c.phase ≡ true → 1 ≤ n → n ≤ c.limits.channel_max → P (channel_effect c n k args)
-channel_rows P c u n k args rows runs min max =
-    by (is_of_kind CHANNEL_OPEN k) (is_of_kind CHANNEL_CLOSE k) (is_of_kind CHANNEL_FLOW k)
+channel_rows : (P : Step → Type 0) (c : Connection) (u : Unit91) (f : Frame91) (k : Kind) (args : List Arg) → HoldsByRow P c u → u ≡ unit.Frame f
+    → f.kind ≡ frame.Method → method_in f.payload ≡ Ok (k, args) → is_running c.phase ≡ true → eqb f.channel 0 ≡ false → channel_place c f frame.Method ≡ None
+    → closing_place c f frame.Method ≡ None → content_at c f.channel ≡ None → P (channel_effect c f.channel k args)
+channel_rows P c u f k args rows is kind read runs z uses closes none =
+    by (is_of_kind CHANNEL_OPEN k) (is_of_kind CHANNEL_CLOSE k) (is_of_kind CHANNEL_FLOW k) (is_of_kind EXCHANGE_DECLARE k) (is_of_kind CONFIRM_SELECT k)
+    (is_of_kind BASIC_PUBLISH k) refl
   where
-    by : (opens closes stops : Bool)
-        → P (cond {A = Step} opens (with_channel c n channel.Open, want.Method n method.ChannelOpen)
-        (cond {A = Step} closes (with_channel c n (closed_by (channel_at c n)), want.Method n (method.ChannelClose (number_at 0 args) (text_at 1 args) (number_at 2 args) (number_at 3 args)))
-        (cond {A = Step} stops (c, want.Method n (method.ChannelFlow (is_active args))) (with_channel c n channel.Free, want.ChannelCloseOk n))))
-    by true closes stops = rows.opened n method.ChannelOpen runs min max
-    by false true stops = rows.ended n (method.ChannelClose (number_at 0 args) (text_at 1 args) (number_at 2 args) (number_at 3 args)) runs min max
-    by false false true = rows.stopped n (method.ChannelFlow (is_active args)) runs
-    by false false false = rows.freed n runs min max
+    of : IsOfChannel c u f.channel
+    of = record { of = ap channel_of is; runs = runs; min = not_zero f.channel z; max = within c f.channel (is_opening f.payload) z uses; none = none }
 
-running_rows : (P : Step → Type 0) (c : Connection) (u : Unit91) (n : ℕ) (payload : List ℕ) (k : Kind) (args : List Arg) → HoldsByRow P c u
-    → is_running c.phase ≡ true → channel_order c n (is_opening payload) ≡ None → P (running_effect c n k args)
-running_rows P c u n payload k args rows runs none = by (eqb n 0) refl
+    by : (opens shuts stops declares selects publishes : Bool) → is_of_kind BASIC_PUBLISH k ≡ publishes
+        → P (cond {A = Step} opens (with_channel c f.channel channel.Open, want.Method f.channel method.ChannelOpen)
+        (cond {A = Step} shuts (with_channel c f.channel (closed_by (channel_at c f.channel)), want.Method f.channel (close_of args))
+        (cond {A = Step} stops (c, want.Method f.channel (flow_of args))
+        (cond {A = Step} declares (c, want.Method f.channel (declare_of args))
+        (cond {A = Step} selects (c, want.Method f.channel (select_of args))
+        (cond {A = Step} publishes (with_content c f.channel (Some (contents.begun (publish_of args))), want.Nothing)
+        (with_channel c f.channel channel.Free, want.ChannelCloseOk f.channel)))))))
+    by true shuts stops declares selects publishes e = rows.opened f.channel method.ChannelOpen of
+    by false true stops declares selects publishes e = rows.ended f.channel (close_of args) of
+    by false false true declares selects publishes e = rows.passed_on f.channel (flow_of args) of
+    by false false false true selects publishes e = rows.passed_on f.channel (declare_of args) of
+    by false false false false true publishes e = rows.passed_on f.channel (select_of args) of
+    by false false false false false true e =
+        rows.begun f k args (record {
+          unit = is;
+          on = publish_open c f k args runs z read e uses closes;
+          kind = kind;
+          none = none;
+          read = read;
+          publish = e;
+        })
+    by false false false false false false e = rows.freed f.channel of
+
+running_rows : (P : Step → Type 0) (c : Connection) (u : Unit91) (f : Frame91) (k : Kind) (args : List Arg) → HoldsByRow P c u → u ≡ unit.Frame f
+    → f.kind ≡ frame.Method → method_in f.payload ≡ Ok (k, args) → is_running c.phase ≡ true → channel_place c f frame.Method ≡ None
+    → closing_place c f frame.Method ≡ None → content_at c f.channel ≡ None → P (running_effect c f.channel k args)
+running_rows P c u f k args rows is kind read runs channel closing none = by (eqb f.channel 0) refl
   where
-    by : (b : Bool) → eqb n 0 ≡ b → P (cond {A = Step} b (record c { phase = phase.Closed }, want.Close) (channel_effect c n k args))
+    by : (b : Bool) → eqb f.channel 0 ≡ b
+        → P (cond {A = Step} b (record c { phase = phase.Closed; contents = no_contents }, want.Close) (channel_effect c f.channel k args))
     by true e = rows.closed runs
-    by false e = channel_rows P c u n k args rows runs (not_zero n e) (within c n (is_opening payload) e none)
+    by false e = channel_rows P c u f k args rows is kind read runs e channel closing none
 
-method_rows : (P : Step → Type 0) (c : Connection) (u : Unit91) (f : Frame91) (read : Read) → HoldsByRow P c u
-    → first (places c f read frame.Method) ≡ None → P (method_effect c f.channel read)
-method_rows P c u f (Err e) rows none = rows.nothing
-method_rows P c u f (Ok m) rows none =
-    by (is_running c.phase) refl (own_none c f (Ok m) none)
+method_rows : (P : Step → Type 0) (c : Connection) (u : Unit91) (f : Frame91) (read : Read) → HoldsByRow P c u → u ≡ unit.Frame f
+    → f.kind ≡ frame.Method → method_in f.payload ≡ read → first (places c f read frame.Method) ≡ None → P (method_effect c f.channel read)
+method_rows P c u f (Err e) rows is kind same none =
+    let read : reading_place c f (Err e) frame.Method ≡ None = (none_of_method c f (Err e) none).reading in absurd cc
+method_rows P c u f (Ok m) rows is kind same none = by (is_running c.phase) refl all.own
   where
+    all : NoneOfMethod c f (Ok m)
+    all = none_of_method c f (Ok m) none
+
     by : (b : Bool) → is_running c.phase ≡ b
         → cond {A = Option Ruling} b (running_refusal c.carried_max f.channel m.0 m.1) (opening_refusal c m.1) ≡ None
         → P (cond {A = Step} b (running_effect c f.channel m.0 m.1) (opening_effect c m.1 c.phase))
-    by true e own = running_rows P c u f.channel f.payload m.0 m.1 rows e (channel_none c f (Ok m) none)
-    by false e own = opening_rows P c u m.1 rows own
+    by true e own = running_rows P c u f m.0 m.1 rows is kind same e all.channel all.closing (none_within (content_at c f.channel) all.within)
+    by false e own = opening_rows P c u m.1 rows e own
 
-frame_rows : (P : Step → Type 0) (c : Connection) (f : Frame91) → HoldsByRow P c (unit.Frame f)
-    → first (places c f (method_in f.payload) f.kind) ≡ None → P (frame_effect c f.channel f.payload f.kind)
-frame_rows P c f rows none = by f.kind none
+-- a frame of a content
+content_rows : (P : Step → Type 0) (c : Connection) (u : Unit91) (f : Frame91) → HoldsByRow P c u → u ≡ unit.Frame f → IsOfContent f.kind
+    → first (content_places c f ++ taking_places (content_at c f.channel) (taken_by c f f.kind)) ≡ None
+    → P (content_effect c f.channel (content_at c f.channel) (taken_by c f f.kind))
+content_rows P c u f rows is of none = by (content_at c f.channel) refl (taken f.kind f.payload (content_at c f.channel)) refl none
   where
-    by : (k : Kind91) → first (places c f (method_in f.payload) k) ≡ None → P (frame_effect c f.channel f.payload k)
-    by frame.Method none = method_rows P c (unit.Frame f) f (method_in f.payload) rows none
-    by frame.Header none = rows.nothing
-    by frame.Body none = rows.nothing
-    by frame.Heartbeat none = rows.nothing
+    on : (o : Option Incoming) (t : Taking) → first (content_places c f ++ taking_places o t) ≡ None → IsOnOpen c f.channel
+    on o t none = content_open c f (taking_places o t) none
+
+    own : (o : Option Incoming) (t : Taking) → first (content_places c f ++ taking_places o t) ≡ None → first (taking_places o t) ≡ None
+    own o t none =
+        rest_none (closing_order c f.channel false false) _
+        (rest_none (channel_order c f.channel false) _ (rest_none (content_order (is_running c.phase) f.channel) _ none))
+
+    -- a frame without a content in progress isn't awaited
+    nowhere : (k : Kind91) (x : Assembly × content.Step) → IsOfContent k → taken k f.payload None ≡ Ok x → ⊥
+    nowhere frame.Method x of e = absurd of
+    nowhere frame.Header x of e = absurd cc
+    nowhere frame.Body x of e = absurd cc
+    nowhere frame.Heartbeat x of e = absurd of
+
+    -- each fault has its place
+    refuses : (o : Option Incoming) (x : ContentFault) → first (taking_places o (Err x)) ≡ None → ⊥
+    refuses o fault.Unexpected e = absurd cc
+    refuses o (fault.Header x) e = absurd cc
+    refuses o fault.TooLarge e = absurd cc
+    refuses o fault.Overrun e = absurd cc
+
+    later : (b : Bool) → first (cond {A = Option Ruling} b (Some (ruling.MethodRefused NOT_IMPLEMENTED)) None ∷ []) ≡ None → b ≡ false
+    later true e = absurd cc
+    later false e = refl
+
+    by : (o : Option Incoming) → content_at c f.channel ≡ o → (t : Taking) → taken f.kind f.payload o ≡ t
+        → first (content_places c f ++ taking_places o t) ≡ None → P (content_effect c f.channel o t)
+    by None e (Ok x) same none = absurd (nowhere f.kind x of same)
+    by None e (Err x) same none = absurd (refuses None x (own None (Err x) none))
+    by (Some i) e (Err x) same none = absurd (refuses (Some i) x (own (Some i) (Err x) none))
+    by (Some i) e (Ok (a, step.More)) same none =
+        rows.grown f i a (record { unit = is; on = on (Some i) (Ok (a, step.More)) none; kind = of; at = e; is = same })
+    by (Some i) e (Ok (a, step.Whole d)) same none =
+        rows.published f i a d (record { unit = is; on = on (Some i) (Ok (a, step.Whole d)) none; kind = of; at = e; is = same })
+        (later (is_immediate i.method) (own (Some i) (Ok (a, step.Whole d)) none))
+
+frame_rows : (P : Step → Type 0) (c : Connection) (u : Unit91) (f : Frame91) → HoldsByRow P c u → u ≡ unit.Frame f
+    → first (places c f (method_in f.payload) f.kind) ≡ None → P (frame_effect c f.channel f.payload f.kind)
+frame_rows P c u f rows is none = by f.kind refl none
+  where
+    of_content : IsOfContent f.kind → P (frame_effect c f.channel f.payload f.kind)
+    of_content of =
+        subst P (sym (effect_is c f.channel f.payload f.kind of))
+        (content_rows P c u f rows is of (sym (order_is c f (method_in f.payload) f.kind of) ∙ none))
+
+    by : (k : Kind91) → f.kind ≡ k → first (places c f (method_in f.payload) k) ≡ None → P (frame_effect c f.channel f.payload k)
+    by frame.Method e none = method_rows P c u f (method_in f.payload) rows is e refl none
+    by frame.Header e none = subst (λ (k : Kind91). P (frame_effect c f.channel f.payload k)) e (of_content (subst IsOfContent (sym e) tt))
+    by frame.Body e none = subst (λ (k : Kind91). P (frame_effect c f.channel f.payload k)) e (of_content (subst IsOfContent (sym e) tt))
+    by frame.Heartbeat e none = rows.nothing (λ opened. ap channel_of is ∙ beat (eqb f.channel 0) refl (first_none _ _ none))
+      where
+        beat : (zero : Bool) → eqb f.channel 0 ≡ zero → cond {A = Option Ruling} (zero && eqb (length f.payload) 0) None (refused FRAME_ERROR) ≡ None
+            → f.channel ≡ 0
+        beat true z e = eqb-true f.channel 0 z
+        beat false z e = absurd cc
+
+-- a channel that is refused
+refused_rows : (P : Step → Type 0) (c : Connection) (u : Unit91) (code : ℕ) → HoldsByRow P c u → unit_ruling c u ≡ Some (ruling.ChannelRefused code)
+    → P (after_closing scope.Channel (channel_of u) c, want.Refuse (channel_refusal code (channel_of u)))
+refused_rows P c unit.Protocol code rows e = absurd cc
+refused_rows P c (unit.Bad x) code rows e = absurd cc
+refused_rows P c (unit.Frame f) code rows e = by f.kind refl e
+  where
+    of_content : IsOfContent f.kind → P (after_closing scope.Channel f.channel c, want.Refuse (channel_refusal code f.channel))
+    of_content of =
+        let h = content_apart c f (content_at c f.channel) (taken_by c f f.kind) code (sym (order_is c f (method_in f.payload) f.kind of) ∙ e) in
+        rows.channel_refused code h.0 h.1 e
+
+    beat : (b : Bool)
+        → first (cond {A = Option Ruling} b None (refused FRAME_ERROR) ∷ None ∷ None ∷ None ∷ None ∷ None ∷ None ∷ None ∷ []) ≡ Some (ruling.ChannelRefused code) → ⊥
+    beat true e = absurd cc
+    beat false e = absurd cc
+
+    by : (k : Kind91) → f.kind ≡ k → first (places c f (method_in f.payload) k) ≡ Some (ruling.ChannelRefused code)
+        → P (after_closing scope.Channel f.channel c, want.Refuse (channel_refusal code f.channel))
+    by frame.Method k e = absurd (method_apart c f (method_in f.payload) code e)
+    by frame.Header k e = of_content (subst IsOfContent (sym k) tt)
+    by frame.Body k e = of_content (subst IsOfContent (sym k) tt)
+    by frame.Heartbeat k e = absurd (beat (eqb f.channel 0 && eqb (length f.payload) 0) e)
+
+-- what is passed over stands on a closing channel
+passed_rows : (P : Step → Type 0) (c : Connection) (u : Unit91) → HoldsByRow P c u → unit_ruling c u ≡ Some ruling.PassedOver → P (c, want.Nothing)
+passed_rows P c unit.Protocol rows e = absurd cc
+passed_rows P c (unit.Bad x) rows e = absurd cc
+passed_rows P c (unit.Frame f) rows e = rows.nothing (λ opened. absurd (over_closed c f e opened))
 
 ordered_rows : (P : Step → Type 0) (c : Connection) (u : Unit91) → HoldsByRow P c u → is_closing_phase c.phase ≡ false
     → P (ordered_step c u)
 ordered_rows P c u rows none = by (unit_ruling c u) refl
   where
     effect : (u : Unit91) → HoldsByRow P c u → unit_ruling c u ≡ None → P (unit_effect c u)
-    effect unit.Protocol rows e = rows.nothing
-    effect (unit.Bad code) rows e = rows.nothing
-    effect (unit.Frame f) rows e = frame_rows P c f rows e
+    effect unit.Protocol rows e = absurd cc
+    effect (unit.Bad code) rows e = absurd cc
+    effect (unit.Frame f) rows e = frame_rows P c (unit.Frame f) f rows refl e
 
     by : (r : Option Ruling) → unit_ruling c u ≡ r → P (ruled_step c u r)
     by None e = effect u rows e
-    by (Some ruling.PassedOver) e = rows.nothing
-    by (Some (ruling.Refused code)) e = rows.refused code none
+    by (Some ruling.PassedOver) e = passed_rows P c u rows e
+    by (Some (ruling.Refused code)) e = rows.refused code none e
+    by (Some (ruling.MethodRefused code)) e = rows.publish_refused code none e
+    by (Some (ruling.ChannelRefused code)) e = refused_rows P c u code rows e
 
 closed_rows : (P : Step → Type 0) (c : Connection) (u : Unit91) → HoldsByRow P c u → is_closing_phase c.phase ≡ true
     → P (closed_step c u)

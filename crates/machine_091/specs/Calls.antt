@@ -1,10 +1,13 @@
 -- What each call but that for a unit makes of a connection: the container upstream opened; a
 -- closing event that no unit told; the gateway's channel.close and channel.close-ok; the end of the
--- client's stream (AMQP 0-9-1 2.2.4 and 1.5).
-use Rattle.std.specs.Prelude.{ℕ, Bool, if◌then◌else◌}
+-- client's stream (AMQP 0-9-1 2.2.4 and 1.5). A content in progress is dropped where its channel
+-- closes.
+use Rattle.std.specs.Prelude.{ℕ, Bool, if◌then◌else◌, List, Option, None}
 use Rattle.close_translate.specs.declared.conditions.Scope.{Scope}
 use Rattle.close_translate.specs.declared.conditions.Scope.TheVariants as scope
-use Rattle.machine_091.specs.State.{channel_at, with_channel}
+use Rattle.machine_091.specs.Contents.{no_contents}
+use Rattle.machine_091.specs.State.{channel_at, with_channel, with_content}
+use Rattle.machine_091.specs.declared.contents.Incoming.{Incoming}
 use Rattle.machine_091.specs.declared.state.Channel91.{Channel91}
 use Rattle.machine_091.specs.declared.state.Channel91.TheVariants as channel
 use Rattle.machine_091.specs.declared.state.Connection.{Connection}
@@ -36,17 +39,28 @@ closing_phase phase.Running = phase.Closing
 closing_phase phase.Closing = phase.Closing
 closing_phase phase.Closed = phase.Closed
 
+-- contents in progress are dropped by the first of these
+abbrev pub closing_contents : Phase91 → List (Option Incoming) → List (Option Incoming)
+closing_contents phase.Header xs = no_contents
+closing_contents phase.Start xs = no_contents
+closing_contents phase.Tune xs = no_contents
+closing_contents phase.Open xs = no_contents
+closing_contents phase.Running xs = no_contents
+closing_contents phase.Closing xs = xs
+closing_contents phase.Closed xs = xs
+
 -- the closing event of a channel, where it is open
 abbrev pub closing_channel : Channel91 → ℕ → Connection → Connection
 closing_channel channel.Free n c = c
-closing_channel channel.Open n c = with_channel c n channel.Closing
+closing_channel channel.Open n c = with_content (with_channel c n channel.Closing) n None
 closing_channel channel.Closing n c = c
 closing_channel channel.Told n c = c
 
 -- a closing event of the connection or of a channel
 abbrev pub after_closing : Scope → ℕ → Connection → Connection
 after_closing scope.Channel n c = closing_channel (channel_at c n) n c
-after_closing scope.Connection n c = record c { phase = closing_phase c.phase }
+after_closing scope.Connection n c =
+    record c { phase = closing_phase c.phase; contents = closing_contents c.phase c.contents }
 
 -- the gateway's channel.close went out, where the channel is closing
 abbrev pub told_channel : Channel91 → ℕ → Connection → Connection
@@ -71,4 +85,4 @@ after_closed n c = freed_channel (channel_at c n) n c
 
 -- the client's end ended: a connection.close that asks for no answer
 abbrev pub after_ended : Connection → Connection
-after_ended c = record c { phase = phase.Closed; stream = stream.Ended }
+after_ended c = record c { phase = phase.Closed; stream = stream.Ended; contents = no_contents }

@@ -1,18 +1,26 @@
--- What the check of a frame against the order of refusals answers: that the frame counts, with its
--- method, or what the order says of it.
-use Rattle.std.specs.Prelude.{◌≡◌, ℕ, Bool, true, false, Option, Some, None, Result, Ok, Err}
+-- What the check of a method frame against the order of refusals answers: the method, if the frame
+-- counts, or what the order says of it. And what a frame of a content leaves.
+use Rattle.std.specs.Prelude.{◌≡◌, ℕ, Bool, true, false, List, ◌++◌, Option, Some, None, Result, Ok, Err}
 use Rattle.frames_091.specs.declared.frame.Frame91.{Frame91}
-use Rattle.frames_091.specs.declared.frame.Kind91.TheVariants.{Method, Heartbeat}
+use Rattle.frames_091.specs.declared.frame.Kind91.TheVariants.{Method}
 use Rattle.methods_091.specs.View.{kind_of, args_of, parts_of}
 use Rattle.methods_091.specs.Reading.{method_in}
 use Rattle.methods_091.specs.declared.method.Method91.{Method91}
 use Rattle.machine_091.specs.RefusalsFrames.{first}
 use Rattle.machine_091.specs.RefusalsOpening.{is_expected}
 use Rattle.machine_091.specs.RefusalsRunning.{running_state, running_refusal}
-use Rattle.machine_091.specs.Refusals.{places, frame_ruling}
-use Rattle.machine_091.specs.State.{is_running, channel_at}
+use Rattle.machine_091.specs.Contents.{IsFed}
+use Rattle.machine_091.specs.Refusals.{places, taken_by}
+use Rattle.machine_091.specs.State.{is_running, channel_at, content_at, with_content}
+use Rattle.machine_091.specs.declared.contents.Fed.{Fed}
+use Rattle.machine_091.specs.declared.contents.Incoming.{Incoming}
 use Rattle.machine_091.specs.declared.state.Connection.{Connection}
 use Rattle.machine_091.specs.declared.unit.Ruling.{Ruling}
+
+-- the first of some places that applies, whatever places stand behind them; or none of them does
+abbrev pub IsFirstOf : List (Option Ruling) → Option Ruling → Type 0
+IsFirstOf ps None = (behind : List (Option Ruling)) → first (ps ++ behind) ≡ first behind
+IsFirstOf ps (Some r) = (behind : List (Option Ruling)) → first (ps ++ behind) ≡ Some r
 
 -- a method that counts: the expected one, or once the connection runs one in its state that isn't
 -- refused
@@ -29,12 +37,8 @@ IsMethodChecked c f (Ok m) =
     × (method_in f.payload ≡ Ok (parts_of m))
     × IsCounted (is_running c.phase) c f.channel m
 
--- the check of any frame
-abbrev pub IsChecked : Connection → Frame91 → Result (Option Method91) Ruling → Type 0
-IsChecked c f (Err r) = frame_ruling c f ≡ Some r
-IsChecked c f (Ok None) = (f.kind ≡ Heartbeat) × (frame_ruling c f ≡ None)
-IsChecked c f (Ok (Some m)) =
-    (f.kind ≡ Method)
-    × (frame_ruling c f ≡ None)
-    × (method_in f.payload ≡ Ok (parts_of m))
-    × IsCounted (is_running c.phase) c f.channel m
+-- what a frame made of a connection: another content in progress on its channel, or none
+abbrev pub IsFedAt : Connection → Connection → Frame91 → Fed → Type 0
+IsFedAt before after f x =
+    (o : Option Incoming) × IsFed (content_at before f.channel) o (taken_by before f f.kind) x
+    × (after ≡ with_content before f.channel o)

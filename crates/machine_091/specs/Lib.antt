@@ -1,9 +1,13 @@
 pub mod Calls
 pub mod Checked
+pub mod Contents
+pub mod Headers
 pub mod Ids
 pub mod Laws
 pub mod Limits
+pub mod Methods
 pub mod Refusals
+pub mod RefusalsContents
 pub mod RefusalsFrames
 pub mod RefusalsOpening
 pub mod RefusalsRunning

@@ -1,22 +1,25 @@
 -- The order of refusals (AMQP 0-9-1 2.2.4, 4.2.3, 4.2.6 and 1.5): one list of places, of which the
 -- first that applies counts. It is the same list before a connection runs and once it does. What
--- each place asks stands in RefusalsFrames, RefusalsOpening and RefusalsRunning. Contents aren't
--- taken yet.
-use Rattle.std.specs.Prelude.{ℕ, false, if◌then◌else◌, List, [], ◌∷◌, Option, None, Ok, Err}
-use Rattle.close_translate.specs.declared.codes.TheConstants.{FRAME_ERROR, UNEXPECTED_FRAME}
+-- each place asks stands in RefusalsFrames, RefusalsOpening, RefusalsRunning and RefusalsContents.
+use Rattle.std.specs.Prelude.{ℕ, false, if◌then◌else◌, List, [], ◌∷◌, Option, None, Some, Ok, Err}
+use Rattle.close_translate.specs.declared.codes.TheConstants.{FRAME_ERROR}
 use Rattle.close_translate.specs.declared.conditions.Scope.TheVariants as scope
 use Rattle.frames_091.specs.declared.frame.Frame91.{Frame91}
 use Rattle.frames_091.specs.declared.frame.Kind91.{Kind91}
 use Rattle.frames_091.specs.declared.frame.Kind91.TheVariants as frame
 use Rattle.methods_091.specs.Reading.{Read, method_in}
+use Rattle.machine_091.specs.Contents.{Taking, taken}
 use Rattle.machine_091.specs.Ids.{class_in, id_in}
+use Rattle.machine_091.specs.RefusalsContents.{within_order, awaited_order, fault_order, publish_order}
 use Rattle.machine_091.specs.RefusalsFrames.{refused, first, heartbeat_order, content_order, is_opening, is_closing, is_answering, channel_order, closing_order, reading_order}
 use Rattle.machine_091.specs.RefusalsOpening.{expected_order, opening_refusal}
 use Rattle.machine_091.specs.RefusalsRunning.{class_order, running_state, running_refusal}
-use Rattle.machine_091.specs.State.{is_running, channel_at}
+use Rattle.machine_091.specs.State.{is_running, channel_at, content_at}
+use Rattle.machine_091.specs.declared.ids.TheConstants.{BASIC_PUBLISH}
 use Rattle.machine_091.specs.declared.state.Connection.{Connection}
 use Rattle.machine_091.specs.declared.unit.Refusal.{Refusal}
 use Rattle.machine_091.specs.declared.unit.Ruling.{Ruling}
+use Rattle.machine_091.specs.declared.unit.Ruling.TheVariants as ruling
 use Rattle.machine_091.specs.declared.unit.Unit91.{Unit91}
 use Rattle.machine_091.specs.declared.unit.Unit91.TheVariants as unit
 
@@ -51,19 +54,23 @@ closing_place c f frame.Header = closing_order c f.channel false false
 closing_place c f frame.Body = closing_order c f.channel false false
 closing_place c f frame.Method = closing_order c f.channel (is_closing f.payload) (is_answering f.payload)
 
--- a content that no method awaits
-abbrev pub content_place : Kind91 → Option Ruling
-content_place frame.Heartbeat = None
-content_place frame.Header = refused UNEXPECTED_FRAME
-content_place frame.Body = refused UNEXPECTED_FRAME
-content_place frame.Method = None
+-- what a header or a body makes of the content in progress on its channel
+abbrev pub taken_by : Connection → Frame91 → Kind91 → Taking
+taken_by c f k = taken k f.payload (content_at c f.channel)
 
--- a method that can't be read
-abbrev pub reading_place : Read → Kind91 → Option Ruling
-reading_place read frame.Heartbeat = None
-reading_place read frame.Header = None
-reading_place read frame.Body = None
-reading_place read frame.Method = reading_order read
+-- a method while a content is in progress; a header or a body that isn't awaited
+abbrev pub content_place : Connection → Frame91 → Kind91 → Option Ruling
+content_place c f frame.Heartbeat = None
+content_place c f frame.Header = awaited_order (taken_by c f frame.Header)
+content_place c f frame.Body = awaited_order (taken_by c f frame.Body)
+content_place c f frame.Method = within_order (content_at c f.channel)
+
+-- a method that can't be read; a header or a body that is at fault
+abbrev pub reading_place : Connection → Frame91 → Read → Kind91 → Option Ruling
+reading_place c f read frame.Heartbeat = None
+reading_place c f read frame.Header = fault_order (taken_by c f frame.Header)
+reading_place c f read frame.Body = fault_order (taken_by c f frame.Body)
+reading_place c f read frame.Method = reading_order read
 
 -- a method out of its state
 abbrev pub state_place : Connection → ℕ → Read → Kind91 → Option Ruling
@@ -73,13 +80,14 @@ state_place c n read frame.Body = None
 state_place c n (Err e) frame.Method = None
 state_place c n (Ok m) frame.Method = if is_running c.phase then running_state (channel_at c n) n m.0 else None
 
--- the method's own refusals
-abbrev pub own_place : Connection → ℕ → Read → Kind91 → Option Ruling
-own_place c n read frame.Heartbeat = None
-own_place c n read frame.Header = None
-own_place c n read frame.Body = None
-own_place c n (Err e) frame.Method = None
-own_place c n (Ok m) frame.Method = if is_running c.phase then running_refusal c.carried_max n m.0 m.1 else opening_refusal c m.1
+-- the method's own refusals; those of basic.publish, where its content is whole
+abbrev pub own_place : Connection → Frame91 → Read → Kind91 → Option Ruling
+own_place c f read frame.Heartbeat = None
+own_place c f read frame.Header = publish_order (content_at c f.channel) (taken_by c f frame.Header)
+own_place c f read frame.Body = publish_order (content_at c f.channel) (taken_by c f frame.Body)
+own_place c f (Err e) frame.Method = None
+own_place c f (Ok m) frame.Method =
+    if is_running c.phase then running_refusal c.carried_max f.channel m.0 m.1 else opening_refusal c m.1
 
 -- the order
 abbrev pub places : Connection → Frame91 → Read → Kind91 → List (Option Ruling)
@@ -88,10 +96,10 @@ places c f read k =
     ∷ order_place c f read k
     ∷ channel_place c f k
     ∷ closing_place c f k
-    ∷ content_place k
-    ∷ reading_place read k
+    ∷ content_place c f k
+    ∷ reading_place c f read k
     ∷ state_place c f.channel read k
-    ∷ own_place c f.channel read k
+    ∷ own_place c f read k
     ∷ []
 
 -- what the order says of a frame; None where the frame counts
@@ -129,3 +137,32 @@ abbrev pub refusal_of : ℕ → Unit91 → Refusal
 refusal_of code unit.Protocol = refusal_with code 0 0
 refusal_of code (unit.Bad c) = refusal_with code 0 0
 refusal_of code (unit.Frame f) = refusal_by f.kind code f.payload
+
+-- of basic.publish, where its content is whole
+abbrev pub publish_refusal : ℕ → Refusal
+publish_refusal code = refusal_with code BASIC_PUBLISH.0 BASIC_PUBLISH.1
+
+-- of a channel: no method is at fault
+abbrev pub channel_refusal : ℕ → ℕ → Refusal
+channel_refusal code n = record {
+  code = code;
+  scope = scope.Channel;
+  channel = n;
+  class = 0;
+  method = 0;
+}
+
+-- the channel of a unit
+abbrev pub channel_of : Unit91 → ℕ
+channel_of unit.Protocol = 0
+channel_of (unit.Bad code) = 0
+channel_of (unit.Frame f) = f.channel
+
+-- the refusal that a place of the order tells
+abbrev pub refusal_by_order : Option Ruling → Unit91 → Option Refusal
+refusal_by_order None u = None
+refusal_by_order (Some (ruling.Refused code)) u = Some (refusal_of code u)
+refusal_by_order (Some (ruling.MethodRefused code)) u = Some (publish_refusal code)
+refusal_by_order (Some (ruling.ChannelRefused code)) u =
+    Some (channel_refusal code (channel_of u))
+refusal_by_order (Some ruling.PassedOver) u = None

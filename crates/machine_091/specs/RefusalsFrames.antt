@@ -1,6 +1,6 @@
 -- The places of the order of refusals that ask the same of each frame, in every phase (AMQP 0-9-1
 -- 4.2.3, 4.2.6, 4.2.7 and 1.5).
-use Rattle.std.specs.Prelude.{ℕ, Bool, true, ◌&&◌, ◌==◌, nat_lt, if◌then◌else◌, List, [], ◌∷◌, length, Option, Some, None, Ok, Err}
+use Rattle.std.specs.Prelude.{ℕ, Bool, ◌&&◌, ◌==◌, nat_lt, if◌then◌else◌, List, [], ◌∷◌, length, Option, Some, None, Ok, Err}
 use Rattle.close_translate.specs.declared.codes.TheConstants.{FRAME_ERROR, CHANNEL_ERROR, UNEXPECTED_FRAME, NOT_IMPLEMENTED, SYNTAX_ERROR}
 use Rattle.frames_091.specs.declared.frame.Frame91.{Frame91}
 use Rattle.methods_091.specs.Reading.{Read}

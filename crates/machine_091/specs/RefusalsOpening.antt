@@ -1,14 +1,14 @@
 -- The places of the order of refusals that ask of a method before the connection runs: the one that
 -- is expected, and what it says (AMQP 0-9-1 2.2.4 and 1.4.2).
-use Rattle.std.specs.Prelude.{ℕ, zero, suc, codes, Bool, false, ◌&&◌, ◌||◌, nat_le, if◌then◌else◌, List, [], ◌∷◌, length, Option, None, Ok, Err}
+use Rattle.std.specs.Prelude.{ℕ, codes, Bool, false, ◌&&◌, ◌||◌, nat_le, if◌then◌else◌, List, length, Option, None, Ok, Err}
 use Rattle.std.specs.Str.{bytes_eq}
 use Rattle.close_translate.specs.declared.codes.TheConstants.{COMMAND_INVALID, NOT_ALLOWED}
 use Rattle.methods_091.specs.Arguments.{Arg}
-use Rattle.methods_091.specs.Arguments as arg
 use Rattle.methods_091.specs.Reading.{Read}
 use Rattle.methods_091.specs.Rows.{Kind}
 use Rattle.machine_091.specs.Ids.{is_of_kind}
 use Rattle.machine_091.specs.Limits.{is_agreed}
+use Rattle.machine_091.specs.Methods.{text_at, number_at}
 use Rattle.machine_091.specs.RefusalsFrames.{refused}
 use Rattle.machine_091.specs.declared.ids.TheConstants.{CONNECTION_START_OK, CONNECTION_TUNE_OK, CONNECTION_OPEN}
 use Rattle.machine_091.specs.declared.limits.TheConstants.{RESPONSE_MAX}
@@ -16,23 +16,6 @@ use Rattle.machine_091.specs.declared.state.Connection.{Connection}
 use Rattle.machine_091.specs.declared.state.Phase91.{Phase91}
 use Rattle.machine_091.specs.declared.state.Phase91.TheVariants as phase
 use Rattle.machine_091.specs.declared.unit.Ruling.{Ruling}
-
--- ---- arguments of a method
-
--- one that is a text, and one that is a number
-abbrev pub text_at : ℕ → List Arg → List ℕ
-text_at k [] = []
-text_at zero (arg.shortstr s ∷ args) = s
-text_at zero (arg.longstr s ∷ args) = s
-text_at zero (a ∷ args) = []
-text_at (suc k) (a ∷ args) = text_at k args
-
-abbrev pub number_at : ℕ → List Arg → ℕ
-number_at k [] = 0
-number_at zero (arg.short n ∷ args) = n
-number_at zero (arg.long n ∷ args) = n
-number_at zero (a ∷ args) = 0
-number_at (suc k) (a ∷ args) = number_at k args
 
 -- ---- the method that is expected
 

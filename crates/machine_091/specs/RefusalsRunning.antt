@@ -1,14 +1,14 @@
 -- The places of the order of refusals that ask of a method once the connection runs: its class on
 -- channel 0, its state, and whether this gateway does it (AMQP 0-9-1 1.4 to 1.8).
-use Rattle.std.specs.Prelude.{ℕ, Bool, true, false, ◌==◌, ◌%◌, nat_lt, if◌then◌else◌, List, ◌∷◌, length, Option, None}
+use Rattle.std.specs.Prelude.{ℕ, Bool, true, ◌==◌, ◌%◌, nat_lt, if◌then◌else◌, List, length, Option, None}
 use Rattle.close_translate.specs.declared.codes.TheConstants.{COMMAND_INVALID, NOT_IMPLEMENTED, RESOURCE_ERROR}
 use Rattle.methods_091.specs.Arguments.{Arg}
-use Rattle.methods_091.specs.Arguments as arg
 use Rattle.methods_091.specs.Rows.{Kind, class_of, id_of}
 use Rattle.machine_091.specs.Ids.{class_in, is_of_kind}
+use Rattle.machine_091.specs.Methods.{flag, flags_at}
 use Rattle.machine_091.specs.RefusalsFrames.{refused}
 use Rattle.machine_091.specs.declared.ids.TheConstants.{CONNECTION, CONNECTION_CLOSE, CHANNEL_OPEN, CHANNEL_FLOW, CHANNEL_CLOSE, CHANNEL_CLOSE_OK}
-use Rattle.machine_091.specs.declared.ids.TheConstants.{BASIC_RETURN, BASIC_DELIVER, BASIC_GET_EMPTY}
+use Rattle.machine_091.specs.declared.ids.TheConstants.{EXCHANGE_DECLARE, BASIC_PUBLISH, BASIC_RETURN, BASIC_DELIVER, BASIC_GET_EMPTY, CONFIRM_SELECT}
 use Rattle.machine_091.specs.declared.state.Channel91.{Channel91}
 use Rattle.machine_091.specs.declared.state.Channel91.TheVariants as channel
 use Rattle.machine_091.specs.declared.unit.Ruling.{Ruling}
@@ -47,21 +47,25 @@ running_state s n k =
     else if is_servers k then refused COMMAND_INVALID
     else None
 
--- the first flag of the first argument
-abbrev pub is_active : List Arg → Bool
-is_active (arg.bits (b ∷ bs) ∷ args) = b
-is_active args = false
-
 -- a channel that the container upstream can't carry
 abbrev pub carried_order : ℕ → ℕ → Option Ruling
 carried_order max n = if nat_lt max n then refused RESOURCE_ERROR else None
+
+-- the methods that are done on a channel that the container carries: those that close it,
+-- exchange.declare, basic.publish and confirm.select
+abbrev pub is_done : Kind → Bool
+is_done k =
+    if is_of_kind CHANNEL_CLOSE k then true
+    else if is_of_kind CHANNEL_CLOSE_OK k then true
+    else if is_of_kind EXCHANGE_DECLARE k then true
+    else if is_of_kind BASIC_PUBLISH k then true
+    else is_of_kind CONFIRM_SELECT k
 
 -- such a channel, a channel.flow that stops the flow, and all that this gateway doesn't do
 abbrev pub running_refusal : ℕ → ℕ → Kind → List Arg → Option Ruling
 running_refusal max n k args =
     if n == 0 then None
     else if is_of_kind CHANNEL_OPEN k then carried_order max n
-    else if is_of_kind CHANNEL_CLOSE k then None
-    else if is_of_kind CHANNEL_CLOSE_OK k then None
-    else if is_of_kind CHANNEL_FLOW k then (if is_active args then None else refused NOT_IMPLEMENTED)
+    else if is_of_kind CHANNEL_FLOW k then (if flag 0 (flags_at 0 args) then None else refused NOT_IMPLEMENTED)
+    else if is_done k then None
     else refused NOT_IMPLEMENTED

@@ -1,11 +1,13 @@
 -- The state of a client's connection (AMQP 0-9-1 2.2.4 and 1.5): before any unit, what is awaited
--- of its client, and which channels are open.
+-- of its client, which channels are open, and which contents are in progress.
 use Rattle.std.specs.Prelude.{ℕ, Bool, true, false, ◌&&◌, List, replicate, slice_get, slice_set, Option, None, Some}
+use Rattle.machine_091.specs.Contents.{no_contents}
 use Rattle.machine_091.specs.Limits.{own_limits}
 use Rattle.machine_091.specs.declared.state.Awaited91.{Awaited91}
 use Rattle.machine_091.specs.declared.state.Awaited91.TheVariants as awaited
 use Rattle.machine_091.specs.declared.state.Channel91.{Channel91}
 use Rattle.machine_091.specs.declared.state.Channel91.TheVariants as channel
+use Rattle.machine_091.specs.declared.contents.Incoming.{Incoming}
 use Rattle.machine_091.specs.declared.state.Connection.{Connection}
 use Rattle.machine_091.specs.declared.state.Phase91.{Phase91}
 use Rattle.machine_091.specs.declared.state.Phase91.TheVariants as phase
@@ -26,6 +28,7 @@ new_connection vhost = record {
   limits = own_limits;
   carried_max = 0;
   channels = no_channels;
+  contents = no_contents;
 }
 
 -- ---- phases
@@ -116,3 +119,17 @@ is_open_channel channel.Told = false
 -- a channel is open, and neither it nor the connection is closing
 abbrev pub is_open : Connection → ℕ → Bool
 is_open c n = is_running c.phase && is_open_channel (channel_at c n)
+
+-- ---- contents
+
+abbrev pub or_no_content : Option (Option Incoming) → Option Incoming
+or_no_content None = None
+or_no_content (Some o) = o
+
+-- the content in progress on a channel
+abbrev pub content_at : Connection → ℕ → Option Incoming
+content_at c n = or_no_content (slice_get c.contents n)
+
+-- another content in progress on a channel, or none
+abbrev pub with_content : Connection → ℕ → Option Incoming → Connection
+with_content c n o = record c { contents = slice_set c.contents n o }

@@ -7,14 +7,18 @@ use Rattle.methods_091.specs.Rows.{Kind}
 use Rattle.methods_091.specs.Arguments.{Arg}
 use Rattle.methods_091.specs.Reading.{Read, method_in}
 use Rattle.methods_091.specs.declared.method.Method91.TheVariants as method
+use Rattle.machine_091.specs.Calls.{after_closing}
+use Rattle.machine_091.specs.Contents.{no_contents, begun, Taking, taken}
 use Rattle.machine_091.specs.Ids.{is_of_kind}
 use Rattle.machine_091.specs.Limits.{agreed_limits}
-use Rattle.machine_091.specs.Refusals.{unit_ruling, refusal_of}
-use Rattle.machine_091.specs.RefusalsOpening.{text_at, number_at}
-use Rattle.machine_091.specs.RefusalsRunning.{is_active}
+use Rattle.machine_091.specs.Refusals.{unit_ruling, refusal_of, publish_refusal, channel_refusal, channel_of}
+use Rattle.machine_091.specs.Methods.{text_at, number_at, close_of, flow_of, declare_of, publish_of, select_of}
 use Rattle.close_translate.specs.declared.codes.TheConstants.{NOT_ALLOWED}
-use Rattle.machine_091.specs.State.{channel_at, is_open_phase, is_running, with_channel}
-use Rattle.machine_091.specs.declared.ids.TheConstants.{CONNECTION_CLOSE, CONNECTION_CLOSE_OK, CHANNEL_OPEN, CHANNEL_FLOW, CHANNEL_CLOSE}
+use Rattle.close_translate.specs.declared.conditions.Scope.TheVariants as scope
+use Rattle.content_091.specs.declared.assembly.Step.TheVariants as step
+use Rattle.machine_091.specs.State.{channel_at, content_at, is_open_phase, is_running, with_channel, with_content}
+use Rattle.machine_091.specs.declared.contents.Incoming.{Incoming}
+use Rattle.machine_091.specs.declared.ids.TheConstants.{CONNECTION_CLOSE, CONNECTION_CLOSE_OK, CHANNEL_OPEN, CHANNEL_FLOW, CHANNEL_CLOSE, EXCHANGE_DECLARE, BASIC_PUBLISH, CONFIRM_SELECT}
 use Rattle.machine_091.specs.declared.state.Channel91.{Channel91}
 use Rattle.machine_091.specs.declared.state.Channel91.TheVariants as channel
 use Rattle.machine_091.specs.declared.state.Connection.{Connection}
@@ -81,29 +85,47 @@ closed_by channel.Open = channel.Closing
 closed_by channel.Closing = channel.Closing
 closed_by channel.Told = channel.Told
 
--- a method of a channel: channel.open, close, flow and close-ok
+-- a method of a channel: channel.open, close and flow, exchange.declare, confirm.select,
+-- basic.publish, which begins a content, and channel.close-ok
 abbrev pub channel_effect : Connection → ℕ → Kind → List Arg → Step
 channel_effect c n k args =
     if is_of_kind CHANNEL_OPEN k then (with_channel c n channel.Open, want.Method n method.ChannelOpen)
-    else if is_of_kind CHANNEL_CLOSE k then (with_channel c n (closed_by (channel_at c n)), want.Method n (method.ChannelClose (number_at 0 args) (text_at 1 args) (number_at 2 args) (number_at 3 args)))
-    else if is_of_kind CHANNEL_FLOW k then (c, want.Method n (method.ChannelFlow (is_active args)))
+    else if is_of_kind CHANNEL_CLOSE k then
+    (with_channel c n (closed_by (channel_at c n)), want.Method n (close_of args))
+    else if is_of_kind CHANNEL_FLOW k then (c, want.Method n (flow_of args))
+    else if is_of_kind EXCHANGE_DECLARE k then (c, want.Method n (declare_of args))
+    else if is_of_kind CONFIRM_SELECT k then (c, want.Method n (select_of args))
+    else if is_of_kind BASIC_PUBLISH k then
+    (with_content c n (Some (begun (publish_of args))), want.Nothing)
     else (with_channel c n channel.Free, want.ChannelCloseOk n)
 
 -- a method once the connection runs: on channel 0 it is connection.close
 abbrev pub running_effect : Connection → ℕ → Kind → List Arg → Step
 running_effect c n k args =
-    if n == 0 then (record c { phase = phase.Closed }, want.Close) else channel_effect c n k args
+    if n == 0 then (record c { phase = phase.Closed; contents = no_contents }, want.Close)
+    else channel_effect c n k args
 
 -- a method that counts
 abbrev pub method_effect : Connection → ℕ → Read → Step
 method_effect c n (Ok m) = if is_running c.phase then running_effect c n m.0 m.1 else opening_effect c m.1 c.phase
 method_effect c n (Err e) = (c, want.Nothing)
 
+-- a frame of the content in progress on a channel: the content is handed out once it is whole
+abbrev pub content_effect : Connection → ℕ → Option Incoming → Taking → Step
+content_effect c n None t = (c, want.Nothing)
+content_effect c n (Some i) (Err e) = (c, want.Nothing)
+content_effect c n (Some i) (Ok (a, step.More)) =
+    (with_content c n (Some (record i { assembly = a })), want.Nothing)
+content_effect c n (Some i) (Ok (a, step.Whole d)) =
+    (with_content c n None, want.Publish n i.method d)
+
 -- a unit that counts; a heartbeat wants nothing
 abbrev pub frame_effect : Connection → ℕ → List ℕ → Kind91 → Step
 frame_effect c n payload frame.Method = method_effect c n (method_in payload)
-frame_effect c n payload frame.Header = (c, want.Nothing)
-frame_effect c n payload frame.Body = (c, want.Nothing)
+frame_effect c n payload frame.Header =
+    content_effect c n (content_at c n) (taken frame.Header payload (content_at c n))
+frame_effect c n payload frame.Body =
+    content_effect c n (content_at c n) (taken frame.Body payload (content_at c n))
 frame_effect c n payload frame.Heartbeat = (c, want.Nothing)
 
 abbrev pub unit_effect : Connection → Unit91 → Step
@@ -116,12 +138,24 @@ unit_effect c (unit.Bad code) = (c, want.Nothing)
 abbrev pub asked_by : Connection → ℕ → Bool
 asked_by c code = c.asked || (is_open_phase c.phase && code == NOT_ALLOWED)
 
+-- the connection closes by a refusal with this reply code
+abbrev pub refused : Connection → Unit91 → ℕ → Connection
+refused c u code = record c {
+  phase = phase.Closing;
+  stream = stream_after u c.stream;
+  asked = asked_by c code;
+  contents = no_contents;
+}
+
 -- what the order of refusals says, or else what the unit does
 abbrev pub ruled_step : Connection → Unit91 → Option Ruling → Step
 ruled_step c u None = unit_effect c u
 ruled_step c u (Some ruling.PassedOver) = (c, want.Nothing)
-ruled_step c u (Some (ruling.Refused code)) =
-    (record c { phase = phase.Closing; stream = stream_after u c.stream; asked = asked_by c code }, want.Refuse (refusal_of code u))
+ruled_step c u (Some (ruling.Refused code)) = (refused c u code, want.Refuse (refusal_of code u))
+ruled_step c u (Some (ruling.MethodRefused code)) =
+    (refused c u code, want.Refuse (publish_refusal code))
+ruled_step c u (Some (ruling.ChannelRefused code)) =
+    (after_closing scope.Channel (channel_of u) c, want.Refuse (channel_refusal code (channel_of u)))
 
 abbrev pub ordered_step : Connection → Unit91 → Step
 ordered_step c u = ruled_step c u (unit_ruling c u)

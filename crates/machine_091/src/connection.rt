@@ -1,6 +1,6 @@
 //! A client's connection: the calls on it.
 
-ghost use Rattle.std.specs.Prelude.{◌≡◌, ◌≤◌, IfOk, OnOk, OnErr};
+ghost use Rattle.std.specs.Prelude.{◌≡◌, IfOk, OnOk, OnErr};
 ghost use Rattle.machine_091.specs.Calls.{after_opened, after_closing, after_told, after_closed, after_ended};
 ghost use Rattle.machine_091.specs.Limits.{AreWithin};
 ghost use Rattle.machine_091.specs.State.{new_connection, awaits, is_opening, is_closing, is_over, is_open};
@@ -25,6 +25,11 @@ impl Model for Conn91 {
 
     ghost Value = { Connection };
 
+    ghost use Rattle.tables_091.specs.TreeCode.{tree_code};
+    ghost use Rattle.std.specs.Coded.{codes};
+
+    ghost coded = { Prim.hlevel (codes, tree_code) };
+
     ghost view = { λ c. c.state };
 
     ghost invariant = { λ c. AreWithin c.state.limits };
@@ -38,14 +43,6 @@ impl Conn91 {
         Conn91 {
             state: Connection::new(vhost),
         }
-    }
-
-    /// A copy of it.
-    pub fn copy(&self, alloc: Global) -> Result<Conn91, Memory>
-        ensures { IfOk result (λ conn. conn ≡ self.now) }
-    {
-        let state = self.state.copy(alloc)?;
-        Ok(Conn91 { state })
     }
 
     /// Takes the client's next unit, and answers what it wants, or that it is refused: by the first
@@ -72,7 +69,7 @@ impl Conn91 {
     }
 
     /// A closing event came that no unit told: of the connection, or of this channel if it is open.
-    /// Units but those that close are passed over from now on.
+    /// Units but those that close are passed over from now on, and a content in progress is dropped.
     pub fn closing(&mut self, scope: Scope, channel: u16)
         ensures { self.new ≡ after_closing scope channel self.old }
     {

@@ -1,8 +1,11 @@
 //! What holds of the transitions of a connection, above their table.
 
-ghost use Rattle.std.specs.Prelude.{◌≡◌, ℕ, List, true};
-ghost use Rattle.machine_091.specs.Laws.{Call91, after_calls, AreInRange, Closes, StaysClosed};
+ghost use Rattle.std.specs.Prelude.{◌≡◌, ℕ, List, ◌∷◌, Some, true};
+ghost use Rattle.methods_091.specs.declared.method.Method91.{Method91};
+ghost use Rattle.content_091.specs.declared.assembly.Content.{Content};
+ghost use Rattle.machine_091.specs.Laws.{Call91, Take, after_call, after_calls, AreInRange, Closes, StaysClosed, HasNone, AreOnOpen, frames_on, IsPublished};
 ghost use Rattle.machine_091.specs.Limits.{AreWithin};
+ghost use Rattle.machine_091.specs.Refusals.{refusal_by_order, unit_ruling};
 ghost use Rattle.machine_091.specs.RefusalsOpening.{is_login};
 ghost use Rattle.machine_091.specs.Transitions.{unit_step};
 ghost use Rattle.machine_091.specs.declared.state.Connection.{Connection};
@@ -21,9 +24,12 @@ pub fn connection_laws()
     // After any calls the channels that are open or closing have numbers from 1 to the agreed
     // greatest, and are no more than that.
     ensures channels { (vhost : List ℕ) (h : List Call91) → AreInRange (after_calls vhost h) }
-    // A refusal closes the connection, and leaves its limits and channels.
+    // A refusal is that of the first place of the order that applies.
+    ensures order { (c : Connection) (u : Unit91) (r : Refusal)
+        → (unit_step c u).1 ≡ want.Refuse r → refusal_by_order (unit_ruling c u) u ≡ Some r }
+    // A refusal closes what it says, and leaves the rest.
     ensures refusals { (c : Connection) (u : Unit91) (r : Refusal)
-        → (unit_step c u).1 ≡ want.Refuse r → Closes c r (unit_step c u).0 }
+        → (unit_step c u).1 ≡ want.Refuse r → Closes r.scope c r (unit_step c u).0 }
     // A login that is taken is by PLAIN or ANONYMOUS, and its response has at most 300 bytes.
     ensures logins { (c : Connection) (u : Unit91) (mechanism response : List ℕ)
         → (unit_step c u).1 ≡ want.Login mechanism response → is_login mechanism response ≡ true }
@@ -32,4 +38,12 @@ pub fn connection_laws()
         → (unit_step c u).0.phase ≡ phase.Running → c.phase ≡ phase.Running }
     // A closed connection stays so, and nothing is answered but the client's close-ok.
     ensures closed { (c : Connection) (u : Unit91) → c.phase ≡ phase.Closed → StaysClosed c (unit_step c u) }
+    // A content that is published is that of its frames, which are the last on its channel.
+    ensures contents { (vhost : List ℕ) (h : List Call91) (u : Unit91) (n : ℕ) (m : Method91) (d : Content)
+        → (unit_step (after_calls vhost h) u).1 ≡ want.Publish n m d
+        → IsPublished (frames_on n (Take u ∷ h)) n m d }
+    // After any calls contents are in progress on open channels alone.
+    ensures on_open { (vhost : List ℕ) (h : List Call91) → AreOnOpen (after_calls vhost h) }
+    // No call leaves one in progress where the connection doesn't run.
+    ensures none { (c : Connection) (x : Call91) → HasNone c → HasNone (after_call x c) }
 {}

@@ -1,14 +1,21 @@
-//! The order of refusals: which frames count, and the refusal of one that doesn't.
+//! The order of refusals: which methods count, and the refusal of what doesn't.
 
-ghost use Rattle.std.specs.Prelude.{◌≡◌, true, false, None, Some, IfOk};
-ghost use Rattle.machine_091.specs.Checked.{IsChecked, IsMethodChecked};
-ghost use Rattle.machine_091.specs.Refusals.{refusal_with, refusal_of};
-ghost use Rattle.machine_091.specs.State.{is_running};
+ghost use Rattle.std.specs.Prelude.{◌≡◌, true, false, [], ◌∷◌, Ok, IfOk, IfNone};
+ghost use Rattle.methods_091.specs.Reading.{method_in};
+ghost use Rattle.methods_091.specs.View.{kind_of, args_of, parts_of};
+ghost use Rattle.frames_091.specs.declared.frame.Kind91.TheVariants.{Method};
+ghost use Rattle.machine_091.specs.Checked.{IsCounted, IsFirstOf, IsMethodChecked};
+ghost use Rattle.machine_091.specs.RefusalsContents.{within_order};
+ghost use Rattle.machine_091.specs.RefusalsFrames.{first, channel_order, closing_order, is_opening, is_closing, is_answering};
+ghost use Rattle.machine_091.specs.RefusalsOpening.{is_expected};
+ghost use Rattle.machine_091.specs.Refusals.{places, refusal_with, refusal_of, publish_refusal, channel_refusal, channel_of};
+ghost use Rattle.machine_091.specs.RefusalsRunning.{running_state, running_refusal};
+ghost use Rattle.machine_091.specs.State.{channel_at, content_at, is_running};
 
-use crate::ids::ids_in;
+use crate::ids::{BASIC_PUBLISH, ids_in};
+use crate::refusals_contents::within_order;
 use crate::refusals_frames::{
-    channel_order, closing_order, content_ruling, fault_code, heartbeat_order, is_answering,
-    is_closing, is_opening,
+    channel_order, closing_order, fault_code, is_answering, is_closing, is_opening,
 };
 use crate::refusals_opening::{expected_order, opening_refusal};
 use crate::refusals_running::{class_order, running_refusal, running_state};
@@ -20,6 +27,40 @@ use methods_091::{Method91, read_method};
 use std::alloc::Global;
 use wire_base::Memory;
 
+/// What the order says of a method frame for its channel and the content in progress there.
+fn method_place(conn: &Connection, frame: &Frame91) -> Option<Ruling>
+    ensures { IsFirstOf (
+        channel_order conn.now frame.now.channel (is_opening frame.now.payload)
+        ∷ closing_order conn.now frame.now.channel (is_closing frame.now.payload) (is_answering frame.now.payload)
+        ∷ within_order (content_at conn.now frame.now.channel) ∷ []) result }
+{
+    let payload = frame.payload.as_slice();
+    let channel = frame.channel;
+    if let Some(ruling) = channel_order(conn, channel, is_opening(payload)) {
+        return Some(ruling);
+    }
+    if let Some(ruling) = closing_order(conn, channel, is_closing(payload), is_answering(payload)) {
+        return Some(ruling);
+    }
+    within_order(conn, channel)
+}
+
+/// What the order says of a method that was read before the connection runs.
+fn opening_ruling(conn: &Connection, frame: &Frame91, method: &Method91) -> Option<Ruling>
+    requires opening { is_running conn.now.phase ≡ false }
+    requires read { method_in frame.now.payload ≡ Ok (parts_of method.now) }
+    ensures ruling { result ≡ first (places conn.now frame.now (method_in frame.now.payload) Method) }
+    ensures expected { IfNone result (is_expected conn.now (kind_of method.now) ≡ true) }
+{
+    if let Some(ruling) = expected_order(conn, method) {
+        return Some(ruling);
+    }
+    if let Some(ruling) = method_place(conn, frame) {
+        return Some(ruling);
+    }
+    opening_refusal(conn, method)
+}
+
 /// Checks a method frame before the connection runs.
 fn check_opening(
     alloc: Global,
@@ -29,30 +70,29 @@ fn check_opening(
     requires { is_running conn.now.phase ≡ false }
     ensures { IfOk result (IsMethodChecked conn.now frame.now) }
 {
-    let payload = frame.payload.as_slice();
-    let read = read_method(alloc, payload)?;
-    if let Ok(method) = &read {
-        if let Some(ruling) = expected_order(conn, method) {
-            return Ok(Err(ruling));
-        }
-    }
-    if let Some(ruling) = channel_order(conn, frame.channel, is_opening(payload)) {
-        return Ok(Err(ruling));
-    }
-    if let Some(ruling) = closing_order(
-        conn,
-        frame.channel,
-        is_closing(payload),
-        is_answering(payload),
-    ) {
-        return Ok(Err(ruling));
-    }
-    match read {
-        Err(fault) => Ok(Err(Ruling::Refused(fault_code(fault.fault)))),
-        Ok(method) => match opening_refusal(conn, &method) {
+    match read_method(alloc, frame.payload.as_slice())? {
+        Ok(method) => match opening_ruling(conn, frame, &method) {
             Some(ruling) => Ok(Err(ruling)),
             None => Ok(Ok(method)),
         },
+        Err(fault) => match method_place(conn, frame) {
+            Some(ruling) => Ok(Err(ruling)),
+            None => Ok(Err(Ruling::Refused(fault_code(fault.fault)))),
+        },
+    }
+}
+
+/// What the order says of a method that was read once the connection runs, behind the places of
+/// its frame.
+fn running_ruling(conn: &Connection, channel: u16, method: &Method91) -> Option<Ruling>
+    ensures ruling { result ≡ first (
+        running_state (channel_at conn.now channel) channel (kind_of method.now)
+        ∷ running_refusal conn.now.carried_max channel (kind_of method.now) (args_of method.now) ∷ []) }
+    ensures counted { IfNone result (IsCounted true conn.now channel method.now) }
+{
+    match running_state(conn.channel(channel), channel, method) {
+        Some(ruling) => Some(ruling),
+        None => running_refusal(conn.carried_max, channel, method),
     }
 }
 
@@ -69,32 +109,21 @@ fn check_running(
     if let Some(ruling) = class_order(frame.channel, payload) {
         return Ok(Err(ruling));
     }
-    if let Some(ruling) = channel_order(conn, frame.channel, is_opening(payload)) {
+    if let Some(ruling) = method_place(conn, frame) {
         return Ok(Err(ruling));
     }
-    if let Some(ruling) = closing_order(
-        conn,
-        frame.channel,
-        is_closing(payload),
-        is_answering(payload),
-    ) {
-        return Ok(Err(ruling));
-    }
-    let method = match read_method(alloc, payload)? {
-        Err(fault) => return Ok(Err(Ruling::Refused(fault_code(fault.fault)))),
-        Ok(method) => method,
-    };
-    if let Some(ruling) = running_state(conn.channel(frame.channel), frame.channel, &method) {
-        return Ok(Err(ruling));
-    }
-    match running_refusal(conn.carried_max, frame.channel, &method) {
-        Some(ruling) => Ok(Err(ruling)),
-        None => Ok(Ok(method)),
+    match read_method(alloc, payload)? {
+        Err(fault) => Ok(Err(Ruling::Refused(fault_code(fault.fault)))),
+        Ok(method) => match running_ruling(conn, frame.channel, &method) {
+            Some(ruling) => Ok(Err(ruling)),
+            None => Ok(Ok(method)),
+        },
     }
 }
 
-/// Checks a method frame.
-fn check_method(
+/// Checks a method frame against the order of refusals: its method, if the frame counts; else what
+/// the order says of it.
+pub(crate) fn check_method(
     alloc: Global,
     conn: &Connection,
     frame: &Frame91,
@@ -105,28 +134,6 @@ fn check_method(
         check_running(alloc, conn, frame)
     } else {
         check_opening(alloc, conn, frame)
-    }
-}
-
-/// Checks a frame against the order of refusals: its method, `None` for a heartbeat, if the frame
-/// counts; else what the order says of it.
-pub(crate) fn check_frame(
-    alloc: Global,
-    conn: &Connection,
-    frame: &Frame91,
-) -> Result<Result<Option<Method91>, Ruling>, Memory>
-    ensures { IfOk result (IsChecked conn.now frame.now) }
-{
-    match frame.kind {
-        Kind91::Heartbeat => match heartbeat_order(frame) {
-            None => Ok(Ok(None)),
-            Some(ruling) => Ok(Err(ruling)),
-        },
-        Kind91::Header | Kind91::Body => Ok(Err(content_ruling(conn, frame.channel))),
-        Kind91::Method => match check_method(alloc, conn, frame)? {
-            Ok(method) => Ok(Ok(Some(method))),
-            Err(ruling) => Ok(Err(ruling)),
-        },
     }
 }
 
@@ -157,5 +164,36 @@ pub(crate) fn refusal_of(code: u16, unit: &Unit91) -> Refusal
             refusal_with(code, class, method)
         }
         Kind91::Header | Kind91::Body | Kind91::Heartbeat => refusal_with(code, 0, 0),
+    }
+}
+
+/// The refusal of a basic.publish whose content is whole.
+pub(crate) fn publish_refusal(code: u16) -> Refusal
+    ensures { result ≡ publish_refusal code }
+{
+    let (class, method) = BASIC_PUBLISH;
+    refusal_with(code, class, method)
+}
+
+/// The refusal of a channel: no method is at fault.
+pub(crate) fn channel_refusal(code: u16, channel: u16) -> Refusal
+    ensures { result ≡ channel_refusal code channel }
+{
+    Refusal {
+        code,
+        scope: Scope::Channel,
+        channel,
+        class: 0,
+        method: 0,
+    }
+}
+
+/// The channel of a unit.
+pub(crate) fn channel_of(unit: &Unit91) -> u16
+    ensures { result ≡ channel_of unit.now }
+{
+    match unit {
+        Unit91::Protocol | Unit91::Bad(_) => 0,
+        Unit91::Frame(frame) => frame.channel,
     }
 }

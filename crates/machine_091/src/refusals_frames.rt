@@ -1,7 +1,8 @@
 //! The places of the order of refusals that ask the same of each frame, in every phase.
 
-ghost use Rattle.std.specs.Prelude.{◌≡◌, false, [], ◌∷◌, Some};
-ghost use Rattle.machine_091.specs.RefusalsFrames.{refused, first, heartbeat_order, content_order, is_opening, is_closing, is_answering, state_order, channel_order, passed_over, closing_order, fault_code};
+ghost use Rattle.std.specs.Prelude.{◌≡◌, false, [], ◌∷◌};
+ghost use Rattle.machine_091.specs.Checked.{IsFirstOf};
+ghost use Rattle.machine_091.specs.RefusalsFrames.{heartbeat_order, content_order, is_opening, is_closing, is_answering, state_order, channel_order, passed_over, closing_order, fault_code};
 ghost use Rattle.machine_091.specs.State.{is_running};
 
 use crate::ids::{CHANNEL_CLOSE, CHANNEL_CLOSE_OK, CHANNEL_OPEN, is_in};
@@ -113,19 +114,16 @@ pub(crate) fn fault_code(fault: MethodFault) -> u16
     }
 }
 
-/// What the order says of a content header or body. No method awaits one yet.
-pub(crate) fn content_ruling(conn: &Connection, channel: u16) -> Ruling
-    ensures { Some result ≡ first (content_order (is_running conn.now.phase) channel ∷ channel_order conn.now channel false
-        ∷ closing_order conn.now channel false false ∷ refused UNEXPECTED_FRAME ∷ []) }
+/// What the order says of a content header or body before it asks for the content in progress.
+pub(crate) fn content_place(conn: &Connection, channel: u16) -> Option<Ruling>
+    ensures { IsFirstOf (content_order (is_running conn.now.phase) channel ∷ channel_order conn.now channel false
+        ∷ closing_order conn.now channel false false ∷ []) result }
 {
     if let Some(ruling) = content_order(conn.is_running(), channel) {
-        return ruling;
+        return Some(ruling);
     }
     if let Some(ruling) = channel_order(conn, channel, false) {
-        return ruling;
+        return Some(ruling);
     }
-    match closing_order(conn, channel, false, false) {
-        Some(ruling) => ruling,
-        None => Ruling::Refused(UNEXPECTED_FRAME),
-    }
+    closing_order(conn, channel, false, false)
 }

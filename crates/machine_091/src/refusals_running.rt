@@ -3,11 +3,12 @@
 
 ghost use Rattle.std.specs.Prelude.{◌≡◌};
 ghost use Rattle.methods_091.specs.View.{kind_of, args_of};
-ghost use Rattle.machine_091.specs.RefusalsRunning.{carried_order, class_order, is_servers, answer_order, running_state, running_refusal};
+ghost use Rattle.machine_091.specs.RefusalsRunning.{carried_order, class_order, is_servers, answer_order, running_state, is_done, running_refusal};
 
 use crate::ids::{
-    BASIC_DELIVER, BASIC_GET_EMPTY, BASIC_RETURN, CHANNEL_CLOSE_OK, CHANNEL_OPEN, CONNECTION,
-    CONNECTION_CLOSE, ids_in, is_method,
+    BASIC_DELIVER, BASIC_GET_EMPTY, BASIC_PUBLISH, BASIC_RETURN, CHANNEL_CLOSE, CHANNEL_CLOSE_OK,
+    CHANNEL_OPEN, CONFIRM_SELECT, CONNECTION, CONNECTION_CLOSE, EXCHANGE_DECLARE, ids_in,
+    is_method,
 };
 use crate::state::Channel91;
 use crate::unit::Ruling;
@@ -79,6 +80,17 @@ fn carried_order(carried_max: u16, channel: u16) -> Option<Ruling>
     }
 }
 
+/// The methods that are done on a channel that the container carries.
+fn is_done(method: &Method91) -> bool
+    ensures { result ≡ is_done (kind_of method.now) }
+{
+    is_method(method, CHANNEL_CLOSE)
+        || is_method(method, CHANNEL_CLOSE_OK)
+        || is_method(method, EXCHANGE_DECLARE)
+        || is_method(method, BASIC_PUBLISH)
+        || is_method(method, CONFIRM_SELECT)
+}
+
 /// A channel that the container upstream can't carry, and a method that this gateway doesn't do.
 pub(crate) fn running_refusal(carried_max: u16, channel: u16, method: &Method91) -> Option<Ruling>
     ensures { result ≡ running_refusal carried_max channel (kind_of method.now) (args_of method.now) }
@@ -90,9 +102,8 @@ pub(crate) fn running_refusal(carried_max: u16, channel: u16, method: &Method91)
         return carried_order(carried_max, channel);
     }
     let done = match method {
-        Method91::ChannelClose { .. } | Method91::ChannelCloseOk => true,
         Method91::ChannelFlow { active } => *active,
-        _ => false,
+        _ => is_done(method),
     };
     if done {
         None

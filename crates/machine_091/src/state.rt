@@ -1,9 +1,16 @@
 //! The state of a client's connection, as a value that contracts see.
 
-ghost use Rattle.std.specs.Prelude.{◌≡◌, IfOk};
-ghost use Rattle.machine_091.specs.State.{new_connection, channel_at, with_channel, is_running, awaits, is_opening, is_closing, is_over, is_open};
+ghost use Rattle.std.specs.Prelude.{◌≡◌, is_some, None, Some, Err, IfOk, IfErr, OnOk, OnErr};
+ghost use Rattle.machine_091.specs.State.{new_connection, channel_at, with_channel, content_at, with_content, is_running, awaits, is_opening, is_closing, is_over, is_open};
+ghost use Rattle.machine_091.specs.Checked.{IsFedAt};
+ghost use Rattle.machine_091.specs.Contents.{begun, no_contents};
+ghost use Rattle.machine_091.specs.Refusals.{taken_by};
 
+use crate::contents::{ContentSlot, Fed};
 use crate::limits::{Limits, own_limits};
+use content_091::ContentFault;
+use frames_091::Frame91;
+use methods_091::Method91;
 use std::alloc::Global;
 use wire_base::{ByteText, Memory};
 
@@ -82,6 +89,15 @@ pub struct Connection {
     pub(crate) carried_max: u16,
     /// By their numbers. Nothing is ever on channel 0.
     pub(crate) channels: [Channel91; 256],
+    /// The contents in progress, by their channels.
+    pub(crate) contents: [ContentSlot; 256],
+}
+
+/// No content is in progress.
+fn no_contents() -> [ContentSlot; 256]
+    ensures { result ≡ no_contents }
+{
+    Default::default()
 }
 
 impl Connection {
@@ -98,22 +114,8 @@ impl Connection {
             limits: own_limits(),
             carried_max: 0,
             channels: [Channel91::Free; 256],
+            contents: no_contents(),
         }
-    }
-
-    /// A copy of it.
-    pub(crate) fn copy(&self, alloc: Global) -> Result<Connection, Memory>
-        ensures { IfOk result (λ conn. conn ≡ self.now) }
-    {
-        Ok(Connection {
-            vhost: self.vhost.copy(alloc)?,
-            phase: self.phase,
-            stream: self.stream,
-            asked: self.asked,
-            limits: self.limits,
-            carried_max: self.carried_max,
-            channels: self.channels,
-        })
     }
 
     /// Channels may be opened.
@@ -142,6 +144,72 @@ impl Connection {
         if at < self.channels.len() {
             self.channels[at] = state;
         }
+    }
+
+    /// Whether a content is in progress on a channel.
+    pub(crate) fn has_content(&self, number: u16) -> bool
+        ensures { result ≡ is_some (content_at self.now number) }
+    {
+        match self.contents.get(usize::from(number)) {
+            Some(slot) => slot.is_some(),
+            None => false,
+        }
+    }
+
+    /// A method of a channel begins a content.
+    #[tactic(auto, using(std::proofs::lemmas::List::set_past))]
+    pub(crate) fn begin_content(
+        &mut self,
+        alloc: Global,
+        number: u16,
+        method: Method91,
+    ) -> Result<(), Memory>
+        ensures ok { OnOk result (self.new ≡ with_content self.old number (Some (begun method))) }
+        ensures err { OnErr result (self.new ≡ self.old) }
+    {
+        let slot = ContentSlot::begin(alloc, method)?;
+        let at = usize::from(number);
+        if at < self.contents.len() {
+            self.contents[at] = slot;
+        }
+        Ok(())
+    }
+
+    /// The content in progress on a channel, if there is one, is dropped.
+    #[tactic(auto, using(std::proofs::lemmas::List::set_past))]
+    pub(crate) fn drop_content(&mut self, number: u16)
+        ensures { self.new ≡ with_content self.old number None }
+    {
+        let at = usize::from(number);
+        if at < self.contents.len() {
+            self.contents[at] = ContentSlot::empty();
+        }
+    }
+
+    /// All contents in progress are dropped.
+    pub(crate) fn drop_contents(&mut self)
+        ensures { self.new ≡ record self.old { contents = no_contents } }
+    {
+        self.contents = no_contents();
+    }
+
+    /// Gives a frame to the content in progress on its channel.
+    pub(crate) fn feed(
+        &mut self,
+        alloc: Global,
+        frame: &Frame91,
+    ) -> Result<Result<Fed, ContentFault>, Memory>
+        ensures taken { IfOk result (λ read. IfOk read (IsFedAt self.old self.new frame.now)) }
+        ensures refused { IfOk result (λ read.
+            IfErr read (λ fault. taken_by self.old frame.now frame.now.kind ≡ Err fault)) }
+        ensures kept { IfOk result (λ read. IfErr read (λ fault. self.new ≡ self.old)) }
+        ensures err { OnErr result (self.new ≡ self.old) }
+    {
+        let at = usize::from(frame.channel);
+        if at >= self.contents.len() {
+            return Ok(Err(ContentFault::Unexpected));
+        }
+        self.contents[at].take(alloc, frame.kind, frame.payload.as_slice())
     }
 
     /// What is awaited of the client's bytes.

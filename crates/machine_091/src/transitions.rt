@@ -1,26 +1,30 @@
 //! The transitions of a connection: for each phase and unit the state after it and what the unit
 //! wants, and what the other calls change. No other file sets a phase, a stream or a channel.
 
-ghost use Rattle.std.specs.Prelude.{◌≡◌, true, false, None, Ok, IfOk, OnOk, OnErr};
+ghost use Rattle.std.specs.Prelude.{◌≡◌, true, None, Some, Ok, IfOk, OnOk, OnErr};
 ghost use Rattle.methods_091.specs.View.{kind_of, args_of, parts_of};
 ghost use Rattle.machine_091.specs.Calls.{after_opened, after_closing, after_told, after_closed, after_ended};
 ghost use Rattle.machine_091.specs.Checked.{IsCounted};
+ghost use Rattle.machine_091.specs.Contents.{IsOfContent};
 ghost use Rattle.machine_091.specs.Ids.{is_of_kind};
 ghost use Rattle.machine_091.specs.Limits.{agreed_limits};
-ghost use Rattle.machine_091.specs.RefusalsOpening.{is_expected, text_at, number_at};
+ghost use Rattle.machine_091.specs.Methods.{text_at, number_at};
+ghost use Rattle.machine_091.specs.RefusalsOpening.{is_expected};
 ghost use Rattle.machine_091.specs.RefusalsRunning.{running_state, running_refusal};
-ghost use Rattle.machine_091.specs.Refusals.{refusal_of};
 ghost use Rattle.machine_091.specs.State.{is_running, channel_at, with_channel};
 ghost use Rattle.machine_091.specs.declared.state.Channel91.TheVariants.{Free};
-ghost use Rattle.machine_091.specs.Transitions.{asked_by, header_step, stream_after, is_unit_of, opening_effect, running_effect, method_effect, ordered_step, closed_by, closed_step, closing_step, unit_step};
-ghost use Rattle.machine_091.specs.declared.state.Phase91.TheVariants as phase;
+ghost use Rattle.machine_091.specs.Transitions.{header_step, stream_after, refused, ruled_step, is_unit_of, opening_effect, running_effect, method_effect, ordered_step, closed_by, closed_step, closing_step, unit_step};
+ghost use Rattle.machine_091.specs.declared.unit.Unit91.TheVariants.{Frame};
 ghost use Rattle.machine_091.specs.declared.unit.Want91.TheVariants as want;
 
+use crate::contents::Fed;
 use crate::ids::{
     CONNECTION_CLOSE, CONNECTION_CLOSE_OK, CONNECTION_START_OK, CONNECTION_TUNE_OK, is_method,
 };
 use crate::limits::{Limits, agreed_limits, own_limits};
-use crate::refusals::{check_frame, refusal_of};
+use crate::refusals::{channel_of, channel_refusal, check_method, publish_refusal, refusal_of};
+use crate::refusals_contents::{fault_ruling, immediate_order};
+use crate::refusals_frames::{content_place, heartbeat_order};
 use crate::state::{Channel91, Connection, Phase91, Stream91};
 use crate::unit::{Ruling, Unit91, Want91};
 use close_translate::{FRAME_ERROR, NOT_ALLOWED, Scope};
@@ -120,11 +124,13 @@ impl Connection {
             Scope::Channel => {
                 if self.channel(channel) == Channel91::Open {
                     self.set_channel(channel, Channel91::Closing);
+                    self.drop_content(channel);
                 }
             }
             Scope::Connection => {
-                if self.phase != Phase91::Closed {
+                if self.phase != Phase91::Closing && self.phase != Phase91::Closed {
                     self.phase = Phase91::Closing;
+                    self.drop_contents();
                 }
             }
         }
@@ -154,6 +160,7 @@ impl Connection {
     {
         self.phase = Phase91::Closed;
         self.stream = Stream91::Ended;
+        self.drop_contents();
     }
 
     // ---- the first unit
@@ -186,38 +193,93 @@ impl Connection {
         ensures err { OnErr result (self.new ≡ self.old) }
     {
         let frame = match unit {
-            Unit91::Protocol => return Ok(self.refuse(FRAME_ERROR, unit)),
-            Unit91::Bad(code) => return Ok(self.refuse(*code, unit)),
+            Unit91::Protocol => return Ok(self.rule(Ruling::Refused(FRAME_ERROR), unit)),
+            Unit91::Bad(code) => return Ok(self.rule(Ruling::Refused(*code), unit)),
             Unit91::Frame(frame) => frame,
         };
-        match check_frame(alloc, self, frame)? {
-            Err(Ruling::Refused(code)) => Ok(self.refuse(code, unit)),
-            Err(Ruling::PassedOver) | Ok(None) => Ok(Want91::Nothing),
-            Ok(Some(method)) => Ok(self.apply(frame.channel, method)),
+        match frame.kind {
+            Kind91::Heartbeat => match heartbeat_order(frame) {
+                Some(ruling) => Ok(self.rule(ruling, unit)),
+                None => Ok(Want91::Nothing),
+            },
+            Kind91::Header | Kind91::Body => self.take_content(alloc, frame, unit),
+            Kind91::Method => match check_method(alloc, self, frame)? {
+                Err(ruling) => Ok(self.rule(ruling, unit)),
+                Ok(method) => self.apply(alloc, frame.channel, method),
+            },
         }
     }
 
-    /// The unit is refused.
-    fn refuse(&mut self, code: u16, unit: &Unit91) -> Want91
-        ensures state { self.new ≡ record self.old { phase = phase.Closing; stream = stream_after unit.now self.old.stream; asked = asked_by self.old code } }
-        ensures want { result ≡ want.Refuse (refusal_of code unit.now) }
+    /// A content header or a body frame.
+    fn take_content(
+        &mut self,
+        alloc: Global,
+        frame: &Frame91,
+        unit: &Unit91,
+    ) -> Result<Want91, Memory>
+        requires kind { IsOfContent frame.now.kind }
+        requires unit { unit.now ≡ Frame frame.now }
+        ensures state { OnOk result (self.new ≡ (ordered_step self.old unit.now).0) }
+        ensures want { IfOk result (λ want. want ≡ (ordered_step self.old unit.now).1) }
+        ensures err { OnErr result (self.new ≡ self.old) }
+    {
+        if let Some(ruling) = content_place(self, frame.channel) {
+            return Ok(self.rule(ruling, unit));
+        }
+        match self.feed(alloc, frame)? {
+            Err(fault) => Ok(self.rule(fault_ruling(fault), unit)),
+            Ok(Fed::More) => Ok(Want91::Nothing),
+            Ok(Fed::Whole(method, content)) => match immediate_order(&method) {
+                Some(ruling) => Ok(self.rule(ruling, unit)),
+                None => Ok(Want91::Publish(frame.channel, method, content)),
+            },
+        }
+    }
+
+    /// What the order of refusals says of a unit.
+    fn rule(&mut self, ruling: Ruling, unit: &Unit91) -> Want91
+        ensures state { self.new ≡ (ruled_step self.old unit.now (Some ruling)).0 }
+        ensures want { result ≡ (ruled_step self.old unit.now (Some ruling)).1 }
+    {
+        match ruling {
+            Ruling::PassedOver => Want91::Nothing,
+            Ruling::Refused(code) => {
+                self.refuse(code, unit);
+                Want91::Refuse(refusal_of(code, unit))
+            }
+            Ruling::MethodRefused(code) => {
+                self.refuse(code, unit);
+                Want91::Refuse(publish_refusal(code))
+            }
+            Ruling::ChannelRefused(code) => {
+                let channel = channel_of(unit);
+                self.begin_close(Scope::Channel, channel);
+                Want91::Refuse(channel_refusal(code, channel))
+            }
+        }
+    }
+
+    /// The connection closes by a refusal with this reply code.
+    fn refuse(&mut self, code: u16, unit: &Unit91)
+        ensures { self.new ≡ refused self.old unit.now code }
     {
         self.asked |= self.phase == Phase91::Open && code == NOT_ALLOWED;
         self.phase = Phase91::Closing;
         self.stream = stream_after(unit, self.stream);
-        Want91::Refuse(refusal_of(code, unit))
+        self.drop_contents();
     }
 
     /// A method that counts.
-    fn apply(&mut self, channel: u16, method: Method91) -> Want91
+    fn apply(&mut self, alloc: Global, channel: u16, method: Method91) -> Result<Want91, Memory>
         requires { IsCounted (is_running self.old.phase) self.old channel method }
-        ensures state { self.new ≡ (method_effect self.old channel (Ok (parts_of method))).0 }
-        ensures want { result ≡ (method_effect self.old channel (Ok (parts_of method))).1 }
+        ensures state { OnOk result (self.new ≡ (method_effect self.old channel (Ok (parts_of method))).0) }
+        ensures want { IfOk result (λ want. want ≡ (method_effect self.old channel (Ok (parts_of method))).1) }
+        ensures err { OnErr result (self.new ≡ self.old) }
     {
         if self.is_running() {
-            self.apply_running(channel, method)
+            self.apply_running(alloc, channel, method)
         } else {
-            self.apply_opening(method)
+            Ok(self.apply_opening(method))
         }
     }
 
@@ -265,23 +327,36 @@ impl Connection {
     }
 
     /// A method once the connection runs: on channel 0 it is connection.close.
-    fn apply_running(&mut self, channel: u16, method: Method91) -> Want91
+    fn apply_running(
+        &mut self,
+        alloc: Global,
+        channel: u16,
+        method: Method91,
+    ) -> Result<Want91, Memory>
         requires state { running_state (channel_at self.old channel) channel (kind_of method) ≡ None }
         requires own { running_refusal self.old.carried_max channel (kind_of method) (args_of method) ≡ None }
-        ensures state { self.new ≡ (running_effect self.old channel (kind_of method) (args_of method)).0 }
-        ensures want { result ≡ (running_effect self.old channel (kind_of method) (args_of method)).1 }
+        ensures state { OnOk result (self.new ≡ (running_effect self.old channel (kind_of method) (args_of method)).0) }
+        ensures want { IfOk result (λ want. want ≡ (running_effect self.old channel (kind_of method) (args_of method)).1) }
+        ensures err { OnErr result (self.new ≡ self.old) }
     {
         if channel == 0 {
             self.phase = Phase91::Closed;
-            return Want91::Close;
+            self.drop_contents();
+            return Ok(Want91::Close);
         }
         match method {
             Method91::ChannelOpen => self.set_channel(channel, Channel91::Open),
             Method91::ChannelClose { .. } => self.close_channel(channel),
-            Method91::ChannelFlow { .. } => {}
-            _ => return self.end_channel(channel),
+            Method91::ChannelFlow { .. }
+            | Method91::ExchangeDeclare { .. }
+            | Method91::ConfirmSelect { .. } => {}
+            Method91::BasicPublish { .. } => {
+                self.begin_content(alloc, channel, method)?;
+                return Ok(Want91::Nothing);
+            }
+            _ => return Ok(self.end_channel(channel)),
         }
-        Want91::Method(channel, method)
+        Ok(Want91::Method(channel, method))
     }
 
     // ---- after a closing event

@@ -1,6 +1,7 @@
 //! The units of a client, what they want, and why one is refused.
 
 use close_translate::Scope;
+use content_091::Content;
 use frames_091::Frame91;
 use methods_091::Method91;
 use wire_base::ByteText;
@@ -26,6 +27,7 @@ pub struct Refusal {
     /// The channel that closes; 0 where the connection does.
     pub channel: u16,
     /// The class id of the refused method, 0 where no method was refused or the ids are cut off.
+    /// A basic.publish is refused with the frame that makes its content whole.
     pub class: u16,
     /// The method id, in the same way.
     pub method: u16,
@@ -43,23 +45,31 @@ pub enum Want91 {
     Tuned,
     /// connection.open: the container upstream is to open, and `opened` tells that it did.
     OpenUp,
-    /// A method of this channel: channel.open, channel.flow or channel.close. Its answer is due.
+    /// A method of this channel: channel.open, channel.flow, channel.close, exchange.declare or
+    /// confirm.select. Its answer is due, unless its no-wait is set.
     Method(u16, Method91),
+    /// A basic.publish of this channel, whose content is whole.
+    Publish(u16, Method91, Content),
     /// The client answered the gateway's channel.close of this channel.
     ChannelCloseOk(u16),
     /// The client closes the connection. connection.close-ok is due.
     Close,
     /// The client answered the gateway's connection.close.
     CloseOk,
-    /// The unit is refused. connection.close is due.
+    /// The unit is refused. channel.close or connection.close is due.
     Refuse(Refusal),
 }
 
 /// What the order of refusals says of a unit that doesn't count.
 #[derive(Clone, Copy, Debug)]
 pub enum Ruling {
-    /// It is refused with this reply code.
+    /// It is refused with this reply code, and the connection closes.
     Refused(u16),
+    /// The content is whole with it, and its basic.publish is refused with this reply code: the
+    /// connection closes.
+    MethodRefused(u16),
+    /// It is refused with this reply code, and its channel closes.
+    ChannelRefused(u16),
     /// It is passed over.
     PassedOver,
 }

@@ -3,28 +3,27 @@
 use crate::closes::{code_text, condition_text, error_text};
 use crate::contents::{content_text, frames_text};
 use crate::frames::{frame_text, header_text};
-use crate::machine::connection_text;
+use crate::machine::{Made, connection_text};
 use crate::methods::{answer_text, channel_close_text, close_ok_text, close_text, method_text};
 use crate::numbers::{changed_text, reader_text, reserved_text};
 use crate::tables::{kinds_text, table_text};
 use crate::words::{line_of, number_first, put_run, short_of};
-use machine_091::Conn91;
 use std::alloc::Global;
 use tests_support::{Cases, Names, part};
-use wire_base::{ByteText, Memory};
+use wire_base::Memory;
 
 /// The names so far, and the connection of the cases of units.
 #[derive(Drop)]
 pub struct Cases091 {
     names: Names,
-    conn: Conn91,
+    made: Made,
 }
 
 impl Cases091 {
     pub fn new(alloc: Global) -> Cases091 {
         Cases091 {
             names: Names::new(alloc),
-            conn: Conn91::new(ByteText::empty(alloc)),
+            made: Made::new(alloc),
         }
     }
 }
@@ -233,7 +232,7 @@ impl Cases for Cases091 {
                 None
             });
         }
-        if let Some(text) = connection_text(alloc, &self.names, &mut self.conn, line)? {
+        if let Some(text) = connection_text(alloc, &self.names, &mut self.made, line)? {
             return Ok(Some(line_of(alloc, text.as_str())?));
         }
         match case_text(alloc, &self.names, line)? {

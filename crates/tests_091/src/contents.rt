@@ -96,8 +96,8 @@ pub fn content_text(alloc: Global, bytes: &[u8]) -> Result<String, Memory> {
     Ok(text)
 }
 
-/// A whole content: its properties, and the length of its body and the bytes.
-fn put_content(out: &mut String, content: &Content) -> Result<(), Memory> {
+/// A whole content: the length of its body, its properties, and the bytes.
+pub fn put_content(out: &mut String, content: &Content) -> Result<(), Memory> {
     let size = content.body.as_slice().len();
     write!(out, "whole {size}")?;
     put_props(out, &content.props)?;

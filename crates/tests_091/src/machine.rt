@@ -1,11 +1,56 @@
 //! Cases of a client's connection: its units and the other events one after another, and what each unit wants.
 
+use crate::contents::put_content;
 use close_translate::Scope;
 use frames_091::{Frame91, Kind91, scan_frame};
 use machine_091::{Conn91, Refusal, Unit91, Want91};
 use std::alloc::Global;
 use tests_support::{Names, put_bytes};
 use wire_base::{ByteText, Memory, Scan};
+
+/// A connection to a virtual host, and the lines of the units and the other events that came since it was new.
+#[derive(Drop)]
+pub struct Made {
+    conn: Conn91,
+    vhost: ByteText,
+    lines: String,
+}
+
+impl Made {
+    /// A new connection to the empty virtual host.
+    pub fn new(alloc: Global) -> Made {
+        Made {
+            conn: Conn91::new(ByteText::empty(alloc)),
+            vhost: ByteText::empty(alloc),
+            lines: String::new(alloc),
+        }
+    }
+
+    /// A new connection to this virtual host.
+    fn to(alloc: Global, vhost: ByteText) -> Result<Made, Memory> {
+        Ok(Made {
+            conn: Conn91::new(vhost.copy(alloc)?),
+            vhost,
+            lines: String::new(alloc),
+        })
+    }
+
+    /// Another connection to which the same came.
+    fn again(&self, alloc: Global, names: &Names) -> Result<Conn91, Memory> {
+        let mut conn = Conn91::new(self.vhost.copy(alloc)?);
+        for line in self.lines.as_str().lines() {
+            made_text(alloc, names, &mut conn, line)?;
+        }
+        Ok(conn)
+    }
+
+    /// The next unit or other event came.
+    fn add(&mut self, words: &str) -> Result<(), Memory> {
+        self.lines.push_str(words)?;
+        self.lines.push_str("\n")?;
+        Ok(())
+    }
+}
 
 /// The kind of a frame by its name.
 fn kind_of(word: &str) -> Option<Kind91> {
@@ -92,6 +137,10 @@ fn put_want(out: &mut String, want: &Want91) -> Result<(), Memory> {
             put_bytes(out, mechanism.as_slice())?;
             out.push_str(",")?;
             put_bytes(out, response.as_slice())?;
+        }
+        Want91::Publish(channel, method, content) => {
+            write!(out, "Publish({channel}, {method:?}), ")?;
+            put_content(out, content)?;
         }
         Want91::Refuse(refusal) => put_refusal(out, *refusal)?,
         other => write!(out, "{other:?}")?,
@@ -227,30 +276,42 @@ fn vhost_of(alloc: Global, names: &Names, words: &str) -> Result<Option<ByteText
 fn begun_text(
     alloc: Global,
     names: &Names,
-    conn: &mut Conn91,
+    made: &mut Made,
     words: &str,
 ) -> Result<Option<String>, Memory> {
     let Some(vhost) = vhost_of(alloc, names, words)? else {
         return Ok(None);
     };
-    *conn = Conn91::new(vhost);
-    Ok(Some(state_text(alloc, conn)?))
+    *made = Made::to(alloc, vhost)?;
+    Ok(Some(state_text(alloc, &made.conn)?))
 }
 
-/// A case of the connection: `connection` begins a new one, `take` takes a unit or another event, and `try` does it on a copy.
+/// A unit or another event that comes, and the state after it; `None` where the words are neither.
+fn taken_step(
+    alloc: Global,
+    names: &Names,
+    made: &mut Made,
+    words: &str,
+) -> Result<Option<String>, Memory> {
+    made.add(words)?;
+    step_text(alloc, names, &mut made.conn, words)
+}
+
+/// A case of the connection: `connection` begins a new one, `take` takes a unit or another event, and `try` does it to another
+/// connection to which the same came.
 pub fn connection_text(
     alloc: Global,
     names: &Names,
-    conn: &mut Conn91,
+    made: &mut Made,
     line: &str,
 ) -> Result<Option<String>, Memory> {
     let (verb, rest) = line.split_once(' ').unwrap_or((line, ""));
     match verb {
-        "connection" => begun_text(alloc, names, conn, rest),
-        "take" => step_text(alloc, names, conn, rest),
+        "connection" => begun_text(alloc, names, made, rest),
+        "take" => taken_step(alloc, names, made, rest),
         "try" => {
-            let mut copy = conn.copy(alloc)?;
-            step_text(alloc, names, &mut copy, rest)
+            let mut conn = made.again(alloc, names)?;
+            step_text(alloc, names, &mut conn, rest)
         }
         _ => Ok(None),
     }
