@@ -392,6 +392,12 @@ class Cases:
         self.asked.append(f"cuts {digits(data)}")
         self.told.append(cuts_line(data))
 
+    def settled(self, channel, first, last=None):
+        fields = [("boolean", False), ("uint", first), NULL if last is None else ("uint", last), ("boolean", True)]
+        self.asked.append(f"settled {channel} {first}" + ("" if last is None else f" {last}"))
+        data = frame(channel, text(described(0x15, fields)))
+        self.told.append(f"{len(data)} | {in_runs(data)}")
+
 
 # ---- the cases of each performative
 
@@ -539,6 +545,22 @@ def values(cases):
         cases.read(bytes.fromhex(data))
 
 
+# ---- what is written without memory
+
+
+def frame(channel, body):
+    """A frame of AMQP without an extended header (AMQP 1.0 2.3)."""
+    return (8 + len(body)).to_bytes(4, "big") + b"\2\0" + channel.to_bytes(2, "big") + body
+
+
+def settlements(cases):
+    cases.head("Settled dispositions of the sender, without a state: of one delivery, and up to a last one")
+    for channel, first, last in [(0, 0, None), (1, 255, None), (258, 256, None), (65535, 2 ** 32 - 1, None), (0, 0, 0),
+                                 (1, 7, 7), (1, 0, 255), (258, 255, 256), (255, 2 ** 32 - 1, 2 ** 32 - 1),
+                                 (1, 2 ** 32 - 2, 1)]:
+        cases.settled(channel, first, last)
+
+
 # ---- what real peers send
 
 
@@ -648,6 +670,7 @@ def main():
         each_kind(cases, name)
     states(cases)
     values(cases)
+    settlements(cases)
     peers(cases)
     files = {"stdin": cases.asked, "stdout": cases.told}
     differing = 0

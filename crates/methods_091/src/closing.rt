@@ -1,4 +1,6 @@
 //! The frames that close a connection, and those that answer on a channel, written without memory.
+//! Among the latter are the answers to what a publisher sends: exchange.declare-ok,
+//! confirm.select-ok, basic.ack and basic.nack.
 
 ghost use Rattle.std.specs.Prelude.{◌≡◌, ℕ, ◌+◌, ◌≤◌, List, ◌++◌, length, drop};
 ghost use Rattle.methods_091.specs.Closing.{
@@ -11,8 +13,15 @@ ghost use Rattle.methods_091.specs.Closing.{
   flow_ok_text,
   channel_close_text,
   channel_close_ok_text,
+  tagged_text,
+  declare_ok_text,
+  select_ok_text,
+  ack_text,
+  nack_text,
   IsWrittenOver,
 };
+
+use crate::arguments::{octet_of_1, octet_of_2};
 
 /// The byte that ends each frame (AMQP 0-9-1 4.2.3).
 const FRAME_END: u8 = 0xCE;
@@ -73,6 +82,17 @@ fn put_closing(
     let at = write_at(out, at, &class.to_be_bytes());
     let at = write_at(out, at, &method.to_be_bytes());
     write_at(out, at, &[FRAME_END])
+}
+
+/// Writes the frame of a method that confirms deliveries: the method's own ids, then a delivery tag
+/// and flags.
+fn put_tagged(out: &mut [u8; 512], channel: u16, ids: &[u8; 4], tag: u64, flags: u8) -> usize
+    ensures { IsWrittenOver (tagged_text channel ids.now tag flags) out.old out.new result }
+{
+    let at = write_head(out, channel, 13);
+    let at = write_at(out, at, ids);
+    let at = write_at(out, at, &tag.to_be_bytes());
+    write_at(out, at, &[flags, FRAME_END])
 }
 
 /// Writes the frame of a connection.close (AMQP 0-9-1 1.4.2.9) on channel 0 over the first bytes of
@@ -139,4 +159,48 @@ pub fn put_channel_close_ok(out: &mut [u8; 512], channel: u16) -> usize
     ensures { IsWrittenOver (channel_close_ok_text channel) out.old out.new result }
 {
     put_short(out, channel, &[0, 20, 0, 41])
+}
+
+/// Writes the frame of an exchange.declare-ok (AMQP 0-9-1 1.6.2.2) on a channel over the first
+/// bytes of `out`, and answers its length, 12 bytes. The bytes are those that `put_method` and
+/// `put_frame` give; it takes no memory.
+pub fn put_declare_ok(out: &mut [u8; 512], channel: u16) -> usize
+    ensures { IsWrittenOver (declare_ok_text channel) out.old out.new result }
+{
+    put_short(out, channel, &[0, 40, 0, 11])
+}
+
+/// Writes the frame of a confirm.select-ok (an addition of RabbitMQ) on a channel over the first
+/// bytes of `out`, and answers its length, 12 bytes. The bytes are those that `put_method` and
+/// `put_frame` give; it takes no memory.
+pub fn put_select_ok(out: &mut [u8; 512], channel: u16) -> usize
+    ensures { IsWrittenOver (select_ok_text channel) out.old out.new result }
+{
+    put_short(out, channel, &[0, 85, 0, 11])
+}
+
+/// Writes the frame of a basic.ack (AMQP 0-9-1 1.8.3.13) on a channel over the first bytes of
+/// `out`, and answers its length, 21 bytes. It confirms the delivery with this tag, and if
+/// `multiple` is set, those before it too. The bytes are those that `put_method` and `put_frame`
+/// give; it takes no memory.
+pub fn put_ack(out: &mut [u8; 512], channel: u16, tag: u64, multiple: bool) -> usize
+    ensures { IsWrittenOver (ack_text channel tag multiple) out.old out.new result }
+{
+    put_tagged(out, channel, &[0, 60, 0, 80], tag, octet_of_1(multiple))
+}
+
+/// Writes the frame of a basic.nack (an addition of RabbitMQ) on a channel over the first bytes of
+/// `out`, and answers its length, 21 bytes. It refuses the delivery with this tag, and if
+/// `multiple` is set, those before it too; the flag requeue is not set. The bytes are those that
+/// `put_method` and `put_frame` give; it takes no memory.
+pub fn put_nack(out: &mut [u8; 512], channel: u16, tag: u64, multiple: bool) -> usize
+    ensures { IsWrittenOver (nack_text channel tag multiple) out.old out.new result }
+{
+    put_tagged(
+        out,
+        channel,
+        &[0, 60, 0, 120],
+        tag,
+        octet_of_2(multiple, false),
+    )
 }

@@ -16,8 +16,8 @@ mod reading;
 mod writing;
 
 pub use closing::{
-    put_channel_close, put_channel_close_ok, put_channel_open_ok, put_close, put_close_ok,
-    put_flow_ok,
+    put_ack, put_channel_close, put_channel_close_ok, put_channel_open_ok, put_close, put_close_ok,
+    put_declare_ok, put_flow_ok, put_nack, put_select_ok,
 };
 pub use laws::method_laws;
 pub use method::{Method91, ids};

@@ -1,17 +1,17 @@
 -- The frames that are written without memory, put together from their parts.
-use Rattle.std.proofs.Common.{◌≡◌, ℕ, suc, ◌+◌, ◌%◌, ◌<◌, true, false, ltb, eqb, List, [], ◌∷◌, ◌++◌, length, Option, Some, None, refl, sym, ap, ◌∙◌, append_assoc, append-nil, arith}
+use Rattle.std.proofs.Common.{◌≡◌, ℕ, suc, ◌+◌, ◌%◌, ◌<◌, Bool, true, false, ltb, eqb, List, [], ◌∷◌, ◌++◌, length, Option, Some, None, refl, sym, ap, ◌∙◌, append_assoc, append-nil, arith}
 use Rattle.std.specs.Int.{w16, w32, to_be_bytes}
 use Rattle.std.proofs.lemmas.Bool.{ltb-true}
 use Rattle.std.proofs.lemmas.List.{length-append}
 use Rattle.types_10.specs.Tree.{scalar, ulong, list, described, Trees, no_trees, tree}
 use Rattle.types_10.specs.Kinds.{kind_byte}
-use Rattle.types_10.specs.Writing.{list_kind, held_content, written, written_each, value_text}
+use Rattle.types_10.specs.Writing.{list_kind, held_content, written_each, value_text}
 use Rattle.frames_10.specs.Frames.{text_behind, frame_text}
 use Rattle.frames_10.specs.declared.frame.Kind10.TheVariants.{Amqp}
 use Rattle.performatives_10.specs.Fields.{a_boolean, a_uint, maybe}
 use Rattle.performatives_10.specs.View.{error_tree, state_tree}
 use Rattle.performatives_10.specs.Writing.{perf_text}
-use Rattle.performatives_10.specs.Closing.{head_text, state_of, settle_code, last_of, settling, settle_text, error_by, error_text, ending_of, end_text, frame_of, detach_count, failed_text, ended_text}
+use Rattle.performatives_10.specs.Closing.{head_text, state_of, settle_code, settled_by, settled_text, disposition_len, disposition_text, error_by, error_text, ending_of, end_text, frame_of, detach_count, failed_text, ended_text}
 use Rattle.performatives_10.specs.declared.condition.Condition.{Condition}
 use Rattle.performatives_10.specs.declared.closing.Ending.TheVariants as ending
 use Rattle.performatives_10.specs.declared.performative.Perf.{Perf}
@@ -66,58 +66,76 @@ frame_is : (channel size : ℕ) (body : List ℕ) → size ≡ 8 + length body �
 unfolding text_behind
 frame_is channel size body e = rw e refl
 
+regroup : (h a f l b : List ℕ) → (((h ++ a) ++ f) ++ l) ++ b ≡ h ++ (a ++ (f ++ (l ++ b)))
+regroup h a f l b = append_assoc ((h ++ a) ++ f) l b ∙ append_assoc (h ++ a) f (l ++ b) ∙ append_assoc h a (f ++ (l ++ b))
+
+-- ---- dispositions
+
+-- what is written of the last delivery
+abbrev last_text : Option ℕ → List ℕ
+last_text last = value_text (maybe a_uint last)
+
+items_length : (f l b : List ℕ) (role : ℕ) → length (role ∷ (f ++ (l ++ b))) ≡ 1 + length f + length l + length b
+items_length f l b role = omega (arith, length-append f (l ++ b), length-append l b)
+
+-- a performative of so many fields, which are written as a disposition's
+disposition_is : (channel count role first : ℕ) (last : Option ℕ) (rest : List ℕ) (p : Perf) (ts : Trees)
+    → perf_text p ≡ value_text (described (scalar (ulong 21)) (list ts))
+    → (written_each ts).text ≡ role ∷ (value_text (a_uint first) ++ (last_text last ++ rest)) → (written_each ts).count ≡ count
+    → 0 < count → count < 256 → disposition_len first last rest < 255 → disposition_text channel count role first last rest ≡ frame_of channel p
+disposition_is channel count role first last rest p ts is text many some few short =
+    let f = value_text (a_uint first) in
+    let l = last_text last in
+    let items = disposition_len first last rest in
+    let long : length (written_each ts).text ≡ items = ap length text ∙ items_length f l rest role in
+    let brief = brief_perf 21 ts refl (omega (arith, many, some)) (omega (arith, many, few)) (omega (arith, long, short)) in
+    let body : perf_text p ≡ 0 ∷ 83 ∷ 21 ∷ 192 ∷ (items + 1) ∷ count ∷ role ∷ (f ++ (l ++ rest)) =
+    is ∙ brief ∙ ap (λ (n : ℕ). 0 ∷ 83 ∷ 21 ∷ 192 ∷ (n + 1) ∷ (written_each ts).count ∷ (written_each ts).text) long
+    ∙ ap (λ (n : ℕ). 0 ∷ 83 ∷ 21 ∷ 192 ∷ (items + 1) ∷ n ∷ (written_each ts).text) many
+    ∙ ap (λ (t : List ℕ). 0 ∷ 83 ∷ 21 ∷ 192 ∷ (items + 1) ∷ count ∷ t) text in
+    let size : length (perf_text p) ≡ 6 + items = ap length body ∙ let more = items_length f l rest role in omega (arith, more) in
+    regroup (head_text channel (14 + items)) (0 ∷ 83 ∷ 21 ∷ 192 ∷ (items + 1) ∷ count ∷ role ∷ []) f l rest
+    ∙ ap (λ (t : List ℕ). head_text channel (14 + items) ++ t) (sym body)
+    ∙ frame_is channel (14 + items) (perf_text p) (omega (arith, size))
+
+-- the fields of a settled disposition, and those behind them
+abbrev settled_fields : Bool → ℕ → Option ℕ → Trees → Trees
+settled_fields role first last more = tree (a_boolean role) (tree (a_uint first) (tree (maybe a_uint last) (tree (a_boolean true) more)))
+
 state_is : (s : Settle) → value_text (state_tree (state_of s)) ≡ 0 ∷ 83 ∷ settle_code s ∷ 69 ∷ []
 state_is settle.Accepted = refl
 state_is settle.Rejected = refl
 state_is settle.Released = refl
 
--- the fields of a settled disposition
-abbrev settle_fields : ℕ → ℕ → Settle → Trees
-settle_fields first last s =
-    tree (a_boolean true) (tree (a_uint first) (tree (maybe a_uint (last_of first last)) (tree (a_boolean true) (tree (state_tree (state_of s)) no_trees))))
+abbrev settle_fields : ℕ → Option ℕ → Settle → Trees
+settle_fields first last s = settled_fields true first last (tree (state_tree (state_of s)) no_trees)
 
-settle_body : (first last : ℕ) (s : Settle) → perf_text (settling first last s) ≡ value_text (described (scalar (ulong 21)) (list (settle_fields first last s)))
+settle_body : (first : ℕ) (last : Option ℕ) (s : Settle)
+    → perf_text (settled_by true first last (Some (state_of s))) ≡ value_text (described (scalar (ulong 21)) (list (settle_fields first last s)))
 settle_body first last settle.Accepted = refl
 settle_body first last settle.Rejected = refl
 settle_body first last settle.Released = refl
 
-regroup : (h a f l b : List ℕ) → (((h ++ a) ++ f) ++ l) ++ b ≡ h ++ (a ++ (f ++ (l ++ b)))
-regroup h a f l b = append_assoc ((h ++ a) ++ f) l b ∙ append_assoc (h ++ a) f (l ++ b) ∙ append_assoc h a (f ++ (l ++ b))
-
--- what is written of the last delivery
-abbrev pub last_text : ℕ → ℕ → List ℕ
-last_text first last = value_text (maybe a_uint (last_of first last))
-
 -- the state, behind the true of a settled disposition
-abbrev pub state_part : Settle → List ℕ
-state_part s = 65 ∷ 0 ∷ 83 ∷ settle_code s ∷ 69 ∷ []
+abbrev pub state_part : ℕ → List ℕ
+state_part code = 65 ∷ 0 ∷ 83 ∷ code ∷ 69 ∷ []
 
-settle_items : (first last : ℕ) (s : Settle)
-    → (written_each (settle_fields first last s)).text ≡ 65 ∷ (value_text (a_uint first) ++ (last_text first last ++ state_part s))
+settle_items : (first : ℕ) (last : Option ℕ) (s : Settle)
+    → (written_each (settle_fields first last s)).text ≡ 65 ∷ (value_text (a_uint first) ++ (last_text last ++ state_part (settle_code s)))
 settle_items first last s =
-    ap (λ (t : List ℕ). 65 ∷ (value_text (a_uint first) ++ (last_text first last ++ (65 ∷ (t ++ []))))) (state_is s)
+    ap (λ (t : List ℕ). 65 ∷ (value_text (a_uint first) ++ (last_text last ++ (65 ∷ (t ++ []))))) (state_is s)
 
-items_length : (f l b : List ℕ) (n : ℕ) → n ≡ 1 + length f + length l + length b → length (65 ∷ (f ++ (l ++ b))) ≡ n
-items_length f l b n e = omega (arith, e, length-append f (l ++ b), length-append l b)
+pub settle_is : (channel first : ℕ) (last : Option ℕ) (s : Settle) → disposition_len first last (state_part (settle_code s)) < 255
+    → disposition_text channel 5 65 first last (state_part (settle_code s)) ≡ frame_of channel (settled_by true first last (Some (state_of s)))
+settle_is channel first last s short =
+    disposition_is channel 5 65 first last (state_part (settle_code s)) (settled_by true first last (Some (state_of s))) (settle_fields first last s)
+    (settle_body first last s) (settle_items first last s) refl (omega arith) (omega arith) short
 
-pub settle_is : (channel first last items : ℕ) (s : Settle) → items ≡ 6 + length (value_text (a_uint first)) + length (last_text first last) → items < 255
-    → (((head_text channel (14 + items) ++ 0 ∷ 83 ∷ 21 ∷ 192 ∷ (items + 1) ∷ 5 ∷ 65 ∷ []) ++ value_text (a_uint first)) ++ last_text first last) ++ state_part s
-    ≡ settle_text channel first last s
-settle_is channel first last items s e short =
-    let f = value_text (a_uint first) in
-    let l = last_text first last in
-    let ts = settle_fields first last s in
-    let text = settle_items first last s in
-    let long : length (written_each ts).text ≡ items = ap length text ∙ items_length f l (state_part s) items (omega (arith, e)) in
-    let brief = brief_perf 21 ts refl (omega arith) (omega arith) (omega (arith, long, short)) in
-    let body : perf_text (settling first last s) ≡ 0 ∷ 83 ∷ 21 ∷ 192 ∷ (items + 1) ∷ 5 ∷ 65 ∷ (f ++ (l ++ state_part s)) =
-    settle_body first last s ∙ brief ∙ ap (λ (n : ℕ). 0 ∷ 83 ∷ 21 ∷ 192 ∷ (n + 1) ∷ 5 ∷ (written_each ts).text) long
-    ∙ ap (λ (t : List ℕ). 0 ∷ 83 ∷ 21 ∷ 192 ∷ (items + 1) ∷ 5 ∷ t) text in
-    let rest : length (perf_text (settling first last s)) ≡ 6 + items =
-    ap length body ∙ let more = items_length f l (state_part s) items (omega (arith, e)) in omega (arith, more) in
-    regroup (head_text channel (14 + items)) (0 ∷ 83 ∷ 21 ∷ 192 ∷ (items + 1) ∷ 5 ∷ 65 ∷ []) f l (state_part s)
-    ∙ ap (λ (t : List ℕ). head_text channel (14 + items) ++ t) (sym body)
-    ∙ frame_is channel (14 + items) (perf_text (settling first last s)) (omega (arith, rest))
+pub settled_is : (channel first : ℕ) (last : Option ℕ) → disposition_len first last (65 ∷ []) < 255
+    → disposition_text channel 4 66 first last (65 ∷ []) ≡ settled_text channel first last
+settled_is channel first last short =
+    disposition_is channel 4 66 first last (65 ∷ []) (settled_by false first last None) (settled_fields false first last no_trees)
+    refl refl refl (omega arith) (omega arith) short
 
 -- ---- detaches
 

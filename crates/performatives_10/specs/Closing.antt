@@ -1,10 +1,11 @@
--- The frames that are written without memory (AMQP 1.0 2.7.6 to 2.7.9): a settled disposition of the receiver, and what ends a link, a
--- session or a connection. They are the frames of the performatives.
+-- The frames that are written without memory (AMQP 1.0 2.7.6 to 2.7.9): settled dispositions, and
+-- what ends a link, a session or a connection. They are the frames of the performatives.
 use Rattle.std.specs.Int.{w16, w32, to_be_bytes}
-use Rattle.std.specs.Prelude.{◌≡◌, ℕ, ◌+◌, ◌==◌, true, false, if◌then◌else◌, List, [], ◌∷◌, ◌++◌, length, drop, Option, Some, None, option_map}
+use Rattle.std.specs.Prelude.{◌≡◌, ℕ, ◌+◌, ◌==◌, Bool, true, false, if◌then◌else◌, List, [], ◌∷◌, ◌++◌, length, drop, Option, Some, None, option_map}
 use Rattle.frames_10.specs.Frames.{frame_text}
 use Rattle.frames_10.specs.declared.frame.Kind10.TheVariants.{Amqp}
 use Rattle.types_10.specs.Writing.{value_text}
+use Rattle.performatives_10.specs.Fields.{a_uint, maybe}
 use Rattle.performatives_10.specs.Rows.{accepted_code, rejected_code, released_code}
 use Rattle.performatives_10.specs.Conditions.{name_of}
 use Rattle.performatives_10.specs.View.{error_tree}
@@ -33,12 +34,21 @@ state_of settle.Released = state.Released
 abbrev pub last_of : ℕ → ℕ → Option ℕ
 last_of first last = if first == last then None else Some last
 
+-- a settled disposition
+abbrev pub settled_by : Bool → ℕ → Option ℕ → Option State → Perf
+settled_by role first last s =
+    Disposition (record { role = role; first = first; last = last; settled = true; state = s; batchable = false })
+
+-- of the receiver
 abbrev pub settling : ℕ → ℕ → Settle → Perf
-settling first last s =
-    Disposition (record { role = true; first = first; last = last_of first last; settled = true; state = Some (state_of s); batchable = false })
+settling first last s = settled_by true first (last_of first last) (Some (state_of s))
 
 abbrev pub settle_text : ℕ → ℕ → ℕ → Settle → List ℕ
 settle_text channel first last s = frame_of channel (settling first last s)
+
+-- of the sender, without a state
+abbrev pub settled_text : ℕ → ℕ → Option ℕ → List ℕ
+settled_text channel first last = frame_of channel (settled_by false first last None)
 
 abbrev pub error_by : Condition → Error10
 error_by c = record { condition = name_of c; description = None }
@@ -73,6 +83,19 @@ abbrev pub settle_code : Settle → ℕ
 settle_code settle.Accepted = accepted_code
 settle_code settle.Rejected = rejected_code
 settle_code settle.Released = released_code
+
+-- how many bytes the fields of a disposition have: its role, its first and last delivery, the rest
+abbrev pub disposition_len : ℕ → Option ℕ → List ℕ → ℕ
+disposition_len first last rest =
+    1 + length (value_text (a_uint first)) + length (value_text (maybe a_uint last)) + length rest
+
+-- the frame of a disposition of so many fields
+abbrev pub disposition_text : ℕ → ℕ → ℕ → ℕ → Option ℕ → List ℕ → List ℕ
+disposition_text channel count role first last rest =
+    let items = disposition_len first last rest in
+    let head = head_text channel (14 + items) in
+    (((head ++ 0 ∷ 83 ∷ 21 ∷ 192 ∷ (items + 1) ∷ count ∷ role ∷ []) ++ value_text (a_uint first))
+    ++ value_text (maybe a_uint last)) ++ rest
 
 -- how many fields a detach has
 abbrev pub detach_count : Option Condition → ℕ

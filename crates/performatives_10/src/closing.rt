@@ -4,7 +4,22 @@ ghost use Rattle.std.specs.Prelude.{◌≡◌, ℕ, ◌+◌, ◌≤◌, ◌<◌,
 ghost use Rattle.std.specs.Int.{w16, w32, to_be_bytes};
 ghost use Rattle.types_10.specs.Writing.{value_text};
 ghost use Rattle.performatives_10.specs.Fields.{a_uint, maybe};
-ghost use Rattle.performatives_10.specs.Closing.{last_of, head_text, settle_code, settle_text, error_text, detach_count, bare_text, failed_text, ended_text, end_text, IsWrittenOver};
+ghost use Rattle.performatives_10.specs.Closing.{
+  last_of,
+  head_text,
+  settle_code,
+  settle_text,
+  settled_text,
+  disposition_len,
+  disposition_text,
+  error_text,
+  detach_count,
+  bare_text,
+  failed_text,
+  ended_text,
+  end_text,
+  IsWrittenOver,
+};
 
 use crate::condition::{Condition, condition_name};
 
@@ -69,25 +84,27 @@ fn write_uint(out: &mut [u8; 512], at: usize, n: u32) -> usize
     }
 }
 
-/// The length of the last delivery, which is null where it is the first one: at most 5 bytes.
-fn last_len(first: u32, last: u32) -> usize
-    ensures length { result ≡ length (value_text (maybe a_uint (last_of first last))) }
+/// The length of a uint, or of null: at most 5 bytes.
+fn optional_len(n: Option<u32>) -> usize
+    ensures length { result ≡ length (value_text (maybe a_uint n)) }
     ensures short { result ≤ 5 }
 {
-    if first == last { 1 } else { uint_len(last) }
+    match n {
+        None => 1,
+        Some(n) => uint_len(n),
+    }
 }
 
-/// Writes the last delivery, which is null where it is the first one.
-fn write_last(out: &mut [u8; 512], at: usize, first: u32, last: u32) -> usize
+/// Writes a uint in its shortest encoding, or null.
+fn write_optional(out: &mut [u8; 512], at: usize, n: Option<u32>) -> usize
     requires { at + 5 ≤ 512 }
-    ensures place { result ≡ at + length (value_text (maybe a_uint (last_of first last))) }
+    ensures place { result ≡ at + length (value_text (maybe a_uint n)) }
     ensures bytes { (front old : List ℕ) → IsWrittenOver front old out.old at
-        → IsWrittenOver (front ++ value_text (maybe a_uint (last_of first last))) old out.new result }
+        → IsWrittenOver (front ++ value_text (maybe a_uint n)) old out.new result }
 {
-    if first == last {
-        write_at(out, at, &[0x40])
-    } else {
-        write_uint(out, at, last)
+    match n {
+        None => write_at(out, at, &[0x40]),
+        Some(n) => write_uint(out, at, n),
     }
 }
 
@@ -101,6 +118,34 @@ fn write_head(out: &mut [u8; 512], channel: u16, size: u32) -> usize
     write_at(out, at, &channel.to_be_bytes())
 }
 
+/// Writes the frame of a disposition of so many fields: the byte of its role, the first and the
+/// last delivery, and the bytes of the fields behind them.
+fn put_disposition(
+    out: &mut [u8; 512],
+    channel: u16,
+    count: u8,
+    role: u8,
+    first: u32,
+    last: Option<u32>,
+    rest: &[u8],
+) -> usize
+    requires { length rest.now ≤ 5 }
+    ensures frame { IsWrittenOver (disposition_text channel count role first last rest.now) out.old
+        out.new result }
+    ensures short { disposition_len first last rest.now < 255 }
+{
+    let items = 1 + uint_len(first) + optional_len(last) + rest.len();
+    let at = write_head(out, channel, 14 + items as u32);
+    let at = write_at(
+        out,
+        at,
+        &[0, 0x53, 0x15, 0xC0, items as u8 + 1, count, role],
+    );
+    let at = write_uint(out, at, first);
+    let at = write_optional(out, at, last);
+    write_at(out, at, rest)
+}
+
 /// The code of a state's descriptor.
 fn settle_code(state: Settle) -> u8
     ensures { result ≡ settle_code state }
@@ -112,18 +157,30 @@ fn settle_code(state: Settle) -> u8
     }
 }
 
-/// Writes the frame of a settled disposition of the receiver (AMQP 1.0 2.7.6) over the first bytes of `out`, and answers its
-/// length, at most 30 bytes. The last delivery is null where it is the first one. The bytes are those that `put_perf` and
-/// `put_frame10` give; it takes no memory.
+/// The last delivery, which is absent where it is the first one.
+fn last_of(first: u32, last: u32) -> Option<u32>
+    ensures { result ≡ last_of first last }
+{
+    if first == last { None } else { Some(last) }
+}
+
+/// Writes the frame of a settled disposition of the receiver (AMQP 1.0 2.7.6) over the first bytes
+/// of `out`, and answers its length, at most 30 bytes. The last delivery is null where it is the
+/// first one. The bytes are those that `put_perf` and `put_frame10` give; it takes no memory.
 pub fn put_settle(out: &mut [u8; 512], channel: u16, first: u32, last: u32, state: Settle) -> usize
     ensures { IsWrittenOver (settle_text channel first last state) out.old out.new result }
 {
-    let items = 6 + uint_len(first) + last_len(first, last);
-    let at = write_head(out, channel, 14 + items as u32);
-    let at = write_at(out, at, &[0, 0x53, 0x15, 0xC0, items as u8 + 1, 5, 0x41]);
-    let at = write_uint(out, at, first);
-    let at = write_last(out, at, first, last);
-    write_at(out, at, &[0x41, 0, 0x53, settle_code(state), 0x45])
+    let rest = [0x41, 0, 0x53, settle_code(state), 0x45];
+    put_disposition(out, channel, 5, 0x41, first, last_of(first, last), &rest)
+}
+
+/// Writes the frame of a settled disposition of the sender, without a state (AMQP 1.0 2.7.6), over
+/// the first bytes of `out`, and answers its length, at most 26 bytes. The bytes are those that
+/// `put_perf` and `put_frame10` give; it takes no memory.
+pub fn put_settled(out: &mut [u8; 512], channel: u16, first: u32, last: Option<u32>) -> usize
+    ensures { IsWrittenOver (settled_text channel first last) out.old out.new result }
+{
+    put_disposition(out, channel, 4, 0x42, first, last, &[0x41])
 }
 
 /// The length of an error with this condition: at most 41 bytes.

@@ -1,7 +1,8 @@
 //! The performatives of AMQP 1.0 (2.7) and the frame bodies of its SASL layer (5.3.3), as structs of their fields.
 //!
 //! - Reading: `read_perf`.
-//! - Writing: `put_perf`, with the question `has_text`; without memory `put_settle` and `put_end`.
+//! - Writing: `put_perf`, with the question `has_text`; without memory `put_settle`, `put_settled`
+//!   and `put_end`.
 //! - The names of error conditions: `condition_name`.
 //! - Laws: `perf_laws`.
 //!
@@ -25,7 +26,7 @@ mod sasl;
 mod session;
 mod writing;
 
-pub use closing::{Ending, Settle, put_end, put_settle};
+pub use closing::{Ending, Settle, put_end, put_settle, put_settled};
 pub use condition::{Condition, condition_name};
 pub use fault::PerfFault;
 pub use laws::perf_laws;

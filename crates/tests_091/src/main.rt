@@ -12,6 +12,8 @@
 //! | `content-of FRAME / FRAME ..` | what each frame of a content comes to: `header BYTES`, `body BYTES` |
 //! | `close CODE CLASS METHOD BYTES`, `close-ok` | the frame that is written without memory |
 //! | `on CHANNEL close CODE CLASS METHOD BYTES`, and `on CHANNEL` with `close-ok`, `open-ok` or `flow-ok` | the same on a channel |
+//! | `on CHANNEL declare-ok`, `on CHANNEL select-ok` | the same of the answers to a publisher |
+//! | `on CHANNEL ack TAG`, `on CHANNEL nack TAG`, also with `multiple` | the same of confirms |
 //! | `code N`, `condition SCOPE BYTES`, `condition SCOPE` | the name of a reply code, and the code for an error condition |
 //! | `error N` | the error condition for a reply code |
 //! | `u8 END BYTES`, `u16`, `u32`, `u64`, `short`, `long` | what the readers take from the front of bytes that end at an offset |

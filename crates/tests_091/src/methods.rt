@@ -2,10 +2,11 @@
 
 ghost use Rattle.methods_091.specs.Writing.{CanPut};
 
-use crate::words::{put_other, put_squeezed, put_written};
+use crate::words::{number_first, put_other, put_squeezed, put_written};
 use methods_091::{
-    Method91, MethodFault, ids, put_channel_close, put_channel_close_ok, put_channel_open_ok,
-    put_close, put_close_ok, put_flow_ok, put_method, read_method,
+    Method91, MethodFault, ids, put_ack, put_channel_close, put_channel_close_ok,
+    put_channel_open_ok, put_close, put_close_ok, put_declare_ok, put_flow_ok, put_method,
+    put_nack, put_select_ok, read_method,
 };
 use std::alloc::Global;
 use tests_support::{part, put_bytes};
@@ -120,14 +121,39 @@ pub fn channel_close_text(
     Ok(Some(text))
 }
 
-/// An answer on a channel, written without memory; `None` where the word is none.
-pub fn answer_text(alloc: Global, channel: u16, word: &str) -> Result<Option<String>, Memory> {
+/// Writes a basic.ack or a basic.nack by its delivery tag; `None` where the words are none.
+fn confirm_len(out: &mut [u8; 512], channel: u16, words: &str) -> Option<usize> {
+    let (verb, rest) = words.split_once(' ')?;
+    let (tag, rest) = number_first(rest)?;
+    let multiple = match rest {
+        "" => false,
+        "multiple" => true,
+        _ => return None,
+    };
+    match verb {
+        "ack" => Some(put_ack(out, channel, tag, multiple)),
+        "nack" => Some(put_nack(out, channel, tag, multiple)),
+        _ => None,
+    }
+}
+
+/// Writes an answer on a channel; `None` where the words are none.
+fn answer_len(out: &mut [u8; 512], channel: u16, words: &str) -> Option<usize> {
+    match words {
+        "open-ok" => Some(put_channel_open_ok(out, channel)),
+        "flow-ok" => Some(put_flow_ok(out, channel)),
+        "close-ok" => Some(put_channel_close_ok(out, channel)),
+        "declare-ok" => Some(put_declare_ok(out, channel)),
+        "select-ok" => Some(put_select_ok(out, channel)),
+        _ => confirm_len(out, channel, words),
+    }
+}
+
+/// An answer on a channel, written without memory; `None` where the words are none.
+pub fn answer_text(alloc: Global, channel: u16, words: &str) -> Result<Option<String>, Memory> {
     let mut out = [0x5A; 512];
-    let size = match word {
-        "open-ok" => put_channel_open_ok(&mut out, channel),
-        "flow-ok" => put_flow_ok(&mut out, channel),
-        "close-ok" => put_channel_close_ok(&mut out, channel),
-        _ => return Ok(None),
+    let Some(size) = answer_len(&mut out, channel, words) else {
+        return Ok(None);
     };
     let text = closed_text(alloc, &out, size)?;
     Ok(Some(text))

@@ -6,6 +6,7 @@
 //! |---|---|
 //! | `read BYTES` | the performative, the offset behind it, and what is written of it |
 //! | `cuts BYTES` | the same, and each shorter length that isn't cut off at its length |
+//! | `settled CHANNEL FIRST`, also with a last | the length and bytes of what settles as sender |
 //!
 //! What is written is `=` where it is the same bytes, and `-` where nothing can be. A fault is
 //! printed as it stands.

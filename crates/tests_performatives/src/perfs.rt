@@ -1,6 +1,6 @@
 //! Cases of performatives: what is printed of a line.
 
-use performatives_10::{Perf, has_text, put_perf, read_perf};
+use performatives_10::{Perf, has_text, put_perf, put_settled, read_perf};
 use std::alloc::Global;
 use tests_support::{bytes_of, part, put_bytes};
 use wire_base::{ByteText, Memory};
@@ -49,9 +49,43 @@ fn put_cuts(alloc: Global, out: &mut String, bytes: &[u8]) -> Result<(), Memory>
     Ok(())
 }
 
+/// A channel, the first of the deliveries, and the last one where it is told; `None` where the
+/// words are none.
+fn settled_of(words: &str) -> Option<(u16, u32, Option<u32>)> {
+    let (channel, rest) = words.split_once(' ')?;
+    let channel = channel.parse::<u16>().ok()?;
+    let Some((first, last)) = rest.split_once(' ') else {
+        return Some((channel, rest.parse::<u32>().ok()?, None));
+    };
+    let first = first.parse::<u32>().ok()?;
+    let last = last.parse::<u32>().ok()?;
+    Some((channel, first, Some(last)))
+}
+
+/// The length and the bytes of a settled disposition of the sender; whether the words are one.
+fn put_settlement(out: &mut String, words: &str) -> Result<bool, Memory> {
+    let Some((channel, first, last)) = settled_of(words) else {
+        return Ok(false);
+    };
+    let mut room = [0x5A; 512];
+    let size = put_settled(&mut room, channel, first, last);
+    write!(out, "{size} |")?;
+    put_bytes(out, part(&room, 0, size))?;
+    if !part(&room, size, room.len())
+        .iter()
+        .all(|byte| *byte == 0x5A)
+    {
+        out.push_str(" | more was written")?;
+    }
+    Ok(true)
+}
+
 /// A case of performatives; whether it is one.
 pub fn put_line(alloc: Global, out: &mut String, line: &str) -> Result<bool, Memory> {
     let (verb, rest) = line.split_once(' ').unwrap_or((line, ""));
+    if verb == "settled" {
+        return put_settlement(out, rest);
+    }
     let Some(bytes) = bytes_of(alloc, rest)? else {
         return Ok(false);
     };
