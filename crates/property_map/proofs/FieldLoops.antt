@@ -13,7 +13,7 @@ use Rattle.property_map.specs.Rows091.{is_symbol, value_under, map_in, pairs_in_
 use Rattle.property_map.specs.declared.fault.MapFault.{MapFault}
 use Rattle.property_map.specs.declared.names.Names.{Names}
 use Rattle.property_map.proofs.Places.{there_is, rest_at, rest_past}
-use Rattle.property_map.proofs.Steps.{then_more, next, fail, over}
+use Rattle.property_map.proofs.Steps.{then_more, next, fail, over, over_at}
 
 -- ---- depth
 
@@ -29,20 +29,20 @@ pair_holds (q ∷ qs) (suc k) p e = omega (arith, pair_holds qs k p e)
 
 -- ---- fields
 
--- the fields of a list from a place on
-abbrev pub fields_from : List value.Tree → ℕ → Result field.Trees MapFault
-fields_from ts k = fields_in (value.trees_of (drop k ts))
+-- the fields of a list
+abbrev pub all_fields : List value.Tree → Result field.Trees MapFault
+all_fields ts = fields_in (value.trees_of ts)
 
-fields_one : (t : value.Tree) (ts : List value.Tree) (f : field.Tree) → field_in t ≡ Ok f → fields_in (value.trees_of (t ∷ ts)) ≡ then_more field.tree f (fields_in (value.trees_of ts))
+pub fields_one : (t : value.Tree) (ts : List value.Tree) (f : field.Tree) → field_in t ≡ Ok f → all_fields (t ∷ ts) ≡ then_more field.tree f (all_fields ts)
 unfolding fields_in
 fields_one t ts f e = rw e refl
 
-fields_none : (t : value.Tree) (ts : List value.Tree) (e : Stop MapFault) → Stops e (field_in t) → Stops e (fields_in (value.trees_of (t ∷ ts)))
+pub fields_none : (t : value.Tree) (ts : List value.Tree) (e : Stop MapFault) → Stops e (field_in t) → Stops e (all_fields (t ∷ ts))
 unfolding fields_in
 fields_none t ts stop.Memory h = tt
 fields_none t ts (stop.Fault f) h = rw h refl
 
-fields_empty : fields_in value.no_trees ≡ Ok field.no_trees
+fields_empty : all_fields [] ≡ Ok field.no_trees
 unfolding fields_in
 fields_empty = refl
 
@@ -50,22 +50,8 @@ joined_fields : (fs : List field.Tree) → joined field.tree fs field.no_trees �
 joined_fields [] = refl
 joined_fields (f ∷ fs) = ap (field.tree f) (joined_fields fs)
 
-pub fields_next : (fs : List field.Tree) (ts : List value.Tree) (k : ℕ) (t : value.Tree) (f : field.Tree) (total : Result field.Trees MapFault) → slice_get ts k ≡ Some t → field_in t ≡ Ok f
-    → behind field.tree fs (fields_from ts k) ≡ total → behind field.tree (fs ++ f ∷ []) (fields_from ts (k + 1)) ≡ total
-fields_next fs ts k t f total is e so_far =
-    let one : k + 1 ≡ suc k = omega arith in
-    let here : fields_from ts k ≡ then_more field.tree f (fields_from ts (suc k)) = ap (λ (xs : List value.Tree). fields_in (value.trees_of xs)) (rest_at ts k t is) ∙ fields_one t (drop (suc k) ts) f e in
-    rw one (next field.tree fs f (fields_from ts k) (fields_from ts (suc k)) total here so_far)
-
-pub fields_fail : (e : Stop MapFault) (fs : List field.Tree) (ts : List value.Tree) (k : ℕ) (t : value.Tree) (total : Result field.Trees MapFault) → slice_get ts k ≡ Some t → Stops e (field_in t)
-    → behind field.tree fs (fields_from ts k) ≡ total → Stops e total
-fields_fail e fs ts k t total is h so_far =
-    fail field.tree e fs (fields_from ts k) total (rw (rest_at ts k t is) (fields_none t (drop (suc k) ts) e h)) so_far
-
-pub fields_over : (fs : List field.Tree) (ts : List value.Tree) (k : ℕ) (total : Result field.Trees MapFault) → length ts ≤ k → behind field.tree fs (fields_from ts k) ≡ total → total ≡ Ok (field.trees_of fs)
-fields_over fs ts k total past so_far =
-    let here : fields_from ts k ≡ Ok field.no_trees = ap (λ (xs : List value.Tree). fields_in (value.trees_of xs)) (rest_past ts k past) ∙ fields_empty in
-    over field.tree fs (fields_from ts k) field.no_trees total here so_far ∙ ap (λ (us : field.Trees). Ok us) (joined_fields fs)
+pub fields_over : (fs : List field.Tree) (ts : List value.Tree) (k : ℕ) (total : Result field.Trees MapFault) → length ts ≤ k → behind field.tree fs (all_fields (drop k ts)) ≡ total → total ≡ Ok (field.trees_of fs)
+fields_over fs ts k total past so_far = over_at field.tree field_in all_fields field.no_trees fields_empty fs ts k total past so_far ∙ ap (λ (us : field.Trees). Ok us) (joined_fields fs)
 
 -- ---- entries
 

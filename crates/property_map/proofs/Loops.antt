@@ -6,69 +6,40 @@ use Rattle.wire_base.specs.declared.stop.Stop.TheVariants as stop
 use Rattle.tables_091.specs.Tree as field
 use Rattle.types_10.specs.Tree as value
 use Rattle.property_map.specs.Names.{Holds}
+use Rattle.property_map.specs.Steps.{joined, behind}
 use Rattle.property_map.specs.Values.{name_in, value_in, values_in, pairs_in}
 use Rattle.property_map.specs.Headers.{header_name_in, holds_others, with_header, headers_in}
 use Rattle.property_map.specs.declared.fault.MapFault.{MapFault}
 use Rattle.property_map.specs.declared.headers.HeaderMaps.{HeaderMaps}
 use Rattle.property_map.specs.declared.names.Names.{Names}
 use Rattle.property_map.proofs.Places.{rest_at, rest_past}
+use Rattle.property_map.proofs.Steps.{then_more, next, fail, over, over_at}
 
 -- ---- values
 
--- values in front of others
-abbrev pub joined : List value.Tree → value.Trees → value.Trees
-joined [] us = us
-joined (v ∷ vs) us = value.tree v (joined vs us)
+-- the values of an array
+abbrev pub all_values : List field.Tree → Result value.Trees MapFault
+all_values ts = values_in (field.trees_of ts)
 
-joined_none : (vs : List value.Tree) → joined vs value.no_trees ≡ value.trees_of vs
-joined_none [] = refl
-joined_none (v ∷ vs) = ap (value.tree v) (joined_none vs)
-
-joined_push : (vs : List value.Tree) (u : value.Tree) (us : value.Trees) → joined vs (value.tree u us) ≡ joined (vs ++ u ∷ []) us
-joined_push [] u us = refl
-joined_push (v ∷ vs) u us = ap (value.tree v) (joined_push vs u us)
-
-abbrev pub values_behind : List value.Tree → Result value.Trees MapFault → Result value.Trees MapFault
-values_behind vs read = read >>= λ us. Ok (joined vs us)
-
-moved : (vs : List value.Tree) (u : value.Tree) (read : Result value.Trees MapFault) → values_behind vs (read >>= λ us. Ok (value.tree u us)) ≡ values_behind (vs ++ u ∷ []) read
-moved vs u (Ok us) = ap (λ (ts : value.Trees). Ok ts) (joined_push vs u us)
-moved vs u (Err f) = refl
-
--- the fields of a list from a place on
-abbrev pub values_from : List field.Tree → ℕ → Result value.Trees MapFault
-values_from ts k = values_in (field.trees_of (drop k ts))
-
-first_value : (t : field.Tree) (ts : List field.Tree) (u : value.Tree) → value_in t ≡ Ok u → values_in (field.trees_of (t ∷ ts)) ≡ (values_in (field.trees_of ts) >>= λ us. Ok (value.tree u us))
+pub values_one : (t : field.Tree) (ts : List field.Tree) (u : value.Tree) → value_in t ≡ Ok u → all_values (t ∷ ts) ≡ then_more value.tree u (all_values ts)
 unfolding values_in
-first_value t ts u e = rw e refl
+values_one t ts u e = rw e refl
 
-first_fails : (t : field.Tree) (ts : List field.Tree) (f : MapFault) → value_in t ≡ Err f → values_in (field.trees_of (t ∷ ts)) ≡ Err f
+pub values_none : (t : field.Tree) (ts : List field.Tree) (e : Stop MapFault) → Stops e (value_in t) → Stops e (all_values (t ∷ ts))
 unfolding values_in
-first_fails t ts f e = rw e refl
+values_none t ts stop.Memory h = tt
+values_none t ts (stop.Fault f) h = rw h refl
 
-no_values : values_in field.no_trees ≡ Ok value.no_trees
+values_empty : all_values [] ≡ Ok value.no_trees
 unfolding values_in
-no_values = refl
+values_empty = refl
 
-pub values_next : (vs : List value.Tree) (ts : List field.Tree) (k : ℕ) (t : field.Tree) (u : value.Tree) (total : Result value.Trees MapFault) → slice_get ts k ≡ Some t → value_in t ≡ Ok u
-    → values_behind vs (values_from ts k) ≡ total → values_behind (vs ++ u ∷ []) (values_from ts (k + 1)) ≡ total
-values_next vs ts k t u total is e so_far =
-    let one : k + 1 ≡ suc k = omega arith in
-    let here : values_from ts k ≡ (values_from ts (suc k) >>= λ us. Ok (value.tree u us)) = ap (λ (xs : List field.Tree). values_in (field.trees_of xs)) (rest_at ts k t is) ∙ first_value t (drop (suc k) ts) u e in
-    rw one (sym (moved vs u (values_from ts (suc k))) ∙ ap (values_behind vs) (sym here) ∙ so_far)
+joined_values : (vs : List value.Tree) → joined value.tree vs value.no_trees ≡ value.trees_of vs
+joined_values [] = refl
+joined_values (v ∷ vs) = ap (value.tree v) (joined_values vs)
 
-pub values_fail : (e : Stop MapFault) (vs : List value.Tree) (ts : List field.Tree) (k : ℕ) (t : field.Tree) (total : Result value.Trees MapFault) → slice_get ts k ≡ Some t → Stops e (value_in t)
-    → values_behind vs (values_from ts k) ≡ total → Stops e total
-values_fail stop.Memory vs ts k t total is e so_far = tt
-values_fail (stop.Fault f) vs ts k t total is e so_far =
-    let here : values_from ts k ≡ Err f = ap (λ (xs : List field.Tree). values_in (field.trees_of xs)) (rest_at ts k t is) ∙ first_fails t (drop (suc k) ts) f e in
-    sym so_far ∙ ap (values_behind vs) here
-
-pub values_over : (vs : List value.Tree) (ts : List field.Tree) (k : ℕ) (total : Result value.Trees MapFault) → length ts ≤ k → values_behind vs (values_from ts k) ≡ total → total ≡ Ok (value.trees_of vs)
-values_over vs ts k total past so_far =
-    let here : values_from ts k ≡ Ok value.no_trees = ap (λ (xs : List field.Tree). values_in (field.trees_of xs)) (rest_past ts k past) ∙ no_values in
-    sym so_far ∙ ap (values_behind vs) here ∙ ap (λ (us : value.Trees). Ok us) (joined_none vs)
+pub values_over : (vs : List value.Tree) (ts : List field.Tree) (k : ℕ) (total : Result value.Trees MapFault) → length ts ≤ k → behind value.tree vs (all_values (drop k ts)) ≡ total → total ≡ Ok (value.trees_of vs)
+values_over vs ts k total past so_far = over_at value.tree value_in all_values value.no_trees values_empty vs ts k total past so_far ∙ ap (λ (us : value.Trees). Ok us) (joined_values vs)
 
 -- ---- pairs
 
@@ -78,24 +49,12 @@ Entry = List ℕ × field.Tree
 abbrev pub Pair : Type 0
 Pair = value.Tree × value.Tree
 
-abbrev pub pairs_joined : List Pair → value.Pairs → value.Pairs
-pairs_joined [] qs = qs
-pairs_joined (p ∷ ps) qs = value.pair p.0 p.1 (pairs_joined ps qs)
+abbrev pub a_pair : Pair → value.Pairs → value.Pairs
+a_pair p ps = value.pair p.0 p.1 ps
 
-pairs_none : (ps : List Pair) → pairs_joined ps value.no_pairs ≡ value.pairs_of ps
-pairs_none [] = refl
-pairs_none (p ∷ ps) = ap (value.pair p.0 p.1) (pairs_none ps)
-
-pairs_push : (ps : List Pair) (q : Pair) (qs : value.Pairs) → pairs_joined ps (value.pair q.0 q.1 qs) ≡ pairs_joined (ps ++ q ∷ []) qs
-pairs_push [] q qs = refl
-pairs_push (p ∷ ps) q qs = ap (value.pair p.0 p.1) (pairs_push ps q qs)
-
-abbrev pub pairs_behind : List Pair → Result value.Pairs MapFault → Result value.Pairs MapFault
-pairs_behind ps read = read >>= λ qs. Ok (pairs_joined ps qs)
-
-pairs_moved : (ps : List Pair) (q : Pair) (read : Result value.Pairs MapFault) → pairs_behind ps (read >>= λ qs. Ok (value.pair q.0 q.1 qs)) ≡ pairs_behind (ps ++ q ∷ []) read
-pairs_moved ps q (Ok qs) = ap (λ (ts : value.Pairs). Ok ts) (pairs_push ps q qs)
-pairs_moved ps q (Err f) = refl
+joined_pairs : (ps : List Pair) → joined a_pair ps value.no_pairs ≡ value.pairs_of ps
+joined_pairs [] = refl
+joined_pairs (p ∷ ps) = ap (value.pair p.0 p.1) (joined_pairs ps)
 
 -- the names of the entries before a place
 abbrev pub names_before : List Entry → ℕ → List (List ℕ)
@@ -122,50 +81,48 @@ names_more names ms k m is h =
 abbrev key : List ℕ → value.Tree
 key s = value.scalar (value.string s)
 
-first_pair : (before : List (List ℕ)) (m : Entry) (ms : List Entry) (s : List ℕ) (u : value.Tree) → name_in before m.0 ≡ Ok s → value_in m.1 ≡ Ok u
-    → pairs_in before (field.members_of (m ∷ ms)) ≡ (pairs_in (before ++ m.0 ∷ []) (field.members_of ms) >>= λ qs. Ok (value.pair (key s) u qs))
+pairs_one : (before : List (List ℕ)) (m : Entry) (ms : List Entry) (s : List ℕ) (u : value.Tree) → name_in before m.0 ≡ Ok s → value_in m.1 ≡ Ok u
+    → pairs_in before (field.members_of (m ∷ ms)) ≡ then_more a_pair (key s, u) (pairs_in (before ++ m.0 ∷ []) (field.members_of ms))
 unfolding pairs_in
-first_pair before m ms s u named e = rw (named, e) refl
+pairs_one before m ms s u named e = rw (named, e) refl
 
 pub pairs_next : (ps : List Pair) (ms : List Entry) (k : ℕ) (m : Entry) (s : List ℕ) (u : value.Tree) (total : Result value.Pairs MapFault) → slice_get ms k ≡ Some m → name_in (names_before ms k) m.0 ≡ Ok s → value_in m.1 ≡ Ok u
-    → pairs_behind ps (pairs_from ms k) ≡ total → pairs_behind (ps ++ (key s, u) ∷ []) (pairs_from ms (k + 1)) ≡ total
+    → behind a_pair ps (pairs_from ms k) ≡ total → behind a_pair (ps ++ (key s, u) ∷ []) (pairs_from ms (k + 1)) ≡ total
 pairs_next ps ms k m s u total is named e so_far =
     let one : k + 1 ≡ suc k = omega arith in
-    let here : pairs_from ms k ≡ (pairs_from ms (suc k) >>= λ qs. Ok (value.pair (key s) u qs)) =
-    ap (λ (xs : List Entry). pairs_in (names_before ms k) (field.members_of xs)) (rest_at ms k m is) ∙ first_pair (names_before ms k) m (drop (suc k) ms) s u named e
-    ∙ ap (λ (before : List (List ℕ)). pairs_in before (field.members_of (drop (suc k) ms)) >>= λ qs. Ok (value.pair (key s) u qs)) (sym (names_next ms k m is)) in
-    rw one (sym (pairs_moved ps (key s, u) (pairs_from ms (suc k))) ∙ ap (pairs_behind ps) (sym here) ∙ so_far)
+    let here : pairs_from ms k ≡ then_more a_pair (key s, u) (pairs_from ms (suc k)) =
+    ap (λ (xs : List Entry). pairs_in (names_before ms k) (field.members_of xs)) (rest_at ms k m is) ∙ pairs_one (names_before ms k) m (drop (suc k) ms) s u named e
+    ∙ ap (λ (before : List (List ℕ)). then_more a_pair (key s, u) (pairs_in before (field.members_of (drop (suc k) ms)))) (sym (names_next ms k m is)) in
+    rw one (next a_pair ps (key s, u) (pairs_from ms k) (pairs_from ms (suc k)) total here so_far)
 
-name_fails : (before : List (List ℕ)) (m : Entry) (ms : List Entry) (f : MapFault) → name_in before m.0 ≡ Err f → pairs_in before (field.members_of (m ∷ ms)) ≡ Err f
+pairs_unnamed : (before : List (List ℕ)) (m : Entry) (ms : List Entry) (e : Stop MapFault) → Stops e (name_in before m.0) → Stops e (pairs_in before (field.members_of (m ∷ ms)))
 unfolding pairs_in
-name_fails before m ms f e = rw e refl
+pairs_unnamed before m ms stop.Memory h = tt
+pairs_unnamed before m ms (stop.Fault f) h = rw h refl
 
-entry_fails : (before : List (List ℕ)) (m : Entry) (ms : List Entry) (s : List ℕ) (f : MapFault) → name_in before m.0 ≡ Ok s → value_in m.1 ≡ Err f → pairs_in before (field.members_of (m ∷ ms)) ≡ Err f
+pairs_none : (before : List (List ℕ)) (m : Entry) (ms : List Entry) (s : List ℕ) (e : Stop MapFault) → name_in before m.0 ≡ Ok s → Stops e (value_in m.1) → Stops e (pairs_in before (field.members_of (m ∷ ms)))
 unfolding pairs_in
-entry_fails before m ms s f named e = rw (named, e) refl
+pairs_none before m ms s stop.Memory named h = tt
+pairs_none before m ms s (stop.Fault f) named h = rw (named, h) refl
 
 pub pairs_fail_named : (e : Stop MapFault) (ps : List Pair) (ms : List Entry) (k : ℕ) (m : Entry) (total : Result value.Pairs MapFault) → slice_get ms k ≡ Some m → Stops e (name_in (names_before ms k) m.0)
-    → pairs_behind ps (pairs_from ms k) ≡ total → Stops e total
-pairs_fail_named stop.Memory ps ms k m total is e so_far = tt
-pairs_fail_named (stop.Fault f) ps ms k m total is e so_far =
-    let here : pairs_from ms k ≡ Err f = ap (λ (xs : List Entry). pairs_in (names_before ms k) (field.members_of xs)) (rest_at ms k m is) ∙ name_fails (names_before ms k) m (drop (suc k) ms) f e in
-    sym so_far ∙ ap (pairs_behind ps) here
+    → behind a_pair ps (pairs_from ms k) ≡ total → Stops e total
+pairs_fail_named e ps ms k m total is h so_far =
+    fail a_pair e ps (pairs_from ms k) total (rw (rest_at ms k m is) (pairs_unnamed (names_before ms k) m (drop (suc k) ms) e h)) so_far
 
 pub pairs_fail : (e : Stop MapFault) (ps : List Pair) (ms : List Entry) (k : ℕ) (m : Entry) (s : List ℕ) (total : Result value.Pairs MapFault) → slice_get ms k ≡ Some m → name_in (names_before ms k) m.0 ≡ Ok s → Stops e (value_in m.1)
-    → pairs_behind ps (pairs_from ms k) ≡ total → Stops e total
-pairs_fail stop.Memory ps ms k m s total is named e so_far = tt
-pairs_fail (stop.Fault f) ps ms k m s total is named e so_far =
-    let here : pairs_from ms k ≡ Err f = ap (λ (xs : List Entry). pairs_in (names_before ms k) (field.members_of xs)) (rest_at ms k m is) ∙ entry_fails (names_before ms k) m (drop (suc k) ms) s f named e in
-    sym so_far ∙ ap (pairs_behind ps) here
+    → behind a_pair ps (pairs_from ms k) ≡ total → Stops e total
+pairs_fail e ps ms k m s total is named h so_far =
+    fail a_pair e ps (pairs_from ms k) total (rw (rest_at ms k m is) (pairs_none (names_before ms k) m (drop (suc k) ms) s e named h)) so_far
 
-no_pairs_left : (before : List (List ℕ)) → pairs_in before field.no_members ≡ Ok value.no_pairs
+pairs_empty : (before : List (List ℕ)) → pairs_in before field.no_members ≡ Ok value.no_pairs
 unfolding pairs_in
-no_pairs_left before = refl
+pairs_empty before = refl
 
-pub pairs_over : (ps : List Pair) (ms : List Entry) (k : ℕ) (total : Result value.Pairs MapFault) → length ms ≤ k → pairs_behind ps (pairs_from ms k) ≡ total → total ≡ Ok (value.pairs_of ps)
+pub pairs_over : (ps : List Pair) (ms : List Entry) (k : ℕ) (total : Result value.Pairs MapFault) → length ms ≤ k → behind a_pair ps (pairs_from ms k) ≡ total → total ≡ Ok (value.pairs_of ps)
 pairs_over ps ms k total past so_far =
-    let here : pairs_from ms k ≡ Ok value.no_pairs = ap (λ (xs : List Entry). pairs_in (names_before ms k) (field.members_of xs)) (rest_past ms k past) ∙ no_pairs_left (names_before ms k) in
-    sym so_far ∙ ap (pairs_behind ps) here ∙ ap (λ (qs : value.Pairs). Ok qs) (pairs_none ps)
+    let here : pairs_from ms k ≡ Ok value.no_pairs = ap (λ (xs : List Entry). pairs_in (names_before ms k) (field.members_of xs)) (rest_past ms k past) ∙ pairs_empty (names_before ms k) in
+    over a_pair ps (pairs_from ms k) value.no_pairs total here so_far ∙ ap (λ (qs : value.Pairs). Ok qs) (joined_pairs ps)
 
 -- ---- headers
 

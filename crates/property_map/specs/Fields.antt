@@ -1,13 +1,14 @@
 -- Values as fields of AMQP 0-9-1 (AMQP 1.0 1.6; AMQP 0-9-1 4.2.5.5), each with the field that it is
 -- read as, or the first fault inside.
-use Rattle.std.specs.Prelude.{ℕ, nat_lt, List, [], ◌∷◌, ◌++◌, if◌then◌else◌, Ok, Err, Result, ℤ, pos, Bool, true, false, ◌&&◌, map}
+use Rattle.std.specs.Prelude.{ℕ, nat_lt, List, [], ◌∷◌, ◌++◌, if◌then◌else◌, Ok, Err, Result, ℤ}
+use Rattle.std.specs.Prelude.{pos, Bool, true, false, ◌&&◌, map}
 use lib.Utf8.{scalar as is_scalar}
 use Rattle.std.specs.Char.{encode_utf8}
 use Rattle.uuid.specs.Text.{hyphenated_text, lower}
 use Rattle.wire_base.specs.Reading.{◌>>=◌}
 use Rattle.tables_091.specs.Tree as field
 use Rattle.types_10.specs.Tree as value
-use Rattle.property_map.specs.Texts.{short_in, seconds_in, is_among, is_reserved}
+use Rattle.property_map.specs.Texts.{short_in, seconds_in, new_in, is_reserved}
 use Rattle.property_map.specs.Steps.{behind}
 use Rattle.property_map.specs.declared.fault.PropName.TheVariants as prop
 use Rattle.property_map.specs.declared.fault.MapFault.{MapFault}
@@ -64,7 +65,7 @@ abbrev pub entry_name_in : List (List ℕ) → value.Tree → Result (List ℕ) 
 entry_name_in before key = do
   s ← key_text_in key
   name ← short_in prop.Headers s
-  if is_among name before then Err (fault.Repeated name) else Ok name
+  new_in before name
 
 -- a list and an array are an array, and a map is a table; a described value has no field
 unfoldable mutual
@@ -101,7 +102,8 @@ is_reserved_key t = false
 -- the pairs whose keys stand for nothing else
 abbrev pub unreserved : value.Pairs → value.Pairs
 unreserved value.no_pairs = value.no_pairs
-unreserved (value.pair k t ps) = if is_reserved_key k then unreserved ps else value.pair k t (unreserved ps)
+unreserved (value.pair k t ps) =
+    if is_reserved_key k then unreserved ps else value.pair k t (unreserved ps)
 
 -- all pairs, or those alone
 abbrev pub kept_of : Bool → value.Pairs → value.Pairs
@@ -120,5 +122,6 @@ abbrev pub an_entry : List ℕ × field.Tree → field.Members → field.Members
 an_entry e ms = field.member e.0 e.1 ms
 
 -- what is made of a map, behind entries that are there
-abbrev pub entries_behind : List (List ℕ × field.Tree) → Result field.Members MapFault → Result field.Members MapFault
+abbrev pub entries_behind : List (List ℕ × field.Tree) → Result field.Members MapFault
+    → Result field.Members MapFault
 entries_behind = behind an_entry

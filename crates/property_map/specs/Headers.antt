@@ -1,10 +1,11 @@
 -- The property headers in AMQP 1.0 (AMQP 0-9-1 1.8.3.3; AMQP 1.0 3.2.3 and 3.2.5). A property of
 -- the application holds no other value, so what holds others goes to an annotation.
-use Rattle.std.specs.Prelude.{ℕ, nat_lt, Bool, true, false, List, [], ◌∷◌, ◌++◌, if◌then◌else◌, Ok, Err, Result}
+use Rattle.std.specs.Prelude.{ℕ, nat_lt, Bool, true, false, List, [], ◌∷◌, ◌++◌, if◌then◌else◌, Ok}
+use Rattle.std.specs.Prelude.{Err, Result}
 use Rattle.wire_base.specs.Reading.{◌>>=◌}
 use Rattle.tables_091.specs.Tree as field
 use Rattle.types_10.specs.Tree as value
-use Rattle.property_map.specs.Texts.{string_in, is_among, is_reserved}
+use Rattle.property_map.specs.Texts.{string_in, new_in, is_reserved}
 use Rattle.property_map.specs.Values.{value_in}
 use Rattle.property_map.specs.declared.fault.PropName.TheVariants as prop
 use Rattle.property_map.specs.declared.fault.MapFault.{MapFault}
@@ -15,7 +16,7 @@ use Rattle.property_map.specs.declared.headers.HeaderMaps.{HeaderMaps}
 abbrev pub header_name_in : List (List ℕ) → List ℕ → Result (List ℕ) MapFault
 header_name_in before s = do
   name ← string_in prop.Headers s
-  if is_reserved name then Err (fault.Reserved name) else (if is_among name before then Err (fault.Repeated name) else Ok name)
+  if is_reserved name then Err (fault.Reserved name) else new_in before name
 
 -- a field that holds others
 abbrev pub holds_others : field.Tree → Bool
@@ -25,8 +26,10 @@ holds_others (field.table ms) = true
 
 -- a header, in front of others
 abbrev pub with_header : Bool → value.Tree × value.Tree → HeaderMaps → HeaderMaps
-with_header true p maps = record { application = maps.application; annotation = p ∷ maps.annotation }
-with_header false p maps = record { application = p ∷ maps.application; annotation = maps.annotation }
+with_header true p maps =
+    record { application = maps.application; annotation = p ∷ maps.annotation }
+with_header false p maps =
+    record { application = p ∷ maps.application; annotation = maps.annotation }
 
 -- headers, after those with these names
 unfoldable pub headers_in : List (List ℕ) → List (List ℕ × field.Tree) → Result HeaderMaps MapFault

@@ -1,6 +1,7 @@
 -- The image of a message of AMQP 0-9-1 in AMQP 1.0 (AMQP 1.0 3.2): what each section says, by the
 -- rows of the table; and the first fault, in the order of the rows.
-use Rattle.std.specs.Prelude.{◌≡◌, ◌⊎◌, ℕ, false, List, [], ◌∷◌, ◌++◌, Bool, Option, Some, None, option_map, Ok, Err, Result, codes}
+use Rattle.std.specs.Prelude.{◌≡◌, ◌⊎◌, ℕ, false, List, [], ◌∷◌, ◌++◌, Bool, Option, Some, None}
+use Rattle.std.specs.Prelude.{option_map, Ok, Err, Result, codes}
 use Rattle.types_10.specs.Tree.{Tree, scalar, mapping, pairs_of, string, symbol}
 use Rattle.types_10.specs.View.{value_tree}
 use Rattle.types_10.specs.declared.value.Value10.{Value10}
@@ -9,7 +10,11 @@ use Rattle.sections_10.specs.declared.message.MsgHeader.{MsgHeader}
 use Rattle.sections_10.specs.declared.message.MsgProps.{MsgProps}
 use Rattle.sections_10.specs.declared.message.Body10.TheVariants as body
 use Rattle.sections_10.specs.declared.message.Message10.{Message10}
-use Rattle.property_map.specs.Rows.{exchange_row, key_row, content_type_row, content_encoding_row, headers_row, delivery_mode_row, priority_row, correlation_id_row, reply_to_row, expiration_row, message_id_row, timestamp_row, kind_row, user_id_row, app_id_row, cluster_id_row}
+use Rattle.property_map.specs.Rows.{exchange_row, key_row, content_type_row, content_encoding_row}
+use Rattle.property_map.specs.Rows.{headers_row, delivery_mode_row, priority_row}
+use Rattle.property_map.specs.Rows.{correlation_id_row, reply_to_row, expiration_row}
+use Rattle.property_map.specs.Rows.{message_id_row, timestamp_row, kind_row, user_id_row}
+use Rattle.property_map.specs.Rows.{app_id_row, cluster_id_row}
 use Rattle.property_map.specs.declared.fault.MapFault.{MapFault}
 use Rattle.property_map.specs.declared.fault.MapFault.TheVariants as fault
 use Rattle.property_map.specs.declared.headers.HeaderMaps.{HeaderMaps}
@@ -24,7 +29,13 @@ a_string s = scalar (string s)
 abbrev pub header_with : Option Bool → Option ℕ → Option ℕ → Option MsgHeader
 header_with None None None = None
 header_with durable priority ttl =
-    Some (record { durable = durable; priority = priority; ttl = ttl; first_acquirer = false; delivery_count = 0 })
+    Some (record {
+      durable = durable;
+      priority = priority;
+      ttl = ttl;
+      first_acquirer = false;
+      delivery_count = 0;
+    })
 
 pub record IsHeader (p : Props) (h : Option MsgHeader) : Type 0 where
   pub durable : Option Bool
@@ -52,7 +63,8 @@ abbrev pub nested_map : Option HeaderMaps → Option Tree
 nested_map None = None
 nested_map (Some maps) = map_of maps.annotation
 
-abbrev pub annotations_with : Option (List ℕ) → Option (List ℕ) → Option (List ℕ) → Option (List ℕ) → Option Tree → List (Tree × Tree)
+abbrev pub annotations_with : Option (List ℕ) → Option (List ℕ) → Option (List ℕ)
+    → Option (List ℕ) → Option Tree → List (Tree × Tree)
 annotations_with exchange kind app_id cluster_id headers =
     annotation (codes "x-opt-091-exchange") (option_map a_string exchange)
     ++ (annotation (codes "x-opt-091-type") (option_map a_string kind)
@@ -71,7 +83,8 @@ pub record AreAnnotations (m : Message091) (annotations : Option Value10) : Type
   pub app_id_is : app_id_row m.props.app_id ≡ Ok app_id
   pub cluster_id_is : cluster_id_row m.props.cluster_id ≡ Ok cluster_id
   pub headers_are : headers_row m.props.headers ≡ Ok maps
-  pub are : option_map value_tree annotations ≡ map_of (annotations_with exchange kind app_id cluster_id (nested_map maps))
+  pub are : option_map value_tree annotations
+      ≡ map_of (annotations_with exchange kind app_id cluster_id (nested_map maps))
 
 -- ---- properties
 
@@ -83,7 +96,8 @@ pub record AreProperties (m : Message091) (p : MsgProps) : Type 0 where
   pub content_type_is : content_type_row m.props.content_type ≡ Ok p.content_type
   pub content_encoding_is : content_encoding_row m.props.content_encoding ≡ Ok p.content_encoding
   pub correlation_id_is : correlation_id_row m.props.correlation_id ≡ Ok correlation_id
-  pub correlation_id_said : option_map value_tree p.correlation_id ≡ option_map a_string correlation_id
+  pub correlation_id_said : option_map value_tree p.correlation_id
+      ≡ option_map a_string correlation_id
   pub reply_to_is : reply_to_row m.props.reply_to ≡ Ok p.reply_to
   pub message_id_is : message_id_row m.props.message_id ≡ Ok message_id
   pub message_id_said : option_map value_tree p.message_id ≡ option_map a_string message_id

@@ -5,9 +5,15 @@ use Rattle.wire_base.specs.Reading.{◌>>=◌}
 use Rattle.types_10.specs.View.{value_tree}
 use Rattle.content_091.specs.declared.header.Props.{Props}
 use Rattle.sections_10.specs.declared.message.Message10.{Message10}
-use Rattle.property_map.specs.Rows091.{header_in, properties_in, exchange_row, key_row, content_type_row, content_encoding_row, headers_row, delivery_mode_row, priority_row, correlation_id_row, reply_to_row, expiration_row, message_id_row, timestamp_row, kind_row, user_id_row, app_id_row, cluster_id_row, header_row, body_row}
+use Rattle.property_map.specs.Rows091.{header_in, properties_in, exchange_row, key_row}
+use Rattle.property_map.specs.Rows091.{content_type_row, content_encoding_row, headers_row}
+use Rattle.property_map.specs.Rows091.{delivery_mode_row, priority_row, correlation_id_row}
+use Rattle.property_map.specs.Rows091.{reply_to_row, expiration_row, message_id_row, timestamp_row}
+use Rattle.property_map.specs.Rows091.{kind_row, user_id_row, app_id_row, cluster_id_row}
+use Rattle.property_map.specs.Rows091.{header_row, body_row}
 use Rattle.property_map.specs.declared.fault.MapFault.{MapFault}
 use Rattle.property_map.specs.declared.fault.MapFault.TheVariants as fault
+use Rattle.property_map.specs.declared.image_091.Sections.{Sections}
 use Rattle.property_map.specs.declared.message.Message091.{Message091}
 
 -- ---- properties
@@ -20,7 +26,8 @@ earlier_in m = do
   headers ← headers_row (option_map value_tree m.application) (option_map value_tree m.annotations)
   delivery_mode ← delivery_mode_row (header_in m.header).durable
   priority ← priority_row (header_in m.header).priority
-  correlation_id ← correlation_id_row (option_map value_tree (properties_in m.properties).correlation_id)
+  correlation_id ←
+      correlation_id_row (option_map value_tree (properties_in m.properties).correlation_id)
   reply_to ← reply_to_row (properties_in m.properties).reply_to
   Ok (record {
     content_type = content_type;
@@ -87,8 +94,15 @@ props_in m = do
 -- ---- the message
 
 -- a message of these parts
-abbrev pub with_body : List ℕ → List ℕ → Props → Result (List ℕ) MapFault → Result Message091 MapFault
-with_body exchange key props read = read >>= λ body. Ok (record { exchange = exchange; key = key; props = props; body = body })
+abbrev pub with_body : List ℕ → List ℕ → Props → Result (List ℕ) MapFault
+    → Result Message091 MapFault
+with_body exchange key props read =
+    read >>= λ body. Ok (record { exchange = exchange; key = key; props = props; body = body })
+
+-- a message stands with its own header and properties
+pub record AreOfMessage (s : Sections) : Type 0 where
+  pub header : s.header.now ≡ header_in s.message.now.header
+  pub properties : s.properties.now ≡ properties_in s.message.now.properties
 
 -- the image of a message from this queue, whose header fits this room
 unfoldable pub image_in : List ℕ → ℕ → Message10 → Result Message091 MapFault

@@ -1,8 +1,12 @@
 -- How many bytes the parts of a content header take (AMQP 0-9-1 4.2.5 and 4.2.6.1), and the room
 -- that they leave: TooLong where one doesn't fit.
-use Rattle.std.specs.Prelude.{ℕ, ◌+◌, ◌-◌, nat_le, if◌then◌else◌, [], ◌∷◌, length, Option, Some, None, Ok, Err, Result}
+use Rattle.std.specs.Prelude.{ℕ, ◌+◌, ◌-◌, nat_le, if◌then◌else◌, [], ◌∷◌, length, Option, Some}
+use Rattle.std.specs.Prelude.{None, Ok, Err, Result}
 use Rattle.wire_base.specs.Reading.{◌>>=◌}
-use Rattle.tables_091.specs.Tree.{Scalar, boolean, int8, uint8, int16, uint16, int32, uint32, int64, float32, float64, decimal, longstr, timestamp, void, blob, Tree, scalar, array, table, Trees, no_trees, tree, Members, no_members, member, members_of}
+use Rattle.tables_091.specs.Tree.{Scalar, boolean, int8, uint8, int16, uint16, int32, uint32, int64}
+use Rattle.tables_091.specs.Tree.{float32, float64, decimal, longstr, timestamp, void, blob, Tree}
+use Rattle.tables_091.specs.Tree.{scalar, array, table, Trees, no_trees, tree, Members, no_members}
+use Rattle.tables_091.specs.Tree.{member, members_of}
 use Rattle.content_091.specs.Properties.{Property, Properties}
 use Rattle.content_091.specs.Properties as property
 use Rattle.content_091.specs.View.{earlier_of, later_of}

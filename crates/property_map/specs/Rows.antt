@@ -1,7 +1,8 @@
 -- The table of what a message of AMQP 0-9-1 says in AMQP 1.0 (AMQP 0-9-1 1.8.3; AMQP 1.0 3.2): one
 -- definition a row, with what is written, or the fault. A row whose property is absent says
 -- nothing, and has no fault.
-use Rattle.std.specs.Prelude.{ℕ, ◌==◌, ◌&&◌, nat_lt, Bool, true, false, if◌then◌else◌, List, [], ◌∷◌, Option, Some, None, Ok, Err, Result, ℤ}
+use Rattle.std.specs.Prelude.{ℕ, ◌==◌, ◌&&◌, ◌^◌, nat_lt, Bool, true, false, if◌then◌else◌, List}
+use Rattle.std.specs.Prelude.{[], ◌∷◌, Option, Some, None, Ok, Err, Result, ℤ}
 use Rattle.std.specs.Char.{is_ascii_digit}
 use Rattle.std.specs.List.{list_all}
 use Rattle.std.specs.Str.Parse.{digits_value}
@@ -60,9 +61,16 @@ is_decimal [] = false
 is_decimal (c ∷ []) = list_all is_ascii_digit (c ∷ [])
 is_decimal (c ∷ d ∷ cs) = if c == 48 then false else list_all is_ascii_digit (c ∷ d ∷ cs)
 
+-- a decimal number of 64 bits without needless zeros
+abbrev pub decimal_in : List ℕ → Option ℕ
+decimal_in s =
+    if is_decimal s && nat_lt (digits_value 10 s) (2 ^ 64) then Some (digits_value 10 s) else None
+
 -- expiration: ttl, of a decimal number below 2^32; else Expiration
 abbrev pub ttl_in : List ℕ → Result ℕ MapFault
-ttl_in s = if is_decimal s && nat_lt (digits_value 10 s) 4294967296 then Ok (digits_value 10 s) else Err fault.Expiration
+ttl_in s =
+    if is_decimal s && nat_lt (digits_value 10 s) 4294967296 then Ok (digits_value 10 s)
+    else Err fault.Expiration
 
 abbrev pub expiration_row : Option (List ℕ) → Result (Option ℕ) MapFault
 expiration_row = maybe_in ttl_in

@@ -1,11 +1,14 @@
 -- The table of what a message of AMQP 1.0 says in AMQP 0-9-1 (AMQP 1.0 3.2; AMQP 0-9-1 1.8.3): one
 -- definition a row, with what is written, or the fault. A section that isn't there says nothing.
-use Rattle.std.specs.Prelude.{ℕ, nat_le, Bool, true, false, if◌then◌else◌, List, [], ◌∷◌, ◌++◌, length, codes, decimal, unwrap_or, Option, Some, None, option_map, Ok, Err, Result, ℤ}
+use Rattle.std.specs.Prelude.{ℕ, nat_le, Bool, true, false, if◌then◌else◌, List, [], ◌∷◌, ◌++◌}
+use Rattle.std.specs.Prelude.{length, codes, decimal, unwrap_or, Option, Some, None, option_map, Ok}
+use Rattle.std.specs.Prelude.{Err, Result, ℤ}
 use Rattle.std.specs.Str.{bytes_eq}
 use Rattle.uuid.specs.Text.{hyphenated_text, lower}
 use Rattle.wire_base.specs.Reading.{◌>>=◌}
 use Rattle.tables_091.specs.Tree as field
-use Rattle.types_10.specs.Tree.{Tree, scalar, string, symbol, binary, ulong, uuid, mapping, Pairs, no_pairs, pair}
+use Rattle.types_10.specs.Tree.{Tree, scalar, string, symbol, binary, ulong, uuid, mapping, Pairs}
+use Rattle.types_10.specs.Tree.{no_pairs, pair}
 use Rattle.content_091.specs.Writing.{header_text}
 use Rattle.content_091.specs.declared.header.Props.{Props}
 use Rattle.sections_10.specs.declared.message.MsgHeader.{MsgHeader}
@@ -53,7 +56,13 @@ short_under name key annotations = maybe_in (short_string_in name) (annotation_i
 -- ---- sections that aren't there
 
 abbrev pub header_in : Option MsgHeader → MsgHeader
-header_in None = record { durable = None; priority = None; ttl = None; first_acquirer = false; delivery_count = 0 }
+header_in None = record {
+  durable = None;
+  priority = None;
+  ttl = None;
+  first_acquirer = false;
+  delivery_count = 0;
+}
 header_in (Some h) = h
 
 abbrev pub properties_in : Option MsgProps → MsgProps
@@ -78,7 +87,8 @@ properties_in (Some p) = p
 
 -- exchange: an annotation, else empty; TooLong, ValueKind
 abbrev pub exchange_row : Option Tree → Result (List ℕ) MapFault
-exchange_row annotations = short_under prop.Exchange (codes "x-opt-091-exchange") annotations >>= λ s. Ok (unwrap_or s [])
+exchange_row annotations =
+    short_under prop.Exchange (codes "x-opt-091-exchange") annotations >>= λ s. Ok (unwrap_or s [])
 
 -- routing-key: the subject, else the name of the queue; TooLong
 abbrev pub key_row : Option (List ℕ) → List ℕ → Result (List ℕ) MapFault
@@ -104,7 +114,8 @@ entries_of field.no_members = []
 entries_of (field.member name f ms) = (name, f) ∷ entries_of ms
 
 -- the properties of the application, then the map of an annotation, as one table
-unfoldable pub one_table_in : Option Tree → Option Tree → Result (List (List ℕ × field.Tree)) MapFault
+unfoldable pub one_table_in : Option Tree → Option Tree
+    → Result (List (List ℕ × field.Tree)) MapFault
 one_table_in application nested = do
   ms ← members_in [] (unreserved (pairs_in_map application))
   ps ← nested_in nested
@@ -114,13 +125,16 @@ one_table_in application nested = do
 -- headers: these, where either is there; for each ValueKind of its key, TooLong of its name,
 -- Repeated and the faults of its value, and ValueKind of an annotation that is no map before those
 -- of its pairs
-abbrev pub headers_of : Option Tree → Option Tree → Result (Option (List (List ℕ × field.Tree))) MapFault
+abbrev pub headers_of : Option Tree → Option Tree
+    → Result (Option (List (List ℕ × field.Tree))) MapFault
 headers_of None None = Ok None
 headers_of (Some t) nested = one_table_in (Some t) nested >>= λ ms. Ok (Some ms)
 headers_of None (Some n) = one_table_in None (Some n) >>= λ ms. Ok (Some ms)
 
-abbrev pub headers_row : Option Tree → Option Tree → Result (Option (List (List ℕ × field.Tree))) MapFault
-headers_row application annotations = headers_of application (annotation_in (codes "x-opt-091-headers") annotations)
+abbrev pub headers_row : Option Tree → Option Tree
+    → Result (Option (List (List ℕ × field.Tree))) MapFault
+headers_row application annotations =
+    headers_of application (annotation_in (codes "x-opt-091-headers") annotations)
 
 -- delivery-mode: of durable, 1 of false and 2 of true
 abbrev pub mode_of : Bool → ℕ

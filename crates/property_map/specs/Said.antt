@@ -9,8 +9,13 @@ use Rattle.sections_10.specs.declared.message.MsgProps.{MsgProps}
 use Rattle.sections_10.specs.declared.message.Body10.TheVariants as body
 use Rattle.sections_10.specs.declared.message.Message10.{Message10}
 use Rattle.content_091.specs.declared.header.Props.{Props}
-use Rattle.property_map.specs.Image.{a_string, header_with, nested_map, map_of, annotations_with, application_of, first_fault}
-use Rattle.property_map.specs.Rows.{exchange_row, key_row, content_type_row, content_encoding_row, headers_row, delivery_mode_row, priority_row, correlation_id_row, reply_to_row, expiration_row, message_id_row, timestamp_row, kind_row, user_id_row, app_id_row, cluster_id_row}
+use Rattle.property_map.specs.Image.{a_string, header_with, nested_map, map_of, annotations_with}
+use Rattle.property_map.specs.Image.{application_of, first_fault}
+use Rattle.property_map.specs.Rows.{exchange_row, key_row, content_type_row, content_encoding_row}
+use Rattle.property_map.specs.Rows.{headers_row, delivery_mode_row, priority_row}
+use Rattle.property_map.specs.Rows.{correlation_id_row, reply_to_row, expiration_row}
+use Rattle.property_map.specs.Rows.{message_id_row, timestamp_row, kind_row, user_id_row}
+use Rattle.property_map.specs.Rows.{app_id_row, cluster_id_row}
 use Rattle.property_map.specs.declared.fault.MapFault.{MapFault}
 use Rattle.property_map.specs.declared.message.Message091.{Message091}
 use Rattle.property_map.specs.declared.rows.Earlier.{Earlier}
@@ -24,7 +29,13 @@ earlier_in m = do
   content_type ← content_type_row m.props.content_type
   content_encoding ← content_encoding_row m.props.content_encoding
   headers ← headers_row m.props.headers
-  Ok (record { exchange = exchange; subject = subject; content_type = content_type; content_encoding = content_encoding; headers = headers })
+  Ok (record {
+    exchange = exchange;
+    subject = subject;
+    content_type = content_type;
+    content_encoding = content_encoding;
+    headers = headers;
+  })
 
 abbrev pub middle_in : Props → Result Middle MapFault
 middle_in p = do
@@ -34,7 +45,14 @@ middle_in p = do
   reply_to ← reply_to_row p.reply_to
   ttl ← expiration_row p.expiration
   message_id ← message_id_row p.message_id
-  Ok (record { durable = durable; priority = priority; correlation_id = correlation_id; reply_to = reply_to; ttl = ttl; message_id = message_id })
+  Ok (record {
+    durable = durable;
+    priority = priority;
+    correlation_id = correlation_id;
+    reply_to = reply_to;
+    ttl = ttl;
+    message_id = message_id;
+  })
 
 abbrev pub later_in : Props → Result Later MapFault
 later_in p = do
@@ -43,7 +61,13 @@ later_in p = do
   user_id ← user_id_row p.user_id
   app_id ← app_id_row p.app_id
   cluster_id ← cluster_id_row p.cluster_id
-  Ok (record { creation_time = creation_time; kind = kind; user_id = user_id; app_id = app_id; cluster_id = cluster_id })
+  Ok (record {
+    creation_time = creation_time;
+    kind = kind;
+    user_id = user_id;
+    app_id = app_id;
+    cluster_id = cluster_id;
+  })
 
 -- properties that say this
 pub record ArePropertiesOf (e : Earlier) (n : Middle) (l : Later) (p : MsgProps) : Type 0 where
@@ -66,9 +90,11 @@ HavePropertiesOf e n l None = ⊥
 HavePropertiesOf e n l (Some p) = ArePropertiesOf e n l p
 
 -- a message that says this
-pub record IsMessageOf (e : Earlier) (n : Middle) (l : Later) (bytes : List ℕ) (image : Message10) : Type 0 where
+pub record IsMessageOf (e : Earlier) (n : Middle) (l : Later) (bytes : List ℕ)
+    (image : Message10) : Type 0 where
   pub header : image.header ≡ header_with n.durable n.priority n.ttl
-  pub annotations : option_map value_tree image.annotations ≡ map_of (annotations_with e.exchange l.kind l.app_id l.cluster_id (nested_map e.headers))
+  pub annotations : option_map value_tree image.annotations
+      ≡ map_of (annotations_with e.exchange l.kind l.app_id l.cluster_id (nested_map e.headers))
   pub properties : HavePropertiesOf e n l image.properties
   pub application : option_map value_tree image.application ≡ application_of e.headers
   pub body : image.body ≡ body.Data bytes

@@ -5,10 +5,16 @@ use Rattle.std.specs.Prelude.{ℕ, List, [], ◌∷◌, ◌++◌, Option, None, 
 use Rattle.types_10.specs.Tree.{Tree}
 use Rattle.content_091.specs.declared.header.Props.{Props}
 use Rattle.sections_10.specs.Fields.{absent, maybe, a_binary, a_string, a_symbol, a_timestamp}
-use Rattle.sections_10.specs.Rows.{header_section, message_section, properties_section, application_section, data_section}
+use Rattle.sections_10.specs.Rows.{header_section, message_section, properties_section}
+use Rattle.sections_10.specs.Rows.{application_section, data_section}
 use Rattle.sections_10.specs.Writing.{fields_list, header_value, section_text, maybe_text}
-use Rattle.property_map.specs.Rows.{exchange_row, key_row, content_type_row, content_encoding_row, headers_row, delivery_mode_row, priority_row, correlation_id_row, reply_to_row, expiration_row, message_id_row, timestamp_row, kind_row, user_id_row, app_id_row, cluster_id_row}
-use Rattle.property_map.specs.Image.{header_with, nested_map, map_of, annotations_with, application_of}
+use Rattle.property_map.specs.Rows.{exchange_row, key_row, content_type_row, content_encoding_row}
+use Rattle.property_map.specs.Rows.{headers_row, delivery_mode_row, priority_row}
+use Rattle.property_map.specs.Rows.{correlation_id_row, reply_to_row, expiration_row}
+use Rattle.property_map.specs.Rows.{message_id_row, timestamp_row, kind_row, user_id_row}
+use Rattle.property_map.specs.Rows.{app_id_row, cluster_id_row}
+use Rattle.property_map.specs.Image.{header_with, nested_map, map_of, annotations_with}
+use Rattle.property_map.specs.Image.{application_of}
 use Rattle.property_map.specs.declared.fault.MapFault.{MapFault}
 use Rattle.property_map.specs.declared.message.Message091.{Message091}
 

@@ -1,6 +1,7 @@
 -- Texts and times of one protocol in the other (AMQP 0-9-1 4.2.5; AMQP 1.0 1.6): what is made of
 -- one, or why nothing is.
-use Rattle.std.specs.Prelude.{ℕ, ◌*◌, ◌/◌, nat_le, nat_eq, if◌then◌else◌, Bool, List, Option, Some, None, Ok, Err, Result, ℤ, pos, negsuc, length, codes}
+use Rattle.std.specs.Prelude.{ℕ, ◌*◌, ◌/◌, nat_le, nat_eq, if◌then◌else◌, Bool, List, Option, Some}
+use Rattle.std.specs.Prelude.{None, Ok, Err, Result, ℤ, pos, negsuc, length, codes}
 use Rattle.std.specs.Char.{is_ascii}
 use Rattle.std.specs.List.{list_all, list_any, starts_with}
 use Rattle.std.specs.Str.{is_utf8, bytes_eq}
@@ -35,13 +36,18 @@ seconds_in name (pos n) = Ok (n / 1000)
 seconds_in name (negsuc n) = Err (fault.Time name)
 
 -- what may be absent
-abbrev pub maybe_in : {A B : Type 0} → (A → Result B MapFault) → Option A → Result (Option B) MapFault
+abbrev pub maybe_in : {A B : Type 0} → (A → Result B MapFault) → Option A
+    → Result (Option B) MapFault
 maybe_in row None = Ok None
 maybe_in row (Some x) = row x >>= λ y. Ok (Some y)
 
 -- a text is one of these
 abbrev pub is_among : List ℕ → List (List ℕ) → Bool
 is_among s texts = list_any (λ t. bytes_eq t s) texts
+
+-- a name after these, of which it is none
+abbrev pub new_in : List (List ℕ) → List ℕ → Result (List ℕ) MapFault
+new_in before name = if is_among name before then Err (fault.Repeated name) else Ok name
 
 -- a name that stands for what has no other place in AMQP 1.0
 abbrev pub is_reserved : List ℕ → Bool

@@ -1,10 +1,10 @@
 -- Fields as values of AMQP 1.0 (AMQP 0-9-1 4.2.5.5; AMQP 1.0 1.6), each with what is written of it,
 -- or the first fault inside.
-use Rattle.std.specs.Prelude.{ℕ, List, [], ◌∷◌, ◌++◌, if◌then◌else◌, Ok, Err, Result}
+use Rattle.std.specs.Prelude.{ℕ, List, [], ◌∷◌, ◌++◌, Ok, Err, Result}
 use Rattle.wire_base.specs.Reading.{◌>>=◌}
 use Rattle.tables_091.specs.Tree as field
 use Rattle.types_10.specs.Tree as value
-use Rattle.property_map.specs.Texts.{string_in, milliseconds_in, is_among}
+use Rattle.property_map.specs.Texts.{string_in, milliseconds_in, new_in}
 use Rattle.property_map.specs.declared.fault.PropName.TheVariants as prop
 use Rattle.property_map.specs.declared.fault.MapFault.{MapFault}
 use Rattle.property_map.specs.declared.fault.MapFault.TheVariants as fault
@@ -35,7 +35,7 @@ scalar_in (field.blob s) = Ok (value.binary s)
 abbrev pub name_in : List (List ℕ) → List ℕ → Result (List ℕ) MapFault
 name_in before s = do
   name ← string_in prop.Headers s
-  if is_among name before then Err (fault.Repeated name) else Ok name
+  new_in before name
 
 -- an array is a list, and a table a map with strings as keys
 unfoldable mutual

@@ -29,7 +29,8 @@ fn is_symbol(key: &Value10, name: &[u8]) -> bool
 
 /// The first value under a symbol.
 fn value_under<'a>(pairs: &'a PairList, name: &[u8]) -> Option<&'a Value10>
-    ensures { option_map (λ v. value_tree v.now) result ≡ value_under name.now (pairs_of pairs.now) }
+    ensures { option_map (λ v. value_tree v.now) result
+        ≡ value_under name.now (pairs_of pairs.now) }
 {
     let mut k = 0;
     while k < pairs.len() {

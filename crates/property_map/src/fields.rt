@@ -8,7 +8,9 @@ ghost use Rattle.tables_091.specs.View.{field_tree};
 ghost use Rattle.types_10.specs.Tree as value;
 ghost use Rattle.types_10.specs.View.{value_tree};
 ghost use Rattle.property_map.specs.Names.{Holds};
-ghost use Rattle.property_map.specs.Fields.{long_in, char_text_in, key_text_in, entry_name_in, is_left_out, kept_of, names_of, field_in, fields_in, members_in, entries_behind};
+ghost use Rattle.property_map.specs.Fields.{long_in, char_text_in, key_text_in, entry_name_in};
+ghost use Rattle.property_map.specs.Fields.{is_left_out, kept_of, names_of, field_in, fields_in};
+ghost use Rattle.property_map.specs.Fields.{members_in, entries_behind};
 
 use crate::fault::{MapFault, PropName};
 use crate::names::Names;
@@ -118,10 +120,7 @@ fn entry_name(alloc: Global, names: &mut Names, key: &Value10) -> Result<ByteTex
         → IfOk result (λ s. Holds names.new (before ++ s ∷ [])) }
 {
     let name = short_of(alloc, PropName::Headers, key_text(key)?)?;
-    if !names.add(alloc, name.as_slice())? {
-        return Err(Stop::Fault(MapFault::Repeated(name)));
-    }
-    Ok(name)
+    Ok(names.add_new(alloc, name)?)
 }
 
 // ---- fields

@@ -92,10 +92,7 @@ fn header_key(alloc: Global, names: &mut Names, name: &ByteText) -> Result<ByteT
     if is_reserved(key.as_slice()) {
         return Err(Stop::Fault(MapFault::Reserved(key)));
     }
-    if !names.add(alloc, key.as_slice())? {
-        return Err(Stop::Fault(MapFault::Repeated(key)));
-    }
-    Ok(key)
+    names.add_new(alloc, key)
 }
 
 /// Whether a field holds others.

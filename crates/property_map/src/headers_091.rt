@@ -37,7 +37,8 @@ fn table_of(
     nested: Option<&Value10>,
 ) -> Result<Table, Stop<MapFault>>
     ensures { Gives (λ t. t) result
-        (one_table_in (option_map value_tree application.now) (option_map (λ v. value_tree v.now) nested.entry)) }
+        (one_table_in (option_map value_tree application.now)
+        (option_map (λ v. value_tree v.now) nested.entry)) }
 {
     let named = properties_of(alloc, application)?;
     let Some(nested) = nested else {

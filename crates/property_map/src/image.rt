@@ -2,7 +2,8 @@
 
 ghost use Rattle.std.specs.Prelude.{◌≡◌, ◌++◌, ◌∷◌, [], IfOk, IfErr, OnOk, option_map};
 ghost use Rattle.types_10.specs.View.{value_tree};
-ghost use Rattle.property_map.specs.Image.{a_string, header_with, annotation, nested_map, map_of, annotations_with, application_of, IsImage10, IsFault10};
+ghost use Rattle.property_map.specs.Image.{a_string, header_with, annotation, nested_map, map_of};
+ghost use Rattle.property_map.specs.Image.{annotations_with, application_of, IsImage10, IsFault10};
 ghost use Rattle.property_map.specs.Said.{IsMessageOf, IsStop10};
 
 use crate::annotations::{APP_ID, CLUSTER_ID, EXCHANGE, HEADERS, KIND};
@@ -80,7 +81,8 @@ fn annotations_of(
     headers: Option<Value10>,
 ) -> Result<Option<Value10>, Memory>
     ensures { IfOk result (λ annotations. option_map value_tree annotations
-        ≡ map_of (annotations_with exchange kind app_id cluster_id (option_map value_tree headers))) }
+        ≡ map_of
+        (annotations_with exchange kind app_id cluster_id (option_map value_tree headers))) }
 {
     let mut annotations = PairList::empty(alloc);
     add(alloc, &mut annotations, EXCHANGE, string_value(exchange))?;

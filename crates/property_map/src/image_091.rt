@@ -3,7 +3,8 @@
 ghost use Rattle.std.specs.Prelude.{◌≡◌, None, IfOk, IfErr, Ok};
 ghost use Rattle.wire_base.specs.Reading.{Gives};
 ghost use Rattle.property_map.specs.Rows091.{header_in, properties_in, body_row};
-ghost use Rattle.property_map.specs.Image091.{earlier_in, later_in, both_of, props_in, with_body, image_in, IsFault091, is_redelivered};
+ghost use Rattle.property_map.specs.Image091.{earlier_in, later_in, both_of, props_in, with_body};
+ghost use Rattle.property_map.specs.Image091.{AreOfMessage, image_in, IsFault091, is_redelivered};
 
 use crate::annotations::{APP_ID, CLUSTER_ID, KIND};
 use crate::fault::{MapFault, PropName};
@@ -18,6 +19,14 @@ use content_091::Props;
 use sections_10::{Body10, Message10, MsgHeader, MsgProps};
 use std::alloc::Global;
 use wire_base::{ByteText, Stop};
+
+/// A message, with its header and its properties or what stands for them where they aren't there.
+#[derive(Drop)]
+struct Sections<'a> {
+    message: &'a Message10,
+    header: &'a MsgHeader,
+    properties: &'a MsgProps,
+}
 
 // ---- sections that aren't there
 
@@ -77,24 +86,22 @@ fn properties_or<'a>(properties: &'a Option<MsgProps>, absent: &'a MsgProps) -> 
 
 /// The properties up to reply-to.
 #[tactic(auto, unfolding(crate::specs::Image091::earlier_in))]
-fn earlier_of(
-    alloc: Global,
-    m: &Message10,
-    h: &MsgHeader,
-    p: &MsgProps,
-) -> Result<Props, Stop<MapFault>>
-    requires header { h.now ≡ header_in m.now.header }
-    requires properties { p.now ≡ properties_in m.now.properties }
-    ensures { Gives (λ p. p) result (earlier_in m.now) }
+fn earlier_of(alloc: Global, s: &Sections) -> Result<Props, Stop<MapFault>>
+    requires { AreOfMessage s.now }
+    ensures { Gives (λ p. p) result (earlier_in s.now.message.now) }
 {
     Ok(Props {
-        content_type: maybe_short(alloc, PropName::ContentType, &p.content_type)?,
-        content_encoding: maybe_short(alloc, PropName::ContentEncoding, &p.content_encoding)?,
-        headers: headers_of(alloc, &m.application, &m.annotations)?,
-        delivery_mode: mode_of(h.durable),
-        priority: h.priority,
-        correlation_id: maybe_id(alloc, PropName::CorrelationId, &p.correlation_id)?,
-        reply_to: maybe_short(alloc, PropName::ReplyTo, &p.reply_to)?,
+        content_type: maybe_short(alloc, PropName::ContentType, &s.properties.content_type)?,
+        content_encoding: maybe_short(
+            alloc,
+            PropName::ContentEncoding,
+            &s.properties.content_encoding,
+        )?,
+        headers: headers_of(alloc, &s.message.application, &s.message.annotations)?,
+        delivery_mode: mode_of(s.header.durable),
+        priority: s.header.priority,
+        correlation_id: maybe_id(alloc, PropName::CorrelationId, &s.properties.correlation_id)?,
+        reply_to: maybe_short(alloc, PropName::ReplyTo, &s.properties.reply_to)?,
         expiration: None,
         message_id: None,
         timestamp: None,
@@ -107,15 +114,9 @@ fn earlier_of(
 
 /// The properties from expiration on.
 #[tactic(auto, unfolding(crate::specs::Image091::later_in))]
-fn later_of(
-    alloc: Global,
-    m: &Message10,
-    h: &MsgHeader,
-    p: &MsgProps,
-) -> Result<Props, Stop<MapFault>>
-    requires header { h.now ≡ header_in m.now.header }
-    requires properties { p.now ≡ properties_in m.now.properties }
-    ensures { Gives (λ p. p) result (later_in m.now) }
+fn later_of(alloc: Global, s: &Sections) -> Result<Props, Stop<MapFault>>
+    requires { AreOfMessage s.now }
+    ensures { Gives (λ p. p) result (later_in s.now.message.now) }
 {
     Ok(Props {
         content_type: None,
@@ -125,13 +126,18 @@ fn later_of(
         priority: None,
         correlation_id: None,
         reply_to: None,
-        expiration: expiration_of(alloc, h.ttl)?,
-        message_id: maybe_id(alloc, PropName::MessageId, &p.message_id)?,
-        timestamp: timestamp_of(p.creation_time)?,
-        kind: short_annotation(alloc, PropName::Kind, KIND, &m.annotations)?,
-        user_id: maybe_short(alloc, PropName::UserId, &p.user_id)?,
-        app_id: short_annotation(alloc, PropName::AppId, APP_ID, &m.annotations)?,
-        cluster_id: short_annotation(alloc, PropName::ClusterId, CLUSTER_ID, &m.annotations)?,
+        expiration: expiration_of(alloc, s.header.ttl)?,
+        message_id: maybe_id(alloc, PropName::MessageId, &s.properties.message_id)?,
+        timestamp: timestamp_of(s.properties.creation_time)?,
+        kind: short_annotation(alloc, PropName::Kind, KIND, &s.message.annotations)?,
+        user_id: maybe_short(alloc, PropName::UserId, &s.properties.user_id)?,
+        app_id: short_annotation(alloc, PropName::AppId, APP_ID, &s.message.annotations)?,
+        cluster_id: short_annotation(
+            alloc,
+            PropName::ClusterId,
+            CLUSTER_ID,
+            &s.message.annotations,
+        )?,
     })
 }
 
@@ -152,18 +158,12 @@ fn both_of(p: Props, q: Props) -> Props
 }
 
 /// All properties.
-fn props_of(
-    alloc: Global,
-    m: &Message10,
-    h: &MsgHeader,
-    p: &MsgProps,
-) -> Result<Props, Stop<MapFault>>
-    requires header { h.now ≡ header_in m.now.header }
-    requires properties { p.now ≡ properties_in m.now.properties }
-    ensures { Gives (λ p. p) result (props_in m.now) }
+fn props_of(alloc: Global, s: &Sections) -> Result<Props, Stop<MapFault>>
+    requires { AreOfMessage s.now }
+    ensures { Gives (λ p. p) result (props_in s.now.message.now) }
 {
-    let earlier = earlier_of(alloc, m, h, p)?;
-    match later_of(alloc, m, h, p) {
+    let earlier = earlier_of(alloc, s)?;
+    match later_of(alloc, s) {
         Ok(later) => Ok(both_of(earlier, later)),
         Err(stop) => Err(stop),
     }
@@ -192,28 +192,25 @@ fn message_with(
 
 // ---- the message
 
-/// The image of a message with this header and these properties, or its first fault.
+/// The image of a message, or its first fault.
 #[tactic(auto, unfolding(crate::specs::Image091::image_in))]
 fn image_with(
     alloc: Global,
-    m: &Message10,
-    h: &MsgHeader,
-    p: &MsgProps,
+    s: &Sections,
     queue: &[u8],
     room: u32,
 ) -> Result<Message091, Stop<MapFault>>
-    requires header { h.now ≡ header_in m.now.header }
-    requires properties { p.now ≡ properties_in m.now.properties }
-    ensures { Gives (λ m. m) result (image_in queue.now room m.now) }
+    requires { AreOfMessage s.now }
+    ensures { Gives (λ m. m) result (image_in queue.now room s.now.message.now) }
 {
-    let exchange = exchange_of(alloc, &m.annotations)?;
-    let key = key_of(alloc, &p.subject, queue)?;
-    let all = props_of(alloc, m, h, p)?;
+    let exchange = exchange_of(alloc, &s.message.annotations)?;
+    let key = key_of(alloc, &s.properties.subject, queue)?;
+    let all = props_of(alloc, s)?;
     let props = fitting(room, all)?;
-    message_with(alloc, exchange, key, props, &m.body)
+    message_with(alloc, exchange, key, props, &s.message.body)
 }
 
-/// The image of a message, or its first fault.
+/// The same of a message as it came.
 fn image_of(
     alloc: Global,
     m: &Message10,
@@ -224,9 +221,12 @@ fn image_of(
 {
     let absent_header = no_header();
     let absent_properties = no_properties();
-    let h = header_or(&m.header, &absent_header);
-    let p = properties_or(&m.properties, &absent_properties);
-    image_with(alloc, m, h, p, queue, room)
+    let sections = Sections {
+        message: m,
+        header: header_or(&m.header, &absent_header),
+        properties: properties_or(&m.properties, &absent_properties),
+    };
+    image_with(alloc, &sections, queue, room)
 }
 
 /// The image of a message in AMQP 0-9-1, as it comes from this queue. `room` is the longest payload

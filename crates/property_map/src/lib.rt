@@ -24,5 +24,6 @@ pub use image::to_10;
 pub use image_091::{redelivered, to_091};
 pub use laws::map_laws;
 pub use message::Message091;
+pub use rows::decimal_of;
 pub use spelling::put_image;
 pub use spelling_laws::images_are_spelled;

@@ -5,9 +5,11 @@ ghost use Rattle.std.specs.Prelude.{◌+◌, ◌≤◌, length};
 ghost use Rattle.wire_base.specs.Reading.{Gives};
 ghost use Rattle.tables_091.specs.Tree.{trees_of, members_of};
 ghost use Rattle.tables_091.specs.View.{field_tree};
-ghost use Rattle.content_091.specs.View.{an_octet, a_longlong, a_text, a_table, earlier_of, later_of};
+ghost use Rattle.content_091.specs.View.{an_octet, a_longlong, a_text, a_table, earlier_of};
+ghost use Rattle.content_091.specs.View.{later_of};
 ghost use Rattle.property_map.specs.Rows091.{header_row};
-ghost use Rattle.property_map.specs.Room.{tree_len, trees_len, members_len, left_of, left_behind, left_behind_all, left_behind_header};
+ghost use Rattle.property_map.specs.Room.{tree_len, trees_len, members_len, left_of, left_behind};
+ghost use Rattle.property_map.specs.Room.{left_behind_all, left_behind_header};
 
 use crate::fault::{MapFault, PropName};
 use content_091::Props;

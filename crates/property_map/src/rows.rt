@@ -5,7 +5,9 @@ ghost use Rattle.std.specs.Prelude.{◌≡◌};
 ghost use Rattle.std.specs.Char.{is_ascii_digit};
 ghost use Rattle.std.specs.List.{list_all};
 ghost use Rattle.wire_base.specs.Reading.{Gives};
-ghost use Rattle.property_map.specs.Rows.{exchange_row, key_row, is_decimal, ttl_in, expiration_row, durable_in, delivery_mode_row, timestamp_row};
+ghost use Rattle.property_map.specs.Rows.{exchange_row, key_row, is_decimal, decimal_in, ttl_in};
+ghost use Rattle.property_map.specs.Rows.{expiration_row, durable_in, delivery_mode_row};
+ghost use Rattle.property_map.specs.Rows.{timestamp_row};
 ghost use Rattle.property_map.specs.Said.{earlier_in, middle_in, later_in};
 
 use crate::fault::{MapFault, PropName};
@@ -104,17 +106,30 @@ fn is_decimal(text: &[u8]) -> bool
     all_digits(text)
 }
 
+/// The number of 64 bits that a text is in decimal digits, without needless zeros.
+pub fn decimal_of(text: &[u8]) -> Option<u64>
+    ensures { result ≡ decimal_in text.now }
+{
+    if !is_decimal(text) {
+        return None;
+    }
+    let Ok(text) = std::str::from_utf8(text) else {
+        return None;
+    };
+    match text.parse::<u64>() {
+        Ok(number) => Some(number),
+        Err(_) => None,
+    }
+}
+
 /// The milliseconds of an expiration.
 fn ttl_of(text: &[u8]) -> Result<u32, Stop<MapFault>>
     ensures { Gives (λ n. n) result (ttl_in text.now) }
 {
-    if !is_decimal(text) {
-        return Err(Stop::Fault(MapFault::Expiration));
-    }
-    let Ok(text) = std::str::from_utf8(text) else {
+    let Some(number) = decimal_of(text) else {
         return Err(Stop::Fault(MapFault::Expiration));
     };
-    match text.parse::<u32>() {
+    match u32::try_from(number) {
         Ok(ttl) => Ok(ttl),
         Err(_) => Err(Stop::Fault(MapFault::Expiration)),
     }

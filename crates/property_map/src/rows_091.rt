@@ -5,7 +5,9 @@ ghost use Rattle.std.specs.Prelude.{◌≡◌, option_map};
 ghost use Rattle.wire_base.specs.Reading.{Gives};
 ghost use Rattle.types_10.specs.View.{value_tree};
 ghost use Rattle.property_map.specs.Texts.{maybe_in};
-ghost use Rattle.property_map.specs.Rows091.{short_string_in, short_under, exchange_row, key_row, id_in, expiration_row, timestamp_row, mode_of, body_row, body_in};
+ghost use Rattle.property_map.specs.Rows091.{short_string_in, short_under, exchange_row, key_row};
+ghost use Rattle.property_map.specs.Rows091.{id_in, expiration_row, timestamp_row, mode_of};
+ghost use Rattle.property_map.specs.Rows091.{body_row, body_in};
 
 use crate::annotations::{EXCHANGE, annotation};
 use crate::fault::{MapFault, PropName};

@@ -38,8 +38,8 @@ fn text_of(alloc: Global, image: &Message10) -> Result<ByteText, Memory>
     Ok(out)
 }
 
-/// The bytes of the image of a message in AMQP 1.0, which are the payload of its transfers (AMQP 1.0
-/// 2.6.14 and 3.2). The body is copied once, behind the other sections.
+/// The bytes of the image of a message in AMQP 1.0, which are the payload of its transfers
+/// (AMQP 1.0 2.6.14 and 3.2). The body is copied once, behind the other sections.
 ///
 /// # Errors
 ///

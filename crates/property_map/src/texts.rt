@@ -5,7 +5,8 @@ ghost use Rattle.std.specs.Char.{is_ascii};
 ghost use Rattle.std.specs.List.{list_all};
 ghost use Rattle.std.specs.Str.{is_utf8};
 ghost use Rattle.wire_base.specs.Reading.{Gives};
-ghost use Rattle.property_map.specs.Texts.{string_in, symbol_in, milliseconds_in, short_in, seconds_in, maybe_in, is_reserved};
+ghost use Rattle.property_map.specs.Texts.{string_in, symbol_in, milliseconds_in, short_in};
+ghost use Rattle.property_map.specs.Texts.{seconds_in, maybe_in, is_reserved};
 
 use crate::fault::{MapFault, PropName};
 use std::alloc::Global;

@@ -25,10 +25,7 @@ fn key_of(alloc: Global, names: &mut Names, name: &ByteText) -> Result<ByteText,
         → OnOk result (Holds names.new (before ++ name.now ∷ [])) }
 {
     let key = string_of(alloc, PropName::Headers, name)?;
-    if !names.add(alloc, key.as_slice())? {
-        return Err(Stop::Fault(MapFault::Repeated(key)));
-    }
-    Ok(key)
+    names.add_new(alloc, key)
 }
 
 /// A field as a value.

@@ -2,11 +2,13 @@ use Rattle.std.proofs.Common.{sym, ◌∙◌, arith}
 use Rattle.std.proofs.lemmas.Bool.Decides.{nat_tests}
 use Rattle.std.proofs.lemmas.Result.{err_from_is_err_and}
 use Rattle.tables_091.specs.View.{field_tree}
+use Rattle.tables_091.specs.Tree as field
 use Rattle.types_10.specs.Tree.{trees_of, pairs_of}
 use Rattle.types_10.specs.View.{value_tree, pair_trees}
-use Rattle.property_map.specs.Fields.{fields_in, kept_of, names_of}
+use Rattle.property_map.specs.Fields.{field_in, fields_in, kept_of, names_of}
 use Rattle.property_map.proofs.Places.{found_at, none_past}
-use Rattle.property_map.proofs.FieldLoops.{value_holds, pair_holds, fields_next, fields_fail, fields_over, made, made_skip, made_step, made_stop_named, made_stop, made_end}
+use Rattle.property_map.proofs.Steps.{next_at, fail_at}
+use Rattle.property_map.proofs.FieldLoops.{value_holds, pair_holds, all_fields, fields_one, fields_none, fields_over, made, made_skip, made_step, made_stop_named, made_stop, made_end}
 use Rattle.property_map.proofs.fields.+field.Goals.{fields_of-else-loop-k-test, fields_of-then-loop-k-test+in_default, with_pairs-else-loop-k-test, with_pairs-then-loop-k-test+in_default}
 use Rattle.property_map.proofs.fields.+field.Goals as goal
 
@@ -21,13 +23,13 @@ pub fields_of-returns-in_err-field_of : goal.fields_of-returns-in_err-field_of
 fields_of-returns-in_err-field_of t c =
     let p = err_from_is_err_and c.from_residual.result c.from_residual.ensures.1 in
     let is = found_at (λ f. value_tree f.now) c.get.result c.in-Some.value c.args.list.now c.loop-k.k c.in-Some.is c.get.ensures in
-    rw (p.1, p.2) (fields_fail c.in_err-field_of.field-0.0 c.loop-k.fields c.args.list.now c.loop-k.k (value_tree c.in-Some.value.now) (fields_in (trees_of c.args.list.now)) is c.in_err-field_of.ensures c.loop-k.invariant)
+    rw (p.1, p.2) (fail_at field.tree field_in all_fields fields_none c.in_err-field_of.field-0.0 c.loop-k.fields c.args.list.now c.loop-k.k (value_tree c.in-Some.value.now) (fields_in (trees_of c.args.list.now)) is c.in_err-field_of.ensures c.loop-k.invariant)
 
 pub fields_of-loop-k-preserved : goal.fields_of-loop-k-preserved
 fields_of-loop-k-preserved t c =
     let is = found_at (λ f. value_tree f.now) c.get.result c.in-Some.value c.args.list.now c.loop-k.k c.in-Some.is c.get.ensures in
     rw c.in_ok-push.ensures.ok
-    (fields_next c.loop-k.fields c.args.list.now c.loop-k.k (value_tree c.in-Some.value.now) (field_tree c.in_ok-field_of.field-0) (fields_in (trees_of c.args.list.now)) is c.in_ok-field_of.ensures c.loop-k.invariant)
+    (next_at field.tree field_in all_fields fields_one c.loop-k.fields c.args.list.now c.loop-k.k (value_tree c.in-Some.value.now) (field_tree c.in_ok-field_of.field-0) (fields_in (trees_of c.args.list.now)) is c.in_ok-field_of.ensures c.loop-k.invariant)
 
 pub fields_of-returns : goal.fields_of-returns
 fields_of-returns t c = elim c.loop-k-test.branch [

@@ -1,10 +1,10 @@
-use Rattle.std.proofs.Common.{◌≡◌, ◌+◌, ◌*◌, ◌-◌, length}
+use Rattle.std.proofs.Common.{◌≡◌, ◌+◌, ◌*◌, ◌-◌, length, drop}
 use Rattle.tables_091.specs.Tree as field
 use Rattle.types_10.specs.Tree.{depth, list_depth, pairs_depth_of, trees_of, pairs_of}
 use Rattle.types_10.specs.View.{value_tree}
 use Rattle.property_map.specs.Steps.{behind}
 use Rattle.property_map.specs.Fields.{fields_in, kept_of, names_of}
-use Rattle.property_map.proofs.FieldLoops.{fields_from, pairs_from, made, Made}
+use Rattle.property_map.proofs.FieldLoops.{all_fields, pairs_from, made, Made}
 use Rattle.property_map.proofs.fields.+field.Given as goal
 
 abbrev pub decreases-field_of : goal.decreases-field_of
@@ -21,7 +21,7 @@ decreases-with_pairs l = 3 * pairs_depth_of l.pairs.now + 1
 
 -- what was made, and what is still made
 abbrev pub invariant-fields_of-loop-k : goal.invariant-fields_of-loop-k
-invariant-fields_of-loop-k l = behind field.tree l.fields (fields_from l.list l.k) ≡ fields_in (trees_of l.list)
+invariant-fields_of-loop-k l = behind field.tree l.fields (all_fields (drop l.k l.list)) ≡ fields_in (trees_of l.list)
 
 abbrev pub decreases-fields_of-loop-k : goal.decreases-fields_of-loop-k
 decreases-fields_of-loop-k l = length l.list - l.k

@@ -3,10 +3,12 @@ use Rattle.std.proofs.lemmas.Bool.Decides.{nat_tests}
 use Rattle.std.proofs.lemmas.Result.{err_from_is_err_and}
 use Rattle.tables_091.specs.Tree.{trees_of, members_of}
 use Rattle.tables_091.specs.View.{field_tree, entry_member}
+use Rattle.types_10.specs.Tree as value
 use Rattle.types_10.specs.View.{value_tree}
-use Rattle.property_map.specs.Values.{values_in, pairs_in}
+use Rattle.property_map.specs.Values.{value_in, values_in, pairs_in}
 use Rattle.property_map.proofs.Places.{found_at, none_past, list_holds, table_holds}
-use Rattle.property_map.proofs.Loops.{values_next, values_fail, values_over, pairs_next, pairs_fail_named, pairs_fail, pairs_over, names_before, names_more}
+use Rattle.property_map.proofs.Steps.{next_at, fail_at}
+use Rattle.property_map.proofs.Loops.{all_values, values_one, values_none, values_over, pairs_next, pairs_fail_named, pairs_fail, pairs_over, names_before, names_more}
 use Rattle.property_map.proofs.values.+value.Goals.{values_of-else-loop-k-test, values_of-then-loop-k-test+in_default, pairs_of-else-loop-k-test, pairs_of-then-loop-k-test+in_default}
 use Rattle.property_map.proofs.values.+value.Goals as goal
 
@@ -21,13 +23,13 @@ pub values_of-returns-in_err-value_of : goal.values_of-returns-in_err-value_of
 values_of-returns-in_err-value_of t c =
     let p = err_from_is_err_and c.from_residual.result c.from_residual.ensures.1 in
     let is = found_at (λ f. field_tree f.now) c.get.result c.in-Some.field c.args.list.now c.loop-k.k c.in-Some.is c.get.ensures in
-    rw (p.1, p.2) (values_fail c.in_err-value_of.field-0.0 c.loop-k.values c.args.list.now c.loop-k.k (field_tree c.in-Some.field.now) (values_in (trees_of c.args.list.now)) is c.in_err-value_of.ensures c.loop-k.invariant)
+    rw (p.1, p.2) (fail_at value.tree value_in all_values values_none c.in_err-value_of.field-0.0 c.loop-k.values c.args.list.now c.loop-k.k (field_tree c.in-Some.field.now) (values_in (trees_of c.args.list.now)) is c.in_err-value_of.ensures c.loop-k.invariant)
 
 pub values_of-loop-k-preserved : goal.values_of-loop-k-preserved
 values_of-loop-k-preserved t c =
     let is = found_at (λ f. field_tree f.now) c.get.result c.in-Some.field c.args.list.now c.loop-k.k c.in-Some.is c.get.ensures in
     rw c.in_ok-push.ensures.ok
-    (values_next c.loop-k.values c.args.list.now c.loop-k.k (field_tree c.in-Some.field.now) (value_tree c.in_ok-value_of.field-0) (values_in (trees_of c.args.list.now)) is c.in_ok-value_of.ensures c.loop-k.invariant)
+    (next_at value.tree value_in all_values values_one c.loop-k.values c.args.list.now c.loop-k.k (field_tree c.in-Some.field.now) (value_tree c.in_ok-value_of.field-0) (values_in (trees_of c.args.list.now)) is c.in_ok-value_of.ensures c.loop-k.invariant)
 
 pub values_of-returns : goal.values_of-returns
 values_of-returns t c = elim c.loop-k-test.branch [
