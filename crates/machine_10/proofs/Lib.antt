@@ -4,3 +4,4 @@ pub mod Offers
 pub mod ReadCases
 pub mod StepCases
 pub mod StepLaws
+pub mod Within

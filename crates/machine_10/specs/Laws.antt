@@ -1,5 +1,6 @@
 -- Any calls on a connection, and what holds after them (AMQP 1.0 2.4, 2.5, 2.7.1, 5.3.2). Lists of calls are newest first.
-use Rattle.std.specs.Prelude.{◌≡◌, ℕ, ◌≤◌, Bool, true, false, ◌⊎◌, List, [], ◌∷◌}
+use Rattle.std.specs.Prelude.{◌≡◌, ◌==◌, ◌&&◌, ℕ, ◌≤◌, Bool, true, false, not, ◌⊎◌, List, [], ◌∷◌}
+use Rattle.machine_10.specs.Parts.{Parts}
 use Rattle.machine_10.specs.Calls.{after_begin_sent, after_end_sent, after_ended}
 use Rattle.machine_10.specs.State.{new_upstream, is_closing, session_at, carries}
 use Rattle.machine_10.specs.Transitions.{Step, Meaning, Nothing, Opened, unit_step}
@@ -98,3 +99,17 @@ pub record GoesOn (c after : Upstream) : Type 0 where
   pub mechanism : after.mechanism ≡ c.mechanism
   pub response : after.response ≡ c.response
   pub phase : place_of c.phase ≤ place_of after.phase
+
+-- a performative of a session that neither begins nor ends it (2.7)
+abbrev pub is_inside : Parts → Bool
+is_inside p = not (p.0 == 17) && not (p.0 == 23)
+
+abbrev pub is_within : Meaning → Bool
+is_within meaning.Nothing = false
+is_within meaning.Init = false
+is_within meaning.AmqpHeader = false
+is_within meaning.Opened = false
+is_within (meaning.OfSession g p payload) = is_inside p
+is_within (meaning.Closed e) = false
+is_within meaning.Refused = false
+is_within (meaning.Violation why) = false

@@ -3,7 +3,7 @@
 ghost use Rattle.std.specs.Prelude.{◌≡◌, ℕ, true, List};
 ghost use Rattle.performatives_10.specs.declared.condition.Condition.{Condition};
 ghost use Rattle.machine_10.specs.Laws.{Call10, after_calls, AreInRange, Closes, GoesOn, RunsBy};
-ghost use Rattle.machine_10.specs.Laws.{StaysClosing, StaysClosed};
+ghost use Rattle.machine_10.specs.Laws.{StaysClosing, StaysClosed, is_within};
 ghost use Rattle.machine_10.specs.SessionFolds.{Event10, after_events, AreEvents, IsFold};
 ghost use Rattle.machine_10.specs.State.{is_closing};
 ghost use Rattle.machine_10.specs.Transitions.{unit_step};
@@ -32,6 +32,8 @@ pub fn connection_laws()
     ensures forward { (c : Upstream) (u : Unit10) → GoesOn c (unit_step c u).0 }
     // A connection that is closing stays so, and no unit is refused any more.
     ensures closing { (c : Upstream) (u : Unit10) → is_closing c.phase ≡ true → StaysClosing c (unit_step c u) }
+    // What a session is told that neither begins nor ends it leaves the connection as it is.
+    ensures within { (c : Upstream) (u : Unit10) → is_within (unit_step c u).1 ≡ true → (unit_step c u).0 ≡ c }
     // A closed connection stays so, and nothing is answered.
     ensures closed { (c : Upstream) (u : Unit10) → c.phase ≡ phase.Closed → StaysClosed c (unit_step c u) }
 {}
