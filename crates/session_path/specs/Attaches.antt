@@ -2,7 +2,10 @@
 use Rattle.std.specs.Prelude.{ℕ, not, ◌+◌, ◌==◌, ◌&&◌, if◌then◌else◌, List, [], ◌∷◌, is_some}
 use Rattle.session_path.specs.Links.{attach_fault}
 use Rattle.session_path.specs.Path.{PathState}
-use Rattle.session_path.specs.Events.{PathEvent, Began, Published, Selected, Owed, AttachCame, FlowCame, DetachCame, DispositionCame, AttachSent, LinkFlowSent, TransferSent, SettleSent, DetachSent, ConfirmWent, OkSent, LineWent, SessionLost, after_events}
+use Rattle.session_path.specs.Events.{PathEvent, Began, Published, Selected, Owed, AttachCame}
+use Rattle.session_path.specs.Events.{FlowCame, DetachCame, DispositionCame, AttachSent}
+use Rattle.session_path.specs.Events.{LinkFlowSent, TransferSent, SettleSent, DetachSent}
+use Rattle.session_path.specs.Events.{ConfirmWent, OkSent, LineWent, SessionLost, after_events}
 
 -- an attach of the gateway under the name with this number
 abbrev pub asks_as : ℕ → PathEvent → ℕ
@@ -34,7 +37,8 @@ attaches_as name s (Began handle_max) = 0
 attaches_as name s (Published address payload) = 0
 attaches_as name s Selected = 0
 attaches_as name s (Owed ok) = 0
-attaches_as name s (AttachCame own peer target) = if own == name && not (is_some (attach_fault own peer s.links)) then 1 else 0
+attaches_as name s (AttachCame own peer target) =
+    if own == name && not (is_some (attach_fault own peer s.links)) then 1 else 0
 attaches_as name s (FlowCame peer count credit drain echo) = 0
 attaches_as name s (DetachCame peer) = 0
 attaches_as name s (DispositionCame first last accepted settled) = 0
@@ -50,4 +54,5 @@ attaches_as name s SessionLost = 0
 
 abbrev pub times_attached : ℕ → ℕ → List PathEvent → ℕ
 times_attached life name [] = 0
-times_attached life name (x ∷ h) = times_attached life name h + attaches_as name (after_events life h) x
+times_attached life name (x ∷ h) =
+    times_attached life name h + attaches_as name (after_events life h) x

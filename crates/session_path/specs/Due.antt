@@ -1,8 +1,10 @@
 -- What the publishing side of a session makes due, to the container and to the client.
-use Rattle.std.specs.Prelude.{ℕ, Bool, ◌==◌, if◌then◌else◌, List, [], ◌∷◌, find, count_by, Option, Some, None}
+use Rattle.std.specs.Prelude.{ℕ, Bool, ◌==◌, if◌then◌else◌, List, [], ◌∷◌, find, count_by, Option}
+use Rattle.std.specs.Prelude.{Some, None}
 use Rattle.link_table.specs.Table.{free_of}
 use Rattle.publish_path.specs.Links.{link_of}
-use Rattle.publish_path.specs.Offers.{held_bytes, held_count, is_pending, next_confirm_of, next_frame_of, next_line_of}
+use Rattle.publish_path.specs.Offers.{held_bytes, held_count, is_pending, next_confirm_of}
+use Rattle.publish_path.specs.Offers.{next_frame_of, next_line_of}
 use Rattle.publish_path.specs.declared.publish.Confirm.{Confirm}
 use Rattle.publish_path.specs.declared.publish.NextFrame.{NextFrame}
 use Rattle.publish_path.specs.declared.send_links.SendingLink.{SendingLink}
@@ -30,8 +32,8 @@ attach_of (Some l) (Some h) = Some (record { link = l.link; handle = h })
 abbrev pub next_attach : PathState → Option AttachDue
 next_attach s = attach_of (find is_wanted s.links.links) (free_of s.links.handles)
 
--- a flow of a link, with the count and the credit that it states: one that gives the credit back states
--- none, and a count past it
+-- a flow of a link, with the count and the credit that it states: one that gives the credit back
+-- states none, and a count past it
 abbrev pub count_in : Option SendingLink → ℕ
 count_in None = 0
 count_in (Some l) = l.state.count

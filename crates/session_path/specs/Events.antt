@@ -2,11 +2,15 @@
 use Rattle.std.specs.Prelude.{ℕ, Bool, List, [], ◌∷◌, ◌++◌, Option, Some, None}
 use Rattle.publish_path.specs.Links.{link_to}
 use Rattle.publish_path.specs.Offers.{frame_sent}
-use Rattle.publish_path.specs.Publishes.{PublishEvent, TakenUp, OutcomeCame, LinkGone, ConfirmSent, LineTold}
+use Rattle.publish_path.specs.Publishes.{PublishEvent, TakenUp, OutcomeCame, LinkGone, ConfirmSent}
+use Rattle.publish_path.specs.Publishes.{LineTold}
 use Rattle.publish_path.specs.declared.publish.Confirm.{Confirm}
 use Rattle.publish_path.specs.declared.publish.NextFrame.{NextFrame}
 use Rattle.session_path.specs.Links.{linked_to, named}
-use Rattle.session_path.specs.Path.{PathState, attach_came, attach_sent, began, confirm_sent, detach_came, detach_sent, flow_came, last_or, line_told, link_flow_sent, lost, number_of, ok_sent, opened, outcome_came, owed, published, selected, settle_sent, transfer_sent}
+use Rattle.session_path.specs.Path.{PathState, attach_came, attach_sent, began, confirm_sent}
+use Rattle.session_path.specs.Path.{detach_came, detach_sent, flow_came, last_or, line_told}
+use Rattle.session_path.specs.Path.{link_flow_sent, lost, number_of, ok_sent, opened, outcome_came}
+use Rattle.session_path.specs.Path.{owed, published, selected, settle_sent, transfer_sent}
 use Rattle.session_path.specs.declared.path.PathLink.{PathLink}
 use Rattle.session_path.specs.declared.path.PathOk.{PathOk}
 use Rattle.session_path.specs.declared.path.Settling.{Settling}
@@ -55,7 +59,8 @@ after_event (Owed ok) s = owed ok s
 after_event (AttachCame name peer target) s = attach_came name peer target s
 after_event (FlowCame peer count credit drain echo) s = flow_came peer count credit drain echo s
 after_event (DetachCame peer) s = detach_came peer s
-after_event (DispositionCame first last accepted settled) s = outcome_came first last accepted settled s
+after_event (DispositionCame first last accepted settled) s =
+    outcome_came first last accepted settled s
 after_event (AttachSent name) s = attach_sent name s
 after_event LinkFlowSent s = link_flow_sent s
 after_event (TransferSent frame count) s = transfer_sent frame count s
@@ -79,13 +84,16 @@ losses (Some l) = LinkGone (Some l.link) ∷ []
 
 abbrev pub publish_events : PathState → PathEvent → List PublishEvent
 publish_events s (Began handle_max) = []
-publish_events s (Published address payload) = TakenUp (number_of (link_to (linked_to address s.links).sending address)) s.confirms payload ∷ []
+publish_events s (Published address payload) =
+    TakenUp (number_of (link_to
+    (linked_to address s.links).sending address)) s.confirms payload ∷ []
 publish_events s Selected = []
 publish_events s (Owed ok) = []
 publish_events s (AttachCame name peer target) = []
 publish_events s (FlowCame peer count credit drain echo) = []
 publish_events s (DetachCame peer) = losses (named peer s.links)
-publish_events s (DispositionCame first last accepted settled) = OutcomeCame first (last_or first last) accepted ∷ []
+publish_events s (DispositionCame first last accepted settled) =
+    OutcomeCame first (last_or first last) accepted ∷ []
 publish_events s (AttachSent name) = []
 publish_events s LinkFlowSent = []
 publish_events s (TransferSent frame count) = frame_sent frame count s.publishes.list ∷ []

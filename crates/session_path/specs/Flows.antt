@@ -1,9 +1,13 @@
 -- The flows on a link, and what they answer, by the events.
-use Rattle.std.specs.Prelude.{ℕ, Bool, false, ◌+◌, ◌==◌, if◌then◌else◌, List, [], ◌∷◌, find, Option, Some, None}
+use Rattle.std.specs.Prelude.{ℕ, Bool, false, ◌+◌, ◌==◌, if◌then◌else◌, List, [], ◌∷◌, find, Option}
+use Rattle.std.specs.Prelude.{Some, None}
 use Rattle.session_path.specs.declared.path.PathLink.{PathLink}
 use Rattle.session_path.specs.Links.{has_number, is_left, named, one_if}
 use Rattle.session_path.specs.Path.{PathState, flow_of}
-use Rattle.session_path.specs.Events.{PathEvent, Began, Published, Selected, Owed, AttachCame, FlowCame, DetachCame, DispositionCame, AttachSent, LinkFlowSent, TransferSent, SettleSent, DetachSent, ConfirmWent, OkSent, LineWent, SessionLost, after_events}
+use Rattle.session_path.specs.Events.{PathEvent, Began, Published, Selected, Owed, AttachCame}
+use Rattle.session_path.specs.Events.{FlowCame, DetachCame, DispositionCame, AttachSent}
+use Rattle.session_path.specs.Events.{LinkFlowSent, TransferSent, SettleSent, DetachSent}
+use Rattle.session_path.specs.Events.{ConfirmWent, OkSent, LineWent, SessionLost, after_events}
 
 -- it is the link with this number
 abbrev pub is_link : ℕ → Option PathLink → Bool
@@ -34,22 +38,25 @@ abbrev pub flows_on : ℕ → ℕ → List PathEvent → ℕ
 flows_on life n [] = 0
 flows_on life n (x ∷ h) = flows_on life n h + flows_by n (after_events life h) x
 
--- what the container's flows on link n are owed, where so many went and so many were owed: one flow for
--- each echo, and one for each drain (AMQP 1.0 2.7.4); a link that is no more is owed no more than went
+-- what the container's flows on link n are owed, where so many went and so many were owed: one flow
+-- for each echo, and one for each drain (AMQP 1.0 2.7.4); a link that is no more is owed no more
+-- than went
 abbrev pub causes_by : ℕ → PathState → ℕ → ℕ → PathEvent → ℕ
 causes_by n s flows causes (Began handle_max) = causes
 causes_by n s flows causes (Published address payload) = causes
 causes_by n s flows causes Selected = causes
 causes_by n s flows causes (Owed ok) = causes
 causes_by n s flows causes (AttachCame name peer target) = causes
-causes_by n s flows causes (FlowCame peer count credit drain echo) = causes + (if is_link n (named peer s.links) then one_if echo + one_if drain else 0)
+causes_by n s flows causes (FlowCame peer count credit drain echo) =
+    causes + (if is_link n (named peer s.links) then one_if echo + one_if drain else 0)
 causes_by n s flows causes (DetachCame peer) = causes
 causes_by n s flows causes (DispositionCame first last accepted settled) = causes
 causes_by n s flows causes (AttachSent name) = causes
 causes_by n s flows causes LinkFlowSent = causes
 causes_by n s flows causes (TransferSent frame count) = causes
 causes_by n s flows causes (SettleSent settling) = causes
-causes_by n s flows causes DetachSent = if is_link n (find is_left s.links.links) then flows else causes
+causes_by n s flows causes DetachSent =
+    if is_link n (find is_left s.links.links) then flows else causes
 causes_by n s flows causes (ConfirmWent confirm) = causes
 causes_by n s flows causes (OkSent ok) = causes
 causes_by n s flows causes (LineWent number) = causes
@@ -57,7 +64,8 @@ causes_by n s flows causes SessionLost = flows
 
 abbrev pub causes_on : ℕ → ℕ → List PathEvent → ℕ
 causes_on life n [] = 0
-causes_on life n (x ∷ h) = causes_by n (after_events life h) (flows_on life n h) (causes_on life n h) x
+causes_on life n (x ∷ h) =
+    causes_by n (after_events life h) (flows_on life n h) (causes_on life n h) x
 
 -- what link n is owed in a state
 abbrev pub owed_in : Option PathLink → ℕ

@@ -3,7 +3,10 @@ use Rattle.std.specs.Prelude.{◌≡◌, ℕ, Bool, not, ◌&&◌, List, [], ◌
 use Rattle.std.specs.List.{list_any}
 use Rattle.publish_path.specs.Publishes.{is_told, open_after}
 use Rattle.session_path.specs.Path.{last_or, settle_if}
-use Rattle.session_path.specs.Events.{PathEvent, Began, Published, Selected, Owed, AttachCame, FlowCame, DetachCame, DispositionCame, AttachSent, LinkFlowSent, TransferSent, SettleSent, DetachSent, ConfirmWent, OkSent, LineWent, SessionLost, publishes_of}
+use Rattle.session_path.specs.Events.{PathEvent, Began, Published, Selected, Owed, AttachCame}
+use Rattle.session_path.specs.Events.{FlowCame, DetachCame, DispositionCame, AttachSent}
+use Rattle.session_path.specs.Events.{LinkFlowSent, TransferSent, SettleSent, DetachSent}
+use Rattle.session_path.specs.Events.{ConfirmWent, OkSent, LineWent, SessionLost, publishes_of}
 use Rattle.session_path.specs.declared.path.PathOk.{PathOk}
 use Rattle.session_path.specs.declared.path.Settling.{Settling}
 
@@ -92,10 +95,11 @@ settles_sent (x ∷ h) = settles_sent h ++ settles x
 
 -- a disposition that isn't settled is owed one where it is the first outcome of some transfer
 abbrev pub is_outcome_of : ℕ → ℕ → Option ℕ → List PathEvent → Bool
-is_outcome_of life first last h = list_any (is_told first (last_or first last)) (open_after life (publishes_of life h))
+is_outcome_of life first last h =
+    list_any (is_told first (last_or first last)) (open_after life (publishes_of life h))
 
--- those that the container's dispositions are owed, in their order; a lost session is owed no more than
--- what went
+-- those that the container's dispositions are owed, in their order; a lost session is owed no more
+-- than what went
 abbrev pub owed_by : ℕ → List PathEvent → List Settling → PathEvent → List Settling
 owed_by life h list (Began handle_max) = list
 owed_by life h list (Published address payload) = list
@@ -104,7 +108,9 @@ owed_by life h list (Owed ok) = list
 owed_by life h list (AttachCame name peer target) = list
 owed_by life h list (FlowCame peer count credit drain echo) = list
 owed_by life h list (DetachCame peer) = list
-owed_by life h list (DispositionCame first last accepted settled) = settle_if (not settled && is_outcome_of life first last h) (record { first = first; last = last }) list
+owed_by life h list (DispositionCame first last accepted settled) =
+    settle_if (not settled && is_outcome_of life first last h)
+    (record { first = first; last = last }) list
 owed_by life h list (AttachSent name) = list
 owed_by life h list LinkFlowSent = list
 owed_by life h list (TransferSent frame count) = list
@@ -122,4 +128,5 @@ settles_owed life (x ∷ h) = owed_by life h (settles_owed life h) x
 -- each that went was the next of those that were owed
 abbrev pub AreSettles : ℕ → List PathEvent → Type 0
 AreSettles life [] = Unit {0}
-AreSettles life (x ∷ h) = IsFrontOf (settles_sent h ++ settles x) (settles_owed life h) × AreSettles life h
+AreSettles life (x ∷ h) =
+    IsFrontOf (settles_sent h ++ settles x) (settles_owed life h) × AreSettles life h

@@ -1,9 +1,13 @@
 -- The sending links of a session: their credit, how far each is, and their handles.
-use Rattle.std.specs.Prelude.{◌≡◌, ℕ, Bool, true, false, not, ◌+◌, ◌-◌, ◌≤◌, ◌==◌, ◌&&◌, min, if◌then◌else◌, List, [], ◌∷◌, ◌++◌, map, filter, find, insert, Option, Some, None, is_some, codes, decimal}
+use Rattle.std.specs.Prelude.{◌≡◌, ℕ, Bool, true, false, not, ◌+◌, ◌-◌, ◌≤◌, ◌==◌, ◌&&◌, min}
+use Rattle.std.specs.Prelude.{if◌then◌else◌, List, [], ◌∷◌, ◌++◌, map, filter, find, insert, Option}
+use Rattle.std.specs.Prelude.{Some, None, is_some, codes, decimal}
 use Rattle.std.specs.List.{list_any, AllByRecursion}
 use Rattle.link_table.specs.declared.handles.HandleState.{HandleState}
 use Rattle.link_table.specs.declared.handles.HandleState.TheVariants as state
-use Rattle.link_table.specs.Table.{HandleTable, after_attach, after_attached, after_detach_read, after_detach_sent, after_limit, free_of, is_asked, named_by, new_table, state_of}
+use Rattle.link_table.specs.Table.{HandleTable, after_attach, after_attached, after_detach_read}
+use Rattle.link_table.specs.Table.{after_detach_sent, after_limit, free_of, is_asked, named_by}
+use Rattle.link_table.specs.Table.{new_table, state_of}
 use Rattle.publish_path.specs.Links.{asked_link, drained, flowed, link_to, now_attached, without}
 use Rattle.publish_path.specs.declared.send_links.SendingLink.{SendingLink}
 use Rattle.session_path.specs.declared.path.AttachFault.{AttachFault}
@@ -86,6 +90,14 @@ is_asked_as name l = is_stage_asked l.stage && (l.name == name)
 abbrev pub has_number : ℕ → PathLink → Bool
 has_number n l = l.link == n
 
+-- the handle of the link with this number; 0 where it has none, or there is no such link
+abbrev pub handle_in_link : Option PathLink → ℕ
+handle_in_link None = 0
+handle_in_link (Some l) = handle_of l.stage
+
+abbrev pub handle_at : ℕ → List PathLink → ℕ
+handle_at n links = handle_in_link (find (has_number n) links)
+
 -- a link takes the place of the one with its number
 abbrev pub put_for : PathLink → PathLink → PathLink
 put_for x l = if has_number x.link l then x else l
@@ -116,7 +128,8 @@ abbrev pub free_number : List PathLink → ℕ
 free_number links = gap 0 links
 
 abbrev pub wanted_link : ℕ → PathLink
-wanted_link n = record { link = n; stage = Wanted; name = 0; echoes = 0; drains = 0; draining = false }
+wanted_link n =
+    record { link = n; stage = Wanted; name = 0; echoes = 0; drains = 0; draining = false }
 
 -- a link with this number is wanted: all that are below it stand in front of it
 abbrev pub with_wanted : ℕ → List PathLink → List PathLink
@@ -227,8 +240,8 @@ asked_on (Some l) (Some h) name s = record s {
 abbrev pub link_asked : ℕ → LinksState → LinksState
 link_asked name s = asked_on (find is_wanted s.links) (free_of s.handles) name s
 
--- a flow of a link answers what was asked first of these: its state, and then that its credit is given
--- back
+-- a flow of a link answers what was asked first of these: its state, and then that its credit is
+-- given back
 abbrev pub told_once : PathLink → PathLink
 told_once l = record l {
   echoes = l.echoes - 1;
@@ -309,7 +322,8 @@ stands t (Left h) = is_half (state_of t h)
 abbrev pub is_kept : List PathLink → SendingLink → Bool
 is_kept links x = list_any (λ l. has_number x.link l && not (is_left l)) links
 
-pub record AreTied (sending : List SendingLink) (links : List PathLink) (t : HandleTable) : Type 0 where
+pub record AreTied (sending : List SendingLink) (links : List PathLink)
+    (t : HandleTable) : Type 0 where
   pub rising : Rises 0 links
   pub apart : AreApart links
   pub standing : AllByRecursion (λ l. stands t l.stage ≡ true) links

@@ -1,14 +1,18 @@
 -- The publishing side of a session, as contracts see it: before any event, and after each.
-use Rattle.std.specs.Prelude.{ℕ, Bool, true, false, not, ◌==◌, ◌&&◌, ◌||◌, nat_lt, if◌then◌else◌, List, [], ◌∷◌, ◌++◌, drop, find, Option, Some, None}
+use Rattle.std.specs.Prelude.{ℕ, Bool, true, false, not, ◌==◌, ◌&&◌, ◌||◌, nat_lt, if◌then◌else◌}
+use Rattle.std.specs.Prelude.{List, [], ◌∷◌, ◌++◌, drop, find, Option, Some, None}
 use Rattle.std.specs.List.{list_any}
 use Rattle.publish_path.specs.Links.{link_of, link_to}
 use Rattle.publish_path.specs.Offers.{frame_sent, links_after, waits_on}
-use Rattle.publish_path.specs.Publishes.{PublishState, TakenUp, OutcomeCame, LinkGone, ConfirmSent, LineTold, after_event, is_told, no_publishes}
+use Rattle.publish_path.specs.Publishes.{PublishState, TakenUp, OutcomeCame, LinkGone, ConfirmSent}
+use Rattle.publish_path.specs.Publishes.{LineTold, after_event, is_told, no_publishes}
 use Rattle.publish_path.specs.declared.publish.Confirm.{Confirm}
 use Rattle.publish_path.specs.declared.publish.NextFrame.{NextFrame}
 use Rattle.publish_path.specs.declared.publish.Publish.{Publish}
 use Rattle.publish_path.specs.declared.send_links.SendingLink.{SendingLink}
-use Rattle.session_path.specs.Links.{LinksState, all_lost, attached, is_left, limited, link_asked, link_detached, link_flowed, link_gone, linked_to, named, no_links, told_on}
+use Rattle.session_path.specs.Links.{LinksState, all_lost, attached, is_left, limited, link_asked}
+use Rattle.session_path.specs.Links.{link_detached, link_flowed, link_gone, linked_to, named}
+use Rattle.session_path.specs.Links.{no_links, told_on}
 use Rattle.session_path.specs.declared.path.PathLink.{PathLink}
 use Rattle.session_path.specs.declared.path.PathOk.{PathOk}
 use Rattle.session_path.specs.declared.path.Settling.{Settling}
@@ -65,7 +69,8 @@ number_of (Some l) = l.link
 -- a whole content was taken up, for this address, with this payload, on the link to the address
 abbrev pub published_on : LinksState → List ℕ → List ℕ → PathState → PathState
 published_on links address payload s = record s {
-  publishes = after_event (TakenUp (number_of (link_to links.sending address)) s.confirms payload) s.publishes;
+  publishes = after_event (TakenUp (number_of
+      (link_to links.sending address)) s.confirms payload) s.publishes;
   links = links;
 }
 
@@ -78,7 +83,8 @@ abbrev pub attach_came : ℕ → ℕ → Bool → PathState → PathState
 attach_came name peer target s = record s { links = attached name peer target s.links }
 
 abbrev pub flow_came : ℕ → Option ℕ → ℕ → Bool → Bool → PathState → PathState
-flow_came peer count credit drain echo s = record s { links = link_flowed peer count credit drain echo s.links }
+flow_came peer count credit drain echo s =
+    record s { links = link_flowed peer count credit drain echo s.links }
 
 -- a detach: the link is lost for the publishes that have no outcome
 abbrev pub lost_on : Option PathLink → PublishState → PublishState
@@ -106,7 +112,8 @@ settle_if due settling list = if due then list ++ settling ∷ [] else list
 abbrev pub outcome_came : ℕ → Option ℕ → Bool → Bool → PathState → PathState
 outcome_came first last accepted settled s = record s {
   publishes = after_event (OutcomeCame first (last_or first last) accepted) s.publishes;
-  settles = settle_if (not settled && tells first last s) (record { first = first; last = last }) s.settles;
+  settles = settle_if (not settled && tells first last s)
+      (record { first = first; last = last }) s.settles;
 }
 
 -- ---- what goes to the container
@@ -115,14 +122,15 @@ outcome_came first last accepted settled s = record s {
 abbrev pub attach_sent : ℕ → PathState → PathState
 attach_sent name s = record s { links = link_asked name s.links }
 
--- a flow of a link is due: for what the container asked of its state; and to give its credit back once
--- no publish waits on it or there is none (AMQP 1.0 2.6.7)
+-- a flow of a link is due: for what the container asked of its state; and to give its credit back
+-- once no publish waits on it or there is none (AMQP 1.0 2.6.7)
 abbrev pub credit_in : Option SendingLink → ℕ
 credit_in None = 0
 credit_in (Some l) = l.state.credit
 
 abbrev pub may_drain : List Publish → List SendingLink → PathLink → Bool
-may_drain list sending l = not (list_any (waits_on l.link) list) || (credit_in (link_of sending l.link) == 0)
+may_drain list sending l =
+    not (list_any (waits_on l.link) list) || (credit_in (link_of sending l.link) == 0)
 
 abbrev pub owes_flow : List Publish → List SendingLink → PathLink → Bool
 owes_flow list sending l =

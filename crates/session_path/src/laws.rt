@@ -6,46 +6,54 @@ ghost use Rattle.session_path.specs.Events.{PathEvent, after_events, publishes_o
 ghost use Rattle.session_path.specs.Links.{AreTied};
 ghost use Rattle.session_path.specs.Attaches.{times_asked, times_attached};
 ghost use Rattle.session_path.specs.Flows.{causes_on, flows_on, owed_on};
-ghost use Rattle.session_path.specs.Laws.{AreAnswers, AreSettles, oks_owed, oks_sent, settles_owed, settles_sent};
+ghost use Rattle.session_path.specs.Laws.{AreAnswers, AreSettles, oks_owed, oks_sent, settles_owed};
+ghost use Rattle.session_path.specs.Laws.{settles_sent};
 
 /// The answers to a client's requests.
 pub fn answers_lawfully()
-    // Where each that went was the next, those that went and those due are those that became due, in the
-    // order of the requests.
-    ensures { (life : ℕ) (h : List PathEvent) → AreAnswers h → oks_sent h ++ (after_events life h).oks ≡ oks_owed h }
+    // Where each that went was the next, those that went and those due are those that became due,
+    // in the order of the requests.
+    ensures { (life : ℕ) (h : List PathEvent) → AreAnswers h → oks_sent h
+        ++ (after_events life h).oks ≡ oks_owed h }
 {}
 
 /// The dispositions of role sender.
 pub fn settles_lawfully()
-    // Where each that went was the next, those that went and those due answer the container's, in order.
-    ensures { (life : ℕ) (h : List PathEvent) → AreSettles life h → settles_sent h ++ (after_events life h).settles ≡ settles_owed life h }
+    // Where each that went was the next, those that went and those due answer the container's, in
+    // order.
+    ensures { (life : ℕ) (h : List PathEvent) → AreSettles life h
+        → settles_sent h ++ (after_events life h).settles ≡ settles_owed life h }
 {}
 
 /// The publishes of a life.
 pub fn publishes_lawfully()
-    // Its publishes are those after the publish events among its events, of which publish_path's laws
-    // speak.
-    ensures { (life : ℕ) (h : List PathEvent) → (after_events life h).publishes ≡ publishes_after life (publishes_of life h) }
+    // Its publishes are those after the publish events among its events, of which publish_path's
+    // laws speak.
+    ensures { (life : ℕ) (h : List PathEvent) → (after_events life h).publishes
+        ≡ publishes_after life (publishes_of life h) }
 {}
 
 /// The links of a session.
 pub fn links_lawfully()
-    // After any events no two links that aren't detached at both ends have one handle of the gateway;
-    // each handle's state in the session's table is what its link is; each link whose credit is kept is
-    // one that the container didn't detach; and the numbers of the links rise.
-    ensures { (life : ℕ) (h : List PathEvent) → AreTied (after_events life h).links.sending (after_events life h).links.links (after_events life h).links.handles }
+    // After any events no two links that aren't detached at both ends have one handle of the
+    // gateway; each handle's state in the session's table is what its link is; each link whose
+    // credit is kept is one that the container didn't detach; and the numbers of the links rise.
+    ensures { (life : ℕ) (h : List PathEvent) → AreTied (after_events life h).links.sending
+        (after_events life h).links.links (after_events life h).links.handles }
 {}
 
 /// The flows on a link.
 pub fn flows_lawfully()
-    // After any events, the flows that went on a link and those that it is owed are as many as the echoes
-    // and the drains of the container's flows on it.
-    ensures { (life n : ℕ) (h : List PathEvent) → flows_on life n h + owed_on n (after_events life h).links.links ≡ causes_on life n h }
+    // After any events, the flows that went on a link and those that it is owed are as many as the
+    // echoes and the drains of the container's flows on it.
+    ensures { (life n : ℕ) (h : List PathEvent) → flows_on life n h + owed_on n
+        (after_events life h).links.links ≡ causes_on life n h }
 {}
 
 /// The attaches of links.
 pub fn attaches_lawfully()
-    // The container attaches a link under a name no more often than the gateway asked under it: once at
-    // most, where each attach of the gateway has a name of its own.
-    ensures { (life name : ℕ) (h : List PathEvent) → times_attached life name h ≤ times_asked name h }
+    // The container attaches a link under a name no more often than the gateway asked under it:
+    // once at most, where each attach of the gateway has a name of its own.
+    ensures { (life name : ℕ) (h : List PathEvent)
+        → times_attached life name h ≤ times_asked name h }
 {}

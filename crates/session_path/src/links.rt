@@ -1,7 +1,10 @@
 //! The links of a session in the order of their numbers: searches, and the change of one.
 
 ghost use Rattle.std.specs.Prelude.{◌≡◌, ◌+◌, ◌≤◌, length, find, map, IfSome, IfOk, option_copied};
-ghost use Rattle.session_path.specs.Links.{handle_of, is_wanted, is_left, is_at, is_asked_as, put_for, put, free_number, one_if, told_by, wanted_link, answered, left_by, asked_as, told_once, is_left_at, gone_from};
+ghost use Rattle.session_path.specs.Links.{handle_of, has_number, is_wanted, is_left, is_at};
+ghost use Rattle.session_path.specs.Links.{is_asked_as, put_for, put, free_number, one_if, told_by};
+ghost use Rattle.session_path.specs.Links.{wanted_link, answered, left_by, asked_as, told_once};
+ghost use Rattle.session_path.specs.Links.{is_left_at, gone_from};
 
 use crate::path::{PathLink, Stage};
 use wire_base::Memory;
@@ -75,6 +78,19 @@ pub fn first_at(links: &[PathLink], handle: u32) -> Option<&PathLink>
     ensures { option_copied result ≡ find (is_at handle) links.now }
 {
     links.iter().find(|l| is_link_at(l, handle))
+}
+
+fn is_link_numbered(l: &PathLink, number: u32) -> bool
+    ensures { result ≡ has_number number l.now }
+{
+    l.link == number
+}
+
+/// The link with this number.
+pub fn first_numbered(links: &[PathLink], number: u32) -> Option<&PathLink>
+    ensures { option_copied result ≡ find (has_number number) links.now }
+{
+    links.iter().find(|l| is_link_numbered(l, number))
 }
 
 /// The link whose attach under this name isn't answered.

@@ -9,8 +9,8 @@ pub enum Stage {
     Asked(u32),
     /// Both attached.
     Open(u32),
-    /// The container's attach had no target, which refuses the link: its detach is awaited (AMQP 1.0
-    /// 2.6.3).
+    /// The container's attach had no target, which refuses the link: its detach is awaited (AMQP
+    /// 1.0 2.6.3).
     Refused(u32),
     /// The container's detach came: the gateway's is due.
     Left(u32),

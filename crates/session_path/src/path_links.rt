@@ -1,17 +1,25 @@
 //! The sending links of a session: each call is one step of them.
 
-ghost use Rattle.std.specs.Prelude.{◌≡◌, ◌≤◌, ◌<◌, ◌+◌, ◌^◌, ◌++◌, ◌∷◌, [], ◌==◌, if◌then◌else◌, length, find, map, option_copied, Some, None, OnOk, OnErr, IfOk};
-ghost use Rattle.publish_path.specs.Links.{address_of, asked_link, link_of, link_to, flowed, without};
-ghost use Rattle.publish_path.specs.Offers.{held_bytes, held_count, next_frame_of, rest_of, frame_sent, links_after};
+ghost use Rattle.std.specs.Prelude.{◌≡◌, ◌≤◌, ◌<◌, ◌+◌, ◌^◌, ◌++◌, ◌∷◌, [], ◌==◌, if◌then◌else◌};
+ghost use Rattle.std.specs.Prelude.{length, find, map, option_copied, Some, None, OnOk, OnErr};
+ghost use Rattle.std.specs.Prelude.{IfOk};
+ghost use Rattle.publish_path.specs.Links.{address_of, asked_link, link_of, link_to, flowed};
+ghost use Rattle.publish_path.specs.Links.{without};
+ghost use Rattle.publish_path.specs.Offers.{held_bytes, held_count, next_frame_of, rest_of};
+ghost use Rattle.publish_path.specs.Offers.{frame_sent, links_after};
 ghost use Rattle.publish_path.specs.Publishes.{TakenUp, after_event};
 ghost use Rattle.session_path.specs.Path.{credit_in, flow_of, number_of, owes_flow};
 ghost use Rattle.link_table.specs.Table.{free_of};
 ghost use Rattle.session_path.specs.Due.{attach_of, count_in, due_in, flow_due};
-ghost use Rattle.session_path.specs.Links.{attached_if, drained_if, free_number, linked_to, with_link_to, with_wanted, told_on, no_links, limited, all_lost, link_asked, attach_fault, attached, is_wanted, is_left, named, link_flowed, link_detached, link_gone};
+ghost use Rattle.session_path.specs.Links.{handle_at, attached_if, drained_if, free_number};
+ghost use Rattle.session_path.specs.Links.{linked_to, with_link_to, with_wanted, told_on, no_links};
+ghost use Rattle.session_path.specs.Links.{limited, all_lost, link_asked, attach_fault, attached};
+ghost use Rattle.session_path.specs.Links.{is_wanted, is_left, named, link_flowed, link_detached};
+ghost use Rattle.session_path.specs.Links.{link_gone};
 
 use crate::links::{
-    answered, asked, drop_left, first_asked_as, first_at, first_left, first_wanted, handle,
-    is_link_left, left, lowest_free, put_link, told, told_once, wanted,
+    answered, asked, drop_left, first_asked_as, first_at, first_left, first_numbered, first_wanted,
+    handle, is_link_left, left, lowest_free, put_link, told, told_once, wanted,
 };
 use crate::path::{AttachDue, AttachFault, FlowDue, PathLink};
 use link_table::Handles;
@@ -49,7 +57,11 @@ impl Model for PathLinks {
 
     ghost Value = { LinksState };
 
-    ghost view = { λ a. record { sending = a.sending; links = a.links.items; handles = a.handles } };
+    ghost view = { λ a. record {
+      sending = a.sending;
+      links = a.links.items;
+      handles = a.handles;
+    } };
 
     ghost invariant = { λ a. AreTied a.sending a.links.items a.handles };
 }
@@ -83,8 +95,8 @@ impl PathLinks {
         self.links.clear();
     }
 
-    /// A publish with this payload was taken up, for this address: on the link to it, or else on one that
-    /// is wanted from now on.
+    /// A publish with this payload was taken up, for this address: on the link to it, or else on
+    /// one that is wanted from now on.
     pub fn publish(
         &mut self,
         publishes: &mut Publishes,
@@ -96,7 +108,9 @@ impl PathLinks {
         requires count { held_count publishes.old.list + 1 < 2 ^ 32 }
         requires bytes { held_bytes publishes.old.list + length payload < 2 ^ 64 }
         ensures ok_links { OnOk result (self.new ≡ linked_to address self.old) }
-        ensures ok_publishes { OnOk result (publishes.new ≡ after_event (TakenUp (number_of (link_to (linked_to address self.old).sending address)) confirm payload) publishes.old) }
+        ensures ok_publishes { OnOk result (publishes.new ≡ after_event (TakenUp (number_of
+            (link_to
+            (linked_to address self.old).sending address)) confirm payload) publishes.old) }
         ensures err_links { OnErr result (self.new ≡ self.old) }
         ensures err_publishes { OnErr result (publishes.new ≡ publishes.old) }
     {
@@ -121,7 +135,8 @@ impl PathLinks {
         requires count { held_count publishes.old.list + 1 < 2 ^ 32 }
         requires bytes { held_bytes publishes.old.list + length payload < 2 ^ 64 }
         ensures ok_links { OnOk result (self.new ≡ with_link_to address self.old) }
-        ensures ok_publishes { OnOk result (publishes.new ≡ after_event (TakenUp (free_number self.old.links) confirm payload) publishes.old) }
+        ensures ok_publishes { OnOk result (publishes.new
+            ≡ after_event (TakenUp (free_number self.old.links) confirm payload) publishes.old) }
         ensures err_links { OnErr result (self.new ≡ self.old) }
         ensures err_publishes { OnErr result (publishes.new ≡ publishes.old) }
     {
@@ -151,8 +166,8 @@ impl PathLinks {
         put_link(&mut self.links, asked(l, own, name));
     }
 
-    /// The container's attach came, under this name and with this handle. Nothing changes where it is at
-    /// fault.
+    /// The container's attach came, under this name and with this handle. Nothing changes where it
+    /// is at fault.
     pub fn attach(&mut self, name: u64, peer: u32, target: bool) -> Option<AttachFault>
         ensures fault { result ≡ attach_fault name peer self.old }
         ensures links { self.new ≡ attached name peer target self.old }
@@ -180,10 +195,11 @@ impl PathLinks {
         }
     }
 
-    /// A flow came on the link that this handle of the container names; nothing changes where it names
-    /// none. `Memory` if a count of the link is full.
+    /// A flow came on the link that this handle of the container names; nothing changes where it
+    /// names none. `Memory` if a count of the link is full.
     pub fn flow(&mut self, peer: u32, flow: LinkFlow) -> Result<(), Memory>
-        ensures ok { OnOk result (self.new ≡ link_flowed peer flow.count flow.credit flow.drain flow.echo self.old) }
+        ensures ok { OnOk result (self.new
+            ≡ link_flowed peer flow.count flow.credit flow.drain flow.echo self.old) }
         ensures err { OnErr result (self.new ≡ self.old) }
     {
         let Some(own) = self.handles.of_peer(peer) else {
@@ -199,7 +215,8 @@ impl PathLinks {
         Ok(())
     }
 
-    /// The container detached the link that this handle of it names; nothing changes where it names none.
+    /// The container detached the link that this handle of it names; nothing changes where it names
+    /// none.
     pub fn detach(&mut self, peer: u32)
         ensures { self.new ≡ link_detached peer self.old }
     {
@@ -220,6 +237,29 @@ impl PathLinks {
         ensures { result.now ≡ address_of self.now.sending link }
     {
         self.sending.address(link)
+    }
+
+    /// Why an attach under this name and handle of the container can't be taken.
+    pub fn attach_fault(&self, name: u64, peer: u32) -> Option<AttachFault>
+        ensures { result ≡ attach_fault name peer self.now }
+    {
+        if first_asked_as(self.links.as_slice(), name).is_none() {
+            Some(AttachFault::NotAsked)
+        } else if self.handles.of_peer(peer).is_some() {
+            Some(AttachFault::HandleInUse)
+        } else {
+            None
+        }
+    }
+
+    /// The handle of a link, by its number; 0 where it has none.
+    pub fn handle_of(&self, link: u32) -> u32
+        ensures { result ≡ handle_at link self.now.links }
+    {
+        match first_numbered(self.links.as_slice(), link) {
+            None => 0,
+            Some(this) => handle(this.stage),
+        }
     }
 
     /// The attach that is due.
@@ -282,7 +322,8 @@ impl PathLinks {
 
     /// The frame of a transfer that is due.
     pub fn next_frame(&self, publishes: &Publishes, window: u32) -> Option<NextFrame>
-        ensures { result ≡ (if window == 0 then None else next_frame_of self.now.sending publishes.now.list) }
+        ensures { result ≡ (if window == 0 then None
+            else next_frame_of self.now.sending publishes.now.list) }
     {
         publishes.next_frame(&self.sending, window)
     }
@@ -291,8 +332,10 @@ impl PathLinks {
     pub fn commit_frame(&mut self, publishes: &mut Publishes, frame: NextFrame, bytes: u32)
         requires frame { next_frame_of self.old.sending publishes.old.list ≡ Some frame }
         requires bytes { bytes ≤ length (rest_of frame.publish publishes.old.list) }
-        ensures publishes { publishes.new ≡ after_event (frame_sent frame bytes publishes.old.list) publishes.old }
-        ensures links { self.new ≡ record self.old { sending = links_after frame self.old.sending } }
+        ensures publishes { publishes.new ≡ after_event
+            (frame_sent frame bytes publishes.old.list) publishes.old }
+        ensures links { self.new
+            ≡ record self.old { sending = links_after frame self.old.sending } }
     {
         publishes.commit_frame(&mut self.sending, frame, bytes);
     }
@@ -395,8 +438,10 @@ fn add_link(
     requires address { link_to sending.old address ≡ None }
     ensures number { IfOk result (λ n. n ≡ free_number links.old.items) }
     ensures within { OnOk result (free_number links.old.items ≤ length links.old.items) }
-    ensures links { OnOk result (links.new.items ≡ with_wanted (free_number links.old.items) links.old.items) }
-    ensures sending { OnOk result (sending.new ≡ sending.old ++ asked_link (free_number links.old.items) address ∷ []) }
+    ensures links { OnOk result (links.new.items
+        ≡ with_wanted (free_number links.old.items) links.old.items) }
+    ensures sending { OnOk result (sending.new
+        ≡ sending.old ++ asked_link (free_number links.old.items) address ∷ []) }
     ensures links_kept { OnErr result (links.new.items ≡ links.old.items) }
     ensures sending_kept { OnErr result (sending.new ≡ sending.old) }
 {

@@ -1,11 +1,18 @@
 //! The publishing side of a session: each call is one event, or a question on what is due.
 
-ghost use Rattle.std.specs.Prelude.{◌≡◌, ◌≤◌, ◌+◌, ◌<◌, ◌↔◌, [], length, Some, None, IsSome, IsNone, IfSome, OnOk, OnErr, IfOk};
+ghost use Rattle.std.specs.Prelude.{◌≡◌, ◌≤◌, ◌+◌, ◌<◌, ◌↔◌, [], length, Some, None, IsSome};
+ghost use Rattle.std.specs.Prelude.{IsNone, IfSome, OnOk, OnErr, IfOk};
 ghost use Rattle.publish_path.specs.Links.{address_of};
 ghost use Rattle.publish_path.specs.Offers.{next_frame_of, rest_of};
-ghost use Rattle.session_path.specs.Links.{attach_fault, named};
-ghost use Rattle.session_path.specs.Path.{PathState, opened, began, lost, owed, published, selected, attach_came, flow_came, detach_came, outcome_came, last_or, attach_sent, link_flow_sent, transfer_sent, settle_sent, detach_sent, confirm_sent, ok_sent, line_told};
-ghost use Rattle.session_path.specs.Due.{first_of, next_attach, next_flow, next_frame, next_settle, next_detach, next_confirm, next_ok, next_line, is_done, held, held_size_of};
+ghost use Rattle.session_path.specs.Links.{handle_at, attach_fault, named};
+ghost use Rattle.session_path.specs.Path.{PathState, opened, began, lost, owed, published};
+ghost use Rattle.session_path.specs.Path.{selected, attach_came, flow_came, detach_came};
+ghost use Rattle.session_path.specs.Path.{outcome_came, last_or, attach_sent, link_flow_sent};
+ghost use Rattle.session_path.specs.Path.{transfer_sent, settle_sent, detach_sent, confirm_sent};
+ghost use Rattle.session_path.specs.Path.{ok_sent, line_told};
+ghost use Rattle.session_path.specs.Due.{first_of, next_attach, next_flow, next_frame, next_settle};
+ghost use Rattle.session_path.specs.Due.{next_detach, next_confirm, next_ok, next_line, is_done};
+ghost use Rattle.session_path.specs.Due.{held, held_size_of};
 
 use crate::path::{AttachDue, AttachFault, FlowDue, PathLink, PathOk, Settling};
 use crate::path_links::{LinkFlow, PathLinks};
@@ -111,8 +118,8 @@ impl SessionPath {
         Ok(())
     }
 
-    /// A whole content was taken up, for this address, with the payload of its transfer. `Memory` also if
-    /// a count is full: of publishes, of those held, or of their bytes.
+    /// A whole content was taken up, for this address, with the payload of its transfer. `Memory`
+    /// also if a count is full: of publishes, of those held, or of their bytes.
     pub fn published(&mut self, address: ByteText, payload: ByteText) -> Result<(), Memory>
         ensures ok { OnOk result (self.new ≡ published address payload self.old) }
         ensures err { OnErr result (self.new ≡ self.old) }
@@ -128,8 +135,8 @@ impl SessionPath {
         Ok(())
     }
 
-    /// The container's attach came, under the name with this number, with its handle, and with a target
-    /// or none. Nothing changes where it is at fault.
+    /// The container's attach came, under the name with this number, with its handle, and with a
+    /// target or none. Nothing changes where it is at fault.
     pub fn attach_came(&mut self, name: u64, peer: u32, target: bool) -> Option<AttachFault>
         ensures fault { result ≡ attach_fault name peer self.old.links }
         ensures path { self.new ≡ attach_came name peer target self.old }
@@ -137,18 +144,33 @@ impl SessionPath {
         self.links.attach(name, peer, target)
     }
 
-    /// The link that this handle of the container names: both ends attached it. A flow, a transfer or a
-    /// detach under a handle that names none is a fault (AMQP 1.0 2.8.17).
+    /// The link that this handle of the container names: both ends attached it. A flow, a transfer
+    /// or a detach under a handle that names none is a fault (AMQP 1.0 2.8.17).
     pub fn named(&self, peer: u32) -> Option<PathLink>
         ensures { result ≡ named peer self.now.links }
     {
         self.links.named(peer)
     }
 
-    /// A flow came under this handle of the container. Nothing changes where it names no link. `Memory`
-    /// if a count of the link is full.
+    /// Why an attach under this name and handle of the container can't be taken.
+    pub fn attach_fault(&self, name: u64, peer: u32) -> Option<AttachFault>
+        ensures { result ≡ attach_fault name peer self.now.links }
+    {
+        self.links.attach_fault(name, peer)
+    }
+
+    /// The handle of a link, by its number; 0 where it has none.
+    pub fn handle_of(&self, link: u32) -> u32
+        ensures { result ≡ handle_at link self.now.links.links }
+    {
+        self.links.handle_of(link)
+    }
+
+    /// A flow came under this handle of the container. Nothing changes where it names no link.
+    /// `Memory` if a count of the link is full.
     pub fn flow_came(&mut self, peer: u32, flow: LinkFlow) -> Result<(), Memory>
-        ensures ok { OnOk result (self.new ≡ flow_came peer flow.count flow.credit flow.drain flow.echo self.old) }
+        ensures ok { OnOk result (self.new
+            ≡ flow_came peer flow.count flow.credit flow.drain flow.echo self.old) }
         ensures err { OnErr result (self.new ≡ self.old) }
     {
         self.links.flow(peer, flow)
@@ -164,14 +186,16 @@ impl SessionPath {
         }
     }
 
-    /// An outcome came for these delivery-ids; `settled` says whether the container settled with it.
+    /// An outcome came for these delivery-ids; `settled` says whether the container settled with
+    /// it.
     pub fn outcome_came(
         &mut self,
         ids: Settling,
         accepted: bool,
         settled: bool,
     ) -> Result<(), Memory>
-        ensures ok { OnOk result (self.new ≡ outcome_came ids.first ids.last accepted settled self.old) }
+        ensures ok { OnOk result (self.new
+            ≡ outcome_came ids.first ids.last accepted settled self.old) }
         ensures err { OnErr result (self.new ≡ self.old) }
     {
         self.settles.try_reserve(1)?;
@@ -224,7 +248,8 @@ impl SessionPath {
     /// The confirm that is due was sent.
     pub fn confirm_sent(&mut self)
         requires { IsSome (next_confirm self.old) }
-        ensures { IfSome (next_confirm self.old) (λ confirm. self.new ≡ confirm_sent confirm self.old) }
+        ensures { IfSome (next_confirm self.old) (λ confirm. self.new
+            ≡ confirm_sent confirm self.old) }
     {
         self.publishes.confirmed();
     }
