@@ -1,5 +1,5 @@
 -- How long what is written of a value is, and a frame.
-use Rattle.std.proofs.Common.{◌≡◌, ℕ, ◌+◌, ◌≤◌, List, length, length-append, arith}
+use Rattle.std.proofs.Common.{◌≡◌, ℕ, ◌+◌, ◌<◌, ◌≤◌, List, length, length-append, arith}
 use Rattle.frames_10.specs.Frames.{frame_text, text_behind}
 use Rattle.frames_10.specs.declared.frame.Kind10.{Kind10}
 use Rattle.types_10.specs.Tree.{Tree, binary, described, list, scalar, string, symbol, Trees, tree, uint}
@@ -27,6 +27,13 @@ symbol_short s = omega (arith, whole_len (scalar (symbol s)), symbol_head s)
 pub binary_short : (s : List ℕ) → length (value_text (scalar (binary s))) ≤ length s + 5
 binary_short s = omega (arith, whole_len (scalar (binary s)), binary_head s)
 
+-- one whose length fits a byte
+binary_brief_head : (s : List ℕ) → length s < 256 → head_len (written (scalar (binary s))).kind ≡ 1
+binary_brief_head s short = grind arith
+
+pub binary_brief : (s : List ℕ) → length s < 256 → length (value_text (scalar (binary s))) ≡ length s + 2
+binary_brief s short = omega (arith, whole_len (scalar (binary s)), binary_brief_head s short)
+
 -- ---- numbers
 
 pub uint_short : (n : ℕ) → length (value_text (scalar (uint n))) ≤ 5
@@ -39,6 +46,13 @@ list_head count body = grind arith
 
 pub list_short : (ts : Trees) → length (value_text (list ts)) ≤ length (written_each ts).text + 9
 list_short ts = omega (arith, whole_len (list ts), list_head (written_each ts).count (written_each ts).text)
+
+-- one whose count and size fit a byte each
+brief_head : (count : ℕ) (body : List ℕ) → 0 < count → count < 256 → length body < 255 → head_len (list_kind count body) ≡ 2
+brief_head count body some few short = grind arith
+
+pub list_brief : (ts : Trees) → 0 < (written_each ts).count → (written_each ts).count < 256 → length (written_each ts).text < 255 → length (value_text (list ts)) ≡ length (written_each ts).text + 3
+list_brief ts some few short = omega (arith, whole_len (list ts), brief_head (written_each ts).count (written_each ts).text some few short)
 
 pub each_len : (t : Tree) (ts : Trees) → length (written_each (tree t ts)).text ≡ length (value_text t) + length (written_each ts).text
 each_len t ts = length-append (value_text t) (written_each ts).text

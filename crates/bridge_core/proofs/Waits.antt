@@ -1,5 +1,5 @@
 -- Requests of channels that wait, by what the code knows of them.
-use Rattle.std.proofs.Common.{◌≡◌, ◌∙◌, ℕ, Bool, ◌||◌, false, List, Option, ap}
+use Rattle.std.proofs.Common.{◌≡◌, ◌∙◌, Bool, ◌||◌, false, List, Option, ap}
 use Rattle.machine_091.specs.State.{is_closing, is_opening}
 use Rattle.machine_10.specs.declared.state.Upstream.{Upstream}
 use Rattle.gate_model.specs.declared.life.Life.{Life}

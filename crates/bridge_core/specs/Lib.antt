@@ -2,5 +2,8 @@ pub mod Behind
 pub mod ChannelRows
 pub mod Flows
 pub mod Going
+pub mod LinkFaults
 pub mod Logins
+pub mod Met
 pub mod Offers
+pub mod PathChanges

@@ -1,14 +1,15 @@
 -- What a bridge shows: its state, and for each end whether a unit is offered, and its bytes or
 -- those of the unit in progress.
-use Rattle.std.specs.Prelude.{◌≡◌, ℕ, Bool, false, List, Option, Some, None, is_some}
+use Rattle.std.specs.Prelude.{◌≡◌, ℕ, Bool, true, false, List, Option, Some, None, is_some}
 use Rattle.std.specs.Prelude.{IfSome}
 use Rattle.gate_outside.specs.declared.ports.End.{End}
 use Rattle.gate_outside.specs.declared.ports.End.TheVariants.{Client, Up}
 use Rattle.gate_model.specs.declared.outgoing.Outgoing.{Outgoing}
 use Rattle.gate_model.specs.declared.outgoing.Outgoing.TheVariants.{ToClient, ToUp}
 use Rattle.gate_model.specs.declared.outgoing.UpUnit.{UpUnit}
+use Rattle.gate_model.specs.declared.outgoing.UpUnit.TheVariants as up
 use Rattle.gate_model.specs.declared.reply.Reply.{Reply}
-use Rattle.gate_model.specs.Due.{pick}
+use Rattle.gate_model.specs.Due.{carries, pick}
 use Rattle.gate_model.specs.Setup.{SetupText}
 use Rattle.gate_model.specs.Spelling.{Context, context_of, spell, spell_reply}
 use Rattle.gate_model.specs.State.{Came, State, Step, next_unit, step}
@@ -21,6 +22,24 @@ pub record SlotState : Type 0 where
 pub record UpSlotState : Type 0 where
   pub chosen : Option UpUnit
   pub bytes : List ℕ
+
+-- a unit of a session's links, which may carry something of the client's
+abbrev pub is_on_session : UpUnit → Bool
+is_on_session up.SaslHeader = false
+is_on_session up.SaslInit = false
+is_on_session up.AmqpHeader = false
+is_on_session up.Open = false
+is_on_session (up.Close why) = false
+is_on_session up.Empty = false
+is_on_session (up.OnSession n u) = true
+is_on_session (up.Flow n i o) = false
+is_on_session (up.Begin n) = false
+is_on_session (up.End n why) = false
+
+-- the bytes stand in a text of their own, or in the room
+abbrev pub slot_bytes : Option (List ℕ) → List ℕ → List ℕ
+slot_bytes None bytes = bytes
+slot_bytes (Some text) bytes = text
 
 -- what is chosen is what goes next, and the bytes are its spelling
 abbrev pub IsOffer : State → SlotState → Type 0
@@ -63,9 +82,9 @@ advanced b = record {
   up = stale b.up;
 }
 
-abbrev pub bytes_of : Context → Option Outgoing → List ℕ → List ℕ
-bytes_of c None old = old
-bytes_of c (Some u) old = spell c u
+abbrev pub bytes_of : Context → State → Option Outgoing → List ℕ → List ℕ
+bytes_of c w None old = old
+bytes_of c w (Some u) old = spell c u (carries w u)
 
 -- those of a unit to the client need no context
 abbrev pub client_bytes : Option Outgoing → List ℕ → List ℕ
@@ -74,8 +93,8 @@ client_bytes (Some (ToClient u)) old = spell_reply u
 client_bytes (Some (ToUp u)) old = old
 
 -- a look at what goes next to an end
-abbrev pub looked : Context → Option Outgoing → OfferState → OfferState
-looked c u o = record { ready = is_some u; bytes = bytes_of c u o.bytes }
+abbrev pub looked : Context → State → Option Outgoing → OfferState → OfferState
+looked c w u o = record { ready = is_some u; bytes = bytes_of c w u o.bytes }
 
 abbrev pub peeked : SetupText → End → BridgeState → BridgeState
 peeked s Client b = record b {
@@ -84,7 +103,7 @@ peeked s Client b = record b {
     bytes = client_bytes (pick b.state Client) b.client.bytes;
   };
 }
-peeked s Up b = record b { up = looked (context_of s b.state) (pick b.state Up) b.up }
+peeked s Up b = record b { up = looked (context_of s b.state) b.state (pick b.state Up) b.up }
 
 -- units in progress and their bytes stay
 pub record Keeps (old new : BridgeState) : Type 0 where

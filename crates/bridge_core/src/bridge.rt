@@ -1,26 +1,27 @@
 //! A pair's bridge: its state, and the unit that is offered to each end.
 
 ghost use Rattle.std.specs.Prelude.{◌≡◌, ◌≤◌, true, false, length, OnOk, OnErr, IfOk};
-ghost use Rattle.std.specs.Prelude.{IfSome, IsSome, is_some};
+ghost use Rattle.std.specs.Prelude.{IfSome, IsSome, Some, is_some};
 ghost use Rattle.gate_outside.specs.declared.ports.End.TheVariants.{Client, Up};
 ghost use Rattle.gate_model.specs.State.{Moment, Fed, Silent, Queued, TakenUp, Heard, Joined};
 ghost use Rattle.gate_model.specs.State.{Lost, Gave};
 ghost use Rattle.gate_model.specs.State.{Whole, OutOfMemory, new_state, next_unit, waits};
 ghost use Rattle.gate_model.specs.Due.{can_leave, can_take_up, is_awaiting, is_busy};
 ghost use Rattle.gate_model.specs.Due.{is_connect_due, is_shut_due, is_silent, pick};
-ghost use Rattle.gate_model.specs.Due.{takes_memory};
-ghost use Rattle.gate_model.specs.Spelling.{context_of};
+ghost use Rattle.gate_model.specs.Due.{carries, carries_up, takes_memory, takes_memory_up};
+ghost use Rattle.gate_model.specs.Spelling.{context_of, spell_up};
 ghost use Rattle.gate_model.specs.Upstream.{awaited_of};
 ghost use Rattle.machine_091.specs.Limits.{AreWithin};
 ghost use Rattle.machine_091.specs.State.{awaits};
 ghost use Rattle.bridge_core.specs.Offers.{BridgeState, IsOffer, IsUpOffer, Keeps, advanced};
 ghost use Rattle.bridge_core.specs.Offers.{bytes_of, moved};
 ghost use Rattle.bridge_core.specs.Offers.{client_bytes, offer_of, peeked, stale};
+ghost use Rattle.bridge_core.specs.PathChanges.{MayGo};
 
 use crate::core_state::Core;
 use crate::slot::Slot;
 use crate::up_slot::UpSlot;
-use gate_model::{Outgoing, Setup};
+use gate_model::{Outgoing, Setup, UpUnit};
 use gate_outside::{End, Linked};
 use gate_relay::Loss;
 use machine_10::{Awaited10, Unit10};
@@ -77,13 +78,37 @@ fn look(state: &Core, slot: &mut Slot) -> bool
     }
 }
 
+/// Offers a unit to the container; without memory all is as it was.
+fn choose_up(
+    state: &Core,
+    slot: &mut UpSlot,
+    alloc: Global,
+    setup: &Setup,
+    unit: UpUnit,
+) -> Result<(), Memory>
+    ensures ok { OnOk result (slot.new ≡ record {
+      chosen = Some unit;
+      bytes = spell_up (context_of setup.now state.now) unit (carries_up state.now unit);
+    }) }
+    ensures err { OnErr result (slot.new ≡ slot.old) }
+    ensures takes { OnErr result (takes_memory_up unit ≡ true) }
+{
+    match unit {
+        UpUnit::OnSession(channel, unit) => {
+            slot.choose_on(alloc, channel, unit, state.carried(channel, unit))
+        }
+        unit => slot.choose(alloc, setup, state.number(), state.container(), unit),
+    }
+}
+
 /// Looks for what goes next to the container. Where nothing does, the bytes stay; without memory
 /// all is as it was.
 fn look_up(state: &Core, slot: &mut UpSlot, alloc: Global, setup: &Setup) -> Result<bool, Memory>
     ensures some { IfOk result (λ yes. yes ≡ is_some (pick state.now Up)) }
     ensures offer { OnOk result (IsUpOffer state.now slot.new) }
     ensures chosen { OnOk result (is_some slot.new.chosen ≡ is_some (pick state.now Up)) }
-    ensures bytes { OnOk result (slot.new.bytes ≡ bytes_of (context_of setup.now state.now) (pick state.now Up) slot.old.bytes) }
+    ensures bytes { OnOk result (slot.new.bytes ≡ bytes_of (context_of setup.now state.now)
+        state.now (pick state.now Up) slot.old.bytes) }
     ensures err { OnErr result (slot.new ≡ slot.old) }
     ensures takes { OnErr result (takes_memory (pick state.now Up) ≡ true) }
 {
@@ -93,10 +118,8 @@ fn look_up(state: &Core, slot: &mut UpSlot, alloc: Global, setup: &Setup) -> Res
             Ok(false)
         }
         Some(unit) => {
-            match slot.choose(alloc, setup, state.number(), state.container(), unit) {
-                Ok(()) => Ok(true),
-                Err(error) => Err(error),
-            }
+            choose_up(state, slot, alloc, setup, unit)?;
+            Ok(true)
         }
     }
 }
@@ -118,7 +141,8 @@ impl Bridge {
 
     /// What was offered isn't any more.
     fn take_back(&mut self)
-        ensures { self.new ≡ record self.old { client = stale self.old.client; up = stale self.old.up } }
+        ensures { self.new
+            ≡ record self.old { client = stale self.old.client; up = stale self.old.up } }
     {
         self.client.take_back();
         self.up.take_back();
@@ -381,7 +405,7 @@ impl Bridge {
     /// The bytes of the unit to an end that is offered or in progress.
     pub fn bytes(&self, end: End) -> &[u8]
         ensures bytes { result.now ≡ (offer_of end self.now).bytes }
-        ensures small { length result.now ≤ 512 }
+        ensures small { length result.now ≤ 65536 }
     {
         match end {
             End::Client => self.client.bytes(),
@@ -393,7 +417,8 @@ impl Bridge {
     pub fn commit(&mut self, end: End)
         requires offered { (offer_of end self.old).ready ≡ true }
         ensures picked { IsSome (pick self.old.state end) }
-        ensures step { IfSome (pick self.old.state end) (λ u. self.new ≡ moved (Gave u) self.old) }
+        ensures step { IfSome (pick self.old.state end) (λ u. self.new
+            ≡ moved (Gave u (carries self.old.state u)) self.old) }
     {
         match end {
             End::Client => match self.client.chosen() {
@@ -409,7 +434,8 @@ impl Bridge {
 
     /// The first byte of this unit was sent.
     fn go(&mut self, unit: Outgoing)
-        ensures { self.new ≡ moved (Gave unit) self.old }
+        requires { MayGo self.old.state unit }
+        ensures { self.new ≡ moved (Gave unit (carries self.old.state unit)) self.old }
     {
         self.take_back();
         self.state.begin(unit);

@@ -1,18 +1,26 @@
 //! The first unit of each kind that may go on a channel, by rising numbers.
 
-ghost use Rattle.std.specs.Prelude.{◌≡◌, ◌&&◌, ◌||◌};
-ghost use Rattle.bridge_core.specs.ChannelRows.{begin_row, close_ok_row, close_row, end_row};
-ghost use Rattle.bridge_core.specs.ChannelRows.{flow_ok_row, is_end_due_by, is_settled_on};
-ghost use Rattle.bridge_core.specs.ChannelRows.{is_waiting_on, open_ok_row};
-ghost use Rattle.gate_model.specs.Due.{flows_on};
+ghost use Rattle.std.specs.Prelude.{◌≡◌, ◌&&◌};
+ghost use Rattle.gate_model.specs.Due.{attach_row, confirms_on, detach_row, flows_on};
+ghost use Rattle.gate_model.specs.Due.{frame_max_in, is_long_ago, link_flow_row, may_confirm};
+ghost use Rattle.gate_model.specs.Due.{oks_on, settle_row, transfer_row};
+ghost use Rattle.gate_model.specs.Lives.{any_life, each, is_begun, is_carried, is_ended};
+ghost use Rattle.gate_model.specs.Lives.{is_free, no_life, session_in};
+ghost use Rattle.gate_model.specs.Paths.{flow_out, path_at};
 ghost use Rattle.gate_model.specs.Session.{is_flow_owed};
-ghost use Rattle.gate_model.specs.Lives.{any_life, each, is_carried, is_free, session_in};
 ghost use Rattle.gate_model.specs.Upstream.{first};
+ghost use Rattle.bridge_core.specs.ChannelRows.{begin_row, close_ok_row, close_row, end_row};
+ghost use Rattle.bridge_core.specs.ChannelRows.{is_end_due_by, is_left_on, is_lingered_by};
+ghost use Rattle.bridge_core.specs.ChannelRows.{is_settled_on, is_waiting_on, open_ok_row};
 
+use crate::paths::Paths;
 use crate::sessions::is_flow_owed;
-use gate_model::{Life, Reply, SessionState, UpUnit};
-use machine_10::{Conn10, Session};
+use gate_model::{
+    AttachOut, ChannelUnit, LINGER_LIMIT, Life, LinkFlow, Reply, SessionState, SessionUnit, UpUnit,
+};
+use machine_10::{Conn10, FRAME_MAX, Session};
 use machine_091::Conn91;
+use session_path::FlowDue;
 
 /// The session of a channel; there is none without a container.
 fn session_of(container: &Option<Conn10>, channel: u16) -> Session
@@ -87,14 +95,55 @@ pub fn first_open_ok(lives: &[Life; 256]) -> Option<Reply>
     None
 }
 
-/// The first channel.flow-ok.
-#[tactic(auto, using(crate::proofs::Rows::flow_oks_more))]
-pub fn first_flow_ok(lives: &[Life; 256]) -> Option<Reply>
-    ensures { result ≡ first (each flow_ok_row 0 lives.now) }
+/// The answer that goes on a channel, while it is open.
+fn ok_on(life: Life, paths: &Paths, channel: u16) -> Option<Reply>
+    ensures { result ≡ first (oks_on paths.now channel life) }
+{
+    if life.over {
+        return None;
+    }
+    let ok = paths.next_ok(channel)?;
+    Some(Reply::OnChannel(channel, ChannelUnit::Ok(ok)))
+}
+
+/// The first answer on a channel that is open.
+#[tactic(auto, using(crate::proofs::Rows::oks_more))]
+pub fn first_ok(lives: &[Life; 256], paths: &Paths) -> Option<Reply>
+    ensures { result ≡ first (each (oks_on paths.now) 0 lives.now) }
 {
     for i in 0..256u16 {
-        if 0 < lives[i as usize].flow_oks {
-            return Some(Reply::FlowOk(i));
+        if let Some(unit) = ok_on(lives[i as usize], paths, i) {
+            return Some(unit);
+        }
+    }
+    None
+}
+
+/// Confirms may go on a channel.
+fn may_confirm(life: Life) -> bool
+    ensures { result ≡ may_confirm life }
+{
+    !life.over || life.by_peer
+}
+
+/// The confirm that goes on a channel.
+fn confirm_on(life: Life, paths: &Paths, channel: u16) -> Option<Reply>
+    ensures { result ≡ first (confirms_on paths.now channel life) }
+{
+    if !may_confirm(life) {
+        return None;
+    }
+    let confirm = paths.next_confirm(channel)?;
+    Some(Reply::OnChannel(channel, ChannelUnit::Confirm(confirm)))
+}
+
+/// The first confirm.
+pub fn first_confirm(lives: &[Life; 256], paths: &Paths) -> Option<Reply>
+    ensures { result ≡ first (each (confirms_on paths.now) 0 lives.now) }
+{
+    for i in 0..256u16 {
+        if let Some(unit) = confirm_on(lives[i as usize], paths, i) {
+            return Some(unit);
         }
     }
     None
@@ -180,31 +229,287 @@ pub fn first_flow(lives: &[Life; 256], container: &Option<Conn10>) -> Option<UpU
     None
 }
 
-/// An end is due on a channel.
-fn is_end_due(closing: bool, container: &Option<Conn10>, conn: &Conn91, channel: u16) -> bool
-    ensures { result ≡ is_end_due_by closing container.now conn.now channel }
+/// The attach of a link that goes on a channel, with the number that its name has.
+fn attach_on(container: &Option<Conn10>, paths: &Paths, name: u64, channel: u16) -> Option<UpUnit>
+    ensures { result ≡ first (attach_row container.now paths.now name channel no_life) }
 {
-    match session_of(container, channel) {
-        Session::Ended(_) => true,
-        Session::Asked | Session::Open(_) => closing || !conn.is_open(channel),
-        Session::Free | Session::Left | Session::Leaving(_) => false,
+    if !is_carried(container, channel) {
+        return None;
     }
+    let due = paths.next_attach(channel)?;
+    let attach = AttachOut {
+        link: due.link,
+        handle: due.handle,
+        name,
+    };
+    Some(UpUnit::OnSession(channel, SessionUnit::Attach(attach)))
+}
+
+/// The first attach of a link.
+#[tactic(auto, using(crate::proofs::Rows::attaches_more))]
+pub fn first_attach(
+    lives: &[Life; 256],
+    container: &Option<Conn10>,
+    paths: &Paths,
+    name: u64,
+) -> Option<UpUnit>
+    ensures { result ≡ first (each (attach_row container.now paths.now name) 0 lives.now) }
+{
+    for i in 0..256u16 {
+        if let Some(unit) = attach_on(container, paths, name, i) {
+            return Some(unit);
+        }
+    }
+    None
+}
+
+/// The flow of a link: one that gives the credit back states none, and a count past it.
+fn flow_out(session: SessionState, due: FlowDue) -> LinkFlow
+    ensures { result ≡ flow_out session due }
+{
+    let (incoming, outgoing) = session.windows.ids();
+    let (count, credit) = if due.drains {
+        (due.count.wrapping_add(due.credit), 0)
+    } else {
+        (due.count, due.credit)
+    };
+    LinkFlow {
+        link: due.link,
+        handle: due.handle,
+        incoming,
+        outgoing,
+        count,
+        credit,
+        drain: due.draining,
+    }
+}
+
+/// The flow of a link that goes on a channel.
+fn link_flow_on(
+    life: Life,
+    container: &Option<Conn10>,
+    paths: &Paths,
+    channel: u16,
+) -> Option<UpUnit>
+    ensures { result ≡ first (link_flow_row container.now paths.now channel life) }
+{
+    if !is_carried(container, channel) {
+        return None;
+    }
+    let flow = flow_out(life.session, paths.next_flow(channel)?);
+    Some(UpUnit::OnSession(channel, SessionUnit::Flow(flow)))
+}
+
+/// The first flow of a link.
+#[tactic(auto, using(crate::proofs::Rows::link_flows_more))]
+pub fn first_link_flow(
+    lives: &[Life; 256],
+    container: &Option<Conn10>,
+    paths: &Paths,
+) -> Option<UpUnit>
+    ensures { result ≡ first (each (link_flow_row container.now paths.now) 0 lives.now) }
+{
+    for i in 0..256u16 {
+        if let Some(unit) = link_flow_on(lives[i as usize], container, paths, i) {
+            return Some(unit);
+        }
+    }
+    None
+}
+
+/// The greatest frame that a container takes and the gateway sends, in bytes.
+fn frame_max(container: &Option<Conn10>) -> u32
+    ensures { result ≡ frame_max_in container.now }
+{
+    match container {
+        None => 0,
+        Some(container) => container.max_frame().min(FRAME_MAX),
+    }
+}
+
+/// The frame of a transfer that goes on a channel.
+fn transfer_on(
+    life: Life,
+    container: &Option<Conn10>,
+    paths: &Paths,
+    channel: u16,
+) -> Option<UpUnit>
+    ensures { result ≡ first (transfer_row container.now paths.now channel life) }
+{
+    if !is_carried(container, channel) {
+        return None;
+    }
+    let window = life.session.windows.window();
+    let transfer = paths.next_transfer(channel, window, frame_max(container))?;
+    Some(UpUnit::OnSession(channel, SessionUnit::Transfer(transfer)))
+}
+
+/// The first frame of a transfer.
+#[tactic(auto, using(crate::proofs::Rows::transfers_more))]
+pub fn first_transfer(
+    lives: &[Life; 256],
+    container: &Option<Conn10>,
+    paths: &Paths,
+) -> Option<UpUnit>
+    ensures { result ≡ first (each (transfer_row container.now paths.now) 0 lives.now) }
+{
+    for i in 0..256u16 {
+        if let Some(unit) = transfer_on(lives[i as usize], container, paths, i) {
+            return Some(unit);
+        }
+    }
+    None
+}
+
+/// The disposition that answers one of the container's on a channel.
+fn settling_on(container: &Option<Conn10>, paths: &Paths, channel: u16) -> Option<UpUnit>
+    ensures { result ≡ first (settle_row container.now paths.now channel no_life) }
+{
+    if !is_carried(container, channel) {
+        return None;
+    }
+    let settling = paths.next_settle(channel)?;
+    Some(UpUnit::OnSession(channel, SessionUnit::Settle(settling)))
+}
+
+/// The first disposition that answers one of the container's.
+#[tactic(auto, using(crate::proofs::Rows::settlings_more))]
+pub fn first_settling(
+    lives: &[Life; 256],
+    container: &Option<Conn10>,
+    paths: &Paths,
+) -> Option<UpUnit>
+    ensures { result ≡ first (each (settle_row container.now paths.now) 0 lives.now) }
+{
+    for i in 0..256u16 {
+        if let Some(unit) = settling_on(container, paths, i) {
+            return Some(unit);
+        }
+    }
+    None
+}
+
+/// The detach that answers one of the container's on a channel.
+fn detach_on(container: &Option<Conn10>, paths: &Paths, channel: u16) -> Option<UpUnit>
+    ensures { result ≡ first (detach_row container.now paths.now channel no_life) }
+{
+    if !is_carried(container, channel) {
+        return None;
+    }
+    let (link, handle) = paths.next_detach(channel)?;
+    Some(UpUnit::OnSession(channel, SessionUnit::Detach(link, handle)))
+}
+
+/// The first detach that answers one of the container's.
+#[tactic(auto, using(crate::proofs::Rows::detaches_more))]
+pub fn first_detach(
+    lives: &[Life; 256],
+    container: &Option<Conn10>,
+    paths: &Paths,
+) -> Option<UpUnit>
+    ensures { result ≡ first (each (detach_row container.now paths.now) 0 lives.now) }
+{
+    for i in 0..256u16 {
+        if let Some(unit) = detach_on(container, paths, i) {
+            return Some(unit);
+        }
+    }
+    None
+}
+
+/// What decides whether the ends of sessions go.
+#[derive(Clone, Copy)]
+pub struct Parting {
+    /// The connection closes, or the pair ran out of memory.
+    pub closing: bool,
+    pub out_of_memory: bool,
+    /// The moment of the closing event of the connection.
+    pub closed_at: Option<u64>,
+    pub moment: u64,
+}
+
+/// A closing event is so long ago that publishes aren't waited for any more.
+fn is_long_ago(closed_at: Option<u64>, moment: u64) -> bool
+    ensures { result ≡ is_long_ago closed_at moment }
+{
+    match closed_at {
+        None => false,
+        Some(at) => LINGER_LIMIT <= moment.saturating_sub(at),
+    }
+}
+
+/// Nothing of a channel's publishes is waited for any more.
+fn is_lingered(parting: Parting, life: Life, paths: &Paths, channel: u16) -> bool
+    ensures { result ≡ is_lingered_by parting life (path_at paths.now channel) }
+{
+    parting.out_of_memory
+        || paths.is_done(channel)
+        || is_long_ago(life.closed_at, parting.moment)
+        || is_long_ago(parting.closed_at, parting.moment)
+}
+
+/// The gateway's begin of a session went, and no end of either side.
+fn is_begun(container: &Option<Conn10>, channel: u16) -> bool
+    ensures { result ≡ is_begun (session_in container.now channel) }
+{
+    matches!(
+        session_of(container, channel),
+        Session::Asked | Session::Open(_)
+    )
+}
+
+/// The container's end came, and the gateway's didn't go.
+fn is_ended(container: &Option<Conn10>, channel: u16) -> bool
+    ensures { result ≡ is_ended (session_in container.now channel) }
+{
+    matches!(session_of(container, channel), Session::Ended(_))
+}
+
+/// The end of a session is due.
+fn is_end_due(
+    life: Life,
+    container: &Option<Conn10>,
+    conn: &Conn91,
+    paths: &Paths,
+    parting: Parting,
+    channel: u16,
+) -> bool
+    ensures { result ≡ is_end_due_by parting container.now conn.now paths.now channel life }
+{
+    is_ended(container, channel)
+        || (is_begun(container, channel)
+            && (parting.closing || !conn.is_open(channel))
+            && is_lingered(parting, life, paths, channel))
 }
 
 /// The first end of a session.
 #[tactic(auto, using(crate::proofs::Rows::ends_more))]
 pub fn first_end(
     lives: &[Life; 256],
-    closing: bool,
     container: &Option<Conn10>,
     conn: &Conn91,
+    paths: &Paths,
+    parting: Parting,
 ) -> Option<UpUnit>
-    ensures { result ≡ first (each (end_row closing container.now conn.now) 0 lives.now) }
+    ensures { result ≡ first (each (end_row parting container.now conn.now paths.now) 0 lives.now) }
 {
     for i in 0..256u16 {
-        if is_end_due(closing, container, conn, i) {
+        if is_end_due(lives[i as usize], container, conn, paths, parting, i) {
             return Some(UpUnit::End(i, lives[i as usize].why));
         }
     }
     None
+}
+
+/// A session is left that began and that the gateway didn't end.
+#[tactic(auto, using(crate::proofs::Rows::left_more))]
+pub fn any_left(lives: &[Life; 256], container: &Option<Conn10>) -> bool
+    ensures { result ≡ any_life (is_left_on container.now) 0 lives.now }
+{
+    for i in 0..256u16 {
+        if is_ended(container, i) || is_begun(container, i) {
+            return true;
+        }
+    }
+    false
 }

@@ -17,7 +17,7 @@ ghost use Rattle.gate_model.specs.Due.{is_awaiting, is_beat_due, is_busy, is_con
 ghost use Rattle.gate_model.specs.Due.{is_shut_due, is_bad, is_unheard, is_overdue, can_leave};
 ghost use Rattle.gate_model.specs.Due.{can_take_up, channel_closes, channel_oks, client_rows};
 ghost use Rattle.gate_model.specs.Due.{begins, client_units, ends};
-ghost use Rattle.gate_model.specs.Due.{flow_oks, if_so, is_silent, last_closes, may_answer};
+ghost use Rattle.gate_model.specs.Due.{if_so, is_silent, last_closes, may_answer};
 ghost use Rattle.gate_model.specs.Due.{may_end, may_go, may_tell, open_oks, openings, rows_in};
 ghost use Rattle.gate_model.specs.Due.{session_flows, unless_out, up_rows};
 ghost use Rattle.gate_model.specs.Lives.{freed_life, life_at, lives_by, refusal_on, with_life};
@@ -33,19 +33,29 @@ ghost use Rattle.machine_10.specs.Transitions.{meaning_of};
 ghost use Rattle.performatives_10.specs.Fields.{maybe};
 ghost use Rattle.performatives_10.specs.View.{error_tree};
 ghost use Rattle.bridge_core.specs.Behind.{answering_units, closing_units, end_units, ended_units};
-ghost use Rattle.bridge_core.specs.Behind.{flow_units, last_units, parting_units, session_units};
+ghost use Rattle.bridge_core.specs.Behind.{last_units, parting_units, session_units};
 ghost use Rattle.bridge_core.specs.Flows.{FlowsFit};
 ghost use Rattle.bridge_core.specs.Going.{KeepsGoing};
 ghost use Rattle.bridge_core.specs.Logins.{IsLoginOf, IsLoginWant};
 ghost use Rattle.bridge_core.specs.Offers.{with_next};
 
+mod due;
+mod going;
+mod hearing;
+mod taking;
+
 use crate::channel_rows::{
-    any_waits, first_begin, first_close, first_close_ok, first_end, first_flow, first_flow_ok,
-    first_open_ok, is_waiting_on,
+    Parting, any_left, any_waits, first_attach, first_begin, first_close, first_close_ok,
+    first_confirm, first_detach, first_end, first_flow, first_link_flow, first_ok, first_open_ok,
+    first_settling, first_transfer, is_waiting_on,
 };
 use crate::lives::{Lives, old_life};
+use crate::moments::{closes_at, fed_by, is_overdue};
+use crate::path_changes::{LinkFault, link_number, path_change};
+use crate::paths::{PathChange, Paths};
 use crate::queue::{Queue, channel_of, waits_for_all};
-use crate::requests::take;
+use crate::replies::{last_pending, none_pending, refusal_on, refusal_with, with_last, without};
+use crate::requests::{Met, meet};
 use crate::sessions::{carried_by, fault_of, flow_sent};
 use crate::up_core::UpCore;
 use close_translate::{
@@ -54,14 +64,15 @@ use close_translate::{
 };
 use gate_model::{
     BEAT_PER_SECOND, CLOSING_LIMIT, HANDSHAKE_LIMIT, Life, Outgoing, Pending, Reply,
-    SILENCE_PER_SECOND, SentLast, UpUnit,
+    SILENCE_PER_SECOND, SentLast, SessionState, SessionUnit, UpUnit,
 };
 use gate_outside::{End, Linked};
 use gate_relay::{Loss, Side};
 use machine_10::{Awaited10, Conn10, Unit10, Want10};
 use machine_091::{Awaited91, Conn91, Phase91, Refusal, Stream91, Unit91, Want91};
 use methods_091::Method91;
-use performatives_10::{Condition, Error10, Perf};
+use performatives_10::{Attach, Condition, Error10, Perf};
+use session_path::{AttachFault, PathOk, SessionPath};
 use std::alloc::Global;
 use std::marker::Model;
 use wire_base::{ByteText, Memory};
@@ -75,6 +86,12 @@ pub struct Core {
     in_progress: Option<Reply>,
     sent_last: SentLast,
     lives: Lives,
+    paths: Paths,
+    opened: u64,
+    attached: u64,
+    by_peer: bool,
+    /// The path of the channel that is opened next.
+    spare: Option<Box<SessionPath>>,
     up: UpCore,
     queue: Queue,
     accepted_at: u64,
@@ -92,7 +109,9 @@ pub struct Core {
 }
 
 impl Model for Core {
+    ghost use Rattle.std.specs.Prelude.{◌≡◌, ◌<◌, ◌+◌, ◌-◌, ◌^◌, IfSome, box_value};
     ghost use Rattle.gate_model.specs.State.{State};
+    ghost use Rattle.session_path.specs.Path as session;
 
     ghost Value = { State };
 
@@ -108,6 +127,10 @@ impl Model for Core {
       in_progress = a.in_progress;
       sent_last = a.sent_last;
       lives = a.lives;
+      paths = a.paths;
+      opened = a.opened;
+      attached = a.attached;
+      by_peer = a.by_peer;
       up = a.up;
       queue = a.queue;
       accepted_at = a.accepted_at;
@@ -123,76 +146,10 @@ impl Model for Core {
       gone = a.gone;
       out_of_memory = a.out_of_memory;
     } };
-}
 
-/// Nothing is due.
-fn none_pending() -> Pending
-    ensures { result ≡ none_pending }
-{
-    Pending {
-        protocol: false,
-        start: false,
-        tune: false,
-        open_ok: false,
-        close_ok: false,
-        close: None,
-        no_memory: false,
-    }
-}
-
-/// A refusal of the connection, with these ids.
-fn refusal_with(code: u16, class: u16, method: u16) -> Refusal
-    ensures { result ≡ refusal_with code class method }
-{
-    Refusal {
-        code,
-        scope: Scope::Connection,
-        channel: 0,
-        class,
-        method,
-    }
-}
-
-/// The gateway's channel.close on this channel, for a fault of its session.
-fn refusal_on(channel: u16, code: u16) -> Refusal
-    ensures { result ≡ refusal_on channel code }
-{
-    Refusal {
-        code,
-        scope: Scope::Channel,
-        channel,
-        class: 0,
-        method: 0,
-    }
-}
-
-/// Lets go of what a unit of the container meant, once it is met.
-fn release(want: Want10) {
-    match want {
-        Want10::Session(_, perf, payload) => {
-            drop(payload);
-            drop(perf);
-        }
-        Want10::Closed(error) => drop(error),
-        _ => {}
-    }
-}
-
-/// Lets go of a method, once it is met.
-fn release_method(method: Method91) {
-    drop(method);
-}
-
-/// The reply code for the error of a container's close, or of its end.
-#[tactic(auto, using(crate::proofs::Errors::condition_is))]
-fn closing_code(error: &Option<Error10>, scope: Scope) -> u16
-    ensures { result ≡ code_by (condition_in (maybe error_tree error.now)) scope }
-{
-    let condition = match error {
-        None => None,
-        Some(error) => Some(error.condition.as_slice()),
-    };
-    code_of(condition, scope)
+    // it is that of the next life, which 64 bits count
+    ghost invariant = { λ a. IfSome a.spare (λ p. (box_value p
+        ≡ session.opened (a.opened + 1)) × (a.opened < 2 ^ 64 - 1)) };
 }
 
 /// The client's first bytes were no protocol header.
@@ -209,23 +166,6 @@ fn has_left(conn: &Conn91) -> bool
     matches!(conn.stream(), Stream91::Ended)
 }
 
-/// The moment of the first closing event.
-fn closes_at(closed_at: Option<u64>, closing: bool, moment: u64) -> Option<u64>
-    ensures { result ≡ closes_at closed_at closing moment }
-{
-    match closed_at {
-        Some(at) => Some(at),
-        None => { if closing { Some(moment) } else { None } }
-    }
-}
-
-/// The moment from which a client's silence counts, once it is held at a moment or not.
-fn fed_by(held: bool, moment: u64, fed_at: u64) -> u64
-    ensures { result ≡ fed_by held moment fed_at }
-{
-    if held { moment } else { fed_at }
-}
-
 /// No connection.open came within the handshake limit.
 fn is_limit_reached(conn: &Conn91, accepted_at: u64, moment: u64) -> bool
     ensures { result ≡ is_limit_reached conn.now accepted_at moment }
@@ -239,110 +179,6 @@ fn close_if(conn: &mut Conn91, closes: bool)
 {
     if closes {
         conn.closing(Scope::Connection, 0);
-    }
-}
-
-/// The units that are due once the pair ran out of memory.
-fn last_pending(phase: Phase91, pending: Pending) -> Pending
-    ensures { result ≡ last_pending phase pending }
-{
-    let none = none_pending();
-    match phase {
-        Phase91::Header => none,
-        Phase91::Start | Phase91::Tune | Phase91::Open | Phase91::Running => Pending {
-            no_memory: true,
-            ..none
-        },
-        Phase91::Closing => Pending {
-            close: pending.close,
-            ..none
-        },
-        Phase91::Closed => Pending {
-            close_ok: pending.close_ok,
-            ..none
-        },
-    }
-}
-
-/// The units that are due once the first byte of this one was sent.
-fn without(pending: Pending, unit: Reply) -> Pending
-    ensures { result ≡ without unit pending }
-{
-    match unit {
-        Reply::Protocol => Pending {
-            protocol: false,
-            ..pending
-        },
-        Reply::Start => Pending {
-            start: false,
-            ..pending
-        },
-        Reply::Tune => Pending {
-            tune: false,
-            ..pending
-        },
-        Reply::OpenOk => Pending {
-            open_ok: false,
-            ..pending
-        },
-        Reply::CloseOk => Pending {
-            close_ok: false,
-            ..pending
-        },
-        Reply::Close(_) => Pending {
-            close: None,
-            ..pending
-        },
-        Reply::NoMemory => Pending {
-            no_memory: false,
-            ..pending
-        },
-        Reply::Heartbeat
-        | Reply::ChannelOpenOk(_)
-        | Reply::FlowOk(_)
-        | Reply::ChannelCloseOk(_)
-        | Reply::CrossedOk(_)
-        | Reply::ChannelClose(_, _) => pending,
-    }
-}
-
-/// The units that were sent whole once this one was.
-fn with_last(sent: SentLast, unit: Option<Reply>) -> SentLast
-    ensures { result ≡ with_last unit sent }
-{
-    match unit {
-        Some(Reply::Protocol) => SentLast {
-            protocol: true,
-            ..sent
-        },
-        Some(Reply::CloseOk) => SentLast {
-            close_ok: true,
-            ..sent
-        },
-        Some(Reply::Close(_)) | Some(Reply::NoMemory) => SentLast {
-            close: true,
-            ..sent
-        },
-        None
-        | Some(Reply::Start)
-        | Some(Reply::Tune)
-        | Some(Reply::OpenOk)
-        | Some(Reply::Heartbeat)
-        | Some(Reply::ChannelOpenOk(_))
-        | Some(Reply::FlowOk(_))
-        | Some(Reply::ChannelCloseOk(_))
-        | Some(Reply::CrossedOk(_))
-        | Some(Reply::ChannelClose(_, _)) => sent,
-    }
-}
-
-/// The closing event is so old that the end is shut in any case.
-fn is_overdue(closed_at: Option<u64>, moment: u64) -> bool
-    ensures { result ≡ is_overdue closed_at moment }
-{
-    match closed_at {
-        None => false,
-        Some(at) => CLOSING_LIMIT <= moment.saturating_sub(at),
     }
 }
 
@@ -377,6 +213,11 @@ impl Core {
                 close: false,
             },
             lives: Lives::new(),
+            paths: Paths::new(),
+            opened: 0,
+            attached: 0,
+            by_peer: false,
+            spare: None,
             up: UpCore::new(),
             queue: Queue::new(alloc),
             accepted_at: moment,
@@ -407,126 +248,6 @@ impl Core {
         self.late |= late;
     }
 
-    /// A method of a channel changes what is due there.
-    #[tactic(auto, using(crate::proofs::Flows::life_fits, crate::proofs::Flows::same_life))]
-    fn meet_method(&mut self, channel: u16, method: &Method91)
-        requires { FlowsFit self.old.lives }
-        ensures { self.new ≡ record self.old { lives = lives_by (want.Method channel method.now) self.old.lives } }
-    {
-        let life = self.lives.at(channel);
-        match method {
-            Method91::ChannelOpen => self.lives.set(
-                channel,
-                Life {
-                    waits: true,
-                    begin: true,
-                    ..old_life(life)
-                },
-            ),
-            Method91::ChannelFlow { .. } => self.lives.set(
-                channel,
-                Life {
-                    flow_oks: life.flow_oks + 1,
-                    ..life
-                },
-            ),
-            Method91::ChannelClose { .. } => self.lives.set(
-                channel,
-                Life {
-                    awaits_end: !life.over,
-                    over: true,
-                    close_ok: true,
-                    ..old_life(life)
-                },
-            ),
-            _ => {}
-        }
-    }
-
-    /// The client answered the gateway's channel.close.
-    fn free(&mut self, channel: u16)
-        ensures { self.new ≡ record self.old { lives = with_life channel (freed_life (life_at self.old.lives channel)) self.old.lives } }
-    {
-        let life = self.lives.at(channel);
-        self.lives.set(
-            channel,
-            Life {
-                crossed_ok: life.crossed_ok || life.close_ok,
-                ..old_life(life)
-            },
-        );
-    }
-
-    /// A refusal closes the connection or a channel, and that is told.
-    fn meet_refusal(&mut self, closing: bool, refusal: Refusal)
-        ensures { self.new ≡ met closing (want.Refuse refusal) self.old }
-    {
-        let condition = condition_of(refusal.code);
-        match refusal.scope {
-            Scope::Connection => {
-                self.pending.close = Some(refusal);
-                self.up.set_condition(closing, Some(condition));
-            }
-            Scope::Channel => {
-                let life = self.lives.at(refusal.channel);
-                self.lives.set(
-                    refusal.channel,
-                    Life {
-                        over: true,
-                        close: Some(refusal),
-                        why: Some(condition),
-                        ..old_life(life)
-                    },
-                );
-                self.up.set_condition(closing, None);
-            }
-        }
-    }
-
-    /// What a unit of the client wants is met. `closing` says that the connection closed before it.
-    fn meet(&mut self, alloc: Global, closing: bool, want: Want91)
-        requires login { IsLoginWant want }
-        requires flows { FlowsFit self.old.lives }
-        ensures { self.new ≡ met closing want self.old }
-    {
-        match want {
-            Want91::Nothing | Want91::Tuned | Want91::OpenUp | Want91::CloseOk => {
-                self.up.set_condition(closing, None);
-            }
-            Want91::Start => {
-                self.pending.start = true;
-                self.up.set_condition(closing, None);
-            }
-            Want91::Login(mechanism, response) => {
-                self.pending.tune = true;
-                self.up.log_in(alloc, mechanism, response);
-                self.up.set_condition(closing, None);
-            }
-            Want91::Method(channel, method) => {
-                self.meet_method(channel, &method);
-                release_method(method);
-                self.up.set_condition(closing, None);
-            }
-            Want91::ChannelCloseOk(channel) => {
-                self.free(channel);
-                self.up.set_condition(closing, None);
-            }
-            Want91::Close => {
-                self.pending.close_ok = true;
-                self.pending.close = None;
-                self.client_closed |= !closing;
-                self.up.set_condition(closing, None);
-            }
-            // every basic.publish is refused
-            Want91::Publish(_, method, content) => {
-                drop(content);
-                release_method(method);
-                self.up.set_condition(closing, None);
-            }
-            Want91::Refuse(refusal) => self.meet_refusal(closing, refusal),
-        }
-    }
-
     /// A unit of the client waits to be taken up. Where there is no memory for it all is as it was.
     pub fn client_unit(&mut self, unit: Unit91) -> Result<(), Memory>
         requires { self.old.out_of_memory ≡ false }
@@ -537,33 +258,11 @@ impl Core {
         self.queue.push(unit)
     }
 
-    /// This unit, which waits no more, is taken up. Where there is no memory for it all is as it
-    /// was.
-    fn come(&mut self, alloc: Global, unit: Unit91) -> Result<(), Memory>
-        requires { FlowsFit self.old.lives }
-        ensures ok { OnOk result (self.new ≡ came self.old unit) }
-        ensures err { OnErr result (self.new ≡ self.old) }
-        ensures kept { KeepsGoing self.old self.new }
-    {
-        let foreign = is_foreign(&self.conn);
-        let closing = self.conn.is_closing();
-        match take(&mut self.conn, alloc, unit) {
-            Ok(want) => {
-                let turns = is_foreign(&self.conn) && !foreign;
-                self.meet(alloc, closing, want);
-                self.pending.protocol |= turns;
-                self.fed_at = fed_by(self.is_held(), self.moment, self.fed_at);
-                self.closed_at = closes_at(self.closed_at, self.conn.is_closing(), self.moment);
-                Ok(())
-            }
-            Err(error) => Err(error),
-        }
-    }
-
     /// The unit at this place can be taken up.
     fn can_take(&self, place: usize) -> bool
         requires { place < length self.now.queue }
-        ensures { IfSome (slice_get self.now.queue place) (λ u. result ≡ can_take (waits self.now) (take place self.now.queue) u) }
+        ensures { IfSome (slice_get self.now.queue place) (λ u. result
+            ≡ can_take (waits self.now) (take place self.now.queue) u) }
     {
         match self.queue.get(place) {
             None => false,
@@ -594,171 +293,18 @@ impl Core {
         None
     }
 
-    /// The first unit that can be taken up is taken up, if there is one. Without memory for it the
-    /// pair is to run out of memory.
-    pub fn take_next(&mut self, alloc: Global) -> Result<bool, Memory>
-        requires { self.old.out_of_memory ≡ false }
-        ensures some { IfOk result (λ yes. yes ≡ is_some (next_unit self.old)) }
-        ensures ok { OnOk result (self.new ≡ with_next (next_unit self.old) self.old) }
-        ensures err { OnErr result (step self.new OutOfMemory ≡ step self.old OutOfMemory) }
-        ensures calm { self.new.out_of_memory ≡ false }
-        ensures kept { KeepsGoing self.old self.new }
-    {
-        match self.place() {
-            None => Ok(false),
-            Some(place) => {
-                if self.lives.is_crowded() {
-                    return Err(Memory);
-                }
-                let unit = self.queue.remove(place);
-                self.come(alloc, unit)?;
-                Ok(true)
-            }
-        }
-    }
-
     /// The upstream end fails: the client is told so, unless its connection closes already.
     fn fail(&mut self, code: u16, why: Option<Condition>)
         ensures step { self.new ≡ fail code why self.old }
         ensures kept { KeepsGoing self.old self.new }
     {
         if !self.conn.is_closing() {
+            self.paths.lose_all();
+            self.by_peer = true;
             self.conn.closing(Scope::Connection, 0);
             self.pending.close = Some(refusal_with(code, 0, 0));
             self.up.set_condition(false, why);
             self.closed_at = closes_at(self.closed_at, true, self.moment);
-        }
-    }
-
-    /// The container opened.
-    fn open(&mut self)
-        ensures step { self.new ≡ opened self.old }
-        ensures kept { KeepsGoing self.old self.new }
-    {
-        if self.conn.is_opening() {
-            self.conn.opened(self.up.channel_max());
-            self.pending.open_ok = true;
-        }
-    }
-
-    /// The session of a channel is at fault: the channel closes, unless that is closing already.
-    fn fail_life(&mut self, channel: u16, code: u16, why: Option<Condition>)
-        ensures step { self.new ≡ fail_life channel code why self.old }
-        ensures kept { KeepsGoing self.old self.new }
-    {
-        if self.conn.is_open(channel) {
-            self.conn.closing(Scope::Channel, channel);
-            let life = self.lives.at(channel);
-            self.lives.set(
-                channel,
-                Life {
-                    over: true,
-                    close: Some(refusal_on(channel, code)),
-                    why,
-                    ..old_life(life)
-                },
-            );
-        }
-    }
-
-    /// The container's begin came.
-    fn begin_session(&mut self, channel: u16)
-        ensures step { self.new ≡ begun_session channel self.old }
-        ensures kept { KeepsGoing self.old self.new }
-    {
-        let life = self.lives.at(channel);
-        self.lives.set(
-            channel,
-            Life {
-                waits: false,
-                open_ok: life.open_ok || life.waits,
-                ..life
-            },
-        );
-    }
-
-    /// What a performative makes of the session of a channel.
-    #[tactic(auto, using(crate::proofs::Flows::echoes_fit))]
-    fn carry(&mut self, channel: u16, perf: &Perf)
-        requires { FlowsFit self.old.lives }
-        ensures step { self.new ≡ carried channel (parts_of perf.now) self.old }
-        ensures kept { KeepsGoing self.old self.new }
-    {
-        let life = self.lives.at(channel);
-        let session = carried_by(life.session, perf);
-        self.lives.set(channel, Life { session, ..life });
-    }
-
-    /// A performative of a session came.
-    fn hear_session(&mut self, channel: u16, perf: &Perf)
-        requires { FlowsFit self.old.lives }
-        ensures step { self.new ≡ with_session channel (parts_of perf.now) self.old }
-        ensures kept { KeepsGoing self.old self.new }
-    {
-        let fault = fault_of(self.lives.at(channel).session, perf);
-        self.carry(channel, perf);
-        self.meet_session(channel, perf, fault);
-    }
-
-    /// What a performative of a session asks for, but for its windows.
-    #[tactic(auto, unfolding(machine_10::specs::Parts::parts_of))]
-    fn meet_session(&mut self, channel: u16, perf: &Perf, fault: Condition)
-        ensures step { self.new ≡ met_session channel (parts_of perf.now) fault self.old }
-        ensures kept { KeepsGoing self.old self.new }
-    {
-        match perf {
-            Perf::Begin(_) => self.begin_session(channel),
-            Perf::Attach(_) => self.fail(INTERNAL_ERROR, Some(Condition::NotAllowed)),
-            Perf::Flow(flow) => {
-                if flow.handle.is_some() {
-                    self.fail_life(channel, PRECONDITION_FAILED, Some(fault));
-                }
-            }
-            Perf::Disposition(_) => {}
-            Perf::End(end) => {
-                let code = closing_code(&end.error, Scope::Channel);
-                self.fail_life(channel, code, None);
-            }
-            _ => self.fail_life(channel, PRECONDITION_FAILED, Some(fault)),
-        }
-    }
-
-    /// What a unit of the container means.
-    #[tactic(auto, unfolding(machine_10::specs::Transitions::meaning_of))]
-    fn mean(&mut self, want: &Want10)
-        requires { FlowsFit self.old.lives }
-        ensures step { self.new ≡ with_meaning (meaning_of want.now) self.old }
-        ensures kept { KeepsGoing self.old self.new }
-    {
-        match want {
-            Want10::Nothing => {}
-            Want10::Session(channel, perf, _) => self.hear_session(*channel, perf),
-            Want10::Init => self.up.ask_init(),
-            Want10::AmqpHeader => self.up.ask_amqp_header(),
-            Want10::Opened => self.open(),
-            Want10::Closed(error) => self.fail(closing_code(error, Scope::Connection), None),
-            Want10::Refused => self.fail(NOT_ALLOWED, None),
-            Want10::Violation(condition) => self.fail(INTERNAL_ERROR, Some(*condition)),
-        }
-    }
-
-    /// A unit of the container came. Where there is no memory for it all is as it was.
-    pub fn up_unit(&mut self, alloc: Global, unit: &Unit10) -> Result<(), Memory>
-        requires { self.old.out_of_memory ≡ false }
-        ensures ok { OnOk result (self.new ≡ step self.old (Heard unit.now)) }
-        ensures err { OnErr result (self.new ≡ self.old) }
-        ensures kept { KeepsGoing self.old self.new }
-    {
-        if self.lives.is_crowded() {
-            return Err(Memory);
-        }
-        match self.up.hear(alloc, unit) {
-            Ok(want) => {
-                self.mean(&want);
-                release(want);
-                Ok(())
-            }
-            Err(error) => Err(error),
         }
     }
 
@@ -868,6 +414,7 @@ impl Core {
         ensures kept { KeepsGoing self.old self.new }
     {
         self.up.lose(side);
+        self.paths.lose_all();
         self.fail(CONNECTION_FORCED, None);
     }
 
@@ -884,108 +431,6 @@ impl Core {
         self.queue.clear();
         self.closed_at = closes_at(self.closed_at, true, self.moment);
         self.out_of_memory = true;
-    }
-
-    /// What is due on a channel once the first byte of this unit was sent, and what that makes of
-    /// the connection.
-    fn give_channel(&mut self, unit: Reply)
-        ensures { self.new ≡ record self.old { conn = conn_given unit self.old.conn; lives = without_life unit self.old.lives } }
-    {
-        match unit {
-            Reply::ChannelOpenOk(channel) => {
-                let life = self.lives.at(channel);
-                self.lives.set(
-                    channel,
-                    Life {
-                        open_ok: false,
-                        ..life
-                    },
-                );
-            }
-            Reply::FlowOk(channel) => {
-                let life = self.lives.at(channel);
-                let flow_oks = life.flow_oks.saturating_sub(1);
-                self.lives.set(channel, Life { flow_oks, ..life });
-            }
-            Reply::ChannelCloseOk(channel) => {
-                let life = self.lives.at(channel);
-                self.lives.set(
-                    channel,
-                    Life {
-                        close_ok: false,
-                        ..life
-                    },
-                );
-                self.conn.closed(channel);
-            }
-            Reply::CrossedOk(channel) => {
-                let life = self.lives.at(channel);
-                self.lives.set(
-                    channel,
-                    Life {
-                        crossed_ok: false,
-                        ..life
-                    },
-                );
-            }
-            Reply::ChannelClose(channel, _) => {
-                let life = self.lives.at(channel);
-                self.lives.set(
-                    channel,
-                    Life {
-                        close: None,
-                        ..life
-                    },
-                );
-                self.conn.told(channel);
-            }
-            _ => {}
-        }
-    }
-
-    /// What is due to the container on a channel once the first byte of this unit was sent.
-    fn give_session(&mut self, unit: UpUnit)
-        ensures { self.new ≡ record self.old { lives = without_begin unit self.old.lives } }
-    {
-        match unit {
-            UpUnit::Begin(channel) => {
-                let life = self.lives.at(channel);
-                self.lives.set(
-                    channel,
-                    Life {
-                        begin: false,
-                        ..life
-                    },
-                );
-            }
-            UpUnit::Flow(channel, _, _) => {
-                let life = self.lives.at(channel);
-                let session = flow_sent(life.session);
-                self.lives.set(channel, Life { session, ..life });
-            }
-            UpUnit::End(channel, _) => {
-                let life = self.lives.at(channel);
-                self.lives.set(channel, Life { why: None, ..life });
-            }
-            _ => {}
-        }
-    }
-
-    /// The first byte of a unit was sent.
-    pub fn begin(&mut self, unit: Outgoing)
-        ensures { self.new ≡ step self.old (Gave unit) }
-    {
-        match unit {
-            Outgoing::ToClient(unit) => {
-                self.give_channel(unit);
-                self.pending = without(self.pending, unit);
-                self.in_progress = Some(unit);
-            }
-            Outgoing::ToUp(unit) => {
-                self.give_session(unit);
-                self.up.begin(unit);
-            }
-        }
     }
 
     /// The last byte of the unit to an end was.
@@ -1056,299 +501,6 @@ impl Core {
             channel,
             self.lives.at(channel),
         )
-    }
-
-    /// A heartbeat is due.
-    fn is_beat_due(&self) -> bool
-        ensures { result ≡ is_beat_due self.now }
-    {
-        let interval = u64::from(self.conn.heartbeat());
-        !self.sent_last.close_ok
-            && interval != 0
-            && BEAT_PER_SECOND * interval <= self.moment.saturating_sub(self.last_sent_at)
-    }
-
-    /// The first unit that opens the connection.
-    fn next_opening(&self) -> Option<Reply>
-        ensures { result ≡ first (openings (may_go (is_settled self.now) self.now.pending)) }
-    {
-        if self.pending.protocol {
-            Some(Reply::Protocol)
-        } else if self.pending.start {
-            Some(Reply::Start)
-        } else if self.pending.tune {
-            Some(Reply::Tune)
-        } else if self.pending.open_ok {
-            Some(Reply::OpenOk)
-        } else {
-            None
-        }
-    }
-
-    /// The first answer on a channel.
-    fn next_answer(&self) -> Option<Reply>
-        ensures { result ≡ first (if_so (may_answer self.now) (open_oks self.now ++ flow_oks self.now)) }
-    {
-        if self.out_of_memory || self.conn.is_closing() {
-            return None;
-        }
-        match first_open_ok(self.lives.all()) {
-            Some(unit) => Some(unit),
-            None => first_flow_ok(self.lives.all()),
-        }
-    }
-
-    /// What ends channels may go.
-    fn may_end(&self) -> bool
-        ensures { result ≡ may_end self.now }
-    {
-        !(self.out_of_memory || self.sent_last.close || self.sent_last.close_ok)
-    }
-
-    /// The first channel.close-ok for which nothing is waited for.
-    fn settled_ok(&self) -> Option<Reply>
-        ensures { result ≡ first (channel_oks self.now) }
-    {
-        first_close_ok(self.lives.all(), self.is_settled(), self.up.container())
-    }
-
-    /// The first channel.close-ok that may go.
-    fn next_channel_ok(&self) -> Option<Reply>
-        ensures { result ≡ first (if_so (may_end self.now) (channel_oks self.now)) }
-    {
-        if self.may_end() {
-            self.settled_ok()
-        } else {
-            None
-        }
-    }
-
-    /// The gateway's channel.close may go: the client didn't close the connection either.
-    fn may_tell(&self) -> bool
-        ensures { result ≡ may_tell self.now }
-    {
-        self.may_end() && !matches!(self.conn.phase(), Phase91::Closed)
-    }
-
-    /// The first channel.close that may go.
-    fn next_channel_close(&self) -> Option<Reply>
-        ensures { result ≡ first (if_so (may_tell self.now) (channel_closes self.now)) }
-    {
-        if !self.may_tell() {
-            return None;
-        }
-        first_close(self.lives.all(), self.is_settled(), self.up.container())
-    }
-
-    /// The gateway's close, if nothing of the upstream end is waited for, or the last unit.
-    fn next_close(&self) -> Option<Reply>
-        ensures { result ≡ first (last_closes (may_go (is_settled self.now) self.now.pending)) }
-    {
-        match self.pending.close {
-            Some(refusal) if self.is_settled() => Some(Reply::Close(refusal)),
-            _ => {
-                if self.pending.no_memory {
-                    Some(Reply::NoMemory)
-                } else {
-                    None
-                }
-            }
-        }
-    }
-
-    /// The first of the gateway's close and what ends channels.
-    #[tactic(auto, using(crate::proofs::Firsts::first_some, crate::proofs::Firsts::first_none))]
-    fn next_last(&self) -> Option<Reply>
-        ensures { result ≡ first (last_units self.now) }
-    {
-        match self.next_close() {
-            Some(unit) => Some(unit),
-            None => self.next_channel_close(),
-        }
-    }
-
-    /// The first of what answers a channel.close, and of these.
-    #[tactic(auto, using(crate::proofs::Firsts::first_some, crate::proofs::Firsts::first_none))]
-    fn next_ended(&self) -> Option<Reply>
-        ensures { result ≡ first (ended_units self.now) }
-    {
-        match self.next_channel_ok() {
-            Some(unit) => Some(unit),
-            None => self.next_last(),
-        }
-    }
-
-    /// The first of the client's close-ok, and of these.
-    fn next_closing(&self) -> Option<Reply>
-        ensures { result ≡ first (closing_units self.now) }
-    {
-        if self.pending.close_ok && self.is_settled() {
-            Some(Reply::CloseOk)
-        } else {
-            self.next_ended()
-        }
-    }
-
-    /// The first of the answers on channels, and of these.
-    #[tactic(auto, using(crate::proofs::Firsts::first_some, crate::proofs::Firsts::first_none))]
-    fn next_answering(&self) -> Option<Reply>
-        ensures { result ≡ first (answering_units self.now) }
-    {
-        match self.next_answer() {
-            Some(unit) => Some(unit),
-            None => self.next_closing(),
-        }
-    }
-
-    /// The first of all but a heartbeat.
-    #[tactic(auto, using(crate::proofs::Firsts::first_some, crate::proofs::Firsts::first_none))]
-    fn next_unit(&self) -> Option<Reply>
-        ensures { result ≡ first (client_units self.now) }
-    {
-        match self.next_opening() {
-            Some(unit) => Some(unit),
-            None => self.next_answering(),
-        }
-    }
-
-    /// The unit to the client that goes next.
-    #[tactic(auto, using(crate::proofs::Firsts::first_some, crate::proofs::Firsts::first_none))]
-    pub fn next_client(&self) -> Option<Reply>
-        ensures { result ≡ first (client_rows self.now) }
-    {
-        match self.next_unit() {
-            Some(unit) => Some(unit),
-            None => {
-                if self.is_beat_due() {
-                    Some(Reply::Heartbeat)
-                } else {
-                    None
-                }
-            }
-        }
-    }
-
-    /// The first begin of a session.
-    fn first_begin(&self) -> Option<UpUnit>
-        ensures { result ≡ first (begins self.now) }
-    {
-        first_begin(self.lives.all(), self.up.container())
-    }
-
-    /// The first end of one.
-    fn first_end(&self, closing: bool) -> Option<UpUnit>
-        ensures { result ≡ first (ends closing self.now) }
-    {
-        first_end(self.lives.all(), closing, self.up.container(), &self.conn)
-    }
-
-    /// The first flow of a session.
-    fn first_flow(&self) -> Option<UpUnit>
-        ensures { result ≡ first (session_flows self.now) }
-    {
-        first_flow(self.lives.all(), self.up.container())
-    }
-
-    /// The first of the ends, and of the close behind them.
-    #[tactic(auto, using(crate::proofs::Firsts::first_some))]
-    fn next_parting(&self) -> Option<UpUnit>
-        ensures { result ≡ first (parting_units self.now) }
-    {
-        match self.first_end(true) {
-            Some(unit) => Some(unit),
-            None => {
-                if self.up.sent().open {
-                    Some(UpUnit::Close(self.up.condition()))
-                } else {
-                    None
-                }
-            }
-        }
-    }
-
-    /// The first flow of a session, unless the pair ran out of memory.
-    fn last_flow(&self) -> Option<UpUnit>
-        ensures { result ≡ first (unless_out self.now.out_of_memory (session_flows self.now)) }
-    {
-        if self.out_of_memory {
-            None
-        } else {
-            self.first_flow()
-        }
-    }
-
-    /// The unit to the container that goes next while the connection closes.
-    #[tactic(auto, using(crate::proofs::Firsts::first_some, crate::proofs::Firsts::first_none))]
-    fn next_ending(&self) -> Option<UpUnit>
-        ensures { result ≡ first (rows_in true self.now) }
-    {
-        match self.last_flow() {
-            Some(unit) => Some(unit),
-            None => self.next_parting(),
-        }
-    }
-
-    /// The first of the ends, and of an empty frame, while the connection doesn't close.
-    #[tactic(auto, using(crate::proofs::Firsts::first_some, crate::proofs::Firsts::first_none))]
-    fn next_end(&self) -> Option<UpUnit>
-        ensures { result ≡ first (end_units self.now) }
-    {
-        match self.first_end(false) {
-            Some(unit) => Some(unit),
-            None => {
-                if self.up.is_idle_due(self.moment) {
-                    Some(UpUnit::Empty)
-                } else {
-                    None
-                }
-            }
-        }
-    }
-
-    /// The first of the flows of sessions, and of these.
-    #[tactic(auto, using(crate::proofs::Firsts::first_some, crate::proofs::Firsts::first_none))]
-    fn next_flow(&self) -> Option<UpUnit>
-        ensures { result ≡ first (flow_units self.now) }
-    {
-        match self.first_flow() {
-            Some(unit) => Some(unit),
-            None => self.next_end(),
-        }
-    }
-
-    /// The first of the begins, and of these.
-    #[tactic(auto, using(crate::proofs::Firsts::first_some, crate::proofs::Firsts::first_none))]
-    fn next_session(&self) -> Option<UpUnit>
-        ensures { result ≡ first (session_units self.now) }
-    {
-        match self.first_begin() {
-            Some(unit) => Some(unit),
-            None => self.next_flow(),
-        }
-    }
-
-    /// The unit to the container that goes next while the connection doesn't close.
-    #[tactic(auto, using(crate::proofs::Firsts::first_some, crate::proofs::Firsts::first_none))]
-    fn next_running(&self) -> Option<UpUnit>
-        ensures { result ≡ first (rows_in false self.now) }
-    {
-        match self.up.next_opening() {
-            Some(unit) => Some(unit),
-            None => self.next_session(),
-        }
-    }
-
-    /// The unit to the container that goes next.
-    pub fn next_up(&self) -> Option<UpUnit>
-        ensures { result ≡ first (up_rows self.now) }
-    {
-        if !self.up.is_live() || self.up.sent().close {
-            None
-        } else if self.out_of_memory || self.conn.is_closing() {
-            self.next_ending()
-        } else {
-            self.next_running()
-        }
     }
 
     /// Whether a unit to an end is between its first byte and its last.

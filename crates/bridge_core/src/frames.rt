@@ -3,17 +3,20 @@
 ghost use Rattle.std.specs.Prelude.{◌≡◌, ◌≤◌, length};
 ghost use Rattle.frames_091.specs.Headers.{header_bytes};
 ghost use Rattle.methods_091.specs.Closing.{IsWrittenOver};
+ghost use Rattle.gate_model.specs.Spelling.{channel_text, confirm_method};
 ghost use Rattle.gate_model.specs.Spelling.{heartbeat_frame, open_ok_frame, spell_reply};
 ghost use Rattle.gate_model.specs.Spelling.{start_frame, tune_frame};
 ghost use Rattle.gate_model.specs.declared.reply.Reply.TheVariants as reply;
 
 use close_translate::{RESOURCE_ERROR, code_name};
-use gate_model::Reply;
+use gate_model::{ChannelUnit, Reply};
 use machine_091::Refusal;
 use methods_091::{
-    put_channel_close, put_channel_close_ok, put_channel_open_ok, put_close, put_close_ok,
-    put_flow_ok,
+    put_ack, put_channel_close, put_channel_close_ok, put_channel_open_ok, put_close, put_close_ok,
+    put_declare_ok, put_flow_ok, put_nack, put_select_ok,
 };
+use publish_path::Confirm;
+use session_path::PathOk;
 
 /// The protocol header of AMQP 0-9-1 (AMQP 0-9-1 4.2.2).
 const HEADER: [u8; 8] = [b'A', b'M', b'Q', b'P', 0, 0, 9, 1];
@@ -101,7 +104,8 @@ fn write_close(room: &mut [u8; 512], refusal: Refusal) -> usize
 
 /// Writes a channel.close for a refusal, with the name of its code as text.
 fn write_channel_close(room: &mut [u8; 512], channel: u16, refusal: Refusal) -> usize
-    ensures { IsWrittenOver (spell_reply (reply.ChannelClose channel refusal)) room.old room.new result }
+    ensures { IsWrittenOver (spell_reply (reply.ChannelClose channel refusal)) room.old room.new
+        result }
 {
     let name = code_name(refusal.code);
     put_channel_close(
@@ -112,6 +116,30 @@ fn write_channel_close(room: &mut [u8; 512], channel: u16, refusal: Refusal) -> 
         refusal.class,
         refusal.method,
     )
+}
+
+/// Writes an ack or a nack on a channel.
+fn write_confirm(room: &mut [u8; 512], channel: u16, confirm: Confirm) -> usize
+    ensures { IsWrittenOver (channel_text channel (confirm_method confirm)) room.old room.new
+        result }
+{
+    if confirm.ack {
+        put_ack(room, channel, confirm.number, confirm.multiple)
+    } else {
+        put_nack(room, channel, confirm.number, confirm.multiple)
+    }
+}
+
+/// Writes an answer or a confirm on a channel.
+fn write_on_channel(room: &mut [u8; 512], channel: u16, unit: ChannelUnit) -> usize
+    ensures { IsWrittenOver (spell_reply (reply.OnChannel channel unit)) room.old room.new result }
+{
+    match unit {
+        ChannelUnit::Ok(PathOk::Flow) => put_flow_ok(room, channel),
+        ChannelUnit::Ok(PathOk::Declare) => put_declare_ok(room, channel),
+        ChannelUnit::Ok(PathOk::Select) => put_select_ok(room, channel),
+        ChannelUnit::Confirm(confirm) => write_confirm(room, channel, confirm),
+    }
 }
 
 /// Writes the bytes of a unit to the client over the first ones of a room, and answers their count.
@@ -129,7 +157,7 @@ pub fn spell_reply(room: &mut [u8; 512], reply: Reply) -> usize
         Reply::Heartbeat => write_over(room, heartbeat()),
         Reply::NoMemory => put_close(room, RESOURCE_ERROR, b"NO_MEMORY", 0, 0),
         Reply::ChannelOpenOk(channel) => put_channel_open_ok(room, channel),
-        Reply::FlowOk(channel) => put_flow_ok(room, channel),
+        Reply::OnChannel(channel, unit) => write_on_channel(room, channel, unit),
         Reply::ChannelCloseOk(channel) | Reply::CrossedOk(channel) => {
             put_channel_close_ok(room, channel)
         }

@@ -19,9 +19,10 @@ pub fn no_life() -> Life
         waits: false,
         begin: false,
         open_ok: false,
-        flow_oks: 0,
         awaits_end: false,
         over: false,
+        closed_at: None,
+        by_peer: false,
         close_ok: false,
         crossed_ok: false,
         close: None,
@@ -97,14 +98,13 @@ impl Lives {
     {
         if (channel as usize) < CHANNELS {
             let session = life.session;
-            let full = life.flow_oks == u32::MAX || session.echoes == u32::MAX;
+            let full = session.echoes == u32::MAX;
             self.lives[channel as usize] = life;
             self.crowded = self.crowded || full;
         }
     }
 
-    /// Whether some channel may have as many channel.flow-oks due, or as many flows of its session
-    /// asked for, as can be counted.
+    /// Whether as many flows of some channel's session may be asked for as can be counted.
     pub fn is_crowded(&self) -> bool
         ensures { result ≡ false → FlowsFit self.now }
     {

@@ -1,6 +1,7 @@
 //! The units of a client that aren't taken up yet.
 
-ghost use Rattle.std.specs.Prelude.{◌≡◌, ◌<◌, ◌++◌, ◌∷◌, [], OnOk, OnErr, length, option_copied, slice_get, take, Some};
+ghost use Rattle.std.specs.Prelude.{◌≡◌, ◌<◌, ◌++◌, ◌∷◌, [], OnOk, OnErr, length, option_copied};
+ghost use Rattle.std.specs.Prelude.{slice_get, take, Some};
 ghost use Rattle.std.specs.List.{list_any};
 ghost use Rattle.gate_model.specs.Queue.{holds, is_bad_unit, is_empty, is_full, payload_of};
 ghost use Rattle.gate_model.specs.Queue.{removed, waits_for_all, channel_of};

@@ -1,74 +1,167 @@
-//! What a unit of the client wants, as the gateway meets it: a method that isn't built is refused.
+//! What a unit of the client wants, as the gateway meets it: a request that it can't meet is
+//! refused, and a publish becomes a message of AMQP 1.0.
 
-ghost use Rattle.std.specs.Prelude.{◌≡◌, IfOk, OnErr, OnOk};
-ghost use Rattle.gate_model.specs.Requests.{is_built, not_built, refusal_of_want};
-ghost use Rattle.gate_model.specs.State.{conn_step, want_in};
-ghost use Rattle.bridge_core.specs.Logins.{IsLoginWant};
+ghost use Rattle.std.specs.Prelude.{◌≡◌, true, IfOk, OnErr};
+ghost use Rattle.gate_model.specs.Requests.{is_mandatory, is_routed, message_of, method_fault};
+ghost use Rattle.gate_model.specs.Requests.{refusal_for};
+ghost use Rattle.bridge_core.specs.Met.{IsMet, IsPublish, is_publish};
+ghost use Rattle.bridge_core.specs.declared.requests.Met.TheVariants as met;
+ghost use Rattle.machine_091.specs.Calls.{after_closing};
+ghost use Rattle.methods_091.specs.Rows.{class_of, id_of};
+ghost use Rattle.methods_091.specs.View.{kind_of};
+ghost use Rattle.methods_091.specs.declared.method.Method91.{Method91};
+ghost use Rattle.machine_091.specs.declared.unit.Want91.TheVariants as want;
 
-use close_translate::{NOT_IMPLEMENTED, Scope};
-use machine_091::{Conn91, Refusal, Unit91, Want91, connection_laws};
+use close_translate::{NOT_FOUND, NOT_IMPLEMENTED, PRECONDITION_FAILED, Scope};
+use content_091::Content;
+use machine_091::{Conn91, Refusal, Want91};
 use methods_091::{Method91, ids};
+use property_map::{MapFault, Message091, put_image};
 use std::alloc::Global;
-use wire_base::Memory;
+use wire_base::{ByteText, Memory};
 
-/// Whether a method that the connection passes on is built.
-fn is_built(method: &Method91) -> bool
-    ensures { result ≡ is_built method.now }
-{
-    !matches!(
-        method,
-        Method91::ExchangeDeclare { .. } | Method91::ConfirmSelect { .. }
-    )
+/// What a unit wants, once it is known what the gateway makes of it.
+#[derive(Drop)]
+pub enum Met {
+    /// This, which is no publish.
+    Want(Want91),
+    /// A publish on this channel, to this address, with the payload of its transfer.
+    Publish(u16, ByteText, ByteText),
 }
 
-/// The refusal of one that isn't.
-fn not_built(method: &Method91) -> Refusal
-    ensures { result ≡ not_built method.now }
-{
-    let ids = ids(method);
-    Refusal {
-        code: NOT_IMPLEMENTED,
-        scope: Scope::Connection,
-        channel: 0,
-        class: ids.0,
-        method: ids.1,
-    }
+/// What becomes of a publish: the reply code that refuses it, or its address and payload.
+#[derive(Drop)]
+enum Published {
+    Refused(u16),
+    Sent(ByteText, ByteText),
 }
 
-/// The refusal of what a unit wants, if it is refused.
-fn refusal_of(want: &Want91) -> Option<Refusal>
-    ensures { result ≡ refusal_of_want want.now }
+/// The reply code that a method is refused with, if it is.
+fn method_fault(method: &Method91) -> Option<u16>
+    ensures { result ≡ method_fault method.now }
 {
-    match want {
-        Want91::Method(_, method) => {
-            if is_built(method) {
-                None
-            } else {
-                Some(not_built(method))
-            }
+    match method {
+        Method91::ExchangeDeclare { exchange, .. } if !exchange.as_slice().is_empty() => {
+            Some(NOT_FOUND)
         }
-        Want91::Publish(_, method, _) => Some(not_built(method)),
         _ => None,
     }
 }
 
-/// Takes the client's next unit, and answers what it wants. What is refused here closes what its
-/// refusal says. Without memory for the unit all is as it was.
-pub fn take(conn: &mut Conn91, alloc: Global, unit: Unit91) -> Result<Want91, Memory>
-    ensures state { OnOk result (conn.new ≡ conn_step conn.old unit) }
-    ensures want { IfOk result (λ want. want ≡ want_in conn.old unit) }
-    ensures login { IfOk result IsLoginWant }
+/// The refusal of a method on a channel with a reply code: what isn't built closes the connection.
+fn refusal_for(channel: u16, ids: (u16, u16), code: u16) -> Refusal
+    ensures { (m : Method91) → class_of (kind_of m) ≡ ids.0 → id_of (kind_of m) ≡ ids.1
+        → result ≡ refusal_for channel m code }
+{
+    let (class, method) = ids;
+    let (scope, channel) = if code == NOT_IMPLEMENTED {
+        (Scope::Connection, 0)
+    } else {
+        (Scope::Channel, channel)
+    };
+    Refusal {
+        code,
+        scope,
+        channel,
+        class,
+        method,
+    }
+}
+
+/// A publish goes to the address that its routing key names, on the default exchange.
+fn is_routed(message: &Message091) -> bool
+    ensures { result ≡ is_routed message.now }
+{
+    message.exchange.as_slice().is_empty() && !message.key.as_slice().is_empty()
+}
+
+/// The message that a publish and its content are, and whether it is mandatory.
+fn message_of(alloc: Global, method: Method91, content: Content) -> (Message091, bool)
+    ensures message { result.0 ≡ message_of method content }
+    ensures mandatory { result.1 ≡ is_mandatory method }
+{
+    let (exchange, key, mandatory) = match method {
+        Method91::BasicPublish {
+            exchange,
+            routing_key,
+            mandatory,
+            ..
+        } => (exchange, routing_key, mandatory),
+        _other => (ByteText::empty(alloc), ByteText::empty(alloc), false),
+    };
+    let message = Message091 {
+        exchange,
+        key,
+        props: content.props,
+        body: content.body,
+    };
+    (message, mandatory)
+}
+
+/// A publish is refused, or becomes the payload of a transfer.
+fn publish(alloc: Global, message: Message091, mandatory: bool) -> Result<Published, Memory>
+    ensures { IfOk result (IsPublish mandatory message) }
+{
+    if mandatory {
+        return Ok(Published::Refused(NOT_IMPLEMENTED));
+    }
+    if !is_routed(&message) {
+        return Ok(Published::Refused(NOT_FOUND));
+    }
+    let address = message.key.copy(alloc)?;
+    match put_image(alloc, message) {
+        Ok(payload) => Ok(Published::Sent(address, payload)),
+        Err(MapFault::Memory) => Err(Memory),
+        Err(_) => Ok(Published::Refused(PRECONDITION_FAILED)),
+    }
+}
+
+/// A refusal closes what it says, and is as one of the connection.
+fn refuse(conn: &mut Conn91, refusal: Refusal) -> Met
+    ensures conn { conn.new ≡ after_closing refusal.scope refusal.channel conn.old }
+    ensures met { result ≡ met.Want (want.Refuse refusal) }
+{
+    conn.closing(refusal.scope, refusal.channel);
+    Met::Want(Want91::Refuse(refusal))
+}
+
+/// What becomes of a publish on a channel. Without memory for it the connection stays.
+fn meet_publish(
+    alloc: Global,
+    conn: &mut Conn91,
+    channel: u16,
+    method: Method91,
+    content: Content,
+) -> Result<Met, Memory>
+    ensures ok { IfOk result (IsMet (want.Publish channel method content) conn.old conn.new) }
     ensures err { OnErr result (conn.new ≡ conn.old) }
 {
-    connection_laws();
-    match conn.take(alloc, unit) {
-        Ok(want) => match refusal_of(&want) {
-            None => Ok(want),
-            Some(refusal) => {
-                conn.closing(refusal.scope, refusal.channel);
-                Ok(Want91::Refuse(refusal))
+    let ids = ids(&method);
+    let (message, mandatory) = message_of(alloc, method, content);
+    match publish(alloc, message, mandatory)? {
+        Published::Sent(address, payload) => Ok(Met::Publish(channel, address, payload)),
+        Published::Refused(code) => Ok(refuse(conn, refusal_for(channel, ids, code))),
+    }
+}
+
+/// What becomes of what a unit wants. Without memory for it the connection stays.
+pub fn meet(alloc: Global, conn: &mut Conn91, want: Want91) -> Result<Met, Memory>
+    ensures ok { IfOk result (IsMet want conn.old conn.new) }
+    ensures err { OnErr result (conn.new ≡ conn.old) }
+    ensures publish { OnErr result (is_publish want ≡ true) }
+{
+    match want {
+        Want91::Method(channel, method) => match method_fault(&method) {
+            None => Ok(Met::Want(Want91::Method(channel, method))),
+            Some(code) => {
+                let refusal = refusal_for(channel, ids(&method), code);
+                drop(method);
+                Ok(refuse(conn, refusal))
             }
         },
-        Err(error) => Err(error),
+        Want91::Publish(channel, method, content) => {
+            meet_publish(alloc, conn, channel, method, content)
+        }
+        want => Ok(Met::Want(want)),
     }
 }

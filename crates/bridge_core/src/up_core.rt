@@ -96,6 +96,7 @@ fn without(pending: UpPending, unit: UpUnit) -> UpPending
         | UpUnit::Empty
         | UpUnit::Begin(_)
         | UpUnit::Flow(_, _, _)
+        | UpUnit::OnSession(_, _)
         | UpUnit::End(_, _) => pending,
     }
 }
@@ -116,6 +117,7 @@ fn with_begun(sent: UpSent, unit: UpUnit) -> UpSent
         | UpUnit::Empty
         | UpUnit::Begin(_)
         | UpUnit::Flow(_, _, _)
+        | UpUnit::OnSession(_, _)
         | UpUnit::End(_, _) => sent,
     }
 }
@@ -260,7 +262,8 @@ impl UpCore {
     #[tactic(auto, using(crate::proofs::Logins::login_stays), unfolding(machine_10::specs::Transitions::meaning_of))]
     pub fn hear(&mut self, alloc: Global, unit: &Unit10) -> Result<Want10, Memory>
         ensures ok { OnOk result (self.new ≡ heard_up unit.now self.old) }
-        ensures want { IfOk result (λ want. meaning_of want ≡ meaning_by self.old.container unit.now) }
+        ensures want { IfOk result (λ want. meaning_of want
+            ≡ meaning_by self.old.container unit.now) }
         ensures err { OnErr result (self.new ≡ self.old) }
     {
         connection_laws();

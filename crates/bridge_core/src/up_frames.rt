@@ -1,6 +1,6 @@
 //! The bytes of the units that the gateway writes to a container.
 
-ghost use Rattle.std.specs.Prelude.{◌≡◌, ◌≤◌, [], length, true, IfOk, OnOk, OnErr};
+ghost use Rattle.std.specs.Prelude.{◌≡◌, ◌≤◌, [], length, true, false, IfOk, OnOk, OnErr};
 ghost use Rattle.frames_10.specs.Frames.{frame_text};
 ghost use Rattle.frames_10.specs.declared.frame.Kind10.TheVariants.{Amqp, Sasl};
 ghost use Rattle.performatives_10.specs.Closing.{IsWrittenOver, end_text};
@@ -14,6 +14,7 @@ ghost use Rattle.gate_model.specs.Spelling.{begin_perf, container_id, flow_perf,
 ghost use Rattle.gate_model.specs.Spelling.{frame_on};
 ghost use Rattle.gate_model.specs.Spelling.{init_of, open_of, spell_up};
 ghost use Rattle.bridge_core.specs.Logins.{IsLoginOf};
+ghost use Rattle.bridge_core.specs.Offers.{is_on_session};
 
 use crate::frames::write_over;
 use frames_10::{Frame10, Kind10, put_frame10};
@@ -113,7 +114,9 @@ fn write_perf(
 ) -> Result<usize, Memory>
     requires spelled { HasSpelling (perf_tree perf.now) }
     requires short { length (perf_text perf.now) ≤ 504 }
-    ensures ok { IfOk result (IsWrittenOver (frame_text (record { kind = kind; channel = channel; body = perf_text perf.now })) room.old room.new) }
+    ensures ok { IfOk result (IsWrittenOver
+        (frame_text (record { kind = kind; channel = channel; body = perf_text perf.now }))
+        room.old room.new) }
     ensures small { IfOk result (λ count. count ≤ 512) }
     ensures err { OnErr result (room.new ≡ room.old) }
 {
@@ -138,7 +141,8 @@ fn write_open(
     setup: &Setup,
     number: u32,
 ) -> Result<usize, Memory>
-    ensures ok { IfOk result (IsWrittenOver (frame_10 Amqp (perf_text (open_of setup.now number))) room.old room.new) }
+    ensures ok { IfOk result (IsWrittenOver (frame_10 Amqp (perf_text (open_of setup.now number)))
+        room.old room.new) }
     ensures small { IfOk result (λ count. count ≤ 512) }
     ensures err { OnErr result (room.new ≡ room.old) }
 {
@@ -152,7 +156,8 @@ fn write_open(
 #[tactic(auto, using(crate::proofs::Spellings::init_spelled, crate::proofs::Spellings::init_short))]
 fn write_init(room: &mut [u8; 512], alloc: Global, container: &Conn10) -> Result<usize, Memory>
     requires { is_login container.now.mechanism container.now.response ≡ true }
-    ensures ok { IfOk result (IsWrittenOver (frame_10 Sasl (perf_text (init_of container.now))) room.old room.new) }
+    ensures ok { IfOk result (IsWrittenOver (frame_10 Sasl (perf_text (init_of container.now)))
+        room.old room.new) }
     ensures small { IfOk result (λ count. count ≤ 512) }
     ensures err { OnErr result (room.new ≡ room.old) }
 {
@@ -181,7 +186,8 @@ fn begin() -> Perf
 /// Writes the begin of the session on a channel.
 #[tactic(auto, using(crate::proofs::Spellings::begin_spelled, crate::proofs::Spellings::begin_short))]
 fn write_begin(room: &mut [u8; 512], alloc: Global, channel: u16) -> Result<usize, Memory>
-    ensures ok { IfOk result (IsWrittenOver (frame_on channel (perf_text begin_perf)) room.old room.new) }
+    ensures ok { IfOk result (IsWrittenOver (frame_on channel (perf_text begin_perf))
+        room.old room.new) }
     ensures small { IfOk result (λ count. count ≤ 512) }
     ensures err { OnErr result (room.new ≡ room.old) }
 {
@@ -219,7 +225,8 @@ fn write_flow(
     incoming: u32,
     outgoing: u32,
 ) -> Result<usize, Memory>
-    ensures ok { IfOk result (IsWrittenOver (frame_on channel (perf_text (flow_perf incoming outgoing))) room.old room.new) }
+    ensures ok { IfOk result (IsWrittenOver
+        (frame_on channel (perf_text (flow_perf incoming outgoing))) room.old room.new) }
     ensures small { IfOk result (λ count. count ≤ 512) }
     ensures err { OnErr result (room.new ≡ room.old) }
 {
@@ -246,7 +253,8 @@ fn write_close(room: &mut [u8; 512], condition: Option<Condition>) -> usize
 }
 
 /// Writes the bytes of a unit to a container over the first ones of a room, and answers their
-/// count. Without memory the room is as it was.
+/// count. Those of a session's links are spelled with what they carry. Without memory the room is
+/// as it was.
 pub fn spell_up(
     room: &mut [u8; 512],
     alloc: Global,
@@ -255,8 +263,11 @@ pub fn spell_up(
     container: &Option<Conn10>,
     unit: UpUnit,
 ) -> Result<usize, Memory>
-    requires { IsLoginOf container.now }
-    ensures ok { IfOk result (IsWrittenOver (spell_up (record { setup = setup.now; number = number; container = container.now }) unit) room.old room.new) }
+    requires login { IsLoginOf container.now }
+    requires alone { is_on_session unit ≡ false }
+    ensures ok { IfOk result (IsWrittenOver (spell_up
+        (record { setup = setup.now; number = number; container = container.now }) unit [])
+        room.old room.new) }
     ensures small { IfOk result (λ count. count ≤ 512) }
     ensures err { OnErr result (room.new ≡ room.old) }
     ensures takes { OnErr result (takes_memory_up unit ≡ true) }
@@ -276,5 +287,6 @@ pub fn spell_up(
             write_flow(room, alloc, channel, incoming, outgoing)
         }
         UpUnit::End(channel, condition) => Ok(write_end(room, channel, condition)),
+        UpUnit::OnSession(_, _) => unreachable!(),
     }
 }

@@ -1,35 +1,47 @@
 //! The bytes of a unit to the container, in a room that is kept for them.
 
-ghost use Rattle.std.specs.Prelude.{◌≡◌, ◌≤◌, length, [], None, Some, OnOk, OnErr, true};
-ghost use Rattle.gate_model.specs.Due.{takes_memory_up};
-ghost use Rattle.gate_model.specs.Spelling.{spell_up};
+ghost use Rattle.std.specs.Prelude.{◌≡◌, ◌≤◌, length, [], None, Some, OnOk, OnErr, true, false};
+ghost use Rattle.gate_model.specs.Due.{takes_memory_on, takes_memory_up};
+ghost use Rattle.gate_model.specs.Spelling.{spell_on, spell_up};
+ghost use Rattle.gate_model.specs.declared.outgoing.UpUnit.TheVariants as up;
+ghost use Rattle.gate_model.specs.declared.channel.SessionUnit.TheVariants as on_session;
 ghost use Rattle.bridge_core.specs.Logins.{IsLoginOf};
-ghost use Rattle.bridge_core.specs.Offers.{UpSlotState};
+ghost use Rattle.bridge_core.specs.Offers.{UpSlotState, is_on_session};
 
+use crate::link_frames::{attach_frame, flow_frame, transfer_frame};
 use crate::up_frames;
-use gate_model::{Setup, UpUnit};
+use gate_model::{SessionUnit, Setup, UpUnit};
 use machine_10::Conn10;
+use performatives_10::{Ending, put_end, put_settled};
+use session_path::Settling;
 use std::alloc::Global;
 use std::marker::Model;
-use wire_base::Memory;
+use wire_base::{ByteText, Memory};
 
-/// What is offered to the container, and the bytes of it or of the unit in progress.
+/// What is offered to the container, and the bytes of it or of the unit in progress. Those of an
+/// attach, of a flow of a link and of a transfer stand in `long`, all others in `room`.
 #[derive(Drop)]
 pub struct UpSlot {
     chosen: Option<UpUnit>,
     room: [u8; 512],
     used: usize,
+    long: Option<ByteText>,
 }
 
 impl Model for UpSlot {
-    ghost use Rattle.std.specs.Prelude.{◌≤◌, take};
-    ghost use Rattle.bridge_core.specs.Offers.{UpSlotState};
+    ghost use Rattle.std.specs.Prelude.{◌≡◌, ◌≤◌, IfSome, length, take};
+    ghost use Rattle.bridge_core.specs.Offers.{UpSlotState, slot_bytes};
 
     ghost Value = { UpSlotState };
 
-    ghost view = { λ a. record { chosen = a.chosen; bytes = take a.used a.room } };
+    ghost view = { λ a. record {
+      chosen = a.chosen;
+      bytes = slot_bytes a.long (take a.used a.room);
+    } };
 
-    ghost invariant = { λ a. a.used ≤ 512 };
+    // the room's length is said here, since a slot that is only read doesn't show it
+    ghost invariant = { λ a. (a.used ≤ 512) × (length a.room ≡ 512)
+        × IfSome a.long (λ text. length text ≤ 65536) };
 }
 
 impl UpSlot {
@@ -41,6 +53,7 @@ impl UpSlot {
             chosen: None,
             room: [0; 512],
             used: 0,
+            long: None,
         }
     }
 
@@ -55,10 +68,13 @@ impl UpSlot {
     #[tactic(auto, using(std::proofs::lemmas::List::take_at))]
     pub fn bytes(&self) -> &[u8]
         ensures bytes { result.now ≡ self.now.bytes }
-        ensures small { length result.now ≤ 512 }
+        ensures small { length result.now ≤ 65536 }
     {
         let (bytes, _) = self.room.as_slice().split_at(self.used);
-        bytes
+        match &self.long {
+            Some(text) => text.as_slice(),
+            None => bytes,
+        }
     }
 
     /// Nothing is offered any more.
@@ -68,9 +84,8 @@ impl UpSlot {
         self.chosen = None;
     }
 
-    /// A unit of this pair is offered. Only those that open a connection or a session, and
-    /// flows, take memory;
-    /// without it all is as it was.
+    /// A unit of this pair is offered. Only those that open a connection or a session, and flows,
+    /// take memory; without it all is as it was.
     #[tactic(auto, using(crate::proofs::Rooms::written))]
     pub fn choose(
         &mut self,
@@ -80,18 +95,86 @@ impl UpSlot {
         container: &Option<Conn10>,
         unit: UpUnit,
     ) -> Result<(), Memory>
-        requires { IsLoginOf container.now }
-        ensures ok { OnOk result (self.new ≡ record { chosen = Some unit; bytes = spell_up (record { setup = setup.now; number = number; container = container.now }) unit }) }
+        requires login { IsLoginOf container.now }
+        requires alone { is_on_session unit ≡ false }
+        ensures ok { OnOk result (self.new ≡ record {
+          chosen = Some unit;
+          bytes = spell_up
+              (record { setup = setup.now; number = number; container = container.now }) unit [];
+        }) }
         ensures err { OnErr result (self.new ≡ self.old) }
         ensures takes { OnErr result (takes_memory_up unit ≡ true) }
     {
-        match up_frames::spell_up(&mut self.room, alloc, setup, number, container, unit) {
-            Ok(used) => {
-                self.used = used;
-                self.chosen = Some(unit);
-                Ok(())
+        let used = up_frames::spell_up(&mut self.room, alloc, setup, number, container, unit)?;
+        self.used = used;
+        self.long = None;
+        self.chosen = Some(unit);
+        Ok(())
+    }
+
+    /// A unit is offered whose bytes are these.
+    fn hold(&mut self, unit: UpUnit, text: ByteText)
+        requires { length text ≤ 65536 }
+        ensures { self.new ≡ record { chosen = Some unit; bytes = text } }
+    {
+        self.long = Some(text);
+        self.chosen = Some(unit);
+    }
+
+    /// A disposition is offered.
+    #[tactic(auto, using(crate::proofs::Rooms::written))]
+    fn settle(&mut self, channel: u16, settling: Settling)
+        ensures { self.new ≡ record {
+          chosen = Some (up.OnSession channel (on_session.Settle settling));
+          bytes = spell_on channel (on_session.Settle settling) [];
+        } }
+    {
+        self.used = put_settled(&mut self.room, channel, settling.first, settling.last);
+        self.long = None;
+        self.chosen = Some(UpUnit::OnSession(channel, SessionUnit::Settle(settling)));
+    }
+
+    /// A detach is offered.
+    #[tactic(auto, using(crate::proofs::Rooms::written))]
+    fn detach(&mut self, channel: u16, link: u32, handle: u32)
+        ensures { self.new ≡ record {
+          chosen = Some (up.OnSession channel (on_session.Detach link handle));
+          bytes = spell_on channel (on_session.Detach link handle) [];
+        } }
+    {
+        self.used = put_end(&mut self.room, channel, Ending::Detach(handle), None);
+        self.long = None;
+        self.chosen = Some(UpUnit::OnSession(channel, SessionUnit::Detach(link, handle)));
+    }
+
+    /// A unit of a session's links is offered, which carries this of the client's. Settled
+    /// dispositions and detaches take no memory; without it for others all is as it was.
+    pub fn choose_on(
+        &mut self,
+        alloc: Global,
+        channel: u16,
+        unit: SessionUnit,
+        carried: &[u8],
+    ) -> Result<(), Memory>
+        ensures ok { OnOk result (self.new ≡ record {
+          chosen = Some (up.OnSession channel unit);
+          bytes = spell_on channel unit carried.now;
+        }) }
+        ensures err { OnErr result (self.new ≡ self.old) }
+        ensures takes { OnErr result (takes_memory_on unit ≡ true) }
+    {
+        let chosen = UpUnit::OnSession(channel, unit);
+        match unit {
+            SessionUnit::Attach(attach) => {
+                self.hold(chosen, attach_frame(alloc, channel, attach, carried)?);
             }
-            Err(error) => Err(error),
+            SessionUnit::Flow(flow) => self.hold(chosen, flow_frame(alloc, channel, flow)?),
+            SessionUnit::Transfer(transfer) => {
+                self.hold(chosen, transfer_frame(alloc, channel, transfer, carried)?);
+            }
+            SessionUnit::Settle(settling) => self.settle(channel, settling),
+            SessionUnit::Detach(link, handle) => self.detach(channel, link, handle),
         }
+        Ok(())
     }
 }

@@ -34,6 +34,7 @@ use Rattle.gate_runs.specs.Next.{next, Do, EndBy, Done, AskRead, AskWrite, AskSh
 use Rattle.gate_runs.specs.Serving.{Follows}
 use Rattle.gate_model.specs.Frames.{limit_in}
 use Rattle.gate_model.specs.Lives as lives
+use Rattle.gate_model.specs.Paths as paths
 use Rattle.machine_091.specs.Contents as contents
 use Rattle.machine_091.specs.State as channels
 use Rattle.gate_model.specs.Spelling as frames
@@ -44,7 +45,7 @@ use Rattle.gate_relay.specs.RelayWords.{RelayWords}
 
 -- what is computed here is opened by this one name
 all_open : ℕ
-unfolding meaning.pair_words relayed.read_room lives.no_lives channels.no_channels contents.no_contents headers.header_scan wire.first_header scanning.scan_of scanning.stated_size scanning.frame_in frames.start_frame frames.tune_frame frames.open_ok_frame spelling.frame_text reading.text_in reading.all_items
+unfolding meaning.pair_words relayed.read_room lives.no_lives paths.no_paths channels.no_channels contents.no_contents headers.header_scan wire.first_header scanning.scan_of scanning.stated_size scanning.frame_in frames.start_frame frames.tune_frame frames.open_ok_frame spelling.frame_text reading.text_in reading.all_items
 all_open = 0
 
 -- and what a container's units are read by

@@ -1,34 +1,32 @@
 -- Before the client's login no end is open upstream, and after it no unit of the client changes which login the container is
 -- asked for.
-use Rattle.std.proofs.Common.{◌≡◌, ◌∙◌, ℕ, ◌==◌, Bool, true, false, not, ◌&&◌, if◌then◌else◌, List, [], ◌∷◌, Option, refl, ap, sym}
+use Rattle.std.proofs.Common.{◌≡◌, ◌∙◌, ℕ, Bool, true, false, not, ◌&&◌, if◌then◌else◌, List, [], ◌∷◌, Option, refl, ap, sym}
 use Rattle.gate_outside.specs.declared.ports.End.TheVariants.{Client, Up}
 use Rattle.gate_outside.specs.declared.ports.Linked.TheVariants as link
 use Rattle.gate_relay.specs.declared.loss.Loss.TheVariants as loss
 use Rattle.gate_relay.specs.Sides.{is_absent, is_readable}
 use Rattle.close_translate.specs.declared.conditions.Scope.TheVariants as scope
 use Rattle.machine_091.specs.Calls.{after_closing, after_ended, after_opened, closing_phase, opened_phase}
-use Rattle.machine_091.specs.State.{is_open, is_open_phase, is_opening}
+use Rattle.machine_091.specs.State.{is_open_phase, is_opening}
 use Rattle.machine_091.specs.Transitions as machine
 use Rattle.machine_091.specs.declared.state.Connection.{Connection}
 use Rattle.machine_091.specs.declared.state.Phase91.{Phase91}
 use Rattle.machine_091.specs.declared.state.Phase91.TheVariants as phase
 use Rattle.machine_091.specs.declared.unit.Unit91.{Unit91}
-use Rattle.machine_10.specs.Parts.{Parts as Read}
-use Rattle.machine_10.specs.Reading.{field}
 use Rattle.machine_10.specs.Transitions as ten
 use Rattle.machine_10.specs.Transitions.{Meaning}
 use Rattle.machine_10.specs.declared.state.Upstream.{Upstream}
-use Rattle.performatives_10.specs.Fields.{is_absent as is_missing}
 use Rattle.gate_model.specs.declared.outgoing.Outgoing.TheVariants.{ToClient, ToUp}
-use Rattle.gate_model.specs.Folds.{Peers, accepted_in, conn_by, conn_session, connection, container, container_kept, leaving_in, peers, peers_came, peers_heard, ran_out_in, side_in}
+use Rattle.gate_model.specs.Folds.{Peers, accepted_in, connection, container, container_kept, leaving_in, peers, peers_by, peers_came, peers_heard, ran_out_in, side_in}
 use Rattle.gate_model.specs.Picks.{ArePicks}
 use Rattle.gate_model.specs.Requests.{client_step}
-use Rattle.gate_model.specs.State.{Step, Began, Moment, Fed, Silent, Queued, Came, TakenUp, Heard, Joined, Lost, Gave, Whole, OutOfMemory, before, close, close_if, conn_step, is_limit_reached}
-use Rattle.gate_model.specs.Upstream.{channel_max_in, meaning_by}
+use Rattle.gate_model.specs.State.{Step, Began, Moment, Fed, Silent, Queued, Came, TakenUp, Heard, Joined, Lost, Gave, Whole, OutOfMemory, before, close_if, conn_step, is_limit_reached}
+use Rattle.gate_model.specs.Upstream.{channel_max_in, container_by, meaning_by}
 use Rattle.gate_model.proofs.Connections.{clash, only_given, phase_only}
 use Rattle.gate_model.proofs.Outcomes.{only_closing}
 use Rattle.gate_model.proofs.Known.{conn_is, known}
-use Rattle.gate_model.proofs.Outcomes.{Outcome, Greets, Parts, LogsIn, Tunes, Asks, Passes, Refuses, Declines, Drops, Parting, Calls, Asking, Fills, Frees, Closes, Answers, Ignores, outcome}
+use Rattle.gate_model.proofs.Outcomes.{Outcome, Greets, Parts, LogsIn, Tunes, Asks, Passes, Refuses, Declines, Drops, Parting, Calls, Asking, Publishes, Fills, Frees, Closes, Answers, Ignores, outcome}
+use Rattle.gate_model.proofs.Sessions.{conn_cases}
 use Rattle.gate_model.proofs.Ups.{is_early}
 use Rattle.gate_turn_laws.proofs.Lists.{and_parts}
 
@@ -59,6 +57,7 @@ unit_late c u late = by (client_step c u) (outcome c u)
     by _ (Parting e) = refl
     by _ (Calls n s m e) = late
     by _ (Asking n m e) = late
+    by _ (Publishes n m x e) = late
     by _ (Fills n i e) = late
     by _ (Frees n e) = late
     by _ (Closes e) = refl
@@ -82,6 +81,7 @@ login_late c u o late = by (client_step c u) (outcome c u)
     by _ (Parting e) = refl
     by _ (Calls n s m e) = refl
     by _ (Asking n m e) = refl
+    by _ (Publishes n m x e) = refl
     by _ (Fills n i e) = refl
     by _ (Frees n e) = refl
     by _ (Closes e) = refl
@@ -101,30 +101,20 @@ opened_late asked phase.Closed late = refl
 channel_late : (n : ℕ) (c : Connection) → is_early c.phase ≡ false → is_early (after_closing scope.Channel n c).phase ≡ false
 channel_late n c late = ap is_early (phase_only (only_closing n c)) ∙ late
 
-session_late : (n : ℕ) (p : Read) (c : Connection) → is_early c.phase ≡ false → is_early (conn_session n p c).phase ≡ false
-session_late n p c late = by (p.0 == 17) (p.0 == 18) (p.0 == 19 && is_missing (field p.1 4)) (p.0 == 21) (is_open c n)
+meaning_late : (m : Meaning) (x : Peers) → is_early x.client.phase ≡ false → is_early (peers_by m x).client.phase ≡ false
+meaning_late ten.Nothing x late = late
+meaning_late ten.Init x late = late
+meaning_late ten.AmqpHeader x late = late
+meaning_late ten.Opened x late = by (is_opening x.client)
   where
-    by : (v w x y z : Bool) → is_early (if v then c else if w then close c else if x then c else if y then c else if z then after_closing scope.Channel n c else c).phase ≡ false
-    by true w x y z = late
-    by false true x y z = closing_late c.phase
-    by false false true y z = late
-    by false false false true z = late
-    by false false false false true = channel_late n c late
-    by false false false false false = late
-
-meaning_late : (m : Meaning) (o : Option Upstream) (c : Connection) → is_early c.phase ≡ false → is_early (conn_by m o c).phase ≡ false
-meaning_late ten.Nothing o c late = late
-meaning_late ten.Init o c late = late
-meaning_late ten.AmqpHeader o c late = late
-meaning_late ten.Opened o c late = by (is_opening c)
-  where
-    by : (b : Bool) → is_early (if b then after_opened (channel_max_in o) c else c).phase ≡ false
-    by true = opened_late c.asked c.phase late
+    by : (b : Bool) → is_early (if b then after_opened (channel_max_in x.container) x.client else x.client).phase ≡ false
+    by true = opened_late x.client.asked x.client.phase late
     by false = late
-meaning_late (ten.OfSession g p payload) o c late = session_late g p c late
-meaning_late (ten.Closed x) o c late = closing_late c.phase
-meaning_late ten.Refused o c late = closing_late c.phase
-meaning_late (ten.Violation why) o c late = closing_late c.phase
+meaning_late (ten.OfSession n q payload) x late =
+    conn_cases (λ (c : Connection). is_early c.phase ≡ false) n q x late (closing_late x.client.phase) (channel_late n x.client late)
+meaning_late (ten.Closed e) x late = closing_late x.client.phase
+meaning_late ten.Refused x late = closing_late x.client.phase
+meaning_late (ten.Violation why) x late = closing_late x.client.phase
 
 limit_late : (b : Bool) (c : Connection) → is_early c.phase ≡ false → is_early (close_if b c).phase ≡ false
 limit_late true c late = closing_late c.phase
@@ -170,7 +160,9 @@ unreached (TakenUp ∷ h) p e = unreached h p.1 (by (not (ran_out_in h) && leavi
     by true e = absurd cc
     by false e = e
 unreached (Heard u ∷ h) p e =
-    unreached h p.1 (either_early (ran_out_in h) (peers h) (peers_heard (peers h) u) (meaning_late (meaning_by (container h) u) _ (connection h)) e)
+    unreached h p.1
+    (either_early (ran_out_in h) (peers h) (peers_heard (peers h) u)
+    (meaning_late (meaning_by (container h) u) (record (peers h) { container = container_by (container h) u })) e)
 unreached (Joined link.Ok ∷ h) p e =
     let opening : is_opening (before h).conn ≡ true = (and_parts (is_opening (before h).conn) (is_absent (before h).up.side) p.0).0 in
     let late : is_early (before h).conn.phase ≡ false = opening_late (before h).conn.phase (before h).conn.asked opening in
@@ -180,7 +172,7 @@ unreached (Lost Client how ∷ h) p e = unreached h p.1 e
 unreached (Lost Up loss.Ended ∷ h) p e = refl
 unreached (Lost Up loss.Failed ∷ h) p e = refl
 unreached (Lost Up loss.Shut ∷ h) p e = refl
-unreached (Gave (ToClient u) ∷ h) p e = unreached h p.1 (sym (ap is_early (phase_only (only_given u (connection h)))) ∙ e)
-unreached (Gave (ToUp u) ∷ h) p e = unreached h p.1 e
+unreached (Gave (ToClient u) text ∷ h) p e = unreached h p.1 (sym (ap is_early (phase_only (only_given u (connection h)))) ∙ e)
+unreached (Gave (ToUp u) text ∷ h) p e = unreached h p.1 e
 unreached (Whole end ∷ h) p e = unreached h p.1 e
 unreached (OutOfMemory ∷ h) p e = absurd (clash _ e (closing_late (connection h).phase))

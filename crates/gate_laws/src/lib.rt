@@ -40,11 +40,11 @@ pub fn entries_are_lawful()
 }
 
 /// The units of each end are those with which its bytes begin, however these were cut. What an end
-/// took are the bytes of the units that were sent to it, but for what is left of the one in
-/// progress. Without heartbeats, those to the client and the ones that are due are the replies to
-/// its units and to what happened upstream; after the pair ran out of memory those since then are
-/// the last units. While an end takes bytes and none are offered, all that may go went, and no
-/// heartbeat and no empty frame is due.
+/// took are the bytes of the units that were sent to it, with what each carries, but for what is
+/// left of the one in progress. Without heartbeats, those to the client and the ones that are due
+/// are the replies to its units and to what happened upstream; after the pair ran out of memory
+/// those since then are the last units. While an end takes bytes and none are offered, all that may
+/// go went, and no heartbeat and no empty frame is due.
 pub fn clients_are_answered()
     ensures { (s : SetupText) (c : Limits) (m : History) → Follows (pair_words s) c m → (p : ℕ)
         → IsAnswered s (journal p m) }

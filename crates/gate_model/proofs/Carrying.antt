@@ -1,5 +1,5 @@
 -- The session of a channel is what the steps say of it.
-use Rattle.std.proofs.Common.{◌≡◌, ◌≢◌, ◌⊎◌, ℕ, zero, suc, ◌==◌, ◌<◌, ◌≤◌, Bool, true, false, ◌&&◌, ◌||◌, if◌then◌else◌, List, [], ◌∷◌, Option, None, Some, length, arith, inl, inr, refl, sym, ap, ◌∙◌, subst}
+use Rattle.std.proofs.Common.{◌≡◌, ◌≢◌, ◌⊎◌, ℕ, zero, suc, ◌==◌, ◌<◌, ◌≤◌, Bool, true, false, if◌then◌else◌, List, [], ◌∷◌, Option, Some, length, arith, inl, inr, refl, sym, ap, ◌∙◌, subst}
 use Rattle.gate_outside.specs.declared.ports.End.TheVariants.{Client, Up}
 use Rattle.gate_outside.specs.declared.ports.Linked.TheVariants as link
 use Rattle.gate_relay.specs.declared.loss.Loss.TheVariants as loss
@@ -22,17 +22,18 @@ use Rattle.gate_model.specs.declared.outgoing.UpUnit.{UpUnit}
 use Rattle.gate_model.specs.declared.outgoing.UpUnit.TheVariants as up
 use Rattle.gate_model.specs.declared.reply.Reply.{Reply}
 use Rattle.gate_model.specs.declared.reply.Reply.TheVariants as reply
-use Rattle.gate_model.specs.Folds.{carried_heard, carried_sent, carrying, container, ran_out_in}
-use Rattle.gate_model.specs.Lives.{failed_life, life_at, lives_by, method_life, no_life, no_lives, with_life, with_state, is_of_channel}
+use Rattle.gate_model.specs.Folds.{carried_heard, carried_sent, carrying, ran_out_in}
+use Rattle.gate_model.specs.Lives.{failed_life, life_at, lives_by, method_life, no_life, with_life, with_state, is_of_channel}
 use Rattle.gate_model.specs.Picks.{ArePicks}
 use Rattle.gate_model.specs.Session.{carried_by, flow_sent, is_flow_owed, no_session}
 use Rattle.gate_model.specs.Requests.{client_step}
-use Rattle.gate_model.specs.State.{Began, Came, Fed, Gave, Heard, Joined, Lost, Moment, OutOfMemory, Queued, Silent, State, Step, TakenUp, Whole, before, came, carried, dequeued, fail, failed, heard, left, runs, with_meaning, without_begin, without_life}
+use Rattle.gate_model.specs.State.{Began, Came, Fed, Gave, Heard, Joined, Lost, Moment, OutOfMemory, Queued, Silent, State, Step, TakenUp, Whole, before, came, carried, dequeued, fail, failed, heard, left, runs, windowed, with_meaning, without_begin, without_life}
 use Rattle.gate_model.specs.Upstream.{heard_up, meaning_by}
 use Rattle.gate_model.proofs.Known.{container_is, known, memory_is}
 use Rattle.gate_model.proofs.Lives.{lives_all}
 use Rattle.gate_model.proofs.Once.{Beyond, Elsewhere, Here, SetAt, isnt, itself, new_at, same_or_not, set_at}
 use Rattle.gate_model.proofs.Sessions.{session_cases}
+use Rattle.gate_model.specs.State.{session_by}
 
 -- the session of the channel of a number
 abbrev at : ℕ → List Life → SessionState
@@ -75,26 +76,25 @@ state_at n k ls s lt = by (same_or_not k n)
 
 -- ---- what the client's units, and units to it, leave
 
-method_keeps : (m : Method91) (l : Life) → (method_life m l).session ≡ l.session
-method_keeps method.ChannelOpen l = refl
-method_keeps (method.ChannelFlow active) l = refl
-method_keeps (method.ChannelClose code text class id) l = refl
-method_keeps m l = refl
+method_keeps : (ms : ℕ) (m : Method91) (l : Life) → (method_life ms m l).session ≡ l.session
+method_keeps ms method.ChannelOpen l = refl
+method_keeps ms (method.ChannelClose code text class id) l = refl
+method_keeps ms m l = refl
 
-want_keeps : (n : ℕ) (x : Want91) (ls : List Life) → at n (lives_by x ls) ≡ at n ls
-want_keeps n want.Nothing ls = refl
-want_keeps n want.Start ls = refl
-want_keeps n (want.Login m r) ls = refl
-want_keeps n want.Tuned ls = refl
-want_keeps n want.OpenUp ls = refl
-want_keeps n (want.Method k m) ls = keeps_at n k ls _ (method_keeps m (life_at ls k))
-want_keeps n (want.Publish k m x) ls = refl
-want_keeps n (want.ChannelCloseOk k) ls = keeps_at n k ls _ refl
-want_keeps n want.Close ls = refl
-want_keeps n want.CloseOk ls = refl
-want_keeps n (want.Refuse r) ls = by (is_of_channel r)
+want_keeps : (n ms : ℕ) (x : Want91) (ls : List Life) → at n (lives_by ms x ls) ≡ at n ls
+want_keeps n ms want.Nothing ls = refl
+want_keeps n ms want.Start ls = refl
+want_keeps n ms (want.Login m r) ls = refl
+want_keeps n ms want.Tuned ls = refl
+want_keeps n ms want.OpenUp ls = refl
+want_keeps n ms (want.Method k m) ls = keeps_at n k ls _ (method_keeps ms m (life_at ls k))
+want_keeps n ms (want.Publish k m x) ls = refl
+want_keeps n ms (want.ChannelCloseOk k) ls = keeps_at n k ls _ refl
+want_keeps n ms want.Close ls = refl
+want_keeps n ms want.CloseOk ls = refl
+want_keeps n ms (want.Refuse r) ls = by (is_of_channel r)
   where
-    by : (b : Bool) → (life_at (if b then with_life r.channel (failed_life r (Some (condition_of r.code)) (life_at ls r.channel)) ls else ls) n).session
+    by : (b : Bool) → (life_at (if b then with_life r.channel (failed_life false ms r (Some (condition_of r.code)) (life_at ls r.channel)) ls else ls) n).session
         ≡ (life_at ls n).session
     by true = keeps_at n r.channel ls _ refl
     by false = refl
@@ -109,7 +109,7 @@ given_keeps n (reply.Close r) ls = refl
 given_keeps n reply.NoMemory ls = refl
 given_keeps n reply.Heartbeat ls = refl
 given_keeps n (reply.ChannelOpenOk k) ls = keeps_at n k ls _ refl
-given_keeps n (reply.FlowOk k) ls = keeps_at n k ls _ refl
+given_keeps n (reply.OnChannel k u) ls = refl
 given_keeps n (reply.ChannelCloseOk k) ls = keeps_at n k ls _ refl
 given_keeps n (reply.CrossedOk k) ls = keeps_at n k ls _ refl
 given_keeps n (reply.ChannelClose k r) ls = keeps_at n k ls _ refl
@@ -136,8 +136,14 @@ session_makes : (n g : ℕ) (p : Parts) (payload : List ℕ) (w : State) → n <
 session_makes n g p payload w lt =
     let x : State = carried g p w in
     let made : at n x.lives ≡ (if g == n then carried_by p (at n w.lives) else at n w.lives) = state_at n g w.lives (carried_by p (at g w.lives)) lt ∙ at_same n g p w.lives in
-    session_cases (λ (v : State). at n v.lives ≡ (if g == n then carried_by p (at n w.lives) else at n w.lives)) g p w
-    (keeps_at n g x.lives _ refl ∙ made) (fail_same n _ _ x ∙ made) made (λ code why. keeps_at n g x.lives _ refl ∙ made)
+    session_cases (λ (v : State). at n v.lives ≡ (if g == n then carried_by p (at n w.lives) else at n w.lives)) g p w (record {
+      begins = keeps_at n g x.lives _ refl ∙ made;
+      stays = made;
+      ends = λ code why. keeps_at n g x.lives _ refl ∙ made;
+      windows = made;
+      drops = λ code why. keeps_at n g x.lives _ refl ∙ made;
+      fails = λ why. fail_same n _ why (windowed g p w) ∙ made;
+    })
 
 meaning_makes : (n : ℕ) (m : Meaning) (w : State) → n < length w.lives → at n (with_meaning m w).lives ≡ carried_heard n m (at n w.lives)
 meaning_makes n ten.Nothing w lt = refl
@@ -161,12 +167,12 @@ heard_makes n w u s lt e = by w.out_of_memory
     by true = e
     by false = meaning_makes n (meaning_by w.up.container u) (record w { up = heard_up u w.up }) lt ∙ ap (carried_heard n (meaning_by w.up.container u)) e
 
-sent_at_same : (n k : ℕ) (ls : List Life) → (if k == n then flow_sent (at k ls) else at n ls) ≡ (if k == n then flow_sent (at n ls) else at n ls)
-sent_at_same n k ls = by (same_or_not k n)
+sent_at_same : (f : SessionState → SessionState) (n k : ℕ) (ls : List Life) → (if k == n then f (at k ls) else at n ls) ≡ (if k == n then f (at n ls) else at n ls)
+sent_at_same f n k ls = by (same_or_not k n)
   where
-    by : (k ≡ n) ⊎ (k ≢ n) → (if k == n then flow_sent (at k ls) else at n ls) ≡ (if k == n then flow_sent (at n ls) else at n ls)
-    by (inl e) = ap (λ (m : ℕ). if k == n then flow_sent (at m ls) else at n ls) e
-    by (inr d) = ap (λ (b : Bool). if b then flow_sent (at k ls) else at n ls) (isnt k n d) ∙ ap (λ (b : Bool). if b then flow_sent (at n ls) else at n ls) (sym (isnt k n d))
+    by : (k ≡ n) ⊎ (k ≢ n) → (if k == n then f (at k ls) else at n ls) ≡ (if k == n then f (at n ls) else at n ls)
+    by (inl e) = ap (λ (m : ℕ). if k == n then f (at m ls) else at n ls) e
+    by (inr d) = ap (λ (b : Bool). if b then f (at k ls) else at n ls) (isnt k n d) ∙ ap (λ (b : Bool). if b then f (at n ls) else at n ls) (sym (isnt k n d))
 
 sent_makes : (n : ℕ) (u : UpUnit) (ls : List Life) → n < length ls → at n (without_begin u ls) ≡ carried_sent n u (at n ls)
 sent_makes n up.SaslHeader ls lt = refl
@@ -175,7 +181,8 @@ sent_makes n up.AmqpHeader ls lt = refl
 sent_makes n up.Open ls lt = refl
 sent_makes n (up.Close why) ls lt = refl
 sent_makes n up.Empty ls lt = refl
-sent_makes n (up.Flow k i o) ls lt = state_at n k ls (flow_sent (at k ls)) lt ∙ sent_at_same n k ls
+sent_makes n (up.Flow k i o) ls lt = state_at n k ls (flow_sent (at k ls)) lt ∙ sent_at_same flow_sent n k ls
+sent_makes n (up.OnSession k u) ls lt = state_at n k ls (session_by u (at k ls)) lt ∙ sent_at_same (session_by u) n k ls
 sent_makes n (up.Begin k) ls lt = keeps_at n k ls _ refl
 sent_makes n (up.End k why) ls lt = keeps_at n k ls _ refl
 
@@ -186,7 +193,7 @@ came_keeps n w u = by w.out_of_memory
   where
     by : (b : Bool) → at n (if b then w else came (dequeued w) u).lives ≡ at n w.lives
     by true = refl
-    by false = want_keeps n (client_step w.conn u).1 w.lives
+    by false = want_keeps n w.moment (client_step w.conn u).1 w.lives
 
 queued_keeps : (n : ℕ) (w : State) (us : List Unit91) → at n (if w.out_of_memory then w else record w { queue = us }).lives ≡ at n w.lives
 queued_keeps n w us = by w.out_of_memory
@@ -225,8 +232,8 @@ carries_in (Lost Client loss.Shut ∷ h) p n lt = carries_in h p.1 n lt
 carries_in (Lost Up loss.Ended ∷ h) p n lt = fail_same n _ _ _ ∙ carries_in h p.1 n lt
 carries_in (Lost Up loss.Failed ∷ h) p n lt = fail_same n _ _ _ ∙ carries_in h p.1 n lt
 carries_in (Lost Up loss.Shut ∷ h) p n lt = carries_in h p.1 n lt
-carries_in (Gave (ToClient u) ∷ h) p n lt = given_keeps n u (before h).lives ∙ carries_in h p.1 n lt
-carries_in (Gave (ToUp u) ∷ h) p n lt = sent_makes n u (before h).lives (within n h p.1 lt) ∙ ap (carried_sent n u) (carries_in h p.1 n lt)
+carries_in (Gave (ToClient u) text ∷ h) p n lt = given_keeps n u (before h).lives ∙ carries_in h p.1 n lt
+carries_in (Gave (ToUp u) text ∷ h) p n lt = sent_makes n u (before h).lives (within n h p.1 lt) ∙ ap (carried_sent n u) (carries_in h p.1 n lt)
 carries_in (Whole Client ∷ h) p n lt = carries_in h p.1 n lt
 carries_in (Whole Up ∷ h) p n lt = carries_in h p.1 n lt
 carries_in (OutOfMemory ∷ h) p n lt = carries_in h p.1 n lt

@@ -1,5 +1,7 @@
 -- The error of the gateway's close to a container: what the first closing event says.
 use Rattle.std.proofs.Common.{Bool, List, None, Option, Some, [], ap, false, if◌then◌else◌, inl, inr, not, refl, subst, sym, true, ℕ, ◌&&◌, ◌++◌, ◌==◌, ◌||◌, ◌∙◌, ◌∷◌, ◌≡◌, ◌⊎◌}
+use Rattle.std.specs.Prelude.{map}
+use Rattle.std.specs.Option.{option_map}
 use Rattle.std.specs.List.{list_any}
 use Rattle.std.proofs.lemmas.List.Folds.{list_any-append}
 use Rattle.gate_outside.specs.declared.ports.End.TheVariants.{Client, Up}
@@ -7,9 +9,7 @@ use Rattle.gate_outside.specs.declared.ports.Linked.TheVariants as link
 use Rattle.close_translate.specs.declared.codes.TheConstants.{CONNECTION_FORCED}
 use Rattle.gate_relay.specs.declared.loss.Loss.TheVariants as loss
 use Rattle.gate_relay.specs.declared.sides.Side.TheVariants as side
-use Rattle.machine_091.specs.Calls.{after_closing, after_ended, after_opened}
-use Rattle.machine_10.specs.Reading.{field}
-use Rattle.performatives_10.specs.Fields.{is_absent}
+use Rattle.machine_091.specs.Calls.{after_ended, after_opened}
 use Rattle.machine_091.specs.State.{is_closing, is_open, is_opening}
 use Rattle.machine_091.specs.Transitions as machine
 use Rattle.machine_091.specs.declared.state.Connection.{Connection}
@@ -20,44 +20,47 @@ use Rattle.machine_10.specs.declared.state.Upstream.{Upstream}
 use Rattle.machine_10.specs.declared.unit.Unit10.{Unit10}
 use Rattle.performatives_10.specs.declared.condition.Condition.{Condition}
 use Rattle.performatives_10.specs.declared.condition.Condition.TheVariants.{ResourceLimitExceeded}
+use Rattle.machine_091.specs.declared.unit.Refusal.{Refusal}
+use Rattle.session_path.specs.Path.{PathState}
+use Rattle.close_translate.specs.declared.conditions.Scope.{Scope}
+use Rattle.close_translate.specs.Conditions.{code_by}
+use Rattle.gate_model.specs.Upstream.{condition_in}
+use Rattle.machine_10.specs.Reading.{field}
+use Rattle.gate_model.specs.Paths.{lost_path, path_at}
 use Rattle.gate_model.specs.declared.outgoing.Outgoing.TheVariants.{ToClient, ToUp}
 use Rattle.gate_model.specs.declared.outgoing.UpUnit.{UpUnit}
-use Rattle.gate_model.specs.declared.outgoing.UpUnit.TheVariants as up
-use Rattle.gate_model.specs.Asked.{closing_condition, condition_at, condition_told, is_opening_unit, is_up_close}
-use Rattle.gate_model.specs.Folds.{Peers, accepted_in, conn_by, connection, container, leaving_in, peers, peers_came, peers_heard, ran_out_in, sent_up}
+use Rattle.gate_model.specs.Asked.{closing_condition, condition_at, condition_told, is_up_close}
+use Rattle.gate_model.specs.Folds.{Peers, accepted_in, closes_connection, connection, container, leaving_in, paths_in, peers, peers_by, peers_came, peers_heard, peers_scoped, ran_out_in, sent_up}
 use Rattle.gate_model.specs.Picks.{ArePicks}
 use Rattle.gate_model.specs.Requests.{client_step}
-use Rattle.gate_model.specs.State.{Began, Came, Gave, Heard, Joined, Lost, Moment, OutOfMemory, Queued, State, Step, TakenUp, Whole, before, came, close, close_if, condition_by, conn_step, dequeued, fail, failed, heard, is_limit_reached, left, runs, with_meaning, Fed, Silent, carried}
-use Rattle.gate_model.specs.Upstream.{UpState, channel_max_in, heard_up, lost_by, meaning_by, shut_by}
-use Rattle.close_translate.specs.declared.codes.TheConstants.{INTERNAL_ERROR}
+use Rattle.gate_model.specs.State.{Began, Came, Fed, Gave, Heard, Joined, Lost, Moment, OutOfMemory, Queued, Silent, State, Step, TakenUp, Whole, before, begun_session, came, carried, close_if, closing_error, closing_error, condition_by, conn_step, dequeued, fail, fail_life, failed, heard, is_limit_reached, left, life_failed, runs, with_meaning, link_scope, scoped, windowed}
+use Rattle.gate_model.specs.Upstream.{UpState, channel_max_in, container_by, heard_up, lost_by, meaning_by, shut_by}
 use Rattle.close_translate.specs.declared.conditions.Scope.TheVariants as scope
-use Rattle.performatives_10.specs.declared.condition.Condition.TheVariants.{NotAllowed}
 use Rattle.machine_10.specs.declared.state.Upstream.{Upstream}
 use Rattle.gate_model.proofs.Connections.{clash, close_closes, closing_only, only_given, opening_early, step_closes}
 use Rattle.gate_model.proofs.Outcomes.{only_closing}
-use Rattle.gate_model.proofs.Sessions.{conn_cases, session_by}
-use Rattle.gate_model.proofs.Known.{Known, closing_is, conn_is, container_is, keep_is, known, memory_is}
-use Rattle.gate_model.proofs.Openings.{is_opening_first}
-use Rattle.gate_model.proofs.Outcomes.{Outcome, Greets, Parts, LogsIn, Tunes, Asks, Passes, Refuses, Declines, Drops, Parting, Calls, Asking, Fills, Frees, Closes, Answers, Ignores, outcome}
+use Rattle.gate_model.proofs.Sessions.{conn_cases}
+use Rattle.gate_model.proofs.Known.{Known, closing_is, conn_is, container_is, keep_is, known, memory_is, paths_are}
+use Rattle.gate_model.proofs.Outcomes.{Outcome, Greets, Parts, LogsIn, Tunes, Asks, Passes, Refuses, Declines, Drops, Parting, Calls, Asking, Publishes, Fills, Frees, Closes, Answers, Ignores, outcome}
 use Rattle.gate_model.proofs.Said.{shuts_in}
 use Rattle.gate_model.proofs.Ups.{Picked, goes_up, is_a_close}
 
 -- ---- a connection that is closing stays so
 
-meaning_closes : (m : Meaning) (o : Option Upstream) (c : Connection) → is_closing c ≡ true → is_closing (conn_by m o c) ≡ true
-meaning_closes ten.Nothing o c e = e
-meaning_closes ten.Init o c e = e
-meaning_closes ten.AmqpHeader o c e = e
-meaning_closes ten.Opened o c e = by (is_opening c) refl
+meaning_closes : (m : Meaning) (x : Peers) → is_closing x.client ≡ true → is_closing (peers_by m x).client ≡ true
+meaning_closes ten.Nothing x e = e
+meaning_closes ten.Init x e = e
+meaning_closes ten.AmqpHeader x e = e
+meaning_closes ten.Opened x e = by (is_opening x.client) refl
   where
-    by : (b : Bool) → is_opening c ≡ b → is_closing (if b then after_opened (channel_max_in o) c else c) ≡ true
-    by true f = absurd (opening_early c f e)
+    by : (b : Bool) → is_opening x.client ≡ b → is_closing (if b then after_opened (channel_max_in x.container) x.client else x.client) ≡ true
+    by true f = absurd (opening_early x.client f e)
     by false f = e
-meaning_closes (ten.OfSession g p payload) o c e =
-    conn_cases (λ (d : Connection). is_closing d ≡ true) g p c e (close_closes c.phase) (closing_only (only_closing g c) ∙ e)
-meaning_closes (ten.Closed x) o c e = close_closes c.phase
-meaning_closes ten.Refused o c e = close_closes c.phase
-meaning_closes (ten.Violation why) o c e = close_closes c.phase
+meaning_closes (ten.OfSession g q payload) x e =
+    conn_cases (λ (d : Connection). is_closing d ≡ true) g q x e (close_closes x.client.phase) (closing_only (only_closing g x.client) ∙ e)
+meaning_closes (ten.Closed t) x e = close_closes x.client.phase
+meaning_closes ten.Refused x e = close_closes x.client.phase
+meaning_closes (ten.Violation why) x e = close_closes x.client.phase
 
 limit_closes : (b : Bool) (c : Connection) → is_closing c ≡ true → is_closing (close_if b c) ≡ true
 limit_closes true c e = close_closes c.phase
@@ -77,15 +80,15 @@ closes_on (Queued u) h p e = e
 closes_on (Came u) h p e = closes_if (ran_out_in h) (peers h) (peers_came (peers h) u) e (step_closes (connection h) u e)
 closes_on TakenUp h p e =
     closes_if (not (ran_out_in h) && leaving_in h) (record (peers h) { client = after_ended (connection h) }) (peers h) refl e
-closes_on (Heard u) h p e = closes_if (ran_out_in h) (peers h) (peers_heard (peers h) u) e (meaning_closes (meaning_by (container h) u) _ (connection h) e)
+closes_on (Heard u) h p e = closes_if (ran_out_in h) (peers h) (peers_heard (peers h) u) e (meaning_closes (meaning_by (container h) u) (record (peers h) { container = container_by (container h) u }) e)
 closes_on (Joined link.Ok) h p e = e
 closes_on (Joined link.Failed) h p e = close_closes (connection h).phase
 closes_on (Lost Client how) h p e = e
 closes_on (Lost Up loss.Ended) h p e = close_closes (connection h).phase
 closes_on (Lost Up loss.Failed) h p e = close_closes (connection h).phase
 closes_on (Lost Up loss.Shut) h p e = e
-closes_on (Gave (ToClient u)) h p e = closing_only (only_given u (connection h)) ∙ e
-closes_on (Gave (ToUp u)) h p e = e
+closes_on (Gave (ToClient u) text) h p e = closing_only (only_given u (connection h)) ∙ e
+closes_on (Gave (ToUp u) text) h p e = e
 closes_on (Whole end) h p e = e
 closes_on OutOfMemory h p e = close_closes (connection h).phase
 
@@ -121,29 +124,30 @@ unit_told c u = by (client_step c u) (outcome c u)
     by _ (Parting e) k = refl
     by _ (Calls n s m e) k = refl
     by _ (Asking n m e) k = refl
+    by _ (Publishes n m x e) k = refl
     by _ (Fills n i e) k = refl
     by _ (Frees n e) k = refl
     by _ (Closes e) k = refl
     by _ (Answers e) k = refl
     by _ (Ignores e) k = refl
 
-meaning_told : (m : Meaning) (o : Option Upstream) (c : Connection) → is_closing (conn_by m o c) ≡ false → condition_told m ≡ None
-meaning_told ten.Nothing o c e = refl
-meaning_told ten.Init o c e = refl
-meaning_told ten.AmqpHeader o c e = refl
-meaning_told ten.Opened o c e = refl
-meaning_told (ten.OfSession g p payload) o c e = by (p.0 == 17) (p.0 == 18) e
+meaning_told : (m : Meaning) (x : Peers) → is_closing (peers_by m x).client ≡ false → condition_told x.paths m ≡ None
+meaning_told ten.Nothing x e = refl
+meaning_told ten.Init x e = refl
+meaning_told ten.AmqpHeader x e = refl
+meaning_told ten.Opened x e = refl
+meaning_told (ten.OfSession g q payload) x e = by (link_scope q (path_at x.paths g)) e
   where
-    rest : Connection
-    rest = if p.0 == 19 && is_absent (field p.1 4) then c else if p.0 == 21 then c else if is_open c g then after_closing scope.Channel g c else c
+    why : Condition
+    why = closing_error q (path_at x.paths g)
 
-    by : (a b : Bool) → is_closing (if a then c else if b then close c else rest) ≡ false → (if (if a then false else b) then Some NotAllowed else None) ≡ None
-    by true b e = refl
-    by false true e = absurd (clash _ (close_closes c.phase) e)
-    by false false e = refl
-meaning_told (ten.Closed x) o c e = refl
-meaning_told ten.Refused o c e = refl
-meaning_told (ten.Violation why) o c e = absurd (clash _ (close_closes c.phase) e)
+    by : (o : Option Scope) → is_closing (peers_scoped o g q x).client ≡ false → (if closes_connection o then Some why else None) ≡ None
+    by None e = refl
+    by (Some scope.Connection) e = absurd (clash _ (close_closes x.client.phase) e)
+    by (Some scope.Channel) e = refl
+meaning_told (ten.Closed t) x e = refl
+meaning_told ten.Refused x e = refl
+meaning_told (ten.Violation why) x e = absurd (clash _ (close_closes x.client.phase) e)
 
 step_told : (s : Step) (h : List Step) → ran_out_in h ≡ false → is_closing (connection (s ∷ h)) ≡ false → condition_at s h ≡ None
 step_told (Began vhost n ms) h m e = refl
@@ -156,11 +160,11 @@ step_told (Came u) h m e =
     unit_told (connection h) u (subst (λ (b : Bool). is_closing (if b then peers h else peers_came (peers h) u).client ≡ false) m e)
 step_told TakenUp h m e = refl
 step_told (Heard u) h m e =
-    meaning_told (meaning_by (container h) u) _ (connection h)
+    meaning_told (meaning_by (container h) u) (record (peers h) { container = container_by (container h) u })
     (subst (λ (b : Bool). is_closing (if b then peers h else peers_heard (peers h) u).client ≡ false) m e)
 step_told (Joined answer) h m e = refl
 step_told (Lost end how) h m e = refl
-step_told (Gave u) h m e = refl
+step_told (Gave u text) h m e = refl
 step_told (Whole end) h m e = refl
 step_told OutOfMemory h m e = absurd (clash _ (close_closes (connection h).phase) e)
 
@@ -196,7 +200,7 @@ fail_condition code why w = by (is_closing w.conn)
     by false = refl
 
 meaning_condition : (m : Meaning) (w : State) (c : Connection) (b : Option Condition) → w.conn ≡ c → w.up.condition ≡ b → (is_closing c ≡ false → b ≡ None)
-    → (with_meaning m w).up.condition ≡ (if is_closing c then b else condition_told m)
+    → (with_meaning m w).up.condition ≡ (if is_closing c then b else condition_told w.paths m)
 meaning_condition ten.Nothing w c b e f n = quiet (is_closing c) w.up.condition b f n
 meaning_condition ten.Init w c b e f n = quiet (is_closing c) w.up.condition b f n
 meaning_condition ten.AmqpHeader w c b e f n = quiet (is_closing c) w.up.condition b f n
@@ -206,9 +210,29 @@ meaning_condition ten.Opened w c b e f n = by (is_opening w.conn)
     by true = quiet (is_closing c) w.up.condition b f n
     by false = quiet (is_closing c) w.up.condition b f n
 meaning_condition (ten.OfSession g p payload) w c b e f n =
-    session_by (λ (x : Bool) (d : Connection) (v : State). v.up.condition ≡ (if is_closing c then b else (if x then Some NotAllowed else None))) g p w
-    (quiet (is_closing c) w.up.condition b f n) (fail_condition _ (Some NotAllowed) (carried g p w) ∙ told (carried g p w) c b (Some NotAllowed) e f)
-    (quiet (is_closing c) w.up.condition b f n) (λ code why. quiet (is_closing c) w.up.condition b f n)
+    by (link_scope p (path_at w.paths g))
+  where
+    none : w.up.condition ≡ (if is_closing c then b else None)
+    none = quiet (is_closing c) w.up.condition b f n
+
+    either : (x : Bool) (v : State) (r : Refusal) (why : Option Condition) → v.up.condition ≡ w.up.condition
+        → (if x then life_failed g r why v else v).up.condition ≡ w.up.condition
+    either true v r why same = same
+    either false v r why same = same
+
+    met : (x y : Bool) → (if x then begun_session g (carried g p w) else if y then fail_life g (code_by (condition_in (field p.1 0)) scope.Channel) None (carried g p w) else carried g p w).up.condition
+        ≡ w.up.condition
+    met true y = refl
+    met false true = either (is_open w.conn g) (carried g p w) _ None refl
+    met false false = refl
+
+    why : Condition
+    why = closing_error p (path_at w.paths g)
+
+    by : (o : Option Scope) → (scoped o g p w).up.condition ≡ (if is_closing c then b else (if closes_connection o then Some why else None))
+    by None = met (p.0 == 17) (p.0 == 23) ∙ none
+    by (Some scope.Connection) = fail_condition _ (Some why) (windowed g p w) ∙ told w c b (Some why) e f
+    by (Some scope.Channel) = either (is_open w.conn g) (windowed g p w) _ _ refl ∙ none
 meaning_condition (ten.Closed x) w c b e f n = fail_condition _ None w ∙ told w c b None e f
 meaning_condition ten.Refused w c b e f n = fail_condition _ None w ∙ told w c b None e f
 meaning_condition (ten.Violation why) w c b e f n = fail_condition _ (Some why) w ∙ told w c b (Some why) e f
@@ -225,13 +249,15 @@ conditions_came w u false c b e f n =
     came_condition w u ∙ told w c b (condition_by (client_step w.conn u).1) e f
     ∙ ap (λ (x : Connection). if is_closing c then b else condition_by (client_step x u).1) e
 
-conditions_heard : (w : State) (u : Unit10) (m : Bool) (c : Connection) (o : Option Upstream) (b : Option Condition) → w.conn ≡ c → w.up.container ≡ o → w.up.condition ≡ b
+conditions_heard : (w : State) (u : Unit10) (m : Bool) (c : Connection) (o : Option Upstream) (ps : List (Option PathState)) (b : Option Condition)
+    → w.conn ≡ c → w.up.container ≡ o → w.paths ≡ ps → w.up.condition ≡ b
     → (is_closing c ≡ false → b ≡ None) → (m ≡ true → is_closing c ≡ true)
-    → (if m then w else heard w u).up.condition ≡ (if is_closing c then b else condition_told (meaning_by o u))
-conditions_heard w u true c o b e g f n s = passed (is_closing c) w.up.condition b _ f (s refl)
-conditions_heard w u false c o b e g f n s =
+    → (if m then w else heard w u).up.condition ≡ (if is_closing c then b else condition_told ps (meaning_by o u))
+conditions_heard w u true c o ps b e g q f n s = passed (is_closing c) w.up.condition b _ f (s refl)
+conditions_heard w u false c o ps b e g q f n s =
     meaning_condition (meaning_by w.up.container u) (record w { up = heard_up u w.up }) c b e f n
-    ∙ ap (λ (x : Option Upstream). if is_closing c then b else condition_told (meaning_by x u)) g
+    ∙ ap (λ (x : Option Upstream). if is_closing c then b else condition_told w.paths (meaning_by x u)) g
+    ∙ ap (λ (x : List (Option PathState)). if is_closing c then b else condition_told x (meaning_by o u)) q
 
 conditions_taken : (w : State) (x : Bool) (c : Connection) (b : Option Condition) → w.conn ≡ c → w.up.condition ≡ b → (is_closing c ≡ false → b ≡ None)
     → (if x then left w else w).up.condition ≡ (if is_closing c then b else None)
@@ -278,7 +304,7 @@ condition_is (TakenUp ∷ h) p =
 condition_is (Heard u ∷ h) p =
     let k : Known h = known h p.1 in
     ap (λ (m : Bool). (if m then before h else heard (before h) u).up.condition) (memory_is k)
-    ∙ conditions_heard (before h) u (ran_out_in h) (connection h) (container h) (closing_condition h) (conn_is k) (container_is k) (condition_is h p.1) (none_told h p.1) (shuts_in k)
+    ∙ conditions_heard (before h) u (ran_out_in h) (connection h) (container h) (paths_in h) (closing_condition h) (conn_is k) (container_is k) (paths_are k) (condition_is h p.1) (none_told h p.1) (shuts_in k)
 condition_is (Joined link.Ok ∷ h) p = quiet _ _ _ (condition_is h p.1) (none_told h p.1)
 condition_is (Joined link.Failed ∷ h) p =
     conditions_failed (before h) (shut_by (before h).up) (connection h) (closing_condition h) (conn_is (known h p.1)) (condition_is h p.1)
@@ -286,12 +312,12 @@ condition_is (Lost Client loss.Ended ∷ h) p = quiet _ _ _ (condition_is h p.1)
 condition_is (Lost Client loss.Failed ∷ h) p = quiet _ _ _ (condition_is h p.1) (none_told h p.1)
 condition_is (Lost Client loss.Shut ∷ h) p = quiet _ _ _ (condition_is h p.1) (none_told h p.1)
 condition_is (Lost Up loss.Ended ∷ h) p =
-    conditions_failed (before h) (lost_by side.Ended (before h).up) (connection h) (closing_condition h) (conn_is (known h p.1)) (condition_is h p.1)
+    conditions_failed (record (before h) { paths = map (option_map lost_path) (before h).paths }) (lost_by side.Ended (before h).up) (connection h) (closing_condition h) (conn_is (known h p.1)) (condition_is h p.1)
 condition_is (Lost Up loss.Failed ∷ h) p =
-    conditions_failed (before h) (lost_by side.Failed (before h).up) (connection h) (closing_condition h) (conn_is (known h p.1)) (condition_is h p.1)
+    conditions_failed (record (before h) { paths = map (option_map lost_path) (before h).paths }) (lost_by side.Failed (before h).up) (connection h) (closing_condition h) (conn_is (known h p.1)) (condition_is h p.1)
 condition_is (Lost Up loss.Shut ∷ h) p = quiet _ _ _ (condition_is h p.1) (none_told h p.1)
-condition_is (Gave (ToClient u) ∷ h) p = quiet _ _ _ (condition_is h p.1) (none_told h p.1)
-condition_is (Gave (ToUp u) ∷ h) p = quiet _ _ _ (condition_is h p.1) (none_told h p.1)
+condition_is (Gave (ToClient u) text ∷ h) p = quiet _ _ _ (condition_is h p.1) (none_told h p.1)
+condition_is (Gave (ToUp u) text ∷ h) p = quiet _ _ _ (condition_is h p.1) (none_told h p.1)
 condition_is (Whole Client ∷ h) p = quiet _ _ _ (condition_is h p.1) (none_told h p.1)
 condition_is (Whole Up ∷ h) p = quiet _ _ _ (condition_is h p.1) (none_told h p.1)
 condition_is (OutOfMemory ∷ h) p =
@@ -339,8 +365,8 @@ closes_sent (TakenUp ∷ h) p e = closes_on TakenUp h p (closes_sent h p.1 e)
 closes_sent (Heard u ∷ h) p e = closes_on (Heard u) h p (closes_sent h p.1 e)
 closes_sent (Joined answer ∷ h) p e = closes_on (Joined answer) h p (closes_sent h p.1 e)
 closes_sent (Lost end how ∷ h) p e = closes_on (Lost end how) h p (closes_sent h p.1 e)
-closes_sent (Gave (ToClient u) ∷ h) p e = closes_on (Gave (ToClient u)) h p (closes_sent h p.1 e)
-closes_sent (Gave (ToUp u) ∷ h) p e =
+closes_sent (Gave (ToClient u) text ∷ h) p e = closes_on (Gave (ToClient u) text) h p (closes_sent h p.1 e)
+closes_sent (Gave (ToUp u) text ∷ h) p e =
     closes_by h u p.1 (goes_up (before h) u p.0.1).why (closes_sent h p.1)
     (sym (list_any-append is_up_close (sent_up h) (u ∷ []) ∙ ap (λ (b : Bool). list_any is_up_close (sent_up h) || b) (or_one (is_up_close u))) ∙ e)
 closes_sent (Whole end ∷ h) p e = closes_on (Whole end) h p (closes_sent h p.1 e)

@@ -2,14 +2,12 @@
 use Rattle.std.proofs.Common.{◌≡◌, ℕ, ◌-◌, ◌≤◌, nat_le, Bool, true, false, not, ◌&&◌, ◌||◌, Option, None, Some, refl, sym, ap, ◌∙◌, subst, arith}
 use Rattle.std.specs.Prelude.{is_some}
 use Rattle.std.proofs.lemmas.Bool.Decides.{nat_tests}
-use Rattle.std.specs.Prelude.{List, slice_set}
-use Rattle.close_translate.specs.declared.conditions.Scope.TheVariants as scope
-use Rattle.machine_091.specs.Calls.{after_closed, after_closing, after_ended, after_opened, after_told, closing_contents, closing_phase, freed_channel, opened_phase, told_channel}
+use Rattle.machine_091.specs.Calls.{after_closed, after_ended, after_opened, after_told, closing_contents, closing_phase, freed_channel, opened_phase, told_channel}
 use Rattle.machine_091.specs.declared.state.Channel91.{Channel91}
 use Rattle.machine_091.specs.declared.state.Channel91.TheVariants as channel
 use Rattle.gate_model.specs.declared.reply.Reply.{Reply}
 use Rattle.gate_model.specs.declared.reply.Reply.TheVariants as reply
-use Rattle.machine_091.specs.State.{awaits, channel_at, is_closing, is_closing_phase, is_open_phase, is_opening, with_channel}
+use Rattle.machine_091.specs.State.{awaits, channel_at, is_closing, is_closing_phase, is_open_phase, is_opening}
 use Rattle.machine_091.specs.Transitions.{greeted, stream_after}
 use Rattle.machine_091.specs.Transitions as machine
 use Rattle.machine_091.specs.declared.state.Connection.{Connection}
@@ -23,8 +21,8 @@ use Rattle.gate_model.specs.declared.timers.TheConstants.{HANDSHAKE_LIMIT}
 use Rattle.gate_model.specs.Picks.{MayComeAs}
 use Rattle.gate_model.specs.Requests.{client_step}
 use Rattle.gate_model.specs.State.{close, close_if, closes_at, conn_given, conn_step, has_left, is_limit_reached}
-use Rattle.gate_model.proofs.Outcomes.{OnlyChannels, none_differ, one_differs, only_closing}
-use Rattle.gate_model.proofs.Outcomes.{Outcome, Greets, Parts, LogsIn, Tunes, Asks, Passes, Refuses, Declines, Drops, Parting, Calls, Asking, Fills, Frees, Closes, Answers, Ignores, outcome}
+use Rattle.gate_model.proofs.Outcomes.{OnlyChannels, none_differ, one_differs}
+use Rattle.gate_model.proofs.Outcomes.{Outcome, Greets, Parts, LogsIn, Tunes, Asks, Passes, Refuses, Declines, Drops, Parting, Calls, Asking, Publishes, Fills, Frees, Closes, Answers, Ignores, outcome}
 
 -- ---- phases
 
@@ -118,7 +116,7 @@ only_given (reply.Close r) c = none_differ c
 only_given reply.NoMemory c = none_differ c
 only_given reply.Heartbeat c = none_differ c
 only_given (reply.ChannelOpenOk n) c = none_differ c
-only_given (reply.FlowOk n) c = none_differ c
+only_given (reply.OnChannel n u) c = none_differ c
 only_given (reply.ChannelCloseOk n) c = only_closed n c
 only_given (reply.CrossedOk n) c = none_differ c
 only_given (reply.ChannelClose n r) c = only_told n c
@@ -159,6 +157,7 @@ step_closes c u k = by (client_step c u) (outcome c u)
     by _ (Parting e) = refl
     by _ (Calls n s m e) = k
     by _ (Asking n m e) = k
+    by _ (Publishes n m x e) = k
     by _ (Fills n i e) = k
     by _ (Frees n e) = k
     by _ (Closes e) = refl
@@ -182,6 +181,7 @@ step_asked c u k = by (client_step c u) (outcome c u)
     by _ (Parting e) = refl
     by _ (Calls n s m e) = refl
     by _ (Asking n m e) = refl
+    by _ (Publishes n m x e) = refl
     by _ (Fills n i e) = refl
     by _ (Frees n e) = refl
     by _ (Closes e) = refl
@@ -204,6 +204,7 @@ step_stays_asked c u k = by (client_step c u) (outcome c u)
     by _ (Parting e) = k
     by _ (Calls n s m e) = k
     by _ (Asking n m e) = k
+    by _ (Publishes n m x e) = k
     by _ (Fills n i e) = k
     by _ (Frees n e) = k
     by _ (Closes e) = k
@@ -237,6 +238,7 @@ step_here c u = by (client_step c u) (outcome c u)
     by _ (Parting e) k = k
     by _ (Calls n s m e) k = k
     by _ (Asking n m e) k = k
+    by _ (Publishes n m x e) k = k
     by _ (Fills n i e) k = k
     by _ (Frees n e) k = k
     by _ (Closes e) k = k

@@ -1,24 +1,24 @@
 -- What ends a channel waits for its session.
-use Rattle.std.proofs.Common.{◌≡◌, ℕ, ◌<◌, Bool, true, false, not, ◌&&◌, ◌||◌, if◌then◌else◌, List, [], ◌∷◌, ◌++◌, Option, None, Some, refl, sym, ap, ◌∙◌, subst}
-use Rattle.std.specs.Prelude.{nat_lt}
-use Rattle.gate_outside.specs.declared.ports.End.TheVariants.{Client, Up}
+use Rattle.std.proofs.Common.{◌≡◌, ℕ, Bool, true, false, ◌&&◌, if◌then◌else◌, List, [], ◌∷◌, ◌++◌, Option, None, Some, refl, sym, ap, ◌∙◌, subst}
 use Rattle.machine_091.specs.declared.unit.Refusal.{Refusal}
 use Rattle.machine_10.specs.declared.state.Upstream.{Upstream}
+use Rattle.session_path.specs.declared.path.PathOk.{PathOk}
+use Rattle.publish_path.specs.declared.publish.Confirm.{Confirm}
+use Rattle.gate_model.specs.declared.channel.ChannelUnit.TheVariants as unit
 use Rattle.gate_model.specs.declared.life.Life.{Life}
 use Rattle.gate_model.specs.declared.outgoing.Outgoing.TheVariants.{ToClient, ToUp}
 use Rattle.gate_model.specs.declared.reply.Reply.{Reply}
 use Rattle.gate_model.specs.declared.reply.Reply.TheVariants as reply
-use Rattle.gate_model.specs.Due.{flow_oks, may_go, open_oks, refused_on, rows, when}
-use Rattle.gate_model.specs.Folds.{container, is_answer}
+use Rattle.gate_model.specs.Due.{confirm_on, ok_on, path_oks, open_oks, refused_on, when}
+use Rattle.gate_model.specs.Folds.{is_answer}
 use Rattle.gate_model.specs.Lives.{is_done, session_in}
 use Rattle.gate_model.specs.Picks.{ArePicks}
 use Rattle.gate_model.specs.State.{Began, Came, Gave, Heard, Joined, Lost, Moment, OutOfMemory, Queued, State, Step, TakenUp, Whole, before, is_channel_settled, is_settled, Fed, Silent}
 use Rattle.gate_model.specs.Upstream.{first}
 use Rattle.gate_model.specs.Waiting.{ChannelsEndWhenSettled, NoneThere, OfAll, SettledOn, ended_by}
-use Rattle.gate_model.proofs.Connections.{clash}
-use Rattle.gate_model.proofs.Known.{Known, container_is, known}
+use Rattle.gate_model.proofs.Known.{container_is, known}
 use Rattle.gate_model.proofs.Rows.{Has, HasFirst, HasNone, first_each, first_none, first_some, has, same_first}
-use Rattle.gate_model.proofs.Said.{Beats, InAnswers, InCloses, InOks, IsDue, IsOfChannel, OnChannel, Picked, calm_now, first_due, picked}
+use Rattle.gate_model.proofs.Said.{Beats, InAnswers, InConfirms, InCloses, InOks, IsDue, IsOfChannel, OnChannel, Picked, calm_now, first_due, picked}
 use Rattle.gate_model.proofs.Times.{Either, OnLeft, OnRight, and_right, either}
 use Rattle.gate_model.proofs.Waits.{settled_in}
 
@@ -45,7 +45,7 @@ ends_of_connection w (reply.Close r) e = ends_none w (reply.Close r) refl
 ends_of_connection w reply.NoMemory e = ends_none w reply.NoMemory refl
 ends_of_connection w reply.Heartbeat e = absurd cc
 ends_of_connection w (reply.ChannelOpenOk n) e = absurd cc
-ends_of_connection w (reply.FlowOk n) e = absurd cc
+ends_of_connection w (reply.OnChannel n u) e = absurd cc
 ends_of_connection w (reply.ChannelCloseOk n) e = absurd cc
 ends_of_connection w (reply.CrossedOk n) e = absurd cc
 ends_of_connection w (reply.ChannelClose n r) e = absurd cc
@@ -61,18 +61,26 @@ ends_refused w false k (Some x) v f e = absurd cc
 ends_refused w true k None v f e = absurd cc
 ends_refused w false k None v f e = absurd cc
 
+an_ok : (w : State) (k : ℕ) (over : Bool) (o : Option PathOk) (v : Reply) → first (if over then [] else ok_on k o) ≡ Some v → EndsIn w v
+an_ok w k true o v e = absurd cc
+an_ok w k false None v e = absurd cc
+an_ok w k false (Some x) v e = let here : reply.OnChannel k (unit.Ok x) ≡ v = cc in subst (EndsIn w) here (ends_none w (reply.OnChannel k (unit.Ok x)) refl)
+
+a_confirm : (w : State) (k : ℕ) (may : Bool) (o : Option Confirm) (v : Reply) → first (confirm_on may k o) ≡ Some v → EndsIn w v
+a_confirm w k may None v e = absurd cc
+a_confirm w k false (Some c) v e = absurd cc
+a_confirm w k true (Some c) v e = let here : reply.OnChannel k (unit.Confirm c) ≡ v = cc in subst (EndsIn w) here (ends_none w (reply.OnChannel k (unit.Confirm c)) refl)
+
 ends_on : (w : State) (r : Reply) → IsOfChannel w r → EndsIn w r
 ends_on w r (InAnswers e) = by (has (open_oks w))
   where
     opens : (k : ℕ) (l : Life) (v : Reply) → first (when l.open_ok (reply.ChannelOpenOk k)) ≡ Some v → EndsIn w v
     opens k l v e = ends_when w l.open_ok (reply.ChannelOpenOk k) v (λ x. ends_none w (reply.ChannelOpenOk k) refl) e
 
-    flows : (k : ℕ) (l : Life) (v : Reply) → first (when (nat_lt 0 l.flow_oks) (reply.FlowOk k)) ≡ Some v → EndsIn w v
-    flows k l v e = ends_when w (nat_lt 0 l.flow_oks) (reply.FlowOk k) v (λ x. ends_none w (reply.FlowOk k) refl) e
-
     by : Has (open_oks w) → EndsIn w r
-    by (HasFirst u g) = subst (EndsIn w) (same_first (first (open_oks w ++ flow_oks w)) u r (first_some (open_oks w) (flow_oks w) u g) e) (first_each (EndsIn w) _ 0 w.lives u opens g)
-    by (HasNone g) = first_each (EndsIn w) _ 0 w.lives r flows (sym (first_none (open_oks w) (flow_oks w) g) ∙ e)
+    by (HasFirst u g) = subst (EndsIn w) (same_first (first (open_oks w ++ path_oks w)) u r (first_some (open_oks w) (path_oks w) u g) e) (first_each (EndsIn w) _ 0 w.lives u opens g)
+    by (HasNone g) = first_each (EndsIn w) _ 0 w.lives r (λ k l v f. an_ok w k l.over _ v f) (sym (first_none (open_oks w) (path_oks w) g) ∙ e)
+ends_on w r (InConfirms e) = first_each (EndsIn w) _ 0 w.lives r (λ k l v f. a_confirm w k _ _ v f) e
 ends_on w r (InOks e) = first_each (EndsIn w) _ 0 w.lives r (λ k l v. one k l v l.crossed_ok) e
   where
     one : (k : ℕ) (l : Life) (v : Reply) (b : Bool) → first (when b (reply.CrossedOk k) ++ when (l.close_ok && is_channel_settled w k) (reply.ChannelCloseOk k)) ≡ Some v → EndsIn w v
@@ -95,9 +103,9 @@ settled_on h n p e = by (either _ _ e)
 
 pub channels_end_when_settled : (h : List Step) → ArePicks h → ChannelsEndWhenSettled h
 channels_end_when_settled [] p = tt
-channels_end_when_settled (Gave (ToClient u) ∷ h) p =
+channels_end_when_settled (Gave (ToClient u) text ∷ h) p =
     (λ n e. settled_on h n p.1 (ends_picked h u p.1 (picked (before h) u p.0.1) n e), channels_end_when_settled h p.1)
-channels_end_when_settled (Gave (ToUp u) ∷ h) p = channels_end_when_settled h p.1
+channels_end_when_settled (Gave (ToUp u) text ∷ h) p = channels_end_when_settled h p.1
 channels_end_when_settled (Began vhost n ms ∷ h) p = channels_end_when_settled h p.1
 channels_end_when_settled (Moment ms ∷ h) p = channels_end_when_settled h p.1
 channels_end_when_settled (Fed end ∷ h) p = channels_end_when_settled h p.1

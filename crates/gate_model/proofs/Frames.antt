@@ -1,5 +1,5 @@
 -- What goes to a client fits it: each unit is short, and no frame-max that is agreed to is less than 4,096.
-use Rattle.std.proofs.Common.{Bool, List, Option, Some, [], arith, false, if◌then◌else◌, refl, subst, sym, true, ℕ, ◌∷◌, ◌≡◌, ◌≤◌, None}
+use Rattle.std.proofs.Common.{Bool, List, Option, Some, [], arith, false, if◌then◌else◌, subst, sym, true, ℕ, ◌∷◌, ◌≤◌, None}
 use Rattle.gate_outside.specs.declared.ports.End.TheVariants.{Client, Up}
 use Rattle.machine_091.specs.Limits.{AreWithin}
 use Rattle.machine_091.specs.declared.limits.TheConstants.{FRAME_MIN_SIZE}
@@ -7,7 +7,7 @@ use Rattle.machine_091.specs.declared.state.Connection.{Connection}
 use Rattle.machine_091.specs.declared.unit.Unit91.{Unit91}
 use Rattle.machine_091.specs.declared.unit.Want91.{Want91}
 use Rattle.machine_091.specs.declared.unit.Want91.TheVariants as want
-use Rattle.gate_model.specs.Folds.{Peers, accepted_in, conn_by, connection, peers, peers_came, peers_heard, ran_out_in}
+use Rattle.gate_model.specs.Folds.{Peers, accepted_in, connection, peers, peers_by, peers_came, peers_heard, ran_out_in}
 use Rattle.gate_model.specs.Upstream.{meaning_by}
 use Rattle.gate_model.specs.declared.outgoing.Outgoing.TheVariants.{ToClient, ToUp}
 use Rattle.machine_091.specs.Calls.{after_opened}
@@ -25,7 +25,6 @@ use Rattle.machine_091.specs.declared.unit.Refusal.{Refusal}
 use Rattle.gate_model.specs.Requests.{client_step, refusal_of_want, refused_by}
 use Rattle.gate_model.specs.State.{Began, Came, Gave, Heard, Joined, Lost, Moment, OutOfMemory, Queued, Step, TakenUp, Whole, close_if, conn_step, is_limit_reached, Fed, Silent}
 use Rattle.close_translate.specs.declared.conditions.Scope.TheVariants as scope
-use Rattle.machine_10.specs.declared.state.Upstream.{Upstream}
 use Rattle.gate_model.specs.Upstream.{channel_max_in}
 use Rattle.gate_model.proofs.Connections.{limits_only, only_given}
 use Rattle.gate_model.proofs.Outcomes.{OnlyChannels, only_closing}
@@ -59,20 +58,20 @@ within_close : (b : Bool) (c : Connection) → AreWithin c.limits → AreWithin 
 within_close true c m = m
 within_close false c m = m
 
-within_meaning : (m : Meaning) (o : Option Upstream) (c : Connection) → AreWithin c.limits → AreWithin (conn_by m o c).limits
-within_meaning ten.Nothing o c m = m
-within_meaning ten.Init o c m = m
-within_meaning ten.AmqpHeader o c m = m
-within_meaning ten.Opened o c m = by (is_opening c)
+within_meaning : (m : Meaning) (x : Peers) → AreWithin x.client.limits → AreWithin (peers_by m x).client.limits
+within_meaning ten.Nothing x m = m
+within_meaning ten.Init x m = m
+within_meaning ten.AmqpHeader x m = m
+within_meaning ten.Opened x m = by (is_opening x.client)
   where
-    by : (b : Bool) → AreWithin (if b then after_opened (channel_max_in o) c else c).limits
+    by : (b : Bool) → AreWithin (if b then after_opened (channel_max_in x.container) x.client else x.client).limits
     by true = m
     by false = m
-within_meaning (ten.OfSession g p payload) o c m =
-    conn_cases (λ (d : Connection). AreWithin d.limits) g p c m m (within_only (only_closing g c) m)
-within_meaning (ten.Closed e) o c m = m
-within_meaning ten.Refused o c m = m
-within_meaning (ten.Violation why) o c m = m
+within_meaning (ten.OfSession g q payload) x m =
+    conn_cases (λ (d : Connection). AreWithin d.limits) g q x m m (within_only (only_closing g x.client) m)
+within_meaning (ten.Closed e) x m = m
+within_meaning ten.Refused x m = m
+within_meaning (ten.Violation why) x m = m
 
 within_new : (vhost : List ℕ) → AreWithin (new_connection vhost).limits
 within_new vhost = record { frame_min = omega arith; frame_max = omega arith; channel_min = omega arith; channel_max = omega arith }
@@ -88,15 +87,15 @@ within l (Queued u ∷ h) = within l h
 within l (Came u ∷ h) = within_if (ran_out_in h) (peers h) (peers_came (peers h) u) (within l h) (within_step l (connection h) u (within l h))
 within l (TakenUp ∷ h) = within_if _ _ (peers h) (within l h) (within l h)
 within l (Heard u ∷ h) =
-    within_if (ran_out_in h) (peers h) (peers_heard (peers h) u) (within l h) (within_meaning (meaning_by (peers h).container u) _ (connection h) (within l h))
+    within_if (ran_out_in h) (peers h) (peers_heard (peers h) u) (within l h) (within_meaning (meaning_by (peers h).container u) _ (within l h))
 within l (Joined link.Ok ∷ h) = within l h
 within l (Joined link.Failed ∷ h) = within l h
 within l (Lost Client how ∷ h) = within l h
 within l (Lost Up loss.Ended ∷ h) = within l h
 within l (Lost Up loss.Failed ∷ h) = within l h
 within l (Lost Up loss.Shut ∷ h) = within l h
-within l (Gave (ToClient u) ∷ h) = within_only (only_given u (connection h)) (within l h)
-within l (Gave (ToUp u) ∷ h) = within l h
+within l (Gave (ToClient u) text ∷ h) = within_only (only_given u (connection h)) (within l h)
+within l (Gave (ToUp u) text ∷ h) = within l h
 within l (Whole end ∷ h) = within l h
 within l (OutOfMemory ∷ h) = within l h
 
@@ -118,5 +117,5 @@ limit_least l (s ∷ h) = limit_least l h
 
 pub fits_clients : LimitsStay → (h : List Step) → FitsClients h
 fits_clients l [] = tt
-fits_clients l (Gave (ToClient u) ∷ h) = (omega (arith, spelled_small u, limit_least l h), fits_clients l h)
+fits_clients l (Gave (ToClient u) text ∷ h) = (omega (arith, spelled_small u, limit_least l h), fits_clients l h)
 fits_clients l (s ∷ h) = fits_clients l h

@@ -9,6 +9,7 @@ use Rattle.gate_relay.specs.declared.sides.Side.{Side}
 use Rattle.gate_relay.specs.declared.sides.Side.TheVariants as side
 use Rattle.machine_091.specs.State.{is_closing, is_open}
 use Rattle.machine_10.specs.declared.state.Upstream.{Upstream}
+use Rattle.gate_model.specs.declared.channel.SessionUnit.{SessionUnit}
 use Rattle.gate_model.specs.declared.life.SessionState.{SessionState}
 use Rattle.gate_model.specs.Session.{is_flow_owed}
 use Rattle.gate_model.specs.declared.outgoing.Outgoing.TheVariants.{ToClient, ToUp}
@@ -16,17 +17,15 @@ use Rattle.gate_model.specs.declared.outgoing.UpUnit.{UpUnit}
 use Rattle.gate_model.specs.declared.outgoing.UpUnit.TheVariants as up
 use Rattle.gate_model.specs.declared.timers.TheConstants.{CLOSING_LIMIT}
 use Rattle.gate_model.specs.Asked.{Answers, AreCalledFor, Closed, ClosedBad, ClosedLast, Ended, Failed, Goes, GoesWhenDue, Leaves, MayEnd, MayFlow, MayGo, MayTell, Overdue, ShutUpFor, ShutsUpAtOnce, Unopened, due_up, is_opening_unit, is_up_close, openings_of, sent_up_whole}
-use Rattle.gate_model.specs.Due.{begins, ends, flows_on, session_flows, has_ended, has_failed, is_end_due, is_overdue, is_shut_due, pick, rows_in}
-use Rattle.gate_model.specs.Lives.{each, is_begun, is_carried, is_ended, is_free, life_at, session_in}
+use Rattle.gate_model.specs.Due.{begins, ends, flows_on, has_ended, has_failed, is_end_due, is_lingered, is_overdue, is_shut_due, none_left, pick, rows_in, session_flows, session_rows, carried_rows, row_on, attaches, unless_out, link_flows, settlings}
+use Rattle.gate_model.specs.Lives.{any_life, each, is_begun, is_carried, is_ended, is_free, life_at, session_in}
 use Rattle.gate_model.specs.declared.life.Life.{Life}
 use Rattle.machine_091.specs.declared.state.Connection.{Connection}
-use Rattle.machine_10.specs.declared.state.Session.{Session}
-use Rattle.machine_10.specs.declared.state.Session.TheVariants as session
 use Rattle.gate_model.specs.Folds.{carrying, closed_in, connection, container, moment_in, sent_up, sent_up_at, side_in}
 use Rattle.gate_model.specs.Picks.{ArePicks}
 use Rattle.gate_model.specs.State.{Began, Came, Gave, Heard, Joined, Lost, Moment, OutOfMemory, Queued, State, Step, TakenUp, Whole, before, Fed, Silent}
 use Rattle.gate_model.specs.Upstream.{first, has_closed, has_gone_bad, idle_in, is_bad_stream, is_closed_stream, is_idle_by, is_idle_due, opening_rows, stream_in, when_up}
-use Rattle.gate_model.proofs.Once.{first_at}
+use Rattle.gate_model.proofs.Rows.{first_at}
 use Rattle.gate_model.proofs.Carrying.{carries}
 use Rattle.gate_model.proofs.Closings.{closes_sent, closing_now, condition_is}
 use Rattle.gate_model.proofs.Connections.{clash}
@@ -35,7 +34,7 @@ use Rattle.gate_model.proofs.Lives.{lives_all}
 use Rattle.gate_model.proofs.Openings.{is_opening_first, no_empty, openings_due}
 use Rattle.gate_model.proofs.Rows.{first_each}
 use Rattle.gate_model.proofs.Times.{Either, OnLeft, OnRight, and_both, and_left, and_right, either, in_left, in_right}
-use Rattle.gate_model.proofs.Ups.{GoesUp, Picked, Begins, Closing, Ends, Flows, Opening, Telling, UpSays, goes_up, up_says}
+use Rattle.gate_model.proofs.Ups.{GoesUp, Picked, Begins, Closing, Ends, Flows, Linked, Opening, Telling, UpSays, goes_up, up_says}
 
 -- ---- the opening
 
@@ -56,7 +55,7 @@ no_close_sent h p e = by (before h).up.sent.close refl
 
 -- what is due but for the opening
 abbrev others : State → List UpUnit
-others w = begins w ++ (session_flows w ++ (ends false w ++ when_up (is_idle_due w.up w.moment) up.Empty))
+others w = begins w ++ (session_rows w ++ (ends false w ++ when_up (is_idle_due w.up w.moment) up.Empty))
 
 rows_while : (h : List Step) → ArePicks h → is_closing (connection h) ≡ false → is_readable (side_in h) ≡ true
     → due_up (before h) ≡ opening_rows (before h).up.pending ++ others (before h)
@@ -78,16 +77,37 @@ when_none : (b : Bool) (u : UpUnit) → is_opening_unit u ≡ false → openings
 when_none true u e = ap (λ (x : Bool). if x then u ∷ [] else []) e
 when_none false u e = refl
 
+row_none : {A : Type 0} (c : Option Upstream) (n : ℕ) (o : Option A) (f : A → SessionUnit) → openings_of (row_on c n o f) ≡ []
+row_none c n None f = refl
+row_none c n (Some x) f = when_none (is_carried (session_in c n)) (up.OnSession n (f x)) refl
+
+none_more : (us vs : List UpUnit) → openings_of us ≡ [] → openings_of (us ++ vs) ≡ openings_of vs
+none_more us vs e = filter-append is_opening_unit us vs ∙ ap (λ (x : List UpUnit). x ++ openings_of vs) e
+
+carried_none : (w : State) → openings_of (carried_rows w) ≡ []
+carried_none w =
+    none_more (attaches w) _ (no_opening _ 0 w.lives (λ k l. row_none w.up.container k _ _))
+    ∙ none_more (link_flows w) _ (no_opening _ 0 w.lives (λ k l. row_none w.up.container k _ _))
+    ∙ none_more (session_flows w) _
+    (no_opening _ 0 w.lives (λ k l. when_none (is_carried (session_in w.up.container k) && is_flow_owed l.session) (up.Flow k _ _) refl))
+    ∙ no_opening _ 0 w.lives (λ k l. row_none w.up.container k _ _)
+
+rows_none : (w : State) → openings_of (session_rows w) ≡ []
+rows_none w =
+    none_more (unless_out w.out_of_memory (carried_rows w)) _ (by w.out_of_memory)
+    ∙ none_more (settlings w) _ (no_opening _ 0 w.lives (λ k l. row_none w.up.container k _ _))
+    ∙ no_opening _ 0 w.lives (λ k l. row_none w.up.container k _ _)
+  where
+    by : (b : Bool) → openings_of (unless_out b (carried_rows w)) ≡ []
+    by true = refl
+    by false = carried_none w
+
 others_none : (w : State) → openings_of (others w) ≡ []
 others_none w =
     none_more (begins w) _ (no_opening _ 0 w.lives (λ k l. when_none (l.begin && is_free (session_in w.up.container k)) (up.Begin k) refl))
-    ∙ none_more (session_flows w) _
-    (no_opening _ 0 w.lives (λ k l. when_none (is_carried (session_in w.up.container k) && is_flow_owed l.session) (up.Flow k _ _) refl))
+    ∙ none_more (session_rows w) _ (rows_none w)
     ∙ none_more (ends false w) _ (no_opening _ 0 w.lives (λ k l. when_none (is_end_due false w k) (up.End k l.why) refl))
     ∙ no_empty (is_idle_due w.up w.moment)
-  where
-    none_more : (us vs : List UpUnit) → openings_of us ≡ [] → openings_of (us ++ vs) ≡ openings_of vs
-    none_more us vs e = filter-append is_opening_unit us vs ∙ ap (λ (x : List UpUnit). x ++ openings_of vs) e
 
 pub are_called_for : (h : List Step) → ArePicks h → AreCalledFor h
 are_called_for h p =
@@ -139,6 +159,7 @@ opening_goes h up.AmqpHeader e k = k
 opening_goes h up.Open e k = k
 opening_goes h (up.Close c) e k = absurd cc
 opening_goes h up.Empty e k = absurd cc
+opening_goes h (up.OnSession n u) e k = absurd cc
 opening_goes h (up.Flow n i o) e k = absurd cc
 opening_goes h (up.Begin n) e k = absurd cc
 opening_goes h (up.End n why) e k = absurd cc
@@ -190,6 +211,14 @@ not_true : (b : Bool) → not b ≡ true → b ≡ false
 not_true true e = absurd cc
 not_true false e = refl
 
+or_left : (a b : Bool) → (a || b) ≡ false → a ≡ false
+or_left true b e = absurd cc
+or_left false b e = refl
+
+or_right : (a b : Bool) → (a || b) ≡ false → b ≡ false
+or_right true b e = absurd cc
+or_right false b e = e
+
 -- what makes an end due, the folds say
 may_end : (h : List Step) (n : ℕ) (closing : Bool) → ArePicks h → ((before h).out_of_memory || is_closing (before h).conn) ≡ closing
     → is_end_due closing (before h) n ≡ true → MayEnd h n
@@ -205,9 +234,10 @@ may_end h n closing p c e = by (either _ _ e)
     leaves b (OnLeft x) = Leaves (ap is_begun (sym session_is) ∙ b) (inl (closing_now h true p (c ∙ x)))
     leaves b (OnRight x) = Leaves (ap is_begun (sym session_is) ∙ b) (inr (ap (λ (d : Connection). is_open d n) (sym (conn_is k)) ∙ not_true _ x))
 
-    by : Either (is_ended (session_in (before h).up.container n)) (is_begun (session_in (before h).up.container n) && (closing || not (is_open (before h).conn n))) → MayEnd h n
+    by : Either (is_ended (session_in (before h).up.container n))
+        (is_begun (session_in (before h).up.container n) && ((closing || not (is_open (before h).conn n)) && is_lingered (before h) n)) → MayEnd h n
     by (OnLeft x) = Answers (ap is_ended (sym session_is) ∙ x)
-    by (OnRight x) = leaves (and_left _ _ x) (either _ _ (and_right (is_begun (session_in (before h).up.container n)) _ x))
+    by (OnRight x) = leaves (and_left _ _ x) (either _ _ (and_left _ (is_lingered (before h) n) (and_right (is_begun (session_in (before h).up.container n)) _ x)))
 
 may_ends : (h : List Step) (u : UpUnit) (closing : Bool) → ArePicks h → ((before h).out_of_memory || is_closing (before h).conn) ≡ closing
     → first (ends closing (before h)) ≡ Some u → MayGo h u
@@ -220,39 +250,23 @@ may_ends h u closing p c e = first_each (MayGo h) _ 0 (before h).lives u one e
         by true f e = let here : up.End n l.why ≡ v = cc in subst (MayGo h) here (may_end h n closing p c f)
         by false f e = absurd cc
 
-append_left : {A : Type 0} (xs ys : List A) → xs ++ ys ≡ [] → xs ≡ []
-append_left [] ys e = refl
-append_left (x ∷ xs) ys e = absurd cc
-
-append_right : {A : Type 0} (xs ys : List A) → xs ++ ys ≡ [] → ys ≡ []
-append_right [] ys e = e
-append_right (x ∷ xs) ys e = absurd cc
-
--- where no end is due to a connection that closes, no session is left
-none_each : (f : ℕ → Life → List UpUnit) (n : ℕ) (ls : List Life) (k : ℕ) → k < length ls → each f n ls ≡ [] → (l : Life) × (f (n + k) l ≡ [])
-none_each f n [] k lt e = absurd (none lt)
+-- where none is left that began and has no end, no session is
+none_any : (t : ℕ → Life → Bool) (n : ℕ) (ls : List Life) (k : ℕ) → k < length ls → any_life t n ls ≡ false → (l : Life) × (t (n + k) l ≡ false)
+none_any t n [] k lt e = absurd (none lt)
   where
     none : k < 0 → ⊥
     none x = omega (arith, x)
-none_each f n (l ∷ ls) zero lt e = (l, ap (λ (m : ℕ). f m l) (omega arith) ∙ append_left (f n l) (each f (n + 1) ls) e)
-none_each f n (l ∷ ls) (suc k) lt e =
-    let rest : (m : Life) × (f ((n + 1) + k) m ≡ []) = none_each f (n + 1) ls k (omega (arith, lt)) (append_right (f n l) (each f (n + 1) ls) e) in
-    (rest.0, ap (λ (m : ℕ). f m rest.0) (omega arith) ∙ rest.1)
+none_any t n (l ∷ ls) zero lt e = (l, ap (λ (m : ℕ). t m l) (omega arith) ∙ or_left (t n l) (any_life t (n + 1) ls) e)
+none_any t n (l ∷ ls) (suc k) lt e =
+    let rest : (m : Life) × (t ((n + 1) + k) m ≡ false) = none_any t (n + 1) ls k (omega (arith, lt)) (or_right (t n l) (any_life t (n + 1) ls) e) in
+    (rest.0, ap (λ (m : ℕ). t m rest.0) (omega arith) ∙ rest.1)
 
-no_session_left : (w : State) (n : ℕ) → n < length w.lives → ends true w ≡ []
+no_session_left : (w : State) (n : ℕ) → n < length w.lives → none_left w ≡ true
     → (is_ended (session_in w.up.container n) || is_begun (session_in w.up.container n)) ≡ false
 no_session_left w n lt e =
-    let x : (l : Life) × (when_up (is_end_due true w (0 + n)) (up.End (0 + n) l.why) ≡ []) =
-    none_each (λ (k : ℕ) (l : Life). when_up (is_end_due true w k) (up.End k l.why)) 0 w.lives n lt e in
-    by (session_in w.up.container n) x.0 (ap (λ (k : ℕ). when_up (is_end_due true w k) (up.End k x.0.why)) (omega arith) ∙ x.1)
-  where
-    by : (s : Session) (l : Life) → when_up (is_ended s || (is_begun s && true)) (up.End n l.why) ≡ [] → (is_ended s || is_begun s) ≡ false
-    by session.Free l e = refl
-    by session.Asked l e = absurd cc
-    by session.Left l e = refl
-    by (session.Open m) l e = absurd cc
-    by (session.Leaving m) l e = refl
-    by (session.Ended m) l e = absurd cc
+    let x : (l : Life) × ((is_ended (session_in w.up.container (0 + n)) || is_begun (session_in w.up.container (0 + n))) ≡ false) =
+    none_any (λ (k : ℕ) (l : Life). is_ended (session_in w.up.container k) || is_begun (session_in w.up.container k)) 0 w.lives n lt (not_true _ e) in
+    ap (λ (k : ℕ). is_ended (session_in w.up.container k) || is_begun (session_in w.up.container k)) (omega arith) ∙ x.1
 
 may_go_up : (h : List Step) (u : UpUnit) → ArePicks h → Picked ((before h).out_of_memory || is_closing (before h).conn) (before h) u → MayGo h u
 may_go_up h u p (Closing k n o e) =
@@ -267,6 +281,7 @@ may_go_up h u p (Closing k n o e) =
 may_go_up h u p (Opening k e) = opening_goes h u (is_opening_first (before h).up.pending u e) (closing_now h false p k)
 may_go_up h u p (Begins k e) = may_begin h u p (closing_now h false p k) e
 may_go_up h u p (Flows e) = may_flow h u p e
+may_go_up h u p (Linked l) = subst (MayGo h) (sym l.is) (ap (λ (c : Option Upstream). is_carried (session_in c l.number)) (sym (container_is (known h p))) ∙ l.carried)
 may_go_up h u p (Ends e) = may_ends h u _ p refl e
 may_go_up h u p (Telling k i e) = subst (λ (x : UpUnit). MayGo h x) (sym e) (may_tell h p (closing_now h false p k) i)
 
@@ -281,8 +296,8 @@ goes h u p e =
 
 pub goes_when_due : (h : List Step) → ArePicks h → GoesWhenDue h
 goes_when_due [] p = tt
-goes_when_due (Gave (ToUp u) ∷ h) p = (goes h u p.1 p.0.1, goes_when_due h p.1)
-goes_when_due (Gave (ToClient u) ∷ h) p = goes_when_due h p.1
+goes_when_due (Gave (ToUp u) text ∷ h) p = (goes h u p.1 p.0.1, goes_when_due h p.1)
+goes_when_due (Gave (ToClient u) text ∷ h) p = goes_when_due h p.1
 goes_when_due (Began vhost n ms ∷ h) p = goes_when_due h p.1
 goes_when_due (Moment ms ∷ h) p = goes_when_due h p.1
 goes_when_due (Fed end ∷ h) p = goes_when_due h p.1

@@ -1,5 +1,5 @@
 -- The state knows what the folds say of both connections, of the upstream end, of the moments and of the pair's memory.
-use Rattle.std.proofs.Common.{◌≡◌, ℕ, ◌-◌, ◌==◌, ◌≤◌, nat_le, Bool, true, false, not, ◌&&◌, ◌||◌, if◌then◌else◌, List, [], ◌∷◌, ◌++◌, Option, None, Some, refl, sym, ap, ◌∙◌, subst, arith}
+use Rattle.std.proofs.Common.{◌+◌, ◌≡◌, ℕ, ◌-◌, ◌≤◌, nat_le, Bool, true, false, not, ◌&&◌, ◌||◌, if◌then◌else◌, List, [], ◌∷◌, ◌++◌, Option, None, Some, refl, sym, ap, ◌∙◌, subst, arith}
 use Rattle.std.specs.Prelude.{is_some}
 use Rattle.gate_outside.specs.declared.ports.End.TheVariants.{Client, Up}
 use Rattle.gate_outside.specs.declared.ports.Linked.TheVariants as link
@@ -9,7 +9,7 @@ use Rattle.gate_relay.specs.declared.sides.Side.TheVariants as side
 use Rattle.machine_091.specs.Calls.{after_closing, after_ended, after_opened}
 use Rattle.machine_091.specs.Contents.{no_contents}
 use Rattle.machine_091.specs.declared.contents.Incoming.{Incoming}
-use Rattle.machine_091.specs.State.{is_closing, is_closing_phase, is_open, is_opening}
+use Rattle.machine_091.specs.State.{is_closing, is_closing_phase, is_opening}
 use Rattle.machine_091.specs.declared.state.Connection.{Connection}
 use Rattle.machine_091.specs.declared.unit.Unit91.{Unit91}
 use Rattle.machine_091.specs.declared.unit.Want91.{Want91}
@@ -22,23 +22,19 @@ use Rattle.performatives_10.specs.declared.condition.Condition.{Condition}
 use Rattle.performatives_10.specs.declared.condition.Condition.TheVariants.{ResourceLimitExceeded}
 use Rattle.gate_model.specs.declared.outgoing.Outgoing.TheVariants.{ToClient, ToUp}
 use Rattle.gate_model.specs.declared.timers.TheConstants.{HANDSHAKE_LIMIT}
-use Rattle.gate_model.specs.Folds.{Peers, accepted_in, closed_in, conn_by, conn_session, connection, container, container_kept, leaving_in, moment_in, number_in, peers, peers_came, peers_heard, ran_out_in, side_in, silent_in, up_fed_at}
+use Rattle.gate_model.specs.Folds.{Peers, accepted_in, closed_in, connection, paths_failed, paths_in, peers_by, peers_failed, peers_lost, peers_session, container, container_kept, leaving_in, moment_in, number_in, peers, peers_came, peers_heard, ran_out_in, side_in, silent_in, up_fed_at}
 use Rattle.gate_model.specs.Picks.{ArePicks}
-use Rattle.close_translate.specs.Conditions.{code_by}
-use Rattle.close_translate.specs.declared.codes.TheConstants.{INTERNAL_ERROR, PRECONDITION_FAILED}
 use Rattle.close_translate.specs.declared.conditions.Scope.TheVariants as scope
 use Rattle.machine_10.specs.Parts.{Parts}
-use Rattle.machine_10.specs.Reading.{field}
-use Rattle.performatives_10.specs.Fields.{is_absent}
-use Rattle.performatives_10.specs.declared.condition.Condition.TheVariants.{NotAllowed, UnattachedHandle}
-use Rattle.gate_model.specs.Lives.{refusal_on}
 use Rattle.gate_model.specs.Requests.{client_step}
-use Rattle.gate_model.specs.State.{State, Step, Began, Moment, Queued, Came, TakenUp, Heard, Joined, Lost, Gave, Whole, OutOfMemory, before, begun_session, came, close, close_if, closes_at, conn_given, conn_step, dequeued, fail, fail_life, failed, has_left, heard, is_limit_reached, keep_login, left, life_failed, new_state, ran_out, runs, told, with_meaning, with_session, Fed, Silent, carried}
-use Rattle.gate_model.specs.Upstream.{UpState, channel_max_of, closing_with, condition_in, container_given, ended_in, heard_up, meaning_by}
+use Rattle.gate_model.specs.State.{Began, Came, Fed, Gave, Heard, Joined, Lost, Moment, OutOfMemory, Queued, Silent, State, Step, TakenUp, Whole, before, came, close, close_if, closes_at, conn_given, conn_step, dequeued, fail, failed, has_left, heard, is_limit_reached, keep_login, left, lives_opened, new_state, path_heard, paths_by, paths_given, paths_given_up, ran_out, runs, told, want_in, windowed, with_meaning, with_session}
+use Rattle.gate_model.specs.Upstream.{UpState, channel_max_of, closing_with, container_given, heard_up, meaning_by}
 use Rattle.gate_model.proofs.Connections.{asked_if, clash, close_closes, close_same, closes_again, closes_some, closing_only, ended_if, implied, late_later, late_step, only_given, opened_runs, opening_early, step_closes, step_here, stream_if}
 use Rattle.gate_model.proofs.Outcomes.{OnlyChannels, only_closing}
 use Rattle.gate_model.proofs.Queues.{none_left, none_next}
-use Rattle.gate_model.proofs.Sessions.{session_by, session_cases}
+use Rattle.gate_model.proofs.Sessions.{peers_at, session_by, session_cases}
+use Rattle.session_path.specs.Path.{PathState}
+use Rattle.gate_model.specs.Paths.{lost_path, with_path}
 
 -- ---- what both know
 
@@ -46,6 +42,8 @@ pub record Seen : Type 0 where
   pub memory : Bool
   pub conn : Connection
   pub container : Option Upstream
+  pub paths : List (Option PathState)
+  pub opened : ℕ
   pub side : Side
   pub number : ℕ
   pub accepted : ℕ
@@ -59,6 +57,8 @@ seen w = record {
   memory = w.out_of_memory;
   conn = w.conn;
   container = w.up.container;
+  paths = w.paths;
+  opened = w.opened;
   side = w.up.side;
   number = w.number;
   accepted = w.accepted_at;
@@ -73,6 +73,8 @@ seen_in h = record {
   memory = ran_out_in h;
   conn = connection h;
   container = container h;
+  paths = paths_in h;
+  opened = (peers h).opened;
   side = side_in h;
   number = number_in h;
   accepted = accepted_in h;
@@ -83,11 +85,17 @@ seen_in h = record {
 }
 
 abbrev peers_of : Seen → Peers
-peers_of x = record { client = x.conn; container = x.container }
+peers_of x = record { client = x.conn; container = x.container; paths = x.paths; opened = x.opened }
 
 -- the closing event is the first after which the client's connection is closing
 abbrev with_peers : Seen → Peers → Seen
-with_peers x p = record x { conn = p.client; container = p.container; closed = closes_at x.closed (is_closing p.client) x.moment }
+with_peers x p = record x {
+  conn = p.client;
+  container = p.container;
+  paths = p.paths;
+  opened = p.opened;
+  closed = closes_at x.closed (is_closing p.client) x.moment;
+}
 
 -- ---- what holds of the state alone
 
@@ -115,6 +123,9 @@ conn_is k = ap (λ (x : Seen). x.conn) k.same
 
 pub container_is : {h : List Step} → Known h → (before h).up.container ≡ container h
 container_is k = ap (λ (x : Seen). x.container) k.same
+
+pub paths_are : {h : List Step} → Known h → (before h).paths ≡ paths_in h
+paths_are k = ap (λ (x : Seen). x.paths) k.same
 
 pub side_is : {h : List Step} → Known h → (before h).up.side ≡ side_in h
 side_is k = ap (λ (x : Seen). x.side) k.same
@@ -173,6 +184,8 @@ came_is w u l s = by w.out_of_memory
     taken t = record (seen w) {
       conn = conn_step w.conn u;
       container = t.container;
+      paths = paths_by w.opened (want_in w.conn u) w.paths;
+      opened = w.opened + lives_opened (want_in w.conn u);
       side = t.side;
       closed = closes_at w.closed_at (is_closing (conn_step w.conn u)) w.moment;
       silent = t.silent;
@@ -213,28 +226,41 @@ taken_is w l s = by w.out_of_memory w.leaving l refl refl s.leaves (s.left_is)
         kept w l s ∙ ap (λ (c : Connection). with_peers (seen w) (record (peers_of (seen w)) { client = c })) (sym is)
 
 fail_is : (code : ℕ) (why : Option Condition) (w : State) (l : Bool) → SoundIn w l
-    → seen (fail code why w) ≡ with_peers (seen w) (record (peers_of (seen w)) { client = close w.conn })
+    → seen (fail code why w) ≡ with_peers (seen w) (peers_failed (peers_at w))
 fail_is code why w l s = by (is_closing w.conn) refl
   where
-    by : (b : Bool) → is_closing w.conn ≡ b → seen (if b then w else failed code why w) ≡ with_peers (seen w) (record (peers_of (seen w)) { client = close w.conn })
+    by : (b : Bool) → is_closing w.conn ≡ b
+        → seen (if b then w else failed code why w) ≡ with_peers (seen w) (record (peers_at w) { client = close w.conn; paths = paths_failed b w.paths })
     by true e = kept w l s ∙ ap (λ (c : Connection). with_peers (seen w) (record (peers_of (seen w)) { client = c })) (sym (close_same w.conn e))
-    by false e = ap (λ (b : Bool). record (seen w) { conn = close w.conn; closed = closes_at w.closed_at b w.moment }) (sym (close_closes w.conn.phase))
+    by false e = ap (λ (b : Bool). record (seen w) { conn = close w.conn; paths = paths_failed false w.paths; closed = closes_at w.closed_at b w.moment })
+        (sym (close_closes w.conn.phase))
 
 -- the channels alone change
-only_is : (w : State) (l : Bool) (d : Connection) → SoundIn w l → OnlyChannels w.conn d
-    → record (seen w) { conn = d } ≡ with_peers (seen w) (record (peers_of (seen w)) { client = d })
-only_is w l d s o =
-    ap (λ (x : Option ℕ). record (seen w) { conn = d; closed = x })
+only_is : (w : State) (l : Bool) (d : Connection) (ps : List (Option PathState)) → SoundIn w l → OnlyChannels w.conn d
+    → record (seen w) { conn = d; paths = ps } ≡ with_peers (seen w) (record (peers_of (seen w)) { client = d; paths = ps })
+only_is w l d ps s o =
+    ap (λ (x : Option ℕ). record (seen w) { conn = d; paths = ps; closed = x })
     (sym (closes_again w.closed_at (is_closing d) w.moment (λ x. s.closing (sym (closing_only o) ∙ x))))
 
-session_is : (n : ℕ) (p : Parts) (w : State) (l : Bool) → SoundIn w l
-    → seen (with_session n p w) ≡ with_peers (seen w) (record (peers_of (seen w)) { client = conn_session n p w.conn })
-session_is n p w l s =
-    session_by (λ (b : Bool) (c : Connection) (v : State). seen v ≡ with_peers (seen w) (record (peers_of (seen w)) { client = c })) n p w (kept w l s)
-    (fail_is _ _ (carried n p w) l s) (kept w l s) (λ code why. only_is w l (after_closing scope.Channel n w.conn) s (only_closing n w.conn))
+-- so do the paths
+paths_is : (w : State) (l : Bool) (ps : List (Option PathState)) → SoundIn w l
+    → record (seen w) { paths = ps } ≡ with_peers (seen w) (record (peers_of (seen w)) { paths = ps })
+paths_is w l ps s = ap (λ (x : Seen). record x { paths = ps }) (kept w l s)
+
+session_is : (n : ℕ) (q : Parts) (w : State) (l : Bool) → SoundIn w l → seen (with_session n q w) ≡ with_peers (seen w) (peers_session n q (peers_at w))
+session_is n q w l s =
+    let heard : List (Option PathState) = with_path n (path_heard q) w.paths in
+    session_by (λ (x : Peers) (v : State). seen v ≡ with_peers (seen w) x) n q w w.up.container w.opened (record {
+      begins = paths_is w l heard s;
+      stays = paths_is w l heard s;
+      ends = λ code why. only_is w l (after_closing scope.Channel n w.conn) (with_path n lost_path heard) s (only_closing n w.conn);
+      windows = kept w l s;
+      drops = λ code why. only_is w l (after_closing scope.Channel n w.conn) (with_path n lost_path w.paths) s (only_closing n w.conn);
+      fails = λ why. fail_is _ why (windowed n q w) l s;
+    })
 
 meaning_is : (m : Meaning) (w : State) (l : Bool) → SoundIn w l
-    → seen (with_meaning m w) ≡ with_peers (seen w) (record (peers_of (seen w)) { client = conn_by m w.up.container w.conn })
+    → seen (with_meaning m w) ≡ with_peers (seen w) (peers_by m (peers_at w))
 meaning_is ten.Nothing w l s = kept w l s
 meaning_is ten.Init w l s = kept w l s
 meaning_is ten.AmqpHeader w l s = kept w l s
@@ -296,7 +322,7 @@ memory_is_out w =
 
 -- the upstream end is lost
 abbrev seen_lost : Side → Seen → Seen
-seen_lost y x = record (with_peers x (record { client = close x.conn; container = ended_in x.container })) { side = y }
+seen_lost y x = record (with_peers x (peers_lost (peers_of x))) { side = y }
 
 -- ---- soundness
 
@@ -408,10 +434,17 @@ sound_fail code why w l s = by (is_closing w.conn)
       shuts = λ x. close_closes w.conn.phase;
     }
 
-sound_session : (n : ℕ) (p : Parts) (w : State) (l : Bool) → SoundIn w l → SoundIn (with_session n p w) l
-sound_session n p w l s =
-    session_cases (λ (v : State). SoundIn v l) n p w s (sound_fail _ _ (carried n p w) l s) s
-    (λ code why. sound_only w (after_closing scope.Channel n w.conn) l (only_closing n w.conn) s)
+sound_session : (n : ℕ) (q : Parts) (w : State) (l : Bool) → SoundIn w l → SoundIn (with_session n q w) l
+sound_session n q w l s =
+    let ended : SoundIn (record w { conn = after_closing scope.Channel n w.conn }) l = sound_only w (after_closing scope.Channel n w.conn) l (only_closing n w.conn) s in
+    session_cases (λ (v : State). SoundIn v l) n q w (record {
+      begins = s;
+      stays = s;
+      ends = λ code why. ended;
+      windows = s;
+      drops = λ code why. ended;
+      fails = λ why. sound_fail _ why (windowed n q w) l s;
+    })
 
 sound_meaning : (m : Meaning) (w : State) (l : Bool) → SoundIn w l → SoundIn (with_meaning m w) l
 sound_meaning ten.Nothing w l s = s
@@ -507,7 +540,7 @@ known (Silent Up ∷ h) p =
     let k : Known h = known h p.1 in
     record {
       same = fail_is _ (Some ResourceLimitExceeded) _ (leaving_in h) k.sound
-          ∙ ap (λ (x : Seen). record (with_peers x (record (peers_of x) { client = close x.conn })) { silent = true }) k.same;
+          ∙ ap (λ (x : Seen). record (with_peers x (peers_failed (peers_of x))) { silent = true }) k.same;
       sound = sound_fail _ _ _ _ k.sound;
     }
 known (Queued u ∷ h) p = known_queued h u (known h p.1)
@@ -530,7 +563,7 @@ known (Joined link.Failed ∷ h) p =
     let k : Known h = known h p.1 in
     record {
       same = fail_is _ None _ (leaving_in h) k.sound
-          ∙ ap (λ (x : Seen). record (with_peers x (record (peers_of x) { client = close x.conn })) { side = side.Gone }) k.same;
+          ∙ ap (λ (x : Seen). record (with_peers x (peers_failed (peers_of x))) { side = side.Gone }) k.same;
       sound = sound_fail _ None _ _ k.sound;
     }
 known (Lost Client loss.Ended ∷ h) p =
@@ -555,16 +588,16 @@ known (Lost Up loss.Failed ∷ h) p =
 known (Lost Up loss.Shut ∷ h) p =
     let k : Known h = known h p.1 in
     record { same = ap (λ (x : Seen). record x { side = side.Gone }) (still k); sound = k.sound }
-known (Gave (ToClient u) ∷ h) p =
+known (Gave (ToClient u) text ∷ h) p =
     let k : Known h = known h p.1 in
     record {
-      same = only_is (before h) (leaving_in h) (conn_given u (before h).conn) k.sound (only_given u (before h).conn)
-          ∙ ap (λ (x : Seen). with_peers x (record (peers_of x) { client = conn_given u x.conn })) k.same;
+      same = only_is (before h) (leaving_in h) (conn_given u (before h).conn) (paths_given u (before h).paths) k.sound (only_given u (before h).conn)
+          ∙ ap (λ (x : Seen). with_peers x (record (peers_of x) { client = conn_given u x.conn; paths = paths_given u x.paths })) k.same;
       sound = sound_only (before h) (conn_given u (before h).conn) (leaving_in h) (only_given u (before h).conn) k.sound;
     }
-known (Gave (ToUp u) ∷ h) p =
+known (Gave (ToUp u) text ∷ h) p =
     let k : Known h = known h p.1 in
-    record { same = ap (λ (x : Seen). record x { container = container_given u x.container }) (still k); sound = k.sound }
+    record { same = ap (λ (x : Seen). record x { container = container_given u x.container; paths = paths_given_up u x.paths }) (still k); sound = k.sound }
 known (Whole Client ∷ h) p = let k : Known h = known h p.1 in record { same = still k; sound = k.sound }
 known (Whole Up ∷ h) p = let k : Known h = known h p.1 in record { same = still k; sound = k.sound }
 known (OutOfMemory ∷ h) p =

@@ -2,6 +2,7 @@ pub mod Carrying
 pub mod Closings
 pub mod Connections
 pub mod Ends
+pub mod Flows
 pub mod Frames
 pub mod Goes
 pub mod Known

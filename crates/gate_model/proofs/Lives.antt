@@ -1,7 +1,5 @@
 -- There are 256 lives.
-use Rattle.std.proofs.Common.{◌≡◌, ℕ, zero, suc, Bool, true, false, if◌then◌else◌, List, [], ◌∷◌, Option, None, Some, refl, sym, ap, ◌∙◌, subst, length, replicate}
-use Rattle.std.specs.Prelude.{slice_set}
-use Rattle.std.specs.Option.{option_map}
+use Rattle.std.proofs.Common.{◌≡◌, ℕ, zero, suc, Bool, true, false, if◌then◌else◌, List, [], ◌∷◌, Option, Some, refl, ap, ◌∙◌, length}
 use Rattle.gate_outside.specs.declared.ports.End.TheVariants.{Client, Up}
 use Rattle.gate_outside.specs.declared.ports.Linked.TheVariants as link
 use Rattle.gate_relay.specs.declared.loss.Loss.TheVariants as loss
@@ -20,10 +18,10 @@ use Rattle.gate_model.specs.declared.outgoing.UpUnit.{UpUnit}
 use Rattle.gate_model.specs.declared.outgoing.UpUnit.TheVariants as up
 use Rattle.gate_model.specs.declared.reply.Reply.{Reply}
 use Rattle.gate_model.specs.declared.reply.Reply.TheVariants as reply
-use Rattle.gate_model.specs.Lives.{failed_life, lives_by, no_life, no_lives, with_life, life_at, is_of_channel}
+use Rattle.gate_model.specs.Lives.{failed_life, lives_by, no_lives, with_life, life_at, is_of_channel}
 use Rattle.gate_model.specs.Picks.{ArePicks}
 use Rattle.gate_model.specs.Requests.{client_step}
-use Rattle.gate_model.specs.State.{State, Step, Began, Moment, Queued, Came, TakenUp, Heard, Joined, Lost, Gave, Whole, OutOfMemory, before, came, carried, dequeued, fail, failed, heard, left, runs, with_meaning, with_session, without_begin, without_life, Fed, Silent}
+use Rattle.gate_model.specs.State.{Began, Came, Fed, Gave, Heard, Joined, Lost, Moment, OutOfMemory, Queued, Silent, State, Step, TakenUp, Whole, before, came, carried, dequeued, fail, failed, heard, left, runs, windowed, with_meaning, without_begin, without_life}
 use Rattle.gate_model.specs.Upstream.{heard_up, meaning_by}
 use Rattle.gate_model.proofs.Sessions.{session_cases}
 
@@ -42,20 +40,20 @@ new_all : All no_lives
 unfolding no_lives
 new_all = refl
 
-want_all : (x : Want91) (ls : List Life) → All ls → All (lives_by x ls)
-want_all want.Nothing ls e = e
-want_all want.Start ls e = e
-want_all (want.Login m r) ls e = e
-want_all want.Tuned ls e = e
-want_all want.OpenUp ls e = e
-want_all (want.Method n m) ls e = after_set ls n _ e
-want_all (want.Publish n m x) ls e = e
-want_all (want.ChannelCloseOk n) ls e = after_set ls n _ e
-want_all want.Close ls e = e
-want_all want.CloseOk ls e = e
-want_all (want.Refuse r) ls e = by (is_of_channel r)
+want_all : (ms : ℕ) (x : Want91) (ls : List Life) → All ls → All (lives_by ms x ls)
+want_all ms want.Nothing ls e = e
+want_all ms want.Start ls e = e
+want_all ms (want.Login m r) ls e = e
+want_all ms want.Tuned ls e = e
+want_all ms want.OpenUp ls e = e
+want_all ms (want.Method n m) ls e = after_set ls n _ e
+want_all ms (want.Publish n m x) ls e = e
+want_all ms (want.ChannelCloseOk n) ls e = after_set ls n _ e
+want_all ms want.Close ls e = e
+want_all ms want.CloseOk ls e = e
+want_all ms (want.Refuse r) ls e = by (is_of_channel r)
   where
-    by : (b : Bool) → All (if b then with_life r.channel (failed_life r (Some (condition_of r.code)) (life_at ls r.channel)) ls else ls)
+    by : (b : Bool) → All (if b then with_life r.channel (failed_life false ms r (Some (condition_of r.code)) (life_at ls r.channel)) ls else ls)
     by true = after_set ls r.channel _ e
     by false = e
 
@@ -77,7 +75,14 @@ meaning_all ten.Opened w e = by (is_opening w.conn)
     by false = e
 meaning_all (ten.OfSession g p payload) w e =
     let kept : All (carried g p w).lives = after_set w.lives g _ e in
-    session_cases (λ (v : State). All v.lives) g p w (after_set _ g _ kept) (fail_all _ _ (carried g p w) kept) kept (λ code why. after_set _ g _ kept)
+    session_cases (λ (v : State). All v.lives) g p w (record {
+      begins = after_set _ g _ kept;
+      stays = kept;
+      ends = λ code why. after_set _ g _ kept;
+      windows = kept;
+      drops = λ code why. after_set _ g _ kept;
+      fails = λ why. fail_all _ why (windowed g p w) kept;
+    })
 meaning_all (ten.Closed x) w e = fail_all _ _ w e
 meaning_all ten.Refused w e = fail_all _ _ w e
 meaning_all (ten.Violation c) w e = fail_all _ _ w e
@@ -92,7 +97,7 @@ given_all (reply.Close r) ls e = e
 given_all reply.NoMemory ls e = e
 given_all reply.Heartbeat ls e = e
 given_all (reply.ChannelOpenOk n) ls e = after_set ls n _ e
-given_all (reply.FlowOk n) ls e = after_set ls n _ e
+given_all (reply.OnChannel n u) ls e = e
 given_all (reply.ChannelCloseOk n) ls e = after_set ls n _ e
 given_all (reply.CrossedOk n) ls e = after_set ls n _ e
 given_all (reply.ChannelClose n r) ls e = after_set ls n _ e
@@ -104,6 +109,7 @@ begun_all up.AmqpHeader ls e = e
 begun_all up.Open ls e = e
 begun_all (up.Close why) ls e = e
 begun_all up.Empty ls e = e
+begun_all (up.OnSession n u) ls e = after_set ls n _ e
 begun_all (up.Flow n i o) ls e = after_set ls n _ e
 begun_all (up.Begin n) ls e = after_set ls n _ e
 begun_all (up.End n why) ls e = after_set ls n _ e
@@ -113,7 +119,7 @@ came_all w u e = by w.out_of_memory
   where
     by : (b : Bool) → All (if b then w else came (dequeued w) u).lives
     by true = e
-    by false = want_all (client_step w.conn u).1 w.lives e
+    by false = want_all w.moment (client_step w.conn u).1 w.lives e
 
 heard_all : (w : State) (u : Unit10) → All w.lives → All (if w.out_of_memory then w else heard w u).lives
 heard_all w u e = by w.out_of_memory
@@ -153,8 +159,8 @@ lives_all (Lost Client loss.Shut ∷ h) p = lives_all h p.1
 lives_all (Lost Up loss.Ended ∷ h) p = fail_all _ _ _ (lives_all h p.1)
 lives_all (Lost Up loss.Failed ∷ h) p = fail_all _ _ _ (lives_all h p.1)
 lives_all (Lost Up loss.Shut ∷ h) p = lives_all h p.1
-lives_all (Gave (ToClient u) ∷ h) p = given_all u (before h).lives (lives_all h p.1)
-lives_all (Gave (ToUp u) ∷ h) p = begun_all u (before h).lives (lives_all h p.1)
+lives_all (Gave (ToClient u) text ∷ h) p = given_all u (before h).lives (lives_all h p.1)
+lives_all (Gave (ToUp u) text ∷ h) p = begun_all u (before h).lives (lives_all h p.1)
 lives_all (Whole Client ∷ h) p = lives_all h p.1
 lives_all (Whole Up ∷ h) p = lives_all h p.1
 lives_all (OutOfMemory ∷ h) p = lives_all h p.1

@@ -1,6 +1,6 @@
 -- What is due on a channel and what went there answers what was asked there.
-use Rattle.std.proofs.Common.{◌≡◌, ◌≢◌, ◌⊎◌, ℕ, zero, suc, ◌+◌, ◌-◌, ◌==◌, ◌<◌, ◌≤◌, Bool, true, false, not, ◌&&◌, ◌||◌, if◌then◌else◌, List, [], ◌∷◌, ◌++◌, Option, None, Some, replicate, arith, inl, inr, refl, sym, ap, ◌∙◌, subst}
-use Rattle.std.specs.Prelude.{nat_lt, slice_get, slice_set}
+use Rattle.std.proofs.Common.{◌≡◌, ◌≢◌, ◌⊎◌, ℕ, zero, suc, ◌+◌, ◌==◌, ◌≤◌, Bool, true, false, ◌&&◌, ◌||◌, if◌then◌else◌, List, [], ◌∷◌, ◌++◌, Option, None, Some, replicate, arith, inl, inr, refl, sym, ap, ◌∙◌, subst}
+use Rattle.std.specs.Prelude.{slice_get}
 use Rattle.std.proofs.lemmas.Bool.Decides.{nat_tests}
 use Rattle.gate_outside.specs.declared.ports.End.TheVariants.{Client, Up}
 use Rattle.gate_outside.specs.declared.ports.Linked.TheVariants as link
@@ -24,19 +24,27 @@ use Rattle.gate_model.specs.Session.{carried_by, flow_sent}
 use Rattle.gate_model.specs.declared.outgoing.Outgoing.TheVariants.{ToClient, ToUp}
 use Rattle.gate_model.specs.declared.outgoing.UpUnit.{UpUnit}
 use Rattle.gate_model.specs.declared.outgoing.UpUnit.TheVariants as up
+use Rattle.gate_model.specs.declared.channel.ChannelUnit.{ChannelUnit}
+use Rattle.gate_model.specs.declared.channel.ChannelUnit.TheVariants as to_client
+use Rattle.gate_model.specs.Paths.{path_at}
+use Rattle.publish_path.specs.declared.publish.Confirm.{Confirm}
+use Rattle.session_path.specs.Due.{next_ok}
+use Rattle.session_path.specs.declared.path.PathOk.{PathOk}
+use Rattle.gate_model.proofs.Flows.{flows_once}
 use Rattle.gate_model.specs.declared.reply.Reply.{Reply}
 use Rattle.gate_model.specs.declared.reply.Reply.TheVariants as reply
-use Rattle.gate_model.specs.Due.{close_oks_on, flow_oks, open_oks, refused_on, when}
-use Rattle.gate_model.specs.Folds.{connection, is_answer, ran_out_in}
-use Rattle.gate_model.specs.Lives.{begun_life, each, failed_life, freed_life, life_at, lives_by, method_life, no_life, no_lives, or_none, with_life, is_of_channel}
-use Rattle.gate_model.specs.Once.{AnswersOnce, is_channel_close, is_channel_flow, is_channel_open, is_close_ok_on, is_flow_ok_on, is_method_on, is_open_ok_on, one_if, wanted_in, went_in}
+use Rattle.gate_model.specs.Due.{close_oks_on, confirm_on, confirms_on, ok_on, oks_on, open_oks, path_oks, refused_on, when}
+use Rattle.gate_model.specs.Folds.{is_answer, ran_out_in}
+use Rattle.gate_model.specs.Lives.{refusal_on, begun_life, failed_life, freed_life, life_at, lives_by, method_life, no_life, no_lives, or_none, with_life, is_of_channel}
+use Rattle.gate_model.specs.Once.{AnswersOnce, is_channel_close, is_channel_open, is_close_ok_on, is_method_on, is_open_ok_on, one_if, wanted_in, went_in}
 use Rattle.gate_model.specs.Picks.{ArePicks}
 use Rattle.gate_model.specs.Requests.{client_step}
-use Rattle.gate_model.specs.State.{Began, Came, Gave, Heard, Joined, Lost, Moment, OutOfMemory, Queued, State, Step, TakenUp, Whole, before, came, carried, dequeued, fail, failed, heard, is_channel_settled, is_settled, left, runs, with_meaning, without_begin, without_life, Fed, Silent}
+use Rattle.gate_model.specs.State as sent
+use Rattle.gate_model.specs.State.{Began, Came, Gave, Heard, Joined, Lost, Moment, OutOfMemory, Queued, State, Step, TakenUp, Whole, before, came, carried, dequeued, fail, failed, heard, is_channel_settled, is_settled, left, life_failed, lost_up, runs, windowed, with_meaning, without_begin, without_life, Fed, Silent}
 use Rattle.gate_model.specs.Upstream.{first, heard_up, meaning_by}
 use Rattle.gate_model.proofs.Known.{conn_is, known, memory_is}
-use Rattle.gate_model.proofs.Rows.{Has, HasFirst, HasNone, first_none, first_some, has, same_first}
-use Rattle.gate_model.proofs.Said.{Beats, InAnswers, InCloses, InOks, IsDue, IsOfChannel, OnChannel, Picked, calm_now, first_due, picked}
+use Rattle.gate_model.proofs.Rows.{Has, HasFirst, HasNone, first_at, first_none, first_some, has, same_first}
+use Rattle.gate_model.proofs.Said.{Beats, InAnswers, InConfirms, InCloses, InOks, IsDue, IsOfChannel, OnChannel, Picked, calm_now, first_due, picked}
 use Rattle.gate_model.proofs.Sessions.{session_cases}
 use Rattle.gate_model.proofs.Times.{and_left}
 
@@ -75,26 +83,6 @@ pub new_at : (n : ℕ) → life_at no_lives n ≡ no_life
 unfolding no_lives
 new_at n = none_at 256 n
 
--- the first of a row of lives is of one of them
-first_from : {A : Type 0} (P : A → Type 0) (f : ℕ → Life → List A) (n : ℕ) (ls : List Life) (u : A)
-    → ((k : ℕ) (v : A) → first (f (n + k) (life_at ls k)) ≡ Some v → P v) → first (each f n ls) ≡ Some u → P u
-first_from P f n [] u is e = absurd cc
-first_from {A = A} P f n (l ∷ ls) u is e = by (has (f n l)) (first_from P f (n + 1) ls u later)
-  where
-    later : (k : ℕ) (v : A) → first (f ((n + 1) + k) (life_at ls k)) ≡ Some v → P v
-    later k v g = is (suc k) v (ap (λ (m : ℕ). first (f m (life_at ls k))) (let same : n + suc k ≡ (n + 1) + k = omega arith in same) ∙ g)
-
-    by : Has (f n l) → (first (each f (n + 1) ls) ≡ Some u → P u) → P u
-    by (HasFirst v g) more =
-        let same : v ≡ u = same_first (first (f n l ++ each f (n + 1) ls)) v u (first_some (f n l) _ v g) e in
-        is zero u (ap (λ (m : ℕ). first (f m l)) (let here : n + zero ≡ n = omega arith in here) ∙ g ∙ ap Some same)
-    by (HasNone g) more = more (sym (first_none (f n l) _ g) ∙ e)
-
-pub first_at : {A : Type 0} (P : A → Type 0) (f : ℕ → Life → List A) (ls : List Life) (u : A)
-    → ((k : ℕ) (v : A) → first (f k (life_at ls k)) ≡ Some v → P v) → first (each f 0 ls) ≡ Some u → P u
-first_at {A = A} P f ls u is e =
-    first_from P f 0 ls u (λ k v g. is k v (ap (λ (m : ℕ). first (f m (life_at ls k))) (let same : k ≡ 0 + k = omega arith in same) ∙ g)) e
-
 -- ---- what goes is due
 
 abbrev IsOwed : List Life → Reply → Type 0
@@ -107,7 +95,7 @@ IsOwed ls (reply.Close r) = Unit {0}
 IsOwed ls reply.NoMemory = Unit {0}
 IsOwed ls reply.Heartbeat = Unit {0}
 IsOwed ls (reply.ChannelOpenOk k) = (life_at ls k).open_ok ≡ true
-IsOwed ls (reply.FlowOk k) = 0 < (life_at ls k).flow_oks
+IsOwed ls (reply.OnChannel k u) = Unit {0}
 IsOwed ls (reply.ChannelCloseOk k) = (life_at ls k).close_ok ≡ true
 IsOwed ls (reply.CrossedOk k) = (life_at ls k).crossed_ok ≡ true
 IsOwed ls (reply.ChannelClose k r) = Unit {0}
@@ -122,7 +110,7 @@ owed_answer ls (reply.Close r) e = tt
 owed_answer ls reply.NoMemory e = tt
 owed_answer ls reply.Heartbeat e = tt
 owed_answer ls (reply.ChannelOpenOk k) e = absurd cc
-owed_answer ls (reply.FlowOk k) e = absurd cc
+owed_answer ls (reply.OnChannel k u) e = tt
 owed_answer ls (reply.ChannelCloseOk k) e = absurd cc
 owed_answer ls (reply.CrossedOk k) e = absurd cc
 owed_answer ls (reply.ChannelClose k r) e = tt
@@ -141,8 +129,14 @@ owed_refused ls true k (Some x) v e = let here : reply.ChannelClose k x ≡ v = 
 owed_refused ls false k (Some x) v e = absurd cc
 owed_refused ls b k None v e = absurd cc
 
-some_flows : (n : ℕ) → nat_lt 0 n ≡ true → 0 < n
-some_flows n e = grind (arith, nat_tests)
+owed_oks : (ls : List Life) (b : Bool) (k : ℕ) (o : Option PathOk) (v : Reply) → first (if b then [] else ok_on k o) ≡ Some v → IsOwed ls v
+owed_oks ls true k o v e = absurd cc
+owed_oks ls false k None v e = absurd cc
+owed_oks ls false k (Some x) v e = let here : reply.OnChannel k (to_client.Ok x) ≡ v = cc in subst (IsOwed ls) here tt
+
+owed_confirm : (ls : List Life) (b : Bool) (k : ℕ) (o : Option Confirm) (v : Reply) → first (confirm_on b k o) ≡ Some v → IsOwed ls v
+owed_confirm ls b k None v e = absurd cc
+owed_confirm ls b k (Some c) v e = owed_when ls b (reply.OnChannel k (to_client.Confirm c)) v (λ x. tt) e
 
 owed_on : (w : State) (r : Reply) → IsOfChannel w r → IsOwed w.lives r
 owed_on w r (InAnswers e) = by (has (open_oks w))
@@ -150,14 +144,16 @@ owed_on w r (InAnswers e) = by (has (open_oks w))
     opens : (k : ℕ) (v : Reply) → first (when (life_at w.lives k).open_ok (reply.ChannelOpenOk k)) ≡ Some v → IsOwed w.lives v
     opens k v e = owed_when w.lives (life_at w.lives k).open_ok (reply.ChannelOpenOk k) v (λ x. x) e
 
-    flows : (k : ℕ) (v : Reply) → first (when (nat_lt 0 (life_at w.lives k).flow_oks) (reply.FlowOk k)) ≡ Some v → IsOwed w.lives v
-    flows k v e = owed_when w.lives (nat_lt 0 (life_at w.lives k).flow_oks) (reply.FlowOk k) v (some_flows _) e
+    oks : (k : ℕ) (v : Reply) → first (oks_on w.paths k (life_at w.lives k)) ≡ Some v → IsOwed w.lives v
+    oks k v e = owed_oks w.lives (life_at w.lives k).over k (next_ok (path_at w.paths k)) v e
 
     by : Has (open_oks w) → IsOwed w.lives r
     by (HasFirst u g) =
-        subst (IsOwed w.lives) (same_first (first (open_oks w ++ flow_oks w)) u r (first_some (open_oks w) (flow_oks w) u g) e)
+        subst (IsOwed w.lives) (same_first (first (open_oks w ++ path_oks w)) u r (first_some (open_oks w) (path_oks w) u g) e)
         (first_at (IsOwed w.lives) _ w.lives u opens g)
-    by (HasNone g) = first_at (IsOwed w.lives) _ w.lives r flows (sym (first_none (open_oks w) (flow_oks w) g) ∙ e)
+    by (HasNone g) = first_at (IsOwed w.lives) (oks_on w.paths) w.lives r oks (sym (first_none (open_oks w) (path_oks w) g) ∙ e)
+owed_on w r (InConfirms e) =
+    first_at (IsOwed w.lives) (confirms_on w.paths) w.lives r (λ k v f. owed_confirm w.lives _ k _ v f) e
 owed_on w r (InOks e) =
     first_at (IsOwed w.lives) (λ (n : ℕ) (l : Life). close_oks_on n (l.close_ok && is_channel_settled w n) l) w.lives r
     (λ k v f. owed_ok w.lives k (life_at w.lives k).crossed_ok _ v (λ x. x) (λ x. and_left (life_at w.lives k).close_ok _ x) f) e
@@ -175,22 +171,21 @@ owed_picked h r p (Beats none due same) = subst (IsOwed (before h).lives) (sym s
 -- a count of a life that a request of its channel raises by one, that an answer lowers by one, and that nothing else raises
 record Counts (n : ℕ) (v : Life → ℕ) (asks : Want91 → Bool) (answers : Reply → Bool) : Type 0 where
   none : v no_life ≡ 0
-  asked : (m : Method91) (l : Life) → v (method_life m l) ≤ v l + one_if (asks (want.Method n m))
+  asked : (ms : ℕ) (m : Method91) (l : Life) → v (method_life ms m l) ≤ v l + one_if (asks (want.Method n m))
   freed : (l : Life) → v (freed_life l) ≤ v l
   begun : (l : Life) → v (begun_life l) ≤ v l
-  failed : (r : Refusal) (why : Option Condition) (l : Life) → v (failed_life r why l) ≤ v l
+  failed : (by_peer : Bool) (ms : ℕ) (r : Refusal) (why : Option Condition) (l : Life) → v (failed_life by_peer ms r why l) ≤ v l
   carries : (s : SessionState) (l : Life) → v (record l { session = s }) ≤ v l
   begins : (l : Life) → v (record l { begin = false }) ≤ v l
   ends : (l : Life) → v (record l { why = None }) ≤ v l
   opened : (l : Life) → l.open_ok ≡ true → v (record l { open_ok = false }) + one_if (answers (reply.ChannelOpenOk n)) ≤ v l
-  flowed : (l : Life) → 0 < l.flow_oks → v (record l { flow_oks = l.flow_oks - 1 }) + one_if (answers (reply.FlowOk n)) ≤ v l
   closed : (l : Life) → l.close_ok ≡ true → v (record l { close_ok = false }) + one_if (answers (reply.ChannelCloseOk n)) ≤ v l
   crossed : (l : Life) → l.crossed_ok ≡ true → v (record l { crossed_ok = false }) + one_if (answers (reply.CrossedOk n)) ≤ v l
   told : (r : Refusal) (l : Life) → v (record l { close = None }) + one_if (answers (reply.ChannelClose n r)) ≤ v l
   of_connection : (u : Reply) → is_answer u ≡ true → answers u ≡ false
   beats : answers reply.Heartbeat ≡ false
+  of_paths : (k : ℕ) (u : ChannelUnit) → answers (reply.OnChannel k u) ≡ false
   elsewhere_open : (k : ℕ) → k ≢ n → answers (reply.ChannelOpenOk k) ≡ false
-  elsewhere_flow : (k : ℕ) → k ≢ n → answers (reply.FlowOk k) ≡ false
   elsewhere_close : (k : ℕ) → k ≢ n → answers (reply.ChannelCloseOk k) ≡ false
   elsewhere_crossed : (k : ℕ) → k ≢ n → answers (reply.CrossedOk k) ≡ false
   elsewhere_told : (k : ℕ) (r : Refusal) → k ≢ n → answers (reply.ChannelClose k r) ≡ false
@@ -240,11 +235,27 @@ meaning_less {n} {v} c ten.Opened w = by (is_opening w.conn)
     by true = omega arith
     by false = omega arith
 meaning_less {n} {v} c (ten.OfSession g p payload) w =
-    let s : SessionState = carried_by p (life_at w.lives g).session in
-    let x : State = carried g p w in
-    let kept : Value v n x ≤ Value v n w = rule_less v n g w.lives (λ (l : Life). record l { session = s }) (c.carries s) in
-    session_cases (λ (y : State). Value v n y ≤ Value v n w) g p w (less_both _ _ _ (rule_less v n g x.lives begun_life c.begun) kept) (less_both _ _ _ (fail_less v n _ _ x) kept) kept
-    (λ code why. less_both _ _ _ (rule_less v n g x.lives (failed_life _ why) (c.failed _ why)) kept)
+    session_cases (λ (y : State). Value v n y ≤ Value v n w) g p w
+    (record {
+      begins = less_both _ _ _ (rule_less v n g x.lives begun_life c.begun) kept;
+      stays = kept;
+      ends = ends;
+      windows = kept;
+      drops = ends;
+      fails = λ why. less_both _ _ _ (fail_less v n _ why (windowed g p w)) kept;
+    })
+  where
+    x : State
+    x = carried g p w
+
+    s : SessionState
+    s = carried_by p (life_at w.lives g).session
+
+    kept : Value v n x ≤ Value v n w
+    kept = rule_less v n g w.lives (λ (l : Life). record l { session = s }) (c.carries s)
+
+    ends : (code : ℕ) (why : Option Condition) → Value v n (life_failed g (refusal_on g code) why x) ≤ Value v n w
+    ends code why = less_both _ _ _ (rule_less v n g x.lives (failed_life true w.moment _ why) (c.failed true w.moment _ why)) kept
 meaning_less {n} {v} c (ten.Closed x) w = fail_less v n _ _ w
 meaning_less {n} {v} c ten.Refused w = fail_less v n _ _ w
 meaning_less {n} {v} c (ten.Violation x) w = fail_less v n _ _ w
@@ -268,35 +279,38 @@ begun_less c up.Empty ls = omega arith
 begun_less {n} {v} c (up.Flow k i o) ls =
     let s : SessionState = flow_sent (life_at ls k).session in
     rule_less v n k ls (λ (l : Life). record l { session = s }) (c.carries s)
+begun_less {n} {v} c (up.OnSession k u) ls =
+    let s : SessionState = sent.session_by u (life_at ls k).session in
+    rule_less v n k ls (λ (l : Life). record l { session = s }) (c.carries s)
 begun_less {n} {v} c (up.Begin k) ls = rule_less v n k ls (λ (l : Life). record l { begin = false }) c.begins
 begun_less {n} {v} c (up.End k why) ls = rule_less v n k ls (λ (l : Life). record l { why = None }) c.ends
 
 -- ---- a request
 
-wanted_less : {n : ℕ} {v : Life → ℕ} {asks : Want91 → Bool} {answers : Reply → Bool} → Counts n v asks answers → (x : Want91) (ls : List Life)
-    → v (life_at (lives_by x ls) n) ≤ v (life_at ls n) + one_if (asks x)
-wanted_less c want.Nothing ls = omega arith
-wanted_less c want.Start ls = omega arith
-wanted_less c (want.Login m r) ls = omega arith
-wanted_less c want.Tuned ls = omega arith
-wanted_less c want.OpenUp ls = omega arith
-wanted_less {n} {v} {asks} c (want.Method k m) ls =
-    set_less v n k ls (method_life m (life_at ls k)) (one_if (asks (want.Method k m)))
-    (λ e. subst (λ (i : ℕ). v (method_life m (life_at ls i)) ≤ v (life_at ls n) + one_if (asks (want.Method i m))) (sym e) (c.asked m (life_at ls n)))
-wanted_less c (want.Publish k m x) ls = omega arith
-wanted_less {n} {v} c (want.ChannelCloseOk k) ls = let less = rule_less v n k ls freed_life c.freed in omega (arith, less)
-wanted_less c want.Close ls = omega arith
-wanted_less c want.CloseOk ls = omega arith
-wanted_less {n} {v} {asks} c (want.Refuse r) ls = by (is_of_channel r)
+wanted_less : {n : ℕ} {v : Life → ℕ} {asks : Want91 → Bool} {answers : Reply → Bool} → Counts n v asks answers → (ms : ℕ) (x : Want91) (ls : List Life)
+    → v (life_at (lives_by ms x ls) n) ≤ v (life_at ls n) + one_if (asks x)
+wanted_less c ms want.Nothing ls = omega arith
+wanted_less c ms want.Start ls = omega arith
+wanted_less c ms (want.Login m r) ls = omega arith
+wanted_less c ms want.Tuned ls = omega arith
+wanted_less c ms want.OpenUp ls = omega arith
+wanted_less {n} {v} {asks} c ms (want.Method k m) ls =
+    set_less v n k ls (method_life ms m (life_at ls k)) (one_if (asks (want.Method k m)))
+    (λ e. subst (λ (i : ℕ). v (method_life ms m (life_at ls i)) ≤ v (life_at ls n) + one_if (asks (want.Method i m))) (sym e) (c.asked ms m (life_at ls n)))
+wanted_less c ms (want.Publish k m x) ls = omega arith
+wanted_less {n} {v} c ms (want.ChannelCloseOk k) ls = let less = rule_less v n k ls freed_life c.freed in omega (arith, less)
+wanted_less c ms want.Close ls = omega arith
+wanted_less c ms want.CloseOk ls = omega arith
+wanted_less {n} {v} {asks} c ms (want.Refuse r) ls = by (is_of_channel r)
   where
     more : ℕ
     more = one_if (asks (want.Refuse r))
 
     failed : Life → Life
-    failed = failed_life r (Some (condition_of r.code))
+    failed = failed_life false ms r (Some (condition_of r.code))
 
     by : (b : Bool) → v (life_at (if b then with_life r.channel (failed (life_at ls r.channel)) ls else ls) n) ≤ v (life_at ls n) + more
-    by true = let less = rule_less v n r.channel ls failed (c.failed r (Some (condition_of r.code))) in omega (arith, less)
+    by true = let less = rule_less v n r.channel ls failed (c.failed false ms r (Some (condition_of r.code))) in omega (arith, less)
     by false = omega arith
 
 came_less : {n : ℕ} {v : Life → ℕ} {asks : Want91 → Bool} {answers : Reply → Bool} → Counts n v asks answers → (w : State) (u : Unit91) (b : Bool) (total : ℕ)
@@ -304,7 +318,7 @@ came_less : {n : ℕ} {v : Life → ℕ} {asks : Want91 → Bool} {answers : Rep
     → went + Value v n (if b then w else came (dequeued w) u) ≤ (if b then total else total + one_if (asks (client_step w.conn u).1))
 came_less c w u true total went e = e
 came_less {n} {v} {asks} c w u false total went e =
-    let less : v (life_at (lives_by (client_step w.conn u).1 w.lives) n) ≤ v (life_at w.lives n) + one_if (asks (client_step w.conn u).1) = wanted_less c (client_step w.conn u).1 w.lives in
+    let less : v (life_at (lives_by w.moment (client_step w.conn u).1 w.lives) n) ≤ v (life_at w.lives n) + one_if (asks (client_step w.conn u).1) = wanted_less c w.moment (client_step w.conn u).1 w.lives in
     omega (arith, e, less)
 
 -- ---- an answer
@@ -344,11 +358,7 @@ given_less {n} {v} {asks} {answers} c (reply.ChannelOpenOk k) ls o =
     (λ e. subst (λ (i : ℕ). (life_at ls i).open_ok ≡ true → v (record (life_at ls i) { open_ok = false }) + one_if (answers (reply.ChannelOpenOk i)) ≤ v (life_at ls n)) (sym e)
     (c.opened (life_at ls n)) o)
     (c.elsewhere_open k)
-given_less {n} {v} {asks} {answers} c (reply.FlowOk k) ls o =
-    set_given v n k ls (record (life_at ls k) { flow_oks = (life_at ls k).flow_oks - 1 }) (answers (reply.FlowOk k)) c.none
-    (λ e. subst (λ (i : ℕ). 0 < (life_at ls i).flow_oks → v (record (life_at ls i) { flow_oks = (life_at ls i).flow_oks - 1 }) + one_if (answers (reply.FlowOk i)) ≤ v (life_at ls n)) (sym e)
-    (c.flowed (life_at ls n)) o)
-    (c.elsewhere_flow k)
+given_less c (reply.OnChannel k u) ls o = unset_given _ _ (c.of_paths k u)
 given_less {n} {v} {asks} {answers} c (reply.ChannelCloseOk k) ls o =
     set_given v n k ls (record (life_at ls k) { close_ok = false }) (answers (reply.ChannelCloseOk k)) c.none
     (λ e. subst (λ (i : ℕ). (life_at ls i).close_ok ≡ true → v (record (life_at ls i) { close_ok = false }) + one_if (answers (reply.ChannelCloseOk i)) ≤ v (life_at ls n)) (sym e)
@@ -409,12 +419,12 @@ counts c (Lost Client loss.Shut ∷ h) p = counts c h p.1
 counts {n} {v} c (Lost Up loss.Ended ∷ h) p = keeps _ _ _ _ (fail_less v n _ None _) (counts c h p.1)
 counts {n} {v} c (Lost Up loss.Failed ∷ h) p = keeps _ _ _ _ (fail_less v n _ None _) (counts c h p.1)
 counts c (Lost Up loss.Shut ∷ h) p = counts c h p.1
-counts {n} {v} {asks} {answers} c (Gave (ToClient u) ∷ h) p =
+counts {n} {v} {asks} {answers} c (Gave (ToClient u) text ∷ h) p =
     let less : v (life_at (without_life u (before h).lives) n) + one_if (answers u) ≤ v (life_at (before h).lives n) =
     given_less c u (before h).lives (owed_picked h u p.1 (picked (before h) u p.0.1)) in
     let old : went_in answers h + v (life_at (before h).lives n) ≤ wanted_in asks h = counts c h p.1 in
     omega (arith, less, old)
-counts {n} {v} c (Gave (ToUp u) ∷ h) p = keeps _ _ _ _ (begun_less c u (before h).lives) (counts c h p.1)
+counts {n} {v} c (Gave (ToUp u) text ∷ h) p = keeps _ _ _ _ (begun_less c u (before h).lives) (counts c h p.1)
 counts c (Whole Client ∷ h) p = counts c h p.1
 counts c (Whole Up ∷ h) p = counts c h p.1
 counts c (OutOfMemory ∷ h) p = counts c h p.1
@@ -445,25 +455,10 @@ no_answer_open n (reply.Close r) e = refl
 no_answer_open n reply.NoMemory e = refl
 no_answer_open n reply.Heartbeat e = refl
 no_answer_open n (reply.ChannelOpenOk m) e = absurd cc
-no_answer_open n (reply.FlowOk m) e = absurd cc
+no_answer_open n (reply.OnChannel m u) e = refl
 no_answer_open n (reply.ChannelCloseOk m) e = absurd cc
 no_answer_open n (reply.CrossedOk m) e = absurd cc
 no_answer_open n (reply.ChannelClose m r) e = absurd cc
-
-no_answer_flow : (n : ℕ) (u : Reply) → is_answer u ≡ true → is_flow_ok_on n u ≡ false
-no_answer_flow n reply.Protocol e = refl
-no_answer_flow n reply.Start e = refl
-no_answer_flow n reply.Tune e = refl
-no_answer_flow n reply.OpenOk e = refl
-no_answer_flow n reply.CloseOk e = refl
-no_answer_flow n (reply.Close r) e = refl
-no_answer_flow n reply.NoMemory e = refl
-no_answer_flow n reply.Heartbeat e = refl
-no_answer_flow n (reply.ChannelOpenOk m) e = absurd cc
-no_answer_flow n (reply.FlowOk m) e = absurd cc
-no_answer_flow n (reply.ChannelCloseOk m) e = absurd cc
-no_answer_flow n (reply.CrossedOk m) e = absurd cc
-no_answer_flow n (reply.ChannelClose m r) e = absurd cc
 
 no_answer_close : (n : ℕ) (u : Reply) → is_answer u ≡ true → is_close_ok_on n u ≡ false
 no_answer_close n reply.Protocol e = refl
@@ -475,7 +470,7 @@ no_answer_close n (reply.Close r) e = refl
 no_answer_close n reply.NoMemory e = refl
 no_answer_close n reply.Heartbeat e = refl
 no_answer_close n (reply.ChannelOpenOk m) e = absurd cc
-no_answer_close n (reply.FlowOk m) e = absurd cc
+no_answer_close n (reply.OnChannel m u) e = refl
 no_answer_close n (reply.ChannelCloseOk m) e = absurd cc
 no_answer_close n (reply.CrossedOk m) e = absurd cc
 no_answer_close n (reply.ChannelClose m r) e = absurd cc
@@ -490,11 +485,11 @@ opened_or true false = omega arith
 opened_or false true = omega arith
 opened_or false false = omega arith
 
-opens_asked : (n : ℕ) (m : Method91) (l : Life) → opens_of (method_life m l) ≤ opens_of l + one_if ((n == n) && is_channel_open m)
-opens_asked n method.ChannelOpen l = let here : one_if ((n == n) && true) ≡ 1 = ap (λ (b : Bool). one_if (b && true)) (itself n) in omega (arith, here)
-opens_asked n (method.ChannelFlow active) l = omega arith
-opens_asked n (method.ChannelClose code text class id) l = omega arith
-opens_asked n m l = omega arith
+opens_asked : (n ms : ℕ) (m : Method91) (l : Life) → opens_of (method_life ms m l) ≤ opens_of l + one_if ((n == n) && is_channel_open m)
+opens_asked n ms method.ChannelOpen l = let here : one_if ((n == n) && true) ≡ 1 = ap (λ (b : Bool). one_if (b && true)) (itself n) in omega (arith, here)
+opens_asked n ms (method.ChannelFlow active) l = omega arith
+opens_asked n ms (method.ChannelClose code text class id) l = omega arith
+opens_asked n ms m l = omega arith
 
 opens_gone : (n : ℕ) (l : Life) → l.open_ok ≡ true → opens_of (record l { open_ok = false }) + one_if (n == n) ≤ opens_of l
 opens_gone n l e =
@@ -508,56 +503,18 @@ opens n = record {
   asked = opens_asked n;
   freed = λ l. omega arith;
   begun = λ l. opened_or l.open_ok l.waits;
-  failed = λ r why l. omega arith;
+  failed = λ by_peer ms r why l. omega arith;
   carries = λ s l. omega arith;
   begins = λ l. omega arith;
   ends = λ l. omega arith;
   opened = opens_gone n;
-  flowed = λ l e. omega arith;
   closed = λ l e. omega arith;
   crossed = λ l e. omega arith;
   told = λ r l. omega arith;
   of_connection = no_answer_open n;
   beats = refl;
+  of_paths = λ k u. refl;
   elsewhere_open = λ k d. isnt k n d;
-  elsewhere_flow = λ k d. refl;
-  elsewhere_close = λ k d. refl;
-  elsewhere_crossed = λ k d. refl;
-  elsewhere_told = λ k r d. refl;
-}
-
--- channel.flow and its flow-ok
-abbrev flows_of : Life → ℕ
-flows_of l = l.flow_oks
-
-flows_asked : (n : ℕ) (m : Method91) (l : Life) → flows_of (method_life m l) ≤ flows_of l + one_if ((n == n) && is_channel_flow m)
-flows_asked n method.ChannelOpen l = omega arith
-flows_asked n (method.ChannelFlow active) l = let here : one_if ((n == n) && true) ≡ 1 = ap (λ (b : Bool). one_if (b && true)) (itself n) in omega (arith, here)
-flows_asked n (method.ChannelClose code text class id) l = omega arith
-flows_asked n m l = omega arith
-
-flows_gone : (n : ℕ) (l : Life) → 0 < l.flow_oks → (l.flow_oks - 1) + one_if (n == n) ≤ l.flow_oks
-flows_gone n l e = let here : one_if (n == n) ≡ 1 = ap one_if (itself n) in omega (arith, here, e)
-
-flows : (n : ℕ) → Counts n flows_of (is_method_on is_channel_flow n) (is_flow_ok_on n)
-flows n = record {
-  none = refl;
-  asked = flows_asked n;
-  freed = λ l. omega arith;
-  begun = λ l. omega arith;
-  failed = λ r why l. omega arith;
-  carries = λ s l. omega arith;
-  begins = λ l. omega arith;
-  ends = λ l. omega arith;
-  opened = λ l e. omega arith;
-  flowed = flows_gone n;
-  closed = λ l e. omega arith;
-  crossed = λ l e. omega arith;
-  told = λ r l. omega arith;
-  of_connection = no_answer_flow n;
-  beats = refl;
-  elsewhere_open = λ k d. refl;
-  elsewhere_flow = λ k d. isnt k n d;
   elsewhere_close = λ k d. refl;
   elsewhere_crossed = λ k d. refl;
   elsewhere_told = λ k r d. refl;
@@ -567,12 +524,12 @@ flows n = record {
 abbrev closes_of : Life → ℕ
 closes_of l = one_if l.close_ok + one_if l.crossed_ok
 
-closes_asked : (n : ℕ) (m : Method91) (l : Life) → closes_of (method_life m l) ≤ closes_of l + one_if ((n == n) && is_channel_close m)
-closes_asked n method.ChannelOpen l = omega arith
-closes_asked n (method.ChannelFlow active) l = omega arith
-closes_asked n (method.ChannelClose code text class id) l =
+closes_asked : (n ms : ℕ) (m : Method91) (l : Life) → closes_of (method_life ms m l) ≤ closes_of l + one_if ((n == n) && is_channel_close m)
+closes_asked n ms method.ChannelOpen l = omega arith
+closes_asked n ms (method.ChannelFlow active) l = omega arith
+closes_asked n ms (method.ChannelClose code text class id) l =
     let here : one_if ((n == n) && true) ≡ 1 = ap (λ (b : Bool). one_if (b && true)) (itself n) in omega (arith, here)
-closes_asked n m l = omega arith
+closes_asked n ms m l = omega arith
 
 closed_or : (a b : Bool) → one_if false + one_if (a || b) ≤ one_if b + one_if a
 closed_or a b = opened_or a b
@@ -595,19 +552,18 @@ closes n = record {
   asked = closes_asked n;
   freed = λ l. closed_or l.crossed_ok l.close_ok;
   begun = λ l. omega arith;
-  failed = λ r why l. omega arith;
+  failed = λ by_peer ms r why l. omega arith;
   carries = λ s l. omega arith;
   begins = λ l. omega arith;
   ends = λ l. omega arith;
   opened = λ l e. omega arith;
-  flowed = λ l e. omega arith;
   closed = closes_gone n;
   crossed = crosses_gone n;
   told = λ r l. omega arith;
   of_connection = no_answer_close n;
   beats = refl;
+  of_paths = λ k u. refl;
   elsewhere_open = λ k d. refl;
-  elsewhere_flow = λ k d. refl;
   elsewhere_close = λ k d. isnt k n d;
   elsewhere_crossed = λ k d. isnt k n d;
   elsewhere_told = λ k r d. refl;
@@ -616,6 +572,6 @@ closes n = record {
 pub answers_once : (h : List Step) → ArePicks h → AnswersOnce h
 answers_once h p = record {
   opens = λ n. answered_at_most (opens n) h p;
-  flows = λ n. answered_at_most (flows n) h p;
+  flows = λ n. flows_once n h p;
   closes = λ n. answered_at_most (closes n) h p;
 }

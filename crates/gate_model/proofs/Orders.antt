@@ -1,5 +1,5 @@
 -- The units of each channel are taken up in their order.
-use Rattle.std.proofs.Common.{◌≡◌, ℕ, zero, suc, ◌+◌, ◌==◌, Bool, true, false, not, ◌&&◌, ◌||◌, if◌then◌else◌, List, [], ◌∷◌, ◌++◌, length, length-append, take, take_at, filter, Option, None, Some, append_assoc, append-nil, arith, refl, sym, ap, ◌∙◌, subst}
+use Rattle.std.proofs.Common.{◌≡◌, ℕ, ◌+◌, ◌==◌, Bool, true, false, not, ◌&&◌, ◌||◌, if◌then◌else◌, List, [], ◌∷◌, ◌++◌, length, length-append, take, take_at, Option, None, Some, append_assoc, append-nil, arith, refl, sym, ap, ◌∙◌, subst}
 use Rattle.std.proofs.lemmas.List.Elements.{filter-append}
 use Rattle.std.proofs.lemmas.Bool.Decides.{nat_tests}
 use Rattle.std.specs.Prelude.{slice_get}
@@ -9,15 +9,13 @@ use Rattle.gate_outside.specs.declared.ports.End.TheVariants.{Client, Up}
 use Rattle.gate_outside.specs.declared.ports.Linked.TheVariants as link
 use Rattle.gate_relay.specs.declared.loss.Loss.TheVariants as loss
 use Rattle.gate_model.specs.declared.outgoing.Outgoing.TheVariants.{ToClient, ToUp}
-use Rattle.gate_model.specs.Due.{can_leave}
 use Rattle.gate_model.specs.Folds.{ran_out_in}
 use Rattle.gate_model.specs.Order.{TakesInOrder, came_in, is_of, on_channel, taken_in}
 use Rattle.gate_model.specs.Picks.{ArePicks}
-use Rattle.gate_model.specs.Queue.{Waits, can_take, channel_of, holds, is_empty, place_from, place_in, removed, unit_at, waits_for_all, without_at}
-use Rattle.gate_model.specs.State.{State, Step, Began, Moment, Queued, Came, TakenUp, Heard, Joined, Lost, Gave, Whole, OutOfMemory, before, came, dequeued, fail, heard, left, next_unit, place, waits, Fed, Silent}
-use Rattle.gate_model.proofs.Connections.{clash}
-use Rattle.gate_model.proofs.Known.{Known, known, memory_is}
-use Rattle.gate_model.proofs.Queues.{Rests, empty_is, rests_fail, rests_heard}
+use Rattle.gate_model.specs.Queue.{Waits, can_take, channel_of, holds, is_empty, place_from, removed, unit_at, waits_for_all, without_at}
+use Rattle.gate_model.specs.State.{State, Step, Began, Moment, Queued, Came, TakenUp, Heard, Joined, Lost, Gave, Whole, OutOfMemory, before, came, dequeued, left, next_unit, place, waits, Fed, Silent}
+use Rattle.gate_model.proofs.Known.{known, memory_is}
+use Rattle.gate_model.proofs.Queues.{empty_is, rests_fail, rests_heard}
 use Rattle.gate_model.proofs.Times.{and_left, and_right}
 
 -- ---- the unit that is taken up
@@ -180,8 +178,8 @@ takes_in_order (Lost Client loss.Shut ∷ h) p n e = takes_in_order h p.1 n e
 takes_in_order (Lost Up loss.Ended ∷ h) p n e = same_queue n h _ _ (rests_fail _ None _).queue (takes_in_order h p.1 n e)
 takes_in_order (Lost Up loss.Failed ∷ h) p n e = same_queue n h _ _ (rests_fail _ None _).queue (takes_in_order h p.1 n e)
 takes_in_order (Lost Up loss.Shut ∷ h) p n e = takes_in_order h p.1 n e
-takes_in_order (Gave (ToClient u) ∷ h) p n e = takes_in_order h p.1 n e
-takes_in_order (Gave (ToUp u) ∷ h) p n e = takes_in_order h p.1 n e
+takes_in_order (Gave (ToClient u) text ∷ h) p n e = takes_in_order h p.1 n e
+takes_in_order (Gave (ToUp u) text ∷ h) p n e = takes_in_order h p.1 n e
 takes_in_order (Whole Client ∷ h) p n e = takes_in_order h p.1 n e
 takes_in_order (Whole Up ∷ h) p n e = takes_in_order h p.1 n e
 takes_in_order (OutOfMemory ∷ h) p n e = absurd cc

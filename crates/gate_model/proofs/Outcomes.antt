@@ -25,7 +25,13 @@ use Rattle.machine_091.specs.declared.unit.Want91.TheVariants as want
 use Rattle.machine_091.proofs.StepCases.{step_rows}
 use Rattle.methods_091.specs.declared.method.Method91.{Method91}
 use Rattle.gate_model.specs.Lives.{is_of_channel}
-use Rattle.gate_model.specs.Requests.{client_step, is_built, not_built, refusal_of_want, refused_by}
+use Rattle.close_translate.specs.declared.codes.TheConstants.{NOT_IMPLEMENTED}
+use Rattle.content_091.specs.declared.assembly.Content.{Content}
+use Rattle.machine_091.specs.Refusals.{refusal_with}
+use Rattle.machine_091.specs.declared.unit.Want91.{Want91}
+use Rattle.methods_091.specs.Rows.{class_of, id_of}
+use Rattle.methods_091.specs.View.{kind_of}
+use Rattle.gate_model.specs.Requests.{client_step, is_mandatory, message_of, method_fault, publish_fault, refusal_of_want, refused_by, refused_for}
 use Rattle.gate_model.specs.State.{close}
 
 -- no content is in progress still, where none is set
@@ -74,6 +80,14 @@ only_closing n c = by (channel_at c n)
     by channel.Closing = none_differ c
     by channel.Told = none_differ c
 
+only_both : {c d e : Connection} → OnlyChannels c d → OnlyChannels d e → OnlyChannels c e
+only_both {c} {d} {e} f g = record {
+  channels = g.channels;
+  contents = g.contents;
+  none = λ x. g.none (ap (λ (y : Connection). y.contents) f.same ∙ f.none x);
+  same = g.same ∙ ap (λ (y : Connection). record y { channels = g.channels; contents = g.contents }) f.same;
+}
+
 -- each unit does one of these
 pub data Outcome (c : Connection) (u : Unit91) : machine.Step → Type 0 where
   Greets : c.phase ≡ phase.Header → Outcome c u (record c { phase = phase.Start; stream = stream.Frames }, want.Start)
@@ -91,6 +105,7 @@ pub data Outcome (c : Connection) (u : Unit91) : machine.Step → Type 0 where
   Parting : is_running c.phase ≡ true → Outcome c u (record c { phase = phase.Closed; contents = no_contents }, want.Close)
   Calls : (n : ℕ) (s : Channel91) (m : Method91) → is_running c.phase ≡ true → Outcome c u (with_channel c n s, want.Method n m)
   Asking : (n : ℕ) (m : Method91) → is_running c.phase ≡ true → Outcome c u (c, want.Method n m)
+  Publishes : (n : ℕ) (m : Method91) (d : Content) → is_running c.phase ≡ true → Outcome c u (with_content c n None, want.Publish n m d)
   Fills : (n : ℕ) (i : Option Incoming) → is_running c.phase ≡ true → Outcome c u (with_content c n i, want.Nothing)
   Frees : (n : ℕ) → is_running c.phase ≡ true → Outcome c u (with_channel c n channel.Free, want.ChannelCloseOk n)
   Closes : c.phase ≡ phase.Closing → Outcome c u (record c { phase = phase.Closed }, want.Close)
@@ -113,14 +128,28 @@ of_unit code (unit.Frame f) = by f.kind
 abbrev Told : (c : Connection) (u : Unit91) → machine.Step → Type 0
 Told c u x = Outcome c u (refused_by (refusal_of_want x.1) x)
 
--- a method of a channel, which is built or not
+-- a request of a channel, which is met or refused
+met_or_refused : (c d : Connection) (u : Unit91) (n : ℕ) (m : Method91) (x : Want91) (o : Option ℕ) → OnlyChannels c d → is_running c.phase ≡ true
+    → Outcome c u (d, x) → Outcome c u (refused_by (refused_for n m o) (d, x))
+met_or_refused c d u n m x None only e met = met
+met_or_refused c d u n m x (Some code) only e met = by (code == NOT_IMPLEMENTED)
+  where
+    refusal : Bool → Refusal
+    refusal b = if b then refusal_with code (class_of (kind_of m)) (id_of (kind_of m)) else record {
+      code = code;
+      scope = scope.Channel;
+      channel = n;
+      class = class_of (kind_of m);
+      method = id_of (kind_of m);
+    }
+
+    by : (b : Bool) → Outcome c u (after_closing (refusal b).scope (refusal b).channel d, want.Refuse (refusal b))
+    by true = Declines (refusal true) d only e refl
+    by false = Drops (refusal false) (after_closing scope.Channel n d) (only_both only (only_closing n d)) e refl
+
 called : (c d : Connection) (u : Unit91) (n : ℕ) (m : Method91) → OnlyChannels c d → is_running c.phase ≡ true
     → Outcome c u (d, want.Method n m) → Told c u (d, want.Method n m)
-called c d u n m only e calls = by (is_built m)
-  where
-    by : (b : Bool) → Outcome c u (refused_by (if b then None else Some (not_built m)) (d, want.Method n m))
-    by true = calls
-    by false = Declines (not_built m) d only e refl
+called c d u n m only e calls = met_or_refused c d u n m (want.Method n m) (method_fault m) only e calls
 
 pub outcome : (c : Connection) (u : Unit91) → Outcome c u (client_step c u)
 outcome c u = step_rows (Told c u) c u (record {
@@ -139,7 +168,9 @@ outcome c u = step_rows (Told c u) c u (record {
   passed_on = λ n m of. called c _ u n m (none_differ c) of.runs (Asking n m of.runs);
   begun = λ f k args is. Fills _ _ is.on.runs;
   grown = λ f i a is. Fills _ _ is.on.runs;
-  published = λ f i a d is at_once. Declines (not_built i.method) _ (content_dropped c f.channel) is.on.runs refl;
+  published = λ f i a d is at_once. met_or_refused c _ u f.channel i.method (want.Publish f.channel i.method d)
+      (publish_fault (is_mandatory i.method) (message_of i.method d)) (content_dropped c f.channel) is.on.runs
+      (Publishes f.channel i.method d is.on.runs);
   freed = λ n of. Frees n of.runs;
   crossed = λ e. Closes e;
   answered = λ e. Answers e;

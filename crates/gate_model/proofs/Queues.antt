@@ -1,12 +1,9 @@
 -- Nothing waits behind the client's end.
-use Rattle.std.proofs.Common.{◌≡◌, ℕ, ◌==◌, Bool, true, false, not, ◌&&◌, ◌||◌, if◌then◌else◌, List, [], ◌∷◌, ◌++◌, Option, None, Some, refl, sym, ap, ◌∙◌, subst}
-use Rattle.std.specs.Prelude.{is_some}
+use Rattle.std.proofs.Common.{◌≡◌, ℕ, Bool, true, false, not, ◌&&◌, if◌then◌else◌, List, [], ◌∷◌, ◌++◌, Option, None, Some, refl, sym, ap, ◌∙◌, subst}
 use Rattle.gate_outside.specs.declared.ports.End.TheVariants.{Client, Up}
 use Rattle.gate_outside.specs.declared.ports.Linked.TheVariants as link
 use Rattle.gate_relay.specs.declared.loss.Loss.TheVariants as loss
 use Rattle.machine_091.specs.State.{awaits, is_closing, is_opening}
-use Rattle.machine_091.specs.declared.state.Connection.{Connection}
-use Rattle.machine_091.specs.declared.state.Stream91.{Stream91}
 use Rattle.machine_091.specs.declared.unit.Unit91.{Unit91}
 use Rattle.machine_10.specs.Parts.{Parts}
 use Rattle.machine_10.specs.Transitions as ten
@@ -14,14 +11,13 @@ use Rattle.machine_10.specs.Transitions.{Meaning}
 use Rattle.machine_10.specs.declared.unit.Unit10.{Unit10}
 use Rattle.performatives_10.specs.declared.condition.Condition.{Condition}
 use Rattle.close_translate.specs.declared.codes.TheConstants.{INTERNAL_ERROR}
-use Rattle.performatives_10.specs.declared.condition.Condition.TheVariants.{NotAllowed}
 use Rattle.gate_model.specs.declared.outgoing.Outgoing.TheVariants.{ToClient, ToUp}
 use Rattle.gate_model.specs.Due.{can_leave}
 use Rattle.gate_model.specs.Picks.{ArePicks, MayComeAs}
 use Rattle.gate_model.specs.Queue.{is_empty, place_in, unit_at}
-use Rattle.gate_model.specs.State.{State, Step, Began, Moment, Queued, Came, TakenUp, Heard, Joined, Lost, Gave, Whole, OutOfMemory, before, came, dequeued, fail, failed, has_left, heard, left, next_unit, runs, waits, with_meaning, with_session, Fed, Silent, carried}
+use Rattle.gate_model.specs.State.{Began, Came, Fed, Gave, Heard, Joined, Lost, Moment, OutOfMemory, Queued, Silent, State, Step, TakenUp, Whole, before, came, dequeued, fail, failed, has_left, heard, left, next_unit, runs, waits, windowed, with_meaning, with_session}
 use Rattle.gate_model.specs.Upstream.{heard_up, meaning_by}
-use Rattle.gate_model.proofs.Connections.{clash, none_comes, only_given, step_here, stream_if, stream_only}
+use Rattle.gate_model.proofs.Connections.{none_comes, only_given, step_here, stream_if, stream_only}
 use Rattle.gate_model.proofs.Outcomes.{only_closing}
 use Rattle.gate_model.proofs.Sessions.{session_cases}
 
@@ -43,9 +39,15 @@ rests_fail code why w = by (is_closing w.conn)
 
 rests_session : (n : ℕ) (p : Parts) (w : State) → Rests w (with_session n p w)
 rests_session n p w =
-    let f : Rests (carried n p w) (fail INTERNAL_ERROR (Some NotAllowed) (carried n p w)) = rests_fail _ _ (carried n p w) in
-    session_cases (Rests w) n p w (record { stream = refl; queue = refl }) (record { stream = f.stream; queue = f.queue }) (record { stream = refl; queue = refl })
-    (λ code why. record { stream = stream_only (only_closing n w.conn); queue = refl })
+    session_cases (Rests w) n p w (record {
+      begins = record { stream = refl; queue = refl };
+      stays = record { stream = refl; queue = refl };
+      ends = λ code why. record { stream = stream_only (only_closing n w.conn); queue = refl };
+      windows = record { stream = refl; queue = refl };
+      drops = λ code why. record { stream = stream_only (only_closing n w.conn); queue = refl };
+      fails = λ why. let f : Rests (windowed n p w) (fail INTERNAL_ERROR why (windowed n p w)) = rests_fail _ why (windowed n p w) in
+          record { stream = f.stream; queue = f.queue };
+    })
 
 rests_meaning : (m : Meaning) (w : State) → Rests w (with_meaning m w)
 rests_meaning ten.Nothing w = rests w
@@ -140,9 +142,9 @@ none_left (Lost Up loss.Ended ∷ h) p =
 none_left (Lost Up loss.Failed ∷ h) p =
     let r = rests_fail _ None _ in none_after (before h) (before (Lost Up loss.Failed ∷ h)) (record { stream = r.stream; queue = r.queue }) (none_left h p.1)
 none_left (Lost Up loss.Shut ∷ h) p = none_left h p.1
-none_left (Gave (ToClient u) ∷ h) p =
-    none_after (before h) (before (Gave (ToClient u) ∷ h)) (record { stream = stream_only (only_given u (before h).conn); queue = refl }) (none_left h p.1)
-none_left (Gave (ToUp u) ∷ h) p = none_left h p.1
+none_left (Gave (ToClient u) text ∷ h) p =
+    none_after (before h) (before (Gave (ToClient u) text ∷ h)) (record { stream = stream_only (only_given u (before h).conn); queue = refl }) (none_left h p.1)
+none_left (Gave (ToUp u) text ∷ h) p = none_left h p.1
 none_left (Whole Client ∷ h) p = none_left h p.1
 none_left (Whole Up ∷ h) p = none_left h p.1
 none_left (OutOfMemory ∷ h) p = λ e. refl

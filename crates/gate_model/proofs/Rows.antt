@@ -1,7 +1,7 @@
 -- The first of rows of lives, and of lists put together.
-use Rattle.std.proofs.Common.{◌≡◌, ℕ, ◌+◌, Bool, true, false, List, [], ◌∷◌, ◌++◌, Option, None, Some, refl, sym, ap, ◌∙◌}
+use Rattle.std.proofs.Common.{◌≡◌, ℕ, ◌+◌, List, [], ◌∷◌, ◌++◌, Option, Some, arith, suc, zero, refl, sym, ap, ◌∙◌}
 use Rattle.gate_model.specs.declared.life.Life.{Life}
-use Rattle.gate_model.specs.Lives.{each}
+use Rattle.gate_model.specs.Lives.{each, life_at}
 use Rattle.gate_model.specs.Upstream.{first}
 
 -- each unit of a row of lives is of that row
@@ -32,3 +32,23 @@ first_some (x ∷ us) vs u e = e
 
 pub same_first : {A : Type 0} (o : Option A) (u v : A) → o ≡ Some u → o ≡ Some v → u ≡ v
 same_first o u v e f = let same : Some u ≡ Some v = sym e ∙ f in cc
+
+-- the first of a row of lives is of one of them
+first_from : {A : Type 0} (P : A → Type 0) (f : ℕ → Life → List A) (n : ℕ) (ls : List Life) (u : A)
+    → ((k : ℕ) (v : A) → first (f (n + k) (life_at ls k)) ≡ Some v → P v) → first (each f n ls) ≡ Some u → P u
+first_from P f n [] u is e = absurd cc
+first_from {A = A} P f n (l ∷ ls) u is e = by (has (f n l)) (first_from P f (n + 1) ls u later)
+  where
+    later : (k : ℕ) (v : A) → first (f ((n + 1) + k) (life_at ls k)) ≡ Some v → P v
+    later k v g = is (suc k) v (ap (λ (m : ℕ). first (f m (life_at ls k))) (let same : n + suc k ≡ (n + 1) + k = omega arith in same) ∙ g)
+
+    by : Has (f n l) → (first (each f (n + 1) ls) ≡ Some u → P u) → P u
+    by (HasFirst v g) more =
+        let same : v ≡ u = same_first (first (f n l ++ each f (n + 1) ls)) v u (first_some (f n l) _ v g) e in
+        is zero u (ap (λ (m : ℕ). first (f m l)) (let here : n + zero ≡ n = omega arith in here) ∙ g ∙ ap Some same)
+    by (HasNone g) more = more (sym (first_none (f n l) _ g) ∙ e)
+
+pub first_at : {A : Type 0} (P : A → Type 0) (f : ℕ → Life → List A) (ls : List Life) (u : A)
+    → ((k : ℕ) (v : A) → first (f k (life_at ls k)) ≡ Some v → P v) → first (each f 0 ls) ≡ Some u → P u
+first_at {A = A} P f ls u is e =
+    first_from P f 0 ls u (λ k v g. is k v (ap (λ (m : ℕ). first (f m (life_at ls k))) (let same : k ≡ 0 + k = omega arith in same) ∙ g)) e

@@ -1,6 +1,6 @@
 -- What was sent to a client without heartbeats, and then what is due to it, are the replies to its units; after the pair ran
 -- out of memory they are the last units.
-use Rattle.std.proofs.Common.{◌⊎◌, inl, inr, Bool, List, None, Option, Some, [], ap, append-nil, append_assoc, false, if◌then◌else◌, nat_lt, not, refl, subst, sym, true, ℕ, ◌&&◌, ◌++◌, ◌||◌, ◌∙◌, ◌∷◌, ◌≡◌}
+use Rattle.std.proofs.Common.{◌⊎◌, inl, inr, Bool, List, None, Option, Some, [], ap, append-nil, append_assoc, false, if◌then◌else◌, not, refl, subst, sym, true, ℕ, ◌&&◌, ◌++◌, ◌||◌, ◌∙◌, ◌∷◌, ◌≡◌, ◌==◌}
 use Rattle.std.specs.Prelude.{filter, map}
 use Rattle.std.proofs.lemmas.List.Elements.{filter-append}
 use Rattle.gate_outside.specs.declared.ports.End.TheVariants.{Client, Up}
@@ -9,7 +9,7 @@ use Rattle.gate_relay.specs.declared.loss.Loss.TheVariants as loss
 use Rattle.close_translate.specs.declared.codes.TheConstants.{CONNECTION_FORCED}
 use Rattle.performatives_10.specs.declared.condition.Condition.{Condition}
 use Rattle.machine_091.specs.Calls.{after_ended, after_opened, closing_phase}
-use Rattle.machine_091.specs.State.{awaits, is_closing, is_closing_phase, is_opening, is_running}
+use Rattle.machine_091.specs.State.{is_closing, is_closing_phase, is_open, is_opening, is_running}
 use Rattle.machine_091.specs.Transitions.{greeted, stream_after}
 use Rattle.machine_091.specs.Transitions as machine
 use Rattle.machine_091.specs.declared.state.Connection.{Connection}
@@ -21,26 +21,29 @@ use Rattle.machine_091.specs.declared.unit.Refusal.{Refusal}
 use Rattle.machine_091.specs.declared.unit.Unit91.{Unit91}
 use Rattle.machine_091.specs.declared.unit.Unit91.TheVariants as unit
 use Rattle.machine_091.specs.declared.unit.Want91.{Want91}
-use Rattle.methods_091.specs.declared.method.Method91.{Method91}
 use Rattle.machine_091.specs.declared.unit.Want91.TheVariants as want
 use Rattle.performatives_10.specs.declared.condition.Condition.TheVariants.{ResourceLimitExceeded}
+use Rattle.close_translate.specs.Conditions.{code_by}
+use Rattle.machine_10.specs.Reading.{field}
+use Rattle.close_translate.specs.declared.conditions.Scope.{Scope}
+use Rattle.machine_10.specs.Parts as container
+use Rattle.gate_model.specs.Paths.{path_at, with_path}
 use Rattle.gate_model.specs.declared.life.Life.{Life}
-use Rattle.gate_model.specs.Lives.{each, is_of_channel}
+use Rattle.gate_model.specs.Lives.{is_of_channel}
 use Rattle.close_translate.specs.declared.codes.TheConstants.{INTERNAL_ERROR}
 use Rattle.close_translate.specs.declared.conditions.Scope.TheVariants as scope
 use Rattle.machine_091.specs.Calls.{after_closing}
-use Rattle.performatives_10.specs.declared.condition.Condition.TheVariants.{NotAllowed}
 use Rattle.gate_model.specs.declared.reply.Pending.{Pending}
 use Rattle.gate_model.specs.declared.reply.Reply.{Reply}
 use Rattle.gate_model.specs.declared.reply.Reply.TheVariants as reply
 use Rattle.gate_model.specs.Answers.{AreAnswered, AreReplies, All, Overtaken, TakenBack, is_close, is_close_ok, last_units}
-use Rattle.gate_model.specs.Due.{channel_closes, channel_oks, client_units, close_oks, close_oks_on, closes, flow_oks, if_so, is_beat_due, last_closes, may_answer, may_end, may_go, may_tell, open_oks, openings, pick, refused_on, rows, when, is_awaiting, is_silent}
-use Rattle.gate_model.specs.Folds.{Peers, answers_of, conn_by, conn_session, session_closes, connection, failure_to, is_answer, leaving_in, peers, peers_came, peers_heard, ran_out_in, replies, replies_to, reply_by, reply_to, sent, sent_since, until_memory}
+use Rattle.gate_model.specs.Due.{channel_closes, channel_oks, client_units, close_oks, close_oks_on, closes, confirm_on, confirms, if_so, ok_on, path_oks, is_beat_due, last_closes, may_answer, may_end, may_go, may_tell, open_oks, openings, pick, refused_on, rows, when, is_awaiting, is_silent}
+use Rattle.gate_model.specs.Folds.{Peers, answers_of, closes_connection, connection, ended_on, failure_to, is_answer, leaving_in, opened_by, peers, peers_by, peers_came, peers_heard, peers_scoped, peers_session, ran_out_in, replies, replies_to, reply_by, reply_to, sent, sent_since, until_memory}
 use Rattle.gate_model.specs.Picks.{ArePicks}
 use Rattle.gate_model.specs.Requests.{client_step}
-use Rattle.gate_model.specs.State.{Began, Came, Gave, Heard, Joined, Lost, Moment, OutOfMemory, Queued, State, Step, TakenUp, Whole, before, came, close, close_if, conn_step, dequeued, fail, failed, failure, has_left, heard, is_channel_settled, is_foreign, is_limit_reached, is_settled, last_pending, left, none_pending, runs, turns_foreign, with_header, with_meaning, with_session, with_want, without, Fed, Silent, carried}
+use Rattle.gate_model.specs.State.{Began, Came, Fed, Gave, Heard, Joined, Lost, Moment, OutOfMemory, Queued, Silent, State, Step, TakenUp, Whole, before, begun_session, came, carried, close, close_if, conn_step, dequeued, fail, failed, failure, has_left, heard, is_channel_settled, is_foreign, is_limit_reached, is_settled, last_pending, left, life_failed, link_scope, none_pending, path_heard, runs, turns_foreign, with_header, with_meaning, with_session, with_want, without, fail_life, scoped, windowed, closing_error}
 use Rattle.gate_relay.specs.Sides.{is_readable}
-use Rattle.gate_model.specs.Upstream.{channel_max_in, container_by, first, has_closed, heard_up, meaning_by}
+use Rattle.gate_model.specs.Upstream.{channel_max_in, condition_in, container_by, first, has_closed, heard_up, meaning_by}
 use Rattle.gate_model.specs.declared.outgoing.Outgoing.TheVariants.{ToClient, ToUp}
 use Rattle.machine_10.specs.Transitions as ten
 use Rattle.machine_10.specs.Transitions.{Meaning}
@@ -50,9 +53,14 @@ use Rattle.gate_model.proofs.Connections.{clash, close_same, only_given, opened_
 use Rattle.gate_model.proofs.Outcomes.{OnlyChannels, only_closing}
 use Rattle.gate_model.proofs.Queues.{none_left, none_next}
 use Rattle.gate_model.proofs.Rows.{Has, HasNone, HasFirst, first_each, first_none, first_some, has, same_first}
-use Rattle.gate_model.proofs.Sessions.{session_by}
-use Rattle.gate_model.proofs.Known.{Known, conn_is, container_is, known, memory_is}
-use Rattle.gate_model.proofs.Outcomes.{Outcome, Greets, Parts, LogsIn, Tunes, Asks, Passes, Refuses, Declines, Drops, Parting, Calls, Asking, Fills, Frees, Closes, Answers, Ignores, outcome}
+use Rattle.gate_model.proofs.Sessions.{peers_like}
+use Rattle.session_path.specs.Path.{PathState}
+use Rattle.session_path.specs.declared.path.PathOk.{PathOk}
+use Rattle.publish_path.specs.declared.publish.Confirm.{Confirm}
+use Rattle.gate_model.specs.declared.channel.ChannelUnit.{ChannelUnit}
+use Rattle.gate_model.specs.declared.channel.ChannelUnit.TheVariants as told_unit
+use Rattle.gate_model.proofs.Known.{Known, conn_is, container_is, known, memory_is, paths_are}
+use Rattle.gate_model.proofs.Outcomes.{Outcome, Greets, Parts, LogsIn, Tunes, Asks, Passes, Refuses, Declines, Drops, Parting, Calls, Asking, Publishes, Fills, Frees, Closes, Answers, Ignores, outcome}
 
 -- ---- what is due, by the phase of the connection
 
@@ -289,6 +297,7 @@ said_next c u d said all gone s = by (client_step c u) (outcome c u)
         plainly _ phase.Closed want.Close d said all gone (never c.stream) (ClosesNot refl t.calm (after_close d said all gone d.close refl t))
     by _ (Calls n x m e) = plainly _ c.phase (want.Method n m) d said all gone (never c.stream) (after_nothing c.phase d said all gone s)
     by _ (Asking n m e) = plainly _ c.phase (want.Method n m) d said all gone (never c.stream) (after_nothing c.phase d said all gone s)
+    by _ (Publishes n m x e) = plainly _ c.phase (want.Publish n m x) d said all gone (never c.stream) (after_nothing c.phase d said all gone s)
     by _ (Fills n i e) = plainly _ c.phase want.Nothing d said all gone (never c.stream) (after_nothing c.phase d said all gone s)
     by _ (Frees n e) = plainly _ c.phase (want.ChannelCloseOk n) d said all gone (never c.stream) (after_nothing c.phase d said all gone s)
     by _ (Closes e) =
@@ -418,7 +427,7 @@ no_tune (reply.Close c) d e = e
 no_tune reply.NoMemory d e = e
 no_tune reply.Heartbeat d e = e
 no_tune (reply.ChannelOpenOk n) d e = e
-no_tune (reply.FlowOk n) d e = e
+no_tune (reply.OnChannel n u) d e = e
 no_tune (reply.ChannelCloseOk n) d e = e
 no_tune (reply.CrossedOk n) d e = e
 no_tune (reply.ChannelClose n r) d e = e
@@ -433,7 +442,7 @@ no_open_ok (reply.Close c) d e = e
 no_open_ok reply.NoMemory d e = e
 no_open_ok reply.Heartbeat d e = e
 no_open_ok (reply.ChannelOpenOk n) d e = e
-no_open_ok (reply.FlowOk n) d e = e
+no_open_ok (reply.OnChannel n u) d e = e
 no_open_ok (reply.ChannelCloseOk n) d e = e
 no_open_ok (reply.CrossedOk n) d e = e
 no_open_ok (reply.ChannelClose n r) d e = e
@@ -448,7 +457,7 @@ no_close_ok (reply.Close c) d e = e
 no_close_ok reply.NoMemory d e = e
 no_close_ok reply.Heartbeat d e = e
 no_close_ok (reply.ChannelOpenOk n) d e = e
-no_close_ok (reply.FlowOk n) d e = e
+no_close_ok (reply.OnChannel n u) d e = e
 no_close_ok (reply.ChannelCloseOk n) d e = e
 no_close_ok (reply.CrossedOk n) d e = e
 no_close_ok (reply.ChannelClose n r) d e = e
@@ -463,7 +472,7 @@ no_close (reply.Close c) d e = refl
 no_close reply.NoMemory d e = e
 no_close reply.Heartbeat d e = e
 no_close (reply.ChannelOpenOk n) d e = e
-no_close (reply.FlowOk n) d e = e
+no_close (reply.OnChannel n u) d e = e
 no_close (reply.ChannelCloseOk n) d e = e
 no_close (reply.CrossedOk n) d e = e
 no_close (reply.ChannelClose n r) d e = e
@@ -478,7 +487,7 @@ no_wanting (reply.Close c) d e = e
 no_wanting reply.NoMemory d e = refl
 no_wanting reply.Heartbeat d e = e
 no_wanting (reply.ChannelOpenOk n) d e = e
-no_wanting (reply.FlowOk n) d e = e
+no_wanting (reply.OnChannel n u) d e = e
 no_wanting (reply.ChannelCloseOk n) d e = e
 no_wanting (reply.CrossedOk n) d e = e
 no_wanting (reply.ChannelClose n r) d e = e
@@ -511,7 +520,8 @@ said_went p d r said all gone l s = by p s
 
 -- the first of a row of channels
 pub data IsOfChannel (w : State) (r : Reply) : Type 0 where
-  InAnswers : first (open_oks w ++ flow_oks w) ≡ Some r → IsOfChannel w r
+  InAnswers : first (open_oks w ++ path_oks w) ≡ Some r → IsOfChannel w r
+  InConfirms : first (confirms w) ≡ Some r → IsOfChannel w r
   InOks : first (channel_oks w) ≡ Some r → IsOfChannel w r
   InCloses : first (channel_closes w) ≡ Some r → IsOfChannel w r
 
@@ -560,7 +570,10 @@ units_first w r e = one (has (openings p))
     p = may_go (is_settled w) w.pending
 
     answers : List Reply
-    answers = if_so (may_answer w) (open_oks w ++ flow_oks w)
+    answers = if_so (may_answer w) (open_oks w ++ path_oks w)
+
+    confirms_ : List Reply
+    confirms_ = if_so (may_answer w || w.by_peer) (confirms w)
 
     ends : List Reply
     ends = if_so (may_end w) (channel_oks w)
@@ -570,7 +583,7 @@ units_first w r e = one (has (openings p))
 
     -- behind the openings
     rest : List Reply
-    rest = answers ++ (close_oks p ++ (ends ++ (last_closes p ++ closes_)))
+    rest = answers ++ (confirms_ ++ (close_oks p ++ (ends ++ (last_closes p ++ closes_))))
 
     due_by : (o : Option Reply) → first (openings p ++ (close_oks p ++ last_closes p)) ≡ o → first (rows p) ≡ o
     due_by o f = ap first (rows_are p) ∙ f
@@ -593,11 +606,18 @@ units_first w r e = one (has (openings p))
         inl (due_by (Some r) (first_none (openings p) _ a ∙ first_some (close_oks p) (last_closes p) r (g ∙ ap Some is)))
     two a f (HasNone g) = three a g (sym (first_none (close_oks p) _ g) ∙ f) (has ends)
 
+    confirming : openings p ≡ [] → first (confirms_ ++ (close_oks p ++ (ends ++ (last_closes p ++ closes_)))) ≡ Some r → Has confirms_
+        → (first (rows p) ≡ Some r) ⊎ IsOfChannel w r
+    confirming a f (HasFirst u g) =
+        let is : u ≡ r = same_first (first (confirms_ ++ (close_oks p ++ (ends ++ (last_closes p ++ closes_))))) u r (first_some confirms_ _ u g) f in
+        inr (InConfirms (in_if (may_answer w || w.by_peer) (confirms w) r (g ∙ ap Some is)))
+    confirming a f (HasNone g) = two a (sym (first_none confirms_ _ g) ∙ f) (has (close_oks p))
+
     behind : openings p ≡ [] → first rest ≡ Some r → Has answers → (first (rows p) ≡ Some r) ⊎ IsOfChannel w r
     behind a f (HasFirst u g) =
         let is : u ≡ r = same_first (first rest) u r (first_some answers _ u g) f in
-        inr (InAnswers (in_if (may_answer w) (open_oks w ++ flow_oks w) r (g ∙ ap Some is)))
-    behind a f (HasNone g) = two a (sym (first_none answers _ g) ∙ f) (has (close_oks p))
+        inr (InAnswers (in_if (may_answer w) (open_oks w ++ path_oks w) r (g ∙ ap Some is)))
+    behind a f (HasNone g) = confirming a (sym (first_none answers _ g) ∙ f) (has confirms_)
 
     one : Has (openings p) → (first (rows p) ≡ Some r) ⊎ IsOfChannel w r
     one (HasFirst u g) =
@@ -627,6 +647,19 @@ pub record IsOther (r : Reply) : Type 0 where
   pub beats : r ≡ reply.Heartbeat → ⊥
   pub leaves : (d : Pending) → without r d ≡ d
 
+on_channel_other : (k : ℕ) (u : ChannelUnit) → IsOther (reply.OnChannel k u)
+on_channel_other k u = record { answers = refl; beats = λ e. cc; leaves = λ d. refl }
+
+an_ok : (k : ℕ) (over : Bool) (o : Option PathOk) (v : Reply) → first (if over then [] else ok_on k o) ≡ Some v → IsOther v
+an_ok k true o v e = absurd cc
+an_ok k false None v e = absurd cc
+an_ok k false (Some x) v e = let here : reply.OnChannel k (told_unit.Ok x) ≡ v = cc in subst IsOther here (on_channel_other k (told_unit.Ok x))
+
+a_confirm : (k : ℕ) (may : Bool) (o : Option Confirm) (v : Reply) → first (confirm_on may k o) ≡ Some v → IsOther v
+a_confirm k may None v e = absurd cc
+a_confirm k false (Some c) v e = absurd cc
+a_confirm k true (Some c) v e = let here : reply.OnChannel k (told_unit.Confirm c) ≡ v = cc in subst IsOther here (on_channel_other k (told_unit.Confirm c))
+
 pub of_channel : (w : State) (r : Reply) → IsOfChannel w r → IsOther r
 of_channel w r (InAnswers e) = by (has (open_oks w))
   where
@@ -637,16 +670,10 @@ of_channel w r (InAnswers e) = by (has (open_oks w))
         in_case true e = let here : reply.ChannelOpenOk k ≡ v = cc in subst IsOther here (record { answers = refl; beats = λ e. cc; leaves = λ d. refl })
         in_case false e = absurd cc
 
-    flows : (k : ℕ) (l : Life) (v : Reply) → first (when (nat_lt 0 l.flow_oks) (reply.FlowOk k)) ≡ Some v → IsOther v
-    flows k l v e = in_case (nat_lt 0 l.flow_oks) e
-      where
-        in_case : (b : Bool) → first (when b (reply.FlowOk k)) ≡ Some v → IsOther v
-        in_case true e = let here : reply.FlowOk k ≡ v = cc in subst IsOther here (record { answers = refl; beats = λ e. cc; leaves = λ d. refl })
-        in_case false e = absurd cc
-
     by : Has (open_oks w) → IsOther r
-    by (HasFirst u g) = subst IsOther (same_first (first (open_oks w ++ flow_oks w)) u r (first_some (open_oks w) (flow_oks w) u g) e) (first_each IsOther _ 0 w.lives u opens g)
-    by (HasNone g) = first_each IsOther _ 0 w.lives r flows (sym (first_none (open_oks w) (flow_oks w) g) ∙ e)
+    by (HasFirst u g) = subst IsOther (same_first (first (open_oks w ++ path_oks w)) u r (first_some (open_oks w) (path_oks w) u g) e) (first_each IsOther _ 0 w.lives u opens g)
+    by (HasNone g) = first_each IsOther _ 0 w.lives r (λ k l v f. an_ok k l.over _ v f) (sym (first_none (open_oks w) (path_oks w) g) ∙ e)
+of_channel w r (InConfirms e) = first_each IsOther _ 0 w.lives r (λ k l v f. a_confirm k _ _ v f) e
 of_channel w r (InOks e) = first_each IsOther _ 0 w.lives r one e
   where
     one : (k : ℕ) (l : Life) (v : Reply) → first (close_oks_on k (l.close_ok && is_channel_settled w k) l) ≡ Some v → IsOther v
@@ -806,50 +833,91 @@ says_fail w code why b c went since all last e shuts s =
       ending = λ m. absurd (clash _ (shuts m) k);
     }
 
-says_meaning : (m : Meaning) (w : State) (b : Bool) (c : Connection) (o : Option Upstream) (went since all last : List Reply) → w.conn ≡ c → w.up.container ≡ o → (b ≡ true → is_closing c ≡ true)
-    → SaysIn b c.phase w.pending went since all (has_left c.stream) last
-    → SaysIn b (conn_by m o c).phase (with_meaning m w).pending went since (all ++ reply_by c m) (has_left (conn_by m o c).stream) last
-says_meaning ten.Nothing w b c o went since all last e f shuts s = says_nothing b c w.pending went since all last s
-says_meaning ten.Init w b c o went since all last e f shuts s = says_nothing b c w.pending went since all last s
-says_meaning ten.AmqpHeader w b c o went since all last e f shuts s = says_nothing b c w.pending went since all last s
-says_meaning ten.Opened w b c o went since all last e f shuts s =
-    subst (λ (x : Connection). SaysIn b (conn_by ten.Opened o c).phase (if is_opening x then runs w else w).pending went since (all ++ reply_by c ten.Opened) (has_left (conn_by ten.Opened o c).stream) last) (sym e)
+says_session : (g : ℕ) (q : container.Parts) (w : State) (b : Bool) (o : Option Upstream) (n : ℕ) (went since all last : List Reply) → (b ≡ true → is_closing w.conn ≡ true)
+    → SaysIn b w.conn.phase w.pending went since all (has_left w.conn.stream) last
+    → let x : Peers = peers_session g q (peers_like o n w) in
+    SaysIn b x.client.phase (with_session g q w).pending went since (all ++ (if closes_connection (link_scope q (path_at w.paths g)) then failure_to w.conn INTERNAL_ERROR else []))
+    (has_left x.client.stream) last
+says_session g q w b o n went since all last shuts s = by (link_scope q (path_at w.paths g))
+  where
+    same : SaysIn b w.conn.phase w.pending went since (all ++ []) (has_left w.conn.stream) last
+    same = says_nothing b w.conn w.pending went since all last s
+
+    moved : (d : Connection) → OnlyChannels w.conn d → SaysIn b d.phase w.pending went since (all ++ []) (has_left d.stream) last
+    moved d x = subst (λ (y : Connection). SaysIn b y.phase w.pending went since (all ++ []) (has_left y.stream) last) (sym x.same) same
+
+    ended : (y : Bool) (ps : List (Option PathState)) (v : State) (r : Refusal) (why : Option Condition) → v.pending ≡ w.pending → v.conn ≡ w.conn
+        → let x : Peers = ended_on y g (record (peers_like o n w) { paths = ps }) in
+        SaysIn b x.client.phase (if y then life_failed g r why v else v).pending went since (all ++ []) (has_left x.client.stream) last
+    ended true ps v r why f k = subst (λ (d : Pending). SaysIn b (after_closing scope.Channel g w.conn).phase d went since (all ++ []) (has_left (after_closing scope.Channel g w.conn).stream) last)
+        (sym f) (moved (after_closing scope.Channel g w.conn) (only_closing g w.conn))
+    ended false ps v r why f k = subst (λ (d : Pending). SaysIn b w.conn.phase d went since (all ++ []) (has_left w.conn.stream) last) (sym f) same
+
+    heard : List (Option PathState)
+    heard = with_path g (path_heard q) w.paths
+
+    met : (a y : Bool)
+        → let p : Peers = record (peers_like o n w) { paths = heard } in
+        let x : Peers = if a then p else if y then ended_on (is_open w.conn g) g p else p in
+        SaysIn b x.client.phase (if a then begun_session g (carried g q w) else if y then fail_life g (code_by (condition_in (field q.1 0)) scope.Channel) None (carried g q w) else carried g q w).pending
+        went since (all ++ []) (has_left x.client.stream) last
+    met true y = same
+    met false true = ended (is_open w.conn g) heard (carried g q w) _ None refl refl
+    met false false = same
+
+    by : (k : Option Scope)
+        → let x : Peers = peers_scoped k g q (peers_like o n w) in
+        SaysIn b x.client.phase (scoped k g q w).pending went since (all ++ (if closes_connection k then failure_to w.conn INTERNAL_ERROR else [])) (has_left x.client.stream) last
+    by None = met (q.0 == 17) (q.0 == 23)
+    by (Some scope.Connection) = says_fail (windowed g q w) INTERNAL_ERROR (Some (closing_error q (path_at w.paths g))) b w.conn went since all last refl shuts s
+    by (Some scope.Channel) = ended (is_open w.conn g) w.paths (windowed g q w) _ _ refl refl
+
+says_meaning : (m : Meaning) (w : State) (b : Bool) (p : Peers) (went since all last : List Reply) → w.conn ≡ p.client → w.paths ≡ p.paths → (b ≡ true → is_closing p.client ≡ true)
+    → SaysIn b p.client.phase w.pending went since all (has_left p.client.stream) last
+    → SaysIn b (peers_by m p).client.phase (with_meaning m w).pending went since (all ++ reply_by p.client p.paths m) (has_left (peers_by m p).client.stream) last
+says_meaning ten.Nothing w b p went since all last e f shuts s = says_nothing b p.client w.pending went since all last s
+says_meaning ten.Init w b p went since all last e f shuts s = says_nothing b p.client w.pending went since all last s
+says_meaning ten.AmqpHeader w b p went since all last e f shuts s = says_nothing b p.client w.pending went since all last s
+says_meaning ten.Opened w b p went since all last e f shuts s =
+    subst (λ (x : Connection). SaysIn b (opened_by p.container c).phase (if is_opening x then runs w else w).pending went since (all ++ when (is_opening c) reply.OpenOk) (has_left (opened_by p.container c).stream) last) (sym e)
     (by (is_opening c) refl)
   where
+    c : Connection
+    c = p.client
+
     by : (k : Bool) → is_opening c ≡ k
-        → let d : Connection = if k then after_opened (channel_max_in o) c else c in
+        → let d : Connection = if k then after_opened (channel_max_in p.container) c else c in
         SaysIn b d.phase (if k then runs w else w).pending went since (all ++ when k reply.OpenOk) (has_left d.stream) last
     by true k = record {
       said = λ m. let t = said_in {q = phase.Open} w.pending (answers_of went) all (has_left c.stream) (opening_phase c k) (s.said m) in
-          subst (λ (p : Phase91). IsSaid p (record w.pending { open_ok = true }) (answers_of went) (all ++ reply.OpenOk ∷ []) (has_left c.stream)) (sym (opened_runs (channel_max_in o) c k))
+          subst (λ (p : Phase91). IsSaid p (record w.pending { open_ok = true }) (answers_of went) (all ++ reply.OpenOk ∷ []) (has_left c.stream)) (sym (opened_runs (channel_max_in p.container) c k))
           (said_opened w.pending (answers_of went) all t.0 t.1);
       ending = λ m. absurd (opening_early c k (shuts m));
     }
     by false k = says_nothing b c w.pending went since all last s
-says_meaning (ten.OfSession g p payload) w b c o went since all last e f shuts s =
-    subst (λ (x : Connection). SaysIn b (conn_session g p x).phase (with_session g p w).pending went since (all ++ (if session_closes p then failure_to c INTERNAL_ERROR else [])) (has_left (conn_session g p x).stream) last) e
-    (session_by (λ (y : Bool) (d : Connection) (v : State). SaysIn b d.phase v.pending went since (all ++ (if y then failure_to c INTERNAL_ERROR else [])) (has_left d.stream) last) g p w
-    (same w.pending) (subst (λ (x : Connection). SaysIn b (close x).phase (fail INTERNAL_ERROR (Some NotAllowed) (carried g p w)).pending went since (all ++ failure_to c INTERNAL_ERROR) (has_left x.stream) last) (sym e) (says_fail (carried g p w) _ (Some NotAllowed) b c went since all last e shuts s))
-    (same w.pending) (λ code why. moved (after_closing scope.Channel g w.conn) (only_closing g w.conn)))
+says_meaning (ten.OfSession g q payload) w b p went since all last e f shuts s =
+    subst (λ (c : Connection). Goal c p.paths) e (subst (λ (ps : List (Option PathState)). Goal w.conn ps) f
+    (says_session g q w b p.container p.opened went since all last (λ m. ap is_closing e ∙ shuts m)
+    (subst (λ (c : Connection). SaysIn b c.phase w.pending went since all (has_left c.stream) last) (sym e) s)))
   where
-    same : (d : Pending) → SaysIn b w.conn.phase w.pending went since (all ++ []) (has_left w.conn.stream) last
-    same d = subst (λ (x : Connection). SaysIn b x.phase w.pending went since (all ++ []) (has_left x.stream) last) (sym e) (says_nothing b c w.pending went since all last s)
+    Goal : Connection → List (Option PathState) → Type 0
+    Goal c ps = SaysIn b (peers_session g q (record p { client = c; paths = ps })).client.phase (with_session g q w).pending went since
+        (all ++ (if closes_connection (link_scope q (path_at ps g)) then failure_to c INTERNAL_ERROR else []))
+        (has_left (peers_session g q (record p { client = c; paths = ps })).client.stream) last
+says_meaning (ten.Closed x) w b p went since all last e f shuts s = says_fail w _ None b p.client went since all last e shuts s
+says_meaning ten.Refused w b p went since all last e f shuts s = says_fail w _ None b p.client went since all last e shuts s
+says_meaning (ten.Violation x) w b p went since all last e f shuts s = says_fail w _ (Some x) b p.client went since all last e shuts s
 
-    moved : (d : Connection) → OnlyChannels w.conn d → SaysIn b d.phase w.pending went since (all ++ []) (has_left d.stream) last
-    moved d x = subst (λ (y : Connection). SaysIn b y.phase w.pending went since (all ++ []) (has_left y.stream) last) (sym x.same) (same w.pending)
-says_meaning (ten.Closed x) w b c o went since all last e f shuts s = says_fail w _ None b c went since all last e shuts s
-says_meaning ten.Refused w b c o went since all last e f shuts s = says_fail w _ None b c went since all last e shuts s
-says_meaning (ten.Violation x) w b c o went since all last e f shuts s = says_fail w _ (Some x) b c went since all last e shuts s
-
-says_heard : (w : State) (u : Unit10) (b : Bool) (p : Peers) (went since all last : List Reply) → w.conn ≡ p.client → w.up.container ≡ p.container
+says_heard : (w : State) (u : Unit10) (b : Bool) (p : Peers) (went since all last : List Reply) → w.conn ≡ p.client → w.up.container ≡ p.container → w.paths ≡ p.paths
     → (b ≡ true → is_closing p.client ≡ true) → SaysIn b p.client.phase w.pending went since all (has_left p.client.stream) last
     → let q : Peers = if b then p else peers_heard p u in
-    SaysIn b q.client.phase (if b then w else heard w u).pending went since (if b then all else all ++ reply_by p.client (meaning_by p.container u)) (has_left q.client.stream) last
-says_heard w u true p went since all last e f shuts s = s
-says_heard w u false p went since all last e f shuts s =
+    SaysIn b q.client.phase (if b then w else heard w u).pending went since (if b then all else all ++ reply_by p.client p.paths (meaning_by p.container u)) (has_left q.client.stream) last
+says_heard w u true p went since all last e f g shuts s = s
+says_heard w u false p went since all last e f g shuts s =
     let m : Meaning = meaning_by p.container u in
-    subst (λ (x : Option Upstream). SaysIn false (conn_by m (container_by p.container u) p.client).phase (with_meaning (meaning_by x u) (record w { up = heard_up u w.up })).pending went since (all ++ reply_by p.client m) (has_left (conn_by m (container_by p.container u) p.client).stream) last) (sym f)
-    (says_meaning m (record w { up = heard_up u w.up }) false p.client (container_by p.container u) went since all last e (ap (λ (x : Option Upstream). container_by x u) f) shuts s)
+    let x : Peers = record p { container = container_by p.container u } in
+    subst (λ (o : Option Upstream). SaysIn false (peers_by m x).client.phase (with_meaning (meaning_by o u) (record w { up = heard_up u w.up })).pending went since (all ++ reply_by p.client p.paths m) (has_left (peers_by m x).client.stream) last) (sym f)
+    (says_meaning m (record w { up = heard_up u w.up }) false x went since all last e g shuts s)
 
 -- the connection is closing once the pair ran out of memory
 pub shuts_in : {h : List Step} → Known h → ran_out_in h ≡ true → is_closing (connection h) ≡ true
@@ -906,7 +974,7 @@ says (Heard u ∷ h) p =
     let k : Known h = known h p.1 in
     subst (λ (x : Bool). SaysIn (ran_out_in h) (connection (Heard u ∷ h)).phase (if x then before h else heard (before h) u).pending (sent h) (sent_since h) (replies (Heard u ∷ h)) (has_left (connection (Heard u ∷ h)).stream) (last_of (until_memory h)))
     (sym (memory_is k))
-    (says_heard (before h) u (ran_out_in h) (peers h) (sent h) (sent_since h) (replies h) (last_of (until_memory h)) (conn_is k) (container_is k) (shuts_in k) (says h p.1))
+    (says_heard (before h) u (ran_out_in h) (peers h) (sent h) (sent_since h) (replies h) (last_of (until_memory h)) (conn_is k) (container_is k) (paths_are k) (shuts_in k) (says h p.1))
 says (Joined link.Ok ∷ h) p = says h p.1
 says (Joined link.Failed ∷ h) p =
     let k : Known h = known h p.1 in
@@ -921,7 +989,7 @@ says (Lost Up loss.Failed ∷ h) p =
     let k : Known h = known h p.1 in
     says_fail _ CONNECTION_FORCED None (ran_out_in h) (connection h) (sent h) (sent_since h) (replies h) (last_of (until_memory h)) (conn_is k) (shuts_in k) (says h p.1)
 says (Lost Up loss.Shut ∷ h) p = says h p.1
-says (Gave (ToClient u) ∷ h) p =
+says (Gave (ToClient u) text ∷ h) p =
     let s : Says h = says h p.1 in
     let it : Picked (before h) u = picked (before h) u p.0.1 in
     record {
@@ -929,7 +997,7 @@ says (Gave (ToClient u) ∷ h) p =
           (said_picked (connection h).phase (before h) u (sent h) (replies h) (has_left (connection h).stream) it (s.said m));
       ending = λ m. picked_same (before h) u (sent_since h) (memory_is (known h p.1) ∙ m) it ∙ s.ending m;
     }
-says (Gave (ToUp u) ∷ h) p = says h p.1
+says (Gave (ToUp u) text ∷ h) p = says h p.1
 says (Whole Client ∷ h) p = says h p.1
 says (Whole Up ∷ h) p = says h p.1
 says (OutOfMemory ∷ h) p =

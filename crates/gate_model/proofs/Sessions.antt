@@ -1,66 +1,118 @@
 -- What a unit of a session may do.
-use Rattle.std.proofs.Common.{◌≡◌, ℕ, ◌==◌, Bool, true, false, ◌&&◌, if◌then◌else◌, Option, None, Some}
+use Rattle.std.proofs.Common.{ℕ, ◌==◌, Bool, true, false, if◌then◌else◌, Option, None, Some, List}
 use Rattle.close_translate.specs.Conditions.{code_by}
 use Rattle.close_translate.specs.declared.codes.TheConstants.{INTERNAL_ERROR, PRECONDITION_FAILED}
+use Rattle.close_translate.specs.declared.conditions.Scope.{Scope}
 use Rattle.close_translate.specs.declared.conditions.Scope.TheVariants as scope
 use Rattle.machine_091.specs.Calls.{after_closing}
 use Rattle.machine_091.specs.State.{is_open}
 use Rattle.machine_091.specs.declared.state.Connection.{Connection}
 use Rattle.machine_10.specs.Parts.{Parts}
+use Rattle.machine_10.specs.declared.state.Upstream.{Upstream}
 use Rattle.machine_10.specs.Reading.{field}
 use Rattle.performatives_10.specs.declared.condition.Condition.{Condition}
-use Rattle.performatives_10.specs.declared.condition.Condition.TheVariants.{NotAllowed}
-use Rattle.gate_model.specs.Folds.{conn_session, session_closes}
+use Rattle.gate_model.specs.Folds.{Peers, ended_on, peers_failed, peers_met, peers_scoped, peers_session}
 use Rattle.gate_model.specs.Lives.{life_at, refusal_on}
-use Rattle.gate_model.specs.State.{State, begun_session, carried, close, fail, fail_life, life_failed, met_session, with_session}
-use Rattle.gate_model.specs.Session.{fault_of, is_of_session}
+use Rattle.gate_model.specs.Paths.{path_at, with_path}
+use Rattle.session_path.specs.Path.{PathState}
+use Rattle.gate_model.specs.State.{State, begun_session, carried, close, fail, fail_life, life_failed, closing_error, ending_error, link_scope, met_session, path_heard, scoped, windowed, with_session}
 use Rattle.gate_model.specs.Upstream.{condition_in}
 
--- what holds after a begin, after a fault of the connection, after none, and after a fault of the channel, with the client's connection
--- and whether that closes, holds after each
-pub met_by : (P : Bool → Connection → State → Type 0) (n : ℕ) (p : Parts) (fault : Condition) (w : State) → P false w.conn (begun_session n w)
-    → P true (close w.conn) (fail INTERNAL_ERROR (Some NotAllowed) w) → P false w.conn w
-    → ((code : ℕ) (why : Option Condition) → P false (after_closing scope.Channel n w.conn) (life_failed n (refusal_on n code) why w))
-    → P (session_closes p) (conn_session n p w.conn) (met_session n p fault w)
-met_by P n p fault w begins fails stays ends = by (p.0 == 17) (p.0 == 18) (p.0 == 19 && is_of_session p.1) (p.0 == 21) (p.0 == 23)
+-- both connections and the paths, as a state has them
+abbrev pub peers_like : Option Upstream → ℕ → State → Peers
+peers_like c o w = record { client = w.conn; container = c; paths = w.paths; opened = o }
+
+abbrev pub peers_at : State → Peers
+peers_at w = peers_like w.up.container w.opened w
+
+-- and after a performative that changes the path
+abbrev pub heard_at : ℕ → Parts → Peers → Peers
+heard_at n q x = record x { paths = with_path n (path_heard q) x.paths }
+
+-- what holds after each of these: a begin, and what changes but the session and its path; an end; what is wrong with a link, by its windows alone,
+-- or with the channel or the connection closing
+pub record SessionCases (P : Peers → State → Type 0) (n : ℕ) (q : Parts) (w : State) (x : Peers) : Type 0 where
+  pub begins : P (heard_at n q x) (begun_session n (carried n q w))
+  pub stays : P (heard_at n q x) (carried n q w)
+  pub ends : (code : ℕ) (why : Option Condition) → P (ended_on true n (heard_at n q x)) (life_failed n (refusal_on n code) why (carried n q w))
+  pub windows : P x (windowed n q w)
+  pub drops : (code : ℕ) (why : Option Condition) → P (ended_on true n x) (life_failed n (refusal_on n code) why (windowed n q w))
+  pub fails : (why : Option Condition) → P (peers_failed x) (fail INTERNAL_ERROR why (windowed n q w))
+
+met_by : (P : Peers → State → Type 0) (n : ℕ) (q : Parts) (w : State) (c : Option Upstream) (o : ℕ) → SessionCases P n q w (peers_like c o w)
+    → P (peers_met n q (heard_at n q (peers_like c o w))) (met_session n q (carried n q w))
+met_by P n q w c o cases = by (q.0 == 17) (q.0 == 23)
   where
-    life : (code : ℕ) (why : Option Condition) (o : Bool) → P false (if o then after_closing scope.Channel n w.conn else w.conn) (if o then life_failed n (refusal_on n code) why w else w)
-    life code why true = ends code why
-    life code why false = stays
+    heard : Peers
+    heard = heard_at n q (peers_like c o w)
 
-    by : (a b c d e : Bool)
-        → P (if a then false else b)
-        (if a then w.conn else if b then close w.conn else if c then w.conn else if d then w.conn else if is_open w.conn n then after_closing scope.Channel n w.conn else w.conn)
-        (if a then begun_session n w else if b then fail INTERNAL_ERROR (Some NotAllowed) w else if c then w else if d then w
-        else if e then fail_life n (code_by (condition_in (field p.1 0)) scope.Channel) None w else fail_life n PRECONDITION_FAILED (Some fault) w)
-    by true b c d e = begins
-    by false true c d e = fails
-    by false false true d e = stays
-    by false false false true e = stays
-    by false false false false true = life _ None (is_open w.conn n)
-    by false false false false false = life _ (Some fault) (is_open w.conn n)
+    v : State
+    v = carried n q w
 
--- with what the session is after it
-pub session_by : (P : Bool → Connection → State → Type 0) (n : ℕ) (p : Parts) (w : State) → P false w.conn (begun_session n (carried n p w))
-    → P true (close w.conn) (fail INTERNAL_ERROR (Some NotAllowed) (carried n p w)) → P false w.conn (carried n p w)
-    → ((code : ℕ) (why : Option Condition) → P false (after_closing scope.Channel n w.conn) (life_failed n (refusal_on n code) why (carried n p w)))
-    → P (session_closes p) (conn_session n p w.conn) (with_session n p w)
-session_by P n p w begins fails stays ends = met_by P n p (fault_of p (life_at w.lives n).session) (carried n p w) begins fails stays ends
+    ended : (code : ℕ) (b : Bool) → P (ended_on b n heard) (if b then life_failed n (refusal_on n code) None v else v)
+    ended code true = cases.ends code None
+    ended code false = cases.stays
+
+    by : (a b : Bool)
+        → P (if a then heard else if b then ended_on (is_open w.conn n) n heard else heard)
+        (if a then begun_session n v else if b then fail_life n (code_by (condition_in (field q.1 0)) scope.Channel) None v else v)
+    by true b = cases.begins
+    by false true = ended _ (is_open w.conn n)
+    by false false = cases.stays
+
+pub session_by : (P : Peers → State → Type 0) (n : ℕ) (q : Parts) (w : State) (c : Option Upstream) (o : ℕ) → SessionCases P n q w (peers_like c o w)
+    → P (peers_session n q (peers_like c o w)) (with_session n q w)
+session_by P n q w c o cases = by (link_scope q (path_at w.paths n))
+  where
+    why : Option Condition
+    why = Some (ending_error q (life_at w.lives n).session)
+
+    x : Peers
+    x = peers_like c o w
+
+    dropped : (b : Bool) → P (ended_on b n x) (if b then life_failed n (refusal_on n PRECONDITION_FAILED) why (windowed n q w) else windowed n q w)
+    dropped true = cases.drops PRECONDITION_FAILED why
+    dropped false = cases.windows
+
+    by : (s : Option Scope) → P (peers_scoped s n q x) (scoped s n q w)
+    by None = met_by P n q w c o cases
+    by (Some scope.Connection) = cases.fails (Some (closing_error q (path_at w.paths n)))
+    by (Some scope.Channel) = dropped (is_open w.conn n)
 
 -- the same of the state alone
-pub session_cases : (P : State → Type 0) (n : ℕ) (p : Parts) (w : State) → P (begun_session n (carried n p w)) → P (fail INTERNAL_ERROR (Some NotAllowed) (carried n p w)) → P (carried n p w)
-    → ((code : ℕ) (why : Option Condition) → P (life_failed n (refusal_on n code) why (carried n p w))) → P (with_session n p w)
-session_cases P n p w begins fails stays ends = session_by (λ (b : Bool) (c : Connection) (v : State). P v) n p w begins fails stays ends
+pub record StateCases (P : State → Type 0) (n : ℕ) (q : Parts) (w : State) : Type 0 where
+  pub begins : P (begun_session n (carried n q w))
+  pub stays : P (carried n q w)
+  pub ends : (code : ℕ) (why : Option Condition) → P (life_failed n (refusal_on n code) why (carried n q w))
+  pub windows : P (windowed n q w)
+  pub drops : (code : ℕ) (why : Option Condition) → P (life_failed n (refusal_on n code) why (windowed n q w))
+  pub fails : (why : Option Condition) → P (fail INTERNAL_ERROR why (windowed n q w))
+
+pub session_cases : (P : State → Type 0) (n : ℕ) (q : Parts) (w : State) → StateCases P n q w → P (with_session n q w)
+session_cases P n q w cases = session_by (λ (x : Peers) (v : State). P v) n q w w.up.container w.opened (record {
+  begins = cases.begins;
+  stays = cases.stays;
+  ends = cases.ends;
+  windows = cases.windows;
+  drops = cases.drops;
+  fails = cases.fails;
+})
 
 -- the same of the client's connection
-pub conn_cases : (P : Connection → Type 0) (n : ℕ) (p : Parts) (c : Connection) → P c → P (close c) → P (after_closing scope.Channel n c) → P (conn_session n p c)
-conn_cases P n p c stays closes ends = by (p.0 == 17) (p.0 == 18) (p.0 == 19 && is_of_session p.1) (p.0 == 21) (is_open c n)
+pub conn_cases : (P : Connection → Type 0) (n : ℕ) (q : Parts) (x : Peers) → P x.client → P (close x.client) → P (after_closing scope.Channel n x.client)
+    → P (peers_session n q x).client
+conn_cases P n q x stays closes ends = by (link_scope q (path_at x.paths n))
   where
-    by : (a b d e o : Bool)
-        → P (if a then c else if b then close c else if d then c else if e then c else if o then after_closing scope.Channel n c else c)
-    by true b d e o = stays
-    by false true d e o = closes
-    by false false true e o = stays
-    by false false false true o = stays
-    by false false false false true = ends
-    by false false false false false = stays
+    ended : (ps : List (Option PathState)) (o : Bool) → P (ended_on o n (record x { paths = ps })).client
+    ended ps true = ends
+    ended ps false = stays
+
+    met : (a b : Bool) (ps : List (Option PathState)) → P (if a then record x { paths = ps } else if b then ended_on (is_open x.client n) n (record x { paths = ps }) else record x { paths = ps }).client
+    met true b ps = stays
+    met false true ps = ended ps (is_open x.client n)
+    met false false ps = stays
+
+    by : (o : Option Scope) → P (peers_scoped o n q x).client
+    by None = met (q.0 == 17) (q.0 == 23) (with_path n (path_heard q) x.paths)
+    by (Some scope.Connection) = closes
+    by (Some scope.Channel) = ended x.paths (is_open x.client n)

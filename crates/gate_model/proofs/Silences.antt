@@ -1,5 +1,5 @@
 -- An end is given up exactly where the folds say so.
-use Rattle.std.proofs.Common.{◌≡◌, ◌↔◌, ◌∙◌, ℕ, ◌+◌, ◌-◌, ◌*◌, ◌==◌, ◌<◌, ◌≤◌, nat_le, Bool, true, false, not, ◌&&◌, ◌||◌, if◌then◌else◌, List, [], ◌∷◌, ◌++◌, Option, None, Some, refl, sym, ap, subst, arith}
+use Rattle.std.proofs.Common.{◌≡◌, ◌∙◌, ℕ, ◌+◌, ◌-◌, ◌*◌, ◌==◌, ◌<◌, ◌≤◌, nat_le, Bool, true, false, not, ◌&&◌, ◌||◌, if◌then◌else◌, List, [], ◌∷◌, Option, None, Some, refl, sym, ap, subst, arith}
 use Rattle.std.proofs.lemmas.Bool.Decides.{nat_tests}
 use Rattle.gate_outside.specs.declared.ports.End.TheVariants.{Client, Up}
 use Rattle.gate_outside.specs.declared.ports.Linked.TheVariants as link
@@ -10,15 +10,14 @@ use Rattle.machine_091.specs.declared.state.Connection.{Connection}
 use Rattle.machine_091.specs.declared.unit.Unit91.{Unit91}
 use Rattle.machine_10.specs.Transitions as ten
 use Rattle.machine_10.specs.Transitions.{Meaning}
-use Rattle.machine_10.specs.declared.unit.Unit10.{Unit10}
 use Rattle.performatives_10.specs.declared.condition.Condition.{Condition}
 use Rattle.gate_model.specs.declared.outgoing.Outgoing.TheVariants.{ToClient, ToUp}
 use Rattle.gate_model.specs.declared.timers.TheConstants.{SILENCE_PER_SECOND, UP_SILENCE}
 use Rattle.gate_model.specs.Due.{is_awaiting, is_silent, is_silent_by}
-use Rattle.gate_model.specs.Folds.{connection, given_up_in, gone_in, moment_in, ran_out_in, side_in, silent_in, up_fed_at}
+use Rattle.gate_model.specs.Folds.{connection, given_up_in, gone_in, moment_in, ran_out_in, up_fed_at}
 use Rattle.gate_model.specs.Picks.{ArePicks}
 use Rattle.gate_model.specs.Silence.{fed_in, MayGiveUp, MayGiveUpUp, SilentAtOnce, SilentWhenDue}
-use Rattle.gate_model.specs.State.{State, Step, Began, Moment, Fed, Silent, Queued, Came, TakenUp, Heard, Joined, Lost, Gave, Whole, OutOfMemory, before, came, dequeued, fail, failed, fed_by, heard, is_held, left, runs, told, with_meaning, carried}
+use Rattle.gate_model.specs.State.{Began, Came, Fed, Gave, Heard, Joined, Lost, Moment, OutOfMemory, Queued, Silent, State, Step, TakenUp, Whole, before, came, dequeued, fail, failed, fed_by, heard, is_held, left, runs, told, windowed, with_meaning}
 use Rattle.gate_model.specs.Upstream.{heard_up, meaning_by}
 use Rattle.gate_model.proofs.Connections.{clash}
 use Rattle.gate_model.proofs.Known.{Known, conn_is, known, memory_is, moment_is, side_is, silent_is, up_fed_is}
@@ -54,7 +53,14 @@ end_meaning ten.Opened w = by (is_opening w.conn)
     by : (b : Bool) → end_of (if b then runs w else w) ≡ end_of w
     by true = refl
     by false = refl
-end_meaning (ten.OfSession g p payload) w = session_cases (λ (v : State). end_of v ≡ end_of w) g p w refl (end_fail _ _ (carried g p w)) refl (λ code why. refl)
+end_meaning (ten.OfSession g p payload) w = session_cases (λ (v : State). end_of v ≡ end_of w) g p w (record {
+  begins = refl;
+  stays = refl;
+  ends = λ code why. refl;
+  windows = refl;
+  drops = λ code why. refl;
+  fails = λ why. end_fail _ why (windowed g p w);
+})
 end_meaning (ten.Closed x) w = end_fail _ None w
 end_meaning ten.Refused w = end_fail _ None w
 end_meaning (ten.Violation c) w = end_fail _ (Some c) w
@@ -117,8 +123,8 @@ end_is (Lost Client loss.Shut ∷ h) p = ap (λ (x : End). record x { gone = tru
 end_is (Lost Up loss.Ended ∷ h) p = end_fail _ None _ ∙ end_is h p.1
 end_is (Lost Up loss.Failed ∷ h) p = end_fail _ None _ ∙ end_is h p.1
 end_is (Lost Up loss.Shut ∷ h) p = end_is h p.1
-end_is (Gave (ToClient u) ∷ h) p = end_is h p.1
-end_is (Gave (ToUp u) ∷ h) p = end_is h p.1
+end_is (Gave (ToClient u) text ∷ h) p = end_is h p.1
+end_is (Gave (ToUp u) text ∷ h) p = end_is h p.1
 end_is (Whole Client ∷ h) p = end_is h p.1
 end_is (Whole Up ∷ h) p = end_is h p.1
 end_is (OutOfMemory ∷ h) p = end_is h p.1
@@ -268,6 +274,6 @@ silent_when_due (TakenUp ∷ h) p = silent_when_due h p.1
 silent_when_due (Heard u ∷ h) p = silent_when_due h p.1
 silent_when_due (Joined answer ∷ h) p = silent_when_due h p.1
 silent_when_due (Lost end how ∷ h) p = silent_when_due h p.1
-silent_when_due (Gave u ∷ h) p = silent_when_due h p.1
+silent_when_due (Gave u text ∷ h) p = silent_when_due h p.1
 silent_when_due (Whole end ∷ h) p = silent_when_due h p.1
 silent_when_due (OutOfMemory ∷ h) p = silent_when_due h p.1

@@ -1,10 +1,15 @@
 -- The bytes of a unit to a client are some, and few.
-use Rattle.std.proofs.Common.{ℕ, ◌<◌, ◌≤◌, List, length, codes, arith}
+use Rattle.std.proofs.Common.{Bool, List, arith, codes, false, if◌then◌else◌, length, ℕ, ◌<◌, ◌≤◌, true}
 use Rattle.std.proofs.lemmas.List.{length-append}
 use Rattle.close_translate.specs.Codes.{name_of}
 use Rattle.frames_091.specs.Frames.{frame_text}
 use Rattle.frames_091.specs.declared.frame.Frame91.{Frame91}
 use Rattle.methods_091.specs.Closing.{close_text}
+use Rattle.gate_model.specs.declared.channel.ChannelUnit.{ChannelUnit}
+use Rattle.gate_model.specs.declared.channel.ChannelUnit.TheVariants as unit
+use Rattle.session_path.specs.declared.path.PathOk.TheVariants as ok
+use Rattle.methods_091.specs.declared.method.Method91.TheVariants.{BasicAck, BasicNack}
+use Rattle.gate_model.specs.Spelling.{channel_method, channel_text}
 use Rattle.gate_model.specs.declared.reply.Reply.{Reply}
 use Rattle.gate_model.specs.declared.reply.Reply.TheVariants as reply
 use Rattle.gate_model.specs.Spelling.{close_on, open_ok_frame, spell_reply, start_frame, tune_frame}
@@ -36,7 +41,7 @@ spelled_some (reply.Close r) = frame_some _
 spelled_some reply.NoMemory = frame_some _
 spelled_some reply.Heartbeat = frame_some _
 spelled_some (reply.ChannelOpenOk n) = frame_some _
-spelled_some (reply.FlowOk n) = frame_some _
+spelled_some (reply.OnChannel n u) = frame_some _
 spelled_some (reply.ChannelCloseOk n) = frame_some _
 spelled_some (reply.CrossedOk n) = frame_some _
 spelled_some (reply.ChannelClose n r) = frame_some _
@@ -54,9 +59,22 @@ close_on_small : (n : ℕ) (r : Refusal) → length (name_of r.code) ≤ 255 →
 unfolding frame_text
 close_on_small n r short = grind (arith, length-append, short)
 
+-- so are answers and confirms
+on_channel_small : (n : ℕ) (u : ChannelUnit) → length (channel_text n (channel_method u)) ≤ 512
+unfolding frame_text
+on_channel_small n (unit.Ok ok.Flow) = omega arith
+on_channel_small n (unit.Ok ok.Declare) = omega arith
+on_channel_small n (unit.Ok ok.Select) = omega arith
+on_channel_small n (unit.Confirm c) = by c.ack
+  where
+    by : (b : Bool) → length (channel_text n (if b then BasicAck c.number c.multiple else BasicNack c.number c.multiple false)) ≤ 512
+    by true = omega arith
+    by false = omega arith
+
 pub spelled_small : (r : Reply) → length (spell_reply r) ≤ 512
 unfolding start_frame tune_frame open_ok_frame frame_text
 spelled_small (reply.Close r) = close_small r.code (name_of r.code) r.class r.method (name_small r.code)
 spelled_small reply.NoMemory = close_small 506 (codes "NO_MEMORY") 0 0 (omega arith)
 spelled_small (reply.ChannelClose n r) = close_on_small n r (name_small r.code)
+spelled_small (reply.OnChannel n u) = on_channel_small n u
 spelled_small r = omega arith

@@ -11,7 +11,6 @@ use Rattle.gate_relay.specs.declared.loss.Loss.TheVariants as loss
 use Rattle.machine_10.specs.Transitions as ten
 use Rattle.machine_10.specs.Transitions.{Meaning}
 use Rattle.performatives_10.specs.declared.condition.Condition.{Condition}
-use Rattle.machine_091.specs.Calls.{after_opened}
 use Rattle.machine_091.specs.State.{is_closing, is_opening, is_over, is_over_stream}
 use Rattle.machine_091.specs.declared.state.Connection.{Connection}
 use Rattle.machine_091.specs.declared.state.Stream91.{Stream91}
@@ -26,7 +25,7 @@ use Rattle.gate_model.specs.Upstream.{first, heard_up, meaning_by}
 use Rattle.gate_model.specs.declared.outgoing.Outgoing.TheVariants.{ToClient, ToUp}
 use Rattle.gate_model.specs.Folds.{accepted_in, closed_in, connection, failed_in, moment_in, sent, sent_at}
 use Rattle.gate_model.specs.Picks.{ArePicks}
-use Rattle.gate_model.specs.State.{Began, Came, Gave, Heard, Joined, Lost, Moment, OutOfMemory, Queued, State, Step, TakenUp, Whole, before, came, dequeued, fail, failed, has_left, heard, is_limit_reached, is_settled, left, new_state, opened, runs, with_last, with_meaning, Fed, Silent, carried}
+use Rattle.gate_model.specs.State.{Began, Came, Fed, Gave, Heard, Joined, Lost, Moment, OutOfMemory, Queued, Silent, State, Step, TakenUp, Whole, before, came, dequeued, fail, failed, has_left, heard, is_limit_reached, is_settled, left, new_state, opened, runs, windowed, with_last, with_meaning}
 use Rattle.gate_model.specs.Times.{BeatsAtOnce, BeatsWhenDue, IsLate, LateCloses, MayBeat, ShutFor, Failed, Left, Answered, Greeted, Closed, ClosedBad, ClosedLast, Unheard, NotOpened, Overdue, ShutsAtOnce, is_any_close, is_protocol, sent_whole}
 use Rattle.gate_model.proofs.Connections.{clash}
 use Rattle.gate_model.proofs.Known.{Known, accepted_is, closed_is, conn_is, known, memory_is, moment_is}
@@ -81,7 +80,7 @@ is_protocol_after (reply.Close r) s = or_false s.protocol
 is_protocol_after reply.NoMemory s = or_false s.protocol
 is_protocol_after reply.Heartbeat s = or_false s.protocol
 is_protocol_after (reply.ChannelOpenOk n) s = or_false s.protocol
-is_protocol_after (reply.FlowOk n) s = or_false s.protocol
+is_protocol_after (reply.OnChannel n u) s = or_false s.protocol
 is_protocol_after (reply.ChannelCloseOk n) s = or_false s.protocol
 is_protocol_after (reply.CrossedOk n) s = or_false s.protocol
 is_protocol_after (reply.ChannelClose n r) s = or_false s.protocol
@@ -96,7 +95,7 @@ is_close_ok_after (reply.Close r) s = or_false s.close_ok
 is_close_ok_after reply.NoMemory s = or_false s.close_ok
 is_close_ok_after reply.Heartbeat s = or_false s.close_ok
 is_close_ok_after (reply.ChannelOpenOk n) s = or_false s.close_ok
-is_close_ok_after (reply.FlowOk n) s = or_false s.close_ok
+is_close_ok_after (reply.OnChannel n u) s = or_false s.close_ok
 is_close_ok_after (reply.ChannelCloseOk n) s = or_false s.close_ok
 is_close_ok_after (reply.CrossedOk n) s = or_false s.close_ok
 is_close_ok_after (reply.ChannelClose n r) s = or_false s.close_ok
@@ -111,7 +110,7 @@ is_close_after (reply.Close r) s = or_true s.close
 is_close_after reply.NoMemory s = or_true s.close
 is_close_after reply.Heartbeat s = or_false s.close
 is_close_after (reply.ChannelOpenOk n) s = or_false s.close
-is_close_after (reply.FlowOk n) s = or_false s.close
+is_close_after (reply.OnChannel n u) s = or_false s.close
 is_close_after (reply.ChannelCloseOk n) s = or_false s.close
 is_close_after (reply.CrossedOk n) s = or_false s.close
 is_close_after (reply.ChannelClose n r) s = or_false s.close
@@ -171,7 +170,14 @@ part_meaning ten.Nothing w = refl
 part_meaning ten.Init w = refl
 part_meaning ten.AmqpHeader w = refl
 part_meaning ten.Opened w = part_opened w
-part_meaning (ten.OfSession g p payload) w = session_cases (λ (v : State). part v ≡ part w) g p w refl (part_fail _ _ (carried g p w)) refl (λ code why. refl)
+part_meaning (ten.OfSession g p payload) w = session_cases (λ (v : State). part v ≡ part w) g p w (record {
+  begins = refl;
+  stays = refl;
+  ends = λ code why. refl;
+  windows = refl;
+  drops = λ code why. refl;
+  fails = λ why. part_fail _ why (windowed g p w);
+})
 part_meaning (ten.Closed e) w = part_fail _ None w
 part_meaning ten.Refused w = part_fail _ None w
 part_meaning (ten.Violation c) w = part_fail _ (Some c) w
@@ -203,7 +209,7 @@ sends (Lost Client loss.Failed ∷ h) p =
     let s : Sends h = sends h p.1 in
     record { going_is = s.going_is; protocol_is = s.protocol_is; close_ok_is = s.close_ok_is; close_is = s.close_is; at_is = s.at_is; broken_is = refl }
 sends (Lost Client loss.Shut ∷ h) p = sends h p.1
-sends (Gave (ToClient u) ∷ h) p =
+sends (Gave (ToClient u) text ∷ h) p =
     let s : Sends h = sends h p.1 in
     record {
       going_is = ap (λ (x : List Reply). x ++ u ∷ []) (all_whole h p.0.0 s);
@@ -213,7 +219,7 @@ sends (Gave (ToClient u) ∷ h) p =
       at_is = s.at_is;
       broken_is = s.broken_is;
     }
-sends (Gave (ToUp u) ∷ h) p = sends h p.1
+sends (Gave (ToUp u) text ∷ h) p = sends h p.1
 sends (Whole Client ∷ h) p =
     sends_whole (before h).in_progress (before h).sent_last (before h).last_sent_at (before h).moment (before h).failed (sent h) (sent_whole h) (sent_at h) (moment_in h) (failed_in h)
     p.0 (moment_is (known h p.1)) (sends h p.1)
@@ -298,25 +304,25 @@ beats_now h p m =
 pub beats_at_once : (h : List Step) → ArePicks h → BeatsAtOnce h
 beats_at_once h p f = (may_beat h p f, beats_now h p)
 
-beats_given : (h : List Step) (u : Reply) → ArePicks h → is_busy (before h) Client ≡ false → pick (before h) Client ≡ Some (ToClient u) → BeatsWhenDue h → BeatsWhenDue (Gave (ToClient u) ∷ h)
-beats_given h reply.Protocol p f e b = b
-beats_given h reply.Start p f e b = b
-beats_given h reply.Tune p f e b = b
-beats_given h reply.OpenOk p f e b = b
-beats_given h reply.CloseOk p f e b = b
-beats_given h (reply.Close r) p f e b = b
-beats_given h reply.NoMemory p f e b = b
-beats_given h (reply.ChannelOpenOk n) p f e b = b
-beats_given h (reply.FlowOk n) p f e b = b
-beats_given h (reply.ChannelCloseOk n) p f e b = b
-beats_given h (reply.CrossedOk n) p f e b = b
-beats_given h (reply.ChannelClose n r) p f e b = b
-beats_given h reply.Heartbeat p f e b = (may_beat h p f e, b)
+beats_given : (h : List Step) (u : Reply) (text : List ℕ) → ArePicks h → is_busy (before h) Client ≡ false → pick (before h) Client ≡ Some (ToClient u) → BeatsWhenDue h → BeatsWhenDue (Gave (ToClient u) text ∷ h)
+beats_given h reply.Protocol text p f e b = b
+beats_given h reply.Start text p f e b = b
+beats_given h reply.Tune text p f e b = b
+beats_given h reply.OpenOk text p f e b = b
+beats_given h reply.CloseOk text p f e b = b
+beats_given h (reply.Close r) text p f e b = b
+beats_given h reply.NoMemory text p f e b = b
+beats_given h (reply.ChannelOpenOk n) text p f e b = b
+beats_given h (reply.OnChannel n u) text p f e b = b
+beats_given h (reply.ChannelCloseOk n) text p f e b = b
+beats_given h (reply.CrossedOk n) text p f e b = b
+beats_given h (reply.ChannelClose n r) text p f e b = b
+beats_given h reply.Heartbeat text p f e b = (may_beat h p f e, b)
 
 pub beats_when_due : (h : List Step) → ArePicks h → BeatsWhenDue h
 beats_when_due [] p = tt
-beats_when_due (Gave (ToClient u) ∷ h) p = beats_given h u p.1 p.0.0 p.0.1 (beats_when_due h p.1)
-beats_when_due (Gave (ToUp u) ∷ h) p = beats_when_due h p.1
+beats_when_due (Gave (ToClient u) text ∷ h) p = beats_given h u text p.1 p.0.0 p.0.1 (beats_when_due h p.1)
+beats_when_due (Gave (ToUp u) text ∷ h) p = beats_when_due h p.1
 beats_when_due (Began vhost n ms ∷ h) p = beats_when_due h p.1
 beats_when_due (Moment ms ∷ h) p = beats_when_due h p.1
 beats_when_due (Fed end ∷ h) p = beats_when_due h p.1

@@ -1,5 +1,5 @@
 -- What the state knows of the units to a container, by the folds.
-use Rattle.std.proofs.Common.{◌≡◌, ℕ, ◌+◌, ◌⊎◌, inl, inr, Bool, true, false, not, ◌&&◌, ◌||◌, if◌then◌else◌, List, [], ◌∷◌, ◌++◌, Option, None, Some, append-nil, refl, sym, ap, ◌∙◌, subst}
+use Rattle.std.proofs.Common.{◌≡◌, ℕ, ◌⊎◌, inl, inr, Bool, true, false, not, ◌&&◌, ◌||◌, if◌then◌else◌, List, [], ◌∷◌, ◌++◌, Option, None, Some, append-nil, refl, sym, ap, ◌∙◌, subst, ◌==◌}
 use Rattle.std.specs.Prelude.{is_some, map}
 use Rattle.std.specs.List.{list_any}
 use Rattle.std.specs.Option.{option_map, option_to_list}
@@ -11,7 +11,7 @@ use Rattle.gate_relay.specs.declared.loss.Loss.TheVariants as loss
 use Rattle.gate_relay.specs.declared.sides.Side.{Side}
 use Rattle.gate_relay.specs.declared.sides.Side.TheVariants as side
 use Rattle.machine_091.specs.Calls.{after_ended, after_opened, closing_phase, opened_phase}
-use Rattle.machine_091.specs.State.{is_closing, is_opening}
+use Rattle.machine_091.specs.State.{is_closing, is_open, is_opening}
 use Rattle.machine_091.specs.Transitions as machine
 use Rattle.machine_091.specs.declared.state.Connection.{Connection}
 use Rattle.machine_091.specs.declared.state.Phase91.{Phase91}
@@ -23,19 +23,23 @@ use Rattle.machine_10.specs.declared.state.Phase10.{Phase10}
 use Rattle.machine_10.specs.declared.state.Upstream.{Upstream}
 use Rattle.machine_10.specs.declared.unit.Unit10.{Unit10}
 use Rattle.performatives_10.specs.declared.condition.Condition.{Condition}
+use Rattle.close_translate.specs.declared.conditions.Scope.{Scope}
+use Rattle.close_translate.specs.declared.conditions.Scope.TheVariants as scope
+use Rattle.gate_model.specs.Paths.{path_at, with_path, lost_path}
+use Rattle.gate_model.specs.declared.channel.SessionUnit.{SessionUnit}
 use Rattle.gate_model.specs.declared.outgoing.Outgoing.TheVariants.{ToClient, ToUp}
 use Rattle.gate_model.specs.declared.outgoing.UpPending.{UpPending}
 use Rattle.gate_model.specs.declared.outgoing.UpSent.{UpSent}
 use Rattle.gate_model.specs.declared.outgoing.UpUnit.{UpUnit}
 use Rattle.gate_model.specs.declared.outgoing.UpUnit.TheVariants as up
 use Rattle.gate_model.specs.Asked.{called, called_by, called_from, is_opening_unit, is_up_close, is_up_open, sent_up_whole}
-use Rattle.gate_model.specs.Due.{begins, close_behind, ends, flows_on, is_end_due, pick, rows_in, session_flows, unless_out, up_rows}
+use Rattle.gate_model.specs.Due.{attaches, begins, carried_rows, close_behind, detaches, ends, flows_on, is_end_due, link_flows, none_left, pick, row_on, rows_in, session_flows, session_rows, settlings, transfers, unless_out, up_rows}
 use Rattle.gate_model.specs.Session.{is_flow_owed}
-use Rattle.gate_model.specs.Folds.{Peers, accepted_in, conn_by, connection, container, container_kept, leaving_in, moment_in, peers, peers_came, peers_heard, ran_out_in, sent_up, sent_up_at}
+use Rattle.gate_model.specs.Folds.{Peers, accepted_in, connection, container, container_kept, ended_on, leaving_in, moment_in, peers, peers_by, peers_came, peers_heard, peers_scoped, ran_out_in, sent_up, sent_up_at}
 use Rattle.gate_model.specs.Picks.{ArePicks}
 use Rattle.gate_model.specs.Requests.{client_step}
-use Rattle.gate_model.specs.State.{State, Step, Began, Moment, Queued, Came, TakenUp, Heard, Joined, Lost, Gave, Whole, OutOfMemory, before, came, close_if, dequeued, fail, failed, heard, is_limit_reached, left, runs, with_meaning, with_session, Fed, Silent, carried}
-use Rattle.gate_model.specs.Lives.{each, is_carried, is_free, session_in}
+use Rattle.gate_model.specs.State.{Began, Came, Fed, Gave, Heard, Joined, Lost, Moment, OutOfMemory, Queued, Silent, State, Step, TakenUp, Whole, before, came, close_if, dequeued, fail, failed, heard, is_limit_reached, left, runs, windowed, with_meaning, path_heard, link_scope}
+use Rattle.gate_model.specs.Lives.{is_carried, is_free, session_in}
 use Rattle.gate_model.specs.declared.life.Life.{Life}
 use Rattle.machine_10.specs.Calls.{asked, left as left_session, may_begin}
 use Rattle.machine_10.specs.State.{session_at}
@@ -48,7 +52,7 @@ use Rattle.gate_model.proofs.Rows.{first_each}
 use Rattle.gate_model.proofs.Sessions.{conn_cases, session_cases}
 use Rattle.gate_model.proofs.Known.{Known, conn_is, container_is, keep_is, known, memory_is, moment_is}
 use Rattle.gate_model.proofs.Openings.{UpTo, Ups, is_opening_first, phase_in, up_to_closed, ups_gone, ups_heard, ups_other}
-use Rattle.gate_model.proofs.Outcomes.{Outcome, Greets, Parts, LogsIn, Tunes, Asks, Passes, Refuses, Declines, Drops, Parting, Calls, Asking, Fills, Frees, Closes, Answers, Ignores, outcome}
+use Rattle.gate_model.proofs.Outcomes.{Outcome, Greets, Parts, LogsIn, Tunes, Asks, Passes, Refuses, Declines, Drops, Parting, Calls, Asking, Publishes, Fills, Frees, Closes, Answers, Ignores, outcome}
 
 -- ---- before the login there is no container
 
@@ -92,6 +96,7 @@ early_came p u f = by (client_step p.client u) (outcome p.client u)
     by _ (Parting e) k = absurd cc
     by _ (Calls n s m e) k = f k
     by _ (Asking n m e) k = f k
+    by _ (Publishes n m x e) k = f k
     by _ (Fills n i e) k = f k
     by _ (Frees n e) k = f k
     by _ (Closes e) k = absurd cc
@@ -108,21 +113,46 @@ early_opened asked phase.Running e = absurd cc
 early_opened asked phase.Closing e = absurd cc
 early_opened asked phase.Closed e = absurd cc
 
-early_meaning : (m : Meaning) (o : Option Upstream) (c : Connection) → is_early (conn_by m o c).phase ≡ true → is_early c.phase ≡ true
-early_meaning ten.Nothing o c e = e
-early_meaning ten.Init o c e = e
-early_meaning ten.AmqpHeader o c e = e
-early_meaning ten.Opened o c e = by (is_opening c) e
+early_meaning : (m : Meaning) (x : Peers) → is_early (peers_by m x).client.phase ≡ true → is_early x.client.phase ≡ true
+early_meaning ten.Nothing x e = e
+early_meaning ten.Init x e = e
+early_meaning ten.AmqpHeader x e = e
+early_meaning ten.Opened x e = by (is_opening x.client) e
   where
-    by : (b : Bool) → is_early (if b then after_opened (channel_max_in o) c else c).phase ≡ true → is_early c.phase ≡ true
-    by true e = early_opened c.asked c.phase e
+    by : (b : Bool) → is_early (if b then after_opened (channel_max_in x.container) x.client else x.client).phase ≡ true → is_early x.client.phase ≡ true
+    by true e = early_opened x.client.asked x.client.phase e
     by false e = e
-early_meaning (ten.OfSession g p payload) o c e =
-    conn_cases (λ (d : Connection). is_early d.phase ≡ true → is_early c.phase ≡ true) g p c (λ x. x) (λ x. absurd (clash _ x (closing_late c.phase)))
-    (λ x. sym (ap is_early (phase_only (only_closing g c))) ∙ x) e
-early_meaning (ten.Closed x) o c e = absurd (clash _ e (closing_late c.phase))
-early_meaning ten.Refused o c e = absurd (clash _ e (closing_late c.phase))
-early_meaning (ten.Violation why) o c e = absurd (clash _ e (closing_late c.phase))
+early_meaning (ten.OfSession g q payload) x e =
+    conn_cases (λ (d : Connection). is_early d.phase ≡ true → is_early x.client.phase ≡ true) g q x (λ y. y) (λ y. absurd (clash _ y (closing_late x.client.phase)))
+    (λ y. sym (ap is_early (phase_only (only_closing g x.client))) ∙ y) e
+early_meaning (ten.Closed t) x e = absurd (clash _ e (closing_late x.client.phase))
+early_meaning ten.Refused x e = absurd (clash _ e (closing_late x.client.phase))
+early_meaning (ten.Violation why) x e = absurd (clash _ e (closing_late x.client.phase))
+
+-- what a unit of the container means leaves the container
+kept_container : (m : Meaning) (x : Peers) → (peers_by m x).container ≡ x.container
+kept_container ten.Nothing x = refl
+kept_container ten.Init x = refl
+kept_container ten.AmqpHeader x = refl
+kept_container ten.Opened x = refl
+kept_container (ten.OfSession g q payload) x = by (link_scope q (path_at x.paths g))
+  where
+    ended : (o : Bool) (y : Peers) → y.container ≡ x.container → (ended_on o g y).container ≡ x.container
+    ended true y e = e
+    ended false y e = e
+
+    met : (a b : Bool) (y : Peers) → y.container ≡ x.container → (if a then y else if b then ended_on (is_open y.client g) g y else y).container ≡ x.container
+    met true b y e = e
+    met false true y e = ended (is_open y.client g) y e
+    met false false y e = e
+
+    by : (o : Option Scope) → (peers_scoped o g q x).container ≡ x.container
+    by None = met (q.0 == 17) (q.0 == 23) (record x { paths = with_path g (path_heard q) x.paths }) refl
+    by (Some scope.Connection) = refl
+    by (Some scope.Channel) = ended (is_open x.client g) x refl
+kept_container (ten.Closed t) x = refl
+kept_container ten.Refused x = refl
+kept_container (ten.Violation why) x = refl
 
 early_if : (b : Bool) (p q : Peers) → Early p → Early q → Early (if b then p else q)
 early_if true p q f g = f
@@ -144,15 +174,16 @@ early (Came u ∷ h) e = early_if (ran_out_in h) (peers h) (peers_came (peers h)
 early (TakenUp ∷ h) e = early_if (not (ran_out_in h) && leaving_in h) (record (peers h) { client = after_ended (connection h) }) (peers h) (λ x. absurd cc) (early h) e
 early (Heard u ∷ h) e =
     early_if (ran_out_in h) (peers h) (peers_heard (peers h) u) (early h)
-    (λ x. ap (λ (o : Option Upstream). container_by o u) (early h (early_meaning (meaning_by (container h) u) _ (connection h) x))) e
+    (λ x. kept_container (meaning_by (container h) u) (record (peers h) { container = container_by (container h) u })
+    ∙ ap (λ (o : Option Upstream). container_by o u) (early h (early_meaning (meaning_by (container h) u) (record (peers h) { container = container_by (container h) u }) x))) e
 early (Joined link.Ok ∷ h) e = early h e
 early (Joined link.Failed ∷ h) e = absurd (clash _ e (closing_late (connection h).phase))
 early (Lost Client how ∷ h) e = early h e
 early (Lost Up loss.Ended ∷ h) e = absurd (clash _ e (closing_late (connection h).phase))
 early (Lost Up loss.Failed ∷ h) e = absurd (clash _ e (closing_late (connection h).phase))
 early (Lost Up loss.Shut ∷ h) e = early h e
-early (Gave (ToClient u) ∷ h) e = early h (sym (ap is_early (phase_only (only_given u (connection h)))) ∙ e)
-early (Gave (ToUp u) ∷ h) e = ap (container_given u) (early h e)
+early (Gave (ToClient u) text ∷ h) e = early h (sym (ap is_early (phase_only (only_given u (connection h)))) ∙ e)
+early (Gave (ToUp u) text ∷ h) e = ap (container_given u) (early h e)
 early (Whole end ∷ h) e = early h e
 early (OutOfMemory ∷ h) e = absurd (clash _ e (closing_late (connection h).phase))
 
@@ -207,6 +238,7 @@ kept_phase c u o f = by (client_step c u) (outcome c u)
     by _ (Parting e) = refl
     by _ (Calls n s m e) = refl
     by _ (Asking n m e) = refl
+    by _ (Publishes n m x e) = refl
     by _ (Fills n i e) = refl
     by _ (Frees n e) = refl
     by _ (Closes e) = refl
@@ -256,7 +288,14 @@ part_meaning ten.Opened w = by (is_opening w.conn)
     by : (b : Bool) → part (if b then runs w else w).up ≡ part w.up
     by true = refl
     by false = refl
-part_meaning (ten.OfSession g p payload) w = session_cases (λ (v : State). part v.up ≡ part w.up) g p w refl (part_fail _ _ (carried g p w)) refl (λ code why. refl)
+part_meaning (ten.OfSession g p payload) w = session_cases (λ (v : State). part v.up ≡ part w.up) g p w (record {
+  begins = refl;
+  stays = refl;
+  ends = λ code why. refl;
+  windows = refl;
+  drops = λ code why. refl;
+  fails = λ why. part_fail _ why (windowed g p w);
+})
 part_meaning (ten.Closed x) w = part_fail _ None w
 part_meaning ten.Refused w = part_fail _ None w
 part_meaning (ten.Violation why) w = part_fail _ (Some why) w
@@ -316,11 +355,19 @@ up_lost x w code went whole at q e k =
 
 -- ---- the unit that goes
 
+-- a unit of a session's links, on one that is carried
+pub record IsLinked (w : State) (u : UpUnit) : Type 0 where
+  pub number : ℕ
+  pub unit : SessionUnit
+  pub is : u ≡ up.OnSession number unit
+  pub carried : is_carried (session_in w.up.container number) ≡ true
+
 pub data Picked (closing : Bool) (w : State) (u : UpUnit) : Type 0 where
-  Closing : closing ≡ true → ends true w ≡ [] → w.up.sent.«open» ≡ true → u ≡ up.Close w.up.condition → Picked closing w u
+  Closing : closing ≡ true → none_left w ≡ true → w.up.sent.«open» ≡ true → u ≡ up.Close w.up.condition → Picked closing w u
   Opening : closing ≡ false → first (opening_rows w.up.pending) ≡ Some u → Picked closing w u
   Begins : closing ≡ false → first (begins w) ≡ Some u → Picked closing w u
   Flows : first (session_flows w) ≡ Some u → Picked closing w u
+  Linked : IsLinked w u → Picked closing w u
   Ends : first (ends closing w) ≡ Some u → Picked closing w u
   Telling : closing ≡ false → is_idle_due w.up w.moment ≡ true → u ≡ up.Empty → Picked closing w u
 
@@ -329,29 +376,115 @@ pub record GoesUp (closing : Bool) (w : State) (u : UpUnit) : Type 0 where
   pub unclosed : w.up.sent.close ≡ false
   pub why : Picked closing w u
 
-picked_in : (closing : Bool) (w : State) (u : UpUnit) → first (rows_in closing w) ≡ Some u → Picked closing w u
-picked_in true w u e = by (unless_out w.out_of_memory (session_flows w)) (ends true w) w.up.sent.«open» (flows w.out_of_memory) refl refl e
-  where
-    flows : (b : Bool) → first (unless_out b (session_flows w)) ≡ Some u → first (session_flows w) ≡ Some u
-    flows true e = absurd cc
-    flows false e = e
+-- of two lists the first that has one
+either : (xs ys : List UpUnit) (u : UpUnit) → first (xs ++ ys) ≡ Some u → (first xs ≡ Some u) ⊎ ((xs ≡ []) × (first ys ≡ Some u))
+either [] ys u e = inr (refl, e)
+either (x ∷ xs) ys u e = inl e
 
-    by : (fs us : List UpUnit) (b : Bool) → (first fs ≡ Some u → first (session_flows w) ≡ Some u) → ends true w ≡ us → w.up.sent.«open» ≡ b
-        → first (fs ++ (us ++ close_behind us w.up)) ≡ Some u → Picked true w u
-    by (x ∷ fs) us b k f g e = Flows (k e)
-    by [] (x ∷ us) b k f g e = Ends (ap first f ∙ e)
-    by [] [] true k f g e = Closing refl f g (let here : up.Close w.up.condition ≡ u = cc in sym here)
-    by [] [] false k f g e = absurd cc
-picked_in false w u e = by (opening_rows w.up.pending) (begins w) (session_flows w) (ends false w) (is_idle_due w.up w.moment) refl refl refl refl refl e
+row_is : {A : Type 0} (w : State) (n : ℕ) (o : Option A) (f : A → SessionUnit) (v : UpUnit) → first (row_on w.up.container n o f) ≡ Some v → IsLinked w v
+row_is w n None f v e = absurd cc
+row_is w n (Some x) f v e = by (is_carried (session_in w.up.container n)) refl e
   where
-    by : (os bs fs es : List UpUnit) (b : Bool) → opening_rows w.up.pending ≡ os → begins w ≡ bs → session_flows w ≡ fs → ends false w ≡ es → is_idle_due w.up w.moment ≡ b
-        → first (os ++ (bs ++ (fs ++ (es ++ when_up b up.Empty)))) ≡ Some u → Picked false w u
-    by (x ∷ os) bs fs es b f g m k l e = Opening refl (ap first f ∙ e)
-    by [] (x ∷ bs) fs es b f g m k l e = Begins refl (ap first g ∙ e)
-    by [] [] (x ∷ fs) es b f g m k l e = Flows (ap first m ∙ e)
-    by [] [] [] (x ∷ es) b f g m k l e = Ends (ap first k ∙ e)
-    by [] [] [] [] true f g m k l e = Telling refl l (let here : up.Empty ≡ u = cc in sym here)
-    by [] [] [] [] false f g m k l e = absurd cc
+    by : (b : Bool) → is_carried (session_in w.up.container n) ≡ b → first (when_up b (up.OnSession n (f x))) ≡ Some v → IsLinked w v
+    by true c e = let here : up.OnSession n (f x) ≡ v = cc in record { number = n; unit = f x; is = sym here; carried = c }
+    by false c e = absurd cc
+
+attach_is : (w : State) (u : UpUnit) → first (attaches w) ≡ Some u → IsLinked w u
+attach_is w u e = first_each (IsLinked w) _ 0 w.lives u (λ k l v f. row_is w k _ _ v f) e
+
+link_flow_is : (w : State) (u : UpUnit) → first (link_flows w) ≡ Some u → IsLinked w u
+link_flow_is w u e = first_each (IsLinked w) _ 0 w.lives u (λ k l v f. row_is w k _ _ v f) e
+
+transfer_is : (w : State) (u : UpUnit) → first (transfers w) ≡ Some u → IsLinked w u
+transfer_is w u e = first_each (IsLinked w) _ 0 w.lives u (λ k l v f. row_is w k _ _ v f) e
+
+settling_is : (w : State) (u : UpUnit) → first (settlings w) ≡ Some u → IsLinked w u
+settling_is w u e = first_each (IsLinked w) _ 0 w.lives u (λ k l v f. row_is w k _ _ v f) e
+
+detach_is : (w : State) (u : UpUnit) → first (detaches w) ≡ Some u → IsLinked w u
+detach_is w u e = first_each (IsLinked w) _ 0 w.lives u (λ k l v f. row_is w k _ _ v f) e
+
+abbrev Found : List UpUnit → List UpUnit → UpUnit → Type 0
+Found xs ys u = (first xs ≡ Some u) ⊎ ((xs ≡ []) × (first ys ≡ Some u))
+
+carried_picked : (closing : Bool) (w : State) (u : UpUnit) → first (carried_rows w) ≡ Some u → Picked closing w u
+carried_picked closing w u e = first_row (either (attaches w) _ u e)
+  where
+    third_row : Found (session_flows w) (transfers w) u → Picked closing w u
+    third_row (inl f) = Flows f
+    third_row (inr f) = Linked (transfer_is w u f.1)
+
+    second_row : Found (link_flows w) (session_flows w ++ transfers w) u → Picked closing w u
+    second_row (inl f) = Linked (link_flow_is w u f)
+    second_row (inr f) = third_row (either (session_flows w) (transfers w) u f.1)
+
+    first_row : Found (attaches w) (link_flows w ++ (session_flows w ++ transfers w)) u → Picked closing w u
+    first_row (inl f) = Linked (attach_is w u f)
+    first_row (inr f) = second_row (either (link_flows w) _ u f.1)
+
+settled_picked : (closing : Bool) (w : State) (u : UpUnit) → first (settlings w ++ detaches w) ≡ Some u → Picked closing w u
+settled_picked closing w u e = by (either (settlings w) (detaches w) u e)
+  where
+    by : Found (settlings w) (detaches w) u → Picked closing w u
+    by (inl f) = Linked (settling_is w u f)
+    by (inr f) = Linked (detach_is w u f.1)
+
+on_session : (closing : Bool) (w : State) (u : UpUnit) → first (session_rows w) ≡ Some u → Picked closing w u
+on_session closing w u e = by w.out_of_memory e
+  where
+    some : Found (carried_rows w) (settlings w ++ detaches w) u → Picked closing w u
+    some (inl f) = carried_picked closing w u f
+    some (inr f) = settled_picked closing w u f.1
+
+    by : (b : Bool) → first (unless_out b (carried_rows w) ++ (settlings w ++ detaches w)) ≡ Some u → Picked closing w u
+    by true f = settled_picked closing w u f
+    by false f = some (either (carried_rows w) (settlings w ++ detaches w) u f)
+
+last_is : (b : Bool) (x u : UpUnit) → first (when_up b x) ≡ Some u → (b ≡ true) × (u ≡ x)
+last_is true x u e = (refl, (let here : x ≡ u = cc in sym here))
+last_is false x u e = absurd cc
+
+both_true : (a b : Bool) → (a && b) ≡ true → (a ≡ true) × (b ≡ true)
+both_true true true e = (refl, refl)
+both_true true false e = absurd cc
+both_true false b e = absurd cc
+
+picked_in : (closing : Bool) (w : State) (u : UpUnit) → first (rows_in closing w) ≡ Some u → Picked closing w u
+picked_in true w u e = by (either (session_rows w) (ends true w ++ close_behind w) u e)
+  where
+    parting : (first (ends true w) ≡ Some u) ⊎ ((ends true w ≡ []) × (first (close_behind w) ≡ Some u)) → Picked true w u
+    parting (inl f) = Ends f
+    parting (inr f) =
+        let l = last_is (none_left w && w.up.sent.«open») (up.Close w.up.condition) u f.1 in
+        let b = both_true (none_left w) w.up.sent.«open» l.0 in
+        Closing refl b.0 b.1 l.1
+
+    by : (first (session_rows w) ≡ Some u) ⊎ ((session_rows w ≡ []) × (first (ends true w ++ close_behind w) ≡ Some u)) → Picked true w u
+    by (inl f) = on_session true w u f
+    by (inr f) = parting (either (ends true w) (close_behind w) u f.1)
+picked_in false w u e = opening (either (opening_rows w.up.pending) (begins w ++ rest) u e)
+  where
+    last : List UpUnit
+    last = when_up (is_idle_due w.up w.moment) up.Empty
+
+    rest : List UpUnit
+    rest = session_rows w ++ (ends false w ++ last)
+
+    ending : (first (ends false w) ≡ Some u) ⊎ ((ends false w ≡ []) × (first last ≡ Some u)) → Picked false w u
+    ending (inl f) = Ends f
+    ending (inr f) = let l = last_is (is_idle_due w.up w.moment) up.Empty u f.1 in Telling refl l.0 l.1
+
+    session : (first (session_rows w) ≡ Some u) ⊎ ((session_rows w ≡ []) × (first (ends false w ++ last) ≡ Some u)) → Picked false w u
+    session (inl f) = on_session false w u f
+    session (inr f) = ending (either (ends false w) last u f.1)
+
+    beginning : (first (begins w) ≡ Some u) ⊎ ((begins w ≡ []) × (first rest ≡ Some u)) → Picked false w u
+    beginning (inl f) = Begins refl f
+    beginning (inr f) = session (either (session_rows w) (ends false w ++ last) u f.1)
+
+    opening : (first (opening_rows w.up.pending) ≡ Some u) ⊎ ((opening_rows w.up.pending ≡ []) × (first (begins w ++ rest) ≡ Some u)) → Picked false w u
+    opening (inl f) = Opening refl f
+    opening (inr f) = beginning (either (begins w) rest u f.1)
 
 goes_by : (w : State) (u : UpUnit) → first (up_rows w) ≡ Some u → GoesUp (w.out_of_memory || is_closing w.conn) w u
 goes_by w u e = by (is_readable w.up.side) w.up.sent.close refl refl e
@@ -420,6 +553,7 @@ isnt_opening w closing u (Closing k n o e) = inl (ap is_opening_unit e)
 isnt_opening w closing u (Opening k e) = inr e
 isnt_opening w closing u (Begins k e) = inl (ap is_opening_unit (begin_is w u e).is)
 isnt_opening w closing u (Flows e) = inl (ap is_opening_unit (flow_is w u e).is)
+isnt_opening w closing u (Linked l) = inl (ap is_opening_unit l.is)
 isnt_opening w closing u (Ends e) = inl (ap is_opening_unit (end_is closing w u e).is)
 isnt_opening w closing u (Telling k i e) = inl (ap is_opening_unit e)
 
@@ -430,6 +564,7 @@ opening_closes up.AmqpHeader e = refl
 opening_closes up.Open e = refl
 opening_closes (up.Close c) e = absurd cc
 opening_closes up.Empty e = absurd cc
+opening_closes (up.OnSession n u) e = absurd cc
 opening_closes (up.Flow n i o) e = absurd cc
 opening_closes (up.Begin n) e = absurd cc
 opening_closes (up.End n why) e = absurd cc
@@ -440,6 +575,7 @@ is_a_close (Closing k n o e) = inr k
 is_a_close {closing} {w} {u} (Opening k e) = inl (opening_closes u (is_opening_first w.up.pending u e))
 is_a_close {closing} {w} {u} (Begins k e) = inl (ap is_up_close (begin_is w u e).is)
 is_a_close {closing} {w} {u} (Flows e) = inl (ap is_up_close (flow_is w u e).is)
+is_a_close {closing} {w} {u} (Linked l) = inl (ap is_up_close l.is)
 is_a_close {closing} {w} {u} (Ends e) = inl (ap is_up_close (end_is closing w u e).is)
 is_a_close (Telling k i e) = inl (ap is_up_close e)
 
@@ -472,6 +608,7 @@ open_after up.AmqpHeader s = or_false s.«open»
 open_after up.Open s = or_true s.«open»
 open_after (up.Close c) s = or_false s.«open»
 open_after up.Empty s = or_false s.«open»
+open_after (up.OnSession n u) s = or_false s.«open»
 open_after (up.Flow n i o) s = or_false s.«open»
 open_after (up.Begin n) s = or_false s.«open»
 open_after (up.End n why) s = or_false s.«open»
@@ -483,6 +620,7 @@ close_after up.AmqpHeader s = or_false s.close
 close_after up.Open s = or_false s.close
 close_after (up.Close c) s = or_true s.close
 close_after up.Empty s = or_false s.close
+close_after (up.OnSession n u) s = or_false s.close
 close_after (up.Flow n i o) s = or_false s.close
 close_after (up.Begin n) s = or_false s.close
 close_after (up.End n why) s = or_false s.close
@@ -494,6 +632,7 @@ whole_begun up.AmqpHeader s = refl
 whole_begun up.Open s = refl
 whole_begun (up.Close c) s = refl
 whole_begun up.Empty s = refl
+whole_begun (up.OnSession n u) s = refl
 whole_begun (up.Flow n i o) s = refl
 whole_begun (up.Begin n) s = refl
 whole_begun (up.End n why) s = refl
@@ -505,6 +644,7 @@ whole_after up.AmqpHeader s = or_false s.whole_close
 whole_after up.Open s = or_false s.whole_close
 whole_after (up.Close c) s = or_true s.whole_close
 whole_after up.Empty s = or_false s.whole_close
+whole_after (up.OnSession n u) s = or_false s.whole_close
 whole_after (up.Flow n i o) s = or_false s.whole_close
 whole_after (up.Begin n) s = or_false s.whole_close
 whole_after (up.End n why) s = or_false s.whole_close
@@ -516,6 +656,7 @@ open_whole up.AmqpHeader s = refl
 open_whole up.Open s = refl
 open_whole (up.Close c) s = refl
 open_whole up.Empty s = refl
+open_whole (up.OnSession n u) s = refl
 open_whole (up.Flow n i o) s = refl
 open_whole (up.Begin n) s = refl
 open_whole (up.End n why) s = refl
@@ -527,6 +668,7 @@ close_whole up.AmqpHeader s = refl
 close_whole up.Open s = refl
 close_whole (up.Close c) s = refl
 close_whole up.Empty s = refl
+close_whole (up.OnSession n u) s = refl
 close_whole (up.Flow n i o) s = refl
 close_whole (up.Begin n) s = refl
 close_whole (up.End n why) s = refl
@@ -550,6 +692,7 @@ phase_given up.AmqpHeader (Some c) = refl
 phase_given up.Open (Some c) = refl
 phase_given (up.Close why) (Some c) = refl
 phase_given up.Empty (Some c) = refl
+phase_given (up.OnSession n u) (Some c) = refl
 phase_given (up.Flow n i o) (Some c) = refl
 phase_given (up.Begin n) (Some c) = by (may_begin c n) (session_at c n)
   where
@@ -674,11 +817,11 @@ up_says (Joined link.Failed ∷ h) p =
 up_says (Lost Client loss.Ended ∷ h) p = up_says h p.1
 up_says (Lost Client loss.Failed ∷ h) p = up_says h p.1
 up_says (Lost Client loss.Shut ∷ h) p = up_says h p.1
-up_says (Lost Up loss.Ended ∷ h) p = up_lost side.Ended (before h) _ (sent_up h) (sent_up_whole h) (sent_up_at h) (called h) refl (up_says h p.1)
-up_says (Lost Up loss.Failed ∷ h) p = up_lost side.Failed (before h) _ (sent_up h) (sent_up_whole h) (sent_up_at h) (called h) refl (up_says h p.1)
+up_says (Lost Up loss.Ended ∷ h) p = up_lost side.Ended (record (before h) { paths = map (option_map lost_path) (before h).paths }) _ (sent_up h) (sent_up_whole h) (sent_up_at h) (called h) refl (up_says h p.1)
+up_says (Lost Up loss.Failed ∷ h) p = up_lost side.Failed (record (before h) { paths = map (option_map lost_path) (before h).paths }) _ (sent_up h) (sent_up_whole h) (sent_up_at h) (called h) refl (up_says h p.1)
 up_says (Lost Up loss.Shut ∷ h) p = up_gone (part (before h).up) (sent_up h) (sent_up_whole h) (sent_up_at h) (called h) (up_says h p.1)
-up_says (Gave (ToClient u) ∷ h) p = up_says h p.1
-up_says (Gave (ToUp u) ∷ h) p =
+up_says (Gave (ToClient u) text ∷ h) p = up_says h p.1
+up_says (Gave (ToUp u) text ∷ h) p =
     up_begun (before h) _ u (sent_up h) (sent_up_whole h) (sent_up_at h) (called h) p.0.0 (goes_up (before h) u p.0.1) (up_says h p.1)
 up_says (Whole Client ∷ h) p = up_says h p.1
 up_says (Whole Up ∷ h) p =

@@ -26,7 +26,7 @@ use Rattle.gate_model.specs.Due.{may_go, rows}
 use Rattle.gate_model.specs.Folds.{container, is_answer, ran_out_in}
 use Rattle.gate_model.specs.Picks.{ArePicks}
 use Rattle.gate_model.specs.Requests.{client_step}
-use Rattle.gate_model.specs.State.{Began, Came, Gave, Heard, Joined, Lost, Moment, OutOfMemory, Queued, State, Step, TakenUp, Whole, before, came, dequeued, fail, failed, heard, is_settled, last_pending, left, turns_foreign, with_header, with_meaning, with_session, with_want, without, Fed, Silent, carried}
+use Rattle.gate_model.specs.State.{Began, Came, Fed, Gave, Heard, Joined, Lost, Moment, OutOfMemory, Queued, Silent, State, Step, TakenUp, Whole, before, came, dequeued, fail, failed, heard, is_settled, last_pending, left, turns_foreign, windowed, with_header, with_meaning, with_session, with_want, without}
 use Rattle.gate_model.specs.Upstream.{first, has_closed, heard_up, is_closed_stream, meaning_by, stream_in}
 use Rattle.gate_model.specs.Waiting.{EndsWhenSettled, OpensWhenOpened, Settled, RanOut, NotOpen, HasClosed, is_ending, is_opened, opened_in, GivenUp}
 use Rattle.gate_model.proofs.Connections.{clash}
@@ -78,7 +78,7 @@ isnt_ending (reply.Close r) e = absurd cc
 isnt_ending reply.NoMemory e = absurd cc
 isnt_ending reply.Heartbeat e = refl
 isnt_ending (reply.ChannelOpenOk n) e = refl
-isnt_ending (reply.FlowOk n) e = refl
+isnt_ending (reply.OnChannel n u) e = refl
 isnt_ending (reply.ChannelCloseOk n) e = refl
 isnt_ending (reply.CrossedOk n) e = refl
 isnt_ending (reply.ChannelClose n r) e = refl
@@ -90,8 +90,8 @@ ends_picked h u p (Beats none due same) is = absurd (clash (is_ending u) is (ap 
 
 pub ends_when_settled : (h : List Step) → ArePicks h → EndsWhenSettled h
 ends_when_settled [] p = tt
-ends_when_settled (Gave (ToClient u) ∷ h) p = (ends_picked h u p.1 (picked (before h) u p.0.1), ends_when_settled h p.1)
-ends_when_settled (Gave (ToUp u) ∷ h) p = ends_when_settled h p.1
+ends_when_settled (Gave (ToClient u) text ∷ h) p = (ends_picked h u p.1 (picked (before h) u p.0.1), ends_when_settled h p.1)
+ends_when_settled (Gave (ToUp u) text ∷ h) p = ends_when_settled h p.1
 ends_when_settled (Began vhost n ms ∷ h) p = ends_when_settled h p.1
 ends_when_settled (Moment ms ∷ h) p = ends_when_settled h p.1
 ends_when_settled (Fed end ∷ h) p = ends_when_settled h p.1
@@ -150,7 +150,14 @@ open_ok_fail code why w = by (is_closing w.conn)
     by false = refl
 
 open_ok_session : (g : ℕ) (p : Parts) (w : State) → (with_session g p w).pending.open_ok ≡ w.pending.open_ok
-open_ok_session g p w = session_cases (λ (v : State). v.pending.open_ok ≡ w.pending.open_ok) g p w refl (open_ok_fail _ _ (carried g p w)) refl (λ code why. refl)
+open_ok_session g p w = session_cases (λ (v : State). v.pending.open_ok ≡ w.pending.open_ok) g p w (record {
+  begins = refl;
+  stays = refl;
+  ends = λ code why. refl;
+  windows = refl;
+  drops = λ code why. refl;
+  fails = λ why. open_ok_fail _ why (windowed g p w);
+})
 
 open_ok_meaning : (m : Meaning) (w : State) → (with_meaning m w).pending.open_ok ≡ true → (w.pending.open_ok || is_opened m) ≡ true
 open_ok_meaning m w e = by m e
@@ -202,7 +209,7 @@ open_ok_gone (reply.Close r) d e = e
 open_ok_gone reply.NoMemory d e = e
 open_ok_gone reply.Heartbeat d e = e
 open_ok_gone (reply.ChannelOpenOk n) d e = e
-open_ok_gone (reply.FlowOk n) d e = e
+open_ok_gone (reply.OnChannel n u) d e = e
 open_ok_gone (reply.ChannelCloseOk n) d e = e
 open_ok_gone (reply.CrossedOk n) d e = e
 open_ok_gone (reply.ChannelClose n r) d e = e
@@ -240,8 +247,8 @@ open_ok_opened (Lost Client loss.Shut ∷ h) p e = open_ok_opened h p.1 e
 open_ok_opened (Lost Up loss.Ended ∷ h) p e = open_ok_opened h p.1 (sym (open_ok_fail _ None _) ∙ e)
 open_ok_opened (Lost Up loss.Failed ∷ h) p e = open_ok_opened h p.1 (sym (open_ok_fail _ None _) ∙ e)
 open_ok_opened (Lost Up loss.Shut ∷ h) p e = open_ok_opened h p.1 e
-open_ok_opened (Gave (ToClient u) ∷ h) p e = open_ok_opened h p.1 (open_ok_gone u (before h).pending e)
-open_ok_opened (Gave (ToUp u) ∷ h) p e = open_ok_opened h p.1 e
+open_ok_opened (Gave (ToClient u) text ∷ h) p e = open_ok_opened h p.1 (open_ok_gone u (before h).pending e)
+open_ok_opened (Gave (ToUp u) text ∷ h) p e = open_ok_opened h p.1 e
 open_ok_opened (Whole Client ∷ h) p e = open_ok_opened h p.1 e
 open_ok_opened (Whole Up ∷ h) p e = open_ok_opened h p.1 e
 open_ok_opened (OutOfMemory ∷ h) p e = absurd (clash _ e (open_ok_last (before h).conn.phase (before h).pending))
@@ -256,7 +263,7 @@ is_open_ok (reply.Close r) = false
 is_open_ok reply.NoMemory = false
 is_open_ok reply.Heartbeat = false
 is_open_ok (reply.ChannelOpenOk n) = false
-is_open_ok (reply.FlowOk n) = false
+is_open_ok (reply.OnChannel n u) = false
 is_open_ok (reply.ChannelCloseOk n) = false
 is_open_ok (reply.CrossedOk n) = false
 is_open_ok (reply.ChannelClose n r) = false
@@ -288,25 +295,25 @@ opens_picked h p (IsDue e) = open_ok_opened h p (open_ok_first (is_settled (befo
 opens_picked h p (OnChannel o) = absurd (clash true refl (of_channel (before h) reply.OpenOk o).answers)
 opens_picked h p (Beats none due same) = absurd cc
 
-opens_given : (h : List Step) (u : Reply) → ArePicks h → Picked (before h) u → OpensWhenOpened h → OpensWhenOpened (Gave (ToClient u) ∷ h)
-opens_given h reply.Protocol p f o = o
-opens_given h reply.Start p f o = o
-opens_given h reply.Tune p f o = o
-opens_given h reply.OpenOk p f o = (opens_picked h p f, o)
-opens_given h reply.CloseOk p f o = o
-opens_given h (reply.Close r) p f o = o
-opens_given h reply.NoMemory p f o = o
-opens_given h reply.Heartbeat p f o = o
-opens_given h (reply.ChannelOpenOk n) p f o = o
-opens_given h (reply.FlowOk n) p f o = o
-opens_given h (reply.ChannelCloseOk n) p f o = o
-opens_given h (reply.CrossedOk n) p f o = o
-opens_given h (reply.ChannelClose n r) p f o = o
+opens_given : (h : List Step) (u : Reply) (text : List ℕ) → ArePicks h → Picked (before h) u → OpensWhenOpened h → OpensWhenOpened (Gave (ToClient u) text ∷ h)
+opens_given h reply.Protocol text p f o = o
+opens_given h reply.Start text p f o = o
+opens_given h reply.Tune text p f o = o
+opens_given h reply.OpenOk text p f o = (opens_picked h p f, o)
+opens_given h reply.CloseOk text p f o = o
+opens_given h (reply.Close r) text p f o = o
+opens_given h reply.NoMemory text p f o = o
+opens_given h reply.Heartbeat text p f o = o
+opens_given h (reply.ChannelOpenOk n) text p f o = o
+opens_given h (reply.OnChannel n u) text p f o = o
+opens_given h (reply.ChannelCloseOk n) text p f o = o
+opens_given h (reply.CrossedOk n) text p f o = o
+opens_given h (reply.ChannelClose n r) text p f o = o
 
 pub opens_when_opened : (h : List Step) → ArePicks h → OpensWhenOpened h
 opens_when_opened [] p = tt
-opens_when_opened (Gave (ToClient u) ∷ h) p = opens_given h u p.1 (picked (before h) u p.0.1) (opens_when_opened h p.1)
-opens_when_opened (Gave (ToUp u) ∷ h) p = opens_when_opened h p.1
+opens_when_opened (Gave (ToClient u) text ∷ h) p = opens_given h u text p.1 (picked (before h) u p.0.1) (opens_when_opened h p.1)
+opens_when_opened (Gave (ToUp u) text ∷ h) p = opens_when_opened h p.1
 opens_when_opened (Began vhost n ms ∷ h) p = opens_when_opened h p.1
 opens_when_opened (Moment ms ∷ h) p = opens_when_opened h p.1
 opens_when_opened (Fed end ∷ h) p = opens_when_opened h p.1

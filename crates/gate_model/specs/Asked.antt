@@ -1,5 +1,6 @@
 -- What goes to a container and why, and when its end is shut: told by folds that know no state.
-use Rattle.std.specs.Prelude.{◌≡◌, ◌↔◌, ℕ, ◌+◌, ◌/◌, ◌<◌, ◌≤◌, Bool, true, false, ◌||◌, ◌⊎◌, List, []}
+use Rattle.std.specs.Prelude.{◌≡◌, ◌↔◌, ℕ, ◌+◌, ◌/◌, ◌<◌, ◌≤◌, Bool, true, false, ◌||◌, ◌⊎◌, List}
+use Rattle.std.specs.Prelude.{[]}
 use Rattle.std.specs.Prelude.{◌∷◌, ◌++◌, filter, Option, None, Some, if◌then◌else◌}
 use Rattle.std.specs.List.{list_any}
 use Rattle.gate_outside.specs.declared.ports.End.TheVariants.{Up}
@@ -22,14 +23,16 @@ use Rattle.gate_model.specs.declared.timers.TheConstants.{CLOSING_LIMIT}
 use Rattle.gate_model.specs.Due.{is_shut_due, up_rows}
 use Rattle.gate_model.specs.Folds.{carrying, closed_in, connection, container, moment_in}
 use Rattle.gate_model.specs.Folds.{ran_out_in}
-use Rattle.performatives_10.specs.declared.condition.Condition.TheVariants.{NotAllowed}
 use Rattle.performatives_10.specs.declared.condition.Condition.TheVariants.{ResourceLimitExceeded}
-use Rattle.gate_model.specs.Folds.{sent_up, sent_up_at, session_closes, side_in}
+use Rattle.session_path.specs.Path.{PathState}
+use Rattle.gate_model.specs.Paths.{path_at}
+use Rattle.gate_model.specs.Folds.{closes_connection, paths_in, sent_up, sent_up_at, side_in}
 use Rattle.gate_model.specs.Lives.{is_begun, is_carried, is_ended, is_free, session_in}
 use Rattle.gate_model.specs.Session.{is_flow_owed}
-use Rattle.gate_model.specs.State.{Came, Gave, Heard, Joined, OutOfMemory, Silent, State, Step, want_in}
+use Rattle.gate_model.specs.State.{Came, Gave, Heard, Joined, OutOfMemory, Silent, State, Step}
+use Rattle.gate_model.specs.State.{want_in}
 use Rattle.gate_model.specs.State.{Whole}
-use Rattle.gate_model.specs.State.{before, condition_by}
+use Rattle.gate_model.specs.State.{before, condition_by, closing_error, link_scope}
 use Rattle.gate_model.specs.Upstream.{idle_in, is_bad_stream, is_closed_stream, meaning_by}
 use Rattle.gate_model.specs.Upstream.{nothing_due, opening_rows, opens_by, stream_in}
 
@@ -43,6 +46,7 @@ is_opening_unit up.AmqpHeader = true
 is_opening_unit up.Open = true
 is_opening_unit (up.Close why) = false
 is_opening_unit up.Empty = false
+is_opening_unit (up.OnSession n u) = false
 is_opening_unit (up.Flow n i o) = false
 is_opening_unit (up.Begin n) = false
 is_opening_unit (up.End n why) = false
@@ -96,6 +100,7 @@ is_up_open up.AmqpHeader = false
 is_up_open up.Open = true
 is_up_open (up.Close why) = false
 is_up_open up.Empty = false
+is_up_open (up.OnSession n u) = false
 is_up_open (up.Flow n i o) = false
 is_up_open (up.Begin n) = false
 is_up_open (up.End n why) = false
@@ -107,25 +112,28 @@ is_up_close up.AmqpHeader = false
 is_up_close up.Open = false
 is_up_close (up.Close why) = true
 is_up_close up.Empty = false
+is_up_close (up.OnSession n u) = false
 is_up_close (up.Flow n i o) = false
 is_up_close (up.Begin n) = false
 is_up_close (up.End n why) = false
 
 -- a unit of the container that is out of order has its condition, and no other has one
-abbrev pub condition_told : Meaning → Option Condition
-condition_told ten.Nothing = None
-condition_told ten.Init = None
-condition_told ten.AmqpHeader = None
-condition_told ten.Opened = None
-condition_told (ten.OfSession g p payload) = if session_closes p then Some NotAllowed else None
-condition_told (ten.Closed e) = None
-condition_told ten.Refused = None
-condition_told (ten.Violation why) = Some why
+abbrev pub condition_told : List (Option PathState) → Meaning → Option Condition
+condition_told ps ten.Nothing = None
+condition_told ps ten.Init = None
+condition_told ps ten.AmqpHeader = None
+condition_told ps ten.Opened = None
+condition_told ps (ten.OfSession g p payload) =
+    if closes_connection (link_scope p (path_at ps g))
+    then Some (closing_error p (path_at ps g)) else None
+condition_told ps (ten.Closed e) = None
+condition_told ps ten.Refused = None
+condition_told ps (ten.Violation why) = Some why
 
 -- what a step says of the error of the gateway's close, if it is the closing event
 abbrev pub condition_at : Step → List Step → Option Condition
 condition_at (Came u) h = condition_by (want_in (connection h) u)
-condition_at (Heard u) h = condition_told (meaning_by (container h) u)
+condition_at (Heard u) h = condition_told (paths_in h) (meaning_by (container h) u)
 condition_at (Silent Up) h = Some ResourceLimitExceeded
 condition_at OutOfMemory h = Some (condition_of RESOURCE_ERROR)
 condition_at s h = None
@@ -143,7 +151,8 @@ pub record MayClose (h : List Step) (why : Option Condition) : Type 0 where
   pub closing : is_closing (connection h) ≡ true
   pub why_is : why ≡ closing_condition h
   -- no session is left that began and didn't end
-  pub ended : (n : ℕ) → n < 256 → (is_ended (session_in (container h) n) || is_begun (session_in (container h) n)) ≡ false
+  pub ended : (n : ℕ) → n < 256 → (is_ended (session_in (container h) n)
+      || is_begun (session_in (container h) n)) ≡ false
 
 -- ---- frames that tell that the gateway is alive
 
@@ -170,9 +179,9 @@ pub data MayEnd (h : List Step) (n : ℕ) : Type 0 where
       → (is_closing (connection h) ≡ true) ⊎ (is_open (connection h) n ≡ false)
       → MayEnd h n
 
--- a flow goes between the container's begin and the gateway's end, where the container asked for the
--- state of the session and wasn't answered, or little is left of the window that the gateway stated
--- (AMQP 1.0 2.5.6, 2.7.4); it tells the ids of the next transfer frames
+-- a flow goes between the container's begin and the gateway's end, where the container asked for
+-- the state of the session and wasn't answered, or little is left of the window that the gateway
+-- stated (AMQP 1.0 2.5.6, 2.7.4); it tells the ids of the next transfer frames
 pub record MayFlow (h : List Step) (n i o : ℕ) : Type 0 where
   pub carried : is_carried (session_in (container h) n) ≡ true
   pub owed : is_flow_owed (carrying n h) ≡ true
@@ -189,6 +198,7 @@ MayGo h up.AmqpHeader = is_closing (connection h) ≡ false
 MayGo h up.Open = is_closing (connection h) ≡ false
 MayGo h (up.Close why) = MayClose h why
 MayGo h up.Empty = MayTell h
+MayGo h (up.OnSession n u) = is_carried (session_in (container h) n) ≡ true
 MayGo h (up.Flow n i o) = MayFlow h n i o
 MayGo h (up.Begin n) = MayBegin h n
 MayGo h (up.End n why) = MayEnd h n
@@ -201,7 +211,7 @@ pub record Goes (h : List Step) (u : UpUnit) : Type 0 where
 
 abbrev pub GoesWhenDue : List Step → Type 0
 GoesWhenDue [] = Unit {0}
-GoesWhenDue (Gave (ToUp u) ∷ h) = Goes h u × GoesWhenDue h
+GoesWhenDue (Gave (ToUp u) text ∷ h) = Goes h u × GoesWhenDue h
 GoesWhenDue (s ∷ h) = GoesWhenDue h
 
 -- ---- shutting

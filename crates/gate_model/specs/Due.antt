@@ -1,9 +1,8 @@
 -- What a state owes: the units to an end, in the order in which they go, and the shutting of an
 -- end; and what it waits for.
-use Rattle.std.specs.Prelude.{ℕ, ◌-◌, ◌*◌, ◌==◌, nat_le, nat_lt, Bool, true, false, not, ◌&&◌, ◌||◌}
+use Rattle.std.specs.Prelude.{ℕ, ◌-◌, ◌*◌, ◌==◌, nat_le, Bool, true, false, not, ◌&&◌, ◌||◌}
 use Rattle.std.specs.Prelude.{List, [], ◌∷◌, ◌++◌, map, Option, None, Some, is_some}
 use Rattle.std.specs.Prelude.{if◌then◌else◌}
-use Rattle.std.specs.List.{list_any}
 use Rattle.std.specs.Option.{option_map}
 use Rattle.gate_outside.specs.declared.ports.End.{End}
 use Rattle.gate_outside.specs.declared.ports.End.TheVariants.{Client, Up}
@@ -24,17 +23,33 @@ use Rattle.gate_model.specs.declared.reply.Reply.TheVariants as reply
 use Rattle.gate_model.specs.declared.reply.Pending.{Pending}
 use Rattle.gate_model.specs.declared.life.Life.{Life}
 use Rattle.gate_model.specs.declared.timers.TheConstants.{BEAT_PER_SECOND, CLOSING_LIMIT}
+use Rattle.gate_model.specs.declared.timers.TheConstants.{LINGER_LIMIT}
 use Rattle.gate_model.specs.declared.timers.TheConstants.{SILENCE_PER_SECOND}
 use Rattle.gate_model.specs.declared.outgoing.Outgoing.{Outgoing}
 use Rattle.gate_model.specs.declared.outgoing.Outgoing.TheVariants.{ToClient, ToUp}
 use Rattle.gate_model.specs.declared.outgoing.UpUnit.{UpUnit}
 use Rattle.gate_model.specs.declared.outgoing.UpUnit.TheVariants as up
-use Rattle.gate_model.specs.Lives.{each, is_begun, is_carried, is_ended, is_free, session_in}
+use Rattle.std.specs.Prelude.{min}
+use Rattle.machine_10.specs.declared.limits.TheConstants.{FRAME_MAX}
+use Rattle.publish_path.specs.Links.{address_of}
+use Rattle.publish_path.specs.declared.publish.Confirm.{Confirm}
+use Rattle.session_path.specs.Due.{next_attach, next_confirm, next_detach, next_flow}
+use Rattle.session_path.specs.Due.{next_frame, next_ok, next_settle}
+use Rattle.session_path.specs.Due as path_due
+use Rattle.session_path.specs.Links.{handle_of}
+use Rattle.session_path.specs.Path.{PathState}
+use Rattle.session_path.specs.declared.path.PathOk.{PathOk}
+use Rattle.gate_model.specs.declared.channel.ChannelUnit.TheVariants as unit
+use Rattle.gate_model.specs.declared.channel.SessionUnit.{SessionUnit}
+use Rattle.gate_model.specs.declared.channel.SessionUnit.TheVariants as session_unit
+use Rattle.gate_model.specs.Paths.{attach_out, flow_out, part_of, path_at, transfer_of}
+use Rattle.gate_model.specs.Lives.{any_life, each, is_begun, is_carried, is_ended, is_free, life_at}
+use Rattle.gate_model.specs.Lives.{session_in}
 use Rattle.gate_model.specs.Session.{is_flow_owed}
 use Rattle.machine_10.specs.declared.state.Upstream.{Upstream}
 use Rattle.gate_model.specs.Queue.{is_empty}
 use Rattle.gate_model.specs.State.{State, is_channel_settled, is_held, is_settled, place, waits}
-use Rattle.gate_model.specs.Upstream.{UpState, awaited_of, first, has_closed, has_gone_bad}
+use Rattle.gate_model.specs.Upstream.{awaited_of, first, has_closed, has_gone_bad}
 use Rattle.gate_model.specs.Upstream.{is_awaited_up, is_idle_due, is_up_silent, opening_rows}
 use Rattle.gate_model.specs.Upstream.{when_up}
 
@@ -86,8 +101,32 @@ is_beat_due w = is_beat_by w.sent_last.close_ok w.conn.limits.heartbeat w.moment
 abbrev pub open_oks : State → List Reply
 open_oks w = each (λ n l. when l.open_ok (reply.ChannelOpenOk n)) 0 w.lives
 
-abbrev pub flow_oks : State → List Reply
-flow_oks w = each (λ n l. when (nat_lt 0 l.flow_oks) (reply.FlowOk n)) 0 w.lives
+-- ---- answers on open channels, and confirms
+
+abbrev pub ok_on : ℕ → Option PathOk → List Reply
+ok_on n None = []
+ok_on n (Some x) = reply.OnChannel n (unit.Ok x) ∷ []
+
+abbrev pub oks_on : List (Option PathState) → ℕ → Life → List Reply
+oks_on ps n l = if l.over then [] else ok_on n (next_ok (path_at ps n))
+
+abbrev pub path_oks : State → List Reply
+path_oks w = each (oks_on w.paths) 0 w.lives
+
+-- a confirm goes while the channel is open, or where the container was the cause of its closing
+-- event
+abbrev pub confirm_on : Bool → ℕ → Option Confirm → List Reply
+confirm_on may n None = []
+confirm_on may n (Some c) = when may (reply.OnChannel n (unit.Confirm c))
+
+abbrev pub may_confirm : Life → Bool
+may_confirm l = not l.over || l.by_peer
+
+abbrev pub confirms_on : List (Option PathState) → ℕ → Life → List Reply
+confirms_on ps n l = confirm_on (may_confirm l) n (next_confirm (path_at ps n))
+
+abbrev pub confirms : State → List Reply
+confirms w = each (confirms_on w.paths) 0 w.lives
 
 -- one to a channel.close that crossed the gateway's waits for nothing
 abbrev pub close_oks_on : ℕ → Bool → Life → List Reply
@@ -135,9 +174,10 @@ if_so false us = []
 abbrev pub client_units : State → List Reply
 client_units w =
     let p = may_go (is_settled w) w.pending in
-    openings p ++ (if_so (may_answer w) (open_oks w ++ flow_oks w)
+    openings p ++ (if_so (may_answer w) (open_oks w ++ path_oks w)
+    ++ (if_so (may_answer w || w.by_peer) (confirms w)
     ++ (close_oks p ++ (if_so (may_end w) (channel_oks w)
-    ++ (last_closes p ++ if_so (may_tell w) (channel_closes w)))))
+    ++ (last_closes p ++ if_so (may_tell w) (channel_closes w))))))
 
 abbrev pub client_rows : State → List Reply
 client_rows w = client_units w ++ when (is_beat_due w) reply.Heartbeat
@@ -146,7 +186,8 @@ client_rows w = client_units w ++ when (is_beat_due w) reply.Heartbeat
 
 -- a begin is due once channel.open was taken up and the session of that number before it ended
 abbrev pub begins : State → List UpUnit
-begins w = each (λ n l. when_up (l.begin && is_free (session_in w.up.container n)) (up.Begin n)) 0 w.lives
+begins w =
+    each (λ n l. when_up (l.begin && is_free (session_in w.up.container n)) (up.Begin n)) 0 w.lives
 
 -- a flow of a session is due between the container's begin and the gateway's end, where the
 -- container asked for one or little is left of the window that the gateway stated
@@ -158,32 +199,99 @@ flows_on c n l =
 abbrev pub session_flows : State → List UpUnit
 session_flows w = each (flows_on w.up.container) 0 w.lives
 
--- an end is due where the container's came, or where the channel or the connection closes
+-- units of the links of a session, between the container's begin and the gateway's end
+abbrev pub row_on : {A : Type 0} → Option Upstream → ℕ → Option A → (A → SessionUnit) → List UpUnit
+row_on c n None f = []
+row_on c n (Some x) f = when_up (is_carried (session_in c n)) (up.OnSession n (f x))
+
+abbrev pub attach_row : Option Upstream → List (Option PathState) → ℕ → ℕ → Life → List UpUnit
+attach_row c ps name n l =
+    row_on c n (next_attach (path_at ps n)) (λ a. session_unit.Attach (attach_out name a))
+
+abbrev pub link_flow_row : Option Upstream → List (Option PathState) → ℕ → Life → List UpUnit
+link_flow_row c ps n l =
+    row_on c n (next_flow (path_at ps n)) (λ f. session_unit.Flow (flow_out l.session f))
+
+-- frames of transfers, as large as the container takes them (AMQP 1.0 2.7.1)
+abbrev pub frame_max_in : Option Upstream → ℕ
+frame_max_in None = 0
+frame_max_in (Some c) = min FRAME_MAX c.stated.max_frame
+
+abbrev pub transfer_row : Option Upstream → List (Option PathState) → ℕ → Life → List UpUnit
+transfer_row c ps n l =
+    row_on c n (next_frame l.session.windows.window (path_at ps n))
+    (λ f. session_unit.Transfer (transfer_of (frame_max_in c) (path_at ps n) f))
+
+abbrev pub settle_row : Option Upstream → List (Option PathState) → ℕ → Life → List UpUnit
+settle_row c ps n l = row_on c n (next_settle (path_at ps n)) (λ x. session_unit.Settle x)
+
+abbrev pub detach_row : Option Upstream → List (Option PathState) → ℕ → Life → List UpUnit
+detach_row c ps n l =
+    row_on c n (next_detach (path_at ps n)) (λ x. session_unit.Detach x.link (handle_of x.stage))
+
+abbrev pub attaches : State → List UpUnit
+attaches w = each (attach_row w.up.container w.paths w.attached) 0 w.lives
+
+abbrev pub link_flows : State → List UpUnit
+link_flows w = each (link_flow_row w.up.container w.paths) 0 w.lives
+
+abbrev pub transfers : State → List UpUnit
+transfers w = each (transfer_row w.up.container w.paths) 0 w.lives
+
+abbrev pub settlings : State → List UpUnit
+settlings w = each (settle_row w.up.container w.paths) 0 w.lives
+
+abbrev pub detaches : State → List UpUnit
+detaches w = each (detach_row w.up.container w.paths) 0 w.lives
+
+-- an end is due where the container's came; or where the channel or the connection closes, once its
+-- publishes are sent and answered or that is so long ago
+abbrev pub is_long_ago : Option ℕ → ℕ → Bool
+is_long_ago None ms = false
+is_long_ago (Some at) ms = nat_le LINGER_LIMIT (ms - at)
+
+abbrev pub is_lingered : State → ℕ → Bool
+is_lingered w n =
+    w.out_of_memory || (path_due.is_done (path_at w.paths n)
+    || (is_long_ago (life_at w.lives n).closed_at w.moment || is_long_ago w.closed_at w.moment))
+
 abbrev pub is_end_due : Bool → State → ℕ → Bool
 is_end_due closing w n =
     is_ended (session_in w.up.container n)
     || (is_begun (session_in w.up.container n)
-    && (closing || not (is_open w.conn n)))
+    && ((closing || not (is_open w.conn n)) && is_lingered w n))
 
 abbrev pub ends : Bool → State → List UpUnit
 ends closing w = each (λ n l. when_up (is_end_due closing w n) (up.End n l.why)) 0 w.lives
 
+-- no session is left that began and has no end
+abbrev pub none_left : State → Bool
+none_left w =
+    not (any_life (λ n l. is_ended (session_in w.up.container n)
+    || is_begun (session_in w.up.container n)) 0 w.lives)
+
 -- the close goes behind all ends, where the open was sent
-abbrev pub close_behind : List UpUnit → UpState → List UpUnit
-close_behind [] s = when_up s.sent.«open» (up.Close s.condition)
-close_behind (u ∷ us) s = []
+abbrev pub close_behind : State → List UpUnit
+close_behind w = when_up (none_left w && w.up.sent.«open») (up.Close w.up.condition)
 
 -- while the connection isn't closing and once it is
 abbrev pub unless_out : Bool → List UpUnit → List UpUnit
 unless_out true us = []
 unless_out false us = us
 
+-- of links and sessions: none takes memory that goes once the pair ran out of it
+abbrev pub carried_rows : State → List UpUnit
+carried_rows w = attaches w ++ (link_flows w ++ (session_flows w ++ transfers w))
+
+abbrev pub session_rows : State → List UpUnit
+session_rows w = unless_out w.out_of_memory (carried_rows w) ++ (settlings w ++ detaches w)
+
 abbrev pub rows_in : Bool → State → List UpUnit
 rows_in true w =
-    unless_out w.out_of_memory (session_flows w)
-    ++ (ends true w ++ close_behind (ends true w) w.up)
+    session_rows w
+    ++ (ends true w ++ close_behind w)
 rows_in false w =
-    opening_rows w.up.pending ++ (begins w ++ (session_flows w
+    opening_rows w.up.pending ++ (begins w ++ (session_rows w
     ++ (ends false w ++ when_up (is_idle_due w.up w.moment) up.Empty)))
 
 -- through an end that is open, and none after the close
@@ -197,7 +305,14 @@ abbrev pub due : State → End → List Outgoing
 due w Client = map ToClient (client_rows w)
 due w Up = map ToUp (up_rows w)
 
--- units of the opening whose spelling takes memory
+-- units whose spelling takes memory
+abbrev pub takes_memory_on : SessionUnit → Bool
+takes_memory_on (session_unit.Attach a) = true
+takes_memory_on (session_unit.Flow f) = true
+takes_memory_on (session_unit.Transfer t) = true
+takes_memory_on (session_unit.Settle x) = false
+takes_memory_on (session_unit.Detach link handle) = false
+
 abbrev pub takes_memory_up : UpUnit → Bool
 takes_memory_up up.SaslHeader = false
 takes_memory_up up.SaslInit = true
@@ -205,6 +320,7 @@ takes_memory_up up.AmqpHeader = false
 takes_memory_up up.Open = true
 takes_memory_up (up.Close c) = false
 takes_memory_up up.Empty = false
+takes_memory_up (up.OnSession n u) = takes_memory_on u
 takes_memory_up (up.Flow n i o) = true
 takes_memory_up (up.Begin n) = true
 takes_memory_up (up.End n why) = false
@@ -213,6 +329,22 @@ abbrev pub takes_memory : Option Outgoing → Bool
 takes_memory None = false
 takes_memory (Some (ToClient u)) = false
 takes_memory (Some (ToUp u)) = takes_memory_up u
+
+-- what a unit carries of the client's: the address of an attach, and the part of a payload
+abbrev pub carries_of : PathState → SessionUnit → List ℕ
+carries_of s (session_unit.Attach a) = address_of s.links.sending a.link
+carries_of s (session_unit.Flow f) = []
+carries_of s (session_unit.Transfer t) = part_of s t
+carries_of s (session_unit.Settle x) = []
+carries_of s (session_unit.Detach link handle) = []
+
+abbrev pub carries_up : State → UpUnit → List ℕ
+carries_up w (up.OnSession n u) = carries_of (path_at w.paths n) u
+carries_up w u = []
+
+abbrev pub carries : State → Outgoing → List ℕ
+carries w (ToClient u) = []
+carries w (ToUp u) = carries_up w u
 
 -- the one that goes
 abbrev pub pick : State → End → Option Outgoing

@@ -2,7 +2,8 @@
 -- connections, the replies to the client, the units that were sent, and moments. The laws speak of
 -- these.
 use Rattle.std.specs.Prelude.{ℕ, ◌==◌, Bool, true, false, not, ◌&&◌, if◌then◌else◌, List, [], ◌∷◌}
-use Rattle.std.specs.Prelude.{◌++◌, filter, Option, None, Some}
+use Rattle.std.specs.Prelude.{◌++◌, ◌+◌, filter, map, Option, None, Some}
+use Rattle.std.specs.Option.{option_map}
 use Rattle.gate_outside.specs.declared.ports.End.TheVariants.{Client, Up}
 use Rattle.gate_outside.specs.declared.ports.Linked.TheVariants as link
 use Rattle.gate_relay.specs.declared.loss.Loss.TheVariants as loss
@@ -11,7 +12,10 @@ use Rattle.gate_relay.specs.declared.sides.Side.TheVariants as side
 use Rattle.close_translate.specs.Conditions.{code_by}
 use Rattle.close_translate.specs.declared.codes.TheConstants.{CONNECTION_FORCED, INTERNAL_ERROR}
 use Rattle.close_translate.specs.declared.codes.TheConstants.{NOT_ALLOWED}
+use Rattle.close_translate.specs.declared.conditions.Scope.{Scope}
 use Rattle.close_translate.specs.declared.conditions.Scope.TheVariants as scope
+use Rattle.session_path.specs.Path.{PathState}
+use Rattle.gate_model.specs.Paths.{lost_path, no_paths, path_at, with_path}
 use Rattle.machine_091.specs.Calls.{after_closing, after_ended, after_opened}
 use Rattle.machine_091.specs.State.{new_connection, is_closing, is_open, is_opening}
 use Rattle.machine_091.specs.declared.state.Connection.{Connection}
@@ -19,24 +23,26 @@ use Rattle.machine_091.specs.declared.unit.Unit91.{Unit91}
 use Rattle.machine_091.specs.declared.unit.Want91.{Want91}
 use Rattle.machine_091.specs.declared.unit.Want91.TheVariants as want
 use Rattle.machine_10.specs.Parts.{Parts}
-use Rattle.machine_10.specs.Reading.{field}
 use Rattle.machine_10.specs.Transitions as ten
 use Rattle.machine_10.specs.Transitions.{Meaning}
 use Rattle.machine_10.specs.declared.state.Upstream.{Upstream}
 use Rattle.machine_10.specs.declared.unit.Unit10.{Unit10}
+use Rattle.gate_model.specs.Lives.{is_of_channel}
 use Rattle.gate_model.specs.declared.outgoing.Outgoing.TheVariants.{ToClient, ToUp}
 use Rattle.gate_model.specs.declared.outgoing.UpUnit.{UpUnit}
 use Rattle.gate_model.specs.declared.reply.Reply.{Reply}
 use Rattle.gate_model.specs.declared.reply.Reply.TheVariants as reply
-use Rattle.gate_model.specs.State.{Began, Came, Fed, Gave, Heard, Joined, Lost, Moment, Queued, Silent, Step, TakenUp, want_in}
+use Rattle.gate_model.specs.State.{Began, Came, Fed, Gave, Heard, Joined, Lost, Moment, Queued}
+use Rattle.gate_model.specs.State.{Silent, Step, TakenUp, want_in}
 use Rattle.gate_model.specs.State.{Whole, OutOfMemory, close, close_if, closes_at, conn_step}
-use Rattle.gate_model.specs.Lives.{is_of_channel}
-use Rattle.gate_model.specs.State.{conn_given, failure, is_limit_reached, turns_foreign, want_in}
+use Rattle.gate_model.specs.State.{conn_given, failure, is_limit_reached, link_scope, lives_opened}
+use Rattle.gate_model.specs.State.{path_heard}
+use Rattle.gate_model.specs.State.{paths_by, paths_given, paths_given_up, session_by, turns_foreign}
 use Rattle.gate_model.specs.Upstream.{channel_max_in, condition_in, container_by, container_for}
 use Rattle.gate_model.specs.Upstream.{container_given, ended_in}
 use Rattle.gate_model.specs.Upstream.{meaning_by}
 use Rattle.gate_model.specs.Due.{when}
-use Rattle.gate_model.specs.Session.{carried_by, flow_sent, is_of_session, no_session}
+use Rattle.gate_model.specs.Session.{carried_by, flow_sent, no_session}
 use Rattle.gate_model.specs.declared.life.SessionState.{SessionState}
 use Rattle.gate_model.specs.declared.outgoing.UpUnit.TheVariants as up
 
@@ -120,39 +126,62 @@ silent_in [] = false
 silent_in (Silent Up ∷ h) = true
 silent_in (s ∷ h) = silent_in h
 
--- an attach answers none of the gateway's
-abbrev pub session_closes : Parts → Bool
-session_closes p = if p.0 == 17 then false else p.0 == 18
-
--- the client's connection after a unit of a session: an end and what names a link close the
--- channel, and an attach the connection
-abbrev pub conn_session : ℕ → Parts → Connection → Connection
-conn_session n p c =
-    if p.0 == 17 then c
-    else if p.0 == 18 then close c
-    else if p.0 == 19 && is_of_session p.1 then c
-    else if p.0 == 21 then c
-    else if is_open c n then after_closing scope.Channel n c
-    else c
-
--- the client's connection after that: the container's open makes it run, and its close, a refused
--- login and a unit out of order close it
-abbrev pub conn_by : Meaning → Option Upstream → Connection → Connection
-conn_by ten.Nothing o c = c
-conn_by ten.Init o c = c
-conn_by ten.AmqpHeader o c = c
-conn_by ten.Opened o c = if is_opening c then after_opened (channel_max_in o) c else c
-conn_by (ten.OfSession g p payload) o c = conn_session g p c
-conn_by (ten.Closed e) o c = close c
-conn_by ten.Refused o c = close c
-conn_by (ten.Violation why) o c = close c
-
--- both connections: of the client, by its units, by the handshake limit, by its end and by what
--- happens upstream; of the container, by the client's login and the container's units. After the
--- pair ran out of memory no unit counts
+-- both connections and the paths of the channels: of the client, by its units, by the handshake
+-- limit, by its end and by what happens upstream; of the container, by the client's login and the
+-- container's units; and how many channels were opened. After the pair ran out of memory no unit
+-- counts
 pub record Peers : Type 0 where
   pub client : Connection
   pub container : Option Upstream
+  pub paths : List (Option PathState)
+  pub opened : ℕ
+
+-- the client's connection closes by the container's doing: the paths are lost then
+abbrev pub paths_failed : Bool → List (Option PathState) → List (Option PathState)
+paths_failed true ps = ps
+paths_failed false ps = map (option_map lost_path) ps
+
+abbrev pub peers_failed : Peers → Peers
+peers_failed p =
+    record p { client = close p.client; paths = paths_failed (is_closing p.client) p.paths }
+
+-- a channel does, if it is open
+abbrev pub ended_on : Bool → ℕ → Peers → Peers
+ended_on true n p = record p {
+  client = after_closing scope.Channel n p.client;
+  paths = with_path n lost_path p.paths;
+}
+ended_on false n p = p
+
+abbrev pub peers_ended : ℕ → Peers → Peers
+peers_ended n p = ended_on (is_open p.client n) n p
+
+-- after a unit of a session: an end closes the channel, and what is wrong what it says
+abbrev pub peers_met : ℕ → Parts → Peers → Peers
+peers_met n q p = if q.0 == 17 then p else if q.0 == 23 then peers_ended n p else p
+
+abbrev pub peers_scoped : Option Scope → ℕ → Parts → Peers → Peers
+peers_scoped None n q p = peers_met n q (record p { paths = with_path n (path_heard q) p.paths })
+peers_scoped (Some scope.Connection) n q p = peers_failed p
+peers_scoped (Some scope.Channel) n q p = peers_ended n p
+
+abbrev pub peers_session : ℕ → Parts → Peers → Peers
+peers_session n q p = peers_scoped (link_scope q (path_at p.paths n)) n q p
+
+-- the client's connection after that: the container's open makes it run, and its close, a refused
+-- login and a unit out of order close it
+abbrev pub opened_by : Option Upstream → Connection → Connection
+opened_by o c = if is_opening c then after_opened (channel_max_in o) c else c
+
+abbrev pub peers_by : Meaning → Peers → Peers
+peers_by ten.Nothing p = p
+peers_by ten.Init p = p
+peers_by ten.AmqpHeader p = p
+peers_by ten.Opened p = record p { client = opened_by p.container p.client }
+peers_by (ten.OfSession g q payload) p = peers_session g q p
+peers_by (ten.Closed e) p = peers_failed p
+peers_by ten.Refused p = peers_failed p
+peers_by (ten.Violation why) p = peers_failed p
 
 abbrev pub container_kept : Option Upstream → Want91 → Option Upstream
 container_kept o want.Nothing = o
@@ -171,23 +200,33 @@ abbrev pub peers_came : Peers → Unit91 → Peers
 peers_came p u = record {
   client = conn_step p.client u;
   container = container_kept p.container (want_in p.client u);
+  paths = paths_by p.opened (want_in p.client u) p.paths;
+  opened = p.opened + lives_opened (want_in p.client u);
 }
 
 abbrev pub peers_heard : Peers → Unit10 → Peers
-peers_heard p u = record {
-  client = conn_by (meaning_by p.container u) (container_by p.container u) p.client;
-  container = container_by p.container u;
-}
+peers_heard p u =
+    peers_by (meaning_by p.container u) (record p { container = container_by p.container u })
+
+-- the upstream end is lost
+abbrev pub peers_lost : Peers → Peers
+peers_lost p =
+    peers_failed
+    (record p { container = ended_in p.container; paths = map (option_map lost_path) p.paths })
+
+abbrev pub new_peers : List ℕ → Peers
+new_peers vhost =
+    record { client = new_connection vhost; container = None; paths = no_paths; opened = 0 }
 
 abbrev pub peers : List Step → Peers
-peers [] = record { client = new_connection []; container = None }
-peers (Began vhost n ms ∷ h) = record { client = new_connection vhost; container = None }
+peers [] = new_peers []
+peers (Began vhost n ms ∷ h) = new_peers vhost
 peers (Moment ms ∷ h) = record (peers h) {
   client = close_if (is_limit_reached (peers h).client (accepted_in h) ms) (peers h).client;
 }
 peers (Fed end ∷ h) = peers h
 peers (Silent Client ∷ h) = record (peers h) { client = after_ended (peers h).client }
-peers (Silent Up ∷ h) = record (peers h) { client = close (peers h).client }
+peers (Silent Up ∷ h) = peers_failed (peers h)
 peers (Queued u ∷ h) = peers h
 peers (Came u ∷ h) = if ran_out_in h then peers h else peers_came (peers h) u
 peers (TakenUp ∷ h) =
@@ -196,17 +235,25 @@ peers (TakenUp ∷ h) =
     else peers h
 peers (Heard u ∷ h) = if ran_out_in h then peers h else peers_heard (peers h) u
 peers (Joined link.Ok ∷ h) = peers h
-peers (Joined link.Failed ∷ h) = record (peers h) { client = close (peers h).client }
+peers (Joined link.Failed ∷ h) = peers_failed (peers h)
 peers (Lost Client how ∷ h) = peers h
-peers (Lost Up loss.Ended ∷ h) =
-    record { client = close (peers h).client; container = ended_in (peers h).container }
-peers (Lost Up loss.Failed ∷ h) =
-    record { client = close (peers h).client; container = ended_in (peers h).container }
+peers (Lost Up loss.Ended ∷ h) = peers_lost (peers h)
+peers (Lost Up loss.Failed ∷ h) = peers_lost (peers h)
 peers (Lost Up loss.Shut ∷ h) = peers h
-peers (Gave (ToClient u) ∷ h) = record (peers h) { client = conn_given u (peers h).client }
-peers (Gave (ToUp u) ∷ h) = record (peers h) { container = container_given u (peers h).container }
+peers (Gave (ToClient u) text ∷ h) = record (peers h) {
+  client = conn_given u (peers h).client;
+  paths = paths_given u (peers h).paths;
+}
+peers (Gave (ToUp u) text ∷ h) = record (peers h) {
+  container = container_given u (peers h).container;
+  paths = paths_given_up u (peers h).paths;
+}
 peers (Whole end ∷ h) = peers h
 peers (OutOfMemory ∷ h) = record (peers h) { client = close (peers h).client }
+
+-- the paths of the channels
+abbrev pub paths_in : List Step → List (Option PathState)
+paths_in h = (peers h).paths
 
 abbrev pub connection : List Step → Connection
 connection h = (peers h).client
@@ -235,6 +282,7 @@ carried_heard n (ten.Violation why) s = s
 
 abbrev pub carried_sent : ℕ → UpUnit → SessionState → SessionState
 carried_sent n (up.Flow m i o) s = if m == n then flow_sent s else s
+carried_sent n (up.OnSession m u) s = if m == n then session_by u s else s
 carried_sent n u s = s
 
 abbrev pub carrying : ℕ → List Step → SessionState
@@ -242,7 +290,7 @@ carrying n [] = no_session
 carrying n (Heard u ∷ h) =
     if ran_out_in h then carrying n h
     else carried_heard n (meaning_by (container h) u) (carrying n h)
-carrying n (Gave (ToUp u) ∷ h) = carried_sent n u (carrying n h)
+carrying n (Gave (ToUp u) text ∷ h) = carried_sent n u (carrying n h)
 carrying n (s ∷ h) = carrying n h
 
 -- ---- replies
@@ -272,15 +320,22 @@ failure_to c code = when (not (is_closing c)) (reply.Close (failure code))
 
 -- the reply to what a unit of the container means: to its open connection.open-ok, where that is
 -- awaited
-abbrev pub reply_by : Connection → Meaning → List Reply
-reply_by c ten.Nothing = []
-reply_by c ten.Init = []
-reply_by c ten.AmqpHeader = []
-reply_by c ten.Opened = when (is_opening c) reply.OpenOk
-reply_by c (ten.OfSession g p payload) = if session_closes p then failure_to c INTERNAL_ERROR else []
-reply_by c (ten.Closed e) = failure_to c (code_by (condition_in e) scope.Connection)
-reply_by c ten.Refused = failure_to c NOT_ALLOWED
-reply_by c (ten.Violation why) = failure_to c INTERNAL_ERROR
+-- what closes the connection
+abbrev pub closes_connection : Option Scope → Bool
+closes_connection None = false
+closes_connection (Some scope.Connection) = true
+closes_connection (Some scope.Channel) = false
+
+abbrev pub reply_by : Connection → List (Option PathState) → Meaning → List Reply
+reply_by c ps ten.Nothing = []
+reply_by c ps ten.Init = []
+reply_by c ps ten.AmqpHeader = []
+reply_by c ps ten.Opened = when (is_opening c) reply.OpenOk
+reply_by c ps (ten.OfSession g p payload) =
+    if closes_connection (link_scope p (path_at ps g)) then failure_to c INTERNAL_ERROR else []
+reply_by c ps (ten.Closed e) = failure_to c (code_by (condition_in e) scope.Connection)
+reply_by c ps ten.Refused = failure_to c NOT_ALLOWED
+reply_by c ps (ten.Violation why) = failure_to c INTERNAL_ERROR
 
 -- the replies to what the client sent and to what happened upstream, in their order; after the pair
 -- ran out of memory units are passed over
@@ -289,7 +344,7 @@ replies [] = []
 replies (Came u ∷ h) = if ran_out_in h then replies h else replies h ++ replies_to (connection h) u
 replies (Heard u ∷ h) =
     if ran_out_in h then replies h
-    else replies h ++ reply_by (connection h) (meaning_by (container h) u)
+    else replies h ++ reply_by (connection h) (paths_in h) (meaning_by (container h) u)
 replies (Silent Up ∷ h) = replies h ++ failure_to (connection h) CONNECTION_FORCED
 replies (Joined link.Failed ∷ h) = replies h ++ failure_to (connection h) CONNECTION_FORCED
 replies (Lost Up loss.Ended ∷ h) = replies h ++ failure_to (connection h) CONNECTION_FORCED
@@ -299,14 +354,14 @@ replies (s ∷ h) = replies h
 -- the units to the client of which the first byte was sent, in their order
 abbrev pub sent : List Step → List Reply
 sent [] = []
-sent (Gave (ToClient u) ∷ h) = sent h ++ u ∷ []
+sent (Gave (ToClient u) text ∷ h) = sent h ++ u ∷ []
 sent (s ∷ h) = sent h
 
 -- those since the pair ran out of memory
 abbrev pub sent_since : List Step → List Reply
 sent_since [] = []
 sent_since (OutOfMemory ∷ h) = []
-sent_since (Gave (ToClient u) ∷ h) = sent_since h ++ u ∷ []
+sent_since (Gave (ToClient u) text ∷ h) = sent_since h ++ u ∷ []
 sent_since (s ∷ h) = sent_since h
 
 -- the steps before that
@@ -319,7 +374,7 @@ until_memory (s ∷ h) = until_memory h
 abbrev pub is_answer : Reply → Bool
 is_answer reply.Heartbeat = false
 is_answer (reply.ChannelOpenOk n) = false
-is_answer (reply.FlowOk n) = false
+is_answer (reply.OnChannel n u) = false
 is_answer (reply.ChannelCloseOk n) = false
 is_answer (reply.CrossedOk n) = false
 is_answer (reply.ChannelClose n r) = false
@@ -334,7 +389,7 @@ answers_of us = filter is_answer us
 -- those of which the first byte was sent, in their order
 abbrev pub sent_up : List Step → List UpUnit
 sent_up [] = []
-sent_up (Gave (ToUp u) ∷ h) = sent_up h ++ u ∷ []
+sent_up (Gave (ToUp u) text ∷ h) = sent_up h ++ u ∷ []
 sent_up (s ∷ h) = sent_up h
 
 -- the moment at which the last of them was sent whole, that of the connect before

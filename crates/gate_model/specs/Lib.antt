@@ -6,6 +6,7 @@ pub mod Frames
 pub mod Lives
 pub mod Once
 pub mod Order
+pub mod Paths
 pub mod Picks
 pub mod Queue
 pub mod Requests

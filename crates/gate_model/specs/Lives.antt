@@ -1,6 +1,9 @@
 -- The lives of channels: what is due on each channel of a client, which a session of the container
 -- of the same number carries (AMQP 0-9-1 1.5; AMQP 1.0 2.5).
-use Rattle.std.specs.Prelude.{ℕ, zero, ◌+◌, ◌-◌, nat_lt, Bool, true, false, if◌then◌else◌, not, ◌&&◌, ◌||◌, List, [], ◌∷◌, ◌++◌, replicate, slice_get, slice_set, Option, None, Some}
+use Rattle.std.specs.Prelude.{Bool, List, None, Option, Some, [], false, if◌then◌else◌, not}
+use Rattle.std.specs.Prelude.{replicate, slice_get, slice_set, true, ℕ, ◌++◌, ◌+◌}
+use Rattle.std.specs.Prelude.{◌||◌, ◌∷◌}
+use Rattle.std.specs.Option.{option_or}
 use Rattle.close_translate.specs.Conditions.{condition_of}
 use Rattle.close_translate.specs.declared.conditions.Scope.{Scope}
 use Rattle.close_translate.specs.declared.conditions.Scope.TheVariants as scope
@@ -33,9 +36,10 @@ no_life = record {
   waits = false;
   begin = false;
   open_ok = false;
-  flow_oks = 0;
   awaits_end = false;
   over = false;
+  closed_at = None;
+  by_peer = false;
   close_ok = false;
   crossed_ok = false;
   close = None;
@@ -55,21 +59,31 @@ asked_life l = record (old_life l) { waits = true; begin = true }
 abbrev pub begun_life : Life → Life
 begun_life l = record l { waits = false; open_ok = l.open_ok || l.waits }
 
-abbrev pub flowed_life : Life → Life
-flowed_life l = record l { flow_oks = l.flow_oks + 1 }
-
 -- its client closes it: nothing but channel.close-ok is due to it any more
-abbrev pub closed_life : Life → Life
-closed_life l =
-    record (old_life l) { awaits_end = not l.over; over = true; close_ok = true }
+abbrev pub closed_life : ℕ → Life → Life
+closed_life ms l =
+    record (old_life l) {
+      awaits_end = not l.over;
+      over = true;
+      closed_at = option_or l.closed_at (Some ms);
+      by_peer = l.by_peer;
+      close_ok = true;
+    }
 
--- the container is at fault: channel.close is due, and nothing else
-abbrev pub failed_life : Refusal → Option Condition → Life → Life
-failed_life r why l = record (old_life l) { over = true; close = Some r; why = why }
+-- it is at fault, or the container is: channel.close is due, and what is owed for publishes where
+-- the container was the cause
+abbrev pub failed_life : Bool → ℕ → Refusal → Option Condition → Life → Life
+failed_life by_peer ms r why l = record (old_life l) {
+  over = true;
+  closed_at = Some ms;
+  by_peer = by_peer;
+  close = Some r;
+  why = why;
+}
 
 -- the client answered channel.close: its own, that crossed the gateway's, is still to be answered
 abbrev pub freed_life : Life → Life
-freed_life l = record (old_life l) { crossed_ok = l.crossed_ok || l.close_ok }
+freed_life l = record (old_life l) { over = true; crossed_ok = l.crossed_ok || l.close_ok }
 
 -- ---- all lives, by the numbers of channels
 
@@ -92,31 +106,31 @@ abbrev pub with_state : ℕ → SessionState → List Life → List Life
 with_state n s ls = with_life n (record (life_at ls n) { session = s }) ls
 
 -- what the lives are after a method of a channel
-abbrev pub method_life : Method91 → Life → Life
-method_life method.ChannelOpen l = asked_life l
-method_life (method.ChannelFlow active) l = flowed_life l
-method_life (method.ChannelClose code text class id) l = closed_life l
-method_life m l = l
+abbrev pub method_life : ℕ → Method91 → Life → Life
+method_life ms method.ChannelOpen l = asked_life l
+method_life ms (method.ChannelClose code text class id) l = closed_life ms l
+method_life ms m l = l
 
 -- a refusal of a channel closes that
-abbrev pub refused_life : Refusal → List Life → List Life
-refused_life r ls =
+abbrev pub refused_life : ℕ → Refusal → List Life → List Life
+refused_life ms r ls =
     if is_of_channel r then
-    with_life r.channel (failed_life r (Some (condition_of r.code)) (life_at ls r.channel)) ls
+    with_life r.channel
+    (failed_life false ms r (Some (condition_of r.code)) (life_at ls r.channel)) ls
     else ls
 
-abbrev pub lives_by : Want91 → List Life → List Life
-lives_by want.Nothing ls = ls
-lives_by want.Start ls = ls
-lives_by (want.Login mechanism response) ls = ls
-lives_by want.Tuned ls = ls
-lives_by want.OpenUp ls = ls
-lives_by (want.Method n m) ls = with_life n (method_life m (life_at ls n)) ls
-lives_by (want.Publish n m c) ls = ls
-lives_by (want.ChannelCloseOk n) ls = with_life n (freed_life (life_at ls n)) ls
-lives_by want.Close ls = ls
-lives_by want.CloseOk ls = ls
-lives_by (want.Refuse r) ls = refused_life r ls
+abbrev pub lives_by : ℕ → Want91 → List Life → List Life
+lives_by ms want.Nothing ls = ls
+lives_by ms want.Start ls = ls
+lives_by ms (want.Login mechanism response) ls = ls
+lives_by ms want.Tuned ls = ls
+lives_by ms want.OpenUp ls = ls
+lives_by ms (want.Method n m) ls = with_life n (method_life ms m (life_at ls n)) ls
+lives_by ms (want.Publish n m c) ls = ls
+lives_by ms (want.ChannelCloseOk n) ls = with_life n (freed_life (life_at ls n)) ls
+lives_by ms want.Close ls = ls
+lives_by ms want.CloseOk ls = ls
+lives_by ms (want.Refuse r) ls = refused_life ms r ls
 
 -- what each life has, by rising numbers of channels
 abbrev pub each : {A : Type 0} → (ℕ → Life → List A) → ℕ → List Life → List A
@@ -181,4 +195,5 @@ is_begun (session.Ended m) = false
 
 -- what is told of a channel whose session is at fault
 abbrev pub refusal_on : ℕ → ℕ → Refusal
-refusal_on n code = record { code = code; scope = scope.Channel; channel = n; class = 0; method = 0 }
+refusal_on n code =
+    record { code = code; scope = scope.Channel; channel = n; class = 0; method = 0 }

@@ -1,10 +1,14 @@
 -- Each request on a channel is answered at most once (AMQP 0-9-1 1.5.1).
-use Rattle.std.specs.Prelude.{ℕ, ◌+◌, ◌==◌, ◌≤◌, Bool, true, false, ◌&&◌, if◌then◌else◌, List, [], ◌∷◌}
+use Rattle.std.specs.Prelude.{ℕ, ◌+◌, ◌==◌, ◌≤◌, Bool, true, false, ◌&&◌, if◌then◌else◌, List, []}
+use Rattle.std.specs.Prelude.{◌∷◌}
 use Rattle.machine_091.specs.declared.unit.Want91.{Want91}
 use Rattle.machine_091.specs.declared.unit.Want91.TheVariants as want
 use Rattle.methods_091.specs.declared.method.Method91.{Method91}
 use Rattle.methods_091.specs.declared.method.Method91.TheVariants as method
 use Rattle.gate_model.specs.declared.outgoing.Outgoing.TheVariants.{ToClient}
+use Rattle.gate_model.specs.declared.channel.ChannelUnit.{ChannelUnit}
+use Rattle.gate_model.specs.declared.channel.ChannelUnit.TheVariants as unit
+use Rattle.session_path.specs.declared.path.PathOk.TheVariants as ok
 use Rattle.gate_model.specs.declared.reply.Reply.{Reply}
 use Rattle.gate_model.specs.declared.reply.Reply.TheVariants as reply
 use Rattle.gate_model.specs.Folds.{connection, ran_out_in}
@@ -25,7 +29,7 @@ wanted_in t (s ∷ h) = wanted_in t h
 -- how many units to it, of which the first byte was sent, pass one
 abbrev pub went_in : (Reply → Bool) → List Step → ℕ
 went_in t [] = 0
-went_in t (Gave (ToClient u) ∷ h) = went_in t h + one_if (t u)
+went_in t (Gave (ToClient u) text ∷ h) = went_in t h + one_if (t u)
 went_in t (s ∷ h) = went_in t h
 
 -- ---- requests
@@ -68,10 +72,16 @@ is_open_ok_on n (reply.Close r) = false
 is_open_ok_on n reply.NoMemory = false
 is_open_ok_on n reply.Heartbeat = false
 is_open_ok_on n (reply.ChannelOpenOk k) = k == n
-is_open_ok_on n (reply.FlowOk k) = false
+is_open_ok_on n (reply.OnChannel k u) = false
 is_open_ok_on n (reply.ChannelCloseOk k) = false
 is_open_ok_on n (reply.CrossedOk k) = false
 is_open_ok_on n (reply.ChannelClose k r) = false
+
+abbrev pub is_flow_ok : ChannelUnit → Bool
+is_flow_ok (unit.Ok ok.Flow) = true
+is_flow_ok (unit.Ok ok.Declare) = false
+is_flow_ok (unit.Ok ok.Select) = false
+is_flow_ok (unit.Confirm c) = false
 
 abbrev pub is_flow_ok_on : ℕ → Reply → Bool
 is_flow_ok_on n reply.Protocol = false
@@ -83,7 +93,7 @@ is_flow_ok_on n (reply.Close r) = false
 is_flow_ok_on n reply.NoMemory = false
 is_flow_ok_on n reply.Heartbeat = false
 is_flow_ok_on n (reply.ChannelOpenOk k) = false
-is_flow_ok_on n (reply.FlowOk k) = k == n
+is_flow_ok_on n (reply.OnChannel k u) = k == n && is_flow_ok u
 is_flow_ok_on n (reply.ChannelCloseOk k) = false
 is_flow_ok_on n (reply.CrossedOk k) = false
 is_flow_ok_on n (reply.ChannelClose k r) = false
@@ -99,7 +109,7 @@ is_close_ok_on n (reply.Close r) = false
 is_close_ok_on n reply.NoMemory = false
 is_close_ok_on n reply.Heartbeat = false
 is_close_ok_on n (reply.ChannelOpenOk k) = false
-is_close_ok_on n (reply.FlowOk k) = false
+is_close_ok_on n (reply.OnChannel k u) = false
 is_close_ok_on n (reply.ChannelCloseOk k) = k == n
 is_close_ok_on n (reply.CrossedOk k) = k == n
 is_close_ok_on n (reply.ChannelClose k r) = false

@@ -16,10 +16,11 @@ use Rattle.machine_10.specs.declared.unit.Unit10.TheVariants as unit_10
 use Rattle.performatives_10.specs.declared.condition.Condition.TheVariants.{FramingError}
 use Rattle.gate_model.specs.declared.outgoing.Outgoing.TheVariants.{ToClient, ToUp}
 use Rattle.gate_model.specs.Queue.{is_bad_unit}
-use Rattle.gate_model.specs.State.{State, Step, Began, Moment, Fed, Silent, Queued, Came, TakenUp, Heard, Joined}
+use Rattle.gate_model.specs.State.{State, Step, Began, Moment, Fed, Silent, Queued, Came, TakenUp}
+use Rattle.gate_model.specs.State.{Heard, Joined}
 use Rattle.gate_model.specs.State.{Lost, Gave, Whole, OutOfMemory, before, next_unit, place}
-use Rattle.gate_model.specs.Due.{can_leave, is_busy, is_connect_due, is_silent, pick}
-use Rattle.gate_model.specs.Folds.{connection, container, moment_in, ran_out_in}
+use Rattle.gate_model.specs.Due.{can_leave, carries_up, is_busy, is_connect_due, is_silent, pick}
+use Rattle.gate_model.specs.Folds.{container, moment_in, ran_out_in}
 use Rattle.gate_model.specs.Upstream.{awaited_of}
 
 -- the protocol header or frames, as they are awaited, or bytes with which none begins
@@ -61,9 +62,12 @@ MayStep h TakenUp = can_leave (before h) ≡ true
 MayStep h (Heard u) = MayBeHeard (awaited_of (container h)) u
 MayStep h (Joined answer) = is_connect_due (before h) ≡ true
 MayStep h (Lost end how) = Unit {0}
-MayStep h (Gave (ToClient u)) =
+MayStep h (Gave (ToClient u) text) =
     (is_busy (before h) Client ≡ false) × (pick (before h) Client ≡ Some (ToClient u))
-MayStep h (Gave (ToUp u)) = (is_busy (before h) Up ≡ false) × (pick (before h) Up ≡ Some (ToUp u))
+    × (text ≡ [])
+MayStep h (Gave (ToUp u) text) =
+    (is_busy (before h) Up ≡ false) × (pick (before h) Up ≡ Some (ToUp u))
+    × (text ≡ carries_up (before h) u)
 MayStep h (Whole end) = is_busy (before h) end ≡ true
 MayStep h OutOfMemory = ran_out_in h ≡ false
 

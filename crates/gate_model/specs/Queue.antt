@@ -1,8 +1,9 @@
 -- What the client sent and what isn't taken up yet: one queue, in which a unit waits for the
 -- earlier ones of its channel and of channel 0, and for requests (AMQP 0-9-1 4.2.6).
-use Rattle.std.specs.Prelude.{ℕ, zero, suc, ◌+◌, ◌==◌, nat_le, Bool, true, false, not, ◌&&◌, ◌||◌, if◌then◌else◌, List, [], ◌∷◌, length, take, slice_get, Option, None, Some, is_some}
+use Rattle.std.specs.Prelude.{ℕ, zero, suc, ◌+◌, ◌==◌, nat_le, Bool, true, false, not, ◌&&◌, ◌||◌}
+use Rattle.std.specs.Prelude.{if◌then◌else◌, List, [], ◌∷◌, length, take, slice_get, Option, None}
+use Rattle.std.specs.Prelude.{Some}
 use Rattle.std.specs.List.{list_any}
-use Rattle.frames_091.specs.declared.frame.Frame91.{Frame91}
 use Rattle.frames_091.specs.declared.frame.Kind91.{Kind91}
 use Rattle.frames_091.specs.declared.frame.Kind91.TheVariants as frame
 use Rattle.machine_091.specs.declared.unit.Unit91.{Unit91}
@@ -65,12 +66,14 @@ is_empty (u ∷ us) = false
 abbrev pub can_take : Waits → List Unit91 → Unit91 → Bool
 can_take q earlier u =
     if waits_for_all u then is_empty earlier && not q.some
-    else not q.opening && not (q.channel (channel_of u)) && not (list_any (holds (channel_of u)) earlier)
+    else not q.opening && not (q.channel (channel_of u))
+    && not (list_any (holds (channel_of u)) earlier)
 
 -- the place of the first that can be taken up, of a queue from a place on
 abbrev pub place_from : Waits → List Unit91 → ℕ → List Unit91 → Option ℕ
 place_from q all i [] = None
-place_from q all i (u ∷ us) = if can_take q (take i all) u then Some i else place_from q all (i + 1) us
+place_from q all i (u ∷ us) =
+    if can_take q (take i all) u then Some i else place_from q all (i + 1) us
 
 abbrev pub place_in : Waits → List Unit91 → Option ℕ
 place_in q us = place_from q us 0 us

@@ -1,7 +1,7 @@
 -- The session that carries a channel: its windows and ids, and how often its state is asked for
 -- (AMQP 1.0 2.5.6, 2.7.4).
-use Rattle.std.specs.Prelude.{ℕ, ◌+◌, ◌-◌, ◌==◌, nat_le, nat_lt, Bool, true, false, not, ◌&&◌, ◌||◌}
-use Rattle.std.specs.Prelude.{if◌then◌else◌, List, Option, Some, None}
+use Rattle.std.specs.Prelude.{◌+◌, ◌-◌, ◌==◌, nat_le, nat_lt, Bool, true, false, not, ◌&&◌, ◌||◌}
+use Rattle.std.specs.Prelude.{if◌then◌else◌, List}
 use Rattle.machine_10.specs.Parts.{Parts}
 use Rattle.machine_10.specs.Reading.{field, number_at, number_in}
 use Rattle.machine_10.specs.Session.{after_began, after_flow_sent, after_flowed, after_got}

@@ -1,5 +1,7 @@
--- When an end is given up: exactly where no byte of it came for too long. Moments are in milliseconds.
-use Rattle.std.specs.Prelude.{◌≡◌, ◌↔◌, ℕ, ◌+◌, ◌*◌, ◌<◌, ◌≤◌, true, false, not, ◌&&◌, List, [], ◌∷◌}
+-- When an end is given up: exactly where no byte of it came for too long. Moments are in
+-- milliseconds.
+use Rattle.std.specs.Prelude.{◌≡◌, ◌↔◌, ℕ, ◌+◌, ◌*◌, ◌<◌, ◌≤◌, true, false, not, ◌&&◌, List, []}
+use Rattle.std.specs.Prelude.{◌∷◌}
 use Rattle.std.specs.Prelude.{if◌then◌else◌}
 use Rattle.gate_outside.specs.declared.ports.End.TheVariants.{Client, Up}
 use Rattle.gate_relay.specs.Sides.{is_readable}
@@ -21,8 +23,8 @@ fed_in (Came u ∷ h) =
 fed_in (s ∷ h) = fed_in h
 
 -- a client may be given up, once, while it is read: an interval is agreed to, in seconds, and for
--- twice of it no byte came, counted from its last byte, or from the end of the last time that it was
--- held (AMQP 0-9-1 4.2.7); its end is open, and the pair didn't run out of memory
+-- twice of it no byte came, counted from its last byte, or from the end of the last time that it
+-- was held (AMQP 0-9-1 4.2.7); its end is open, and the pair didn't run out of memory
 pub record MayGiveUp (h : List Step) : Type 0 where
   pub read : is_awaiting (before h) Client ≡ true
   pub once : given_up_in h ≡ false
@@ -32,8 +34,8 @@ pub record MayGiveUp (h : List Step) : Type 0 where
   pub agreed : 0 < (connection h).limits.heartbeat
   pub quiet : fed_in h + SILENCE_PER_SECOND * (connection h).limits.heartbeat ≤ moment_in h
 
--- a container may be, once, while its end is open: no byte came for the limit, counted from its last
--- one, or from the connect (AMQP 1.0 2.4.5)
+-- a container may be, once, while its end is open: no byte came for the limit, counted from its
+-- last one, or from the connect (AMQP 1.0 2.4.5)
 pub record MayGiveUpUp (h : List Step) : Type 0 where
   pub readable : is_readable (side_in h) ≡ true
   pub once : silent_in h ≡ false

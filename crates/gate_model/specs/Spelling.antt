@@ -1,5 +1,6 @@
 -- The bytes of the units to a client and to a container, in the standards' terms.
-use Rattle.std.specs.Prelude.{ℕ, true, false, List, [], ◌∷◌, ◌++◌, length, codes, decimal, Option, None, Some}
+use Rattle.std.specs.Prelude.{ℕ, true, false, List, [], ◌∷◌, ◌++◌, length, codes, decimal, Option}
+use Rattle.std.specs.Prelude.{None, Some}
 use Rattle.std.specs.Int.{w32, to_be_bytes}
 use Rattle.close_translate.specs.Codes.{name_of}
 use Rattle.close_translate.specs.declared.codes.TheConstants.{RESOURCE_ERROR}
@@ -30,6 +31,25 @@ use Rattle.gate_model.specs.declared.outgoing.Outgoing.TheVariants.{ToClient, To
 use Rattle.gate_model.specs.declared.outgoing.UpUnit.{UpUnit}
 use Rattle.gate_model.specs.declared.outgoing.UpUnit.TheVariants as up
 use Rattle.gate_model.specs.declared.reply.Reply.{Reply}
+use Rattle.std.specs.Prelude.{if◌then◌else◌}
+use Rattle.methods_091.specs.declared.method.Method91.TheVariants.{BasicAck, BasicNack}
+use Rattle.methods_091.specs.declared.method.Method91.TheVariants.{ConfirmSelectOk}
+use Rattle.methods_091.specs.declared.method.Method91.TheVariants.{ExchangeDeclareOk}
+use Rattle.performatives_10.specs.declared.closing.Ending.TheVariants.{Detach}
+use Rattle.performatives_10.specs.declared.performative.Source10.{Source10}
+use Rattle.performatives_10.specs.declared.performative.Target10.{Target10}
+use Rattle.publish_path.specs.declared.publish.Confirm.{Confirm}
+use Rattle.session_path.specs.Links.{link_name}
+use Rattle.session_path.specs.declared.path.PathOk.{PathOk}
+use Rattle.session_path.specs.declared.path.PathOk.TheVariants as ok
+use Rattle.session_path.specs.declared.path.Settling.{Settling}
+use Rattle.gate_model.specs.declared.channel.AttachOut.{AttachOut}
+use Rattle.gate_model.specs.declared.channel.ChannelUnit.{ChannelUnit}
+use Rattle.gate_model.specs.declared.channel.ChannelUnit.TheVariants as channel_unit
+use Rattle.gate_model.specs.declared.channel.LinkFlow.{LinkFlow}
+use Rattle.gate_model.specs.declared.channel.SessionUnit.{SessionUnit}
+use Rattle.gate_model.specs.declared.channel.SessionUnit.TheVariants as session_unit
+use Rattle.gate_model.specs.Paths.{transfer_perf}
 use Rattle.gate_model.specs.Setup.{SetupText}
 use Rattle.gate_model.specs.State.{State}
 use Rattle.gate_model.specs.declared.limits.TheConstants.{HANDLE_MAX}
@@ -94,13 +114,24 @@ open_ok_frame = control_text ConnectionOpenOk
 abbrev pub channel_text : ℕ → Method91 → List ℕ
 channel_text n m = frame_text (record { kind = Method; channel = n; payload = method_text m })
 
--- channel.open-ok, whose reserved field is an empty long string, and flow-ok of a channel that is
--- active (AMQP 0-9-1 1.5.2.2 and 1.5.2.4)
+-- channel.open-ok, whose reserved field is an empty long string (AMQP 0-9-1 1.5.2.2)
 abbrev pub open_ok_on : ℕ → List ℕ
 open_ok_on n = channel_text n ChannelOpenOk
 
-abbrev pub flow_ok_on : ℕ → List ℕ
-flow_ok_on n = channel_text n (ChannelFlowOk true)
+-- answers to requests, and confirms (AMQP 0-9-1 1.5.2.4 and 1.6.2.2; basic.ack 1.8.3.13; RabbitMQ's
+-- confirm.select and basic.nack)
+abbrev pub ok_method : PathOk → Method91
+ok_method ok.Flow = ChannelFlowOk true
+ok_method ok.Declare = ExchangeDeclareOk
+ok_method ok.Select = ConfirmSelectOk
+
+abbrev pub confirm_method : Confirm → Method91
+confirm_method c =
+    if c.ack then BasicAck c.number c.multiple else BasicNack c.number c.multiple false
+
+abbrev pub channel_method : ChannelUnit → Method91
+channel_method (channel_unit.Ok x) = ok_method x
+channel_method (channel_unit.Confirm c) = confirm_method c
 
 abbrev pub close_ok_on : ℕ → List ℕ
 close_ok_on n = channel_text n ChannelCloseOk
@@ -120,7 +151,7 @@ spell_reply (reply.Close r) = close_text r.code (name_of r.code) r.class r.metho
 spell_reply reply.NoMemory = close_text RESOURCE_ERROR (codes "NO_MEMORY") 0 0
 spell_reply reply.Heartbeat = heartbeat_frame
 spell_reply (reply.ChannelOpenOk n) = open_ok_on n
-spell_reply (reply.FlowOk n) = flow_ok_on n
+spell_reply (reply.OnChannel n u) = channel_text n (channel_method u)
 spell_reply (reply.ChannelCloseOk n) = close_ok_on n
 spell_reply (reply.CrossedOk n) = close_ok_on n
 spell_reply (reply.ChannelClose n r) = close_on n r
@@ -193,6 +224,78 @@ flow_perf incoming outgoing = perf.Flow (record {
   properties = None;
 })
 
+abbrev pub empty_source : Source10
+empty_source = record {
+  address = None;
+  durable = None;
+  expiry_policy = None;
+  timeout = None;
+  dynamic = None;
+  dynamic_node_properties = None;
+  distribution_mode = None;
+  filter = None;
+  default_outcome = None;
+  outcomes = None;
+  capabilities = None;
+}
+
+abbrev pub target_of : List ℕ → Target10
+target_of address = record {
+  address = Some address;
+  durable = None;
+  expiry_policy = None;
+  timeout = None;
+  dynamic = None;
+  dynamic_node_properties = None;
+  capabilities = None;
+}
+
+-- the attach of a sending link, whose target is the address; settlements are told (AMQP 1.0 2.7.3,
+-- 3.5)
+abbrev pub attach_perf : AttachOut → List ℕ → Perf
+attach_perf a address = perf.Attach (record {
+  name = link_name a.name;
+  handle = a.handle;
+  role = false;
+  snd_settle_mode = 0;
+  rcv_settle_mode = 0;
+  source = Some empty_source;
+  target = Some (target_of address);
+  unsettled = None;
+  incomplete_unsettled = false;
+  initial_delivery_count = Some 0;
+  max_message_size = None;
+  offered_capabilities = None;
+  desired_capabilities = None;
+  properties = None;
+})
+
+abbrev pub link_flow_perf : LinkFlow → Perf
+link_flow_perf f = perf.Flow (record {
+  next_incoming_id = Some f.incoming;
+  incoming_window = limits_10.WINDOW;
+  next_outgoing_id = f.outgoing;
+  outgoing_window = limits_10.WINDOW;
+  handle = Some f.handle;
+  delivery_count = Some f.count;
+  link_credit = Some f.credit;
+  available = None;
+  drain = f.drain;
+  echo = false;
+  properties = None;
+})
+
+-- a settled disposition of a sender, without a state (AMQP 1.0 2.7.6)
+abbrev pub settle_perf : Settling → Perf
+settle_perf x = perf.Disposition (record {
+  role = false;
+  first = x.first;
+  last = x.last;
+  settled = true;
+  state = None;
+  batchable = false;
+})
+
 abbrev pub frame_on : ℕ → List ℕ → List ℕ
 frame_on n body = frames_10.frame_text (record { kind = Amqp; channel = n; body = body })
 
@@ -200,21 +303,29 @@ abbrev pub init_text : Option Upstream → List ℕ
 init_text None = []
 init_text (Some c) = frame_10 Sasl (perf_text (init_of c))
 
--- the bytes of a unit to the container
-abbrev pub spell_up : Context → UpUnit → List ℕ
-spell_up c up.SaslHeader = headers_10.header_bytes Sasl
-spell_up c up.SaslInit = init_text c.container
-spell_up c up.AmqpHeader = headers_10.header_bytes Amqp
-spell_up c up.Open = frame_10 Amqp (perf_text (open_of c.setup c.number))
-spell_up c (up.Close why) = end_text 0 Close why
-spell_up c up.Empty = frame_10 Amqp []
-spell_up c (up.Flow n i o) = frame_on n (perf_text (flow_perf i o))
-spell_up c (up.Begin n) = frame_on n (perf_text begin_perf)
-spell_up c (up.End n why) = end_text n End why
+abbrev pub spell_on : ℕ → SessionUnit → List ℕ → List ℕ
+spell_on n (session_unit.Attach a) text = frame_on n (perf_text (attach_perf a text))
+spell_on n (session_unit.Flow f) text = frame_on n (perf_text (link_flow_perf f))
+spell_on n (session_unit.Transfer t) text = frame_on n (perf_text (transfer_perf t t.more) ++ text)
+spell_on n (session_unit.Settle x) text = frame_on n (perf_text (settle_perf x))
+spell_on n (session_unit.Detach link handle) text = end_text n (Detach handle) None
 
-abbrev pub spell : Context → Outgoing → List ℕ
-spell c (ToClient r) = spell_reply r
-spell c (ToUp u) = spell_up c u
+-- the bytes of a unit to the container that carries this
+abbrev pub spell_up : Context → UpUnit → List ℕ → List ℕ
+spell_up c up.SaslHeader text = headers_10.header_bytes Sasl
+spell_up c up.SaslInit text = init_text c.container
+spell_up c up.AmqpHeader text = headers_10.header_bytes Amqp
+spell_up c up.Open text = frame_10 Amqp (perf_text (open_of c.setup c.number))
+spell_up c (up.Close why) text = end_text 0 Close why
+spell_up c up.Empty text = frame_10 Amqp []
+spell_up c (up.OnSession n u) text = spell_on n u text
+spell_up c (up.Flow n i o) text = frame_on n (perf_text (flow_perf i o))
+spell_up c (up.Begin n) text = frame_on n (perf_text begin_perf)
+spell_up c (up.End n why) text = end_text n End why
+
+abbrev pub spell : Context → Outgoing → List ℕ → List ℕ
+spell c (ToClient r) text = spell_reply r
+spell c (ToUp u) text = spell_up c u text
 
 -- the context of a state
 abbrev pub context_of : SetupText → State → Context

@@ -1,11 +1,14 @@
 -- What the steps of a pair amount to. All lists of steps are newest first.
-use Rattle.std.specs.Prelude.{ℕ, ◌-◌, ◌==◌, nat_le, Bool, true, false, not, ◌&&◌, ◌||◌, if◌then◌else◌}
+use Rattle.std.specs.Prelude.{ℕ, ◌-◌, ◌==◌, nat_le, Bool, true, false, not, ◌&&◌, ◌||◌}
+use Rattle.std.specs.Prelude.{if◌then◌else◌}
 use Rattle.std.specs.Prelude.{List, [], ◌∷◌, ◌++◌, Option, None, Some}
 use Rattle.std.specs.List.{list_any}
+use Rattle.std.specs.Option.{option_map}
 use Rattle.close_translate.specs.Conditions.{code_by, condition_of}
 use Rattle.close_translate.specs.declared.codes.TheConstants.{CONNECTION_FORCED, INTERNAL_ERROR}
 use Rattle.close_translate.specs.declared.codes.TheConstants.{NOT_ALLOWED, PRECONDITION_FAILED}
 use Rattle.close_translate.specs.declared.codes.TheConstants.{RESOURCE_ERROR}
+use Rattle.close_translate.specs.declared.conditions.Scope.{Scope}
 use Rattle.close_translate.specs.declared.conditions.Scope.TheVariants as scope
 use Rattle.gate_outside.specs.declared.ports.End.{End}
 use Rattle.gate_outside.specs.declared.ports.End.TheVariants.{Client, Up}
@@ -48,12 +51,40 @@ use Rattle.machine_10.specs.Reading.{field}
 use Rattle.performatives_10.specs.declared.condition.Condition.TheVariants.{NotAllowed}
 use Rattle.performatives_10.specs.declared.condition.Condition.TheVariants.{ResourceLimitExceeded}
 use Rattle.gate_model.specs.declared.life.Life.{Life}
-use Rattle.gate_model.specs.Requests.{client_step}
+use Rattle.gate_model.specs.Requests.{client_step, message_of}
 use Rattle.gate_model.specs.declared.outgoing.UpUnit.{UpUnit}
 use Rattle.gate_model.specs.declared.outgoing.UpUnit.TheVariants as up
-use Rattle.gate_model.specs.Lives.{any_life, begun_life, failed_life, is_done, is_of_channel, life_at, lives_by}
+use Rattle.gate_model.specs.Lives.{any_life, begun_life, failed_life, is_done, is_of_channel}
+use Rattle.gate_model.specs.Lives.{life_at, lives_by}
 use Rattle.gate_model.specs.Lives.{no_lives, refusal_on, session_in, with_life, with_state}
-use Rattle.gate_model.specs.Session.{carried_by, fault_of, flow_sent, is_of_session}
+use Rattle.std.specs.Prelude.{◌+◌, ◌%◌, ◌^◌, map, is_some}
+use Rattle.methods_091.specs.declared.method.Method91.{Method91}
+use Rattle.methods_091.specs.declared.method.Method91.TheVariants as method
+use Rattle.machine_10.specs.Reading.{number_at}
+use Rattle.machine_10.specs.Session.{after_flow_sent, after_sent}
+use Rattle.performatives_10.specs.declared.condition.Condition.TheVariants as condition
+use Rattle.performatives_10.specs.declared.condition.Condition.TheVariants.{UnattachedHandle}
+use Rattle.session_path.specs.Path as session
+use Rattle.session_path.specs.Links.{named}
+use Rattle.session_path.specs.declared.path.AttachFault.{AttachFault}
+use Rattle.session_path.specs.declared.path.AttachFault.TheVariants.{HandleInUse, NotAsked}
+use Rattle.session_path.specs.Path.{PathState}
+use Rattle.session_path.specs.Path.{attach_sent, confirm_sent, detach_came, detach_sent}
+use Rattle.session_path.specs.Path.{link_flow_sent, ok_sent, owed, published, selected}
+use Rattle.session_path.specs.Path.{settle_sent, transfer_sent}
+use Rattle.session_path.specs.declared.path.PathOk.{PathOk}
+use Rattle.session_path.specs.declared.path.PathOk.TheVariants as ok
+use Rattle.gate_model.specs.declared.channel.ChannelUnit.{ChannelUnit}
+use Rattle.gate_model.specs.declared.channel.ChannelUnit.TheVariants as to_client
+use Rattle.gate_model.specs.declared.channel.SessionUnit.{SessionUnit}
+use Rattle.gate_model.specs.declared.channel.SessionUnit.TheVariants as unit
+use Rattle.gate_model.specs.declared.life.SessionState.{SessionState}
+use Rattle.gate_model.specs.Lives.{is_of_channel}
+use Rattle.gate_model.specs.Paths.{attach_by, fault_by, is_there, link_flowed, lost_path, name_in}
+use Rattle.gate_model.specs.Paths.{no_paths, outcome_by, path_at, set_path}
+use Rattle.gate_model.specs.Paths.{text_of, with_path}
+use Rattle.property_map.specs.Spelling.{image_text}
+use Rattle.gate_model.specs.Session.{carried_by, fault_of, flow_sent, is_of_session, is_true}
 use Rattle.gate_model.specs.Queue.{Waits, is_bad_unit, is_full, place_in, unit_at, without_at}
 use Rattle.performatives_10.specs.declared.condition.Condition.{Condition}
 
@@ -79,8 +110,9 @@ pub data Step : Type 0 where
   Joined : Linked → Step
   -- an end ended or failed, or was shut
   Lost : End → Loss → Step
-  -- the first byte of a unit was sent
-  Gave : Outgoing → Step
+  -- the first byte of a unit was sent, which carries these bytes of the client's: the address of an
+  -- attach, the part of a payload of a transfer; others carry none
+  Gave : Outgoing → List ℕ → Step
   -- the last byte of the unit to an end was
   Whole : End → Step
   -- the pair ran out of memory
@@ -97,6 +129,13 @@ pub record State : Type 0 where
   pub sent_last : SentLast
   -- what is due on each channel, to either end
   pub lives : List Life
+  -- the links, publishes and answers of each
+  pub paths : List (Option PathState)
+  -- how many channels were opened, and the number in the name of the next attach
+  pub opened : ℕ
+  pub attached : ℕ
+  -- the container, its loss or its silence was the closing event of the connection
+  pub by_peer : Bool
   -- the upstream end
   pub up : UpState
   -- the units of the client that aren't taken up yet, in their order
@@ -148,6 +187,10 @@ new_state vhost number ms = record {
   in_progress = None;
   sent_last = none_sent;
   lives = no_lives;
+  paths = no_paths;
+  opened = 0;
+  attached = 0;
+  by_peer = false;
   up = no_end;
   queue = [];
   accepted_at = ms;
@@ -182,6 +225,8 @@ failure code = refusal_with code 0 0
 
 abbrev pub failed : ℕ → Option Condition → State → State
 failed code why w = record w {
+  paths = map (option_map lost_path) w.paths;
+  by_peer = true;
   conn = close w.conn;
   pending = record w.pending { close = Some (failure code) };
   up = record w.up { condition = why };
@@ -204,8 +249,8 @@ is_settled w =
 abbrev pub close_waits : State → Bool
 close_waits w = w.client_closed && not (is_settled w)
 
--- the client isn't read while its connection.open or connection.close waits, behind bytes with which
--- no unit begins, and while much isn't taken up
+-- the client isn't read while its connection.open or connection.close waits, behind bytes with
+-- which no unit begins, and while much isn't taken up
 abbrev pub is_held : State → Bool
 is_held w =
     is_opening w.conn || (close_waits w || (list_any is_bad_unit w.queue || is_full w.queue))
@@ -296,11 +341,54 @@ turns_foreign c u = is_foreign (conn_step c u).stream && not (is_foreign c.strea
 abbrev pub with_header : Bool → Pending → Pending
 with_header foreign p = record p { protocol = p.protocol || foreign }
 
+-- ---- channels
+
+-- the requests of a channel that need nothing of the container
+abbrev pub answered_if : Bool → PathOk → PathState → PathState
+answered_if no_wait ok s = if no_wait then s else owed ok s
+
+abbrev pub path_by : Method91 → PathState → PathState
+path_by (method.ChannelFlow active) s = owed ok.Flow s
+path_by (method.ExchangeDeclare name kind passive durable deletes internal no_wait arguments) s =
+    answered_if no_wait ok.Declare s
+path_by (method.ConfirmSelect no_wait) s = answered_if no_wait ok.Select (selected s)
+path_by m s = s
+
+-- a channel that is opened begins anew, as this life of the connection
+abbrev pub paths_with : ℕ → ℕ → Method91 → List (Option PathState) → List (Option PathState)
+paths_with life n method.ChannelOpen ps = set_path n (session.opened life) ps
+paths_with life n m ps = with_path n (path_by m) ps
+
+-- the paths of channels after what a unit wants
+abbrev pub paths_by : ℕ → Want91 → List (Option PathState) → List (Option PathState)
+paths_by life want.Nothing ps = ps
+paths_by life want.Start ps = ps
+paths_by life (want.Login mechanism response) ps = ps
+paths_by life want.Tuned ps = ps
+paths_by life want.OpenUp ps = ps
+paths_by life (want.Method n m) ps = paths_with (life + 1) n m ps
+paths_by life (want.Publish n m c) ps =
+    with_path n (published (message_of m c).key (image_text (message_of m c))) ps
+paths_by life (want.ChannelCloseOk n) ps = ps
+paths_by life want.Close ps = ps
+paths_by life want.CloseOk ps = ps
+paths_by life (want.Refuse r) ps = ps
+
+abbrev pub opens_by_method : Method91 → ℕ
+opens_by_method method.ChannelOpen = 1
+opens_by_method m = 0
+
+abbrev pub lives_opened : Want91 → ℕ
+lives_opened (want.Method n m) = opens_by_method m
+lives_opened x = 0
+
 -- what a unit of the client wants is met; the connection closed before it, or not
 abbrev pub met : Bool → Want91 → State → State
 met closing x w = record w {
   pending = with_want x w.pending;
-  lives = lives_by x w.lives;
+  lives = lives_by w.moment x w.lives;
+  paths = paths_by w.opened x w.paths;
+  opened = w.opened + lives_opened x;
   up = closing_with closing (condition_by x) (keep_login x w.up);
   client_closed = w.client_closed || (not closing && is_close_want x);
 }
@@ -342,35 +430,96 @@ opened w = if is_opening w.conn then runs w else w
 abbrev pub life_failed : ℕ → Refusal → Option Condition → State → State
 life_failed n r why w = record w {
   conn = after_closing scope.Channel n w.conn;
-  lives = with_life n (failed_life r why (life_at w.lives n)) w.lives;
+  lives = with_life n (failed_life true w.moment r why (life_at w.lives n)) w.lives;
+  paths = with_path n lost_path w.paths;
 }
 
 abbrev pub fail_life : ℕ → ℕ → Option Condition → State → State
 fail_life n code why w =
     if is_open w.conn n then life_failed n (refusal_on n code) why w else w
 
--- the container's begin, its end, and what else belongs to a session, by the code of its descriptor
--- (AMQP 1.0 2.7): no link is attached yet, so what names one ends the session, and an attach
--- answers none of the gateway's
+-- the session and its links after a performative of the container, by the code of its descriptor
+-- (AMQP 1.0 2.7)
+abbrev pub path_heard : Parts → PathState → PathState
+path_heard p s =
+    if p.0 == 17 then session.began (number_at p.1 4) s
+    else if p.0 == 18 then attach_by (name_in (text_of (field p.1 0))) (number_at p.1 1)
+    (is_there (field p.1 6)) s
+    else if p.0 == 19 && not (is_of_session p.1) then link_flowed p.1 s
+    else if p.0 == 21 then outcome_by p.1 s
+    else if p.0 == 22 then detach_came (number_at p.1 0) s
+    else if p.0 == 23 then lost_path s
+    else s
+
 abbrev pub carried : ℕ → Parts → State → State
 carried n p w = record w {
   lives = with_state n (carried_by p (life_at w.lives n).session) w.lives;
+  paths = with_path n (path_heard p) w.paths;
 }
 
 abbrev pub begun_session : ℕ → State → State
 begun_session n w = record w { lives = with_life n (begun_life (life_at w.lives n)) w.lives }
 
-abbrev pub met_session : ℕ → Parts → Condition → State → State
-met_session n p fault w =
+-- what one closes that is wrong (AMQP 1.0 2.6.2, 2.6.3, 2.6.7): an attach of a sender, under a name
+-- that isn't asked for, or with a handle in use, the connection; a flow or a detach of no link, and
+-- a transfer, the channel
+abbrev pub unattached : Bool → Option Scope
+unattached true = None
+unattached false = Some scope.Channel
+
+abbrev pub attach_scope : Option AttachFault → Option Scope
+attach_scope None = None
+attach_scope (Some f) = Some scope.Connection
+
+abbrev pub link_scope : Parts → PathState → Option Scope
+link_scope p s =
+    if p.0 == 18 then
+    (if is_true (field p.1 2) then
+    attach_scope (fault_by (name_in (text_of (field p.1 0))) (number_at p.1 1) s)
+    else Some scope.Connection)
+    else if p.0 == 19 && not (is_of_session p.1) then
+    unattached (is_some (named (number_at p.1 4) s.links))
+    else if p.0 == 20 then Some scope.Channel
+    else if p.0 == 22 then unattached (is_some (named (number_at p.1 0) s.links))
+    else None
+
+-- and with which error
+abbrev pub attach_condition : Option AttachFault → Condition
+attach_condition None = NotAllowed
+attach_condition (Some NotAsked) = NotAllowed
+attach_condition (Some HandleInUse) = condition.HandleInUse
+
+abbrev pub closing_error : Parts → PathState → Condition
+closing_error p s =
+    if is_true (field p.1 2) then
+    attach_condition (fault_by (name_in (text_of (field p.1 0))) (number_at p.1 1) s)
+    else NotAllowed
+
+abbrev pub ending_error : Parts → SessionState → Condition
+ending_error p x = if p.0 == 20 then fault_of p x else UnattachedHandle
+
+abbrev pub met_session : ℕ → Parts → State → State
+met_session n p w =
     if p.0 == 17 then begun_session n w
-    else if p.0 == 18 then fail INTERNAL_ERROR (Some NotAllowed) w
-    else if p.0 == 19 && is_of_session p.1 then w
-    else if p.0 == 21 then w
     else if p.0 == 23 then fail_life n (code_by (condition_in (field p.1 0)) scope.Channel) None w
-    else fail_life n PRECONDITION_FAILED (Some fault) w
+    else w
+
+-- the windows of the session alone
+abbrev pub windowed : ℕ → Parts → State → State
+windowed n p w =
+    record w { lives = with_state n (carried_by p (life_at w.lives n).session) w.lives }
+
+-- where it is at fault, that alone counts, but for the windows
+abbrev pub scoped : Option Scope → ℕ → Parts → State → State
+scoped None n p w = met_session n p (carried n p w)
+scoped (Some scope.Connection) n p w =
+    fail INTERNAL_ERROR (Some (closing_error p (path_at w.paths n))) (windowed n p w)
+scoped (Some scope.Channel) n p w =
+    fail_life n PRECONDITION_FAILED (Some (ending_error p (life_at w.lives n).session))
+    (windowed n p w)
 
 abbrev pub with_session : ℕ → Parts → State → State
-with_session n p w = met_session n p (fault_of p (life_at w.lives n).session) (carried n p w)
+with_session n p w = scoped (link_scope p (path_at w.paths n)) n p w
 
 -- what a unit of the container means: a refused login isn't allowed, a close has the code of its
 -- condition, and a unit out of order is an error of the container
@@ -458,7 +607,9 @@ has_left stream.Ended = true
 
 -- the upstream end is lost: the client is told so
 abbrev pub lost_up : Side → State → State
-lost_up x w = fail CONNECTION_FORCED None (record w { up = lost_by x w.up })
+lost_up x w =
+    fail CONNECTION_FORCED None
+    (record w { up = lost_by x w.up; paths = map (option_map lost_path) w.paths })
 
 -- the first of both that comes is taken up in its place
 abbrev pub lost : State → End → Loss → State
@@ -482,8 +633,8 @@ left w = record w {
 
 -- ---- silence
 
--- a client that is given up is one whose end ended, whatever waits: that is passed over. A container
--- that is fails, and the client is told so
+-- a client that is given up is one whose end ended, whatever waits: that is passed over. A
+-- container that is fails, and the client is told so
 abbrev pub silenced : State → End → State
 silenced w Client = record (left w) { queue = []; given_up = true }
 silenced w Up =
@@ -526,7 +677,7 @@ without (reply.Close r) p = record p { close = None }
 without reply.NoMemory p = record p { no_memory = false }
 without reply.Heartbeat p = p
 without (reply.ChannelOpenOk n) p = p
-without (reply.FlowOk n) p = p
+without (reply.OnChannel n u) p = p
 without (reply.ChannelCloseOk n) p = p
 without (reply.CrossedOk n) p = p
 without (reply.ChannelClose n r) p = p
@@ -542,9 +693,9 @@ without_life (reply.Close r) ls = ls
 without_life reply.NoMemory ls = ls
 without_life reply.Heartbeat ls = ls
 without_life (reply.ChannelOpenOk n) ls = with_life n (record (life_at ls n) { open_ok = false }) ls
-without_life (reply.FlowOk n) ls =
-    with_life n (record (life_at ls n) { flow_oks = (life_at ls n).flow_oks - 1 }) ls
-without_life (reply.ChannelCloseOk n) ls = with_life n (record (life_at ls n) { close_ok = false }) ls
+without_life (reply.OnChannel n u) ls = ls
+without_life (reply.ChannelCloseOk n) ls =
+    with_life n (record (life_at ls n) { close_ok = false }) ls
 without_life (reply.CrossedOk n) ls = with_life n (record (life_at ls n) { crossed_ok = false }) ls
 without_life (reply.ChannelClose n r) ls = with_life n (record (life_at ls n) { close = None }) ls
 
@@ -560,10 +711,52 @@ conn_given (reply.Close r) c = c
 conn_given reply.NoMemory c = c
 conn_given reply.Heartbeat c = c
 conn_given (reply.ChannelOpenOk n) c = c
-conn_given (reply.FlowOk n) c = c
+conn_given (reply.OnChannel n u) c = c
 conn_given (reply.ChannelCloseOk n) c = after_closed n c
 conn_given (reply.CrossedOk n) c = c
 conn_given (reply.ChannelClose n r) c = after_told n c
+
+-- a transfer frame of the gateway, and a flow of a link, in the windows of the session
+abbrev pub session_by : SessionUnit → SessionState → SessionState
+session_by (unit.Attach a) s = s
+session_by (unit.Flow f) s = record s { windows = after_flow_sent s.windows }
+session_by (unit.Transfer t) s = record s { windows = after_sent s.windows }
+session_by (unit.Settle x) s = s
+session_by (unit.Detach link handle) s = s
+
+abbrev pub sessions_by : ℕ → SessionUnit → List Life → List Life
+sessions_by n u ls = with_state n (session_by u (life_at ls n).session) ls
+
+-- and of its links
+abbrev pub path_given : SessionUnit → PathState → PathState
+path_given (unit.Attach a) s = attach_sent a.name s
+path_given (unit.Flow f) s = link_flow_sent s
+path_given (unit.Transfer t) s = transfer_sent t.frame t.bytes s
+path_given (unit.Settle x) s = settle_sent s
+path_given (unit.Detach link handle) s = detach_sent s
+
+abbrev pub paths_given_up : UpUnit → List (Option PathState) → List (Option PathState)
+paths_given_up (up.OnSession n u) ps = with_path n (path_given u) ps
+paths_given_up (up.End n why) ps = with_path n lost_path ps
+paths_given_up u ps = ps
+
+abbrev pub is_attach : SessionUnit → Bool
+is_attach (unit.Attach a) = true
+is_attach u = false
+
+-- the names of links count attaches in 64 bits
+abbrev pub attached_by : UpUnit → ℕ → ℕ
+attached_by (up.OnSession n u) k = if is_attach u then (k + 1) % 2 ^ 64 else k
+attached_by u k = k
+
+-- what a unit to the client makes of a channel's answers
+abbrev pub path_told : ChannelUnit → PathState → PathState
+path_told (to_client.Ok x) s = ok_sent s
+path_told (to_client.Confirm c) s = confirm_sent c s
+
+abbrev pub paths_given : Reply → List (Option PathState) → List (Option PathState)
+paths_given (reply.OnChannel n u) ps = with_path n (path_told u) ps
+paths_given u ps = ps
 
 -- the same of a unit to the container
 abbrev pub without_begin : UpUnit → List Life → List Life
@@ -573,6 +766,7 @@ without_begin up.AmqpHeader ls = ls
 without_begin up.Open ls = ls
 without_begin (up.Close why) ls = ls
 without_begin up.Empty ls = ls
+without_begin (up.OnSession n u) ls = sessions_by n u ls
 without_begin (up.Flow n i o) ls = with_state n (flow_sent (life_at ls n).session) ls
 without_begin (up.Begin n) ls = with_life n (record (life_at ls n) { begin = false }) ls
 without_begin (up.End n why) ls = with_life n (record (life_at ls n) { why = None }) ls
@@ -583,8 +777,14 @@ gave w (ToClient u) = record w {
   pending = without u w.pending;
   in_progress = Some u;
   lives = without_life u w.lives;
+  paths = paths_given u w.paths;
 }
-gave w (ToUp u) = record w { lives = without_begin u w.lives; up = begun u w.up }
+gave w (ToUp u) = record w {
+  lives = without_begin u w.lives;
+  paths = paths_given_up u w.paths;
+  attached = attached_by u w.attached;
+  up = begun u w.up;
+}
 
 abbrev pub with_last : Option Reply → SentLast → SentLast
 with_last None s = s
@@ -597,7 +797,7 @@ with_last (Some (reply.Close r)) s = record s { close = true }
 with_last (Some reply.NoMemory) s = record s { close = true }
 with_last (Some reply.Heartbeat) s = s
 with_last (Some (reply.ChannelOpenOk n)) s = s
-with_last (Some (reply.FlowOk n)) s = s
+with_last (Some (reply.OnChannel n u)) s = s
 with_last (Some (reply.ChannelCloseOk n)) s = s
 with_last (Some (reply.CrossedOk n)) s = s
 with_last (Some (reply.ChannelClose n r)) s = s
@@ -631,7 +831,7 @@ step w TakenUp = if not w.out_of_memory && w.leaving then left w else w
 step w (Heard u) = if w.out_of_memory then w else heard w u
 step w (Joined answer) = joined w answer
 step w (Lost end how) = lost w end how
-step w (Gave u) = gave w u
+step w (Gave u text) = gave w u
 step w (Whole end) = wrote w end
 step w OutOfMemory = ran_out w
 

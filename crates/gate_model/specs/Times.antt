@@ -33,7 +33,7 @@ is_protocol (reply.Close r) = false
 is_protocol reply.NoMemory = false
 is_protocol reply.Heartbeat = false
 is_protocol (reply.ChannelOpenOk n) = false
-is_protocol (reply.FlowOk n) = false
+is_protocol (reply.OnChannel n u) = false
 is_protocol (reply.ChannelCloseOk n) = false
 is_protocol (reply.CrossedOk n) = false
 is_protocol (reply.ChannelClose n r) = false
@@ -49,7 +49,7 @@ is_any_close (reply.Close r) = true
 is_any_close reply.NoMemory = true
 is_any_close reply.Heartbeat = false
 is_any_close (reply.ChannelOpenOk n) = false
-is_any_close (reply.FlowOk n) = false
+is_any_close (reply.OnChannel n u) = false
 is_any_close (reply.ChannelCloseOk n) = false
 is_any_close (reply.CrossedOk n) = false
 is_any_close (reply.ChannelClose n r) = false
@@ -68,7 +68,7 @@ pub record MayBeat (h : List Step) : Type 0 where
 -- each heartbeat was sent where it might be
 abbrev pub BeatsWhenDue : List Step → Type 0
 BeatsWhenDue [] = Unit {0}
-BeatsWhenDue (Gave (ToClient reply.Heartbeat) ∷ h) = MayBeat h × BeatsWhenDue h
+BeatsWhenDue (Gave (ToClient reply.Heartbeat) text ∷ h) = MayBeat h × BeatsWhenDue h
 BeatsWhenDue (s ∷ h) = BeatsWhenDue h
 
 -- while no unit is in progress one is what goes next exactly where it may

@@ -1,5 +1,6 @@
 -- What the steps of a pair amount to at its upstream end.
-use Rattle.std.specs.Prelude.{ℕ, ◌+◌, ◌-◌, ◌/◌, ◌==◌, nat_le, Bool, true, false, not, ◌&&◌, ◌||◌, List}
+use Rattle.std.specs.Prelude.{ℕ, ◌+◌, ◌-◌, ◌/◌, ◌==◌, nat_le, Bool, true, false, not, ◌&&◌, ◌||◌}
+use Rattle.std.specs.Prelude.{List}
 use Rattle.std.specs.Prelude.{[], ◌∷◌, ◌++◌, Option, None, Some, codes, if◌then◌else◌}
 use Rattle.std.specs.Str.{bytes_eq}
 use Rattle.gate_relay.specs.declared.sides.Side.{Side}
@@ -185,6 +186,7 @@ without_up up.AmqpHeader p = record p { amqp_header = false }
 without_up up.Open p = record p { «open» = false }
 without_up (up.Close c) p = p
 without_up up.Empty p = p
+without_up (up.OnSession n u) p = p
 without_up (up.Flow n i o) p = p
 without_up (up.Begin n) p = p
 without_up (up.End n why) p = p
@@ -196,6 +198,7 @@ with_begun up.AmqpHeader s = s
 with_begun up.Open s = record s { «open» = true }
 with_begun (up.Close c) s = record s { close = true }
 with_begun up.Empty s = s
+with_begun (up.OnSession n u) s = s
 with_begun (up.Flow n i o) s = s
 with_begun (up.Begin n) s = s
 with_begun (up.End n why) s = s
@@ -208,6 +211,7 @@ sessions_given up.AmqpHeader c = c
 sessions_given up.Open c = c
 sessions_given (up.Close why) c = c
 sessions_given up.Empty c = c
+sessions_given (up.OnSession n u) c = c
 sessions_given (up.Flow n i o) c = c
 sessions_given (up.Begin n) c = after_begin_sent n c
 sessions_given (up.End n why) c = after_end_sent n c
@@ -232,6 +236,7 @@ with_whole (Some up.AmqpHeader) s = s
 with_whole (Some up.Open) s = s
 with_whole (Some (up.Close c)) s = record s { whole_close = true }
 with_whole (Some up.Empty) s = s
+with_whole (Some (up.OnSession n u)) s = s
 with_whole (Some (up.Flow n i o)) s = s
 with_whole (Some (up.Begin n)) s = s
 with_whole (Some (up.End n why)) s = s

@@ -1,6 +1,7 @@
 -- What goes to a client only once nothing of the upstream end is waited for, and only once the
 -- container opened.
-use Rattle.std.specs.Prelude.{◌≡◌, ℕ, Bool, true, false, not, ◌&&◌, ◌||◌, List, [], ◌∷◌, Option, None, Some}
+use Rattle.std.specs.Prelude.{◌≡◌, ℕ, Bool, true, false, not, ◌&&◌, ◌||◌, List, [], ◌∷◌, Option}
+use Rattle.std.specs.Prelude.{None, Some}
 use Rattle.gate_relay.specs.Sides.{is_readable}
 use Rattle.machine_10.specs.Transitions as ten
 use Rattle.machine_10.specs.Transitions.{Meaning}
@@ -31,7 +32,7 @@ is_ending (reply.Close r) = true
 is_ending reply.NoMemory = true
 is_ending reply.Heartbeat = false
 is_ending (reply.ChannelOpenOk n) = false
-is_ending (reply.FlowOk n) = false
+is_ending (reply.OnChannel n u) = false
 is_ending (reply.ChannelCloseOk n) = false
 is_ending (reply.CrossedOk n) = false
 is_ending (reply.ChannelClose n r) = false
@@ -54,7 +55,7 @@ ended_by (reply.Close r) = None
 ended_by reply.NoMemory = None
 ended_by reply.Heartbeat = None
 ended_by (reply.ChannelOpenOk n) = None
-ended_by (reply.FlowOk n) = None
+ended_by (reply.OnChannel n u) = None
 ended_by (reply.ChannelCloseOk n) = Some n
 ended_by (reply.CrossedOk n) = None
 ended_by (reply.ChannelClose n r) = Some n
@@ -62,14 +63,14 @@ ended_by (reply.ChannelClose n r) = Some n
 -- each went where nothing was waited for on its channel
 abbrev pub ChannelsEndWhenSettled : List Step → Type 0
 ChannelsEndWhenSettled [] = Unit {0}
-ChannelsEndWhenSettled (Gave (ToClient u) ∷ h) =
+ChannelsEndWhenSettled (Gave (ToClient u) text ∷ h) =
     ((n : ℕ) → ended_by u ≡ Some n → SettledOn h n) × ChannelsEndWhenSettled h
 ChannelsEndWhenSettled (s ∷ h) = ChannelsEndWhenSettled h
 
 -- each of these went where nothing was waited for
 abbrev pub EndsWhenSettled : List Step → Type 0
 EndsWhenSettled [] = Unit {0}
-EndsWhenSettled (Gave (ToClient u) ∷ h) = (is_ending u ≡ true → Settled h) × EndsWhenSettled h
+EndsWhenSettled (Gave (ToClient u) text ∷ h) = (is_ending u ≡ true → Settled h) × EndsWhenSettled h
 EndsWhenSettled (s ∷ h) = EndsWhenSettled h
 
 -- a unit of the container is its open, where that was awaited
@@ -93,5 +94,5 @@ opened_in (s ∷ h) = opened_in h
 -- each connection.open-ok went after that
 abbrev pub OpensWhenOpened : List Step → Type 0
 OpensWhenOpened [] = Unit {0}
-OpensWhenOpened (Gave (ToClient reply.OpenOk) ∷ h) = (opened_in h ≡ true) × OpensWhenOpened h
+OpensWhenOpened (Gave (ToClient reply.OpenOk) text ∷ h) = (opened_in h ≡ true) × OpensWhenOpened h
 OpensWhenOpened (s ∷ h) = OpensWhenOpened h

@@ -7,7 +7,8 @@ ghost use Rattle.gate_model.specs.declared.reply.Reply.{Reply};
 ghost use Rattle.gate_model.specs.Answers.{AreAnswered};
 ghost use Rattle.gate_model.specs.Asked.{AreCalledFor, GoesWhenDue, ShutsUpAtOnce};
 ghost use Rattle.gate_model.specs.Frames.{FitsClients};
-ghost use Rattle.gate_model.specs.Folds.{connection, container, moment_in, number_in, ran_out_in, side_in};
+ghost use Rattle.gate_model.specs.Folds.{connection, container, moment_in, number_in, ran_out_in};
+ghost use Rattle.gate_model.specs.Folds.{side_in};
 ghost use Rattle.gate_model.specs.Once.{AnswersOnce};
 ghost use Rattle.gate_model.specs.Order.{TakesInOrder};
 ghost use Rattle.gate_model.specs.Picks.{ArePicks};
@@ -15,7 +16,8 @@ ghost use Rattle.gate_model.specs.Silence.{SilentAtOnce, SilentWhenDue};
 ghost use Rattle.gate_model.specs.Spelling.{spell_reply};
 ghost use Rattle.gate_model.specs.State.{Step, before};
 ghost use Rattle.gate_model.specs.Times.{BeatsAtOnce, BeatsWhenDue, LateCloses, ShutsAtOnce};
-ghost use Rattle.gate_model.specs.Waiting.{ChannelsEndWhenSettled, EndsWhenSettled, OpensWhenOpened};
+ghost use Rattle.gate_model.specs.Waiting.{ChannelsEndWhenSettled, EndsWhenSettled};
+ghost use Rattle.gate_model.specs.Waiting.{OpensWhenOpened};
 
 use machine_091::connection_laws;
 
@@ -44,11 +46,10 @@ pub fn clients_are_answered()
 {}
 
 /// A connection.close of the gateway or a close-ok goes only where nothing of the upstream end is
-/// waited for: the pair ran out of memory, the end isn't open, the container's close came, or it was
-/// given up.
-/// connection.open-ok goes only after the container's open. A channel.close of the gateway or its
-/// close-ok goes only where nothing is waited for on its channel: no session began there, or the
-/// container's end came.
+/// waited for: the pair ran out of memory, the end isn't open, the container's close came, or it
+/// was given up. connection.open-ok goes only after the container's open. A channel.close of the
+/// gateway or its close-ok goes only where nothing is waited for on its channel: no session began
+/// there, or the container's end came.
 pub fn replies_wait()
     ensures ends { (h : List Step) → ArePicks h → EndsWhenSettled h }
     ensures channels { (h : List Step) → ArePicks h → ChannelsEndWhenSettled h }
@@ -82,8 +83,8 @@ pub fn times_are_kept()
 {}
 
 /// A client that is read is given up exactly where an interval was agreed to and for twice of it no
-/// byte of it came, counted from its last byte, or from the end of the last time that it was held; a
-/// container where none came for 120,000 ms, counted from its last byte, or from the connect.
+/// byte of it came, counted from its last byte, or from the end of the last time that it was held;
+/// a container where none came for 120,000 ms, counted from its last byte, or from the connect.
 #[tactic(auto, using(crate::proofs::Silences::silent_at_once, crate::proofs::Silences::silent_when_due))]
 pub fn silent_ends_are_given_up()
     ensures due { (h : List Step) → ArePicks h → SilentWhenDue h }

@@ -4,6 +4,7 @@
 //! Answers, Waiting, Frames, Times, Asked). The laws are the functions of `laws`.
 #![tactic(auto)]
 
+mod channel;
 mod laws;
 mod life;
 mod limits;
@@ -12,6 +13,7 @@ mod reply;
 mod setup;
 mod timers;
 
+pub use channel::{AttachOut, ChannelUnit, LinkFlow, SessionUnit, TransferOut};
 pub use laws::{
     channels_are_answered_once, clients_are_answered, containers_are_asked, containers_are_left,
     frames_fit_clients, replies_wait, silent_ends_are_given_up, states_are_known, times_are_kept,
@@ -23,5 +25,6 @@ pub use outgoing::{Outgoing, UpPending, UpSent, UpUnit};
 pub use reply::{Pending, Reply, SentLast};
 pub use setup::Setup;
 pub use timers::{
-    BEAT_PER_SECOND, CLOSING_LIMIT, HANDSHAKE_LIMIT, IDLE_STATED, SILENCE_PER_SECOND, UP_SILENCE,
+    BEAT_PER_SECOND, CLOSING_LIMIT, HANDSHAKE_LIMIT, IDLE_STATED, LINGER_LIMIT, SILENCE_PER_SECOND,
+    UP_SILENCE,
 };

@@ -25,12 +25,14 @@ pub struct Life {
     pub begin: bool,
     /// channel.open-ok is due.
     pub open_ok: bool,
-    /// So many channel.flow-oks are due.
-    pub flow_oks: u32,
     /// channel.close was taken up of a channel that was open, and the container's end is awaited.
     pub awaits_end: bool,
     /// The closing event of the channel came.
     pub over: bool,
+    /// The moment of that, in milliseconds.
+    pub closed_at: Option<u64>,
+    /// The container was the cause of it.
+    pub by_peer: bool,
     /// channel.close-ok is due, once nothing of the session is waited for.
     pub close_ok: bool,
     /// channel.close-ok is due for the life before, which the client's own channel.close-ok ended.

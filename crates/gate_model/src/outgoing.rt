@@ -1,5 +1,6 @@
 //! The units to a container, and which of them are due or were sent.
 
+use crate::channel::SessionUnit;
 use crate::reply::Reply;
 use performatives_10::Condition;
 
@@ -21,6 +22,8 @@ pub enum UpUnit {
     /// A flow that tells the state of this channel's session: the ids of the next transfer frame of
     /// the container and of the gateway.
     Flow(u16, u32, u32),
+    /// A unit of the links of this channel's session.
+    OnSession(u16, SessionUnit),
     /// The end of the session on this channel, perhaps with an error.
     End(u16, Option<Condition>),
 }

@@ -1,5 +1,6 @@
 //! The units to a client, and which of them are due or were sent.
 
+use crate::channel::ChannelUnit;
 use machine_091::Refusal;
 
 /// A unit to the client.
@@ -23,8 +24,8 @@ pub enum Reply {
     Heartbeat,
     /// channel.open-ok of this channel
     ChannelOpenOk(u16),
-    /// channel.flow-ok of this channel
-    FlowOk(u16),
+    /// A unit on this channel, while it is open.
+    OnChannel(u16, ChannelUnit),
     /// channel.close-ok of this channel
     ChannelCloseOk(u16),
     /// channel.close-ok to a channel.close that crossed the gateway's, after the client answered

@@ -3,6 +3,10 @@
 /// A client's end is shut where no connection.open came within so long of its accept.
 pub const HANDSHAKE_LIMIT: u64 = 10_000;
 
+/// A channel that closes ends its session so long after its closing event, where publishes lack an
+/// outcome.
+pub const LINGER_LIMIT: u64 = 5_000;
+
 /// Both ends are shut so long after the closing event of the connection.
 pub const CLOSING_LIMIT: u64 = 10_000;
 

@@ -19,18 +19,17 @@ use Rattle.machine_091.specs.State.{is_closing}
 use Rattle.gate_model.specs.declared.outgoing.Outgoing.TheVariants.{ToClient, ToUp}
 use Rattle.gate_model.specs.declared.outgoing.UpUnit.{UpUnit}
 use Rattle.gate_model.specs.declared.reply.Reply.{Reply}
-use Rattle.gate_model.specs.Due.{client_rows, is_busy, up_rows}
+use Rattle.gate_model.specs.Due.{carries_up, client_rows, is_busy, up_rows}
 use Rattle.gate_model.specs.Folds.{accepted_in, failed_in, moment_in, sent_at, sent_up_at, side_in}
 use Rattle.gate_model.specs.Setup.{SetupText}
-use Rattle.gate_model.specs.Spelling.{context_of, spell}
 use Rattle.gate_model.specs.State as state
 use Rattle.gate_model.specs.State.{State, Step, Came, Gave, Heard, Joined, Lost, TakenUp, Whole, before}
-use Rattle.gate_model.specs.Upstream.{UpState, closing_with, first, lost_by, shut_by}
-use Rattle.gate_pair.specs.Meaning.{begins, ends, given, offered, pair_words, state_of, steps_of, told}
+use Rattle.gate_model.specs.Upstream.{UpState, closing_with, first, shut_by}
+use Rattle.gate_pair.specs.Meaning.{begins, ends, given, offered, pair_words, spelled_in, state_of, steps_of, told}
 use Rattle.gate_pair.specs.Times.{accepted_of, has_failed, last_taken_at, last_taken_up_at}
 use Rattle.gate_pair.proofs.Picks.{offered_is}
 use Rattle.gate_pair.proofs.Saids.{after_before}
-use Rattle.gate_pair.proofs.Taken.{AreTaken, Leaves, all_leave, drop_taken, fail_leaves, fresh_taken, leave_folds, moment_is, silent_leaves}
+use Rattle.gate_pair.proofs.Taken.{AreTaken, Leaves, all_leave, drop_taken, fail_leaves, fresh_taken, leave_folds, lost_leaves, moment_is, silent_leaves}
 use Rattle.gate_pair.proofs.Ticks.{tick_all}
 
 -- what entries say
@@ -90,7 +89,7 @@ leave_up (TakenUp ∷ g) h a = let x = leave_up g h a.1 in record { side_is = x.
 leave_up (Heard u ∷ g) h a = let x = leave_up g h a.1 in record { side_is = x.side_is; at_is = x.at_is }
 leave_up (Joined answer ∷ g) h a = absurd a.0
 leave_up (Lost end how ∷ g) h a = absurd a.0
-leave_up (Gave u ∷ g) h a = absurd a.0
+leave_up (Gave u text ∷ g) h a = absurd a.0
 leave_up (Whole end ∷ g) h a = absurd a.0
 leave_up (state.OutOfMemory ∷ g) h a = absurd a.0
 
@@ -149,7 +148,7 @@ agrees_lost g Client loss.Ended h x = x
 agrees_lost g Client loss.Failed h x = record { accepted_is = x.accepted_is; failed_is = refl; side_is = x.side_is; at_is = x.at_is; up_at_is = x.up_at_is }
 agrees_lost g Client loss.Shut h x = x
 agrees_lost g Up loss.Ended h x =
-    let l = fail_leaves _ None (record (before g) { up = lost_by side.Ended (before g).up }) in
+    let l = lost_leaves side.Ended (before g) in
     record {
       accepted_is = x.accepted_is;
       failed_is = x.failed_is;
@@ -158,7 +157,7 @@ agrees_lost g Up loss.Ended h x =
       up_at_is = λ e. x.up_at_is (sym (busy_up_is l) ∙ e);
     }
 agrees_lost g Up loss.Failed h x =
-    let l = fail_leaves _ None (record (before g) { up = lost_by side.Failed (before g).up }) in
+    let l = lost_leaves side.Failed (before g) in
     record {
       accepted_is = x.accepted_is;
       failed_is = x.failed_is;
@@ -223,11 +222,11 @@ took_client : (s : SetupText) (g : List Step) (n ms : ℕ) (rest bytes : List �
     → Agrees ((ends Client n bytes ++ begins Client (before g)) ++ g) (at_last Client ms c)
 took_client s g n ms rest bytes c e m x = begun (is_busy (before g) Client) refl (client_rows (before g)) e
   where
-    begun : (b : Bool) → is_busy (before g) Client ≡ b → (us : List Reply) → (if b then Some rest else option_map (spell (context_of s (before g))) (first (map ToClient us))) ≡ Some bytes
-        → Agrees ((ends Client n bytes ++ (if b then [] else given (first (map ToClient us)))) ++ g) (at_last Client ms c)
+    begun : (b : Bool) → is_busy (before g) Client ≡ b → (us : List Reply) → (if b then Some rest else option_map (spelled_in s (before g)) (first (map ToClient us))) ≡ Some bytes
+        → Agrees ((ends Client n bytes ++ (if b then [] else given (before g) (first (map ToClient us)))) ++ g) (at_last Client ms c)
     begun true is us f = agrees_begun Client g (nat_lt n (length bytes)) [] c ms is m x
     begun false is [] f = absurd cc
-    begun false is (u ∷ us) f = agrees_begun Client g (nat_lt n (length bytes)) (Gave (ToClient u) ∷ []) c ms refl m (record {
+    begun false is (u ∷ us) f = agrees_begun Client g (nat_lt n (length bytes)) (Gave (ToClient u) [] ∷ []) c ms refl m (record {
       accepted_is = x.accepted_is;
       failed_is = x.failed_is;
       side_is = x.side_is;
@@ -239,11 +238,11 @@ took_up : (s : SetupText) (g : List Step) (n ms : ℕ) (rest bytes : List ℕ) (
     → Agrees ((ends Up n bytes ++ begins Up (before g)) ++ g) (at_last Up ms c)
 took_up s g n ms rest bytes c e m x = begun (is_busy (before g) Up) refl (up_rows (before g)) e
   where
-    begun : (b : Bool) → is_busy (before g) Up ≡ b → (us : List UpUnit) → (if b then Some rest else option_map (spell (context_of s (before g))) (first (map ToUp us))) ≡ Some bytes
-        → Agrees ((ends Up n bytes ++ (if b then [] else given (first (map ToUp us)))) ++ g) (at_last Up ms c)
+    begun : (b : Bool) → is_busy (before g) Up ≡ b → (us : List UpUnit) → (if b then Some rest else option_map (spelled_in s (before g)) (first (map ToUp us))) ≡ Some bytes
+        → Agrees ((ends Up n bytes ++ (if b then [] else given (before g) (first (map ToUp us)))) ++ g) (at_last Up ms c)
     begun true is us f = agrees_begun Up g (nat_lt n (length bytes)) [] c ms is m x
     begun false is [] f = absurd cc
-    begun false is (u ∷ us) f = agrees_begun Up g (nat_lt n (length bytes)) (Gave (ToUp u) ∷ []) c ms refl m (record {
+    begun false is (u ∷ us) f = agrees_begun Up g (nat_lt n (length bytes)) (Gave (ToUp u) (carries_up (before g) u) ∷ []) c ms refl m (record {
       accepted_is = x.accepted_is;
       failed_is = x.failed_is;
       side_is = x.side_is;

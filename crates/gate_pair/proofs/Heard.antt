@@ -388,11 +388,11 @@ both_other : (end : End) (k g : List Step) → AreOther end k → AreOther end g
 both_other end [] g o q = q
 both_other end (x ∷ k) g o q = (o.0, both_other end k g o.1 q)
 
-given_other : (end : End) (b : Bool) (o : Option Outgoing) → AreOther end (if b then [] else given o)
-given_other end true o = tt
-given_other end false None = tt
-given_other Client false (Some u) = (tt, tt)
-given_other Up false (Some u) = (tt, tt)
+given_other : (end : End) (w : State) (b : Bool) (o : Option Outgoing) → AreOther end (if b then [] else given w o)
+given_other end w true o = tt
+given_other end w false None = tt
+given_other Client w false (Some u) = (tt, tt)
+given_other Up w false (Some u) = (tt, tt)
 
 whole_other : (end e : End) (b : Bool) → AreOther end (if b then [] else state.Whole e ∷ [])
 whole_other end e true = tt
@@ -401,7 +401,7 @@ whole_other Up e false = (tt, tt)
 
 took_other : (end e : End) (n : ℕ) (bytes : List ℕ) (w : State) → AreOther end (ends e n bytes ++ begins e w)
 took_other end e n bytes w =
-    both_other end (ends e n bytes) (begins e w) (whole_other end e (nat_lt n (length bytes))) (given_other end (is_busy w e) (pick w e))
+    both_other end (ends e n bytes) (begins e w) (whole_other end e (nat_lt n (length bytes))) (given_other end w (is_busy w e) (pick w e))
 
 -- ---- all entries
 

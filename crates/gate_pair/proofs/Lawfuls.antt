@@ -14,22 +14,23 @@ use Rattle.gate_relay.specs.Sides.{is_absent, is_open_side, is_readable, is_writ
 use Rattle.machine_091.specs.State.{awaits, is_opening}
 use Rattle.machine_091.specs.declared.state.Connection.{Connection}
 use Rattle.machine_10.specs.declared.state.Upstream.{Upstream}
+use Rattle.gate_model.specs.declared.channel.SessionUnit.TheVariants as unit
 use Rattle.gate_model.specs.declared.outgoing.Outgoing.{Outgoing}
 use Rattle.gate_model.specs.declared.outgoing.Outgoing.TheVariants.{ToClient, ToUp}
 use Rattle.gate_model.specs.declared.outgoing.UpUnit.{UpUnit}
 use Rattle.gate_model.specs.declared.outgoing.UpUnit.TheVariants as up
 use Rattle.gate_model.specs.declared.reply.Reply.{Reply}
-use Rattle.gate_model.specs.Due.{can_leave, can_take_unit, client_rows, is_awaited, is_awaiting, is_busy, pick, takes_memory, takes_memory_up, up_rows}
+use Rattle.gate_model.specs.Due.{can_leave, can_take_unit, carries, client_rows, is_awaited, is_awaiting, is_busy, pick, takes_memory, takes_memory_up, up_rows}
 use Rattle.gate_model.specs.Folds.{connection, given_up_in}
 use Rattle.gate_model.specs.Setup.{SetupText}
-use Rattle.gate_model.specs.Spelling.{Context, context_of, spell}
+use Rattle.gate_model.specs.Spelling.{Context, spell}
 use Rattle.gate_model.specs.State.{State, is_held, place}
 use Rattle.gate_model.specs.Upstream.{awaited_of, first, is_awaited_up}
 use Rattle.gate_model.proofs.Known.{Known, conn_is, container_is, known, number_is}
 use Rattle.gate_model.proofs.Silences.{given_is}
 use Rattle.gate_model.proofs.Times.{Either, OnLeft, OnRight, and_left, and_right, either}
-use Rattle.gate_pair.specs.Lawful.{AreLawful, AtRefusal, AtTheEnd, Beginning, Flowing, InRead, InSpelling, InTakeUp, IsAskedFor, IsAwaited, IsHeard, IsOfferOf, IsOffered, IsTakenUp, Keeps, Login, Opening, RunsOutIn, Shuts, TakesMemory, WhereDue}
-use Rattle.gate_pair.specs.Meaning.{needs_memory, offered, pair_words, state_of, steps_of, stream_of, told}
+use Rattle.gate_pair.specs.Lawful.{AreLawful, AtRefusal, AtTheEnd, Attaching, Beginning, Crediting, Flowing, InRead, InSpelling, InTakeUp, IsAskedFor, IsAwaited, IsHeard, IsOfferOf, IsOffered, IsTakenUp, Keeps, Login, Opening, RunsOutIn, Shuts, TakesMemory, Transferring, WhereDue}
+use Rattle.gate_pair.specs.Meaning.{needs_memory, offered, pair_words, spelled_in, state_of, steps_of, stream_of, told}
 use Rattle.gate_pair.proofs.Picks.{picks}
 use Rattle.gate_pair.proofs.Timings.{AreTimed, due_at}
 
@@ -96,13 +97,13 @@ same_context : (s : SetupText) (n m : ℕ) (o p : Option Upstream) → n ≡ m �
 same_context s n m o p e f = cc
 
 offer_by : (s : SetupText) (end : End) (b : Bool) (h : List Entry) (o : Option Outgoing) (bytes : List ℕ) → IsRelayed (pair_words s) h → pick (state_of s h) end ≡ o
-    → (if b then Some (stream_of end (told s h)).rest else option_map (spell (context_of s (state_of s h))) o) ≡ Some bytes → IsOfferOf s end b h bytes
+    → (if b then Some (stream_of end (told s h)).rest else option_map (spelled_in s (state_of s h)) o) ≡ Some bytes → IsOfferOf s end b h bytes
 offer_by s end true h o bytes r p e = let same : (stream_of end (told s h)).rest ≡ bytes = cc in sym same
 offer_by s end false h None bytes r p e = absurd cc
 offer_by s end false h (Some u) bytes r p e =
-    let same : spell (context_of s (state_of s h)) u ≡ bytes = cc in
+    let same : spelled_in s (state_of s h) u ≡ bytes = cc in
     let k : Known (steps_of s h) = knows s h r in
-    (u, p, sym same ∙ ap (λ (c : Context). spell c u) (same_context s _ _ _ _ (number_is k) (container_is k)))
+    (u, p, sym same ∙ ap (λ (c : Context). spell c u (carries (state_of s h) u)) (same_context s _ _ _ _ (number_is k) (container_is k)))
 
 offered_by : (s : SetupText) (end : End) (b : Bool) (h : List Entry) (bytes : List ℕ) → IsRelayed (pair_words s) h → is_writable (side_of end (sides h)) ≡ b
     → (if b then offered s end (state_of s h) (stream_of end (told s h)).rest else None) ≡ Some bytes → IsOffered s end h bytes
@@ -140,6 +141,11 @@ takes_some up.AmqpHeader e = absurd cc
 takes_some up.Open e = Opening refl
 takes_some (up.Close c) e = absurd cc
 takes_some up.Empty e = absurd cc
+takes_some (up.OnSession n (unit.Attach a)) e = Attaching n a refl
+takes_some (up.OnSession n (unit.Flow f)) e = Crediting n f refl
+takes_some (up.OnSession n (unit.Transfer t)) e = Transferring n t refl
+takes_some (up.OnSession n (unit.Settle x)) e = absurd cc
+takes_some (up.OnSession n (unit.Detach link handle)) e = absurd cc
 takes_some (up.Flow n i o) e = Flowing n i o refl
 takes_some (up.Begin n) e = Beginning n refl
 takes_some (up.End n why) e = absurd cc

@@ -1,6 +1,7 @@
 pub mod Agree
 pub mod Cuts
 pub mod Heard
+pub mod Lacks
 pub mod Lawfuls
 pub mod Logins
 pub mod Memories

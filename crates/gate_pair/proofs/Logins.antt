@@ -2,6 +2,7 @@
 use Rattle.std.proofs.Common.{◌≡◌, ◌∙◌, ℕ, Bool, true, false, not, ◌&&◌, ◌||◌, if◌then◌else◌, map, List, [], ◌∷◌, ◌++◌, Option, None, Some, refl, sym, ap, subst}
 use Rattle.std.specs.Prelude.{is_some}
 use Rattle.std.specs.List.{list_any}
+use Rattle.std.proofs.lemmas.List.{map-append}
 use Rattle.std.proofs.lemmas.List.Folds.{list_any-append}
 use Rattle.gate_outside.specs.declared.ports.End.{End}
 use Rattle.gate_outside.specs.declared.ports.End.TheVariants.{Client, Up}
@@ -13,7 +14,9 @@ use Rattle.machine_091.specs.declared.unit.Unit91.{Unit91}
 use Rattle.machine_10.specs.Calls.{after_begin_sent, after_end_sent, asked, left, may_begin}
 use Rattle.machine_10.specs.Laws.{GoesOn}
 use Rattle.machine_10.specs.State.{session_at, with_session}
+use Rattle.machine_10.specs.Parts.{Parts as Read}
 use Rattle.machine_10.specs.Transitions as ten
+use Rattle.machine_10.specs.Transitions.{Meaning}
 use Rattle.machine_10.specs.declared.state.Session.{Session}
 use Rattle.machine_10.specs.declared.state.Session.TheVariants as session
 use Rattle.machine_10.specs.declared.state.Upstream.{Upstream}
@@ -24,17 +27,18 @@ use Rattle.gate_model.specs.declared.outgoing.UpUnit.{UpUnit}
 use Rattle.gate_model.specs.declared.outgoing.UpUnit.TheVariants as up
 use Rattle.gate_model.specs.declared.reply.Reply.{Reply}
 use Rattle.gate_model.specs.Asked.{AreCalledFor, called, called_from, openings_of}
-use Rattle.gate_model.specs.Folds.{Peers, connection, container, container_kept, leaving_in, number_in, peers, peers_came, peers_heard, ran_out_in, sent_up}
+use Rattle.gate_model.specs.Folds.{Peers, connection, container, container_kept, leaving_in, number_in, peers, peers_by, peers_came, peers_heard, peers_session, ran_out_in, sent_up}
 use Rattle.gate_model.specs.Picks.{ArePicks}
 use Rattle.gate_model.specs.Setup.{SetupText}
 use Rattle.gate_model.specs.Spelling.{Context, context_of, init_text, spell}
 use Rattle.gate_model.specs.Requests.{client_step}
-use Rattle.gate_model.specs.State.{Step, Began, Moment, Fed, Silent, Queued, Came, TakenUp, Heard, Joined, Lost, Gave, Whole, OutOfMemory, before}
-use Rattle.gate_model.specs.Upstream.{container_by, container_given, ended_in, opening_rows, sessions_given, when_up}
+use Rattle.gate_model.specs.State.{State, Step, Began, Moment, Fed, Silent, Queued, Came, TakenUp, Heard, Joined, Lost, Gave, Whole, OutOfMemory, before, new_state}
+use Rattle.gate_model.specs.Upstream.{container_by, container_given, ended_in, meaning_by, opening_rows, sessions_given, when_up}
 use Rattle.gate_model.proofs.Known.{container_is, known, number_is}
-use Rattle.gate_model.proofs.Outcomes.{Outcome, Greets, Parts, LogsIn, Tunes, Asks, Passes, Refuses, Declines, Drops, Parting, Calls, Asking, Fills, Frees, Closes, Answers, Ignores, outcome}
+use Rattle.gate_model.proofs.Outcomes.{Outcome, Greets, Parts, LogsIn, Tunes, Asks, Passes, Refuses, Declines, Drops, Parting, Calls, Asking, Publishes, Fills, Frees, Closes, Answers, Ignores, outcome}
+use Rattle.gate_model.proofs.Sessions.{session_by}
 use Rattle.gate_model.proofs.Ups.{Early, early, is_early}
-use Rattle.gate_pair.specs.Answers.{context_in, sent_to, spelled}
+use Rattle.gate_pair.specs.Answers.{context_in, sent_to, sent_up_with, spelled, to_client, to_up}
 
 -- what lower crates say of logins: no unit of the container changes one, and of the units of the opening those were sent that were called for
 pub record AreLoggedIn : Type 0 where
@@ -70,6 +74,7 @@ moves_came p u f = by (client_step p.client u) (outcome p.client u)
     by _ (Parting e) = Stays
     by _ (Calls n s m e) = Stays
     by _ (Asking n m e) = Stays
+    by _ (Publishes n m x e) = Stays
     by _ (Fills n i e) = Stays
     by _ (Frees n e) = Stays
     by _ (Closes e) = Stays
@@ -96,8 +101,8 @@ moves (Lost Client how) g i p = Stays
 moves (Lost Up loss.Ended) g i p = Ends
 moves (Lost Up loss.Failed) g i p = Ends
 moves (Lost Up loss.Shut) g i p = Stays
-moves (Gave (ToClient u)) g i p = Stays
-moves (Gave (ToUp u)) g i p = Sends u
+moves (Gave (ToClient u) text) g i p = Stays
+moves (Gave (ToUp u) text) g i p = Sends u
 moves (Whole end) g i p = Stays
 moves OutOfMemory g i p = Stays
 
@@ -157,6 +162,7 @@ keeps_given up.AmqpHeader c = keeps_all c
 keeps_given up.Open c = keeps_all c
 keeps_given (up.Close why) c = keeps_all c
 keeps_given up.Empty c = keeps_all c
+keeps_given (up.OnSession n u) c = keeps_all c
 keeps_given (up.Flow n i o) c = keeps_all c
 keeps_given (up.Begin n) c = keeps_begin n c
 keeps_given (up.End n why) c = keeps_end n c
@@ -171,16 +177,36 @@ follows_moves o _ (Comes c none) = subst (λ (o : Option Upstream). Follows o (S
 follows_moves o _ Ends = follows_ended o
 follows_moves o _ (Sends u) = follows_given u o
 
-follows_heard : AreLoggedIn → (o : Option Upstream) (u : Unit10) → Follows o (container_by o u)
-follows_heard l None u = tt
-follows_heard l (Some c) u = let f : GoesOn c (ten.unit_step c u).0 = l.forward c u in (f.mechanism, f.response)
+follows_by : AreLoggedIn → (o : Option Upstream) (u : Unit10) → Follows o (container_by o u)
+follows_by l None u = tt
+follows_by l (Some c) u = let f : GoesOn c (ten.unit_step c u).0 = l.forward c u in (f.mechanism, f.response)
+
+-- what a unit of the container means leaves it
+kept_session : (n : ℕ) (q : Read) (x : Peers) → (peers_session n q x).container ≡ x.container
+kept_session n q x =
+    session_by (λ (y : Peers) (w : State). y.container ≡ x.container) n q (record (new_state [] 0 0) { conn = x.client; paths = x.paths }) x.container x.opened
+    (record { begins = refl; stays = refl; ends = λ code why. refl; windows = refl; drops = λ code why. refl; fails = λ why. refl })
+
+kept : (m : Meaning) (x : Peers) → (peers_by m x).container ≡ x.container
+kept ten.Nothing x = refl
+kept ten.Init x = refl
+kept ten.AmqpHeader x = refl
+kept ten.Opened x = refl
+kept (ten.OfSession n q payload) x = kept_session n q x
+kept (ten.Closed e) x = refl
+kept ten.Refused x = refl
+kept (ten.Violation why) x = refl
+
+follows_heard : AreLoggedIn → (p : Peers) (u : Unit10) → Follows p.container (peers_heard p u).container
+follows_heard l p u =
+    subst (Follows p.container) (sym (kept (meaning_by p.container u) (record p { container = container_by p.container u }))) (follows_by l p.container u)
 
 pub follows : AreLoggedIn → (x : Step) (g : List Step) → ArePicks (x ∷ g) → Follows (container g) (container (x ∷ g))
 follows l (Heard u) g p = by (ran_out_in g)
   where
     by : (b : Bool) → Follows (container g) (if b then peers g else peers_heard (peers g) u).container
     by true = follows_same (container g)
-    by false = follows_heard l (container g) u
+    by false = follows_heard l (peers g) u
 follows l x g p = follows_moves (container g) (container (x ∷ g)) (moves x g tt p)
 
 -- ---- sasl-init goes after the login
@@ -192,6 +218,7 @@ is_init up.AmqpHeader = false
 is_init up.Open = false
 is_init (up.Close why) = false
 is_init up.Empty = false
+is_init (up.OnSession n u) = false
 is_init (up.Flow n i o) = false
 is_init (up.Begin n) = false
 is_init (up.End n why) = false
@@ -227,6 +254,7 @@ opening_inits (up.AmqpHeader ∷ us) e = opening_inits us e
 opening_inits (up.Open ∷ us) e = opening_inits us e
 opening_inits (up.Close why ∷ us) e = opening_inits us e
 opening_inits (up.Empty ∷ us) e = opening_inits us e
+opening_inits (up.OnSession n u ∷ us) e = opening_inits us e
 opening_inits (up.Flow n i o ∷ us) e = opening_inits us e
 opening_inits (up.Begin n ∷ us) e = opening_inits us e
 opening_inits (up.End n why ∷ us) e = opening_inits us e
@@ -273,30 +301,43 @@ init_same (Some c) (Some d) e f =
 joins : {a b c d : List ℕ} → a ≡ b → c ≡ d → a ++ c ≡ b ++ d
 joins e f = cc
 
-unit_same : (c d : Context) (u : UpUnit) → c.setup ≡ d.setup → c.number ≡ d.number → (is_init u ≡ true → init_text c.container ≡ init_text d.container)
-    → spell c (ToUp u) ≡ spell d (ToUp u)
+unit_same : (c d : Context) (u : UpUnit) (text : List ℕ) → c.setup ≡ d.setup → c.number ≡ d.number → (is_init u ≡ true → init_text c.container ≡ init_text d.container)
+    → spell c (ToUp u) text ≡ spell d (ToUp u) text
 unfolding is_init
-unit_same c d up.SaslHeader e f i = refl
-unit_same c d up.SaslInit e f i = i refl
-unit_same c d up.AmqpHeader e f i = refl
-unit_same c d up.Open e f i =
-    ap (λ (n : ℕ). spell (record c { number = n }) (ToUp up.Open)) f ∙ ap (λ (s : SetupText). spell (record d { setup = s }) (ToUp up.Open)) e
-unit_same c d (up.Close why) e f i = refl
-unit_same c d up.Empty e f i = refl
-unit_same c d (up.Flow n i o) e f x = refl
-unit_same c d (up.Begin n) e f i = refl
-unit_same c d (up.End n why) e f i = refl
+unit_same c d up.SaslHeader text e f i = refl
+unit_same c d up.SaslInit text e f i = i refl
+unit_same c d up.AmqpHeader text e f i = refl
+unit_same c d up.Open text e f i =
+    ap (λ (n : ℕ). spell (record c { number = n }) (ToUp up.Open) text) f ∙ ap (λ (s : SetupText). spell (record d { setup = s }) (ToUp up.Open) text) e
+unit_same c d (up.Close why) text e f i = refl
+unit_same c d up.Empty text e f i = refl
+unit_same c d (up.OnSession n u) text e f i = refl
+unit_same c d (up.Flow n i o) text e f x = refl
+unit_same c d (up.Begin n) text e f i = refl
+unit_same c d (up.End n why) text e f i = refl
 
-up_same : (c d : Context) (us : List UpUnit) → c.setup ≡ d.setup → c.number ≡ d.number → (list_any is_init us ≡ true → init_text c.container ≡ init_text d.container)
-    → spelled c (map ToUp us) ≡ spelled d (map ToUp us)
+-- units to a container, without what they carry
+abbrev units : List (UpUnit × List ℕ) → List UpUnit
+units xs = map (λ (x : UpUnit × List ℕ). x.0) xs
+
+-- those that were sent are the same
+units_sent : (g : List Step) → units (sent_up_with g) ≡ sent_up g
+units_sent [] = refl
+units_sent (Gave (ToUp u) text ∷ g) =
+    map-append (λ (x : UpUnit × List ℕ). x.0) (sent_up_with g) ((u, text) ∷ []) ∙ ap (λ (us : List UpUnit). us ++ u ∷ []) (units_sent g)
+units_sent (x ∷ g) = units_sent g
+
+up_same : (c d : Context) (xs : List (UpUnit × List ℕ)) → c.setup ≡ d.setup → c.number ≡ d.number
+    → (list_any is_init (units xs) ≡ true → init_text c.container ≡ init_text d.container)
+    → spelled c (map to_up xs) ≡ spelled d (map to_up xs)
 up_same c d [] e f i = refl
-up_same c d (u ∷ us) e f i =
-    joins (unit_same c d u e f (λ x. i (or_left (is_init u) (list_any is_init us) x)))
-    (up_same c d us e f (λ x. i (or_right (is_init u) (list_any is_init us) x)))
+up_same c d (x ∷ xs) e f i =
+    joins (unit_same c d x.0 x.1 e f (λ k. i (or_left (is_init x.0) (list_any is_init (units xs)) k)))
+    (up_same c d xs e f (λ k. i (or_right (is_init x.0) (list_any is_init (units xs)) k)))
 
-pub client_same : (c d : Context) (us : List Reply) → spelled c (map ToClient us) ≡ spelled d (map ToClient us)
+pub client_same : (c d : Context) (us : List Reply) → spelled c (map to_client us) ≡ spelled d (map to_client us)
 client_same c d [] = refl
-client_same c d (u ∷ us) = ap (λ (b : List ℕ). spell c (ToClient u) ++ b) (client_same c d us)
+client_same c d (u ∷ us) = ap (λ (b : List ℕ). spell c (ToClient u) [] ++ b) (client_same c d us)
 
 -- no step changes the bytes of the units that were sent before it
 pub bytes_stay : AreLoggedIn → (s : SetupText) (end : End) (x : Step) (g : List Step) → ArePicks (x ∷ g)
@@ -305,16 +346,16 @@ bytes_stay l s Client x g p = client_same (context_in s (x ∷ g)) (context_in s
 bytes_stay l s Up (Began vhost n ms) g p =
     subst (λ (g : List Step). spelled (context_in s (Began vhost n ms ∷ g)) (sent_to Up g) ≡ spelled (context_in s g) (sent_to Up g)) (sym p.0) refl
 bytes_stay l s Up x g p =
-    up_same (context_in s (x ∷ g)) (context_in s g) (sent_up g) refl refl
-    (λ e. init_same (container g) (container (x ∷ g)) (init_some l g p.1 e) (follows l x g p))
+    up_same (context_in s (x ∷ g)) (context_in s g) (sent_up_with g) refl refl
+    (λ e. init_same (container g) (container (x ∷ g)) (init_some l g p.1 (sym (ap (list_any is_init) (units_sent g)) ∙ e)) (follows l x g p))
 
 -- nor one that goes the bytes of its own
 init_given : (u : UpUnit) (o : Option Upstream) → init_text (container_given u o) ≡ init_text o
 init_given u None = refl
 init_given u (Some c) = let k : Keeps c (sessions_given u c) = keeps_given u c in init_same (Some c) (Some (sessions_given u c)) refl (k.mechanism, k.response)
 
-pub gave_stay : (s : SetupText) (u : UpUnit) (g : List Step) → spell (context_in s (Gave (ToUp u) ∷ g)) (ToUp u) ≡ spell (context_in s g) (ToUp u)
-gave_stay s u g = unit_same (context_in s (Gave (ToUp u) ∷ g)) (context_in s g) u refl refl (λ e. init_given u (container g))
+pub gave_stay : (s : SetupText) (u : UpUnit) (text : List ℕ) (g : List Step) → spell (context_in s (Gave (ToUp u) text ∷ g)) (ToUp u) text ≡ spell (context_in s g) (ToUp u) text
+gave_stay s u text g = unit_same (context_in s (Gave (ToUp u) text ∷ g)) (context_in s g) u text refl refl (λ e. init_given u (container g))
 
 -- a state knows what decides them
 pub context_is : (s : SetupText) (g : List Step) → ArePicks g → context_of s (before g) ≡ context_in s g

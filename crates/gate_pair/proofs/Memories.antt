@@ -15,31 +15,31 @@ use Rattle.gate_model.specs.Due.{is_busy, pick}
 use Rattle.gate_model.specs.Setup.{SetupText}
 use Rattle.gate_model.specs.State as state
 use Rattle.gate_model.specs.State.{State, Step, Lost, before, step}
-use Rattle.gate_model.specs.Upstream.{lost_by, shut_by}
+use Rattle.gate_model.specs.Upstream.{shut_by}
 use Rattle.gate_pair.specs.Cutting.{after}
 use Rattle.gate_pair.specs.Meaning.{begins, ends, given, state_of, steps_of, told}
 use Rattle.gate_pair.specs.PairStates.{PairState, Represents, Said}
 use Rattle.gate_pair.proofs.Saids.{after_before}
-use Rattle.gate_pair.proofs.Taken.{all_leave, fail_leaves, fresh_taken, silent_leaves}
+use Rattle.gate_pair.proofs.Taken.{all_leave, fail_leaves, fresh_taken, lost_leaves, silent_leaves}
 use Rattle.gate_pair.proofs.Ticks.{tick_keeps}
 
 lost_memory : (w : State) (end : End) (how : Loss) → (step w (Lost end how)).out_of_memory ≡ w.out_of_memory
 lost_memory w Client loss.Ended = refl
 lost_memory w Client loss.Failed = refl
 lost_memory w Client loss.Shut = refl
-lost_memory w Up loss.Ended = (fail_leaves _ None (record w { up = lost_by side.Ended w.up })).memory_is
-lost_memory w Up loss.Failed = (fail_leaves _ None (record w { up = lost_by side.Failed w.up })).memory_is
+lost_memory w Up loss.Ended = (lost_leaves side.Ended w).memory_is
+lost_memory w Up loss.Failed = (lost_leaves side.Failed w).memory_is
 lost_memory w Up loss.Shut = refl
 
 joined_memory : (w : State) (answer : Linked) → (step w (state.Joined answer)).out_of_memory ≡ w.out_of_memory
 joined_memory w link.Ok = refl
 joined_memory w link.Failed = (fail_leaves _ None (record w { up = shut_by w.up })).memory_is
 
-begins_memory : (h : List Step) (b : Bool) (o : Option Outgoing) → (before ((if b then [] else given o) ++ h)).out_of_memory ≡ (before h).out_of_memory
-begins_memory h true o = refl
-begins_memory h false None = refl
-begins_memory h false (Some (ToClient u)) = refl
-begins_memory h false (Some (ToUp u)) = refl
+begins_memory : (w : State) (h : List Step) (b : Bool) (o : Option Outgoing) → (before ((if b then [] else given w o) ++ h)).out_of_memory ≡ (before h).out_of_memory
+begins_memory w h true o = refl
+begins_memory w h false None = refl
+begins_memory w h false (Some (ToClient u)) = refl
+begins_memory w h false (Some (ToUp u)) = refl
 
 ends_memory : (end : End) (h g : List Step) (b : Bool) → (before (((if b then [] else state.Whole end ∷ []) ++ g) ++ h)).out_of_memory ≡ (before (g ++ h)).out_of_memory
 ends_memory end h g true = refl
@@ -48,7 +48,7 @@ ends_memory Up h g false = refl
 
 took_memory : (end : End) (h : List Step) (n : ℕ) (bytes : List ℕ) → (before ((ends end n bytes ++ begins end (before h)) ++ h)).out_of_memory ≡ (before h).out_of_memory
 took_memory end h n bytes =
-    ends_memory end h (begins end (before h)) (nat_lt n (length bytes)) ∙ begins_memory h (is_busy (before h) end) (pick (before h) end)
+    ends_memory end h (begins end (before h)) (nat_lt n (length bytes)) ∙ begins_memory (before h) h (is_busy (before h) end) (pick (before h) end)
 
 -- steps that an entry brings, which out of memory can take back
 fresh_memory : (s : SetupText) (e : Entry) (h : List Entry) (g : List Step) → (told s (e ∷ h)).past ≡ g → (before g).out_of_memory ≡ is_out_of_memory h

@@ -30,12 +30,11 @@ use Rattle.wire_base.specs.declared.scan.Scan.{Scan}
 use Rattle.wire_base.specs.declared.scan.Scan.TheVariants.{Whole, More, Bad}
 use Rattle.gate_model.specs.declared.outgoing.Outgoing.{Outgoing}
 use Rattle.gate_model.specs.declared.outgoing.Outgoing.TheVariants.{ToClient, ToUp}
-use Rattle.gate_model.specs.Due.{can_leave, is_awaited, is_busy, is_connect_due, pick}
+use Rattle.gate_model.specs.Due.{can_leave, carries, is_awaited, is_busy, is_connect_due, pick}
 use Rattle.gate_model.specs.Folds.{container, moment_in, ran_out_in}
 use Rattle.gate_model.specs.Picks.{ArePicks, MayBeHeard, MayComeAs, MayQueue, MayStep}
 use Rattle.gate_model.specs.Queue.{is_bad_unit, is_full}
 use Rattle.gate_model.specs.Setup.{SetupText}
-use Rattle.gate_model.specs.Spelling.{context_of, spell}
 use Rattle.gate_model.specs.State as state
 use Rattle.gate_model.specs.State.{State, Step, Gave, Heard, Queued, TakenUp, before, close_waits, step}
 use Rattle.gate_model.specs.Upstream.{awaited_of}
@@ -43,7 +42,7 @@ use Rattle.gate_model.proofs.Known.{container_is, known}
 use Rattle.gate_model.proofs.Known as knows
 use Rattle.gate_model.proofs.Times.{and_left, and_right}
 use Rattle.gate_pair.specs.Cutting.{after, as_step, as_unit, behind, cut_all, cut_of, on_scan, read_end, settle, step_scan, unit_scan, up_scan}
-use Rattle.gate_pair.specs.Meaning.{begins, ends, given, leaves, offered, pair_words, state_of, steps_of, told}
+use Rattle.gate_pair.specs.Meaning.{begins, ends, given, leaves, offered, pair_words, spelled_in, state_of, steps_of, told}
 use Rattle.gate_pair.proofs.Memories.{memory_of}
 use Rattle.gate_pair.proofs.Queued.{IsGood, IsGoodAt, IsReady, IsReadyAt, behind_picks, behind_ready, none_of_both, queued_good, settle_picks}
 use Rattle.gate_pair.proofs.Saids.{after_before}
@@ -189,12 +188,12 @@ fed_good w x = record { calm = x.calm; good = x.good }
 
 -- ---- units that go are those that are offered
 
-given_may : (end : End) (h : List Step) (o : Option Outgoing) → is_busy (before h) end ≡ false → pick (before h) end ≡ o → ArePicks h → ArePicks (given o ++ h)
+given_may : (end : End) (h : List Step) (o : Option Outgoing) → is_busy (before h) end ≡ false → pick (before h) end ≡ o → ArePicks h → ArePicks (given (before h) o ++ h)
 given_may end h None free at p = p
-given_may Client h (Some (ToClient u)) free at p = ((free, at), p)
+given_may Client h (Some (ToClient u)) free at p = ((free, at, refl), p)
 given_may Client h (Some (ToUp u)) free at p = absurd (client_picks (before h) u at)
 given_may Up h (Some (ToClient u)) free at p = absurd (up_picks (before h) u at)
-given_may Up h (Some (ToUp u)) free at p = ((free, at), p)
+given_may Up h (Some (ToUp u)) free at p = ((free, at, refl), p)
 
 took_picks : (end : End) (s : SetupText) (h : List Step) (n : ℕ) (rest bytes : List ℕ) → offered s end (before h) rest ≡ Some bytes → ArePicks h
     → ArePicks ((ends end n bytes ++ begins end (before h)) ++ h)
@@ -204,20 +203,20 @@ took_picks end s h n rest bytes e p = begun (is_busy (before h) end) refl (pick 
     last g true is q = q
     last g false is q = (is, q)
 
-    goes : (u : Outgoing) → pick (before h) end ≡ Some u → is_busy (before (Gave u ∷ h)) end ≡ true
+    goes : (u : Outgoing) → pick (before h) end ≡ Some u → is_busy (before (Gave u (carries (before h) u) ∷ h)) end ≡ true
     goes u at = by end u at
       where
-        by : (end : End) (u : Outgoing) → pick (before h) end ≡ Some u → is_busy (before (Gave u ∷ h)) end ≡ true
+        by : (end : End) (u : Outgoing) → pick (before h) end ≡ Some u → is_busy (before (Gave u (carries (before h) u) ∷ h)) end ≡ true
         by Client (ToClient r) at = refl
         by Client (ToUp r) at = absurd (client_picks (before h) r at)
         by Up (ToClient r) at = absurd (up_picks (before h) r at)
         by Up (ToUp r) at = refl
 
-    begun : (b : Bool) → is_busy (before h) end ≡ b → (o : Option Outgoing) → pick (before h) end ≡ o → (if b then Some rest else option_map (spell (context_of s (before h))) o) ≡ Some bytes
-        → ArePicks ((ends end n bytes ++ (if b then [] else given o)) ++ h)
+    begun : (b : Bool) → is_busy (before h) end ≡ b → (o : Option Outgoing) → pick (before h) end ≡ o → (if b then Some rest else option_map (spelled_in s (before h)) o) ≡ Some bytes
+        → ArePicks ((ends end n bytes ++ (if b then [] else given (before h) o)) ++ h)
     begun true is o at f = last [] (nat_lt n (length bytes)) is p
     begun false is None at f = absurd cc
-    begun false is (Some u) at f = last (Gave u ∷ []) (nat_lt n (length bytes)) (goes u at) (given_may end h (Some u) is at p)
+    begun false is (Some u) at f = last (Gave u (carries (before h) u) ∷ []) (nat_lt n (length bytes)) (goes u at) (given_may end h (Some u) is at p)
 
 -- any older part of a list of picks is one
 pub drop_picks : (n : ℕ) (g h : List Step) → ArePicks (g ++ h) → ArePicks (drop n g ++ h)

@@ -1,5 +1,5 @@
 -- What an end took are the bytes of the units that were sent to it, but for what is left of the one in progress.
-use Rattle.std.proofs.Common.{◌≡◌, ◌∙◌, ℕ, Bool, true, false, map, if◌then◌else◌, List, [], ◌∷◌, ◌++◌, length, take, drop, nat_lt, Option, None, Some, append_assoc, append-nil, refl, sym, ap, subst, arith}
+use Rattle.std.proofs.Common.{◌≡◌, ◌∙◌, ℕ, Bool, true, false, if◌then◌else◌, List, [], ◌∷◌, ◌++◌, length, take, drop, nat_lt, Option, None, Some, append_assoc, append-nil, refl, sym, ap, subst, arith}
 use Rattle.std.specs.Prelude.{is_some}
 use Rattle.std.specs.Option.{option_map}
 use Rattle.std.proofs.lemmas.List.{drop_all, map-append, take-append-drop}
@@ -16,40 +16,36 @@ use Rattle.gate_relay.specs.Sides.{is_writable, side_of, sides}
 use Rattle.machine_091.specs.State.{is_closing}
 use Rattle.gate_model.specs.declared.outgoing.Outgoing.{Outgoing}
 use Rattle.gate_model.specs.declared.outgoing.Outgoing.TheVariants.{ToClient, ToUp}
-use Rattle.gate_model.specs.Due.{due, in_progress, is_busy, pick}
-use Rattle.gate_model.specs.Folds.{sent, sent_up}
+use Rattle.gate_model.specs.Due.{carries, carries_up, due, in_progress, is_busy, pick}
+use Rattle.gate_model.specs.Folds.{sent}
 use Rattle.gate_model.specs.Picks.{ArePicks}
 use Rattle.gate_model.specs.Setup.{SetupText}
-use Rattle.gate_model.specs.Spelling.{Context, context_of, spell}
+use Rattle.gate_model.specs.Spelling.{Context, spell}
 use Rattle.gate_model.specs.State as state
 use Rattle.gate_model.specs.State.{State, Step, Gave, Whole, before, step}
-use Rattle.gate_model.specs.Upstream.{UpState, first, linked, lost_by, shut_by}
-use Rattle.gate_pair.specs.Answers.{AreSent, OwesNone, context_in, sent_to, spelled, taken_bytes}
-use Rattle.gate_pair.specs.Meaning.{begins, ends, given, offered, pair_words, state_of, steps_of, stream_of, told}
+use Rattle.gate_model.specs.Upstream.{UpState, first, linked, shut_by}
+use Rattle.gate_pair.specs.Answers.{AreSent, OwesNone, context_in, sent_to, sent_up_with, spelled, taken_bytes, to_client, to_up}
+use Rattle.gate_pair.specs.Meaning.{begins, ends, given, offered, pair_words, spelled_in, state_of, steps_of, stream_of, told}
 use Rattle.gate_pair.proofs.Logins.{AreLoggedIn, bytes_stay, client_same, context_is, gave_stay}
 use Rattle.gate_pair.proofs.Picks.{moment_picks, offered_is, picks}
 use Rattle.gate_pair.proofs.Sounds.{client_picks, up_picks}
-use Rattle.gate_pair.proofs.Taken.{AreTaken, IsTaken, closing_keeps, fail_leaves, drop_taken, fresh_taken, silent_leaves, taken_leaves}
+use Rattle.gate_pair.proofs.Taken.{AreTaken, IsTaken, Leaves, closing_keeps, fail_leaves, drop_taken, fresh_taken, lost_leaves, silent_leaves, taken_leaves}
 use Rattle.gate_pair.proofs.Ticks.{tick_all}
 
 -- ---- steps that send nothing
 
 abbrev IsQuiet : Step → Type 0
-IsQuiet (Gave u) = ⊥
+IsQuiet (Gave u text) = ⊥
 IsQuiet (Whole end) = ⊥
 IsQuiet x = Unit {0}
 
-fail_going : (end : End) (code : ℕ) (why : _) (w : State) → in_progress (state.fail code why w) end ≡ in_progress w end
-fail_going Client code why w = ap (option_map ToClient) (fail_leaves code why w).going_is
-fail_going Up code why w = ap (option_map ToUp) (fail_leaves code why w).going_up_is
+leaves_going : {w v : State} (end : End) → Leaves w v → in_progress v end ≡ in_progress w end
+leaves_going Client l = ap (option_map ToClient) l.going_is
+leaves_going Up l = ap (option_map ToUp) l.going_up_is
 
-taken_going : (end : End) (x : Step) (w : State) → IsTaken x → in_progress (step w x) end ≡ in_progress w end
-taken_going Client x w t = ap (option_map ToClient) (taken_leaves x w t).going_is
-taken_going Up x w t = ap (option_map ToUp) (taken_leaves x w t).going_up_is
-
-lost_going : (end : End) (up : UpState) (w : State) → up.in_progress ≡ w.up.in_progress → in_progress (record w { up = up }) end ≡ in_progress w end
-lost_going Client up w e = refl
-lost_going Up up w e = ap (option_map ToUp) e
+gone_going : (end : End) (up : UpState) (w : State) → up.in_progress ≡ w.up.in_progress → in_progress (record w { up = up }) end ≡ in_progress w end
+gone_going Client up w e = refl
+gone_going Up up w e = ap (option_map ToUp) e
 
 -- they leave what is in progress
 quiet_going : (end : End) (x : Step) (w : State) → IsQuiet x → in_progress (step w x) end ≡ in_progress w end
@@ -61,29 +57,28 @@ quiet_going Client (state.Fed Client) w q = refl
 quiet_going Up (state.Fed Client) w q = refl
 quiet_going Client (state.Fed Up) w q = refl
 quiet_going Up (state.Fed Up) w q = refl
-quiet_going Client (state.Silent e) w q = ap (option_map ToClient) (silent_leaves e w).going_is
-quiet_going Up (state.Silent e) w q = ap (option_map ToUp) (silent_leaves e w).going_up_is
-quiet_going end (state.Queued u) w q = taken_going end (state.Queued u) w tt
-quiet_going end (state.Came u) w q = taken_going end (state.Came u) w tt
-quiet_going end state.TakenUp w q = taken_going end state.TakenUp w tt
-quiet_going end (state.Heard u) w q = taken_going end (state.Heard u) w tt
-quiet_going end (state.Joined link.Ok) w q = lost_going end (linked w.moment w.up) w refl
-quiet_going end (state.Joined link.Failed) w q = fail_going end _ None (record w { up = shut_by w.up }) ∙ lost_going end (shut_by w.up) w refl
+quiet_going end (state.Silent e) w q = leaves_going end (silent_leaves e w)
+quiet_going end (state.Queued u) w q = leaves_going end (taken_leaves (state.Queued u) w tt)
+quiet_going end (state.Came u) w q = leaves_going end (taken_leaves (state.Came u) w tt)
+quiet_going end state.TakenUp w q = leaves_going end (taken_leaves state.TakenUp w tt)
+quiet_going end (state.Heard u) w q = leaves_going end (taken_leaves (state.Heard u) w tt)
+quiet_going end (state.Joined link.Ok) w q = gone_going end (linked w.moment w.up) w refl
+quiet_going end (state.Joined link.Failed) w q = leaves_going end (fail_leaves _ None (record w { up = shut_by w.up })) ∙ gone_going end (shut_by w.up) w refl
 quiet_going Client (state.Lost Client loss.Ended) w q = refl
 quiet_going Up (state.Lost Client loss.Ended) w q = refl
 quiet_going Client (state.Lost Client loss.Failed) w q = refl
 quiet_going Up (state.Lost Client loss.Failed) w q = refl
 quiet_going end (state.Lost Client loss.Shut) w q = refl
-quiet_going end (state.Lost Up loss.Ended) w q = fail_going end _ None (record w { up = lost_by side.Ended w.up }) ∙ lost_going end (lost_by side.Ended w.up) w refl
-quiet_going end (state.Lost Up loss.Failed) w q = fail_going end _ None (record w { up = lost_by side.Failed w.up }) ∙ lost_going end (lost_by side.Failed w.up) w refl
-quiet_going end (state.Lost Up loss.Shut) w q = lost_going end (shut_by w.up) w refl
-quiet_going end (Gave u) w q = absurd q
+quiet_going end (state.Lost Up loss.Ended) w q = leaves_going end (lost_leaves side.Ended w)
+quiet_going end (state.Lost Up loss.Failed) w q = leaves_going end (lost_leaves side.Failed w)
+quiet_going end (state.Lost Up loss.Shut) w q = gone_going end (shut_by w.up) w refl
+quiet_going end (Gave u text) w q = absurd q
 quiet_going end (Whole e) w q = absurd q
 quiet_going Client state.OutOfMemory w q = refl
 quiet_going Up state.OutOfMemory w q = ap (option_map ToUp) (closing_keeps (is_closing w.conn) _ w.up)
 
 quiet_sent : (end : End) (x : Step) (g : List Step) → IsQuiet x → sent_to end (x ∷ g) ≡ sent_to end g
-quiet_sent end (Gave u) g q = absurd q
+quiet_sent end (Gave u text) g q = absurd q
 quiet_sent end (Whole e) g q = absurd q
 quiet_sent Client x g q = refl
 quiet_sent Up x g q = refl
@@ -114,7 +109,7 @@ quiet_same l s end x g q p = record {
 }
 
 taken_quiet : (x : Step) → IsTaken x → IsQuiet x
-taken_quiet (Gave u) t = absurd t
+taken_quiet (Gave u text) t = absurd t
 taken_quiet (Whole e) t = absurd t
 taken_quiet x t = tt
 
@@ -144,25 +139,27 @@ sends_same s end g k e x = record { bytes = x.bytes ∙ sym e.bytes; free = λ f
 clashes : {P : Type 0} → true ≡ false → P
 clashes e = absurd cc
 
-spelled_next : (c : Context) (us : List Outgoing) (u : Outgoing) → spelled c (us ++ u ∷ []) ≡ spelled c us ++ spell c u
-spelled_next c [] u = append-nil (spell c u)
-spelled_next c (x ∷ us) u = ap (λ (b : List ℕ). spell c x ++ b) (spelled_next c us u) ∙ sym (append_assoc (spell c x) (spelled c us) (spell c u))
+spelled_next : (c : Context) (xs : List (Outgoing × List ℕ)) (x : Outgoing × List ℕ) → spelled c (xs ++ x ∷ []) ≡ spelled c xs ++ spell c x.0 x.1
+spelled_next c [] x = append-nil (spell c x.0 x.1)
+spelled_next c (y ∷ xs) x =
+    ap (λ (b : List ℕ). spell c y.0 y.1 ++ b) (spelled_next c xs x) ∙ sym (append_assoc (spell c y.0 y.1) (spelled c xs) (spell c x.0 x.1))
 
 -- the first byte of a unit
 gave_bytes : AreLoggedIn → (s : SetupText) (end : End) (g : List Step) (u : Outgoing) → ArePicks g → is_busy (before g) end ≡ false → pick (before g) end ≡ Some u
-    → bytes_in s end (Gave u ∷ g) ≡ bytes_in s end g ++ spell (context_of s (before g)) u
+    → bytes_in s end (Gave u (carries (before g) u) ∷ g) ≡ bytes_in s end g ++ spelled_in s (before g) u
 gave_bytes l s Client g (ToClient r) p free e =
-    ap (spelled (context_in s g)) (map-append ToClient (sent g) (r ∷ [])) ∙ spelled_next (context_in s g) (map ToClient (sent g)) (ToClient r)
+    ap (spelled (context_in s g)) (map-append to_client (sent g) (r ∷ [])) ∙ spelled_next (context_in s g) (sent_to Client g) (ToClient r, [])
 gave_bytes l s Client g (ToUp r) p free e = absurd (client_picks (before g) r e)
 gave_bytes l s Up g (ToClient r) p free e = absurd (up_picks (before g) r e)
 gave_bytes l s Up g (ToUp r) p free e =
-    let c : Context = context_in s (Gave (ToUp r) ∷ g) in
-    ap (spelled c) (map-append ToUp (sent_up g) (r ∷ [])) ∙ spelled_next c (map ToUp (sent_up g)) (ToUp r)
-    ∙ ap (λ (b : List ℕ). b ++ spell c (ToUp r)) (bytes_stay l s Up (Gave (ToUp r)) g ((free, e), p))
-    ∙ ap (λ (b : List ℕ). bytes_in s Up g ++ b) (gave_stay s r g)
-    ∙ ap (λ (c : Context). bytes_in s Up g ++ spell c (ToUp r)) (sym (context_is s g p))
+    let text : List ℕ = carries_up (before g) r in
+    let c : Context = context_in s (Gave (ToUp r) text ∷ g) in
+    ap (spelled c) (map-append to_up (sent_up_with g) ((r, text) ∷ [])) ∙ spelled_next c (sent_to Up g) (ToUp r, text)
+    ∙ ap (λ (b : List ℕ). b ++ spell c (ToUp r) text) (bytes_stay l s Up (Gave (ToUp r) text) g ((free, e, refl), p))
+    ∙ ap (λ (b : List ℕ). bytes_in s Up g ++ b) (gave_stay s r text g)
+    ∙ ap (λ (c : Context). bytes_in s Up g ++ spell c (ToUp r) text) (sym (context_is s g p))
 
-gave_busy : (end : End) (w : State) (u : Outgoing) → pick w end ≡ Some u → is_busy (step w (Gave u)) end ≡ true
+gave_busy : (end : End) (w : State) (u : Outgoing) → pick w end ≡ Some u → is_busy (step w (Gave u (carries w u))) end ≡ true
 gave_busy Client w (ToClient r) e = refl
 gave_busy Client w (ToUp r) e = absurd (client_picks w r e)
 gave_busy Up w (ToClient r) e = absurd (up_picks w r e)
@@ -196,18 +193,18 @@ took_sends : AreLoggedIn → (s : SetupText) (end : End) (g : List Step) (n : �
     → SendsIn s end g taken rest → SendsIn s end ((ends end n bytes ++ begins end (before g)) ++ g) (taken ++ take n bytes) (drop n bytes)
 took_sends l s end g n taken rest bytes p e x = begun (is_busy (before g) end) refl (pick (before g) end) refl e
   where
-    begun : (b : Bool) → is_busy (before g) end ≡ b → (o : Option Outgoing) → pick (before g) end ≡ o → (if b then Some rest else option_map (spell (context_of s (before g))) o) ≡ Some bytes
-        → SendsIn s end ((ends end n bytes ++ (if b then [] else given o)) ++ g) (taken ++ take n bytes) (drop n bytes)
+    begun : (b : Bool) → is_busy (before g) end ≡ b → (o : Option Outgoing) → pick (before g) end ≡ o → (if b then Some rest else option_map (spelled_in s (before g)) o) ≡ Some bytes
+        → SendsIn s end ((ends end n bytes ++ (if b then [] else given (before g) o)) ++ g) (taken ++ take n bytes) (drop n bytes)
     begun true is o at f =
         let same : rest ≡ bytes = cc in
         subst (λ (k : List Step). SendsIn s end (k ++ g) (taken ++ take n bytes) (drop n bytes)) (sym (append-nil (ends end n bytes)))
         (goes_on s end g n taken bytes is (ap (λ (b : List ℕ). taken ++ b) (sym same) ∙ x.bytes))
     begun false is None at f = absurd cc
     begun false is (Some u) at f =
-        let same : spell (context_of s (before g)) u ≡ bytes = cc in
+        let same : spelled_in s (before g) u ≡ bytes = cc in
         let none : taken ≡ bytes_in s end g = sym (append-nil taken) ∙ ap (λ (b : List ℕ). taken ++ b) (sym (x.free is)) ∙ x.bytes in
-        subst (λ (k : List Step). SendsIn s end k (taken ++ take n bytes) (drop n bytes)) (sym (append_assoc (ends end n bytes) (Gave u ∷ []) g))
-        (goes_on s end (Gave u ∷ g) n taken bytes (gave_busy end (before g) u at)
+        subst (λ (k : List Step). SendsIn s end k (taken ++ take n bytes) (drop n bytes)) (sym (append_assoc (ends end n bytes) (Gave u (carries (before g) u) ∷ []) g))
+        (goes_on s end (Gave u (carries (before g) u) ∷ g) n taken bytes (gave_busy end (before g) u at)
         (ap (λ (b : List ℕ). b ++ bytes) none ∙ ap (λ (b : List ℕ). bytes_in s end g ++ b) (sym same) ∙ sym (gave_bytes l s end g u p is at)))
 
 -- what it leaves of the other end
@@ -215,11 +212,11 @@ abbrev other : End → End
 other Client = Up
 other Up = Client
 
-gave_same : (s : SetupText) (end : End) (g : List Step) (u : Outgoing) → pick (before g) end ≡ Some u → SameSent s (other end) g (Gave u ∷ g)
+gave_same : (s : SetupText) (end : End) (g : List Step) (u : Outgoing) → pick (before g) end ≡ Some u → SameSent s (other end) g (Gave u (carries (before g) u) ∷ g)
 gave_same s Client g (ToClient r) e = record { bytes = refl; busy = refl }
 gave_same s Client g (ToUp r) e = absurd (client_picks (before g) r e)
 gave_same s Up g (ToClient r) e = absurd (up_picks (before g) r e)
-gave_same s Up g (ToUp r) e = record { bytes = client_same (context_in s (Gave (ToUp r) ∷ g)) (context_in s g) (sent g); busy = refl }
+gave_same s Up g (ToUp r) e = record { bytes = client_same (context_in s (Gave (ToUp r) (carries_up (before g) r) ∷ g)) (context_in s g) (sent g); busy = refl }
 
 whole_same : (s : SetupText) (end : End) (g : List Step) → SameSent s (other end) g (Whole end ∷ g)
 whole_same s Client g = record { bytes = refl; busy = refl }
@@ -232,10 +229,10 @@ took_same s end g n bytes = begun (is_busy (before g) end) (pick (before g) end)
     last k e true = e
     last k e false = same_more s (other end) g (k ++ g) (Whole end ∷ k ++ g) e (whole_same s end (k ++ g))
 
-    begun : (b : Bool) (o : Option Outgoing) → pick (before g) end ≡ o → SameSent s (other end) g ((ends end n bytes ++ (if b then [] else given o)) ++ g)
+    begun : (b : Bool) (o : Option Outgoing) → pick (before g) end ≡ o → SameSent s (other end) g ((ends end n bytes ++ (if b then [] else given (before g) o)) ++ g)
     begun true o at = last [] (same_all s (other end) g) (nat_lt n (length bytes))
     begun false None at = last [] (same_all s (other end) g) (nat_lt n (length bytes))
-    begun false (Some u) at = last (Gave u ∷ []) (gave_same s end g u at) (nat_lt n (length bytes))
+    begun false (Some u) at = last (Gave u (carries (before g) u) ∷ []) (gave_same s end g u at) (nat_lt n (length bytes))
 
 -- ---- all entries
 
@@ -316,7 +313,7 @@ are_sent l s h r Up = (sends l s h r).up.bytes
 none_owed : (s : SetupText) (end : End) (w : State) (rest : List ℕ) → (is_busy w end ≡ false → rest ≡ []) → offered s end w rest ≡ None → (rest ≡ []) × (due w end ≡ [])
 none_owed s end w rest free e = by (is_busy w end) refl (due w end) refl e
   where
-    by : (b : Bool) → is_busy w end ≡ b → (us : List Outgoing) → due w end ≡ us → (if b then Some rest else option_map (spell (context_of s w)) (first us)) ≡ None → (rest ≡ []) × (due w end ≡ [])
+    by : (b : Bool) → is_busy w end ≡ b → (us : List Outgoing) → due w end ≡ us → (if b then Some rest else option_map (spelled_in s w) (first us)) ≡ None → (rest ≡ []) × (due w end ≡ [])
     by true is us at f = absurd cc
     by false is [] at f = (free is, at)
     by false is (u ∷ us) at f = absurd cc

@@ -1,5 +1,5 @@
 -- What holds of a pair's bridge holds after each step: the login that is due to the container is known, so that what is offered has bytes.
-use Rattle.std.proofs.Common.{append_assoc, drop, ◌+◌, ◌≡◌, ◌∙◌, ℕ, ◌<◌, Bool, true, false, not, ◌&&◌, ◌||◌, map, if◌then◌else◌, List, [], ◌∷◌, ◌++◌, length, Option, None, Some, refl, sym, ap, subst, arith}
+use Rattle.std.proofs.Common.{drop, ◌≡◌, ◌∙◌, ℕ, ◌<◌, Bool, true, false, not, ◌&&◌, ◌||◌, map, if◌then◌else◌, List, [], ◌∷◌, ◌++◌, length, Option, None, Some, refl, sym, ap, subst, arith}
 use Rattle.std.specs.Prelude.{is_some}
 use Rattle.std.specs.Option.{option_map}
 use Rattle.gate_outside.specs.declared.ports.End.{End}
@@ -9,9 +9,8 @@ use Rattle.gate_outside.specs.declared.ports.Linked.TheVariants as link
 use Rattle.gate_relay.specs.declared.loss.Loss.{Loss}
 use Rattle.gate_relay.specs.declared.loss.Loss.TheVariants as loss
 use Rattle.gate_relay.specs.declared.sides.Side.TheVariants as side
-use Rattle.gate_relay.specs.Sides.{is_readable}
+use Rattle.gate_relay.specs.declared.sides.Side.{Side}
 use Rattle.machine_091.specs.State.{is_closing, is_opening}
-use Rattle.machine_091.specs.Transitions as nine
 use Rattle.machine_091.specs.declared.unit.Want91.{Want91}
 use Rattle.machine_091.specs.declared.unit.Want91.TheVariants as want
 use Rattle.machine_091.specs.declared.unit.Unit91.{Unit91}
@@ -28,21 +27,24 @@ use Rattle.gate_model.specs.declared.outgoing.Outgoing.TheVariants.{ToClient, To
 use Rattle.gate_model.specs.declared.outgoing.UpUnit.{UpUnit}
 use Rattle.gate_model.specs.declared.outgoing.UpUnit.TheVariants as unit
 use Rattle.gate_model.specs.declared.reply.Reply.{Reply}
-use Rattle.gate_model.specs.Due.{client_rows, close_behind, ends, flows_on, is_busy, is_end_due, pick, rows_in, unless_out, up_rows}
-use Rattle.gate_model.specs.Session.{is_flow_owed}
-use Rattle.gate_model.specs.Lives.{each, is_carried, is_free, session_in}
-use Rattle.gate_model.specs.declared.life.Life.{Life}
+use Rattle.gate_model.specs.declared.channel.SessionUnit.{SessionUnit}
+use Rattle.gate_model.specs.declared.channel.SessionUnit.TheVariants as session
+use Rattle.gate_model.specs.Due.{carries_up, client_rows, is_busy, pick, up_rows}
+use Rattle.gate_model.specs.Paths.{lost_path}
 use Rattle.gate_model.specs.Setup.{SetupText}
-use Rattle.gate_model.specs.Spelling.{context_of, init_text, spell}
+use Rattle.gate_model.specs.Spelling.{context_of, init_text, spell_on}
 use Rattle.gate_model.specs.Requests.{client_step}
 use Rattle.gate_model.specs.State as state
-use Rattle.gate_model.specs.State.{State, Step, condition_by, fail, failed, heard, keep_login, next_unit, runs, step, with_meaning, carried}
-use Rattle.gate_model.specs.Upstream.{UpState, closing_with, container_given, ended_in, first, heard_up, is_idle_due, lost_by, meaning_by, shut_by, when_up, without_up}
+use Rattle.gate_model.specs.State.{State, Step, condition_by, fail, failed, heard, keep_login, lost_up, next_unit, runs, step, windowed, with_meaning}
+use Rattle.gate_model.specs.Upstream.{UpState, closing_with, container_given, ended_in, first, heard_up, lost_by, meaning_by, shut_by, when_up, without_up}
 use Rattle.gate_model.proofs.Sessions.{session_cases}
 use Rattle.gate_model.proofs.Spelled.{spelled_some}
+use Rattle.gate_model.proofs.Ups.{Begins, Closing, Ends, Flows, Opening, Picked, Telling, goes_up}
+use Rattle.gate_model.proofs.Ups as ups
 use Rattle.bridge_core.specs.Offers.{BridgeState, Keeps, advanced, bytes_of, client_bytes, moved, peeked, with_next}
-use Rattle.gate_pair.specs.Meaning.{offered}
+use Rattle.gate_pair.specs.Meaning.{offered, spelled_in}
 use Rattle.gate_pair.specs.PairStates.{IsSound, KnowsLogin, StaysSound, ready_at}
+use Rattle.gate_pair.proofs.Lacks.{begins_lack, ends_lack, flows_lack}
 
 -- ---- the login
 
@@ -87,7 +89,14 @@ meaning_container ten.Opened w = by (is_opening w.conn)
     by : (b : Bool) → (if b then runs w else w).up.container ≡ w.up.container
     by true = refl
     by false = refl
-meaning_container (ten.OfSession g p payload) w = session_cases (λ (v : State). v.up.container ≡ w.up.container) g p w refl (fail_container _ _ (carried g p w)) refl (λ code why. refl)
+meaning_container (ten.OfSession g p payload) w = session_cases (λ (v : State). v.up.container ≡ w.up.container) g p w (record {
+  begins = refl;
+  stays = refl;
+  ends = λ code why. refl;
+  windows = refl;
+  drops = λ code why. refl;
+  fails = λ why. fail_container _ why (windowed g p w);
+})
 meaning_container (ten.Closed e) w = fail_container _ None w
 meaning_container ten.Refused w = fail_container _ None w
 meaning_container (ten.Violation c) w = fail_container _ (Some c) w
@@ -100,20 +109,19 @@ heard_knows w u k = by w.up.container k
     by None k = k
     by (Some c) k = λ e. ap is_some (meaning_container (meaning_by (Some c) u) (record w { up = heard_up u (record w.up { container = Some c }) }))
 
+up_knows : (x : Side) (w : State) → KnowsLogin w.up → KnowsLogin (lost_up x w).up
+up_knows x w k = fail_knows _ None (record w { up = lost_by x w.up; paths = map (option_map lost_path) w.paths }) (ended w.up.container k)
+  where
+    ended : (c : Option Upstream) → (w.up.pending.init ≡ true → is_some c ≡ true) → w.up.pending.init ≡ true → is_some (ended_in c) ≡ true
+    ended None k = k
+    ended (Some c) k = k
+
 lost_knows : (w : State) (end : End) (how : Loss) → KnowsLogin w.up → KnowsLogin (step w (state.Lost end how)).up
 lost_knows w Client loss.Ended k = k
 lost_knows w Client loss.Failed k = k
 lost_knows w Client loss.Shut k = k
-lost_knows w Up loss.Ended k = fail_knows _ None (record w { up = lost_by side.Ended w.up }) (ended w.up.container k)
-  where
-    ended : (c : Option Upstream) → (w.up.pending.init ≡ true → is_some c ≡ true) → w.up.pending.init ≡ true → is_some (ended_in c) ≡ true
-    ended None k = k
-    ended (Some c) k = k
-lost_knows w Up loss.Failed k = fail_knows _ None (record w { up = lost_by side.Failed w.up }) (ended w.up.container k)
-  where
-    ended : (c : Option Upstream) → (w.up.pending.init ≡ true → is_some c ≡ true) → w.up.pending.init ≡ true → is_some (ended_in c) ≡ true
-    ended None k = k
-    ended (Some c) k = k
+lost_knows w Up loss.Ended k = up_knows side.Ended w k
+lost_knows w Up loss.Failed k = up_knows side.Failed w k
 lost_knows w Up loss.Shut k = k
 
 joined_knows : (w : State) (answer : Linked) → KnowsLogin w.up → KnowsLogin (step w (state.Joined answer)).up
@@ -131,6 +139,7 @@ begun_knows unit.AmqpHeader s k = λ e. given_some unit.AmqpHeader s.container (
 begun_knows unit.Open s k = λ e. given_some unit.Open s.container (k e)
 begun_knows (unit.Close c) s k = λ e. given_some (unit.Close c) s.container (k e)
 begun_knows unit.Empty s k = λ e. given_some unit.Empty s.container (k e)
+begun_knows (unit.OnSession n u) s k = λ e. given_some (unit.OnSession n u) s.container (k e)
 begun_knows (unit.Flow n i o) s k = λ e. given_some (unit.Flow n i o) s.container (k e)
 begun_knows (unit.Begin n) s k = λ e. given_some (unit.Begin n) s.container (k e)
 begun_knows (unit.End n why) s k = λ e. given_some (unit.End n why) s.container (k e)
@@ -166,8 +175,8 @@ step_knows (state.Heard u) w k = by w.out_of_memory
     by false = heard_knows w u k
 step_knows (state.Joined answer) w k = joined_knows w answer k
 step_knows (state.Lost end how) w k = lost_knows w end how k
-step_knows (state.Gave (ToClient u)) w k = k
-step_knows (state.Gave (ToUp u)) w k = begun_knows u w.up k
+step_knows (state.Gave (ToClient u) text) w k = k
+step_knows (state.Gave (ToUp u) text) w k = begun_knows u w.up k
 step_knows (state.Whole Client) w k = k
 step_knows (state.Whole Up) w k = k
 step_knows state.OutOfMemory w k = closing_knows (is_closing w.conn) _ w.up k
@@ -189,72 +198,26 @@ client_picks w u e = client_first (client_rows w) u e
 pub up_picks : (w : State) (u : Reply) → pick w Up ≡ Some (ToClient u) → ⊥
 up_picks w u e = up_first_is (up_rows w) u e
 
--- no begin, end, close or empty frame is the login
-abbrev NoLogin : List UpUnit → Type 0
-NoLogin us = first (map ToUp us) ≡ Some (ToUp unit.SaslInit) → ⊥
-
-when_none : (b : Bool) (u : UpUnit) (us : List UpUnit) → (Some (ToUp u) ≡ Some (ToUp unit.SaslInit) → ⊥) → NoLogin us → NoLogin (when_up b u ++ us)
-when_none true u us isnt none e = isnt e
-when_none false u us isnt none e = none e
-
-begins_none : (c : Option Upstream) (n : ℕ) (ls : List Life) (us : List UpUnit) → NoLogin us
-    → NoLogin (each (λ k l. when_up (l.begin && is_free (session_in c k)) (unit.Begin k)) n ls ++ us)
-begins_none c n [] us none e = none e
-begins_none c n (l ∷ ls) us none e =
-    let rest : List UpUnit = each (λ k l. when_up (l.begin && is_free (session_in c k)) (unit.Begin k)) (n + 1) ls in
-    when_none (l.begin && is_free (session_in c n)) (unit.Begin n) (rest ++ us) (λ f. cc) (begins_none c (n + 1) ls us none)
-    (ap (λ (vs : List UpUnit). first (map ToUp vs)) (sym (append_assoc (when_up (l.begin && is_free (session_in c n)) (unit.Begin n)) rest us)) ∙ e)
-
-flows_none : (c : Option Upstream) (n : ℕ) (ls : List Life) (us : List UpUnit) → NoLogin us → NoLogin (each (flows_on c) n ls ++ us)
-flows_none c n [] us none e = none e
-flows_none c n (l ∷ ls) us none e =
-    let rest : List UpUnit = each (flows_on c) (n + 1) ls in
-    when_none (is_carried (session_in c n) && is_flow_owed l.session) (unit.Flow n l.session.windows.next_incoming l.session.windows.next_outgoing) (rest ++ us) (λ f. cc) (flows_none c (n + 1) ls us none)
-    (ap (λ (vs : List UpUnit). first (map ToUp vs)) (sym (append_assoc (flows_on c n l) rest us)) ∙ e)
-
-unless_none : (b : Bool) (c : Option Upstream) (ls : List Life) (us : List UpUnit) → NoLogin us → NoLogin (unless_out b (each (flows_on c) 0 ls) ++ us)
-unless_none true c ls us none e = none e
-unless_none false c ls us none e = flows_none c 0 ls us none e
-
-ends_none : (closing : Bool) (w : State) (n : ℕ) (ls : List Life) (us : List UpUnit) → NoLogin us
-    → NoLogin (each (λ k l. when_up (is_end_due closing w k) (unit.End k l.why)) n ls ++ us)
-ends_none closing w n [] us none e = none e
-ends_none closing w n (l ∷ ls) us none e =
-    let rest : List UpUnit = each (λ k l. when_up (is_end_due closing w k) (unit.End k l.why)) (n + 1) ls in
-    when_none (is_end_due closing w n) (unit.End n l.why) (rest ++ us) (λ f. cc) (ends_none closing w (n + 1) ls us none)
-    (ap (λ (vs : List UpUnit). first (map ToUp vs)) (sym (append_assoc (when_up (is_end_due closing w n) (unit.End n l.why)) rest us)) ∙ e)
-
-idle_none : (b : Bool) → NoLogin (when_up b unit.Empty)
-idle_none true e = absurd cc
-idle_none false e = absurd cc
-
-close_none : (us : List UpUnit) (s : UpState) → NoLogin (close_behind us s)
-close_none [] s e = by s.sent.«open» e
-  where
-    by : (b : Bool) → NoLogin (when_up b (unit.Close s.condition))
-    by true e = absurd cc
-    by false e = absurd cc
-close_none (u ∷ us) s e = absurd cc
-
 -- the login goes where it is due
-login_due : (w : State) → first (map ToUp (up_rows w)) ≡ Some (ToUp unit.SaslInit) → w.up.pending.init ≡ true
-login_due w e = by (is_readable w.up.side && not w.up.sent.close) (w.out_of_memory || is_closing w.conn) e
-  where
-    rows : (a b c d : Bool) (us : List UpUnit) → NoLogin us
-        → first (map ToUp ((when_up a unit.SaslHeader ++ (when_up b unit.SaslInit ++ (when_up c unit.AmqpHeader ++ when_up d unit.Open))) ++ us)) ≡ Some (ToUp unit.SaslInit)
-        → b ≡ true
-    rows true b c d us none e = absurd cc
-    rows false true c d us none e = refl
-    rows false false true d us none e = absurd cc
-    rows false false false true us none e = absurd cc
-    rows false false false false us none e = absurd (none e)
+opening_due : (sasl_header init amqp_header own : Bool)
+    → first (when_up sasl_header unit.SaslHeader ++ (when_up init unit.SaslInit ++ (when_up amqp_header unit.AmqpHeader ++ when_up own unit.Open))) ≡ Some unit.SaslInit → init ≡ true
+opening_due true i a o e = absurd cc
+opening_due false true a o e = refl
+opening_due false false true o e = absurd cc
+opening_due false false false true e = absurd cc
+opening_due false false false false e = absurd cc
 
-    by : (b closing : Bool) → first (map ToUp (if b then rows_in closing w else [])) ≡ Some (ToUp unit.SaslInit) → w.up.pending.init ≡ true
-    by false closing e = absurd cc
-    by true true e = absurd (unless_none w.out_of_memory w.up.container w.lives _ (ends_none true w 0 w.lives (close_behind (ends true w) w.up) (close_none (ends true w) w.up)) e)
-    by true false e =
-        rows w.up.pending.sasl_header w.up.pending.init w.up.pending.amqp_header w.up.pending.«open» _
-        (begins_none w.up.container 0 w.lives _ (flows_none w.up.container 0 w.lives _ (ends_none false w 0 w.lives _ (idle_none (is_idle_due w.up w.moment))))) e
+login_due : (w : State) → pick w Up ≡ Some (ToUp unit.SaslInit) → w.up.pending.init ≡ true
+login_due w e = by (goes_up w unit.SaslInit e).why
+  where
+    by : Picked (w.out_of_memory || is_closing w.conn) w unit.SaslInit → w.up.pending.init ≡ true
+    by (Closing k n o f) = absurd cc
+    by (Opening k f) = opening_due w.up.pending.sasl_header w.up.pending.init w.up.pending.amqp_header w.up.pending.«open» f
+    by (Begins k f) = absurd (begins_lack unit.SaslInit w refl f)
+    by (Flows f) = absurd (flows_lack unit.SaslInit w refl f)
+    by (ups.Linked l) = let wrong = l.is in absurd cc
+    by (Ends f) = absurd (ends_lack unit.SaslInit (w.out_of_memory || is_closing w.conn) w refl f)
+    by (Telling k i f) = absurd cc
 
 frame_some : (f : Frame10) → 0 < length (frames_10.frame_text f)
 unfolding text_behind
@@ -265,7 +228,14 @@ init_some None e = absurd cc
 init_some (Some c) e = frame_some _
 
 -- what goes next has bytes
-pub picked_some : (s : SetupText) (w : State) (end : End) (u : Outgoing) → KnowsLogin w.up → pick w end ≡ Some u → 0 < length (spell (context_of s w) u)
+session_some : (n : ℕ) (u : SessionUnit) (text : List ℕ) → 0 < length (spell_on n u text)
+session_some n (session.Attach a) text = frame_some _
+session_some n (session.Flow f) text = frame_some _
+session_some n (session.Transfer t) text = frame_some _
+session_some n (session.Settle x) text = frame_some _
+session_some n (session.Detach link handle) text = frame_some _
+
+pub picked_some : (s : SetupText) (w : State) (end : End) (u : Outgoing) → KnowsLogin w.up → pick w end ≡ Some u → 0 < length (spelled_in s w u)
 picked_some s w end (ToClient u) k e = spelled_some u
 picked_some s w end (ToUp unit.SaslHeader) k e = omega arith
 picked_some s w Client (ToUp unit.SaslInit) k e = absurd (client_picks w unit.SaslInit e)
@@ -274,6 +244,7 @@ picked_some s w end (ToUp unit.AmqpHeader) k e = omega arith
 picked_some s w end (ToUp unit.Open) k e = frame_some _
 picked_some s w end (ToUp (unit.Close c)) k e = frame_some _
 picked_some s w end (ToUp unit.Empty) k e = frame_some _
+picked_some s w end (ToUp (unit.OnSession n u)) k e = session_some n u (carries_up w (unit.OnSession n u))
 picked_some s w end (ToUp (unit.Flow n i o)) k e = frame_some _
 picked_some s w end (ToUp (unit.Begin n)) k e = frame_some _
 picked_some s w end (ToUp (unit.End n why)) k e = frame_some _
@@ -336,8 +307,8 @@ looked_stays s Up b free = λ client up x. record {
   up_bytes = by (λ u p. picked_some s b.state Up u x.login p) (pick b.state Up) refl;
 }
   where
-    by : ((u : Outgoing) → pick b.state Up ≡ Some u → 0 < length (spell (context_of s b.state) u))
-        → (o : Option Outgoing) → pick b.state Up ≡ o → is_some o ≡ true → 0 < length (bytes_of (context_of s b.state) o b.up.bytes)
+    by : ((u : Outgoing) → pick b.state Up ≡ Some u → 0 < length (spelled_in s b.state u))
+        → (o : Option Outgoing) → pick b.state Up ≡ o → is_some o ≡ true → 0 < length (bytes_of (context_of s b.state) b.state o b.up.bytes)
     by some None p e = absurd cc
     by some (Some u) p e = some u p
 
@@ -348,7 +319,7 @@ looked_ready s Client b at rest free = by (is_busy b.state Client) (pick b.state
   where
     by : (busy : Bool) (o : Option Outgoing) → pick b.state Client ≡ o → busy ≡ false
         → (if busy then Some (drop at (client_bytes o b.client.bytes)) else if is_some o then Some (client_bytes o b.client.bytes) else None)
-        ≡ (if busy then Some rest else option_map (spell (context_of s b.state)) o)
+        ≡ (if busy then Some rest else option_map (spelled_in s b.state) o)
     by true o p f = absurd cc
     by false None p f = refl
     by false (Some (ToClient u)) p f = refl
@@ -356,8 +327,8 @@ looked_ready s Client b at rest free = by (is_busy b.state Client) (pick b.state
 looked_ready s Up b at rest free = by (is_busy b.state Up) (pick b.state Up) free
   where
     by : (busy : Bool) (o : Option Outgoing) → busy ≡ false
-        → (if busy then Some (drop at (bytes_of (context_of s b.state) o b.up.bytes)) else if is_some o then Some (bytes_of (context_of s b.state) o b.up.bytes) else None)
-        ≡ (if busy then Some rest else option_map (spell (context_of s b.state)) o)
+        → (if busy then Some (drop at (bytes_of (context_of s b.state) b.state o b.up.bytes)) else if is_some o then Some (bytes_of (context_of s b.state) b.state o b.up.bytes) else None)
+        ≡ (if busy then Some rest else option_map (spelled_in s b.state) o)
     by true o f = absurd cc
     by false None f = refl
     by false (Some u) f = refl

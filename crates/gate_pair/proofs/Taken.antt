@@ -1,11 +1,12 @@
 -- Steps that out of memory can take back are units that came and what was taken up; they leave what was sent as it was.
-use Rattle.std.proofs.Common.{◌≡◌, ◌∙◌, ℕ, zero, suc, Bool, true, false, not, ◌&&◌, if◌then◌else◌, List, [], ◌∷◌, ◌++◌, drop, length, nat_lt, Option, None, Some, refl, sym, ap}
+use Rattle.std.proofs.Common.{◌≡◌, ◌∙◌, ℕ, zero, suc, Bool, true, false, not, ◌&&◌, if◌then◌else◌, List, [], ◌∷◌, ◌++◌, drop, length, nat_lt, map, Option, None, Some, refl, sym, ap}
+use Rattle.std.specs.Option.{option_map}
 use Rattle.gate_outside.specs.declared.ports.End.{End}
 use Rattle.gate_outside.specs.declared.ports.End.TheVariants.{Client, Up}
+use Rattle.gate_relay.specs.declared.sides.Side.{Side}
 use Rattle.gate_relay.specs.Entries as entry
 use Rattle.gate_relay.specs.Entries.{Entry, moment_of}
 use Rattle.close_translate.specs.declared.codes.TheConstants.{INTERNAL_ERROR}
-use Rattle.performatives_10.specs.declared.condition.Condition.TheVariants.{NotAllowed}
 use Rattle.machine_091.specs.State.{awaits, is_closing, is_opening}
 use Rattle.machine_091.specs.declared.unit.Unit91.{Unit91}
 use Rattle.machine_091.specs.declared.unit.Unit91.TheVariants as unit
@@ -19,11 +20,12 @@ use Rattle.wire_base.specs.declared.scan.Scan.TheVariants.{Whole, More, Bad}
 use Rattle.gate_model.specs.declared.outgoing.Outgoing.{Outgoing}
 use Rattle.gate_model.specs.Due.{can_leave, is_busy, pick}
 use Rattle.gate_model.specs.Folds.{accepted_in, failed_in, moment_in, ran_out_in, sent, sent_at, sent_up}
+use Rattle.gate_model.specs.Paths.{lost_path}
 use Rattle.gate_model.specs.Setup.{SetupText}
 use Rattle.gate_model.specs.Requests.{client_step}
 use Rattle.gate_model.specs.State as state
-use Rattle.gate_model.specs.State.{State, Step, Came, Heard, Gave, Joined, TakenUp, before, came, condition_by, fail, failed, heard, keep_login, left, next_unit, step, with_meaning, carried}
-use Rattle.gate_model.specs.Upstream.{UpState, awaited_of, closing_with, heard_up, meaning_by}
+use Rattle.gate_model.specs.State.{State, Step, Came, Heard, Gave, Joined, TakenUp, before, came, condition_by, fail, failed, heard, keep_login, left, lost_up, next_unit, step, windowed, with_meaning}
+use Rattle.gate_model.specs.Upstream.{UpState, awaited_of, closing_with, heard_up, lost_by, meaning_by}
 use Rattle.machine_091.specs.declared.unit.Want91.{Want91}
 use Rattle.machine_091.specs.declared.unit.Want91.TheVariants as want
 use Rattle.gate_pair.specs.Cutting.{after, as_step, behind, cut_all, cut_of, on_next, on_scan, read_end, settle, settled, step_scan, unit_scan, up_scan}
@@ -42,7 +44,7 @@ IsTaken TakenUp = Unit {0}
 IsTaken (Heard u) = Unit {0}
 IsTaken (Joined answer) = ⊥
 IsTaken (state.Lost end how) = ⊥
-IsTaken (Gave u) = ⊥
+IsTaken (Gave u text) = ⊥
 IsTaken (state.Whole end) = ⊥
 IsTaken state.OutOfMemory = ⊥
 
@@ -173,11 +175,16 @@ meaning_leaves ten.Init w = record { memory_is = refl; going_is = refl; going_up
 meaning_leaves ten.AmqpHeader w = record { memory_is = refl; going_is = refl; going_up_is = refl; number_is = refl }
 meaning_leaves ten.Opened w = if_second (is_opening w.conn) w _ (record { memory_is = refl; going_is = refl; going_up_is = refl; number_is = refl })
 meaning_leaves (ten.OfSession g p payload) w =
-    let f : Leaves (carried g p w) (fail INTERNAL_ERROR (Some NotAllowed) (carried g p w)) = fail_leaves _ _ (carried g p w) in
-    session_cases (Leaves w) g p w (record { memory_is = refl; going_is = refl; going_up_is = refl; number_is = refl })
-    (record { memory_is = f.memory_is; going_is = f.going_is; going_up_is = f.going_up_is; number_is = f.number_is })
-    (record { memory_is = refl; going_is = refl; going_up_is = refl; number_is = refl })
-    (λ code why. record { memory_is = refl; going_is = refl; going_up_is = refl; number_is = refl })
+    session_cases (Leaves w) g p w (record {
+      begins = record { memory_is = refl; going_is = refl; going_up_is = refl; number_is = refl };
+      stays = record { memory_is = refl; going_is = refl; going_up_is = refl; number_is = refl };
+      ends = λ code why. record { memory_is = refl; going_is = refl; going_up_is = refl; number_is = refl };
+      windows = record { memory_is = refl; going_is = refl; going_up_is = refl; number_is = refl };
+      drops = λ code why. record { memory_is = refl; going_is = refl; going_up_is = refl; number_is = refl };
+      fails = λ why.
+          let f : Leaves (windowed g p w) (fail INTERNAL_ERROR why (windowed g p w)) = fail_leaves _ why (windowed g p w) in
+          record { memory_is = f.memory_is; going_is = f.going_is; going_up_is = f.going_up_is; number_is = f.number_is };
+    })
 meaning_leaves (ten.Closed e) w = fail_leaves _ None w
 meaning_leaves ten.Refused w = fail_leaves _ None w
 meaning_leaves (ten.Violation c) w = fail_leaves _ (Some c) w
@@ -233,6 +240,12 @@ silent_leaves Up w =
     let v : State = record w { up = record w.up { silent = true } } in
     leaves_more w v (step w (state.Silent Up)) (record { memory_is = refl; going_is = refl; going_up_is = refl; number_is = refl }) (fail_leaves _ _ v)
 
+-- and so does the loss of the upstream end
+pub lost_leaves : (x : Side) (w : State) → Leaves w (lost_up x w)
+lost_leaves x w =
+    let v : State = record w { up = lost_by x w.up; paths = map (option_map lost_path) w.paths } in
+    leaves_more w v (lost_up x w) (record { memory_is = refl; going_is = refl; going_up_is = refl; number_is = refl }) (fail_leaves _ None v)
+
 pub taken_leaves : (s : Step) (w : State) → IsTaken s → Leaves w (step w s)
 taken_leaves (state.Began vhost n ms) w t = absurd t
 taken_leaves (state.Moment ms) w t = absurd t
@@ -246,7 +259,7 @@ taken_leaves TakenUp w t = if_second (not w.out_of_memory && w.leaving) w (left 
 taken_leaves (Heard u) w t = if_first w.out_of_memory w (heard w u) (heard_leaves w u)
 taken_leaves (Joined answer) w t = absurd t
 taken_leaves (state.Lost end how) w t = absurd t
-taken_leaves (Gave u) w t = absurd t
+taken_leaves (Gave u text) w t = absurd t
 taken_leaves (state.Whole end) w t = absurd t
 taken_leaves state.OutOfMemory w t = absurd t
 
@@ -285,7 +298,7 @@ leave_folds (Heard u ∷ g) h a =
     record { sent_is = x.sent_is; sent_up_is = x.sent_up_is; sent_at_is = x.sent_at_is; moment_is = x.moment_is; accepted_is = x.accepted_is; memory_is = x.memory_is; failed_is = x.failed_is }
 leave_folds (Joined answer ∷ g) h a = absurd a.0
 leave_folds (state.Lost end how ∷ g) h a = absurd a.0
-leave_folds (Gave u ∷ g) h a = absurd a.0
+leave_folds (Gave u text ∷ g) h a = absurd a.0
 leave_folds (state.Whole end ∷ g) h a = absurd a.0
 leave_folds (state.OutOfMemory ∷ g) h a = absurd a.0
 
@@ -298,10 +311,10 @@ fresh_leave s h = leave_folds (told s h).fresh (told s h).past (fresh_taken s h)
 
 -- ---- moments
 
-given_moment : (b : Bool) (o : Option Outgoing) (h : List Step) → moment_in ((if b then [] else given o) ++ h) ≡ moment_in h
-given_moment true o h = refl
-given_moment false None h = refl
-given_moment false (Some u) h = refl
+given_moment : (w : State) (b : Bool) (o : Option Outgoing) (h : List Step) → moment_in ((if b then [] else given w o) ++ h) ≡ moment_in h
+given_moment w true o h = refl
+given_moment w false None h = refl
+given_moment w false (Some u) h = refl
 
 ends_moment : (end : End) (b : Bool) (g h : List Step) → moment_in (((if b then [] else state.Whole end ∷ []) ++ g) ++ h) ≡ moment_in (g ++ h)
 ends_moment end true g h = refl
@@ -309,7 +322,7 @@ ends_moment end false g h = refl
 
 took_moment : (end : End) (n : ℕ) (bytes : List ℕ) (h : List Step) → moment_in ((ends end n bytes ++ begins end (before h)) ++ h) ≡ moment_in h
 took_moment end n bytes h =
-    ends_moment end (nat_lt n (length bytes)) (begins end (before h)) h ∙ given_moment (is_busy (before h) end) (pick (before h) end) h
+    ends_moment end (nat_lt n (length bytes)) (begins end (before h)) h ∙ given_moment (before h) (is_busy (before h) end) (pick (before h) end) h
 
 fresh_moment : (s : SetupText) (e : Entry) (h : List Entry) (g : List Step) → (told s (e ∷ h)).past ≡ g → moment_in (steps_of s (e ∷ h)) ≡ moment_in g
 fresh_moment s e h g past = (fresh_leave s (e ∷ h)).moment_is ∙ ap moment_in past

@@ -11,20 +11,18 @@ use Rattle.gate_model.specs.declared.outgoing.Outgoing.TheVariants.{ToUp}
 use Rattle.gate_model.specs.declared.outgoing.UpUnit.{UpUnit}
 use Rattle.gate_model.specs.declared.outgoing.UpUnit.TheVariants as up
 use Rattle.gate_model.specs.Asked.{Goes, GoesWhenDue, is_up_close, is_up_open}
-use Rattle.gate_model.specs.Due.{begins, close_behind, ends, is_busy, is_end_due, pick, rows_in, session_flows, unless_out, up_rows}
-use Rattle.gate_model.specs.Session.{is_flow_owed}
+use Rattle.gate_model.specs.Due.{begins, close_behind, ends, is_busy, none_left, pick, rows_in, session_rows, up_rows}
 use Rattle.gate_model.specs.Folds.{connection, container, moment_in, sent_up, sent_up_at, side_in}
 use Rattle.gate_model.specs.Picks.{ArePicks}
 use Rattle.gate_model.specs.State.{State, Step, Gave, before}
-use Rattle.gate_model.specs.Lives.{is_carried, is_free, session_in}
 use Rattle.gate_model.specs.Upstream.{first, idle_in, is_idle_by, is_idle_due, opening_rows, when_up}
 use Rattle.gate_model.proofs.Closings.{closes_sent, closing_now}
 use Rattle.gate_model.proofs.Connections.{clash}
 use Rattle.gate_model.proofs.Known.{Known, container_is, known, moment_is, side_is}
 use Rattle.gate_model.proofs.Openings.{is_opening_first}
-use Rattle.gate_model.proofs.Rows.{first_each}
 use Rattle.gate_model.proofs.Times.{and_both}
 use Rattle.gate_model.proofs.Ups.{UpSays, up_says}
+use Rattle.gate_pair.proofs.Lacks.{Lacks, begins_lack, both_lack, ends_lack, first_up, rows_lack}
 
 -- where one may go, of steps
 pub record MayTellIn (g : List Step) : Type 0 where
@@ -35,70 +33,38 @@ pub record MayTellIn (g : List Step) : Type 0 where
   pub unclosed : is_closing (connection g) ≡ false
   pub alone : opening_rows (before g).up.pending ≡ []
   pub begun : begins (before g) ≡ []
-  pub flowed : session_flows (before g) ≡ []
+  pub carried : session_rows (before g) ≡ []
   pub ended : ends false (before g) ≡ []
 
 -- ---- one that goes
-
-first_up : (us : List UpUnit) (u : UpUnit) → first (map ToUp us) ≡ Some (ToUp u) → first us ≡ Some u
-first_up [] u e = absurd cc
-first_up (x ∷ us) u e = let here : x ≡ u = cc in ap Some here
 
 -- no other unit is due with it
 record AreNone (w : State) : Type 0 where
   opening : opening_rows w.up.pending ≡ []
   begun : begins w ≡ []
-  flowed : session_flows w ≡ []
+  carried : session_rows w ≡ []
   ended : ends false w ≡ []
 
-no_begin : (w : State) → first (begins w) ≡ Some up.Empty → ⊥
-no_begin w e = first_each (λ (u : UpUnit). u ≡ up.Empty → ⊥) _ 0 w.lives up.Empty (λ n l v. one (l.begin && is_free (session_in w.up.container n)) n v) e refl
-  where
-    one : (b : Bool) (n : ℕ) (v : UpUnit) → first (when_up b (up.Begin n)) ≡ Some v → v ≡ up.Empty → ⊥
-    one true n v f same = let wrong : Some (up.Begin n) ≡ Some up.Empty = f ∙ ap Some same in absurd cc
-    one false n v f same = absurd cc
+no_close : (b : Bool) (why : Option Condition) → Lacks up.Empty (when_up b (up.Close why))
+no_close true why e = absurd cc
+no_close false why e = absurd cc
 
-no_end : (closing : Bool) (w : State) → first (ends closing w) ≡ Some up.Empty → ⊥
-no_end closing w e = first_each (λ (u : UpUnit). u ≡ up.Empty → ⊥) _ 0 w.lives up.Empty (λ n l v. one (is_end_due closing w n) n l.why v) e refl
-  where
-    one : (b : Bool) (n : ℕ) (why : Option Condition) (v : UpUnit) → first (when_up b (up.End n why)) ≡ Some v → v ≡ up.Empty → ⊥
-    one true n why v f same = let wrong : Some (up.End n why) ≡ Some up.Empty = f ∙ ap Some same in absurd cc
-    one false n why v f same = absurd cc
-
-no_flow : (w : State) → first (session_flows w) ≡ Some up.Empty → ⊥
-no_flow w e =
-    first_each (λ (u : UpUnit). u ≡ up.Empty → ⊥) _ 0 w.lives up.Empty
-    (λ n l v. one (is_carried (session_in w.up.container n) && is_flow_owed l.session) n l.session.windows.next_incoming l.session.windows.next_outgoing v) e refl
-  where
-    one : (b : Bool) (n i o : ℕ) (v : UpUnit) → first (when_up b (up.Flow n i o)) ≡ Some v → v ≡ up.Empty → ⊥
-    one true n i o v f same = let wrong : Some (up.Flow n i o) ≡ Some up.Empty = f ∙ ap Some same in absurd cc
-    one false n i o v f same = absurd cc
-
-alone_closing : (w : State) → first (rows_in true w) ≡ Some up.Empty → ⊥
-alone_closing w e = by (unless_out w.out_of_memory (session_flows w)) (ends true w) w.up.sent.«open» (flows w.out_of_memory) refl e
-  where
-    flows : (b : Bool) → first (unless_out b (session_flows w)) ≡ Some up.Empty → ⊥
-    flows true f = absurd cc
-    flows false f = no_flow w f
-
-    by : (fs us : List UpUnit) (b : Bool) → (first fs ≡ Some up.Empty → ⊥) → ends true w ≡ us
-        → first (fs ++ (us ++ close_behind us (record w.up { sent = record w.up.sent { «open» = b } }))) ≡ Some up.Empty → ⊥
-    by (x ∷ fs) us b k f g = k g
-    by [] (x ∷ us) b k f g = no_end true w (ap first f ∙ g)
-    by [] [] true k f g = absurd cc
-    by [] [] false k f g = absurd cc
+alone_closing : (w : State) → Lacks up.Empty (rows_in true w)
+alone_closing w =
+    both_lack up.Empty (session_rows w) _ (rows_lack up.Empty w refl)
+    (both_lack up.Empty (ends true w) (close_behind w) (ends_lack up.Empty true w refl) (no_close (none_left w && w.up.sent.«open») w.up.condition))
 
 alone_in : (closing : Bool) (w : State) → first (rows_in closing w) ≡ Some up.Empty → AreNone w
 alone_in true w e = absurd (alone_closing w e)
-alone_in false w e = by (opening_rows w.up.pending) (begins w) (session_flows w) (ends false w) refl refl refl refl e
+alone_in false w e = by (opening_rows w.up.pending) (begins w) (session_rows w) (ends false w) refl refl refl refl e
   where
-    by : (os bs fs es : List UpUnit) → opening_rows w.up.pending ≡ os → begins w ≡ bs → session_flows w ≡ fs → ends false w ≡ es
-        → first (os ++ (bs ++ (fs ++ (es ++ when_up (is_idle_due w.up w.moment) up.Empty)))) ≡ Some up.Empty → AreNone w
-    by (x ∷ os) bs fs es f g m k e = absurd (clash _ (is_opening_first w.up.pending up.Empty (ap first f ∙ e)) refl)
-    by [] (x ∷ bs) fs es f g m k e = absurd (no_begin w (ap first g ∙ e))
-    by [] [] (x ∷ fs) es f g m k e = absurd (no_flow w (ap first m ∙ e))
-    by [] [] [] (x ∷ es) f g m k e = absurd (no_end false w (ap first k ∙ e))
-    by [] [] [] [] f g m k e = record { opening = f; begun = g; flowed = m; ended = k }
+    by : (os bs rs es : List UpUnit) → opening_rows w.up.pending ≡ os → begins w ≡ bs → session_rows w ≡ rs → ends false w ≡ es
+        → first (os ++ (bs ++ (rs ++ (es ++ when_up (is_idle_due w.up w.moment) up.Empty)))) ≡ Some up.Empty → AreNone w
+    by (x ∷ os) bs rs es f g m k e = absurd (clash _ (is_opening_first w.up.pending up.Empty (ap first f ∙ e)) refl)
+    by [] (x ∷ bs) rs es f g m k e = absurd (begins_lack up.Empty w refl (ap first g ∙ e))
+    by [] [] (x ∷ rs) es f g m k e = absurd (rows_lack up.Empty w refl (ap first m ∙ e))
+    by [] [] [] (x ∷ es) f g m k e = absurd (ends_lack up.Empty false w refl (ap first k ∙ e))
+    by [] [] [] [] f g m k e = record { opening = f; begun = g; carried = m; ended = k }
 
 alone_by : (w : State) → first (up_rows w) ≡ Some up.Empty → AreNone w
 alone_by w e = by (is_readable w.up.side && not w.up.sent.close) e
@@ -110,7 +76,7 @@ alone_by w e = by (is_readable w.up.side && not w.up.sent.close) e
 tells : ((g : List Step) → ArePicks g → GoesWhenDue g) → (g : List Step) → ArePicks g → is_busy (before g) Up ≡ false → pick (before g) Up ≡ Some (ToUp up.Empty) → MayTellIn g
 tells law g p free e =
     let w : State = before g in
-    let x : Goes g up.Empty = (law (Gave (ToUp up.Empty) ∷ g) ((free, e), p)).0 in
+    let x : Goes g up.Empty = (law (Gave (ToUp up.Empty) [] ∷ g) ((free, e, refl), p)).0 in
     let none : AreNone w = alone_by w (first_up (up_rows w) up.Empty e) in
     record {
       stated = x.may.stated;
@@ -120,7 +86,7 @@ tells law g p free e =
       unclosed = x.may.unclosed;
       alone = none.opening;
       begun = none.begun;
-      flowed = none.flowed;
+      carried = none.carried;
       ended = none.ended;
     }
 
@@ -135,9 +101,9 @@ idle_by idle ms last e f =
     and_both (not (idle == 0)) (nat_le ((idle + 1) / 2) (ms - last)) some (long_quiet ((idle + 1) / 2) ms last f)
 
 -- the close wasn't sent
-no_close : (b c : Bool) → b ≡ c → (c ≡ true → ⊥) → b ≡ false
-no_close true c e f = absurd (f (sym e))
-no_close false c e f = refl
+not_sent : (b c : Bool) → b ≡ c → (c ≡ true → ⊥) → b ≡ false
+not_sent true c e f = absurd (f (sym e))
+not_sent false c e f = refl
 
 one_due : (w : State) (closing readable closed : Bool) → closing ≡ false → readable ≡ true → closed ≡ false → AreNone w → is_idle_due w.up w.moment ≡ true
     → (if readable && not closed then rows_in closing w else []) ≡ up.Empty ∷ []
@@ -146,8 +112,8 @@ one_due w false false c e f k none due = absurd cc
 one_due w false true true e f k none due = absurd cc
 one_due w false true false e f k none due =
     let idle : List UpUnit = when_up (is_idle_due w.up w.moment) up.Empty in
-    ap (λ (us : List UpUnit). us ++ (begins w ++ (session_flows w ++ (ends false w ++ idle)))) none.opening
-    ∙ ap (λ (us : List UpUnit). us ++ (session_flows w ++ (ends false w ++ idle))) none.begun ∙ ap (λ (us : List UpUnit). us ++ (ends false w ++ idle)) none.flowed
+    ap (λ (us : List UpUnit). us ++ (begins w ++ (session_rows w ++ (ends false w ++ idle)))) none.opening
+    ∙ ap (λ (us : List UpUnit). us ++ (session_rows w ++ (ends false w ++ idle))) none.begun ∙ ap (λ (us : List UpUnit). us ++ (ends false w ++ idle)) none.carried
     ∙ ap (λ (us : List UpUnit). us ++ idle) none.ended ∙ ap (λ (b : Bool). when_up b up.Empty) due
 
 tells_now : (g : List Step) → ArePicks g → MayTellIn g → pick (before g) Up ≡ Some (ToUp up.Empty)
@@ -163,7 +129,7 @@ tells_now g p m = ap (λ (us : List UpUnit). first (map ToUp us)) rows
     s = up_says g p
 
     unclosed : w.up.sent.close ≡ false
-    unclosed = no_close w.up.sent.close (list_any is_up_close (sent_up g)) s.close_is (λ e. clash _ (closes_sent g p e) m.unclosed)
+    unclosed = not_sent w.up.sent.close (list_any is_up_close (sent_up g)) s.close_is (λ e. clash _ (closes_sent g p e) m.unclosed)
 
     quiet : w.up.last_sent_at + (idle_in w.up.container + 1) / 2 ≤ w.moment
     quiet =
@@ -179,7 +145,7 @@ tells_now g p m = ap (λ (us : List UpUnit). first (map ToUp us)) rows
     rows : up_rows w ≡ up.Empty ∷ []
     rows =
         one_due w (w.out_of_memory || is_closing w.conn) (is_readable w.up.side) w.up.sent.close (sym (closing_now g _ p refl) ∙ m.unclosed)
-        (ap is_readable (side_is k) ∙ m.readable) unclosed (record { opening = m.alone; begun = m.begun; flowed = m.flowed; ended = m.ended }) due
+        (ap is_readable (side_is k) ∙ m.readable) unclosed (record { opening = m.alone; begun = m.begun; carried = m.carried; ended = m.ended }) due
 
 pub tells_at_once : ((g : List Step) → ArePicks g → GoesWhenDue g) → (g : List Step) → ArePicks g → is_busy (before g) Up ≡ false
     → (pick (before g) Up ≡ Some (ToUp up.Empty)) ↔ MayTellIn g

@@ -93,7 +93,7 @@ tell_in s h r free m = record {
   unclosed = m.unclosed;
   alone = m.alone;
   begun = m.begun;
-  flowed = m.flowed;
+  carried = m.carried;
   ended = m.ended;
   free = free;
 }
@@ -108,7 +108,7 @@ tell_of s h r m = record {
   unclosed = m.unclosed;
   alone = m.alone;
   begun = m.begun;
-  flowed = m.flowed;
+  carried = m.carried;
   ended = m.ended;
 }
 

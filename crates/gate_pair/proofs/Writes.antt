@@ -7,7 +7,7 @@ use Rattle.gate_outside.specs.declared.ports.End.{End}
 use Rattle.gate_outside.specs.declared.ports.End.TheVariants.{Client, Up}
 use Rattle.gate_model.specs.declared.outgoing.Outgoing.{Outgoing}
 use Rattle.gate_model.specs.declared.outgoing.Outgoing.TheVariants.{ToClient, ToUp}
-use Rattle.gate_model.specs.Due.{is_busy, pick}
+use Rattle.gate_model.specs.Due.{carries, carries_up, is_busy, pick}
 use Rattle.gate_model.specs.Setup.{SetupText}
 use Rattle.gate_model.specs.State.{State, Step, Gave, Whole, before, step}
 use Rattle.bridge_core.specs.Offers.{BridgeState, moved, offer_of, peeked}
@@ -30,11 +30,11 @@ sound_by s b i j k l x client up = record {
 }
 
 gave_sound : (end : End) (u : Outgoing) (b : BridgeState) (at now other : ℕ) → pick b.state end ≡ Some u → now < length (offer_of end b).bytes
-    → IsSoundAt end at other b → IsSoundAt end now other (moved (Gave u) b)
-gave_sound Client (ToClient u) b at now other p h x = sound_by (Gave (ToClient u)) b at other now other x (λ e. h) x.up_left
+    → IsSoundAt end at other b → IsSoundAt end now other (moved (Gave u (carries b.state u)) b)
+gave_sound Client (ToClient u) b at now other p h x = sound_by (Gave (ToClient u) []) b at other now other x (λ e. h) x.up_left
 gave_sound Client (ToUp u) b at now other p h x = absurd (client_picks b.state u p)
 gave_sound Up (ToClient u) b at now other p h x = absurd (up_picks b.state u p)
-gave_sound Up (ToUp u) b at now other p h x = sound_by (Gave (ToUp u)) b other at other now x x.client_left (λ e. h)
+gave_sound Up (ToUp u) b at now other p h x = sound_by (Gave (ToUp u) (carries_up b.state u)) b other at other now x x.client_left (λ e. h)
 
 -- a unit that began, and of which all bytes were taken at once
 sound_both : (s r : Step) (b : BridgeState) (i j k l : ℕ) → IsSound b i j → HasLeft Client k (moved r (moved s b)) → HasLeft Up l (moved r (moved s b)) → IsSound (moved r (moved s b)) k l
@@ -47,11 +47,11 @@ sound_both s r b i j k l x client up = record {
 }
 
 both_sound : (end : End) (u : Outgoing) (b : BridgeState) (at now other : ℕ) → pick b.state end ≡ Some u
-    → IsSoundAt end at other b → IsSoundAt end now other (moved (Whole end) (moved (Gave u) b))
-both_sound Client (ToClient u) b at now other p x = sound_both (Gave (ToClient u)) (Whole Client) b at other now other x (λ e. absurd cc) x.up_left
+    → IsSoundAt end at other b → IsSoundAt end now other (moved (Whole end) (moved (Gave u (carries b.state u)) b))
+both_sound Client (ToClient u) b at now other p x = sound_both (Gave (ToClient u) []) (Whole Client) b at other now other x (λ e. absurd cc) x.up_left
 both_sound Client (ToUp u) b at now other p x = absurd (client_picks b.state u p)
 both_sound Up (ToClient u) b at now other p x = absurd (up_picks b.state u p)
-both_sound Up (ToUp u) b at now other p x = sound_both (Gave (ToUp u)) (Whole Up) b other at other now x x.client_left (λ e. absurd cc)
+both_sound Up (ToUp u) b at now other p x = sound_both (Gave (ToUp u) (carries_up b.state u)) (Whole Up) b other at other now x x.client_left (λ e. absurd cc)
 
 -- ---- what is ready
 
@@ -79,10 +79,10 @@ free_within end at n b free some within = subst (λ (o : Option (List ℕ)). IfS
 -- ---- the steps of a write
 
 free_steps : (end : End) (n at : ℕ) (b : BridgeState) (u : Outgoing) → is_busy b.state end ≡ false → pick b.state end ≡ Some u
-    → ends end n (ready_bytes end at b) ++ begins end b.state ≡ ends end n (offer_of end b).bytes ++ Gave u ∷ []
+    → ends end n (ready_bytes end at b) ++ begins end b.state ≡ ends end n (offer_of end b).bytes ++ Gave u (carries b.state u) ∷ []
 free_steps end n at b u e p =
-    ap (λ (x : Bool). ends end n (if x then drop at (offer_of end b).bytes else (offer_of end b).bytes) ++ (if x then [] else given (pick b.state end))) e
-    ∙ ap (λ (o : Option Outgoing). ends end n (offer_of end b).bytes ++ given o) p
+    ap (λ (x : Bool). ends end n (if x then drop at (offer_of end b).bytes else (offer_of end b).bytes) ++ (if x then [] else given b.state (pick b.state end))) e
+    ∙ ap (λ (o : Option Outgoing). ends end n (offer_of end b).bytes ++ given b.state o) p
 
 ends_whole : (end : End) (n : ℕ) (bytes : List ℕ) → length bytes ≤ n → ends end n bytes ≡ Whole end ∷ []
 ends_whole end n bytes h = ap (λ (x : Bool). if x then [] else Whole end ∷ []) (le-ltb n (length bytes) h)
@@ -98,7 +98,7 @@ whole_free : (end : End) (w : State) → is_busy (step w (Whole end)) end ≡ fa
 whole_free Client w = refl
 whole_free Up w = refl
 
-gave_busy : (end : End) (w : State) (u : Outgoing) → pick w end ≡ Some u → is_busy (step w (Gave u)) end ≡ true
+gave_busy : (end : End) (w : State) (u : Outgoing) → pick w end ≡ Some u → is_busy (step w (Gave u (carries w u))) end ≡ true
 gave_busy Client w (ToClient u) p = refl
 gave_busy Client w (ToUp u) p = absurd (client_picks w u p)
 gave_busy Up w (ToClient u) p = absurd (up_picks w u p)
@@ -113,11 +113,11 @@ moved_bytes Up s b = refl
 
 -- the unit that was offered began, and all of it was taken
 all_taken : (end : End) (n at : ℕ) (b : BridgeState) (u : Outgoing) → is_busy b.state end ≡ false → pick b.state end ≡ Some u → length (offer_of end b).bytes ≤ n
-    → Advances end n at n b (moved (Whole end) (moved (Gave u) b))
+    → Advances end n at n b (moved (Whole end) (moved (Gave u (carries b.state u)) b))
 all_taken end n at b u e p h = record {
   state = ap (λ (g : List Step). after g b.state)
-      (sym (free_steps end n at b u e p ∙ ap (λ (g : List Step). g ++ Gave u ∷ []) (ends_whole end n (offer_of end b).bytes h)));
-  left = ap (λ (x : Bool). rest_at x n (offer_of end (moved (Whole end) (moved (Gave u) b))).bytes) (whole_free end (step b.state (Gave u)))
+      (sym (free_steps end n at b u e p ∙ ap (λ (g : List Step). g ++ Gave u (carries b.state u) ∷ []) (ends_whole end n (offer_of end b).bytes h)));
+  left = ap (λ (x : Bool). rest_at x n (offer_of end (moved (Whole end) (moved (Gave u (carries b.state u)) b))).bytes) (whole_free end (step b.state (Gave u (carries b.state u))))
       ∙ sym (ap (drop n) (free_bytes end at b e) ∙ drop_all n (offer_of end b).bytes h);
   client = refl;
   up = refl;
@@ -126,33 +126,33 @@ all_taken end n at b u e p h = record {
 
 -- or a part of it
 begun : (end : End) (n at : ℕ) (b : BridgeState) (u : Outgoing) → is_busy b.state end ≡ false → pick b.state end ≡ Some u → n < length (offer_of end b).bytes
-    → Advances end n at n b (moved (Gave u) b)
+    → Advances end n at n b (moved (Gave u (carries b.state u)) b)
 begun end n at b u e p h = record {
   state = ap (λ (g : List Step). after g b.state)
-      (sym (free_steps end n at b u e p ∙ ap (λ (g : List Step). g ++ Gave u ∷ []) (ends_more end n (offer_of end b).bytes h)));
-  left = ap (λ (x : Bool). rest_at x n (offer_of end (moved (Gave u) b)).bytes) (gave_busy end b.state u p)
-      ∙ ap (drop n) (moved_bytes end (Gave u) b) ∙ sym (ap (drop n) (free_bytes end at b e));
+      (sym (free_steps end n at b u e p ∙ ap (λ (g : List Step). g ++ Gave u (carries b.state u) ∷ []) (ends_more end n (offer_of end b).bytes h)));
+  left = ap (λ (x : Bool). rest_at x n (offer_of end (moved (Gave u (carries b.state u)) b)).bytes) (gave_busy end b.state u p)
+      ∙ ap (drop n) (moved_bytes end (Gave u (carries b.state u)) b) ∙ sym (ap (drop n) (free_bytes end at b e));
   client = refl;
   up = refl;
   sound = λ other x. gave_sound end u b at n other p h x;
 }
 
 pub whole_taken : (end : End) (n at : ℕ) (b c d : BridgeState) → is_busy b.state end ≡ false → n ≡ length (offer_of end b).bytes
-    → IsSome (pick b.state end) → IfSome (pick b.state end) (λ u. c ≡ moved (Gave u) b) → d ≡ moved (Whole end) c → Advances end n at n b d
+    → IsSome (pick b.state end) → IfSome (pick b.state end) (λ u. c ≡ moved (Gave u (carries b.state u)) b) → d ≡ moved (Whole end) c → Advances end n at n b d
 whole_taken end n at b c d e h some gave is = by (pick b.state end) refl some gave
   where
     le : length (offer_of end b).bytes ≤ n
     le = omega arith
 
-    by : (o : Option Outgoing) → pick b.state end ≡ o → IsSome o → IfSome o (λ u. c ≡ moved (Gave u) b) → Advances end n at n b d
+    by : (o : Option Outgoing) → pick b.state end ≡ o → IsSome o → IfSome o (λ u. c ≡ moved (Gave u (carries b.state u)) b) → Advances end n at n b d
     by None p s g = absurd cc
     by (Some u) p s g = subst (λ (v : BridgeState). Advances end n at n b v) (sym (is ∙ ap (moved (Whole end)) g)) (all_taken end n at b u e p le)
 
 pub begun_taken : (end : End) (n at : ℕ) (b c : BridgeState) → is_busy b.state end ≡ false → n < length (offer_of end b).bytes
-    → IsSome (pick b.state end) → IfSome (pick b.state end) (λ u. c ≡ moved (Gave u) b) → Advances end n at n b c
+    → IsSome (pick b.state end) → IfSome (pick b.state end) (λ u. c ≡ moved (Gave u (carries b.state u)) b) → Advances end n at n b c
 begun_taken end n at b c e h some gave = by (pick b.state end) refl some gave
   where
-    by : (o : Option Outgoing) → pick b.state end ≡ o → IsSome o → IfSome o (λ u. c ≡ moved (Gave u) b) → Advances end n at n b c
+    by : (o : Option Outgoing) → pick b.state end ≡ o → IsSome o → IfSome o (λ u. c ≡ moved (Gave u (carries b.state u)) b) → Advances end n at n b c
     by None p s g = absurd cc
     by (Some u) p s g = subst (λ (v : BridgeState). Advances end n at n b v) (sym g) (begun end n at b u e p h)
 
@@ -171,7 +171,7 @@ ready_same end at b bytes e = by (is_busy b.state end) (offer_of end b).ready e
 client_leaves : (n : ℕ) (bytes : List ℕ) (w : State) → is_busy (after (ends Client n bytes ++ begins Client w) w) Up ≡ is_busy w Up
 client_leaves n bytes w = by (nat_lt n (length bytes)) (is_busy w Client) (pick w Client) refl
   where
-    by : (x y : Bool) (o : Option Outgoing) → pick w Client ≡ o → is_busy (after ((if x then [] else Whole Client ∷ []) ++ (if y then [] else given o)) w) Up ≡ is_busy w Up
+    by : (x y : Bool) (o : Option Outgoing) → pick w Client ≡ o → is_busy (after ((if x then [] else Whole Client ∷ []) ++ (if y then [] else given w o)) w) Up ≡ is_busy w Up
     by true true o p = refl
     by false true o p = refl
     by true false None p = refl
@@ -183,7 +183,7 @@ client_leaves n bytes w = by (nat_lt n (length bytes)) (is_busy w Client) (pick 
 up_leaves : (n : ℕ) (bytes : List ℕ) (w : State) → is_busy (after (ends Up n bytes ++ begins Up w) w) Client ≡ is_busy w Client
 up_leaves n bytes w = by (nat_lt n (length bytes)) (is_busy w Up) (pick w Up) refl
   where
-    by : (x y : Bool) (o : Option Outgoing) → pick w Up ≡ o → is_busy (after ((if x then [] else Whole Up ∷ []) ++ (if y then [] else given o)) w) Client ≡ is_busy w Client
+    by : (x y : Bool) (o : Option Outgoing) → pick w Up ≡ o → is_busy (after ((if x then [] else Whole Up ∷ []) ++ (if y then [] else given w o)) w) Client ≡ is_busy w Client
     by true true o p = refl
     by false true o p = refl
     by true false None p = refl

@@ -14,9 +14,11 @@ use Rattle.wire_base.specs.declared.scan.Scan.{Scan}
 use Rattle.wire_base.specs.declared.scan.Scan.TheVariants.{Whole, More, Bad}
 use Rattle.gate_model.specs.declared.outgoing.Outgoing.{Outgoing}
 use Rattle.gate_model.specs.declared.outgoing.Outgoing.TheVariants.{ToClient, ToUp}
+use Rattle.gate_model.specs.declared.outgoing.UpUnit.{UpUnit}
+use Rattle.gate_model.specs.declared.reply.Reply.{Reply}
 use Rattle.gate_model.specs.Answers.{AreAnswered}
 use Rattle.gate_model.specs.Due.{due}
-use Rattle.gate_model.specs.Folds.{connection, container, number_in, sent, sent_up}
+use Rattle.gate_model.specs.Folds.{connection, container, number_in, sent}
 use Rattle.gate_model.specs.Setup.{SetupText}
 use Rattle.gate_model.specs.Spelling.{Context, spell}
 use Rattle.gate_model.specs.State as state
@@ -95,15 +97,28 @@ pub record AreHeard (s : SetupText) (h : List Entry) : Type 0 where
 
 -- ---- what went
 
--- the units to an end of which the first byte was sent, in their order
-abbrev pub sent_to : End → List Step → List Outgoing
-sent_to Client g = map ToClient (sent g)
-sent_to Up g = map ToUp (sent_up g)
+-- the units to the container of which the first byte was sent, in their order, each with what it
+-- carries
+abbrev pub sent_up_with : List Step → List (UpUnit × List ℕ)
+sent_up_with [] = []
+sent_up_with (state.Gave (ToUp u) text ∷ g) = sent_up_with g ++ (u, text) ∷ []
+sent_up_with (s ∷ g) = sent_up_with g
+
+-- the same of an end; a unit to the client carries nothing
+abbrev pub to_client : Reply → Outgoing × List ℕ
+to_client u = (ToClient u, [])
+
+abbrev pub to_up : UpUnit × List ℕ → Outgoing × List ℕ
+to_up x = (ToUp x.0, x.1)
+
+abbrev pub sent_to : End → List Step → List (Outgoing × List ℕ)
+sent_to Client g = map to_client (sent g)
+sent_to Up g = map to_up (sent_up_with g)
 
 -- the bytes of units
-abbrev pub spelled : Context → List Outgoing → List ℕ
+abbrev pub spelled : Context → List (Outgoing × List ℕ) → List ℕ
 spelled c [] = []
-spelled c (u ∷ us) = spell c u ++ spelled c us
+spelled c (x ∷ xs) = spell c x.0 x.1 ++ spelled c xs
 
 -- what decides the bytes of a pair's units
 abbrev pub context_in : SetupText → List Step → Context

@@ -11,11 +11,15 @@ use Rattle.gate_relay.specs.Relayed.{is_new}
 use Rattle.gate_relay.specs.Sides.{is_absent, is_open_side, is_readable, is_writable, side_of}
 use Rattle.gate_relay.specs.Sides.{sides}
 use Rattle.machine_091.specs.State.{awaits, is_opening}
+use Rattle.gate_model.specs.declared.channel.AttachOut.{AttachOut}
+use Rattle.gate_model.specs.declared.channel.LinkFlow.{LinkFlow}
+use Rattle.gate_model.specs.declared.channel.SessionUnit.TheVariants as unit
+use Rattle.gate_model.specs.declared.channel.TransferOut.{TransferOut}
 use Rattle.gate_model.specs.declared.outgoing.Outgoing.{Outgoing}
 use Rattle.gate_model.specs.declared.outgoing.Outgoing.TheVariants.{ToUp}
 use Rattle.gate_model.specs.declared.outgoing.UpUnit.{UpUnit}
 use Rattle.gate_model.specs.declared.outgoing.UpUnit.TheVariants as up
-use Rattle.gate_model.specs.Due.{can_leave, is_awaited, is_busy, pick}
+use Rattle.gate_model.specs.Due.{can_leave, carries, is_awaited, is_busy, pick}
 use Rattle.gate_model.specs.Folds.{connection, container, given_up_in}
 use Rattle.gate_model.specs.Setup.{SetupText}
 use Rattle.gate_model.specs.Spelling.{spell}
@@ -68,7 +72,7 @@ abbrev pub IsOfferOf : SetupText → End → Bool → List Entry → List ℕ �
 IsOfferOf s end true h bytes = bytes ≡ (stream_of end (told s h)).rest
 IsOfferOf s end false h bytes =
     (u : Outgoing) × (pick (state_of s h) end ≡ Some u)
-    × (bytes ≡ spell (context_in s (steps_of s h)) u)
+    × (bytes ≡ spell (context_in s (steps_of s h)) u (carries (state_of s h) u))
 
 pub record IsOffered (s : SetupText) (end : End) (h : List Entry) (bytes : List ℕ) : Type 0 where
   pub writable : is_writable (side_of end (sides h)) ≡ true
@@ -86,12 +90,16 @@ pub data Shuts (s : SetupText) (end : End) (h : List Entry) : Type 0 where
 -- ---- out of memory
 
 -- a unit whose spelling takes memory: one that tells the container a name, which are the login and
--- the gateway's open, a begin and a flow (AMQP 1.0 5.3.3.2, 2.7.1, 2.7.2 and 2.7.4)
+-- the gateway's open, a begin and a flow (AMQP 1.0 5.3.3.2, 2.7.1, 2.7.2 and 2.7.4). So does an
+-- attach on a session, a flow of a link, and a frame of a transfer (2.7.3, 2.7.4 and 2.7.5)
 pub data TakesMemory (u : UpUnit) : Type 0 where
   Login : u ≡ up.SaslInit → TakesMemory u
   Opening : u ≡ up.Open → TakesMemory u
   Beginning : (n : ℕ) → u ≡ up.Begin n → TakesMemory u
   Flowing : (n incoming outgoing : ℕ) → u ≡ up.Flow n incoming outgoing → TakesMemory u
+  Attaching : (n : ℕ) (a : AttachOut) → u ≡ up.OnSession n (unit.Attach a) → TakesMemory u
+  Crediting : (n : ℕ) (f : LinkFlow) → u ≡ up.OnSession n (unit.Flow f) → TakesMemory u
+  Transferring : (n : ℕ) (t : TransferOut) → u ≡ up.OnSession n (unit.Transfer t) → TakesMemory u
 
 -- after its accept the pair runs out of memory in a read or in a take-up, of which the newest steps
 -- then don't count, or where such a unit goes next; and nowhere else

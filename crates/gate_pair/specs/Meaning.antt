@@ -9,8 +9,8 @@ use Rattle.gate_relay.specs.Entries as entry
 use Rattle.gate_relay.specs.Entries.{Entry}
 use Rattle.gate_relay.specs.RelayWords.{RelayWords}
 use Rattle.gate_model.specs.declared.outgoing.Outgoing.{Outgoing}
-use Rattle.gate_model.specs.Due.{can_leave, can_take_up, is_awaiting, is_busy, is_connect_due}
-use Rattle.gate_model.specs.Due.{is_shut_due, is_silent, pick, takes_memory}
+use Rattle.gate_model.specs.Due.{can_leave, can_take_up, carries, is_awaiting, is_busy}
+use Rattle.gate_model.specs.Due.{is_connect_due, is_shut_due, is_silent, pick, takes_memory}
 use Rattle.gate_model.specs.Setup.{SetupText}
 use Rattle.gate_model.specs.Spelling.{context_of, spell}
 use Rattle.gate_model.specs.State.{State, Step, Began, Moment, Fed, Silent, TakenUp, Joined, Lost}
@@ -39,19 +39,23 @@ abbrev pub stream_of : End → Told → Stream
 stream_of Client t = t.client
 stream_of Up t = t.up
 
+-- the bytes of a unit that goes next, with what it carries
+abbrev pub spelled_in : SetupText → State → Outgoing → List ℕ
+spelled_in s w u = spell (context_of s w) u (carries w u)
+
 -- the bytes that are offered to an end: the rest of the unit in progress, or the unit that goes
 -- next
 abbrev pub offered : SetupText → End → State → List ℕ → Option (List ℕ)
 offered s end w rest =
-    if is_busy w end then Some rest else option_map (spell (context_of s w)) (pick w end)
+    if is_busy w end then Some rest else option_map (spelled_in s w) (pick w end)
 
 -- the first byte of the unit that goes next, unless one is in progress
-abbrev pub given : Option Outgoing → List Step
-given None = []
-given (Some u) = Gave u ∷ []
+abbrev pub given : State → Option Outgoing → List Step
+given w None = []
+given w (Some u) = Gave u (carries w u) ∷ []
 
 abbrev pub begins : End → State → List Step
-begins end w = if is_busy w end then [] else given (pick w end)
+begins end w = if is_busy w end then [] else given w (pick w end)
 
 -- and its last, where all that was offered was taken
 abbrev pub ends : End → ℕ → List ℕ → List Step

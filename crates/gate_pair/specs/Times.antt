@@ -20,7 +20,8 @@ use Rattle.gate_model.specs.declared.timers.TheConstants.{BEAT_PER_SECOND, CLOSI
 use Rattle.gate_model.specs.declared.timers.TheConstants.{HANDSHAKE_LIMIT}
 use Rattle.gate_model.specs.Answers.{is_close_ok}
 use Rattle.gate_model.specs.Asked.{is_up_close, is_up_open, sent_up_whole}
-use Rattle.gate_model.specs.Due.{begins, client_units, ends, is_busy, is_unheard, pick, session_flows}
+use Rattle.gate_model.specs.Due.{begins, client_units, ends, is_busy, is_unheard, pick}
+use Rattle.gate_model.specs.Due.{session_rows}
 use Rattle.gate_model.specs.Folds.{closed_in, connection, container, sent, sent_up}
 use Rattle.gate_model.specs.Setup.{SetupText}
 use Rattle.gate_model.specs.State.{has_left}
@@ -91,7 +92,7 @@ pub record MayTellAt (s : SetupText) (h : List Entry) : Type 0 where
   pub unclosed : is_closing (connection (steps_of s h)) ≡ false
   pub alone : opening_rows (state_of s h).up.pending ≡ []
   pub begun : begins (state_of s h) ≡ []
-  pub flowed : session_flows (state_of s h) ≡ []
+  pub carried : session_rows (state_of s h) ≡ []
   pub ended : ends false (state_of s h) ≡ []
   pub free : is_busy (state_of s h) Up ≡ false
 

@@ -1,6 +1,6 @@
 -- The words of this crate, from one place.
 pub use Rattle.gate_pair.specs.Answers.{CutsInto, CutsUpInto, IsAnswered, context_in, heard_bytes}
-pub use Rattle.gate_pair.specs.Answers.{sent_to, spelled, taken_bytes}
+pub use Rattle.gate_pair.specs.Answers.{sent_to, sent_up_with, spelled, taken_bytes}
 pub use Rattle.gate_pair.specs.Cutting.{unit_scan, up_scan}
 pub use Rattle.gate_pair.specs.Lawful.{AreLawful, Keeps}
 pub use Rattle.gate_pair.specs.Meaning.{offered, pair_words, state_of, steps_of, told}

@@ -28,11 +28,11 @@ pub fn entries_give_picks()
 
 /// The units of each end are those with which its bytes begin, however these were cut, and no
 /// further one is whole, but for units of the client behind a request of it that waited. What an
-/// end took are the bytes of the units that were sent to it, but for what is left of the one in
-/// progress. The units that were sent to the client, without heartbeats, and the ones that are due
-/// are the replies to its units and to what happened upstream; after the pair ran out of memory
-/// those since then are the last units. While an end takes bytes and none are offered, all that may
-/// go went, and no heartbeat and no empty frame is due.
+/// end took are the bytes of the units that were sent to it, with what each carries, but for what
+/// is left of the one in progress. The units that were sent to the client, without heartbeats, and
+/// the ones that are due are the replies to its units and to what happened upstream; after the pair
+/// ran out of memory those since then are the last units. While an end takes bytes and none are
+/// offered, all that may go went, and no heartbeat and no empty frame is due.
 pub fn clients_are_answered()
     ensures { (s : SetupText) (h : List Entry) → IsRelayed (pair_words s) h → IsAnswered s h }
 {

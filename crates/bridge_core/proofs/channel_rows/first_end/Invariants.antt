@@ -5,4 +5,4 @@ use Rattle.bridge_core.specs.ChannelRows.{end_row}
 use Rattle.bridge_core.proofs.channel_rows.first_end.Given as goal
 
 abbrev pub invariant-loop-i : goal.invariant-loop-i
-invariant-loop-i l = first (each (end_row l.closing l.container l.conn) l.i (drop l.i l.lives)) ≡ first (each (end_row l.closing l.container l.conn) 0 l.lives)
+invariant-loop-i l = first (each (end_row l.parting l.container l.conn l.paths) l.i (drop l.i l.lives)) ≡ first (each (end_row l.parting l.container l.conn l.paths) 0 l.lives)

@@ -1,4 +1,4 @@
-use Rattle.std.proofs.Common.{◌≡◌, ◌+◌, ◌<◌, ◌∙◌, Bool, Some, if◌then◌else◌, ap, arith, drop, length, sym}
+use Rattle.std.proofs.Common.{◌+◌, ◌<◌, ◌∙◌, Bool, Some, if◌then◌else◌, ap, arith, drop, length, sym}
 use Rattle.gate_model.specs.Queue.{place_from}
 use Rattle.gate_model.specs.State.{State, waits}
 use Rattle.bridge_core.proofs.Places.{place_here}

@@ -1,7 +1,7 @@
-use Rattle.std.proofs.Common.{◌≡◌, ◌+◌, ◌<◌, ◌∙◌, List, Some, ap, arith, length, subst, sym}
+use Rattle.std.proofs.Common.{◌≡◌, ◌<◌, ◌∙◌, List, Some, ap, arith, length, subst, sym}
 use Rattle.machine_091.specs.declared.unit.Unit91.{Unit91}
 use Rattle.std.specs.Prelude.{slice_get}
-use Rattle.gate_model.specs.Queue.{payload_of, payloads, removed}
+use Rattle.gate_model.specs.Queue.{payloads, removed}
 use Rattle.bridge_core.proofs.Payloads.{payloads_less, stands_at, taken_out}
 use Rattle.bridge_core.proofs.queue.Queue.remove.Goals as goal
 

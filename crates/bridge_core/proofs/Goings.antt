@@ -1,0 +1,201 @@
+-- What goes next may go: a frame of a transfer is the one that is due, and so is a confirm.
+use Rattle.std.proofs.Common.{◌≡◌, ◌≤◌, ℕ, ◌==◌, not, ◌&&◌, ◌||◌, Bool, true, false, if◌then◌else◌, List, [], ◌∷◌, ◌++◌, Option, None, Some, arith, refl, subst, sym, map}
+use Rattle.std.specs.Prelude.{IfSome}
+use Rattle.std.proofs.lemmas.Bool.Decides.{nat_tests}
+use Rattle.gate_outside.specs.declared.ports.End.TheVariants.{Client, Up}
+use Rattle.gate_relay.specs.Sides.{is_readable}
+use Rattle.machine_091.specs.State.{is_closing}
+use Rattle.machine_091.specs.declared.unit.Refusal.{Refusal}
+use Rattle.publish_path.specs.Offers.{next_frame_of}
+use Rattle.publish_path.specs.declared.publish.Confirm.{Confirm}
+use Rattle.publish_path.specs.declared.publish.NextFrame.{NextFrame}
+use Rattle.session_path.specs.Due.{next_confirm, next_frame, next_ok}
+use Rattle.session_path.specs.Path.{PathState}
+use Rattle.session_path.specs.declared.path.PathOk.{PathOk}
+use Rattle.gate_model.specs.declared.channel.ChannelUnit.TheVariants as to_client
+use Rattle.gate_model.specs.declared.channel.SessionUnit.{SessionUnit}
+use Rattle.gate_model.specs.declared.channel.SessionUnit.TheVariants as unit
+use Rattle.gate_model.specs.declared.life.Life.{Life}
+use Rattle.gate_model.specs.declared.outgoing.Outgoing.TheVariants.{ToClient, ToUp}
+use Rattle.gate_model.specs.declared.outgoing.UpUnit.{UpUnit}
+use Rattle.gate_model.specs.declared.outgoing.UpUnit.TheVariants as up
+use Rattle.gate_model.specs.declared.reply.Pending.{Pending}
+use Rattle.gate_model.specs.declared.reply.Reply.{Reply}
+use Rattle.gate_model.specs.declared.reply.Reply.TheVariants as reply
+use Rattle.gate_model.specs.Due.{attaches, begins, carried_rows, channel_closes, channel_oks, client_rows, client_units, close_behind, close_oks, close_oks_on, closes, confirm_on, confirms, detaches, ends, frame_max_in, if_so, is_beat_due, is_end_due, last_closes, link_flows, may_answer, may_confirm, may_end, may_go, may_tell, none_left, ok_on, oks_on, open_oks, openings, path_oks, pick, refused_on, row_on, rows_in, session_flows, session_rows, settlings, transfers, unless_out, up_rows, when}
+use Rattle.gate_model.specs.Lives.{is_carried, life_at, session_in}
+use Rattle.gate_model.specs.Paths.{path_at, transfer_of}
+use Rattle.gate_model.specs.Spelling.{spell_reply}
+use Rattle.gate_model.specs.State.{State, is_channel_settled, is_settled}
+use Rattle.gate_model.specs.Upstream.{first, is_idle_due, opening_rows}
+use Rattle.bridge_core.specs.Behind.{answering_units, closing_units, confirming_units, last_units}
+use Rattle.bridge_core.specs.Offers.{IsOffer, IsUpOffer, SlotState, UpSlotState}
+use Rattle.bridge_core.specs.PathChanges.{MayGoUp, MayReply}
+use Rattle.bridge_core.proofs.FirstOf.{FirstIs, both_are, each_is, when_is, when_up_is}
+
+-- ---- to the container
+
+record IsDue (window : ℕ) (s : PathState) (f : NextFrame) : Type 0 where
+  room : 1 ≤ window
+  frame : next_frame_of s.links.sending s.publishes.list ≡ Some f
+
+due_by : (window : ℕ) (s : PathState) (f : NextFrame) → next_frame window s ≡ Some f → IsDue window s f
+due_by window s f e = by (window == 0) refl e
+  where
+    by : (b : Bool) → (window == 0) ≡ b → (if b then None else next_frame_of s.links.sending s.publishes.list) ≡ Some f → IsDue window s f
+    by true g e = absurd cc
+    by false g e = record { room = grind (arith, nat_tests, g); frame = e }
+
+row_is : {A : Type 0} (w : State) (n : ℕ) (o : Option A) (f : A → SessionUnit) → ((x : A) → o ≡ Some x → MayGoUp w (up.OnSession n (f x)))
+    → FirstIs (MayGoUp w) (row_on w.up.container n o f)
+row_is w n None f is = tt
+row_is w n (Some x) f is = when_up_is (MayGoUp w) (is_carried (session_in w.up.container n)) (up.OnSession n (f x)) (is x refl)
+
+transfers_are : (w : State) → FirstIs (MayGoUp w) (transfers w)
+transfers_are w = each_is (MayGoUp w) _ w.lives (λ n. row_is w n _ _ (one n))
+  where
+    one : (n : ℕ) (f : NextFrame) → next_frame (life_at w.lives n).session.windows.window (path_at w.paths n) ≡ Some f
+        → MayGoUp w (up.OnSession n (unit.Transfer (transfer_of (frame_max_in w.up.container) (path_at w.paths n) f)))
+    one n f e =
+        let d : IsDue (life_at w.lives n).session.windows.window (path_at w.paths n) f = due_by _ _ f e in
+        (d.room, (d.frame, omega arith))
+
+carried_are : (w : State) → FirstIs (MayGoUp w) (carried_rows w)
+carried_are w =
+    both_are (MayGoUp w) (attaches w) _ (each_is (MayGoUp w) _ w.lives (λ n. row_is w n _ _ (λ x e. (tt, tt))))
+    (both_are (MayGoUp w) (link_flows w) _ (each_is (MayGoUp w) _ w.lives (λ n. row_is w n _ _ (λ x e. (tt, tt))))
+    (both_are (MayGoUp w) (session_flows w) (transfers w) (each_is (MayGoUp w) _ w.lives (λ n. when_up_is (MayGoUp w) _ _ tt)) (transfers_are w)))
+
+sessions_are : (w : State) → FirstIs (MayGoUp w) (session_rows w)
+sessions_are w =
+    both_are (MayGoUp w) (unless_out w.out_of_memory (carried_rows w)) _ (by w.out_of_memory)
+    (both_are (MayGoUp w) (settlings w) (detaches w) (each_is (MayGoUp w) _ w.lives (λ n. row_is w n _ _ (λ x e. (tt, tt))))
+    (each_is (MayGoUp w) _ w.lives (λ n. row_is w n _ _ (λ x e. (tt, tt)))))
+  where
+    by : (b : Bool) → FirstIs (MayGoUp w) (unless_out b (carried_rows w))
+    by true = tt
+    by false = carried_are w
+
+ends_are : (closing : Bool) (w : State) → FirstIs (MayGoUp w) (ends closing w)
+ends_are closing w = each_is (MayGoUp w) _ w.lives (λ n. when_up_is (MayGoUp w) (is_end_due closing w n) _ tt)
+
+openings_are : (w : State) → FirstIs (MayGoUp w) (opening_rows w.up.pending)
+openings_are w =
+    both_are (MayGoUp w) _ _ (when_up_is (MayGoUp w) w.up.pending.sasl_header up.SaslHeader tt)
+    (both_are (MayGoUp w) _ _ (when_up_is (MayGoUp w) w.up.pending.init up.SaslInit tt)
+    (both_are (MayGoUp w) _ _ (when_up_is (MayGoUp w) w.up.pending.amqp_header up.AmqpHeader tt)
+    (when_up_is (MayGoUp w) w.up.pending.«open» up.Open tt)))
+
+rows_are : (closing : Bool) (w : State) → FirstIs (MayGoUp w) (rows_in closing w)
+rows_are true w =
+    both_are (MayGoUp w) (session_rows w) _ (sessions_are w)
+    (both_are (MayGoUp w) (ends true w) (close_behind w) (ends_are true w) (when_up_is (MayGoUp w) (none_left w && w.up.sent.«open») _ tt))
+rows_are false w =
+    both_are (MayGoUp w) (opening_rows w.up.pending) _ (openings_are w)
+    (both_are (MayGoUp w) (begins w) _ (each_is (MayGoUp w) _ w.lives (λ n. when_up_is (MayGoUp w) _ _ tt))
+    (both_are (MayGoUp w) (session_rows w) _ (sessions_are w)
+    (both_are (MayGoUp w) (ends false w) _ (ends_are false w) (when_up_is (MayGoUp w) (is_idle_due w.up w.moment) up.Empty tt))))
+
+up_are : (w : State) → FirstIs (MayGoUp w) (up_rows w)
+up_are w = by (is_readable w.up.side && not w.up.sent.close)
+  where
+    by : (b : Bool) → FirstIs (MayGoUp w) (if b then rows_in (w.out_of_memory || is_closing w.conn) w else [])
+    by true = rows_are (w.out_of_memory || is_closing w.conn) w
+    by false = tt
+
+-- ---- to the client
+
+oks_are : (w : State) (n : ℕ) (o : Option PathOk) → FirstIs (MayReply w) (ok_on n o)
+oks_are w n None = tt
+oks_are w n (Some x) = tt
+
+answers_are : (w : State) (n : ℕ) (l : Life) → FirstIs (MayReply w) (oks_on w.paths n l)
+answers_are w n l = by l.over
+  where
+    by : (b : Bool) → FirstIs (MayReply w) (if b then [] else ok_on n (next_ok (path_at w.paths n)))
+    by true = tt
+    by false = oks_are w n (next_ok (path_at w.paths n))
+
+confirm_is : (w : State) (n : ℕ) (may : Bool) (o : Option Confirm) → next_confirm (path_at w.paths n) ≡ o → FirstIs (MayReply w) (confirm_on may n o)
+confirm_is w n may None e = tt
+confirm_is w n may (Some c) e = when_is (MayReply w) may (reply.OnChannel n (to_client.Confirm c)) e
+
+closings_are : (w : State) (n : ℕ) (settled : Bool) (l : Life) → FirstIs (MayReply w) (close_oks_on n settled l)
+closings_are w n settled l =
+    both_are (MayReply w) (when l.crossed_ok (reply.CrossedOk n)) _ (when_is (MayReply w) l.crossed_ok (reply.CrossedOk n) tt)
+    (when_is (MayReply w) settled (reply.ChannelCloseOk n) tt)
+
+refusal_is : (w : State) (n : ℕ) (settled : Bool) (o : Option Refusal) → FirstIs (MayReply w) (refused_on settled n o)
+refusal_is w n settled None = tt
+refusal_is w n settled (Some r) = when_is (MayReply w) settled (reply.ChannelClose n r) tt
+
+close_is : (w : State) (o : Option Refusal) → FirstIs (MayReply w) (closes o)
+close_is w None = tt
+close_is w (Some r) = tt
+
+if_so_is : (P : Reply → Type 0) (b : Bool) (us : List Reply) → FirstIs P us → FirstIs P (if_so b us)
+if_so_is P true us p = p
+if_so_is P false us p = tt
+
+first_are : (w : State) (p : Pending) → FirstIs (MayReply w) (openings p)
+first_are w p =
+    both_are (MayReply w) _ _ (when_is (MayReply w) p.protocol reply.Protocol tt)
+    (both_are (MayReply w) _ _ (when_is (MayReply w) p.start reply.Start tt)
+    (both_are (MayReply w) _ _ (when_is (MayReply w) p.tune reply.Tune tt) (when_is (MayReply w) p.open_ok reply.OpenOk tt)))
+
+last_are : (w : State) → FirstIs (MayReply w) (last_units w)
+last_are w =
+    let p : Pending = may_go (is_settled w) w.pending in
+    both_are (MayReply w) (last_closes p) _
+    (both_are (MayReply w) (closes p.close) _ (close_is w p.close) (when_is (MayReply w) p.no_memory reply.NoMemory tt))
+    (if_so_is (MayReply w) (may_tell w) (channel_closes w)
+    (each_is (MayReply w) _ w.lives (λ n. refusal_is w n (is_channel_settled w n) (life_at w.lives n).close)))
+
+closing_are : (w : State) → FirstIs (MayReply w) (closing_units w)
+closing_are w =
+    let p : Pending = may_go (is_settled w) w.pending in
+    both_are (MayReply w) (close_oks p) _ (when_is (MayReply w) p.close_ok reply.CloseOk tt)
+    (both_are (MayReply w) (if_so (may_end w) (channel_oks w)) _
+    (if_so_is (MayReply w) (may_end w) (channel_oks w)
+    (each_is (MayReply w) _ w.lives (λ n. closings_are w n ((life_at w.lives n).close_ok && is_channel_settled w n) (life_at w.lives n))))
+    (last_are w))
+
+confirming_are : (w : State) → FirstIs (MayReply w) (confirming_units w)
+confirming_are w =
+    both_are (MayReply w) (if_so (may_answer w || w.by_peer) (confirms w)) _
+    (if_so_is (MayReply w) (may_answer w || w.by_peer) (confirms w)
+    (each_is (MayReply w) _ w.lives (λ n. confirm_is w n (may_confirm (life_at w.lives n)) (next_confirm (path_at w.paths n)) refl)))
+    (closing_are w)
+
+answering_are : (w : State) → FirstIs (MayReply w) (answering_units w)
+answering_are w =
+    both_are (MayReply w) (if_so (may_answer w) (open_oks w ++ path_oks w)) _
+    (if_so_is (MayReply w) (may_answer w) (open_oks w ++ path_oks w)
+    (both_are (MayReply w) (open_oks w) (path_oks w)
+    (each_is (MayReply w) _ w.lives (λ n. when_is (MayReply w) (life_at w.lives n).open_ok (reply.ChannelOpenOk n) tt))
+    (each_is (MayReply w) _ w.lives (λ n. answers_are w n (life_at w.lives n)))))
+    (confirming_are w)
+
+client_are : (w : State) → FirstIs (MayReply w) (client_rows w)
+client_are w =
+    both_are (MayReply w) (client_units w) _
+    (both_are (MayReply w) (openings (may_go (is_settled w) w.pending)) _ (first_are w (may_go (is_settled w) w.pending)) (answering_are w))
+    (when_is (MayReply w) (is_beat_due w) reply.Heartbeat tt)
+
+-- ---- what is offered
+
+of_up : (w : State) (us : List UpUnit) (u : UpUnit) → FirstIs (MayGoUp w) us → first (map ToUp us) ≡ Some (ToUp u) → MayGoUp w u
+of_up w [] u p e = absurd cc
+of_up w (x ∷ us) u p e = let same : x ≡ u = cc in subst (MayGoUp w) same p
+
+of_client : (w : State) (us : List Reply) (u : Reply) → FirstIs (MayReply w) us → first (map ToClient us) ≡ Some (ToClient u) → MayReply w u
+of_client w [] u p e = absurd cc
+of_client w (x ∷ us) u p e = let same : x ≡ u = cc in subst (MayReply w) same p
+
+pub offered_may_reply : (w : State) (s : SlotState) (u : Reply) → IsOffer w s → Some u ≡ s.chosen → MayReply w u
+offered_may_reply w s u offer e =
+    of_client w (client_rows w) u (client_are w) (subst (λ (o : Option Reply). IfSome o (λ r. (pick w Client ≡ Some (ToClient r)) × (s.bytes ≡ spell_reply r))) (sym e) offer).0
+
+pub offered_may_go : (w : State) (s : UpSlotState) (u : UpUnit) → IsUpOffer w s → Some u ≡ s.chosen → MayGoUp w u
+offered_may_go w s u offer e =
+    of_up w (up_rows w) u (up_are w) (subst (λ (o : Option UpUnit). IfSome o (λ r. pick w Up ≡ Some (ToUp r))) (sym e) offer)

@@ -1,0 +1,6 @@
+use Rattle.bridge_core.proofs.PathSlots.{all_none}
+use Rattle.bridge_core.proofs.paths.Paths.new.Goals as goal
+
+pub returns : goal.returns
+unfolding Rattle.gate_model.specs.Paths.no_paths
+returns c = all_none c.default.result 256 c.default.ensures.long c.default.ensures.at

@@ -1,0 +1,110 @@
+-- What becomes of what a unit of the client wants: what the connection passes on, but for the
+-- requests that the gateway refuses; a publish becomes an address and the payload of its transfer.
+use Rattle.std.specs.Prelude.{◌≡◌, ℕ, Bool, true, false, not, ◌&&◌, List, None, Some}
+use Rattle.machine_091.specs.State.{is_closing}
+use Rattle.machine_091.specs.declared.state.Connection.{Connection}
+use Rattle.machine_091.specs.declared.unit.Want91.{Want91}
+use Rattle.machine_091.specs.declared.unit.Want91.TheVariants as want
+use Rattle.methods_091.specs.declared.method.Method91.{Method91}
+use Rattle.methods_091.specs.declared.method.Method91.TheVariants as method
+use Rattle.property_map.specs.Spelling.{image_text}
+use Rattle.property_map.specs.declared.message.Message091.{Message091}
+use Rattle.gate_model.specs.Requests.{message_of, publish_fault, refusal_of_want, refused_by}
+use Rattle.gate_model.specs.Paths.{with_path}
+use Rattle.gate_model.specs.State.{State, closes_at, fed_by, is_foreign, is_held, with_header}
+use Rattle.gate_model.specs.State as state
+use Rattle.gate_model.specs.Upstream.{closing_with}
+use Rattle.session_path.specs.Path as session
+use Rattle.bridge_core.specs.Logins.{IsLoginWant}
+use Rattle.bridge_core.specs.declared.requests.Met.{Met}
+use Rattle.bridge_core.specs.declared.requests.Met.TheVariants as met
+use Rattle.bridge_core.specs.declared.requests.Published.{Published}
+use Rattle.bridge_core.specs.declared.requests.Published.TheVariants as published
+
+-- ---- a publish
+
+abbrev pub IsPublish : Bool → Message091 → Published → Type 0
+IsPublish mandatory m (published.Refused code) = publish_fault mandatory m ≡ Some code
+IsPublish mandatory m (published.Sent address payload) =
+    (publish_fault mandatory m ≡ None) × (address ≡ m.key) × (payload ≡ image_text m)
+
+-- ---- what a unit wants
+
+abbrev pub is_publish : Want91 → Bool
+is_publish want.Nothing = false
+is_publish want.Start = false
+is_publish (want.Login mechanism response) = false
+is_publish want.Tuned = false
+is_publish want.OpenUp = false
+is_publish (want.Method n m) = false
+is_publish (want.Publish n m c) = true
+is_publish (want.ChannelCloseOk n) = false
+is_publish want.Close = false
+is_publish want.CloseOk = false
+is_publish (want.Refuse r) = false
+
+-- this publish, on its channel
+abbrev pub IsOf : Want91 → ℕ → List ℕ → List ℕ → Type 0
+IsOf (want.Publish n m c) k address payload =
+    (k ≡ n) × (address ≡ (message_of m c).key) × (payload ≡ image_text (message_of m c))
+IsOf x k address payload = is_publish x ≡ true
+
+abbrev pub IsMet : Want91 → Connection → Connection → Met → Type 0
+IsMet x old new (met.Want y) =
+    ((new, y) ≡ refused_by (refusal_of_want x) (old, x)) × (is_publish y ≡ false)
+IsMet x old new (met.Publish k address payload) =
+    (new ≡ old) × (refusal_of_want x ≡ None) × IsOf x k address payload
+
+-- ---- which may run out of memory
+
+abbrev pub is_answered : Method91 → Bool
+is_answered (method.ChannelFlow active) = true
+is_answered (method.ExchangeDeclare e kind passive durable auto_delete internal no_wait args) =
+    true
+is_answered (method.ConfirmSelect no_wait) = true
+is_answered m = false
+
+abbrev pub takes_memory_for : Want91 → Bool
+takes_memory_for want.Nothing = false
+takes_memory_for want.Start = false
+takes_memory_for (want.Login mechanism response) = false
+takes_memory_for want.Tuned = false
+takes_memory_for want.OpenUp = false
+takes_memory_for (want.Method n m) = is_answered m
+takes_memory_for (want.Publish n m c) = true
+takes_memory_for (want.ChannelCloseOk n) = false
+takes_memory_for want.Close = false
+takes_memory_for want.CloseOk = false
+takes_memory_for (want.Refuse r) = false
+
+abbrev pub takes_memory_met : Met → Bool
+takes_memory_met (met.Want x) = takes_memory_for x
+takes_memory_met (met.Publish n address payload) = true
+
+-- ---- the state after it
+
+-- a publish is met, and is no want any more
+abbrev pub is_unmet : Met → Bool
+is_unmet (met.Want x) = is_publish x
+is_unmet (met.Publish n address payload) = false
+
+-- it is no login but one that a client may tell
+abbrev pub IsLoginMet : Met → Type 0
+IsLoginMet (met.Want x) = IsLoginWant x
+IsLoginMet (met.Publish n address payload) = Unit {0}
+
+abbrev pub applied : Bool → Met → State → State
+applied closing (met.Want x) w = state.met closing x w
+applied closing (met.Publish n address payload) w = record w {
+  paths = with_path n (session.published address payload) w.paths;
+  up = closing_with closing None w.up;
+}
+
+-- what is due, and the moments that count, once a unit was met; before it the first bytes had
+-- turned out to be no protocol header, or not
+abbrev pub counted : Bool → State → State
+counted foreign w = record w {
+  pending = with_header (is_foreign w.conn.stream && not foreign) w.pending;
+  fed_at = fed_by (is_held w) w.moment w.fed_at;
+  closed_at = closes_at w.closed_at (is_closing w.conn) w.moment;
+}

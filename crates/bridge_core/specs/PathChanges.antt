@@ -1,0 +1,94 @@
+-- What a unit changes of a path, and which units may go.
+use Rattle.std.specs.Prelude.{◌≡◌, ◌≤◌, ℕ, Bool, true, false, length, Option, Some, None}
+use Rattle.publish_path.specs.Offers.{next_frame_of, rest_of}
+use Rattle.session_path.specs.Due.{next_confirm}
+use Rattle.session_path.specs.Path.{PathState, attach_came, began, detach_came, flow_came}
+use Rattle.session_path.specs.Path.{lost, outcome_came, owed, selected}
+use Rattle.session_path.specs.Links.{handle_of}
+use Rattle.session_path.specs.declared.path.PathLink.{PathLink}
+use Rattle.session_path.specs.declared.path.PathOk.TheVariants.{Select}
+use Rattle.gate_model.specs.Lives.{life_at}
+use Rattle.gate_model.specs.Paths.{path_at}
+use Rattle.gate_model.specs.State.{State, answered_if}
+use Rattle.gate_model.specs.declared.channel.ChannelUnit.{ChannelUnit}
+use Rattle.gate_model.specs.declared.channel.ChannelUnit.TheVariants as to_client
+use Rattle.gate_model.specs.declared.channel.SessionUnit.{SessionUnit}
+use Rattle.gate_model.specs.declared.channel.SessionUnit.TheVariants as unit
+use Rattle.gate_model.specs.declared.life.SessionState.{SessionState}
+use Rattle.gate_model.specs.declared.outgoing.Outgoing.{Outgoing}
+use Rattle.gate_model.specs.declared.outgoing.Outgoing.TheVariants.{ToClient, ToUp}
+use Rattle.gate_model.specs.declared.outgoing.UpUnit.{UpUnit}
+use Rattle.gate_model.specs.declared.outgoing.UpUnit.TheVariants as up
+use Rattle.gate_model.specs.declared.reply.Reply.{Reply}
+use Rattle.gate_model.specs.declared.reply.Reply.TheVariants as reply
+use Rattle.bridge_core.specs.declared.paths.PathChange.{PathChange}
+use Rattle.bridge_core.specs.declared.paths.PathChange.TheVariants as change
+
+abbrev pub path_changed : PathChange → PathState → PathState
+path_changed (change.Owed ok) s = owed ok s
+path_changed (change.Selected no_wait) s = answered_if no_wait Select (selected s)
+path_changed (change.Began handle_max) s = began handle_max s
+path_changed (change.Attached name peer target) s = attach_came name peer target s
+path_changed (change.Flowed peer flow) s =
+    flow_came peer flow.count flow.credit flow.drain flow.echo s
+path_changed (change.Detached peer) s = detach_came peer s
+path_changed (change.Outcome ids accepted settled) s =
+    outcome_came ids.first ids.last accepted settled s
+path_changed change.Lost s = lost s
+
+-- there may be none
+abbrev pub with_change : Option PathChange → PathState → PathState
+with_change None s = s
+with_change (Some c) s = path_changed c s
+
+-- which may run out of memory
+abbrev pub takes_memory_to : PathChange → Bool
+takes_memory_to (change.Owed ok) = true
+takes_memory_to (change.Selected no_wait) = true
+takes_memory_to (change.Began handle_max) = false
+takes_memory_to (change.Attached name peer target) = false
+takes_memory_to (change.Flowed peer flow) = true
+takes_memory_to (change.Detached peer) = false
+takes_memory_to (change.Outcome ids accepted settled) = true
+takes_memory_to change.Lost = false
+
+-- a link whose detach is due, and its handle
+abbrev pub detach_of : PathLink → ℕ × ℕ
+detach_of l = (l.link, handle_of l.stage)
+
+-- a frame that goes is the one that is due, with bytes of its payload that are left
+abbrev pub MayGive : SessionUnit → PathState → Type 0
+MayGive (unit.Attach a) s = Unit {0}
+MayGive (unit.Flow f) s = Unit {0}
+MayGive (unit.Transfer t) s =
+    (next_frame_of s.links.sending s.publishes.list ≡ Some t.frame)
+    × (t.bytes ≤ length (rest_of t.frame.publish s.publishes.list))
+MayGive (unit.Settle x) s = Unit {0}
+MayGive (unit.Detach link handle) s = Unit {0}
+
+-- and the session has room for one
+abbrev pub HasWindow : SessionUnit → SessionState → Type 0
+HasWindow (unit.Attach a) x = Unit {0}
+HasWindow (unit.Flow f) x = Unit {0}
+HasWindow (unit.Transfer t) x = 1 ≤ x.windows.window
+HasWindow (unit.Settle y) x = Unit {0}
+HasWindow (unit.Detach link handle) x = Unit {0}
+
+-- a confirm that goes is the one that is due
+abbrev pub MayTell : ChannelUnit → PathState → Type 0
+MayTell (to_client.Ok x) s = Unit {0}
+MayTell (to_client.Confirm c) s = next_confirm s ≡ Some c
+
+-- units of a state
+abbrev pub MayGoUp : State → UpUnit → Type 0
+MayGoUp w (up.OnSession n u) =
+    HasWindow u (life_at w.lives n).session × MayGive u (path_at w.paths n)
+MayGoUp w u = Unit {0}
+
+abbrev pub MayReply : State → Reply → Type 0
+MayReply w (reply.OnChannel n u) = MayTell u (path_at w.paths n)
+MayReply w u = Unit {0}
+
+abbrev pub MayGo : State → Outgoing → Type 0
+MayGo w (ToClient u) = MayReply w u
+MayGo w (ToUp u) = MayGoUp w u

@@ -1,0 +1,476 @@
+//! What goes next to each end.
+
+ghost use Rattle.std.specs.Prelude.{◌≡◌, true, false};
+ghost use Rattle.gate_model.specs.Due.{attaches, begins, carried_rows, carries_of};
+ghost use Rattle.gate_model.specs.Due.{channel_closes, channel_oks, client_rows, client_units};
+ghost use Rattle.gate_model.specs.Due.{detaches, ends, if_so, is_beat_due, last_closes};
+ghost use Rattle.gate_model.specs.Due.{link_flows, may_end, may_go, may_tell, none_left};
+ghost use Rattle.gate_model.specs.Due.{openings, rows_in, session_flows, session_rows};
+ghost use Rattle.gate_model.specs.Due.{settlings, transfers, unless_out, up_rows};
+ghost use Rattle.gate_model.specs.Paths.{path_at};
+ghost use Rattle.gate_model.specs.State.{is_settled};
+ghost use Rattle.gate_model.specs.Upstream.{first};
+ghost use Rattle.bridge_core.specs.Behind.{answer_units, answering_units, carrying_units};
+ghost use Rattle.bridge_core.specs.Behind.{closing_units, confirm_units, confirming_units};
+ghost use Rattle.bridge_core.specs.Behind.{end_units, ended_units, flowing_units, last_units};
+ghost use Rattle.bridge_core.specs.Behind.{linked_units, parting_units, session_units};
+ghost use Rattle.bridge_core.specs.Behind.{settling_units};
+
+use super::Core;
+use crate::channel_rows::{
+    Parting, any_left, first_attach, first_begin, first_close, first_close_ok, first_confirm,
+    first_detach, first_end, first_flow, first_link_flow, first_ok, first_open_ok, first_settling,
+    first_transfer,
+};
+use gate_model::{BEAT_PER_SECOND, Reply, SessionUnit, UpUnit};
+use machine_091::Phase91;
+
+impl Core {
+    /// A heartbeat is due.
+    fn is_beat_due(&self) -> bool
+        ensures { result ≡ is_beat_due self.now }
+    {
+        let interval = u64::from(self.conn.heartbeat());
+        !self.sent_last.close_ok
+            && interval != 0
+            && BEAT_PER_SECOND * interval <= self.moment.saturating_sub(self.last_sent_at)
+    }
+
+    /// The first unit that opens the connection.
+    fn next_opening(&self) -> Option<Reply>
+        ensures { result ≡ first (openings (may_go (is_settled self.now) self.now.pending)) }
+    {
+        if self.pending.protocol {
+            Some(Reply::Protocol)
+        } else if self.pending.start {
+            Some(Reply::Start)
+        } else if self.pending.tune {
+            Some(Reply::Tune)
+        } else if self.pending.open_ok {
+            Some(Reply::OpenOk)
+        } else {
+            None
+        }
+    }
+
+    /// The first answer on a channel.
+    fn next_answer(&self) -> Option<Reply>
+        ensures { result ≡ first (answer_units self.now) }
+    {
+        if self.out_of_memory || self.conn.is_closing() {
+            return None;
+        }
+        match first_open_ok(self.lives.all()) {
+            Some(unit) => Some(unit),
+            None => first_ok(self.lives.all(), &self.paths),
+        }
+    }
+
+    /// The first confirm, where confirms may go.
+    fn next_confirm(&self) -> Option<Reply>
+        ensures { result ≡ first (confirm_units self.now) }
+    {
+        if (self.out_of_memory || self.conn.is_closing()) && !self.by_peer {
+            return None;
+        }
+        first_confirm(self.lives.all(), &self.paths)
+    }
+
+    /// The first of the confirms, and of what closes.
+    #[tactic(auto, using(crate::proofs::Firsts::first_some, crate::proofs::Firsts::first_none))]
+    fn next_confirming(&self) -> Option<Reply>
+        ensures { result ≡ first (confirming_units self.now) }
+    {
+        match self.next_confirm() {
+            Some(unit) => Some(unit),
+            None => self.next_closing(),
+        }
+    }
+
+    /// What ends channels may go.
+    fn may_end(&self) -> bool
+        ensures { result ≡ may_end self.now }
+    {
+        !(self.out_of_memory || self.sent_last.close || self.sent_last.close_ok)
+    }
+
+    /// The first channel.close-ok for which nothing is waited for.
+    #[tactic(auto, using(crate::proofs::Handed::channel_oks_by))]
+    fn settled_ok(&self) -> Option<Reply>
+        ensures { result ≡ first (channel_oks self.now) }
+    {
+        first_close_ok(self.lives.all(), self.is_settled(), self.up.container())
+    }
+
+    /// The first channel.close-ok that may go.
+    fn next_channel_ok(&self) -> Option<Reply>
+        ensures { result ≡ first (if_so (may_end self.now) (channel_oks self.now)) }
+    {
+        if self.may_end() {
+            self.settled_ok()
+        } else {
+            None
+        }
+    }
+
+    /// The gateway's channel.close may go: the client didn't close the connection either.
+    fn may_tell(&self) -> bool
+        ensures { result ≡ may_tell self.now }
+    {
+        self.may_end() && !matches!(self.conn.phase(), Phase91::Closed)
+    }
+
+    /// The first channel.close that may go.
+    fn next_channel_close(&self) -> Option<Reply>
+        ensures { result ≡ first (if_so (may_tell self.now) (channel_closes self.now)) }
+    {
+        if !self.may_tell() {
+            return None;
+        }
+        first_close(self.lives.all(), self.is_settled(), self.up.container())
+    }
+
+    /// The gateway's close, if nothing of the upstream end is waited for, or the last unit.
+    fn next_close(&self) -> Option<Reply>
+        ensures { result ≡ first (last_closes (may_go (is_settled self.now) self.now.pending)) }
+    {
+        match self.pending.close {
+            Some(refusal) if self.is_settled() => Some(Reply::Close(refusal)),
+            _ => {
+                if self.pending.no_memory {
+                    Some(Reply::NoMemory)
+                } else {
+                    None
+                }
+            }
+        }
+    }
+
+    /// The first of the gateway's close and what ends channels.
+    #[tactic(auto, using(crate::proofs::Firsts::first_some, crate::proofs::Firsts::first_none))]
+    fn next_last(&self) -> Option<Reply>
+        ensures { result ≡ first (last_units self.now) }
+    {
+        match self.next_close() {
+            Some(unit) => Some(unit),
+            None => self.next_channel_close(),
+        }
+    }
+
+    /// The first of what answers a channel.close, and of these.
+    #[tactic(auto, using(crate::proofs::Firsts::first_some, crate::proofs::Firsts::first_none))]
+    fn next_ended(&self) -> Option<Reply>
+        ensures { result ≡ first (ended_units self.now) }
+    {
+        match self.next_channel_ok() {
+            Some(unit) => Some(unit),
+            None => self.next_last(),
+        }
+    }
+
+    /// The first of the client's close-ok, and of these.
+    fn next_closing(&self) -> Option<Reply>
+        ensures { result ≡ first (closing_units self.now) }
+    {
+        if self.pending.close_ok && self.is_settled() {
+            Some(Reply::CloseOk)
+        } else {
+            self.next_ended()
+        }
+    }
+
+    /// The first of the answers on channels, and of these.
+    #[tactic(auto, using(crate::proofs::Firsts::first_some, crate::proofs::Firsts::first_none))]
+    fn next_answering(&self) -> Option<Reply>
+        ensures { result ≡ first (answering_units self.now) }
+    {
+        match self.next_answer() {
+            Some(unit) => Some(unit),
+            None => self.next_confirming(),
+        }
+    }
+
+    /// The first of all but a heartbeat.
+    #[tactic(auto, using(crate::proofs::Firsts::first_some, crate::proofs::Firsts::first_none))]
+    fn next_unit(&self) -> Option<Reply>
+        ensures { result ≡ first (client_units self.now) }
+    {
+        match self.next_opening() {
+            Some(unit) => Some(unit),
+            None => self.next_answering(),
+        }
+    }
+
+    /// The unit to the client that goes next.
+    #[tactic(auto, using(crate::proofs::Firsts::first_some, crate::proofs::Firsts::first_none))]
+    pub fn next_client(&self) -> Option<Reply>
+        ensures { result ≡ first (client_rows self.now) }
+    {
+        match self.next_unit() {
+            Some(unit) => Some(unit),
+            None => {
+                if self.is_beat_due() {
+                    Some(Reply::Heartbeat)
+                } else {
+                    None
+                }
+            }
+        }
+    }
+
+    /// The first begin of a session.
+    #[tactic(auto, using(crate::proofs::Handed::begins_by))]
+    fn first_begin(&self) -> Option<UpUnit>
+        ensures { result ≡ first (begins self.now) }
+    {
+        first_begin(self.lives.all(), self.up.container())
+    }
+
+    /// What decides whether the ends of sessions go.
+    fn parting(&self, closing: bool) -> Parting
+        ensures closing { result.closing ≡ closing }
+        ensures memory { result.out_of_memory ≡ self.now.out_of_memory }
+        ensures closed { result.closed_at ≡ self.now.closed_at }
+        ensures moment { result.moment ≡ self.now.moment }
+    {
+        Parting {
+            closing,
+            out_of_memory: self.out_of_memory,
+            closed_at: self.closed_at,
+            moment: self.moment,
+        }
+    }
+
+    /// The first end of one.
+    #[tactic(auto, using(crate::proofs::Handed::ends_by))]
+    fn first_end(&self, closing: bool) -> Option<UpUnit>
+        ensures { result ≡ first (ends closing self.now) }
+    {
+        first_end(
+            self.lives.all(),
+            self.up.container(),
+            &self.conn,
+            &self.paths,
+            self.parting(closing),
+        )
+    }
+
+    /// No session is left that began and that the gateway didn't end.
+    fn is_none_left(&self) -> bool
+        ensures { result ≡ none_left self.now }
+    {
+        !any_left(self.lives.all(), self.up.container())
+    }
+
+    /// The first of the ends, and of the close behind them.
+    #[tactic(auto, using(crate::proofs::Firsts::first_some, crate::proofs::Firsts::first_none))]
+    fn next_parting(&self) -> Option<UpUnit>
+        ensures { result ≡ first (parting_units self.now) }
+    {
+        match self.first_end(true) {
+            Some(unit) => Some(unit),
+            None => {
+                if self.is_none_left() && self.up.sent().open {
+                    Some(UpUnit::Close(self.up.condition()))
+                } else {
+                    None
+                }
+            }
+        }
+    }
+
+    /// The first attach of a link.
+    fn next_attach(&self) -> Option<UpUnit>
+        ensures { result ≡ first (attaches self.now) }
+    {
+        first_attach(
+            self.lives.all(),
+            self.up.container(),
+            &self.paths,
+            self.attached,
+        )
+    }
+
+    /// The first flow of a link.
+    fn next_link_flow(&self) -> Option<UpUnit>
+        ensures { result ≡ first (link_flows self.now) }
+    {
+        first_link_flow(self.lives.all(), self.up.container(), &self.paths)
+    }
+
+    /// The first flow of a session.
+    fn next_session_flow(&self) -> Option<UpUnit>
+        ensures { result ≡ first (session_flows self.now) }
+    {
+        first_flow(self.lives.all(), self.up.container())
+    }
+
+    /// The first frame of a transfer.
+    fn next_transfer(&self) -> Option<UpUnit>
+        ensures { result ≡ first (transfers self.now) }
+    {
+        first_transfer(self.lives.all(), self.up.container(), &self.paths)
+    }
+
+    /// The first disposition that answers one of the container's.
+    fn next_settling(&self) -> Option<UpUnit>
+        ensures { result ≡ first (settlings self.now) }
+    {
+        first_settling(self.lives.all(), self.up.container(), &self.paths)
+    }
+
+    /// The first detach that does.
+    fn next_detach(&self) -> Option<UpUnit>
+        ensures { result ≡ first (detaches self.now) }
+    {
+        first_detach(self.lives.all(), self.up.container(), &self.paths)
+    }
+
+    /// The first of the flows of sessions, and of frames of transfers.
+    #[tactic(auto, using(crate::proofs::Firsts::first_some, crate::proofs::Firsts::first_none))]
+    fn next_flowing(&self) -> Option<UpUnit>
+        ensures { result ≡ first (flowing_units self.now) }
+    {
+        match self.next_session_flow() {
+            Some(unit) => Some(unit),
+            None => self.next_transfer(),
+        }
+    }
+
+    /// The first of the flows of links, and of these.
+    #[tactic(auto, using(crate::proofs::Firsts::first_some, crate::proofs::Firsts::first_none))]
+    fn next_linked(&self) -> Option<UpUnit>
+        ensures { result ≡ first (linked_units self.now) }
+    {
+        match self.next_link_flow() {
+            Some(unit) => Some(unit),
+            None => self.next_flowing(),
+        }
+    }
+
+    /// The first of the units of links and sessions whose spelling takes memory.
+    #[tactic(auto, using(crate::proofs::Firsts::first_some, crate::proofs::Firsts::first_none))]
+    fn next_carried(&self) -> Option<UpUnit>
+        ensures { result ≡ first (carried_rows self.now) }
+    {
+        match self.next_attach() {
+            Some(unit) => Some(unit),
+            None => self.next_linked(),
+        }
+    }
+
+    /// None of these goes once the pair ran out of memory.
+    fn next_with_memory(&self) -> Option<UpUnit>
+        ensures { result ≡ first (unless_out self.now.out_of_memory (carried_rows self.now)) }
+    {
+        if self.out_of_memory {
+            None
+        } else {
+            self.next_carried()
+        }
+    }
+
+    /// The first of the units of links whose spelling takes none.
+    #[tactic(auto, using(crate::proofs::Firsts::first_some, crate::proofs::Firsts::first_none))]
+    fn next_settled(&self) -> Option<UpUnit>
+        ensures { result ≡ first (settling_units self.now) }
+    {
+        match self.next_settling() {
+            Some(unit) => Some(unit),
+            None => self.next_detach(),
+        }
+    }
+
+    /// The first unit of links and sessions.
+    #[tactic(auto, using(crate::proofs::Firsts::first_some, crate::proofs::Firsts::first_none))]
+    fn next_on_session(&self) -> Option<UpUnit>
+        ensures { result ≡ first (session_rows self.now) }
+    {
+        match self.next_with_memory() {
+            Some(unit) => Some(unit),
+            None => self.next_settled(),
+        }
+    }
+
+    /// The unit to the container that goes next while the connection closes.
+    #[tactic(auto, using(crate::proofs::Firsts::first_some, crate::proofs::Firsts::first_none))]
+    fn next_ending(&self) -> Option<UpUnit>
+        ensures { result ≡ first (rows_in true self.now) }
+    {
+        match self.next_on_session() {
+            Some(unit) => Some(unit),
+            None => self.next_parting(),
+        }
+    }
+
+    /// The first of the ends, and of an empty frame, while the connection doesn't close.
+    #[tactic(auto, using(crate::proofs::Firsts::first_some, crate::proofs::Firsts::first_none))]
+    fn next_end(&self) -> Option<UpUnit>
+        ensures { result ≡ first (end_units self.now) }
+    {
+        match self.first_end(false) {
+            Some(unit) => Some(unit),
+            None => {
+                if self.up.is_idle_due(self.moment) {
+                    Some(UpUnit::Empty)
+                } else {
+                    None
+                }
+            }
+        }
+    }
+
+    /// The first of the units of links and sessions, and of these.
+    #[tactic(auto, using(crate::proofs::Firsts::first_some, crate::proofs::Firsts::first_none))]
+    fn next_carrying(&self) -> Option<UpUnit>
+        ensures { result ≡ first (carrying_units self.now) }
+    {
+        match self.next_on_session() {
+            Some(unit) => Some(unit),
+            None => self.next_end(),
+        }
+    }
+
+    /// The first of the begins, and of these.
+    #[tactic(auto, using(crate::proofs::Firsts::first_some, crate::proofs::Firsts::first_none))]
+    fn next_session(&self) -> Option<UpUnit>
+        ensures { result ≡ first (session_units self.now) }
+    {
+        match self.first_begin() {
+            Some(unit) => Some(unit),
+            None => self.next_carrying(),
+        }
+    }
+
+    /// What a unit of the container's session carries of the client's: the address of an attach,
+    /// the part of a payload of a transfer.
+    pub fn carried(&self, channel: u16, unit: SessionUnit) -> &[u8]
+        ensures { result.now ≡ carries_of (path_at self.now.paths channel) unit }
+    {
+        self.paths.carried(channel, unit)
+    }
+
+    /// The unit to the container that goes next while the connection doesn't close.
+    #[tactic(auto, using(crate::proofs::Firsts::first_some, crate::proofs::Firsts::first_none))]
+    fn next_running(&self) -> Option<UpUnit>
+        ensures { result ≡ first (rows_in false self.now) }
+    {
+        match self.up.next_opening() {
+            Some(unit) => Some(unit),
+            None => self.next_session(),
+        }
+    }
+
+    /// The unit to the container that goes next.
+    pub fn next_up(&self) -> Option<UpUnit>
+        ensures { result ≡ first (up_rows self.now) }
+    {
+        if !self.up.is_live() || self.up.sent().close {
+            None
+        } else if self.out_of_memory || self.conn.is_closing() {
+            self.next_ending()
+        } else {
+            self.next_running()
+        }
+    }
+}

@@ -1,0 +1,359 @@
+//! The units of the client that are taken up.
+
+ghost use Rattle.std.specs.Prelude.{◌≡◌, ◌<◌, ◌+◌, ◌-◌, ◌^◌, true, false, OnOk, OnErr, IfOk};
+ghost use Rattle.std.specs.Prelude.{None, box_value, is_some};
+ghost use Rattle.machine_091.specs.declared.unit.Want91.TheVariants as want;
+ghost use Rattle.session_path.specs.Path as session;
+ghost use Rattle.session_path.specs.Path.{published};
+ghost use Rattle.gate_model.specs.Lives.{closed_life, freed_life, life_at, lives_by, with_life};
+ghost use Rattle.gate_model.specs.Paths.{set_path, with_path};
+ghost use Rattle.gate_model.specs.State.{OutOfMemory, came, lives_opened, met, next_unit, path_by};
+ghost use Rattle.gate_model.specs.State.{paths_by, step};
+ghost use Rattle.gate_model.specs.Upstream.{closing_with};
+ghost use Rattle.bridge_core.specs.Going.{KeepsGoing};
+ghost use Rattle.bridge_core.specs.Logins.{IsLoginWant};
+ghost use Rattle.bridge_core.specs.Met.{IsLoginMet, applied, counted, is_answered, is_publish};
+ghost use Rattle.bridge_core.specs.Met.{is_unmet, takes_memory_for, takes_memory_met};
+ghost use Rattle.bridge_core.specs.Offers.{with_next};
+
+use super::{Core, is_foreign};
+use crate::lives::old_life;
+use crate::moments::{closes_at, fed_by};
+use crate::paths::PathChange;
+use crate::requests::{Met, meet};
+use close_translate::{Scope, condition_of};
+use gate_model::Life;
+use machine_091::{Refusal, Unit91, Want91};
+use methods_091::Method91;
+use session_path::{PathOk, SessionPath};
+use std::alloc::Global;
+use wire_base::{ByteText, Memory};
+
+/// Lets go of a method, once it is met.
+fn release_method(method: Method91) {
+    drop(method);
+}
+
+/// What is due on a channel that its client closes.
+fn closed_life(life: Life, moment: u64) -> Life
+    ensures { result ≡ closed_life moment life }
+{
+    let closed_at = life.closed_at.or(Some(moment));
+    let by_peer = life.by_peer;
+    Life {
+        awaits_end: !life.over,
+        over: true,
+        closed_at,
+        by_peer,
+        close_ok: true,
+        ..old_life(life)
+    }
+}
+
+/// What is due on one whose client answered the gateway's channel.close.
+fn freed_life(life: Life) -> Life
+    ensures { result ≡ freed_life life }
+{
+    let crossed_ok = life.crossed_ok || life.close_ok;
+    Life {
+        over: true,
+        crossed_ok,
+        ..old_life(life)
+    }
+}
+
+impl Core {
+    /// A channel is opened, with this path.
+    fn open_path(&mut self, channel: u16, path: Box<SessionPath>)
+        requires path { box_value path ≡ session.opened (self.old.opened + 1) }
+        requires room { self.old.opened < 2 ^ 64 - 1 }
+        ensures { self.new ≡ record self.old {
+          paths = set_path channel (session.opened (self.old.opened + 1)) self.old.paths;
+          opened = self.old.opened + 1;
+        } }
+    {
+        self.paths.set(channel, path);
+        self.opened += 1;
+        self.spare = None;
+    }
+
+    /// What a method of a channel makes of its path, which is no channel.open. Without memory for
+    /// it all is as it was.
+    fn change_path(&mut self, channel: u16, method: &Method91) -> Result<(), Memory>
+        ensures ok { OnOk result (self.new ≡ record self.old {
+          paths = with_path channel (path_by method.now) self.old.paths;
+        }) }
+        ensures err { OnErr result (self.new ≡ self.old) }
+        ensures takes { OnErr result (is_answered method.now ≡ true) }
+    {
+        let change = match method {
+            Method91::ChannelFlow { .. } => PathChange::Owed(PathOk::Flow),
+            Method91::ExchangeDeclare { no_wait, .. } => {
+                if *no_wait {
+                    return Ok(());
+                }
+                PathChange::Owed(PathOk::Declare)
+            }
+            Method91::ConfirmSelect { no_wait } => PathChange::Selected(*no_wait),
+            _ => return Ok(()),
+        };
+        self.paths.change(channel, change)
+    }
+
+    /// What a unit that is no publish makes of the paths of channels. Without memory for it all is
+    /// as it was.
+    fn meet_path(&mut self, want: &Want91, spare: Box<SessionPath>) -> Result<(), Memory>
+        requires spare { box_value spare ≡ session.opened (self.old.opened + 1) }
+        requires room { self.old.opened < 2 ^ 64 - 1 }
+        requires want { is_publish want.now ≡ false }
+        ensures ok { OnOk result (self.new ≡ record self.old {
+          paths = paths_by self.old.opened want.now self.old.paths;
+          opened = self.old.opened + lives_opened want.now;
+        }) }
+        ensures err { OnErr result (self.new ≡ self.old) }
+        ensures takes { OnErr result (takes_memory_for want.now ≡ true) }
+    {
+        match want {
+            Want91::Method(channel, Method91::ChannelOpen) => {
+                self.open_path(*channel, spare);
+                Ok(())
+            }
+            Want91::Method(channel, method) => {
+                self.change_path(*channel, method)?;
+                self.spare = Some(spare);
+                Ok(())
+            }
+            _ => {
+                self.spare = Some(spare);
+                Ok(())
+            }
+        }
+    }
+
+    /// A method of a channel changes what is due there.
+    #[tactic(auto, using(crate::proofs::Flows::same_life))]
+    fn meet_method(&mut self, channel: u16, method: &Method91)
+        ensures { self.new ≡ record self.old {
+          lives = lives_by self.old.moment (want.Method channel method.now) self.old.lives;
+        } }
+    {
+        let life = self.lives.at(channel);
+        let moment = self.moment;
+        match method {
+            Method91::ChannelOpen => self.lives.set(
+                channel,
+                Life {
+                    waits: true,
+                    begin: true,
+                    ..old_life(life)
+                },
+            ),
+            Method91::ChannelClose { .. } => self.lives.set(channel, closed_life(life, moment)),
+            _ => {}
+        }
+    }
+
+    /// The client answered the gateway's channel.close.
+    fn free(&mut self, channel: u16)
+        ensures { self.new ≡ record self.old {
+          lives = with_life channel (freed_life (life_at self.old.lives channel)) self.old.lives;
+        } }
+    {
+        let life = self.lives.at(channel);
+        self.lives.set(channel, freed_life(life));
+    }
+
+    /// A refusal closes the connection or a channel, and that is told.
+    fn meet_refusal(&mut self, closing: bool, refusal: Refusal)
+        ensures { self.new ≡ met closing (want.Refuse refusal) self.old }
+    {
+        let condition = condition_of(refusal.code);
+        match refusal.scope {
+            Scope::Connection => {
+                self.pending.close = Some(refusal);
+                self.up.set_condition(closing, Some(condition));
+            }
+            Scope::Channel => {
+                let life = self.lives.at(refusal.channel);
+                self.lives.set(
+                    refusal.channel,
+                    Life {
+                        over: true,
+                        closed_at: Some(self.moment),
+                        close: Some(refusal),
+                        why: Some(condition),
+                        ..old_life(life)
+                    },
+                );
+                self.up.set_condition(closing, None);
+            }
+        }
+    }
+
+    /// What a unit of the client wants is met. `closing` says that the connection closed before it.
+    fn meet(&mut self, alloc: Global, closing: bool, want: Want91)
+        requires login { IsLoginWant want }
+        ensures { self.new ≡ record (met closing want self.old) {
+          paths = self.old.paths;
+          opened = self.old.opened;
+        } }
+    {
+        match want {
+            Want91::Nothing | Want91::Tuned | Want91::OpenUp | Want91::CloseOk => {
+                self.up.set_condition(closing, None);
+            }
+            Want91::Start => {
+                self.pending.start = true;
+                self.up.set_condition(closing, None);
+            }
+            Want91::Login(mechanism, response) => {
+                self.pending.tune = true;
+                self.up.log_in(alloc, mechanism, response);
+                self.up.set_condition(closing, None);
+            }
+            Want91::Method(channel, method) => {
+                self.meet_method(channel, &method);
+                release_method(method);
+                self.up.set_condition(closing, None);
+            }
+            Want91::ChannelCloseOk(channel) => {
+                self.free(channel);
+                self.up.set_condition(closing, None);
+            }
+            Want91::Close => {
+                self.pending.close_ok = true;
+                self.pending.close = None;
+                self.client_closed |= !closing;
+                self.up.set_condition(closing, None);
+            }
+            // a publish is met apart
+            Want91::Publish(_, method, content) => {
+                drop(content);
+                release_method(method);
+                self.up.set_condition(closing, None);
+            }
+            Want91::Refuse(refusal) => self.meet_refusal(closing, refusal),
+        }
+    }
+
+    /// A publish was taken up. Without memory for it all is as it was.
+    fn publish(
+        &mut self,
+        closing: bool,
+        channel: u16,
+        address: ByteText,
+        payload: ByteText,
+    ) -> Result<(), Memory>
+        ensures ok { OnOk result (self.new ≡ record self.old {
+          paths = with_path channel (published address payload) self.old.paths;
+          up = closing_with closing None self.old.up;
+        }) }
+        ensures err { OnErr result (self.new ≡ self.old) }
+    {
+        self.paths.publish(channel, address, payload)?;
+        self.up.set_condition(closing, None);
+        Ok(())
+    }
+
+    /// What becomes of what a unit wants. `closing` says that the connection closed before it.
+    /// Without memory for it only the connection may have changed.
+    fn apply(
+        &mut self,
+        alloc: Global,
+        closing: bool,
+        met: Met,
+        spare: Box<SessionPath>,
+    ) -> Result<(), Memory>
+        requires spare { box_value spare ≡ session.opened (self.old.opened + 1) }
+        requires room { self.old.opened < 2 ^ 64 - 1 }
+        requires login { IsLoginMet met }
+        requires publish { is_unmet met ≡ false }
+        ensures ok { OnOk result (self.new ≡ applied closing met self.old) }
+        ensures err { OnErr result (self.new ≡ self.old) }
+        ensures takes { OnErr result (takes_memory_met met ≡ true) }
+    {
+        match met {
+            Met::Publish(channel, address, payload) => {
+                self.publish(closing, channel, address, payload)?;
+                self.spare = Some(spare);
+                Ok(())
+            }
+            Met::Want(want) => {
+                self.meet_path(&want, spare)?;
+                self.meet(alloc, closing, want);
+                Ok(())
+            }
+        }
+    }
+
+    /// What is due once a unit was met, and the moments that count. `foreign` says that the first
+    /// bytes had turned out to be no protocol header before it.
+    fn count(&mut self, foreign: bool)
+        ensures { self.new ≡ counted foreign self.old }
+    {
+        let turns = is_foreign(&self.conn) && !foreign;
+        self.pending.protocol |= turns;
+        self.fed_at = fed_by(self.is_held(), self.moment, self.fed_at);
+        self.closed_at = closes_at(self.closed_at, self.conn.is_closing(), self.moment);
+    }
+
+    /// This unit, which waits no more, is taken up. Where there is no memory for it the pair is to
+    /// run out of memory.
+    fn come(&mut self, alloc: Global, unit: Unit91, spare: Box<SessionPath>) -> Result<(), Memory>
+        requires spare { box_value spare ≡ session.opened (self.old.opened + 1) }
+        requires room { self.old.opened < 2 ^ 64 - 1 }
+        ensures ok { OnOk result (self.new ≡ came self.old unit) }
+        ensures err { OnErr result (step self.new OutOfMemory ≡ step self.old OutOfMemory) }
+        ensures calm { self.new.out_of_memory ≡ self.old.out_of_memory }
+        ensures kept { KeepsGoing self.old self.new }
+    {
+        let foreign = is_foreign(&self.conn);
+        let closing = self.conn.is_closing();
+        let want = self.conn.take(alloc, unit)?;
+        let met = meet(alloc, &mut self.conn, want)?;
+        self.apply(alloc, closing, met, spare)?;
+        self.count(foreign);
+        Ok(())
+    }
+
+    /// The path of the channel that is opened next. `Memory` also once 2^64 - 1 channels were
+    /// opened.
+    fn spare_path(&mut self, alloc: Global) -> Result<Box<SessionPath>, Memory>
+        ensures path { IfOk result (λ path. box_value path ≡ session.opened (self.old.opened + 1)) }
+        ensures room { OnOk result (self.old.opened < 2 ^ 64 - 1) }
+        ensures kept { self.new ≡ self.old }
+    {
+        if let Some(path) = self.spare.take() {
+            return Ok(path);
+        }
+        if self.opened == u64::MAX {
+            return Err(Memory);
+        }
+        let path = SessionPath::new(alloc, self.opened + 1)?;
+        match Box::new(alloc, path) {
+            Ok(path) => Ok(path),
+            Err(_) => Err(Memory),
+        }
+    }
+
+    /// The first unit that can be taken up is taken up, if there is one. Without memory for it the
+    /// pair is to run out of memory.
+    pub fn take_next(&mut self, alloc: Global) -> Result<bool, Memory>
+        requires { self.old.out_of_memory ≡ false }
+        ensures some { IfOk result (λ yes. yes ≡ is_some (next_unit self.old)) }
+        ensures ok { OnOk result (self.new ≡ with_next (next_unit self.old) self.old) }
+        ensures err { OnErr result (step self.new OutOfMemory ≡ step self.old OutOfMemory) }
+        ensures calm { self.new.out_of_memory ≡ false }
+        ensures kept { KeepsGoing self.old self.new }
+    {
+        match self.place() {
+            None => Ok(false),
+            Some(place) => {
+                let spare = self.spare_path(alloc)?;
+                let unit = self.queue.remove(place);
+                self.come(alloc, unit, spare)?;
+                Ok(true)
+            }
+        }
+    }
+}

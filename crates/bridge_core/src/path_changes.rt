@@ -1,0 +1,101 @@
+//! What a performative of the container changes of the path of its channel.
+
+ghost use Rattle.std.specs.Prelude.{◌≡◌, IfSome, true};
+ghost use Rattle.gate_model.specs.Paths.{credit_of, name_in, outcome_by};
+ghost use Rattle.gate_model.specs.State.{path_heard};
+ghost use Rattle.machine_10.specs.Parts.{parts_of};
+ghost use Rattle.performatives_10.specs.declared.performative.Perf.TheVariants as perf;
+ghost use Rattle.session_path.specs.Path.{PathState};
+ghost use Rattle.bridge_core.specs.LinkFaults.{takes_memory_of};
+ghost use Rattle.bridge_core.specs.PathChanges.{takes_memory_to, with_change};
+
+use crate::paths::PathChange;
+use performatives_10::{Condition, Disposition, Flow, Perf, State};
+use property_map::decimal_of;
+use session_path::{LinkFlow, Settling};
+
+/// What is wrong with a performative that names a link.
+#[derive(Clone, Copy, Debug)]
+pub enum LinkFault {
+    /// The connection closes with this error.
+    Closes(Condition),
+    /// The session ends with it.
+    Ends(Condition),
+}
+
+/// The number in the name of a link: `l-` and a decimal number without leading zeros.
+pub fn link_number(name: &[u8]) -> Option<u64>
+    ensures { result ≡ name_in name.now }
+{
+    match name {
+        [b'l', b'-', digits @ ..] => decimal_of(digits),
+        _ => None,
+    }
+}
+
+/// A disposition of the receiver that has an outcome: a terminal state, or a settlement without a
+/// state (AMQP 1.0 3.4).
+#[tactic(auto, unfolding(machine_10::specs::Parts::parts_of))]
+fn outcome_of(disposition: &Disposition) -> Option<PathChange>
+    ensures path { (s : PathState) → with_change result s ≡ outcome_by (parts_of
+        (perf.Disposition disposition.now)).1 s }
+    ensures takes { IfSome result (λ c. takes_memory_to c ≡ true) }
+{
+    if !disposition.role {
+        return None;
+    }
+    let accepted = match &disposition.state {
+        None => {
+            if !disposition.settled {
+                return None;
+            }
+            false
+        }
+        Some(State::Received) => return None,
+        Some(State::Accepted) => true,
+        Some(_) => false,
+    };
+    let ids = Settling {
+        first: disposition.first,
+        last: disposition.last,
+    };
+    Some(PathChange::Outcome(ids, accepted, disposition.settled))
+}
+
+/// The flow of a link.
+fn link_flow(flow: &Flow) -> LinkFlow
+    ensures count { result.count ≡ flow.now.delivery_count }
+    ensures credit { result.credit ≡ credit_of flow.now.link_credit }
+    ensures drain { result.drain ≡ flow.now.drain }
+    ensures echo { result.echo ≡ flow.now.echo }
+{
+    LinkFlow {
+        count: flow.delivery_count,
+        credit: flow.link_credit.unwrap_or(0),
+        drain: flow.drain,
+        echo: flow.echo,
+    }
+}
+
+/// What a performative changes of the path of its channel.
+#[tactic(auto, using(crate::proofs::PathChanges::detach_heard, crate::proofs::PathChanges::attach_heard, crate::proofs::PathChanges::flow_heard), unfolding(machine_10::specs::Parts::parts_of))]
+pub fn path_change(perf: &Perf) -> Option<PathChange>
+    ensures path { (s : PathState) → with_change result s ≡ path_heard (parts_of perf.now) s }
+    ensures takes { IfSome result (λ c. takes_memory_to c ≡ takes_memory_of (parts_of perf.now)) }
+{
+    match perf {
+        Perf::Begin(begin) => Some(PathChange::Began(begin.handle_max)),
+        Perf::Attach(attach) => {
+            let name = link_number(attach.name.as_slice())?;
+            Some(PathChange::Attached(name, attach.handle, attach.target.is_some()))
+        }
+        Perf::Flow(flow) => {
+            let handle = flow.handle?;
+            Some(PathChange::Flowed(handle, link_flow(flow)))
+        }
+        Perf::Disposition(disposition) => outcome_of(disposition),
+        Perf::Detach(detach) => Some(PathChange::Detached(detach.handle)),
+        Perf::End(_) => Some(PathChange::Lost),
+        _ => None,
+    }
+}

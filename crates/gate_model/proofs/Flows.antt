@@ -1,0 +1,459 @@
+-- Each channel.flow is answered at most once (AMQP 0-9-1 1.5.2.3): what is due of its answers is what the path of its channel owes.
+use Rattle.std.proofs.Common.{◌≡◌, ◌≢◌, ℕ, zero, suc, ◌+◌, ◌==◌, ◌≤◌, Bool, true, false, ◌&&◌, if◌then◌else◌, List, [], ◌∷◌, ◌++◌, Option, None, Some, arith, refl, sym, ap, ◌∙◌, subst, replicate}
+use Rattle.std.specs.Prelude.{drop, map, slice_get, slice_set}
+use Rattle.std.specs.Option.{option_map}
+use Rattle.std.proofs.lemmas.Bool.Decides.{nat_tests}
+use Rattle.gate_outside.specs.declared.ports.End.TheVariants.{Client, Up}
+use Rattle.gate_outside.specs.declared.ports.Linked.TheVariants as link
+use Rattle.gate_relay.specs.declared.loss.Loss.TheVariants as loss
+use Rattle.machine_091.specs.State.{is_closing, is_opening}
+use Rattle.machine_091.specs.declared.state.Connection.{Connection}
+use Rattle.machine_091.specs.declared.unit.Unit91.{Unit91}
+use Rattle.machine_091.specs.declared.unit.Want91.{Want91}
+use Rattle.machine_091.specs.declared.unit.Want91.TheVariants as want
+use Rattle.machine_10.specs.Parts.{Parts}
+use Rattle.machine_10.specs.Reading.{field, number_at}
+use Rattle.machine_10.specs.Transitions as ten
+use Rattle.machine_10.specs.Transitions.{Meaning}
+use Rattle.machine_10.specs.declared.unit.Unit10.{Unit10}
+use Rattle.methods_091.specs.declared.method.Method91.{Method91}
+use Rattle.methods_091.specs.declared.method.Method91.TheVariants as method
+use Rattle.performatives_10.specs.declared.condition.Condition.{Condition}
+use Rattle.session_path.specs.Path as session
+use Rattle.session_path.specs.Path.{PathState, ok_sent, owed, published, selected}
+use Rattle.session_path.specs.Due.{first_of, next_ok}
+use Rattle.close_translate.specs.declared.codes.TheConstants.{CONNECTION_FORCED}
+use Rattle.gate_relay.specs.declared.sides.Side.{Side}
+use Rattle.gate_relay.specs.declared.sides.Side.TheVariants as side
+use Rattle.gate_model.specs.Requests.{message_of}
+use Rattle.property_map.specs.Spelling.{image_text}
+use Rattle.publish_path.specs.declared.publish.Confirm.{Confirm}
+use Rattle.machine_091.specs.declared.unit.Refusal.{Refusal}
+use Rattle.gate_model.specs.declared.life.Life.{Life}
+use Rattle.gate_model.specs.Lives.{life_at}
+use Rattle.gate_model.specs.Due.{close_oks_on, confirm_on, confirms_on, ok_on, oks_on, open_oks, path_oks, refused_on, when}
+use Rattle.gate_model.specs.Folds.{is_answer}
+use Rattle.gate_model.specs.Picks.{ArePicks}
+use Rattle.gate_model.specs.Upstream.{first}
+use Rattle.gate_model.proofs.Connections.{clash}
+use Rattle.gate_model.proofs.Known.{conn_is, known, memory_is}
+use Rattle.gate_model.proofs.Rows.{Has, HasFirst, HasNone, first_at, first_none, first_some, has, same_first}
+use Rattle.gate_model.proofs.Said.{Beats, InAnswers, InConfirms, InCloses, InOks, IsDue, IsOfChannel, OnChannel, Picked, calm_now, first_due, picked}
+use Rattle.gate_model.specs.Upstream.{heard_up, lost_by, meaning_by}
+use Rattle.gate_model.proofs.Sessions.{session_cases}
+use Rattle.session_path.specs.declared.path.PathOk.{PathOk}
+use Rattle.session_path.specs.declared.path.PathOk.TheVariants as ok
+use Rattle.gate_model.specs.declared.channel.ChannelUnit.{ChannelUnit}
+use Rattle.gate_model.specs.declared.channel.ChannelUnit.TheVariants as to_client
+use Rattle.gate_model.specs.declared.channel.SessionUnit.{SessionUnit}
+use Rattle.gate_model.specs.declared.channel.SessionUnit.TheVariants as unit
+use Rattle.gate_model.specs.declared.outgoing.Outgoing.TheVariants.{ToClient, ToUp}
+use Rattle.gate_model.specs.declared.outgoing.UpUnit.{UpUnit}
+use Rattle.gate_model.specs.declared.outgoing.UpUnit.TheVariants as up
+use Rattle.gate_model.specs.declared.reply.Reply.{Reply}
+use Rattle.gate_model.specs.declared.reply.Reply.TheVariants as reply
+use Rattle.gate_model.specs.Folds.{ran_out_in}
+use Rattle.gate_model.specs.Once.{is_channel_flow, is_flow_ok, is_flow_ok_on, is_method_on, one_if, wanted_in, went_in}
+use Rattle.gate_model.specs.Paths.{attach_by, lost_path, name_in, no_paths, or_no_path, or_none, path_at, slot_at, text_of, is_there, with_path}
+use Rattle.gate_model.specs.State.{Began, Came, Fed, Gave, Heard, Joined, Lost, Moment, OutOfMemory, Queued, Silent, State, Step, TakenUp, Whole, answered_if, before, came, carried, is_channel_settled, is_settled, left, lost_up, runs, windowed, dequeued, fail, failed, heard, path_by, path_given, path_heard, path_told, paths_by, paths_given, paths_given_up, paths_with, with_meaning, want_in}
+
+-- ---- the flow-oks that a path owes
+
+abbrev pub flows_in : List PathOk → ℕ
+flows_in [] = 0
+flows_in (ok.Flow ∷ os) = flows_in os + 1
+flows_in (ok.Declare ∷ os) = flows_in os
+flows_in (ok.Select ∷ os) = flows_in os
+
+flows_more : (os : List PathOk) (x : PathOk) → flows_in (os ++ x ∷ []) ≡ flows_in os + flows_in (x ∷ [])
+flows_more [] x = omega arith
+flows_more (ok.Flow ∷ os) x = let more = flows_more os x in omega (arith, more)
+flows_more (ok.Declare ∷ os) x = flows_more os x
+flows_more (ok.Select ∷ os) x = flows_more os x
+
+abbrev owed_in : Option PathState → ℕ
+owed_in o = flows_in (or_no_path o).oks
+
+abbrev pub flows_due : ℕ → List (Option PathState) → ℕ
+flows_due n ps = owed_in (slot_at ps n)
+
+-- ---- a path that is changed
+
+-- a path that is set is found under its number alone
+set_elsewhere : (ps : List (Option PathState)) (k n : ℕ) (o : Option PathState) → (k == n) ≡ false → slot_at (slice_set ps k o) n ≡ slot_at ps n
+set_elsewhere [] k n o d = refl
+set_elsewhere (x ∷ ps) zero zero o d = absurd cc
+set_elsewhere (x ∷ ps) zero (suc n) o d = refl
+set_elsewhere (x ∷ ps) (suc k) zero o d = refl
+set_elsewhere (x ∷ ps) (suc k) (suc n) o d = set_elsewhere ps k n o (let less : (k == n) ≡ false = grind (arith, nat_tests, d) in less)
+
+-- and there is at most this
+set_here : (ps : List (Option PathState)) (n : ℕ) (o : Option PathState) → owed_in (slot_at (slice_set ps n o) n) ≤ owed_in o
+set_here [] zero o = omega arith
+set_here [] (suc n) o = omega arith
+set_here (x ∷ ps) zero o = omega arith
+set_here (x ∷ ps) (suc n) o = set_here ps n o
+
+set_less : (n k : ℕ) (ps : List (Option PathState)) (o : Option PathState) (more : ℕ) → owed_in o ≤ owed_in (slot_at ps k) + more
+    → flows_due n (slice_set ps k o) ≤ flows_due n ps + (if k == n then more else 0)
+set_less n k ps o more less = by (k == n) refl
+  where
+    by : (b : Bool) → (k == n) ≡ b → flows_due n (slice_set ps k o) ≤ flows_due n ps + (if b then more else 0)
+    by true e =
+        let same : k ≡ n = grind (arith, nat_tests, e) in
+        let here : owed_in (slot_at (slice_set ps n o) n) ≤ owed_in o = set_here ps n o in
+        let old : owed_in o ≤ owed_in (slot_at ps n) + more = subst (λ (m : ℕ). owed_in o ≤ owed_in (slot_at ps m) + more) same less in
+        subst (λ (m : ℕ). flows_due n (slice_set ps m o) ≤ flows_due n ps + more) (sym same) (omega (arith, here, old))
+    by false e = let same : flows_due n (slice_set ps k o) ≡ flows_due n ps = ap owed_in (set_elsewhere ps k n o e) in omega (arith, same)
+
+changed : (f : PathState → PathState) (more : ℕ) (o : Option PathState) → ((s : PathState) → flows_in (f s).oks ≤ flows_in s.oks + more)
+    → owed_in (option_map f o) ≤ owed_in o + more
+changed f more None less = omega arith
+changed f more (Some s) less = less s
+
+with_more : (n k : ℕ) (ps : List (Option PathState)) (f : PathState → PathState) (more : ℕ) → ((s : PathState) → flows_in (f s).oks ≤ flows_in s.oks + more)
+    → flows_due n (with_path k f ps) ≤ flows_due n ps + (if k == n then more else 0)
+with_more n k ps f more less = set_less n k ps (option_map f (slot_at ps k)) more (changed f more (slot_at ps k) less)
+
+none_at : (k n : ℕ) → owed_in (or_none (slice_get (replicate k None) n)) ≡ 0
+none_at zero n = refl
+none_at (suc k) zero = refl
+none_at (suc k) (suc n) = none_at k n
+
+none_due : (n : ℕ) → 0 + flows_due n no_paths ≤ 0
+unfolding no_paths
+none_due n = let none = none_at 256 n in omega (arith, none)
+
+-- one that owes no more
+keeps_all : (b : Bool) (x y : ℕ) → x ≤ y + (if b then 0 else 0) → x ≤ y
+keeps_all true x y e = omega (arith, e)
+keeps_all false x y e = omega (arith, e)
+
+with_less : (n k : ℕ) (ps : List (Option PathState)) (f : PathState → PathState) → ((s : PathState) → (f s).oks ≡ s.oks)
+    → flows_due n (with_path k f ps) ≤ flows_due n ps
+with_less n k ps f same =
+    keeps_all (k == n) _ _ (with_more n k ps f 0 (λ s. let here : flows_in (f s).oks ≡ flows_in s.oks = ap flows_in (same s) in omega (arith, here)))
+
+-- all are lost
+lost_slot : (ps : List (Option PathState)) (n : ℕ) → slot_at (map (option_map lost_path) ps) n ≡ option_map lost_path (slot_at ps n)
+lost_slot [] n = refl
+lost_slot (x ∷ ps) zero = refl
+lost_slot (x ∷ ps) (suc n) = lost_slot ps n
+
+lost_same : (o : Option PathState) → owed_in (option_map lost_path o) ≡ owed_in o
+lost_same None = refl
+lost_same (Some s) = refl
+
+lost_less : (n : ℕ) (ps : List (Option PathState)) → flows_due n (map (option_map lost_path) ps) ≤ flows_due n ps
+lost_less n ps = let same : flows_due n (map (option_map lost_path) ps) ≡ flows_due n ps = ap owed_in (lost_slot ps n) ∙ lost_same (slot_at ps n) in omega (arith, same)
+
+less_both : (a b c : ℕ) → a ≤ b → b ≤ c → a ≤ c
+less_both a b c e f = omega (arith, e, f)
+
+fail_less : (n code : ℕ) (why : Option Condition) (w : State) → flows_due n (fail code why w).paths ≤ flows_due n w.paths
+fail_less n code why w = by (is_closing w.conn)
+  where
+    by : (b : Bool) → flows_due n (if b then w else failed code why w).paths ≤ flows_due n w.paths
+    by true = omega arith
+    by false = lost_less n w.paths
+
+-- ---- what the container sends
+
+oks_if : (b : Bool) (s x y : PathState) → x.oks ≡ s.oks → y.oks ≡ s.oks → (if b then x else y).oks ≡ s.oks
+oks_if true s x y e f = e
+oks_if false s x y e f = f
+
+attach_keeps : (o : Option ℕ) (peer : ℕ) (target : Bool) (s : PathState) → (attach_by o peer target s).oks ≡ s.oks
+attach_keeps None peer target s = refl
+attach_keeps (Some name) peer target s = refl
+
+heard_keeps : (q : Parts) (s : PathState) → (path_heard q s).oks ≡ s.oks
+heard_keeps q s =
+    oks_if (q.0 == 17) s _ _ refl
+    (oks_if (q.0 == 18) s _ _ (attach_keeps (name_in (text_of (field q.1 0))) (number_at q.1 1) (is_there (field q.1 6)) s)
+    (oks_if _ s _ _ refl
+    (oks_if (q.0 == 21) s _ _ (oks_if _ s _ _ refl refl)
+    (oks_if (q.0 == 22) s _ _ refl
+    (oks_if (q.0 == 23) s _ _ refl refl)))))
+
+meaning_less : (n : ℕ) (m : Meaning) (w : State) → flows_due n (with_meaning m w).paths ≤ flows_due n w.paths
+meaning_less n ten.Nothing w = omega arith
+meaning_less n ten.Init w = omega arith
+meaning_less n ten.AmqpHeader w = omega arith
+meaning_less n ten.Opened w = by (is_opening w.conn)
+  where
+    by : (b : Bool) → flows_due n (if b then runs w else w).paths ≤ flows_due n w.paths
+    by true = omega arith
+    by false = omega arith
+meaning_less n (ten.OfSession g q payload) w =
+    session_cases (λ (y : State). flows_due n y.paths ≤ flows_due n w.paths) g q w
+    (record {
+      begins = kept;
+      stays = kept;
+      ends = λ code why. less_both _ _ _ (with_less n g (carried g q w).paths lost_path (λ s. refl)) kept;
+      windows = omega arith;
+      drops = λ code why. with_less n g w.paths lost_path (λ s. refl);
+      fails = λ why. fail_less n _ why (windowed g q w);
+    })
+  where
+    kept : flows_due n (with_path g (path_heard q) w.paths) ≤ flows_due n w.paths
+    kept = with_less n g w.paths (path_heard q) (heard_keeps q)
+meaning_less n (ten.Closed x) w = fail_less n _ _ w
+meaning_less n ten.Refused w = fail_less n _ _ w
+meaning_less n (ten.Violation x) w = fail_less n _ _ w
+
+heard_less : (n : ℕ) (w : State) (u : Unit10) → flows_due n (if w.out_of_memory then w else heard w u).paths ≤ flows_due n w.paths
+heard_less n w u = by w.out_of_memory
+  where
+    by : (b : Bool) → flows_due n (if b then w else heard w u).paths ≤ flows_due n w.paths
+    by true = omega arith
+    by false = meaning_less n (meaning_by w.up.container u) (record w { up = heard_up u w.up })
+
+lost_up_less : (n : ℕ) (x : Side) (w : State) → flows_due n (lost_up x w).paths ≤ flows_due n w.paths
+lost_up_less n x w =
+    less_both _ _ _ (fail_less n CONNECTION_FORCED None (record w { up = lost_by x w.up; paths = map (option_map lost_path) w.paths })) (lost_less n w.paths)
+
+-- ---- what goes to the container
+
+given_keeps : (u : SessionUnit) (s : PathState) → (path_given u s).oks ≡ s.oks
+given_keeps (unit.Attach a) s = refl
+given_keeps (unit.Flow f) s = refl
+given_keeps (unit.Transfer t) s = refl
+given_keeps (unit.Settle x) s = refl
+given_keeps (unit.Detach k handle) s = refl
+
+up_less : (n : ℕ) (u : UpUnit) (ps : List (Option PathState)) → flows_due n (paths_given_up u ps) ≤ flows_due n ps
+up_less n up.SaslHeader ps = omega arith
+up_less n up.SaslInit ps = omega arith
+up_less n up.AmqpHeader ps = omega arith
+up_less n up.Open ps = omega arith
+up_less n (up.Close why) ps = omega arith
+up_less n up.Empty ps = omega arith
+up_less n (up.OnSession k u) ps = with_less n k ps (path_given u) (given_keeps u)
+up_less n (up.Flow k i o) ps = omega arith
+up_less n (up.Begin k) ps = omega arith
+up_less n (up.End k why) ps = with_less n k ps lost_path (λ s. refl)
+
+-- ---- a request
+
+one_or : (a b : Bool) (x y : ℕ) → x ≤ y + (if a then one_if b else 0) → x ≤ y + one_if (a && b)
+one_or true b x y e = e
+one_or false b x y e = e
+
+ok_more : (x : PathOk) (no_wait : Bool) (s : PathState) → flows_in (x ∷ []) ≡ 0 → flows_in (answered_if no_wait x s).oks ≤ flows_in s.oks + 0
+ok_more x true s e = omega arith
+ok_more x false s e = let more = flows_more s.oks x in omega (arith, e, more)
+
+flow_more : (s : PathState) → flows_in (s.oks ++ ok.Flow ∷ []) ≤ flows_in s.oks + 1
+flow_more s = let more = flows_more s.oks ok.Flow in omega (arith, more)
+
+method_more : (n k life : ℕ) (m : Method91) (ps : List (Option PathState)) → flows_due n (paths_with life k m ps) ≤ flows_due n ps + (if k == n then one_if (is_channel_flow m) else 0)
+method_more n k life method.ChannelOpen ps = set_less n k ps (Some (session.opened life)) 0 (omega arith)
+method_more n k life (method.ChannelFlow active) ps = with_more n k ps (owed ok.Flow) 1 flow_more
+method_more n k life (method.ExchangeDeclare name kind passive durable auto_delete internal no_wait arguments) ps =
+    with_more n k ps (answered_if no_wait ok.Declare) 0 (λ s. ok_more ok.Declare no_wait s refl)
+method_more n k life (method.ConfirmSelect no_wait) ps =
+    with_more n k ps (λ s. answered_if no_wait ok.Select (selected s)) 0 (λ s. ok_more ok.Select no_wait (selected s) refl)
+method_more n k life m ps = with_more n k ps (path_by m) 0 (λ s. omega arith)
+
+wanted_more : (n life : ℕ) (x : Want91) (ps : List (Option PathState)) → flows_due n (paths_by life x ps) ≤ flows_due n ps + one_if (is_method_on is_channel_flow n x)
+wanted_more n life want.Nothing ps = omega arith
+wanted_more n life want.Start ps = omega arith
+wanted_more n life (want.Login m r) ps = omega arith
+wanted_more n life want.Tuned ps = omega arith
+wanted_more n life want.OpenUp ps = omega arith
+wanted_more n life (want.Method k m) ps = one_or (k == n) (is_channel_flow m) _ _ (method_more n k (life + 1) m ps)
+wanted_more n life (want.Publish k m c) ps =
+    let less = with_less n k ps (published (message_of m c).key (image_text (message_of m c))) (λ s. refl) in omega (arith, less)
+wanted_more n life (want.ChannelCloseOk k) ps = omega arith
+wanted_more n life want.Close ps = omega arith
+wanted_more n life want.CloseOk ps = omega arith
+wanted_more n life (want.Refuse r) ps = omega arith
+
+came_more : (n : ℕ) (w : State) (u : Unit91) (b : Bool) (total went : ℕ) → went + flows_due n w.paths ≤ total
+    → went + flows_due n (if b then w else came (dequeued w) u).paths ≤ (if b then total else total + one_if (is_method_on is_channel_flow n (want_in w.conn u)))
+came_more n w u true total went e = e
+came_more n w u false total went e =
+    let more = wanted_more n w.opened (want_in w.conn u) w.paths in
+    omega (arith, e, more)
+
+-- ---- an answer
+
+-- the one that goes to a client on a channel is the first that its path owes
+abbrev IsFirstOk : List (Option PathState) → Reply → Type 0
+IsFirstOk ps r = (k : ℕ) (x : PathOk) → r ≡ reply.OnChannel k (to_client.Ok x) → next_ok (path_at ps k) ≡ Some x
+
+dropped_less : (os : List PathOk) → flows_in (drop 1 os) ≤ flows_in os
+dropped_less [] = omega arith
+dropped_less (ok.Flow ∷ os) = omega arith
+dropped_less (ok.Declare ∷ os) = omega arith
+dropped_less (ok.Select ∷ os) = omega arith
+
+first_row : (ps : List (Option PathState)) (k : ℕ) (o : Option PathOk) (v : Reply) → next_ok (path_at ps k) ≡ o → first (ok_on k o) ≡ Some v → IsFirstOk ps v
+first_row ps k None v e f = absurd cc
+first_row ps k (Some x) v e f = λ m y g.
+    let is : reply.OnChannel k (to_client.Ok x) ≡ reply.OnChannel m (to_client.Ok y) = (let here : reply.OnChannel k (to_client.Ok x) ≡ v = cc in here) ∙ g in
+    let number : k ≡ m = cc in
+    let same : x ≡ y = cc in
+    subst (λ (i : ℕ). next_ok (path_at ps i) ≡ Some y) number (e ∙ ap Some same)
+
+first_ok : (ps : List (Option PathState)) (k : ℕ) (l : Life) (v : Reply) → first (oks_on ps k l) ≡ Some v → IsFirstOk ps v
+first_ok ps k l v e = by l.over e
+  where
+    by : (b : Bool) → first (if b then [] else ok_on k (next_ok (path_at ps k))) ≡ Some v → IsFirstOk ps v
+    by true f = absurd cc
+    by false f = first_row ps k (next_ok (path_at ps k)) v refl f
+
+not_ok : (ps : List (Option PathState)) (b : Bool) (u v : Reply) → ((k : ℕ) (x : PathOk) → u ≢ reply.OnChannel k (to_client.Ok x)) → first (when b u) ≡ Some v → IsFirstOk ps v
+not_ok ps true u v other e = λ k x f. let here : u ≡ v = cc in absurd (other k x (here ∙ f))
+not_ok ps false u v other e = absurd cc
+
+no_answer : (ps : List (Option PathState)) (r : Reply) → is_answer r ≡ true → IsFirstOk ps r
+no_answer ps r e = λ k x f. absurd (let is : is_answer (reply.OnChannel k (to_client.Ok x)) ≡ true = subst (λ (v : Reply). is_answer v ≡ true) f e in clash false is refl)
+
+confirm_row : (ps : List (Option PathState)) (may : Bool) (k : ℕ) (o : Option Confirm) (v : Reply) → first (confirm_on may k o) ≡ Some v → IsFirstOk ps v
+confirm_row ps may k None v e = absurd cc
+confirm_row ps may k (Some c) v e = not_ok ps may (reply.OnChannel k (to_client.Confirm c)) v (λ m x f. cc) e
+
+close_row : (ps : List (Option PathState)) (k : ℕ) (b c : Bool) (v : Reply) → first (when b (reply.CrossedOk k) ++ when c (reply.ChannelCloseOk k)) ≡ Some v → IsFirstOk ps v
+close_row ps k true c v e = not_ok ps true (reply.CrossedOk k) v (λ m x f. cc) e
+close_row ps k false c v e = not_ok ps c (reply.ChannelCloseOk k) v (λ m x f. cc) e
+
+refused_row : (ps : List (Option PathState)) (b : Bool) (k : ℕ) (o : Option Refusal) (v : Reply) → first (refused_on b k o) ≡ Some v → IsFirstOk ps v
+refused_row ps b k None v e = absurd cc
+refused_row ps b k (Some x) v e = not_ok ps b (reply.ChannelClose k x) v (λ m y f. cc) e
+
+owed_on : (w : State) (r : Reply) → IsOfChannel w r → IsFirstOk w.paths r
+owed_on w r (InAnswers e) = by (has (open_oks w))
+  where
+    by : Has (open_oks w) → IsFirstOk w.paths r
+    by (HasFirst u g) =
+        subst (IsFirstOk w.paths) (same_first (first (open_oks w ++ path_oks w)) u r (first_some (open_oks w) (path_oks w) u g) e)
+        (first_at (IsFirstOk w.paths) _ w.lives u (λ k v f. not_ok w.paths _ (reply.ChannelOpenOk k) v (λ m x d. cc) f) g)
+    by (HasNone g) =
+        first_at (IsFirstOk w.paths) (oks_on w.paths) w.lives r (λ k v f. first_ok w.paths k (life_at w.lives k) v f) (sym (first_none (open_oks w) (path_oks w) g) ∙ e)
+owed_on w r (InConfirms e) =
+    first_at (IsFirstOk w.paths) (confirms_on w.paths) w.lives r (λ k v f. confirm_row w.paths _ k _ v f) e
+owed_on w r (InOks e) =
+    first_at (IsFirstOk w.paths) (λ (n : ℕ) (l : Life). close_oks_on n (l.close_ok && is_channel_settled w n) l) w.lives r (λ k v f. close_row w.paths k _ _ v f) e
+owed_on w r (InCloses e) =
+    first_at (IsFirstOk w.paths) (λ (n : ℕ) (l : Life). refused_on (is_channel_settled w n) n l.close) w.lives r (λ k v f. refused_row w.paths _ k _ v f) e
+
+owed_picked : (h : List Step) (r : Reply) → ArePicks h → Picked (before h) r → IsFirstOk (before h).paths r
+owed_picked h r p (IsDue x) = no_answer (before h).paths r (first_due (is_settled (before h)) (before h).pending r (calm_now h p) x).answers
+owed_picked h r p (OnChannel x) = owed_on (before h) r x
+owed_picked h r p (Beats none due same) = λ k x f. absurd cc
+
+-- the answer goes, and its path owes it no more
+sent_less : (s : PathState) (x : PathOk) → next_ok s ≡ Some x → flows_in (ok_sent s).oks + one_if (is_flow_ok (to_client.Ok x)) ≤ flows_in s.oks
+sent_less s x e = by s.oks x e
+  where
+    by : (os : List PathOk) (y : PathOk) → first_of os ≡ Some y → flows_in (drop 1 os) + one_if (is_flow_ok (to_client.Ok y)) ≤ flows_in os
+    by [] y f = absurd cc
+    by (ok.Flow ∷ os) ok.Flow f = omega arith
+    by (ok.Flow ∷ os) ok.Declare f = absurd cc
+    by (ok.Flow ∷ os) ok.Select f = absurd cc
+    by (ok.Declare ∷ os) ok.Flow f = absurd cc
+    by (ok.Declare ∷ os) ok.Declare f = omega arith
+    by (ok.Declare ∷ os) ok.Select f = absurd cc
+    by (ok.Select ∷ os) ok.Flow f = absurd cc
+    by (ok.Select ∷ os) ok.Declare f = absurd cc
+    by (ok.Select ∷ os) ok.Select f = omega arith
+
+told_less : (o : Option PathState) (u : ChannelUnit) → ((x : PathOk) → u ≡ to_client.Ok x → next_ok (or_no_path o) ≡ Some x)
+    → owed_in (option_map (path_told u) o) + one_if (is_flow_ok u) ≤ owed_in o
+told_less None (to_client.Ok x) f = let none = f x refl in absurd cc
+told_less None (to_client.Confirm c) f = omega arith
+told_less (Some s) (to_client.Ok x) f = sent_less s x (f x refl)
+told_less (Some s) (to_client.Confirm c) f = omega arith
+
+given_less : (n : ℕ) (u : Reply) (ps : List (Option PathState)) → IsFirstOk ps u → flows_due n (paths_given u ps) + one_if (is_flow_ok_on n u) ≤ flows_due n ps
+given_less n reply.Protocol ps o = omega arith
+given_less n reply.Start ps o = omega arith
+given_less n reply.Tune ps o = omega arith
+given_less n reply.OpenOk ps o = omega arith
+given_less n reply.CloseOk ps o = omega arith
+given_less n (reply.Close r) ps o = omega arith
+given_less n reply.NoMemory ps o = omega arith
+given_less n reply.Heartbeat ps o = omega arith
+given_less n (reply.ChannelOpenOk k) ps o = omega arith
+given_less n (reply.OnChannel k u) ps o = by (k == n) refl
+  where
+    told : owed_in (option_map (path_told u) (slot_at ps k)) + one_if (is_flow_ok u) ≤ owed_in (slot_at ps k)
+    told = told_less (slot_at ps k) u (λ x e. o k x (ap (reply.OnChannel k) e))
+
+    by : (b : Bool) → (k == n) ≡ b → flows_due n (with_path k (path_told u) ps) + one_if (b && is_flow_ok u) ≤ flows_due n ps
+    by true e =
+        let same : k ≡ n = grind (arith, nat_tests, e) in
+        let set = set_here ps k (option_map (path_told u) (slot_at ps k)) in
+        let here : flows_due k (with_path k (path_told u) ps) + one_if (is_flow_ok u) ≤ flows_due k ps = omega (arith, set, told) in
+        subst (λ (m : ℕ). flows_due m (with_path k (path_told u) ps) + one_if (is_flow_ok u) ≤ flows_due m ps) same here
+    by false e = let same : flows_due n (with_path k (path_told u) ps) ≡ flows_due n ps = ap owed_in (set_elsewhere ps k n _ e) in omega (arith, same)
+given_less n (reply.ChannelCloseOk k) ps o = omega arith
+given_less n (reply.CrossedOk k) ps o = omega arith
+given_less n (reply.ChannelClose k r) ps o = omega arith
+
+-- ---- all steps
+
+keeps : (went a b total : ℕ) → b ≤ a → went + a ≤ total → went + b ≤ total
+keeps went a b total less e = omega (arith, less, e)
+
+queued_less : (n : ℕ) (w : State) (us : List Unit91) → flows_due n (if w.out_of_memory then w else record w { queue = us }).paths ≤ flows_due n w.paths
+queued_less n w us = by w.out_of_memory
+  where
+    by : (b : Bool) → flows_due n (if b then w else record w { queue = us }).paths ≤ flows_due n w.paths
+    by true = omega arith
+    by false = omega arith
+
+left_less : (n : ℕ) (w : State) (b : Bool) → flows_due n (if b then left w else w).paths ≤ flows_due n w.paths
+left_less n w true = omega arith
+left_less n w false = omega arith
+
+-- how many flow-oks went, and how many channel.flow were taken up
+abbrev flows_went : ℕ → List Step → ℕ
+flows_went n h = went_in (is_flow_ok_on n) h
+
+abbrev flows_asked : ℕ → List Step → ℕ
+flows_asked n h = wanted_in (is_method_on is_channel_flow n) h
+
+came_counts : (n : ℕ) (u : Unit91) (h : List Step) → ArePicks h → flows_went n h + flows_due n (before h).paths ≤ flows_asked n h
+    → flows_went n h + flows_due n (before (Came u ∷ h)).paths ≤ flows_asked n (Came u ∷ h)
+came_counts n u h p e =
+    subst (λ (d : Connection). flows_went n h + flows_due n (before (Came u ∷ h)).paths
+    ≤ (if ran_out_in h then flows_asked n h else flows_asked n h + one_if (is_method_on is_channel_flow n (want_in d u))))
+    (conn_is (known h p))
+    (subst (λ (b : Bool). flows_went n h + flows_due n (before (Came u ∷ h)).paths
+    ≤ (if b then flows_asked n h else flows_asked n h + one_if (is_method_on is_channel_flow n (want_in (before h).conn u))))
+    (memory_is (known h p)) (came_more n (before h) u (before h).out_of_memory (flows_asked n h) (flows_went n h) e))
+
+counts : (n : ℕ) (h : List Step) → ArePicks h → flows_went n h + flows_due n (before h).paths ≤ flows_asked n h
+counts n [] p = none_due n
+counts n (Began vhost i ms ∷ h) p = counts n h p.1
+counts n (Moment ms ∷ h) p = counts n h p.1
+counts n (Fed Client ∷ h) p = counts n h p.1
+counts n (Fed Up ∷ h) p = counts n h p.1
+counts n (Silent Client ∷ h) p = counts n h p.1
+counts n (Silent Up ∷ h) p = keeps _ _ _ _ (fail_less n _ _ _) (counts n h p.1)
+counts n (Queued u ∷ h) p = keeps _ _ _ _ (queued_less n (before h) _) (counts n h p.1)
+counts n (Came u ∷ h) p = came_counts n u h p.1 (counts n h p.1)
+counts n (TakenUp ∷ h) p = keeps _ _ _ _ (left_less n (before h) _) (counts n h p.1)
+counts n (Heard u ∷ h) p = keeps _ _ _ _ (heard_less n (before h) u) (counts n h p.1)
+counts n (Joined link.Ok ∷ h) p = counts n h p.1
+counts n (Joined link.Failed ∷ h) p = keeps _ _ _ _ (fail_less n _ None _) (counts n h p.1)
+counts n (Lost Client loss.Ended ∷ h) p = counts n h p.1
+counts n (Lost Client loss.Failed ∷ h) p = counts n h p.1
+counts n (Lost Client loss.Shut ∷ h) p = counts n h p.1
+counts n (Lost Up loss.Ended ∷ h) p = keeps _ _ _ _ (lost_up_less n side.Ended (before h)) (counts n h p.1)
+counts n (Lost Up loss.Failed ∷ h) p = keeps _ _ _ _ (lost_up_less n side.Failed (before h)) (counts n h p.1)
+counts n (Lost Up loss.Shut ∷ h) p = counts n h p.1
+counts n (Gave (ToClient u) text ∷ h) p =
+    let less = given_less n u (before h).paths (owed_picked h u p.1 (picked (before h) u p.0.1)) in
+    let old = counts n h p.1 in
+    omega (arith, less, old)
+counts n (Gave (ToUp u) text ∷ h) p = keeps _ _ _ _ (up_less n u (before h).paths) (counts n h p.1)
+counts n (Whole Client ∷ h) p = counts n h p.1
+counts n (Whole Up ∷ h) p = counts n h p.1
+counts n (OutOfMemory ∷ h) p = counts n h p.1
+
+pub flows_once : (n : ℕ) (h : List Step) → ArePicks h → went_in (is_flow_ok_on n) h ≤ wanted_in (is_method_on is_channel_flow n) h
+flows_once n h p = let all = counts n h p in omega (arith, all)

@@ -1,0 +1,185 @@
+-- The paths of channels: the links, publishes and answers of each, by the numbers of channels.
+use Rattle.std.specs.Prelude.{ℕ, eqb, ◌+◌, ◌-◌, ◌==◌, ◌%◌, ◌^◌, nat_lt, min, Bool, true}
+use Rattle.std.specs.Prelude.{false, not, ◌&&◌, ◌||◌}
+use Rattle.std.specs.Prelude.{if◌then◌else◌, List, [], ◌∷◌, replicate, slice_get}
+use Rattle.std.specs.Prelude.{slice_set}
+use Rattle.std.specs.Prelude.{take, length, Option, Some, None}
+use Rattle.std.specs.Int.{to_be_bytes, w64}
+use Rattle.std.specs.Option.{option_map}
+use Rattle.machine_10.specs.Reading.{field, number_at, number_in}
+use Rattle.performatives_10.specs.Fields.{is_absent}
+use Rattle.performatives_10.specs.Writing.{perf_text}
+use Rattle.performatives_10.specs.declared.performative.Perf.{Perf}
+use Rattle.performatives_10.specs.declared.performative.Perf.TheVariants as perf
+use Rattle.property_map.specs.Rows.{decimal_in}
+use Rattle.publish_path.specs.Offers.{rest_of}
+use Rattle.publish_path.specs.declared.publish.NextFrame.{NextFrame}
+use Rattle.session_path.specs.Links.{handle_at}
+use Rattle.session_path.specs.Path.{PathState, attach_came, flow_came, lost, opened}
+use Rattle.session_path.specs.Path.{outcome_came}
+use Rattle.session_path.specs.Links.{attach_fault}
+use Rattle.session_path.specs.declared.path.AttachDue.{AttachDue}
+use Rattle.session_path.specs.declared.path.AttachFault.{AttachFault}
+use Rattle.session_path.specs.declared.path.AttachFault.TheVariants.{NotAsked}
+use Rattle.session_path.specs.declared.path.FlowDue.{FlowDue}
+use Rattle.types_10.specs.Tree.{Tree, string, described, scalar, ulong}
+use Rattle.gate_model.specs.declared.channel.AttachOut.{AttachOut}
+use Rattle.gate_model.specs.declared.channel.LinkFlow.{LinkFlow}
+use Rattle.gate_model.specs.declared.channel.TransferOut.{TransferOut}
+use Rattle.gate_model.specs.declared.life.SessionState.{SessionState}
+use Rattle.gate_model.specs.Session.{is_true}
+
+-- ---- by the numbers of channels
+
+-- none was opened
+unfoldable pub no_paths : List (Option PathState)
+no_paths = replicate 256 None
+
+abbrev pub or_none : Option (Option PathState) → Option PathState
+or_none None = None
+or_none (Some o) = o
+
+abbrev pub slot_at : List (Option PathState) → ℕ → Option PathState
+slot_at ps n = or_none (slice_get ps n)
+
+-- one that wasn't opened has nothing
+abbrev pub or_no_path : Option PathState → PathState
+or_no_path None = opened 0
+or_no_path (Some s) = s
+
+abbrev pub path_at : List (Option PathState) → ℕ → PathState
+path_at ps n = or_no_path (slot_at ps n)
+
+abbrev pub set_path : ℕ → PathState → List (Option PathState) → List (Option PathState)
+set_path n s ps = slice_set ps n (Some s)
+
+abbrev pub with_path : ℕ → (PathState → PathState) → List (Option PathState)
+    → List (Option PathState)
+with_path n f ps = slice_set ps n (option_map f (slot_at ps n))
+
+-- ---- what the container says of links and transfers
+
+-- the state of a disposition is terminal: accepted, rejected, released or modified (AMQP 1.0 3.4)
+abbrev pub is_terminal_code : ℕ → Bool
+is_terminal_code code = (code == 36) || ((code == 37) || ((code == 38) || (code == 39)))
+
+abbrev pub state_code : Tree → ℕ
+state_code (described (scalar (ulong code)) t) = code
+state_code t = 0
+
+abbrev pub is_accepted : Tree → Bool
+is_accepted t = state_code t == 36
+
+-- a disposition of the receiver that has an outcome: a terminal state, or a settlement without a
+-- state
+abbrev pub is_outcome : List Tree → Bool
+is_outcome ts =
+    is_true (field ts 0)
+    && (is_terminal_code (state_code (field ts 4)) || (is_true (field ts 3)
+    && is_absent (field ts 4)))
+
+abbrev pub outcome_by : List Tree → PathState → PathState
+outcome_by ts s =
+    if is_outcome ts then
+    outcome_came (number_at ts 1) (number_in (field ts 2))
+    (is_accepted (field ts 4)) (is_true (field ts 3)) s
+    else s
+
+abbrev pub credit_of : Option ℕ → ℕ
+credit_of None = 0
+credit_of (Some n) = n
+
+-- a flow on the link of this handle
+abbrev pub link_flowed : List Tree → PathState → PathState
+link_flowed ts s =
+    flow_came (number_at ts 4) (number_in (field ts 5)) (credit_of (number_in (field ts 6)))
+    (is_true (field ts 8)) (is_true (field ts 9)) s
+
+-- ---- names of links
+
+-- the number in the name of a link; None of other names
+abbrev pub name_in : List ℕ → Option ℕ
+name_in [] = None
+name_in (b ∷ []) = None
+name_in (b ∷ c ∷ s) = if eqb b 108 && eqb c 45 then decimal_in s else None
+
+-- an attach of the container, under the name of a link of the gateway or another
+abbrev pub attach_by : Option ℕ → ℕ → Bool → PathState → PathState
+attach_by None peer target s = s
+attach_by (Some name) peer target s = attach_came name peer target s
+
+abbrev pub fault_by : Option ℕ → ℕ → PathState → Option AttachFault
+fault_by None peer s = Some NotAsked
+fault_by (Some name) peer s = attach_fault name peer s.links
+
+-- ---- units to the container
+
+-- the flow of a link: its delivery-count and its credit; one that gives the credit back states
+-- none, and a count past it (AMQP 1.0 2.6.7)
+abbrev pub flow_out : SessionState → FlowDue → LinkFlow
+flow_out w f = record {
+  link = f.link;
+  handle = f.handle;
+  incoming = w.windows.next_incoming;
+  outgoing = w.windows.next_outgoing;
+  count = if f.drains then (f.count + f.credit) % 2 ^ 32 else f.count;
+  credit = if f.drains then 0 else f.credit;
+  drain = f.draining;
+}
+
+-- what a frame of a transfer says (AMQP 1.0 2.7.5): the first one the delivery-id, the tag, which
+-- is the number of the publish in 8 bytes, the format of messages and that it isn't settled
+abbrev pub transfer_perf : TransferOut → Bool → Perf
+transfer_perf t more = perf.Transfer (record {
+  handle = t.handle;
+  delivery_id = if t.frame.first then Some t.id else None;
+  delivery_tag = if t.frame.first then Some (to_be_bytes w64 t.frame.publish) else None;
+  message_format = if t.frame.first then Some 0 else None;
+  settled = if t.frame.first then Some false else None;
+  more = more;
+  rcv_settle_mode = None;
+  state = None;
+  resume = false;
+  aborted = false;
+  batchable = false;
+})
+
+-- how much of a payload a frame with more to follow carries
+abbrev pub room_in : ℕ → TransferOut → ℕ
+room_in max t = max - (8 + length (perf_text (transfer_perf t true)))
+
+abbrev pub cut : ℕ → ℕ → TransferOut → TransferOut
+cut max left t = record t { bytes = min (room_in max t) left; more = nat_lt (room_in max t) left }
+
+-- the frame of a publish that goes next, where the container takes frames of so many bytes
+abbrev pub transfer_of : ℕ → PathState → NextFrame → TransferOut
+transfer_of max s f =
+    cut max (length (rest_of f.publish s.publishes.list))
+    (record {
+      frame = f;
+      handle = handle_at f.link s.links.links;
+      id = s.publishes.next_id;
+      bytes = 0;
+      more = false;
+    })
+
+-- the part of the payload that it carries
+abbrev pub part_of : PathState → TransferOut → List ℕ
+part_of s t = take t.bytes (rest_of t.frame.publish s.publishes.list)
+
+abbrev pub attach_out : ℕ → AttachDue → AttachOut
+attach_out name a = record { link = a.link; handle = a.handle; name = name }
+
+-- ---- fields
+
+-- a text, and whether a field is there
+abbrev pub text_of : Tree → List ℕ
+text_of (scalar (string s)) = s
+text_of t = []
+
+abbrev pub is_there : Tree → Bool
+is_there t = not (is_absent t)
+
+-- the session of a channel is lost
+abbrev pub lost_path : PathState → PathState
+lost_path s = lost s

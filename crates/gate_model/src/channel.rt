@@ -1,0 +1,58 @@
+//! The units of a channel's requests and publishes, and those of the session that carries it.
+
+use publish_path::{Confirm, NextFrame};
+use session_path::{PathOk, Settling};
+
+/// A unit to the client on a channel that is open.
+#[derive(Clone, Copy, Debug, PartialEq, Eq)]
+pub enum ChannelUnit {
+    /// An answer to a request that needs nothing of the container.
+    Ok(PathOk),
+    /// basic.ack or basic.nack, for publishes.
+    Confirm(Confirm),
+}
+
+/// The attach of a sending link: its number on the channel, its handle, and the number in its name.
+#[derive(Clone, Copy, Debug, PartialEq, Eq)]
+pub struct AttachOut {
+    pub link: u32,
+    pub handle: u32,
+    pub name: u64,
+}
+
+/// The flow of a sending link: the state of its session and its own (AMQP 1.0 2.7.4).
+#[derive(Clone, Copy, Debug, PartialEq, Eq)]
+pub struct LinkFlow {
+    pub link: u32,
+    pub handle: u32,
+    /// The ids of the next transfer frame of the container and of the gateway.
+    pub incoming: u32,
+    pub outgoing: u32,
+    pub count: u32,
+    pub credit: u32,
+    pub drain: bool,
+}
+
+/// A frame of a transfer (AMQP 1.0 2.7.5).
+#[derive(Clone, Copy, Debug, PartialEq, Eq)]
+pub struct TransferOut {
+    pub frame: NextFrame,
+    pub handle: u32,
+    /// The delivery-id, where it is the first frame.
+    pub id: u32,
+    /// How many bytes of the publish's payload it carries, and that more follow.
+    pub bytes: u32,
+    pub more: bool,
+}
+
+/// A unit of a session's links.
+#[derive(Clone, Copy, Debug, PartialEq, Eq)]
+pub enum SessionUnit {
+    Attach(AttachOut),
+    Flow(LinkFlow),
+    Transfer(TransferOut),
+    /// A settled disposition that answers the container's.
+    Settle(Settling),
+    /// The detach of this link, with its handle, which answers the container's.
+    Detach(u32, u32),
+}
