@@ -432,4 +432,5 @@ def main():
         print(f"replay of the capture: {replay.stdout.decode().strip()}")
 
 
-main()
+if __name__ == "__main__":
+    main()
