@@ -15,6 +15,7 @@ use Rattle.gate_model.specs.Frames.{FitsClients}
 use Rattle.gate_model.specs.Once.{AnswersOnce}
 use Rattle.gate_model.specs.Order.{TakesInOrder}
 use Rattle.gate_model.specs.Picks.{ArePicks}
+use Rattle.gate_model.specs.Publishing.{ArePieces, Confirms, EndWhole, Transfers}
 use Rattle.gate_model.specs.Setup.{SetupText}
 use Rattle.gate_model.specs.Waiting.{ChannelsEndWhenSettled, EndsWhenSettled, OpensWhenOpened}
 use Rattle.gate_pair.specs.Answers.{IsAnswered}
@@ -34,6 +35,12 @@ pub record IsLawfulPair (s : SetupText) (h : List Entry) : Type 0 where
   -- answered at most once
   pub order : TakesInOrder (steps_of s h)
   pub once : AnswersOnce (steps_of s h)
+  -- each confirm covers publishes with the outcome that it tells, accepted ones by an ack; frames of
+  -- transfers go within credit and window, in order, and carry each byte of an image once
+  pub confirms : Confirms (steps_of s h)
+  pub transfers : Transfers (steps_of s h)
+  pub pieces : ArePieces (steps_of s h)
+  pub wholes : EndWhole (steps_of s h)
   -- a client is told of the end of its connection or a channel, and of the connection's begin, once
   -- the container is through
   pub ends : EndsWhenSettled (steps_of s h)

@@ -10,6 +10,7 @@ ghost use Rattle.gate_model.specs.Frames.{FitsClients};
 ghost use Rattle.gate_model.specs.Once.{AnswersOnce};
 ghost use Rattle.gate_model.specs.Order.{TakesInOrder};
 ghost use Rattle.gate_model.specs.Picks.{ArePicks};
+ghost use Rattle.gate_model.specs.Publishing.{ArePieces, Confirms, EndWhole, Transfers};
 ghost use Rattle.gate_model.specs.Setup.{SetupText};
 ghost use Rattle.gate_model.specs.Waiting.{ChannelsEndWhenSettled, EndsWhenSettled, OpensWhenOpened};
 ghost use Rattle.gate_pair.specs.Answers.{IsAnswered};
@@ -71,6 +72,28 @@ pub fn channels_are_answered_once()
 {
     entries_are_lawful();
     gate_model::channels_are_answered_once();
+}
+
+/// Each confirm that goes to a client covers publishes of the channel's life that wait for one alone,
+/// with the outcome that it tells: an ack those that the container accepted. Each frame of a transfer
+/// that goes to a container is that of the publish that is begun, else of the least number that waits
+/// on an attached link with credit, while the window of the session has room; it carries the first
+/// bytes that are left of the payload. So the frames of a publish carry the text of the image of its
+/// message, each byte once and in order, and all of it once one says that no more follows.
+pub fn publishes_are_lawful()
+    ensures confirms { (s : SetupText) (c : Limits) (m : History) → Follows (pair_words s) c m
+        → (p : ℕ) → Confirms (steps_of s (journal p m)) }
+    ensures transfers { (s : SetupText) (c : Limits) (m : History) → Follows (pair_words s) c m
+        → (p : ℕ) → Transfers (steps_of s (journal p m)) }
+    ensures pieces { (s : SetupText) (c : Limits) (m : History) → Follows (pair_words s) c m
+        → (p : ℕ) → ArePieces (steps_of s (journal p m)) }
+    ensures end { (s : SetupText) (c : Limits) (m : History) → Follows (pair_words s) c m
+        → (p : ℕ) → EndWhole (steps_of s (journal p m)) }
+{
+    entries_are_lawful();
+    gate_model::confirms_are_lawful();
+    gate_model::transfers_are_lawful();
+    gate_model::payloads_are_whole();
 }
 
 /// A connection.close of the gateway or a close-ok goes only where nothing of the upstream end is
@@ -164,6 +187,7 @@ pub fn runs_are_lawful()
     clients_are_answered();
     units_keep_their_order();
     channels_are_answered_once();
+    publishes_are_lawful();
     replies_wait();
     containers_are_asked();
     frames_fit_clients();

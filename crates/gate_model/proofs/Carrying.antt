@@ -209,7 +209,7 @@ left_keeps n w false = refl
 within : (n : ℕ) (h : List Step) → ArePicks h → n < 256 → n < length (before h).lives
 within n h p lt = subst (λ (m : ℕ). n < m) (sym (lives_all h p)) lt
 
-carries_in : (h : List Step) → ArePicks h → (n : ℕ) → n < 256 → at n (before h).lives ≡ carrying n h
+pub carries_in : (h : List Step) → ArePicks h → (n : ℕ) → n < 256 → at n (before h).lives ≡ carrying n h
 carries_in [] p n lt = ap (λ (l : Life). l.session) (new_at n)
 carries_in (Began vhost m ms ∷ h) p n lt = carries_in h p.1 n lt
 carries_in (Moment ms ∷ h) p n lt = carries_in h p.1 n lt

@@ -1,6 +1,6 @@
 -- Each channel.flow is answered at most once (AMQP 0-9-1 1.5.2.3): what is due of its answers is what the path of its channel owes.
-use Rattle.std.proofs.Common.{◌≡◌, ◌≢◌, ℕ, zero, suc, ◌+◌, ◌==◌, ◌≤◌, Bool, true, false, ◌&&◌, if◌then◌else◌, List, [], ◌∷◌, ◌++◌, Option, None, Some, arith, refl, sym, ap, ◌∙◌, subst, replicate}
-use Rattle.std.specs.Prelude.{drop, map, slice_get, slice_set}
+use Rattle.std.proofs.Common.{◌≡◌, ℕ, zero, suc, ◌+◌, ◌==◌, ◌≤◌, Bool, true, false, ◌&&◌, if◌then◌else◌, List, [], ◌∷◌, ◌++◌, Option, None, Some, arith, refl, sym, ap, ◌∙◌, subst}
+use Rattle.std.specs.Prelude.{drop, map, slice_set}
 use Rattle.std.specs.Option.{option_map}
 use Rattle.std.proofs.lemmas.Bool.Decides.{nat_tests}
 use Rattle.gate_outside.specs.declared.ports.End.TheVariants.{Client, Up}
@@ -27,18 +27,10 @@ use Rattle.gate_relay.specs.declared.sides.Side.{Side}
 use Rattle.gate_relay.specs.declared.sides.Side.TheVariants as side
 use Rattle.gate_model.specs.Requests.{message_of}
 use Rattle.property_map.specs.Spelling.{image_text}
-use Rattle.publish_path.specs.declared.publish.Confirm.{Confirm}
-use Rattle.machine_091.specs.declared.unit.Refusal.{Refusal}
-use Rattle.gate_model.specs.declared.life.Life.{Life}
-use Rattle.gate_model.specs.Lives.{life_at}
-use Rattle.gate_model.specs.Due.{close_oks_on, confirm_on, confirms_on, ok_on, oks_on, open_oks, path_oks, refused_on, when}
-use Rattle.gate_model.specs.Folds.{is_answer}
 use Rattle.gate_model.specs.Picks.{ArePicks}
-use Rattle.gate_model.specs.Upstream.{first}
-use Rattle.gate_model.proofs.Connections.{clash}
+use Rattle.gate_model.proofs.Firsts.{OfChannel, goes_as}
 use Rattle.gate_model.proofs.Known.{conn_is, known, memory_is}
-use Rattle.gate_model.proofs.Rows.{Has, HasFirst, HasNone, first_at, first_none, first_some, has, same_first}
-use Rattle.gate_model.proofs.Said.{Beats, InAnswers, InConfirms, InCloses, InOks, IsDue, IsOfChannel, OnChannel, Picked, calm_now, first_due, picked}
+use Rattle.gate_model.proofs.Slots.{map_slot, none_there, set_elsewhere}
 use Rattle.gate_model.specs.Upstream.{heard_up, lost_by, meaning_by}
 use Rattle.gate_model.proofs.Sessions.{session_cases}
 use Rattle.session_path.specs.declared.path.PathOk.{PathOk}
@@ -54,8 +46,8 @@ use Rattle.gate_model.specs.declared.reply.Reply.{Reply}
 use Rattle.gate_model.specs.declared.reply.Reply.TheVariants as reply
 use Rattle.gate_model.specs.Folds.{ran_out_in}
 use Rattle.gate_model.specs.Once.{is_channel_flow, is_flow_ok, is_flow_ok_on, is_method_on, one_if, wanted_in, went_in}
-use Rattle.gate_model.specs.Paths.{attach_by, lost_path, name_in, no_paths, or_no_path, or_none, path_at, slot_at, text_of, is_there, with_path}
-use Rattle.gate_model.specs.State.{Began, Came, Fed, Gave, Heard, Joined, Lost, Moment, OutOfMemory, Queued, Silent, State, Step, TakenUp, Whole, answered_if, before, came, carried, is_channel_settled, is_settled, left, lost_up, runs, windowed, dequeued, fail, failed, heard, path_by, path_given, path_heard, path_told, paths_by, paths_given, paths_given_up, paths_with, with_meaning, want_in}
+use Rattle.gate_model.specs.Paths.{attach_by, lost_path, name_in, no_paths, or_no_path, path_at, slot_at, text_of, is_there, with_path}
+use Rattle.gate_model.specs.State.{Began, Came, Fed, Gave, Heard, Joined, Lost, Moment, OutOfMemory, Queued, Silent, State, Step, TakenUp, Whole, answered_if, before, came, carried, left, lost_up, runs, windowed, dequeued, fail, failed, heard, path_by, path_given, path_heard, path_told, paths_by, paths_given, paths_given_up, paths_with, with_meaning, want_in}
 
 -- ---- the flow-oks that a path owes
 
@@ -79,15 +71,7 @@ flows_due n ps = owed_in (slot_at ps n)
 
 -- ---- a path that is changed
 
--- a path that is set is found under its number alone
-set_elsewhere : (ps : List (Option PathState)) (k n : ℕ) (o : Option PathState) → (k == n) ≡ false → slot_at (slice_set ps k o) n ≡ slot_at ps n
-set_elsewhere [] k n o d = refl
-set_elsewhere (x ∷ ps) zero zero o d = absurd cc
-set_elsewhere (x ∷ ps) zero (suc n) o d = refl
-set_elsewhere (x ∷ ps) (suc k) zero o d = refl
-set_elsewhere (x ∷ ps) (suc k) (suc n) o d = set_elsewhere ps k n o (let less : (k == n) ≡ false = grind (arith, nat_tests, d) in less)
-
--- and there is at most this
+-- a path that is set is found under its number, where there is a place for it
 set_here : (ps : List (Option PathState)) (n : ℕ) (o : Option PathState) → owed_in (slot_at (slice_set ps n o) n) ≤ owed_in o
 set_here [] zero o = omega arith
 set_here [] (suc n) o = omega arith
@@ -115,14 +99,8 @@ with_more : (n k : ℕ) (ps : List (Option PathState)) (f : PathState → PathSt
     → flows_due n (with_path k f ps) ≤ flows_due n ps + (if k == n then more else 0)
 with_more n k ps f more less = set_less n k ps (option_map f (slot_at ps k)) more (changed f more (slot_at ps k) less)
 
-none_at : (k n : ℕ) → owed_in (or_none (slice_get (replicate k None) n)) ≡ 0
-none_at zero n = refl
-none_at (suc k) zero = refl
-none_at (suc k) (suc n) = none_at k n
-
 none_due : (n : ℕ) → 0 + flows_due n no_paths ≤ 0
-unfolding no_paths
-none_due n = let none = none_at 256 n in omega (arith, none)
+none_due n = let none : flows_due n no_paths ≡ 0 = ap owed_in (none_there n) in omega (arith, none)
 
 -- one that owes no more
 keeps_all : (b : Bool) (x y : ℕ) → x ≤ y + (if b then 0 else 0) → x ≤ y
@@ -135,17 +113,12 @@ with_less n k ps f same =
     keeps_all (k == n) _ _ (with_more n k ps f 0 (λ s. let here : flows_in (f s).oks ≡ flows_in s.oks = ap flows_in (same s) in omega (arith, here)))
 
 -- all are lost
-lost_slot : (ps : List (Option PathState)) (n : ℕ) → slot_at (map (option_map lost_path) ps) n ≡ option_map lost_path (slot_at ps n)
-lost_slot [] n = refl
-lost_slot (x ∷ ps) zero = refl
-lost_slot (x ∷ ps) (suc n) = lost_slot ps n
-
 lost_same : (o : Option PathState) → owed_in (option_map lost_path o) ≡ owed_in o
 lost_same None = refl
 lost_same (Some s) = refl
 
 lost_less : (n : ℕ) (ps : List (Option PathState)) → flows_due n (map (option_map lost_path) ps) ≤ flows_due n ps
-lost_less n ps = let same : flows_due n (map (option_map lost_path) ps) ≡ flows_due n ps = ap owed_in (lost_slot ps n) ∙ lost_same (slot_at ps n) in omega (arith, same)
+lost_less n ps = let same : flows_due n (map (option_map lost_path) ps) ≡ flows_due n ps = ap owed_in (map_slot ps n lost_path) ∙ lost_same (slot_at ps n) in omega (arith, same)
 
 less_both : (a b c : ℕ) → a ≤ b → b ≤ c → a ≤ c
 less_both a b c e f = omega (arith, e, f)
@@ -280,69 +253,12 @@ came_more n w u false total went e =
 -- ---- an answer
 
 -- the one that goes to a client on a channel is the first that its path owes
-abbrev IsFirstOk : List (Option PathState) → Reply → Type 0
-IsFirstOk ps r = (k : ℕ) (x : PathOk) → r ≡ reply.OnChannel k (to_client.Ok x) → next_ok (path_at ps k) ≡ Some x
+abbrev IsFirstOk : PathState → ChannelUnit → Type 0
+IsFirstOk s (to_client.Ok x) = next_ok s ≡ Some x
+IsFirstOk s (to_client.Confirm c) = Unit {0}
 
-dropped_less : (os : List PathOk) → flows_in (drop 1 os) ≤ flows_in os
-dropped_less [] = omega arith
-dropped_less (ok.Flow ∷ os) = omega arith
-dropped_less (ok.Declare ∷ os) = omega arith
-dropped_less (ok.Select ∷ os) = omega arith
-
-first_row : (ps : List (Option PathState)) (k : ℕ) (o : Option PathOk) (v : Reply) → next_ok (path_at ps k) ≡ o → first (ok_on k o) ≡ Some v → IsFirstOk ps v
-first_row ps k None v e f = absurd cc
-first_row ps k (Some x) v e f = λ m y g.
-    let is : reply.OnChannel k (to_client.Ok x) ≡ reply.OnChannel m (to_client.Ok y) = (let here : reply.OnChannel k (to_client.Ok x) ≡ v = cc in here) ∙ g in
-    let number : k ≡ m = cc in
-    let same : x ≡ y = cc in
-    subst (λ (i : ℕ). next_ok (path_at ps i) ≡ Some y) number (e ∙ ap Some same)
-
-first_ok : (ps : List (Option PathState)) (k : ℕ) (l : Life) (v : Reply) → first (oks_on ps k l) ≡ Some v → IsFirstOk ps v
-first_ok ps k l v e = by l.over e
-  where
-    by : (b : Bool) → first (if b then [] else ok_on k (next_ok (path_at ps k))) ≡ Some v → IsFirstOk ps v
-    by true f = absurd cc
-    by false f = first_row ps k (next_ok (path_at ps k)) v refl f
-
-not_ok : (ps : List (Option PathState)) (b : Bool) (u v : Reply) → ((k : ℕ) (x : PathOk) → u ≢ reply.OnChannel k (to_client.Ok x)) → first (when b u) ≡ Some v → IsFirstOk ps v
-not_ok ps true u v other e = λ k x f. let here : u ≡ v = cc in absurd (other k x (here ∙ f))
-not_ok ps false u v other e = absurd cc
-
-no_answer : (ps : List (Option PathState)) (r : Reply) → is_answer r ≡ true → IsFirstOk ps r
-no_answer ps r e = λ k x f. absurd (let is : is_answer (reply.OnChannel k (to_client.Ok x)) ≡ true = subst (λ (v : Reply). is_answer v ≡ true) f e in clash false is refl)
-
-confirm_row : (ps : List (Option PathState)) (may : Bool) (k : ℕ) (o : Option Confirm) (v : Reply) → first (confirm_on may k o) ≡ Some v → IsFirstOk ps v
-confirm_row ps may k None v e = absurd cc
-confirm_row ps may k (Some c) v e = not_ok ps may (reply.OnChannel k (to_client.Confirm c)) v (λ m x f. cc) e
-
-close_row : (ps : List (Option PathState)) (k : ℕ) (b c : Bool) (v : Reply) → first (when b (reply.CrossedOk k) ++ when c (reply.ChannelCloseOk k)) ≡ Some v → IsFirstOk ps v
-close_row ps k true c v e = not_ok ps true (reply.CrossedOk k) v (λ m x f. cc) e
-close_row ps k false c v e = not_ok ps c (reply.ChannelCloseOk k) v (λ m x f. cc) e
-
-refused_row : (ps : List (Option PathState)) (b : Bool) (k : ℕ) (o : Option Refusal) (v : Reply) → first (refused_on b k o) ≡ Some v → IsFirstOk ps v
-refused_row ps b k None v e = absurd cc
-refused_row ps b k (Some x) v e = not_ok ps b (reply.ChannelClose k x) v (λ m y f. cc) e
-
-owed_on : (w : State) (r : Reply) → IsOfChannel w r → IsFirstOk w.paths r
-owed_on w r (InAnswers e) = by (has (open_oks w))
-  where
-    by : Has (open_oks w) → IsFirstOk w.paths r
-    by (HasFirst u g) =
-        subst (IsFirstOk w.paths) (same_first (first (open_oks w ++ path_oks w)) u r (first_some (open_oks w) (path_oks w) u g) e)
-        (first_at (IsFirstOk w.paths) _ w.lives u (λ k v f. not_ok w.paths _ (reply.ChannelOpenOk k) v (λ m x d. cc) f) g)
-    by (HasNone g) =
-        first_at (IsFirstOk w.paths) (oks_on w.paths) w.lives r (λ k v f. first_ok w.paths k (life_at w.lives k) v f) (sym (first_none (open_oks w) (path_oks w) g) ∙ e)
-owed_on w r (InConfirms e) =
-    first_at (IsFirstOk w.paths) (confirms_on w.paths) w.lives r (λ k v f. confirm_row w.paths _ k _ v f) e
-owed_on w r (InOks e) =
-    first_at (IsFirstOk w.paths) (λ (n : ℕ) (l : Life). close_oks_on n (l.close_ok && is_channel_settled w n) l) w.lives r (λ k v f. close_row w.paths k _ _ v f) e
-owed_on w r (InCloses e) =
-    first_at (IsFirstOk w.paths) (λ (n : ℕ) (l : Life). refused_on (is_channel_settled w n) n l.close) w.lives r (λ k v f. refused_row w.paths _ k _ v f) e
-
-owed_picked : (h : List Step) (r : Reply) → ArePicks h → Picked (before h) r → IsFirstOk (before h).paths r
-owed_picked h r p (IsDue x) = no_answer (before h).paths r (first_due (is_settled (before h)) (before h).pending r (calm_now h p) x).answers
-owed_picked h r p (OnChannel x) = owed_on (before h) r x
-owed_picked h r p (Beats none due same) = λ k x f. absurd cc
+abbrev IsFirstOn : List (Option PathState) → ℕ → ChannelUnit → Type 0
+IsFirstOn ps n u = IsFirstOk (path_at ps n) u
 
 -- the answer goes, and its path owes it no more
 sent_less : (s : PathState) (x : PathOk) → next_ok s ≡ Some x → flows_in (ok_sent s).oks + one_if (is_flow_ok (to_client.Ok x)) ≤ flows_in s.oks
@@ -360,14 +276,13 @@ sent_less s x e = by s.oks x e
     by (ok.Select ∷ os) ok.Declare f = absurd cc
     by (ok.Select ∷ os) ok.Select f = omega arith
 
-told_less : (o : Option PathState) (u : ChannelUnit) → ((x : PathOk) → u ≡ to_client.Ok x → next_ok (or_no_path o) ≡ Some x)
-    → owed_in (option_map (path_told u) o) + one_if (is_flow_ok u) ≤ owed_in o
-told_less None (to_client.Ok x) f = let none = f x refl in absurd cc
+told_less : (o : Option PathState) (u : ChannelUnit) → IsFirstOk (or_no_path o) u → owed_in (option_map (path_told u) o) + one_if (is_flow_ok u) ≤ owed_in o
+told_less None (to_client.Ok x) f = absurd cc
 told_less None (to_client.Confirm c) f = omega arith
-told_less (Some s) (to_client.Ok x) f = sent_less s x (f x refl)
+told_less (Some s) (to_client.Ok x) f = sent_less s x f
 told_less (Some s) (to_client.Confirm c) f = omega arith
 
-given_less : (n : ℕ) (u : Reply) (ps : List (Option PathState)) → IsFirstOk ps u → flows_due n (paths_given u ps) + one_if (is_flow_ok_on n u) ≤ flows_due n ps
+given_less : (n : ℕ) (u : Reply) (ps : List (Option PathState)) → OfChannel (IsFirstOn ps) u → flows_due n (paths_given u ps) + one_if (is_flow_ok_on n u) ≤ flows_due n ps
 given_less n reply.Protocol ps o = omega arith
 given_less n reply.Start ps o = omega arith
 given_less n reply.Tune ps o = omega arith
@@ -380,7 +295,7 @@ given_less n (reply.ChannelOpenOk k) ps o = omega arith
 given_less n (reply.OnChannel k u) ps o = by (k == n) refl
   where
     told : owed_in (option_map (path_told u) (slot_at ps k)) + one_if (is_flow_ok u) ≤ owed_in (slot_at ps k)
-    told = told_less (slot_at ps k) u (λ x e. o k x (ap (reply.OnChannel k) e))
+    told = told_less (slot_at ps k) u o
 
     by : (b : Bool) → (k == n) ≡ b → flows_due n (with_path k (path_told u) ps) + one_if (b && is_flow_ok u) ≤ flows_due n ps
     by true e =
@@ -447,7 +362,7 @@ counts n (Lost Up loss.Ended ∷ h) p = keeps _ _ _ _ (lost_up_less n side.Ended
 counts n (Lost Up loss.Failed ∷ h) p = keeps _ _ _ _ (lost_up_less n side.Failed (before h)) (counts n h p.1)
 counts n (Lost Up loss.Shut ∷ h) p = counts n h p.1
 counts n (Gave (ToClient u) text ∷ h) p =
-    let less = given_less n u (before h).paths (owed_picked h u p.1 (picked (before h) u p.0.1)) in
+    let less = given_less n u (before h).paths (goes_as (IsFirstOn (before h).paths) (before h) u (record { answer = λ k x e. e; confirm = λ k c e. tt }) p.0.1) in
     let old = counts n h p.1 in
     omega (arith, less, old)
 counts n (Gave (ToUp u) text ∷ h) p = keeps _ _ _ _ (up_less n u (before h).paths) (counts n h p.1)

@@ -2,6 +2,8 @@ pub mod Carrying
 pub mod Closings
 pub mod Connections
 pub mod Ends
+pub mod Fates
+pub mod Firsts
 pub mod Flows
 pub mod Frames
 pub mod Goes
@@ -11,12 +13,15 @@ pub mod Once
 pub mod Openings
 pub mod Orders
 pub mod Outcomes
+pub mod Publishing
 pub mod Queues
 pub mod Rows
 pub mod Said
 pub mod Sessions
 pub mod Silences
+pub mod Slots
 pub mod Spelled
 pub mod Times
 pub mod Ups
 pub mod Waits
+pub mod Wholes

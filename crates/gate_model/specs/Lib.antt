@@ -8,6 +8,7 @@ pub mod Once
 pub mod Order
 pub mod Paths
 pub mod Picks
+pub mod Publishing
 pub mod Queue
 pub mod Requests
 pub mod Session

@@ -3,6 +3,9 @@
 //! it.
 
 ghost use Rattle.std.specs.Prelude.{◌≡◌, ℕ, ◌<◌, ◌≤◌, List, length};
+ghost use Rattle.std.specs.Option.{option_map};
+ghost use Rattle.machine_091.specs.declared.limits.TheConstants.{CHANNEL_MAX};
+ghost use Rattle.session_path.specs.Events.{after_events};
 ghost use Rattle.gate_model.specs.declared.reply.Reply.{Reply};
 ghost use Rattle.gate_model.specs.Answers.{AreAnswered};
 ghost use Rattle.gate_model.specs.Asked.{AreCalledFor, GoesWhenDue, ShutsUpAtOnce};
@@ -11,7 +14,10 @@ ghost use Rattle.gate_model.specs.Folds.{connection, container, moment_in, numbe
 ghost use Rattle.gate_model.specs.Folds.{side_in};
 ghost use Rattle.gate_model.specs.Once.{AnswersOnce};
 ghost use Rattle.gate_model.specs.Order.{TakesInOrder};
+ghost use Rattle.gate_model.specs.Paths.{slot_at};
 ghost use Rattle.gate_model.specs.Picks.{ArePicks};
+ghost use Rattle.gate_model.specs.Publishing.{ArePieces, Confirms, EndWhole, Transfers};
+ghost use Rattle.gate_model.specs.Publishing.{path_events, path_life};
 ghost use Rattle.gate_model.specs.Silence.{SilentAtOnce, SilentWhenDue};
 ghost use Rattle.gate_model.specs.Spelling.{spell_reply};
 ghost use Rattle.gate_model.specs.State.{Step, before};
@@ -20,6 +26,8 @@ ghost use Rattle.gate_model.specs.Waiting.{ChannelsEndWhenSettled, EndsWhenSettl
 ghost use Rattle.gate_model.specs.Waiting.{OpensWhenOpened};
 
 use machine_091::connection_laws;
+use publish_path::{confirms_lawfully, payloads_lawfully};
+use session_path::publishes_lawfully;
 
 /// The state knows both connections, how far the upstream end is, the last moment, whether the pair
 /// ran out of memory and its number, as the folds tell them.
@@ -32,6 +40,45 @@ pub fn states_are_known()
     ensures memory { (h : List Step) → ArePicks h → (before h).out_of_memory ≡ ran_out_in h }
     ensures number { (h : List Step) → ArePicks h → (before h).number ≡ number_in h }
 {}
+
+/// The links, publishes and answers of a channel are what the events of its life in progress make
+/// of them; a channel without a life has none.
+#[tactic(auto, using(crate::proofs::Publishing::path_is))]
+pub fn paths_are_known()
+    ensures { (h : List Step) (n : ℕ) → ArePicks h → n ≤ CHANNEL_MAX
+        → slot_at (before h).paths n
+        ≡ option_map (λ (life : ℕ). after_events life (path_events h n)) (path_life h n) }
+{}
+
+/// Each confirm that goes to a client covers publishes of the channel's life that wait for one
+/// alone, with the outcome that it tells: an ack those that the container accepted.
+pub fn confirms_are_lawful()
+    ensures { (h : List Step) → ArePicks h → Confirms h }
+{
+    publishes_lawfully();
+    confirms_lawfully();
+}
+
+/// Each frame of a transfer that goes to a container is that of the publish that is begun, else of
+/// the least number that waits on an attached link with credit; the window of the session has room
+/// for it. It has the delivery-id of the next transfer and the handle of its link, carries the
+/// first bytes of what is left of the payload, and says whether more are.
+pub fn transfers_are_lawful()
+    ensures { (h : List Step) → ArePicks h → Transfers h }
+{
+    publishes_lawfully();
+    payloads_lawfully();
+}
+
+/// The frames of the transfer of a publish carry the text of the image of its message, each byte
+/// once and in order, and all of it once one says that no more follows.
+pub fn payloads_are_whole()
+    ensures pieces { (h : List Step) → ArePicks h → ArePieces h }
+    ensures end { (h : List Step) → ArePicks h → EndWhole h }
+{
+    publishes_lawfully();
+    payloads_lawfully();
+}
 
 /// What was sent to a client, without heartbeats, and what is due to it are the replies to its
 /// units and to what happened upstream, in their order: to the protocol header connection.start, to

@@ -1,7 +1,7 @@
 //! What a pair should do, over whole units, and the laws of it. Definitions stand in specs/: the
 //! steps of a pair and the state that they amount to (State, and Upstream for its upstream end),
 //! what that owes and awaits (Due), the folds that the laws speak of (Folds), and the laws (Picks,
-//! Answers, Waiting, Frames, Times, Asked). The laws are the functions of `laws`.
+//! Answers, Waiting, Frames, Times, Asked, Publishing). The laws are the functions of `laws`.
 #![tactic(auto)]
 
 mod channel;
@@ -15,8 +15,9 @@ mod timers;
 
 pub use channel::{AttachOut, ChannelUnit, LinkFlow, SessionUnit, TransferOut};
 pub use laws::{
-    channels_are_answered_once, clients_are_answered, containers_are_asked, containers_are_left,
-    frames_fit_clients, replies_wait, silent_ends_are_given_up, states_are_known, times_are_kept,
+    channels_are_answered_once, clients_are_answered, confirms_are_lawful, containers_are_asked,
+    containers_are_left, frames_fit_clients, paths_are_known, payloads_are_whole, replies_wait,
+    silent_ends_are_given_up, states_are_known, times_are_kept, transfers_are_lawful,
     units_are_short, units_keep_their_order,
 };
 pub use life::{Life, SessionState};

@@ -1,0 +1,224 @@
+-- What holds of the first of each row holds of the unit that goes: one of a channel's answers and confirms, or one of its session's
+-- links, is the next of its kind.
+use Rattle.std.proofs.Common.{◌≡◌, ℕ, zero, suc, ◌+◌, not, ◌&&◌, ◌||◌, Bool, true, false, if◌then◌else◌, List, [], ◌∷◌, ◌++◌, Option, None, Some, arith, refl, subst, map}
+use Rattle.std.specs.Prelude.{IfSome}
+use Rattle.gate_outside.specs.declared.ports.End.TheVariants.{Client, Up}
+use Rattle.gate_relay.specs.Sides.{is_readable}
+use Rattle.machine_091.specs.State.{is_closing}
+use Rattle.machine_091.specs.declared.unit.Refusal.{Refusal}
+use Rattle.publish_path.specs.declared.publish.Confirm.{Confirm}
+use Rattle.publish_path.specs.declared.publish.NextFrame.{NextFrame}
+use Rattle.session_path.specs.Due.{next_attach, next_confirm, next_detach, next_flow, next_frame, next_ok, next_settle}
+use Rattle.session_path.specs.Links.{handle_of}
+use Rattle.session_path.specs.declared.path.AttachDue.{AttachDue}
+use Rattle.session_path.specs.declared.path.FlowDue.{FlowDue}
+use Rattle.session_path.specs.declared.path.PathLink.{PathLink}
+use Rattle.session_path.specs.declared.path.PathOk.{PathOk}
+use Rattle.session_path.specs.declared.path.Settling.{Settling}
+use Rattle.gate_model.specs.declared.channel.ChannelUnit.{ChannelUnit}
+use Rattle.gate_model.specs.declared.channel.ChannelUnit.TheVariants as to_client
+use Rattle.gate_model.specs.declared.channel.SessionUnit.{SessionUnit}
+use Rattle.gate_model.specs.declared.channel.SessionUnit.TheVariants as unit
+use Rattle.gate_model.specs.declared.life.Life.{Life}
+use Rattle.gate_model.specs.declared.outgoing.Outgoing.TheVariants.{ToClient, ToUp}
+use Rattle.gate_model.specs.declared.outgoing.UpUnit.{UpUnit}
+use Rattle.gate_model.specs.declared.outgoing.UpUnit.TheVariants as up
+use Rattle.gate_model.specs.declared.reply.Pending.{Pending}
+use Rattle.gate_model.specs.declared.reply.Reply.{Reply}
+use Rattle.gate_model.specs.declared.reply.Reply.TheVariants as reply
+use Rattle.gate_model.specs.Due.{attaches, begins, carried_rows, channel_closes, channel_oks, client_rows, client_units, close_behind, close_oks, close_oks_on, closes, confirm_on, confirms, detaches, ends, frame_max_in, if_so, is_beat_due, is_end_due, last_closes, link_flows, may_answer, may_confirm, may_end, may_go, may_tell, none_left, ok_on, open_oks, openings, path_oks, pick, refused_on, row_on, rows_in, session_flows, session_rows, settlings, transfers, unless_out, up_rows, when}
+use Rattle.gate_model.specs.Lives.{each, is_carried, life_at, session_in}
+use Rattle.gate_model.specs.Paths.{attach_out, flow_out, path_at, transfer_of}
+use Rattle.gate_model.specs.State.{State, is_channel_settled, is_settled}
+use Rattle.gate_model.specs.Upstream.{first, is_idle_due, opening_rows, when_up}
+
+-- ---- of lists
+
+abbrev pub FirstIs : {A : Type 0} → (A → Type 0) → List A → Type 0
+FirstIs P us = IfSome (first us) P
+
+pub both_are : {A : Type 0} (P : A → Type 0) (us vs : List A) → FirstIs P us → FirstIs P vs → FirstIs P (us ++ vs)
+both_are P [] vs p q = q
+both_are P (u ∷ us) vs p q = p
+
+each_from : {A : Type 0} (P : A → Type 0) (f : ℕ → Life → List A) (n : ℕ) (ls : List Life) → ((k : ℕ) → FirstIs P (f (n + k) (life_at ls k))) → FirstIs P (each f n ls)
+each_from P f n [] is = tt
+each_from P f n (l ∷ ls) is =
+    let here : n + zero ≡ n = omega arith in
+    both_are P (f n l) (each f (n + 1) ls) (subst (λ (m : ℕ). FirstIs P (f m l)) here (is zero)) (each_from P f (n + 1) ls later)
+  where
+    later : (k : ℕ) → FirstIs P (f ((n + 1) + k) (life_at ls k))
+    later k = let next : n + suc k ≡ (n + 1) + k = omega arith in subst (λ (m : ℕ). FirstIs P (f m (life_at ls k))) next (is (suc k))
+
+-- by the numbers of channels
+pub each_is : {A : Type 0} (P : A → Type 0) (f : ℕ → Life → List A) (ls : List Life) → ((n : ℕ) → FirstIs P (f n (life_at ls n))) → FirstIs P (each f 0 ls)
+each_is P f ls is = each_from P f 0 ls (λ k. let same : k ≡ 0 + k = omega arith in subst (λ (m : ℕ). FirstIs P (f m (life_at ls k))) same (is k))
+
+pub when_up_is : (P : UpUnit → Type 0) (b : Bool) (u : UpUnit) → P u → FirstIs P (when_up b u)
+when_up_is P true u p = p
+when_up_is P false u p = tt
+
+pub when_is : (P : Reply → Type 0) (b : Bool) (u : Reply) → P u → FirstIs P (when b u)
+when_is P true u p = p
+when_is P false u p = tt
+
+if_so_is : (P : Reply → Type 0) (b : Bool) (us : List Reply) → FirstIs P us → FirstIs P (if_so b us)
+if_so_is P true us p = p
+if_so_is P false us p = tt
+
+-- ---- to the container
+
+-- what holds of the units of sessions' links
+abbrev pub OfSession : (ℕ → SessionUnit → Type 0) → UpUnit → Type 0
+OfSession Q (up.OnSession n u) = Q n u
+OfSession Q u = Unit {0}
+
+pub record SessionUnits (Q : ℕ → SessionUnit → Type 0) (w : State) : Type 0 where
+  pub attach : (n : ℕ) (a : AttachDue) → next_attach (path_at w.paths n) ≡ Some a → Q n (unit.Attach (attach_out w.attached a))
+  pub flow : (n : ℕ) (f : FlowDue) → next_flow (path_at w.paths n) ≡ Some f → Q n (unit.Flow (flow_out (life_at w.lives n).session f))
+  pub transfer : (n : ℕ) (f : NextFrame) → next_frame (life_at w.lives n).session.windows.window (path_at w.paths n) ≡ Some f
+      → Q n (unit.Transfer (transfer_of (frame_max_in w.up.container) (path_at w.paths n) f))
+  pub settle : (n : ℕ) (x : Settling) → next_settle (path_at w.paths n) ≡ Some x → Q n (unit.Settle x)
+  pub detach : (n : ℕ) (x : PathLink) → next_detach (path_at w.paths n) ≡ Some x → Q n (unit.Detach x.link (handle_of x.stage))
+
+row_is : {A : Type 0} (Q : ℕ → SessionUnit → Type 0) (w : State) (n : ℕ) (o : Option A) (f : A → SessionUnit) → ((x : A) → o ≡ Some x → Q n (f x))
+    → FirstIs (OfSession Q) (row_on w.up.container n o f)
+row_is Q w n None f is = tt
+row_is Q w n (Some x) f is = when_up_is (OfSession Q) (is_carried (session_in w.up.container n)) (up.OnSession n (f x)) (is x refl)
+
+session_is : (Q : ℕ → SessionUnit → Type 0) (w : State) → SessionUnits Q w → FirstIs (OfSession Q) (session_rows w)
+session_is Q w us =
+    both_are P (unless_out w.out_of_memory (carried_rows w)) _ (by w.out_of_memory)
+    (both_are P (settlings w) (detaches w) (each_is P _ w.lives (λ n. row_is Q w n _ _ (us.settle n)))
+    (each_is P _ w.lives (λ n. row_is Q w n _ _ (us.detach n))))
+  where
+    P : UpUnit → Type 0
+    P = OfSession Q
+
+    carried : FirstIs P (carried_rows w)
+    carried =
+        both_are P (attaches w) _ (each_is P _ w.lives (λ n. row_is Q w n _ _ (us.attach n)))
+        (both_are P (link_flows w) _ (each_is P _ w.lives (λ n. row_is Q w n _ _ (us.flow n)))
+        (both_are P (session_flows w) (transfers w) (each_is P _ w.lives (λ n. when_up_is P _ _ tt))
+        (each_is P _ w.lives (λ n. row_is Q w n _ _ (us.transfer n)))))
+
+    by : (b : Bool) → FirstIs P (unless_out b (carried_rows w))
+    by true = tt
+    by false = carried
+
+up_rows_are : (Q : ℕ → SessionUnit → Type 0) (w : State) → SessionUnits Q w → FirstIs (OfSession Q) (up_rows w)
+up_rows_are Q w us = all (is_readable w.up.side && not w.up.sent.close)
+  where
+    P : UpUnit → Type 0
+    P = OfSession Q
+
+    last : (closing : Bool) → FirstIs P (ends closing w)
+    last closing = each_is P _ w.lives (λ n. when_up_is P (is_end_due closing w n) _ tt)
+
+    opening : FirstIs P (opening_rows w.up.pending)
+    opening =
+        both_are P _ _ (when_up_is P w.up.pending.sasl_header up.SaslHeader tt)
+        (both_are P _ _ (when_up_is P w.up.pending.init up.SaslInit tt)
+        (both_are P _ _ (when_up_is P w.up.pending.amqp_header up.AmqpHeader tt)
+        (when_up_is P w.up.pending.«open» up.Open tt)))
+
+    rows : (closing : Bool) → FirstIs P (rows_in closing w)
+    rows true =
+        both_are P (session_rows w) _ (session_is Q w us)
+        (both_are P (ends true w) (close_behind w) (last true) (when_up_is P (none_left w && w.up.sent.«open») _ tt))
+    rows false =
+        both_are P (opening_rows w.up.pending) _ opening
+        (both_are P (begins w) _ (each_is P _ w.lives (λ n. when_up_is P _ _ tt))
+        (both_are P (session_rows w) _ (session_is Q w us)
+        (both_are P (ends false w) _ (last false) (when_up_is P (is_idle_due w.up w.moment) up.Empty tt))))
+
+    all : (b : Bool) → FirstIs P (if b then rows_in (w.out_of_memory || is_closing w.conn) w else [])
+    all true = rows (w.out_of_memory || is_closing w.conn)
+    all false = tt
+
+-- ---- to the client
+
+-- what holds of the units of channels that are open
+abbrev pub OfChannel : (ℕ → ChannelUnit → Type 0) → Reply → Type 0
+OfChannel Q (reply.OnChannel n u) = Q n u
+OfChannel Q u = Unit {0}
+
+pub record ChannelUnits (Q : ℕ → ChannelUnit → Type 0) (w : State) : Type 0 where
+  pub answer : (n : ℕ) (x : PathOk) → next_ok (path_at w.paths n) ≡ Some x → Q n (to_client.Ok x)
+  pub confirm : (n : ℕ) (c : Confirm) → next_confirm (path_at w.paths n) ≡ Some c → Q n (to_client.Confirm c)
+
+client_rows_are : (Q : ℕ → ChannelUnit → Type 0) (w : State) → ChannelUnits Q w → FirstIs (OfChannel Q) (client_rows w)
+client_rows_are Q w us =
+    both_are P (client_units w) _ (both_are P (openings p) _ opening (both_are P _ _ (if_so_is P (may_answer w) _ answering) confirming))
+    (when_is P (is_beat_due w) reply.Heartbeat tt)
+  where
+    P : Reply → Type 0
+    P = OfChannel Q
+
+    p : Pending
+    p = may_go (is_settled w) w.pending
+
+    opening : FirstIs P (openings p)
+    opening =
+        both_are P _ _ (when_is P p.protocol reply.Protocol tt)
+        (both_are P _ _ (when_is P p.start reply.Start tt) (both_are P _ _ (when_is P p.tune reply.Tune tt) (when_is P p.open_ok reply.OpenOk tt)))
+
+    answer_is : (n : ℕ) (o : Option PathOk) → next_ok (path_at w.paths n) ≡ o → FirstIs P (ok_on n o)
+    answer_is n None e = tt
+    answer_is n (Some x) e = us.answer n x e
+
+    answers_are : (n : ℕ) (over : Bool) → FirstIs P (if over then [] else ok_on n (next_ok (path_at w.paths n)))
+    answers_are n true = tt
+    answers_are n false = answer_is n (next_ok (path_at w.paths n)) refl
+
+    answering : FirstIs P (open_oks w ++ path_oks w)
+    answering =
+        both_are P (open_oks w) (path_oks w) (each_is P _ w.lives (λ n. when_is P (life_at w.lives n).open_ok (reply.ChannelOpenOk n) tt))
+        (each_is P _ w.lives (λ n. answers_are n (life_at w.lives n).over))
+
+    confirm_is : (n : ℕ) (may : Bool) (o : Option Confirm) → next_confirm (path_at w.paths n) ≡ o → FirstIs P (confirm_on may n o)
+    confirm_is n may None e = tt
+    confirm_is n may (Some c) e = when_is P may (reply.OnChannel n (to_client.Confirm c)) (us.confirm n c e)
+
+    ok_is : (n : ℕ) (settled : Bool) (l : Life) → FirstIs P (close_oks_on n settled l)
+    ok_is n settled l = both_are P (when l.crossed_ok (reply.CrossedOk n)) _ (when_is P l.crossed_ok (reply.CrossedOk n) tt) (when_is P settled (reply.ChannelCloseOk n) tt)
+
+    refusal_is : (n : ℕ) (settled : Bool) (o : Option Refusal) → FirstIs P (refused_on settled n o)
+    refusal_is n settled None = tt
+    refusal_is n settled (Some r) = when_is P settled (reply.ChannelClose n r) tt
+
+    close_is : (o : Option Refusal) → FirstIs P (closes o)
+    close_is None = tt
+    close_is (Some r) = tt
+
+    closing : FirstIs P (close_oks p ++ (if_so (may_end w) (channel_oks w) ++ (last_closes p ++ if_so (may_tell w) (channel_closes w))))
+    closing =
+        both_are P (close_oks p) _ (when_is P p.close_ok reply.CloseOk tt)
+        (both_are P (if_so (may_end w) (channel_oks w)) _
+        (if_so_is P (may_end w) (channel_oks w) (each_is P _ w.lives (λ n. ok_is n _ (life_at w.lives n))))
+        (both_are P (last_closes p) _ (both_are P (closes p.close) _ (close_is p.close) (when_is P p.no_memory reply.NoMemory tt))
+        (if_so_is P (may_tell w) (channel_closes w) (each_is P _ w.lives (λ n. refusal_is n (is_channel_settled w n) (life_at w.lives n).close)))))
+
+    confirming : FirstIs P (if_so (may_answer w || w.by_peer) (confirms w)
+        ++ (close_oks p ++ (if_so (may_end w) (channel_oks w) ++ (last_closes p ++ if_so (may_tell w) (channel_closes w)))))
+    confirming =
+        both_are P (if_so (may_answer w || w.by_peer) (confirms w)) _
+        (if_so_is P (may_answer w || w.by_peer) (confirms w)
+        (each_is P _ w.lives (λ n. confirm_is n (may_confirm (life_at w.lives n)) (next_confirm (path_at w.paths n)) refl)))
+        closing
+
+-- ---- the unit that goes
+
+of_up : (P : UpUnit → Type 0) (us : List UpUnit) (u : UpUnit) → FirstIs P us → first (map ToUp us) ≡ Some (ToUp u) → P u
+of_up P [] u p e = absurd cc
+of_up P (x ∷ us) u p e = let same : x ≡ u = cc in subst P same p
+
+of_client : (P : Reply → Type 0) (us : List Reply) (u : Reply) → FirstIs P us → first (map ToClient us) ≡ Some (ToClient u) → P u
+of_client P [] u p e = absurd cc
+of_client P (x ∷ us) u p e = let same : x ≡ u = cc in subst P same p
+
+pub goes_up_as : (Q : ℕ → SessionUnit → Type 0) (w : State) (u : UpUnit) → SessionUnits Q w → pick w Up ≡ Some (ToUp u) → OfSession Q u
+goes_up_as Q w u us e = of_up (OfSession Q) (up_rows w) u (up_rows_are Q w us) e
+
+pub goes_as : (Q : ℕ → ChannelUnit → Type 0) (w : State) (u : Reply) → ChannelUnits Q w → pick w Client ≡ Some (ToClient u) → OfChannel Q u
+goes_as Q w u us e = of_client (OfChannel Q) (client_rows w) u (client_rows_are Q w us) e

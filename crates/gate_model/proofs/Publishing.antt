@@ -1,0 +1,359 @@
+-- The path of a channel is what the events of its life in progress make of it.
+use Rattle.std.proofs.Common.{◌≡◌, ℕ, ◌+◌, ◌==◌, ◌<◌, ◌≤◌, Bool, true, false, not, ◌&&◌, if◌then◌else◌, List, [], ◌∷◌, ◌++◌, length, map, Option, None, Some, option_map, refl, sym, ap, ◌∙◌, subst, arith}
+use Rattle.std.proofs.lemmas.Bool.Decides.{nat_tests}
+use Rattle.close_translate.specs.declared.conditions.Scope.{Scope}
+use Rattle.close_translate.specs.declared.conditions.Scope.TheVariants as scope
+use Rattle.gate_outside.specs.declared.ports.End.TheVariants.{Client, Up}
+use Rattle.gate_outside.specs.declared.ports.Linked.TheVariants as link
+use Rattle.gate_relay.specs.declared.loss.Loss.TheVariants as loss
+use Rattle.machine_091.specs.Calls.{after_ended}
+use Rattle.machine_091.specs.State.{is_closing, is_open}
+use Rattle.machine_091.specs.declared.limits.TheConstants.{CHANNEL_MAX}
+use Rattle.machine_091.specs.declared.unit.Unit91.{Unit91}
+use Rattle.machine_091.specs.declared.unit.Want91.{Want91}
+use Rattle.machine_091.specs.declared.unit.Want91.TheVariants as want
+use Rattle.machine_10.specs.Parts.{Parts}
+use Rattle.machine_10.specs.Reading.{field, number_at}
+use Rattle.machine_10.specs.Transitions as ten
+use Rattle.machine_10.specs.Transitions.{Meaning}
+use Rattle.machine_10.specs.declared.unit.Unit10.{Unit10}
+use Rattle.methods_091.specs.declared.method.Method91.{Method91}
+use Rattle.methods_091.specs.declared.method.Method91.TheVariants as method
+use Rattle.property_map.specs.Spelling.{image_text}
+use Rattle.session_path.specs.Events as event
+use Rattle.session_path.specs.Events.{PathEvent, after_event, after_events}
+use Rattle.session_path.specs.Path.{PathState, opened, published, selected}
+use Rattle.session_path.specs.declared.path.PathOk.{PathOk}
+use Rattle.session_path.specs.declared.path.PathOk.TheVariants as ok
+use Rattle.gate_model.specs.declared.channel.ChannelUnit.{ChannelUnit}
+use Rattle.gate_model.specs.declared.channel.ChannelUnit.TheVariants as to_client
+use Rattle.gate_model.specs.declared.channel.SessionUnit.{SessionUnit}
+use Rattle.gate_model.specs.declared.channel.SessionUnit.TheVariants as unit
+use Rattle.gate_model.specs.declared.outgoing.Outgoing.TheVariants.{ToClient, ToUp}
+use Rattle.gate_model.specs.declared.outgoing.UpUnit.{UpUnit}
+use Rattle.gate_model.specs.declared.outgoing.UpUnit.TheVariants as up
+use Rattle.gate_model.specs.declared.reply.Reply.{Reply}
+use Rattle.gate_model.specs.declared.reply.Reply.TheVariants as reply
+use Rattle.gate_model.specs.Folds.{Peers, connection, container, ended_on, leaving_in, paths_failed, paths_in, peers, peers_by, peers_came, peers_failed, peers_heard, peers_lost, peers_scoped, ran_out_in}
+use Rattle.gate_model.specs.Once.{is_channel_open, is_method_on}
+use Rattle.gate_model.specs.Paths.{attach_by, is_outcome, is_there, lost_path, name_in, no_paths, path_at, set_path, slot_at, text_of, with_path}
+use Rattle.gate_model.specs.Picks.{ArePicks}
+use Rattle.gate_model.specs.Publishing.{attach_events, ending, failing, given_event, heard_events, lost_if, meaning_events, method_events, owed_unless, path_events, path_life, reply_events, session_events, step_events, told_event, up_events, want_events}
+use Rattle.gate_model.specs.Requests.{message_of}
+use Rattle.gate_model.specs.Session.{is_of_session}
+use Rattle.gate_model.specs.State.{Began, Came, Fed, Gave, Heard, Joined, Lost, Moment, OutOfMemory, Queued, Silent, Step, TakenUp, Whole, answered_if, before, link_scope, path_given, path_heard, path_told, paths_by, paths_given, paths_given_up, paths_with, want_in}
+use Rattle.gate_model.specs.Upstream.{container_by, meaning_by}
+use Rattle.gate_model.proofs.Known.{known, paths_are}
+use Rattle.gate_model.proofs.Slots.{map_long, map_slot, none_long, none_there, set_elsewhere, set_here, set_long, with_here}
+
+-- ---- events on top of others
+
+abbrev pub after_all : List PathEvent → PathState → PathState
+after_all [] s = s
+after_all (x ∷ xs) s = after_event x (after_all xs s)
+
+on_top : (life : ℕ) (xs h : List PathEvent) → after_events life (xs ++ h) ≡ after_all xs (after_events life h)
+on_top life [] h = refl
+on_top life (x ∷ xs) h = ap (after_event x) (on_top life xs h)
+
+both_all : (ys xs : List PathEvent) (s : PathState) → after_all (ys ++ xs) s ≡ after_all ys (after_all xs s)
+both_all [] xs s = refl
+both_all (y ∷ ys) xs s = ap (after_event y) (both_all ys xs s)
+
+-- ---- what events make of the path of one channel
+
+-- there are as many paths as before, and that of n is after these events
+record Goes (n : ℕ) (ps : List (Option PathState)) (xs : List PathEvent) (qs : List (Option PathState)) : Type 0 where
+  slot : slot_at qs n ≡ option_map (after_all xs) (slot_at ps n)
+  long : length qs ≡ length ps
+
+same_map : (f g : PathState → PathState) (o : Option PathState) → ((s : PathState) → f s ≡ g s) → option_map f o ≡ option_map g o
+same_map f g None e = refl
+same_map f g (Some s) e = ap Some (e s)
+
+stays : (n : ℕ) (ps : List (Option PathState)) → Goes n ps [] ps
+stays n ps = record { slot = by (slot_at ps n); long = refl }
+  where
+    by : (o : Option PathState) → o ≡ option_map (after_all []) o
+    by None = refl
+    by (Some s) = refl
+
+behind : {n : ℕ} {ps qs rs : List (Option PathState)} {xs ys : List PathEvent} → Goes n ps xs qs → Goes n qs ys rs → Goes n ps (ys ++ xs) rs
+behind {n} {ps} {qs} {rs} {xs} {ys} g k = record {
+  slot = k.slot ∙ ap (option_map (after_all ys)) g.slot ∙ by (slot_at ps n);
+  long = k.long ∙ g.long;
+}
+  where
+    by : (o : Option PathState) → option_map (after_all ys) (option_map (after_all xs) o) ≡ option_map (after_all (ys ++ xs)) o
+    by None = refl
+    by (Some s) = ap Some (sym (both_all ys xs s))
+
+-- of one channel alone
+changes : (n k : ℕ) (ps : List (Option PathState)) (f : PathState → PathState) (xs : List PathEvent) → ((s : PathState) → f s ≡ after_all xs s)
+    → Goes n ps (if k == n then xs else []) (with_path k f ps)
+changes n k ps f xs e = by (k == n) refl
+  where
+    by : (b : Bool) → (k == n) ≡ b → Goes n ps (if b then xs else []) (with_path k f ps)
+    by true g =
+        let same : k ≡ n = grind (arith, nat_tests, g) in
+        subst (λ (m : ℕ). Goes n ps xs (with_path m f ps)) (sym same)
+        (record { slot = with_here ps n f ∙ same_map f (after_all xs) (slot_at ps n) e; long = set_long ps n _ })
+    by false g = record { slot = set_elsewhere ps k n _ g ∙ (stays n ps).slot; long = set_long ps k _ }
+
+-- of all
+each_lost : (n : ℕ) (ps : List (Option PathState)) → Goes n ps (event.SessionLost ∷ []) (map (option_map lost_path) ps)
+each_lost n ps = record { slot = map_slot ps n lost_path; long = map_long ps lost_path }
+
+-- ---- what fails
+
+fails : (n : ℕ) (p : Peers) → Goes n p.paths (failing p.client) (peers_failed p).paths
+fails n p = by (is_closing p.client)
+  where
+    by : (b : Bool) → Goes n p.paths (lost_if (not b)) (paths_failed b p.paths)
+    by true = stays n p.paths
+    by false = each_lost n p.paths
+
+falls : (n : ℕ) (p : Peers) → Goes n p.paths (failing p.client ++ event.SessionLost ∷ []) (peers_lost p).paths
+falls n p = behind (each_lost n p.paths) (fails n (record p { paths = map (option_map lost_path) p.paths }))
+
+-- a channel
+idles : (n k : ℕ) (ps : List (Option PathState)) → Goes n ps (if k == n then [] else []) ps
+idles n k ps = by (k == n)
+  where
+    by : (b : Bool) → Goes n ps (if b then [] else []) ps
+    by true = stays n ps
+    by false = stays n ps
+
+ends : (n k : ℕ) (p : Peers) → Goes n p.paths (if k == n then ending p.client k else []) (ended_on (is_open p.client k) k p).paths
+ends n k p = by (is_open p.client k)
+  where
+    by : (b : Bool) → Goes n p.paths (if k == n then lost_if b else []) (ended_on b k p).paths
+    by true = changes n k p.paths lost_path (event.SessionLost ∷ []) (λ s. refl)
+    by false = idles n k p.paths
+
+-- ---- what the container sends
+
+if_is : (b : Bool) (xs ys : List PathEvent) (x y s : PathState) → x ≡ after_all xs s → y ≡ after_all ys s
+    → (if b then x else y) ≡ after_all (if b then xs else ys) s
+if_is true xs ys x y s e f = e
+if_is false xs ys x y s e f = f
+
+attach_is : (o : Option ℕ) (peer : ℕ) (target : Bool) (s : PathState) → attach_by o peer target s ≡ after_all (attach_events o peer target) s
+attach_is None peer target s = refl
+attach_is (Some name) peer target s = refl
+
+heard_is : (q : Parts) (s : PathState) → path_heard q s ≡ after_all (heard_events q) s
+heard_is q s =
+    if_is (q.0 == 17) _ _ _ _ s refl
+    (if_is (q.0 == 18) _ _ _ _ s (attach_is (name_in (text_of (field q.1 0))) (number_at q.1 1) (is_there (field q.1 6)) s)
+    (if_is (q.0 == 19 && not (is_of_session q.1)) _ _ _ _ s refl
+    (if_is (q.0 == 21) _ _ _ _ s (if_is (is_outcome q.1) _ _ _ _ s refl refl)
+    (if_is (q.0 == 22) _ _ _ _ s refl
+    (if_is (q.0 == 23) _ _ _ _ s refl refl)))))
+
+joins : (b : Bool) (xs ys : List PathEvent) → (if b then ys else []) ++ (if b then xs else []) ≡ (if b then ys ++ xs else [])
+joins true xs ys = refl
+joins false xs ys = refl
+
+session_is : (n k : ℕ) (q : Parts) (p : Peers) (o : Option Scope) → Goes n p.paths (session_events p.client o n k q) (peers_scoped o k q p).paths
+session_is n k q p None =
+    subst (λ (xs : List PathEvent). Goes n p.paths xs (peers_scoped None k q p).paths) (joins (k == n) (heard_events q) _)
+    (behind (changes n k p.paths (path_heard q) (heard_events q) (heard_is q)) (by (q.0 == 17) (q.0 == 23)))
+  where
+    heard : Peers
+    heard = record p { paths = with_path k (path_heard q) p.paths }
+
+    by : (a b : Bool) → Goes n heard.paths (if k == n then (if a then [] else if b then ending p.client k else []) else [])
+        (if a then heard else if b then ended_on (is_open p.client k) k heard else heard).paths
+    by true b = idles n k heard.paths
+    by false true = ends n k heard
+    by false false = idles n k heard.paths
+session_is n k q p (Some scope.Connection) = fails n p
+session_is n k q p (Some scope.Channel) = ends n k p
+
+meaning_is : (n : ℕ) (m : Meaning) (p : Peers) → Goes n p.paths (meaning_events p.client p.paths n m) (peers_by m p).paths
+meaning_is n ten.Nothing p = stays n p.paths
+meaning_is n ten.Init p = stays n p.paths
+meaning_is n ten.AmqpHeader p = stays n p.paths
+meaning_is n ten.Opened p = stays n p.paths
+meaning_is n (ten.OfSession k q payload) p = session_is n k q p (link_scope q (path_at p.paths k))
+meaning_is n (ten.Closed e) p = fails n p
+meaning_is n ten.Refused p = fails n p
+meaning_is n (ten.Violation why) p = fails n p
+
+heard_goes : (n : ℕ) (h : List Step) (u : Unit10) → Goes n (paths_in h) (step_events n h (Heard u)) (paths_in (Heard u ∷ h))
+heard_goes n h u = by (ran_out_in h)
+  where
+    by : (b : Bool) → Goes n (paths_in h) (if b then [] else meaning_events (connection h) (paths_in h) n (meaning_by (container h) u))
+        (if b then peers h else peers_heard (peers h) u).paths
+    by true = stays n (paths_in h)
+    by false = meaning_is n (meaning_by (container h) u) (record (peers h) { container = container_by (container h) u })
+
+-- ---- what goes
+
+told_is : (u : ChannelUnit) (s : PathState) → path_told u s ≡ after_event (told_event u) s
+told_is (to_client.Ok x) s = refl
+told_is (to_client.Confirm c) s = refl
+
+reply_is : (n : ℕ) (u : Reply) (ps : List (Option PathState)) → Goes n ps (reply_events n u) (paths_given u ps)
+reply_is n reply.Protocol ps = stays n ps
+reply_is n reply.Start ps = stays n ps
+reply_is n reply.Tune ps = stays n ps
+reply_is n reply.OpenOk ps = stays n ps
+reply_is n reply.CloseOk ps = stays n ps
+reply_is n (reply.Close r) ps = stays n ps
+reply_is n reply.NoMemory ps = stays n ps
+reply_is n reply.Heartbeat ps = stays n ps
+reply_is n (reply.ChannelOpenOk k) ps = stays n ps
+reply_is n (reply.OnChannel k u) ps = changes n k ps (path_told u) (told_event u ∷ []) (told_is u)
+reply_is n (reply.ChannelCloseOk k) ps = stays n ps
+reply_is n (reply.CrossedOk k) ps = stays n ps
+reply_is n (reply.ChannelClose k r) ps = stays n ps
+
+given_is : (u : SessionUnit) (s : PathState) → path_given u s ≡ after_event (given_event u) s
+given_is (unit.Attach a) s = refl
+given_is (unit.Flow f) s = refl
+given_is (unit.Transfer t) s = refl
+given_is (unit.Settle x) s = refl
+given_is (unit.Detach k handle) s = refl
+
+up_is : (n : ℕ) (u : UpUnit) (ps : List (Option PathState)) → Goes n ps (up_events n u) (paths_given_up u ps)
+up_is n up.SaslHeader ps = stays n ps
+up_is n up.SaslInit ps = stays n ps
+up_is n up.AmqpHeader ps = stays n ps
+up_is n up.Open ps = stays n ps
+up_is n (up.Close why) ps = stays n ps
+up_is n up.Empty ps = stays n ps
+up_is n (up.OnSession k u) ps = changes n k ps (path_given u) (given_event u ∷ []) (given_is u)
+up_is n (up.Flow k i o) ps = stays n ps
+up_is n (up.Begin k) ps = stays n ps
+up_is n (up.End k why) ps = changes n k ps lost_path (event.SessionLost ∷ []) (λ s. refl)
+
+-- ---- the life in progress
+
+-- the path of n is that of this life after these events
+pub record Tells (ps : List (Option PathState)) (n : ℕ) (o : Option ℕ) (es : List PathEvent) : Type 0 where
+  pub slot : n ≤ CHANNEL_MAX → slot_at ps n ≡ option_map (λ (life : ℕ). after_events life es) o
+  pub long : length ps ≡ 256
+
+goes_on : {n : ℕ} {ps qs : List (Option PathState)} {o : Option ℕ} {es xs : List PathEvent} → Tells ps n o es → Goes n ps xs qs → Tells qs n o (xs ++ es)
+goes_on {n} {ps} {qs} {o} {es} {xs} t g =
+    record { slot = λ e. g.slot ∙ ap (option_map (after_all xs)) (t.slot e) ∙ by o; long = g.long ∙ t.long }
+  where
+    by : (o' : Option ℕ) → option_map (after_all xs) (option_map (λ (life : ℕ). after_events life es) o') ≡ option_map (λ (life : ℕ). after_events life (xs ++ es)) o'
+    by None = refl
+    by (Some life) = ap Some (sym (on_top life xs es))
+
+-- ---- what a client asks for
+
+answered_is : (no_wait : Bool) (x : PathOk) (s : PathState) → answered_if no_wait x s ≡ after_all (owed_unless no_wait (event.Owed x)) s
+answered_is true x s = refl
+answered_is false x s = refl
+
+selected_is : (no_wait : Bool) (s : PathState)
+    → answered_if no_wait ok.Select (selected s) ≡ after_all (owed_unless no_wait (event.Owed ok.Select) ++ event.Selected ∷ []) s
+selected_is true s = refl
+selected_is false s = refl
+
+abbrev TellsBy : List (Option PathState) → ℕ → Bool → ℕ → Option ℕ → List PathEvent → List PathEvent → Type 0
+TellsBy qs n opens life o xs es = Tells qs n (if opens then Some life else o) (if opens then [] else xs ++ es)
+
+not_opened : (b : Bool) {qs : List (Option PathState)} {n : ℕ} (life : ℕ) {o : Option ℕ} (xs es : List PathEvent) → Tells qs n o (xs ++ es) → TellsBy qs n (b && false) life o xs es
+not_opened true life xs es t = t
+not_opened false life xs es t = t
+
+opens_it : (n k life : ℕ) (ps : List (Option PathState)) (o : Option ℕ) (es : List PathEvent) → Tells ps n o es
+    → TellsBy (set_path k (opened life) ps) n ((k == n) && true) life o (if k == n then [] else []) es
+opens_it n k life ps o es t = by (k == n) refl
+  where
+    long : length (set_path k (opened life) ps) ≡ 256
+    long = set_long ps k _ ∙ t.long
+
+    by : (b : Bool) → (k == n) ≡ b → TellsBy (set_path k (opened life) ps) n (b && true) life o (if b then [] else []) es
+    by true g =
+        let same : k ≡ n = grind (arith, nat_tests, g) in
+        record {
+          slot = λ e.
+              let most : CHANNEL_MAX ≡ 255 = refl in
+              let many : length ps ≡ 256 = t.long in
+              let less : n < length ps = omega (arith, e, many, most) in
+              subst (λ (m : ℕ). slot_at (set_path m (opened life) ps) n ≡ Some (opened life)) (sym same) (set_here ps n (opened life) less);
+          long = long;
+        }
+    by false g = record { slot = λ e. set_elsewhere ps k n _ g ∙ t.slot e; long = long }
+
+method_tells : (n k life : ℕ) (m : Method91) (ps : List (Option PathState)) (o : Option ℕ) (es : List PathEvent) → Tells ps n o es
+    → TellsBy (paths_with life k m ps) n ((k == n) && is_channel_open m) life o (if k == n then method_events m else []) es
+method_tells n k life method.ChannelOpen ps o es t = opens_it n k life ps o es t
+method_tells n k life (method.ChannelFlow active) ps o es t = not_opened (k == n) life _ es (goes_on t (changes n k ps _ (event.Owed ok.Flow ∷ []) (λ s. refl)))
+method_tells n k life (method.ExchangeDeclare name kind passive durable deletes internal no_wait arguments) ps o es t =
+    not_opened (k == n) life _ es (goes_on t (changes n k ps _ _ (answered_is no_wait ok.Declare)))
+method_tells n k life (method.ConfirmSelect no_wait) ps o es t = not_opened (k == n) life _ es (goes_on t (changes n k ps _ _ (selected_is no_wait)))
+method_tells n k life m ps o es t = not_opened (k == n) life _ es (goes_on t (changes n k ps (λ s. s) [] (λ s. refl)))
+
+want_tells : (n life : ℕ) (x : Want91) (ps : List (Option PathState)) (o : Option ℕ) (es : List PathEvent) → Tells ps n o es
+    → TellsBy (paths_by life x ps) n (is_method_on is_channel_open n x) (life + 1) o (want_events n x) es
+want_tells n life want.Nothing ps o es t = t
+want_tells n life want.Start ps o es t = t
+want_tells n life (want.Login mechanism response) ps o es t = t
+want_tells n life want.Tuned ps o es t = t
+want_tells n life want.OpenUp ps o es t = t
+want_tells n life (want.Method k m) ps o es t = method_tells n k (life + 1) m ps o es t
+want_tells n life (want.Publish k m c) ps o es t = goes_on t (changes n k ps (published (message_of m c).key (image_text (message_of m c))) _ (λ s. refl))
+want_tells n life (want.ChannelCloseOk k) ps o es t = t
+want_tells n life want.Close ps o es t = t
+want_tells n life want.CloseOk ps o es t = t
+want_tells n life (want.Refuse r) ps o es t = t
+
+-- ---- all steps
+
+abbrev pub TellsIn : List Step → ℕ → Type 0
+TellsIn h n = Tells (paths_in h) n (path_life h n) (path_events h n)
+
+tells_new : (n : ℕ) → Tells no_paths n None []
+tells_new n = record { slot = λ e. none_there n; long = none_long }
+
+came_tells : (n : ℕ) (u : Unit91) (h : List Step) → TellsIn h n → TellsIn (Came u ∷ h) n
+came_tells n u h t = by (ran_out_in h)
+  where
+    x : Want91
+    x = want_in (connection h) u
+
+    by : (b : Bool) → TellsBy (if b then peers h else peers_came (peers h) u).paths n (not b && is_method_on is_channel_open n x) ((peers h).opened + 1)
+        (path_life h n) (if b then [] else want_events n x) (path_events h n)
+    by true = t
+    by false = want_tells n (peers h).opened x (paths_in h) (path_life h n) (path_events h n) t
+
+taken_tells : (n : ℕ) (h : List Step) → TellsIn h n → TellsIn (TakenUp ∷ h) n
+taken_tells n h t = by (not (ran_out_in h) && leaving_in h)
+  where
+    by : (b : Bool) → Tells (if b then record (peers h) { client = after_ended (peers h).client } else peers h).paths n (path_life h n) (path_events h n)
+    by true = t
+    by false = t
+
+pub tells : (n : ℕ) (h : List Step) → ArePicks h → TellsIn h n
+tells n [] p = tells_new n
+tells n (Began vhost number ms ∷ h) p =
+    subst (λ (x : List Step). TellsIn (Began vhost number ms ∷ x) n) (sym p.0) (tells_new n)
+tells n (Moment ms ∷ h) p = tells n h p.1
+tells n (Fed end ∷ h) p = tells n h p.1
+tells n (Silent Client ∷ h) p = tells n h p.1
+tells n (Silent Up ∷ h) p = goes_on (tells n h p.1) (fails n (peers h))
+tells n (Queued u ∷ h) p = tells n h p.1
+tells n (Came u ∷ h) p = came_tells n u h (tells n h p.1)
+tells n (TakenUp ∷ h) p = taken_tells n h (tells n h p.1)
+tells n (Heard u ∷ h) p = goes_on (tells n h p.1) (heard_goes n h u)
+tells n (Joined link.Ok ∷ h) p = tells n h p.1
+tells n (Joined link.Failed ∷ h) p = goes_on (tells n h p.1) (fails n (peers h))
+tells n (Lost Client how ∷ h) p = tells n h p.1
+tells n (Lost Up loss.Ended ∷ h) p = goes_on (tells n h p.1) (falls n (peers h))
+tells n (Lost Up loss.Failed ∷ h) p = goes_on (tells n h p.1) (falls n (peers h))
+tells n (Lost Up loss.Shut ∷ h) p = tells n h p.1
+tells n (Gave (ToClient u) text ∷ h) p = goes_on (tells n h p.1) (reply_is n u (paths_in h))
+tells n (Gave (ToUp u) text ∷ h) p = goes_on (tells n h p.1) (up_is n u (paths_in h))
+tells n (Whole end ∷ h) p = tells n h p.1
+tells n (OutOfMemory ∷ h) p = tells n h p.1
+
+pub path_is : (h : List Step) (n : ℕ) → ArePicks h → n ≤ CHANNEL_MAX
+    → slot_at (before h).paths n ≡ option_map (λ (life : ℕ). after_events life (path_events h n)) (path_life h n)
+path_is h n p e = ap (λ (ps : List (Option PathState)). slot_at ps n) (paths_are (known h p)) ∙ (tells n h p).slot e

@@ -1,0 +1,431 @@
+-- The frames of a publish carry the text of the image of its message: the fates of the life's publishes say what the steps say.
+use Rattle.std.proofs.Common.{◌≡◌, ℕ, ◌+◌, ◌==◌, ◌<◌, ◌≤◌, nat_lt, not, ◌&&◌, Bool, true, false, if◌then◌else◌, List, [], ◌∷◌, ◌++◌, take, drop, length, Option, None, Some, refl, sym, ap, ◌∙◌, subst, arith, take_all, take-append-drop}
+use Rattle.std.proofs.lemmas.Bool.Decides.{nat_tests}
+use Rattle.close_translate.specs.declared.conditions.Scope.{Scope}
+use Rattle.close_translate.specs.declared.conditions.Scope.TheVariants as scope
+use Rattle.gate_outside.specs.declared.ports.End.TheVariants.{Client, Up}
+use Rattle.gate_outside.specs.declared.ports.Linked.TheVariants as link
+use Rattle.gate_relay.specs.declared.loss.Loss.TheVariants as loss
+use Rattle.machine_091.specs.declared.state.Connection.{Connection}
+use Rattle.machine_091.specs.declared.unit.Unit91.{Unit91}
+use Rattle.machine_091.specs.declared.unit.Want91.{Want91}
+use Rattle.machine_091.specs.declared.unit.Want91.TheVariants as want
+use Rattle.machine_10.specs.Parts.{Parts}
+use Rattle.machine_10.specs.Reading.{field, number_at}
+use Rattle.machine_10.specs.Transitions as ten
+use Rattle.machine_10.specs.Transitions.{Meaning}
+use Rattle.machine_10.specs.declared.unit.Unit10.{Unit10}
+use Rattle.methods_091.specs.declared.method.Method91.{Method91}
+use Rattle.methods_091.specs.declared.method.Method91.TheVariants as method
+use Rattle.property_map.specs.Spelling.{image_text}
+use Rattle.publish_path.specs.Journal.{Fate, confirms_of, fate_of, new_fate, numbers_of, rest_by}
+use Rattle.publish_path.specs.Laws.{AreParts, IsFrontOf, IsWhole}
+use Rattle.publish_path.specs.Offers.{rest_of}
+use Rattle.publish_path.specs.Publishes.{ConfirmSent, FrameSent, LineTold, LinkGone, OutcomeCame, PublishEvent, PublishState, TakenUp, next_number}
+use Rattle.session_path.specs.Events as event
+use Rattle.session_path.specs.Events.{PathEvent, after_events, losses, publishes_of}
+use Rattle.session_path.specs.Links.{named}
+use Rattle.session_path.specs.declared.path.PathLink.{PathLink}
+use Rattle.session_path.specs.declared.path.PathOk.{PathOk}
+use Rattle.session_path.specs.declared.path.PathOk.TheVariants as ok
+use Rattle.session_path.specs.Path.{PathState}
+use Rattle.gate_model.specs.declared.channel.ChannelUnit.TheVariants as to_client
+use Rattle.gate_model.specs.declared.channel.SessionUnit.TheVariants as unit
+use Rattle.gate_model.specs.declared.channel.TransferOut.{TransferOut}
+use Rattle.gate_model.specs.declared.outgoing.Outgoing.TheVariants.{ToClient, ToUp}
+use Rattle.gate_model.specs.declared.outgoing.UpUnit.{UpUnit}
+use Rattle.gate_model.specs.declared.outgoing.UpUnit.TheVariants as up
+use Rattle.gate_model.specs.declared.reply.Reply.{Reply}
+use Rattle.gate_model.specs.declared.reply.Reply.TheVariants as reply
+use Rattle.gate_model.specs.Folds.{connection, container, paths_in, peers, ran_out_in}
+use Rattle.gate_model.specs.Once.{is_channel_open, is_method_on}
+use Rattle.gate_model.specs.Paths.{is_outcome, is_there, name_in, path_at, text_of}
+use Rattle.gate_model.specs.Picks.{ArePicks}
+use Rattle.gate_model.specs.Publishing.{ArePieces, EndWhole, MayCarry, MayFinish, MayTransfer, attach_events, heard_events, image_by, image_in, joined_in, joined_on, left_of, lost_if, meaning_events, method_events, one_more, owed_unless, path_events, path_life, publishes_in, reply_events, session_events, step_events, text_wanted, up_events, want_events}
+use Rattle.gate_model.specs.Requests.{message_of}
+use Rattle.gate_model.specs.Session.{is_of_session}
+use Rattle.gate_model.specs.State.{Began, Came, Fed, Gave, Heard, Joined, Lost, Moment, OutOfMemory, Queued, Silent, Step, TakenUp, Whole, link_scope, want_in}
+use Rattle.gate_model.specs.Upstream.{meaning_by}
+use Rattle.gate_model.proofs.Fates.{FramesAre, IsToGo, PublishesAre, RestsAre, carry_is, to_go}
+
+-- ---- events by which no publish is taken up and no frame goes
+
+abbrev is_plain : PathEvent → Bool
+is_plain (event.Began handle_max) = true
+is_plain (event.Published address payload) = false
+is_plain event.Selected = true
+is_plain (event.Owed ok) = true
+is_plain (event.AttachCame name peer target) = true
+is_plain (event.FlowCame peer count credit drain echo) = true
+is_plain (event.DetachCame peer) = true
+is_plain (event.DispositionCame first last accepted settled) = true
+is_plain (event.AttachSent name) = true
+is_plain event.LinkFlowSent = true
+is_plain (event.TransferSent frame count) = false
+is_plain (event.SettleSent settling) = true
+is_plain event.DetachSent = true
+is_plain (event.ConfirmWent confirm) = true
+is_plain (event.OkSent ok) = true
+is_plain (event.LineWent number) = true
+is_plain event.SessionLost = true
+
+abbrev ArePlain : List PathEvent → Type 0
+ArePlain [] = Unit {0}
+ArePlain (x ∷ xs) = (is_plain x ≡ true) × ArePlain xs
+
+both_plain : (xs ys : List PathEvent) → ArePlain xs → ArePlain ys → ArePlain (xs ++ ys)
+both_plain [] ys p q = q
+both_plain (x ∷ xs) ys p q = (p.0, both_plain xs ys p.1 q)
+
+if_plain : (b : Bool) (xs ys : List PathEvent) → ArePlain xs → ArePlain ys → ArePlain (if b then xs else ys)
+if_plain true xs ys p q = p
+if_plain false xs ys p q = q
+
+lost_plain : (b : Bool) → ArePlain (lost_if b)
+lost_plain true = (refl, tt)
+lost_plain false = tt
+
+-- the upstream end is lost
+fallen_plain : (b : Bool) → ArePlain (lost_if b ++ event.SessionLost ∷ [])
+fallen_plain true = (refl, (refl, tt))
+fallen_plain false = (refl, tt)
+
+owed_plain : (no_wait : Bool) (x : PathOk) → ArePlain (owed_unless no_wait (event.Owed x))
+owed_plain true x = tt
+owed_plain false x = (refl, tt)
+
+attach_plain : (o : Option ℕ) (peer : ℕ) (target : Bool) → ArePlain (attach_events o peer target)
+attach_plain None peer target = tt
+attach_plain (Some name) peer target = (refl, tt)
+
+heard_plain : (q : Parts) → ArePlain (heard_events q)
+heard_plain q =
+    if_plain (q.0 == 17) _ _ (refl, tt)
+    (if_plain (q.0 == 18) _ _ (attach_plain (name_in (text_of (field q.1 0))) (number_at q.1 1) (is_there (field q.1 6)))
+    (if_plain (q.0 == 19 && not (is_of_session q.1)) _ _ (refl, tt)
+    (if_plain (q.0 == 21) _ _ (if_plain (is_outcome q.1) _ _ (refl, tt) tt)
+    (if_plain (q.0 == 22) _ _ (refl, tt) (if_plain (q.0 == 23) _ _ (refl, tt) tt)))))
+
+session_plain : (c : Connection) (o : Option Scope) (n k : ℕ) (q : Parts) → ArePlain (session_events c o n k q)
+session_plain c None n k q =
+    if_plain (k == n) _ _ (both_plain _ _ (if_plain (q.0 == 17) _ _ tt (if_plain (q.0 == 23) _ _ (lost_plain _) tt)) (heard_plain q)) tt
+session_plain c (Some scope.Connection) n k q = lost_plain _
+session_plain c (Some scope.Channel) n k q = if_plain (k == n) _ _ (lost_plain _) tt
+
+meaning_plain : (c : Connection) (ps : List (Option PathState)) (n : ℕ) (m : Meaning) → ArePlain (meaning_events c ps n m)
+meaning_plain c ps n ten.Nothing = tt
+meaning_plain c ps n ten.Init = tt
+meaning_plain c ps n ten.AmqpHeader = tt
+meaning_plain c ps n ten.Opened = tt
+meaning_plain c ps n (ten.OfSession k q payload) = session_plain c (link_scope q (path_at ps k)) n k q
+meaning_plain c ps n (ten.Closed e) = lost_plain _
+meaning_plain c ps n ten.Refused = lost_plain _
+meaning_plain c ps n (ten.Violation why) = lost_plain _
+
+reply_plain : (n : ℕ) (u : Reply) → ArePlain (reply_events n u)
+reply_plain n (reply.OnChannel k (to_client.Ok x)) = if_plain (k == n) _ _ (refl, tt) tt
+reply_plain n (reply.OnChannel k (to_client.Confirm c)) = if_plain (k == n) _ _ (refl, tt) tt
+reply_plain n u = tt
+
+-- ---- the fate of one publish
+
+-- so many were taken up; its payload and what its frames carried are these, and each frame was a front of what was left
+record Carried (h : List PublishEvent) (number count : ℕ) (image joined : List ℕ) : Type 0 where
+  count_is : numbers_of h ≡ count
+  image_is : (fate_of number h).payload ≡ image
+  joined_is : (fate_of number h).sent ≡ joined
+  none : count < number → joined ≡ []
+  parts : AreParts h
+
+abbrev is_quiet : PublishEvent → Bool
+is_quiet (TakenUp link confirm payload) = false
+is_quiet (FrameSent number first part) = false
+is_quiet (OutcomeCame first last accepted) = true
+is_quiet (LinkGone link) = true
+is_quiet (ConfirmSent c) = true
+is_quiet (LineTold number) = true
+
+quiet : {h : List PublishEvent} {number count : ℕ} {image joined : List ℕ} (x : PublishEvent) → is_quiet x ≡ true
+    → Carried h number count image joined → Carried (x ∷ h) number count image joined
+quiet (TakenUp link confirm payload) e t = absurd cc
+quiet (FrameSent number first part) e t = absurd cc
+quiet (OutcomeCame first last accepted) e t = record { count_is = t.count_is; image_is = t.image_is; joined_is = t.joined_is; none = t.none; parts = (tt, t.parts) }
+quiet (LinkGone link) e t = record { count_is = t.count_is; image_is = t.image_is; joined_is = t.joined_is; none = t.none; parts = (tt, t.parts) }
+quiet (ConfirmSent c) e t = record { count_is = t.count_is; image_is = t.image_is; joined_is = t.joined_is; none = t.none; parts = (tt, t.parts) }
+quiet (LineTold n) e t = record { count_is = t.count_is; image_is = t.image_is; joined_is = t.joined_is; none = t.none; parts = (tt, t.parts) }
+
+loses : {h : List PublishEvent} {number count : ℕ} {image joined : List ℕ} (o : Option PathLink)
+    → Carried h number count image joined → Carried (losses o ++ h) number count image joined
+loses None t = t
+loses (Some l) t = quiet (LinkGone (Some l.link)) refl t
+
+plain : (life : ℕ) (es : List PathEvent) {number count : ℕ} {image joined : List ℕ} (x : PathEvent) → is_plain x ≡ true
+    → Carried (publishes_of life es) number count image joined → Carried (publishes_of life (x ∷ es)) number count image joined
+plain life es (event.Began handle_max) e t = t
+plain life es (event.Published address payload) e t = absurd cc
+plain life es event.Selected e t = t
+plain life es (event.Owed ok) e t = t
+plain life es (event.AttachCame name peer target) e t = t
+plain life es (event.FlowCame peer count credit drain echo) e t = t
+plain life es (event.DetachCame peer) e t = loses (named peer (after_events life es).links) t
+plain life es (event.DispositionCame first last accepted settled) e t = quiet (OutcomeCame first _ accepted) refl t
+plain life es (event.AttachSent name) e t = t
+plain life es event.LinkFlowSent e t = t
+plain life es (event.TransferSent frame count) e t = absurd cc
+plain life es (event.SettleSent settling) e t = t
+plain life es event.DetachSent e t = t
+plain life es (event.ConfirmWent confirm) e t = quiet (ConfirmSent confirm) refl t
+plain life es (event.OkSent ok) e t = t
+plain life es (event.LineWent number) e t = quiet (LineTold number) refl t
+plain life es event.SessionLost e t = quiet (LinkGone None) refl t
+
+takes : {h : List PublishEvent} {number count : ℕ} {image joined : List ℕ} (k : ℕ) (confirm : Bool) (text : List ℕ) → Carried h number count image joined
+    → Carried (TakenUp k confirm text ∷ h) number (count + 1) (if number == count + 1 then text else image) joined
+takes {h} {number} {count} {image} {joined} k confirm text t = record {
+  count_is = ap (λ (m : ℕ). m + 1) t.count_is;
+  image_is = ap (λ (m : ℕ). (fated (number == m + 1)).payload) t.count_is ∙ imaged (number == count + 1);
+  joined_is = ap (λ (m : ℕ). (fated (number == m + 1)).sent) t.count_is ∙ sent (number == count + 1) refl;
+  none = λ e. t.none (omega (arith, e));
+  parts = (tt, t.parts);
+}
+  where
+    fated : Bool → Fate
+    fated b = if b then new_fate k (next_number confirm (confirms_of h)) text else fate_of number h
+
+    imaged : (b : Bool) → (fated b).payload ≡ (if b then text else image)
+    imaged true = refl
+    imaged false = t.image_is
+
+    sent : (b : Bool) → (number == count + 1) ≡ b → (fated b).sent ≡ joined
+    sent true e = sym (t.none (let same : number ≡ count + 1 = grind (arith, nat_tests, e) in omega (arith, same)))
+    sent false e = t.joined_is
+
+-- ---- the life in progress
+
+abbrev Joins : Option ℕ → List PathEvent → ℕ → ℕ → List ℕ → List ℕ → Type 0
+Joins None es number count image joined = joined ≡ []
+Joins (Some life) es number count image joined = Carried (publishes_of life es) number count image joined
+
+plain_joins : (o : Option ℕ) (xs es : List PathEvent) (number count : ℕ) (image joined : List ℕ) → ArePlain xs → Joins o es number count image joined
+    → Joins o (xs ++ es) number count image joined
+plain_joins None xs es number count image joined p t = t
+plain_joins (Some life) [] es number count image joined p t = t
+plain_joins (Some life) (x ∷ xs) es number count image joined p t = plain life (xs ++ es) x p.0 (plain_joins (Some life) xs es number count image joined p.1 t)
+
+taken_joins : (o : Option ℕ) (es : List PathEvent) (number count : ℕ) (image joined address text : List ℕ) → Joins o es number count image joined
+    → Joins o (event.Published address text ∷ es) number (count + 1) (if number == count + 1 then text else image) joined
+taken_joins None es number count image joined address text t = t
+taken_joins (Some life) es number count image joined address text t = takes _ _ text t
+
+fresh : (number : ℕ) → Carried [] number 0 [] []
+fresh number = record { count_is = refl; image_is = refl; joined_is = refl; none = λ e. refl; parts = tt }
+
+abbrev JoinsBy : Bool → ℕ → List PathEvent → Option (List ℕ) → Option ℕ → List PathEvent → ℕ → ℕ → List ℕ → List ℕ → Type 0
+JoinsBy opens life xs text o es number count image joined =
+    Joins (if opens then Some life else o) (if opens then [] else xs ++ es) number (if opens then 0 else one_more text count)
+    (if opens then [] else image_by text (number == count + 1) image) (if opens then [] else joined)
+
+method_joins : (b : Bool) (m : Method91) (life : ℕ) (o : Option ℕ) (es : List PathEvent) (number count : ℕ) (image joined : List ℕ) → Joins o es number count image joined
+    → JoinsBy (b && is_channel_open m) life (if b then method_events m else []) None o es number count image joined
+method_joins false m life o es number count image joined t = t
+method_joins true method.ChannelOpen life o es number count image joined t = fresh number
+method_joins true (method.ChannelFlow active) life o es number count image joined t = plain_joins o (event.Owed ok.Flow ∷ []) es number count image joined (refl, tt) t
+method_joins true (method.ExchangeDeclare name kind passive durable deletes internal no_wait arguments) life o es number count image joined t =
+    plain_joins o (owed_unless no_wait (event.Owed ok.Declare)) es number count image joined (owed_plain no_wait ok.Declare) t
+method_joins true (method.ConfirmSelect no_wait) life o es number count image joined t =
+    plain_joins o (owed_unless no_wait (event.Owed ok.Select) ++ event.Selected ∷ []) es number count image joined
+    (both_plain _ _ (owed_plain no_wait ok.Select) (refl, tt)) t
+method_joins true m life o es number count image joined t = t
+
+want_joins : (n life : ℕ) (x : Want91) (o : Option ℕ) (es : List PathEvent) (number count : ℕ) (image joined : List ℕ) → Joins o es number count image joined
+    → JoinsBy (is_method_on is_channel_open n x) life (want_events n x) (text_wanted n x) o es number count image joined
+want_joins n life want.Nothing o es number count image joined t = t
+want_joins n life want.Start o es number count image joined t = t
+want_joins n life (want.Login mechanism response) o es number count image joined t = t
+want_joins n life want.Tuned o es number count image joined t = t
+want_joins n life want.OpenUp o es number count image joined t = t
+want_joins n life (want.Method k m) o es number count image joined t = method_joins (k == n) m life o es number count image joined t
+want_joins n life (want.Publish k m c) o es number count image joined t = by (k == n)
+  where
+    text : List ℕ
+    text = image_text (message_of m c)
+
+    by : (b : Bool) → JoinsBy false life (if b then event.Published (message_of m c).key text ∷ [] else []) (if b then Some text else None) o es number count image joined
+    by true = taken_joins o es number count image joined (message_of m c).key text t
+    by false = t
+want_joins n life (want.ChannelCloseOk k) o es number count image joined t = t
+want_joins n life want.Close o es number count image joined t = t
+want_joins n life want.CloseOk o es number count image joined t = t
+want_joins n life (want.Refuse r) o es number count image joined t = t
+
+-- ---- a frame
+
+abbrev JoinsIn : List Step → ℕ → ℕ → Type 0
+JoinsIn h n number = Joins (path_life h n) (path_events h n) number (publishes_in n h) (image_in n number h) (joined_in n number h)
+
+-- of this life
+lives_in : (o : Option ℕ) (life : ℕ) (es : List PathEvent) (number count : ℕ) (image joined : List ℕ) → o ≡ Some life → Joins o es number count image joined
+    → Carried (publishes_of life es) number count image joined
+lives_in o life es number count image joined e t = subst (λ (x : Option ℕ). Joins x es number count image joined) e t
+
+frame_joins : PublishesAre → RestsAre → (h : List Step) (n number : ℕ) (t : TransferOut) (text : List ℕ) → MayTransfer h n t text → JoinsIn h n number
+    → Joins (path_life h n) (event.TransferSent t.frame t.bytes ∷ path_events h n) number (publishes_in n h) (image_in n number h)
+    (if number == t.frame.publish then joined_in n number h ++ text else joined_in n number h)
+frame_joins publishes rests h n number t text m joins =
+    subst (λ (o : Option ℕ). Joins o (event.TransferSent t.frame t.bytes ∷ es) number (publishes_in n h) (image_in n number h)
+    (if number == t.frame.publish then joined ++ text else joined)) (sym m.lives)
+    (record {
+      count_is = old.count_is;
+      image_is = old.image_is;
+      joined_is = both (number == t.frame.publish);
+      none = λ e. none_by e (number == t.frame.publish) refl;
+      parts = ((goes.taken, (drop t.bytes left, ap (λ (xs : List ℕ). take t.bytes xs ++ drop t.bytes left) rest ∙ take-append-drop t.bytes left)), old.parts);
+    })
+  where
+    es : List PathEvent
+    es = path_events h n
+
+    events : List PublishEvent
+    events = publishes_of m.life es
+
+    joined : List ℕ
+    joined = joined_in n number h
+
+    left : List ℕ
+    left = left_of m.life es t.frame.publish
+
+    old : Carried events number (publishes_in n h) (image_in n number h) joined
+    old = lives_in (path_life h n) m.life es number (publishes_in n h) (image_in n number h) joined m.lives joins
+
+    goes : IsToGo events t.frame.publish
+    goes = to_go _ events t.frame m.frame
+
+    rest : rest_of t.frame.publish (after_events m.life es).publishes.list ≡ left
+    rest = ap (λ (x : PublishState). rest_of t.frame.publish x.list) (publishes m.life es) ∙ rests m.life t.frame.publish events goes.taken
+
+    part : List ℕ
+    part = take t.bytes (rest_of t.frame.publish (after_events m.life es).publishes.list)
+
+    same : part ≡ text
+    same = ap (take t.bytes) rest ∙ sym m.part
+
+    both : (b : Bool) → (if b then (fate_of number events).sent ++ part else (fate_of number events).sent) ≡ (if b then joined ++ text else joined)
+    both true = ap (λ (xs : List ℕ). xs ++ part) old.joined_is ∙ ap (λ (xs : List ℕ). joined ++ xs) same
+    both false = old.joined_is
+
+    none_by : publishes_in n h < number → (b : Bool) → (number == t.frame.publish) ≡ b → (if b then joined ++ text else joined) ≡ []
+    none_by e true g =
+        let is : number ≡ t.frame.publish = grind (arith, nat_tests, g) in
+        let most : t.frame.publish ≤ numbers_of events = goes.taken.1 in
+        let many : numbers_of events ≡ publishes_in n h = old.count_is in
+        absurd (omega (arith, e, is, most, many))
+    none_by e false g = old.none e
+
+up_joins : PublishesAre → RestsAre → (h : List Step) (n number : ℕ) (u : UpUnit) (text : List ℕ) → MayCarry h u text → JoinsIn h n number
+    → Joins (path_life h n) (up_events n u ++ path_events h n) number (publishes_in n h) (image_in n number h) (joined_on n number u text (joined_in n number h))
+up_joins publishes rests h n number (up.OnSession k (unit.Transfer t)) text m joins = by (k == n) refl
+  where
+    by : (b : Bool) → (k == n) ≡ b
+        → Joins (path_life h n) ((if b then event.TransferSent t.frame t.bytes ∷ [] else []) ++ path_events h n) number (publishes_in n h) (image_in n number h)
+        (if b && number == t.frame.publish then joined_in n number h ++ text else joined_in n number h)
+    by true e =
+        let same : k ≡ n = grind (arith, nat_tests, e) in
+        frame_joins publishes rests h n number t text (subst (λ (i : ℕ). MayTransfer h i t text) same m) joins
+    by false e = joins
+up_joins publishes rests h n number (up.OnSession k (unit.Attach a)) text m joins =
+    plain_joins (path_life h n) _ (path_events h n) number _ _ _ (if_plain (k == n) (event.AttachSent a.name ∷ []) [] (refl, tt) tt) joins
+up_joins publishes rests h n number (up.OnSession k (unit.Flow f)) text m joins =
+    plain_joins (path_life h n) _ (path_events h n) number _ _ _ (if_plain (k == n) (event.LinkFlowSent ∷ []) [] (refl, tt) tt) joins
+up_joins publishes rests h n number (up.OnSession k (unit.Settle x)) text m joins =
+    plain_joins (path_life h n) _ (path_events h n) number _ _ _ (if_plain (k == n) (event.SettleSent x ∷ []) [] (refl, tt) tt) joins
+up_joins publishes rests h n number (up.OnSession k (unit.Detach l handle)) text m joins =
+    plain_joins (path_life h n) _ (path_events h n) number _ _ _ (if_plain (k == n) (event.DetachSent ∷ []) [] (refl, tt) tt) joins
+up_joins publishes rests h n number (up.End k why) text m joins =
+    plain_joins (path_life h n) _ (path_events h n) number _ _ _ (if_plain (k == n) (event.SessionLost ∷ []) [] (refl, tt) tt) joins
+up_joins publishes rests h n number u text m joins = joins
+
+-- ---- all steps
+
+came_joins : (h : List Step) (n number : ℕ) (u : Unit91) → JoinsIn h n number → JoinsIn (Came u ∷ h) n number
+came_joins h n number u t = by (ran_out_in h)
+  where
+    x : Want91
+    x = want_in (connection h) u
+
+    by : (b : Bool) → JoinsBy (not b && is_method_on is_channel_open n x) ((peers h).opened + 1) (if b then [] else want_events n x) (if b then None else text_wanted n x)
+        (path_life h n) (path_events h n) number (publishes_in n h) (image_in n number h) (joined_in n number h)
+    by true = t
+    by false = want_joins n ((peers h).opened + 1) x (path_life h n) (path_events h n) number _ _ _ t
+
+heard_plain_in : (h : List Step) (n : ℕ) (u : Unit10) → ArePlain (step_events n h (Heard u))
+heard_plain_in h n u = if_plain (ran_out_in h) _ _ tt (meaning_plain (connection h) (paths_in h) n (meaning_by (container h) u))
+
+quietly : (h : List Step) (n number : ℕ) (xs : List PathEvent) → ArePlain xs → JoinsIn h n number
+    → Joins (path_life h n) (xs ++ path_events h n) number (publishes_in n h) (image_in n number h) (joined_in n number h)
+quietly h n number xs p t = plain_joins (path_life h n) xs (path_events h n) number _ _ _ p t
+
+joins : PublishesAre → FramesAre → RestsAre → (n number : ℕ) (h : List Step) → ArePicks h → JoinsIn h n number
+joins a b c n number [] p = refl
+joins a b c n number (Began vhost i ms ∷ h) p = joins a b c n number h p.1
+joins a b c n number (Moment ms ∷ h) p = joins a b c n number h p.1
+joins a b c n number (Fed end ∷ h) p = joins a b c n number h p.1
+joins a b c n number (Silent Client ∷ h) p = joins a b c n number h p.1
+joins a b c n number (Silent Up ∷ h) p = quietly h n number _ (lost_plain _) (joins a b c n number h p.1)
+joins a b c n number (Queued u ∷ h) p = joins a b c n number h p.1
+joins a b c n number (Came u ∷ h) p = came_joins h n number u (joins a b c n number h p.1)
+joins a b c n number (TakenUp ∷ h) p = joins a b c n number h p.1
+joins a b c n number (Heard u ∷ h) p = quietly h n number _ (heard_plain_in h n u) (joins a b c n number h p.1)
+joins a b c n number (Joined link.Ok ∷ h) p = joins a b c n number h p.1
+joins a b c n number (Joined link.Failed ∷ h) p = quietly h n number _ (lost_plain _) (joins a b c n number h p.1)
+joins a b c n number (Lost Client how ∷ h) p = joins a b c n number h p.1
+joins a b c n number (Lost Up loss.Ended ∷ h) p = quietly h n number _ (fallen_plain _) (joins a b c n number h p.1)
+joins a b c n number (Lost Up loss.Failed ∷ h) p = quietly h n number _ (fallen_plain _) (joins a b c n number h p.1)
+joins a b c n number (Lost Up loss.Shut ∷ h) p = joins a b c n number h p.1
+joins a b c n number (Gave (ToClient u) text ∷ h) p = quietly h n number _ (reply_plain n u) (joins a b c n number h p.1)
+joins a b c n number (Gave (ToUp u) text ∷ h) p = up_joins a c h n number u text (carry_is a b c h u text p.1 p.0.1 p.0.2) (joins a b c n number h p.1)
+joins a b c n number (Whole end ∷ h) p = joins a b c n number h p.1
+joins a b c n number (OutOfMemory ∷ h) p = joins a b c n number h p.1
+
+-- ---- whole payloads
+
+abbrev pub WholesAre : Type 0
+WholesAre = (h : List PublishEvent) → AreParts h → (n : ℕ) → IsWhole (fate_of n h)
+
+pub are_pieces : PublishesAre → FramesAre → RestsAre → WholesAre → (h : List Step) → ArePicks h → ArePieces h
+are_pieces a b c wholes h p = λ n number. by (path_life h n) (path_events h n) number _ _ _ (joins a b c n number h p)
+  where
+    by : (o : Option ℕ) (es : List PathEvent) (number count : ℕ) (image joined : List ℕ) → Joins o es number count image joined → IsFrontOf joined image
+    by None es number count image joined t = (image, ap (λ (xs : List ℕ). xs ++ image) t)
+    by (Some life) es number count image joined t =
+        let front : IsFrontOf (fate_of number (publishes_of life es)).sent (fate_of number (publishes_of life es)).payload = (wholes (publishes_of life es) t.parts number).front in
+        (front.0, ap (λ (xs : List ℕ). xs ++ front.0) (sym t.joined_is) ∙ front.1 ∙ t.image_is)
+
+ends : WholesAre → (h : List Step) (n : ℕ) (t : TransferOut) (text : List ℕ) → MayTransfer h n t text → JoinsIn h n t.frame.publish → t.more ≡ false
+    → joined_in n t.frame.publish h ++ text ≡ image_in n t.frame.publish h
+ends wholes h n t text m joins last =
+    ap (λ (xs : List ℕ). xs ++ text) (sym old.joined_is) ∙ ap (λ (xs : List ℕ). (fate_of t.frame.publish events).sent ++ xs) all
+    ∙ (wholes events old.parts t.frame.publish).rest (to_go _ events t.frame m.frame).goes ∙ old.image_is
+  where
+    events : List PublishEvent
+    events = publishes_of m.life (path_events h n)
+
+    old : Carried events t.frame.publish (publishes_in n h) (image_in n t.frame.publish h) (joined_in n t.frame.publish h)
+    old = lives_in (path_life h n) m.life (path_events h n) t.frame.publish _ _ _ m.lives joins
+
+    left : List ℕ
+    left = rest_by (fate_of t.frame.publish events)
+
+    all : text ≡ left
+    all =
+        let more : nat_lt t.bytes (length left) ≡ false = sym m.more ∙ last in
+        let few : length left ≤ t.bytes = grind (arith, nat_tests, more) in
+        m.part ∙ take_all t.bytes left few
+
+may_finish : PublishesAre → FramesAre → RestsAre → WholesAre → (h : List Step) (u : UpUnit) (text : List ℕ) → ArePicks h → MayCarry h u text → MayFinish h u text
+may_finish a b c wholes h (up.OnSession n (unit.Transfer t)) text p m = ends wholes h n t text m (joins a b c n t.frame.publish h p)
+may_finish a b c wholes h u text p m = tt
+
+pub end_whole : PublishesAre → FramesAre → RestsAre → WholesAre → (h : List Step) → ArePicks h → EndWhole h
+end_whole a b c wholes [] p = tt
+end_whole a b c wholes (Gave (ToUp u) text ∷ h) p = (may_finish a b c wholes h u text p.1 (carry_is a b c h u text p.1 p.0.1 p.0.2), end_whole a b c wholes h p.1)
+end_whole a b c wholes (s ∷ h) p = end_whole a b c wholes h p.1

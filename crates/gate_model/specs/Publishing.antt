@@ -1,0 +1,353 @@
+-- The publishing side of each channel, by the steps: the events of its life in progress, newest
+-- first; the confirms and the transfers that go, by these; and the payloads that these carry.
+use Rattle.std.specs.Prelude.{◌≡◌, ℕ, ◌+◌, ◌==◌, ◌≤◌, nat_lt, length, take}
+use Rattle.std.specs.Prelude.{Bool, true, false, not, ◌&&◌, if◌then◌else◌, List}
+use Rattle.std.specs.Prelude.{[], ◌∷◌, ◌++◌, Option, None, Some}
+use Rattle.close_translate.specs.declared.conditions.Scope.{Scope}
+use Rattle.close_translate.specs.declared.conditions.Scope.TheVariants as scope
+use Rattle.gate_outside.specs.declared.ports.End.TheVariants.{Client, Up}
+use Rattle.gate_outside.specs.declared.ports.Linked.TheVariants as link
+use Rattle.gate_relay.specs.declared.loss.Loss.TheVariants as loss
+use Rattle.machine_091.specs.State.{is_closing, is_open}
+use Rattle.machine_091.specs.declared.state.Connection.{Connection}
+use Rattle.machine_091.specs.declared.unit.Want91.{Want91}
+use Rattle.machine_091.specs.declared.unit.Want91.TheVariants as want
+use Rattle.machine_10.specs.Parts.{Parts}
+use Rattle.machine_10.specs.Reading.{field, number_at, number_in}
+use Rattle.machine_10.specs.Transitions as ten
+use Rattle.machine_10.specs.Transitions.{Meaning}
+use Rattle.methods_091.specs.declared.method.Method91.{Method91}
+use Rattle.methods_091.specs.declared.method.Method91.TheVariants as method
+use Rattle.property_map.specs.Spelling.{image_text}
+use Rattle.publish_path.specs.Journal.{fate_of, next_id_of, rest_by}
+use Rattle.publish_path.specs.Laws.{IsFrontOf, IsLawfulConfirm, frame_by}
+use Rattle.publish_path.specs.declared.publish.Confirm.{Confirm}
+use Rattle.session_path.specs.Events as event
+use Rattle.session_path.specs.Events.{PathEvent, after_events, publishes_of}
+use Rattle.session_path.specs.Links.{handle_at}
+use Rattle.session_path.specs.Path.{PathState}
+use Rattle.session_path.specs.declared.path.PathOk.TheVariants as ok
+use Rattle.gate_model.specs.declared.channel.ChannelUnit.{ChannelUnit}
+use Rattle.gate_model.specs.declared.channel.ChannelUnit.TheVariants as to_client
+use Rattle.gate_model.specs.declared.channel.SessionUnit.{SessionUnit}
+use Rattle.gate_model.specs.declared.channel.SessionUnit.TheVariants as unit
+use Rattle.gate_model.specs.declared.channel.TransferOut.{TransferOut}
+use Rattle.gate_model.specs.declared.outgoing.Outgoing.TheVariants.{ToClient, ToUp}
+use Rattle.gate_model.specs.declared.outgoing.UpUnit.{UpUnit}
+use Rattle.gate_model.specs.declared.outgoing.UpUnit.TheVariants as up
+use Rattle.gate_model.specs.declared.reply.Reply.{Reply}
+use Rattle.gate_model.specs.declared.reply.Reply.TheVariants as reply
+use Rattle.gate_model.specs.Folds.{carrying, connection, container, paths_in, peers, ran_out_in}
+use Rattle.gate_model.specs.Once.{is_channel_open, is_method_on}
+use Rattle.gate_model.specs.Paths.{credit_of, is_accepted, is_outcome, is_there, name_in, path_at}
+use Rattle.gate_model.specs.Paths.{text_of}
+use Rattle.gate_model.specs.Requests.{message_of}
+use Rattle.gate_model.specs.Session.{is_of_session, is_true}
+use Rattle.gate_model.specs.State.{Began, Came, Fed, Gave, Heard, Joined, Lost, Moment, Queued}
+use Rattle.gate_model.specs.State.{OutOfMemory, Silent, Step, TakenUp, Whole, link_scope, want_in}
+use Rattle.gate_model.specs.Upstream.{meaning_by}
+
+-- ---- the client's requests
+
+-- an answer is owed, unless the request wants none (AMQP 0-9-1 1.4.2.1)
+abbrev pub owed_unless : Bool → PathEvent → List PathEvent
+owed_unless true x = []
+owed_unless false x = x ∷ []
+
+-- channel.flow, exchange.declare and confirm.select
+abbrev pub method_events : Method91 → List PathEvent
+method_events (method.ChannelFlow active) = event.Owed ok.Flow ∷ []
+method_events
+    (method.ExchangeDeclare name kind passive durable deletes internal no_wait arguments) =
+    owed_unless no_wait (event.Owed ok.Declare)
+method_events (method.ConfirmSelect no_wait) =
+    owed_unless no_wait (event.Owed ok.Select) ++ event.Selected ∷ []
+method_events m = []
+
+-- of channel n, by what a unit of the client wants; a whole publish is taken up with the text of
+-- its image
+abbrev pub want_events : ℕ → Want91 → List PathEvent
+want_events n want.Nothing = []
+want_events n want.Start = []
+want_events n (want.Login mechanism response) = []
+want_events n want.Tuned = []
+want_events n want.OpenUp = []
+want_events n (want.Method k m) = if k == n then method_events m else []
+want_events n (want.Publish k m c) =
+    if k == n then event.Published (message_of m c).key (image_text (message_of m c)) ∷ [] else []
+want_events n (want.ChannelCloseOk k) = []
+want_events n want.Close = []
+want_events n want.CloseOk = []
+want_events n (want.Refuse r) = []
+
+-- ---- the container
+
+-- an attach under a name that is no link's is no event (AMQP 1.0 2.6.1)
+abbrev pub attach_events : Option ℕ → ℕ → Bool → List PathEvent
+attach_events None peer target = []
+attach_events (Some name) peer target = event.AttachCame name peer target ∷ []
+
+-- a performative of a session, by the code of its descriptor (AMQP 1.0 2.7): begin, attach, the
+-- flow of a link, a disposition with an outcome, detach, end
+abbrev pub heard_events : Parts → List PathEvent
+heard_events p =
+    if p.0 == 17 then event.Began (number_at p.1 4) ∷ []
+    else if p.0 == 18 then attach_events (name_in (text_of (field p.1 0))) (number_at p.1 1)
+    (is_there (field p.1 6))
+    else if p.0 == 19 && not (is_of_session p.1) then
+    event.FlowCame (number_at p.1 4) (number_in (field p.1 5)) (credit_of (number_in (field p.1 6)))
+    (is_true (field p.1 8)) (is_true (field p.1 9)) ∷ []
+    else if p.0 == 21 then
+    (if is_outcome p.1 then event.DispositionCame (number_at p.1 1) (number_in (field p.1 2))
+    (is_accepted (field p.1 4)) (is_true (field p.1 3)) ∷ [] else [])
+    else if p.0 == 22 then event.DetachCame (number_at p.1 0) ∷ []
+    else if p.0 == 23 then event.SessionLost ∷ []
+    else []
+
+abbrev pub lost_if : Bool → List PathEvent
+lost_if true = event.SessionLost ∷ []
+lost_if false = []
+
+-- where the container is the cause, a connection that isn't closing yet closes, and the sessions
+-- are lost
+abbrev pub failing : Connection → List PathEvent
+failing c = lost_if (not (is_closing c))
+
+-- and so is that of a channel that is open
+abbrev pub ending : Connection → ℕ → List PathEvent
+ending c k = lost_if (is_open c k)
+
+-- a performative of channel k, for channel n: an end closes its channel; one that is at fault
+-- closes what it says, and is no other event (2.6.2, 2.6.3, 2.6.7)
+abbrev pub session_events : Connection → Option Scope → ℕ → ℕ → Parts → List PathEvent
+session_events c None n k p =
+    if k == n then
+    (if p.0 == 17 then [] else if p.0 == 23 then ending c k else []) ++ heard_events p
+    else []
+session_events c (Some scope.Connection) n k p = failing c
+session_events c (Some scope.Channel) n k p = if k == n then ending c k else []
+
+abbrev pub meaning_events : Connection → List (Option PathState) → ℕ → Meaning → List PathEvent
+meaning_events c ps n ten.Nothing = []
+meaning_events c ps n ten.Init = []
+meaning_events c ps n ten.AmqpHeader = []
+meaning_events c ps n ten.Opened = []
+meaning_events c ps n (ten.OfSession k p payload) =
+    session_events c (link_scope p (path_at ps k)) n k p
+meaning_events c ps n (ten.Closed e) = failing c
+meaning_events c ps n ten.Refused = failing c
+meaning_events c ps n (ten.Violation why) = failing c
+
+-- ---- units that went
+
+abbrev pub told_event : ChannelUnit → PathEvent
+told_event (to_client.Ok x) = event.OkSent x
+told_event (to_client.Confirm c) = event.ConfirmWent c
+
+abbrev pub reply_events : ℕ → Reply → List PathEvent
+reply_events n reply.Protocol = []
+reply_events n reply.Start = []
+reply_events n reply.Tune = []
+reply_events n reply.OpenOk = []
+reply_events n reply.CloseOk = []
+reply_events n (reply.Close r) = []
+reply_events n reply.NoMemory = []
+reply_events n reply.Heartbeat = []
+reply_events n (reply.ChannelOpenOk k) = []
+reply_events n (reply.OnChannel k u) = if k == n then told_event u ∷ [] else []
+reply_events n (reply.ChannelCloseOk k) = []
+reply_events n (reply.CrossedOk k) = []
+reply_events n (reply.ChannelClose k r) = []
+
+abbrev pub given_event : SessionUnit → PathEvent
+given_event (unit.Attach a) = event.AttachSent a.name
+given_event (unit.Flow f) = event.LinkFlowSent
+given_event (unit.Transfer t) = event.TransferSent t.frame t.bytes
+given_event (unit.Settle x) = event.SettleSent x
+given_event (unit.Detach link handle) = event.DetachSent
+
+-- the gateway's end loses the session
+abbrev pub up_events : ℕ → UpUnit → List PathEvent
+up_events n up.SaslHeader = []
+up_events n up.SaslInit = []
+up_events n up.AmqpHeader = []
+up_events n up.Open = []
+up_events n (up.Close why) = []
+up_events n up.Empty = []
+up_events n (up.OnSession k u) = if k == n then given_event u ∷ [] else []
+up_events n (up.Flow k i o) = []
+up_events n (up.Begin k) = []
+up_events n (up.End k why) = if k == n then event.SessionLost ∷ [] else []
+
+-- ---- all steps
+
+-- what a step behind h is on channel n. Nothing that comes counts after the pair ran out of memory.
+-- A container's end that ended or failed loses the sessions even where the connection closes
+abbrev pub step_events : ℕ → List Step → Step → List PathEvent
+step_events n h (Began vhost number ms) = []
+step_events n h (Moment ms) = []
+step_events n h (Fed end) = []
+step_events n h (Silent Client) = []
+step_events n h (Silent Up) = failing (connection h)
+step_events n h (Queued u) = []
+step_events n h (Came u) =
+    if ran_out_in h then [] else want_events n (want_in (connection h) u)
+step_events n h TakenUp = []
+step_events n h (Heard u) =
+    if ran_out_in h then []
+    else meaning_events (connection h) (paths_in h) n (meaning_by (container h) u)
+step_events n h (Joined link.Ok) = []
+step_events n h (Joined link.Failed) = failing (connection h)
+step_events n h (Lost Client how) = []
+step_events n h (Lost Up loss.Ended) = failing (connection h) ++ event.SessionLost ∷ []
+step_events n h (Lost Up loss.Failed) = failing (connection h) ++ event.SessionLost ∷ []
+step_events n h (Lost Up loss.Shut) = []
+step_events n h (Gave (ToClient u) text) = reply_events n u
+step_events n h (Gave (ToUp u) text) = up_events n u
+step_events n h (Whole end) = []
+step_events n h OutOfMemory = []
+
+-- it is a channel.open of channel n, which begins a life
+abbrev pub opens_channel : ℕ → List Step → Step → Bool
+opens_channel n h (Came u) =
+    not (ran_out_in h) && is_method_on is_channel_open n (want_in (connection h) u)
+opens_channel n h s = false
+
+-- the events of the life in progress
+abbrev pub path_events : List Step → ℕ → List PathEvent
+path_events [] n = []
+path_events (s ∷ h) n =
+    if opens_channel n h s then [] else step_events n h s ++ path_events h n
+
+-- its number: lives are counted on the connection, from 1
+abbrev pub path_life : List Step → ℕ → Option ℕ
+path_life [] n = None
+path_life (s ∷ h) n =
+    if opens_channel n h s then Some ((peers h).opened + 1) else path_life h n
+
+-- ---- confirms
+
+-- a confirm names a publish of the life in progress that waits for one, and each that it covers
+-- has the outcome that it tells: an ack covers accepted ones alone (RabbitMQ's publisher confirms;
+-- AMQP 0-9-1 1.8.3.13; AMQP 1.0 2.6.12, 3.4)
+pub record MayConfirm (h : List Step) (n : ℕ) (c : Confirm) : Type 0 where
+  pub life : ℕ
+  pub lives : path_life h n ≡ Some life
+  pub lawful : IsLawfulConfirm (publishes_of life (path_events h n)) c
+
+abbrev pub MayTell : List Step → Reply → Type 0
+MayTell h (reply.OnChannel n (to_client.Confirm c)) = MayConfirm h n c
+MayTell h u = Unit {0}
+
+-- each confirm that went is one of these
+abbrev pub Confirms : List Step → Type 0
+Confirms [] = Unit {0}
+Confirms (Gave (ToClient u) text ∷ h) = MayTell h u × Confirms h
+Confirms (s ∷ h) = Confirms h
+
+-- ---- transfers
+
+-- what is left of the payload of the publish with this number
+abbrev pub left_of : ℕ → List PathEvent → ℕ → List ℕ
+left_of life es number = rest_by (fate_of number (publishes_of life es))
+
+-- a frame of a transfer that goes on channel n, with these bytes of a payload
+pub record MayTransfer (h : List Step) (n : ℕ) (t : TransferOut) (text : List ℕ) : Type 0 where
+  pub life : ℕ
+  pub lives : path_life h n ≡ Some life
+  -- a transfer that is begun goes on; else that of the least number that waits on an attached link
+  -- with credit begins (AMQP 1.0 2.6.7, 2.6.12)
+  pub frame : frame_by (after_events life (path_events h n)).links.sending
+      (publishes_of life (path_events h n)) ≡ Some t.frame
+  -- with the delivery-id of the next transfer, where it is the first (2.6.12, 2.7.5), and with the
+  -- handle of its link (2.6.2)
+  pub id : t.id ≡ next_id_of (publishes_of life (path_events h n))
+  pub handle : t.handle
+      ≡ handle_at t.frame.link (after_events life (path_events h n)).links.links
+  -- the window of the session has room for it (2.5.6)
+  pub room : 1 ≤ (carrying n h).windows.window
+  -- it carries the first bytes that are left, and says whether more are (2.6.14, 2.7.5)
+  pub part : text ≡ take t.bytes (left_of life (path_events h n) t.frame.publish)
+  pub more : t.more ≡ nat_lt t.bytes (length (left_of life (path_events h n) t.frame.publish))
+
+abbrev pub MayCarry : List Step → UpUnit → List ℕ → Type 0
+MayCarry h (up.OnSession n (unit.Transfer t)) text = MayTransfer h n t text
+MayCarry h u text = Unit {0}
+
+-- each frame that went is one of these
+abbrev pub Transfers : List Step → Type 0
+Transfers [] = Unit {0}
+Transfers (Gave (ToUp u) text ∷ h) = MayCarry h u text × Transfers h
+Transfers (s ∷ h) = Transfers h
+
+-- ---- whole payloads
+
+-- the text of the image of a publish that is taken up on channel n
+abbrev pub text_wanted : ℕ → Want91 → Option (List ℕ)
+text_wanted n want.Nothing = None
+text_wanted n want.Start = None
+text_wanted n (want.Login mechanism response) = None
+text_wanted n want.Tuned = None
+text_wanted n want.OpenUp = None
+text_wanted n (want.Method k m) = None
+text_wanted n (want.Publish k m c) = if k == n then Some (image_text (message_of m c)) else None
+text_wanted n (want.ChannelCloseOk k) = None
+text_wanted n want.Close = None
+text_wanted n want.CloseOk = None
+text_wanted n (want.Refuse r) = None
+
+abbrev pub text_taken : ℕ → List Step → Step → Option (List ℕ)
+text_taken n h (Came u) = if ran_out_in h then None else text_wanted n (want_in (connection h) u)
+text_taken n h s = None
+
+-- how many publishes of the life in progress were taken up
+abbrev pub one_more : Option (List ℕ) → ℕ → ℕ
+one_more None count = count
+one_more (Some text) count = count + 1
+
+abbrev pub publishes_in : ℕ → List Step → ℕ
+publishes_in n [] = 0
+publishes_in n (s ∷ h) =
+    if opens_channel n h s then 0 else one_more (text_taken n h s) (publishes_in n h)
+
+-- the text of the image of that with this number; empty where there is none
+abbrev pub image_by : Option (List ℕ) → Bool → List ℕ → List ℕ
+image_by None this old = old
+image_by (Some text) this old = if this then text else old
+
+abbrev pub image_in : ℕ → ℕ → List Step → List ℕ
+image_in n number [] = []
+image_in n number (s ∷ h) =
+    if opens_channel n h s then []
+    else image_by (text_taken n h s) (number == publishes_in n h + 1) (image_in n number h)
+
+-- the bytes that its frames carried, joined
+abbrev pub joined_on : ℕ → ℕ → UpUnit → List ℕ → List ℕ → List ℕ
+joined_on n number (up.OnSession k (unit.Transfer t)) text old =
+    if k == n && number == t.frame.publish then old ++ text else old
+joined_on n number u text old = old
+
+abbrev pub joined_by : ℕ → ℕ → Step → List ℕ → List ℕ
+joined_by n number (Gave (ToUp u) text) old = joined_on n number u text old
+joined_by n number s old = old
+
+abbrev pub joined_in : ℕ → ℕ → List Step → List ℕ
+joined_in n number [] = []
+joined_in n number (s ∷ h) =
+    if opens_channel n h s then [] else joined_by n number s (joined_in n number h)
+
+-- they are a front of that text: each byte once, in order
+abbrev pub ArePieces : List Step → Type 0
+ArePieces h = (n number : ℕ) → IsFrontOf (joined_in n number h) (image_in n number h)
+
+-- and all of it, with the frame that says that no more follows (AMQP 1.0 2.6.14)
+abbrev pub MayFinish : List Step → UpUnit → List ℕ → Type 0
+MayFinish h (up.OnSession n (unit.Transfer t)) text =
+    t.more ≡ false
+    → joined_in n t.frame.publish h ++ text ≡ image_in n t.frame.publish h
+MayFinish h u text = Unit {0}
+
+abbrev pub EndWhole : List Step → Type 0
+EndWhole [] = Unit {0}
+EndWhole (Gave (ToUp u) text ∷ h) = MayFinish h u text × EndWhole h
+EndWhole (s ∷ h) = EndWhole h
