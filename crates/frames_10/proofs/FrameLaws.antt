@@ -1,6 +1,9 @@
 -- The laws of the grammar of frames and of its scan.
-use Rattle.std.proofs.Common.{◌≡◌, ◌≢◌, ◌↔◌, ℕ, zero, suc, ◌+◌, ◌-◌, ◌*◌, ◌^◌, ◌<◌, ◌≤◌, ◌⊎◌, inl, inr, ⊎_elim, List, [], ◌∷◌, ◌++◌, length, get_or, take, drop, replicate, Some, None, refl, sym, ◌∙◌, ap, subst, arith}
-use Rattle.std.proofs.lemmas.List.{get_or_append_left, get_or_past, take_all, take-append-drop, length-append, length-drop, length-take-le, length-replicate}
+use Rattle.std.proofs.Common.{◌≡◌, ◌≢◌, ◌↔◌, ℕ, zero, suc, ◌+◌, ◌-◌, ◌*◌, ◌^◌, ◌<◌, ◌≤◌, ◌⊎◌, inl}
+use Rattle.std.proofs.Common.{inr, ⊎_elim, List, [], ◌∷◌, ◌++◌, length, get_or, take, drop}
+use Rattle.std.proofs.Common.{replicate, Some, None, refl, sym, ◌∙◌, ap, subst, arith}
+use Rattle.std.proofs.lemmas.List.{get_or_append_left, get_or_past, take_all, take-append-drop}
+use Rattle.std.proofs.lemmas.List.{length-append, length-drop, length-take-le, length-replicate}
 use Rattle.std.proofs.lemmas.Bool.{cases_lt}
 use Rattle.std.proofs.lemmas.Grind.{get_or_default_zero}
 use Rattle.wire_base.specs.Bytes.{IsBytes}
@@ -14,12 +17,16 @@ use Rattle.frames_10.specs.declared.frame.Kind10.{Kind10}
 use Rattle.frames_10.specs.declared.frame.Kind10.TheVariants.{Amqp}
 use Rattle.frames_10.specs.declared.frame.Frame10.{Frame10}
 use Rattle.frames_10.specs.declared.frame.FrameFault10.{FrameFault10}
-use Rattle.frames_10.specs.declared.frame.FrameFault10.TheVariants.{FrameSize, DataOffset, FrameType}
+use Rattle.frames_10.specs.declared.frame.FrameFault10.TheVariants.{FrameSize, DataOffset}
+use Rattle.frames_10.specs.declared.frame.FrameFault10.TheVariants.{FrameType}
 use Rattle.frames_10.specs.Frames.{kind_byte, size_behind, text_behind, frame_text, IsFrame}
 use Rattle.frames_10.specs.FrameFaults.{HasSize, HasOffset, IsFaultOf, IsFrameFault}
 use Rattle.frames_10.specs.FrameScan.{kind_of, stated_size, stated_offset, frame_in, bad, scan_of}
-use Rattle.frames_10.proofs.FrameScanning.{IsSet, IsAstray, by_cases, answers_large, answers_small, answers_astray, answers_kind, answers_whole, astray_there, kind_there, size_places, size_same, stays}
-use Rattle.frames_10.proofs.FrameParts.{kind_again, kind_is, frame_parts, frame_text_in, kind_text, length_text, offset_text, size_text}
+use Rattle.frames_10.proofs.FrameScanning.{IsSet, IsAstray, by_cases, answers_large, answers_small}
+use Rattle.frames_10.proofs.FrameScanning.{answers_astray, answers_kind, answers_whole}
+use Rattle.frames_10.proofs.FrameScanning.{astray_there, kind_there, size_places, size_same, stays}
+use Rattle.frames_10.proofs.FrameParts.{kind_again, kind_is, frame_parts, frame_text_in, kind_text}
+use Rattle.frames_10.proofs.FrameParts.{length_text, offset_text, size_text}
 
 -- ---- what is spelled is read back
 

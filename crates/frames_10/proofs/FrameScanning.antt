@@ -1,8 +1,11 @@
 -- What a scan of frames answers, case by case, and that an answer other than More stays whatever bytes follow.
-use Rattle.std.proofs.Common.{◌≡◌, ◌≢◌, ℕ, ◌+◌, ◌-◌, ◌*◌, ◌^◌, ◌<◌, ◌≤◌, ◌⊎◌, inl, inr, ⊎_elim, ltb, List, ◌++◌, length, get_or, take, drop, Option, Some, None, refl, sym, ◌∙◌, ap, arith}
+use Rattle.std.proofs.Common.{◌≡◌, ◌≢◌, ℕ, ◌+◌, ◌-◌, ◌*◌, ◌^◌, ◌<◌, ◌≤◌, ◌⊎◌, inl, inr, ⊎_elim, ltb}
+use Rattle.std.proofs.Common.{List, ◌++◌, length, get_or, take, drop, Option, Some, None, refl, sym}
+use Rattle.std.proofs.Common.{◌∙◌, ap, arith}
 use Rattle.std.specs.Int.{w16, from_be_bytes}
 use Rattle.std.proofs.lemmas.Bool.{ltb-true, ltb-false, lt-ltb, le-ltb, cond_both, cases_lt}
-use Rattle.std.proofs.lemmas.List.{get_or-drop, get_or_append_left, get_or_past, take-append-le, drop-append-le, length-drop, length-append}
+use Rattle.std.proofs.lemmas.List.{get_or-drop, get_or_append_left, get_or_past, take-append-le}
+use Rattle.std.proofs.lemmas.List.{drop-append-le, length-drop, length-append}
 use Rattle.wire_base.proofs.Bytes.{get_or-append-le}
 use Rattle.wire_base.specs.declared.scan.At.{At}
 use Rattle.wire_base.specs.declared.scan.Scan.{Scan}
@@ -12,7 +15,8 @@ use Rattle.frames_10.specs.declared.frame.Frame10.{Frame10}
 use Rattle.frames_10.specs.declared.frame.FrameFault10.{FrameFault10}
 use Rattle.frames_10.specs.declared.frame.FrameFault10.TheVariants as fault
 use Rattle.frames_10.specs.FrameFaults.{HasSize}
-use Rattle.frames_10.specs.FrameScan.{kind_of, stated_size, stated_offset, frame_in, bad, scan_kind, scan_of}
+use Rattle.frames_10.specs.FrameScan.{kind_of, stated_size, stated_offset, frame_in, bad, scan_kind}
+use Rattle.frames_10.specs.FrameScan.{scan_of}
 
 -- the size and the data offset are right, the offset perhaps as it is not there
 pub record IsSet (limit : ℕ) (bytes : List ℕ) : Type 0 where

@@ -1,5 +1,7 @@
--- How the first frame of a stream is scanned, as a function of the bytes that came so far (AMQP 1.0 2.3).
-use Rattle.std.specs.Prelude.{ℕ, ◌*◌, ◌==◌, if◌then◌else◌, nat_lt, List, length, drop, slice_range, slice_index, slice_index_or, Option, None, Some}
+-- How the first frame of a stream is scanned, as a function of the bytes that came so far (AMQP 1.0
+-- 2.3).
+use Rattle.std.specs.Prelude.{ℕ, ◌*◌, ◌==◌, if◌then◌else◌, nat_lt, Bool, true, false, List, length}
+use Rattle.std.specs.Prelude.{drop, slice_range, slice_index, slice_index_or, Option, None, Some}
 use Rattle.std.specs.Int.{w16, w32, from_be_bytes}
 use Rattle.wire_base.specs.declared.scan.At.{At}
 use Rattle.wire_base.specs.declared.scan.Scan.{Scan}
@@ -38,9 +40,11 @@ bad fault at = Bad (record { fault = fault; at = at })
 abbrev pub scan_kind : Option Kind10 → List ℕ → Scan Frame10 (At FrameFault10)
 scan_kind None bytes = bad fault.FrameType 5
 scan_kind (Some kind) bytes =
-    if nat_lt (length bytes) (stated_size bytes) then More else Whole (frame_in kind bytes) (stated_size bytes)
+    if nat_lt (length bytes) (stated_size bytes) then More else Whole (frame_in kind bytes)
+    (stated_size bytes)
 
--- the frame with which a stream begins: each fault is told as soon as its bytes are there, whatever is to come
+-- the frame with which a stream begins: each fault is told as soon as its bytes are there, whatever
+-- is to come
 unfoldable pub scan_of : ℕ → List ℕ → Scan Frame10 (At FrameFault10)
 scan_of limit bytes =
     let size = stated_size bytes in
@@ -48,4 +52,11 @@ scan_of limit bytes =
     (if nat_lt (length bytes) 4 then More else
     (if nat_lt size 8 then bad fault.FrameSize 0 else
     (if nat_lt (stated_offset bytes) 2 then bad fault.DataOffset 4 else
-    (if nat_lt size (4 * stated_offset bytes) then bad fault.DataOffset 4 else scan_kind (kind_of (slice_index bytes 5)) bytes))))
+    (if nat_lt size (4 * stated_offset bytes) then bad fault.DataOffset 4 else scan_kind (kind_of
+    (slice_index bytes 5)) bytes))))
+
+-- a whole frame was found
+abbrev pub is_whole : {A F : Type 0} → Scan A F → Bool
+is_whole (Whole x n) = true
+is_whole More = false
+is_whole (Bad f) = false

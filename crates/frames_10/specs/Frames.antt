@@ -14,11 +14,12 @@ kind_byte Sasl = 1
 abbrev pub size_behind : ℕ → Frame10 → ℕ
 size_behind words frame = 8 + 4 * words + length frame.body
 
--- the size in four bytes, the data offset in words of four bytes, the type, the channel in two bytes, the extended
--- header, and the body
+-- the size in four bytes, the data offset in words of four bytes, the type, the channel in two
+-- bytes, the extended header, and the body
 unfoldable pub text_behind : ℕ → List ℕ → Frame10 → List ℕ
 text_behind words extended frame =
-    to_be_bytes w32 (size_behind words frame) ++ (2 + words) ∷ kind_byte frame.kind ∷ to_be_bytes w16 frame.channel
+    to_be_bytes w32 (size_behind words frame) ++
+    (2 + words) ∷ kind_byte frame.kind ∷ to_be_bytes w16 frame.channel
     ++ extended ++ frame.body
 
 -- a frame without an extended header, as it is written

@@ -1,4 +1,5 @@
--- The protocol headers of AMQP 1.0: version 1.0.0 of AMQP itself (2.2), and of its security layer (5.3.2).
+-- The protocol headers of AMQP 1.0: version 1.0.0 of AMQP itself (2.2), and of its security layer
+-- (5.3.2).
 use Rattle.std.specs.Prelude.{ℕ, List, [], ◌∷◌}
 use Rattle.wire_base.specs.declared.scan.At.{At}
 use Rattle.wire_base.specs.declared.scan.Scan.{Scan}

@@ -9,8 +9,9 @@ pub enum Kind10 {
     Sasl,
 }
 
-/// A frame (AMQP 1.0 2.3) without its extended header, which has no meaning here. A body that is written has fewer than
-/// 2^32 - 8 bytes. The channel of a SASL frame has no meaning either (5.3.1).
+/// A frame (AMQP 1.0 2.3) without its extended header, which has no meaning here. A body that is
+/// written has fewer than 2^32 - 8 bytes. The channel of a SASL frame has no meaning either
+/// (5.3.1).
 #[derive(Debug, Drop)]
 pub struct Frame10 {
     pub kind: Kind10,
@@ -18,8 +19,8 @@ pub struct Frame10 {
     pub body: ByteText,
 }
 
-/// Why no frame begins a stream. Each closes the connection with the condition `amqp:connection:framing-error`
-/// (AMQP 1.0 2.8.16).
+/// Why no frame begins a stream. Each closes the connection with the condition
+/// `amqp:connection:framing-error` (AMQP 1.0 2.8.16).
 #[derive(Clone, Copy, Debug, PartialEq, Eq)]
 pub enum FrameFault10 {
     /// The size is below 8 or above the limit; at 0.

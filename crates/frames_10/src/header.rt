@@ -40,8 +40,8 @@ fn first_header(bytes: &[u8], kind: Kind10) -> Scan<(), At<NotHeader>>
     })
 }
 
-/// Scans the protocol header of this kind (AMQP 1.0 2.2, 5.3.2), which has eight bytes. A fault is at the first byte that
-/// differs.
+/// Scans the protocol header of this kind (AMQP 1.0 2.2, 5.3.2), which has eight bytes. A fault is
+/// at the first byte that differs.
 #[tactic(auto, using(crate::proofs::HeaderLaws::scans_by, crate::proofs::HeaderLaws::faults_by))]
 pub fn scan_header10(bytes: &[u8], kind: Kind10) -> Scan<(), At<NotHeader>>
     ensures exact { result ≡ header_scan kind bytes.now }

@@ -14,10 +14,10 @@ ghost use Rattle.frames_10.specs.FrameFaults.{IsFrameFault};
 ghost use Rattle.frames_10.specs.FrameScan.{scan_of};
 ghost use Rattle.frames_10.specs.Headers.{IsHeader, IsHeaderFault, header_bytes, header_scan};
 
-/// What holds of the frames (AMQP 1.0 2.3) and of the protocol headers (2.2, 5.3.2), of any bytes: the scans answer as
-/// the grammars say; a fault is told exactly where it is; no spelling is a proper prefix of another's; what is spelled is
-/// read back, whatever follows; and an answer other than More stays whatever bytes come. A caller has the laws by
-/// calling it.
+/// What holds of the frames (AMQP 1.0 2.3) and of the protocol headers (2.2, 5.3.2), of any bytes:
+/// the scans answer as the grammars say; a fault is told exactly where it is; no spelling is a
+/// proper prefix of another's; what is spelled is read back, whatever follows; and an answer other
+/// than More stays whatever bytes come. A caller has the laws by calling it.
 pub fn frame_laws10()
     ensures scans { (limit : ℕ) (bytes : List ℕ) → 8 ≤ limit → IsBytes bytes
         → Scans (IsFrame limit) bytes (scan_of limit bytes) }
@@ -30,7 +30,8 @@ pub fn frame_laws10()
         → scan_of limit (bytes ++ more) ≡ scan_of limit bytes }
 
     // The same of the protocol headers.
-    ensures header_scans { (kind : Kind10) (bytes : List ℕ) → Scans (IsHeader kind) bytes (header_scan kind bytes) }
+    ensures header_scans { (kind : Kind10) (bytes : List ℕ) → Scans (IsHeader kind) bytes
+        (header_scan kind bytes) }
     ensures header_fault { (kind : Kind10) (bytes : List ℕ) (at : At NotHeader)
         → (header_scan kind bytes ≡ Bad at) ↔ IsHeaderFault kind bytes at }
     ensures header_apart { (kind : Kind10) → AreApart (IsHeader kind) }

@@ -1,10 +1,11 @@
 //! Scanning a frame.
 
-ghost use Rattle.std.specs.Prelude.{◌≡◌, ℕ, ◌*◌, ◌≤◌, length, IfOk, slice_index};
+ghost use Rattle.std.specs.Prelude.{◌≡◌, ℕ, ◌*◌, ◌≤◌, true, length, IfOk, OnErr, slice_index};
 ghost use Rattle.wire_base.specs.Scans.{IfBad, Scans};
 ghost use Rattle.frames_10.specs.Frames.{IsFrame};
 ghost use Rattle.frames_10.specs.FrameFaults.{IsFrameFault};
-ghost use Rattle.frames_10.specs.FrameScan.{frame_in, kind_of, scan_of, stated_offset, stated_size};
+ghost use Rattle.frames_10.specs.FrameScan.{frame_in, is_whole, kind_of, scan_of};
+ghost use Rattle.frames_10.specs.FrameScan.{stated_offset, stated_size};
 
 use crate::frame::{Frame10, FrameFault10, Kind10};
 use std::alloc::Global;
@@ -93,7 +94,8 @@ fn first_frame(
     bytes: &[u8],
     limit: u32,
 ) -> Result<Scan<Frame10, At<FrameFault10>>, Memory>
-    ensures { IfOk result (λ scan. scan ≡ scan_of limit bytes.now) }
+    ensures exact { IfOk result (λ scan. scan ≡ scan_of limit bytes.now) }
+    ensures memory { OnErr result (is_whole (scan_of limit bytes.now) ≡ true) }
 {
     let size = size_of(bytes) as usize;
     if size > limit as usize {
@@ -120,14 +122,15 @@ fn first_frame(
     Ok(Scan::Whole(frame, size))
 }
 
-/// Scans the first frame of a stream (AMQP 1.0 2.3). `max` bounds a whole frame, in bytes. A size is told as too large as
-/// soon as the bytes of it that came, with zeros for the others, say so, and each other fault as soon as its bytes are
-/// there. Of the faults the first of `FrameSize`, `DataOffset` and `FrameType` is told, with its offset. An extended
-/// header is skipped. The body is copied.
+/// Scans the first frame of a stream (AMQP 1.0 2.3). `max` bounds a whole frame, in bytes. A size
+/// is told as too large as soon as the bytes of it that came, with zeros for the others, say so,
+/// and each other fault as soon as its bytes are there. Of the faults the first of `FrameSize`,
+/// `DataOffset` and `FrameType` is told, with its offset. An extended header is skipped. The body
+/// is copied.
 ///
 /// # Errors
 ///
-/// `Memory` where there is no room for the body.
+/// `Memory` where there is no room for the body, which is only where a whole frame is there.
 #[tactic(auto, using(crate::proofs::FrameLaws::scans_by, crate::proofs::FrameLaws::faults_by))]
 pub fn scan_frame10(
     alloc: Global,
@@ -138,6 +141,7 @@ pub fn scan_frame10(
     ensures exact { IfOk result (λ scan. scan ≡ scan_of max bytes.now) }
     ensures scans { IfOk result (Scans (IsFrame max) bytes.now) }
     ensures fault { IfOk result (λ scan. IfBad scan (IsFrameFault max bytes.now)) }
+    ensures memory { OnErr result (is_whole (scan_of max bytes.now) ≡ true) }
 {
     first_frame(alloc, bytes, max)
 }

@@ -1,6 +1,7 @@
 //! Writing a frame.
 
-ghost use Rattle.std.specs.Prelude.{◌≡◌, ℕ, ◌+◌, ◌^◌, ◌<◌, ◌≤◌, List, ◌++◌, length, take, OnOk, OnErr};
+ghost use Rattle.std.specs.Prelude.{◌≡◌, ℕ, ◌+◌, ◌^◌, ◌<◌, ◌≤◌, List, ◌++◌, length, take, OnOk};
+ghost use Rattle.std.specs.Prelude.{OnErr};
 ghost use Rattle.frames_10.specs.Frames.{IsFrame, frame_text, kind_byte};
 
 use crate::frame::{Frame10, Kind10};
@@ -32,16 +33,18 @@ fn append_frame(out: &mut ByteText, frame: &Frame10) -> Result<(), Memory>
     out.append(body)
 }
 
-/// Writes a frame at the end of the output (AMQP 1.0 2.3), a header of 8 bytes and the body, or answers `Memory` and
-/// leaves the output as it was.
+/// Writes a frame at the end of the output (AMQP 1.0 2.3), a header of 8 bytes and the body, or
+/// answers `Memory` and leaves the output as it was.
 #[tactic(auto, using(crate::proofs::FrameLaws::is_spelled))]
 pub fn put_frame10(out: &mut ByteText, frame: &Frame10) -> Result<(), Memory>
     requires { length frame.now.body + 8 < 2 ^ 32 }
     ensures ok { OnOk result (out.new ≡ out.old ++ frame_text frame.now) }
     ensures err { OnErr result (out.new ≡ out.old) }
 
-    // What is written is the frame's spelling, so that a scan within any limit that it fits reads it back.
-    ensures spelled { (limit : ℕ) → length frame.now.body + 8 ≤ limit → IsFrame limit frame.now (frame_text frame.now) }
+    // What is written is the frame's spelling, so that a scan within any limit that it fits reads
+    // it back.
+    ensures spelled { (limit : ℕ) → length frame.now.body + 8 ≤ limit
+        → IsFrame limit frame.now (frame_text frame.now) }
 {
     let start = out.as_slice().len();
     let written = append_frame(out, frame);

@@ -1,4 +1,5 @@
--- The entries of one pair, in bytes: what the loop did with it and what came of that. All lists are newest first.
+-- The entries of one pair, in bytes: what the loop did with it and what came of that. All lists are
+-- newest first.
 use Rattle.std.specs.Prelude.{ℕ, Bool, true, false, List, [], ◌∷◌}
 use Rattle.gate_outside.specs.declared.ports.End.{End}
 use Rattle.gate_outside.specs.declared.ports.Linked.{Linked}
@@ -25,7 +26,8 @@ pub data Entry : Type 0 where
   Stuck : End → List ℕ → Entry
   -- an end ended or failed, or was shut
   Lost : End → Loss → Entry
-  -- the pair ran out of memory; of what the entry before brought, the newest so many steps don't count
+  -- the pair ran out of memory; of what the entry before brought, the newest so many steps don't
+  -- count
   OutOfMemory : ℕ → Entry
   -- the service ended
   Over : Entry

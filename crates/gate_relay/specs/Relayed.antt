@@ -1,9 +1,12 @@
 -- The entries that a loop may make of a pair: each is one that those before it ask for.
-use Rattle.std.specs.Prelude.{◌≡◌, ℕ, ◌≤◌, ◌⊎◌, Bool, true, false, List, [], ◌∷◌, length, Some, is_some}
+use Rattle.std.specs.Prelude.{◌≡◌, ℕ, ◌≤◌, ◌⊎◌, Bool, true, false, List, [], ◌∷◌, length, Some}
+use Rattle.std.specs.Prelude.{is_some}
 use Rattle.gate_outside.specs.declared.ports.End.{End}
 use Rattle.gate_outside.specs.declared.ports.End.TheVariants.{Client}
 use Rattle.gate_relay.specs.declared.loss.Loss.TheVariants as loss
-use Rattle.gate_relay.specs.Entries.{Entry, Began, Refused, Moment, Came, Dry, Settled, Joined, Took, Stuck, Lost, OutOfMemory, Over, is_out_of_memory, is_over, moment_of}
+use Rattle.gate_relay.specs.Entries.{Entry, Began, Refused, Moment, Came, Dry, Settled, Joined}
+use Rattle.gate_relay.specs.Entries.{Took, Stuck, Lost, OutOfMemory, Over, is_out_of_memory}
+use Rattle.gate_relay.specs.Entries.{is_over, moment_of}
 use Rattle.gate_relay.specs.Guards.{reads, takes_up, connects, offers, shuts}
 use Rattle.gate_relay.specs.RelayWords.{RelayWords}
 
@@ -16,11 +19,14 @@ abbrev pub is_new : List Entry → Bool
 is_new (Began p ms ∷ []) = true
 is_new h = false
 
--- where a pair runs out of memory: in a read, where what came is taken up, or where a write of what takes memory comes next
+-- where a pair runs out of memory: in a read, where what came is taken up, or where a write of what
+-- takes memory comes next
 pub data RunsOut (w : RelayWords) : ℕ → List Entry → Type 0 where
-  AtRead : (cut : ℕ) (end : End) (bytes : List ℕ) (h : List Entry) → RunsOut w cut (Came end bytes ∷ h)
+  AtRead : (cut : ℕ) (end : End) (bytes : List ℕ) (h : List Entry)
+      → RunsOut w cut (Came end bytes ∷ h)
   AtTakeUp : (cut : ℕ) (h : List Entry) → RunsOut w cut (Settled ∷ h)
-  AtWrite : (end : End) (h : List Entry) → is_some (offers w end h) ≡ true → w.takes_memory end h ≡ true → RunsOut w 0 h
+  AtWrite : (end : End) (h : List Entry) → is_some (offers w end h)
+      ≡ true → w.takes_memory end h ≡ true → RunsOut w 0 h
 
 -- why an end is shut: its word says so, the service ended, or there was no memory at the accept
 pub data ShutFor (w : RelayWords) : End → List Entry → Type 0 where
@@ -33,7 +39,8 @@ abbrev pub MayCome : RelayWords → List Entry → Entry → Type 0
 MayCome w h (Began p ms) = h ≡ []
 MayCome w h Refused = is_new h ≡ true
 MayCome w h (Moment ms) = moment_of h ≤ ms
-MayCome w h (Came end bytes) = (reads w end h ≡ true) × (1 ≤ length bytes) × (length bytes ≤ read_room)
+MayCome w h (Came end bytes) =
+    (reads w end h ≡ true) × (1 ≤ length bytes) × (length bytes ≤ read_room)
 MayCome w h (Dry end) = reads w end h ≡ true
 MayCome w h Settled = takes_up w h ≡ true
 MayCome w h (Joined answer) = connects w h ≡ true

@@ -1,4 +1,5 @@
-//! What the loop of the gateway and a pair know of one another: a pair's entries in bytes, and the trait `Relay`.
+//! What the loop of the gateway and a pair know of one another: a pair's entries in bytes, and the
+//! trait `Relay`.
 #![tactic(auto)]
 
 mod loss;

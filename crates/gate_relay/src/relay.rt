@@ -1,11 +1,15 @@
 //! What the loop asks of a pair, whatever its protocols.
 
-ghost use Rattle.std.specs.Prelude.{◌≡◌, ℕ, ◌≤◌, ◌<◌, ◌^◌, Bool, true, false, List, [], ◌∷◌, length, Option, Some, None, is_some, IfOk, IfSome, OnOk, OnErr, IsOk};
+ghost use Rattle.std.specs.Prelude.{◌≡◌, ℕ, ◌≤◌, ◌<◌, ◌^◌, Bool, true, false, List, [], ◌∷◌};
+ghost use Rattle.std.specs.Prelude.{length, Option, Some, None, is_some, IfOk, IfSome, OnOk, OnErr};
+ghost use Rattle.std.specs.Prelude.{IsOk};
 ghost use Rattle.std.specs.Bool.{OnTrue, OnFalse};
 ghost use Rattle.gate_outside.specs.Counts.{Rose};
 ghost use Rattle.gate_outside.specs.Streams.{Appends, AppendsFront};
 ghost use Rattle.gate_outside.specs.declared.ports.End.{End};
-ghost use Rattle.gate_relay.specs.Entries.{Entry, Began, Moment, Came, Dry, Settled, Joined, Took, Stuck, Lost, OutOfMemory, Over, is_empty, is_out_of_memory};
+ghost use Rattle.gate_relay.specs.Entries.{Entry, Began, Moment, Came, Dry, Settled, Joined, Took};
+ghost use Rattle.gate_relay.specs.Entries.{Stuck, Lost, OutOfMemory, Over, is_empty};
+ghost use Rattle.gate_relay.specs.Entries.{is_out_of_memory};
 ghost use Rattle.gate_relay.specs.RelayWords.{RelayWords};
 
 use crate::loss::Loss;
@@ -13,8 +17,9 @@ use gate_outside::{End, Linked, Sink};
 use std::alloc::Global;
 use wire_base::Memory;
 
-/// The state of one pair of connections. Each call that changes it is an entry of the pair, and each answer is a word
-/// of the entries so far. Only `new`, `came_in`, `settle` and `peek` take memory.
+/// The state of one pair of connections. Each call that changes it is an entry of the pair, and
+/// each answer is a word of the entries so far. Only `new`, `came_in`, `settle` and `peek` take
+/// memory.
 pub trait Relay: Drop {
     /// What all pairs of a run share.
     type Setup;
@@ -39,7 +44,8 @@ pub trait Relay: Drop {
     /// Whether the pair ran out of memory.
     fn is_out_of_memory(&self) -> bool
         ensures value { result ≡ out_of_memory self.now }
-        ensures word { (s : Self.Setup) (h : List Entry) → represents s self.now h → result ≡ is_out_of_memory h };
+        ensures word { (s : Self.Setup) (h : List Entry) → represents s self.now h → result
+            ≡ is_out_of_memory h };
 
     /// A moment, in milliseconds, was given.
     fn tell(&mut self, moment: u64)
@@ -85,8 +91,8 @@ pub trait Relay: Drop {
         ensures word { (s : Self.Setup) (h : List Entry) → represents s self.now h
             → result ≡ (words s).takes_up h };
 
-    /// What came is taken up, as far as it can be. If the pair runs out of memory, the newest `cut` steps of this don't
-    /// count.
+    /// What came is taken up, as far as it can be. If the pair runs out of memory, the newest `cut`
+    /// steps of this don't count.
     fn settle(&mut self, alloc: Global, setup: &Self::Setup) -> Result<(), Memory>
         requires { out_of_memory self.old ≡ false }
         ensures memory { OnOk result (out_of_memory self.new ≡ false) }
@@ -137,14 +143,16 @@ pub trait Relay: Drop {
         requires ready { is_some (ready self.old end) ≡ true }
         requires within { IfSome (ready self.old end) (λ bytes. count ≤ length bytes) }
         ensures memory { out_of_memory self.new ≡ out_of_memory self.old }
-        ensures entry { (s : Self.Setup) (h : List Entry) (bytes : List ℕ) → ready self.old end ≡ Some bytes
+        ensures entry { (s : Self.Setup) (h : List Entry) (bytes : List ℕ) → ready self.old end
+            ≡ Some bytes
             → represents s self.old h → represents s self.new (Took end bytes count ∷ h) };
 
     /// None of it was taken yet.
     fn stuck(&mut self, end: End)
         requires { is_some (ready self.old end) ≡ true }
         ensures memory { out_of_memory self.new ≡ out_of_memory self.old }
-        ensures entry { (s : Self.Setup) (h : List Entry) (bytes : List ℕ) → ready self.old end ≡ Some bytes
+        ensures entry { (s : Self.Setup) (h : List Entry) (bytes : List ℕ) → ready self.old end
+            ≡ Some bytes
             → represents s self.old h → represents s self.new (Stuck end bytes ∷ h) };
 
     /// Whether an end is to be shut.
@@ -158,8 +166,8 @@ pub trait Relay: Drop {
         ensures entry { (s : Self.Setup) (h : List Entry) → represents s self.old h
             → represents s self.new (Over ∷ h) };
 
-    /// Writes the report lines that the newest entry adds. `false` comes only if the report's count of faults rose; then
-    /// there is a line, and a front part of the lines was taken.
+    /// Writes the report lines that the newest entry adds. `false` comes only if the report's count
+    /// of faults rose; then there is a line, and a front part of the lines was taken.
     fn tell_lines<K: Sink>(&self, report: &mut K) -> bool
         ensures later { K.faults report.old ≤ K.faults report.new }
         ensures cause { OnFalse result (Rose (K.faults report.old) (K.faults report.new)) }

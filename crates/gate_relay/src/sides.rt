@@ -1,7 +1,8 @@
 //! How far each end of a pair is.
 
 ghost use Rattle.std.specs.Prelude.{◌≡◌, Bool, true, false};
-ghost use Rattle.gate_relay.specs.Sides.{side_of, with_side, side_lost, side_linked, is_readable, is_writable, is_open_side, is_absent, has_end};
+ghost use Rattle.gate_relay.specs.Sides.{side_of, with_side, side_lost, side_linked, is_readable};
+ghost use Rattle.gate_relay.specs.Sides.{is_writable, is_open_side, is_absent, has_end};
 
 use crate::loss::Loss;
 use gate_outside::{End, Linked};

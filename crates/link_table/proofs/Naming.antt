@@ -1,16 +1,20 @@
 -- After any events, a handle of the container names the one link that is attached under it.
-use Rattle.std.proofs.Common.{◌≡◌, ◌∙◌, ℕ, ◌+◌, ◌<◌, Bool, true, false, List, [], ◌∷◌, Option, Some, None, refl, sym, ap, subst, arith, cond, length, get_or, set, inl, inr}
+use Rattle.std.proofs.Common.{◌≡◌, ◌∙◌, ℕ, ◌+◌, ◌<◌, Bool, true, false, List, [], ◌∷◌, Option, Some}
+use Rattle.std.proofs.Common.{None, refl, sym, ap, subst, arith, cond, length, get_or, set, inl}
+use Rattle.std.proofs.Common.{inr}
 use Rattle.std.specs.Prelude.{◌⊎◌, ◌↔◌, ◌==◌, ◌&&◌, position, replicate, slice_index_or, nat_lt}
 use Rattle.std.proofs.lemmas.Bool.{cases_eq, cases_lt}
 use Rattle.std.proofs.lemmas.Bool.Decides.{nat_tests}
 use Rattle.std.specs.List.{position_or_len}
 use Rattle.std.proofs.lemmas.List.Sums.{fails_before_first}
-use Rattle.std.proofs.lemmas.List.{get_or-set_same, get_or-set_other, get_or_past, get_or-replicate, length-replicate, length-set}
+use Rattle.std.proofs.lemmas.List.{get_or-set_same, get_or-set_other, get_or_past, get_or-replicate}
+use Rattle.std.proofs.lemmas.List.{length-replicate, length-set}
 use Rattle.std.proofs.lemmas.List.Quantifiers.{position-Some}
 use Rattle.link_table.specs.declared.handles.HandleState.{HandleState}
 use Rattle.link_table.specs.declared.handles.HandleState.TheVariants.{Free, Asked, Attached}
 use Rattle.link_table.specs.Table.{HandleTable, is_named, with_sent, with_read}
-use Rattle.link_table.specs.Laws.{HandleEvent, Limited, Attach, PeerAttach, Detach, PeerDetach, after_event, after_events, IsEvent, AreEvents, NamesLinks}
+use Rattle.link_table.specs.Laws.{HandleEvent, Limited, Attach, PeerAttach, Detach, PeerDetach}
+use Rattle.link_table.specs.Laws.{after_event, after_events, IsEvent, AreEvents, NamesLinks}
 
 -- no two links are attached under one handle of the container
 abbrev AreApart : List HandleState → Type 0

@@ -1,6 +1,8 @@
 -- What holds after any events of a session's handles, newest first.
 use Rattle.std.specs.Prelude.{◌≡◌, ◌↔◌, ℕ, true, List, [], ◌∷◌, Some, None}
-use Rattle.link_table.specs.Table.{HandleTable, new_table, state_of, free_of, named_by, is_named, is_asked, is_unsent, is_unread, after_limit, after_attach, after_attached, after_detach_sent, after_detach_read}
+use Rattle.link_table.specs.Table.{HandleTable, new_table, state_of, free_of, named_by, is_named}
+use Rattle.link_table.specs.Table.{is_asked, is_unsent, is_unread, after_limit, after_attach}
+use Rattle.link_table.specs.Table.{after_attached, after_detach_sent, after_detach_read}
 
 pub data HandleEvent : Type 0 where
   -- the greatest handle that the container takes is known
@@ -23,12 +25,13 @@ abbrev pub after_events : ℕ → List HandleEvent → HandleTable
 after_events most [] = new_table most
 after_events most (x ∷ h) = after_event x (after_events most h)
 
--- an attach takes the lowest free handle; the container's attach answers one of the gateway, under a
--- handle that names no link; each end detaches what is attached, once
+-- an attach takes the lowest free handle; the container's attach answers one of the gateway, under
+-- a handle that names no link; each end detaches what is attached, once
 abbrev pub IsEvent : HandleEvent → HandleTable → Type 0
 IsEvent (Limited most) t = Unit {0}
 IsEvent (Attach handle) t = free_of t ≡ Some handle
-IsEvent (PeerAttach handle peer) t = (is_asked (state_of t handle) ≡ true) × (named_by t peer ≡ None)
+IsEvent (PeerAttach handle peer) t =
+    (is_asked (state_of t handle) ≡ true) × (named_by t peer ≡ None)
 IsEvent (Detach handle) t = is_unsent (state_of t handle) ≡ true
 IsEvent (PeerDetach handle) t = is_unread (state_of t handle) ≡ true
 
@@ -38,4 +41,5 @@ AreEvents most (x ∷ h) = IsEvent x (after_events most h) × AreEvents most h
 
 -- a handle of the container names exactly the link that is attached under it
 abbrev pub NamesLinks : HandleTable → Type 0
-NamesLinks t = (handle peer : ℕ) → named_by t peer ≡ Some handle ↔ is_named peer (state_of t handle) ≡ true
+NamesLinks t =
+    (handle peer : ℕ) → named_by t peer ≡ Some handle ↔ is_named peer (state_of t handle) ≡ true

@@ -1,5 +1,6 @@
 -- The handles of a session's links (AMQP 1.0 2.6.2), by number: before any event, and after each.
-use Rattle.std.specs.Prelude.{ℕ, ◌+◌, ◌==◌, nat_le, if◌then◌else◌, Bool, true, false, not, ◌&&◌, List, position, replicate, set, slice_index_or, Option, Some, None}
+use Rattle.std.specs.Prelude.{ℕ, ◌+◌, ◌==◌, nat_le, if◌then◌else◌, Bool, true, false, not, ◌&&◌}
+use Rattle.std.specs.Prelude.{List, position, replicate, set, slice_index_or, Option, Some, None}
 use Rattle.link_table.specs.declared.handles.Attachment.{Attachment}
 use Rattle.link_table.specs.declared.handles.HandleState.{HandleState}
 use Rattle.link_table.specs.declared.handles.HandleState.TheVariants.{Free, Asked, Attached}
@@ -71,7 +72,8 @@ after_attach handle t = with_state handle Asked t
 -- the container's attach was read
 abbrev pub after_attached : ℕ → ℕ → HandleTable → HandleTable
 after_attached handle peer t =
-    with_state handle (Attached (record { peer = peer; detach_sent = false; detach_read = false })) t
+    with_state handle (Attached
+    (record { peer = peer; detach_sent = false; detach_read = false })) t
 
 -- a handle is free once both ends detached
 abbrev pub detached : Attachment → HandleState

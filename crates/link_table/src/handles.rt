@@ -1,9 +1,12 @@
-//! Each end numbers a session's links by handles of its own (AMQP 1.0 2.6.2). The container's attach
-//! names a link of the gateway, and its handle stands for this link in its later frames.
+//! Each end numbers a session's links by handles of its own (AMQP 1.0 2.6.2). The container's
+//! attach names a link of the gateway, and its handle stands for this link in its later frames.
 
 ghost use Rattle.std.specs.Prelude.{◌≡◌, ◌≤◌, ◌<◌, IfOk, true, Some, is_none, position};
 ghost use Rattle.std.specs.Bool.{OnTrue, OnFalse};
-ghost use Rattle.link_table.specs.Table.{new_table, state_of, free_of, named_by, is_free, is_named, is_asked, is_unsent, is_unread, after_limit, after_attach, after_attached, detached, with_sent, with_read, after_detach_sent, after_detach_read};
+ghost use Rattle.link_table.specs.Table.{new_table, state_of, free_of, named_by, is_free, is_named};
+ghost use Rattle.link_table.specs.Table.{is_asked, is_unsent, is_unread, after_limit, after_attach};
+ghost use Rattle.link_table.specs.Table.{after_attached, detached, with_sent, with_read};
+ghost use Rattle.link_table.specs.Table.{after_detach_sent, after_detach_read};
 
 use std::alloc::Global;
 use std::marker::Model;
@@ -31,8 +34,8 @@ pub struct Attachment {
     pub detach_read: bool,
 }
 
-/// The handles of a session. Contracts see the state of each, and the greatest that may be attached.
-/// No call takes memory but `new`.
+/// The handles of a session. Contracts see the state of each, and the greatest that may be
+/// attached. No call takes memory but `new`.
 #[derive(Drop)]
 pub struct Handles {
     states: Vec<HandleState>,
@@ -146,8 +149,8 @@ impl Handles {
         self.states[handle as usize] = HandleState::Asked;
     }
 
-    /// The container's attach of the link with this handle was read, and `peer` is its own handle. False
-    /// if `peer` names a link already; then nothing changes.
+    /// The container's attach of the link with this handle was read, and `peer` is its own handle.
+    /// False if `peer` names a link already; then nothing changes.
     pub fn attached(&mut self, handle: u32, peer: u32) -> bool
         requires { is_asked (state_of self.old handle) ≡ true }
         ensures answer { result ≡ is_none (named_by self.old peer) }

@@ -1,7 +1,8 @@
 -- The count and the credit of a sending link are the folds of the standard.
 use Rattle.std.proofs.Common.{◌≡◌, ℕ, ◌-◌, ◌^◌, ◌≤◌, ◌<◌, List, [], ◌∷◌, ◌∙◌, ap, subst, arith}
 use Rattle.links_10.specs.Send.{advanced, left_of, or_initial}
-use Rattle.links_10.specs.SendFolds.{SendEvent, Flowed, Begun, Drained, after_events, stated_last, left_at, count_of, AreEvents, IsFold}
+use Rattle.links_10.specs.SendFolds.{SendEvent, Flowed, Begun, Drained, after_events, stated_last}
+use Rattle.links_10.specs.SendFolds.{left_at, count_of, AreEvents, IsFold}
 
 -- a transfer takes one of what is left
 takes_one : (stated credit n : ℕ) → stated < 2 ^ 32 → credit < 2 ^ 32 → n < 2 ^ 32

@@ -1,7 +1,8 @@
 -- The delivery-count and the link-credit of a sending link as the standard defines them (AMQP 1.0
 -- 2.6.7): over all that was sent and came, newest first.
 use Rattle.std.specs.Prelude.{◌≡◌, ℕ, ◌^◌, ◌≤◌, ◌<◌, List, [], ◌∷◌, Option}
-use Rattle.links_10.specs.Send.{advanced, left_of, or_initial, new_link, after_flow, after_begun, after_drain}
+use Rattle.links_10.specs.Send.{advanced, left_of, or_initial, new_link, after_flow, after_begun}
+use Rattle.links_10.specs.Send.{after_drain}
 use Rattle.links_10.specs.declared.send.Sending.{Sending}
 
 -- an event of a sending link

@@ -77,8 +77,8 @@ impl SendLink {
         self.state.credit -= 1;
     }
 
-    /// A flow that answers a drain was sent: the credit left is given up, and the count advances past
-    /// it.
+    /// A flow that answers a drain was sent: the credit left is given up, and the count advances
+    /// past it.
     pub fn drain(&mut self)
         ensures { self.new ≡ after_drain self.old }
     {

@@ -1,5 +1,6 @@
 -- A search and a count over a list of items are those over their numbers.
-use Rattle.std.proofs.Common.{◌≡◌, ◌∙◌, ℕ, zero, suc, ◌+◌, ◌≤◌, ◌<◌, List, [], ◌∷◌, Bool, true, false, refl, sym, ap, subst, arith, cond, map, inl, inr, length, Some}
+use Rattle.std.proofs.Common.{◌≡◌, ◌∙◌, ℕ, zero, suc, ◌+◌, ◌≤◌, ◌<◌, List, [], ◌∷◌, Bool, true}
+use Rattle.std.proofs.Common.{false, refl, sym, ap, subst, arith, cond, map, inl, inr, length, Some}
 use Rattle.std.specs.Prelude.{filter, find, count_by, ◌⊎◌}
 use Rattle.std.specs.List.{AllByRecursion}
 use Rattle.std.specs.Option.{option_map}

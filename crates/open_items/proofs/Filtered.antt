@@ -1,8 +1,11 @@
 -- Lists that are changed in place, and lists of what passes a test.
-use Rattle.std.proofs.Common.{◌≡◌, ◌∙◌, ℕ, ◌+◌, ◌≤◌, ◌<◌, List, [], ◌∷◌, ◌++◌, Bool, true, false, refl, sym, ap, subst, arith, cond, map, Some, take, drop, set, get_or, length}
+use Rattle.std.proofs.Common.{◌≡◌, ◌∙◌, ℕ, ◌+◌, ◌≤◌, ◌<◌, List, [], ◌∷◌, ◌++◌, Bool, true, false}
+use Rattle.std.proofs.Common.{refl, sym, ap, subst, arith, cond, map, Some, take, drop, set, get_or}
+use Rattle.std.proofs.Common.{length}
 use Rattle.std.specs.Prelude.{filter, find, count_by, ◌||◌, sum_by}
 use Rattle.std.specs.List.{AllByRecursion, list_any}
-use Rattle.std.proofs.lemmas.List.{length-append, length-map, length-take, length-drop, get_or_default}
+use Rattle.std.proofs.lemmas.List.{length-append, length-map, length-take, length-drop}
+use Rattle.std.proofs.lemmas.List.{get_or_default}
 use Rattle.std.proofs.lemmas.List.Edits.{map_over_more}
 use Rattle.std.proofs.lemmas.List.Sums.{length-filter, sum_by-cons}
 

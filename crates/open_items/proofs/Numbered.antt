@@ -1,5 +1,6 @@
 -- Lists of items with rising numbers.
-use Rattle.std.proofs.Common.{◌≡◌, ◌∙◌, ℕ, ◌+◌, ◌≤◌, ◌<◌, List, [], ◌∷◌, ◌++◌, Bool, true, false, refl, sym, ap, subst, arith, cond, map, inl, inr, Some}
+use Rattle.std.proofs.Common.{◌≡◌, ◌∙◌, ℕ, ◌+◌, ◌≤◌, ◌<◌, List, [], ◌∷◌, ◌++◌, Bool, true, false}
+use Rattle.std.proofs.Common.{refl, sym, ap, subst, arith, cond, map, inl, inr, Some}
 use Rattle.std.specs.Prelude.{filter, find, ◌⊎◌}
 use Rattle.std.specs.List.{AllByRecursion}
 

@@ -1,10 +1,12 @@
 -- A list of open items, each as a journal says of its number.
-use Rattle.std.proofs.Common.{◌≡◌, ◌∙◌, ℕ, ◌+◌, ◌≤◌, List, [], ◌∷◌, ◌++◌, Bool, true, sym, ap, subst, arith, map, inl, inr}
+use Rattle.std.proofs.Common.{◌≡◌, ◌∙◌, ℕ, ◌+◌, ◌≤◌, List, [], ◌∷◌, ◌++◌, Bool, true, sym, ap}
+use Rattle.std.proofs.Common.{subst, arith, map, inl, inr}
 use Rattle.std.specs.Prelude.{filter}
 use Rattle.std.specs.List.{AllByRecursion}
 use Rattle.std.proofs.lemmas.Bool.{cases_lt}
 use Rattle.open_items.proofs.Filtered.{all_each, all_weaker, all_both, all_push}
-use Rattle.open_items.proofs.Numbered.{Rising, Has, rising_each, rising_push, has_each, has_front, has_last}
+use Rattle.open_items.proofs.Numbered.{Rising, Has, rising_each, rising_push, has_each, has_front}
+use Rattle.open_items.proofs.Numbered.{has_last}
 
 -- number: of an item; Matches: an item is as its fate says; to_come: of a fate, that something is
 -- still to come

@@ -1,10 +1,13 @@
 -- The numbers that pass a test.
-use Rattle.std.specs.Prelude.{ℕ, zero, suc, ◌+◌, Bool, cond, List, [], ◌∷◌, length, Option, Some, None}
+use Rattle.std.specs.Prelude.{ℕ, zero, suc, ◌+◌, Bool, cond, List, [], ◌∷◌, length, Option, Some}
+use Rattle.std.specs.Prelude.{None}
 
 -- of the m numbers above low
 abbrev pub passing_above : (ℕ → Bool) → ℕ → ℕ → List ℕ
 passing_above passes low zero = []
-passing_above passes low (suc m) = cond (passes (low + 1)) ((low + 1) ∷ passing_above passes (low + 1) m) (passing_above passes (low + 1) m)
+passing_above passes low (suc m) =
+    cond (passes (low + 1)) ((low + 1) ∷ passing_above passes (low + 1) m) (passing_above passes
+    (low + 1) m)
 
 -- of the numbers from 1 to n
 abbrev pub passing : (ℕ → Bool) → ℕ → List ℕ

@@ -15,7 +15,8 @@ pub struct LostItem {
 pub enum LostKind {
     /// A publish without outcome, whose transfer hadn't begun.
     PublishLost,
-    /// A publish without outcome, whose transfer had begun: whether the container took it isn't known.
+    /// A publish without outcome, whose transfer had begun: whether the container took it isn't
+    /// known.
     PublishUnknown,
     /// A delivery whose settlement hadn't begun when the container's end was lost.
     DeliveryLeft,

@@ -1,6 +1,8 @@
 -- The confirm that is offered is lawful, and one is offered wherever one is owed.
-use Rattle.std.proofs.Common.{◌≡◌, ◌∙◌, ℕ, ◌+◌, ◌≤◌, ◌<◌, List, [], ◌∷◌, ◌++◌, Bool, true, false, refl, sym, ap, subst, arith, Option, Some, None, cond, inl, inr, map}
-use Rattle.std.specs.Prelude.{not, ◌&&◌, ◌||◌, ◌==◌, find, filter, ◌⊎◌, nat_le, is_some, IfSome, take_while}
+use Rattle.std.proofs.Common.{◌≡◌, ◌∙◌, ℕ, ◌+◌, ◌≤◌, ◌<◌, List, [], ◌∷◌, ◌++◌, Bool, true, false}
+use Rattle.std.proofs.Common.{refl, sym, ap, subst, arith, Option, Some, None, cond, inl, inr, map}
+use Rattle.std.specs.Prelude.{not, ◌&&◌, ◌||◌, ◌==◌, find, filter, ◌⊎◌, nat_le, is_some, IfSome}
+use Rattle.std.specs.Prelude.{take_while}
 use Rattle.std.specs.Option.{option_map}
 use Rattle.std.specs.List.{AllByRecursion}
 use Rattle.std.proofs.lemmas.Grind.{common_steps}
@@ -11,8 +13,12 @@ use Rattle.publish_path.specs.declared.publish.Publish.{Publish}
 use Rattle.publish_path.specs.declared.publish.Confirm.{Confirm}
 use Rattle.publish_path.specs.declared.publish.Answer.{Answer}
 use Rattle.publish_path.specs.declared.publish.Answer.TheVariants.{Open, Owed, Settled}
-use Rattle.publish_path.specs.Publishes.{PublishEvent, TakenUp, FrameSent, OutcomeCame, LinkGone, ConfirmSent, LineTold, after_events, next_number, told, link_lost, confirmed, reported, is_open, is_settled, covers}
-use Rattle.publish_path.specs.Offers.{is_owed, is_ack, gives, is_unanswered, number_or, alone, run_of, confirm_of, next_confirm_of}
+use Rattle.publish_path.specs.Publishes.{PublishEvent, TakenUp, FrameSent, OutcomeCame, LinkGone}
+use Rattle.publish_path.specs.Publishes.{ConfirmSent, LinesTold, after_events, next_number, told}
+use Rattle.publish_path.specs.Publishes.{link_lost, confirmed, reported, is_open, is_settled}
+use Rattle.publish_path.specs.Publishes.{covers}
+use Rattle.publish_path.specs.Offers.{is_owed, is_ack, gives, is_unanswered, number_or, alone}
+use Rattle.publish_path.specs.Offers.{run_of, confirm_of, next_confirm_of}
 use Rattle.publish_path.specs.Journal.{Fate, fate_of, is_to_go, is_done, is_to_come}
 use Rattle.publish_path.specs.Laws.{IsUnanswered, IsLawfulConfirm}
 use Rattle.publish_path.specs.Searches.{run_from}
@@ -74,7 +80,7 @@ climbs life (FrameSent number first part ∷ h) = climbs_each _ (λ p. refl) 0 _
 climbs life (OutcomeCame first last accepted ∷ h) = climbs_each (told first last accepted) (λ p. refl) 0 _ (after_events life h).list (climbs life h)
 climbs life (LinkGone link ∷ h) = climbs_each (link_lost link) (λ p. refl) 0 _ (after_events life h).list (climbs life h)
 climbs life (ConfirmSent c ∷ h) = climbs_each (confirmed c) (λ p. refl) 0 _ (after_events life h).list (climbs life h)
-climbs life (LineTold number ∷ h) = climbs_each (reported number) (λ p. refl) 0 _ (after_events life h).list (climbs life h)
+climbs life (LinesTold ∷ h) = climbs_each reported (λ p. refl) 0 _ (after_events life h).list (climbs life h)
 
 -- so do those of the unanswered ones
 unanswered_rise : (low high : ℕ) (ps : List Publish) → Climbs low high ps → Rising confirm_number low (filter is_unanswered ps)

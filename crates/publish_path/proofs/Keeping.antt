@@ -1,6 +1,7 @@
 -- After any events the open publishes are those of which the journal says that something is still to come,
 -- each as it says.
-use Rattle.std.proofs.Common.{◌≡◌, ◌∙◌, ℕ, ◌+◌, ◌%◌, ◌^◌, ◌≤◌, ◌<◌, List, [], ◌∷◌, ◌++◌, Bool, true, false, refl, sym, ap, subst, arith, Option, Some, None, cond, length}
+use Rattle.std.proofs.Common.{◌≡◌, ◌∙◌, ℕ, ◌+◌, ◌%◌, ◌^◌, ◌≤◌, ◌<◌, List, [], ◌∷◌, ◌++◌, Bool, true}
+use Rattle.std.proofs.Common.{false, refl, sym, ap, subst, arith, Option, Some, None, cond, length}
 use Rattle.std.specs.Prelude.{not, ◌&&◌, ◌||◌, ◌==◌, nat_lt, is_some}
 use Rattle.std.specs.List.{AllByRecursion}
 use Rattle.std.proofs.lemmas.Bool.Decides.{nat_tests}
@@ -10,9 +11,16 @@ use Rattle.open_items.proofs.Numbered.{rising_above}
 use Rattle.open_items.proofs.Tracked.{Tracks, none_tracked, each_tracked, push_tracked}
 use Rattle.publish_path.specs.declared.publish.Publish.{Publish}
 use Rattle.publish_path.specs.declared.publish.Confirm.{Confirm}
-use Rattle.publish_path.specs.Publishes.{PublishState, PublishEvent, TakenUp, FrameSent, OutcomeCame, LinkGone, ConfirmSent, LineTold, after_event, after_events, new_publish, next_number, framed, told, link_lost, confirmed, reported, is_open, in_range, is_on, lost_as, covers}
-use Rattle.publish_path.specs.Journal.{Fate, decided, fate_step, fate_of, numbers_of, confirms_of, next_id_of, takes_up, is_to_confirm, begins, is_undecided, has_rest, is_to_go, is_done, is_to_come}
-use Rattle.publish_path.proofs.Matching.{Matches, framed_matches, told_matches, lost_matches, confirmed_matches, reported_matches, open_test}
+use Rattle.publish_path.specs.Publishes.{PublishState, PublishEvent, TakenUp, FrameSent}
+use Rattle.publish_path.specs.Publishes.{OutcomeCame, LinkGone, ConfirmSent, LinesTold, after_event}
+use Rattle.publish_path.specs.Publishes.{after_events, new_publish, next_number, framed, told}
+use Rattle.publish_path.specs.Publishes.{link_lost, confirmed, reported, is_open, in_range, is_on}
+use Rattle.publish_path.specs.Publishes.{lost_as, covers}
+use Rattle.publish_path.specs.Journal.{Fate, decided, fate_step, fate_of, numbers_of, confirms_of}
+use Rattle.publish_path.specs.Journal.{next_id_of, takes_up, is_to_confirm, begins, is_undecided}
+use Rattle.publish_path.specs.Journal.{has_rest, is_to_go, is_done, is_to_come}
+use Rattle.publish_path.proofs.Matching.{Matches, framed_matches, told_matches, lost_matches}
+use Rattle.publish_path.proofs.Matching.{confirmed_matches, reported_matches, open_test}
 
 -- the numbers of the life
 
@@ -22,7 +30,7 @@ numbers_step (FrameSent number first part) s = refl
 numbers_step (OutcomeCame first last accepted) s = refl
 numbers_step (LinkGone link) s = refl
 numbers_step (ConfirmSent c) s = refl
-numbers_step (LineTold number) s = refl
+numbers_step LinesTold s = refl
 
 confirms_step : (x : PublishEvent) (s : PublishState) → (after_event x s).confirms ≡ cond (is_to_confirm x) (s.confirms + 1) s.confirms
 confirms_step (TakenUp link confirm payload) s = refl
@@ -30,7 +38,7 @@ confirms_step (FrameSent number first part) s = refl
 confirms_step (OutcomeCame first last accepted) s = refl
 confirms_step (LinkGone link) s = refl
 confirms_step (ConfirmSent c) s = refl
-confirms_step (LineTold number) s = refl
+confirms_step LinesTold s = refl
 
 next_id_step : (x : PublishEvent) (s : PublishState) → (after_event x s).next_id ≡ cond (begins x) ((s.next_id + 1) % 2 ^ 32) s.next_id
 next_id_step (TakenUp link confirm payload) s = refl
@@ -38,7 +46,7 @@ next_id_step (FrameSent number first part) s = refl
 next_id_step (OutcomeCame first last accepted) s = refl
 next_id_step (LinkGone link) s = refl
 next_id_step (ConfirmSent c) s = refl
-next_id_step (LineTold number) s = refl
+next_id_step LinesTold s = refl
 
 life_step : (x : PublishEvent) (s : PublishState) → (after_event x s).life ≡ s.life
 life_step (TakenUp link confirm payload) s = refl
@@ -46,7 +54,7 @@ life_step (FrameSent number first part) s = refl
 life_step (OutcomeCame first last accepted) s = refl
 life_step (LinkGone link) s = refl
 life_step (ConfirmSent c) s = refl
-life_step (LineTold number) s = refl
+life_step LinesTold s = refl
 
 pub numbers_kept : (life : ℕ) (h : List PublishEvent) → (after_events life h).numbers ≡ numbers_of h
 numbers_kept life [] = refl
@@ -145,13 +153,9 @@ sent_before : (n : ℕ) (h : List PublishEvent) (c : Confirm) (f : Fate) → is_
 sent_before n h c f e = or_before _ _ _ (is_to_go f) (not (is_done f)) (is_some f.line)
     (λ g. or_first _ _ _ g) (λ d. or_second (is_to_go f) _ _ (confirm_before f.answered (covers c f.confirm) _ d)) (λ l. or_third (is_to_go f) (not (is_done f)) _ l) e
 
-told_before : (n : ℕ) (h : List PublishEvent) (number : ℕ) (f : Fate) → is_to_come (fate_step n h (LineTold number) f) ≡ true → is_to_come f ≡ true
-told_before n h number f e = or_before _ _ _ (is_to_go f) (not (is_done f)) (is_some f.line)
-    (λ g. or_first _ _ _ g) (λ d. or_second (is_to_go f) _ _ d) (λ l. or_third (is_to_go f) (not (is_done f)) _ (by (n == number) l)) e
-  where
-    by : (b : Bool) → is_some (cond b None f.line) ≡ true → is_some f.line ≡ true
-    by true l = absurd (cc)
-    by false l = l
+told_before : (n : ℕ) (h : List PublishEvent) (f : Fate) → is_to_come (fate_step n h LinesTold f) ≡ true → is_to_come f ≡ true
+told_before n h f e = or_before _ _ _ (is_to_go f) (not (is_done f)) (is_some f.line)
+    (λ g. or_first _ _ _ g) (λ d. or_second (is_to_go f) _ _ d) (λ l. absurd (cc)) e
 
 -- the list
 
@@ -200,9 +204,9 @@ follows life (LinkGone link ∷ h) =
 follows life (ConfirmSent c ∷ h) =
     each_tracked number_of Matches is_to_come is_open (confirmed c) (λ n. fate_of n h) (λ n. fate_of n (ConfirmSent c ∷ h)) (numbers_of h) (after_events life h).list
     (λ p. refl) opens (λ p m. confirmed_matches c p h (fate_of p.number h) m) (λ k e. sent_before k h c (fate_of k h) e) (follows life h)
-follows life (LineTold number ∷ h) =
-    each_tracked number_of Matches is_to_come is_open (reported number) (λ n. fate_of n h) (λ n. fate_of n (LineTold number ∷ h)) (numbers_of h) (after_events life h).list
-    (λ p. refl) opens (λ p m. reported_matches number p h (fate_of p.number h) m) (λ k e. told_before k h number (fate_of k h) e) (follows life h)
+follows life (LinesTold ∷ h) =
+    each_tracked number_of Matches is_to_come is_open reported (λ n. fate_of n h) (λ n. fate_of n (LinesTold ∷ h)) (numbers_of h) (after_events life h).list
+    (λ p. refl) opens (λ p m. reported_matches p h (fate_of p.number h) m) (λ k e. told_before k h (fate_of k h) e) (follows life h)
 
 -- what is known of each publish in the list
 pub record Stands (h : List PublishEvent) (p : Publish) : Type 0 where

@@ -1,44 +1,103 @@
--- The lines of the report: which one is due, and that each is told once.
-use Rattle.std.proofs.Common.{◌≡◌, ◌∙◌, ℕ, ◌+◌, ◌≤◌, ◌<◌, List, [], ◌∷◌, Bool, true, false, refl, sym, ap, subst, arith, Option, Some, None, cond}
-use Rattle.std.specs.Prelude.{not, ◌&&◌, ◌||◌, ◌==◌, find, is_some, IfSome}
+-- The lines of the report: which are due, and that each publish that was lost has one.
+use Rattle.std.proofs.Common.{◌≡◌, ◌∙◌, ℕ, zero, suc, ◌+◌, List, [], ◌∷◌, ◌++◌, Bool, true, false}
+use Rattle.std.proofs.Common.{refl, sym, ap, subst, arith, Option, Some, None, cond, map}
+use Rattle.std.specs.Prelude.{not, ◌&&◌, ◌||◌, ◌==◌, nat_le, filter, is_some}
 use Rattle.std.specs.Option.{option_map}
+use Rattle.std.specs.List.{AllByRecursion}
 use Rattle.std.proofs.lemmas.Bool.Decides.{nat_tests}
 use Rattle.open_items.specs.declared.lost.LostItem.{LostItem}
 use Rattle.open_items.specs.declared.lost.LostKind.{LostKind}
-use Rattle.open_items.specs.Numbers.{least}
-use Rattle.open_items.proofs.Filtered.{all_find}
-use Rattle.open_items.proofs.Counted.{least_passing}
+use Rattle.open_items.specs.Numbers.{passing_above, passing}
+use Rattle.open_items.proofs.Counted.{numbers_passing}
 use Rattle.publish_path.specs.declared.publish.Publish.{Publish}
-use Rattle.publish_path.specs.Publishes.{PublishEvent, TakenUp, FrameSent, OutcomeCame, LinkGone, ConfirmSent, LineTold, after_events, next_number, in_range, is_on, lost_as, covers}
-use Rattle.publish_path.specs.Offers.{item_of, next_line_of}
-use Rattle.publish_path.specs.Journal.{Fate, new_fate, decided, fate_of, numbers_of, confirms_of, is_undecided, is_to_go, is_done, is_to_come}
-use Rattle.publish_path.specs.Laws.{IsLawfulLine, times_told, IsOwedLine, AreOwedLines}
+use Rattle.publish_path.specs.Publishes.{PublishEvent, TakenUp, FrameSent, OutcomeCame, LinkGone}
+use Rattle.publish_path.specs.Publishes.{ConfirmSent, LinesTold, after_events, next_number, in_range}
+use Rattle.publish_path.specs.Publishes.{is_on, lost_as, covers}
+use Rattle.publish_path.specs.Offers.{with_line, line_of, lines_of}
+use Rattle.publish_path.specs.Journal.{Fate, new_fate, decided, fate_of, numbers_of, confirms_of}
+use Rattle.publish_path.specs.Journal.{is_undecided, is_to_go, is_done, is_to_come}
+use Rattle.publish_path.specs.Laws.{item_by, lines_to, lines_by, is_taken, owes_line, is_lost}
+use Rattle.publish_path.specs.Laws.{one_if, times_told}
 use Rattle.publish_path.proofs.Matching.{Matches}
 use Rattle.publish_path.proofs.Keeping.{number_of, follows, Stands, stand}
 
 abbrev has_line : Publish → Bool
 has_line p = is_some p.line
 
--- the line that is due
+-- the lines that are due
 
-pub line_is_lawful : (life : ℕ) (h : List PublishEvent) → IfSome (next_line_of life (after_events life h).list) (IsLawfulLine life h)
-line_is_lawful life h = by (find has_line list) refl
+-- the one of publish n, if it has one
+abbrev line_by : ℕ → List PublishEvent → ℕ → Option LostItem
+line_by j h n = option_map (item_by j n) (fate_of n h).line
+
+-- those of these numbers
+abbrev lines_at : ℕ → List PublishEvent → List ℕ → List LostItem
+lines_at j h [] = []
+lines_at j h (n ∷ ns) = with_line (line_by j h n) (lines_at j h ns)
+
+-- the open ones have the lines of those among them that have one, as the journal says
+lines_listed : (j : ℕ) (h : List PublishEvent) (ps : List Publish) → AllByRecursion (Stands h) ps → lines_of j ps ≡ lines_at j h (map number_of (filter has_line ps))
+lines_listed j h [] a = refl
+lines_listed j h (p ∷ ps) a = by p.line refl (lines_listed j h ps a.1)
   where
-    list : List Publish
-    list = (after_events life h).list
+    more : List Publish
+    more = filter has_line ps
 
-    lawful : (p : Publish) → Stands h p → (line : Option LostKind) → p.line ≡ line → IfSome (option_map (λ kind. record { life = life; number = p.number; kind = kind }) line) (IsLawfulLine life h)
-    lawful p s None e = tt
-    lawful p s (Some kind) e = record { life = refl; taken = (s.positive, s.taken); line = sym s.matches.line ∙ e }
+    by : (line : Option LostKind) → p.line ≡ line → lines_of j ps ≡ lines_at j h (map number_of more) → with_line (line_of j p) (lines_of j ps) ≡ lines_at j h (map number_of (cond (is_some p.line) (p ∷ more) more))
+    by None e ih =
+        ap (λ l. with_line (option_map (item_by j p.number) l) (lines_of j ps)) e ∙ ih
+        ∙ sym (ap (λ l. lines_at j h (map number_of (cond (is_some l) (p ∷ more) more))) e)
+    by (Some kind) e ih =
+        ap (λ l. with_line (option_map (item_by j p.number) l) (lines_of j ps)) a.0.matches.line
+        ∙ ap (with_line (line_by j h p.number)) ih
+        ∙ sym (ap (λ l. lines_at j h (map number_of (cond (is_some l) (p ∷ more) more))) e)
 
-    by : (o : Option Publish) → find has_line list ≡ o → IfSome (item_of life o) (IsLawfulLine life h)
-    by None e = tt
-    by (Some p) e = lawful p (all_find (Stands h) has_line list p (stand life h) e).0 p.line refl
+passing_more : (t : ℕ → Bool) (low m : ℕ) → passing_above t low (suc m) ≡ passing_above t low m ++ cond (t (low + suc m)) ((low + suc m) ∷ []) []
+passing_more t low zero = refl
+passing_more t low (suc m) = by (t (low + 1)) (passing_more t (low + 1) m)
+  where
+    same : (low + 1) + suc m ≡ low + suc (suc m)
+    same = omega arith
 
-pub line_is_least : (life : ℕ) (h : List PublishEvent) → option_map (λ (item : LostItem). item.number) (next_line_of life (after_events life h).list) ≡ least (λ n. is_some (fate_of n h).line) (numbers_of h)
-line_is_least life h =
-    by (find has_line list) refl
-    ∙ least_passing number_of Matches is_to_come has_line (λ f. is_some f.line) (λ n. fate_of n h) (numbers_of h) list (λ p f m. ap is_some m.line) come (follows life h)
+    last : ℕ → List ℕ
+    last k = cond (t k) (k ∷ []) []
+
+    by : (b : Bool) → passing_above t (low + 1) (suc m) ≡ passing_above t (low + 1) m ++ last ((low + 1) + suc m)
+        → cond b ((low + 1) ∷ passing_above t (low + 1) (suc m)) (passing_above t (low + 1) (suc m)) ≡ cond b ((low + 1) ∷ passing_above t (low + 1) m) (passing_above t (low + 1) m) ++ last (low + suc (suc m))
+    by true ih = ap (λ ns. (low + 1) ∷ ns) (ih ∙ ap (λ k. passing_above t (low + 1) m ++ last k) same)
+    by false ih = ih ∙ ap (λ k. passing_above t (low + 1) m ++ last k) same
+
+lines_append : (j : ℕ) (h : List PublishEvent) (ms ns : List ℕ) → lines_at j h (ms ++ ns) ≡ lines_at j h ms ++ lines_at j h ns
+lines_append j h [] ns = refl
+lines_append j h (m ∷ ms) ns = by (line_by j h m) (lines_append j h ms ns)
+  where
+    by : (line : Option LostItem) → lines_at j h (ms ++ ns) ≡ lines_at j h ms ++ lines_at j h ns → with_line line (lines_at j h (ms ++ ns)) ≡ with_line line (lines_at j h ms) ++ lines_at j h ns
+    by None ih = ih
+    by (Some item) ih = ap (λ items. item ∷ items) ih
+
+lines_passing : (j : ℕ) (h : List PublishEvent) (n : ℕ) → lines_at j h (passing (λ k. is_some (fate_of k h).line) n) ≡ lines_to j h n
+lines_passing j h zero = refl
+lines_passing j h (suc n) =
+    ap (lines_at j h) (passing_more (λ k. is_some (fate_of k h).line) 0 n)
+    ∙ lines_append j h (passing (λ k. is_some (fate_of k h).line) n) (last (0 + suc n))
+    ∙ ap (λ items. items ++ lines_at j h (last (0 + suc n))) (lines_passing j h n)
+    ∙ ap (λ items. lines_to j h n ++ items) (ap (λ k. lines_at j h (last k)) same ∙ one (suc n) (fate_of (suc n) h).line refl)
+  where
+    last : ℕ → List ℕ
+    last k = cond (is_some (fate_of k h).line) (k ∷ []) []
+
+    same : 0 + suc n ≡ suc n
+    same = omega arith
+
+    one : (k : ℕ) (line : Option LostKind) → (fate_of k h).line ≡ line → lines_at j h (last k) ≡ with_line (option_map (item_by j k) (fate_of k h).line) []
+    one k None e = rw e refl
+    one k (Some kind) e = ap (λ l. lines_at j h (cond (is_some l) (k ∷ []) [])) e
+
+pub lines_are : (life : ℕ) (h : List PublishEvent) → lines_of life (after_events life h).list ≡ lines_by life h
+lines_are life h =
+    lines_listed life h list (stand life h)
+    ∙ ap (lines_at life h) (numbers_passing number_of Matches is_to_come has_line (λ f. is_some f.line) (λ n. fate_of n h) (numbers_of h) list (λ p f m. ap is_some m.line) come (follows life h))
+    ∙ lines_passing life h (numbers_of h)
   where
     list : List Publish
     list = (after_events life h).list
@@ -51,104 +110,93 @@ line_is_least life h =
         last false true c e = refl
         last false false c e = e
 
-    named : (p : Publish) (line : Option LostKind) → is_some line ≡ true → option_map (λ (item : LostItem). item.number) (option_map (λ kind. record { life = life; number = p.number; kind = kind }) line) ≡ Some p.number
-    named p None e = absurd (cc)
-    named p (Some kind) e = refl
+-- each publish that was lost has one line
 
-    by : (o : Option Publish) → find has_line list ≡ o → option_map (λ (item : LostItem). item.number) (item_of life o) ≡ option_map number_of o
-    by None e = refl
-    by (Some p) e = named p p.line (all_find (Stands h) has_line list p (stand life h) e).1
+-- one that was lost was taken up and is decided; its line was reported, or is due
+record Told (taken lost owes undecided : Bool) (times : ℕ) : Type 0 where
+  known : lost ≡ true → (taken ≡ true) × (undecided ≡ false)
+  once : times + one_if owes ≡ one_if lost
 
--- each line is told once
+-- an event that loses nothing and reports nothing
+kept : (taken lost owes u v : Bool) (times : ℕ) → (u ≡ false → v ≡ false) → Told taken lost owes u times → Told taken (lost || false) owes v (times + 0)
+kept taken true owes u v times falls t = record { known = λ e. ((t.known refl).0, falls (t.known refl).1); once = let o = t.once in omega arith }
+kept taken false owes u v times falls t = record { known = λ e. absurd (cc); once = let o = t.once in omega arith }
 
--- so far told, and to be told, of n: at most one, and only once it is decided
-record Once (h : List PublishEvent) (n : ℕ) (f : Fate) (times : ℕ) : Type 0 where
-  fresh : numbers_of h < n → times ≡ 0
-  few : times + cond (is_some f.line) 1 0 ≤ cond (is_undecided f) 0 1
+decided_stays : (test accepted answered : Bool) (outcome : Option Bool) → (not (is_some outcome) && not answered) ≡ false → (not (is_some (decided test accepted outcome)) && not answered) ≡ false
+decided_stays false accepted answered outcome e = e
+decided_stays true accepted answered None e = refl
+decided_stays true accepted answered (Some a) e = refl
 
-undecided_falls : (test accepted answered : Bool) (outcome : Option Bool) (m : ℕ) → m ≤ cond (not (is_some outcome) && not answered) 0 1 → m ≤ cond (not (is_some (decided test accepted outcome)) && not answered) 0 1
-undecided_falls false accepted answered outcome m le = le
-undecided_falls true accepted answered (Some a) m le = le
-undecided_falls true accepted true None m le = le
-undecided_falls true accepted false None m le = omega arith
+answered_stays : (on answered : Bool) (outcome : Option Bool) → (not (is_some outcome) && not answered) ≡ false → (not (is_some outcome) && not (answered || on)) ≡ false
+answered_stays on true None e = refl
+answered_stays on false None e = absurd (cc)
+answered_stays on answered (Some a) e = refl
 
-answered_falls : (on answered : Bool) (outcome : Option Bool) (m : ℕ) → m ≤ cond (not (is_some outcome) && not answered) 0 1 → m ≤ cond (not (is_some outcome) && not (answered || on)) 0 1
-answered_falls on answered (Some a) m le = le
-answered_falls on true None m le = le
-answered_falls true false None m le = omega arith
-answered_falls false false None m le = le
+-- a loss: of one that was taken up and was not decided
+lost_told : (taken lost u on v : Bool) (line : Option LostKind) (kind : LostKind) (times : ℕ) → (u ≡ false → v ≡ false) → (on ≡ true → v ≡ false) → Told taken lost (taken && is_some line) u times
+    → Told taken (lost || (taken && (u && on))) (taken && is_some (cond (u && on) (Some kind) line)) v (times + 0)
+lost_told taken true true on v line kind times falls gone t = absurd (let no = (t.known refl).1 in cc)
+lost_told taken true false on v line kind times falls gone t = kept taken true _ false v times falls t
+lost_told false false u on v line kind times falls gone t = kept false false false u v times falls t
+lost_told true false false on v line kind times falls gone t = kept true false _ false v times falls t
+lost_told true false true false v line kind times falls gone t = kept true false _ true v times falls t
+lost_told true false true true v line kind times falls gone t = record { known = λ e. (refl, gone refl); once = let o = t.once in omega arith }
 
-lost_once : (on answered : Bool) (outcome : Option Bool) (kind : LostKind) (line : Option LostKind) (times : ℕ) → times + cond (is_some line) 1 0 ≤ cond (not (is_some outcome) && not answered) 0 1
-    → times + cond (is_some (cond ((not (is_some outcome) && not answered) && on) (Some kind) line)) 1 0 ≤ cond (not (is_some (decided on false outcome)) && not answered) 0 1
-lost_once false answered (Some a) kind line times le = le
-lost_once false true None kind line times le = le
-lost_once false false None kind line times le = le
-lost_once true answered (Some a) kind line times le = le
-lost_once true true None kind line times le = le
-lost_once true false None kind line times le = omega arith
+decided_gone : (on answered : Bool) (outcome : Option Bool) → on ≡ true → (not (is_some (decided on false outcome)) && not answered) ≡ false
+decided_gone on answered None e = rw e refl
+decided_gone on answered (Some a) e = rw e refl
 
-once_taken : (link : ℕ) (confirm : Bool) (payload : List ℕ) (h : List PublishEvent) (n : ℕ) → Once h n (fate_of n h) (times_told n h) → Once (TakenUp link confirm payload ∷ h) n (fate_of n (TakenUp link confirm payload ∷ h)) (times_told n h + 0)
-once_taken link confirm payload h n ih = record {
-  fresh = λ above. none (ih.fresh (omega arith));
-  few = by (n == numbers_of h + 1) refl ih.few;
-}
+and_false : (b : Bool) → (b && false) ≡ false
+and_false true = refl
+and_false false = refl
+
+-- all that is due is reported
+lines_told : (taken lost owes u : Bool) (times : ℕ) → Told taken lost owes u times → Told taken (lost || false) (taken && false) u (times + one_if owes)
+lines_told taken true owes u times t = record { known = λ e. t.known refl; once = rw (and_false taken) (let o = t.once in omega arith) }
+lines_told taken false owes u times t = record { known = λ e. absurd (cc); once = rw (and_false taken) (let o = t.once in omega arith) }
+
+-- a publish that wasn't taken up before is taken up
+newly_told : (later lost u v : Bool) (line : Option LostKind) (times : ℕ) → Told false lost (false && is_some line) u times → Told later (lost || false) (later && false) v (times + 0)
+newly_told later true u v line times t = absurd (let no = (t.known refl).0 in cc)
+newly_told later false u v line times t = record { known = λ e. absurd (cc); once = rw (and_false later) (let o = t.once in omega arith) }
+
+taken_told : (link : ℕ) (confirm : Bool) (payload : List ℕ) (h : List PublishEvent) (n : ℕ) → Told (is_taken n h) (is_lost n h) (owes_line n h) (is_undecided (fate_of n h)) (times_told n h)
+    → Told (is_taken n (TakenUp link confirm payload ∷ h)) (is_lost n h || false) (owes_line n (TakenUp link confirm payload ∷ h)) (is_undecided (fate_of n (TakenUp link confirm payload ∷ h))) (times_told n h + 0)
+taken_told link confirm payload h n t = by (n == numbers_of h + 1) refl
   where
-    none : times_told n h ≡ 0 → times_told n h + 0 ≡ 0
-    none e = omega arith
+    x : Fate
+    x = new_fate link (next_number confirm (confirms_of h)) payload
 
-    by : (b : Bool) → (n == numbers_of h + 1) ≡ b → times_told n h + cond (is_some (fate_of n h).line) 1 0 ≤ cond (is_undecided (fate_of n h)) 0 1
-        → times_told n h + 0 + cond (is_some (cond b (new_fate link (next_number confirm (confirms_of h)) payload) (fate_of n h)).line) 1 0 ≤ cond (is_undecided (cond b (new_fate link (next_number confirm (confirms_of h)) payload) (fate_of n h))) 0 1
-    by true e le = let zero_told : times_told n h ≡ 0 = ih.fresh (above n (numbers_of h) e) in omega arith
-      where
-        above : (i j : ℕ) → (i == j + 1) ≡ true → j < i
-        above i j e = grind (arith, nat_tests)
-    by false e le = omega arith
+    later : Bool
+    later = nat_le 1 n && nat_le n (numbers_of h + 1)
 
-once_told : (number : ℕ) (h : List PublishEvent) (n : ℕ) → IsOwedLine h (LineTold number) → Once h n (fate_of n h) (times_told n h) → Once (LineTold number ∷ h) n (fate_of n (LineTold number ∷ h)) (times_told n (LineTold number ∷ h))
-once_told number h n owed ih = record {
-  fresh = λ above. fresh_by (n == number) refl above;
-  few = few_by (n == number) refl ih.few;
-}
-  where
-    equal : (i j : ℕ) → (i == j) ≡ true → i ≡ j
-    equal i j e = grind (arith, nat_tests)
+    new : (n m : ℕ) → (n == m + 1) ≡ true → (nat_le 1 n && nat_le n m) ≡ false
+    new n m e = grind (arith, nat_tests)
 
-    fresh_by : (b : Bool) → (n == number) ≡ b → numbers_of h < n → times_told n h + cond b 1 0 ≡ 0
-    fresh_by true e above = let same : n ≡ number = equal n number e in let within : number ≤ numbers_of h = owed.0.1 in absurd (omega arith)
-    fresh_by false e above = let none : times_told n h ≡ 0 = ih.fresh above in omega arith
+    old : (n m : ℕ) → (n == m + 1) ≡ false → nat_le n m ≡ nat_le n (m + 1)
+    old n m e = grind (arith, nat_tests)
 
-    few_by : (b : Bool) → (n == number) ≡ b → times_told n h + cond (is_some (fate_of n h).line) 1 0 ≤ cond (is_undecided (fate_of n h)) 0 1
-        → times_told n h + cond b 1 0 + cond (is_some (cond b None (fate_of n h).line)) 1 0 ≤ cond (is_undecided (fate_of n h)) 0 1
-    few_by true e le =
-        let here : is_some (fate_of n h).line ≡ true = subst (λ i. is_some (fate_of i h).line ≡ true) (sym (equal n number e)) owed.1 in
-        let one : times_told n h + 1 ≤ cond (is_undecided (fate_of n h)) 0 1 = subst (λ b. times_told n h + cond b 1 0 ≤ cond (is_undecided (fate_of n h)) 0 1) here le in
-        omega arith
-    few_by false e le = omega arith
+    by : (b : Bool) → (n == numbers_of h + 1) ≡ b → Told later (is_lost n h || false) (later && is_some (cond b x (fate_of n h)).line) (is_undecided (cond b x (fate_of n h))) (times_told n h + 0)
+    by true e = newly_told later (is_lost n h) (is_undecided (fate_of n h)) true (fate_of n h).line (times_told n h)
+        (subst (λ taken. Told taken (is_lost n h) (taken && is_some (fate_of n h).line) (is_undecided (fate_of n h)) (times_told n h)) (new n (numbers_of h) e) t)
+    by false e = subst (λ b. Told (nat_le 1 n && b) (is_lost n h || false) ((nat_le 1 n && b) && is_some (fate_of n h).line) (is_undecided (fate_of n h)) (times_told n h + 0)) (old n (numbers_of h) e)
+        (kept (is_taken n h) (is_lost n h) (owes_line n h) (is_undecided (fate_of n h)) (is_undecided (fate_of n h)) (times_told n h) (λ e. e) t)
 
-once : (h : List PublishEvent) → AreOwedLines h → (n : ℕ) → Once h n (fate_of n h) (times_told n h)
-once [] are n = record { fresh = λ above. refl; few = omega arith }
-once (TakenUp link confirm payload ∷ h) are n = once_taken link confirm payload h n (once h are.1 n)
-once (FrameSent number first part ∷ h) are n = let ih = once h are.1 n in record {
-  fresh = λ above. let e : times_told n h ≡ 0 = ih.fresh above in omega arith;
-  few = let le = ih.few in omega arith;
-}
-once (OutcomeCame first last accepted ∷ h) are n = let ih = once h are.1 n in let f = fate_of n h in record {
-  fresh = λ above. let e : times_told n h ≡ 0 = ih.fresh above in omega arith;
-  few = undecided_falls (in_range first last f.id) accepted f.answered f.outcome (times_told n h + 0 + cond (is_some f.line) 1 0) (let le = ih.few in omega arith);
-}
-once (LinkGone link ∷ h) are n = let ih = once h are.1 n in let f = fate_of n h in record {
-  fresh = λ above. let e : times_told n h ≡ 0 = ih.fresh above in omega arith;
-  few = lost_once (is_on link f.link) f.answered f.outcome (lost_as (not f.begun)) f.line (times_told n h + 0) (let le = ih.few in omega arith);
-}
-once (ConfirmSent c ∷ h) are n = let ih = once h are.1 n in let f = fate_of n h in record {
-  fresh = λ above. let e : times_told n h ≡ 0 = ih.fresh above in omega arith;
-  few = answered_falls (covers c f.confirm) f.answered f.outcome (times_told n h + 0 + cond (is_some f.line) 1 0) (let le = ih.few in omega arith);
-}
-once (LineTold number ∷ h) are n = once_told number h n are.0 (once h are.1 n)
+told : (h : List PublishEvent) (n : ℕ) → Told (is_taken n h) (is_lost n h) (owes_line n h) (is_undecided (fate_of n h)) (times_told n h)
+told [] n = record { known = λ e. absurd (cc); once = rw (and_false (is_taken n [])) refl }
+told (TakenUp link confirm payload ∷ h) n = taken_told link confirm payload h n (told h n)
+told (FrameSent number first part ∷ h) n = kept _ _ _ _ _ _ (λ e. e) (told h n)
+told (OutcomeCame first last accepted ∷ h) n =
+    let f = fate_of n h in
+    kept _ _ _ _ _ _ (decided_stays (in_range first last f.id) accepted f.answered f.outcome) (told h n)
+told (LinkGone link ∷ h) n =
+    let f = fate_of n h in
+    let on = is_on link f.link in
+    lost_told (is_taken n h) (is_lost n h) (is_undecided f) on _ f.line (lost_as (not f.begun)) (times_told n h) (decided_stays on false f.answered f.outcome) (decided_gone on f.answered f.outcome) (told h n)
+told (ConfirmSent c ∷ h) n =
+    let f = fate_of n h in
+    kept _ _ _ _ _ _ (answered_stays (covers c f.confirm) f.answered f.outcome) (told h n)
+told (LinesTold ∷ h) n = lines_told (is_taken n h) (is_lost n h) (owes_line n h) (is_undecided (fate_of n h)) (times_told n h) (told h n)
 
-one_at_most : (m t : ℕ) (b : Bool) → m + t ≤ cond b 0 1 → m ≤ 1
-one_at_most m t true le = omega arith
-one_at_most m t false le = omega arith
-
-pub told_once : (h : List PublishEvent) → AreOwedLines h → (n : ℕ) → times_told n h ≤ 1
-told_once h are n = one_at_most (times_told n h) (cond (is_some (fate_of n h).line) 1 0) (is_undecided (fate_of n h)) (once h are n).few
+pub told_once : (n : ℕ) (h : List PublishEvent) → times_told n h + one_if (owes_line n h) ≡ one_if (is_lost n h)
+told_once n h = (told h n).once

@@ -1,5 +1,6 @@
 -- An open publish is as the journal says of its number, and stays so at each event.
-use Rattle.std.proofs.Common.{◌≡◌, ◌∙◌, ℕ, ◌+◌, ◌-◌, List, [], ◌++◌, Bool, true, false, refl, sym, ap, subst, arith, Option, Some, None, cond, length, drop}
+use Rattle.std.proofs.Common.{◌≡◌, ◌∙◌, ℕ, ◌+◌, ◌-◌, List, [], ◌++◌, Bool, true, false, refl, sym}
+use Rattle.std.proofs.Common.{ap, subst, arith, Option, Some, None, cond, length, drop}
 use Rattle.std.specs.Prelude.{not, ◌&&◌, ◌||◌, ◌==◌, nat_lt, is_some}
 use Rattle.std.specs.Option.{option_or}
 use Rattle.std.proofs.lemmas.Bool.Decides.{nat_tests}
@@ -11,8 +12,13 @@ use Rattle.publish_path.specs.declared.publish.Answer.{Answer}
 use Rattle.publish_path.specs.declared.publish.Answer.TheVariants.{Open, Owed, Settled}
 use Rattle.publish_path.specs.declared.publish.Place.{Place}
 use Rattle.publish_path.specs.declared.publish.Place.TheVariants.{Waiting, Begun, Sent, Lost}
-use Rattle.publish_path.specs.Publishes.{PublishEvent, FrameSent, OutcomeCame, LinkGone, ConfirmSent, LineTold, is_waiting, is_begun, is_sending, has_no_outcome, is_settled, is_open, has_more, place_then, framed, in_range, due_for, told, is_on, lost_place, lost_as, link_lost, covers, confirmed, reported}
-use Rattle.publish_path.specs.Journal.{Fate, decided, fate_step, next_id_of, is_undecided, waits, goes_on, is_to_go, rest_by, is_done, is_to_come}
+use Rattle.publish_path.specs.Publishes.{PublishEvent, FrameSent, OutcomeCame, LinkGone}
+use Rattle.publish_path.specs.Publishes.{ConfirmSent, LinesTold, is_waiting, is_begun, is_sending}
+use Rattle.publish_path.specs.Publishes.{has_no_outcome, is_settled, is_open, has_more, place_then}
+use Rattle.publish_path.specs.Publishes.{framed, in_range, due_for, told, is_on, lost_place}
+use Rattle.publish_path.specs.Publishes.{lost_as, link_lost, covers, confirmed, reported}
+use Rattle.publish_path.specs.Journal.{Fate, decided, fate_step, next_id_of, is_undecided, waits}
+use Rattle.publish_path.specs.Journal.{goes_on, is_to_go, rest_by, is_done, is_to_come}
 
 -- the frames of a publish: its place, what it keeps, and what the journal says
 abbrev pub PlaceIs : Place → List ℕ → ℕ → List ℕ → List ℕ → Bool → Bool → Type 0
@@ -185,14 +191,14 @@ confirmed_matches c p h f m = record {
       (confirmed_answer p.answer p.confirm f.answered f.outcome f.cut (covers c p.confirm) m.answer);
 }
 
-pub reported_matches : (number : ℕ) (p : Publish) (h : List PublishEvent) (f : Fate) → Matches p f → Matches (reported number p) (fate_step p.number h (LineTold number) f)
-reported_matches number p h f m = record {
+pub reported_matches : (p : Publish) (h : List PublishEvent) (f : Fate) → Matches p f → Matches (reported p) (fate_step p.number h LinesTold f)
+reported_matches p h f m = record {
   link = m.link;
   confirm = m.confirm;
   id = m.id;
   place = m.place;
   answer = m.answer;
-  line = ap (λ l. cond (p.number == number) None l) m.line;
+  line = refl;
 }
 
 -- tests of a publish, and of its fate

@@ -1,5 +1,7 @@
 -- The frames of transfers: which one goes next, and what they carry.
-use Rattle.std.proofs.Common.{◌≡◌, ◌∙◌, ℕ, ◌+◌, List, [], ◌∷◌, ◌++◌, Bool, true, false, refl, sym, ap, subst, arith, Option, Some, None, cond, length, drop, append_assoc}
+use Rattle.std.proofs.Common.{◌≡◌, ◌∙◌, ℕ, ◌+◌, List, [], ◌∷◌, ◌++◌, Bool, true, false, refl, sym}
+use Rattle.std.proofs.Common.{ap, subst, arith, Option, Some, None, cond, length, drop}
+use Rattle.std.proofs.Common.{append_assoc}
 use Rattle.std.specs.Prelude.{not, ◌&&◌, ◌||◌, ◌==◌, find, nat_lt, is_some, IfSome}
 use Rattle.std.specs.Option.{option_map, option_or}
 use Rattle.std.proofs.lemmas.Grind.{common_steps}
@@ -14,9 +16,12 @@ use Rattle.publish_path.specs.declared.publish.Publish.{Publish}
 use Rattle.publish_path.specs.declared.publish.NextFrame.{NextFrame}
 use Rattle.publish_path.specs.declared.send_links.SendingLink.{SendingLink}
 use Rattle.publish_path.specs.Links.{link_of, can_send}
-use Rattle.publish_path.specs.Publishes.{PublishEvent, TakenUp, FrameSent, OutcomeCame, LinkGone, ConfirmSent, LineTold, after_events, next_number, is_begun, is_sending, takes}
+use Rattle.publish_path.specs.Publishes.{PublishEvent, TakenUp, FrameSent, OutcomeCame, LinkGone}
+use Rattle.publish_path.specs.Publishes.{ConfirmSent, LinesTold, after_events, next_number, is_begun}
+use Rattle.publish_path.specs.Publishes.{is_sending, takes}
 use Rattle.publish_path.specs.Offers.{can_begin, frame_of, next_frame_of, left_of, rest_of}
-use Rattle.publish_path.specs.Journal.{Fate, new_fate, fate_of, numbers_of, confirms_of, IsTaken, waits, goes_on, is_to_go, is_done, is_to_come, rest_by}
+use Rattle.publish_path.specs.Journal.{Fate, new_fate, fate_of, numbers_of, confirms_of, IsTaken}
+use Rattle.publish_path.specs.Journal.{waits, goes_on, is_to_go, is_done, is_to_come, rest_by}
 use Rattle.publish_path.specs.Laws.{frame_by, IsFrontOf, AreParts, IsWhole, BeginsInOrder}
 use Rattle.publish_path.proofs.Matching.{Matches, begun_test, waits_test, sending_test, rest_test}
 use Rattle.publish_path.proofs.Keeping.{number_of, follows, Stands, stand}
@@ -161,7 +166,7 @@ front_kept (FrameSent number first part ∷ h) are n = by (n == number) refl (fr
 front_kept (OutcomeCame first last accepted ∷ h) are n = front_kept h are.1 n
 front_kept (LinkGone link ∷ h) are n = front_kept h are.1 n
 front_kept (ConfirmSent c ∷ h) are n = front_kept h are.1 n
-front_kept (LineTold number ∷ h) are n = front_kept h are.1 n
+front_kept (LinesTold ∷ h) are n = front_kept h are.1 n
 
 nil_of : (xs : List ℕ) → length xs ≡ 0 → xs ≡ []
 nil_of [] e = refl

@@ -1,5 +1,7 @@
 -- A change of each publish, as the open ones see it.
-use Rattle.std.proofs.Common.{◌≡◌, ◌∙◌, ℕ, suc, List, [], ◌∷◌, ◌++◌, Bool, true, false, Option, Some, None, map, take, drop, refl, sym, subst, ap, arith, cond, ◌≤◌, ◌-◌, ◌+◌, length}
+use Rattle.std.proofs.Common.{◌≡◌, ◌∙◌, ℕ, suc, List, [], ◌∷◌, ◌++◌, Bool, true, false, Option}
+use Rattle.std.proofs.Common.{Some, None, map, take, drop, refl, sym, subst, ap, arith, cond, ◌≤◌}
+use Rattle.std.proofs.Common.{◌-◌, ◌+◌, length}
 use Rattle.std.specs.Prelude.{filter, find, not, ◌||◌, ◌&&◌, ◌==◌, is_some, count_by, if◌then◌else◌}
 use Rattle.std.specs.Option.{option_map, option_or}
 use Rattle.std.specs.List.{list_any, AllByRecursion, take_while, prefix_len}
@@ -10,17 +12,25 @@ use Rattle.std.proofs.Math.ListN.{drop_of_length-le}
 use Rattle.publish_path.specs.declared.publish.NextFrame.{NextFrame}
 use Rattle.publish_path.specs.Links.{link_of, can_send}
 use Rattle.std.proofs.lemmas.List.Sums.{sum_by_push}
-use Rattle.open_items.proofs.Filtered.{filter-map-filter, filter-filter, filter-push, find-filter, filter-only, all_find, count_by-filter, sum_by-filter, list_any-filter, count_by-map-le, sum_by-map-le}
+use Rattle.open_items.proofs.Filtered.{filter-map-filter, filter-filter, filter-push, find-filter}
+use Rattle.open_items.proofs.Filtered.{filter-only, all_find, count_by-filter, sum_by-filter}
+use Rattle.open_items.proofs.Filtered.{list_any-filter, count_by-map-le, sum_by-map-le}
 use Rattle.publish_path.specs.declared.publish.Publish.{Publish}
 use Rattle.publish_path.specs.declared.send_links.SendingLink.{SendingLink}
 use Rattle.publish_path.specs.declared.publish.Place.{Place}
 use Rattle.publish_path.specs.declared.publish.Place.TheVariants.{Waiting, Begun, Sent, Lost}
 use Rattle.publish_path.specs.declared.publish.Confirm.{Confirm}
 use Rattle.publish_path.specs.declared.changes.Change.{Change}
-use Rattle.publish_path.specs.declared.changes.Change.TheVariants.{Framed, Told, LinkLost, Confirmed, Reported}
-use Rattle.publish_path.specs.Publishes.{is_waiting, is_begun, is_sending, is_settled, is_open, takes, has_more, place_then, is_told, is_on, lost_place, changed}
+use Rattle.publish_path.specs.declared.changes.Change.TheVariants.{Framed, Told, LinkLost}
+use Rattle.publish_path.specs.declared.changes.Change.TheVariants.{Confirmed, Reported}
+use Rattle.publish_path.specs.Publishes.{is_waiting, is_begun, is_sending, is_settled, is_open}
+use Rattle.publish_path.specs.Publishes.{takes, has_more, place_then, is_told, is_on, lost_place}
+use Rattle.publish_path.specs.Publishes.{changed}
 use Rattle.publish_path.specs.Searches.{run_from, found_confirm}
-use Rattle.publish_path.specs.Offers.{can_begin, frame_of, next_frame_of, waits_on, is_pending, next_confirm_of, is_held, held_count, held_size, held_bytes, owed_ack, is_ack, is_owed, gives, number_or, is_unanswered, alone, last_of, has_any, run_of, confirm_of}
+use Rattle.publish_path.specs.Offers.{can_begin, frame_of, next_frame_of, waits_on, is_pending}
+use Rattle.publish_path.specs.Offers.{next_confirm_of, is_held, held_count, held_size, held_bytes}
+use Rattle.publish_path.specs.Offers.{owed_ack, is_ack, is_owed, gives, number_or, is_unanswered}
+use Rattle.publish_path.specs.Offers.{alone, last_of, has_any, run_of, confirm_of}
 
 -- what is closed stays closed
 
@@ -29,7 +39,7 @@ changed_stays (Framed number first id count) p e = grind (arith, common_steps)
 changed_stays (Told first last accepted) p e = grind (arith, common_steps)
 changed_stays (LinkLost link) p e = grind (arith, common_steps)
 changed_stays (Confirmed c) p e = grind (arith, common_steps)
-changed_stays (Reported number) p e = grind (arith, common_steps)
+changed_stays Reported p e = grind (arith, common_steps)
 
 pub changed_seen : (change : Change) (items : List Publish) → filter is_open (map (changed change) items) ≡ filter is_open (map (changed change) (filter is_open items))
 changed_seen change items = filter-map-filter is_open (changed change) (changed_stays change) items
@@ -41,7 +51,7 @@ held_before (Framed number first id count) p e = grind (arith, common_steps)
 held_before (Told first last accepted) p e = e
 held_before (LinkLost link) p e = grind (arith, common_steps)
 held_before (Confirmed c) p e = e
-held_before (Reported number) p e = e
+held_before Reported p e = e
 
 pub count_falls : (change : Change) (items : List Publish) → held_count (map (changed change) items) ≤ held_count items
 count_falls change items = count_by-map-le is_held (changed change) (held_before change) items
@@ -71,7 +81,7 @@ size_before (Framed number first id count) p = framed_size p.place (p.number == 
 size_before (Told first last accepted) p = omega arith
 size_before (LinkLost link) p = lost_size p.place (is_on link p.link) p.payload
 size_before (Confirmed c) p = omega arith
-size_before (Reported number) p = omega arith
+size_before Reported p = omega arith
 
 pub bytes_fall : (change : Change) (items : List Publish) → held_bytes (map (changed change) items) ≤ held_bytes items
 bytes_fall change items = sum_by-map-le held_size (changed change) (size_before change) items
@@ -198,28 +208,17 @@ pub confirm_seen : (items : List Publish) → next_confirm_of (filter is_open it
 confirm_seen items =
     ap confirm_of (filter-only is_open is_unanswered (λ p e. grind (arith, common_steps)) items) ∙ confirm_is (filter is_unanswered items)
 
-pub line_seen : (items : List Publish) → find (λ p. is_some p.line) (filter is_open items) ≡ find (λ p. is_some p.line) items
-line_seen items = find-filter is_open (λ p. is_some p.line) (λ p e. grind (arith, common_steps)) items
-
 -- a publish that is added
 
 pub add_seen : (items : List Publish) (p : Publish) → p.place ≡ Waiting → filter is_open (filter is_open items ++ p ∷ []) ≡ filter is_open items ++ p ∷ []
 add_seen items p e =
     filter-push is_open (filter is_open items) p (ap (λ w. is_sending w || not (is_settled p.answer) || is_some p.line) e) ∙ ap (λ ys. ys ++ p ∷ []) (filter-filter is_open items)
 
-pub add_count : (items : List Publish) (p : Publish) → held_count (items ++ p ∷ []) ≤ held_count items + 1
-add_count items p = rw (sum_by_push (λ x. cond (is_held x) 1 0) items p) (by (is_held p))
-  where
-    by : (b : Bool) → held_count items + cond b 1 0 ≤ held_count items + 1
-    by true = omega arith
-    by false = omega arith
+pub add_count : (items : List Publish) (p : Publish) → p.place ≡ Waiting → held_count (items ++ p ∷ []) ≡ held_count items + 1
+add_count items p e = sum_by_push (λ x. cond (is_held x) 1 0) items p ∙ ap (λ w. held_count items + cond (is_sending w) 1 0) e
 
-pub add_bytes : (items : List Publish) (p : Publish) → held_bytes (items ++ p ∷ []) ≤ held_bytes items + length p.payload
-add_bytes items p = rw (sum_by_push held_size items p) (by (is_held p))
-  where
-    by : (b : Bool) → held_bytes items + cond b (length p.payload) 0 ≤ held_bytes items + length p.payload
-    by true = omega arith
-    by false = omega arith
+pub add_bytes : (items : List Publish) (p : Publish) → p.place ≡ Waiting → held_bytes (items ++ p ∷ []) ≡ held_bytes items + length p.payload
+add_bytes items p e = sum_by_push held_size items p ∙ ap (λ w. held_bytes items + cond (is_sending w) (length p.payload) 0) e
 
 -- the front of what is left has the length that is asked for
 pub length_part : (n : ℕ) (rest : List ℕ) → n ≤ length rest → length (take n rest) ≡ n

@@ -1,9 +1,13 @@
--- What the journal of a life says of one publish, newest first. Nothing here knows the list of the open
--- publishes.
-use Rattle.std.specs.Prelude.{ℕ, Bool, true, false, ◌+◌, ◌%◌, ◌^◌, ◌≤◌, ◌==◌, ◌&&◌, ◌||◌, not, nat_lt, if◌then◌else◌, List, [], ◌∷◌, ◌++◌, length, drop, Option, Some, None, is_some}
+-- What the journal of a life says of one publish, newest first. Nothing here knows the list of the
+-- open publishes.
+use Rattle.std.specs.Prelude.{ℕ, Bool, true, false, ◌+◌, ◌%◌, ◌^◌, ◌≤◌, ◌==◌, ◌&&◌, ◌||◌, not}
+use Rattle.std.specs.Prelude.{nat_lt, if◌then◌else◌, List, [], ◌∷◌, ◌++◌, length, drop, Option}
+use Rattle.std.specs.Prelude.{Some, None, is_some}
 use Rattle.std.specs.Option.{option_or}
 use Rattle.open_items.specs.declared.lost.LostKind.{LostKind}
-use Rattle.publish_path.specs.Publishes.{PublishEvent, TakenUp, FrameSent, OutcomeCame, LinkGone, ConfirmSent, LineTold, in_range, is_on, lost_as, covers, next_number}
+use Rattle.publish_path.specs.Publishes.{PublishEvent, TakenUp, FrameSent, OutcomeCame, LinkGone}
+use Rattle.publish_path.specs.Publishes.{ConfirmSent, LinesTold, in_range, is_on, lost_as, covers}
+use Rattle.publish_path.specs.Publishes.{next_number}
 
 -- of the life
 
@@ -13,7 +17,7 @@ takes_up (FrameSent number first part) = false
 takes_up (OutcomeCame first last accepted) = false
 takes_up (LinkGone link) = false
 takes_up (ConfirmSent c) = false
-takes_up (LineTold number) = false
+takes_up LinesTold = false
 
 abbrev pub is_to_confirm : PublishEvent → Bool
 is_to_confirm (TakenUp link confirm payload) = confirm
@@ -21,7 +25,7 @@ is_to_confirm (FrameSent number first part) = false
 is_to_confirm (OutcomeCame first last accepted) = false
 is_to_confirm (LinkGone link) = false
 is_to_confirm (ConfirmSent c) = false
-is_to_confirm (LineTold number) = false
+is_to_confirm LinesTold = false
 
 abbrev pub begins : PublishEvent → Bool
 begins (TakenUp link confirm payload) = false
@@ -29,7 +33,7 @@ begins (FrameSent number first part) = first
 begins (OutcomeCame first last accepted) = false
 begins (LinkGone link) = false
 begins (ConfirmSent c) = false
-begins (LineTold number) = false
+begins LinesTold = false
 
 -- how many publishes were taken up
 abbrev pub numbers_of : List PublishEvent → ℕ
@@ -53,8 +57,8 @@ pub record Fate : Type 0 where
   -- its confirm number: its place, from 1, among those that are to be confirmed
   pub confirm : Option ℕ
   pub payload : List ℕ
-  -- its transfer (AMQP 1.0 2.6.12, 2.6.14): whether a frame of it went, the delivery-id, and the parts
-  -- of its frames, joined
+  -- its transfer (AMQP 1.0 2.6.12, 2.6.14): whether a frame of it went, the delivery-id, and the
+  -- parts of its frames, joined
   pub begun : Bool
   pub id : Option ℕ
   pub sent : List ℕ
@@ -98,14 +102,15 @@ fate_step n h (FrameSent number first part) f = record f {
   id = if n == number && first then option_or f.id (Some (next_id_of h)) else f.id;
   sent = if n == number then f.sent ++ part else f.sent;
 }
-fate_step n h (OutcomeCame first last accepted) f = record f { outcome = decided (in_range first last f.id) accepted f.outcome }
+fate_step n h (OutcomeCame first last accepted) f =
+    record f { outcome = decided (in_range first last f.id) accepted f.outcome }
 fate_step n h (LinkGone link) f = record f {
   cut = f.cut || is_on link f.link;
   outcome = decided (is_on link f.link) false f.outcome;
   line = if is_undecided f && is_on link f.link then Some (lost_as (not f.begun)) else f.line;
 }
 fate_step n h (ConfirmSent c) f = record f { answered = f.answered || covers c f.confirm }
-fate_step n h (LineTold number) f = record f { line = if n == number then None else f.line }
+fate_step n h LinesTold f = record f { line = None }
 
 abbrev pub fate_of : ℕ → List PublishEvent → Fate
 fate_of n [] = new_fate 0 None []

@@ -1,20 +1,26 @@
 -- What holds after any events of a life, by the fates of its publishes alone.
-use Rattle.std.specs.Prelude.{◌≡◌, ℕ, Bool, true, false, ◌+◌, ◌≤◌, ◌<◌, ◌==◌, ◌&&◌, if◌then◌else◌, List, [], ◌∷◌, ◌++◌, Option, Some, is_some}
+use Rattle.std.specs.Prelude.{◌≡◌, ℕ, zero, suc, Bool, true, false, ◌+◌, ◌≤◌, ◌<◌, ◌&&◌, ◌||◌}
+use Rattle.std.specs.Prelude.{if◌then◌else◌, nat_le, List, [], ◌∷◌, ◌++◌, Option, Some, is_some}
 use Rattle.std.specs.Option.{option_map, option_or}
 use Rattle.open_items.specs.declared.lost.LostItem.{LostItem}
+use Rattle.open_items.specs.declared.lost.LostKind.{LostKind}
 use Rattle.open_items.specs.Numbers.{least}
 use Rattle.publish_path.specs.declared.publish.Confirm.{Confirm}
 use Rattle.publish_path.specs.declared.publish.NextFrame.{NextFrame}
 use Rattle.publish_path.specs.declared.send_links.SendingLink.{SendingLink}
 use Rattle.publish_path.specs.Links.{link_of, can_send}
-use Rattle.publish_path.specs.Publishes.{PublishEvent, TakenUp, FrameSent, OutcomeCame, LinkGone, ConfirmSent, LineTold, covers}
-use Rattle.publish_path.specs.Journal.{Fate, fate_of, numbers_of, IsTaken, waits, has_rest, goes_on, is_to_go, rest_by}
+use Rattle.publish_path.specs.Publishes.{PublishEvent, TakenUp, FrameSent, OutcomeCame, LinkGone}
+use Rattle.publish_path.specs.Publishes.{ConfirmSent, LinesTold, covers, is_on}
+use Rattle.publish_path.specs.Journal.{Fate, fate_of, numbers_of, IsTaken, waits, has_rest, goes_on}
+use Rattle.publish_path.specs.Journal.{is_to_go, is_undecided, rest_by}
+use Rattle.publish_path.specs.Offers.{with_line}
 
 -- confirms
 
 -- n was taken up, has a confirm number, and no confirm covered it
 abbrev pub IsUnanswered : List PublishEvent → ℕ → Type 0
-IsUnanswered h n = IsTaken h n × (is_some (fate_of n h).confirm ≡ true) × ((fate_of n h).answered ≡ false)
+IsUnanswered h n =
+    IsTaken h n × (is_some (fate_of n h).confirm ≡ true) × ((fate_of n h).answered ≡ false)
 
 -- and it has an outcome
 abbrev pub IsOwedConfirm : List PublishEvent → ℕ → Type 0
@@ -29,44 +35,56 @@ pub record IsLawfulConfirm (h : List PublishEvent) (c : Confirm) : Type 0 where
 
 -- lines
 
--- the report is owed this line
-pub record IsLawfulLine (j : ℕ) (h : List PublishEvent) (item : LostItem) : Type 0 where
-  pub life : item.life ≡ j
-  pub taken : IsTaken h item.number
-  pub line : (fate_of item.number h).line ≡ Some item.kind
+-- publish n was taken up, and the report is owed a line of it
+abbrev pub is_taken : ℕ → List PublishEvent → Bool
+is_taken n h = nat_le 1 n && nat_le n (numbers_of h)
 
--- the least number that the report is owed a line of
-abbrev pub owed_line : List PublishEvent → Option ℕ
-owed_line h = least (λ n. is_some (fate_of n h).line) (numbers_of h)
+abbrev pub owes_line : ℕ → List PublishEvent → Bool
+owes_line n h = is_taken n h && is_some (fate_of n h).line
 
-abbrev pub number_of : LostItem → ℕ
-number_of item = item.number
+-- the line that it is owed of publish n of life j
+abbrev pub item_by : ℕ → ℕ → LostKind → LostItem
+item_by j n kind = record { life = j; number = n; kind = kind }
 
--- how often the line of n was reported
-abbrev pub told_of : ℕ → PublishEvent → ℕ
-told_of n (TakenUp link confirm payload) = 0
-told_of n (FrameSent number first part) = 0
-told_of n (OutcomeCame first last accepted) = 0
-told_of n (LinkGone link) = 0
-told_of n (ConfirmSent c) = 0
-told_of n (LineTold number) = if n == number then 1 else 0
+-- and those of publishes 1 to n, by rising number
+abbrev pub lines_to : ℕ → List PublishEvent → ℕ → List LostItem
+lines_to j h zero = []
+lines_to j h (suc n) =
+    lines_to j h n ++ with_line (option_map (item_by j (suc n)) (fate_of (suc n) h).line) []
+
+-- all that it is owed
+abbrev pub lines_by : ℕ → List PublishEvent → List LostItem
+lines_by j h = lines_to j h (numbers_of h)
+
+-- publish n lost its link, or all were lost, before there was an outcome
+abbrev pub loses : ℕ → List PublishEvent → PublishEvent → Bool
+loses n h (TakenUp link confirm payload) = false
+loses n h (FrameSent number first part) = false
+loses n h (OutcomeCame first last accepted) = false
+loses n h (LinkGone link) =
+    is_taken n h && (is_undecided (fate_of n h) && is_on link (fate_of n h).link)
+loses n h (ConfirmSent c) = false
+loses n h LinesTold = false
+
+abbrev pub is_lost : ℕ → List PublishEvent → Bool
+is_lost n [] = false
+is_lost n (x ∷ h) = is_lost n h || loses n h x
+
+-- how often its line was reported
+abbrev pub one_if : Bool → ℕ
+one_if b = if b then 1 else 0
+
+abbrev pub told_of : ℕ → List PublishEvent → PublishEvent → ℕ
+told_of n h (TakenUp link confirm payload) = 0
+told_of n h (FrameSent number first part) = 0
+told_of n h (OutcomeCame first last accepted) = 0
+told_of n h (LinkGone link) = 0
+told_of n h (ConfirmSent c) = 0
+told_of n h LinesTold = one_if (owes_line n h)
 
 abbrev pub times_told : ℕ → List PublishEvent → ℕ
 times_told n [] = 0
-times_told n (x ∷ h) = times_told n h + told_of n x
-
--- each line that was reported was owed
-abbrev pub IsOwedLine : List PublishEvent → PublishEvent → Type 0
-IsOwedLine h (TakenUp link confirm payload) = Unit {0}
-IsOwedLine h (FrameSent number first part) = Unit {0}
-IsOwedLine h (OutcomeCame first last accepted) = Unit {0}
-IsOwedLine h (LinkGone link) = Unit {0}
-IsOwedLine h (ConfirmSent c) = Unit {0}
-IsOwedLine h (LineTold number) = IsTaken h number × (is_some (fate_of number h).line ≡ true)
-
-abbrev pub AreOwedLines : List PublishEvent → Type 0
-AreOwedLines [] = Unit {0}
-AreOwedLines (x ∷ h) = IsOwedLine h x × AreOwedLines h
+times_told n (x ∷ h) = times_told n h + told_of n h x
 
 -- payloads
 
@@ -90,18 +108,19 @@ IsFrontOf part all = (rest : List ℕ) × (part ++ rest ≡ all)
 -- each frame carried a front of what was left
 abbrev pub IsPart : List PublishEvent → PublishEvent → Type 0
 IsPart h (TakenUp link confirm payload) = Unit {0}
-IsPart h (FrameSent number first part) = IsTaken h number × IsFrontOf part (rest_by (fate_of number h))
+IsPart h (FrameSent number first part) =
+    IsTaken h number × IsFrontOf part (rest_by (fate_of number h))
 IsPart h (OutcomeCame first last accepted) = Unit {0}
 IsPart h (LinkGone link) = Unit {0}
 IsPart h (ConfirmSent c) = Unit {0}
-IsPart h (LineTold number) = Unit {0}
+IsPart h LinesTold = Unit {0}
 
 abbrev pub AreParts : List PublishEvent → Type 0
 AreParts [] = Unit {0}
 AreParts (x ∷ h) = IsPart h x × AreParts h
 
--- the frames that went carry a front of the payload, and all of it where the last went; what is left is
--- the rest of it
+-- the frames that went carry a front of the payload, and all of it where the last went; what is
+-- left is the rest of it
 pub record IsWhole (f : Fate) : Type 0 where
   pub front : IsFrontOf f.sent f.payload
   pub all : has_rest f ≡ false → f.sent ≡ f.payload

@@ -1,9 +1,11 @@
 -- The sending links of a channel, in the order in which they were needed.
-use Rattle.std.specs.Prelude.{ℕ, Bool, true, false, not, ◌==◌, ◌&&◌, nat_le, if◌then◌else◌, List, [], filter, find, Option, Some, None, bytes_eq}
+use Rattle.std.specs.Prelude.{ℕ, Bool, true, false, not, ◌==◌, ◌&&◌, nat_le, if◌then◌else◌, List}
+use Rattle.std.specs.Prelude.{[], filter, find, Option, Some, None, bytes_eq}
 use Rattle.links_10.specs.Send.{new_link, after_flow, after_begun, after_drain}
 use Rattle.publish_path.specs.declared.send_links.SendingLink.{SendingLink}
 use Rattle.publish_path.specs.declared.send_links.LinkChange.{LinkChange}
-use Rattle.publish_path.specs.declared.send_links.LinkChange.TheVariants.{Attached, Flowed, Drained, Begun}
+use Rattle.publish_path.specs.declared.send_links.LinkChange.TheVariants.{Attached, Flowed, Drained}
+use Rattle.publish_path.specs.declared.send_links.LinkChange.TheVariants.{Begun}
 
 abbrev pub has_number : ℕ → SendingLink → Bool
 has_number link l = l.link == link
@@ -32,7 +34,8 @@ can_send (Some l) = l.attached && nat_le 1 l.state.credit
 
 -- a link that was asked for, and isn't attached yet
 abbrev pub asked_link : ℕ → List ℕ → SendingLink
-asked_link link address = record { link = link; address = address; attached = false; state = new_link }
+asked_link link address =
+    record { link = link; address = address; attached = false; state = new_link }
 
 -- the container's attach was read
 abbrev pub now_attached : ℕ → SendingLink → SendingLink
@@ -40,7 +43,8 @@ now_attached link l = record l { attached = if has_number link l then true else 
 
 -- a flow of the container
 abbrev pub flowed : ℕ → Option ℕ → ℕ → SendingLink → SendingLink
-flowed link count credit l = record l { state = if has_number link l then after_flow count credit l.state else l.state }
+flowed link count credit l =
+    record l { state = if has_number link l then after_flow count credit l.state else l.state }
 
 -- a flow of the gateway that answers a drain
 abbrev pub drained : ℕ → SendingLink → SendingLink
@@ -48,7 +52,11 @@ drained link l = record l { state = if has_number link l then after_drain l.stat
 
 -- the first frame of a transfer takes one of the credit
 abbrev pub begun_on : ℕ → SendingLink → SendingLink
-begun_on link l = record l { state = if has_number link l && nat_le 1 l.state.credit then after_begun l.state else l.state }
+begun_on link l =
+    record l {
+      state = if has_number link l && nat_le 1 l.state.credit
+          then after_begun l.state else l.state;
+    }
 
 abbrev pub link_changed : ℕ → LinkChange → SendingLink → SendingLink
 link_changed link Attached l = now_attached link l

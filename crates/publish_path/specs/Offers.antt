@@ -1,5 +1,7 @@
 -- What the open publishes make due, and what they count.
-use Rattle.std.specs.Prelude.{ℕ, Bool, true, false, not, ◌==◌, ◌&&◌, ◌||◌, if◌then◌else◌, List, [], ◌∷◌, map, filter, find, count_by, sum_by, length, take, drop, take_while, Option, Some, None, is_some, unwrap_or}
+use Rattle.std.specs.Prelude.{ℕ, Bool, true, false, not, ◌==◌, ◌&&◌, ◌||◌, if◌then◌else◌, List, []}
+use Rattle.std.specs.Prelude.{◌∷◌, map, filter, find, count_by, sum_by, length, take, drop}
+use Rattle.std.specs.Prelude.{take_while, Option, Some, None, is_some, unwrap_or}
 use Rattle.std.specs.Option.{option_map, option_or}
 use Rattle.open_items.specs.declared.lost.LostItem.{LostItem}
 use Rattle.publish_path.specs.declared.publish.Publish.{Publish}
@@ -9,7 +11,8 @@ use Rattle.publish_path.specs.declared.publish.NextFrame.{NextFrame}
 use Rattle.publish_path.specs.declared.publish.Confirm.{Confirm}
 use Rattle.publish_path.specs.declared.send_links.SendingLink.{SendingLink}
 use Rattle.publish_path.specs.Links.{link_of, can_send, begun_on}
-use Rattle.publish_path.specs.Publishes.{PublishEvent, FrameSent, is_waiting, is_begun, is_sending, has_no_outcome, is_settled, is_on, takes}
+use Rattle.publish_path.specs.Publishes.{PublishEvent, FrameSent, is_waiting, is_begun, is_sending}
+use Rattle.publish_path.specs.Publishes.{has_no_outcome, is_settled, is_on, takes}
 
 -- frames
 
@@ -94,8 +97,8 @@ run_of p more = record {
   ack = is_ack p.answer;
 }
 
--- of the unanswered ones: where the first has an outcome, the longest run from it that gives the same;
--- else the first that has an outcome, alone
+-- of the unanswered ones: where the first has an outcome, the longest run from it that gives the
+-- same; else the first that has an outcome, alone
 abbrev pub confirm_of : List Publish → Option Confirm
 confirm_of [] = None
 confirm_of (p ∷ ps) =
@@ -110,13 +113,14 @@ next_confirm_of list = confirm_of (filter is_unanswered list)
 abbrev pub line_of : ℕ → Publish → Option LostItem
 line_of life p = option_map (λ kind. record { life = life; number = p.number; kind = kind }) p.line
 
-abbrev pub item_of : ℕ → Option Publish → Option LostItem
-item_of life None = None
-item_of life (Some p) = line_of life p
+abbrev pub with_line : Option LostItem → List LostItem → List LostItem
+with_line None items = items
+with_line (Some item) items = item ∷ items
 
--- the line of the lowest number that has one
-abbrev pub next_line_of : ℕ → List Publish → Option LostItem
-next_line_of life list = item_of life (find (λ p. is_some p.line) list)
+-- the lines that the report is owed, by rising number
+abbrev pub lines_of : ℕ → List Publish → List LostItem
+lines_of life [] = []
+lines_of life (p ∷ ps) = with_line (line_of life p) (lines_of life ps)
 
 -- counts
 

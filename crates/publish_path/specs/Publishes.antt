@@ -1,6 +1,8 @@
--- The publishes of a life of a channel, from their taking up to their confirms: before any event, and
--- after each.
-use Rattle.std.specs.Prelude.{ℕ, Bool, true, false, ◌+◌, ◌-◌, ◌%◌, ◌^◌, ◌==◌, ◌&&◌, ◌||◌, not, nat_le, nat_lt, if◌then◌else◌, List, [], ◌∷◌, ◌++◌, map, filter, length, Option, Some, None, is_some}
+-- The publishes of a life of a channel, from their taking up to their confirms: before any event,
+-- and after each.
+use Rattle.std.specs.Prelude.{ℕ, Bool, true, false, ◌+◌, ◌-◌, ◌%◌, ◌^◌, ◌==◌, ◌&&◌, ◌||◌, not}
+use Rattle.std.specs.Prelude.{nat_le, nat_lt, if◌then◌else◌, List, [], ◌∷◌, ◌++◌, map, filter}
+use Rattle.std.specs.Prelude.{length, Option, Some, None, is_some}
 use Rattle.std.specs.Option.{option_or}
 use Rattle.links_10.specs.Send.{past}
 use Rattle.open_items.specs.declared.lost.LostKind.{LostKind}
@@ -12,7 +14,8 @@ use Rattle.publish_path.specs.declared.publish.Answer.{Answer}
 use Rattle.publish_path.specs.declared.publish.Answer.TheVariants.{Open, Owed, Settled}
 use Rattle.publish_path.specs.declared.publish.Confirm.{Confirm}
 use Rattle.publish_path.specs.declared.changes.Change.{Change}
-use Rattle.publish_path.specs.declared.changes.Change.TheVariants.{Framed, Told, LinkLost, Confirmed, Reported}
+use Rattle.publish_path.specs.declared.changes.Change.TheVariants.{Framed, Told, LinkLost}
+use Rattle.publish_path.specs.declared.changes.Change.TheVariants.{Confirmed, Reported}
 
 pub record PublishState : Type 0 where
   -- the number of the life
@@ -29,8 +32,8 @@ pub record PublishState : Type 0 where
 pub data PublishEvent : Type 0 where
   -- a publish was taken up: its link, whether it is to be confirmed, and its payload
   TakenUp : (link : ℕ) (confirm : Bool) (payload : List ℕ) → PublishEvent
-  -- a transfer frame went: its publish, whether it is the first, and its part of the payload (AMQP 1.0
-  -- 2.6.14)
+  -- a transfer frame went: its publish, whether it is the first, and its part of the payload (AMQP
+  -- 1.0 2.6.14)
   FrameSent : (number : ℕ) (first : Bool) (part : List ℕ) → PublishEvent
   -- an outcome came for the delivery-ids from first to last (AMQP 1.0 2.7.6, 3.4)
   OutcomeCame : (first last : ℕ) (accepted : Bool) → PublishEvent
@@ -38,8 +41,8 @@ pub data PublishEvent : Type 0 where
   LinkGone : (link : Option ℕ) → PublishEvent
   -- an ack or a nack went to the client
   ConfirmSent : (confirm : Confirm) → PublishEvent
-  -- the line of a publish was reported
-  LineTold : (number : ℕ) → PublishEvent
+  -- the lines that the report was owed were reported
+  LinesTold : PublishEvent
 
 -- tests of a place and of an answer
 
@@ -109,7 +112,8 @@ abbrev pub is_told : ℕ → ℕ → Publish → Bool
 is_told first last p = has_no_outcome p.answer && in_range first last p.id
 
 abbrev pub told : ℕ → ℕ → Bool → Publish → Publish
-told first last accepted p = record p { answer = if is_told first last p then due_for p.confirm accepted else p.answer }
+told first last accepted p =
+    record p { answer = if is_told first last p then due_for p.confirm accepted else p.answer }
 
 -- this link, or any
 abbrev pub is_on : Option ℕ → ℕ → Bool
@@ -132,8 +136,10 @@ link_lost link p = record p {
   payload = if is_on link p.link then [] else p.payload;
   gone = if is_on link p.link then 0 else p.gone;
   place = if is_on link p.link then lost_place p.place else p.place;
-  answer = if has_no_outcome p.answer && is_on link p.link then due_for p.confirm false else p.answer;
-  line = if has_no_outcome p.answer && is_on link p.link then Some (lost_as (is_waiting p.place)) else p.line;
+  answer = if has_no_outcome p.answer && is_on link p.link then due_for p.confirm false
+      else p.answer;
+  line = if has_no_outcome p.answer && is_on link p.link then Some (lost_as
+      (is_waiting p.place)) else p.line;
 }
 
 -- the confirm numbers that a confirm covers: with multiple, all up to its own (AMQP 0-9-1 1.8.3.13)
@@ -144,15 +150,15 @@ covers c (Some number) = number == c.number || (c.multiple && nat_le number c.nu
 abbrev pub confirmed : Confirm → Publish → Publish
 confirmed c p = record p { answer = if covers c p.confirm then Settled else p.answer }
 
-abbrev pub reported : ℕ → Publish → Publish
-reported number p = record p { line = if p.number == number then None else p.line }
+abbrev pub reported : Publish → Publish
+reported p = record p { line = None }
 
 abbrev pub changed : Change → Publish → Publish
 changed (Framed number first id count) p = framed number first id count p
 changed (Told first last accepted) p = told first last accepted p
 changed (LinkLost link) p = link_lost link p
 changed (Confirmed c) p = confirmed c p
-changed (Reported number) p = reported number p
+changed Reported p = reported p
 
 -- the publishes for which something is still to come, after a change of each
 abbrev pub each : (Publish → Publish) → PublishState → PublishState
@@ -192,7 +198,7 @@ after_event (FrameSent number first part) s = record s {
 after_event (OutcomeCame first last accepted) s = each (told first last accepted) s
 after_event (LinkGone link) s = each (link_lost link) s
 after_event (ConfirmSent c) s = each (confirmed c) s
-after_event (LineTold number) s = each (reported number) s
+after_event LinesTold s = each reported s
 
 -- newest first
 abbrev pub after_events : ℕ → List PublishEvent → PublishState

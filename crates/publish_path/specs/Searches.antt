@@ -1,5 +1,6 @@
 -- The confirm that is due, as the search finds it: one publish after the other.
-use Rattle.std.specs.Prelude.{ℕ, Bool, true, false, if◌then◌else◌, List, [], ◌∷◌, find, Option, Some, None}
+use Rattle.std.specs.Prelude.{ℕ, Bool, true, false, if◌then◌else◌, List, [], ◌∷◌, find, Option}
+use Rattle.std.specs.Prelude.{Some, None}
 use Rattle.std.specs.Option.{option_map}
 use Rattle.publish_path.specs.declared.publish.Publish.{Publish}
 use Rattle.publish_path.specs.declared.publish.Confirm.{Confirm}

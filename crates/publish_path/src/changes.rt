@@ -1,9 +1,10 @@
 //! What an event does to each publish of a life.
 
-ghost use Rattle.std.specs.Prelude.{◌≡◌, ◌-◌, ◌≤◌, map, filter};
+ghost use Rattle.std.specs.Prelude.{◌≡◌, ◌-◌, map, filter};
 ghost use Rattle.publish_path.specs.declared.publish.Publish.{Publish};
-ghost use Rattle.publish_path.specs.Publishes.{is_sending, is_open, framed, in_range, due_for, is_told, told, is_on, link_lost, covers, confirmed, reported, changed};
-ghost use Rattle.publish_path.specs.Offers.{held_count, held_bytes};
+ghost use Rattle.publish_path.specs.Publishes.{is_sending, is_open, framed, in_range, due_for};
+ghost use Rattle.publish_path.specs.Publishes.{is_told, told, is_on, link_lost, covers, confirmed};
+ghost use Rattle.publish_path.specs.Publishes.{reported, changed};
 
 use crate::publish::{Answer, Confirm, Place, Publish};
 use open_items::LostKind;
@@ -31,8 +32,8 @@ pub enum Change {
     LinkLost(Option<u32>),
     /// This confirm was sent.
     Confirmed(Confirm),
-    /// The line of this publish was reported.
-    Reported(u64),
+    /// The lines that the report was owed were reported.
+    Reported,
 }
 
 pub fn is_publish_sending(p: &Publish) -> bool
@@ -145,12 +146,10 @@ fn confirm_one(p: &mut Publish, confirm: Confirm)
     }
 }
 
-fn report_one(p: &mut Publish, number: u64)
-    ensures { p.new ≡ reported number p.old }
+fn report_one(p: &mut Publish)
+    ensures { p.new ≡ reported p.old }
 {
-    if p.number == number {
-        p.line = None;
-    }
+    p.line = None;
 }
 
 fn frame_if(alloc: Global, p: &mut Publish, number: u64, first: bool, id: u32, count: usize)
@@ -178,27 +177,18 @@ fn change_one(alloc: Global, p: &mut Publish, change: Change)
         } => tell_one(p, first, last, accepted),
         Change::LinkLost(link) => lose_one(alloc, p, link),
         Change::Confirmed(confirm) => confirm_one(p, confirm),
-        Change::Reported(number) => report_one(p, number),
+        Change::Reported => report_one(p),
     }
 }
 
-fn change_all(items: &mut Vec<Publish>, change: Change)
+/// Changes each publish.
+pub fn change_all(items: &mut Vec<Publish>, change: Change)
     ensures { items.new.items ≡ map (changed change) items.old.items }
 {
     let alloc = *items.allocator();
     for p in items.iter_mut() {
         change_one(alloc, p, change);
     }
-}
-
-/// Changes each publish; no more are held than before.
-#[tactic(auto, using(crate::proofs::Steps::changed_seen, crate::proofs::Steps::count_falls, crate::proofs::Steps::bytes_fall))]
-pub fn apply(items: &mut Vec<Publish>, change: Change)
-    ensures seen { filter is_open items.new.items ≡ filter is_open (map (changed change) (filter is_open items.old.items)) }
-    ensures count { held_count items.new.items ≤ held_count items.old.items }
-    ensures bytes { held_bytes items.new.items ≤ held_bytes items.old.items }
-{
-    change_all(items, change);
 }
 
 /// Leaves out what is closed.

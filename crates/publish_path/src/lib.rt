@@ -1,5 +1,5 @@
-//! The publishes of a life of a channel, on their way to the container: from their taking up, over the
-//! frames of their transfers, to their outcomes, their confirms and their lines of the report.
+//! The publishes of a life of a channel, on their way to the container: from their taking up, over
+//! the frames of their transfers, to their outcomes, their confirms and their lines of the report.
 #![tactic(auto)]
 
 mod changes;
@@ -12,6 +12,6 @@ mod send_links;
 mod tests;
 
 pub use laws::{confirms_lawfully, lines_lawfully, payloads_lawfully};
-pub use publish::{Confirm, NextFrame};
+pub use publish::{Answer, Confirm, NextFrame, Place, Publish};
 pub use publishes::Publishes;
 pub use send_links::SendLinks;

@@ -1,25 +1,30 @@
 //! The publishes of a life of a channel: each call is one event, or a question on what is due.
 
-ghost use Rattle.std.specs.Prelude.{◌≡◌, ◌+◌, ◌-◌, ◌<◌, ◌≤◌, ◌^◌, ◌↔◌, [], filter, count_by, drop, length, true, false, if◌then◌else◌, ◌==◌, OnOk, OnErr, IfOk, IfSome, IsSome, IsNone, Some, None};
+ghost use Rattle.std.specs.Prelude.{◌≡◌, ◌+◌, ◌-◌, ◌<◌, ◌≤◌, ◌^◌, ◌↔◌, [], filter, count_by, drop};
+ghost use Rattle.std.specs.Prelude.{length, true, false, if◌then◌else◌, ◌==◌, OnOk, OnErr, IfOk};
+ghost use Rattle.std.specs.Prelude.{IfSome, IsSome, IsNone, Some, None};
 ghost use Rattle.std.specs.List.{list_any};
 ghost use Rattle.publish_path.specs.Links.{link_of, can_send};
-ghost use Rattle.publish_path.specs.Publishes.{PublishState, TakenUp, OutcomeCame, LinkGone, ConfirmSent, LineTold, no_publishes, after_event, new_publish, is_open, is_told};
-ghost use Rattle.publish_path.specs.Offers.{frame_of, next_frame_of, links_after, rest_of, frame_sent, next_confirm_of, next_line_of, held_count, held_bytes, waits_on, is_pending};
+ghost use Rattle.publish_path.specs.Publishes.{PublishState, TakenUp, OutcomeCame, LinkGone};
+ghost use Rattle.publish_path.specs.Publishes.{ConfirmSent, LinesTold, no_publishes, after_event};
+ghost use Rattle.publish_path.specs.Publishes.{new_publish, is_open, is_told, each, changed};
+ghost use Rattle.publish_path.specs.Offers.{frame_of, next_frame_of, links_after, rest_of};
+ghost use Rattle.publish_path.specs.Offers.{frame_sent, next_confirm_of, held_count};
+ghost use Rattle.publish_path.specs.Offers.{held_bytes, waits_on, is_pending};
 
-use crate::changes::{Change, apply, compact};
+use crate::changes::{Change, change_all, compact};
 use crate::publish::{Answer, Confirm, NextFrame, Place, Publish};
 use crate::searches::{
     any_told, any_waiting, count_held, count_pending, first_begun, first_confirm, first_taking,
-    first_to_begin, first_with_line, sum_held,
+    first_to_begin, sum_held,
 };
 use crate::send_links::SendLinks;
-use open_items::LostItem;
 use std::alloc::Global;
 use std::marker::Model;
 use wire_base::{ByteText, Memory};
 
-/// The publishes of a life of a channel. Contracts see those for which something is still to come, and
-/// the numbers given. No call takes memory but `add`.
+/// The publishes of a life of a channel. Contracts see those for which something is still to come,
+/// and the numbers given. No call takes memory but `add`.
 #[derive(Drop)]
 pub struct Publishes {
     life: u64,
@@ -27,10 +32,16 @@ pub struct Publishes {
     numbers: u64,
     confirms: u64,
     next_id: u32,
+    /// So many publishes are held.
+    held: u32,
+    /// So many bytes their payloads have.
+    bytes: u64,
+    /// With so many items, the closed ones are left out.
+    room: usize,
 }
 
 impl Model for Publishes {
-    ghost use Rattle.std.specs.Prelude.{filter, ◌<◌, ◌≤◌, ◌^◌};
+    ghost use Rattle.std.specs.Prelude.{◌≡◌, filter, ◌≤◌};
     ghost use Rattle.publish_path.specs.Publishes.{PublishState, is_open};
     ghost use Rattle.publish_path.specs.Offers.{held_count, held_bytes};
 
@@ -44,8 +55,12 @@ impl Model for Publishes {
       next_id = a.next_id;
     } };
 
-    ghost invariant = { λ a. (held_count a.items.items < 2 ^ 32) × (held_bytes a.items.items < 2 ^ 64) × (a.confirms ≤ a.numbers) };
+    ghost invariant = { λ a. (a.held ≡ held_count a.items.items)
+        × (a.bytes ≡ held_bytes a.items.items) × (a.confirms ≤ a.numbers) };
 }
+
+/// There is room for so many items at least.
+const LEAST_ROOM: usize = 16;
 
 fn new_one(number: u64, link: u32, confirm: Option<u64>, payload: ByteText) -> Publish
     ensures { result ≡ new_publish number link confirm payload }
@@ -87,8 +102,8 @@ fn part_from(bytes: &[u8], from: usize) -> Option<&[u8]>
 }
 
 impl Publishes {
-    /// No publishes, in the life with this number. It takes the allocator that later growth uses, and no
-    /// memory.
+    /// No publishes, in the life with this number. It takes the allocator that later growth uses,
+    /// and no memory.
     pub fn new(alloc: Global, life: u64) -> Publishes
         ensures { result ≡ no_publishes life }
     {
@@ -98,12 +113,27 @@ impl Publishes {
             numbers: 0,
             confirms: 0,
             next_id: 0,
+            held: 0,
+            bytes: 0,
+            room: LEAST_ROOM,
         }
     }
 
-    /// A publish was taken up, for this link, with the payload of its transfer; `confirm` says whether it
-    /// is to be confirmed. The answer is its number.
-    #[tactic(auto, using(crate::proofs::Steps::open_open, crate::proofs::Steps::add_seen, crate::proofs::Steps::add_count, crate::proofs::Steps::add_bytes))]
+    /// Leaves out what is closed, once there are as many items as there is room for. There is room
+    /// for twice as many as are left, so each item is looked at a few times in all.
+    #[tactic(auto, using(crate::proofs::Steps::open_open, crate::proofs::Steps::held_seen, crate::proofs::Steps::bytes_seen))]
+    fn make_room(&mut self)
+        ensures { self.new ≡ self.old }
+    {
+        if self.items.len() >= self.room {
+            compact(&mut self.items);
+            self.room = self.items.len().saturating_mul(2).max(LEAST_ROOM);
+        }
+    }
+
+    /// A publish was taken up, for this link, with the payload of its transfer; `confirm` says
+    /// whether it is to be confirmed. The answer is its number.
+    #[tactic(auto, using(crate::proofs::Steps::add_seen, crate::proofs::Steps::add_count, crate::proofs::Steps::add_bytes, crate::proofs::Steps::held_seen, crate::proofs::Steps::bytes_seen))]
     pub fn add(&mut self, link: u32, confirm: bool, payload: ByteText) -> Result<u64, Memory>
         requires numbers { self.old.numbers < 2 ^ 62 }
         requires count { held_count self.old.list + 1 < 2 ^ 32 }
@@ -112,8 +142,10 @@ impl Publishes {
         ensures number { IfOk result (λ number. number ≡ self.old.numbers + 1) }
         ensures err { OnErr result (self.new ≡ self.old) }
     {
-        compact(&mut self.items);
+        self.make_room();
+        let (held, bytes) = self.held();
         let number = self.numbers + 1;
+        let size = payload.as_slice().len() as u64;
         let confirms = if confirm {
             self.confirms + 1
         } else {
@@ -123,25 +155,40 @@ impl Publishes {
         self.items.push(new_one(number, link, confirm, payload))?;
         self.numbers = number;
         self.confirms = confirms;
+        self.held = held + 1;
+        self.bytes = bytes + size;
         Ok(number)
     }
 
-    /// How many publishes are held, and the sum of the lengths of their payloads. One is held until its
-    /// last frame was sent, or its link was lost.
+    /// How many publishes are held, and the sum of the lengths of their payloads. One is held until
+    /// its last frame was sent, or its link was lost.
     #[tactic(auto, using(crate::proofs::Steps::held_seen, crate::proofs::Steps::bytes_seen))]
     pub fn held(&self) -> (u32, u64)
         ensures count { result.0 ≡ held_count self.now.list }
         ensures bytes { result.1 ≡ held_bytes self.now.list }
     {
-        let items = self.items.as_slice();
-        (count_held(items) as u32, sum_held(items))
+        (self.held, self.bytes)
     }
 
-    /// The transfer frame that goes next, where the container takes so many more frames (AMQP 1.0 2.5.6).
+    /// Changes each publish.
+    #[tactic(auto, using(crate::proofs::Steps::changed_seen, crate::proofs::Steps::count_falls, crate::proofs::Steps::bytes_fall))]
+    fn change(&mut self, change: Change)
+        ensures { self.new ≡ each (changed change) self.old }
+    {
+        change_all(&mut self.items, change);
+        let items = self.items.as_slice();
+        self.held = count_held(items) as u32;
+        self.bytes = sum_held(items);
+    }
+
+    /// The transfer frame that goes next, where the container takes so many more frames (AMQP 1.0
+    /// 2.5.6).
     #[tactic(auto, using(crate::proofs::Steps::begun_seen, crate::proofs::Steps::begins_seen))]
     pub fn next_frame(&self, links: &SendLinks, window: u32) -> Option<NextFrame>
-        ensures frame { result ≡ (if window == 0 then None else next_frame_of links.now self.now.list) }
-        ensures credit { IfSome result (λ frame. frame.first ≡ true → can_send (link_of links.now frame.link) ≡ true) }
+        ensures frame { result ≡ (if window == 0 then None
+            else next_frame_of links.now self.now.list) }
+        ensures credit { IfSome result (λ frame. frame.first ≡ true
+            → can_send (link_of links.now frame.link) ≡ true) }
     {
         if window == 0 {
             return None;
@@ -188,7 +235,7 @@ impl Publishes {
             id: self.next_id,
             count: bytes as usize,
         };
-        apply(&mut self.items, change);
+        self.change(change);
         if frame.first {
             self.next_id = self.next_id.wrapping_add(1);
             links.begun(frame.link);
@@ -211,8 +258,8 @@ impl Publishes {
         count_pending(self.items.as_slice(), link) as u64
     }
 
-    /// An outcome came for the delivery-ids from `first` to `last`, which counts for those that had none.
-    /// True if there are such.
+    /// An outcome came for the delivery-ids from `first` to `last`, which counts for those that had
+    /// none. True if there are such.
     #[tactic(auto, using(crate::proofs::Steps::told_seen))]
     pub fn outcome(&mut self, first: u32, last: u32, accepted: bool) -> bool
         ensures any { result ≡ list_any (is_told first last) self.old.list }
@@ -224,7 +271,7 @@ impl Publishes {
             last,
             accepted,
         };
-        apply(&mut self.items, change);
+        self.change(change);
         any
     }
 
@@ -232,14 +279,14 @@ impl Publishes {
     pub fn lost_link(&mut self, link: u32)
         ensures { self.new ≡ after_event (LinkGone (Some link)) self.old }
     {
-        apply(&mut self.items, Change::LinkLost(Some(link)));
+        self.change(Change::LinkLost(Some(link)));
     }
 
     /// Each link was lost.
     pub fn lost_all(&mut self)
         ensures { self.new ≡ after_event (LinkGone None) self.old }
     {
-        apply(&mut self.items, Change::LinkLost(None));
+        self.change(Change::LinkLost(None));
     }
 
     /// The confirm that is due.
@@ -253,40 +300,32 @@ impl Publishes {
     /// The confirm that is due was sent.
     pub fn confirmed(&mut self)
         requires { IsSome (next_confirm_of self.old.list) }
-        ensures { IfSome (next_confirm_of self.old.list) (λ confirm. self.new ≡ after_event (ConfirmSent confirm) self.old) }
+        ensures { IfSome (next_confirm_of self.old.list) (λ confirm. self.new
+            ≡ after_event (ConfirmSent confirm) self.old) }
     {
         if let Some(confirm) = self.next_confirm() {
-            apply(&mut self.items, Change::Confirmed(confirm));
+            self.change(Change::Confirmed(confirm));
         }
     }
 
-    /// The line of the report that is due, which is then reported.
-    #[tactic(auto, using(crate::proofs::Steps::line_seen))]
-    pub fn next_lost(&mut self) -> Option<LostItem>
-        ensures line { result ≡ next_line_of self.old.life self.old.list }
-        ensures reported { IfSome result (λ item. self.new ≡ after_event (LineTold item.number) self.old) }
-        ensures none { IsNone result → self.new ≡ self.old }
+    /// The number of the life.
+    pub fn life(&self) -> u64
+        ensures { result ≡ self.now.life }
     {
-        let item = self.first_lost()?;
-        apply(&mut self.items, Change::Reported(item.number));
-        Some(item)
+        self.life
     }
 
-    #[tactic(auto, using(crate::proofs::Steps::line_seen))]
-    fn first_lost(&self) -> Option<LostItem>
-        ensures { result ≡ next_line_of self.now.life self.now.list }
+    /// The publishes, and among them such for which nothing is to come any more.
+    pub fn items(&self) -> &[Publish]
+        ensures { filter is_open result.now ≡ self.now.list }
     {
-        let life = self.life;
-        match first_with_line(self.items.as_slice()) {
-            Some(p) => match p.line {
-                Some(kind) => Some(LostItem {
-                    life,
-                    number: p.number,
-                    kind,
-                }),
-                None => None,
-            },
-            None => None,
-        }
+        self.items.as_slice()
+    }
+
+    /// The lines that the report was owed were reported.
+    pub fn lines_told(&mut self)
+        ensures { self.new ≡ after_event LinesTold self.old }
+    {
+        self.change(Change::Reported);
     }
 }

@@ -1,10 +1,13 @@
 //! Searches and counts over the publishes of a life.
 
-ghost use Rattle.std.specs.Prelude.{◌≡◌, ◌<◌, ◌^◌, find, filter, count_by, is_some, option_copied, ◌&&◌, true, IfSome};
+ghost use Rattle.std.specs.Prelude.{◌≡◌, ◌<◌, ◌^◌, find, filter, count_by, is_some, option_copied};
+ghost use Rattle.std.specs.Prelude.{◌&&◌, true, IfSome};
 ghost use Rattle.std.specs.Option.{option_map};
 ghost use Rattle.std.specs.List.{list_any};
 ghost use Rattle.publish_path.specs.Publishes.{is_begun, takes, is_told};
-ghost use Rattle.publish_path.specs.Offers.{can_begin, owed_ack, is_owed, is_unanswered, held_count, held_size, held_bytes, waits_on, is_pending, number_or, alone};
+ghost use Rattle.publish_path.specs.Offers.{can_begin, owed_ack, is_owed, is_unanswered};
+ghost use Rattle.publish_path.specs.Offers.{held_count, held_size, held_bytes, waits_on};
+ghost use Rattle.publish_path.specs.Offers.{is_pending, number_or, alone};
 ghost use Rattle.publish_path.specs.Searches.{found_confirm};
 
 use crate::changes::{is_link, is_publish_sending, is_publish_told};
@@ -27,12 +30,6 @@ fn takes_frames(p: &Publish, number: u64) -> bool
     ensures { result ≡ takes number p.now }
 {
     p.number == number && is_publish_sending(p)
-}
-
-fn has_line(p: &Publish) -> bool
-    ensures { result ≡ is_some p.now.line }
-{
-    p.line.is_some()
 }
 
 fn waits_for(p: &Publish, link: u32) -> bool
@@ -67,13 +64,6 @@ pub fn first_taking(items: &[Publish], number: u64) -> Option<&Publish>
     ensures { option_copied result ≡ find (takes number) items.now }
 {
     items.iter().find(|p| takes_frames(p, number))
-}
-
-/// The lowest number that the report is owed a line of.
-pub fn first_with_line(items: &[Publish]) -> Option<&Publish>
-    ensures { option_copied result ≡ find (λ p. is_some p.line) items.now }
-{
-    items.iter().find(|p| has_line(p))
 }
 
 /// Some publish waits on this link.
@@ -160,7 +150,8 @@ fn number_of(p: &Publish) -> u64
 }
 
 fn first_alone(items: &[Publish]) -> Option<Confirm>
-    ensures { result ≡ option_map alone (find (λ p. is_unanswered p && is_owed p.answer) items.now) }
+    ensures { result ≡ option_map alone (find (λ p. is_unanswered p
+        && is_owed p.answer) items.now) }
 {
     match first_due(items) {
         None => None,
@@ -172,8 +163,8 @@ fn first_alone(items: &[Publish]) -> Option<Confirm>
     }
 }
 
-/// The confirm that is due: the longest run of equal outcomes from the first unanswered number on, or
-/// the first outcome alone.
+/// The confirm that is due: the longest run of equal outcomes from the first unanswered number on,
+/// or the first outcome alone.
 #[tactic(auto, using(crate::proofs::Steps::find_due))]
 pub fn first_confirm(items: &[Publish]) -> Option<Confirm>
     ensures { result ≡ found_confirm (filter is_unanswered items.now) }

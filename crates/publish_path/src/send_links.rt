@@ -1,9 +1,12 @@
 //! The sending links of a channel (AMQP 1.0 2.6), by their numbers and their addresses.
 
-ghost use Rattle.std.specs.Prelude.{◌≡◌, List, [], ◌∷◌, ◌++◌, map, find, true, OnOk, OnErr, IsSome, option_copied};
+ghost use Rattle.std.specs.Prelude.{◌≡◌, List, [], ◌∷◌, ◌++◌, map, find, true, OnOk, OnErr, IsSome};
+ghost use Rattle.std.specs.Prelude.{option_copied};
 ghost use Rattle.std.specs.Option.{option_map};
 ghost use Rattle.publish_path.specs.declared.send_links.SendingLink.{SendingLink};
-ghost use Rattle.publish_path.specs.Links.{has_number, has_address, link_of, link_to, address_of, can_send, asked_link, now_attached, flowed, drained, begun_on, link_changed, without};
+ghost use Rattle.publish_path.specs.Links.{has_number, has_address, link_of, link_to, address_of};
+ghost use Rattle.publish_path.specs.Links.{can_send, asked_link, now_attached, flowed, drained};
+ghost use Rattle.publish_path.specs.Links.{begun_on, link_changed, without};
 
 use links_10::SendLink;
 use std::alloc::Global;
@@ -198,8 +201,8 @@ impl SendLinks {
         change_each(&mut self.links, link, LinkChange::Attached);
     }
 
-    /// A flow of the container came for this link, with this delivery-count and link-credit (AMQP 1.0
-    /// 2.7.4). An absent count stands for 0.
+    /// A flow of the container came for this link, with this delivery-count and link-credit (AMQP
+    /// 1.0 2.7.4). An absent count stands for 0.
     pub fn flow(&mut self, link: u32, count: Option<u32>, credit: u32)
         requires { IsSome (link_of self.old link) }
         ensures { self.new ≡ map (flowed link count credit) self.old }

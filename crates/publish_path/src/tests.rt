@@ -92,6 +92,13 @@ fn lost(life: u64, number: u64, kind: LostKind) -> Option<LostItem> {
     Some(LostItem { life, number, kind })
 }
 
+/// The line that is due of the publish in this place.
+fn line(publishes: &Publishes, place: usize) -> Option<LostItem> {
+    let publish = publishes.items().get(place)?;
+    let kind = publish.line?;
+    lost(publishes.life(), publish.number, kind)
+}
+
 #[test]
 fn links_are_found(rt: HostRuntime) -> Result<(), Memory> {
     let alloc = rt.alloc();
@@ -136,7 +143,7 @@ fn outcomes_come_out_of_order(rt: HostRuntime) -> Result<(), Memory> {
     assert!(rt; publishes.outcome(0, 2, true));
     assert_eq!(rt; confirm(&mut publishes), ack(3, true));
     assert_eq!(rt; confirm(&mut publishes), None);
-    assert_eq!(rt; publishes.next_lost(), None);
+    assert_eq!(rt; line(&publishes, 0), None);
     Ok(())
 }
 
@@ -161,9 +168,11 @@ fn a_link_is_lost(rt: HostRuntime) -> Result<(), Memory> {
         ack: false,
     });
     assert_eq!(rt; confirm(&mut publishes), nack);
-    assert_eq!(rt; publishes.next_lost(), lost(7, 1, LostKind::PublishUnknown));
-    assert_eq!(rt; publishes.next_lost(), lost(7, 2, LostKind::PublishLost));
+    assert_eq!(rt; line(&publishes, 0), lost(7, 1, LostKind::PublishUnknown));
+    assert_eq!(rt; line(&publishes, 1), lost(7, 2, LostKind::PublishLost));
+    publishes.lines_told();
     publishes.lost_all();
-    assert_eq!(rt; publishes.next_lost(), None);
+    assert_eq!(rt; line(&publishes, 0), None);
+    assert_eq!(rt; line(&publishes, 1), None);
     Ok(())
 }

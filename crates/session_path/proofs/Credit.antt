@@ -1,5 +1,6 @@
 -- A change of the credit of a link that has none changes nothing.
-use Rattle.std.proofs.Common.{◌≡◌, ◌∙◌, ℕ, List, [], ◌∷◌, Bool, true, false, Option, Some, None, map, refl, ap, cond}
+use Rattle.std.proofs.Common.{◌≡◌, ◌∙◌, ℕ, List, [], ◌∷◌, Bool, true, false, Option, Some, None}
+use Rattle.std.proofs.Common.{map, refl, ap, cond}
 use Rattle.std.specs.Prelude.{not}
 use Rattle.links_10.specs.Send.{after_flow, after_drain}
 use Rattle.publish_path.specs.declared.send_links.SendingLink.{SendingLink}

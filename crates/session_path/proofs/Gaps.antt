@@ -1,5 +1,6 @@
 -- The lowest number that no link has.
-use Rattle.std.proofs.Common.{◌≡◌, ◌∙◌, ℕ, suc, ◌+◌, ◌<◌, ◌≢◌, List, true, false, drop, sym, ap, arith, cond, length, get_or, add-one, drop-cons}
+use Rattle.std.proofs.Common.{◌≡◌, ◌∙◌, ℕ, suc, ◌+◌, ◌<◌, List, true, drop, sym, ap}
+use Rattle.std.proofs.Common.{arith, cond, length, get_or, add-one, drop-cons}
 use Rattle.std.specs.Prelude.{◌==◌}
 use Rattle.std.proofs.lemmas.Bool.Decides.{nat_tests}
 use Rattle.session_path.specs.declared.path.PathLink.{PathLink}
@@ -12,11 +13,3 @@ gap_more ls i n d lt e =
   where
     by : (g : ℕ) → n + (g + 1) ≡ (n + 1) + g
     by g = omega arith
-
-pub gap_none : (ls : List PathLink) (i n : ℕ) (d : PathLink) → i < length ls → (get_or ls i d).link ≢ n → n + gap n (drop i ls) ≡ n
-gap_none ls i n d lt ne =
-    let is : ((get_or ls i d).link == n) ≡ false = grind (arith, nat_tests) in
-    ap (λ xs. n + gap n xs) (drop-cons ls i d lt) ∙ ap (λ b. n + cond b (gap (n + 1) (drop (suc i) ls) + 1) 0) is ∙ by
-  where
-    by : n + 0 ≡ n
-    by = omega arith

@@ -1,4 +1,5 @@
 pub mod Ties
+pub mod Idle
 pub mod Gaps
 pub mod Credit
 pub mod Wanted

@@ -1,6 +1,7 @@
 -- The container attaches a link no more often than the gateway asked under its name.
-use Rattle.std.proofs.Common.{◌≡◌, ◌∙◌, ℕ, zero, suc, ◌+◌, ◌≤◌, List, [], ◌∷◌, Bool, true, false, Option, Some, None, refl, sym, subst, ap, arith, cond}
-use Rattle.std.specs.Prelude.{find, is_some, not, ◌==◌, ◌&&◌, insert}
+use Rattle.std.proofs.Common.{◌≡◌, ◌∙◌, ℕ, zero, suc, ◌+◌, ◌≤◌, List, [], ◌∷◌, Bool, true, false}
+use Rattle.std.proofs.Common.{Option, Some, None, refl, sym, subst, ap, arith, cond}
+use Rattle.std.specs.Prelude.{filter, find, is_some, not, ◌==◌, ◌&&◌, insert}
 use Rattle.std.specs.List.{AllByRecursion}
 use Rattle.open_items.proofs.Filtered.{all_find}
 use Rattle.link_table.specs.Table.{free_of, named_by}
@@ -8,11 +9,21 @@ use Rattle.publish_path.specs.Links.{link_to}
 use Rattle.publish_path.specs.declared.publish.Publish.{Publish}
 use Rattle.session_path.specs.declared.path.AttachFault.TheVariants.{NotAsked, HandleInUse}
 use Rattle.session_path.specs.declared.path.PathLink.{PathLink}
-use Rattle.session_path.specs.Links.{LinksState, Rises, answered, asked_as, asked_on, at_handle, attached_as, attach_fault, attached, detached_on, flowed_on, free_number, gone_from, gone_on, is_asked_as, is_at, is_left, is_left_at, is_wanted, left_by, link_asked, link_detached, link_flowed, linked_to, put, told_by, told_on, told_once, wanted_link, with_link_to}
-use Rattle.session_path.specs.Path.{PathState, flow_of, owes_flow}
-use Rattle.session_path.specs.Events.{PathEvent, Began, Published, Selected, Owed, AttachCame, FlowCame, DetachCame, DispositionCame, AttachSent, LinkFlowSent, TransferSent, SettleSent, DetachSent, ConfirmWent, OkSent, LineWent, SessionLost, after_event, after_events}
+use Rattle.session_path.specs.Links.{LinksState, Rises, answered, asked_as, asked_on, at_handle}
+use Rattle.session_path.specs.Links.{attached_as, attach_fault, attached, detached_on, flowed_on}
+use Rattle.session_path.specs.Links.{free_number, given_by, given_on, has_number, is_asked_as}
+use Rattle.session_path.specs.Links.{is_at, is_given, is_left, is_wanted, left_by, link_asked}
+use Rattle.session_path.specs.Links.{link_detached, link_flowed, linked_to, parted, put, told_by}
+use Rattle.session_path.specs.Links.{told_on, told_once, wanted_link, with_link_to}
+use Rattle.session_path.specs.Path.{PathState, flow_of, given_of, owes_flow}
+use Rattle.session_path.specs.Events.{PathEvent, Began, Published, Selected, Owed, AttachCame}
+use Rattle.session_path.specs.Events.{FlowCame, DetachCame, DispositionCame, AttachSent}
+use Rattle.session_path.specs.Events.{LinkFlowSent, TransferSent, SettleSent, DetachSent}
+use Rattle.session_path.specs.Events.{ConfirmWent, OkSent, LinesWent, SessionLost, after_event}
+use Rattle.session_path.specs.Events.{after_events}
 use Rattle.session_path.specs.Attaches.{asks_as, attaches_as, times_asked, times_attached}
-use Rattle.session_path.proofs.Ties.{eq_of, eq_to, ne_to, rises_above}
+use Rattle.session_path.proofs.Idle.{given_found}
+use Rattle.session_path.proofs.Ties.{dropped, eq_of, eq_to, ne_to, rises_above}
 use Rattle.session_path.proofs.Tied.{Tied, tied_after}
 
 abbrev one : Bool → ℕ
@@ -61,11 +72,11 @@ waiting_insert name n zero ls = omega arith
 waiting_insert name n (suc i) [] = omega arith
 waiting_insert name n (suc i) (l ∷ ls) = ap (λ k. one (is_asked_as name l) + k) (waiting_insert name n i ls)
 
-waiting_gone : (name h : ℕ) (ls : List PathLink) → waiting name (gone_from h ls) ≤ waiting name ls
-waiting_gone name h [] = omega arith
-waiting_gone name h (l ∷ ls) = by (is_left_at h l.stage) (waiting_gone name h ls)
+waiting_filter : (name : ℕ) (o : PathLink → Bool) (ls : List PathLink) → waiting name (filter o ls) ≤ waiting name ls
+waiting_filter name o [] = omega arith
+waiting_filter name o (l ∷ ls) = by (o l) (waiting_filter name o ls)
   where
-    by : (b : Bool) → waiting name (gone_from h ls) ≤ waiting name ls → waiting name (cond (not b) (l ∷ gone_from h ls) (gone_from h ls)) ≤ one (is_asked_as name l) + waiting name ls
+    by : (b : Bool) → waiting name (filter o ls) ≤ waiting name ls → waiting name (cond b (l ∷ filter o ls) (filter o ls)) ≤ one (is_asked_as name l) + waiting name ls
     by true e = omega arith
     by false e = omega arith
 
@@ -92,7 +103,11 @@ waiting_flowed name peer count credit drain echo s t = by (named_by s.handles pe
 
 detached_one : (name h : ℕ) (s : LinksState) (o : Option PathLink) → Tied s → find (is_at h) s.links ≡ o → waiting name (detached_on o s).links ≤ waiting name s.links
 detached_one name h s None t e = omega arith
-detached_one name h s (Some l) t e = let a = waiting_put name 0 (is_at h) s.links l (left_by l) t.rising e refl in omega arith
+detached_one name h s (Some l) t e = by (is_given l)
+  where
+    by : (b : Bool) → waiting name (cond b (dropped l.link s.links) (put (left_by l) s.links)) ≤ waiting name s.links
+    by true = waiting_filter name _ s.links
+    by false = let a = waiting_put name 0 (is_at h) s.links l (left_by l) t.rising e refl in omega arith
 
 waiting_detached : (name peer : ℕ) (s : LinksState) → Tied s → waiting name (link_detached peer s).links ≤ waiting name s.links
 waiting_detached name peer s t = by (named_by s.handles peer)
@@ -108,9 +123,13 @@ waiting_told name list s t = by (flow_of list s) refl
     by None e = omega arith
     by (Some l) e = let a = waiting_put name 0 (owes_flow list s.sending) s.links l (told_once l) t.rising e refl in omega arith
 
-waiting_left : (name : ℕ) (s : LinksState) (o : Option PathLink) → waiting name (gone_on o s).links ≤ waiting name s.links
-waiting_left name s None = omega arith
-waiting_left name s (Some l) = waiting_gone name _ s.links
+waiting_given : (name : ℕ) (list : List Publish) (s : LinksState) (o : Option PathLink) → Tied s → given_of list s ≡ o → waiting name (given_on o s).links ≤ waiting name s.links
+waiting_given name list s None t e = omega arith
+waiting_given name list s (Some l) t e = let a = waiting_put name 0 (has_number l.link) s.links l (given_by l) t.rising (given_found list s l t.rising e).0 refl in omega arith
+
+waiting_parted : (name : ℕ) (list : List Publish) (s : LinksState) (o : Option PathLink) → Tied s → waiting name (parted o (given_of list s) s).links ≤ waiting name s.links
+waiting_parted name list s None t = waiting_given name list s (given_of list s) t refl
+waiting_parted name list s (Some l) t = waiting_filter name _ s.links
 
 -- one more at most, under its own name
 waiting_asked : (name own : ℕ) (s : LinksState) → Tied s → waiting name (link_asked own s).links ≤ waiting name s.links + one (own == name)
@@ -184,10 +203,10 @@ step name times asked (AttachSent own) s t e = asks times asked (waiting name s.
 step name times asked LinkFlowSent s t e = stays times asked (waiting name s.links.links) _ e (waiting_told name s.publishes.list s.links t)
 step name times asked (TransferSent frame count) s t e = stays times asked (waiting name s.links.links) _ e (same (waiting name s.links.links))
 step name times asked (SettleSent settling) s t e = stays times asked (waiting name s.links.links) _ e (same (waiting name s.links.links))
-step name times asked DetachSent s t e = stays times asked (waiting name s.links.links) _ e (waiting_left name s.links (find is_left s.links.links))
+step name times asked DetachSent s t e = stays times asked (waiting name s.links.links) _ e (waiting_parted name s.publishes.list s.links (find is_left s.links.links) t)
 step name times asked (ConfirmWent confirm) s t e = stays times asked (waiting name s.links.links) _ e (same (waiting name s.links.links))
 step name times asked (OkSent ok) s t e = stays times asked (waiting name s.links.links) _ e (same (waiting name s.links.links))
-step name times asked (LineWent number) s t e = stays times asked (waiting name s.links.links) _ e (same (waiting name s.links.links))
+step name times asked LinesWent s t e = stays times asked (waiting name s.links.links) _ e (same (waiting name s.links.links))
 step name times asked SessionLost s t e = stays times asked (waiting name s.links.links) _ e (low (waiting name s.links.links))
 
 attached_waiting : (life name : ℕ) (h : List PathEvent) → times_attached life name h + waiting name (after_events life h).links.links ≤ times_asked name h

@@ -1,54 +1,34 @@
 -- The flows on a link answer what the container asked, each once.
-use Rattle.std.proofs.Common.{◌≡◌, ◌∙◌, ℕ, zero, suc, ◌+◌, ◌-◌, ◌≤◌, List, [], ◌∷◌, Bool, true, false, Option, Some, None, refl, sym, subst, ap, arith, cond}
+use Rattle.std.proofs.Common.{◌≡◌, ◌∙◌, ℕ, zero, suc, ◌+◌, ◌-◌, ◌≤◌, List, [], ◌∷◌, Bool, true}
+use Rattle.std.proofs.Common.{false, Option, Some, None, refl, sym, subst, ap, arith, cond}
 use Rattle.std.specs.Prelude.{find, is_some, not, ◌==◌, ◌&&◌, ◌||◌, insert, nat_lt}
 use Rattle.std.specs.List.{AllByRecursion}
-use Rattle.open_items.proofs.Filtered.{all_weaker, all_both, all_find}
+use Rattle.open_items.proofs.Filtered.{all_find}
 use Rattle.link_table.specs.Table.{free_of, named_by}
 use Rattle.publish_path.specs.Links.{link_to}
 use Rattle.publish_path.specs.declared.publish.Publish.{Publish}
 use Rattle.publish_path.specs.declared.send_links.SendingLink.{SendingLink}
 use Rattle.session_path.specs.declared.path.PathLink.{PathLink}
-use Rattle.session_path.specs.declared.path.Stage.{Stage}
-use Rattle.session_path.specs.declared.path.Stage.TheVariants.{Wanted, Asked, Open, Refused, Left}
-use Rattle.session_path.specs.Links.{LinksState, AreApart, Rises, answered, asked_as, asked_on, at_handle, attach_fault, attached, attached_as, detached_on, flowed_on, free_number, gone_from, gone_on, handle_in, handle_of, has_number, is_asked_as, is_at, is_left, is_left_at, is_one, is_stage_left, is_wanted, left_by, link_asked, link_detached, link_flowed, linked_to, meets, named, one_if, put, told_by, told_on, told_once, wanted_link, with_link_to}
-use Rattle.session_path.specs.Path.{PathState, flow_of, may_drain, owes_flow}
-use Rattle.session_path.specs.Events.{PathEvent, Began, Published, Selected, Owed, AttachCame, FlowCame, DetachCame, DispositionCame, AttachSent, LinkFlowSent, TransferSent, SettleSent, DetachSent, ConfirmWent, OkSent, LineWent, SessionLost, after_event, after_events}
-use Rattle.session_path.specs.Flows.{causes_by, causes_on, flows_by, flows_on, is_link, owed_in, owed_on}
-use Rattle.session_path.proofs.Ties.{apart_from, eq_of, eq_to, ne_to, no_clash, rises_above}
+use Rattle.session_path.specs.Links.{LinksState, Rises, answered, asked_as, asked_on, at_handle}
+use Rattle.session_path.specs.Links.{attach_fault, attached, attached_as, detached_on, flowed_on}
+use Rattle.session_path.specs.Links.{free_number, given_by, given_on, has_number, is_asked_as}
+use Rattle.session_path.specs.Links.{is_at, is_given, is_left, is_parting, is_wanted, left_by}
+use Rattle.session_path.specs.Links.{link_asked, link_detached, link_flowed, linked_to, named}
+use Rattle.session_path.specs.Links.{one_if, parted, put, told_by, told_on, told_once, wanted_link}
+use Rattle.session_path.specs.Links.{with_link_to}
+use Rattle.session_path.specs.Path.{PathState, flow_of, given_of, may_drain, owes_flow}
+use Rattle.session_path.specs.Events.{PathEvent, Began, Published, Selected, Owed, AttachCame}
+use Rattle.session_path.specs.Events.{FlowCame, DetachCame, DispositionCame, AttachSent}
+use Rattle.session_path.specs.Events.{LinkFlowSent, TransferSent, SettleSent, DetachSent}
+use Rattle.session_path.specs.Events.{ConfirmWent, OkSent, LinesWent, SessionLost, after_event}
+use Rattle.session_path.specs.Events.{after_events}
+use Rattle.session_path.specs.Flows.{causes_by, causes_on, flows_by, flows_on, given_in}
+use Rattle.session_path.specs.Flows.{given_named, is_link, owed_in, owed_on}
+use Rattle.session_path.proofs.Idle.{given_found}
+use Rattle.session_path.proofs.Ties.{dropped, eq_of, eq_to, found_number, gone_is, ne_to, no_clash}
+use Rattle.session_path.proofs.Ties.{rises_above}
 use Rattle.session_path.proofs.Wanted.{absent}
 use Rattle.session_path.proofs.Tied.{Tied, tied_after}
-
--- what is found is the link with its number
-
-unique : (m : ℕ) (p : PathLink → Bool) (ls : List PathLink) (l : PathLink) → Rises m ls → find p ls ≡ Some l → AllByRecursion (λ k. (k.link == l.link) ≡ true → k ≡ l) ls
-unique m p [] l r e = tt
-unique m p (y ∷ ys) l r e = by (p y) refl (unique (y.link + 1) p ys l r.1) e
-  where
-    above : AllByRecursion (λ k. y.link + 1 ≤ k.link) ys
-    above = rises_above (y.link + 1) ys r.1
-
-    by : (b : Bool) → p y ≡ b → (find p ys ≡ Some l → AllByRecursion (λ k. (k.link == l.link) ≡ true → k ≡ l) ys) → cond b (Some y) (find p ys) ≡ Some l
-        → AllByRecursion (λ k. (k.link == l.link) ≡ true → k ≡ l) (y ∷ ys)
-    by true is ih e =
-        let same : y ≡ l = cc in
-        ((λ t. same), all_weaker (λ k. y.link + 1 ≤ k.link) _ (λ k a t. absurd (let f = eq_of k.link l.link t in let g : y.link ≡ l.link = ap (λ (z : PathLink). z.link) same in omega arith)) ys above)
-    by false is ih e =
-        ((λ t. absurd (let f = eq_of y.link l.link t in let a : y.link + 1 ≤ l.link = (all_find (λ k. y.link + 1 ≤ k.link) p ys l above e).0 in omega arith)), ih e)
-
-found_number : (m : ℕ) (p : PathLink → Bool) (ls : List PathLink) (l : PathLink) → Rises m ls → find p ls ≡ Some l → find (has_number l.link) ls ≡ Some l
-found_number m p [] l r e = absurd (cc)
-found_number m p (y ∷ ys) l r e = by (p y) refl (found_number (y.link + 1) p ys l r.1) e
-  where
-    above : AllByRecursion (λ k. y.link + 1 ≤ k.link) ys
-    above = rises_above (y.link + 1) ys r.1
-
-    by : (b : Bool) → p y ≡ b → (find p ys ≡ Some l → find (has_number l.link) ys ≡ Some l) → cond b (Some y) (find p ys) ≡ Some l → cond (y.link == l.link) (Some y) (find (has_number l.link) ys) ≡ Some l
-    by true is ih e =
-        let same : y ≡ l = cc in
-        ap (λ b. cond b (Some y) (find (has_number l.link) ys)) (eq_to y.link l.link (ap (λ (z : PathLink). z.link) same)) ∙ ap Some same
-    by false is ih e =
-        let a : y.link + 1 ≤ l.link = (all_find (λ k. y.link + 1 ≤ k.link) p ys l above e).0 in
-        ap (λ b. cond b (Some y) (find (has_number l.link) ys)) (ne_to y.link l.link (λ s. omega arith)) ∙ ih e
 
 -- a link in the place of the one with its number
 
@@ -90,7 +70,7 @@ owed_put n p ls l x r e same =
     by : (b : Bool) → (l.link == n) ≡ b
         → owed_in (cond b (placed x (find (has_number n) ls)) (find (has_number n) ls)) + cond b (l.echoes + l.drains) 0 ≡ owed_in (find (has_number n) ls) + cond b (x.echoes + x.drains) 0
     by true f =
-        let there : find (has_number n) ls ≡ Some l = subst (λ k. find (has_number k) ls ≡ Some l) (eq_of l.link n f) (found_number 0 p ls l r e) in
+        let there : find (has_number n) ls ≡ Some l = subst (λ k. find (has_number k) ls ≡ Some l) (eq_of l.link n f) (found_number p ls l r e) in
         ap (λ o. owed_in (placed x o) + (l.echoes + l.drains)) there ∙ (swap (x.echoes + x.drains) (l.echoes + l.drains) ∙ ap (λ o. owed_in o + (x.echoes + x.drains)) (sym there))
     by false f = refl
 
@@ -137,58 +117,35 @@ owed_linked n address s t = by (is_some (link_to s.sending address))
 
 -- one that is no more
 
-left_one : (l k : PathLink) → is_left l ≡ true → meets l k ≡ false → is_left_at (handle_of l.stage) k.stage ≡ false
-left_one l k left apart = by l.stage k.stage left apart
-  where
-    by : (s u : Stage) → is_stage_left s ≡ true → is_one (handle_in s) (handle_in u) ≡ false → is_left_at (handle_of s) u ≡ false
-    by Wanted u e f = absurd (cc)
-    by (Asked h) u e f = absurd (cc)
-    by (Open h) u e f = absurd (cc)
-    by (Refused h) u e f = absurd (cc)
-    by (Left h) Wanted e f = refl
-    by (Left h) (Asked j) e f = refl
-    by (Left h) (Open j) e f = refl
-    by (Left h) (Refused j) e f = refl
-    by (Left h) (Left j) e f = ne_to j h (λ s. no_clash (h == j) (eq_to h j (sym s)) f)
-
-left_itself : (s : Stage) → is_stage_left s ≡ true → is_left_at (handle_of s) s ≡ true
-left_itself Wanted e = absurd (cc)
-left_itself (Asked h) e = absurd (cc)
-left_itself (Open h) e = absurd (cc)
-left_itself (Refused h) e = absurd (cc)
-left_itself (Left h) e = eq_to h h refl
-
-left_are : (ls : List PathLink) (l : PathLink) → Rises 0 ls → AreApart ls → find is_left ls ≡ Some l → AllByRecursion (λ k. is_left_at (handle_of l.stage) k.stage ≡ (k.link == l.link)) ls
-left_are ls l r a e =
-    all_weaker (λ k. ((k.link == l.link) ≡ false → meets l k ≡ false) × ((k.link == l.link) ≡ true → k ≡ l)) _ (λ k h. one k (k.link == l.link) refl h.0 h.1) ls
-    (all_both _ _ ls (apart_from is_left ls l e a) (unique 0 is_left ls l r e))
-  where
-    left : is_left l ≡ true
-    left = (all_find (λ k. 0 ≤ k.link) is_left ls l (rises_above 0 ls r) e).1
-
-    one : (k : PathLink) (b : Bool) → (k.link == l.link) ≡ b → ((k.link == l.link) ≡ false → meets l k ≡ false) → ((k.link == l.link) ≡ true → k ≡ l) → is_left_at (handle_of l.stage) k.stage ≡ b
-    one k true f apart same = ap (λ (z : PathLink). is_left_at (handle_of l.stage) z.stage) (same f) ∙ left_itself l.stage left
-    one k false f apart same = left_one l k left (apart f)
-
-owed_gone : (n h m : ℕ) (ls : List PathLink) → AllByRecursion (λ k. is_left_at h k.stage ≡ (k.link == m)) ls → owed_on n (gone_from h ls) ≡ cond (m == n) 0 (owed_on n ls)
-owed_gone n h m [] a = by (m == n)
+owed_dropped : (n m : ℕ) (ls : List PathLink) → owed_on n (dropped m ls) ≡ cond (m == n) 0 (owed_on n ls)
+owed_dropped n m [] = by (m == n)
   where
     by : (b : Bool) → ◌≡◌ {A = ℕ} 0 (cond b 0 0)
     by true = refl
     by false = refl
-owed_gone n h m (k ∷ ls) a = by (k.link == m) refl (is_left_at h k.stage) a.0 (k.link == n) refl (m == n) refl (owed_gone n h m ls a.1)
+owed_dropped n m (k ∷ ls) = by (k.link == m) refl (k.link == n) refl (m == n) refl (owed_dropped n m ls)
   where
-    by : (b : Bool) → (k.link == m) ≡ b → (g : Bool) → g ≡ (k.link == m) → (c : Bool) → (k.link == n) ≡ c → (d : Bool) → (m == n) ≡ d
-        → owed_on n (gone_from h ls) ≡ cond d 0 (owed_on n ls)
-        → owed_in (find (has_number n) (cond (not g) (k ∷ gone_from h ls) (gone_from h ls))) ≡ cond d 0 (owed_in (cond c (Some k) (find (has_number n) ls)))
-    by b e true s c f true q ih = ih
-    by b e true s true f false q ih = absurd (no_clash (m == n) (eq_to m n (sym (eq_of k.link m (sym s)) ∙ eq_of k.link n f)) q)
-    by b e true s false f false q ih = ih
-    by b e false s true f true q ih = absurd (no_clash (k.link == m) (eq_to k.link m (eq_of k.link n f ∙ sym (eq_of m n q))) (sym s))
-    by b e false s true f false q ih = ap (λ b. owed_in (cond b (Some k) (find (has_number n) (gone_from h ls)))) f
-    by b e false s false f d q ih = ap (λ b. owed_in (cond b (Some k) (find (has_number n) (gone_from h ls)))) f ∙ ih
+    by : (b : Bool) → (k.link == m) ≡ b → (c : Bool) → (k.link == n) ≡ c → (d : Bool) → (m == n) ≡ d → owed_on n (dropped m ls) ≡ cond d 0 (owed_on n ls)
+        → owed_in (find (has_number n) (cond (not b) (k ∷ dropped m ls) (dropped m ls))) ≡ cond d 0 (owed_in (cond c (Some k) (find (has_number n) ls)))
+    by true e c f true g ih = ih
+    by true e true f false g ih = absurd (no_clash (m == n) (eq_to m n (sym (eq_of k.link m e) ∙ eq_of k.link n f)) g)
+    by true e false f false g ih = ih
+    by false e true f true g ih = absurd (no_clash (k.link == m) (eq_to k.link m (eq_of k.link n f ∙ sym (eq_of m n g))) e)
+    by false e true f false g ih = ap (λ b. owed_in (cond b (Some k) (find (has_number n) (dropped m ls)))) f
+    by false e false f d g ih = ap (λ b. owed_in (cond b (Some k) (find (has_number n) (dropped m ls)))) f ∙ ih
+
+-- it is owed no more than went
+owed_none : (n m flows causes : ℕ) (ls : List PathLink) → flows + owed_on n ls ≡ causes → (flows + 0) + owed_on n (dropped m ls) ≡ cond (m == n) flows causes
+owed_none n m flows causes ls is = ap (λ k. (flows + 0) + k) (owed_dropped n m ls) ∙ one (m == n)
+  where
+    one : (b : Bool) → (flows + 0) + cond b 0 (owed_on n ls) ≡ cond b flows causes
+    one true = omega arith
+    one false = omega arith
 
 -- the steps, where so many flows went and so many were owed
+
+kept : (flows old new causes : ℕ) → flows + old ≡ causes → new ≡ old → (flows + 0) + new ≡ causes
+kept flows old new causes e f = omega arith
 
 attached_step : (n name peer : ℕ) (target : Bool) (s : LinksState) → Tied s → owed_on n (attached name peer target s).links ≡ owed_on n s.links
 attached_step n name peer target s t = by (is_some (attach_fault name peer s)) (step (find (is_asked_as name) s.links) refl)
@@ -222,16 +179,22 @@ flowed_step n peer flows causes count credit drain echo s t is = by (named_by s.
     by None = omega arith
     by (Some h) = flowed_one n h flows causes count credit drain echo s (find (is_at h) s.links) t refl is
 
-detached_one : (n h : ℕ) (s : LinksState) (o : Option PathLink) → Tied s → find (is_at h) s.links ≡ o → owed_on n (detached_on o s).links ≡ owed_on n s.links
-detached_one n h s None t e = refl
-detached_one n h s (Some l) t e = owed_same n (is_at h) s.links l (left_by l) t.rising e refl refl refl
-
-detached_step : (n peer : ℕ) (s : LinksState) → Tied s → owed_on n (link_detached peer s).links ≡ owed_on n s.links
-detached_step n peer s t = by (named_by s.handles peer)
+detached_one : (n h flows causes : ℕ) (s : LinksState) (o : Option PathLink) → Tied s → find (is_at h) s.links ≡ o → flows + owed_on n s.links ≡ causes
+    → (flows + 0) + owed_on n (detached_on o s).links ≡ cond (is_link n (given_in o)) flows causes
+detached_one n h flows causes s None t e is = omega arith
+detached_one n h flows causes s (Some l) t e is = by (is_given l)
   where
-    by : (o : Option ℕ) → owed_on n (detached_on (at_handle o s.links) s).links ≡ owed_on n s.links
-    by None = refl
-    by (Some h) = detached_one n h s (find (is_at h) s.links) t refl
+    by : (b : Bool) → (flows + 0) + owed_on n (cond b (dropped l.link s.links) (put (left_by l) s.links)) ≡ cond (is_link n (cond b (Some l) None)) flows causes
+    by true = owed_none n l.link flows causes s.links is
+    by false = kept flows (owed_on n s.links) _ causes is (owed_same n (is_at h) s.links l (left_by l) t.rising e refl refl refl)
+
+detached_step : (n peer flows causes : ℕ) (s : LinksState) → Tied s → flows + owed_on n s.links ≡ causes
+    → (flows + 0) + owed_on n (link_detached peer s).links ≡ cond (is_link n (given_named peer s)) flows causes
+detached_step n peer flows causes s t is = by (named_by s.handles peer)
+  where
+    by : (o : Option ℕ) → (flows + 0) + owed_on n (detached_on (at_handle o s.links) s).links ≡ cond (is_link n (given_in (at_handle o s.links))) flows causes
+    by None = omega arith
+    by (Some h) = detached_one n h flows causes s (find (is_at h) s.links) t refl is
 
 asked_step : (n name : ℕ) (s : LinksState) → Tied s → owed_on n (link_asked name s).links ≡ owed_on n s.links
 asked_step n name s t = by (find is_wanted s.links) refl (free_of s.handles)
@@ -241,21 +204,21 @@ asked_step n name s t = by (find is_wanted s.links) refl (free_of s.handles)
     by (Some l) e None = refl
     by (Some l) e (Some h) = owed_same n is_wanted s.links l (asked_as h name l) t.rising e refl refl refl
 
-gone_step : (n flows causes : ℕ) (s : LinksState) → Tied s → flows + owed_on n s.links ≡ causes
-    → (flows + 0) + owed_on n (gone_on (find is_left s.links) s).links ≡ cond (is_link n (find is_left s.links)) flows causes
-gone_step n flows causes s t is = by (find is_left s.links) refl
+given_step : (n : ℕ) (list : List Publish) (s : LinksState) (o : Option PathLink) → Tied s → given_of list s ≡ o → owed_on n (given_on o s).links ≡ owed_on n s.links
+given_step n list s None t e = refl
+given_step n list s (Some l) t e = owed_same n (has_number l.link) s.links l (given_by l) t.rising (given_found list s l t.rising e).0 refl refl refl
+
+parted_step : (n flows causes : ℕ) (list : List Publish) (s : LinksState) → Tied s → flows + owed_on n s.links ≡ causes
+    → (flows + 0) + owed_on n (parted (find is_left s.links) (given_of list s) s).links ≡ cond (is_link n (find is_left s.links)) flows causes
+parted_step n flows causes list s t is = by (find is_left s.links) refl
   where
-    by : (o : Option PathLink) → find is_left s.links ≡ o → (flows + 0) + owed_on n (gone_on o s).links ≡ cond (is_link n o) flows causes
-    by None e = omega arith
-    by (Some l) e = ap (λ k. (flows + 0) + k) (owed_gone n (handle_of l.stage) l.link s.links (left_are s.links l t.rising t.apart e)) ∙ one (l.link == n)
-      where
-        one : (b : Bool) → (flows + 0) + cond b 0 (owed_on n s.links) ≡ cond b flows causes
-        one true = omega arith
-        one false = omega arith
+    by : (o : Option PathLink) → find is_left s.links ≡ o → (flows + 0) + owed_on n (parted o (given_of list s) s).links ≡ cond (is_link n o) flows causes
+    by None e = kept flows (owed_on n s.links) _ causes is (given_step n list s (given_of list s) t refl)
+    by (Some l) e = ap (λ ks. (flows + 0) + owed_on n ks) (gone_is s.sending s.links s.handles l t e) ∙ owed_none n l.link flows causes s.links is
 
 -- a flow that is due answers one cause
 told_less : (list : List Publish) (sending : List SendingLink) (l : PathLink) → owes_flow list sending l ≡ true → (l.echoes - 1) + cond (l.echoes == 0) (l.drains - 1) l.drains + 1 ≡ l.echoes + l.drains
-told_less list sending l e = by (is_left l) l.echoes l.drains (may_drain list sending l) e
+told_less list sending l e = by (is_parting l) l.echoes l.drains (may_drain list sending l) e
   where
     plain : (k d : ℕ) → (suc k - 1) + d + 1 ≡ suc k + d
     plain k d = omega arith
@@ -285,9 +248,6 @@ told_step n flows causes list s t is = by (flow_of list s) refl
         one true h = sum (owed_on n (put (told_once l) s.links)) (owed_on n s.links) l.echoes l.drains (told_once l).echoes (told_once l).drains flows causes h (told_less list s.sending l owes) is
         one false h = omega arith
 
-kept : (flows old new causes : ℕ) → flows + old ≡ causes → new ≡ old → (flows + 0) + new ≡ causes
-kept flows old new causes e f = omega arith
-
 lost : (flows : ℕ) → (flows + 0) + 0 ≡ flows
 lost flows = omega arith
 
@@ -299,16 +259,16 @@ step n flows causes Selected s t e = kept flows (owed_on n s.links.links) _ caus
 step n flows causes (Owed ok) s t e = kept flows (owed_on n s.links.links) _ causes e refl
 step n flows causes (AttachCame name peer target) s t e = kept flows (owed_on n s.links.links) _ causes e (attached_step n name peer target s.links t)
 step n flows causes (FlowCame peer count credit drain echo) s t e = flowed_step n peer flows causes count credit drain echo s.links t e
-step n flows causes (DetachCame peer) s t e = kept flows (owed_on n s.links.links) _ causes e (detached_step n peer s.links t)
+step n flows causes (DetachCame peer) s t e = detached_step n peer flows causes s.links t e
 step n flows causes (DispositionCame first last accepted settled) s t e = kept flows (owed_on n s.links.links) _ causes e refl
 step n flows causes (AttachSent name) s t e = kept flows (owed_on n s.links.links) _ causes e (asked_step n name s.links t)
 step n flows causes LinkFlowSent s t e = told_step n flows causes s.publishes.list s.links t e
 step n flows causes (TransferSent frame count) s t e = kept flows (owed_on n s.links.links) _ causes e refl
 step n flows causes (SettleSent settling) s t e = kept flows (owed_on n s.links.links) _ causes e refl
-step n flows causes DetachSent s t e = gone_step n flows causes s.links t e
+step n flows causes DetachSent s t e = parted_step n flows causes s.publishes.list s.links t e
 step n flows causes (ConfirmWent confirm) s t e = kept flows (owed_on n s.links.links) _ causes e refl
 step n flows causes (OkSent ok) s t e = kept flows (owed_on n s.links.links) _ causes e refl
-step n flows causes (LineWent number) s t e = kept flows (owed_on n s.links.links) _ causes e refl
+step n flows causes LinesWent s t e = kept flows (owed_on n s.links.links) _ causes e refl
 step n flows causes SessionLost s t e = lost flows
 
 pub flows_are : (life n : ℕ) (h : List PathEvent) → flows_on life n h + owed_on n (after_events life h).links.links ≡ causes_on life n h

@@ -1,14 +1,23 @@
 -- The laws of a session's path, by its events.
-use Rattle.std.proofs.Common.{◌≡◌, ◌∙◌, ℕ, List, [], ◌∷◌, ◌++◌, Bool, true, false, Option, Some, None, drop, refl, sym, ap}
+use Rattle.std.proofs.Common.{◌≡◌, ◌∙◌, ℕ, List, [], ◌∷◌, ◌++◌, Bool, true, false, Option, Some}
+use Rattle.std.proofs.Common.{None, drop, refl, sym, ap}
 use Rattle.std.specs.Prelude.{not, ◌&&◌}
 use Rattle.std.specs.List.{list_any}
 use Rattle.publish_path.specs.Links.{link_to}
 use Rattle.publish_path.specs.Offers.{frame_sent}
-use Rattle.publish_path.specs.Publishes.{PublishEvent, PublishState, TakenUp, OutcomeCame, LinkGone, ConfirmSent, LineTold, is_told, after_event as publish_event, after_events as publishes_after}
+use Rattle.publish_path.specs.Publishes.{PublishEvent, PublishState, TakenUp, OutcomeCame, LinkGone}
+use Rattle.publish_path.specs.Publishes.{ConfirmSent, LinesTold, is_told}
+use Rattle.publish_path.specs.Publishes.{after_event as publish_event}
+use Rattle.publish_path.specs.Publishes.{after_events as publishes_after}
 use Rattle.session_path.specs.Links.{linked_to, named}
 use Rattle.session_path.specs.Path.{PathState, last_or, lost_on, number_of, settle_if}
-use Rattle.session_path.specs.Events.{PathEvent, Began, Published, Selected, Owed, AttachCame, FlowCame, DetachCame, DispositionCame, AttachSent, LinkFlowSent, TransferSent, SettleSent, DetachSent, ConfirmWent, OkSent, LineWent, SessionLost, after_event, after_events, losses, publish_events, publishes_of}
-use Rattle.session_path.specs.Laws.{IsFrontOf, AreAnswers, AreSettles, answers, oks_owed, oks_sent, owed_by, owes, settles, settles_owed, settles_sent}
+use Rattle.session_path.specs.Events.{PathEvent, Began, Published, Selected, Owed, AttachCame}
+use Rattle.session_path.specs.Events.{FlowCame, DetachCame, DispositionCame, AttachSent}
+use Rattle.session_path.specs.Events.{LinkFlowSent, TransferSent, SettleSent, DetachSent}
+use Rattle.session_path.specs.Events.{ConfirmWent, OkSent, LinesWent, SessionLost, after_event}
+use Rattle.session_path.specs.Events.{after_events, losses, publish_events, publishes_of}
+use Rattle.session_path.specs.Laws.{IsFrontOf, AreAnswers, AreSettles, answers, oks_owed, oks_sent}
+use Rattle.session_path.specs.Laws.{owed_by, owes, settles, settles_owed, settles_sent}
 use Rattle.session_path.specs.declared.path.PathLink.{PathLink}
 use Rattle.session_path.specs.declared.path.Settling.{Settling}
 
@@ -32,7 +41,7 @@ publish_step life (SettleSent settling) s h e = e
 publish_step life DetachSent s h e = e
 publish_step life (ConfirmWent confirm) s h e = ap (publish_event (ConfirmSent confirm)) e
 publish_step life (OkSent ok) s h e = e
-publish_step life (LineWent number) s h e = ap (publish_event (LineTold number)) e
+publish_step life LinesWent s h e = ap (publish_event LinesTold) e
 publish_step life SessionLost s h e = ap (publish_event (LinkGone None)) e
 
 pub publishes_are : (life : ℕ) (h : List PathEvent) → (after_events life h).publishes ≡ publishes_after life (publishes_of life h)
@@ -87,7 +96,7 @@ oks_are life (x ∷ h) a = by x (oks_are life h a.1) a.0
     by DetachSent e f = none (oks_sent h) (after_events life h).oks (oks_owed h) e
     by (ConfirmWent confirm) e f = none (oks_sent h) (after_events life h).oks (oks_owed h) e
     by (OkSent ok) e f = one_gone (oks_sent h) ok (after_events life h).oks (oks_owed h) f.0 e f.1 ∙ sym (nil (oks_owed h))
-    by (LineWent number) e f = none (oks_sent h) (after_events life h).oks (oks_owed h) e
+    by LinesWent e f = none (oks_sent h) (after_events life h).oks (oks_owed h) e
     by SessionLost e f = none (oks_sent h) (after_events life h).oks (oks_owed h) e
 
 settle_more : (due told_now told_then : Bool) (x : Settling) (sent due_list all : List Settling) → told_now ≡ told_then → sent ++ due_list ≡ all
@@ -120,5 +129,5 @@ settles_are life (x ∷ h) a = by x (settles_are life h a.1) a.0
     by DetachSent e f = same_all (settles_sent h) (after_events life h).settles (settles_owed life h) e
     by (ConfirmWent confirm) e f = same_all (settles_sent h) (after_events life h).settles (settles_owed life h) e
     by (OkSent ok) e f = same_all (settles_sent h) (after_events life h).settles (settles_owed life h) e
-    by (LineWent number) e f = same_all (settles_sent h) (after_events life h).settles (settles_owed life h) e
+    by LinesWent e f = same_all (settles_sent h) (after_events life h).settles (settles_owed life h) e
     by SessionLost e f = nil (settles_sent h ++ []) ∙ nil (settles_sent h)

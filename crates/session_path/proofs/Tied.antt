@@ -1,14 +1,26 @@
 -- After any events of a path its links are tied.
-use Rattle.std.proofs.Common.{◌≡◌, ℕ, List, [], ◌∷◌, Bool, true, false, Option, Some, None, refl, cond}
+use Rattle.std.proofs.Common.{◌≡◌, ℕ, List, [], ◌∷◌, Bool, true, false, Option, Some, None, refl}
+use Rattle.std.proofs.Common.{cond}
 use Rattle.std.specs.Prelude.{◌==◌, find, is_some}
-use Rattle.link_table.specs.Table.{free_of, named_by}
+use Rattle.link_table.specs.Table.{free_of, is_unsent, named_by, state_of}
 use Rattle.publish_path.specs.Links.{link_to}
 use Rattle.publish_path.specs.declared.publish.Publish.{Publish}
 use Rattle.session_path.specs.declared.path.PathLink.{PathLink}
-use Rattle.session_path.specs.Links.{LinksState, AreTied, asked_on, at_handle, attach_fault, attached, attached_as, detached_on, flowed_on, gone_on, is_asked_as, is_at, is_left, is_wanted, link_asked, link_detached, link_flowed, link_gone, linked_to, told_on, with_link_to}
-use Rattle.session_path.specs.Path.{PathState, flow_of, owes_flow}
-use Rattle.session_path.specs.Events.{PathEvent, Began, Published, Selected, Owed, AttachCame, FlowCame, DetachCame, DispositionCame, AttachSent, LinkFlowSent, TransferSent, SettleSent, DetachSent, ConfirmWent, OkSent, LineWent, SessionLost, after_event, after_events}
-use Rattle.session_path.proofs.Ties.{answered_tied, asked_tied, detached_tied, flowed_tied, framed_tied, gone_tied, not_left_and, told_once_tied}
+use Rattle.session_path.specs.Links.{LinksState, AreTied, asked_on, at_handle, attach_fault}
+use Rattle.session_path.specs.Links.{attached, attached_as, detached_on, flowed_on, given_on}
+use Rattle.session_path.specs.Links.{handle_of, has_number, is_asked_as, is_at, is_left, is_wanted}
+use Rattle.session_path.specs.Links.{link_asked, link_detached, link_flowed, linked_to, parted}
+use Rattle.session_path.specs.Links.{told_on, with_link_to}
+use Rattle.session_path.specs.Path.{PathState, flow_of, given_of, owes_flow}
+use Rattle.session_path.specs.Events.{PathEvent, Began, Published, Selected, Owed, AttachCame}
+use Rattle.session_path.specs.Events.{FlowCame, DetachCame, DispositionCame, AttachSent}
+use Rattle.session_path.specs.Events.{LinkFlowSent, TransferSent, SettleSent, DetachSent}
+use Rattle.session_path.specs.Events.{ConfirmWent, OkSent, LinesWent, SessionLost, after_event}
+use Rattle.session_path.specs.Events.{after_events}
+use Rattle.session_path.proofs.Idle.{given_found}
+use Rattle.session_path.proofs.Ties.{answered_tied, asked_tied, detached_tied, flowed_tied}
+use Rattle.session_path.proofs.Ties.{framed_tied, given_tied, gone_tied, is_unsent_open}
+use Rattle.session_path.proofs.Ties.{told_once_tied}
 use Rattle.session_path.proofs.Wanted.{wanted_tied}
 
 abbrev pub Tied : LinksState → Type 0
@@ -67,13 +79,21 @@ tied_told list s t = by (flow_of list s) refl
   where
     by : (o : Option PathLink) → find (owes_flow list s.sending) s.links ≡ o → Tied (told_on o s)
     by None e = t
-    by (Some l) e = told_once_tied (owes_flow list s.sending) (l.echoes == 0) s.sending s.links s.handles l (λ x owes. not_left_and _ _ owes) t e
+    by (Some l) e = told_once_tied (owes_flow list s.sending) (l.echoes == 0) s.sending s.links s.handles l t e
 
-tied_gone : (s : LinksState) → Tied s → Tied (link_gone s)
-tied_gone s t = by (find is_left s.links) refl
+pub tied_given : (list : List Publish) (s : LinksState) (o : Option PathLink) → Tied s → given_of list s ≡ o → Tied (given_on o s)
+tied_given list s None t e = t
+tied_given list s (Some l) t e = let found = given_found list s l t.rising e in given_tied (has_number l.link) s.sending s.links s.handles l t found.0 found.1
+
+-- its detach wasn't sent
+pub given_unsent : (list : List Publish) (s : LinksState) (l : PathLink) → Tied s → given_of list s ≡ Some l → is_unsent (state_of s.handles (handle_of l.stage)) ≡ true
+given_unsent list s l t e = let found = given_found list s l t.rising e in is_unsent_open (has_number l.link) s.sending s.links s.handles l t found.0 found.1
+
+tied_parted : (list : List Publish) (s : LinksState) → Tied s → Tied (parted (find is_left s.links) (given_of list s) s)
+tied_parted list s t = by (find is_left s.links) refl
   where
-    by : (o : Option PathLink) → find is_left s.links ≡ o → Tied (gone_on o s)
-    by None e = t
+    by : (o : Option PathLink) → find is_left s.links ≡ o → Tied (parted o (given_of list s) s)
+    by None e = tied_given list s (given_of list s) t refl
     by (Some l) e = gone_tied s.sending s.links s.handles l t e
 
 tied_step : (x : PathEvent) (s : PathState) → Tied s.links → Tied (after_event x s).links
@@ -89,10 +109,10 @@ tied_step (AttachSent name) s t = tied_asked name s.links t
 tied_step LinkFlowSent s t = tied_told s.publishes.list s.links t
 tied_step (TransferSent frame count) s t = framed_tied frame s.links.sending s.links.links s.links.handles t
 tied_step (SettleSent settling) s t = t
-tied_step DetachSent s t = tied_gone s.links t
+tied_step DetachSent s t = tied_parted s.publishes.list s.links t
 tied_step (ConfirmWent confirm) s t = t
 tied_step (OkSent ok) s t = t
-tied_step (LineWent number) s t = t
+tied_step LinesWent s t = t
 tied_step SessionLost s t = record { rising = tt; apart = tt; standing = tt; kept = tt }
 
 pub tied_after : (life : ℕ) (h : List PathEvent) → Tied (after_events life h).links

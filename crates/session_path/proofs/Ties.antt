@@ -1,7 +1,9 @@
 -- The links of a session, their handles and their credit stay tied by each step.
-use Rattle.std.proofs.Common.{◌≡◌, ◌∙◌, ℕ, ◌+◌, ◌<◌, ◌≤◌, ◌≢◌, List, [], ◌∷◌, Bool, true, false, Option, Some, None, map, refl, sym, subst, ap, arith, cond, length, get_or, inl, inr}
+use Rattle.std.proofs.Common.{◌≡◌, ◌∙◌, ℕ, ◌+◌, ◌<◌, ◌≤◌, ◌≢◌, List, [], ◌∷◌, Bool, true, false}
+use Rattle.std.proofs.Common.{Option, Some, None, map, refl, sym, subst, ap, arith, cond, length}
+use Rattle.std.proofs.Common.{get_or, inl, inr}
 use Rattle.std.specs.Prelude.{◌⊎◌, nat_le, filter, find, not, ◌||◌, ◌&&◌, ◌==◌, position}
-use Rattle.std.specs.List.{AllByRecursion}
+use Rattle.std.specs.List.{list_any, AllByRecursion}
 use Rattle.std.proofs.lemmas.Bool.{cases_lt}
 use Rattle.std.proofs.lemmas.Bool.Decides.{nat_tests}
 use Rattle.std.proofs.lemmas.List.{get_or-set_same, get_or-set_other, get_or_past}
@@ -10,7 +12,10 @@ use Rattle.open_items.proofs.Filtered.{all_map, all_filter, all_weaker, all_both
 use Rattle.link_table.specs.declared.handles.HandleState.{HandleState}
 use Rattle.link_table.specs.declared.handles.HandleState.TheVariants.{Free}
 use Rattle.link_table.specs.declared.handles.HandleState.TheVariants as state
-use Rattle.link_table.specs.Table.{HandleTable, is_asked, is_free, is_unread, is_unsent, up_to, state_of, with_state, with_read, free_of, after_attach, after_attached, after_detach_read, after_detach_sent}
+use Rattle.link_table.specs.Table.{HandleTable, is_asked, is_free, is_unread, is_unsent, up_to}
+use Rattle.link_table.specs.Table.{state_of, with_state, with_read, with_sent, free_of}
+use Rattle.link_table.specs.Table.{after_attach}
+use Rattle.link_table.specs.Table.{after_attached, after_detach_read, after_detach_sent}
 use Rattle.publish_path.specs.declared.send_links.SendingLink.{SendingLink}
 use Rattle.publish_path.specs.Links.{without, now_attached, flowed, drained, begun_on}
 use Rattle.publish_path.specs.Offers.{links_after}
@@ -18,7 +23,14 @@ use Rattle.publish_path.specs.declared.publish.NextFrame.{NextFrame}
 use Rattle.session_path.specs.declared.path.PathLink.{PathLink}
 use Rattle.session_path.specs.declared.path.Stage.{Stage}
 use Rattle.session_path.specs.declared.path.Stage.TheVariants.{Wanted, Asked, Open, Refused, Left}
-use Rattle.session_path.specs.Links.{told_once, drained_if, told_by, answered, answered_stage, asked_as, attached_if, is_asked_as, is_at, is_stage_asked, is_stage_at, is_stage_left, left_by, handle_in, handle_of, is_left, put_for, put, Rises, is_one, meets, AreApart, is_whole, is_half, stands, is_kept, AreTied, is_left_at, gone_from}
+use Rattle.session_path.specs.declared.path.Stage.TheVariants.{Given}
+use Rattle.session_path.specs.Links.{told_once, drained_if, told_by, answered, answered_stage}
+use Rattle.session_path.specs.Links.{asked_as, attached_if, detached_from, given_by, gone_from}
+use Rattle.session_path.specs.Links.{has_number, is_asked_as, is_at, is_given, is_left, is_left_at}
+use Rattle.session_path.specs.Links.{is_parting, is_stage_asked, is_stage_at, is_stage_given}
+use Rattle.session_path.specs.Links.{is_stage_left, is_stage_open, left_by, handle_in, handle_of}
+use Rattle.session_path.specs.Links.{put_for, put, Rises, is_one, meets, AreApart, is_whole}
+use Rattle.session_path.specs.Links.{is_half, is_given_back, stands, is_kept, AreTied}
 
 pub eq_of : (m n : ℕ) → (m == n) ≡ true → m ≡ n
 eq_of m n e = grind (arith, nat_tests)
@@ -28,9 +40,6 @@ eq_to m n e = grind (arith, nat_tests)
 
 pub ne_to : (m n : ℕ) → m ≢ n → (m == n) ≡ false
 ne_to m n e = grind (arith, nat_tests)
-
-ne_of : (m n : ℕ) → (m == n) ≡ false → m ≢ n
-ne_of m n e = λ s. let t = eq_to m n s in absurd (cc)
 
 pub no_clash : (b : Bool) → b ≡ true → b ≡ false → ⊥
 no_clash b t f = absurd (cc)
@@ -61,7 +70,40 @@ pub rises_above : (n : ℕ) (ls : List PathLink) → Rises n ls → AllByRecursi
 rises_above n [] r = tt
 rises_above n (l ∷ ls) r = (r.0, all_weaker (λ k. l.link + 1 ≤ k.link) (λ k. n ≤ k.link) (λ k h. let a = r.0 in omega arith) ls (rises_above (l.link + 1) ls r.1))
 
+-- each is found by its number
+pub numbers_found : (m : ℕ) (ls : List PathLink) → Rises m ls → AllByRecursion (λ k. find (has_number k.link) ls ≡ Some k) ls
+numbers_found m [] r = tt
+numbers_found m (l ∷ ls) r = (
+  ap (λ b. cond b (Some l) (find (has_number l.link) ls)) (eq_to l.link l.link refl),
+  all_weaker (λ k. (l.link + 1 ≤ k.link) × (find (has_number k.link) ls ≡ Some k)) _
+      (λ k h. ap (λ b. cond b (Some l) (find (has_number k.link) ls)) (ne_to l.link k.link (λ s. let a = h.0 in omega arith)) ∙ h.1) ls
+      (all_both _ _ ls (rises_above (l.link + 1) ls r.1) (numbers_found (l.link + 1) ls r.1)),
+)
+
+pub found_number : (p : PathLink → Bool) (ls : List PathLink) (l : PathLink) → Rises 0 ls → find p ls ≡ Some l → find (has_number l.link) ls ≡ Some l
+found_number p ls l r e = (all_find (λ k. find (has_number k.link) ls ≡ Some k) p ls l (numbers_found 0 ls r) e).0
+
+-- no other has the number of the one that is found
+pub unique : (p : PathLink → Bool) (ls : List PathLink) (l : PathLink) → Rises 0 ls → find p ls ≡ Some l → AllByRecursion (λ k. (k.link == l.link) ≡ true → k ≡ l) ls
+unique p ls l r e = all_weaker (λ k. find (has_number k.link) ls ≡ Some k) _ (λ k f same. one k (sym f ∙ (ap (λ n. find (has_number n) ls) (eq_of k.link l.link same) ∙ found_number p ls l r e))) ls (numbers_found 0 ls r)
+  where
+    one : (k : PathLink) → Some k ≡ Some l → k ≡ l
+    one k s = cc
+
+-- all but the link with this number
+abbrev pub dropped : ℕ → List PathLink → List PathLink
+dropped n ls = filter (λ k. not (has_number n k)) ls
+
 -- handles
+
+-- what passes a test that a wanted link doesn't has a handle
+handle_some : (p : Stage → Bool) → p Wanted ≡ false → (s : Stage) → p s ≡ true → handle_in s ≡ Some (handle_of s)
+handle_some p never Wanted e = absurd (no_clash (p Wanted) e never)
+handle_some p never (Asked h) e = refl
+handle_some p never (Open h) e = refl
+handle_some p never (Refused h) e = refl
+handle_some p never (Left h) e = refl
+handle_some p never (Given h) e = refl
 
 one_sym : (a b : Option ℕ) → is_one a b ≡ false → is_one b a ≡ false
 one_sym None None e = refl
@@ -81,6 +123,11 @@ apart_from p (y ∷ ys) l e a = by (p y) refl (λ f. apart_from p ys l f a.1) e
         subst (λ z. AllByRecursion (λ k. (k.link == z.link) ≡ false → meets z k ≡ false) (y ∷ ys)) same
         ((λ no. absurd (no_clash (y.link == y.link) (eq_to y.link y.link refl) no)), all_weaker (λ k. meets y k ≡ false) _ (λ k h no. h) ys a.0)
     by false is ih e = ((λ no. one_sym (handle_in y.stage) (handle_in l.stage) (all_find (λ k. meets y k ≡ false) p ys l a.0 e).0), ih e)
+
+-- nor has it this one's
+others_apart : (p : PathLink → Bool) (ls : List PathLink) (l : PathLink) (h : ℕ) → find p ls ≡ Some l → AreApart ls → handle_in l.stage ≡ Some h
+    → AllByRecursion (λ k. (k.link == l.link) ≡ false → is_one (Some h) (handle_in k.stage) ≡ false) ls
+others_apart p ls l h e a has = all_weaker (λ k. (k.link == l.link) ≡ false → meets l k ≡ false) _ (λ k d no. ap (λ o. is_one o (handle_in k.stage)) (sym has) ∙ d no) ls (apart_from p ls l e a)
 
 pub apart_put : (n : ℕ) (x : PathLink) (ls : List PathLink) → Rises n ls → AreApart ls
     → AllByRecursion (λ k. (k.link == x.link) ≡ false → meets x k ≡ false) ls → AreApart (put x ls)
@@ -132,6 +179,7 @@ stands_other t h st (Asked k) e is = ap is_asked (state_other t h k st e) ∙ is
 stands_other t h st (Open k) e is = ap is_whole (state_other t h k st e) ∙ is
 stands_other t h st (Refused k) e is = ap is_whole (state_other t h k st e) ∙ is
 stands_other t h st (Left k) e is = ap is_half (state_other t h k st e) ∙ is
+stands_other t h st (Given k) e is = ap is_given_back (state_other t h k st e) ∙ is
 
 pub standing_put : (t : HandleTable) (h : ℕ) (st : HandleState) (x : PathLink) (ls : List PathLink)
     → stands (with_state h st t) x.stage ≡ true
@@ -145,6 +193,17 @@ standing_put t h st x ls new apart old =
     one : (k : PathLink) (b : Bool) → (k.link == x.link) ≡ b → ((k.link == x.link) ≡ false → is_one (Some h) (handle_in k.stage) ≡ false) → stands t k.stage ≡ true → stands (with_state h st t) (cond b x k).stage ≡ true
     one k true e a is = new
     one k false e a is = stands_other t h st k.stage (a e) is
+
+standing_dropped : (t : HandleTable) (h : ℕ) (st : HandleState) (n : ℕ) (ls : List PathLink)
+    → AllByRecursion (λ k. (k.link == n) ≡ false → is_one (Some h) (handle_in k.stage) ≡ false) ls
+    → AllByRecursion (λ k. stands t k.stage ≡ true) ls
+    → AllByRecursion (λ k. stands (with_state h st t) k.stage ≡ true) (dropped n ls)
+standing_dropped t h st n [] apart old = tt
+standing_dropped t h st n (l ∷ ls) apart old = by (l.link == n) refl (standing_dropped t h st n ls apart.1 old.1)
+  where
+    by : (b : Bool) → (l.link == n) ≡ b → AllByRecursion (λ k. stands (with_state h st t) k.stage ≡ true) (dropped n ls) → AllByRecursion (λ k. stands (with_state h st t) k.stage ≡ true) (cond (not b) (l ∷ dropped n ls) (dropped n ls))
+    by true e ih = ih
+    by false e ih = (stands_other t h st l.stage (apart.0 e) old.0, ih)
 
 -- credit
 
@@ -171,28 +230,28 @@ both : (a b : Bool) → a ≡ true → b ≡ false → (a && not b) ≡ true
 both a b e f = rw (e, f) refl
 
 -- where the new link isn't detached
-kept_one : (x : PathLink) (s : SendingLink) (ls : List PathLink) → is_left x ≡ false → is_kept ls s ≡ true → is_kept (put x ls) s ≡ true
+kept_one : (x : PathLink) (s : SendingLink) (ls : List PathLink) → is_parting x ≡ false → is_kept ls s ≡ true → is_kept (put x ls) s ≡ true
 kept_one x s [] nl e = e
-kept_one x s (l ∷ ls) nl e = by (l.link == x.link) refl (λ h. kept_one x s ls nl h) (or_true ((l.link == s.link) && not (is_left l)) (is_kept ls s) e)
+kept_one x s (l ∷ ls) nl e = by (l.link == x.link) refl (λ h. kept_one x s ls nl h) (or_true ((l.link == s.link) && not (is_parting l)) (is_kept ls s) e)
   where
-    by : (b : Bool) → (l.link == x.link) ≡ b → (is_kept ls s ≡ true → is_kept (put x ls) s ≡ true) → (((l.link == s.link) && not (is_left l)) ≡ true) ⊎ (is_kept ls s ≡ true)
-        → ((((cond b x l).link == s.link) && not (is_left (cond b x l))) || is_kept (put x ls) s) ≡ true
-    by true f ih (inl h) = or_left _ _ (both (x.link == s.link) (is_left x) (eq_to x.link s.link (sym (eq_of l.link x.link f) ∙ eq_of l.link s.link (and_left _ _ h))) nl)
+    by : (b : Bool) → (l.link == x.link) ≡ b → (is_kept ls s ≡ true → is_kept (put x ls) s ≡ true) → (((l.link == s.link) && not (is_parting l)) ≡ true) ⊎ (is_kept ls s ≡ true)
+        → ((((cond b x l).link == s.link) && not (is_parting (cond b x l))) || is_kept (put x ls) s) ≡ true
+    by true f ih (inl h) = or_left _ _ (both (x.link == s.link) (is_parting x) (eq_to x.link s.link (sym (eq_of l.link x.link f) ∙ eq_of l.link s.link (and_left _ _ h))) nl)
     by false f ih (inl h) = or_left _ _ h
     by b f ih (inr h) = or_right _ _ (ih h)
 
 -- where it is another link's credit
 kept_other : (x : PathLink) (s : SendingLink) (ls : List PathLink) → (s.link == x.link) ≡ false → is_kept ls s ≡ true → is_kept (put x ls) s ≡ true
 kept_other x s [] ne e = e
-kept_other x s (l ∷ ls) ne e = by (l.link == x.link) refl (λ h. kept_other x s ls ne h) (or_true ((l.link == s.link) && not (is_left l)) (is_kept ls s) e)
+kept_other x s (l ∷ ls) ne e = by (l.link == x.link) refl (λ h. kept_other x s ls ne h) (or_true ((l.link == s.link) && not (is_parting l)) (is_kept ls s) e)
   where
-    by : (b : Bool) → (l.link == x.link) ≡ b → (is_kept ls s ≡ true → is_kept (put x ls) s ≡ true) → (((l.link == s.link) && not (is_left l)) ≡ true) ⊎ (is_kept ls s ≡ true)
-        → ((((cond b x l).link == s.link) && not (is_left (cond b x l))) || is_kept (put x ls) s) ≡ true
+    by : (b : Bool) → (l.link == x.link) ≡ b → (is_kept ls s ≡ true → is_kept (put x ls) s ≡ true) → (((l.link == s.link) && not (is_parting l)) ≡ true) ⊎ (is_kept ls s ≡ true)
+        → ((((cond b x l).link == s.link) && not (is_parting (cond b x l))) || is_kept (put x ls) s) ≡ true
     by true f ih (inl h) = absurd (no_clash (s.link == x.link) (eq_to s.link x.link (sym (eq_of l.link s.link (and_left _ _ h)) ∙ eq_of l.link x.link f)) ne)
     by false f ih (inl h) = or_left _ _ h
     by b f ih (inr h) = or_right _ _ (ih h)
 
-pub kept_put : (x : PathLink) (sending : List SendingLink) (ls : List PathLink) → is_left x ≡ false → AllByRecursion (λ s. is_kept ls s ≡ true) sending → AllByRecursion (λ s. is_kept (put x ls) s ≡ true) sending
+pub kept_put : (x : PathLink) (sending : List SendingLink) (ls : List PathLink) → is_parting x ≡ false → AllByRecursion (λ s. is_kept ls s ≡ true) sending → AllByRecursion (λ s. is_kept (put x ls) s ≡ true) sending
 kept_put x sending ls nl a = all_weaker (λ s. is_kept ls s ≡ true) _ (λ s h. kept_one x s ls nl h) sending a
 
 pub kept_without : (x : PathLink) (sending : List SendingLink) (ls : List PathLink) → AllByRecursion (λ s. is_kept ls s ≡ true) sending → AllByRecursion (λ s. is_kept (put x ls) s ≡ true) (without x.link sending)
@@ -203,25 +262,57 @@ kept_without x (s ∷ ss) ls a = by (s.link == x.link) refl (kept_without x ss l
     by true e ih = ih
     by false e ih = (kept_other x s ls e a.0, ih)
 
+-- where only a link that one end detached is dropped
+kept_dropped : (n : ℕ) (ls : List PathLink) (s : SendingLink) → AllByRecursion (λ k. (k.link == n) ≡ true → is_parting k ≡ true) ls → is_kept ls s ≡ true → is_kept (dropped n ls) s ≡ true
+kept_dropped n [] s a e = e
+kept_dropped n (l ∷ ls) s a e = by (l.link == n) refl (kept_dropped n ls s a.1) (or_true ((l.link == s.link) && not (is_parting l)) (is_kept ls s) e)
+  where
+    not_both : (b : Bool) → b ≡ true → not b ≡ true → ⊥
+    not_both true f g = absurd (cc)
+    not_both false f g = absurd (cc)
+
+    by : (b : Bool) → (l.link == n) ≡ b → (is_kept ls s ≡ true → is_kept (dropped n ls) s ≡ true) → (((l.link == s.link) && not (is_parting l)) ≡ true) ⊎ (is_kept ls s ≡ true)
+        → is_kept (cond (not b) (l ∷ dropped n ls) (dropped n ls)) s ≡ true
+    by true f ih (inl h) = absurd (not_both (is_parting l) (a.0 f) (and_right (l.link == s.link) (not (is_parting l)) h))
+    by true f ih (inr h) = ih h
+    by false f ih (inl h) = or_left _ _ h
+    by false f ih (inr h) = or_right ((l.link == s.link) && not (is_parting l)) _ (ih h)
+
+-- where what is changed passes as before
+any_same : {X : Type 0} (p : X → Bool) (f : X → X) (xs : List X) → AllByRecursion (λ x. p (f x) ≡ p x) xs → list_any p (map f xs) ≡ list_any p xs
+any_same p f [] a = refl
+any_same p f (x ∷ xs) a = ap (λ b. b || list_any p (map f xs)) a.0 ∙ ap (λ b. p x || b) (any_same p f xs a.1)
+
 -- the steps
 
--- a link that isn't detached, with its stage
+-- this link keeps the credit
+abbrev keeps : SendingLink → ℕ → Stage → Bool
+keeps s n stage = (n == s.link) && not (is_stage_left stage || is_stage_given stage)
+
+abbrev passes : SendingLink → PathLink → Bool
+passes s k = keeps s k.link k.stage
+
+-- a link with its stage
 pub told_tied : (p : PathLink → Bool) (sending : List SendingLink) (ls : List PathLink) (t : HandleTable) (l x : PathLink)
-    → AreTied sending ls t → find p ls ≡ Some l → x.link ≡ l.link → x.stage ≡ l.stage → is_left l ≡ false → AreTied sending (put x ls) t
-told_tied p sending ls t l x tied e link stage nl = record {
+    → AreTied sending ls t → find p ls ≡ Some l → x.link ≡ l.link → x.stage ≡ l.stage → AreTied sending (put x ls) t
+told_tied p sending ls t l x tied e link stage = record {
   rising = rises_put 0 x ls tied.rising;
   apart = apart_put 0 x ls tied.rising tied.apart
       (all_weaker (λ k. (k.link == l.link) ≡ false → meets l k ≡ false) _ (λ k h no. ap (λ s. is_one (handle_in s) (handle_in k.stage)) stage ∙ h (ap (λ n. k.link == n) (sym link) ∙ no)) ls (apart_from p ls l e tied.apart));
   standing = all_map (put_for x) (λ k. stands t k.stage ≡ true) _ (λ k h. one k (k.link == x.link) h) ls tied.standing;
-  kept = kept_put x sending ls (ap is_left_stage stage ∙ nl) tied.kept;
+  kept = all_weaker (λ s. is_kept ls s ≡ true) _ (λ s h. any_same (passes s) (put_for x) ls (same s) ∙ h) sending tied.kept;
 }
   where
-    is_left_stage : Stage → Bool
-    is_left_stage s = is_left (record l { stage = s })
-
     one : (k : PathLink) (b : Bool) → stands t k.stage ≡ true → stands t (cond b x k).stage ≡ true
     one k true h = ap (stands t) stage ∙ (all_find (λ k. stands t k.stage ≡ true) p ls l tied.standing e).0
     one k false h = h
+
+    like : (s : SendingLink) (k : PathLink) (b : Bool) → (k.link == x.link) ≡ b → ((k.link == l.link) ≡ true → k ≡ l) → passes s (cond b x k) ≡ passes s k
+    like s k true f only = ap (λ n. keeps s n x.stage) link ∙ (ap (keeps s l.link) stage ∙ sym (ap (passes s) (only (ap (λ n. k.link == n) (sym link) ∙ f))))
+    like s k false f only = refl
+
+    same : (s : SendingLink) → AllByRecursion (λ k. passes s (put_for x k) ≡ passes s k) ls
+    same s = all_weaker (λ k. (k.link == l.link) ≡ true → k ≡ l) _ (λ k only. like s k (k.link == x.link) refl only) ls (unique p ls l tied.rising e)
 
 -- a link whose handle's state changes with it
 pub moved_tied : (p : PathLink → Bool) (sending sending' : List SendingLink) (ls : List PathLink) (t : HandleTable) (l x : PathLink) (h : ℕ) (st : HandleState)
@@ -236,7 +327,20 @@ moved_tied p sending sending' ls t l x h st tied e link from to is kept = record
 }
   where
     other : AllByRecursion (λ k. (k.link == x.link) ≡ false → is_one (Some h) (handle_in k.stage) ≡ false) ls
-    other = all_weaker (λ k. (k.link == l.link) ≡ false → meets l k ≡ false) _ (λ k d no. ap (λ o. is_one o (handle_in k.stage)) (sym from) ∙ d (ap (λ n. k.link == n) (sym link) ∙ no)) ls (apart_from p ls l e tied.apart)
+    other = subst (λ n. AllByRecursion (λ k. (k.link == n) ≡ false → is_one (Some h) (handle_in k.stage) ≡ false) ls) (sym link) (others_apart p ls l h e tied.apart from)
+
+-- a link that one end detached is dropped
+dropped_tied : (p : PathLink → Bool) (sending : List SendingLink) (ls : List PathLink) (t : HandleTable) (l : PathLink) (st : HandleState)
+    → AreTied sending ls t → find p ls ≡ Some l → is_parting l ≡ true → AreTied sending (dropped l.link ls) (with_state (handle_of l.stage) st t)
+dropped_tied p sending ls t l st tied e is = record {
+  rising = rises_filter _ 0 ls tied.rising;
+  apart = apart_filter _ ls tied.apart;
+  standing = standing_dropped t (handle_of l.stage) st l.link ls (others_apart p ls l (handle_of l.stage) e tied.apart (handle_some (λ s. is_stage_left s || is_stage_given s) refl l.stage is)) tied.standing;
+  kept = all_weaker (λ s. is_kept ls s ≡ true) _ (λ s k. kept_dropped l.link ls s parting k) sending tied.kept;
+}
+  where
+    parting : AllByRecursion (λ k. (k.link == l.link) ≡ true → is_parting k ≡ true) ls
+    parting = all_weaker (λ k. (k.link == l.link) ≡ true → k ≡ l) _ (λ k only same. ap is_parting (only same) ∙ is) ls (unique p ls l tied.rising e)
 
 free_at : (t : HandleTable) (h : ℕ) → free_of t ≡ Some h → (h < length t.states) × (state_of t h ≡ Free)
 free_at t h e = by (position is_free t.states) refl e
@@ -262,6 +366,7 @@ not_free t h (Asked k) free is = ne_to h k (λ e. let no : is_asked (state_of t 
 not_free t h (Open k) free is = ne_to h k (λ e. let no : is_whole (state_of t k) ≡ false = ap is_whole (ap (state_of t) (sym e) ∙ free) in absurd (cc))
 not_free t h (Refused k) free is = ne_to h k (λ e. let no : is_whole (state_of t k) ≡ false = ap is_whole (ap (state_of t) (sym e) ∙ free) in absurd (cc))
 not_free t h (Left k) free is = ne_to h k (λ e. let no : is_half (state_of t k) ≡ false = ap is_half (ap (state_of t) (sym e) ∙ free) in absurd (cc))
+not_free t h (Given k) free is = ne_to h k (λ e. let no : is_given_back (state_of t k) ≡ false = ap is_given_back (ap (state_of t) (sym e) ∙ free) in absurd (cc))
 
 -- the gateway's attach of a link that is wanted
 pub asked_tied : (sending : List SendingLink) (ls : List PathLink) (t : HandleTable) (l : PathLink) (h name : ℕ)
@@ -281,19 +386,13 @@ asked_tied sending ls t l h name tied e = record {
 
 -- the container's answers one that was asked for
 
-asked_stage : (s : Stage) → is_stage_asked s ≡ true → handle_in s ≡ Some (handle_of s)
-asked_stage Wanted e = absurd (cc)
-asked_stage (Asked h) e = refl
-asked_stage (Open h) e = absurd (cc)
-asked_stage (Refused h) e = absurd (cc)
-asked_stage (Left h) e = absurd (cc)
-
 asked_state : (t : HandleTable) (s : Stage) → is_stage_asked s ≡ true → stands t s ≡ true → is_asked (state_of t (handle_of s)) ≡ true
 asked_state t Wanted e is = absurd (cc)
 asked_state t (Asked h) e is = is
 asked_state t (Open h) e is = absurd (cc)
 asked_state t (Refused h) e is = absurd (cc)
 asked_state t (Left h) e is = absurd (cc)
+asked_state t (Given h) e is = absurd (cc)
 
 pub is_asked_for : (name : ℕ) (sending : List SendingLink) (ls : List PathLink) (t : HandleTable) (l : PathLink)
     → AreTied sending ls t → find (is_asked_as name) ls ≡ Some l → is_asked (state_of t (handle_of l.stage)) ≡ true
@@ -310,8 +409,8 @@ pub answered_tied : (name peer : ℕ) (target : Bool) (sending : List SendingLin
     → AreTied (attached_if target l.link sending) (put (answered target l) ls) (after_attached (handle_of l.stage) peer t)
 answered_tied name peer target sending ls t l tied e =
     moved_tied (is_asked_as name) sending (attached_if target l.link sending) ls t l (answered target l) (handle_of l.stage) _ tied e refl
-    (asked_stage l.stage (and_left _ _ found.1)) (with_handle target) (stands_now target)
-    (now_kept target l.link sending (put (answered target l) ls) (kept_put (answered target l) sending ls (not_left target) tied.kept))
+    (handle_some is_stage_asked refl l.stage (and_left _ _ found.1)) (with_handle target) (stands_now target)
+    (now_kept target l.link sending (put (answered target l) ls) (kept_put (answered target l) sending ls (stays target) tied.kept))
   where
     found : (stands t l.stage ≡ true) × (is_asked_as name l ≡ true)
     found = all_find (λ k. stands t k.stage ≡ true) (is_asked_as name) ls l tied.standing e
@@ -320,9 +419,9 @@ answered_tied name peer target sending ls t l tied e =
     with_handle true = refl
     with_handle false = refl
 
-    not_left : (b : Bool) → is_left (answered b l) ≡ false
-    not_left true = refl
-    not_left false = refl
+    stays : (b : Bool) → is_parting (answered b l) ≡ false
+    stays true = refl
+    stays false = refl
 
     written : state_of (after_attached (handle_of l.stage) peer t) (handle_of l.stage) ≡ state.Attached (record { peer = peer; detach_sent = false; detach_read = false })
     written = state_same is_asked t (handle_of l.stage) _ refl (is_asked_for name sending ls t l tied e)
@@ -333,40 +432,39 @@ answered_tied name peer target sending ls t l tied e =
 
 -- the container detaches a link that both attached
 
-at_stage : (h : ℕ) (s : Stage) → is_stage_at h s ≡ true → (handle_in s ≡ Some h) × (handle_of s ≡ h)
-at_stage h Wanted e = absurd (cc)
-at_stage h (Asked k) e = absurd (cc)
-at_stage h (Open k) e = (ap Some (eq_of k h e), eq_of k h e)
-at_stage h (Refused k) e = (ap Some (eq_of k h e), eq_of k h e)
-at_stage h (Left k) e = absurd (cc)
+at_whole : (t : HandleTable) (h : ℕ) (s : Stage) → is_stage_at h s ≡ true → is_stage_given s ≡ false → stands t s ≡ true → is_whole (state_of t (handle_of s)) ≡ true
+at_whole t h Wanted e not_given is = absurd (cc)
+at_whole t h (Asked k) e not_given is = absurd (cc)
+at_whole t h (Open k) e not_given is = is
+at_whole t h (Refused k) e not_given is = is
+at_whole t h (Left k) e not_given is = absurd (cc)
+at_whole t h (Given k) e not_given is = absurd (cc)
 
-at_state : (t : HandleTable) (h : ℕ) (s : Stage) → is_stage_at h s ≡ true → stands t s ≡ true → is_whole (state_of t (handle_of s)) ≡ true
-at_state t h Wanted e is = absurd (cc)
-at_state t h (Asked k) e is = absurd (cc)
-at_state t h (Open k) e is = is
-at_state t h (Refused k) e is = is
-at_state t h (Left k) e is = absurd (cc)
-
-pub at_not_left : (h : ℕ) (l : PathLink) → is_at h l ≡ true → is_left l ≡ false
-at_not_left h l e = by l.stage e
-  where
-    by : (s : Stage) → is_stage_at h s ≡ true → is_stage_left s ≡ false
-    by Wanted e = refl
-    by (Asked k) e = refl
-    by (Open k) e = refl
-    by (Refused k) e = refl
-    by (Left k) e = absurd (cc)
+given_state : (t : HandleTable) (s : Stage) → is_stage_given s ≡ true → stands t s ≡ true → is_given_back (state_of t (handle_of s)) ≡ true
+given_state t Wanted e is = absurd (cc)
+given_state t (Asked k) e is = absurd (cc)
+given_state t (Open k) e is = absurd (cc)
+given_state t (Refused k) e is = absurd (cc)
+given_state t (Left k) e is = absurd (cc)
+given_state t (Given k) e is = is
 
 whole_unread : (s : HandleState) → is_whole s ≡ true → is_unread s ≡ true
 whole_unread Free e = absurd (cc)
 whole_unread state.Asked e = absurd (cc)
 whole_unread (state.Attached a) e = and_right (not a.detach_sent) (not a.detach_read) e
 
+given_unread : (s : HandleState) → is_given_back s ≡ true → is_unread s ≡ true
+given_unread Free e = absurd (cc)
+given_unread state.Asked e = absurd (cc)
+given_unread (state.Attached a) e = and_right a.detach_sent (not a.detach_read) e
+
 pub is_unread_at : (h : ℕ) (sending : List SendingLink) (ls : List PathLink) (t : HandleTable) (l : PathLink)
     → AreTied sending ls t → find (is_at h) ls ≡ Some l → is_unread (state_of t (handle_of l.stage)) ≡ true
-is_unread_at h sending ls t l tied e =
-    let found = all_find (λ k. stands t k.stage ≡ true) (is_at h) ls l tied.standing e in
-    whole_unread (state_of t (handle_of l.stage)) (at_state t h l.stage found.1 found.0)
+is_unread_at h sending ls t l tied e = by (is_given l) refl (all_find (λ k. stands t k.stage ≡ true) (is_at h) ls l tied.standing e)
+  where
+    by : (b : Bool) → is_given l ≡ b → (stands t l.stage ≡ true) × (is_at h l ≡ true) → is_unread (state_of t (handle_of l.stage)) ≡ true
+    by true given found = given_unread (state_of t (handle_of l.stage)) (given_state t l.stage given found.0)
+    by false given found = whole_unread (state_of t (handle_of l.stage)) (at_whole t h l.stage found.1 given found.0)
 
 read_half : (s : HandleState) → is_whole s ≡ true → is_half (with_read s) ≡ true
 read_half Free e = absurd (cc)
@@ -379,18 +477,21 @@ read_half (state.Attached a) e = by a.detach_sent e
 
 pub detached_tied : (h : ℕ) (sending : List SendingLink) (ls : List PathLink) (t : HandleTable) (l : PathLink)
     → AreTied sending ls t → find (is_at h) ls ≡ Some l
-    → AreTied (without l.link sending) (put (left_by l) ls) (after_detach_read (handle_of l.stage) t)
-detached_tied h sending ls t l tied e =
-    moved_tied (is_at h) sending (without l.link sending) ls t l (left_by l) (handle_of l.stage) _ tied e refl
-    (let a = at_stage h l.stage found.1 in a.0 ∙ ap Some (sym a.1)) refl
-    (ap is_half (state_same is_whole t (handle_of l.stage) (with_read (state_of t (handle_of l.stage))) refl whole) ∙ read_half (state_of t (handle_of l.stage)) whole)
-    (kept_without (left_by l) sending ls tied.kept)
+    → AreTied (without l.link sending) (detached_from l ls) (after_detach_read (handle_of l.stage) t)
+detached_tied h sending ls t l tied e = by (is_given l) refl
   where
     found : (stands t l.stage ≡ true) × (is_at h l ≡ true)
     found = all_find (λ k. stands t k.stage ≡ true) (is_at h) ls l tied.standing e
 
-    whole : is_whole (state_of t (handle_of l.stage)) ≡ true
-    whole = at_state t h l.stage found.1 found.0
+    by : (b : Bool) → is_given l ≡ b → AreTied (without l.link sending) (cond b (dropped l.link ls) (put (left_by l) ls)) (after_detach_read (handle_of l.stage) t)
+    by true given =
+        let gone = dropped_tied (is_at h) sending ls t l (with_read (state_of t (handle_of l.stage))) tied e (or_right (is_left l) (is_given l) given) in
+        record { rising = gone.rising; apart = gone.apart; standing = gone.standing; kept = all_filter _ (λ s. is_kept (dropped l.link ls) s ≡ true) sending gone.kept }
+    by false given =
+        let whole : is_whole (state_of t (handle_of l.stage)) ≡ true = at_whole t h l.stage found.1 given found.0 in
+        moved_tied (is_at h) sending (without l.link sending) ls t l (left_by l) (handle_of l.stage) _ tied e refl (handle_some (is_stage_at h) refl l.stage found.1) refl
+        (ap is_half (state_same is_whole t (handle_of l.stage) (with_read (state_of t (handle_of l.stage))) refl whole) ∙ read_half (state_of t (handle_of l.stage)) whole)
+        (kept_without (left_by l) sending ls tied.kept)
 
 -- the gateway's detach of one that the container detached
 
@@ -400,6 +501,7 @@ left_state t (Asked k) e is = absurd (cc)
 left_state t (Open k) e is = absurd (cc)
 left_state t (Refused k) e is = absurd (cc)
 left_state t (Left k) e is = is
+left_state t (Given k) e is = absurd (cc)
 
 half_unsent : (s : HandleState) → is_half s ≡ true → is_unsent s ≡ true
 half_unsent Free e = absurd (cc)
@@ -412,79 +514,100 @@ is_unsent_at sending ls t l tied e =
     let found = all_find (λ k. stands t k.stage ≡ true) is_left ls l tied.standing e in
     half_unsent (state_of t (handle_of l.stage)) (left_state t l.stage found.1 found.0)
 
-half_not_asked : (s : HandleState) → is_half s ≡ true → is_asked s ≡ true → ⊥
-half_not_asked Free a b = absurd (cc)
-half_not_asked state.Asked a b = absurd (cc)
-half_not_asked (state.Attached x) a b = absurd (cc)
-
-half_not_whole : (s : HandleState) → is_half s ≡ true → is_whole s ≡ true → ⊥
-half_not_whole Free a b = absurd (cc)
-half_not_whole state.Asked a b = absurd (cc)
-half_not_whole (state.Attached x) a b = by x.detach_read (and_right (not x.detach_sent) x.detach_read a) (and_right (not x.detach_sent) (not x.detach_read) b)
+left_one : (l k : PathLink) → is_left l ≡ true → meets l k ≡ false → is_left_at (handle_of l.stage) k.stage ≡ false
+left_one l k left apart = by l.stage k.stage left apart
   where
-    by : (b : Bool) → b ≡ true → not b ≡ true → ⊥
-    by true e f = absurd (cc)
-    by false e f = absurd (cc)
+    by : (s u : Stage) → is_stage_left s ≡ true → is_one (handle_in s) (handle_in u) ≡ false → is_left_at (handle_of s) u ≡ false
+    by Wanted u e f = absurd (cc)
+    by (Asked h) u e f = absurd (cc)
+    by (Open h) u e f = absurd (cc)
+    by (Refused h) u e f = absurd (cc)
+    by (Given h) u e f = absurd (cc)
+    by (Left h) Wanted e f = refl
+    by (Left h) (Asked j) e f = refl
+    by (Left h) (Open j) e f = refl
+    by (Left h) (Refused j) e f = refl
+    by (Left h) (Left j) e f = ne_to j h (λ s. no_clash (h == j) (eq_to h j (sym s)) f)
+    by (Left h) (Given j) e f = refl
 
-stands_gone : (t : HandleTable) (h : ℕ) (st : HandleState) (s : Stage) → is_half (state_of t h) ≡ true → is_left_at h s ≡ false → stands t s ≡ true → stands (with_state h st t) s ≡ true
-stands_gone t h st s half off is = stands_other t h st s (by s off is) is
+left_itself : (s : Stage) → is_stage_left s ≡ true → is_left_at (handle_of s) s ≡ true
+left_itself Wanted e = absurd (cc)
+left_itself (Asked h) e = absurd (cc)
+left_itself (Open h) e = absurd (cc)
+left_itself (Refused h) e = absurd (cc)
+left_itself (Left h) e = eq_to h h refl
+left_itself (Given h) e = absurd (cc)
+
+filter_same : {X : Type 0} (p q : X → Bool) (xs : List X) → AllByRecursion (λ x. p x ≡ q x) xs → filter (λ x. not (p x)) xs ≡ filter (λ x. not (q x)) xs
+filter_same p q [] a = refl
+filter_same p q (x ∷ xs) a = ap (λ b. cond (not b) (x ∷ filter (λ x. not (p x)) xs) (filter (λ x. not (p x)) xs)) a.0 ∙ ap (λ ys. cond (not (q x)) (x ∷ ys) ys) (filter_same p q xs a.1)
+
+-- it is the link with its number that is no more
+pub gone_is : (sending : List SendingLink) (ls : List PathLink) (t : HandleTable) (l : PathLink)
+    → AreTied sending ls t → find is_left ls ≡ Some l → gone_from (handle_of l.stage) ls ≡ dropped l.link ls
+gone_is sending ls t l tied e =
+    filter_same (λ k. is_left_at (handle_of l.stage) k.stage) (has_number l.link) ls
+    (all_weaker (λ k. ((k.link == l.link) ≡ false → meets l k ≡ false) × ((k.link == l.link) ≡ true → k ≡ l)) _ (λ k h. one k (k.link == l.link) refl h.0 h.1) ls
+    (all_both _ _ ls (apart_from is_left ls l e tied.apart) (unique is_left ls l tied.rising e)))
   where
-    by : (s : Stage) → is_left_at h s ≡ false → stands t s ≡ true → is_one (Some h) (handle_in s) ≡ false
-    by Wanted off is = refl
-    by (Asked k) off is = ne_to h k (λ e. half_not_asked (state_of t h) half (ap (λ n. is_asked (state_of t n)) e ∙ is))
-    by (Open k) off is = ne_to h k (λ e. half_not_whole (state_of t h) half (ap (λ n. is_whole (state_of t n)) e ∙ is))
-    by (Refused k) off is = ne_to h k (λ e. half_not_whole (state_of t h) half (ap (λ n. is_whole (state_of t n)) e ∙ is))
-    by (Left k) off is = ne_to h k (λ e. no_clash (k == h) (eq_to k h (sym e)) off)
+    left : is_left l ≡ true
+    left = (all_find (λ k. stands t k.stage ≡ true) is_left ls l tied.standing e).1
 
-standing_gone : (t : HandleTable) (h : ℕ) (st : HandleState) (ls : List PathLink) → is_half (state_of t h) ≡ true → AllByRecursion (λ k. stands t k.stage ≡ true) ls
-    → AllByRecursion (λ k. stands (with_state h st t) k.stage ≡ true) (gone_from h ls)
-standing_gone t h st [] half a = tt
-standing_gone t h st (l ∷ ls) half a = by (is_left_at h l.stage) refl (standing_gone t h st ls half a.1)
-  where
-    by : (b : Bool) → is_left_at h l.stage ≡ b → AllByRecursion (λ k. stands (with_state h st t) k.stage ≡ true) (gone_from h ls) → AllByRecursion (λ k. stands (with_state h st t) k.stage ≡ true) (cond (not b) (l ∷ gone_from h ls) (gone_from h ls))
-    by true e ih = ih
-    by false e ih = (stands_gone t h st l.stage half e a.0, ih)
-
-left_at_left : (h : ℕ) (s : Stage) → is_left_at h s ≡ true → is_stage_left s ≡ true
-left_at_left h Wanted e = e
-left_at_left h (Asked k) e = e
-left_at_left h (Open k) e = e
-left_at_left h (Refused k) e = e
-left_at_left h (Left k) e = refl
-
-kept_gone : (h : ℕ) (ls : List PathLink) (s : SendingLink) → is_kept ls s ≡ true → is_kept (gone_from h ls) s ≡ true
-kept_gone h [] s e = e
-kept_gone h (l ∷ ls) s e = by (is_left_at h l.stage) refl (λ k. kept_gone h ls s k) (or_true ((l.link == s.link) && not (is_left l)) (is_kept ls s) e)
-  where
-    not_not : (b : Bool) → b ≡ true → not b ≡ true → ⊥
-    not_not true a b = absurd (cc)
-    not_not false a b = absurd (cc)
-
-    by : (b : Bool) → is_left_at h l.stage ≡ b → (is_kept ls s ≡ true → is_kept (gone_from h ls) s ≡ true) → (((l.link == s.link) && not (is_left l)) ≡ true) ⊎ (is_kept ls s ≡ true)
-        → is_kept (cond (not b) (l ∷ gone_from h ls) (gone_from h ls)) s ≡ true
-    by true f ih (inl a) = absurd (not_not (is_left l) (left_at_left h l.stage f) (and_right (l.link == s.link) (not (is_left l)) a))
-    by true f ih (inr a) = ih a
-    by false f ih (inl a) = or_left _ _ a
-    by false f ih (inr a) = or_right ((l.link == s.link) && not (is_left l)) _ (ih a)
+    one : (k : PathLink) (b : Bool) → (k.link == l.link) ≡ b → ((k.link == l.link) ≡ false → meets l k ≡ false) → ((k.link == l.link) ≡ true → k ≡ l) → is_left_at (handle_of l.stage) k.stage ≡ (k.link == l.link)
+    one k true f apart same = ap (λ (z : PathLink). is_left_at (handle_of l.stage) z.stage) (same f) ∙ (left_itself l.stage left ∙ sym f)
+    one k false f apart same = left_one l k left (apart f) ∙ sym f
 
 pub gone_tied : (sending : List SendingLink) (ls : List PathLink) (t : HandleTable) (l : PathLink)
     → AreTied sending ls t → find is_left ls ≡ Some l
     → AreTied sending (gone_from (handle_of l.stage) ls) (after_detach_sent (handle_of l.stage) t)
-gone_tied sending ls t l tied e = record {
-  rising = rises_filter _ 0 ls tied.rising;
-  apart = apart_filter _ ls tied.apart;
-  standing = standing_gone t (handle_of l.stage) _ ls half tied.standing;
-  kept = all_weaker (λ s. is_kept ls s ≡ true) _ (λ s k. kept_gone (handle_of l.stage) ls s k) sending tied.kept;
-}
+gone_tied sending ls t l tied e =
+    subst (λ ks. AreTied sending ks (after_detach_sent (handle_of l.stage) t)) (sym (gone_is sending ls t l tied e))
+    (dropped_tied is_left sending ls t l (with_sent (state_of t (handle_of l.stage))) tied e
+    (or_left (is_left l) (is_given l) (all_find (λ k. stands t k.stage ≡ true) is_left ls l tied.standing e).1))
+
+-- the gateway's detach of one that both attached
+
+open_whole : (t : HandleTable) (s : Stage) → is_stage_open s ≡ true → stands t s ≡ true → is_whole (state_of t (handle_of s)) ≡ true
+open_whole t Wanted e is = absurd (cc)
+open_whole t (Asked k) e is = absurd (cc)
+open_whole t (Open k) e is = is
+open_whole t (Refused k) e is = is
+open_whole t (Left k) e is = absurd (cc)
+open_whole t (Given k) e is = absurd (cc)
+
+whole_unsent : (s : HandleState) → is_whole s ≡ true → is_unsent s ≡ true
+whole_unsent Free e = absurd (cc)
+whole_unsent state.Asked e = absurd (cc)
+whole_unsent (state.Attached a) e = and_left (not a.detach_sent) (not a.detach_read) e
+
+sent_back : (s : HandleState) → is_whole s ≡ true → is_given_back (with_sent s) ≡ true
+sent_back Free e = absurd (cc)
+sent_back state.Asked e = absurd (cc)
+sent_back (state.Attached a) e = by a.detach_read (and_right (not a.detach_sent) (not a.detach_read) e)
   where
-    half : is_half (state_of t (handle_of l.stage)) ≡ true
-    half = let found = all_find (λ k. stands t k.stage ≡ true) is_left ls l tied.standing e in left_state t l.stage found.1 found.0
+    by : (b : Bool) → not b ≡ true → is_given_back (cond (true && b) Free (state.Attached (record a { detach_sent = true; detach_read = b }))) ≡ true
+    by true e = absurd (cc)
+    by false e = refl
+
+module _ (p : PathLink → Bool) (sending : List SendingLink) (ls : List PathLink) (t : HandleTable) (l : PathLink)
+    (tied : AreTied sending ls t) (e : find p ls ≡ Some l) (open_now : is_stage_open l.stage ≡ true) where
+  whole_open : is_whole (state_of t (handle_of l.stage)) ≡ true
+  whole_open = open_whole t l.stage open_now (all_find (λ k. stands t k.stage ≡ true) p ls l tied.standing e).0
+
+  pub is_unsent_open : is_unsent (state_of t (handle_of l.stage)) ≡ true
+  is_unsent_open = whole_unsent (state_of t (handle_of l.stage)) whole_open
+
+  pub given_tied : AreTied (without l.link sending) (put (given_by l) ls) (after_detach_sent (handle_of l.stage) t)
+  given_tied =
+      moved_tied p sending (without l.link sending) ls t l (given_by l) (handle_of l.stage) _ tied e refl (handle_some is_stage_open refl l.stage open_now) refl
+      (ap is_given_back (state_same is_whole t (handle_of l.stage) (with_sent (state_of t (handle_of l.stage))) refl whole_open) ∙ sent_back (state_of t (handle_of l.stage)) whole_open)
+      (kept_without (given_by l) sending ls tied.kept)
 
 -- a flow of the container on a link that both attached
 pub flowed_tied : (h : ℕ) (count : Option ℕ) (credit : ℕ) (drain echo : Bool) (sending : List SendingLink) (ls : List PathLink) (t : HandleTable) (l : PathLink)
     → AreTied sending ls t → find (is_at h) ls ≡ Some l → AreTied (map (flowed l.link count credit) sending) (put (told_by drain echo l) ls) t
 flowed_tied h count credit drain echo sending ls t l tied e =
-    let told = told_tied (is_at h) sending ls t l (told_by drain echo l) tied e refl refl (at_not_left h l (all_find (λ k. stands t k.stage ≡ true) (is_at h) ls l tied.standing e).1) in
+    let told = told_tied (is_at h) sending ls t l (told_by drain echo l) tied e refl refl in
     record {
       rising = told.rising;
       apart = told.apart;
@@ -492,11 +615,11 @@ flowed_tied h count credit drain echo sending ls t l tied e =
       kept = all_map (flowed l.link count credit) (λ s. is_kept (put (told_by drain echo l) ls) s ≡ true) _ (λ s k. k) sending told.kept;
     }
 
--- a flow of the gateway on a link that isn't detached
+-- a flow of the gateway
 pub told_once_tied : (p : PathLink → Bool) (drain : Bool) (sending : List SendingLink) (ls : List PathLink) (t : HandleTable) (l : PathLink)
-    → ((x : PathLink) → p x ≡ true → is_left x ≡ false) → AreTied sending ls t → find p ls ≡ Some l → AreTied (drained_if drain l.link sending) (put (told_once l) ls) t
-told_once_tied p drain sending ls t l stays tied e =
-    let told = told_tied p sending ls t l (told_once l) tied e refl refl (stays l (all_find (λ k. stands t k.stage ≡ true) p ls l tied.standing e).1) in
+    → AreTied sending ls t → find p ls ≡ Some l → AreTied (drained_if drain l.link sending) (put (told_once l) ls) t
+told_once_tied p drain sending ls t l tied e =
+    let told = told_tied p sending ls t l (told_once l) tied e refl refl in
     record { rising = told.rising; apart = told.apart; standing = told.standing; kept = by drain told.kept }
   where
     by : (b : Bool) → AllByRecursion (λ s. is_kept (put (told_once l) ls) s ≡ true) sending → AllByRecursion (λ s. is_kept (put (told_once l) ls) s ≡ true) (drained_if b l.link sending)
@@ -510,7 +633,3 @@ framed_tied frame sending ls t tied = record { rising = tied.rising; apart = tie
     by : (b : Bool) → AllByRecursion (λ s. is_kept ls s ≡ true) (cond b (map (begun_on frame.link) sending) sending)
     by true = all_map (begun_on frame.link) (λ s. is_kept ls s ≡ true) _ (λ s k. k) sending tied.kept
     by false = tied.kept
-
-pub not_left_and : (a b : Bool) → (not a && b) ≡ true → a ≡ false
-not_left_and true b e = absurd (cc)
-not_left_and false b e = refl

@@ -1,5 +1,7 @@
 -- A link that is wanted: its number, its place and its credit.
-use Rattle.std.proofs.Common.{◌≡◌, ◌∙◌, ℕ, zero, suc, ◌+◌, ◌≤◌, ◌≢◌, List, [], ◌∷◌, ◌++◌, Bool, true, false, Option, Some, None, refl, sym, subst, ap, arith, cond, length, add-one, inl, inr}
+use Rattle.std.proofs.Common.{◌≡◌, ◌∙◌, ℕ, zero, suc, ◌+◌, ◌≤◌, ◌≢◌, List, [], ◌∷◌, ◌++◌, Bool}
+use Rattle.std.proofs.Common.{true, false, Option, Some, None, refl, sym, subst, ap, arith, cond}
+use Rattle.std.proofs.Common.{length, add-one, inl, inr}
 use Rattle.std.specs.Prelude.{◌⊎◌, not, ◌||◌, ◌&&◌, ◌==◌, insert, remove, bytes_eq, is_some}
 use Rattle.std.specs.Option.{option_map}
 use Rattle.std.specs.List.{list_any, AllByRecursion}
@@ -9,8 +11,11 @@ use Rattle.publish_path.specs.declared.send_links.SendingLink.{SendingLink}
 use Rattle.publish_path.specs.Links.{asked_link, has_address, link_of, link_to, without}
 use Rattle.session_path.specs.declared.path.PathLink.{PathLink}
 use Rattle.session_path.specs.Path.{number_of}
-use Rattle.session_path.specs.Links.{LinksState, linked_to, with_link_to, handle_in, is_left, gap, free_number, wanted_link, with_wanted, Rises, is_one, meets, AreApart, stands, is_kept, AreTied}
-use Rattle.session_path.proofs.Ties.{and_left, eq_of, eq_to, ne_to, no_clash, or_left, or_right, or_true, rises_above}
+use Rattle.session_path.specs.Links.{LinksState, linked_to, with_link_to, handle_in, is_parting}
+use Rattle.session_path.specs.Links.{gap, free_number, wanted_link, with_wanted, Rises, is_one}
+use Rattle.session_path.specs.Links.{meets, AreApart, stands, is_kept, AreTied}
+use Rattle.session_path.proofs.Ties.{and_left, eq_of, eq_to, ne_to, no_clash, or_left, or_right}
+use Rattle.session_path.proofs.Ties.{or_true, rises_above}
 
 -- an item put into a list
 
@@ -80,9 +85,9 @@ not_there m (l ∷ ls) r = by (l.link == m) refl (not_there (m + 1) ls)
 
 not_kept : (n : ℕ) (ls : List PathLink) (x : SendingLink) → AllByRecursion (λ k. (k.link == n) ≡ false) ls → is_kept ls x ≡ true → (x.link == n) ≡ false
 not_kept n [] x a e = absurd (cc)
-not_kept n (l ∷ ls) x a e = by (not_kept n ls x a.1) (or_true ((l.link == x.link) && not (is_left l)) (is_kept ls x) e)
+not_kept n (l ∷ ls) x a e = by (not_kept n ls x a.1) (or_true ((l.link == x.link) && not (is_parting l)) (is_kept ls x) e)
   where
-    by : (is_kept ls x ≡ true → (x.link == n) ≡ false) → (((l.link == x.link) && not (is_left l)) ≡ true) ⊎ (is_kept ls x ≡ true) → (x.link == n) ≡ false
+    by : (is_kept ls x ≡ true → (x.link == n) ≡ false) → (((l.link == x.link) && not (is_parting l)) ≡ true) ⊎ (is_kept ls x ≡ true) → (x.link == n) ≡ false
     by ih (inl h) = ap (λ k. k == n) (sym (eq_of l.link x.link (and_left _ _ h))) ∙ a.0
     by ih (inr h) = ih h
 
@@ -121,8 +126,8 @@ wanted_tied address sending ls t tied = record {
   apart = apart_insert ls (free_number ls) (free_number ls) tied.apart;
   standing = all_insert (λ k. stands t k.stage ≡ true) ls (free_number ls) (wanted_link (free_number ls)) tied.standing refl;
   kept = all_push (λ x. is_kept (with_wanted (free_number ls) ls) x ≡ true) sending (asked_link (free_number ls) address)
-      (all_weaker (λ x. is_kept ls x ≡ true) _ (λ x k. any_old (λ l. (l.link == x.link) && not (is_left l)) ls (free_number ls) (wanted_link (free_number ls)) k) sending tied.kept)
-      (any_new (λ l. (l.link == free_number ls) && not (is_left l)) ls (free_number ls) (wanted_link (free_number ls)) (ap (λ b. b && true) (eq_to (free_number ls) (free_number ls) refl)));
+      (all_weaker (λ x. is_kept ls x ≡ true) _ (λ x k. any_old (λ l. (l.link == x.link) && not (is_parting l)) ls (free_number ls) (wanted_link (free_number ls)) k) sending tied.kept)
+      (any_new (λ l. (l.link == free_number ls) && not (is_parting l)) ls (free_number ls) (wanted_link (free_number ls)) (ap (λ b. b && true) (eq_to (free_number ls) (free_number ls) refl)));
 }
 
 -- its credit

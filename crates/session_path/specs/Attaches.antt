@@ -5,7 +5,7 @@ use Rattle.session_path.specs.Path.{PathState}
 use Rattle.session_path.specs.Events.{PathEvent, Began, Published, Selected, Owed, AttachCame}
 use Rattle.session_path.specs.Events.{FlowCame, DetachCame, DispositionCame, AttachSent}
 use Rattle.session_path.specs.Events.{LinkFlowSent, TransferSent, SettleSent, DetachSent}
-use Rattle.session_path.specs.Events.{ConfirmWent, OkSent, LineWent, SessionLost, after_events}
+use Rattle.session_path.specs.Events.{ConfirmWent, OkSent, LinesWent, SessionLost, after_events}
 
 -- an attach of the gateway under the name with this number
 abbrev pub asks_as : ℕ → PathEvent → ℕ
@@ -24,7 +24,7 @@ asks_as name (SettleSent settling) = 0
 asks_as name DetachSent = 0
 asks_as name (ConfirmWent confirm) = 0
 asks_as name (OkSent ok) = 0
-asks_as name (LineWent number) = 0
+asks_as name LinesWent = 0
 asks_as name SessionLost = 0
 
 abbrev pub times_asked : ℕ → List PathEvent → ℕ
@@ -49,7 +49,7 @@ attaches_as name s (SettleSent settling) = 0
 attaches_as name s DetachSent = 0
 attaches_as name s (ConfirmWent confirm) = 0
 attaches_as name s (OkSent ok) = 0
-attaches_as name s (LineWent number) = 0
+attaches_as name s LinesWent = 0
 attaches_as name s SessionLost = 0
 
 abbrev pub times_attached : ℕ → ℕ → List PathEvent → ℕ

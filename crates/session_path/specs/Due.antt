@@ -1,10 +1,11 @@
 -- What the publishing side of a session makes due, to the container and to the client.
 use Rattle.std.specs.Prelude.{ℕ, Bool, ◌==◌, if◌then◌else◌, List, [], ◌∷◌, find, count_by, Option}
 use Rattle.std.specs.Prelude.{Some, None}
+use Rattle.std.specs.Option.{option_or}
 use Rattle.link_table.specs.Table.{free_of}
 use Rattle.publish_path.specs.Links.{link_of}
 use Rattle.publish_path.specs.Offers.{held_bytes, held_count, is_pending, next_confirm_of}
-use Rattle.publish_path.specs.Offers.{next_frame_of, next_line_of}
+use Rattle.publish_path.specs.Offers.{lines_of, next_frame_of}
 use Rattle.publish_path.specs.declared.publish.Confirm.{Confirm}
 use Rattle.publish_path.specs.declared.publish.NextFrame.{NextFrame}
 use Rattle.publish_path.specs.declared.send_links.SendingLink.{SendingLink}
@@ -15,7 +16,7 @@ use Rattle.session_path.specs.declared.path.PathLink.{PathLink}
 use Rattle.session_path.specs.declared.path.PathOk.{PathOk}
 use Rattle.session_path.specs.declared.path.Settling.{Settling}
 use Rattle.session_path.specs.Links.{handle_of, is_left, is_wanted}
-use Rattle.session_path.specs.Path.{PathState, credit_in, flow_of}
+use Rattle.session_path.specs.Path.{PathState, credit_in, flow_of, given_of}
 
 abbrev pub first_of : {A : Type 0} → List A → Option A
 first_of [] = None
@@ -62,9 +63,10 @@ next_frame window s = if window == 0 then None else next_frame_of s.links.sendin
 abbrev pub next_settle : PathState → Option Settling
 next_settle s = first_of s.settles
 
--- the detach of the first link that the container detached
+-- the detach of the first link that the container detached, or else of one that is given up
 abbrev pub next_detach : PathState → Option PathLink
-next_detach s = find is_left s.links.links
+next_detach s =
+    option_or (find is_left s.links.links) (given_of s.publishes.list s.links)
 
 -- ---- to the client
 
@@ -75,8 +77,8 @@ abbrev pub next_ok : PathState → Option PathOk
 next_ok s = first_of s.oks
 
 -- and to the report
-abbrev pub next_line : PathState → Option LostItem
-next_line s = next_line_of s.publishes.life s.publishes.list
+abbrev pub lines : PathState → List LostItem
+lines s = lines_of s.publishes.life s.publishes.list
 
 -- ---- what is waited for
 

@@ -3,12 +3,12 @@ use Rattle.std.specs.Prelude.{ℕ, Bool, List, [], ◌∷◌, ◌++◌, Option, 
 use Rattle.publish_path.specs.Links.{link_to}
 use Rattle.publish_path.specs.Offers.{frame_sent}
 use Rattle.publish_path.specs.Publishes.{PublishEvent, TakenUp, OutcomeCame, LinkGone, ConfirmSent}
-use Rattle.publish_path.specs.Publishes.{LineTold}
+use Rattle.publish_path.specs.Publishes.{LinesTold}
 use Rattle.publish_path.specs.declared.publish.Confirm.{Confirm}
 use Rattle.publish_path.specs.declared.publish.NextFrame.{NextFrame}
 use Rattle.session_path.specs.Links.{linked_to, named}
 use Rattle.session_path.specs.Path.{PathState, attach_came, attach_sent, began, confirm_sent}
-use Rattle.session_path.specs.Path.{detach_came, detach_sent, flow_came, last_or, line_told}
+use Rattle.session_path.specs.Path.{detach_came, detach_sent, flow_came, last_or, lines_told}
 use Rattle.session_path.specs.Path.{link_flow_sent, lost, number_of, ok_sent, opened, outcome_came}
 use Rattle.session_path.specs.Path.{owed, published, selected, settle_sent, transfer_sent}
 use Rattle.session_path.specs.declared.path.PathLink.{PathLink}
@@ -46,8 +46,8 @@ pub data PathEvent : Type 0 where
   ConfirmWent : (confirm : Confirm) → PathEvent
   -- an answer went to the client
   OkSent : (ok : PathOk) → PathEvent
-  -- the line of a publish was reported
-  LineWent : (number : ℕ) → PathEvent
+  -- the lines that the report was owed were reported
+  LinesWent : PathEvent
   -- the session, or the connection, is lost
   SessionLost : PathEvent
 
@@ -68,7 +68,7 @@ after_event (SettleSent settling) s = settle_sent s
 after_event DetachSent s = detach_sent s
 after_event (ConfirmWent confirm) s = confirm_sent confirm s
 after_event (OkSent ok) s = ok_sent s
-after_event (LineWent number) s = line_told number s
+after_event LinesWent s = lines_told s
 after_event SessionLost s = lost s
 
 -- in the life with this number
@@ -101,7 +101,7 @@ publish_events s (SettleSent settling) = []
 publish_events s DetachSent = []
 publish_events s (ConfirmWent confirm) = ConfirmSent confirm ∷ []
 publish_events s (OkSent ok) = []
-publish_events s (LineWent number) = LineTold number ∷ []
+publish_events s LinesWent = LinesTold ∷ []
 publish_events s SessionLost = LinkGone None ∷ []
 
 abbrev pub publishes_of : ℕ → List PathEvent → List PublishEvent

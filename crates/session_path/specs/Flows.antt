@@ -2,12 +2,12 @@
 use Rattle.std.specs.Prelude.{ℕ, Bool, false, ◌+◌, ◌==◌, if◌then◌else◌, List, [], ◌∷◌, find, Option}
 use Rattle.std.specs.Prelude.{Some, None}
 use Rattle.session_path.specs.declared.path.PathLink.{PathLink}
-use Rattle.session_path.specs.Links.{has_number, is_left, named, one_if}
+use Rattle.session_path.specs.Links.{LinksState, has_number, is_given, is_left, named, one_if}
 use Rattle.session_path.specs.Path.{PathState, flow_of}
 use Rattle.session_path.specs.Events.{PathEvent, Began, Published, Selected, Owed, AttachCame}
 use Rattle.session_path.specs.Events.{FlowCame, DetachCame, DispositionCame, AttachSent}
 use Rattle.session_path.specs.Events.{LinkFlowSent, TransferSent, SettleSent, DetachSent}
-use Rattle.session_path.specs.Events.{ConfirmWent, OkSent, LineWent, SessionLost, after_events}
+use Rattle.session_path.specs.Events.{ConfirmWent, OkSent, LinesWent, SessionLost, after_events}
 
 -- it is the link with this number
 abbrev pub is_link : ℕ → Option PathLink → Bool
@@ -31,12 +31,20 @@ flows_by n s (SettleSent settling) = 0
 flows_by n s DetachSent = 0
 flows_by n s (ConfirmWent confirm) = 0
 flows_by n s (OkSent ok) = 0
-flows_by n s (LineWent number) = 0
+flows_by n s LinesWent = 0
 flows_by n s SessionLost = 0
 
 abbrev pub flows_on : ℕ → ℕ → List PathEvent → ℕ
 flows_on life n [] = 0
 flows_on life n (x ∷ h) = flows_on life n h + flows_by n (after_events life h) x
+
+-- the link that a handle of the container names, where the gateway detached it
+abbrev pub given_in : Option PathLink → Option PathLink
+given_in None = None
+given_in (Some l) = if is_given l then Some l else None
+
+abbrev pub given_named : ℕ → LinksState → Option PathLink
+given_named peer s = given_in (named peer s)
 
 -- what the container's flows on link n are owed, where so many went and so many were owed: one flow
 -- for each echo, and one for each drain (AMQP 1.0 2.7.4); a link that is no more is owed no more
@@ -49,7 +57,8 @@ causes_by n s flows causes (Owed ok) = causes
 causes_by n s flows causes (AttachCame name peer target) = causes
 causes_by n s flows causes (FlowCame peer count credit drain echo) =
     causes + (if is_link n (named peer s.links) then one_if echo + one_if drain else 0)
-causes_by n s flows causes (DetachCame peer) = causes
+causes_by n s flows causes (DetachCame peer) =
+    if is_link n (given_named peer s.links) then flows else causes
 causes_by n s flows causes (DispositionCame first last accepted settled) = causes
 causes_by n s flows causes (AttachSent name) = causes
 causes_by n s flows causes LinkFlowSent = causes
@@ -59,7 +68,7 @@ causes_by n s flows causes DetachSent =
     if is_link n (find is_left s.links.links) then flows else causes
 causes_by n s flows causes (ConfirmWent confirm) = causes
 causes_by n s flows causes (OkSent ok) = causes
-causes_by n s flows causes (LineWent number) = causes
+causes_by n s flows causes LinesWent = causes
 causes_by n s flows causes SessionLost = flows
 
 abbrev pub causes_on : ℕ → ℕ → List PathEvent → ℕ

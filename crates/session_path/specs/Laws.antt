@@ -6,7 +6,7 @@ use Rattle.session_path.specs.Path.{last_or, settle_if}
 use Rattle.session_path.specs.Events.{PathEvent, Began, Published, Selected, Owed, AttachCame}
 use Rattle.session_path.specs.Events.{FlowCame, DetachCame, DispositionCame, AttachSent}
 use Rattle.session_path.specs.Events.{LinkFlowSent, TransferSent, SettleSent, DetachSent}
-use Rattle.session_path.specs.Events.{ConfirmWent, OkSent, LineWent, SessionLost, publishes_of}
+use Rattle.session_path.specs.Events.{ConfirmWent, OkSent, LinesWent, SessionLost, publishes_of}
 use Rattle.session_path.specs.declared.path.PathOk.{PathOk}
 use Rattle.session_path.specs.declared.path.Settling.{Settling}
 
@@ -32,7 +32,7 @@ owes (SettleSent settling) = []
 owes DetachSent = []
 owes (ConfirmWent confirm) = []
 owes (OkSent ok) = []
-owes (LineWent number) = []
+owes LinesWent = []
 owes SessionLost = []
 
 abbrev pub answers : PathEvent → List PathOk
@@ -51,7 +51,7 @@ answers (SettleSent settling) = []
 answers DetachSent = []
 answers (ConfirmWent confirm) = []
 answers (OkSent ok) = ok ∷ []
-answers (LineWent number) = []
+answers LinesWent = []
 answers SessionLost = []
 
 abbrev pub oks_owed : List PathEvent → List PathOk
@@ -85,7 +85,7 @@ settles (SettleSent settling) = settling ∷ []
 settles DetachSent = []
 settles (ConfirmWent confirm) = []
 settles (OkSent ok) = []
-settles (LineWent number) = []
+settles LinesWent = []
 settles SessionLost = []
 
 -- those that went, in order
@@ -118,7 +118,7 @@ owed_by life h list (SettleSent settling) = list
 owed_by life h list DetachSent = list
 owed_by life h list (ConfirmWent confirm) = list
 owed_by life h list (OkSent ok) = list
-owed_by life h list (LineWent number) = list
+owed_by life h list LinesWent = list
 owed_by life h list SessionLost = settles_sent h
 
 abbrev pub settles_owed : ℕ → List PathEvent → List Settling

@@ -1,5 +1,6 @@
 -- The sending links of a session: their credit, how far each is, and their handles.
-use Rattle.std.specs.Prelude.{◌≡◌, ℕ, Bool, true, false, not, ◌+◌, ◌-◌, ◌≤◌, ◌==◌, ◌&&◌, min}
+use Rattle.std.specs.Prelude.{◌≡◌, ℕ, Bool, true, false, not, ◌+◌, ◌-◌, ◌≤◌, ◌==◌, ◌&&◌, ◌||◌}
+use Rattle.std.specs.Prelude.{min, nat_lt, count_by}
 use Rattle.std.specs.Prelude.{if◌then◌else◌, List, [], ◌∷◌, ◌++◌, map, filter, find, insert, Option}
 use Rattle.std.specs.Prelude.{Some, None, is_some, codes, decimal}
 use Rattle.std.specs.List.{list_any, AllByRecursion}
@@ -15,6 +16,7 @@ use Rattle.session_path.specs.declared.path.AttachFault.TheVariants.{NotAsked, H
 use Rattle.session_path.specs.declared.path.PathLink.{PathLink}
 use Rattle.session_path.specs.declared.path.Stage.{Stage}
 use Rattle.session_path.specs.declared.path.Stage.TheVariants.{Wanted, Asked, Open, Refused, Left}
+use Rattle.session_path.specs.declared.path.Stage.TheVariants.{Given}
 
 pub record LinksState : Type 0 where
   -- the credit of each link that isn't lost, by address
@@ -32,6 +34,7 @@ handle_in (Asked h) = Some h
 handle_in (Open h) = Some h
 handle_in (Refused h) = Some h
 handle_in (Left h) = Some h
+handle_in (Given h) = Some h
 
 -- its handle; 0 where it has none
 abbrev pub handle_of : Stage → ℕ
@@ -40,6 +43,7 @@ handle_of (Asked h) = h
 handle_of (Open h) = h
 handle_of (Refused h) = h
 handle_of (Left h) = h
+handle_of (Given h) = h
 
 abbrev pub is_stage_wanted : Stage → Bool
 is_stage_wanted Wanted = true
@@ -47,6 +51,7 @@ is_stage_wanted (Asked h) = false
 is_stage_wanted (Open h) = false
 is_stage_wanted (Refused h) = false
 is_stage_wanted (Left h) = false
+is_stage_wanted (Given h) = false
 
 abbrev pub is_stage_asked : Stage → Bool
 is_stage_asked Wanted = false
@@ -54,6 +59,7 @@ is_stage_asked (Asked h) = true
 is_stage_asked (Open h) = false
 is_stage_asked (Refused h) = false
 is_stage_asked (Left h) = false
+is_stage_asked (Given h) = false
 
 abbrev pub is_stage_left : Stage → Bool
 is_stage_left Wanted = false
@@ -61,20 +67,45 @@ is_stage_left (Asked h) = false
 is_stage_left (Open h) = false
 is_stage_left (Refused h) = false
 is_stage_left (Left h) = true
+is_stage_left (Given h) = false
 
--- both attached with this handle of the gateway, and none detached
+abbrev pub is_stage_open : Stage → Bool
+is_stage_open Wanted = false
+is_stage_open (Asked h) = false
+is_stage_open (Open h) = true
+is_stage_open (Refused h) = false
+is_stage_open (Left h) = false
+is_stage_open (Given h) = false
+
+abbrev pub is_stage_given : Stage → Bool
+is_stage_given Wanted = false
+is_stage_given (Asked h) = false
+is_stage_given (Open h) = false
+is_stage_given (Refused h) = false
+is_stage_given (Left h) = false
+is_stage_given (Given h) = true
+
+-- both attached with this handle of the gateway, and the container didn't detach
 abbrev pub is_stage_at : ℕ → Stage → Bool
 is_stage_at h Wanted = false
 is_stage_at h (Asked k) = false
 is_stage_at h (Open k) = k == h
 is_stage_at h (Refused k) = k == h
 is_stage_at h (Left k) = false
+is_stage_at h (Given k) = k == h
 
 abbrev pub is_wanted : PathLink → Bool
 is_wanted l = is_stage_wanted l.stage
 
 abbrev pub is_left : PathLink → Bool
 is_left l = is_stage_left l.stage
+
+abbrev pub is_given : PathLink → Bool
+is_given l = is_stage_given l.stage
+
+-- one end detached, and its handle will be free
+abbrev pub is_parting : PathLink → Bool
+is_parting l = is_left l || is_given l
 
 abbrev pub is_at : ℕ → PathLink → Bool
 is_at h l = is_stage_at h l.stage
@@ -208,15 +239,20 @@ flowed_on (Some l) count credit drain echo s = record s {
 abbrev pub link_flowed : ℕ → Option ℕ → ℕ → Bool → Bool → LinksState → LinksState
 link_flowed peer count credit drain echo s = flowed_on (named peer s) count credit drain echo s
 
--- its detach: the link is lost for the publishes, and the gateway's detach is due
+-- its detach: the link is lost for the publishes, and the gateway's detach is due; one that the
+-- gateway detached is no more
 abbrev pub left_by : PathLink → PathLink
 left_by l = record l { stage = Left (handle_of l.stage) }
+
+abbrev pub detached_from : PathLink → List PathLink → List PathLink
+detached_from l links =
+    if is_given l then filter (λ k. not (has_number l.link k)) links else put (left_by l) links
 
 abbrev pub detached_on : Option PathLink → LinksState → LinksState
 detached_on None s = s
 detached_on (Some l) s = record {
   sending = without l.link s.sending;
-  links = put (left_by l) s.links;
+  links = detached_from l s.links;
   handles = after_detach_read (handle_of l.stage) s.handles;
 }
 
@@ -265,6 +301,7 @@ is_left_at h (Asked k) = false
 is_left_at h (Open k) = false
 is_left_at h (Refused k) = false
 is_left_at h (Left k) = k == h
+is_left_at h (Given k) = false
 
 abbrev pub gone_from : ℕ → List PathLink → List PathLink
 gone_from h links = filter (λ k. not (is_left_at h k.stage)) links
@@ -276,8 +313,39 @@ gone_on (Some l) s = record s {
   handles = after_detach_sent (handle_of l.stage) s.handles;
 }
 
-abbrev pub link_gone : LinksState → LinksState
-link_gone s = gone_on (find is_left s.links) s
+-- a handle is wanting: none is free, and more links are wanted than are on their way to give theirs
+-- back
+abbrev pub is_wanting : LinksState → Bool
+is_wanting s =
+    not (is_some (free_of s.handles))
+    && nat_lt (count_by is_parting s.links) (count_by is_wanted s.links)
+
+-- the link with the lowest handle
+abbrev pub lower : PathLink → Option PathLink → PathLink
+lower l None = l
+lower l (Some k) = if nat_lt (handle_of k.stage) (handle_of l.stage) then k else l
+
+abbrev pub lowest : List PathLink → Option PathLink
+lowest [] = None
+lowest (l ∷ ls) = Some (lower l (lowest ls))
+
+-- a link is detached for its handle, which is free once the container detached too
+abbrev pub given_by : PathLink → PathLink
+given_by l = record l { stage = Given (handle_of l.stage) }
+
+abbrev pub given_on : Option PathLink → LinksState → LinksState
+given_on None s = s
+given_on (Some l) s = record {
+  sending = without l.link s.sending;
+  links = put (given_by l) s.links;
+  handles = after_detach_sent (handle_of l.stage) s.handles;
+}
+
+-- the detach that is due: of the first link that the container detached, or else of one that is
+-- given up
+abbrev pub parted : Option PathLink → Option PathLink → LinksState → LinksState
+parted None given s = given_on given s
+parted (Some l) given s = gone_on (Some l) s
 
 -- ---- what holds of them at all times
 
@@ -310,6 +378,12 @@ is_half state.Free = false
 is_half state.Asked = false
 is_half (state.Attached a) = not a.detach_sent && a.detach_read
 
+-- the gateway detached
+abbrev pub is_given_back : HandleState → Bool
+is_given_back state.Free = false
+is_given_back state.Asked = false
+is_given_back (state.Attached a) = a.detach_sent && not a.detach_read
+
 -- the handle of a link stands for what the link is
 abbrev pub stands : HandleTable → Stage → Bool
 stands t Wanted = true
@@ -317,10 +391,11 @@ stands t (Asked h) = is_asked (state_of t h)
 stands t (Open h) = is_whole (state_of t h)
 stands t (Refused h) = is_whole (state_of t h)
 stands t (Left h) = is_half (state_of t h)
+stands t (Given h) = is_given_back (state_of t h)
 
--- a link whose credit is kept is one that the container didn't detach
+-- a link whose credit is kept is one that neither end detached
 abbrev pub is_kept : List PathLink → SendingLink → Bool
-is_kept links x = list_any (λ l. has_number x.link l && not (is_left l)) links
+is_kept links x = list_any (λ l. has_number x.link l && not (is_parting l)) links
 
 pub record AreTied (sending : List SendingLink) (links : List PathLink)
     (t : HandleTable) : Type 0 where

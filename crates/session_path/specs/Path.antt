@@ -1,18 +1,19 @@
 -- The publishing side of a session, as contracts see it: before any event, and after each.
 use Rattle.std.specs.Prelude.{ℕ, Bool, true, false, not, ◌==◌, ◌&&◌, ◌||◌, nat_lt, if◌then◌else◌}
-use Rattle.std.specs.Prelude.{List, [], ◌∷◌, ◌++◌, drop, find, Option, Some, None}
+use Rattle.std.specs.Prelude.{List, [], ◌∷◌, ◌++◌, count_by, drop, filter, find, Option, Some, None}
 use Rattle.std.specs.List.{list_any}
 use Rattle.publish_path.specs.Links.{link_of, link_to}
-use Rattle.publish_path.specs.Offers.{frame_sent, links_after, waits_on}
+use Rattle.publish_path.specs.Offers.{frame_sent, is_pending, links_after, waits_on}
 use Rattle.publish_path.specs.Publishes.{PublishState, TakenUp, OutcomeCame, LinkGone, ConfirmSent}
-use Rattle.publish_path.specs.Publishes.{LineTold, after_event, is_told, no_publishes}
+use Rattle.publish_path.specs.Publishes.{LinesTold, after_event, is_told, no_publishes}
 use Rattle.publish_path.specs.declared.publish.Confirm.{Confirm}
 use Rattle.publish_path.specs.declared.publish.NextFrame.{NextFrame}
 use Rattle.publish_path.specs.declared.publish.Publish.{Publish}
 use Rattle.publish_path.specs.declared.send_links.SendingLink.{SendingLink}
-use Rattle.session_path.specs.Links.{LinksState, all_lost, attached, is_left, limited, link_asked}
-use Rattle.session_path.specs.Links.{link_detached, link_flowed, link_gone, linked_to, named}
-use Rattle.session_path.specs.Links.{no_links, told_on}
+use Rattle.session_path.specs.Links.{LinksState, all_lost, attached, is_left, is_parting}
+use Rattle.session_path.specs.Links.{is_stage_open, is_wanting, limited, link_asked, link_detached}
+use Rattle.session_path.specs.Links.{link_flowed, linked_to, lowest, named, no_links, parted}
+use Rattle.session_path.specs.Links.{told_on}
 use Rattle.session_path.specs.declared.path.PathLink.{PathLink}
 use Rattle.session_path.specs.declared.path.PathOk.{PathOk}
 use Rattle.session_path.specs.declared.path.Settling.{Settling}
@@ -134,7 +135,7 @@ may_drain list sending l =
 
 abbrev pub owes_flow : List Publish → List SendingLink → PathLink → Bool
 owes_flow list sending l =
-    not (is_left l) && (nat_lt 0 l.echoes || (nat_lt 0 l.drains && may_drain list sending l))
+    not (is_parting l) && (nat_lt 0 l.echoes || (nat_lt 0 l.drains && may_drain list sending l))
 
 abbrev pub flow_of : List Publish → LinksState → Option PathLink
 flow_of list links = find (owes_flow list links.sending) links.links
@@ -154,9 +155,19 @@ transfer_sent frame count s = record s {
 abbrev pub settle_sent : PathState → PathState
 settle_sent s = record s { settles = drop 1 s.settles }
 
--- the detach of the first link that the container detached: it is no more
+-- a link is given up where its handle is wanting: of those on which no publish waits, is begun or
+-- lacks an outcome, that with the lowest handle
+abbrev pub is_idle : List Publish → PathLink → Bool
+is_idle list l = is_stage_open l.stage && (count_by (is_pending (Some l.link)) list == 0)
+
+abbrev pub given_of : List Publish → LinksState → Option PathLink
+given_of list s = if is_wanting s then lowest (filter (is_idle list) s.links) else None
+
+-- the detach that is due went
 abbrev pub detach_sent : PathState → PathState
-detach_sent s = record s { links = link_gone s.links }
+detach_sent s = record s {
+  links = parted (find is_left s.links.links) (given_of s.publishes.list s.links) s.links;
+}
 
 -- ---- what goes to the client
 
@@ -166,5 +177,5 @@ confirm_sent c s = record s { publishes = after_event (ConfirmSent c) s.publishe
 abbrev pub ok_sent : PathState → PathState
 ok_sent s = record s { oks = drop 1 s.oks }
 
-abbrev pub line_told : ℕ → PathState → PathState
-line_told n s = record s { publishes = after_event (LineTold n) s.publishes }
+abbrev pub lines_told : PathState → PathState
+lines_told s = record s { publishes = after_event LinesTold s.publishes }

@@ -37,7 +37,7 @@ pub fn publishes_lawfully()
 pub fn links_lawfully()
     // After any events no two links that aren't detached at both ends have one handle of the
     // gateway; each handle's state in the session's table is what its link is; each link whose
-    // credit is kept is one that the container didn't detach; and the numbers of the links rise.
+    // credit is kept is one that neither end detached; and the numbers of the links rise.
     ensures { (life : ℕ) (h : List PathEvent) → AreTied (after_events life h).links.sending
         (after_events life h).links.links (after_events life h).links.handles }
 {}

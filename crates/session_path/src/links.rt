@@ -1,10 +1,13 @@
 //! The links of a session in the order of their numbers: searches, and the change of one.
 
 ghost use Rattle.std.specs.Prelude.{◌≡◌, ◌+◌, ◌≤◌, length, find, map, IfSome, IfOk, option_copied};
-ghost use Rattle.session_path.specs.Links.{handle_of, has_number, is_wanted, is_left, is_at};
-ghost use Rattle.session_path.specs.Links.{is_asked_as, put_for, put, free_number, one_if, told_by};
-ghost use Rattle.session_path.specs.Links.{wanted_link, answered, left_by, asked_as, told_once};
-ghost use Rattle.session_path.specs.Links.{is_left_at, gone_from};
+ghost use Rattle.std.specs.Prelude.{filter, count_by, nat_lt, not, true};
+ghost use Rattle.std.specs.Option.{option_map_or};
+ghost use Rattle.session_path.specs.Links.{handle_of, has_number, is_wanted, is_left, is_given};
+ghost use Rattle.session_path.specs.Links.{is_parting, is_stage_open, is_at, is_asked_as, put_for};
+ghost use Rattle.session_path.specs.Links.{put, free_number, one_if, told_by, wanted_link};
+ghost use Rattle.session_path.specs.Links.{answered, left_by, given_by, asked_as, told_once};
+ghost use Rattle.session_path.specs.Links.{is_left_at, gone_from, detached_from};
 
 use crate::path::{PathLink, Stage};
 use wire_base::Memory;
@@ -19,6 +22,7 @@ pub fn handle(stage: Stage) -> u32
         Stage::Open(handle) => handle,
         Stage::Refused(handle) => handle,
         Stage::Left(handle) => handle,
+        Stage::Given(handle) => handle,
     }
 }
 
@@ -28,10 +32,41 @@ fn is_link_wanted(l: &PathLink) -> bool
     matches!(l.stage, Stage::Wanted)
 }
 
-pub fn is_link_left(l: &PathLink) -> bool
+fn is_link_left(l: &PathLink) -> bool
     ensures { result ≡ is_left l.now }
 {
     matches!(l.stage, Stage::Left(_))
+}
+
+fn is_link_given(l: &PathLink) -> bool
+    ensures { result ≡ is_given l.now }
+{
+    matches!(l.stage, Stage::Given(_))
+}
+
+/// One end detached it.
+pub fn is_link_parting(l: &PathLink) -> bool
+    ensures { result ≡ is_parting l.now }
+{
+    is_link_left(l) || is_link_given(l)
+}
+
+/// Both ends attached it, and none detached.
+pub fn is_link_open(l: &PathLink) -> bool
+    ensures { result ≡ is_stage_open l.now.stage }
+{
+    matches!(l.stage, Stage::Open(_))
+}
+
+/// Its handle is below that of the other, if there is one.
+pub fn is_link_lower(l: &PathLink, other: Option<PathLink>) -> bool
+    ensures { result
+        ≡ option_map_or (λ k. nat_lt (handle_of l.now.stage) (handle_of k.stage)) other true }
+{
+    match other {
+        Some(other) => handle(l.stage) < handle(other.stage),
+        None => true,
+    }
 }
 
 fn is_link_at(l: &PathLink, handle: u32) -> bool
@@ -40,6 +75,7 @@ fn is_link_at(l: &PathLink, handle: u32) -> bool
     match l.stage {
         Stage::Open(own) => own == handle,
         Stage::Refused(own) => own == handle,
+        Stage::Given(own) => own == handle,
         _ => false,
     }
 }
@@ -66,14 +102,28 @@ pub fn first_wanted(links: &[PathLink]) -> Option<&PathLink>
     links.iter().find(|l| is_link_wanted(l))
 }
 
-/// The first link whose detach is due.
+/// How many links are wanted.
+pub fn count_wanted(links: &[PathLink]) -> usize
+    ensures { result ≡ count_by is_wanted links.now }
+{
+    links.iter().filter(|l| is_link_wanted(l)).count()
+}
+
+/// How many links one end detached.
+pub fn count_parting(links: &[PathLink]) -> usize
+    ensures { result ≡ count_by is_parting links.now }
+{
+    links.iter().filter(|l| is_link_parting(l)).count()
+}
+
+/// The first link that the container detached.
 pub fn first_left(links: &[PathLink]) -> Option<&PathLink>
     ensures { option_copied result ≡ find is_left links.now }
 {
     links.iter().find(|l| is_link_left(l))
 }
 
-/// The link that both attached with this handle of the gateway.
+/// The link that both attached with this handle of the gateway, and the container didn't detach.
 pub fn first_at(links: &[PathLink], handle: u32) -> Option<&PathLink>
     ensures { option_copied result ≡ find (is_at handle) links.now }
 {
@@ -122,6 +172,23 @@ pub fn drop_left(links: &mut Vec<PathLink>, handle: u32)
     ensures { links.new.items ≡ gone_from handle links.old.items }
 {
     links.retain(|l| !is_link_left_at(l, handle));
+}
+
+fn drop_numbered(links: &mut Vec<PathLink>, number: u32)
+    ensures { links.new.items ≡ filter (λ l. not (has_number number l)) links.old.items }
+{
+    links.retain(|l| !is_link_numbered(l, number));
+}
+
+/// The container detached a link that both attached.
+pub fn detach_link(links: &mut Vec<PathLink>, l: PathLink)
+    ensures { links.new.items ≡ detached_from l links.old.items }
+{
+    if is_link_given(&l) {
+        drop_numbered(links, l.link);
+    } else {
+        put_link(links, left(l));
+    }
 }
 
 /// The lowest number that no link has.
@@ -175,11 +242,20 @@ pub fn answered(l: PathLink, target: bool) -> PathLink
     PathLink { stage, ..l }
 }
 
-pub fn left(l: PathLink) -> PathLink
+fn left(l: PathLink) -> PathLink
     ensures { result ≡ left_by l }
 {
     PathLink {
         stage: Stage::Left(handle(l.stage)),
+        ..l
+    }
+}
+
+pub fn given(l: PathLink) -> PathLink
+    ensures { result ≡ given_by l }
+{
+    PathLink {
+        stage: Stage::Given(handle(l.stage)),
         ..l
     }
 }

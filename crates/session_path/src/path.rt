@@ -14,6 +14,9 @@ pub enum Stage {
     Refused(u32),
     /// The container's detach came: the gateway's is due.
     Left(u32),
+    /// The gateway detached it, since its handle is wanted for another: the container's detach is
+    /// awaited.
+    Given(u32),
 }
 
 /// A sending link of a session.

@@ -1,25 +1,28 @@
 //! The sending links of a session: each call is one step of them.
 
 ghost use Rattle.std.specs.Prelude.{◌≡◌, ◌≤◌, ◌<◌, ◌+◌, ◌^◌, ◌++◌, ◌∷◌, [], ◌==◌, if◌then◌else◌};
-ghost use Rattle.std.specs.Prelude.{length, find, map, option_copied, Some, None, OnOk, OnErr};
-ghost use Rattle.std.specs.Prelude.{IfOk};
+ghost use Rattle.std.specs.Prelude.{length, find, filter, map, option_copied, Some, None, OnOk};
+ghost use Rattle.std.specs.Prelude.{OnErr, IfOk};
+ghost use Rattle.std.specs.Option.{option_or};
 ghost use Rattle.publish_path.specs.Links.{address_of, asked_link, link_of, link_to, flowed};
 ghost use Rattle.publish_path.specs.Links.{without};
 ghost use Rattle.publish_path.specs.Offers.{held_bytes, held_count, next_frame_of, rest_of};
 ghost use Rattle.publish_path.specs.Offers.{frame_sent, links_after};
 ghost use Rattle.publish_path.specs.Publishes.{TakenUp, after_event};
-ghost use Rattle.session_path.specs.Path.{credit_in, flow_of, number_of, owes_flow};
+ghost use Rattle.session_path.specs.Path.{credit_in, flow_of, given_of, is_idle, number_of};
+ghost use Rattle.session_path.specs.Path.{owes_flow};
 ghost use Rattle.link_table.specs.Table.{free_of};
 ghost use Rattle.session_path.specs.Due.{attach_of, count_in, due_in, flow_due};
 ghost use Rattle.session_path.specs.Links.{handle_at, attached_if, drained_if, free_number};
 ghost use Rattle.session_path.specs.Links.{linked_to, with_link_to, with_wanted, told_on, no_links};
 ghost use Rattle.session_path.specs.Links.{limited, all_lost, link_asked, attach_fault, attached};
 ghost use Rattle.session_path.specs.Links.{is_wanted, is_left, named, link_flowed, link_detached};
-ghost use Rattle.session_path.specs.Links.{link_gone};
+ghost use Rattle.session_path.specs.Links.{is_wanting, lowest, given_on, parted};
 
 use crate::links::{
-    answered, asked, drop_left, first_asked_as, first_at, first_left, first_numbered, first_wanted,
-    handle, is_link_left, left, lowest_free, put_link, told, told_once, wanted,
+    answered, asked, count_parting, count_wanted, detach_link, drop_left, first_asked_as, first_at,
+    first_left, first_numbered, first_wanted, given, handle, is_link_lower, is_link_open,
+    is_link_parting, lowest_free, put_link, told, told_once, wanted,
 };
 use crate::path::{AttachDue, AttachFault, FlowDue, PathLink};
 use link_table::Handles;
@@ -229,7 +232,7 @@ impl PathLinks {
         let l = *l;
         self.handles.detach_read(handle(l.stage));
         remove_one(&mut self.sending, l.link);
-        put_link(&mut self.links, left(l));
+        detach_link(&mut self.links, l);
     }
 
     /// The address of this link's target; empty where there is no such link, or it is lost.
@@ -276,26 +279,59 @@ impl PathLinks {
         }
     }
 
-    /// The link whose detach is due.
-    pub fn next_detach(&self) -> Option<PathLink>
-        ensures { result ≡ find is_left self.now.links }
+    /// No handle is free, and more links are wanted than are on their way to give theirs back.
+    fn is_wanting(&self) -> bool
+        ensures { result ≡ is_wanting self.now }
     {
-        match first_left(self.links.as_slice()) {
-            Some(l) => Some(*l),
-            None => None,
+        let wanted = count_wanted(self.links.as_slice());
+        wanted > 0 && self.handles.free().is_none() && count_parting(self.links.as_slice()) < wanted
+    }
+
+    /// The link that is given up for its handle: on it no publish is under way.
+    fn given_up(&self, publishes: &Publishes) -> Option<PathLink>
+        ensures { result ≡ given_of publishes.now.list self.now }
+    {
+        if self.is_wanting() {
+            lowest_idle(self.links.as_slice(), publishes)
+        } else {
+            None
         }
     }
 
-    /// The first detach that is due was sent. Nothing changes where none is.
-    pub fn drop_first_left(&mut self)
-        ensures { self.new ≡ link_gone self.old }
+    /// The link whose detach is due.
+    pub fn next_detach(&self, publishes: &Publishes) -> Option<PathLink>
+        ensures { result
+            ≡ option_or (find is_left self.now.links) (given_of publishes.now.list self.now) }
+    {
+        match first_left(self.links.as_slice()) {
+            Some(l) => Some(*l),
+            None => self.given_up(publishes),
+        }
+    }
+
+    /// The detach that is due was sent. Nothing changes where none is.
+    pub fn part(&mut self, publishes: &Publishes)
+        ensures { self.new ≡ parted (find is_left self.old.links)
+            (given_of publishes.now.list self.old) self.old }
     {
         let Some(l) = first_left(self.links.as_slice()) else {
+            self.give_up(publishes);
             return;
         };
         let own = handle(l.stage);
         self.handles.detach_sent(own);
         drop_left(&mut self.links, own);
+    }
+
+    fn give_up(&mut self, publishes: &Publishes)
+        ensures { self.new ≡ given_on (given_of publishes.now.list self.old) self.old }
+    {
+        let Some(l) = self.given_up(publishes) else {
+            return;
+        };
+        self.handles.detach_sent(handle(l.stage));
+        remove_one(&mut self.sending, l.link);
+        put_link(&mut self.links, given(l));
     }
 
     /// The flow that is due.
@@ -375,7 +411,7 @@ fn flow_due(sending: &SendLinks, l: PathLink) -> FlowDue
 fn is_owing(l: &PathLink, publishes: &Publishes, sending: &SendLinks) -> bool
     ensures { result ≡ owes_flow publishes.now.list sending.now l.now }
 {
-    if is_link_left(l) {
+    if is_link_parting(l) {
         return false;
     }
     l.echoes > 0 || l.drains > 0 && (!publishes.waits(l.link) || credit_of(sending, l.link) == 0)
@@ -389,6 +425,26 @@ fn first_owing<'a>(
     ensures { option_copied result ≡ find (owes_flow publishes.now.list sending.now) links.now }
 {
     links.iter().find(|l| is_owing(l, publishes, sending))
+}
+
+/// No publish waits on it, is begun, or lacks an outcome.
+fn is_idle(l: &PathLink, publishes: &Publishes) -> bool
+    ensures { result ≡ is_idle publishes.now.list l.now }
+{
+    is_link_open(l) && publishes.unanswered(Some(l.link)) == 0
+}
+
+/// The link with the lowest handle among those on which no publish is under way.
+fn lowest_idle(links: &[PathLink], publishes: &Publishes) -> Option<PathLink>
+    ensures { result ≡ lowest (filter (is_idle publishes.now.list) links.now) }
+{
+    let mut lowest = None;
+    for l in links {
+        if is_link_lower(l, lowest) && is_idle(l, publishes) {
+            lowest = Some(*l);
+        }
+    }
+    lowest
 }
 
 #[tactic(auto, using(crate::proofs::Credit::attach_none))]

@@ -1,23 +1,23 @@
 //! The publishing side of a session: each call is one event, or a question on what is due.
 
-ghost use Rattle.std.specs.Prelude.{◌≡◌, ◌≤◌, ◌+◌, ◌<◌, ◌↔◌, [], length, Some, None, IsSome};
-ghost use Rattle.std.specs.Prelude.{IsNone, IfSome, OnOk, OnErr, IfOk};
+ghost use Rattle.std.specs.Prelude.{◌≡◌, ◌≤◌, ◌+◌, ◌<◌, ◌↔◌, [], length, filter, Some, None};
+ghost use Rattle.std.specs.Prelude.{IsSome, IsNone, IfSome, OnOk, OnErr, IfOk};
 ghost use Rattle.publish_path.specs.Links.{address_of};
 ghost use Rattle.publish_path.specs.Offers.{next_frame_of, rest_of};
+ghost use Rattle.publish_path.specs.Publishes.{is_open};
 ghost use Rattle.session_path.specs.Links.{handle_at, attach_fault, named};
 ghost use Rattle.session_path.specs.Path.{PathState, opened, began, lost, owed, published};
 ghost use Rattle.session_path.specs.Path.{selected, attach_came, flow_came, detach_came};
 ghost use Rattle.session_path.specs.Path.{outcome_came, last_or, attach_sent, link_flow_sent};
 ghost use Rattle.session_path.specs.Path.{transfer_sent, settle_sent, detach_sent, confirm_sent};
-ghost use Rattle.session_path.specs.Path.{ok_sent, line_told};
+ghost use Rattle.session_path.specs.Path.{ok_sent, lines_told};
 ghost use Rattle.session_path.specs.Due.{first_of, next_attach, next_flow, next_frame, next_settle};
-ghost use Rattle.session_path.specs.Due.{next_detach, next_confirm, next_ok, next_line, is_done};
+ghost use Rattle.session_path.specs.Due.{next_detach, next_confirm, next_ok, is_done};
 ghost use Rattle.session_path.specs.Due.{held, held_size_of};
 
 use crate::path::{AttachDue, AttachFault, FlowDue, PathLink, PathOk, Settling};
 use crate::path_links::{LinkFlow, PathLinks};
-use open_items::LostItem;
-use publish_path::{Confirm, NextFrame, Publishes};
+use publish_path::{Confirm, NextFrame, Publish, Publishes};
 use std::alloc::Global;
 use std::collections::VecDeque;
 use std::marker::Model;
@@ -242,7 +242,7 @@ impl SessionPath {
     pub fn detach_sent(&mut self)
         ensures { self.new ≡ detach_sent self.old }
     {
-        self.links.drop_first_left();
+        self.links.part(&self.publishes);
     }
 
     /// The confirm that is due was sent.
@@ -261,13 +261,26 @@ impl SessionPath {
         self.oks.pop_front();
     }
 
-    /// The line of the report that is due, which is then reported.
-    pub fn next_line(&mut self) -> Option<LostItem>
-        ensures line { result ≡ next_line self.old }
-        ensures told { IfSome result (λ item. self.new ≡ line_told item.number self.old) }
-        ensures none { IsNone result → self.new ≡ self.old }
+    /// The number of the life.
+    pub fn life(&self) -> u64
+        ensures { result ≡ self.now.publishes.life }
     {
-        self.publishes.next_lost()
+        self.publishes.life()
+    }
+
+    /// The publishes, of which some have a line that the report is owed; and among them such for
+    /// which nothing is to come any more.
+    pub fn publishes(&self) -> &[Publish]
+        ensures { filter is_open result.now ≡ self.now.publishes.list }
+    {
+        self.publishes.items()
+    }
+
+    /// The lines that the report was owed were reported.
+    pub fn lines_told(&mut self)
+        ensures { self.new ≡ lines_told self.old }
+    {
+        self.publishes.lines_told();
     }
 
     /// The attach that is due.
@@ -278,7 +291,7 @@ impl SessionPath {
     }
 
     /// The address of this link's target, which its attach states (AMQP 1.0 3.5.4); empty where
-    /// there is no such link, or the container detached it.
+    /// there is no such link, or one end detached it.
     pub fn address(&self, link: u32) -> &[u8]
         ensures { result.now ≡ address_of self.now.links.sending link }
     {
@@ -310,7 +323,7 @@ impl SessionPath {
     pub fn next_detach(&self) -> Option<PathLink>
         ensures { result ≡ next_detach self.now }
     {
-        self.links.next_detach()
+        self.links.next_detach(&self.publishes)
     }
 
     /// The confirm that is due.

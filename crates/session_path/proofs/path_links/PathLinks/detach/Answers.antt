@@ -12,5 +12,5 @@ detach_read-requires c =
 pub invariant_of-self : goal.invariant_of-self
 invariant_of-self c =
     let e : find (is_at c.in-Some.own) c.self.inside.links.items ≡ Some c.in-Some-first_at.l.now = sym (ap (find (is_at c.in-Some.own)) c.as_slice.ensures.value) ∙ sym c.first_at.ensures ∙ ap option_copied c.in-Some-first_at.is in
-    rw (c.put_link.ensures, c.left.ensures, c.remove_one.ensures, c.detach_read.ensures, c.handle.ensures)
+    rw (c.detach_link.ensures, c.remove_one.ensures, c.detach_read.ensures, c.handle.ensures)
     (detached_tied c.in-Some.own _ _ _ c.in-Some-first_at.l.now c.self.invariant e)

@@ -2,7 +2,7 @@ use Rattle.std.proofs.Common.{◌≡◌, ◌∙◌, Some, sym, ap}
 use Rattle.std.specs.Prelude.{find, option_copied}
 use Rattle.session_path.specs.Links.{is_left}
 use Rattle.session_path.proofs.Ties.{is_unsent_at, gone_tied}
-use Rattle.session_path.proofs.path_links.PathLinks.drop_first_left.Goals as goal
+use Rattle.session_path.proofs.path_links.PathLinks.part.Goals as goal
 
 pub detach_sent-requires : goal.detach_sent-requires
 detach_sent-requires c =
