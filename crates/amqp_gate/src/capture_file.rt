@@ -8,14 +8,15 @@ use std::io::{ErrorKind, Write};
 /// The file that a capture is written to, each entry as it comes. Where none could be made, each
 /// write to it fails.
 #[derive(Drop)]
-pub struct CaptureFile {
+pub struct CaptureFile<'a> {
+    rt: &'a HostRuntime,
     file: Option<File>,
 }
 
-impl CaptureFile {
+impl<'a> CaptureFile<'a> {
     /// Makes the file, or empties the one that is there; without a path there is none. The standard
     /// error is told why it can't be made.
-    pub fn create(rt: &HostRuntime, path: Option<&str>) -> CaptureFile {
+    pub fn create(rt: &'a HostRuntime, path: Option<&str>) -> CaptureFile<'a> {
         let file = path.and_then(|path| match create(rt, path) {
             Ok(file) => Some(file),
             Err(error) => {
@@ -23,7 +24,7 @@ impl CaptureFile {
                 None
             }
         });
-        CaptureFile { file }
+        CaptureFile { rt, file }
     }
 }
 
@@ -34,12 +35,25 @@ fn tell_unmade(rt: &HostRuntime, path: &str, error: &io::Error) {
     }
 }
 
-impl Write for CaptureFile {
+/// Tells why one that was made can't be written. The service ends with that, so it is told once.
+fn tell_unwritten(rt: &HostRuntime, error: &io::Error) {
+    if let Ok(line) = format!(in rt.alloc(); "the capture failed: {error}") {
+        tell(rt, line.as_str());
+    }
+}
+
+impl Write for CaptureFile<'_> {
     fn write(&mut self, buf: &[u8]) -> io::Result<usize> {
-        match &mut self.file {
-            Some(file) => file.write(buf),
-            None => Err(ErrorKind::NotFound.into()),
+        let Some(file) = &mut self.file else {
+            return Err(ErrorKind::NotFound.into());
+        };
+        let written = file.write(buf);
+        if let Err(error) = &written {
+            if error.kind() != ErrorKind::Interrupted {
+                tell_unwritten(self.rt, error);
+            }
         }
+        written
     }
 
     fn flush(&mut self) -> io::Result<()> {

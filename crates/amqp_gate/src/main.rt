@@ -17,8 +17,8 @@ fn words_of(rt: &HostRuntime) -> io::Result<Vec<String>> {
     Ok(words)
 }
 
-/// The address to listen at, that of containers and the path of the capture, where the words are a command line that gives
-/// them.
+/// The address to listen at, that of containers and the path of the capture, where the words are a
+/// command line that gives them.
 #[derive(Drop)]
 struct Places {
     listen: Option<ByteText>,
@@ -103,8 +103,11 @@ fn unread(error: io::Error) -> Status {
 /// What the program can be asked.
 const USAGE: &str = "\
 usage: amqp_gate serve [--listen ADDRESS] [--upstream ADDRESS] [--name NAME] [--host HOST]
-           [--vhost VHOST] [--pairs N] [--turns N] [--capture FILE]
+           [--vhost VHOST] [--exchange NAME=ADDRESS,..] [--pairs N] [--turns N]
+           [--capture FILE]
        amqp_gate replay < CAPTURE
+       amqp_gate show 091 < BYTES
+       amqp_gate show 10 < BYTES
        amqp_gate show capture < CAPTURE";
 
 /// Why the program ends, where its status isn't 0 and the standard output doesn't say it.

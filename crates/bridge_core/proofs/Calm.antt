@@ -1,5 +1,6 @@
 -- A unit of the container never leaves a pair out of memory that was not so before.
-use Rattle.std.proofs.Common.{◌≡◌, ℕ, ◌==◌, not, ◌&&◌, ◌||◌, Bool, true, false, if◌then◌else◌, List, [], ◌∷◌, map, Option, None, Some, refl, sym, ◌∙◌}
+use Rattle.std.proofs.Common.{◌≡◌, ℕ, ◌==◌, not, ◌&&◌, ◌||◌, Bool, true, false, if◌then◌else◌, List}
+use Rattle.std.proofs.Common.{[], ◌∷◌, map, Option, None, Some, refl, sym, ◌∙◌}
 use Rattle.gate_outside.specs.declared.ports.End.TheVariants.{Up}
 use Rattle.gate_relay.specs.Sides.{is_readable}
 use Rattle.close_translate.specs.declared.conditions.Scope.{Scope}
@@ -14,10 +15,14 @@ use Rattle.gate_model.specs.declared.channel.SessionUnit.{SessionUnit}
 use Rattle.gate_model.specs.declared.outgoing.Outgoing.TheVariants.{ToUp}
 use Rattle.gate_model.specs.declared.outgoing.UpUnit.{UpUnit}
 use Rattle.gate_model.specs.declared.outgoing.UpUnit.TheVariants as up
-use Rattle.gate_model.specs.Due.{carried_rows, close_behind, detaches, ends, is_end_due, none_left, pick, row_on, rows_in, session_rows, settlings, takes_memory, takes_memory_on, takes_memory_up, unless_out, up_rows}
+use Rattle.gate_model.specs.Due.{carried_rows, close_behind, detaches, ends, is_end_due, none_left}
+use Rattle.gate_model.specs.Due.{pick, row_on, rows_in, session_rows, settlings, takes_memory}
+use Rattle.gate_model.specs.Due.{takes_memory_on, takes_memory_up, unless_out, up_rows}
 use Rattle.gate_model.specs.Lives.{is_carried, session_in}
 use Rattle.gate_model.specs.Paths.{path_at}
-use Rattle.gate_model.specs.State.{State, Heard, begun_session, carried, fail, fail_life, heard, link_scope, met_session, scoped, step, windowed, with_meaning, with_session}
+use Rattle.gate_model.specs.State.{State, Heard, begun_session, carried, fail, fail_life, heard}
+use Rattle.gate_model.specs.State.{link_scope, met_session, scoped, step, windowed, with_meaning}
+use Rattle.gate_model.specs.State.{with_session}
 use Rattle.gate_model.specs.Upstream.{first, heard_up, meaning_by}
 use Rattle.bridge_core.proofs.FirstOf.{FirstIs, both_are, each_is, when_up_is}
 

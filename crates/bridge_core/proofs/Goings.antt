@@ -1,5 +1,6 @@
 -- What goes next may go: a frame of a transfer is the one that is due, and so is a confirm.
-use Rattle.std.proofs.Common.{◌≡◌, ◌≤◌, ℕ, ◌==◌, not, ◌&&◌, ◌||◌, Bool, true, false, if◌then◌else◌, List, [], ◌∷◌, ◌++◌, Option, None, Some, arith, refl, subst, sym, map}
+use Rattle.std.proofs.Common.{◌≡◌, ◌≤◌, ℕ, ◌==◌, not, ◌&&◌, ◌||◌, Bool, true, false, if◌then◌else◌}
+use Rattle.std.proofs.Common.{List, [], ◌∷◌, ◌++◌, Option, None, Some, arith, refl, subst, sym, map}
 use Rattle.std.specs.Prelude.{IfSome}
 use Rattle.std.proofs.lemmas.Bool.Decides.{nat_tests}
 use Rattle.gate_outside.specs.declared.ports.End.TheVariants.{Client, Up}
@@ -22,7 +23,14 @@ use Rattle.gate_model.specs.declared.outgoing.UpUnit.TheVariants as up
 use Rattle.gate_model.specs.declared.reply.Pending.{Pending}
 use Rattle.gate_model.specs.declared.reply.Reply.{Reply}
 use Rattle.gate_model.specs.declared.reply.Reply.TheVariants as reply
-use Rattle.gate_model.specs.Due.{attaches, begins, carried_rows, channel_closes, channel_oks, client_rows, client_units, close_behind, close_oks, close_oks_on, closes, confirm_on, confirms, detaches, ends, frame_max_in, if_so, is_beat_due, is_end_due, last_closes, link_flows, may_answer, may_confirm, may_end, may_go, may_tell, none_left, ok_on, oks_on, open_oks, openings, path_oks, pick, refused_on, row_on, rows_in, session_flows, session_rows, settlings, transfers, unless_out, up_rows, when}
+use Rattle.gate_model.specs.Due.{attaches, begins, carried_rows, channel_closes, channel_oks}
+use Rattle.gate_model.specs.Due.{client_rows, client_units, close_behind, close_oks, close_oks_on}
+use Rattle.gate_model.specs.Due.{closes, confirm_on, confirms, detaches, ends, frame_max_in, if_so}
+use Rattle.gate_model.specs.Due.{is_beat_due, is_end_due, last_closes, link_flows, may_answer}
+use Rattle.gate_model.specs.Due.{may_confirm, may_end, may_go, may_tell, none_left, ok_on, oks_on}
+use Rattle.gate_model.specs.Due.{open_oks, openings, path_oks, pick, refused_on, row_on, rows_in}
+use Rattle.gate_model.specs.Due.{session_flows, session_rows, settlings, transfers, unless_out}
+use Rattle.gate_model.specs.Due.{up_rows, when}
 use Rattle.gate_model.specs.Lives.{is_carried, life_at, session_in}
 use Rattle.gate_model.specs.Paths.{path_at, transfer_of}
 use Rattle.gate_model.specs.Spelling.{spell_reply}

@@ -1,5 +1,6 @@
 -- What is due on channels, by what the code knows of a state.
-use Rattle.std.proofs.Common.{◌≡◌, ◌∙◌, ℕ, zero, suc, ◌+◌, Bool, List, [], ◌∷◌, Option, refl, ap, arith, drop}
+use Rattle.std.proofs.Common.{◌≡◌, ◌∙◌, ℕ, zero, suc, ◌+◌, Bool, List, [], ◌∷◌, Option, refl, ap}
+use Rattle.std.proofs.Common.{arith, drop}
 use Rattle.machine_091.specs.declared.state.Connection.{Connection}
 use Rattle.machine_10.specs.declared.state.Upstream.{Upstream}
 use Rattle.session_path.specs.Path.{PathState}

@@ -1,5 +1,6 @@
 -- A flow and a disposition of the container leave the upstream end as it is.
-use Rattle.std.proofs.Common.{◌≡◌, ◌∙◌, ℕ, ◌==◌, ◌&&◌, ◌||◌, not, Bool, true, false, Option, None, Some, refl, sym, ap, subst}
+use Rattle.std.proofs.Common.{◌≡◌, ◌∙◌, ℕ, ◌==◌, ◌&&◌, ◌||◌, not, Bool, true, false, Option, None}
+use Rattle.std.proofs.Common.{Some, refl, sym, ap, subst}
 use Rattle.std.specs.Prelude.{OnErr, Result, Ok, Err}
 use Rattle.std.proofs.lemmas.Bool.{eqb-true}
 use Rattle.machine_10.specs.Laws.{is_inside, is_within}
@@ -9,7 +10,8 @@ use Rattle.machine_10.specs.Transitions as means
 use Rattle.machine_10.specs.declared.state.Upstream.{Upstream}
 use Rattle.machine_10.specs.declared.unit.Unit10.{Unit10}
 use Rattle.gate_model.specs.State.{State}
-use Rattle.gate_model.specs.Upstream.{UpState, container_by, heard_up, is_open_phase, meaning_by, opens, opens_by}
+use Rattle.gate_model.specs.Upstream.{UpState, container_by, heard_up, is_open_phase, meaning_by}
+use Rattle.gate_model.specs.Upstream.{opens, opens_by}
 use Rattle.bridge_core.specs.LinkFaults.{takes_memory_by, takes_memory_of}
 
 -- they neither begin nor end a session

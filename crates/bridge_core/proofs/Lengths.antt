@@ -2,7 +2,8 @@
 use Rattle.std.proofs.Common.{◌≡◌, ℕ, ◌+◌, ◌<◌, ◌≤◌, List, length, length-append, arith}
 use Rattle.frames_10.specs.Frames.{frame_text, text_behind}
 use Rattle.frames_10.specs.declared.frame.Kind10.{Kind10}
-use Rattle.types_10.specs.Tree.{Tree, binary, described, list, scalar, string, symbol, Trees, tree, uint}
+use Rattle.types_10.specs.Tree.{Tree, binary, described, list, scalar, string, symbol, Trees, tree}
+use Rattle.types_10.specs.Tree.{uint}
 use Rattle.types_10.specs.Writing.{list_kind, value_text, written, written_each}
 use Rattle.types_10.specs.Measures.{head_len}
 use Rattle.types_10.proofs.Measures.{whole_len}

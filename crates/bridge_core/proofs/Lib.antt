@@ -11,6 +11,8 @@ pub mod LinkFaults
 pub mod LinkSpellings
 pub mod Logins
 pub mod Meets
+pub mod NextOwing
+pub mod OwedLines
 pub mod PathChanges
 pub mod PathSlots
 pub mod PathStays
@@ -20,4 +22,6 @@ pub mod Rooms
 pub mod Rows
 pub mod Spellings
 pub mod Strains
+pub mod Tops
 pub mod Waits
+pub mod Writings

@@ -1,5 +1,6 @@
 -- What closes by a performative that names a link.
-use Rattle.std.proofs.Common.{◌≡◌, ◌∙◌, ℕ, zero, suc, List, [], ◌∷◌, Option, None, Some, refl, sym, ap}
+use Rattle.std.proofs.Common.{◌≡◌, ◌∙◌, ℕ, zero, suc, List, [], ◌∷◌, Option, None, Some, refl, sym}
+use Rattle.std.proofs.Common.{ap}
 use Rattle.std.specs.Prelude.{Bool, true, false, is_some, slice_set}
 use Rattle.std.specs.Option.{option_map}
 use Rattle.close_translate.specs.declared.codes.TheConstants.{INTERNAL_ERROR, PRECONDITION_FAILED}
@@ -16,7 +17,8 @@ use Rattle.performatives_10.specs.declared.condition.Condition.{Condition}
 use Rattle.session_path.specs.Path.{PathState}
 use Rattle.gate_model.specs.Lives.{life_at}
 use Rattle.gate_model.specs.Paths.{path_at, slot_at, with_path}
-use Rattle.gate_model.specs.State.{State, carried, fail, fail_life, link_scope, met_session, path_heard, scoped, unattached, windowed, with_session}
+use Rattle.gate_model.specs.State.{State, carried, fail, fail_life, link_scope, met_session}
+use Rattle.gate_model.specs.State.{path_heard, scoped, unattached, windowed, with_session}
 use Rattle.gate_model.specs.declared.life.SessionState.{SessionState}
 use Rattle.bridge_core.specs.LinkFaults.{fault_in, link_fault, unnamed}
 use Rattle.bridge_core.specs.PathChanges.{path_changed}

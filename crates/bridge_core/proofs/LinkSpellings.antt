@@ -1,12 +1,14 @@
 -- The name and the flow of a link can be written, and how long a frame of a transfer is.
-use Rattle.std.proofs.Common.{◌≡◌, ℕ, ◌+◌, ◌<◌, ◌≤◌, ◌^◌, true, false, Bool, List, [], ◌∷◌, length, refl, sym, subst, arith}
+use Rattle.std.proofs.Common.{◌≡◌, ℕ, ◌+◌, ◌<◌, ◌≤◌, ◌^◌, true, false, Bool, List, [], ◌∷◌, length}
+use Rattle.std.proofs.Common.{refl, sym, subst, arith}
 use Rattle.std.specs.Prelude.{IsTrue, decimal, codes}
 use Rattle.std.specs.Int.{w64, to_be_bytes}
 use Rattle.std.specs.Str.{is_utf8, IsAscii}
 use Rattle.std.proofs.lemmas.Fmt.{IsAscii-decimal}
 use Rattle.std.proofs.lemmas.Str.{IsAscii-append, IsUtf8-from_ascii, is_utf8-from_IsUtf8}
 use Rattle.std.proofs.lemmas.Str.Ascii.{IsAscii-cons, IsAscii-nil}
-use Rattle.types_10.specs.Tree.{Tree, Trees, binary, boolean, described, list, no_trees, null, scalar, tree, uint, ulong}
+use Rattle.types_10.specs.Tree.{Tree, Trees, binary, boolean, described, list, no_trees, null}
+use Rattle.types_10.specs.Tree.{scalar, tree, uint, ulong}
 use Rattle.types_10.specs.Writing.{HasSpelling, value_text, written_each}
 use Rattle.performatives_10.specs.Writing.{perf_text, perf_tree}
 use Rattle.session_path.specs.Links.{link_name}
@@ -14,7 +16,8 @@ use Rattle.gate_model.specs.Paths.{transfer_perf}
 use Rattle.gate_model.specs.Spelling.{link_flow_perf}
 use Rattle.gate_model.specs.declared.channel.LinkFlow.{LinkFlow}
 use Rattle.gate_model.specs.declared.channel.TransferOut.{TransferOut}
-use Rattle.bridge_core.proofs.Lengths.{binary_brief, described_len, each_len, list_brief, list_short, uint_short}
+use Rattle.bridge_core.proofs.Lengths.{binary_brief, described_len, each_len, list_brief}
+use Rattle.bridge_core.proofs.Lengths.{list_short, uint_short}
 
 -- ---- the name of a link
 

@@ -1,5 +1,6 @@
 -- The paths of channels, where one is changed.
-use Rattle.std.proofs.Common.{◌≡◌, ℕ, zero, suc, ◌≤◌, List, [], ◌∷◌, Option, None, length, refl, ap, arith, ◌∙◌, ◌<◌, get_or, replicate}
+use Rattle.std.proofs.Common.{◌≡◌, ℕ, zero, suc, ◌≤◌, List, [], ◌∷◌, Option, None, length, refl, ap}
+use Rattle.std.proofs.Common.{arith, ◌∙◌, ◌<◌, get_or, replicate}
 use Rattle.std.specs.Prelude.{slice_set}
 use Rattle.session_path.specs.Path.{PathState}
 use Rattle.gate_model.specs.Paths.{with_path}

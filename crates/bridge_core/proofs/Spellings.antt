@@ -1,5 +1,6 @@
 -- The open and the sasl-init of a pair can be written, and they are short.
-use Rattle.std.proofs.Common.{◌≡◌, ℕ, ◌<◌, ◌≤◌, ◌^◌, ◌||◌, true, List, [], ◌∷◌, ◌++◌, length, nat_le, Option, None, Some, refl, sym, subst, length-append, arith}
+use Rattle.std.proofs.Common.{◌≡◌, ℕ, ◌<◌, ◌≤◌, ◌^◌, ◌||◌, true, List, [], ◌∷◌, ◌++◌, length}
+use Rattle.std.proofs.Common.{nat_le, Option, None, Some, refl, sym, subst, length-append, arith}
 use mathlib.Core.Logic.{inl, inr}
 use Rattle.std.specs.Prelude.{IfSome, IsTrue, decimal, codes}
 use Rattle.std.specs.List.{list_all}
@@ -10,7 +11,8 @@ use Rattle.std.proofs.lemmas.Fmt.{IsAscii-decimal, length-decimal-le}
 use Rattle.std.proofs.lemmas.Slice.Eq.{bytes_eq-Decides}
 use Rattle.std.proofs.lemmas.Str.{IsAscii-append, IsUtf8-from_ascii, is_utf8-from_IsUtf8}
 use Rattle.std.proofs.lemmas.Str.Ascii.{IsAscii-cons, IsAscii-nil}
-use Rattle.types_10.specs.Tree.{Tree, Trees, binary, described, list, no_trees, null, scalar, string, symbol, tree, uint, ulong, ushort}
+use Rattle.types_10.specs.Tree.{Tree, Trees, binary, described, list, no_trees, null, scalar}
+use Rattle.types_10.specs.Tree.{string, symbol, tree, uint, ulong, ushort}
 use Rattle.types_10.specs.Writing.{HasSpelling, value_text, written_each}
 use Rattle.performatives_10.specs.Writing.{perf_text, perf_tree}
 use Rattle.machine_10.specs.declared.state.Upstream.{Upstream}
@@ -18,7 +20,8 @@ use Rattle.machine_091.specs.RefusalsOpening.{is_login}
 use Rattle.machine_091.specs.declared.limits.TheConstants.{RESPONSE_MAX}
 use Rattle.gate_model.specs.Setup.{IsHost, IsInForm, IsName, SetupText}
 use Rattle.gate_model.specs.Spelling.{begin_perf, container_id, flow_perf, init_of, open_of}
-use Rattle.bridge_core.proofs.Lengths.{binary_short, described_len, each_len, list_short, string_short, symbol_short, uint_short}
+use Rattle.bridge_core.proofs.Lengths.{binary_short, described_len, each_len, list_short}
+use Rattle.bridge_core.proofs.Lengths.{string_short, symbol_short, uint_short}
 
 -- ---- the trees
 

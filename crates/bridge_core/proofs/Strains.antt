@@ -1,6 +1,7 @@
 -- A unit for which memory may run out once its connection took it: nothing but a content in progress
 -- changed, which a close drops.
-use Rattle.std.proofs.Common.{◌≡◌, ◌∙◌, ℕ, Bool, true, false, cond, eqb, List, [], Option, None, Some, Result, Ok, Err, OnErr, refl, sym, ap}
+use Rattle.std.proofs.Common.{◌≡◌, ◌∙◌, ℕ, Bool, true, false, cond, eqb, List, [], Option, None}
+use Rattle.std.proofs.Common.{Some, Result, Ok, Err, OnErr, refl, sym, ap}
 use Rattle.std.specs.Prelude.{slice_set}
 use Rattle.close_translate.specs.Conditions.{condition_of}
 use Rattle.close_translate.specs.declared.codes.TheConstants.{RESOURCE_ERROR}
@@ -15,8 +16,12 @@ use Rattle.machine_091.specs.Calls.{closing_contents, closing_phase}
 use Rattle.machine_091.specs.Contents.{Taking, begun, no_contents, taken}
 use Rattle.machine_091.specs.Methods.{close_of, declare_of, flow_of, publish_of, select_of}
 use Rattle.machine_091.specs.Refusals.{unit_ruling}
-use Rattle.machine_091.specs.State.{channel_at, content_at, is_closing_phase, is_running, with_channel, with_content}
-use Rattle.machine_091.specs.Transitions.{Step, channel_effect, closed_by, closed_step, closing_step, content_effect, frame_effect, header_step, method_effect, opening_effect, ruled_step, running_effect, step_in, unit_step, with_stream}
+use Rattle.machine_091.specs.State.{channel_at, content_at, is_closing_phase, is_running}
+use Rattle.machine_091.specs.State.{with_channel, with_content}
+use Rattle.machine_091.specs.Transitions.{Step, channel_effect, closed_by, closed_step}
+use Rattle.machine_091.specs.Transitions.{closing_step, content_effect, frame_effect, header_step}
+use Rattle.machine_091.specs.Transitions.{method_effect, opening_effect, ruled_step, running_effect}
+use Rattle.machine_091.specs.Transitions.{step_in, unit_step, with_stream}
 use Rattle.machine_091.specs.declared.contents.Incoming.{Incoming}
 use Rattle.machine_091.specs.declared.state.Channel91.TheVariants as channel
 use Rattle.machine_091.specs.declared.state.Connection.{Connection}

@@ -2,8 +2,10 @@ pub mod Behind
 pub mod ChannelRows
 pub mod Flows
 pub mod Going
+pub mod Held
 pub mod LinkFaults
 pub mod Logins
 pub mod Met
 pub mod Offers
 pub mod PathChanges
+pub mod Reports

@@ -9,7 +9,9 @@ use Rattle.methods_091.specs.declared.method.Method91.{Method91}
 use Rattle.methods_091.specs.declared.method.Method91.TheVariants as method
 use Rattle.property_map.specs.Spelling.{image_text}
 use Rattle.property_map.specs.declared.message.Message091.{Message091}
-use Rattle.gate_model.specs.Requests.{message_of, publish_fault, refusal_of_want, refused_by}
+use Rattle.gate_model.specs.declared.setup.Route.{Route}
+use Rattle.gate_model.specs.Requests.{address_of, message_of, publish_fault, refusal_of_want}
+use Rattle.gate_model.specs.Requests.{refused_by}
 use Rattle.gate_model.specs.Paths.{with_path}
 use Rattle.gate_model.specs.State.{State, closes_at, fed_by, is_foreign, is_held, with_header}
 use Rattle.gate_model.specs.State as state
@@ -23,10 +25,12 @@ use Rattle.bridge_core.specs.declared.requests.Published.TheVariants as publishe
 
 -- ---- a publish
 
-abbrev pub IsPublish : Bool → Message091 → Published → Type 0
-IsPublish mandatory m (published.Refused code) = publish_fault mandatory m ≡ Some code
-IsPublish mandatory m (published.Sent address payload) =
-    (publish_fault mandatory m ≡ None) × (address ≡ m.key) × (payload ≡ image_text m)
+abbrev pub IsPublish : List Route → Bool → Message091 → Published → Type 0
+IsPublish routes mandatory m (published.Refused code) =
+    publish_fault routes mandatory m ≡ Some code
+IsPublish routes mandatory m (published.Sent address payload) =
+    (publish_fault routes mandatory m ≡ None) × (address ≡ address_of routes m)
+    × (payload ≡ image_text m)
 
 -- ---- what a unit wants
 
@@ -44,16 +48,17 @@ is_publish want.CloseOk = false
 is_publish (want.Refuse r) = false
 
 -- this publish, on its channel
-abbrev pub IsOf : Want91 → ℕ → List ℕ → List ℕ → Type 0
-IsOf (want.Publish n m c) k address payload =
-    (k ≡ n) × (address ≡ (message_of m c).key) × (payload ≡ image_text (message_of m c))
-IsOf x k address payload = is_publish x ≡ true
+abbrev pub IsOf : List Route → Want91 → ℕ → List ℕ → List ℕ → Type 0
+IsOf routes (want.Publish n m c) k address payload =
+    (k ≡ n) × (address ≡ address_of routes (message_of m c))
+    × (payload ≡ image_text (message_of m c))
+IsOf routes x k address payload = is_publish x ≡ true
 
-abbrev pub IsMet : Want91 → Connection → Connection → Met → Type 0
-IsMet x old new (met.Want y) =
-    ((new, y) ≡ refused_by (refusal_of_want x) (old, x)) × (is_publish y ≡ false)
-IsMet x old new (met.Publish k address payload) =
-    (new ≡ old) × (refusal_of_want x ≡ None) × IsOf x k address payload
+abbrev pub IsMet : List Route → Want91 → Connection → Connection → Met → Type 0
+IsMet routes x old new (met.Want y) =
+    ((new, y) ≡ refused_by (refusal_of_want routes x) (old, x)) × (is_publish y ≡ false)
+IsMet routes x old new (met.Publish k address payload) =
+    (new ≡ old) × (refusal_of_want routes x ≡ None) × IsOf routes x k address payload
 
 -- ---- which may run out of memory
 

@@ -7,9 +7,14 @@ ghost use Rattle.gate_model.specs.State.{Moment, Fed, Silent, Queued, TakenUp, H
 ghost use Rattle.gate_model.specs.State.{Lost, Gave};
 ghost use Rattle.gate_model.specs.State.{Whole, OutOfMemory, new_state, next_unit, waits};
 ghost use Rattle.gate_model.specs.Due.{can_leave, can_take_up, is_awaiting, is_busy};
-ghost use Rattle.gate_model.specs.Due.{is_connect_due, is_shut_due, is_silent, pick};
+ghost use Rattle.gate_model.specs.Due.{is_connect_due, is_end_out, is_shut_due, is_silent, pick};
 ghost use Rattle.gate_model.specs.Due.{carries, carries_up, takes_memory, takes_memory_up};
-ghost use Rattle.gate_model.specs.Spelling.{context_of, spell_up};
+ghost use Rattle.gate_model.specs.Spelling.{context_of, lines_text, spell_up};
+ghost use Rattle.gate_model.specs.State.{owed_lines};
+ghost use Rattle.gate_outside.specs.Counts.{Rose};
+ghost use Rattle.gate_outside.specs.Streams.{Appends, AppendsFront};
+ghost use Rattle.gate_relay.specs.Entries.{is_empty};
+ghost use Rattle.std.specs.Bool.{OnFalse, OnTrue};
 ghost use Rattle.gate_model.specs.Upstream.{awaited_of};
 ghost use Rattle.machine_091.specs.Limits.{AreWithin};
 ghost use Rattle.machine_091.specs.State.{awaits};
@@ -21,14 +26,14 @@ ghost use Rattle.bridge_core.specs.PathChanges.{MayGo};
 use crate::core_state::Core;
 use crate::slot::Slot;
 use crate::up_slot::UpSlot;
-use gate_model::{Outgoing, Setup, UpUnit};
-use gate_outside::{End, Linked};
+use gate_model::{Outgoing, Setup, Site, UpUnit};
+use gate_outside::{End, Linked, Sink};
 use gate_relay::Loss;
 use machine_10::{Awaited10, Unit10};
 use machine_091::{Awaited91, Unit91};
 use std::alloc::Global;
 use std::marker::Model;
-use wire_base::{ByteText, Memory};
+use wire_base::Memory;
 
 /// The bridge of a pair. Each call that changes its state is a step, and takes back what was
 /// offered.
@@ -125,15 +130,15 @@ fn look_up(state: &Core, slot: &mut UpSlot, alloc: Global, setup: &Setup) -> Res
 }
 
 impl Bridge {
-    /// The pair with this number, accepted at this moment in milliseconds. Its client may open this
-    /// virtual host.
-    pub fn new(alloc: Global, vhost: ByteText, number: u32, moment: u64) -> Bridge
-        ensures state { result.state ≡ new_state vhost number moment }
+    /// The pair with this number, accepted at this moment in milliseconds. Its client may open and
+    /// publish to this.
+    pub fn new(alloc: Global, site: Site, number: u32, moment: u64) -> Bridge
+        ensures state { result.state ≡ new_state site number moment }
         ensures client { result.client.ready ≡ false }
         ensures up { result.up.ready ≡ false }
     {
         Bridge {
-            state: Core::new(alloc, vhost, number, moment),
+            state: Core::new(alloc, site, number, moment),
             client: Slot::new(),
             up: UpSlot::new(),
         }
@@ -375,6 +380,21 @@ impl Bridge {
         self.state.is_busy(end)
     }
 
+    /// Writes the lines that the report is owed. `false` comes only if the report's count of faults
+    /// rose; a front part of the lines was then taken.
+    pub fn tell_lines<K: Sink>(&self, report: &mut K) -> bool
+        ensures later { K.faults report.old ≤ K.faults report.new }
+        ensures cause { OnFalse result (Rose (K.faults report.old) (K.faults report.new)) }
+        ensures whole { OnTrue result (Appends (K.held report.old) (K.held report.new)
+            (lines_text self.now.state.number (owed_lines self.now.state))) }
+        ensures some { OnFalse result (is_empty (lines_text self.now.state.number
+            (owed_lines self.now.state)) ≡ false) }
+        ensures part { OnFalse result (AppendsFront (K.held report.old) (K.held report.new)
+            (lines_text self.now.state.number (owed_lines self.now.state))) }
+    {
+        self.state.tell_lines(report)
+    }
+
     // ---- what goes
 
     /// Looks for what goes next to an end. What is found is offered, and its bytes are `bytes`.
@@ -411,6 +431,14 @@ impl Bridge {
             End::Client => self.client.bytes(),
             End::Up => self.up.bytes(),
         }
+    }
+
+    /// What is offered to the container is an end of a session.
+    pub fn ends_session(&self) -> bool
+        requires { self.now.up.ready ≡ true }
+        ensures { result ≡ is_end_out (pick self.now.state Up) }
+    {
+        matches!(self.up.chosen(), Some(UpUnit::End(_, _)))
     }
 
     /// The first byte of the unit that is offered was sent.

@@ -13,6 +13,7 @@ ghost use Rattle.bridge_core.specs.ChannelRows.{begin_row, close_ok_row, close_r
 ghost use Rattle.bridge_core.specs.ChannelRows.{is_end_due_by, is_left_on, is_lingered_by};
 ghost use Rattle.bridge_core.specs.ChannelRows.{is_settled_on, is_waiting_on, open_ok_row};
 
+use crate::lives::{CHANNELS, Lives};
 use crate::paths::Paths;
 use crate::sessions::is_flow_owed;
 use gate_model::{
@@ -65,17 +66,12 @@ pub fn is_waiting_on(
 }
 
 /// A request of some channel waits for the container.
-#[tactic(auto, using(crate::proofs::Rows::waits_more))]
-pub fn any_waits(
-    lives: &[Life; 256],
-    closing: bool,
-    settled: bool,
-    container: &Option<Conn10>,
-) -> bool
+#[tactic(auto, using(crate::proofs::Rows::waits_more, crate::proofs::Rows::waits_end))]
+pub fn any_waits(lives: &Lives, closing: bool, settled: bool, container: &Option<Conn10>) -> bool
     ensures { result ≡ any_life (is_waiting_on closing settled container.now) 0 lives.now }
 {
-    for i in 0..256u16 {
-        if is_waiting_on(closing, settled, container, i, lives[i as usize]) {
+    for i in 0..lives.top() {
+        if is_waiting_on(closing, settled, container, i, lives.at(i)) {
             return true;
         }
     }
@@ -83,12 +79,12 @@ pub fn any_waits(
 }
 
 /// The first channel.open-ok.
-#[tactic(auto, using(crate::proofs::Rows::open_oks_more))]
-pub fn first_open_ok(lives: &[Life; 256]) -> Option<Reply>
+#[tactic(auto, using(crate::proofs::Rows::open_oks_more, crate::proofs::Rows::open_oks_end))]
+pub fn first_open_ok(lives: &Lives) -> Option<Reply>
     ensures { result ≡ first (each open_ok_row 0 lives.now) }
 {
-    for i in 0..256u16 {
-        if lives[i as usize].open_ok {
+    for i in 0..lives.top() {
+        if lives.at(i).open_ok {
             return Some(Reply::ChannelOpenOk(i));
         }
     }
@@ -107,11 +103,11 @@ fn ok_on(life: Life, paths: &Paths, channel: u16) -> Option<Reply>
 }
 
 /// The first answer on a channel that is open.
-#[tactic(auto, using(crate::proofs::Rows::oks_more))]
-pub fn first_ok(lives: &[Life; 256], paths: &Paths) -> Option<Reply>
+#[tactic(auto, using(crate::proofs::Rows::oks_more, crate::proofs::Rows::oks_end))]
+pub fn first_ok(lives: &[Life; CHANNELS], paths: &Paths) -> Option<Reply>
     ensures { result ≡ first (each (oks_on paths.now) 0 lives.now) }
 {
-    for i in 0..256u16 {
+    for i in 0..paths.top() {
         if let Some(unit) = ok_on(lives[i as usize], paths, i) {
             return Some(unit);
         }
@@ -138,10 +134,11 @@ fn confirm_on(life: Life, paths: &Paths, channel: u16) -> Option<Reply>
 }
 
 /// The first confirm.
-pub fn first_confirm(lives: &[Life; 256], paths: &Paths) -> Option<Reply>
+#[tactic(auto, using(crate::proofs::Rows::confirms_end))]
+pub fn first_confirm(lives: &[Life; CHANNELS], paths: &Paths) -> Option<Reply>
     ensures { result ≡ first (each (confirms_on paths.now) 0 lives.now) }
 {
-    for i in 0..256u16 {
+    for i in 0..paths.top() {
         if let Some(unit) = confirm_on(lives[i as usize], paths, i) {
             return Some(unit);
         }
@@ -150,19 +147,16 @@ pub fn first_confirm(lives: &[Life; 256], paths: &Paths) -> Option<Reply>
 }
 
 /// The first channel.close-ok for which nothing is waited for.
-#[tactic(auto, using(crate::proofs::Rows::close_oks_more))]
-pub fn first_close_ok(
-    lives: &[Life; 256],
-    settled: bool,
-    container: &Option<Conn10>,
-) -> Option<Reply>
+#[tactic(auto, using(crate::proofs::Rows::close_oks_more, crate::proofs::Rows::close_oks_end))]
+pub fn first_close_ok(lives: &Lives, settled: bool, container: &Option<Conn10>) -> Option<Reply>
     ensures { result ≡ first (each (close_ok_row settled container.now) 0 lives.now) }
 {
-    for i in 0..256u16 {
-        if lives[i as usize].crossed_ok {
+    for i in 0..lives.top() {
+        let life = lives.at(i);
+        if life.crossed_ok {
             return Some(Reply::CrossedOk(i));
         }
-        if lives[i as usize].close_ok && is_settled_on(settled, container, i) {
+        if life.close_ok && is_settled_on(settled, container, i) {
             return Some(Reply::ChannelCloseOk(i));
         }
     }
@@ -170,12 +164,12 @@ pub fn first_close_ok(
 }
 
 /// The first channel.close for which nothing is waited for.
-#[tactic(auto, using(crate::proofs::Rows::closes_more))]
-pub fn first_close(lives: &[Life; 256], settled: bool, container: &Option<Conn10>) -> Option<Reply>
+#[tactic(auto, using(crate::proofs::Rows::closes_more, crate::proofs::Rows::closes_end))]
+pub fn first_close(lives: &Lives, settled: bool, container: &Option<Conn10>) -> Option<Reply>
     ensures { result ≡ first (each (close_row settled container.now) 0 lives.now) }
 {
-    for i in 0..256u16 {
-        if let Some(refusal) = lives[i as usize].close {
+    for i in 0..lives.top() {
+        if let Some(refusal) = lives.at(i).close {
             if is_settled_on(settled, container, i) {
                 return Some(Reply::ChannelClose(i, refusal));
             }
@@ -185,12 +179,12 @@ pub fn first_close(lives: &[Life; 256], settled: bool, container: &Option<Conn10
 }
 
 /// The first begin of a session.
-#[tactic(auto, using(crate::proofs::Rows::begins_more))]
-pub fn first_begin(lives: &[Life; 256], container: &Option<Conn10>) -> Option<UpUnit>
+#[tactic(auto, using(crate::proofs::Rows::begins_more, crate::proofs::Rows::begins_end))]
+pub fn first_begin(lives: &Lives, container: &Option<Conn10>) -> Option<UpUnit>
     ensures { result ≡ first (each (begin_row container.now) 0 lives.now) }
 {
-    for i in 0..256u16 {
-        if lives[i as usize].begin && is_free(container, i) {
+    for i in 0..lives.top() {
+        if lives.at(i).begin && is_free(container, i) {
             return Some(UpUnit::Begin(i));
         }
     }
@@ -215,12 +209,12 @@ fn is_flow_due(container: &Option<Conn10>, channel: u16, session: SessionState) 
 }
 
 /// The first flow of a session.
-#[tactic(auto, using(crate::proofs::Rows::flows_more))]
-pub fn first_flow(lives: &[Life; 256], container: &Option<Conn10>) -> Option<UpUnit>
+#[tactic(auto, using(crate::proofs::Rows::flows_more, crate::proofs::Rows::flows_end))]
+pub fn first_flow(lives: &Lives, container: &Option<Conn10>) -> Option<UpUnit>
     ensures { result ≡ first (each (flows_on container.now) 0 lives.now) }
 {
-    for i in 0..256u16 {
-        let session = lives[i as usize].session;
+    for i in 0..lives.top() {
+        let session = lives.at(i).session;
         if is_flow_due(container, i, session) {
             let (incoming, outgoing) = session.windows.ids();
             return Some(UpUnit::Flow(i, incoming, outgoing));
@@ -246,16 +240,16 @@ fn attach_on(container: &Option<Conn10>, paths: &Paths, name: u64, channel: u16)
 }
 
 /// The first attach of a link.
-#[tactic(auto, using(crate::proofs::Rows::attaches_more))]
+#[tactic(auto, using(crate::proofs::Rows::attaches_more, crate::proofs::Rows::attaches_end))]
 pub fn first_attach(
-    lives: &[Life; 256],
+    lives: &[Life; CHANNELS],
     container: &Option<Conn10>,
     paths: &Paths,
     name: u64,
 ) -> Option<UpUnit>
     ensures { result ≡ first (each (attach_row container.now paths.now name) 0 lives.now) }
 {
-    for i in 0..256u16 {
+    for i in 0..paths.top() {
         if let Some(unit) = attach_on(container, paths, name, i) {
             return Some(unit);
         }
@@ -301,15 +295,15 @@ fn link_flow_on(
 }
 
 /// The first flow of a link.
-#[tactic(auto, using(crate::proofs::Rows::link_flows_more))]
+#[tactic(auto, using(crate::proofs::Rows::link_flows_more, crate::proofs::Rows::link_flows_end))]
 pub fn first_link_flow(
-    lives: &[Life; 256],
+    lives: &[Life; CHANNELS],
     container: &Option<Conn10>,
     paths: &Paths,
 ) -> Option<UpUnit>
     ensures { result ≡ first (each (link_flow_row container.now paths.now) 0 lives.now) }
 {
-    for i in 0..256u16 {
+    for i in 0..paths.top() {
         if let Some(unit) = link_flow_on(lives[i as usize], container, paths, i) {
             return Some(unit);
         }
@@ -345,15 +339,15 @@ fn transfer_on(
 }
 
 /// The first frame of a transfer.
-#[tactic(auto, using(crate::proofs::Rows::transfers_more))]
+#[tactic(auto, using(crate::proofs::Rows::transfers_more, crate::proofs::Rows::transfers_end))]
 pub fn first_transfer(
-    lives: &[Life; 256],
+    lives: &[Life; CHANNELS],
     container: &Option<Conn10>,
     paths: &Paths,
 ) -> Option<UpUnit>
     ensures { result ≡ first (each (transfer_row container.now paths.now) 0 lives.now) }
 {
-    for i in 0..256u16 {
+    for i in 0..paths.top() {
         if let Some(unit) = transfer_on(lives[i as usize], container, paths, i) {
             return Some(unit);
         }
@@ -373,15 +367,15 @@ fn settling_on(container: &Option<Conn10>, paths: &Paths, channel: u16) -> Optio
 }
 
 /// The first disposition that answers one of the container's.
-#[tactic(auto, using(crate::proofs::Rows::settlings_more))]
+#[tactic(auto, using(crate::proofs::Rows::settlings_more, crate::proofs::Rows::settlings_end))]
 pub fn first_settling(
-    lives: &[Life; 256],
+    lives: &[Life; CHANNELS],
     container: &Option<Conn10>,
     paths: &Paths,
 ) -> Option<UpUnit>
     ensures { result ≡ first (each (settle_row container.now paths.now) 0 lives.now) }
 {
-    for i in 0..256u16 {
+    for i in 0..paths.top() {
         if let Some(unit) = settling_on(container, paths, i) {
             return Some(unit);
         }
@@ -401,15 +395,15 @@ fn detach_on(container: &Option<Conn10>, paths: &Paths, channel: u16) -> Option<
 }
 
 /// The first detach that answers one of the container's.
-#[tactic(auto, using(crate::proofs::Rows::detaches_more))]
+#[tactic(auto, using(crate::proofs::Rows::detaches_more, crate::proofs::Rows::detaches_end))]
 pub fn first_detach(
-    lives: &[Life; 256],
+    lives: &[Life; CHANNELS],
     container: &Option<Conn10>,
     paths: &Paths,
 ) -> Option<UpUnit>
     ensures { result ≡ first (each (detach_row container.now paths.now) 0 lives.now) }
 {
-    for i in 0..256u16 {
+    for i in 0..paths.top() {
         if let Some(unit) = detach_on(container, paths, i) {
             return Some(unit);
         }
@@ -485,7 +479,7 @@ fn is_end_due(
 /// The first end of a session.
 #[tactic(auto, using(crate::proofs::Rows::ends_more))]
 pub fn first_end(
-    lives: &[Life; 256],
+    lives: &[Life; CHANNELS],
     container: &Option<Conn10>,
     conn: &Conn91,
     paths: &Paths,
@@ -493,7 +487,7 @@ pub fn first_end(
 ) -> Option<UpUnit>
     ensures { result ≡ first (each (end_row parting container.now conn.now paths.now) 0 lives.now) }
 {
-    for i in 0..256u16 {
+    for i in 0..CHANNELS as u16 {
         if is_end_due(lives[i as usize], container, conn, paths, parting, i) {
             return Some(UpUnit::End(i, lives[i as usize].why));
         }
@@ -503,10 +497,10 @@ pub fn first_end(
 
 /// A session is left that began and that the gateway didn't end.
 #[tactic(auto, using(crate::proofs::Rows::left_more))]
-pub fn any_left(lives: &[Life; 256], container: &Option<Conn10>) -> bool
+pub fn any_left(lives: &[Life; CHANNELS], container: &Option<Conn10>) -> bool
     ensures { result ≡ any_life (is_left_on container.now) 0 lives.now }
 {
-    for i in 0..256u16 {
+    for i in 0..CHANNELS as u16 {
         if is_ended(container, i) || is_begun(container, i) {
             return true;
         }

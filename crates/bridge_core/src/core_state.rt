@@ -1,86 +1,67 @@
 //! The state of a pair: its client's connection, its upstream end, what is due to the client, and
 //! the moments that count.
 
-ghost use Rattle.std.specs.Prelude.{◌≡◌, ◌<◌, ◌||◌, ◌++◌, true, false, not, OnOk, OnErr, IfOk};
+ghost use Rattle.std.specs.Prelude.{◌≡◌, ◌<◌, ◌≤◌, ◌||◌, true, false, OnOk, OnErr};
+ghost use Rattle.std.specs.Bool.{OnFalse, OnTrue};
 ghost use Rattle.std.specs.Prelude.{IfSome, Some, None, is_some, length, slice_get, take};
 ghost use Rattle.gate_outside.specs.declared.ports.End.TheVariants.{Client, Up};
-ghost use Rattle.gate_model.specs.State.{Moment, Fed, Silent, Queued, TakenUp, Heard, Joined};
-ghost use Rattle.gate_model.specs.State.{Lost, Gave, Whole, OutOfMemory, new_state, step};
+ghost use Rattle.gate_model.specs.State.{Moment, Fed, Silent, Queued, TakenUp, Joined};
+ghost use Rattle.gate_model.specs.State.{Lost, Whole, OutOfMemory, new_state, step};
 ghost use Rattle.gate_model.specs.State.{none_pending, is_foreign, closes_at, close_if};
-ghost use Rattle.gate_model.specs.State.{is_limit_reached, has_left, last_pending, without};
-ghost use Rattle.gate_model.specs.State.{with_last, fail, fail_life, is_settled, lost_up, met};
-ghost use Rattle.gate_model.specs.State.{begun_session, came, carried, met_session};
-ghost use Rattle.gate_model.specs.State.{close_waits, conn_given, next_unit};
-ghost use Rattle.gate_model.specs.State.{opened, place, waits, with_meaning, with_session};
-ghost use Rattle.gate_model.specs.State.{fed_by, is_held, left, without_begin, without_life};
-ghost use Rattle.gate_model.specs.Due.{is_awaiting, is_beat_due, is_busy, is_connect_due};
+ghost use Rattle.gate_model.specs.State.{is_limit_reached, has_left, last_pending};
+ghost use Rattle.gate_model.specs.State.{with_last, fail, is_settled, lost_up};
+ghost use Rattle.gate_model.specs.State.{came};
+ghost use Rattle.gate_model.specs.State.{close_waits, paths_lost};
+ghost use Rattle.gate_model.specs.State.{opened, place, waits};
+ghost use Rattle.gate_model.specs.State.{fed_by, is_held, left, owed_lines};
+ghost use Rattle.gate_model.specs.Spelling.{lines_text};
+ghost use Rattle.gate_outside.specs.Counts.{Rose};
+ghost use Rattle.gate_outside.specs.Streams.{Appends, AppendsFront};
+ghost use Rattle.gate_relay.specs.Entries.{is_empty};
+ghost use Rattle.gate_model.specs.Due.{is_awaiting, is_busy, is_connect_due};
 ghost use Rattle.gate_model.specs.Due.{is_shut_due, is_bad, is_unheard, is_overdue, can_leave};
-ghost use Rattle.gate_model.specs.Due.{can_take_up, channel_closes, channel_oks, client_rows};
-ghost use Rattle.gate_model.specs.Due.{begins, client_units, ends};
-ghost use Rattle.gate_model.specs.Due.{if_so, is_silent, last_closes, may_answer};
-ghost use Rattle.gate_model.specs.Due.{may_end, may_go, may_tell, open_oks, openings, rows_in};
-ghost use Rattle.gate_model.specs.Due.{session_flows, unless_out, up_rows};
-ghost use Rattle.gate_model.specs.Lives.{freed_life, life_at, lives_by, refusal_on, with_life};
-ghost use Rattle.gate_model.specs.Queue.{can_take};
-ghost use Rattle.gate_model.specs.Upstream.{awaited_of, condition_in, first};
-ghost use Rattle.close_translate.specs.Conditions.{code_by};
+ghost use Rattle.gate_model.specs.Due.{can_take_up};
+ghost use Rattle.gate_model.specs.Due.{begins};
+ghost use Rattle.gate_model.specs.Due.{is_silent};
+ghost use Rattle.gate_model.specs.Queue.{can_take, place_in};
+ghost use Rattle.gate_model.specs.Upstream.{awaited_of, first};
 ghost use Rattle.machine_091.specs.Limits.{AreWithin};
 ghost use Rattle.machine_091.specs.Refusals.{refusal_with};
-ghost use Rattle.machine_091.specs.State.{awaits};
-ghost use Rattle.machine_091.specs.declared.unit.Want91.TheVariants as want;
-ghost use Rattle.machine_10.specs.Parts.{parts_of};
-ghost use Rattle.machine_10.specs.Transitions.{meaning_of};
-ghost use Rattle.performatives_10.specs.Fields.{maybe};
-ghost use Rattle.performatives_10.specs.View.{error_tree};
-ghost use Rattle.bridge_core.specs.Behind.{answering_units, closing_units, end_units, ended_units};
-ghost use Rattle.bridge_core.specs.Behind.{last_units, parting_units, session_units};
-ghost use Rattle.bridge_core.specs.Flows.{FlowsFit};
+ghost use Rattle.machine_091.specs.State.{awaits, is_opening};
 ghost use Rattle.bridge_core.specs.Going.{KeepsGoing};
-ghost use Rattle.bridge_core.specs.Logins.{IsLoginOf, IsLoginWant};
-ghost use Rattle.bridge_core.specs.Offers.{with_next};
+ghost use Rattle.bridge_core.specs.Held.{AreHeld};
+ghost use Rattle.bridge_core.specs.Logins.{IsLoginOf};
 
 mod due;
 mod going;
 mod hearing;
 mod taking;
 
-use crate::channel_rows::{
-    Parting, any_left, any_waits, first_attach, first_begin, first_close, first_close_ok,
-    first_confirm, first_detach, first_end, first_flow, first_link_flow, first_ok, first_open_ok,
-    first_settling, first_transfer, is_waiting_on,
-};
-use crate::lives::{Lives, old_life};
+use crate::channel_rows::{any_waits, is_waiting_on};
+use crate::lives::{CHANNELS, Lives};
 use crate::moments::{closes_at, fed_by, is_overdue};
-use crate::path_changes::{LinkFault, link_number, path_change};
-use crate::paths::{PathChange, Paths};
+use crate::paths::Paths;
 use crate::queue::{Queue, channel_of, waits_for_all};
-use crate::replies::{last_pending, none_pending, refusal_on, refusal_with, with_last, without};
-use crate::requests::{Met, meet};
-use crate::sessions::{carried_by, fault_of, flow_sent};
+use crate::replies::{last_pending, none_pending, refusal_with, with_last};
+use crate::report::tell_lines;
 use crate::up_core::UpCore;
-use close_translate::{
-    CONNECTION_FORCED, INTERNAL_ERROR, NOT_ALLOWED, PRECONDITION_FAILED, RESOURCE_ERROR, Scope,
-    code_of, condition_of,
-};
-use gate_model::{
-    BEAT_PER_SECOND, CLOSING_LIMIT, HANDSHAKE_LIMIT, Life, Outgoing, Pending, Reply,
-    SILENCE_PER_SECOND, SentLast, SessionState, SessionUnit, UpUnit,
-};
-use gate_outside::{End, Linked};
+use close_translate::{CONNECTION_FORCED, RESOURCE_ERROR, Scope, condition_of};
+use gate_model::{HANDSHAKE_LIMIT, Pending, Reply, Routes, SILENCE_PER_SECOND, SentLast, Site};
+use gate_outside::{End, Linked, Sink};
 use gate_relay::{Loss, Side};
-use machine_10::{Awaited10, Conn10, Unit10, Want10};
-use machine_091::{Awaited91, Conn91, Phase91, Refusal, Stream91, Unit91, Want91};
-use methods_091::Method91;
-use performatives_10::{Attach, Condition, Error10, Perf};
-use session_path::{AttachFault, PathOk, SessionPath};
+use machine_10::{Awaited10, Conn10};
+use machine_091::{Awaited91, Conn91, Stream91, Unit91};
+use performatives_10::Condition;
+use session_path::SessionPath;
 use std::alloc::Global;
 use std::marker::Model;
-use wire_base::{ByteText, Memory};
+use wire_base::Memory;
 
 /// The state of a pair.
 #[derive(Drop)]
 pub struct Core {
     number: u32,
+    routes: Routes,
     conn: Conn91,
     pending: Pending,
     in_progress: Option<Reply>,
@@ -122,6 +103,7 @@ impl Model for Core {
 
     ghost view = { λ a. record {
       number = a.number;
+      routes = a.routes;
       conn = a.conn;
       pending = a.pending;
       in_progress = a.in_progress;
@@ -197,14 +179,15 @@ fn is_unheard(conn: &Conn91) -> bool
 }
 
 impl Core {
-    /// The pair with this number was accepted at this moment, and its client may open this virtual
-    /// host.
-    pub fn new(alloc: Global, vhost: ByteText, number: u32, moment: u64) -> Core
-        ensures { result ≡ new_state vhost number moment }
+    /// The pair with this number was accepted at this moment, and its client may open and publish
+    /// to this.
+    pub fn new(alloc: Global, site: Site, number: u32, moment: u64) -> Core
+        ensures { result ≡ new_state site number moment }
     {
         Core {
             number,
-            conn: Conn91::new(vhost),
+            routes: site.routes,
+            conn: Conn91::new(site.vhost),
             pending: none_pending(),
             in_progress: None,
             sent_last: SentLast {
@@ -243,6 +226,7 @@ impl Core {
         self.fed_at = fed_by(self.is_held(), moment, self.fed_at);
         let late = is_limit_reached(&self.conn, self.accepted_at, moment);
         close_if(&mut self.conn, late);
+        self.paths.lines_told();
         self.moment = moment;
         self.closed_at = closes_at(self.closed_at, late, moment);
         self.late |= late;
@@ -258,9 +242,12 @@ impl Core {
         self.queue.push(unit)
     }
 
-    /// The unit at this place can be taken up.
-    fn can_take(&self, place: usize) -> bool
-        requires { place < length self.now.queue }
+    /// The unit at this place can be taken up, while no connection.open waits; `held` says which
+    /// channels the units before it hold.
+    fn can_take(&self, place: usize, held: &[bool; CHANNELS]) -> bool
+        requires running { is_opening self.now.conn ≡ false }
+        requires within { place < length self.now.queue }
+        requires held { AreHeld (take place self.now.queue) held.now }
         ensures { IfSome (slice_get self.now.queue place) (λ u. result
             ≡ can_take (waits self.now) (take place self.now.queue) u) }
     {
@@ -271,26 +258,41 @@ impl Core {
                     place == 0 && !self.waits()
                 } else {
                     let channel = channel_of(unit);
-                    !self.conn.is_opening()
-                        && !self.waits_on(channel)
-                        && !self.queue.holds_before(place, channel)
+                    !self.waits_on(channel) && !self.queue.is_held(place, channel, held)
                 }
             }
         }
     }
 
-    /// The place of the first unit that can be taken up.
-    #[tactic(auto, using(crate::proofs::Places::place_more))]
+    /// The place of the first unit that can be taken up, while no connection.open waits: in one
+    /// pass, in which each unit that can't be holds its channel.
+    fn first_to_take(&self) -> Option<usize>
+        requires { is_opening self.now.conn ≡ false }
+        ensures place { result ≡ place_in (waits self.now) self.now.queue }
+        ensures within { IfSome result (λ i. i < length self.now.queue) }
+    {
+        let mut held = [false; CHANNELS];
+        for i in 0..self.queue.len() {
+            if self.can_take(i, &held) {
+                return Some(i);
+            }
+            if !self.queue.hold(i, &mut held) {
+                return None;
+            }
+        }
+        None
+    }
+
+    /// The place of the unit that is taken up next.
     fn place(&self) -> Option<usize>
         ensures place { result ≡ place self.now }
         ensures within { IfSome result (λ i. i < length self.now.queue) }
     {
-        for i in 0..self.queue.len() {
-            if self.can_take(i) {
-                return Some(i);
-            }
+        if self.conn.is_opening() || self.paths.is_laden() {
+            None
+        } else {
+            self.first_to_take()
         }
-        None
     }
 
     /// The upstream end fails: the client is told so, unless its connection closes already.
@@ -313,6 +315,7 @@ impl Core {
         ensures step { self.new ≡ step self.old (Joined answer) }
         ensures kept { KeepsGoing self.old self.new }
     {
+        self.paths.lines_told();
         match answer {
             Linked::Ok => self.up.link(self.moment),
             Linked::Failed => {
@@ -352,7 +355,10 @@ impl Core {
     {
         match end {
             End::Client => self.fed_at = self.moment,
-            End::Up => self.up.feed(self.moment),
+            End::Up => {
+                self.up.feed(self.moment);
+                self.paths.lines_told();
+            }
         }
     }
 
@@ -402,7 +408,10 @@ impl Core {
                 self.leaving |= !has_left(&self.conn);
                 self.failed = true;
             }
-            (End::Up, Loss::Shut) => self.up.shut(),
+            (End::Up, Loss::Shut) => {
+                self.up.shut();
+                self.lose_paths();
+            }
             (End::Up, Loss::Ended) => self.lose_up(Side::Ended),
             (End::Up, Loss::Failed) => self.lose_up(Side::Failed),
         }
@@ -414,8 +423,16 @@ impl Core {
         ensures kept { KeepsGoing self.old self.new }
     {
         self.up.lose(side);
-        self.paths.lose_all();
+        self.lose_paths();
         self.fail(CONNECTION_FORCED, None);
+    }
+
+    /// All sessions are lost; what the report was owed before was reported.
+    fn lose_paths(&mut self)
+        ensures { self.new ≡ record self.old { paths = paths_lost self.old.paths } }
+    {
+        self.paths.lines_told();
+        self.paths.lose_all();
     }
 
     /// The pair ran out of memory.
@@ -483,7 +500,7 @@ impl Core {
         self.conn.is_opening()
             || self.close_waits()
             || any_waits(
-                self.lives.all(),
+                &self.lives,
                 self.conn.is_closing(),
                 self.is_settled(),
                 self.up.container(),
@@ -547,7 +564,11 @@ impl Core {
     fn is_held(&self) -> bool
         ensures { result ≡ is_held self.now }
     {
-        self.conn.is_opening() || self.close_waits() || self.queue.has_bad() || self.queue.is_full()
+        self.conn.is_opening()
+            || self.close_waits()
+            || self.queue.has_bad()
+            || self.queue.is_full()
+            || self.paths.is_laden()
     }
 
     /// Bytes of an end are awaited.
@@ -581,7 +602,11 @@ impl Core {
     pub fn can_leave(&self) -> bool
         ensures { result ≡ can_leave self.now }
     {
-        self.leaving && !self.out_of_memory && self.queue.is_empty() && !self.waits()
+        self.leaving
+            && !self.out_of_memory
+            && self.queue.is_empty()
+            && !self.waits()
+            && !self.paths.is_laden()
     }
 
     /// The client's end is to be shut.
@@ -619,6 +644,21 @@ impl Core {
             End::Client => self.is_client_shut_due(),
             End::Up => self.is_up_shut_due(),
         }
+    }
+
+    /// Writes the lines that the report is owed. `false` comes only if the report's count of faults
+    /// rose; a front part of the lines was then taken.
+    pub fn tell_lines<K: Sink>(&self, report: &mut K) -> bool
+        ensures later { K.faults report.old ≤ K.faults report.new }
+        ensures cause { OnFalse result (Rose (K.faults report.old) (K.faults report.new)) }
+        ensures whole { OnTrue result (Appends (K.held report.old) (K.held report.new)
+            (lines_text self.now.number (owed_lines self.now))) }
+        ensures some { OnFalse result (is_empty (lines_text self.now.number (owed_lines self.now))
+            ≡ false) }
+        ensures part { OnFalse result (AppendsFront (K.held report.old) (K.held report.new)
+            (lines_text self.now.number (owed_lines self.now))) }
+    {
+        tell_lines(report, self.number, &self.paths, self.opened)
     }
 
     /// The pair ran out of memory.

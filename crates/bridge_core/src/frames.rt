@@ -18,6 +18,10 @@ use methods_091::{
 use publish_path::Confirm;
 use session_path::PathOk;
 
+/// So many bytes at most have the units that carry nothing of the client's: they are written in a
+/// room that is kept.
+pub const ROOM: usize = 512;
+
 /// The protocol header of AMQP 0-9-1 (AMQP 0-9-1 4.2.2).
 const HEADER: [u8; 8] = [b'A', b'M', b'Q', b'P', 0, 0, 9, 1];
 
@@ -85,8 +89,8 @@ fn heartbeat() -> &'static [u8]
 }
 
 /// Writes bytes over the first ones of a room, and answers their count.
-pub fn write_over(room: &mut [u8; 512], bytes: &[u8]) -> usize
-    requires { length bytes.now ≤ 512 }
+pub fn write_over(room: &mut [u8; ROOM], bytes: &[u8]) -> usize
+    requires { length bytes.now ≤ ROOM }
     ensures { IsWrittenOver bytes.now room.old room.new result }
 {
     let count = bytes.len();
@@ -95,7 +99,7 @@ pub fn write_over(room: &mut [u8; 512], bytes: &[u8]) -> usize
 }
 
 /// Writes a connection.close for a refusal, with the name of its code as text.
-fn write_close(room: &mut [u8; 512], refusal: Refusal) -> usize
+fn write_close(room: &mut [u8; ROOM], refusal: Refusal) -> usize
     ensures { IsWrittenOver (spell_reply (reply.Close refusal)) room.old room.new result }
 {
     let name = code_name(refusal.code);
@@ -103,7 +107,7 @@ fn write_close(room: &mut [u8; 512], refusal: Refusal) -> usize
 }
 
 /// Writes a channel.close for a refusal, with the name of its code as text.
-fn write_channel_close(room: &mut [u8; 512], channel: u16, refusal: Refusal) -> usize
+fn write_channel_close(room: &mut [u8; ROOM], channel: u16, refusal: Refusal) -> usize
     ensures { IsWrittenOver (spell_reply (reply.ChannelClose channel refusal)) room.old room.new
         result }
 {
@@ -119,7 +123,7 @@ fn write_channel_close(room: &mut [u8; 512], channel: u16, refusal: Refusal) -> 
 }
 
 /// Writes an ack or a nack on a channel.
-fn write_confirm(room: &mut [u8; 512], channel: u16, confirm: Confirm) -> usize
+fn write_confirm(room: &mut [u8; ROOM], channel: u16, confirm: Confirm) -> usize
     ensures { IsWrittenOver (channel_text channel (confirm_method confirm)) room.old room.new
         result }
 {
@@ -131,7 +135,7 @@ fn write_confirm(room: &mut [u8; 512], channel: u16, confirm: Confirm) -> usize
 }
 
 /// Writes an answer or a confirm on a channel.
-fn write_on_channel(room: &mut [u8; 512], channel: u16, unit: ChannelUnit) -> usize
+fn write_on_channel(room: &mut [u8; ROOM], channel: u16, unit: ChannelUnit) -> usize
     ensures { IsWrittenOver (spell_reply (reply.OnChannel channel unit)) room.old room.new result }
 {
     match unit {
@@ -143,9 +147,9 @@ fn write_on_channel(room: &mut [u8; 512], channel: u16, unit: ChannelUnit) -> us
 }
 
 /// Writes the bytes of a unit to the client over the first ones of a room, and answers their count.
-pub fn spell_reply(room: &mut [u8; 512], reply: Reply) -> usize
+pub fn spell_reply(room: &mut [u8; ROOM], reply: Reply) -> usize
     ensures written { IsWrittenOver (spell_reply reply) room.old room.new result }
-    ensures small { result ≤ 512 }
+    ensures small { result ≤ ROOM }
 {
     match reply {
         Reply::Protocol => write_over(room, header()),

@@ -13,6 +13,7 @@ mod path_changes;
 mod paths;
 mod queue;
 mod replies;
+mod report;
 mod requests;
 mod sessions;
 mod slot;

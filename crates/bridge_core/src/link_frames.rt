@@ -168,7 +168,7 @@ fn frame_of(alloc: Global, channel: u16, perf: &Perf, payload: &[u8]) -> Result<
     requires { HasSpelling (perf_tree perf.now) }
     ensures text { IfOk result (λ text.
         text ≡ frame_on channel (perf_text perf.now ++ payload.now)) }
-    ensures small { IfOk result (λ text. length text ≤ 65536) }
+    ensures small { IfOk result (λ text. length text ≤ FRAME_MAX) }
 {
     let mut body = ByteText::empty(alloc);
     put_perf(alloc, &mut body, perf)?;
@@ -197,7 +197,7 @@ pub fn attach_frame(
     address: &[u8],
 ) -> Result<ByteText, Memory>
     ensures text { IfOk result (λ text. text ≡ spell_on channel (unit.Attach attach) address.now) }
-    ensures small { IfOk result (λ text. length text ≤ 65536) }
+    ensures small { IfOk result (λ text. length text ≤ FRAME_MAX) }
 {
     if address.len() > ADDRESS_MAX || !is_utf8(address) {
         return Err(Memory);
@@ -211,7 +211,7 @@ pub fn attach_frame(
 /// The frame of a link's flow.
 pub fn flow_frame(alloc: Global, channel: u16, flow: LinkFlow) -> Result<ByteText, Memory>
     ensures text { IfOk result (λ text. text ≡ spell_on channel (unit.Flow flow) []) }
-    ensures small { IfOk result (λ text. length text ≤ 65536) }
+    ensures small { IfOk result (λ text. length text ≤ FRAME_MAX) }
 {
     let perf = flow_of(flow);
     let frame = frame_of(alloc, channel, &perf, &[]);
@@ -227,7 +227,7 @@ pub fn transfer_frame(
     part: &[u8],
 ) -> Result<ByteText, Memory>
     ensures text { IfOk result (λ text. text ≡ spell_on channel (unit.Transfer transfer) part.now) }
-    ensures small { IfOk result (λ text. length text ≤ 65536) }
+    ensures small { IfOk result (λ text. length text ≤ FRAME_MAX) }
 {
     let perf = transfer_of(alloc, transfer)?;
     let frame = frame_of(alloc, channel, &perf, part);

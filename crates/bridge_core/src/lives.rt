@@ -1,6 +1,6 @@
 //! The channels of a client: what is due on each.
 
-ghost use Rattle.std.specs.Prelude.{◌≡◌, false};
+ghost use Rattle.std.specs.Prelude.{◌≡◌, ◌≤◌, drop, false, length};
 ghost use Rattle.gate_model.specs.Lives.{life_at, no_life, no_lives, old_life, with_life};
 ghost use Rattle.bridge_core.specs.Flows.{FlowsFit};
 
@@ -46,20 +46,24 @@ pub fn old_life(life: Life) -> Life
 /// What is due on each channel.
 #[derive(Drop)]
 pub struct Lives {
-    lives: [Life; 256],
+    lives: [Life; CHANNELS],
     crowded: bool,
+    /// Nothing was ever due on a channel from this number on: looks for what goes next end there.
+    top: u16,
 }
 
 impl Model for Lives {
-    ghost use Rattle.std.specs.Prelude.{◌≡◌, List, false};
+    ghost use Rattle.std.specs.Prelude.{◌≡◌, ◌≤◌, List, drop, false, length};
     ghost use Rattle.gate_model.specs.declared.life.Life.{Life};
+    ghost use Rattle.gate_model.specs.Lives.{no_lives};
     ghost use Rattle.bridge_core.specs.Flows.{FlowsFit};
 
     ghost Value = { List Life };
 
     ghost view = { λ a. a.lives };
 
-    ghost invariant = { λ a. a.crowded ≡ false → FlowsFit a.lives };
+    ghost invariant = { λ a. (a.crowded ≡ false → FlowsFit a.lives)
+        × ((a.top ≤ length a.lives) × (drop a.top a.lives ≡ drop a.top no_lives)) };
 }
 
 impl Lives {
@@ -69,13 +73,14 @@ impl Lives {
         ensures { result ≡ no_lives }
     {
         Lives {
-            lives: [no_life(); 256],
+            lives: [no_life(); CHANNELS],
             crowded: false,
+            top: 0,
         }
     }
 
     /// What is due on each channel, by its number.
-    pub fn all(&self) -> &[Life; 256]
+    pub fn all(&self) -> &[Life; CHANNELS]
         ensures { result.now ≡ self.now }
     {
         &self.lives
@@ -92,7 +97,7 @@ impl Lives {
     }
 
     /// What is due on a channel is this.
-    #[tactic(auto, using(crate::proofs::Flows::set_fits, crate::proofs::Flows::set_beyond))]
+    #[tactic(auto, using(crate::proofs::Flows::set_beyond))]
     pub fn set(&mut self, channel: u16, life: Life)
         ensures { self.new ≡ with_life channel life self.old }
     {
@@ -101,7 +106,16 @@ impl Lives {
             let full = session.echoes == u32::MAX;
             self.lives[channel as usize] = life;
             self.crowded = self.crowded || full;
+            self.top = self.top.max(channel + 1);
         }
+    }
+
+    /// Nothing was ever due on a channel from this number on.
+    pub fn top(&self) -> u16
+        ensures within { result ≤ length self.now }
+        ensures beyond { drop result self.now ≡ drop result no_lives }
+    {
+        self.top
     }
 
     /// Whether as many flows of some channel's session may be asked for as can be counted.

@@ -1,7 +1,9 @@
 //! The paths of channels, by their numbers: the links, the publishes and the answers of each.
 
-ghost use Rattle.std.specs.Prelude.{◌≡◌, IfSome, IsSome, IfOk, OnErr, OnOk, Some, None, is_some};
-ghost use Rattle.std.specs.Prelude.{box_value, map, option_copied, true};
+ghost use Rattle.std.specs.Prelude.{◌≡◌, ◌-◌, ◌^◌, IfSome, OnErr, OnOk, Some, None};
+ghost use Rattle.std.specs.Prelude.{is_some, box_value, map, min, option_copied, true};
+ghost use Rattle.std.specs.List.{list_any};
+ghost use Rattle.std.specs.Prelude.{◌≤◌, drop};
 ghost use Rattle.std.specs.Option.{option_map};
 ghost use Rattle.session_path.specs.Due.{is_done, next_attach, next_confirm, next_detach};
 ghost use Rattle.session_path.specs.Due.{next_flow};
@@ -10,15 +12,20 @@ ghost use Rattle.session_path.specs.Links.{attach_fault, handle_of, named};
 ghost use Rattle.session_path.specs.Path.{published};
 ghost use Rattle.session_path.specs.declared.path.AttachFault.TheVariants.{NotAsked};
 ghost use Rattle.gate_model.specs.Due.{carries_of};
+ghost use Rattle.gate_model.specs.Paths.{bytes_in, bytes_on, held_in, held_on, is_laden};
 ghost use Rattle.gate_model.specs.Paths.{lost_path, no_paths, path_at, set_path, slot_at};
-ghost use Rattle.gate_model.specs.Paths.{transfer_of, with_path};
+ghost use Rattle.gate_model.specs.Paths.{told_paths, transfer_of, with_path};
+ghost use Rattle.session_path.specs.Path.{lines_told};
 ghost use Rattle.gate_model.specs.State.{path_given, path_told};
 ghost use Rattle.bridge_core.specs.PathChanges.{MayGive, MayTell, path_changed, takes_memory_to};
 ghost use Rattle.bridge_core.specs.PathChanges.{detach_of};
+ghost use Rattle.bridge_core.specs.declared.lives.TheConstants.{CHANNELS};
+ghost use Rattle.bridge_core.specs.Reports.{IsNextOwing, has_line, is_before, owing_on, sooner};
 
+use crate::lives::CHANNELS;
 use crate::transfers::transfer_of;
-use gate_model::{ChannelUnit, SessionUnit, TransferOut};
-use publish_path::Confirm;
+use gate_model::{ChannelUnit, HELD_BYTES, HELD_PUBLISHES, SessionUnit, TransferOut};
+use publish_path::{Confirm, Publish};
 use session_path::{
     AttachDue, AttachFault, FlowDue, LinkFlow, PathOk, SessionPath, Settling, Stage,
 };
@@ -76,6 +83,48 @@ impl PathSlot {
     {
         if let Some(path) = &mut self.path {
             path.lost();
+        }
+    }
+
+    /// The lines that the report was owed were reported.
+    fn lines_told(&mut self)
+        ensures { self.new ≡ option_map lines_told self.old }
+    {
+        if let Some(path) = &mut self.path {
+            path.lines_told();
+        }
+    }
+
+    /// The path.
+    pub fn path(&self) -> Option<&SessionPath>
+        ensures { option_copied result ≡ self.now }
+    {
+        match &self.path {
+            None => None,
+            Some(path) => Some(path),
+        }
+    }
+
+    /// The life whose publishes owe lines to the report, if some do.
+    fn owing(&self) -> Option<u64>
+        ensures { result ≡ owing_on self.now }
+    {
+        let path = self.path()?;
+        if owes(path.publishes()) {
+            Some(path.life())
+        } else {
+            None
+        }
+    }
+
+    /// How many publishes are held, and the bytes of their payloads.
+    fn held(&self) -> (u32, u64)
+        ensures count { result.0 ≡ held_on self.now }
+        ensures bytes { result.1 ≡ bytes_on self.now }
+    {
+        match &self.path {
+            None => (0, 0),
+            Some(path) => path.held(),
         }
     }
 
@@ -164,8 +213,70 @@ impl PathSlot {
     }
 }
 
+/// Some publish owes a line to the report.
+fn owes(publishes: &[Publish]) -> bool
+    ensures { result ≡ list_any has_line publishes.now }
+{
+    publishes.iter().any(|publish| publish.line.is_some())
+}
+
+/// A life comes before the next one, if there is one.
+fn is_before(life: u64, next: Option<u64>) -> bool
+    ensures { result ≡ is_before life next }
+{
+    match next {
+        None => true,
+        Some(next) => life < next,
+    }
+}
+
+/// Of two lives the first, where the second counts only above one number and not past another.
+fn sooner(next: Option<u64>, life: Option<u64>, above: u64, last: u64) -> Option<u64>
+    ensures { result ≡ sooner above last next life }
+{
+    match life {
+        Some(life) if above < life && life <= last && is_before(life, next) => Some(life),
+        _ => next,
+    }
+}
+
+/// The first life above one, and not past the last, that owes lines to the report.
+fn next_owing(slots: &[PathSlot], above: u64, last: u64) -> Option<u64>
+    ensures { IsNextOwing above last slots.now result }
+{
+    let mut next = None;
+    for slot in slots {
+        next = sooner(next, slot.owing(), above, last);
+    }
+    next
+}
+
+/// How many publishes all hold, and the bytes of their payloads; 2^64 - 1 of more.
+fn held_in(slots: &[PathSlot]) -> (u64, u64)
+    ensures count { result.0 ≡ min (held_in slots.now) (2 ^ 64 - 1) }
+    ensures bytes { result.1 ≡ min (bytes_in slots.now) (2 ^ 64 - 1) }
+{
+    let mut publishes: u64 = 0;
+    let mut bytes: u64 = 0;
+    for slot in slots {
+        let (count, size) = slot.held();
+        publishes = publishes.saturating_add(u64::from(count));
+        bytes = bytes.saturating_add(size);
+    }
+    (publishes, bytes)
+}
+
+/// The lines that the report was owed of all were reported.
+fn tell_each(paths: &mut [PathSlot; CHANNELS])
+    ensures { paths.new ≡ told_paths paths.old }
+{
+    for slot in paths.iter_mut() {
+        slot.lines_told();
+    }
+}
+
 /// All are.
-fn lose_each(paths: &mut [PathSlot; 256])
+fn lose_each(paths: &mut [PathSlot; CHANNELS])
     ensures { paths.new ≡ map (option_map lost_path) paths.old }
 {
     for slot in paths.iter_mut() {
@@ -176,18 +287,23 @@ fn lose_each(paths: &mut [PathSlot; 256])
 /// The paths of all channels.
 #[derive(Drop)]
 pub struct Paths {
-    paths: [PathSlot; 256],
+    paths: [PathSlot; CHANNELS],
+    /// No channel was opened from this number on: looks for what goes next end there.
+    top: u16,
 }
 
 impl Model for Paths {
-    ghost use Rattle.std.specs.Prelude.{◌≡◌, List, Option, length};
+    ghost use Rattle.bridge_core.specs.declared.lives.TheConstants.{CHANNELS};
+    ghost use Rattle.std.specs.Prelude.{◌≡◌, ◌≤◌, List, Option, drop, length};
     ghost use Rattle.session_path.specs.Path.{PathState};
+    ghost use Rattle.gate_model.specs.Paths.{no_paths};
 
     ghost Value = { List (Option PathState) };
 
     ghost view = { λ a. a.paths };
 
-    ghost invariant = { λ a. length a.paths ≡ 256 };
+    ghost invariant = { λ a. (length a.paths ≡ CHANNELS)
+        × ((a.top ≤ CHANNELS) × (drop a.top a.paths ≡ drop a.top no_paths)) };
 }
 
 impl Paths {
@@ -198,6 +314,7 @@ impl Paths {
     {
         Paths {
             paths: Default::default(),
+            top: 0,
         }
     }
 
@@ -221,7 +338,24 @@ impl Paths {
         let at = usize::from(channel);
         if at < self.paths.len() {
             self.paths[at] = PathSlot { path: Some(path) };
+            self.top = self.top.max(channel + 1);
         }
+    }
+
+    /// No channel was opened from this number on.
+    pub fn top(&self) -> u16
+        ensures within { result ≤ CHANNELS }
+        ensures beyond { drop result self.now ≡ drop result no_paths }
+    {
+        self.top
+    }
+
+    /// The slots of the channels that may have a path.
+    fn used(&self) -> &[PathSlot]
+        ensures count { held_in result.now ≡ held_in self.now }
+        ensures bytes { bytes_in result.now ≡ bytes_in self.now }
+    {
+        &self.paths[..usize::from(self.top)]
     }
 
     /// The session of a channel is lost.
@@ -233,6 +367,35 @@ impl Paths {
         if at < self.paths.len() {
             self.paths[at].lose();
         }
+    }
+
+    /// What the report was owed was reported.
+    pub fn lines_told(&mut self)
+        ensures { self.new ≡ told_paths self.old }
+    {
+        tell_each(&mut self.paths);
+    }
+
+    /// The paths of the channels, by their numbers.
+    pub fn slots(&self) -> &[PathSlot]
+        ensures { result.now ≡ self.now }
+    {
+        &self.paths
+    }
+
+    /// The first life above one, and not past the last, that owes lines to the report.
+    pub fn next_owing(&self, above: u64, last: u64) -> Option<u64>
+        ensures { IsNextOwing above last self.now result }
+    {
+        next_owing(&self.paths, above, last)
+    }
+
+    /// So many publishes are held, or so many bytes of them, that nothing more is taken up.
+    pub fn is_laden(&self) -> bool
+        ensures { result ≡ is_laden self.now }
+    {
+        let (publishes, bytes) = held_in(self.used());
+        publishes >= HELD_PUBLISHES || bytes >= HELD_BYTES
     }
 
     /// The connection is.
@@ -417,7 +580,10 @@ fn handle_of(stage: Stage) -> u32
 {
     match stage {
         Stage::Wanted => 0,
-        Stage::Asked(handle) | Stage::Open(handle) | Stage::Refused(handle) | Stage::Left(handle) =>
-            { handle }
+        Stage::Asked(handle)
+        | Stage::Open(handle)
+        | Stage::Refused(handle)
+        | Stage::Left(handle)
+        | Stage::Given(handle) => handle,
     }
 }

@@ -1,22 +1,26 @@
 //! The units of a client that aren't taken up yet.
 
-ghost use Rattle.std.specs.Prelude.{◌≡◌, ◌<◌, ◌++◌, ◌∷◌, [], OnOk, OnErr, length, option_copied};
-ghost use Rattle.std.specs.Prelude.{slice_get, take, Some};
+ghost use Rattle.std.specs.Prelude.{◌≡◌, ◌<◌, ◌+◌, ◌++◌, ◌∷◌, [], OnOk, OnErr, length};
+ghost use Rattle.std.specs.Prelude.{IfSome, option_copied, slice_get, slice_set, take, true, Some};
+ghost use Rattle.std.specs.Bool.{OnFalse, OnTrue};
 ghost use Rattle.std.specs.List.{list_any};
 ghost use Rattle.gate_model.specs.Queue.{holds, is_bad_unit, is_empty, is_full, payload_of};
 ghost use Rattle.gate_model.specs.Queue.{removed, waits_for_all, channel_of};
+ghost use Rattle.bridge_core.specs.Held.{AreHeld};
 
+use crate::lives::CHANNELS;
 use frames_091::Kind91;
 use gate_model::{QUEUE_BYTES, QUEUE_UNITS};
 use machine_091::Unit91;
 use std::alloc::Global;
+use std::collections::VecDeque;
 use std::marker::Model;
 use wire_base::Memory;
 
 /// The units of a client that aren't taken up yet, in their order.
 #[derive(Drop)]
 pub struct Queue {
-    units: Vec<Unit91>,
+    units: VecDeque<Unit91>,
     bytes: usize,
 }
 
@@ -70,13 +74,24 @@ fn holds(channel: u16, unit: &Unit91) -> bool
     of == 0 || of == channel
 }
 
+/// A channel is held.
+#[tactic(auto, using(crate::proofs::Places::set_past))]
+fn mark(held: &mut [bool; CHANNELS], channel: u16)
+    ensures { held.new ≡ slice_set held.old channel true }
+{
+    let at = usize::from(channel);
+    if at < CHANNELS {
+        held[at] = true;
+    }
+}
+
 impl Queue {
     /// All is taken up.
     pub fn new(alloc: Global) -> Queue
         ensures { result ≡ [] }
     {
         Queue {
-            units: Vec::new(alloc),
+            units: VecDeque::new(alloc),
             bytes: 0,
         }
     }
@@ -90,7 +105,7 @@ impl Queue {
         let Some(bytes) = self.bytes.checked_add(payload_of(&unit)) else {
             return Err(Memory);
         };
-        match self.units.push(unit) {
+        match self.units.push_back(unit) {
             Ok(()) => {
                 self.bytes = bytes;
                 Ok(())
@@ -143,12 +158,53 @@ impl Queue {
     }
 
     /// Whether one of the first units holds those of a channel.
-    pub fn holds_before(&self, place: usize, channel: u16) -> bool
+    fn holds_before(&self, place: usize, channel: u16) -> bool
         requires { place < length self.now }
         ensures { result ≡ list_any (holds channel) (take place self.now) }
     {
-        let (front, _) = self.units.as_slice().split_at(place);
-        front.iter().any(|u| holds(channel, u))
+        self.units.iter().take(place).any(|u| holds(channel, u))
+    }
+
+    /// Whether one of the first units holds those of a channel, where this says it of each channel
+    /// of a client.
+    pub fn is_held(&self, place: usize, channel: u16, held: &[bool; CHANNELS]) -> bool
+        requires within { place < length self.now }
+        requires held { AreHeld (take place self.now) held.now }
+        ensures { result ≡ list_any (holds channel) (take place self.now) }
+    {
+        let at = usize::from(channel);
+        if at < CHANNELS {
+            held[at]
+        } else {
+            self.holds_before(place, channel)
+        }
+    }
+
+    /// The channel of the unit at a place.
+    fn channel_at(&self, place: usize) -> u16
+        requires { place < length self.now }
+        ensures { IfSome (slice_get self.now place) (λ u. result ≡ channel_of u) }
+    {
+        match self.units.get(place) {
+            None => 0,
+            Some(unit) => channel_of(unit),
+        }
+    }
+
+    /// The unit at a place holds its channel. `false` is for one of channel 0, which holds all.
+    #[tactic(auto, using(crate::proofs::Places::hold_more))]
+    pub fn hold(&self, place: usize, held: &mut [bool; CHANNELS]) -> bool
+        requires within { place < length self.now }
+        requires held { AreHeld (take place self.now) held.old }
+        ensures all { OnFalse result (IfSome (slice_get self.now place) (λ u. channel_of u ≡ 0)) }
+        ensures held { OnTrue result (AreHeld (take (place + 1) self.now) held.new) }
+    {
+        let channel = self.channel_at(place);
+        if channel == 0 {
+            return false;
+        }
+        mark(held, channel);
+        true
     }
 
     /// The unit at a place doesn't wait any more.
@@ -158,7 +214,9 @@ impl Queue {
         ensures unit { slice_get self.old place ≡ Some result }
         ensures rest { self.new ≡ removed place self.old }
     {
-        let unit = self.units.remove(place);
+        let Some(unit) = self.units.remove(place) else {
+            unreachable!()
+        };
         self.bytes -= payload_of(&unit);
         unit
     }

@@ -1,9 +1,9 @@
 //! What a unit of the client wants, as the gateway meets it: a request that it can't meet is
 //! refused, and a publish becomes a message of AMQP 1.0.
 
-ghost use Rattle.std.specs.Prelude.{◌≡◌, true, IfOk, OnErr};
-ghost use Rattle.gate_model.specs.Requests.{is_mandatory, is_routed, message_of, method_fault};
-ghost use Rattle.gate_model.specs.Requests.{refusal_for};
+ghost use Rattle.std.specs.Prelude.{◌≡◌, true, IfOk, OnErr, option_copied};
+ghost use Rattle.gate_model.specs.Requests.{address_for, is_known, is_mandatory, message_of};
+ghost use Rattle.gate_model.specs.Requests.{method_fault, refusal_for};
 ghost use Rattle.bridge_core.specs.Met.{IsMet, IsPublish, is_publish};
 ghost use Rattle.bridge_core.specs.declared.requests.Met.TheVariants as met;
 ghost use Rattle.machine_091.specs.Calls.{after_closing};
@@ -14,6 +14,7 @@ ghost use Rattle.machine_091.specs.declared.unit.Want91.TheVariants as want;
 
 use close_translate::{NOT_FOUND, NOT_IMPLEMENTED, PRECONDITION_FAILED, Scope};
 use content_091::Content;
+use gate_model::Routes;
 use machine_091::{Conn91, Refusal, Want91};
 use methods_091::{Method91, ids};
 use property_map::{MapFault, Message091, put_image};
@@ -36,13 +37,24 @@ enum Published {
     Sent(ByteText, ByteText),
 }
 
+/// An exchange is known: the default one, whose name is empty, and those that have an address.
+fn is_known(routes: &Routes, exchange: &[u8]) -> bool
+    ensures { result ≡ is_known routes.now exchange.now }
+{
+    exchange.is_empty() || routes.address(exchange).is_some()
+}
+
 /// The reply code that a method is refused with, if it is.
-fn method_fault(method: &Method91) -> Option<u16>
-    ensures { result ≡ method_fault method.now }
+fn method_fault(routes: &Routes, method: &Method91) -> Option<u16>
+    ensures { result ≡ method_fault routes.now method.now }
 {
     match method {
-        Method91::ExchangeDeclare { exchange, .. } if !exchange.as_slice().is_empty() => {
-            Some(NOT_FOUND)
+        Method91::ExchangeDeclare { exchange, .. } => {
+            if is_known(routes, exchange.as_slice()) {
+                None
+            } else {
+                Some(NOT_FOUND)
+            }
         }
         _ => None,
     }
@@ -68,11 +80,20 @@ fn refusal_for(channel: u16, ids: (u16, u16), code: u16) -> Refusal
     }
 }
 
-/// A publish goes to the address that its routing key names, on the default exchange.
-fn is_routed(message: &Message091) -> bool
-    ensures { result ≡ is_routed message.now }
+/// Where a publish goes: on the default exchange to the address that its routing key names, on
+/// another one to the address that this stands for.
+fn address_for<'a>(routes: &'a Routes, message: &'a Message091) -> Option<&'a ByteText>
+    ensures { option_copied result ≡ address_for routes.now message.now }
 {
-    message.exchange.as_slice().is_empty() && !message.key.as_slice().is_empty()
+    let exchange = message.exchange.as_slice();
+    if !exchange.is_empty() {
+        return routes.address(exchange);
+    }
+    if message.key.as_slice().is_empty() {
+        None
+    } else {
+        Some(&message.key)
+    }
 }
 
 /// The message that a publish and its content are, and whether it is mandatory.
@@ -99,16 +120,21 @@ fn message_of(alloc: Global, method: Method91, content: Content) -> (Message091,
 }
 
 /// A publish is refused, or becomes the payload of a transfer.
-fn publish(alloc: Global, message: Message091, mandatory: bool) -> Result<Published, Memory>
-    ensures { IfOk result (IsPublish mandatory message) }
+fn publish(
+    alloc: Global,
+    routes: &Routes,
+    message: Message091,
+    mandatory: bool,
+) -> Result<Published, Memory>
+    ensures { IfOk result (IsPublish routes.now mandatory message) }
 {
     if mandatory {
         return Ok(Published::Refused(NOT_IMPLEMENTED));
     }
-    if !is_routed(&message) {
+    let Some(address) = address_for(routes, &message) else {
         return Ok(Published::Refused(NOT_FOUND));
-    }
-    let address = message.key.copy(alloc)?;
+    };
+    let address = address.copy(alloc)?;
     match put_image(alloc, message) {
         Ok(payload) => Ok(Published::Sent(address, payload)),
         Err(MapFault::Memory) => Err(Memory),
@@ -128,30 +154,32 @@ fn refuse(conn: &mut Conn91, refusal: Refusal) -> Met
 /// What becomes of a publish on a channel. Without memory for it the connection stays.
 fn meet_publish(
     alloc: Global,
+    routes: &Routes,
     conn: &mut Conn91,
     channel: u16,
     method: Method91,
     content: Content,
 ) -> Result<Met, Memory>
-    ensures ok { IfOk result (IsMet (want.Publish channel method content) conn.old conn.new) }
+    ensures ok { IfOk result (IsMet routes.now (want.Publish channel method content) conn.old
+        conn.new) }
     ensures err { OnErr result (conn.new ≡ conn.old) }
 {
     let ids = ids(&method);
     let (message, mandatory) = message_of(alloc, method, content);
-    match publish(alloc, message, mandatory)? {
+    match publish(alloc, routes, message, mandatory)? {
         Published::Sent(address, payload) => Ok(Met::Publish(channel, address, payload)),
         Published::Refused(code) => Ok(refuse(conn, refusal_for(channel, ids, code))),
     }
 }
 
 /// What becomes of what a unit wants. Without memory for it the connection stays.
-pub fn meet(alloc: Global, conn: &mut Conn91, want: Want91) -> Result<Met, Memory>
-    ensures ok { IfOk result (IsMet want conn.old conn.new) }
+pub fn meet(alloc: Global, routes: &Routes, conn: &mut Conn91, want: Want91) -> Result<Met, Memory>
+    ensures ok { IfOk result (IsMet routes.now want conn.old conn.new) }
     ensures err { OnErr result (conn.new ≡ conn.old) }
     ensures publish { OnErr result (is_publish want ≡ true) }
 {
     match want {
-        Want91::Method(channel, method) => match method_fault(&method) {
+        Want91::Method(channel, method) => match method_fault(routes, &method) {
             None => Ok(Met::Want(Want91::Method(channel, method))),
             Some(code) => {
                 let refusal = refusal_for(channel, ids(&method), code);
@@ -160,7 +188,7 @@ pub fn meet(alloc: Global, conn: &mut Conn91, want: Want91) -> Result<Met, Memor
             }
         },
         Want91::Publish(channel, method, content) => {
-            meet_publish(alloc, conn, channel, method, content)
+            meet_publish(alloc, routes, conn, channel, method, content)
         }
         want => Ok(Met::Want(want)),
     }

@@ -4,7 +4,7 @@ ghost use Rattle.std.specs.Prelude.{◌≡◌, ◌<◌, ◌≤◌, length, [], S
 ghost use Rattle.gate_model.specs.Spelling.{spell_reply};
 ghost use Rattle.bridge_core.specs.Offers.{SlotState};
 
-use crate::frames;
+use crate::frames::{self, ROOM};
 use gate_model::Reply;
 use std::marker::Model;
 
@@ -12,11 +12,12 @@ use std::marker::Model;
 #[derive(Drop)]
 pub struct Slot {
     chosen: Option<Reply>,
-    room: [u8; 512],
+    room: [u8; ROOM],
     used: usize,
 }
 
 impl Model for Slot {
+    ghost use Rattle.bridge_core.specs.declared.frames.TheConstants.{ROOM};
     ghost use Rattle.std.specs.Prelude.{◌≤◌, take};
     ghost use Rattle.bridge_core.specs.Offers.{SlotState};
 
@@ -24,7 +25,7 @@ impl Model for Slot {
 
     ghost view = { λ a. record { chosen = a.chosen; bytes = take a.used a.room } };
 
-    ghost invariant = { λ a. a.used ≤ 512 };
+    ghost invariant = { λ a. a.used ≤ ROOM };
 }
 
 impl Slot {
@@ -34,7 +35,7 @@ impl Slot {
     {
         Slot {
             chosen: None,
-            room: [0; 512],
+            room: [0; ROOM],
             used: 0,
         }
     }
@@ -50,7 +51,7 @@ impl Slot {
     #[tactic(auto, using(std::proofs::lemmas::List::take_at))]
     pub fn bytes(&self) -> &[u8]
         ensures bytes { result.now ≡ self.now.bytes }
-        ensures small { length result.now ≤ 512 }
+        ensures small { length result.now ≤ ROOM }
     {
         let (bytes, _) = self.room.as_slice().split_at(self.used);
         bytes

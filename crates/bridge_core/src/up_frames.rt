@@ -16,7 +16,7 @@ ghost use Rattle.gate_model.specs.Spelling.{init_of, open_of, spell_up};
 ghost use Rattle.bridge_core.specs.Logins.{IsLoginOf};
 ghost use Rattle.bridge_core.specs.Offers.{is_on_session};
 
-use crate::frames::write_over;
+use crate::frames::{ROOM, write_over};
 use frames_10::{Frame10, Kind10, put_frame10};
 use gate_model::{HANDLE_MAX, IDLE_STATED, Setup, UpUnit};
 use itoa::Buffer;
@@ -106,7 +106,7 @@ fn release(perf: Perf) {
 /// Writes the frame of a performative over the first bytes of a room, and answers their count.
 #[tactic(auto, using(crate::proofs::Lengths::frame_len))]
 fn write_perf(
-    room: &mut [u8; 512],
+    room: &mut [u8; ROOM],
     alloc: Global,
     kind: Kind10,
     channel: u16,
@@ -117,7 +117,7 @@ fn write_perf(
     ensures ok { IfOk result (IsWrittenOver
         (frame_text (record { kind = kind; channel = channel; body = perf_text perf.now }))
         room.old room.new) }
-    ensures small { IfOk result (λ count. count ≤ 512) }
+    ensures small { IfOk result (λ count. count ≤ ROOM) }
     ensures err { OnErr result (room.new ≡ room.old) }
 {
     let mut body = ByteText::empty(alloc);
@@ -136,14 +136,14 @@ fn write_perf(
 
 /// Writes a pair's open.
 fn write_open(
-    room: &mut [u8; 512],
+    room: &mut [u8; ROOM],
     alloc: Global,
     setup: &Setup,
     number: u32,
 ) -> Result<usize, Memory>
     ensures ok { IfOk result (IsWrittenOver (frame_10 Amqp (perf_text (open_of setup.now number)))
         room.old room.new) }
-    ensures small { IfOk result (λ count. count ≤ 512) }
+    ensures small { IfOk result (λ count. count ≤ ROOM) }
     ensures err { OnErr result (room.new ≡ room.old) }
 {
     let perf = open_of(alloc, setup, number)?;
@@ -154,11 +154,11 @@ fn write_open(
 
 /// Writes the sasl-init for the login that a container is asked for.
 #[tactic(auto, using(crate::proofs::Spellings::init_spelled, crate::proofs::Spellings::init_short))]
-fn write_init(room: &mut [u8; 512], alloc: Global, container: &Conn10) -> Result<usize, Memory>
+fn write_init(room: &mut [u8; ROOM], alloc: Global, container: &Conn10) -> Result<usize, Memory>
     requires { is_login container.now.mechanism container.now.response ≡ true }
     ensures ok { IfOk result (IsWrittenOver (frame_10 Sasl (perf_text (init_of container.now)))
         room.old room.new) }
-    ensures small { IfOk result (λ count. count ≤ 512) }
+    ensures small { IfOk result (λ count. count ≤ ROOM) }
     ensures err { OnErr result (room.new ≡ room.old) }
 {
     let perf = init_of(alloc, container)?;
@@ -185,10 +185,10 @@ fn begin() -> Perf
 
 /// Writes the begin of the session on a channel.
 #[tactic(auto, using(crate::proofs::Spellings::begin_spelled, crate::proofs::Spellings::begin_short))]
-fn write_begin(room: &mut [u8; 512], alloc: Global, channel: u16) -> Result<usize, Memory>
+fn write_begin(room: &mut [u8; ROOM], alloc: Global, channel: u16) -> Result<usize, Memory>
     ensures ok { IfOk result (IsWrittenOver (frame_on channel (perf_text begin_perf))
         room.old room.new) }
-    ensures small { IfOk result (λ count. count ≤ 512) }
+    ensures small { IfOk result (λ count. count ≤ ROOM) }
     ensures err { OnErr result (room.new ≡ room.old) }
 {
     let perf = begin();
@@ -219,7 +219,7 @@ fn flow(incoming: u32, outgoing: u32) -> Perf
 /// Writes the flow of the session on a channel.
 #[tactic(auto, using(crate::proofs::Spellings::flow_spelled, crate::proofs::Spellings::flow_short))]
 fn write_flow(
-    room: &mut [u8; 512],
+    room: &mut [u8; ROOM],
     alloc: Global,
     channel: u16,
     incoming: u32,
@@ -227,7 +227,7 @@ fn write_flow(
 ) -> Result<usize, Memory>
     ensures ok { IfOk result (IsWrittenOver
         (frame_on channel (perf_text (flow_perf incoming outgoing))) room.old room.new) }
-    ensures small { IfOk result (λ count. count ≤ 512) }
+    ensures small { IfOk result (λ count. count ≤ ROOM) }
     ensures err { OnErr result (room.new ≡ room.old) }
 {
     let perf = flow(incoming, outgoing);
@@ -237,17 +237,17 @@ fn write_flow(
 }
 
 /// Writes the end of the session on a channel.
-fn write_end(room: &mut [u8; 512], channel: u16, condition: Option<Condition>) -> usize
+fn write_end(room: &mut [u8; ROOM], channel: u16, condition: Option<Condition>) -> usize
     ensures written { IsWrittenOver (end_text channel End condition) room.old room.new result }
-    ensures small { result ≤ 512 }
+    ensures small { result ≤ ROOM }
 {
     put_end(room, channel, Ending::End, condition)
 }
 
 /// Writes a close.
-fn write_close(room: &mut [u8; 512], condition: Option<Condition>) -> usize
+fn write_close(room: &mut [u8; ROOM], condition: Option<Condition>) -> usize
     ensures written { IsWrittenOver (end_text 0 Close condition) room.old room.new result }
-    ensures small { result ≤ 512 }
+    ensures small { result ≤ ROOM }
 {
     put_end(room, 0, Ending::Close, condition)
 }
@@ -256,7 +256,7 @@ fn write_close(room: &mut [u8; 512], condition: Option<Condition>) -> usize
 /// count. Those of a session's links are spelled with what they carry. Without memory the room is
 /// as it was.
 pub fn spell_up(
-    room: &mut [u8; 512],
+    room: &mut [u8; ROOM],
     alloc: Global,
     setup: &Setup,
     number: u32,
@@ -268,7 +268,7 @@ pub fn spell_up(
     ensures ok { IfOk result (IsWrittenOver (spell_up
         (record { setup = setup.now; number = number; container = container.now }) unit [])
         room.old room.new) }
-    ensures small { IfOk result (λ count. count ≤ 512) }
+    ensures small { IfOk result (λ count. count ≤ ROOM) }
     ensures err { OnErr result (room.new ≡ room.old) }
     ensures takes { OnErr result (takes_memory_up unit ≡ true) }
 {

@@ -8,10 +8,11 @@ ghost use Rattle.gate_model.specs.declared.channel.SessionUnit.TheVariants as on
 ghost use Rattle.bridge_core.specs.Logins.{IsLoginOf};
 ghost use Rattle.bridge_core.specs.Offers.{UpSlotState, is_on_session};
 
+use crate::frames::ROOM;
 use crate::link_frames::{attach_frame, flow_frame, transfer_frame};
 use crate::up_frames;
 use gate_model::{SessionUnit, Setup, UpUnit};
-use machine_10::Conn10;
+use machine_10::{Conn10, FRAME_MAX};
 use performatives_10::{Ending, put_end, put_settled};
 use session_path::Settling;
 use std::alloc::Global;
@@ -23,12 +24,14 @@ use wire_base::{ByteText, Memory};
 #[derive(Drop)]
 pub struct UpSlot {
     chosen: Option<UpUnit>,
-    room: [u8; 512],
+    room: [u8; ROOM],
     used: usize,
     long: Option<ByteText>,
 }
 
 impl Model for UpSlot {
+    ghost use Rattle.bridge_core.specs.declared.frames.TheConstants.{ROOM};
+    ghost use Rattle.machine_10.specs.declared.limits.TheConstants.{FRAME_MAX};
     ghost use Rattle.std.specs.Prelude.{◌≡◌, ◌≤◌, IfSome, length, take};
     ghost use Rattle.bridge_core.specs.Offers.{UpSlotState, slot_bytes};
 
@@ -40,8 +43,8 @@ impl Model for UpSlot {
     } };
 
     // the room's length is said here, since a slot that is only read doesn't show it
-    ghost invariant = { λ a. (a.used ≤ 512) × (length a.room ≡ 512)
-        × IfSome a.long (λ text. length text ≤ 65536) };
+    ghost invariant = { λ a. (a.used ≤ ROOM) × (length a.room ≡ ROOM)
+        × IfSome a.long (λ text. length text ≤ FRAME_MAX) };
 }
 
 impl UpSlot {
@@ -51,7 +54,7 @@ impl UpSlot {
     {
         UpSlot {
             chosen: None,
-            room: [0; 512],
+            room: [0; ROOM],
             used: 0,
             long: None,
         }
@@ -68,7 +71,7 @@ impl UpSlot {
     #[tactic(auto, using(std::proofs::lemmas::List::take_at))]
     pub fn bytes(&self) -> &[u8]
         ensures bytes { result.now ≡ self.now.bytes }
-        ensures small { length result.now ≤ 65536 }
+        ensures small { length result.now ≤ FRAME_MAX }
     {
         let (bytes, _) = self.room.as_slice().split_at(self.used);
         match &self.long {
@@ -114,7 +117,7 @@ impl UpSlot {
 
     /// A unit is offered whose bytes are these.
     fn hold(&mut self, unit: UpUnit, text: ByteText)
-        requires { length text ≤ 65536 }
+        requires { length text ≤ FRAME_MAX }
         ensures { self.new ≡ record { chosen = Some unit; bytes = text } }
     {
         self.long = Some(text);

@@ -1,20 +1,32 @@
 -- What the reading of all words answers, by the grammar of the command line.
-use Rattle.std.proofs.Common.{◌≡◌, ℕ, suc, zero, ◌-◌, ◌<◌, ◌≤◌, Bool, true, false, cond, List, [], ◌∷◌, ◌++◌, length, take, Option, Some, None, Result, Ok, Err, inl, inr, refl, sym, ◌∙◌, ap, subst, arith}
+use Rattle.std.proofs.Common.{◌≡◌, ℕ, suc, zero, ◌-◌, ◌<◌, ◌≤◌, Bool, true, false, cond, List, []}
+use Rattle.std.proofs.Common.{◌∷◌, ◌++◌, length, take, Option, Some, None, Result, Ok, Err, inl}
+use Rattle.std.proofs.Common.{inr, refl, sym, ◌∙◌, ap, subst, arith}
 use Rattle.std.specs.Prelude.{◌≢◌, codes, bytes_eq, unwrap_or, IfSome}
 use Rattle.std.specs.List.{AllByRecursion}
 use Rattle.std.proofs.lemmas.Slice.Eq.{bytes_eq-Decides}
-use Rattle.gate_model.specs.Setup.{IsHost, IsName}
+use Rattle.gate_model.specs.Setup.{AreRoutes, IsHost, IsName}
+use Rattle.gate_model.specs.declared.setup.Route.{Route}
 use Rattle.gate_command.specs.declared.words.Asked.{Asked}
 use Rattle.gate_command.specs.declared.words.Asked.TheVariants.{Replay}
 use Rattle.gate_command.specs.declared.words.Format.{Format}
 use Rattle.gate_command.specs.declared.words.Format.TheVariants as format
 use Rattle.gate_command.specs.declared.words.Misplaced.{Misplaced}
 use Rattle.gate_command.specs.declared.words.Misplaced.TheVariants.{Word, End}
-use Rattle.gate_command.specs.Command.{Setting, listen_at, upstream_at, known_as, host_named, vhost_named, pair_count, turn_count, capture_to, Given, joined, apart, setting_of, IsInForm, IsSettable, Settings, nothing_given, with_setting, settings_with, asked_of, AreInForm, IsService, IsCommand, IsWithin, Asks, CanStand, CeasesAt, format_text, shown_as}
-use Rattle.gate_command.specs.Reading.{Request, serving, replaying, showing, asked_by, between, last_in, shown_in, served_in, after_first, words_in, command_in, format_named, format_in}
+use Rattle.gate_command.specs.Command.{Setting, listen_at, upstream_at, known_as, host_named}
+use Rattle.gate_command.specs.Command.{vhost_named, exchanges_at, pair_count, turn_count}
+use Rattle.gate_command.specs.Command.{capture_to, Given, joined, apart, setting_of, IsInForm}
+use Rattle.gate_command.specs.Command.{IsSettable, Settings}
+use Rattle.gate_command.specs.Command.{nothing_given, with_setting, settings_with, asked_of}
+use Rattle.gate_command.specs.Command.{AreInForm, IsService, IsCommand, IsWithin, Asks, CanStand}
+use Rattle.gate_command.specs.Command.{CeasesAt, format_text, shown_as}
+use Rattle.gate_command.specs.Reading.{Request, serving, replaying, showing, asked_by, between}
+use Rattle.gate_command.specs.Reading.{last_in, shown_in, served_in, after_first, words_in}
+use Rattle.gate_command.specs.Reading.{command_in, format_named, format_in}
 use Rattle.gate_command.proofs.OptionLaws.{same_bytes}
 use Rattle.gate_command.proofs.WordLaws.{AreOptions}
-use Rattle.gate_command.proofs.LineLaws.{words_in-is, is-words_in, Fits, words_in-place, words_in-stays}
+use Rattle.gate_command.proofs.LineLaws.{words_in-is, is-words_in, Fits, words_in-place}
+use Rattle.gate_command.proofs.LineLaws.{words_in-stays}
 use Rattle.gate_command.proofs.Distinct.{new_if_distinct, distinct_if_new}
 
 -- the first words
@@ -388,6 +400,7 @@ record AreSettable (s : Settings) : Type 0 where
   name : IfSome s.name IsName
   host : IfSome s.host IsHost
   vhost : IfSome s.vhost (λ vhost. length vhost ≤ 255)
+  exchange : IfSome s.exchange AreRoutes
   pairs : IfSome s.pairs (λ n. 1 ≤ n)
   turns : IfSome s.turns (λ n. (1 ≤ n) × (n ≤ 140737488355328))
 
@@ -396,14 +409,15 @@ settable (joined setting) h = h
 settable (apart setting) h = h.0
 
 settable_with : (setting : Setting) (s : Settings) → IsSettable setting → AreSettable s → AreSettable (with_setting setting s)
-settable_with (listen_at address) s h a = record { name = a.name; host = a.host; vhost = a.vhost; pairs = a.pairs; turns = a.turns }
-settable_with (upstream_at address) s h a = record { name = a.name; host = a.host; vhost = a.vhost; pairs = a.pairs; turns = a.turns }
-settable_with (known_as name) s h a = record { name = h.1; host = a.host; vhost = a.vhost; pairs = a.pairs; turns = a.turns }
-settable_with (host_named host) s h a = record { name = a.name; host = h.1; vhost = a.vhost; pairs = a.pairs; turns = a.turns }
-settable_with (vhost_named vhost) s h a = record { name = a.name; host = a.host; vhost = h.1; pairs = a.pairs; turns = a.turns }
-settable_with (pair_count n) s h a = record { name = a.name; host = a.host; vhost = a.vhost; pairs = h.0; turns = a.turns }
-settable_with (turn_count n) s h a = record { name = a.name; host = a.host; vhost = a.vhost; pairs = a.pairs; turns = h }
-settable_with (capture_to path) s h a = record { name = a.name; host = a.host; vhost = a.vhost; pairs = a.pairs; turns = a.turns }
+settable_with (listen_at address) s h a = record { name = a.name; host = a.host; vhost = a.vhost; exchange = a.exchange; pairs = a.pairs; turns = a.turns }
+settable_with (upstream_at address) s h a = record { name = a.name; host = a.host; vhost = a.vhost; exchange = a.exchange; pairs = a.pairs; turns = a.turns }
+settable_with (known_as name) s h a = record { name = h.1; host = a.host; vhost = a.vhost; exchange = a.exchange; pairs = a.pairs; turns = a.turns }
+settable_with (host_named host) s h a = record { name = a.name; host = h.1; vhost = a.vhost; exchange = a.exchange; pairs = a.pairs; turns = a.turns }
+settable_with (vhost_named vhost) s h a = record { name = a.name; host = a.host; vhost = h.1; exchange = a.exchange; pairs = a.pairs; turns = a.turns }
+settable_with (exchanges_at routes) s h a = record { name = a.name; host = a.host; vhost = a.vhost; exchange = h.1; pairs = a.pairs; turns = a.turns }
+settable_with (pair_count n) s h a = record { name = a.name; host = a.host; vhost = a.vhost; exchange = a.exchange; pairs = h.0; turns = a.turns }
+settable_with (turn_count n) s h a = record { name = a.name; host = a.host; vhost = a.vhost; exchange = a.exchange; pairs = a.pairs; turns = h }
+settable_with (capture_to path) s h a = record { name = a.name; host = a.host; vhost = a.vhost; exchange = a.exchange; pairs = a.pairs; turns = a.turns }
 
 settable_all : (given : List Given) (s : Settings) → AllByRecursion IsInForm given → AreSettable s → AreSettable (settings_with s given)
 settable_all [] s h a = a
@@ -421,15 +435,27 @@ vhost_in_form : (vhost : Option (List ℕ)) → IfSome vhost (λ vhost. length v
 vhost_in_form None h = omega arith
 vhost_in_form (Some vhost) h = h
 
+routes_in_form : (routes : Option (List Route)) → IfSome routes AreRoutes
+    → AreRoutes (unwrap_or routes [])
+routes_in_form None h = record { each = tt; apart = tt }
+routes_in_form (Some routes) h = h
+
 all_in_form : (s : Settings) → AreSettable s → AreInForm (asked_of s)
 all_in_form s a =
-    let turns = turns_in_form s.turns a.turns in
-    (record { pairs = a.pairs; some = turns.0; most = turns.1 }, record { name = name_in_form s.name a.name; host = a.host; vhost = vhost_in_form s.vhost a.vhost })
+    let turns = turns_in_form s.turns a.turns in (
+      record { pairs = a.pairs; some = turns.0; most = turns.1 },
+      record {
+        name = name_in_form s.name a.name;
+        host = a.host;
+        vhost = vhost_in_form s.vhost a.vhost;
+        routes = routes_in_form s.exchange a.exchange;
+      },
+    )
 
 -- what a command line asks for is in form
 pub asked_in_form : (words : List (List ℕ)) (asked : Asked) → IsCommand words asked → AreInForm asked
 asked_in_form words asked (inl command) =
-    let a = settable_all command.given nothing_given command.in_form (record { name = tt; host = tt; vhost = tt; pairs = tt; turns = tt }) in
+    let a = settable_all command.given nothing_given command.in_form (record { name = tt; host = tt; vhost = tt; exchange = tt; pairs = tt; turns = tt }) in
     subst AreInForm (sym command.meant) (all_in_form (settings_with nothing_given command.given) a)
 asked_in_form words asked (inr (inl (e, a))) = subst AreInForm (sym a) tt
 asked_in_form words asked (inr (inr (what, e, a))) = subst AreInForm (sym a) (free what)

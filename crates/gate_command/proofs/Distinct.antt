@@ -2,8 +2,13 @@
 use Rattle.std.proofs.Common.{◌≡◌, ◌≢◌, true, List, [], ◌∷◌, refl}
 use Rattle.std.specs.List.{AllByRecursion}
 use Rattle.gate_command.specs.declared.options.OptionName.{OptionName}
-use Rattle.gate_command.specs.declared.options.OptionName.TheVariants.{Listen, Upstream, Name, Host, Vhost, Pairs, Turns, Capture}
-use Rattle.gate_command.specs.Command.{Setting, listen_at, upstream_at, known_as, host_named, vhost_named, pair_count, turn_count, capture_to, Given, setting_of, option_of, Settings, nothing_given, with_setting, AreDistinct}
+use Rattle.gate_command.specs.declared.options.OptionName.TheVariants.{Listen, Upstream, Name, Host}
+use Rattle.gate_command.specs.declared.options.OptionName.TheVariants.{Vhost, Exchange, Pairs}
+use Rattle.gate_command.specs.declared.options.OptionName.TheVariants.{Turns, Capture}
+use Rattle.gate_command.specs.Command.{Setting, listen_at, upstream_at, known_as, host_named}
+use Rattle.gate_command.specs.Command.{vhost_named, exchanges_at, pair_count, turn_count}
+use Rattle.gate_command.specs.Command.{capture_to, Given, setting_of, option_of, Settings}
+use Rattle.gate_command.specs.Command.{nothing_given, with_setting, AreDistinct}
 use Rattle.gate_command.specs.Reading.{is_free}
 use Rattle.gate_command.proofs.WordLaws.{EachNew}
 
@@ -18,6 +23,7 @@ still_free Upstream (upstream_at address) s other free = absurd (other refl)
 still_free Name (known_as name) s other free = absurd (other refl)
 still_free Host (host_named host) s other free = absurd (other refl)
 still_free Vhost (vhost_named vhost) s other free = absurd (other refl)
+still_free Exchange (exchanges_at routes) s other free = absurd (other refl)
 still_free Pairs (pair_count n) s other free = absurd (other refl)
 still_free Turns (turn_count n) s other free = absurd (other refl)
 still_free Capture (capture_to path) s other free = absurd (other refl)
@@ -30,6 +36,7 @@ was_free Upstream (upstream_at address) s free = absurd cc
 was_free Name (known_as name) s free = absurd cc
 was_free Host (host_named host) s free = absurd cc
 was_free Vhost (vhost_named vhost) s free = absurd cc
+was_free Exchange (exchanges_at routes) s free = absurd cc
 was_free Pairs (pair_count n) s free = absurd cc
 was_free Turns (turn_count n) s free = absurd cc
 was_free Capture (capture_to path) s free = absurd cc
@@ -65,6 +72,7 @@ nothing_is_given Upstream = refl
 nothing_is_given Name = refl
 nothing_is_given Host = refl
 nothing_is_given Vhost = refl
+nothing_is_given Exchange = refl
 nothing_is_given Pairs = refl
 nothing_is_given Turns = refl
 nothing_is_given Capture = refl

@@ -1,5 +1,6 @@
 -- Reads one after another read what was left in order.
-use Rattle.std.proofs.Common.{◌≡◌, ℕ, ◌<◌, ◌≤◌, List, [], ◌++◌, length, Option, None, Some, inl, inr, refl, sym, ◌∙◌, ap, subst, arith, append_assoc}
+use Rattle.std.proofs.Common.{◌≡◌, ℕ, ◌<◌, ◌≤◌, List, [], ◌++◌, length, Option, None, Some, inl}
+use Rattle.std.proofs.Common.{inr, refl, sym, ◌∙◌, ap, subst, arith, append_assoc}
 use Rattle.gate_outside.specs.declared.streams.Drawn.{Drawn}
 use Rattle.gate_outside.specs.declared.streams.Drawn.TheVariants.{Bytes, Ended}
 use Rattle.gate_outside.specs.Counts.{Rose}

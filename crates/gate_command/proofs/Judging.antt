@@ -22,7 +22,9 @@ use Rattle.gate_command.specs.declared.words.Asked.TheVariants.{Serve}
 use Rattle.gate_command.specs.declared.words.Misplaced.{Misplaced}
 use Rattle.gate_command.specs.Command.{Asks, words_of}
 use Rattle.gate_command.specs.Replaying.{Replays}
-use Rattle.gate_command.specs.Recorded.{AsksFor, ServesBy, IsService, IsOf, WithoutRun, IsSame, IsAnother, AtFault, OfCapture, IsReplayed, Says, bad_line, same_line, fault_text, meant_of, line_of}
+use Rattle.gate_command.specs.Recorded.{AsksFor, ServesBy, IsService, IsOf, WithoutRun, IsSame}
+use Rattle.gate_command.specs.Recorded.{IsAnother, AtFault, OfCapture, IsReplayed, Says, bad_line}
+use Rattle.gate_command.specs.Recorded.{same_line, fault_text, meant_of, line_of}
 
 -- ---- the run that words ask for
 

@@ -1,5 +1,7 @@
 pub mod Cutting
 pub mod Numbers
+pub mod Parts
+pub mod RouteLaws
 pub mod Names
 pub mod RunLaws
 pub mod Steps

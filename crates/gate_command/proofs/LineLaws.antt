@@ -1,12 +1,15 @@
 -- What the reading of all words answers, by what the words may be.
-use Rattle.std.proofs.Common.{◌≡◌, ◌≢◌, ℕ, suc, zero, ◌+◌, ◌-◌, ◌<◌, ◌≤◌, false, List, [], ◌∷◌, ◌++◌, length, get_or, take, Option, Some, None, Ok, Err, refl, sym, ◌∙◌, subst, arith}
+use Rattle.std.proofs.Common.{◌≡◌, ◌≢◌, ℕ, suc, zero, ◌+◌, ◌-◌, ◌<◌, ◌≤◌, false, List, [], ◌∷◌}
+use Rattle.std.proofs.Common.{◌++◌, length, get_or, take, Option, Some, None, Ok, Err, refl, sym}
+use Rattle.std.proofs.Common.{◌∙◌, subst, arith}
 use Rattle.std.specs.Prelude.{sum_by}
 use Rattle.std.specs.List.{AllByRecursion}
 use Rattle.std.proofs.lemmas.List.Sums.{sum_by-cons}
 use Rattle.gate_command.specs.declared.words.Misplaced.TheVariants.{Word, End}
 use Rattle.gate_command.specs.Command.{Settings, has_line_feed}
 use Rattle.gate_command.specs.Reading.{State, between, awaiting, word_in, words_in}
-use Rattle.gate_command.proofs.Steps.{words_in-next, words_in-stop, words_in-end, Stands, word_in-stands, word_in-is}
+use Rattle.gate_command.proofs.Steps.{words_in-next, words_in-stop, words_in-end, Stands}
+use Rattle.gate_command.proofs.Steps.{word_in-stands, word_in-is}
 use Rattle.gate_command.proofs.WordLaws.{IsRest, before, after, ended-is, is-ended, goes_on}
 
 -- no word has a line feed, and there is room for all of them

@@ -1,5 +1,7 @@
 -- What a word does between options and as a value, by the grammar of one option.
-use Rattle.std.proofs.Common.{◌≡◌, ◌≢◌, ℕ, ◌≤◌, ◌==◌, leb, Bool, true, false, cond, List, [], ◌∷◌, ◌++◌, length, Option, Some, None, option_map, refl, sym, ◌∙◌, ap, subst, arith, append_assoc}
+use Rattle.std.proofs.Common.{◌≡◌, ◌≢◌, ℕ, ◌≤◌, leb, Bool, true, false, cond, List, [], ◌∷◌}
+use Rattle.std.proofs.Common.{◌++◌, length, Option, Some, None, option_map, refl, sym, ◌∙◌, ap}
+use Rattle.std.proofs.Common.{subst, arith, append_assoc}
 use Rattle.std.proofs.Math.Dec.{eqb-suc-zero}
 use Rattle.std.specs.Prelude.{codes, bytes_eq}
 use Rattle.std.specs.Char.{is_ascii}
@@ -10,9 +12,18 @@ use Rattle.std.proofs.lemmas.Bool.Decides.{nat_tests}
 use Rattle.std.proofs.lemmas.Slice.Eq.{bytes_eq-Decides}
 use Rattle.gate_model.specs.Setup.{IsHost, IsName}
 use Rattle.gate_command.specs.declared.options.OptionName.{OptionName}
-use Rattle.gate_command.specs.declared.options.OptionName.TheVariants.{Listen, Upstream, Name, Host, Vhost, Pairs, Turns, Capture}
-use Rattle.gate_command.specs.Command.{Setting, listen_at, upstream_at, known_as, host_named, vhost_named, pair_count, turn_count, capture_to, option_of, option_text, value_text, IsSettable, Settings, with_setting}
-use Rattle.gate_command.specs.Reading.{is_free, State, between, awaiting, cut, option_named, text_in, short_in, name_in, host_in, number_in, setting_in, set_in, opened, option_in}
+use Rattle.gate_command.specs.declared.options.OptionName.TheVariants.{Listen, Upstream, Name, Host}
+use Rattle.gate_command.specs.declared.options.OptionName.TheVariants.{Vhost, Exchange, Pairs}
+use Rattle.gate_command.specs.declared.options.OptionName.TheVariants.{Turns, Capture}
+use Rattle.gate_command.specs.Command.{Setting, listen_at, upstream_at, known_as, host_named}
+use Rattle.gate_command.specs.Command.{vhost_named, exchanges_at, pair_count, turn_count}
+use Rattle.gate_command.specs.Command.{capture_to, option_of, option_text, value_text, IsSettable}
+use Rattle.gate_command.specs.Command.{Settings, with_setting}
+use Rattle.gate_command.specs.Reading.{is_free, State, between, awaiting, cut, option_named}
+use Rattle.gate_command.specs.Reading.{text_in, short_in, name_in, host_in, number_in, routes_in}
+use Rattle.gate_command.specs.Reading.{setting_in, set_in, opened, option_in}
+use Rattle.gate_command.proofs.Cutting.{cut_none, cut_some}
+use Rattle.gate_command.proofs.RouteLaws.{routes_in-text, routes_in-is}
 use Rattle.gate_command.proofs.Numbers.{number_in-decimal, number_in-is}
 
 -- a text is read as itself where it may be the option's
@@ -41,6 +52,8 @@ setting_in-value (upstream_at address) h = ap (option_map upstream_at) (text_in-
 setting_in-value (known_as name) h = ap (option_map known_as) (name_in-some name h.0 h.1)
 setting_in-value (host_named host) h = ap (option_map host_named) (host_in-some host h.0 h.1)
 setting_in-value (vhost_named vhost) h = ap (option_map vhost_named) (short_in-some 255 vhost h.0 h.1)
+setting_in-value (exchanges_at routes) h =
+    ap (option_map exchanges_at) (routes_in-text routes h.0 h.1 h.2)
 setting_in-value (pair_count n) h = ap (option_map pair_count) (number_in-decimal 4294967295 n h.0 h.1 (omega arith))
 setting_in-value (turn_count n) h = ap (option_map turn_count) (number_in-decimal 140737488355328 n h.0 h.1 (omega arith))
 setting_in-value (capture_to path) h = ap (option_map capture_to) (text_in-some path h)
@@ -137,6 +150,12 @@ setting_in-is Host value setting h =
 setting_in-is Vhost value setting h =
     value_of Vhost value vhost_named (short_in 255 value) setting
     (λ a e. let t = short_in-is 255 value a e in record { names = refl; spelled = t.is.same; settable = (t.is.some, t.short) }) h
+setting_in-is Exchange value setting h =
+    value_of Exchange value exchanges_at (routes_in value) setting
+    (λ rs e.
+    let t = routes_in-is value rs e in
+    record { names = refl; spelled = t.spelled; settable = (t.some, t.in_form, t.plain) })
+    h
 setting_in-is Pairs value setting h =
     value_of Pairs value pair_count (number_in 4294967295 value) setting
     (λ n e. let t = number_in-is 4294967295 value n (omega arith) e in record { names = refl; spelled = sym t.spelled; settable = (t.some, t.within) }) h
@@ -173,6 +192,7 @@ option_in-apart Upstream s free = rw free refl
 option_in-apart Name s free = rw free refl
 option_in-apart Host s free = rw free refl
 option_in-apart Vhost s free = rw free refl
+option_in-apart Exchange s free = rw free refl
 option_in-apart Pairs s free = rw free refl
 option_in-apart Turns s free = rw free refl
 option_in-apart Capture s free = rw free refl
@@ -186,33 +206,10 @@ option_in-joined Upstream value s free = rw free refl
 option_in-joined Name value s free = rw free refl
 option_in-joined Host value s free = rw free refl
 option_in-joined Vhost value s free = rw free refl
+option_in-joined Exchange value s free = rw free refl
 option_in-joined Pairs value s free = rw free refl
 option_in-joined Turns value s free = rw free refl
 option_in-joined Capture value s free = rw free refl
-
--- a word is made of its parts
-pub cut_none : (word : List ℕ) → (cut word).1 ≡ None → (cut word).0 ≡ word
-cut_none [] h = refl
-cut_none (byte ∷ bytes) h = at (byte == 61) (cut_none bytes) h
-  where
-    at : (t : Bool) → ((cut bytes).1 ≡ None → (cut bytes).0 ≡ bytes)
-        → (cond {A = List ℕ × Option (List ℕ)} t ([], Some bytes) (byte ∷ (cut bytes).0, (cut bytes).1)).1 ≡ None
-        → (cond {A = List ℕ × Option (List ℕ)} t ([], Some bytes) (byte ∷ (cut bytes).0, (cut bytes).1)).0 ≡ byte ∷ bytes
-    at true ih h = absurd cc
-    at false ih h = ap (λ (front : List ℕ). byte ∷ front) (ih h)
-
-pub cut_some : (word value : List ℕ) → (cut word).1 ≡ Some value → (cut word).0 ++ 61 ∷ value ≡ word
-cut_some [] value h = absurd cc
-cut_some (byte ∷ bytes) value h = at (byte == 61) refl (cut_some bytes value) h
-  where
-    at : (t : Bool) → (byte == 61) ≡ t → ((cut bytes).1 ≡ Some value → (cut bytes).0 ++ 61 ∷ value ≡ bytes)
-        → (cond {A = List ℕ × Option (List ℕ)} t ([], Some bytes) (byte ∷ (cut bytes).0, (cut bytes).1)).1 ≡ Some value
-        → (cond {A = List ℕ × Option (List ℕ)} t ([], Some bytes) (byte ∷ (cut bytes).0, (cut bytes).1)).0 ++ 61 ∷ value ≡ byte ∷ bytes
-    at true is ih h =
-        let equals : byte ≡ 61 = grind (arith, nat_tests) in
-        let same : bytes ≡ value = cc in
-        cc
-    at false is ih h = ap (λ (front : List ℕ). byte ∷ front) (ih h)
 
 -- texts that compare as equal
 pub same_bytes : (xs ys : List ℕ) → bytes_eq xs ys ≡ true → xs ≡ ys
@@ -228,7 +225,8 @@ pub option_named-is : (text : List ℕ) (option : OptionName) → option_named t
 unfolding option_named
 option_named-is text option =
     named_or text Listen option _ _ refl (named_or text Upstream option _ _ refl (named_or text Name option _ _ refl (named_or text Host option _ _ refl
-    (named_or text Vhost option _ _ refl (named_or text Pairs option _ _ refl (named_or text Turns option _ _ refl (named_or text Capture option _ _ refl (λ e. absurd cc))))))))
+    (named_or text Vhost option _ _ refl (named_or text Exchange option _ _ refl (named_or text Pairs option _ _ refl
+    (named_or text Turns option _ _ refl (named_or text Capture option _ _ refl (λ e. absurd cc)))))))))
 
 -- what an option's first word is
 pub data IsOption (word : List ℕ) (s : Settings) (next : State) : Type 0 where

@@ -1,5 +1,7 @@
 -- After a run over ports that answer from a log, what is told tells the calls and the log apart.
-use Rattle.std.proofs.Common.{◌≡◌, ◌≢◌, ℕ, Bool, true, false, not, cond, ◌&&◌, List, [], ◌∷◌, ◌++◌, length, take, reverse, Option, None, Some, refl, sym, ◌∙◌, ap, subst, arith, append_assoc}
+use Rattle.std.proofs.Common.{◌≡◌, ◌≢◌, ℕ, Bool, true, false, not, cond, ◌&&◌, List, [], ◌∷◌, ◌++◌}
+use Rattle.std.proofs.Common.{length, take, reverse, Option, None, Some, refl, sym, ◌∙◌, ap, subst}
+use Rattle.std.proofs.Common.{arith, append_assoc}
 use Rattle.std.specs.Prelude.{slice_get, Result, Ok, Err, IfOk}
 use Rattle.std.specs.List.{AllByRecursion}
 use Rattle.std.proofs.lemmas.List.{reverse-append, reverse-reverse, length-reverse}
@@ -17,7 +19,8 @@ use Rattle.gate_runs.specs.Serving.{Answered, Follows}
 use Rattle.gate_command.specs.declared.replay.Replayed.{Replayed}
 use Rattle.gate_command.specs.declared.replay.Replayed.TheVariants.{Same, Differs}
 use Rattle.gate_command.specs.Runs.{IsRunOf}
-use Rattle.gate_command.specs.Replaying.{RerunState, no_call, told_over, Agrees, Answers, GoesApart, Replays}
+use Rattle.gate_command.specs.Replaying.{RerunState, no_call, told_over, Agrees, Answers, GoesApart}
+use Rattle.gate_command.specs.Replaying.{Replays}
 
 -- ---- the mark is no call
 

@@ -1,13 +1,19 @@
 -- The steps of the loop over the words.
-use Rattle.std.proofs.Common.{◌≡◌, ℕ, ◌+◌, ◌-◌, ◌<◌, ◌≤◌, ◌||◌, ltb, Bool, true, false, cond, List, [], ◌∷◌, length, Option, Some, None, Err, map, drop, get_or, suc, refl, sym, ◌∙◌, arith, add-one, drop-cons}
+use Rattle.std.proofs.Common.{◌≡◌, ℕ, ◌+◌, ◌-◌, ◌<◌, ◌≤◌, ◌||◌, ltb, Bool, true, false, cond, List}
+use Rattle.std.proofs.Common.{[], ◌∷◌, length, Option, Some, None, Err, map, drop, get_or, suc}
+use Rattle.std.proofs.Common.{refl, sym, ◌∙◌, arith, add-one, drop-cons}
 use Rattle.std.specs.Str.{is_utf8}
 use Rattle.std.proofs.lemmas.Bool.Decides.{nat_tests}
 use Rattle.std.proofs.lemmas.List.{drop_all}
 use Rattle.gate_command.specs.declared.options.OptionName.{OptionName}
-use Rattle.gate_command.specs.declared.options.OptionName.TheVariants.{Listen, Upstream, Name, Host, Vhost, Pairs, Turns, Capture}
+use Rattle.gate_command.specs.declared.options.OptionName.TheVariants.{Listen, Upstream, Name, Host}
+use Rattle.gate_command.specs.declared.options.OptionName.TheVariants.{Vhost, Exchange, Pairs}
+use Rattle.gate_command.specs.declared.options.OptionName.TheVariants.{Turns, Capture}
 use Rattle.gate_command.specs.declared.words.Misplaced.TheVariants.{Word}
 use Rattle.gate_command.specs.Command.{Settings, has_line_feed}
-use Rattle.gate_command.specs.Reading.{State, between, awaiting, step, short_in, name_in, host_in, set_in, option_in, word_in, words_in, ended, option_named}
+use Rattle.gate_command.specs.Reading.{State, between, awaiting, step, short_in, name_in, host_in}
+use Rattle.gate_command.specs.Reading.{set_in, option_in, word_in, words_in, ended, option_named}
+use Rattle.gate_command.proofs.RouteLaws.{routes_in-nil}
 use Rattle.gate_command.proofs.Numbers.{number_in-nil}
 
 -- a word that can stand leads on
@@ -42,6 +48,7 @@ set_in-nil Upstream s = refl
 set_in-nil Name s = refl
 set_in-nil Host s = rw host_in-nil refl
 set_in-nil Vhost s = refl
+set_in-nil Exchange s = rw routes_in-nil refl
 set_in-nil Pairs s = rw (number_in-nil 4294967295) refl
 set_in-nil Turns s = rw (number_in-nil 140737488355328) refl
 set_in-nil Capture s = refl

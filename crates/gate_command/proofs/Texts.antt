@@ -1,15 +1,19 @@
 -- The text of the words: it is what joining makes of them, and it is short.
-use Rattle.std.proofs.Common.{◌≡◌, ℕ, ◌+◌, ◌-◌, ◌*◌, ◌<◌, ◌≤◌, ◌^◌, List, [], ◌∷◌, ◌++◌, length, take, drop, inl, inr, refl, ap, arith, append-nil}
+use Rattle.std.proofs.Common.{◌≡◌, ℕ, ◌+◌, ◌-◌, ◌*◌, ◌<◌, ◌≤◌, ◌^◌, List, [], ◌∷◌, ◌++◌, length}
+use Rattle.std.proofs.Common.{take, drop, inl, inr, refl, ap, arith, append-nil}
 use Rattle.std.specs.Prelude.{codes, map, sum_by}
 use Rattle.std.specs.List.{flat_map, join_by, join_with_byte}
 use Rattle.std.proofs.lemmas.List.{length-append, take_all}
 use Rattle.std.proofs.lemmas.List.Sums.{sum_by-cons}
 use Rattle.gate_command.specs.declared.options.OptionName.{OptionName}
-use Rattle.gate_command.specs.declared.options.OptionName.TheVariants.{Listen, Upstream, Name, Host, Vhost, Pairs, Turns, Capture}
+use Rattle.gate_command.specs.declared.options.OptionName.TheVariants.{Listen, Upstream, Name, Host}
+use Rattle.gate_command.specs.declared.options.OptionName.TheVariants.{Vhost, Exchange, Pairs}
+use Rattle.gate_command.specs.declared.options.OptionName.TheVariants.{Turns, Capture}
 use Rattle.gate_command.specs.declared.words.Asked.{Asked}
 use Rattle.gate_command.specs.declared.words.Format.{Format}
 use Rattle.gate_command.specs.declared.words.Format.TheVariants as format
-use Rattle.gate_command.specs.Command.{Given, joined, apart, option_of, option_text, value_text, spelling, format_text, IsCommand, Asks, text_of}
+use Rattle.gate_command.specs.Command.{Given, joined, apart, option_of, option_text, value_text}
+use Rattle.gate_command.specs.Command.{spelling, format_text, IsCommand, Asks, text_of}
 
 -- joined with a byte between each two
 pub join_by-byte : {X : Type 0} (f : X → List ℕ) (c : ℕ) (xs : List X) → join_by f (c ∷ []) xs ≡ join_with_byte c (map f xs)
@@ -34,6 +38,7 @@ named Upstream = omega arith
 named Name = omega arith
 named Host = omega arith
 named Vhost = omega arith
+named Exchange = omega arith
 named Pairs = omega arith
 named Turns = omega arith
 named Capture = omega arith

@@ -1,15 +1,24 @@
 -- What the words from some place on may be, and what each word does to that.
-use Rattle.std.proofs.Common.{◌≡◌, ℕ, ◌<◌, Bool, true, false, cond, List, [], ◌∷◌, ◌++◌, get_or, Option, Some, None, option_map, Ok, refl, sym, ◌∙◌, ap, subst, arith}
+use Rattle.std.proofs.Common.{◌≡◌, ℕ, ◌<◌, Bool, true, false, cond, List, [], ◌∷◌, ◌++◌, get_or}
+use Rattle.std.proofs.Common.{Option, Some, None, option_map, Ok, refl, sym, ◌∙◌, ap, subst, arith}
 use Rattle.std.specs.Prelude.{⊤, decimal, codes}
 use Rattle.std.specs.List.{flat_map, AllByRecursion}
 use Rattle.std.specs.Str.{chars, is_utf8}
 use Rattle.std.proofs.lemmas.Bool.Decides.{nat_tests}
 use Rattle.std.proofs.lemmas.Fmt.{first_decimal}
+use Rattle.gate_model.specs.Setup.{IsRoute, AreRoutes}
 use Rattle.gate_command.specs.declared.options.OptionName.{OptionName}
-use Rattle.gate_command.specs.declared.options.OptionName.TheVariants.{Listen, Upstream, Name, Host, Vhost, Pairs, Turns, Capture}
-use Rattle.gate_command.specs.Command.{Setting, listen_at, upstream_at, known_as, host_named, vhost_named, pair_count, turn_count, capture_to, Given, joined, apart, setting_of, spelling, IsInForm, option_of, option_text, value_text, IsSettable, Settings, with_setting, settings_with, begins_with_minus}
+use Rattle.gate_command.specs.declared.options.OptionName.TheVariants.{Listen, Upstream, Name, Host}
+use Rattle.gate_command.specs.declared.options.OptionName.TheVariants.{Vhost, Exchange, Pairs}
+use Rattle.gate_command.specs.declared.options.OptionName.TheVariants.{Turns, Capture}
+use Rattle.gate_command.specs.Command.{Setting, listen_at, upstream_at, known_as, host_named}
+use Rattle.gate_command.specs.Command.{vhost_named, exchanges_at, pair_count, turn_count}
+use Rattle.gate_command.specs.Command.{capture_to, Given, joined, apart, setting_of, spelling}
+use Rattle.gate_command.specs.Command.{IsInForm, option_of, option_text, value_text, IsSettable}
+use Rattle.gate_command.specs.Command.{Settings, with_setting, settings_with, begins_with_minus}
 use Rattle.gate_command.specs.Reading.{is_free, State, between, awaiting, set_in, step, ended}
-use Rattle.gate_command.proofs.OptionLaws.{option_in-apart, option_in-joined, option_in-is, IsOption, by_name, with_value, set_in-is, set_in-value}
+use Rattle.gate_command.proofs.OptionLaws.{option_in-apart, option_in-joined, option_in-is}
+use Rattle.gate_command.proofs.OptionLaws.{IsOption, by_name, with_value, set_in-is, set_in-value}
 
 -- each option of the list is one that neither those before it nor the settings give
 abbrev pub EachNew : Settings → List Given → Type 0
@@ -160,6 +169,7 @@ some_setting Upstream = upstream_at (codes "1")
 some_setting Name = known_as (codes "1")
 some_setting Host = host_named (codes "1")
 some_setting Vhost = vhost_named (codes "1")
+some_setting Exchange = exchanges_at (record { exchange = codes "1"; address = codes "1" } ∷ [])
 some_setting Pairs = pair_count 1
 some_setting Turns = turn_count 1
 some_setting Capture = capture_to (codes "1")
@@ -171,6 +181,7 @@ some_named Upstream = refl
 some_named Name = refl
 some_named Host = refl
 some_named Vhost = refl
+some_named Exchange = refl
 some_named Pairs = refl
 some_named Turns = refl
 some_named Capture = refl
@@ -189,6 +200,18 @@ some_in_form Upstream = (λ e. absurd cc, refl)
 some_in_form Name = ((λ e. absurd cc, record { ascii = refl; short = omega arith }), refl)
 some_in_form Host = ((λ e. absurd cc, record { utf8 = one_utf8; short = omega arith }), refl)
 some_in_form Vhost = ((λ e. absurd cc, omega arith), refl)
+some_in_form Exchange = ((λ e. absurd cc, routes, ((refl, refl), tt)), refl)
+  where
+    route : IsRoute (record { exchange = codes "1"; address = codes "1" })
+    route = record {
+      named = omega arith;
+      short = omega arith;
+      addressed = omega arith;
+      brief = omega arith;
+    }
+
+    routes : AreRoutes (record { exchange = codes "1"; address = codes "1" } ∷ [])
+    routes = record { each = (route, tt); apart = (refl, tt) }
 some_in_form Pairs = ((omega arith, omega arith), no_minus (decimal 1) (first_decimal 1 (omega arith) (omega arith)))
 some_in_form Turns = ((omega arith, omega arith), no_minus (decimal 1) (first_decimal 1 (omega arith) (omega arith)))
 some_in_form Capture = (λ e. absurd cc, refl)

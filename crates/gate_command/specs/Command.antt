@@ -1,14 +1,21 @@
--- The command line: which lists of words there are, and what each asks for. A word is the list of its bytes.
-use Rattle.std.specs.Prelude.{◌≡◌, ◌≢◌, ◌⊎◌, ℕ, ◌-◌, ◌≤◌, ◌<◌, ◌==◌, Bool, false, ⊤, List, [], ◌∷◌, ◌++◌, length, take, drop, sum_by, slice_index, slice_index_or, Option, Some, None, unwrap_or, codes, decimal}
+-- The command line: which lists of words there are, and what each asks for. A word is the list of
+-- its bytes.
+use Rattle.std.specs.Prelude.{◌≡◌, ◌≢◌, ◌⊎◌, ℕ, ◌-◌, ◌≤◌, ◌<◌, ◌==◌, ◌||◌, Bool, false, ⊤, List}
+use Rattle.std.specs.Prelude.{[], ◌∷◌, ◌++◌, length, map, take, drop, sum_by, slice_index}
+use Rattle.std.specs.Prelude.{slice_index_or, Option, Some, None, unwrap_or, codes, decimal}
 use Rattle.std.specs.List.{flat_map, join_with_byte, list_any, slice_split, AllByRecursion}
 use Rattle.gate_model.specs.Setup as setup
-use Rattle.gate_model.specs.Setup.{IsHost, IsName, SetupText}
+use Rattle.gate_model.specs.Setup.{AreRoutes, IsHost, IsName, SetupText}
+use Rattle.gate_model.specs.declared.setup.Route.{Route}
 use Rattle.gate_runs.specs.declared.limits.Limits.{Limits}
 use Rattle.gate_runs.specs.Form as form
 use Rattle.gate_command.specs.declared.options.OptionName.{OptionName}
-use Rattle.gate_command.specs.declared.options.OptionName.TheVariants.{Listen, Upstream, Name, Host, Vhost, Pairs, Turns, Capture}
+use Rattle.gate_command.specs.declared.options.OptionName.TheVariants.{Listen, Upstream, Name, Host}
+use Rattle.gate_command.specs.declared.options.OptionName.TheVariants.{Vhost, Exchange, Pairs}
+use Rattle.gate_command.specs.declared.options.OptionName.TheVariants.{Turns, Capture}
 use Rattle.gate_command.specs.declared.words.Asked.{Asked}
-use Rattle.gate_command.specs.declared.words.Asked.TheVariants.{Serve, Replay, Show091, Show10, ShowCapture}
+use Rattle.gate_command.specs.declared.words.Asked.TheVariants.{Serve, Replay, Show091, Show10}
+use Rattle.gate_command.specs.declared.words.Asked.TheVariants.{ShowCapture}
 use Rattle.gate_command.specs.declared.words.Format.{Format}
 use Rattle.gate_command.specs.declared.words.Format.TheVariants as format
 use Rattle.gate_command.specs.declared.words.Misplaced.{Misplaced}
@@ -21,6 +28,7 @@ pub data Setting : Type 0 where
   known_as : List ℕ → Setting
   host_named : List ℕ → Setting
   vhost_named : List ℕ → Setting
+  exchanges_at : List Route → Setting
   pair_count : ℕ → Setting
   turn_count : ℕ → Setting
   capture_to : List ℕ → Setting
@@ -32,6 +40,7 @@ option_of (upstream_at address) = Upstream
 option_of (known_as name) = Name
 option_of (host_named host) = Host
 option_of (vhost_named vhost) = Vhost
+option_of (exchanges_at routes) = Exchange
 option_of (pair_count n) = Pairs
 option_of (turn_count n) = Turns
 option_of (capture_to path) = Capture
@@ -43,9 +52,26 @@ option_text Upstream = codes "--upstream"
 option_text Name = codes "--name"
 option_text Host = codes "--host"
 option_text Vhost = codes "--vhost"
+option_text Exchange = codes "--exchange"
 option_text Pairs = codes "--pairs"
 option_text Turns = codes "--turns"
 option_text Capture = codes "--capture"
+
+-- how exchanges and the addresses that they stand for are spelled: NAME=ADDRESS for each, with a
+-- comma between each two
+abbrev pub route_text : Route → List ℕ
+route_text r = r.exchange ++ codes "=" ++ r.address
+
+abbrev pub routes_text : List Route → List ℕ
+routes_text routes = join_with_byte 44 (map route_text routes)
+
+-- some byte is `,` or `=`
+abbrev pub has_mark : List ℕ → Bool
+has_mark text = list_any (λ byte. byte == 44 || byte == 61) text
+
+-- neither text has such a byte
+abbrev pub IsPlain : Route → Type 0
+IsPlain r = (has_mark r.exchange ≡ false) × (has_mark r.address ≡ false)
 
 -- how the option's value is spelled
 abbrev pub value_text : Setting → List ℕ
@@ -54,18 +80,21 @@ value_text (upstream_at address) = address
 value_text (known_as name) = name
 value_text (host_named host) = host
 value_text (vhost_named vhost) = vhost
+value_text (exchanges_at routes) = routes_text routes
 value_text (pair_count n) = decimal n
 value_text (turn_count n) = decimal n
 value_text (capture_to path) = path
 
--- no text is empty, a name, a host and a virtual host are what all pairs of a run may share, and a
--- number is from 1 to the option's most
+-- no text is empty, a name, a host, a virtual host and exchanges are what all pairs of a run may
+-- share, and a number is from 1 to the option's most
 abbrev pub IsSettable : Setting → Type 0
 IsSettable (listen_at address) = address ≢ []
 IsSettable (upstream_at address) = address ≢ []
 IsSettable (known_as name) = (name ≢ []) × IsName name
 IsSettable (host_named host) = (host ≢ []) × IsHost host
 IsSettable (vhost_named vhost) = (vhost ≢ []) × (length vhost ≤ 255)
+IsSettable (exchanges_at routes) =
+    (routes ≢ []) × AreRoutes routes × AllByRecursion IsPlain routes
 IsSettable (pair_count n) = (1 ≤ n) × (n ≤ 4294967295)
 IsSettable (turn_count n) = (1 ≤ n) × (n ≤ 140737488355328)
 IsSettable (capture_to path) = path ≢ []
@@ -82,7 +111,8 @@ setting_of (apart setting) = setting
 
 -- its words
 abbrev pub spelling : Given → List (List ℕ)
-spelling (joined setting) = (option_text (option_of setting) ++ codes "=" ++ value_text setting) ∷ []
+spelling (joined setting) =
+    (option_text (option_of setting) ++ codes "=" ++ value_text setting) ∷ []
 spelling (apart setting) = option_text (option_of setting) ∷ value_text setting ∷ []
 
 -- a text begins with `-`
@@ -101,6 +131,7 @@ pub record Settings : Type 0 where
   pub name : Option (List ℕ)
   pub host : Option (List ℕ)
   pub vhost : Option (List ℕ)
+  pub exchange : Option (List Route)
   pub pairs : Option ℕ
   pub turns : Option ℕ
   pub capture : Option (List ℕ)
@@ -113,6 +144,7 @@ nothing_given = record {
   name = None;
   host = None;
   vhost = None;
+  exchange = None;
   pairs = None;
   turns = None;
   capture = None;
@@ -125,6 +157,7 @@ with_setting (upstream_at address) s = record s { upstream = Some address }
 with_setting (known_as name) s = record s { name = Some name }
 with_setting (host_named host) s = record s { host = Some host }
 with_setting (vhost_named vhost) s = record s { vhost = Some vhost }
+with_setting (exchanges_at routes) s = record s { exchange = Some routes }
 with_setting (pair_count n) s = record s { pairs = Some n }
 with_setting (turn_count n) s = record s { turns = Some n }
 with_setting (capture_to path) s = record s { capture = Some path }
@@ -133,7 +166,8 @@ with_setting (capture_to path) s = record s { capture = Some path }
 abbrev pub AreDistinct : List Given → Type 0
 AreDistinct [] = ⊤
 AreDistinct (g ∷ gs) =
-    AllByRecursion (λ other. option_of (setting_of other) ≢ option_of (setting_of g)) gs × AreDistinct gs
+    AllByRecursion (λ other. option_of (setting_of other) ≢ option_of (setting_of g)) gs
+    × AreDistinct gs
 
 -- the settings and what the list gives
 abbrev pub settings_with : Settings → List Given → Settings
@@ -149,6 +183,7 @@ setup_of s = record {
   name = unwrap_or s.name (codes "amqp-gate");
   host = s.host;
   vhost = unwrap_or s.vhost (codes "/");
+  routes = unwrap_or s.exchange [];
 }
 
 -- what is asked for
@@ -195,7 +230,8 @@ IsCommand words asked = IsService words asked
     ⊎ ((words ≡ codes "replay" ∷ []) × (asked ≡ Replay))
     ⊎ ((what : Format) × (words ≡ codes "show" ∷ format_text what ∷ []) × (asked ≡ shown_as what))
 
--- the words that a text tells after `serve`, with a line feed between each two; an empty text tells none
+-- the words that a text tells after `serve`, with a line feed between each two; an empty text tells
+-- none
 abbrev pub words_of : List ℕ → List (List ℕ)
 words_of [] = codes "serve" ∷ []
 words_of (byte ∷ bytes) = codes "serve" ∷ slice_split (λ b. b == 10) (byte ∷ bytes)
@@ -229,6 +265,7 @@ pub record CanStand (k : ℕ) (words : List (List ℕ)) : Type 0 where
 -- the first word that can't stand, or the end where each can and the words aren't a command line
 abbrev pub CeasesAt : List (List ℕ) → Misplaced → Type 0
 CeasesAt words (Word k) =
-    (1 ≤ k) × (k ≤ length words) × (¬ CanStand k words) × ((j : ℕ) → 1 ≤ j → j < k → CanStand j words)
+    (1 ≤ k) × (k ≤ length words) × (¬ CanStand k words) × ((j : ℕ) → 1 ≤ j → j < k
+    → CanStand j words)
 CeasesAt words End =
     ((j : ℕ) → 1 ≤ j → j ≤ length words → CanStand j words) × ((asked : Asked) → ¬ Asks words asked)

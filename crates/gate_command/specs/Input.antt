@@ -20,7 +20,8 @@ IsOver (Some left) = left ≡ []
 abbrev pub AddsDrawn : Drawn → Option (List ℕ) → Option (List ℕ) → List ℕ → List ℕ → Type 0
 AddsDrawn (drawn.Bytes n) left left' bytes bytes' =
     (piece : List ℕ) × (1 ≤ length piece) × Reads left left' piece × (bytes' ≡ bytes ++ piece)
-AddsDrawn drawn.Ended left left' bytes bytes' = IsOver left' × Reads left left' [] × (bytes' ≡ bytes)
+AddsDrawn drawn.Ended left left' bytes bytes' =
+    IsOver left' × Reads left left' [] × (bytes' ≡ bytes)
 AddsDrawn drawn.Failed left left' bytes bytes' = bytes' ≡ bytes
 
 -- an input was read to its end, and these are its bytes

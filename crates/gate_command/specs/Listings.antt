@@ -14,12 +14,15 @@ use Rattle.gate_command.specs.Input.{IsInput}
 use Rattle.gate_command.specs.Recorded.{Says, bad_line, long_line}
 
 -- the lines of all units; those before the first fault, and its line; or as many as out took
-abbrev pub IsStreamBy : Dialect → List ℕ → Listed → Status → Option (List ℕ) → Option (List ℕ) → Type 0
-IsStreamBy d bytes listed.Whole answer held held' = (answer ≡ status.Ok) × IsListed d bytes held held' (Ok listed.Whole)
+abbrev pub IsStreamBy : Dialect → List ℕ → Listed → Status → Option (List ℕ) → Option (List ℕ)
+    → Type 0
+IsStreamBy d bytes listed.Whole answer held held' =
+    (answer ≡ status.Ok) × IsListed d bytes held held' (Ok listed.Whole)
 IsStreamBy d bytes (listed.Bad e) answer held held' =
     (before : Option (List ℕ)) × IsListed d bytes held before (Ok (listed.Bad e))
     × Says status.BadInput (bad_line e.at (fault_text e.fault)) answer before held'
-IsStreamBy d bytes listed.OutFailed answer held held' = (answer ≡ status.Outside) × IsListed d bytes held held' (Ok listed.OutFailed)
+IsStreamBy d bytes listed.OutFailed answer held held' =
+    (answer ≡ status.Outside) × IsListed d bytes held held' (Ok listed.OutFailed)
 
 -- bytes that are whole units are never told as at fault
 abbrev pub IsStream : Dialect → List ℕ → Status → Option (List ℕ) → Option (List ℕ) → Type 0
@@ -37,6 +40,8 @@ abbrev pub HasUnits : Dialect → Option (List ℕ) → Option (List ℕ) → Ty
 HasUnits d held held' = (us : List Piece) × AreUnits d 0 us × Appends held held' (lines 0 us)
 
 -- what was read of the input was listed; or memory ran out behind the lines of some units
-abbrev pub IsStreamListing : Dialect → Status → Option (List ℕ) → Option (List ℕ) → Option (List ℕ) → Option (List ℕ) → Type 0
+abbrev pub IsStreamListing : Dialect → Status → Option (List ℕ) → Option (List ℕ)
+    → Option (List ℕ) → Option (List ℕ) → Type 0
 IsStreamListing d answer left left' held held' =
-    ((read : Input) × IsInput left left' read × IsStreamOf d read answer held held') ⊎ ((answer ≡ status.Memory) × HasUnits d held held')
+    ((read : Input) × IsInput left left' read × IsStreamOf d read answer held held') ⊎ ((answer
+    ≡ status.Memory) × HasUnits d held held')

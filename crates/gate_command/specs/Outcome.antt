@@ -52,7 +52,8 @@ lost_line = codes "fault: capture\n"
 
 -- a line was taken, or the sink failed at it
 abbrev pub Tells : ℕ → ℕ → Option (List ℕ) → Option (List ℕ) → List ℕ → Type 0
-Tells faults faults' held held' line = Appends held held' line ⊎ (Rose faults faults' × AppendsFront held held' line)
+Tells faults faults' held held' line =
+    Appends held held' line ⊎ (Rose faults faults' × AppendsFront held held' line)
 
 -- what stands around the call, before it or after it
 pub record Around : Type 0 where
@@ -67,7 +68,8 @@ pub record Around : Type 0 where
 abbrev pub around : ℕ → Option (List ℕ) → Option (List ℕ) → Option (List LogEntry) → Around
 around faults held kept log = record { faults = faults; held = held; kept = kept; log = log }
 
--- the words aren't a command line, and the place was told; or out failed at that. Nothing else was done
+-- the words aren't a command line, and the place was told; or out failed at that. Nothing else was
+-- done
 pub record IsMisread (words : List (List ℕ)) (answer : Status) (old new : Around) : Type 0 where
   pub misplaced : Misplaced
   pub place : CeasesAt words misplaced
@@ -76,16 +78,20 @@ pub record IsMisread (words : List (List ℕ)) (answer : Status) (old new : Arou
   pub silent : new.log ≡ old.log
 
 -- a run of the service was made whose pairs share s, and this is its status
-pub record Ran (s : SetupText) (c : Limits) (answer : Status) (held held' kept kept' : Option (List ℕ)) (log log' : Option (List LogEntry)) : Type 0 where
+pub record Ran (s : SetupText) (c : Limits) (answer : Status) (held held' kept kept' : Option
+    (List ℕ)) (log log' : Option (List LogEntry)) : Type 0 where
   pub how : Served
   -- how many pairs ran out of memory
   pub count : ℕ
   pub status : answer ≡ status_of how
-  pub served : (base : List LogEntry) → log ≡ Some base → HasHistory base log' (IsRunOf s c how count held held' kept kept')
+  pub served : (base : List LogEntry) → log ≡ Some base → HasHistory base log'
+      (IsRunOf s c how count held held' kept kept')
 
--- the words ask for a run of the service with these limits, whose pairs share s, and for its capture where a path is given
+-- the words ask for a run of the service with these limits, whose pairs share s, and for its
+-- capture where a path is given
 abbrev pub AsksToServe : List (List ℕ) → Limits → SetupText → Option (List ℕ) → Type 0
-AsksToServe words c s path = (listen : List ℕ) × (upstream : List ℕ) × Asks words (Serve c s listen upstream path)
+AsksToServe words c s path =
+    (listen : List ℕ) × (upstream : List ℕ) × Asks words (Serve c s listen upstream path)
 
 -- the words ask for a run of the service of which no record is kept, and it was made
 pub record IsRun (words : List (List ℕ)) (answer : Status) (old new : Around) : Type 0 where
@@ -97,8 +103,10 @@ pub record IsRun (words : List (List ℕ)) (answer : Status) (old new : Around) 
   pub ran : Ran setup limits answer old.held new.held None None old.log new.log
   pub unrecorded : new.kept ≡ old.kept
 
--- the start of a capture with this text of the words was written, and behind it the calls of a run of the service
-pub record BeginsAndRuns (text : List ℕ) (s : SetupText) (c : Limits) (answer : Status) (old new : Around) : Type 0 where
+-- the start of a capture with this text of the words was written, and behind it the calls of a run
+-- of the service
+pub record BeginsAndRuns (text : List ℕ) (s : SetupText) (c : Limits) (answer : Status)
+    (old new : Around) : Type 0 where
   pub begun : Option (List ℕ)
   pub start : Appends old.kept begun (start text)
   pub ran : Ran s c answer old.held new.held begun new.kept old.log new.log
@@ -118,7 +126,8 @@ pub record IsCapturedRun (words : List (List ℕ)) (answer : Status) (old new : 
   pub upstream : List ℕ
   pub path : List ℕ
   pub asks : Asks words (Serve limits setup listen upstream (Some path))
-  pub run : BeginsAndRuns (text_of words) setup limits answer old new ⊎ FailsToBegin (text_of words) answer old new
+  pub run : BeginsAndRuns (text_of words) setup limits answer old new ⊎ FailsToBegin
+      (text_of words) answer old new
 
 -- there was no memory for the words, and nothing was done
 pub record IsUnread (answer : Status) (old new : Around) : Type 0 where
@@ -132,15 +141,18 @@ abbrev pub WithoutInput : List (List ℕ) → Status → Around → Around → T
 WithoutInput words answer old new =
     IsMisread words answer old new ⊎ IsRun words answer old new ⊎ IsCapturedRun words answer old new ⊎ IsUnread answer old new
 
--- the words ask to make the run of a capture again. Of the input there is told what it had left before and after
-pub record IsReplaying (words : List (List ℕ)) (answer : Status) (old new : Around) (left left' : Option (List ℕ)) : Type 0 where
+-- the words ask to make the run of a capture again. Of the input there is told what it had left
+-- before and after
+pub record IsReplaying (words : List (List ℕ)) (answer : Status) (old new : Around)
+    (left left' : Option (List ℕ)) : Type 0 where
   pub asks : Asks words Replay
   pub replay : IsReplay answer left left' old.held new.held
   pub unrecorded : new.kept ≡ old.kept
   pub silent : new.log ≡ old.log
 
 -- the words ask to list a capture
-pub record IsShowing (words : List (List ℕ)) (answer : Status) (old new : Around) (left left' : Option (List ℕ)) : Type 0 where
+pub record IsShowing (words : List (List ℕ)) (answer : Status) (old new : Around)
+    (left left' : Option (List ℕ)) : Type 0 where
   pub asks : Asks words ShowCapture
   pub listing : IsListing answer left left' old.held new.held
   pub unrecorded : new.kept ≡ old.kept
@@ -152,14 +164,17 @@ format_of Amqp091 = format.Amqp091
 format_of Amqp10 = format.Amqp10
 
 -- the words ask to list a byte stream of one of the protocols
-pub record IsShowingUnits (words : List (List ℕ)) (answer : Status) (old new : Around) (left left' : Option (List ℕ)) : Type 0 where
+pub record IsShowingUnits (words : List (List ℕ)) (answer : Status) (old new : Around)
+    (left left' : Option (List ℕ)) : Type 0 where
   pub dialect : Dialect
   pub asks : Asks words (shown_as (format_of dialect))
   pub listing : IsStreamListing dialect answer left left' old.held new.held
   pub unrecorded : new.kept ≡ old.kept
   pub silent : new.log ≡ old.log
 
-abbrev pub Outcome : List (List ℕ) → Status → Around → Around → Option (List ℕ) → Option (List ℕ) → Type 0
+abbrev pub Outcome : List (List ℕ) → Status → Around → Around → Option (List ℕ)
+    → Option (List ℕ) → Type 0
 Outcome words answer old new left left' =
-    ((left' ≡ left) × WithoutInput words answer old new) ⊎ IsReplaying words answer old new left left' ⊎ IsShowing words answer old new left left'
+    ((left' ≡ left)
+    × WithoutInput words answer old new) ⊎ IsReplaying words answer old new left left' ⊎ IsShowing words answer old new left left'
     ⊎ IsShowingUnits words answer old new left left'

@@ -1,21 +1,32 @@
 -- The reading of the words, one after another, as the code does it.
-use Rattle.std.specs.Prelude.{ℕ, ◌+◌, ◌-◌, ◌==◌, ◌||◌, ◌&&◌, nat_lt, nat_le, Bool, true, false, if◌then◌else◌, List, [], ◌∷◌, length, Option, Some, None, is_none, option_map, Result, Ok, Err, codes, slice_index, bytes_eq}
+use Rattle.std.specs.Prelude.{ℕ, ◌+◌, ◌-◌, ◌==◌, ◌||◌, ◌&&◌, not, nat_lt, nat_le, Bool, true, false}
+use Rattle.std.specs.Prelude.{if◌then◌else◌, List, [], ◌∷◌, length, map, Option, Some, None}
+use Rattle.std.specs.Prelude.{is_none, option_map, unwrap_or, Result, Ok, Err, codes, slice_index}
+use Rattle.std.specs.Prelude.{bytes_eq}
 use Rattle.std.specs.Char.{is_ascii}
-use Rattle.std.specs.List.{list_all}
+use Rattle.std.specs.List.{list_all, list_any, slice_split}
 use Rattle.std.specs.Option.{option_and_then, option_map_or}
 use Rattle.std.specs.Str.{all_ascii_digits, is_utf8}
 use Rattle.std.specs.Str.Parse.{digits_value}
+use Rattle.gate_model.specs.Setup.{is_named}
+use Rattle.gate_model.specs.declared.setup.Route.{Route}
 use Rattle.gate_command.specs.declared.options.OptionName.{OptionName}
-use Rattle.gate_command.specs.declared.options.OptionName.TheVariants.{Listen, Upstream, Name, Host, Vhost, Pairs, Turns, Capture}
+use Rattle.gate_command.specs.declared.options.OptionName.TheVariants.{Listen, Upstream, Name, Host}
+use Rattle.gate_command.specs.declared.options.OptionName.TheVariants.{Vhost, Exchange, Pairs}
+use Rattle.gate_command.specs.declared.options.OptionName.TheVariants.{Turns, Capture}
 use Rattle.gate_command.specs.declared.words.Asked.{Asked}
 use Rattle.gate_command.specs.declared.words.Asked.TheVariants.{Replay}
 use Rattle.gate_command.specs.declared.words.Format.{Format}
 use Rattle.gate_command.specs.declared.words.Format.TheVariants as format
 use Rattle.gate_command.specs.declared.words.Misplaced.{Misplaced}
 use Rattle.gate_command.specs.declared.words.Misplaced.TheVariants.{Word, End}
-use Rattle.gate_command.specs.Command.{Setting, listen_at, upstream_at, known_as, host_named, vhost_named, pair_count, turn_count, capture_to, Settings, with_setting, nothing_given, asked_of, begins_with_minus, has_line_feed, shown_as}
+use Rattle.gate_command.specs.Command.{Setting, listen_at, upstream_at, known_as, host_named}
+use Rattle.gate_command.specs.Command.{vhost_named, exchanges_at, pair_count, turn_count}
+use Rattle.gate_command.specs.Command.{capture_to, Settings, with_setting, nothing_given, asked_of}
+use Rattle.gate_command.specs.Command.{begins_with_minus, has_line_feed, shown_as}
 
--- where the reading stands: between options, or after an option's name, whose value is the next word
+-- where the reading stands: between options, or after an option's name, whose value is the next
+-- word
 pub data State : Type 0 where
   between : Settings → State
   awaiting : OptionName → Settings → State
@@ -27,6 +38,7 @@ is_free Upstream s = is_none s.upstream
 is_free Name s = is_none s.name
 is_free Host s = is_none s.host
 is_free Vhost s = is_none s.vhost
+is_free Exchange s = is_none s.exchange
 is_free Pairs s = is_none s.pairs
 is_free Turns s = is_none s.turns
 is_free Capture s = is_none s.capture
@@ -44,9 +56,10 @@ option_named text =
     else (if bytes_eq text (codes "--name") then Some Name
     else (if bytes_eq text (codes "--host") then Some Host
     else (if bytes_eq text (codes "--vhost") then Some Vhost
+    else (if bytes_eq text (codes "--exchange") then Some Exchange
     else (if bytes_eq text (codes "--pairs") then Some Pairs
     else (if bytes_eq text (codes "--turns") then Some Turns
-    else (if bytes_eq text (codes "--capture") then Some Capture else None)))))))
+    else (if bytes_eq text (codes "--capture") then Some Capture else None))))))))
 
 -- the text is digits, and the first of them isn't 0
 abbrev pub is_numeral : List ℕ → Bool
@@ -54,7 +67,9 @@ is_numeral text = nat_lt 48 (slice_index text 0) && all_ascii_digits text
 
 -- the number from 1 to `most` that the text writes
 unfoldable pub number_in : ℕ → List ℕ → Option ℕ
-number_in most text = if is_numeral text && nat_le (digits_value 10 text) most then Some (digits_value 10 text) else None
+number_in most text =
+    if is_numeral text && nat_le (digits_value 10 text) most then Some (digits_value 10 text)
+    else None
 
 -- a text that isn't empty, one of at most so many bytes, and those that all pairs of a run share
 abbrev pub text_in : List ℕ → Option (List ℕ)
@@ -69,6 +84,31 @@ name_in text = if list_all is_ascii text then short_in 100 text else None
 unfoldable pub host_in : List ℕ → Option (List ℕ)
 host_in text = if is_utf8 text then short_in 200 text else None
 
+-- a part of a list of exchanges, cut at its first `=`; without one its address is empty
+abbrev pub route_of : List ℕ → Route
+route_of part = record { exchange = (cut part).0; address = unwrap_or (cut part).1 [] }
+
+-- all parts
+unfoldable pub routes_of : List ℕ → List Route
+routes_of text = map route_of (slice_split (λ byte. byte == 44) text)
+
+-- a part may stand in a list
+abbrev pub is_sized : List ℕ → Bool
+is_sized text = nat_lt 0 (length text) && nat_le (length text) 255
+
+abbrev pub is_route : Route → Bool
+is_route r =
+    is_sized r.exchange && is_sized r.address && not (list_any (λ byte. byte == 61) r.address)
+
+-- each part may, and no exchange is named twice
+unfoldable pub are_routes : List Route → Bool
+are_routes [] = true
+are_routes (r ∷ rs) = is_route r && not (list_any (is_named r.exchange) rs) && are_routes rs
+
+-- the exchanges that the text lists
+unfoldable pub routes_in : List ℕ → Option (List Route)
+routes_in text = if are_routes (routes_of text) then Some (routes_of text) else None
+
 -- what the option says with this value
 abbrev pub setting_in : OptionName → List ℕ → Option Setting
 setting_in Listen value = option_map listen_at (text_in value)
@@ -76,6 +116,7 @@ setting_in Upstream value = option_map upstream_at (text_in value)
 setting_in Name value = option_map known_as (name_in value)
 setting_in Host value = option_map host_named (host_in value)
 setting_in Vhost value = option_map vhost_named (short_in 255 value)
+setting_in Exchange value = option_map exchanges_at (routes_in value)
 setting_in Pairs value = option_map pair_count (number_in 4294967295 value)
 setting_in Turns value = option_map turn_count (number_in 140737488355328 value)
 setting_in Capture value = option_map capture_to (text_in value)
@@ -92,16 +133,19 @@ opened option (Some value) s = option_map between (set_in option value s)
 -- after an option's first word
 unfoldable pub option_in : List ℕ → Settings → Option State
 option_in word s =
-    option_and_then (λ option. if is_free option s then opened option (cut word).1 s else None) (option_named (cut word).0)
+    option_and_then (λ option. if is_free option s then opened option (cut word).1 s else None)
+    (option_named (cut word).0)
 
 -- after a word, `None` where it can't stand
 abbrev pub step : State → List ℕ → Option State
 step (between s) word = option_in word s
-step (awaiting option s) word = if begins_with_minus word then None else option_map between (set_in option word s)
+step (awaiting option s) word =
+    if begins_with_minus word then None else option_map between (set_in option word s)
 
 -- the same where line feeds, and more bytes than there is room for, can't stand
 unfoldable pub word_in : ℕ → State → List ℕ → Option State
-word_in room state word = if has_line_feed word || nat_lt room (length word) then None else step state word
+word_in room state word =
+    if has_line_feed word || nat_lt room (length word) then None else step state word
 
 -- at the end of the words
 abbrev pub ended : State → Result Settings Misplaced
@@ -112,7 +156,8 @@ ended (awaiting option s) = Err End
 unfoldable pub words_in : ℕ → ℕ → State → List (List ℕ) → Result Settings Misplaced
 words_in k room state [] = ended state
 words_in k room state (word ∷ words) =
-    option_map_or (λ next. words_in (k + 1) (room - length word) next words) (word_in room state word) (Err (Word k))
+    option_map_or (λ next. words_in (k + 1) (room - length word) next words)
+    (word_in room state word) (Err (Word k))
 
 -- a command, with what its options say
 pub data Request : Type 0 where
@@ -164,4 +209,5 @@ after_first false false false words = Err (Word 1)
 unfoldable pub command_in : List (List ℕ) → Result Request Misplaced
 command_in [] = Err End
 command_in (word ∷ words) =
-    after_first (bytes_eq word (codes "serve")) (bytes_eq word (codes "replay")) (bytes_eq word (codes "show")) words
+    after_first (bytes_eq word (codes "serve")) (bytes_eq word (codes "replay")) (bytes_eq word
+    (codes "show")) words

@@ -1,5 +1,6 @@
 -- What the commands do whose input is a capture.
-use Rattle.std.specs.Prelude.{◌≡◌, ◌⊎◌, ℕ, List, ◌++◌, length, Option, Result, Ok, Err, codes, decimal}
+use Rattle.std.specs.Prelude.{◌≡◌, ◌⊎◌, ℕ, List, ◌++◌, length, Option, Result, Ok, Err, codes}
+use Rattle.std.specs.Prelude.{decimal}
 use Rattle.std.specs.Str.{IsUtf8}
 use Rattle.wire_base.specs.declared.scan.At.{At}
 use Rattle.gate_outside.specs.declared.log.LogEntry.{LogEntry}
@@ -63,11 +64,13 @@ line_of (Differs k) = differs_line k
 -- out took this line, and the status is the one that is meant; or out failed at it
 abbrev pub Says : Status → List ℕ → Status → Option (List ℕ) → Option (List ℕ) → Type 0
 Says meant line answer held held' =
-    ((answer ≡ meant) × Appends held held' line) ⊎ ((answer ≡ status.Outside) × AppendsFront held held' line)
+    ((answer ≡ meant) × Appends held held' line) ⊎ ((answer ≡ status.Outside)
+    × AppendsFront held held' line)
 
 -- ---- replays
 
--- the words that this text tells ask for a run of the service with these limits, whose pairs share this
+-- the words that this text tells ask for a run of the service with these limits, whose pairs share
+-- this
 pub record ServesBy (text : List ℕ) (c : Limits) (s : SetupText) : Type 0 where
   pub listen : List ℕ
   pub upstream : List ℕ
@@ -80,26 +83,35 @@ AsksFor text c s = IsUtf8 text × ServesBy text c s
 
 -- what the words read ask for
 abbrev pub IsService : Result Asked Misplaced → Limits → SetupText → Type 0
-IsService read c s = (listen : List ℕ) × (upstream : List ℕ) × (path : Option (List ℕ)) × (read ≡ Ok (Serve c s listen upstream path))
+IsService read c s =
+    (listen : List ℕ) × (upstream : List ℕ) × (path : Option (List ℕ)) × (read
+    ≡ Ok (Serve c s listen upstream path))
 
 -- what a replay says of the words and the log of a capture
 pub data IsOf (words : List ℕ) (log : List LogEntry) : Status → List ℕ → Type 0 where
   -- its words ask for no run
-  WithoutRun : ((c : Limits) (s : SetupText) → ¬ AsksFor words c s) → IsOf words log status.BadInput (bad_line 8 (fault_text fault.Kind))
+  WithoutRun : ((c : Limits) (s : SetupText) → ¬ AsksFor words c s)
+      → IsOf words log status.BadInput (bad_line 8 (fault_text fault.Kind))
   -- its log is the run of the service that its words ask for, with all its laws
-  IsSame : (c : Limits) (s : SetupText) (count : ℕ) → AsksFor words c s → IsRerun s c count log → IsOf words log status.Ok (same_line (length log))
+  IsSame : (c : Limits) (s : SetupText) (count : ℕ) → AsksFor words c s → IsRerun s c count log
+      → IsOf words log status.Ok (same_line (length log))
   -- that run over its answers makes other calls from this place on
-  IsAnother : (c : Limits) (s : SetupText) (k : ℕ) → AsksFor words c s → IsOther s c log k → IsOf words log status.Differs (differs_line k)
+  IsAnother : (c : Limits) (s : SetupText) (k : ℕ) → AsksFor words c s → IsOther s c log k
+      → IsOf words log status.Differs (differs_line k)
 
 -- and of the bytes of an input
 pub data IsVerdict (bytes : List ℕ) : Status → List ℕ → Type 0 where
   -- they are no capture, and this is their first fault
-  AtFault : (e : At CaptureFault) → capture_in bytes ≡ Err e → IsVerdict bytes status.BadInput (bad_line e.at (fault_text e.fault))
-  OfCapture : (words : List ℕ) (log : List LogEntry) (meant : Status) (line : List ℕ) → IsCapture words log bytes → IsOf words log meant line
+  AtFault : (e : At CaptureFault) → capture_in bytes ≡ Err e → IsVerdict bytes status.BadInput
+      (bad_line e.at (fault_text e.fault))
+  OfCapture : (words : List ℕ) (log : List LogEntry) (meant : Status) (line : List ℕ)
+      → IsCapture words log bytes → IsOf words log meant line
       → IsVerdict bytes meant line
 
 abbrev pub IsReplayed : Input → Status → Option (List ℕ) → Option (List ℕ) → Type 0
-IsReplayed (Whole bytes) answer held held' = (meant : Status) × (line : List ℕ) × IsVerdict bytes meant line × Says meant line answer held held'
+IsReplayed (Whole bytes) answer held held' =
+    (meant : Status) × (line : List ℕ) × IsVerdict bytes meant line
+    × Says meant line answer held held'
 IsReplayed TooLong answer held held' = Says status.BadInput long_line answer held held'
 IsReplayed Failed answer held held' = (answer ≡ status.Outside) × (held' ≡ held)
 
@@ -107,11 +119,13 @@ IsReplayed Failed answer held held' = (answer ≡ status.Outside) × (held' ≡ 
 
 -- the lines of all entries; those before the first fault, and its line; or as many as out took
 abbrev pub IsShown : List ℕ → Shown → Status → Option (List ℕ) → Option (List ℕ) → Type 0
-IsShown bytes shown.Whole answer held held' = (answer ≡ status.Ok) × IsListed bytes held held' (Ok shown.Whole)
+IsShown bytes shown.Whole answer held held' =
+    (answer ≡ status.Ok) × IsListed bytes held held' (Ok shown.Whole)
 IsShown bytes (shown.Bad e) answer held held' =
     (listed : Option (List ℕ)) × IsListed bytes held listed (Ok (shown.Bad e))
     × Says status.BadInput (bad_line e.at (fault_text e.fault)) answer listed held'
-IsShown bytes shown.OutFailed answer held held' = (answer ≡ status.Outside) × IsListed bytes held held' (Ok shown.OutFailed)
+IsShown bytes shown.OutFailed answer held held' =
+    (answer ≡ status.Outside) × IsListed bytes held held' (Ok shown.OutFailed)
 
 abbrev pub IsShownOf : Input → Status → Option (List ℕ) → Option (List ℕ) → Type 0
 IsShownOf (Whole bytes) answer held held' = (how : Shown) × IsShown bytes how answer held held'
@@ -126,11 +140,15 @@ pub record HasLines (held held' : Option (List ℕ)) : Type 0 where
 -- ---- the commands
 
 -- what was read of the input was replayed; or memory ran out, and nothing was written
-abbrev pub IsReplay : Status → Option (List ℕ) → Option (List ℕ) → Option (List ℕ) → Option (List ℕ) → Type 0
+abbrev pub IsReplay : Status → Option (List ℕ) → Option (List ℕ) → Option (List ℕ)
+    → Option (List ℕ) → Type 0
 IsReplay answer left left' held held' =
-    ((read : Input) × IsInput left left' read × IsReplayed read answer held held') ⊎ ((answer ≡ status.Memory) × (held' ≡ held))
+    ((read : Input) × IsInput left left' read × IsReplayed read answer held held') ⊎ ((answer
+    ≡ status.Memory) × (held' ≡ held))
 
 -- it was listed; or memory ran out behind the lines of some entries
-abbrev pub IsListing : Status → Option (List ℕ) → Option (List ℕ) → Option (List ℕ) → Option (List ℕ) → Type 0
+abbrev pub IsListing : Status → Option (List ℕ) → Option (List ℕ) → Option (List ℕ)
+    → Option (List ℕ) → Type 0
 IsListing answer left left' held held' =
-    ((read : Input) × IsInput left left' read × IsShownOf read answer held held') ⊎ ((answer ≡ status.Memory) × HasLines held held')
+    ((read : Input) × IsInput left left' read × IsShownOf read answer held held') ⊎ ((answer
+    ≡ status.Memory) × HasLines held held')

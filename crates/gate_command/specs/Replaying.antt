@@ -1,5 +1,6 @@
 -- What a replay is: a run of the service over the answers of a log.
-use Rattle.std.specs.Prelude.{◌≡◌, ◌≢◌, ℕ, Bool, true, false, if◌then◌else◌, List, [], ◌∷◌, ◌++◌, length, take, reverse, slice_get, Option, None, Some}
+use Rattle.std.specs.Prelude.{◌≡◌, ◌≢◌, ℕ, Bool, true, false, if◌then◌else◌, List, [], ◌∷◌, ◌++◌}
+use Rattle.std.specs.Prelude.{length, take, reverse, slice_get, Option, None, Some}
 use Rattle.gate_outside.specs.declared.ports.End.TheVariants.{Client}
 use Rattle.gate_outside.specs.declared.ports.Put.TheVariants.{Took}
 use Rattle.gate_outside.specs.declared.log.Call.{Call}
@@ -17,7 +18,8 @@ use Rattle.gate_command.specs.Runs.{IsRunOf}
 
 -- ---- ports that answer from a log, and tell it beside their calls
 
--- the ports; the calls from the first on that wasn't its entry, in their order; whether they are told
+-- the ports; the calls from the first on that wasn't its entry, in their order; whether they are
+-- told
 pub record RerunState : Type 0 where
   pub ports : ReplayState
   pub rest : List LogEntry
@@ -34,7 +36,8 @@ no_call = Write 0 Client [] (Took 1)
 -- the calls, the newest first, and behind the mark the log that they are answered from
 abbrev pub told_over : RerunState → Option (List LogEntry)
 told_over rerun =
-    if rerun.tells then Some (reverse rerun.rest ++ (rerun.ports.log.used ++ no_call ∷ whole rerun.ports.log)) else None
+    if rerun.tells then Some (reverse rerun.rest ++ (rerun.ports.log.used
+    ++ no_call ∷ whole rerun.ports.log)) else None
 
 -- the calls from some place on aren't the entries from there on: the first of both isn't the same
 pub record Parts (rest left : List LogEntry) : Type 0 where
@@ -56,19 +59,23 @@ IsNoted true call bytes tells tells' old new =
 
 -- what is answered after a run in which so many pairs ran out of memory
 abbrev pub Answers : RerunState → ℕ → Replayed → Type 0
-Answers rerun count (Same n) = (difference rerun.ports ≡ None) × (n ≡ length (whole rerun.ports.log))
-Answers rerun count (Differs k) = (difference rerun.ports ≡ Some k) × (rerun.tells ≡ true) × (count ≡ 0)
+Answers rerun count (Same n) =
+    (difference rerun.ports ≡ None) × (n ≡ length (whole rerun.ports.log))
+Answers rerun count (Differs k) =
+    (difference rerun.ports ≡ Some k) × (rerun.tells ≡ true) × (count ≡ 0)
 
 -- ---- what a replay says of a log
 
--- these are the calls of a run of the service, with all its laws, in which so many pairs ran out of memory
+-- these are the calls of a run of the service, with all its laws, in which so many pairs ran out of
+-- memory
 pub record IsRerun (s : SetupText) (c : Limits) (count : ℕ) (log : List LogEntry) : Type 0 where
   pub history : History
   pub made : log ≡ reverse (calls history)
   pub how : Served
   pub run : IsRunOf s c how count None None None None history
 
--- the run made other calls than the recorded ones: both lists are the same before this place, and not there
+-- the run made other calls than the recorded ones: both lists are the same before this place, and
+-- not there
 pub record GoesApart (k : ℕ) (made log : List LogEntry) : Type 0 where
   pub front : take k made ≡ take k log
   pub other : slice_get made k ≢ slice_get log k

@@ -1,5 +1,5 @@
 -- What the specifications see of the code's own types.
-use Rattle.std.specs.Prelude.{option_copied, Result, Ok, Err}
+use Rattle.std.specs.Prelude.{option_copied, option_map, Result, Ok, Err}
 use Rattle.gate_command.specs.declared.options.Gathered.{Gathered}
 use Rattle.gate_command.specs.declared.options.Progress.{Progress}
 use Rattle.gate_command.specs.declared.options.Progress.TheVariants.{Between, Awaiting}
@@ -7,7 +7,8 @@ use Rattle.gate_command.specs.declared.words.Misplaced.{Misplaced}
 use Rattle.gate_command.specs.Command.{Settings}
 use Rattle.gate_command.specs.declared.words.Command.{Command}
 use Rattle.gate_command.specs.declared.words.Command.TheVariants as command
-use Rattle.gate_command.specs.Reading.{State, between, awaiting, Request, serving, replaying, showing}
+use Rattle.gate_command.specs.Reading.{State, between, awaiting, Request, serving, replaying}
+use Rattle.gate_command.specs.Reading.{showing, routes_of}
 
 -- what the options say that were read
 abbrev pub settings_of : Gathered → Settings
@@ -17,6 +18,7 @@ settings_of g = record {
   name = option_copied g.name;
   host = option_copied g.host;
   vhost = option_copied g.vhost;
+  exchange = option_map routes_of (option_copied g.exchange);
   pairs = g.pairs;
   turns = g.turns;
   capture = option_copied g.capture;

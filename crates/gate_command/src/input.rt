@@ -39,7 +39,8 @@ fn draw<S: Source>(input: &mut S, room: &mut [u8], bytes: &mut ByteText) -> Resu
     requires { 0 < length room.old }
     ensures later { S.faults input.old ≤ S.faults input.new }
     ensures cause { result ≡ Ok Drawn.Failed → Rose (S.faults input.old) (S.faults input.new) }
-    ensures drawn { IfOk result (λ answer. AddsDrawn answer (S.left input.old) (S.left input.new) bytes.old bytes.new) }
+    ensures drawn { IfOk result (λ answer. AddsDrawn answer (S.left input.old)
+        (S.left input.new) bytes.old bytes.new) }
 {
     let answer = input.read(room);
     if let Drawn::Bytes(n) = answer {

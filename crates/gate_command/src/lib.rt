@@ -1,6 +1,7 @@
 //! The top call of the gateway, and the reading of its command line.
 #![tactic(auto)]
 
+mod exchanges;
 mod input;
 mod listing;
 mod options;

@@ -22,7 +22,8 @@ use wire_base::{At, Memory};
 fn say_bad<K: Sink>(alloc: Global, out: &mut K, found: At<UnitFault>) -> Result<Status, Memory>
     ensures later { K.faults out.old ≤ K.faults out.new }
     ensures cause { result ≡ Ok Status.Outside → Rose (K.faults out.old) (K.faults out.new) }
-    ensures said { IfOk result (λ answer. Says Status.BadInput (bad_line found.at (fault_text found.fault)) answer
+    ensures said { IfOk result (λ answer. Says Status.BadInput (bad_line found.at
+        (fault_text found.fault)) answer
         (K.held out.old) (K.held out.new)) }
     ensures none { OnErr result (out.new ≡ out.old) }
     ensures never { result ≢ Ok Status.Usage }
@@ -46,7 +47,8 @@ fn list<K: Sink>(
 ) -> Result<Status, Memory>
     ensures later { K.faults out.old ≤ K.faults out.new }
     ensures cause { result ≡ Ok Status.Outside → Rose (K.faults out.old) (K.faults out.new) }
-    ensures listed { IfOk result (λ answer. IsStream dialect bytes.now answer (K.held out.old) (K.held out.new)) }
+    ensures listed { IfOk result (λ answer. IsStream dialect bytes.now answer (K.held out.old)
+        (K.held out.new)) }
     ensures some { OnErr result (HasUnits dialect (K.held out.old) (K.held out.new)) }
     ensures never { result ≢ Ok Status.Usage }
 {
@@ -66,8 +68,10 @@ fn list_input<R: Source, K: Sink>(
     out: &mut K,
 ) -> Result<Status, Memory>
     ensures cause { result ≡ Ok Status.Outside
-        → Rose (R.faults input.old) (R.faults input.new) ⊎ Rose (K.faults out.old) (K.faults out.new) }
-    ensures listed { IfOk result (λ answer. (read : Input) × IsInput (R.left input.old) (R.left input.new) read
+        → Rose (R.faults input.old) (R.faults input.new) ⊎ Rose (K.faults out.old)
+        (K.faults out.new) }
+    ensures listed { IfOk result (λ answer. (read : Input) × IsInput (R.left input.old)
+        (R.left input.new) read
         × IsStreamOf dialect read answer (K.held out.old) (K.held out.new)) }
     ensures some { OnErr result (HasUnits dialect (K.held out.old) (K.held out.new)) }
     ensures never { result ≢ Ok Status.Usage }
@@ -87,8 +91,10 @@ pub fn run_listing<R: Source, K: Sink>(
     out: &mut K,
 ) -> Status
     ensures cause { result ≡ Status.Outside
-        → Rose (R.faults input.old) (R.faults input.new) ⊎ Rose (K.faults out.old) (K.faults out.new) }
-    ensures listing { IsStreamListing dialect result (R.left input.old) (R.left input.new) (K.held out.old) (K.held out.new) }
+        → Rose (R.faults input.old) (R.faults input.new) ⊎ Rose (K.faults out.old)
+        (K.faults out.new) }
+    ensures listing { IsStreamListing dialect result (R.left input.old) (R.left input.new)
+        (K.held out.old) (K.held out.new) }
     ensures never { result ≢ Status.Usage }
 {
     match list_input(alloc, dialect, input, out) {

@@ -2,9 +2,12 @@
 
 ghost use Rattle.std.specs.Prelude.{◌≡◌, ◌≤◌, ℕ, List, IfSome, option_map, option_copied};
 ghost use Rattle.gate_command.specs.Command.{nothing_given};
-ghost use Rattle.gate_command.specs.Reading.{is_free, cut, option_named, text_in, short_in, name_in, host_in, number_in, set_in, option_in, step, word_in, ended};
+ghost use Rattle.gate_command.specs.Reading.{is_free, cut, option_named, text_in, short_in};
+ghost use Rattle.gate_command.specs.Reading.{name_in, host_in, number_in, set_in, option_in, step};
+ghost use Rattle.gate_command.specs.Reading.{word_in, ended};
 ghost use Rattle.gate_command.specs.View.{settings_of, state_of, answer_of};
 
+use crate::exchanges::exchanges_of;
 use crate::words::Misplaced;
 
 /// Turns are at most 2^47.
@@ -30,6 +33,7 @@ pub enum OptionName {
     Name,
     Host,
     Vhost,
+    Exchange,
     Pairs,
     Turns,
     Capture,
@@ -43,6 +47,7 @@ pub struct Gathered<'a> {
     pub name: Option<&'a str>,
     pub host: Option<&'a str>,
     pub vhost: Option<&'a str>,
+    pub exchange: Option<&'a str>,
     pub pairs: Option<u32>,
     pub turns: Option<u64>,
     pub capture: Option<&'a str>,
@@ -71,6 +76,8 @@ fn option_of(text: &str) -> Option<OptionName>
         Some(OptionName::Host)
     } else if text == "--vhost" {
         Some(OptionName::Vhost)
+    } else if text == "--exchange" {
+        Some(OptionName::Exchange)
     } else if text == "--pairs" {
         Some(OptionName::Pairs)
     } else if text == "--turns" {
@@ -83,7 +90,7 @@ fn option_of(text: &str) -> Option<OptionName>
 }
 
 /// What stands before the first `=` of a word, and what stands after it, where there is one.
-fn cut_of(word: &str) -> (&str, Option<&str>)
+pub fn cut_of(word: &str) -> (&str, Option<&str>)
     ensures front { result.0.now ≡ (cut word.now).0 }
     ensures back { option_copied result.1 ≡ (cut word.now).1 }
 {
@@ -155,6 +162,7 @@ impl<'a> Gathered<'a> {
             name: None,
             host: None,
             vhost: None,
+            exchange: None,
             pairs: None,
             turns: None,
             capture: None,
@@ -171,6 +179,7 @@ impl<'a> Gathered<'a> {
             OptionName::Name => self.name.is_none(),
             OptionName::Host => self.host.is_none(),
             OptionName::Vhost => self.vhost.is_none(),
+            OptionName::Exchange => self.exchange.is_none(),
             OptionName::Pairs => self.pairs.is_none(),
             OptionName::Turns => self.turns.is_none(),
             OptionName::Capture => self.capture.is_none(),
@@ -179,43 +188,21 @@ impl<'a> Gathered<'a> {
 
     /// The same and this option's value, if it is in form.
     #[tactic(auto, unfolding(crate::specs::Reading::set_in))]
-    fn with(self, name: OptionName, value: &'a str) -> Option<Gathered<'a>>
+    fn with(mut self, name: OptionName, value: &'a str) -> Option<Gathered<'a>>
         ensures { option_map settings_of result ≡ set_in name value.now (settings_of self.entry) }
     {
         match name {
-            OptionName::Listen => Some(Gathered {
-                listen: Some(text_of(value)?),
-                ..self
-            }),
-            OptionName::Upstream => Some(Gathered {
-                upstream: Some(text_of(value)?),
-                ..self
-            }),
-            OptionName::Name => Some(Gathered {
-                name: Some(name_of(value)?),
-                ..self
-            }),
-            OptionName::Host => Some(Gathered {
-                host: Some(host_of(value)?),
-                ..self
-            }),
-            OptionName::Vhost => Some(Gathered {
-                vhost: Some(short_of(value, MOST_VHOST)?),
-                ..self
-            }),
-            OptionName::Pairs => Some(Gathered {
-                pairs: Some(number_of(value, MOST_PAIRS)? as u32),
-                ..self
-            }),
-            OptionName::Turns => Some(Gathered {
-                turns: Some(number_of(value, MOST_TURNS)?),
-                ..self
-            }),
-            OptionName::Capture => Some(Gathered {
-                capture: Some(text_of(value)?),
-                ..self
-            }),
+            OptionName::Listen => self.listen = Some(text_of(value)?),
+            OptionName::Upstream => self.upstream = Some(text_of(value)?),
+            OptionName::Name => self.name = Some(name_of(value)?),
+            OptionName::Host => self.host = Some(host_of(value)?),
+            OptionName::Vhost => self.vhost = Some(short_of(value, MOST_VHOST)?),
+            OptionName::Exchange => self.exchange = Some(exchanges_of(value)?),
+            OptionName::Pairs => self.pairs = Some(number_of(value, MOST_PAIRS)? as u32),
+            OptionName::Turns => self.turns = Some(number_of(value, MOST_TURNS)?),
+            OptionName::Capture => self.capture = Some(text_of(value)?),
         }
+        Some(self)
     }
 
     /// After an option's first word, which may have its value too.

@@ -11,7 +11,10 @@ ghost use Rattle.gate_show.specs.declared.show.Shown.{Shown};
 ghost use Rattle.gate_command.specs.declared.input.Input.{Input};
 ghost use Rattle.gate_command.specs.declared.top_call.Status.{Status};
 ghost use Rattle.gate_command.specs.Input.{IsInput};
-ghost use Rattle.gate_command.specs.Recorded.{AsksFor, HasLines, IsListing, IsOf, IsReplay, IsReplayed, IsService, IsShown, IsShownOf, Says, ServesBy, bad_line, fault_text, line_of, long_line, meant_of};
+ghost use Rattle.gate_command.specs.Recorded.{AsksFor, HasLines, IsListing, IsOf, IsReplay};
+ghost use Rattle.gate_command.specs.Recorded.{IsReplayed, IsService, IsShown, IsShownOf, Says};
+ghost use Rattle.gate_command.specs.Recorded.{ServesBy, bad_line, fault_text, line_of, long_line};
+ghost use Rattle.gate_command.specs.Recorded.{meant_of};
 
 use crate::input::{Input, TOO_MANY, read_input};
 use crate::replay::{Replayed, replay};
@@ -50,7 +53,8 @@ fn say_bad<K: Sink>(
 ) -> Result<Status, Memory>
     ensures later { K.faults out.old ≤ K.faults out.new }
     ensures cause { result ≡ Ok Status.Outside → Rose (K.faults out.old) (K.faults out.new) }
-    ensures said { IfOk result (λ answer. Says Status.BadInput (bad_line at (fault_text fault)) answer (K.held out.old) (K.held out.new)) }
+    ensures said { IfOk result (λ answer. Says Status.BadInput (bad_line at
+        (fault_text fault)) answer (K.held out.old) (K.held out.new)) }
     ensures none { OnErr result (out.new ≡ out.old) }
     ensures never { result ≢ Ok Status.Usage }
 {
@@ -68,7 +72,8 @@ fn say_bad<K: Sink>(
 pub fn say_too_long<K: Sink>(alloc: Global, out: &mut K) -> Result<Status, Memory>
     ensures later { K.faults out.old ≤ K.faults out.new }
     ensures cause { result ≡ Ok Status.Outside → Rose (K.faults out.old) (K.faults out.new) }
-    ensures said { IfOk result (λ answer. Says Status.BadInput long_line answer (K.held out.old) (K.held out.new)) }
+    ensures said { IfOk result (λ answer. Says Status.BadInput long_line answer (K.held out.old)
+        (K.held out.new)) }
     ensures none { OnErr result (out.new ≡ out.old) }
     ensures never { result ≢ Ok Status.Usage }
 {
@@ -95,8 +100,10 @@ fn service_of(read: Result<Asked, Misplaced>) -> Option<(Limits, Setup)>
 
 /// The run that the words ask for which a text tells after `serve`.
 fn service_in(alloc: Global, text: &str) -> Result<Option<(Limits, Setup)>, Memory>
-    ensures some { IfOk result (λ o. IfSome o (λ run. ServesBy text.now run.0 run.1 × IsInForm run.0)) }
-    ensures none { IfOk result (λ o. IfNone o ((c : Limits) (s : SetupText) → ¬ ServesBy text.now c s)) }
+    ensures some { IfOk result (λ o. IfSome o (λ run. ServesBy text.now run.0 run.1
+        × IsInForm run.0)) }
+    ensures none { IfOk result (λ o. IfNone o ((c : Limits) (s : SetupText)
+        → ¬ ServesBy text.now c s)) }
 {
     let words = words_of(alloc, text)?;
     let read = read_words(alloc, &words)?;
@@ -105,8 +112,10 @@ fn service_in(alloc: Global, text: &str) -> Result<Option<(Limits, Setup)>, Memo
 
 /// The same of bytes; `None` also where they are no text.
 fn service_told(alloc: Global, text: &[u8]) -> Result<Option<(Limits, Setup)>, Memory>
-    ensures some { IfOk result (λ o. IfSome o (λ run. AsksFor text.now run.0 run.1 × IsInForm run.0)) }
-    ensures none { IfOk result (λ o. IfNone o ((c : Limits) (s : SetupText) → ¬ AsksFor text.now c s)) }
+    ensures some { IfOk result (λ o. IfSome o (λ run. AsksFor text.now run.0 run.1
+        × IsInForm run.0)) }
+    ensures none { IfOk result (λ o. IfNone o ((c : Limits) (s : SetupText)
+        → ¬ AsksFor text.now c s)) }
 {
     match std::str::from_utf8(text) {
         Ok(text) => service_in(alloc, text),
@@ -118,7 +127,8 @@ fn service_told(alloc: Global, text: &[u8]) -> Result<Option<(Limits, Setup)>, M
 fn say_replayed<K: Sink>(alloc: Global, out: &mut K, replayed: Replayed) -> Result<Status, Memory>
     ensures later { K.faults out.old ≤ K.faults out.new }
     ensures cause { result ≡ Ok Status.Outside → Rose (K.faults out.old) (K.faults out.new) }
-    ensures said { IfOk result (λ answer. Says (meant_of replayed) (line_of replayed) answer (K.held out.old) (K.held out.new)) }
+    ensures said { IfOk result (λ answer. Says (meant_of replayed) (line_of replayed) answer
+        (K.held out.old) (K.held out.new)) }
     ensures none { OnErr result (out.new ≡ out.old) }
     ensures never { result ≢ Ok Status.Usage }
 {
@@ -142,7 +152,8 @@ fn judge_run<K: Sink>(alloc: Global, capture: Capture, out: &mut K) -> Result<St
     requires { AllByRecursion HasSpelling capture.entries }
     ensures later { K.faults out.old ≤ K.faults out.new }
     ensures cause { result ≡ Ok Status.Outside → Rose (K.faults out.old) (K.faults out.new) }
-    ensures said { IfOk result (λ answer. (meant : Status) × (line : List ℕ) × IsOf capture.words capture.entries meant line
+    ensures said { IfOk result (λ answer. (meant : Status) × (line : List ℕ)
+        × IsOf capture.words capture.entries meant line
         × Says meant line answer (K.held out.old) (K.held out.new)) }
     ensures none { OnErr result (out.new ≡ out.old) }
     ensures never { result ≢ Ok Status.Usage }
@@ -161,7 +172,8 @@ fn judge_run<K: Sink>(alloc: Global, capture: Capture, out: &mut K) -> Result<St
 fn judge<K: Sink>(alloc: Global, bytes: &[u8], out: &mut K) -> Result<Status, Memory>
     ensures later { K.faults out.old ≤ K.faults out.new }
     ensures cause { result ≡ Ok Status.Outside → Rose (K.faults out.old) (K.faults out.new) }
-    ensures said { IfOk result (λ answer. IsReplayed (Input.Whole bytes.now) answer (K.held out.old) (K.held out.new)) }
+    ensures said { IfOk result (λ answer. IsReplayed (Input.Whole bytes.now) answer
+        (K.held out.old) (K.held out.new)) }
     ensures none { OnErr result (out.new ≡ out.old) }
     ensures never { result ≢ Ok Status.Usage }
 {
@@ -179,8 +191,10 @@ fn replay_input<R: Source, K: Sink>(
     out: &mut K,
 ) -> Result<Status, Memory>
     ensures cause { result ≡ Ok Status.Outside
-        → Rose (R.faults input.old) (R.faults input.new) ⊎ Rose (K.faults out.old) (K.faults out.new) }
-    ensures said { IfOk result (λ answer. (read : Input) × IsInput (R.left input.old) (R.left input.new) read
+        → Rose (R.faults input.old) (R.faults input.new) ⊎ Rose (K.faults out.old)
+        (K.faults out.new) }
+    ensures said { IfOk result (λ answer. (read : Input) × IsInput (R.left input.old)
+        (R.left input.new) read
         × IsReplayed read answer (K.held out.old) (K.held out.new)) }
     ensures none { OnErr result (K.held out.new ≡ K.held out.old) }
     ensures never { result ≢ Ok Status.Usage }
@@ -196,7 +210,8 @@ fn replay_input<R: Source, K: Sink>(
 fn list<K: Sink>(alloc: Global, bytes: &[u8], out: &mut K) -> Result<Status, Memory>
     ensures later { K.faults out.old ≤ K.faults out.new }
     ensures cause { result ≡ Ok Status.Outside → Rose (K.faults out.old) (K.faults out.new) }
-    ensures shown { IfOk result (λ answer. (how : Shown) × IsShown bytes.now how answer (K.held out.old) (K.held out.new)) }
+    ensures shown { IfOk result (λ answer. (how : Shown) × IsShown bytes.now how answer
+        (K.held out.old) (K.held out.new)) }
     ensures some { OnErr result (HasLines (K.held out.old) (K.held out.new)) }
     ensures never { result ≢ Ok Status.Usage }
 {
@@ -215,8 +230,10 @@ fn show_input<R: Source, K: Sink>(
     out: &mut K,
 ) -> Result<Status, Memory>
     ensures cause { result ≡ Ok Status.Outside
-        → Rose (R.faults input.old) (R.faults input.new) ⊎ Rose (K.faults out.old) (K.faults out.new) }
-    ensures shown { IfOk result (λ answer. (read : Input) × IsInput (R.left input.old) (R.left input.new) read
+        → Rose (R.faults input.old) (R.faults input.new) ⊎ Rose (K.faults out.old)
+        (K.faults out.new) }
+    ensures shown { IfOk result (λ answer. (read : Input) × IsInput (R.left input.old)
+        (R.left input.new) read
         × IsShownOf read answer (K.held out.old) (K.held out.new)) }
     ensures some { OnErr result (HasLines (K.held out.old) (K.held out.new)) }
     ensures never { result ≢ Ok Status.Usage }
@@ -231,8 +248,10 @@ fn show_input<R: Source, K: Sink>(
 /// Replays the capture that is the input; its status.
 pub fn run_replay<R: Source, K: Sink>(alloc: Global, input: &mut R, out: &mut K) -> Status
     ensures cause { result ≡ Status.Outside
-        → Rose (R.faults input.old) (R.faults input.new) ⊎ Rose (K.faults out.old) (K.faults out.new) }
-    ensures replay { IsReplay result (R.left input.old) (R.left input.new) (K.held out.old) (K.held out.new) }
+        → Rose (R.faults input.old) (R.faults input.new) ⊎ Rose (K.faults out.old)
+        (K.faults out.new) }
+    ensures replay { IsReplay result (R.left input.old) (R.left input.new) (K.held out.old)
+        (K.held out.new) }
     ensures never { result ≢ Status.Usage }
 {
     match replay_input(alloc, input, out) {
@@ -244,8 +263,10 @@ pub fn run_replay<R: Source, K: Sink>(alloc: Global, input: &mut R, out: &mut K)
 /// Lists the capture that is the input; its status.
 pub fn run_show<R: Source, K: Sink>(alloc: Global, input: &mut R, out: &mut K) -> Status
     ensures cause { result ≡ Status.Outside
-        → Rose (R.faults input.old) (R.faults input.new) ⊎ Rose (K.faults out.old) (K.faults out.new) }
-    ensures listing { IsListing result (R.left input.old) (R.left input.new) (K.held out.old) (K.held out.new) }
+        → Rose (R.faults input.old) (R.faults input.new) ⊎ Rose (K.faults out.old)
+        (K.faults out.new) }
+    ensures listing { IsListing result (R.left input.old) (R.left input.new) (K.held out.old)
+        (K.held out.new) }
     ensures never { result ≢ Status.Usage }
 {
     match show_input(alloc, input, out) {

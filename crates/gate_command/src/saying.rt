@@ -55,7 +55,8 @@ pub fn say_counted<K: Sink>(
     requires { meant ≢ Status.Outside }
     ensures later { K.faults out.old ≤ K.faults out.new }
     ensures cause { result ≡ Ok Status.Outside → Rose (K.faults out.old) (K.faults out.new) }
-    ensures said { IfOk result (λ answer. Says meant (counted_line before.now number after.now) answer (K.held out.old) (K.held out.new)) }
+    ensures said { IfOk result (λ answer. Says meant
+        (counted_line before.now number after.now) answer (K.held out.old) (K.held out.new)) }
     ensures none { OnErr result (out.new ≡ out.old) }
     ensures never { meant ≢ Status.Usage → result ≢ Ok Status.Usage }
 {

@@ -6,7 +6,8 @@ ghost use Rattle.gate_outside.specs.declared.log.LogEntry.{LogEntry};
 ghost use Rattle.gate_runs.specs.declared.served.Outside.TheVariants as Outside;
 ghost use Rattle.gate_runs.specs.Form.{IsInForm};
 ghost use Rattle.gate_runs.specs.Marks.{HasHistory};
-ghost use Rattle.gate_command.specs.Outcome.{status_of, lost_line, around, Ran, Tells, BeginsAndRuns, FailsToBegin};
+ghost use Rattle.gate_command.specs.Outcome.{status_of, lost_line, around, Ran, Tells};
+ghost use Rattle.gate_command.specs.Outcome.{BeginsAndRuns, FailsToBegin};
 ghost use Rattle.gate_command.specs.Runs.{IsRunOf};
 
 use crate::top_call::Status;
@@ -60,12 +61,16 @@ pub fn serve_lawfully<P: Ports, K: Sink, T: Recorder>(
     requires ends { P.ends ports.old ≡ [] }
     requires form { IsInForm limits.now }
     ensures ends { P.ends ports.new ≡ [] }
-    ensures accept { result.0 ≡ Served.Fault Outside.Accept → Rose (P.faults ports.old) (P.faults ports.new) }
-    ensures report { result.0 ≡ Served.Fault Outside.Out → Rose (K.faults out.old) (K.faults out.new) }
-    ensures capture { result.0 ≡ Served.Fault Outside.Capture → Rose (T.faults recorder.old) (T.faults recorder.new) }
+    ensures accept { result.0 ≡ Served.Fault Outside.Accept → Rose (P.faults ports.old)
+        (P.faults ports.new) }
+    ensures report { result.0 ≡ Served.Fault Outside.Out → Rose (K.faults out.old)
+        (K.faults out.new) }
+    ensures capture { result.0 ≡ Served.Fault Outside.Capture
+        → Rose (T.faults recorder.old) (T.faults recorder.new) }
     ensures tape { T.faults recorder.old ≤ T.faults recorder.new }
     ensures served { (base : List LogEntry) → P.log ports.old ≡ Some base
-        → HasHistory base (P.log ports.new) (IsRunOf setup.now limits.now result.0 result.1 (K.held out.old) (K.held out.new)
+        → HasHistory base (P.log ports.new) (IsRunOf setup.now limits.now result.0 result.1
+        (K.held out.old) (K.held out.new)
         (T.held recorder.old) (T.held recorder.new)) }
 {
     runs_are_lawful();
@@ -86,8 +91,10 @@ pub fn run_unrecorded<P: Ports, K: Sink>(
     ensures ends { P.ends ports.new ≡ [] }
     ensures never { result ≢ Status.Usage }
     ensures outside { result ≡ Status.Outside
-        → Rose (P.faults ports.old) (P.faults ports.new) ⊎ Rose (K.faults out.old) (K.faults out.new) }
-    ensures ran { Ran setup.now limits.now result (K.held out.old) (K.held out.new) None None (P.log ports.old) (P.log ports.new) }
+        → Rose (P.faults ports.old) (P.faults ports.new) ⊎ Rose (K.faults out.old)
+        (K.faults out.new) }
+    ensures ran { Ran setup.now limits.now result (K.held out.old) (K.held out.new) None None
+        (P.log ports.old) (P.log ports.new) }
 {
     let mut recorder = NoCapture;
     let (served, _count) = serve_lawfully(alloc, setup, limits, ports, out, &mut recorder);
@@ -109,9 +116,11 @@ fn run_recorded<P: Ports, K: Sink, C: Sink>(
     ensures ends { P.ends ports.new ≡ [] }
     ensures never { result ≢ Status.Usage }
     ensures outside { result ≡ Status.Outside → Rose (P.faults ports.old) (P.faults ports.new)
-        ⊎ Rose (K.faults out.old) (K.faults out.new) ⊎ Rose (C.faults capture.old.sink) (C.faults capture.new.sink) }
+        ⊎ Rose (K.faults out.old) (K.faults out.new) ⊎ Rose (C.faults capture.old.sink)
+        (C.faults capture.new.sink) }
     ensures later { C.faults capture.old.sink ≤ C.faults capture.new.sink }
-    ensures ran { Ran setup.now limits.now result (K.held out.old) (K.held out.new) (C.held capture.old.sink) (C.held capture.new.sink)
+    ensures ran { Ran setup.now limits.now result (K.held out.old) (K.held out.new)
+        (C.held capture.old.sink) (C.held capture.new.sink)
         (P.log ports.old) (P.log ports.new) }
 {
     let (served, _count) = serve_lawfully(alloc, setup, limits, ports, out, capture);
@@ -120,7 +129,8 @@ fn run_recorded<P: Ports, K: Sink, C: Sink>(
 
 /// Writes the line for a capture whose start was not taken.
 fn tell_lost_start<K: Sink>(out: &mut K)
-    ensures { Tells (K.faults out.old) (K.faults out.new) (K.held out.old) (K.held out.new) lost_line }
+    ensures { Tells (K.faults out.old) (K.faults out.new) (K.held out.old)
+        (K.held out.new) lost_line }
 {
     // The run is over for the capture, whether or not out takes the line.
     let _told = write_all(out, b"fault: capture\n");
@@ -144,7 +154,8 @@ pub fn begin_and_run<P: Ports, K: Sink, C: Sink>(
     ensures ends { P.ends ports.new ≡ [] }
     ensures never { result ≢ Status.Usage }
     ensures outside { result ≡ Status.Outside → Rose (P.faults ports.old) (P.faults ports.new)
-        ⊎ Rose (K.faults out.old) (K.faults out.new) ⊎ Rose (C.faults capture.old.sink) (C.faults capture.new.sink) }
+        ⊎ Rose (K.faults out.old) (K.faults out.new) ⊎ Rose (C.faults capture.old.sink)
+        (C.faults capture.new.sink) }
     ensures outcome { BeginsAndRuns text.now setup.now limits.now result
         (around (K.faults out.old) (K.held out.old) (C.held capture.old.sink) (P.log ports.old))
         (around (K.faults out.new) (K.held out.new) (C.held capture.new.sink) (P.log ports.new))

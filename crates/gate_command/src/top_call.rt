@@ -6,7 +6,8 @@ ghost use Rattle.gate_outside.specs.Counts.{Rose};
 ghost use Rattle.gate_outside.specs.Streams.{Appends, AppendsFront};
 ghost use Rattle.gate_runs.specs.Form.{IsInForm};
 ghost use Rattle.gate_command.specs.Command.{AreInForm, Asks, text_of};
-ghost use Rattle.gate_command.specs.Outcome.{number_of, usage_line, around, AsksToServe, Outcome, WithoutInput};
+ghost use Rattle.gate_command.specs.Outcome.{number_of, usage_line, around, AsksToServe, Outcome};
+ghost use Rattle.gate_command.specs.Outcome.{WithoutInput};
 
 use crate::listing::run_listing;
 use crate::recorded::{run_replay, run_show};
@@ -61,7 +62,8 @@ impl Status {
 fn tell_usage<K: Sink>(out: &mut K, misplaced: Misplaced) -> bool
     ensures later { K.faults out.old ≤ K.faults out.new }
     ensures cause { result ≡ false → Rose (K.faults out.old) (K.faults out.new) }
-    ensures whole { result ≡ true → Appends (K.held out.old) (K.held out.new) (usage_line misplaced) }
+    ensures whole { result ≡ true → Appends (K.held out.old) (K.held out.new)
+        (usage_line misplaced) }
     ensures part { AppendsFront (K.held out.old) (K.held out.new) (usage_line misplaced) }
 {
     match misplaced {
@@ -97,7 +99,8 @@ fn serve_as_asked<P: Ports, K: Sink, C: Sink>(
     requires form { IsInForm limits.now }
     ensures ends { P.ends ports.new ≡ [] }
     ensures outside { result ≡ Status.Outside → Rose (P.faults ports.old) (P.faults ports.new)
-        ⊎ Rose (K.faults out.old) (K.faults out.new) ⊎ Rose (C.faults capture.old.sink) (C.faults capture.new.sink) }
+        ⊎ Rose (K.faults out.old) (K.faults out.new) ⊎ Rose (C.faults capture.old.sink)
+        (C.faults capture.new.sink) }
     ensures never { result ≢ Status.Usage }
     ensures outcome { WithoutInput (map string_bytes words.now.items) result
         (around (K.faults out.old) (K.held out.old) (C.held capture.old.sink) (P.log ports.old))
@@ -128,8 +131,10 @@ fn run_as_asked<P: Ports, S: Source, K: Sink, C: Sink>(
     requires form { AreInForm asked.now }
     ensures ends { P.ends ports.new ≡ [] }
     ensures outside { result ≡ Status.Outside
-        → Rose (P.faults ports.old) (P.faults ports.new) ⊎ Rose (S.faults input.old) (S.faults input.new)
-        ⊎ Rose (K.faults out.old) (K.faults out.new) ⊎ Rose (C.faults capture.old.sink) (C.faults capture.new.sink) }
+        → Rose (P.faults ports.old) (P.faults ports.new) ⊎ Rose (S.faults input.old)
+        (S.faults input.new)
+        ⊎ Rose (K.faults out.old) (K.faults out.new) ⊎ Rose (C.faults capture.old.sink)
+        (C.faults capture.new.sink) }
     ensures never { result ≢ Status.Usage }
     ensures outcome { Outcome (map string_bytes words.now.items) result
         (around (K.faults out.old) (K.held out.old) (C.held capture.old.sink) (P.log ports.old))
@@ -172,8 +177,10 @@ pub fn gateway<P: Ports, S: Source, K: Sink, C: Sink>(
 
     // Accept, the input, out or the capture failed, and its count of faults rose.
     ensures outside { result ≡ Status.Outside
-        → Rose (P.faults ports.old) (P.faults ports.new) ⊎ Rose (S.faults input.old) (S.faults input.new)
-        ⊎ Rose (K.faults out.old) (K.faults out.new) ⊎ Rose (C.faults capture.old.sink) (C.faults capture.new.sink) }
+        → Rose (P.faults ports.old) (P.faults ports.new) ⊎ Rose (S.faults input.old)
+        (S.faults input.new)
+        ⊎ Rose (K.faults out.old) (K.faults out.new) ⊎ Rose (C.faults capture.old.sink)
+        (C.faults capture.new.sink) }
 
     // Words that aren't a command line call no port, the input isn't read, and nothing is written
     // to the capture.

@@ -3,11 +3,14 @@
 ghost use Rattle.std.specs.Prelude.{◌≡◌, ◌+◌, ◌-◌, map, option_copied, unwrap_or, IfOk, IfErr};
 ghost use Rattle.std.specs.String.{string_bytes};
 ghost use Rattle.gate_model.specs.Setup.{IsInForm};
-ghost use Rattle.gate_command.specs.Command.{asked_of, nothing_given, setup_of, AreInForm, Asks, CeasesAt};
-ghost use Rattle.gate_command.specs.Reading.{asked_by, between, command_in, last_in, shown_in, words_in, format_named};
+ghost use Rattle.gate_command.specs.Command.{asked_of, nothing_given, setup_of, AreInForm, Asks};
+ghost use Rattle.gate_command.specs.Command.{CeasesAt};
+ghost use Rattle.gate_command.specs.Reading.{asked_by, between, command_in, last_in, shown_in};
+ghost use Rattle.gate_command.specs.Reading.{words_in, format_named};
 ghost use Rattle.gate_command.specs.declared.words.Asked.{Asked};
 ghost use Rattle.gate_command.specs.View.{answer_of, reply_of, request_of, settings_of};
 
+use crate::exchanges::routes_for;
 use crate::options::{Gathered, MOST_TURNS, Progress};
 use gate_model::Setup;
 use gate_runs::Limits;
@@ -78,7 +81,8 @@ pub enum Misplaced {
 
 /// The options of `serve`: the words from the second on.
 fn options_of(words: &[String]) -> Result<Gathered<'_>, Misplaced>
-    ensures { answer_of result ≡ words_in 2 65536 (between nothing_given) (map string_bytes words.now) }
+    ensures { answer_of result ≡ words_in 2 65536 (between nothing_given)
+        (map string_bytes words.now) }
 {
     let mut progress = Progress::Between(Gathered::none());
     let mut room = MOST_BYTES;
@@ -97,7 +101,8 @@ fn options_of(words: &[String]) -> Result<Gathered<'_>, Misplaced>
 
 /// A command that no word follows; `place` is the next word's.
 fn last<'a>(command: Command<'a>, place: u32, rest: &[String]) -> Result<Command<'a>, Misplaced>
-    ensures { reply_of result ≡ last_in place (request_of command.entry) (map string_bytes rest.now) }
+    ensures { reply_of result ≡ last_in place (request_of command.entry)
+        (map string_bytes rest.now) }
 {
     if rest.is_empty() {
         Ok(command)
@@ -181,7 +186,8 @@ fn setup_for(alloc: Global, gathered: Gathered) -> Result<Setup, Memory>
     let name = copied_or(alloc, gathered.name, DEFAULT_NAME)?;
     let host = copied(alloc, gathered.host)?;
     let vhost = copied_or(alloc, gathered.vhost, DEFAULT_VHOST)?;
-    Ok(Setup::new(name, host, vhost))
+    let routes = routes_for(alloc, gathered.exchange)?;
+    Ok(Setup::new(name, host, vhost, routes))
 }
 
 /// What these options ask for, with the defaults of what isn't given.
@@ -220,10 +226,12 @@ fn asked_for(alloc: Global, command: Command) -> Result<Asked, Memory>
 ///
 /// Only copies of the options' texts take memory; `Err(Memory)` where there is none for them.
 pub fn read_words(alloc: Global, words: &Vec<String>) -> Result<Result<Asked, Misplaced>, Memory>
-    ensures found { IfOk result (λ answer. IfOk answer (λ asked. Asks (map string_bytes words.now.items) asked)) }
+    ensures found { IfOk result (λ answer. IfOk answer (λ asked. Asks
+        (map string_bytes words.now.items) asked)) }
     ensures only { (asked : Asked) → Asks (map string_bytes words.now.items) asked
         → IfOk result (λ answer. answer ≡ Ok asked) }
-    ensures place { IfOk result (λ answer. IfErr answer (CeasesAt (map string_bytes words.now.items))) }
+    ensures place { IfOk result (λ answer. IfErr answer (CeasesAt
+        (map string_bytes words.now.items))) }
     ensures in_form { IfOk result (λ answer. IfOk answer (λ asked. AreInForm asked)) }
 {
     match command_of(words.as_slice()) {

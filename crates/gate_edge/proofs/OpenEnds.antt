@@ -1,5 +1,7 @@
 -- Open ends found, opened and closed.
-use Rattle.std.proofs.Common.{◌≡◌, ℕ, ◌+◌, ◌≤◌, zero, suc, List, [], ◌∷◌, ◌++◌, Bool, true, false, not, cond, ap, sym, refl, ◌∙◌, Option, None, Some, ◌||◌, arith, length, get_or, add-zero, subst}
+use Rattle.std.proofs.Common.{◌≡◌, ℕ, ◌+◌, ◌≤◌, zero, suc, List, [], ◌∷◌, ◌++◌, Bool, true, false}
+use Rattle.std.proofs.Common.{not, cond, ap, sym, refl, ◌∙◌, Option, None, Some, ◌||◌, arith}
+use Rattle.std.proofs.Common.{length, get_or, add-zero, subst}
 use Rattle.std.proofs.lemmas.Option.{none-some}
 use Rattle.std.proofs.lemmas.Bool.{eqb-true, eq-eqb, and_parts, or_parts}
 use Rattle.std.specs.Prelude.{slice_get, nat_eq, nat_lt, IfSome, IfNone}

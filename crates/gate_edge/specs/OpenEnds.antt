@@ -12,8 +12,8 @@ use Rattle.gate_edge.specs.declared.open_ends.TheConstants.{PAIRS, ENDS}
 abbrev pub clients_of : List (ℕ × End) → ℕ
 clients_of ends = count_by (λ x. same_end x.1 Client) ends
 
--- there is room for one client more and for the upstream end of its pair: both ends fit, and each has
--- a buffer
+-- there is room for one client more and for the upstream end of its pair: both ends fit, and each
+-- has a buffer
 abbrev pub HasRoom : ℕ → List (ℕ × End) → Type 0
 HasRoom spare ends = (clients_of ends < PAIRS) × (length ends < ENDS) × (1 < spare)
 

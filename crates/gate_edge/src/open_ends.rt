@@ -30,9 +30,10 @@ const PLACES: usize = 2_048;
 /// The pairs accepted so far, and the open ends in the order of their opening, each with its link.
 /// All memory is taken when this is made.
 ///
-/// There is a buffer for each descriptor that ends may have. An end that is open has one, and so has
-/// an end whose bytes still go out after it was shut. A client's end that is accepted keeps one more
-/// for the upstream end of its pair, so an accepted client is never refused for want of either.
+/// There is a buffer for each descriptor that ends may have. An end that is open has one, and so
+/// has an end whose bytes still go out after it was shut. A client's end that is accepted keeps one
+/// more for the upstream end of its pair, so an accepted client is never refused for want of
+/// either.
 #[derive(Drop)]
 pub(crate) struct OpenEnds<S: Read + Write> {
     pub(crate) pairs: u32,

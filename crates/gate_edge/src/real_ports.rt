@@ -40,12 +40,12 @@ const LAST_TURNS: u32 = 10_000;
 /// Ports over non-blocking sockets. They tell no log.
 ///
 /// Room for 256 pairs is taken when the ports are made, or for as many as the system has
-/// descriptors left for, two for each. Accept answers NotYet while there is no room for a client and
-/// for the upstream end of its pair; so a client that was accepted isn't refused for want of it.
-/// Where the listening address is not given or cannot be bound each accept fails, and without an
-/// upstream address each connect. No error of one accept is a fault: it is answered NotYet. It is
-/// told on the standard error, once a second at most, and so are a client that waits for room and a
-/// connection to the container that fails.
+/// descriptors left for, two for each. Accept answers NotYet while there is no room for a client
+/// and for the upstream end of its pair; so a client that was accepted isn't refused for want of
+/// it. Where the listening address is not given or cannot be bound each accept fails, and without
+/// an upstream address each connect. No error of one accept is a fault: it is answered NotYet. It
+/// is told on the standard error, once a second at most, and so are a client that waits for room
+/// and a connection to the container that fails.
 ///
 /// A call on an end asks the system only where it may do something: `now` learns what is ready, and
 /// `idle` waits for it, for 10 ms at most. What a write takes is buffered, 65,536 bytes an end, and

@@ -9,7 +9,8 @@ use Rattle.gate_outside.specs.declared.ports.Accepted.TheVariants as accepted
 use Rattle.gate_outside.specs.declared.ports.Got.TheVariants as got
 use Rattle.gate_outside.specs.declared.ports.Linked.TheVariants as linked
 use Rattle.gate_outside.specs.declared.ports.Put.TheVariants as put
-use Rattle.gate_outside.specs.declared.log.LogEntry.TheVariants.{Accept, Connect, Read, Write, Shut, Now}
+use Rattle.gate_outside.specs.declared.log.LogEntry.TheVariants.{Accept, Connect, Read, Write, Shut}
+use Rattle.gate_outside.specs.declared.log.LogEntry.TheVariants.{Now}
 use Rattle.std.specs.Fmt as fmt
 use Rattle.std.specs.Str as str
 use Rattle.wire_base.specs.Headers as wire
@@ -30,7 +31,8 @@ use Rattle.gate_runs.specs.declared.served.Served.TheVariants.{PairsDone}
 use Rattle.gate_runs.specs.Marks.{History, Call, Refuse, RunOut, Finish}
 use Rattle.gate_runs.specs.Stages.{Taking}
 use Rattle.gate_runs.specs.Journal.{journal}
-use Rattle.gate_runs.specs.Next.{next, Do, EndBy, Done, AskRead, AskWrite, AskShut, AskConnect, AskNow, AskAccept, AskIdle}
+use Rattle.gate_runs.specs.Next.{next, Do, EndBy, Done, AskRead, AskWrite, AskShut, AskConnect}
+use Rattle.gate_runs.specs.Next.{AskNow, AskAccept, AskIdle}
 use Rattle.gate_runs.specs.Serving.{Follows}
 use Rattle.gate_model.specs.Frames.{limit_in}
 use Rattle.gate_model.specs.Lives as lives
@@ -55,7 +57,7 @@ both_open = 0
 
 -- what all pairs share: the name `gate`, the host `broker` and the virtual host `/`
 abbrev shared : SetupText
-shared = record { name = 103 ∷ 97 ∷ 116 ∷ 101 ∷ []; host = Some (98 ∷ 114 ∷ 111 ∷ 107 ∷ 101 ∷ 114 ∷ []); vhost = 47 ∷ [] }
+shared = record { name = 103 ∷ 97 ∷ 116 ∷ 101 ∷ []; host = Some (98 ∷ 114 ∷ 111 ∷ 107 ∷ 101 ∷ 114 ∷ []); vhost = 47 ∷ []; routes = [] }
 
 abbrev words : RelayWords
 words = pair_words shared

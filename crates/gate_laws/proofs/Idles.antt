@@ -1,5 +1,7 @@
 -- A pair's words are steady, and the upstream end wakes by a connect alone; so all is at rest at each idle.
-use Rattle.std.proofs.Common.{◌≡◌, ◌∙◌, Bool, true, false, not, ◌&&◌, ◌||◌, if◌then◌else◌, ℕ, zero, suc, ◌+◌, List, [], ◌∷◌, ◌++◌, length, take, Option, None, Some, refl, ap, sym, subst}
+use Rattle.std.proofs.Common.{◌≡◌, ◌∙◌, Bool, true, false, not, ◌&&◌, ◌||◌, if◌then◌else◌, ℕ, zero}
+use Rattle.std.proofs.Common.{suc, ◌+◌, List, [], ◌∷◌, ◌++◌, length, take, Option, None, Some, refl}
+use Rattle.std.proofs.Common.{ap, sym, subst}
 use Rattle.std.specs.Prelude.{is_some}
 use Rattle.std.specs.List.{list_any}
 use Rattle.gate_outside.specs.declared.ports.End.{End}
@@ -18,11 +20,15 @@ use Rattle.gate_model.specs.declared.life.Life.{Life}
 use Rattle.gate_model.specs.Due.{can_leave, can_take_unit, can_take_up, is_awaited, is_awaiting}
 use Rattle.gate_model.specs.Folds.{connection, container_kept}
 use Rattle.gate_model.specs.Lives.{any_life, is_done, life_at, session_in}
+use Rattle.gate_model.specs.Paths.{is_laden}
 use Rattle.gate_model.specs.Picks.{ArePicks}
-use Rattle.gate_model.specs.Queue.{Waits, can_take, channel_of, holds, is_bad_unit, is_empty, is_full, place_from, place_in, waits_for_all}
+use Rattle.gate_model.specs.Queue.{Waits, can_take, channel_of, holds, is_bad_unit, is_empty}
+use Rattle.gate_model.specs.Queue.{is_full, place_from, place_in, waits_for_all}
 use Rattle.gate_model.specs.Setup.{SetupText}
 use Rattle.gate_model.specs.Requests.{client_step}
-use Rattle.gate_model.specs.State.{State, Step, Came, Joined, TakenUp, before, came, close_waits, condition_by, dequeued, is_channel_settled, is_held, is_settled, keep_login, left, life_waits, next_unit, place, step, waits}
+use Rattle.gate_model.specs.State.{State, Step, Came, Joined, TakenUp, before, came, close_waits}
+use Rattle.gate_model.specs.State.{condition_by, dequeued, is_channel_settled, is_held, is_settled}
+use Rattle.gate_model.specs.State.{keep_login, left, life_waits, next_unit, place, step, waits}
 use Rattle.gate_model.specs.Upstream.{UpState, awaited_of, closing_with, has_closed, is_awaited_up}
 use Rattle.gate_model.proofs.Connections.{clash}
 use Rattle.gate_model.proofs.Known.{closing_is, conn_is, keep_is, known, side_is}
@@ -32,8 +38,9 @@ use Rattle.gate_model.proofs.Ups.{is_early}
 use Rattle.gate_pair.specs.Cutting as cutting
 use Rattle.gate_pair.specs.Cutting.{after, on_next, settle}
 use Rattle.gate_pair.specs.Meaning.{Told, pair_words, settled, state_of, steps, steps_of, told}
+use Rattle.gate_pair.proofs.Lines.{laden_told}
 use Rattle.gate_pair.proofs.Memories.{memory_of}
-use Rattle.gate_pair.proofs.Queued.{settle_done}
+use Rattle.gate_pair.proofs.Queued.{none_placed, settle_done}
 use Rattle.gate_pair.proofs.Saids.{after_before}
 use Rattle.gate_turn_laws.specs.Quiet.{IsSteady, WakesNone}
 use Rattle.gate_laws.proofs.Reached.{login_late, unit_late, unreached}
@@ -51,7 +58,7 @@ and_none false e = refl
 -- where the client's end can be taken up all of its units were, and that it left is known
 leaves_none : (w : State) → can_leave w ≡ true → w.queue ≡ []
 leaves_none w e =
-    let rest : (not w.out_of_memory && (is_empty w.queue && not (waits w).some)) ≡ true = and_right w.leaving _ e in
+    let rest : (not w.out_of_memory && (is_empty w.queue && (not (waits w).some && not (is_laden w.paths)))) ≡ true = and_right w.leaving _ e in
     empty_is w.queue (and_left (is_empty w.queue) _ (and_right (not w.out_of_memory) _ rest))
 
 is_there : (w : State) → can_leave w ≡ true → (not w.out_of_memory && w.leaving) ≡ true
@@ -69,7 +76,8 @@ none_left w none true can = by (not w.out_of_memory && w.leaving) (is_there w ca
     by : (b : Bool) → b ≡ true → can_take_up (if b then left w else w) ≡ false
     by true e =
         both_none (can_take_unit (left w)) (can_leave (left w))
-        (and_none (not w.out_of_memory) (ap (λ (us : List Unit91). is_some (place_in (waits (left w)) us)) (leaves_none w can))) refl
+        (and_none (not w.out_of_memory)
+        (ap (λ (us : List Unit91). is_some (if is_laden w.paths then None else place_in (waits (left w)) us)) (leaves_none w can) ∙ none_placed (is_laden w.paths) (waits (left w)))) refl
     by false e = absurd cc
 
 pub settled_rest : (t : Told) → (before (steps t)).out_of_memory ≡ false → can_take_up (before (steps (settled t))) ≡ false
@@ -125,11 +133,11 @@ came_kept w v u k = by v.out_of_memory
     by : (b : Bool) → Kept w (if b then v else came (dequeued v) u)
     by true = k
     by false = record {
-      side = ap (λ (s : UpState). s.side) (wanted_up (is_closing v.conn) (client_step v.conn u).1 v.up) ∙ k.side;
+      side = ap (λ (s : UpState). s.side) (wanted_up (is_closing v.conn) (client_step v.routes v.conn u).1 v.up) ∙ k.side;
       container = λ late.
-          ap (λ (s : UpState). s.container) (wanted_up (is_closing v.conn) (client_step v.conn u).1 v.up)
-          ∙ login_late v.conn u v.up.container (k.late late) ∙ k.container late;
-      late = λ late. unit_late v.conn u (k.late late);
+          ap (λ (s : UpState). s.container) (wanted_up (is_closing v.conn) (client_step v.routes v.conn u).1 v.up)
+          ∙ login_late v.routes v.conn u v.up.container (k.late late) ∙ k.container late;
+      late = λ late. unit_late v.routes v.conn u (k.late late);
     }
 
 takes_kept : (w : State) (f : ℕ) (g : List Step) → Kept w (after g w) → Kept w (after (cutting.settled w f g) w)
@@ -251,11 +259,15 @@ waits_more w =
 
 client_linked : (w : State) → is_awaiting (joined w) Client ≡ true → is_awaiting w Client ≡ true
 client_linked w =
-    let rest : Bool = list_any is_bad_unit w.queue || is_full w.queue in
+    let bad : Bool = list_any is_bad_unit w.queue in
+    let rest : Bool = bad || (is_full w.queue || is_laden w.paths) in
+    let next : Bool = bad || (is_full w.queue || is_laden (joined w).paths) in
     both (is_awaited (awaits w.conn) || w.given_up) (not (is_held (joined w))) (not (is_held w))
     (neither (is_held w) (is_held (joined w))
-    (either_of (is_opening w.conn) (close_waits w || rest) (is_opening w.conn) (close_waits (joined w) || rest) (λ x. x)
-    (either_of (close_waits w) rest (close_waits (joined w)) rest (close_more w) (λ x. x))))
+    (either_of (is_opening w.conn) (close_waits w || rest) (is_opening w.conn) (close_waits (joined w) || next) (λ x. x)
+    (either_of (close_waits w) rest (close_waits (joined w)) next (close_more w)
+    (either_of bad (is_full w.queue || is_laden w.paths) bad _ (λ x. x)
+    (either_of (is_full w.queue) (is_laden w.paths) (is_full w.queue) _ (λ x. x) (λ e. laden_told w.paths ∙ e))))))
 
 -- a unit that can be taken up though more waits can be where less does
 can_before : (q v : Waits) (earlier : List Unit91) (u : Unit91) → Waited q v → can_take v earlier u ≡ true → can_take q earlier u ≡ true
@@ -283,12 +295,21 @@ place_before q v all k (u ∷ us) x e =
     by true false can later e = let wrong : false ≡ true = can refl in absurd cc
     by false false can later e = later e
 
+-- what is held holds units back as before
+placed_before : (a b : Bool) (p q : Option ℕ) → a ≡ b → (is_some p ≡ true → is_some q ≡ true) → is_some (if a then None else p) ≡ true → is_some (if b then None else q) ≡ true
+placed_before true b p q same f e = absurd cc
+placed_before false true p q same f e = absurd cc
+placed_before false false p q same f e = f e
+
 takes_linked : (w : State) → can_take_up (joined w) ≡ true → can_take_up w ≡ true
 takes_linked w =
     either_of (can_take_unit (joined w)) (can_leave (joined w)) (can_take_unit w) (can_leave w)
-    (both (not w.out_of_memory) (is_some (place (joined w))) (is_some (place w)) (place_before (waits w) (waits (joined w)) w.queue 0 w.queue (waits_more w)))
+    (both (not w.out_of_memory) (is_some (place (joined w))) (is_some (place w))
+    (placed_before _ _ _ _ (laden_told w.paths) (place_before (waits w) (waits (joined w)) w.queue 0 w.queue (waits_more w))))
     (both w.leaving _ _ (both (not w.out_of_memory) _ _
-    (both (is_empty w.queue) (not (waits (joined w)).some) (not (waits w).some) (neither (waits w).some (waits (joined w)).some (waits_more w).some))))
+    (both (is_empty w.queue) _ _
+    (two_of (not (waits (joined w)).some) (not (is_laden (joined w).paths)) (not (waits w).some) (not (is_laden w.paths))
+    (neither (waits w).some (waits (joined w)).some (waits_more w).some) (neither (is_laden w.paths) (is_laden (joined w).paths) (λ e. laden_told w.paths ∙ e))))))
 
 -- ---- both
 

@@ -1,12 +1,14 @@
 -- Before the client's login no end is open upstream, and after it no unit of the client changes which login the container is
 -- asked for.
-use Rattle.std.proofs.Common.{◌≡◌, ◌∙◌, ℕ, Bool, true, false, not, ◌&&◌, if◌then◌else◌, List, [], ◌∷◌, Option, refl, ap, sym}
+use Rattle.std.proofs.Common.{◌≡◌, ◌∙◌, ℕ, Bool, true, false, not, ◌&&◌, if◌then◌else◌, List, []}
+use Rattle.std.proofs.Common.{◌∷◌, Option, refl, ap, sym}
 use Rattle.gate_outside.specs.declared.ports.End.TheVariants.{Client, Up}
 use Rattle.gate_outside.specs.declared.ports.Linked.TheVariants as link
 use Rattle.gate_relay.specs.declared.loss.Loss.TheVariants as loss
 use Rattle.gate_relay.specs.Sides.{is_absent, is_readable}
 use Rattle.close_translate.specs.declared.conditions.Scope.TheVariants as scope
-use Rattle.machine_091.specs.Calls.{after_closing, after_ended, after_opened, closing_phase, opened_phase}
+use Rattle.machine_091.specs.Calls.{after_closing, after_ended, after_opened, closing_phase}
+use Rattle.machine_091.specs.Calls.{opened_phase}
 use Rattle.machine_091.specs.State.{is_open_phase, is_opening}
 use Rattle.machine_091.specs.Transitions as machine
 use Rattle.machine_091.specs.declared.state.Connection.{Connection}
@@ -17,15 +19,22 @@ use Rattle.machine_10.specs.Transitions as ten
 use Rattle.machine_10.specs.Transitions.{Meaning}
 use Rattle.machine_10.specs.declared.state.Upstream.{Upstream}
 use Rattle.gate_model.specs.declared.outgoing.Outgoing.TheVariants.{ToClient, ToUp}
-use Rattle.gate_model.specs.Folds.{Peers, accepted_in, connection, container, container_kept, leaving_in, peers, peers_by, peers_came, peers_heard, ran_out_in, side_in}
+use Rattle.gate_model.specs.Folds.{Peers, accepted_in, connection, container, container_kept}
+use Rattle.gate_model.specs.Folds.{leaving_in, peers, peers_by, peers_came, peers_heard, ran_out_in}
+use Rattle.gate_model.specs.Folds.{side_in}
 use Rattle.gate_model.specs.Picks.{ArePicks}
+use Rattle.gate_model.specs.declared.setup.Route.{Route}
 use Rattle.gate_model.specs.Requests.{client_step}
-use Rattle.gate_model.specs.State.{Step, Began, Moment, Fed, Silent, Queued, Came, TakenUp, Heard, Joined, Lost, Gave, Whole, OutOfMemory, before, close_if, conn_step, is_limit_reached}
+use Rattle.gate_model.specs.State.{Step, Began, Moment, Fed, Silent, Queued, Came, TakenUp, Heard}
+use Rattle.gate_model.specs.State.{Joined, Lost, Gave, Whole, OutOfMemory, before, close_if}
+use Rattle.gate_model.specs.State.{conn_step, is_limit_reached}
 use Rattle.gate_model.specs.Upstream.{channel_max_in, container_by, meaning_by}
 use Rattle.gate_model.proofs.Connections.{clash, only_given, phase_only}
 use Rattle.gate_model.proofs.Outcomes.{only_closing}
 use Rattle.gate_model.proofs.Known.{conn_is, known}
-use Rattle.gate_model.proofs.Outcomes.{Outcome, Greets, Parts, LogsIn, Tunes, Asks, Passes, Refuses, Declines, Drops, Parting, Calls, Asking, Publishes, Fills, Frees, Closes, Answers, Ignores, outcome}
+use Rattle.gate_model.proofs.Outcomes.{Outcome, Greets, Parts, LogsIn, Tunes, Asks, Passes, Refuses}
+use Rattle.gate_model.proofs.Outcomes.{Declines, Drops, Parting, Calls, Asking, Publishes, Fills}
+use Rattle.gate_model.proofs.Outcomes.{Frees, Closes, Answers, Ignores, outcome}
 use Rattle.gate_model.proofs.Sessions.{conn_cases}
 use Rattle.gate_model.proofs.Ups.{is_early}
 use Rattle.gate_turn_laws.proofs.Lists.{and_parts}
@@ -41,8 +50,8 @@ closing_late phase.Running = refl
 closing_late phase.Closing = refl
 closing_late phase.Closed = refl
 
-pub unit_late : (c : Connection) (u : Unit91) → is_early c.phase ≡ false → is_early (conn_step c u).phase ≡ false
-unit_late c u late = by (client_step c u) (outcome c u)
+pub unit_late : (rs : List Route) (c : Connection) (u : Unit91) → is_early c.phase ≡ false → is_early (conn_step rs c u).phase ≡ false
+unit_late rs c u late = by (client_step rs c u) (outcome rs c u)
   where
     by : (x : machine.Step) → Outcome c u x → is_early x.0.phase ≡ false
     by _ (Greets e) = absurd (clash _ (ap is_early e) late)
@@ -65,8 +74,8 @@ unit_late c u late = by (client_step c u) (outcome c u)
     by _ (Ignores e) = late
 
 -- the login is the one unit that tells a container
-pub login_late : (c : Connection) (u : Unit91) (o : Option Upstream) → is_early c.phase ≡ false → container_kept o (client_step c u).1 ≡ o
-login_late c u o late = by (client_step c u) (outcome c u)
+pub login_late : (rs : List Route) (c : Connection) (u : Unit91) (o : Option Upstream) → is_early c.phase ≡ false → container_kept o (client_step rs c u).1 ≡ o
+login_late rs c u o late = by (client_step rs c u) (outcome rs c u)
   where
     by : (x : machine.Step) → Outcome c u x → container_kept o x.1 ≡ o
     by _ (Greets e) = refl
@@ -143,16 +152,17 @@ either_early false p q f e = was_early (is_early p.client.phase) (is_early q.cli
 
 pub unreached : (h : List Step) → ArePicks h → is_early (connection h).phase ≡ true → is_readable (side_in h) ≡ false
 unreached [] p e = refl
-unreached (Began vhost n ms ∷ h) p e = ap (λ (g : List Step). is_readable (side_in g)) p.0
+unreached (Began site n ms ∷ h) p e = ap (λ (g : List Step). is_readable (side_in g)) p.0
 unreached (Moment ms ∷ h) p e =
     unreached h p.1
     (was_early (is_early (connection h).phase) (is_early (close_if (is_limit_reached (connection h) (accepted_in h) ms) (connection h)).phase)
     (limit_late (is_limit_reached (connection h) (accepted_in h) ms) (connection h)) e)
-unreached (Fed end ∷ h) p e = unreached h p.1 e
+unreached (Fed Client ∷ h) p e = unreached h p.1 e
+unreached (Fed Up ∷ h) p e = unreached h p.1 e
 unreached (Silent Client ∷ h) p e = absurd cc
 unreached (Silent Up ∷ h) p e = absurd (clash _ e (closing_late (connection h).phase))
 unreached (Queued u ∷ h) p e = unreached h p.1 e
-unreached (Came u ∷ h) p e = unreached h p.1 (either_early (ran_out_in h) (peers h) (peers_came (peers h) u) (unit_late (connection h) u) e)
+unreached (Came u ∷ h) p e = unreached h p.1 (either_early (ran_out_in h) (peers h) (peers_came (peers h) u) (unit_late (peers h).routes (connection h) u) e)
 unreached (TakenUp ∷ h) p e = unreached h p.1 (by (not (ran_out_in h) && leaving_in h) e)
   where
     by : (b : Bool) → is_early (if b then record (peers h) { client = after_ended (connection h) } else peers h).client.phase ≡ true

@@ -16,11 +16,13 @@ use Rattle.gate_model.specs.Once.{AnswersOnce}
 use Rattle.gate_model.specs.Order.{TakesInOrder}
 use Rattle.gate_model.specs.Picks.{ArePicks}
 use Rattle.gate_model.specs.Publishing.{ArePieces, Confirms, EndWhole, Transfers}
+use Rattle.gate_model.specs.Reports.{lines_owed}
 use Rattle.gate_model.specs.Setup.{SetupText}
+use Rattle.gate_model.specs.State.{owed_lines}
 use Rattle.gate_model.specs.Waiting.{ChannelsEndWhenSettled, EndsWhenSettled, OpensWhenOpened}
 use Rattle.gate_pair.specs.Answers.{IsAnswered}
 use Rattle.gate_pair.specs.Lawful.{AreLawful}
-use Rattle.gate_pair.specs.Meaning.{pair_words, steps_of}
+use Rattle.gate_pair.specs.Meaning.{pair_words, state_of, steps_of}
 use Rattle.gate_pair.specs.Silence.{GivesUp}
 use Rattle.gate_pair.specs.Times.{KeepsTimes}
 
@@ -35,12 +37,14 @@ pub record IsLawfulPair (s : SetupText) (h : List Entry) : Type 0 where
   -- answered at most once
   pub order : TakesInOrder (steps_of s h)
   pub once : AnswersOnce (steps_of s h)
-  -- each confirm covers publishes with the outcome that it tells, accepted ones by an ack; frames of
-  -- transfers go within credit and window, in order, and carry each byte of an image once
+  -- each confirm covers publishes with the outcome that it tells, accepted ones by an ack; frames
+  -- of transfers go within credit and window, in order, and carry each byte of an image once
   pub confirms : Confirms (steps_of s h)
   pub transfers : Transfers (steps_of s h)
   pub pieces : ArePieces (steps_of s h)
   pub wholes : EndWhole (steps_of s h)
+  -- the report is owed the lines of the publishes that were lost before they had an outcome
+  pub lines : owed_lines (state_of s h) ≡ lines_owed (steps_of s h)
   -- a client is told of the end of its connection or a channel, and of the connection's begin, once
   -- the container is through
   pub ends : EndsWhenSettled (steps_of s h)
@@ -51,7 +55,8 @@ pub record IsLawfulPair (s : SetupText) (h : List Entry) : Type 0 where
   pub goes : GoesWhenDue (steps_of s h)
   -- no frame that goes to the client passes its limit
   pub frames : FitsClients (steps_of s h)
-  -- heartbeats and empty frames go, and each end is shut, where time or another cause makes that due
+  -- heartbeats and empty frames go, and each end is shut, where time or another cause makes that
+  -- due
   pub times : KeepsTimes s h
   -- each end is given up at the first moment at which no byte of it came for too long
   pub silences : GivesUp s h

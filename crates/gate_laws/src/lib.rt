@@ -11,11 +11,14 @@ ghost use Rattle.gate_model.specs.Once.{AnswersOnce};
 ghost use Rattle.gate_model.specs.Order.{TakesInOrder};
 ghost use Rattle.gate_model.specs.Picks.{ArePicks};
 ghost use Rattle.gate_model.specs.Publishing.{ArePieces, Confirms, EndWhole, Transfers};
+ghost use Rattle.gate_model.specs.Reports.{lines_owed};
 ghost use Rattle.gate_model.specs.Setup.{SetupText};
-ghost use Rattle.gate_model.specs.Waiting.{ChannelsEndWhenSettled, EndsWhenSettled, OpensWhenOpened};
+ghost use Rattle.gate_model.specs.State.{owed_lines};
+ghost use Rattle.gate_model.specs.Waiting.{ChannelsEndWhenSettled, EndsWhenSettled};
+ghost use Rattle.gate_model.specs.Waiting.{OpensWhenOpened};
 ghost use Rattle.gate_pair.specs.Answers.{IsAnswered};
 ghost use Rattle.gate_pair.specs.Lawful.{AreLawful};
-ghost use Rattle.gate_pair.specs.Meaning.{pair_words, steps_of};
+ghost use Rattle.gate_pair.specs.Meaning.{pair_words, state_of, steps_of};
 ghost use Rattle.gate_pair.specs.Silence.{GivesUp};
 ghost use Rattle.gate_pair.specs.Times.{KeepsTimes};
 ghost use Rattle.gate_runs.specs.declared.limits.Limits.{Limits};
@@ -25,14 +28,17 @@ ghost use Rattle.gate_runs.specs.Serving.{Follows};
 ghost use Rattle.gate_turn_laws.specs.Quiet.{IdlesAtRest, IdlesInSilence};
 ghost use Rattle.gate_laws.specs.Laws.{IsLawfulRun};
 
-/// The entries of each pair are lawful: an end is read where it is open and a unit of it is awaited,
-/// or where it is a client's that was given up. What is offered to it is the unit in progress or the one that goes next, whole; it is shut where
-/// that is due. The connection upstream is asked for once, where a connection.open waits for it.
-/// What goes out is what is due first, and units come as they are awaited.
+/// The entries of each pair are lawful: an end is read where it is open and a unit of it is
+/// awaited, or where it is a client's that was given up. What is offered to it is the unit in
+/// progress or the one that goes next, whole; it is shut where that is due. The connection upstream
+/// is asked for once, where a connection.open waits for it. What goes out is what is due first, and
+/// units come as they are awaited.
 pub fn entries_are_lawful()
-    ensures lawful { (s : SetupText) (c : Limits) (m : History) → Follows (pair_words s) c m → (p : ℕ)
+    ensures lawful { (s : SetupText) (c : Limits) (m : History) → Follows (pair_words s) c m
+        → (p : ℕ)
         → AreLawful s (journal p m) }
-    ensures picks { (s : SetupText) (c : Limits) (m : History) → Follows (pair_words s) c m → (p : ℕ)
+    ensures picks { (s : SetupText) (c : Limits) (m : History) → Follows (pair_words s) c m
+        → (p : ℕ)
         → ArePicks (steps_of s (journal p m)) }
 {
     gate_turn_laws::entries_are_asked();
@@ -54,8 +60,9 @@ pub fn clients_are_answered()
     gate_pair::clients_are_answered();
 }
 
-/// The units of each channel of a client are taken up in the order in which they came, each once; those
-/// that were not wait in that order. All that wait when the client is given up are passed over there.
+/// The units of each channel of a client are taken up in the order in which they came, each once;
+/// those that were not wait in that order. All that wait when the client is given up are passed
+/// over there.
 pub fn units_keep_their_order()
     ensures { (s : SetupText) (c : Limits) (m : History) → Follows (pair_words s) c m → (p : ℕ)
         → TakesInOrder (steps_of s (journal p m)) }
@@ -74,12 +81,13 @@ pub fn channels_are_answered_once()
     gate_model::channels_are_answered_once();
 }
 
-/// Each confirm that goes to a client covers publishes of the channel's life that wait for one alone,
-/// with the outcome that it tells: an ack those that the container accepted. Each frame of a transfer
-/// that goes to a container is that of the publish that is begun, else of the least number that waits
-/// on an attached link with credit, while the window of the session has room; it carries the first
-/// bytes that are left of the payload. So the frames of a publish carry the text of the image of its
-/// message, each byte once and in order, and all of it once one says that no more follows.
+/// Each confirm that goes to a client covers publishes of the channel's life that wait for one
+/// alone, with the outcome that it tells: an ack those that the container accepted. Each frame of a
+/// transfer that goes to a container is that of the publish that is begun, else of the least number
+/// that waits on an attached link with credit, while the window of the session has room; it carries
+/// the first bytes that are left of the payload. So the frames of a publish carry the text of the
+/// image of its message, each byte once and in order, and all of it once one says that no more
+/// follows.
 pub fn publishes_are_lawful()
     ensures confirms { (s : SetupText) (c : Limits) (m : History) → Follows (pair_words s) c m
         → (p : ℕ) → Confirms (steps_of s (journal p m)) }
@@ -96,17 +104,29 @@ pub fn publishes_are_lawful()
     gate_model::payloads_are_whole();
 }
 
+/// What the report is owed of the publishes of a pair: of each life in progress, by rising number,
+/// the publishes that were lost before they had an outcome and of which no line was reported, by
+/// rising number, and what became of each.
+pub fn lines_are_lawful()
+    ensures { (s : SetupText) (c : Limits) (m : History) → Follows (pair_words s) c m → (p : ℕ)
+        → owed_lines (state_of s (journal p m)) ≡ lines_owed (steps_of s (journal p m)) }
+{
+    entries_are_lawful();
+    gate_model::lines_are_lawful();
+}
+
 /// A connection.close of the gateway or a close-ok goes only where nothing of the upstream end is
-/// waited for: the pair ran out of memory, the end isn't open, the container's close came, or it was
-/// given up. connection.open-ok goes only after the container's open. A channel.close of the gateway
-/// or its close-ok goes only where nothing is waited for on its channel: no session began there, or
-/// the container's end came.
+/// waited for: the pair ran out of memory, the end isn't open, the container's close came, or it
+/// was given up. connection.open-ok goes only after the container's open. A channel.close of the
+/// gateway or its close-ok goes only where nothing is waited for on its channel: no session began
+/// there, or the container's end came.
 pub fn replies_wait()
     ensures ends { (s : SetupText) (c : Limits) (m : History) → Follows (pair_words s) c m → (p : ℕ)
         → EndsWhenSettled (steps_of s (journal p m)) }
     ensures channels { (s : SetupText) (c : Limits) (m : History) → Follows (pair_words s) c m
         → (p : ℕ) → ChannelsEndWhenSettled (steps_of s (journal p m)) }
-    ensures opens { (s : SetupText) (c : Limits) (m : History) → Follows (pair_words s) c m → (p : ℕ)
+    ensures opens { (s : SetupText) (c : Limits) (m : History) → Follows (pair_words s) c m
+        → (p : ℕ)
         → OpensWhenOpened (steps_of s (journal p m)) }
 {
     entries_are_lawful();
@@ -114,12 +134,13 @@ pub fn replies_wait()
 }
 
 /// The units of the opening that were sent to a container, and those that are due, are those that
-/// were called for: by the connection upstream, the wanted mechanism, a login that succeeded and the
-/// container's header; in their order, and each at most once. A close goes at most once, after the
-/// open, to a connection that is closing, with the condition that the first closing event says, and
-/// nothing goes after it.
+/// were called for: by the connection upstream, the wanted mechanism, a login that succeeded and
+/// the container's header; in their order, and each at most once. A close goes at most once, after
+/// the open, to a connection that is closing, with the condition that the first closing event says,
+/// and nothing goes after it.
 pub fn containers_are_asked()
-    ensures called { (s : SetupText) (c : Limits) (m : History) → Follows (pair_words s) c m → (p : ℕ)
+    ensures called { (s : SetupText) (c : Limits) (m : History) → Follows (pair_words s) c m
+        → (p : ℕ)
         → AreCalledFor (steps_of s (journal p m)) }
     ensures goes { (s : SetupText) (c : Limits) (m : History) → Follows (pair_words s) c m → (p : ℕ)
         → GoesWhenDue (steps_of s (journal p m)) }
@@ -128,9 +149,9 @@ pub fn containers_are_asked()
     gate_model::containers_are_asked();
 }
 
-/// No frame that goes to a client passes the client's limit when its first byte is sent: 4,096 bytes
-/// until a connection.tune-ok that is neither refused nor passed over, and from then on the frame-max
-/// that this agreed to.
+/// No frame that goes to a client passes the client's limit when its first byte is sent: 4,096
+/// bytes until a connection.tune-ok that is neither refused nor passed over, and from then on the
+/// frame-max that this agreed to.
 pub fn frames_fit_clients()
     ensures { (s : SetupText) (c : Limits) (m : History) → Follows (pair_words s) c m → (p : ℕ)
         → FitsClients (steps_of s (journal p m)) }
@@ -141,8 +162,8 @@ pub fn frames_fit_clients()
 
 /// A heartbeat goes next to the client exactly where one may, and an empty frame to the container.
 /// Each end is to be shut exactly for one of its causes, those of `ShutAt` and of `ShutUpAt`. Among
-/// them is that no connection.open came within 10,000 ms of the accept, and that the closing event is
-/// 10,000 ms old.
+/// them is that no connection.open came within 10,000 ms of the accept, and that the closing event
+/// is 10,000 ms old.
 pub fn times_are_kept()
     ensures { (s : SetupText) (c : Limits) (m : History) → Follows (pair_words s) c m → (p : ℕ)
         → KeepsTimes s (journal p m) }
@@ -151,10 +172,10 @@ pub fn times_are_kept()
     gate_pair::times_are_kept();
 }
 
-/// A client that is read is given up exactly at the first moment at which, for twice the interval that
-/// was agreed to, no byte of it came, counted from its last byte, or from the end of the last time that
-/// it was held; a container at the first at which none came for 120,000 ms, counted from its last byte,
-/// or from the connect. Each is given up once at most, while its end is open.
+/// A client that is read is given up exactly at the first moment at which, for twice the interval
+/// that was agreed to, no byte of it came, counted from its last byte, or from the end of the last
+/// time that it was held; a container at the first at which none came for 120,000 ms, counted from
+/// its last byte, or from the connect. Each is given up once at most, while its end is open.
 pub fn silent_ends_are_given_up()
     ensures { (s : SetupText) (c : Limits) (m : History) → Follows (pair_words s) c m → (p : ℕ)
         → GivesUp s (journal p m) }
@@ -164,10 +185,10 @@ pub fn silent_ends_are_given_up()
 }
 
 /// At each idle all is at rest: each end of a live pair of which a unit is awaited was read dry in
-/// this turn, what is offered was stuck, nothing can be taken up, and no end is to be shut. No further
-/// client can come, and nothing moved. An end that was opened in this turn is an exception, and so is
-/// the client's where something of it was taken up; in a turn in which the connect failed, so is what
-/// of it waited.
+/// this turn, what is offered was stuck, nothing can be taken up, and no end is to be shut. No
+/// further client can come, and nothing moved. An end that was opened in this turn is an exception,
+/// and so is the client's where something of it was taken up; in a turn in which the connect
+/// failed, so is what of it waited.
 pub fn idle_is_at_rest()
     ensures rests { (s : SetupText) (c : Limits) (m : History) → Follows (pair_words s) c m
         → IdlesAtRest (pair_words s) c m }
@@ -188,6 +209,7 @@ pub fn runs_are_lawful()
     units_keep_their_order();
     channels_are_answered_once();
     publishes_are_lawful();
+    lines_are_lawful();
     replies_wait();
     containers_are_asked();
     frames_fit_clients();

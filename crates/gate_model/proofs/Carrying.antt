@@ -1,5 +1,7 @@
 -- The session of a channel is what the steps say of it.
-use Rattle.std.proofs.Common.{◌≡◌, ◌≢◌, ◌⊎◌, ℕ, zero, suc, ◌==◌, ◌<◌, ◌≤◌, Bool, true, false, if◌then◌else◌, List, [], ◌∷◌, Option, Some, length, arith, inl, inr, refl, sym, ap, ◌∙◌, subst}
+use Rattle.std.proofs.Common.{◌≡◌, ◌≢◌, ◌⊎◌, ℕ, zero, suc, ◌==◌, ◌<◌, ◌≤◌, Bool, true, false}
+use Rattle.std.proofs.Common.{if◌then◌else◌, List, [], ◌∷◌, Option, Some, length, arith, inl, inr}
+use Rattle.std.proofs.Common.{refl, sym, ap, ◌∙◌, subst}
 use Rattle.gate_outside.specs.declared.ports.End.TheVariants.{Client, Up}
 use Rattle.gate_outside.specs.declared.ports.Linked.TheVariants as link
 use Rattle.gate_relay.specs.declared.loss.Loss.TheVariants as loss
@@ -23,15 +25,20 @@ use Rattle.gate_model.specs.declared.outgoing.UpUnit.TheVariants as up
 use Rattle.gate_model.specs.declared.reply.Reply.{Reply}
 use Rattle.gate_model.specs.declared.reply.Reply.TheVariants as reply
 use Rattle.gate_model.specs.Folds.{carried_heard, carried_sent, carrying, ran_out_in}
-use Rattle.gate_model.specs.Lives.{failed_life, life_at, lives_by, method_life, no_life, with_life, with_state, is_of_channel}
+use Rattle.gate_model.specs.Lives.{failed_life, life_at, lives_by, method_life, no_life, with_life}
+use Rattle.gate_model.specs.Lives.{with_state, is_of_channel}
 use Rattle.gate_model.specs.Picks.{ArePicks}
 use Rattle.gate_model.specs.Session.{carried_by, flow_sent, is_flow_owed, no_session}
 use Rattle.gate_model.specs.Requests.{client_step}
-use Rattle.gate_model.specs.State.{Began, Came, Fed, Gave, Heard, Joined, Lost, Moment, OutOfMemory, Queued, Silent, State, Step, TakenUp, Whole, before, came, carried, dequeued, fail, failed, heard, left, runs, windowed, with_meaning, without_begin, without_life}
+use Rattle.gate_model.specs.State.{Began, Came, Fed, Gave, Heard, Joined, Lost, Moment, OutOfMemory}
+use Rattle.gate_model.specs.State.{Queued, Silent, State, Step, TakenUp, Whole, before, came}
+use Rattle.gate_model.specs.State.{carried, dequeued, fail, failed, heard, left, runs, windowed}
+use Rattle.gate_model.specs.State.{with_meaning, without_begin, without_life}
 use Rattle.gate_model.specs.Upstream.{heard_up, meaning_by}
 use Rattle.gate_model.proofs.Known.{container_is, known, memory_is}
 use Rattle.gate_model.proofs.Lives.{lives_all}
-use Rattle.gate_model.proofs.Once.{Beyond, Elsewhere, Here, SetAt, isnt, itself, new_at, same_or_not, set_at}
+use Rattle.gate_model.proofs.Once.{Beyond, Elsewhere, Here, SetAt, isnt, itself, new_at}
+use Rattle.gate_model.proofs.Once.{same_or_not, set_at}
 use Rattle.gate_model.proofs.Sessions.{session_cases}
 use Rattle.gate_model.specs.State.{session_by}
 
@@ -193,7 +200,7 @@ came_keeps n w u = by w.out_of_memory
   where
     by : (b : Bool) → at n (if b then w else came (dequeued w) u).lives ≡ at n w.lives
     by true = refl
-    by false = want_keeps n w.moment (client_step w.conn u).1 w.lives
+    by false = want_keeps n w.moment (client_step w.routes w.conn u).1 w.lives
 
 queued_keeps : (n : ℕ) (w : State) (us : List Unit91) → at n (if w.out_of_memory then w else record w { queue = us }).lives ≡ at n w.lives
 queued_keeps n w us = by w.out_of_memory
@@ -211,7 +218,7 @@ within n h p lt = subst (λ (m : ℕ). n < m) (sym (lives_all h p)) lt
 
 pub carries_in : (h : List Step) → ArePicks h → (n : ℕ) → n < 256 → at n (before h).lives ≡ carrying n h
 carries_in [] p n lt = ap (λ (l : Life). l.session) (new_at n)
-carries_in (Began vhost m ms ∷ h) p n lt = carries_in h p.1 n lt
+carries_in (Began site m ms ∷ h) p n lt = carries_in h p.1 n lt
 carries_in (Moment ms ∷ h) p n lt = carries_in h p.1 n lt
 carries_in (Fed Client ∷ h) p n lt = carries_in h p.1 n lt
 carries_in (Fed Up ∷ h) p n lt = carries_in h p.1 n lt

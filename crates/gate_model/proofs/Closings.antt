@@ -1,7 +1,7 @@
 -- The error of the gateway's close to a container: what the first closing event says.
-use Rattle.std.proofs.Common.{Bool, List, None, Option, Some, [], ap, false, if◌then◌else◌, inl, inr, not, refl, subst, sym, true, ℕ, ◌&&◌, ◌++◌, ◌==◌, ◌||◌, ◌∙◌, ◌∷◌, ◌≡◌, ◌⊎◌}
-use Rattle.std.specs.Prelude.{map}
-use Rattle.std.specs.Option.{option_map}
+use Rattle.std.proofs.Common.{Bool, List, None, Option, Some, [], ap, false, if◌then◌else◌, inl}
+use Rattle.std.proofs.Common.{inr, not, refl, subst, sym, true, ℕ, ◌&&◌, ◌++◌, ◌==◌, ◌||◌, ◌∙◌, ◌∷◌}
+use Rattle.std.proofs.Common.{◌≡◌, ◌⊎◌}
 use Rattle.std.specs.List.{list_any}
 use Rattle.std.proofs.lemmas.List.Folds.{list_any-append}
 use Rattle.gate_outside.specs.declared.ports.End.TheVariants.{Client, Up}
@@ -16,7 +16,7 @@ use Rattle.machine_091.specs.declared.state.Connection.{Connection}
 use Rattle.machine_091.specs.declared.unit.Unit91.{Unit91}
 use Rattle.machine_10.specs.Transitions as ten
 use Rattle.machine_10.specs.Transitions.{Meaning}
-use Rattle.machine_10.specs.declared.state.Upstream.{Upstream}
+use Rattle.machine_10.specs.declared.state.Upstream.{Upstream, Upstream}
 use Rattle.machine_10.specs.declared.unit.Unit10.{Unit10}
 use Rattle.performatives_10.specs.declared.condition.Condition.{Condition}
 use Rattle.performatives_10.specs.declared.condition.Condition.TheVariants.{ResourceLimitExceeded}
@@ -26,24 +26,36 @@ use Rattle.close_translate.specs.declared.conditions.Scope.{Scope}
 use Rattle.close_translate.specs.Conditions.{code_by}
 use Rattle.gate_model.specs.Upstream.{condition_in}
 use Rattle.machine_10.specs.Reading.{field}
-use Rattle.gate_model.specs.Paths.{lost_path, path_at}
+use Rattle.gate_model.specs.Paths.{path_at, told_paths}
 use Rattle.gate_model.specs.declared.outgoing.Outgoing.TheVariants.{ToClient, ToUp}
 use Rattle.gate_model.specs.declared.outgoing.UpUnit.{UpUnit}
 use Rattle.gate_model.specs.Asked.{closing_condition, condition_at, condition_told, is_up_close}
-use Rattle.gate_model.specs.Folds.{Peers, accepted_in, closes_connection, connection, container, leaving_in, paths_in, peers, peers_by, peers_came, peers_heard, peers_scoped, ran_out_in, sent_up}
+use Rattle.gate_model.specs.Folds.{Peers, accepted_in, closes_connection, connection, container}
+use Rattle.gate_model.specs.Folds.{leaving_in, paths_in, peers, peers_by, peers_came, peers_heard}
+use Rattle.gate_model.specs.Folds.{peers_scoped, ran_out_in, sent_up, routes_in}
 use Rattle.gate_model.specs.Picks.{ArePicks}
 use Rattle.gate_model.specs.Requests.{client_step}
-use Rattle.gate_model.specs.State.{Began, Came, Fed, Gave, Heard, Joined, Lost, Moment, OutOfMemory, Queued, Silent, State, Step, TakenUp, Whole, before, begun_session, came, carried, close_if, closing_error, closing_error, condition_by, conn_step, dequeued, fail, fail_life, failed, heard, is_limit_reached, left, life_failed, runs, with_meaning, link_scope, scoped, windowed}
-use Rattle.gate_model.specs.Upstream.{UpState, channel_max_in, container_by, heard_up, lost_by, meaning_by, shut_by}
+use Rattle.gate_model.specs.State.{Began, Came, Fed, Gave, Heard, Joined, Lost, Moment, OutOfMemory}
+use Rattle.gate_model.specs.State.{Queued, Silent, State, Step, TakenUp, Whole, before, paths_lost}
+use Rattle.gate_model.specs.State.{begun_session, came, carried, close_if, closing_error}
+use Rattle.gate_model.specs.State.{closing_error, condition_by, conn_step, dequeued, fail}
+use Rattle.gate_model.specs.State.{fail_life, failed, heard, is_limit_reached, left, life_failed}
+use Rattle.gate_model.specs.State.{runs, with_meaning, link_scope, scoped, windowed}
+use Rattle.gate_model.specs.Upstream.{UpState, channel_max_in, container_by, heard_up, lost_by}
+use Rattle.gate_model.specs.Upstream.{meaning_by, shut_by}
 use Rattle.close_translate.specs.declared.conditions.Scope.TheVariants as scope
-use Rattle.machine_10.specs.declared.state.Upstream.{Upstream}
-use Rattle.gate_model.proofs.Connections.{clash, close_closes, closing_only, only_given, opening_early, step_closes}
+use Rattle.gate_model.proofs.Connections.{clash, close_closes, closing_only, only_given}
+use Rattle.gate_model.proofs.Connections.{opening_early, step_closes}
 use Rattle.gate_model.proofs.Outcomes.{only_closing}
 use Rattle.gate_model.proofs.Sessions.{conn_cases}
-use Rattle.gate_model.proofs.Known.{Known, closing_is, conn_is, container_is, keep_is, known, memory_is, paths_are}
-use Rattle.gate_model.proofs.Outcomes.{Outcome, Greets, Parts, LogsIn, Tunes, Asks, Passes, Refuses, Declines, Drops, Parting, Calls, Asking, Publishes, Fills, Frees, Closes, Answers, Ignores, outcome}
+use Rattle.gate_model.proofs.Known.{Known, closing_is, conn_is, container_is, keep_is, known}
+use Rattle.gate_model.proofs.Known.{memory_is, paths_are, routes_are}
+use Rattle.gate_model.proofs.Outcomes.{Outcome, Greets, Parts, LogsIn, Tunes, Asks, Passes, Refuses}
+use Rattle.gate_model.proofs.Outcomes.{Declines, Drops, Parting, Calls, Asking, Publishes, Fills}
+use Rattle.gate_model.proofs.Outcomes.{Frees, Closes, Answers, Ignores, outcome}
 use Rattle.gate_model.proofs.Said.{shuts_in}
 use Rattle.gate_model.proofs.Ups.{Picked, goes_up, is_a_close}
+use Rattle.gate_model.specs.declared.setup.Route.{Route}
 
 -- ---- a connection that is closing stays so
 
@@ -71,13 +83,14 @@ closes_if true p q e f = e
 closes_if false p q e f = f
 
 closes_on : (s : Step) (h : List Step) → ArePicks (s ∷ h) → is_closing (connection h) ≡ true → is_closing (connection (s ∷ h)) ≡ true
-closes_on (Began vhost n ms) h p e = absurd (clash _ e (ap (λ (x : List Step). is_closing (connection x)) p.0))
+closes_on (Began site n ms) h p e = absurd (clash _ e (ap (λ (x : List Step). is_closing (connection x)) p.0))
 closes_on (Moment ms) h p e = limit_closes (is_limit_reached (connection h) (accepted_in h) ms) (connection h) e
-closes_on (Fed end) h p e = e
+closes_on (Fed Client) h p e = e
+closes_on (Fed Up) h p e = e
 closes_on (Silent Client) h p e = refl
 closes_on (Silent Up) h p e = close_closes (connection h).phase
 closes_on (Queued u) h p e = e
-closes_on (Came u) h p e = closes_if (ran_out_in h) (peers h) (peers_came (peers h) u) e (step_closes (connection h) u e)
+closes_on (Came u) h p e = closes_if (ran_out_in h) (peers h) (peers_came (peers h) u) e (step_closes (routes_in h) (connection h) u e)
 closes_on TakenUp h p e =
     closes_if (not (ran_out_in h) && leaving_in h) (record (peers h) { client = after_ended (connection h) }) (peers h) refl e
 closes_on (Heard u) h p e = closes_if (ran_out_in h) (peers h) (peers_heard (peers h) u) e (meaning_closes (meaning_by (container h) u) (record (peers h) { container = container_by (container h) u }) e)
@@ -108,8 +121,8 @@ remembers h p e = by (ran_out_in h) refl
     by true f = absurd (clash _ (shuts_in (known h p) f) e)
     by false f = refl
 
-unit_told : (c : Connection) (u : Unit91) → is_closing (conn_step c u) ≡ false → condition_by (client_step c u).1 ≡ None
-unit_told c u = by (client_step c u) (outcome c u)
+unit_told : (rs : List Route) (c : Connection) (u : Unit91) → is_closing (conn_step rs c u) ≡ false → condition_by (client_step rs c u).1 ≡ None
+unit_told rs c u = by (client_step rs c u) (outcome rs c u)
   where
     by : (x : machine.Step) → Outcome c u x → is_closing (x.0) ≡ false → condition_by x.1 ≡ None
     by _ (Greets e) k = refl
@@ -150,14 +163,15 @@ meaning_told ten.Refused x e = refl
 meaning_told (ten.Violation why) x e = absurd (clash _ (close_closes x.client.phase) e)
 
 step_told : (s : Step) (h : List Step) → ran_out_in h ≡ false → is_closing (connection (s ∷ h)) ≡ false → condition_at s h ≡ None
-step_told (Began vhost n ms) h m e = refl
+step_told (Began site n ms) h m e = refl
 step_told (Moment ms) h m e = refl
-step_told (Fed end) h m e = refl
+step_told (Fed Client) h m e = refl
+step_told (Fed Up) h m e = refl
 step_told (Silent Client) h m e = refl
 step_told (Silent Up) h m e = absurd (clash _ (close_closes (connection h).phase) e)
 step_told (Queued u) h m e = refl
 step_told (Came u) h m e =
-    unit_told (connection h) u (subst (λ (b : Bool). is_closing (if b then peers h else peers_came (peers h) u).client ≡ false) m e)
+    unit_told (routes_in h) (connection h) u (subst (λ (b : Bool). is_closing (if b then peers h else peers_came (peers h) u).client ≡ false) m e)
 step_told TakenUp h m e = refl
 step_told (Heard u) h m e =
     meaning_told (meaning_by (container h) u) (record (peers h) { container = container_by (container h) u })
@@ -237,17 +251,18 @@ meaning_condition (ten.Closed x) w c b e f n = fail_condition _ None w ∙ told 
 meaning_condition ten.Refused w c b e f n = fail_condition _ None w ∙ told w c b None e f
 meaning_condition (ten.Violation why) w c b e f n = fail_condition _ (Some why) w ∙ told w c b (Some why) e f
 
-came_condition : (w : State) (u : Unit91) → (came (dequeued w) u).up.condition ≡ (if is_closing w.conn then w.up.condition else condition_by (client_step w.conn u).1)
+came_condition : (w : State) (u : Unit91) → (came (dequeued w) u).up.condition ≡ (if is_closing w.conn then w.up.condition else condition_by (client_step w.routes w.conn u).1)
 came_condition w u =
-    ap (λ (s : UpState). s.condition) (closing_is (is_closing w.conn) (condition_by (client_step w.conn u).1) _)
-    ∙ ap (λ (s : UpState). if is_closing w.conn then s.condition else condition_by (client_step w.conn u).1) (keep_is (client_step w.conn u).1 w.up)
+    ap (λ (s : UpState). s.condition) (closing_is (is_closing w.conn) (condition_by (client_step w.routes w.conn u).1) _)
+    ∙ ap (λ (s : UpState). if is_closing w.conn then s.condition else condition_by (client_step w.routes w.conn u).1) (keep_is (client_step w.routes w.conn u).1 w.up)
 
-conditions_came : (w : State) (u : Unit91) (m : Bool) (c : Connection) (b : Option Condition) → w.conn ≡ c → w.up.condition ≡ b → (m ≡ true → is_closing c ≡ true)
-    → (if m then w else came (dequeued w) u).up.condition ≡ (if is_closing c then b else condition_by (client_step c u).1)
-conditions_came w u true c b e f n = passed (is_closing c) w.up.condition b _ f (n refl)
-conditions_came w u false c b e f n =
-    came_condition w u ∙ told w c b (condition_by (client_step w.conn u).1) e f
-    ∙ ap (λ (x : Connection). if is_closing c then b else condition_by (client_step x u).1) e
+conditions_came : (w : State) (u : Unit91) (m : Bool) (rs : List Route) (c : Connection) (b : Option Condition) → w.routes ≡ rs → w.conn ≡ c → w.up.condition ≡ b → (m ≡ true → is_closing c ≡ true)
+    → (if m then w else came (dequeued w) u).up.condition ≡ (if is_closing c then b else condition_by (client_step rs c u).1)
+conditions_came w u true rs c b r e f n = passed (is_closing c) w.up.condition b _ f (n refl)
+conditions_came w u false rs c b r e f n =
+    came_condition w u ∙ told w c b (condition_by (client_step w.routes w.conn u).1) e f
+    ∙ ap (λ (x : Connection). if is_closing c then b else condition_by (client_step w.routes x u).1) e
+    ∙ ap (λ (x : List Route). if is_closing c then b else condition_by (client_step x c u).1) r
 
 conditions_heard : (w : State) (u : Unit10) (m : Bool) (c : Connection) (o : Option Upstream) (ps : List (Option PathState)) (b : Option Condition)
     → w.conn ≡ c → w.up.container ≡ o → w.paths ≡ ps → w.up.condition ≡ b
@@ -283,8 +298,8 @@ queued_condition h u e f = by (before h).out_of_memory
 
 pub condition_is : (h : List Step) → ArePicks h → (before h).up.condition ≡ closing_condition h
 condition_is [] p = refl
-condition_is (Began vhost n ms ∷ h) p =
-    subst (λ (x : List Step). (before (Began vhost n ms ∷ x)).up.condition ≡ closing_condition (Began vhost n ms ∷ x)) (sym p.0) refl
+condition_is (Began site n ms ∷ h) p =
+    subst (λ (x : List Step). (before (Began site n ms ∷ x)).up.condition ≡ closing_condition (Began site n ms ∷ x)) (sym p.0) refl
 condition_is (Moment ms ∷ h) p = quiet _ _ _ (condition_is h p.1) (none_told h p.1)
 condition_is (Fed Client ∷ h) p = quiet _ _ _ (condition_is h p.1) (none_told h p.1)
 condition_is (Fed Up ∷ h) p = quiet _ _ _ (condition_is h p.1) (none_told h p.1)
@@ -297,7 +312,7 @@ condition_is (Queued u ∷ h) p = queued_condition h u (condition_is h p.1) (non
 condition_is (Came u ∷ h) p =
     let k : Known h = known h p.1 in
     ap (λ (m : Bool). (if m then before h else came (dequeued (before h)) u).up.condition) (memory_is k)
-    ∙ conditions_came (before h) u (ran_out_in h) (connection h) (closing_condition h) (conn_is k) (condition_is h p.1) (shuts_in k)
+    ∙ conditions_came (before h) u (ran_out_in h) (routes_in h) (connection h) (closing_condition h) (routes_are k) (conn_is k) (condition_is h p.1) (shuts_in k)
 condition_is (TakenUp ∷ h) p =
     let k : Known h = known h p.1 in
     conditions_taken (before h) _ (connection h) (closing_condition h) (conn_is k) (condition_is h p.1) (none_told h p.1)
@@ -307,14 +322,14 @@ condition_is (Heard u ∷ h) p =
     ∙ conditions_heard (before h) u (ran_out_in h) (connection h) (container h) (paths_in h) (closing_condition h) (conn_is k) (container_is k) (paths_are k) (condition_is h p.1) (none_told h p.1) (shuts_in k)
 condition_is (Joined link.Ok ∷ h) p = quiet _ _ _ (condition_is h p.1) (none_told h p.1)
 condition_is (Joined link.Failed ∷ h) p =
-    conditions_failed (before h) (shut_by (before h).up) (connection h) (closing_condition h) (conn_is (known h p.1)) (condition_is h p.1)
+    conditions_failed (record (before h) { paths = told_paths (before h).paths }) (shut_by (before h).up) (connection h) (closing_condition h) (conn_is (known h p.1)) (condition_is h p.1)
 condition_is (Lost Client loss.Ended ∷ h) p = quiet _ _ _ (condition_is h p.1) (none_told h p.1)
 condition_is (Lost Client loss.Failed ∷ h) p = quiet _ _ _ (condition_is h p.1) (none_told h p.1)
 condition_is (Lost Client loss.Shut ∷ h) p = quiet _ _ _ (condition_is h p.1) (none_told h p.1)
 condition_is (Lost Up loss.Ended ∷ h) p =
-    conditions_failed (record (before h) { paths = map (option_map lost_path) (before h).paths }) (lost_by side.Ended (before h).up) (connection h) (closing_condition h) (conn_is (known h p.1)) (condition_is h p.1)
+    conditions_failed (record (before h) { paths = paths_lost (before h).paths }) (lost_by side.Ended (before h).up) (connection h) (closing_condition h) (conn_is (known h p.1)) (condition_is h p.1)
 condition_is (Lost Up loss.Failed ∷ h) p =
-    conditions_failed (record (before h) { paths = map (option_map lost_path) (before h).paths }) (lost_by side.Failed (before h).up) (connection h) (closing_condition h) (conn_is (known h p.1)) (condition_is h p.1)
+    conditions_failed (record (before h) { paths = paths_lost (before h).paths }) (lost_by side.Failed (before h).up) (connection h) (closing_condition h) (conn_is (known h p.1)) (condition_is h p.1)
 condition_is (Lost Up loss.Shut ∷ h) p = quiet _ _ _ (condition_is h p.1) (none_told h p.1)
 condition_is (Gave (ToClient u) text ∷ h) p = quiet _ _ _ (condition_is h p.1) (none_told h p.1)
 condition_is (Gave (ToUp u) text ∷ h) p = quiet _ _ _ (condition_is h p.1) (none_told h p.1)
@@ -355,7 +370,7 @@ closes_by h u p g f e = by (is_a_close g)
 
 pub closes_sent : (h : List Step) → ArePicks h → list_any is_up_close (sent_up h) ≡ true → is_closing (connection h) ≡ true
 closes_sent [] p e = absurd cc
-closes_sent (Began vhost n ms ∷ h) p e = closes_on (Began vhost n ms) h p (closes_sent h p.1 e)
+closes_sent (Began site n ms ∷ h) p e = closes_on (Began site n ms) h p (closes_sent h p.1 e)
 closes_sent (Moment ms ∷ h) p e = closes_on (Moment ms) h p (closes_sent h p.1 e)
 closes_sent (Fed end ∷ h) p e = closes_on (Fed end) h p (closes_sent h p.1 e)
 closes_sent (Silent end ∷ h) p e = closes_on (Silent end) h p (closes_sent h p.1 e)

@@ -1,5 +1,6 @@
 -- What ends a channel waits for its session.
-use Rattle.std.proofs.Common.{◌≡◌, ℕ, Bool, true, false, ◌&&◌, if◌then◌else◌, List, [], ◌∷◌, ◌++◌, Option, None, Some, refl, sym, ap, ◌∙◌, subst}
+use Rattle.std.proofs.Common.{◌≡◌, ℕ, Bool, true, false, ◌&&◌, if◌then◌else◌, List, [], ◌∷◌, ◌++◌}
+use Rattle.std.proofs.Common.{Option, None, Some, refl, sym, ap, ◌∙◌, subst}
 use Rattle.machine_091.specs.declared.unit.Refusal.{Refusal}
 use Rattle.machine_10.specs.declared.state.Upstream.{Upstream}
 use Rattle.session_path.specs.declared.path.PathOk.{PathOk}
@@ -13,12 +14,16 @@ use Rattle.gate_model.specs.Due.{confirm_on, ok_on, path_oks, open_oks, refused_
 use Rattle.gate_model.specs.Folds.{is_answer}
 use Rattle.gate_model.specs.Lives.{is_done, session_in}
 use Rattle.gate_model.specs.Picks.{ArePicks}
-use Rattle.gate_model.specs.State.{Began, Came, Gave, Heard, Joined, Lost, Moment, OutOfMemory, Queued, State, Step, TakenUp, Whole, before, is_channel_settled, is_settled, Fed, Silent}
+use Rattle.gate_model.specs.State.{Began, Came, Gave, Heard, Joined, Lost, Moment, OutOfMemory}
+use Rattle.gate_model.specs.State.{Queued, State, Step, TakenUp, Whole, before, is_channel_settled}
+use Rattle.gate_model.specs.State.{is_settled, Fed, Silent}
 use Rattle.gate_model.specs.Upstream.{first}
 use Rattle.gate_model.specs.Waiting.{ChannelsEndWhenSettled, NoneThere, OfAll, SettledOn, ended_by}
 use Rattle.gate_model.proofs.Known.{container_is, known}
-use Rattle.gate_model.proofs.Rows.{Has, HasFirst, HasNone, first_each, first_none, first_some, has, same_first}
-use Rattle.gate_model.proofs.Said.{Beats, InAnswers, InConfirms, InCloses, InOks, IsDue, IsOfChannel, OnChannel, Picked, calm_now, first_due, picked}
+use Rattle.gate_model.proofs.Rows.{Has, HasFirst, HasNone, first_each, first_none, first_some, has}
+use Rattle.gate_model.proofs.Rows.{same_first}
+use Rattle.gate_model.proofs.Said.{Beats, InAnswers, InConfirms, InCloses, InOks, IsDue}
+use Rattle.gate_model.proofs.Said.{IsOfChannel, OnChannel, Picked, calm_now, first_due, picked}
 use Rattle.gate_model.proofs.Times.{Either, OnLeft, OnRight, and_right, either}
 use Rattle.gate_model.proofs.Waits.{settled_in}
 
@@ -106,7 +111,7 @@ channels_end_when_settled [] p = tt
 channels_end_when_settled (Gave (ToClient u) text ∷ h) p =
     (λ n e. settled_on h n p.1 (ends_picked h u p.1 (picked (before h) u p.0.1) n e), channels_end_when_settled h p.1)
 channels_end_when_settled (Gave (ToUp u) text ∷ h) p = channels_end_when_settled h p.1
-channels_end_when_settled (Began vhost n ms ∷ h) p = channels_end_when_settled h p.1
+channels_end_when_settled (Began site n ms ∷ h) p = channels_end_when_settled h p.1
 channels_end_when_settled (Moment ms ∷ h) p = channels_end_when_settled h p.1
 channels_end_when_settled (Fed end ∷ h) p = channels_end_when_settled h p.1
 channels_end_when_settled (Silent end ∷ h) p = channels_end_when_settled h p.1

@@ -1,6 +1,8 @@
 -- What holds of the first of each row holds of the unit that goes: one of a channel's answers and confirms, or one of its session's
 -- links, is the next of its kind.
-use Rattle.std.proofs.Common.{◌≡◌, ℕ, zero, suc, ◌+◌, not, ◌&&◌, ◌||◌, Bool, true, false, if◌then◌else◌, List, [], ◌∷◌, ◌++◌, Option, None, Some, arith, refl, subst, map}
+use Rattle.std.proofs.Common.{◌≡◌, ℕ, zero, suc, ◌+◌, not, ◌&&◌, ◌||◌, Bool, true, false}
+use Rattle.std.proofs.Common.{if◌then◌else◌, List, [], ◌∷◌, ◌++◌, Option, None, Some, arith, refl}
+use Rattle.std.proofs.Common.{subst, map}
 use Rattle.std.specs.Prelude.{IfSome}
 use Rattle.gate_outside.specs.declared.ports.End.TheVariants.{Client, Up}
 use Rattle.gate_relay.specs.Sides.{is_readable}
@@ -8,7 +10,8 @@ use Rattle.machine_091.specs.State.{is_closing}
 use Rattle.machine_091.specs.declared.unit.Refusal.{Refusal}
 use Rattle.publish_path.specs.declared.publish.Confirm.{Confirm}
 use Rattle.publish_path.specs.declared.publish.NextFrame.{NextFrame}
-use Rattle.session_path.specs.Due.{next_attach, next_confirm, next_detach, next_flow, next_frame, next_ok, next_settle}
+use Rattle.session_path.specs.Due.{next_attach, next_confirm, next_detach, next_flow, next_frame}
+use Rattle.session_path.specs.Due.{next_ok, next_settle}
 use Rattle.session_path.specs.Links.{handle_of}
 use Rattle.session_path.specs.declared.path.AttachDue.{AttachDue}
 use Rattle.session_path.specs.declared.path.FlowDue.{FlowDue}
@@ -26,7 +29,14 @@ use Rattle.gate_model.specs.declared.outgoing.UpUnit.TheVariants as up
 use Rattle.gate_model.specs.declared.reply.Pending.{Pending}
 use Rattle.gate_model.specs.declared.reply.Reply.{Reply}
 use Rattle.gate_model.specs.declared.reply.Reply.TheVariants as reply
-use Rattle.gate_model.specs.Due.{attaches, begins, carried_rows, channel_closes, channel_oks, client_rows, client_units, close_behind, close_oks, close_oks_on, closes, confirm_on, confirms, detaches, ends, frame_max_in, if_so, is_beat_due, is_end_due, last_closes, link_flows, may_answer, may_confirm, may_end, may_go, may_tell, none_left, ok_on, open_oks, openings, path_oks, pick, refused_on, row_on, rows_in, session_flows, session_rows, settlings, transfers, unless_out, up_rows, when}
+use Rattle.gate_model.specs.Due.{attaches, begins, carried_rows, channel_closes, channel_oks}
+use Rattle.gate_model.specs.Due.{client_rows, client_units, close_behind, close_oks, close_oks_on}
+use Rattle.gate_model.specs.Due.{closes, confirm_on, confirms, detaches, ends, frame_max_in, if_so}
+use Rattle.gate_model.specs.Due.{is_beat_due, is_end_due, last_closes, link_flows, may_answer}
+use Rattle.gate_model.specs.Due.{may_confirm, may_end, may_go, may_tell, none_left, ok_on, open_oks}
+use Rattle.gate_model.specs.Due.{openings, path_oks, pick, refused_on, row_on, rows_in}
+use Rattle.gate_model.specs.Due.{session_flows, session_rows, settlings, transfers, unless_out}
+use Rattle.gate_model.specs.Due.{up_rows, when}
 use Rattle.gate_model.specs.Lives.{each, is_carried, life_at, session_in}
 use Rattle.gate_model.specs.Paths.{attach_out, flow_out, path_at, transfer_of}
 use Rattle.gate_model.specs.State.{State, is_channel_settled, is_settled}

@@ -1,5 +1,7 @@
 -- Each channel.flow is answered at most once (AMQP 0-9-1 1.5.2.3): what is due of its answers is what the path of its channel owes.
-use Rattle.std.proofs.Common.{◌≡◌, ℕ, zero, suc, ◌+◌, ◌==◌, ◌≤◌, Bool, true, false, ◌&&◌, if◌then◌else◌, List, [], ◌∷◌, ◌++◌, Option, None, Some, arith, refl, sym, ap, ◌∙◌, subst}
+use Rattle.std.proofs.Common.{◌≡◌, ℕ, zero, suc, ◌+◌, ◌==◌, ◌≤◌, Bool, true, false, ◌&&◌}
+use Rattle.std.proofs.Common.{if◌then◌else◌, List, [], ◌∷◌, ◌++◌, Option, None, Some, arith, refl}
+use Rattle.std.proofs.Common.{sym, ap, ◌∙◌, subst}
 use Rattle.std.specs.Prelude.{drop, map, slice_set}
 use Rattle.std.specs.Option.{option_map}
 use Rattle.std.proofs.lemmas.Bool.Decides.{nat_tests}
@@ -20,16 +22,16 @@ use Rattle.methods_091.specs.declared.method.Method91.{Method91}
 use Rattle.methods_091.specs.declared.method.Method91.TheVariants as method
 use Rattle.performatives_10.specs.declared.condition.Condition.{Condition}
 use Rattle.session_path.specs.Path as session
-use Rattle.session_path.specs.Path.{PathState, ok_sent, owed, published, selected}
+use Rattle.session_path.specs.Path.{PathState, ok_sent, owed, published, selected, lines_told}
 use Rattle.session_path.specs.Due.{first_of, next_ok}
 use Rattle.close_translate.specs.declared.codes.TheConstants.{CONNECTION_FORCED}
 use Rattle.gate_relay.specs.declared.sides.Side.{Side}
 use Rattle.gate_relay.specs.declared.sides.Side.TheVariants as side
-use Rattle.gate_model.specs.Requests.{message_of}
+use Rattle.gate_model.specs.Requests.{message_of, address_of}
 use Rattle.property_map.specs.Spelling.{image_text}
 use Rattle.gate_model.specs.Picks.{ArePicks}
 use Rattle.gate_model.proofs.Firsts.{OfChannel, goes_as}
-use Rattle.gate_model.proofs.Known.{conn_is, known, memory_is}
+use Rattle.gate_model.proofs.Known.{conn_is, known, memory_is, routes_are}
 use Rattle.gate_model.proofs.Slots.{map_slot, none_there, set_elsewhere}
 use Rattle.gate_model.specs.Upstream.{heard_up, lost_by, meaning_by}
 use Rattle.gate_model.proofs.Sessions.{session_cases}
@@ -44,10 +46,18 @@ use Rattle.gate_model.specs.declared.outgoing.UpUnit.{UpUnit}
 use Rattle.gate_model.specs.declared.outgoing.UpUnit.TheVariants as up
 use Rattle.gate_model.specs.declared.reply.Reply.{Reply}
 use Rattle.gate_model.specs.declared.reply.Reply.TheVariants as reply
-use Rattle.gate_model.specs.Folds.{ran_out_in}
-use Rattle.gate_model.specs.Once.{is_channel_flow, is_flow_ok, is_flow_ok_on, is_method_on, one_if, wanted_in, went_in}
-use Rattle.gate_model.specs.Paths.{attach_by, lost_path, name_in, no_paths, or_no_path, path_at, slot_at, text_of, is_there, with_path}
-use Rattle.gate_model.specs.State.{Began, Came, Fed, Gave, Heard, Joined, Lost, Moment, OutOfMemory, Queued, Silent, State, Step, TakenUp, Whole, answered_if, before, came, carried, left, lost_up, runs, windowed, dequeued, fail, failed, heard, path_by, path_given, path_heard, path_told, paths_by, paths_given, paths_given_up, paths_with, with_meaning, want_in}
+use Rattle.gate_model.specs.Folds.{ran_out_in, connection}
+use Rattle.gate_model.specs.Once.{is_channel_flow, is_flow_ok, is_flow_ok_on, is_method_on, one_if}
+use Rattle.gate_model.specs.Once.{wanted_in, went_in}
+use Rattle.gate_model.specs.Paths.{attach_by, lost_path, name_in, no_paths, or_no_path, path_at}
+use Rattle.gate_model.specs.Paths.{slot_at, text_of, is_there, with_path, told_paths}
+use Rattle.gate_model.specs.State.{Began, Came, Fed, Gave, Heard, Joined, Lost, Moment, OutOfMemory}
+use Rattle.gate_model.specs.State.{Queued, Silent, State, Step, TakenUp, Whole, answered_if, before}
+use Rattle.gate_model.specs.State.{came, carried, left, lost_up, runs, windowed, dequeued, fail}
+use Rattle.gate_model.specs.State.{failed, heard, path_by, path_given, path_heard, path_told}
+use Rattle.gate_model.specs.State.{paths_by, paths_given, paths_given_up, paths_with, with_meaning}
+use Rattle.gate_model.specs.State.{want_in, paths_lost}
+use Rattle.gate_model.specs.declared.setup.Route.{Route}
 
 -- ---- the flow-oks that a path owes
 
@@ -112,16 +122,29 @@ with_less : (n k : ℕ) (ps : List (Option PathState)) (f : PathState → PathSt
 with_less n k ps f same =
     keeps_all (k == n) _ _ (with_more n k ps f 0 (λ s. let here : flows_in (f s).oks ≡ flows_in s.oks = ap flows_in (same s) in omega (arith, here)))
 
--- all are lost
-lost_same : (o : Option PathState) → owed_in (option_map lost_path o) ≡ owed_in o
-lost_same None = refl
-lost_same (Some s) = refl
-
-lost_less : (n : ℕ) (ps : List (Option PathState)) → flows_due n (map (option_map lost_path) ps) ≤ flows_due n ps
-lost_less n ps = let same : flows_due n (map (option_map lost_path) ps) ≡ flows_due n ps = ap owed_in (map_slot ps n lost_path) ∙ lost_same (slot_at ps n) in omega (arith, same)
-
 less_both : (a b c : ℕ) → a ≤ b → b ≤ c → a ≤ c
 less_both a b c e f = omega (arith, e, f)
+
+-- all change
+each_less : (n : ℕ) (ps : List (Option PathState)) (f : PathState → PathState) → ((s : PathState) → (f s).oks ≡ s.oks)
+    → flows_due n (map (option_map f) ps) ≤ flows_due n ps
+each_less n ps f same =
+    let all : flows_due n (map (option_map f) ps) ≡ flows_due n ps = ap owed_in (map_slot ps n f) ∙ by (slot_at ps n) in omega (arith, all)
+  where
+    by : (o : Option PathState) → owed_in (option_map f o) ≡ owed_in o
+    by None = refl
+    by (Some s) = ap flows_in (same s)
+
+-- all are lost
+lost_less : (n : ℕ) (ps : List (Option PathState)) → flows_due n (map (option_map lost_path) ps) ≤ flows_due n ps
+lost_less n ps = each_less n ps lost_path (λ s. refl)
+
+-- the lines of all were reported
+reported_less : (n : ℕ) (ps : List (Option PathState)) → flows_due n (told_paths ps) ≤ flows_due n ps
+reported_less n ps = each_less n ps lines_told (λ s. refl)
+
+all_lost_less : (n : ℕ) (ps : List (Option PathState)) → flows_due n (paths_lost ps) ≤ flows_due n ps
+all_lost_less n ps = less_both _ _ _ (lost_less n (told_paths ps)) (reported_less n ps)
 
 fail_less : (n code : ℕ) (why : Option Condition) (w : State) → flows_due n (fail code why w).paths ≤ flows_due n w.paths
 fail_less n code why w = by (is_closing w.conn)
@@ -184,7 +207,7 @@ heard_less n w u = by w.out_of_memory
 
 lost_up_less : (n : ℕ) (x : Side) (w : State) → flows_due n (lost_up x w).paths ≤ flows_due n w.paths
 lost_up_less n x w =
-    less_both _ _ _ (fail_less n CONNECTION_FORCED None (record w { up = lost_by x w.up; paths = map (option_map lost_path) w.paths })) (lost_less n w.paths)
+    less_both _ _ _ (fail_less n CONNECTION_FORCED None (record w { up = lost_by x w.up; paths = paths_lost w.paths })) (all_lost_less n w.paths)
 
 -- ---- what goes to the container
 
@@ -205,7 +228,7 @@ up_less n up.Empty ps = omega arith
 up_less n (up.OnSession k u) ps = with_less n k ps (path_given u) (given_keeps u)
 up_less n (up.Flow k i o) ps = omega arith
 up_less n (up.Begin k) ps = omega arith
-up_less n (up.End k why) ps = with_less n k ps lost_path (λ s. refl)
+up_less n (up.End k why) ps = less_both _ _ _ (with_less n k (told_paths ps) lost_path (λ s. refl)) (reported_less n ps)
 
 -- ---- a request
 
@@ -229,25 +252,25 @@ method_more n k life (method.ConfirmSelect no_wait) ps =
     with_more n k ps (λ s. answered_if no_wait ok.Select (selected s)) 0 (λ s. ok_more ok.Select no_wait (selected s) refl)
 method_more n k life m ps = with_more n k ps (path_by m) 0 (λ s. omega arith)
 
-wanted_more : (n life : ℕ) (x : Want91) (ps : List (Option PathState)) → flows_due n (paths_by life x ps) ≤ flows_due n ps + one_if (is_method_on is_channel_flow n x)
-wanted_more n life want.Nothing ps = omega arith
-wanted_more n life want.Start ps = omega arith
-wanted_more n life (want.Login m r) ps = omega arith
-wanted_more n life want.Tuned ps = omega arith
-wanted_more n life want.OpenUp ps = omega arith
-wanted_more n life (want.Method k m) ps = one_or (k == n) (is_channel_flow m) _ _ (method_more n k (life + 1) m ps)
-wanted_more n life (want.Publish k m c) ps =
-    let less = with_less n k ps (published (message_of m c).key (image_text (message_of m c))) (λ s. refl) in omega (arith, less)
-wanted_more n life (want.ChannelCloseOk k) ps = omega arith
-wanted_more n life want.Close ps = omega arith
-wanted_more n life want.CloseOk ps = omega arith
-wanted_more n life (want.Refuse r) ps = omega arith
+wanted_more : (rs : List Route) (n life : ℕ) (x : Want91) (ps : List (Option PathState)) → flows_due n (paths_by rs life x ps) ≤ flows_due n ps + one_if (is_method_on is_channel_flow n x)
+wanted_more rs n life want.Nothing ps = omega arith
+wanted_more rs n life want.Start ps = omega arith
+wanted_more rs n life (want.Login m r) ps = omega arith
+wanted_more rs n life want.Tuned ps = omega arith
+wanted_more rs n life want.OpenUp ps = omega arith
+wanted_more rs n life (want.Method k m) ps = one_or (k == n) (is_channel_flow m) _ _ (method_more n k (life + 1) m ps)
+wanted_more rs n life (want.Publish k m c) ps =
+    let less = with_less n k ps (published (address_of rs (message_of m c)) (image_text (message_of m c))) (λ s. refl) in omega (arith, less)
+wanted_more rs n life (want.ChannelCloseOk k) ps = omega arith
+wanted_more rs n life want.Close ps = omega arith
+wanted_more rs n life want.CloseOk ps = omega arith
+wanted_more rs n life (want.Refuse r) ps = omega arith
 
 came_more : (n : ℕ) (w : State) (u : Unit91) (b : Bool) (total went : ℕ) → went + flows_due n w.paths ≤ total
-    → went + flows_due n (if b then w else came (dequeued w) u).paths ≤ (if b then total else total + one_if (is_method_on is_channel_flow n (want_in w.conn u)))
+    → went + flows_due n (if b then w else came (dequeued w) u).paths ≤ (if b then total else total + one_if (is_method_on is_channel_flow n (want_in w.routes w.conn u)))
 came_more n w u true total went e = e
 came_more n w u false total went e =
-    let more = wanted_more n w.opened (want_in w.conn u) w.paths in
+    let more = wanted_more w.routes n w.opened (want_in w.routes w.conn u) w.paths in
     omega (arith, e, more)
 
 -- ---- an answer
@@ -334,33 +357,36 @@ flows_asked n h = wanted_in (is_method_on is_channel_flow n) h
 came_counts : (n : ℕ) (u : Unit91) (h : List Step) → ArePicks h → flows_went n h + flows_due n (before h).paths ≤ flows_asked n h
     → flows_went n h + flows_due n (before (Came u ∷ h)).paths ≤ flows_asked n (Came u ∷ h)
 came_counts n u h p e =
-    subst (λ (d : Connection). flows_went n h + flows_due n (before (Came u ∷ h)).paths
-    ≤ (if ran_out_in h then flows_asked n h else flows_asked n h + one_if (is_method_on is_channel_flow n (want_in d u))))
+    subst (λ (rs : List Route). flows_went n h + flows_due n (before (Came u ∷ h)).paths
+    ≤ (if ran_out_in h then flows_asked n h else flows_asked n h + one_if (is_method_on is_channel_flow n (want_in rs (connection h) u))))
+    (routes_are (known h p))
+    (subst (λ (d : Connection). flows_went n h + flows_due n (before (Came u ∷ h)).paths
+    ≤ (if ran_out_in h then flows_asked n h else flows_asked n h + one_if (is_method_on is_channel_flow n (want_in (before h).routes d u))))
     (conn_is (known h p))
     (subst (λ (b : Bool). flows_went n h + flows_due n (before (Came u ∷ h)).paths
-    ≤ (if b then flows_asked n h else flows_asked n h + one_if (is_method_on is_channel_flow n (want_in (before h).conn u))))
-    (memory_is (known h p)) (came_more n (before h) u (before h).out_of_memory (flows_asked n h) (flows_went n h) e))
+    ≤ (if b then flows_asked n h else flows_asked n h + one_if (is_method_on is_channel_flow n (want_in (before h).routes (before h).conn u))))
+    (memory_is (known h p)) (came_more n (before h) u (before h).out_of_memory (flows_asked n h) (flows_went n h) e)))
 
 counts : (n : ℕ) (h : List Step) → ArePicks h → flows_went n h + flows_due n (before h).paths ≤ flows_asked n h
 counts n [] p = none_due n
-counts n (Began vhost i ms ∷ h) p = counts n h p.1
-counts n (Moment ms ∷ h) p = counts n h p.1
+counts n (Began site i ms ∷ h) p = counts n h p.1
+counts n (Moment ms ∷ h) p = keeps _ _ _ _ (reported_less n (before h).paths) (counts n h p.1)
 counts n (Fed Client ∷ h) p = counts n h p.1
-counts n (Fed Up ∷ h) p = counts n h p.1
+counts n (Fed Up ∷ h) p = keeps _ _ _ _ (reported_less n (before h).paths) (counts n h p.1)
 counts n (Silent Client ∷ h) p = counts n h p.1
 counts n (Silent Up ∷ h) p = keeps _ _ _ _ (fail_less n _ _ _) (counts n h p.1)
 counts n (Queued u ∷ h) p = keeps _ _ _ _ (queued_less n (before h) _) (counts n h p.1)
 counts n (Came u ∷ h) p = came_counts n u h p.1 (counts n h p.1)
 counts n (TakenUp ∷ h) p = keeps _ _ _ _ (left_less n (before h) _) (counts n h p.1)
 counts n (Heard u ∷ h) p = keeps _ _ _ _ (heard_less n (before h) u) (counts n h p.1)
-counts n (Joined link.Ok ∷ h) p = counts n h p.1
-counts n (Joined link.Failed ∷ h) p = keeps _ _ _ _ (fail_less n _ None _) (counts n h p.1)
+counts n (Joined link.Ok ∷ h) p = keeps _ _ _ _ (reported_less n (before h).paths) (counts n h p.1)
+counts n (Joined link.Failed ∷ h) p = keeps _ _ _ _ (less_both _ _ _ (fail_less n _ None _) (reported_less n (before h).paths)) (counts n h p.1)
 counts n (Lost Client loss.Ended ∷ h) p = counts n h p.1
 counts n (Lost Client loss.Failed ∷ h) p = counts n h p.1
 counts n (Lost Client loss.Shut ∷ h) p = counts n h p.1
 counts n (Lost Up loss.Ended ∷ h) p = keeps _ _ _ _ (lost_up_less n side.Ended (before h)) (counts n h p.1)
 counts n (Lost Up loss.Failed ∷ h) p = keeps _ _ _ _ (lost_up_less n side.Failed (before h)) (counts n h p.1)
-counts n (Lost Up loss.Shut ∷ h) p = counts n h p.1
+counts n (Lost Up loss.Shut ∷ h) p = keeps _ _ _ _ (all_lost_less n (before h).paths) (counts n h p.1)
 counts n (Gave (ToClient u) text ∷ h) p =
     let less = given_less n u (before h).paths (goes_as (IsFirstOn (before h).paths) (before h) u (record { answer = λ k x e. e; confirm = λ k c e. tt }) p.0.1) in
     let old = counts n h p.1 in

@@ -1,5 +1,6 @@
 -- What goes to a client fits it: each unit is short, and no frame-max that is agreed to is less than 4,096.
-use Rattle.std.proofs.Common.{Bool, List, Option, Some, [], arith, false, if◌then◌else◌, subst, sym, true, ℕ, ◌∷◌, ◌≤◌, None}
+use Rattle.std.proofs.Common.{Bool, List, Option, Some, [], arith, false, if◌then◌else◌, subst, sym}
+use Rattle.std.proofs.Common.{true, ℕ, ◌∷◌, ◌≤◌, None}
 use Rattle.gate_outside.specs.declared.ports.End.TheVariants.{Client, Up}
 use Rattle.machine_091.specs.Limits.{AreWithin}
 use Rattle.machine_091.specs.declared.limits.TheConstants.{FRAME_MIN_SIZE}
@@ -7,10 +8,11 @@ use Rattle.machine_091.specs.declared.state.Connection.{Connection}
 use Rattle.machine_091.specs.declared.unit.Unit91.{Unit91}
 use Rattle.machine_091.specs.declared.unit.Want91.{Want91}
 use Rattle.machine_091.specs.declared.unit.Want91.TheVariants as want
-use Rattle.gate_model.specs.Folds.{Peers, accepted_in, connection, peers, peers_by, peers_came, peers_heard, ran_out_in}
-use Rattle.gate_model.specs.Upstream.{meaning_by}
+use Rattle.gate_model.specs.Folds.{Peers, accepted_in, connection, peers, peers_by, peers_came}
+use Rattle.gate_model.specs.Folds.{peers_heard, ran_out_in, routes_in}
+use Rattle.gate_model.specs.Upstream.{meaning_by, channel_max_in}
 use Rattle.gate_model.specs.declared.outgoing.Outgoing.TheVariants.{ToClient, ToUp}
-use Rattle.machine_091.specs.Calls.{after_opened}
+use Rattle.machine_091.specs.Calls.{after_opened, after_closing}
 use Rattle.machine_091.specs.State.{is_opening, new_connection}
 use Rattle.machine_10.specs.Transitions as ten
 use Rattle.machine_10.specs.Transitions.{Meaning}
@@ -18,18 +20,19 @@ use Rattle.gate_outside.specs.declared.ports.Linked.TheVariants as link
 use Rattle.gate_relay.specs.declared.loss.Loss.TheVariants as loss
 use Rattle.gate_model.specs.Frames.{FitsClients, limit_after, limit_in}
 use Rattle.close_translate.specs.declared.conditions.Scope.{Scope}
-use Rattle.machine_091.specs.Calls.{after_closing}
 use Rattle.machine_091.specs.Transitions.{unit_step}
 use Rattle.machine_091.specs.Transitions as machine
 use Rattle.machine_091.specs.declared.unit.Refusal.{Refusal}
 use Rattle.gate_model.specs.Requests.{client_step, refusal_of_want, refused_by}
-use Rattle.gate_model.specs.State.{Began, Came, Gave, Heard, Joined, Lost, Moment, OutOfMemory, Queued, Step, TakenUp, Whole, close_if, conn_step, is_limit_reached, Fed, Silent}
+use Rattle.gate_model.specs.State.{Began, Came, Gave, Heard, Joined, Lost, Moment, OutOfMemory}
+use Rattle.gate_model.specs.State.{Queued, Step, TakenUp, Whole, close_if, conn_step}
+use Rattle.gate_model.specs.State.{is_limit_reached, Fed, Silent}
 use Rattle.close_translate.specs.declared.conditions.Scope.TheVariants as scope
-use Rattle.gate_model.specs.Upstream.{channel_max_in}
 use Rattle.gate_model.proofs.Connections.{limits_only, only_given}
 use Rattle.gate_model.proofs.Outcomes.{OnlyChannels, only_closing}
 use Rattle.gate_model.proofs.Sessions.{conn_cases}
 use Rattle.gate_model.proofs.Spelled.{spelled_small}
+use Rattle.gate_model.specs.declared.setup.Route.{Route}
 
 -- no unit of the client takes the limits out of their range
 abbrev pub LimitsStay : Type 0
@@ -47,8 +50,8 @@ within_refused (Some r) x m = by r.scope
     by scope.Connection = m
     by scope.Channel = within_only (only_closing r.channel x.0) m
 
-within_step : LimitsStay → (c : Connection) (u : Unit91) → AreWithin c.limits → AreWithin (conn_step c u).limits
-within_step l c u m = within_refused (refusal_of_want (unit_step c u).1) (unit_step c u) (l c u m)
+within_step : LimitsStay → (rs : List Route) (c : Connection) (u : Unit91) → AreWithin c.limits → AreWithin (conn_step rs c u).limits
+within_step l rs c u m = within_refused (refusal_of_want rs (unit_step c u).1) (unit_step c u) (l c u m)
 
 within_if : (b : Bool) (p q : Peers) → AreWithin p.client.limits → AreWithin q.client.limits → AreWithin (if b then p else q).client.limits
 within_if true p q m n = m
@@ -78,13 +81,14 @@ within_new vhost = record { frame_min = omega arith; frame_max = omega arith; ch
 
 pub within : LimitsStay → (h : List Step) → AreWithin (connection h).limits
 within l [] = within_new []
-within l (Began vhost n ms ∷ h) = within_new vhost
+within l (Began site n ms ∷ h) = within_new site.vhost
 within l (Moment ms ∷ h) = within_close (is_limit_reached (connection h) (accepted_in h) ms) (connection h) (within l h)
-within l (Fed end ∷ h) = within l h
+within l (Fed Client ∷ h) = within l h
+within l (Fed Up ∷ h) = within l h
 within l (Silent Client ∷ h) = within l h
 within l (Silent Up ∷ h) = within l h
 within l (Queued u ∷ h) = within l h
-within l (Came u ∷ h) = within_if (ran_out_in h) (peers h) (peers_came (peers h) u) (within l h) (within_step l (connection h) u (within l h))
+within l (Came u ∷ h) = within_if (ran_out_in h) (peers h) (peers_came (peers h) u) (within l h) (within_step l (routes_in h) (connection h) u (within l h))
 within l (TakenUp ∷ h) = within_if _ _ (peers h) (within l h) (within l h)
 within l (Heard u ∷ h) =
     within_if (ran_out_in h) (peers h) (peers_heard (peers h) u) (within l h) (within_meaning (meaning_by (peers h).container u) _ (within l h))
@@ -112,7 +116,7 @@ limit_least : LimitsStay → (h : List Step) → FRAME_MIN_SIZE ≤ limit_in h
 limit_least l [] = omega arith
 limit_least l (Came u ∷ h) =
     number_if (ran_out_in h) (limit_in h) _ (limit_least l h)
-    (after_least (limit_in h) (client_step (connection h) u).0 (client_step (connection h) u).1 (limit_least l h) (within_step l (connection h) u (within l h)))
+    (after_least (limit_in h) (client_step (routes_in h) (connection h) u).0 (client_step (routes_in h) (connection h) u).1 (limit_least l h) (within_step l (routes_in h) (connection h) u (within l h)))
 limit_least l (s ∷ h) = limit_least l h
 
 pub fits_clients : LimitsStay → (h : List Step) → FitsClients h

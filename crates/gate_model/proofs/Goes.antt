@@ -1,5 +1,8 @@
 -- What goes to a container, and when its end is shut, is what the folds say.
-use Rattle.std.proofs.Common.{suc, zero, Bool, List, None, Option, Some, [], ap, arith, false, if◌then◌else◌, inl, inr, length, nat_le, not, refl, subst, suc, sym, true, ℕ, ◌&&◌, ◌++◌, ◌+◌, ◌-◌, ◌/◌, ◌<◌, ◌==◌, ◌||◌, ◌∙◌, ◌∷◌, ◌≡◌, ◌≤◌}
+use Rattle.std.proofs.Common.{suc, zero, Bool, List, None, Option, Some, [], ap, arith, false}
+use Rattle.std.proofs.Common.{if◌then◌else◌, inl, inr, length, nat_le, not, refl, subst, suc, sym}
+use Rattle.std.proofs.Common.{true, ℕ, ◌&&◌, ◌++◌, ◌+◌, ◌-◌, ◌/◌, ◌<◌, ◌==◌, ◌||◌, ◌∙◌, ◌∷◌, ◌≡◌}
+use Rattle.std.proofs.Common.{◌≤◌}
 use Rattle.std.specs.List.{list_any}
 use Rattle.std.proofs.lemmas.Bool.Decides.{nat_tests}
 use Rattle.std.proofs.lemmas.List.Elements.{filter-append}
@@ -16,25 +19,39 @@ use Rattle.gate_model.specs.declared.outgoing.Outgoing.TheVariants.{ToClient, To
 use Rattle.gate_model.specs.declared.outgoing.UpUnit.{UpUnit}
 use Rattle.gate_model.specs.declared.outgoing.UpUnit.TheVariants as up
 use Rattle.gate_model.specs.declared.timers.TheConstants.{CLOSING_LIMIT}
-use Rattle.gate_model.specs.Asked.{Answers, AreCalledFor, Closed, ClosedBad, ClosedLast, Ended, Failed, Goes, GoesWhenDue, Leaves, MayEnd, MayFlow, MayGo, MayTell, Overdue, ShutUpFor, ShutsUpAtOnce, Unopened, due_up, is_opening_unit, is_up_close, openings_of, sent_up_whole}
-use Rattle.gate_model.specs.Due.{begins, ends, flows_on, has_ended, has_failed, is_end_due, is_lingered, is_overdue, is_shut_due, none_left, pick, rows_in, session_flows, session_rows, carried_rows, row_on, attaches, unless_out, link_flows, settlings}
-use Rattle.gate_model.specs.Lives.{any_life, each, is_begun, is_carried, is_ended, is_free, life_at, session_in}
+use Rattle.gate_model.specs.Asked.{Answers, AreCalledFor, Closed, ClosedBad, ClosedLast, Ended}
+use Rattle.gate_model.specs.Asked.{Failed, Goes, GoesWhenDue, Leaves, MayEnd, MayFlow, MayGo}
+use Rattle.gate_model.specs.Asked.{MayTell, Overdue, ShutUpFor, ShutsUpAtOnce, Unopened, due_up}
+use Rattle.gate_model.specs.Asked.{is_opening_unit, is_up_close, openings_of, sent_up_whole}
+use Rattle.gate_model.specs.Due.{begins, ends, flows_on, has_ended, has_failed, is_end_due}
+use Rattle.gate_model.specs.Due.{is_lingered, is_overdue, is_shut_due, none_left, pick, rows_in}
+use Rattle.gate_model.specs.Due.{session_flows, session_rows, carried_rows, row_on, attaches}
+use Rattle.gate_model.specs.Due.{unless_out, link_flows, settlings}
+use Rattle.gate_model.specs.Lives.{any_life, each, is_begun, is_carried, is_ended, is_free, life_at}
+use Rattle.gate_model.specs.Lives.{session_in}
 use Rattle.gate_model.specs.declared.life.Life.{Life}
 use Rattle.machine_091.specs.declared.state.Connection.{Connection}
-use Rattle.gate_model.specs.Folds.{carrying, closed_in, connection, container, moment_in, sent_up, sent_up_at, side_in}
+use Rattle.gate_model.specs.Folds.{carrying, closed_in, connection, container, moment_in, sent_up}
+use Rattle.gate_model.specs.Folds.{sent_up_at, side_in}
 use Rattle.gate_model.specs.Picks.{ArePicks}
-use Rattle.gate_model.specs.State.{Began, Came, Gave, Heard, Joined, Lost, Moment, OutOfMemory, Queued, State, Step, TakenUp, Whole, before, Fed, Silent}
-use Rattle.gate_model.specs.Upstream.{first, has_closed, has_gone_bad, idle_in, is_bad_stream, is_closed_stream, is_idle_by, is_idle_due, opening_rows, stream_in, when_up}
+use Rattle.gate_model.specs.State.{Began, Came, Gave, Heard, Joined, Lost, Moment, OutOfMemory}
+use Rattle.gate_model.specs.State.{Queued, State, Step, TakenUp, Whole, before, Fed, Silent}
+use Rattle.gate_model.specs.Upstream.{first, has_closed, has_gone_bad, idle_in, is_bad_stream}
+use Rattle.gate_model.specs.Upstream.{is_closed_stream, is_idle_by, is_idle_due, opening_rows}
+use Rattle.gate_model.specs.Upstream.{stream_in, when_up}
 use Rattle.gate_model.proofs.Rows.{first_at}
 use Rattle.gate_model.proofs.Carrying.{carries}
 use Rattle.gate_model.proofs.Closings.{closes_sent, closing_now, condition_is}
 use Rattle.gate_model.proofs.Connections.{clash}
-use Rattle.gate_model.proofs.Known.{Known, closed_is, conn_is, container_is, known, memory_is, moment_is, side_is}
+use Rattle.gate_model.proofs.Known.{Known, closed_is, conn_is, container_is, known, memory_is}
+use Rattle.gate_model.proofs.Known.{moment_is, side_is}
 use Rattle.gate_model.proofs.Lives.{lives_all}
 use Rattle.gate_model.proofs.Openings.{is_opening_first, no_empty, openings_due}
 use Rattle.gate_model.proofs.Rows.{first_each}
-use Rattle.gate_model.proofs.Times.{Either, OnLeft, OnRight, and_both, and_left, and_right, either, in_left, in_right}
-use Rattle.gate_model.proofs.Ups.{GoesUp, Picked, Begins, Closing, Ends, Flows, Linked, Opening, Telling, UpSays, goes_up, up_says}
+use Rattle.gate_model.proofs.Times.{Either, OnLeft, OnRight, and_both, and_left, and_right, either}
+use Rattle.gate_model.proofs.Times.{in_left, in_right}
+use Rattle.gate_model.proofs.Ups.{GoesUp, Picked, Begins, Closing, Ends, Flows, Linked, Opening}
+use Rattle.gate_model.proofs.Ups.{Telling, UpSays, goes_up, up_says}
 
 -- ---- the opening
 
@@ -298,7 +315,7 @@ pub goes_when_due : (h : List Step) → ArePicks h → GoesWhenDue h
 goes_when_due [] p = tt
 goes_when_due (Gave (ToUp u) text ∷ h) p = (goes h u p.1 p.0.1, goes_when_due h p.1)
 goes_when_due (Gave (ToClient u) text ∷ h) p = goes_when_due h p.1
-goes_when_due (Began vhost n ms ∷ h) p = goes_when_due h p.1
+goes_when_due (Began site n ms ∷ h) p = goes_when_due h p.1
 goes_when_due (Moment ms ∷ h) p = goes_when_due h p.1
 goes_when_due (Fed end ∷ h) p = goes_when_due h p.1
 goes_when_due (Silent end ∷ h) p = goes_when_due h p.1

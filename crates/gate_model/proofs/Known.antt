@@ -1,5 +1,7 @@
 -- The state knows what the folds say of both connections, of the upstream end, of the moments and of the pair's memory.
-use Rattle.std.proofs.Common.{◌+◌, ◌≡◌, ℕ, ◌-◌, ◌≤◌, nat_le, Bool, true, false, not, ◌&&◌, ◌||◌, if◌then◌else◌, List, [], ◌∷◌, ◌++◌, Option, None, Some, refl, sym, ap, ◌∙◌, subst, arith}
+use Rattle.std.proofs.Common.{◌+◌, ◌≡◌, ℕ, ◌-◌, ◌≤◌, nat_le, Bool, true, false, not, ◌&&◌, ◌||◌}
+use Rattle.std.proofs.Common.{if◌then◌else◌, List, [], ◌∷◌, ◌++◌, Option, None, Some, refl, sym, ap}
+use Rattle.std.proofs.Common.{◌∙◌, subst, arith}
 use Rattle.std.specs.Prelude.{is_some}
 use Rattle.gate_outside.specs.declared.ports.End.TheVariants.{Client, Up}
 use Rattle.gate_outside.specs.declared.ports.Linked.TheVariants as link
@@ -22,24 +24,41 @@ use Rattle.performatives_10.specs.declared.condition.Condition.{Condition}
 use Rattle.performatives_10.specs.declared.condition.Condition.TheVariants.{ResourceLimitExceeded}
 use Rattle.gate_model.specs.declared.outgoing.Outgoing.TheVariants.{ToClient, ToUp}
 use Rattle.gate_model.specs.declared.timers.TheConstants.{HANDSHAKE_LIMIT}
-use Rattle.gate_model.specs.Folds.{Peers, accepted_in, closed_in, connection, paths_failed, paths_in, peers_by, peers_failed, peers_lost, peers_session, container, container_kept, leaving_in, moment_in, number_in, peers, peers_came, peers_heard, ran_out_in, side_in, silent_in, up_fed_at}
+use Rattle.gate_model.specs.Folds.{Peers, accepted_in, closed_in, connection, paths_failed}
+use Rattle.gate_model.specs.Folds.{paths_in, peers_by, peers_failed, peers_lost, peers_session}
+use Rattle.gate_model.specs.Folds.{container, container_kept, leaving_in, moment_in, number_in}
+use Rattle.gate_model.specs.Folds.{peers, peers_came, peers_heard, ran_out_in, side_in, silent_in}
+use Rattle.gate_model.specs.Folds.{peers_told, routes_in, up_fed_at}
 use Rattle.gate_model.specs.Picks.{ArePicks}
 use Rattle.close_translate.specs.declared.conditions.Scope.TheVariants as scope
 use Rattle.machine_10.specs.Parts.{Parts}
 use Rattle.gate_model.specs.Requests.{client_step}
-use Rattle.gate_model.specs.State.{Began, Came, Fed, Gave, Heard, Joined, Lost, Moment, OutOfMemory, Queued, Silent, State, Step, TakenUp, Whole, before, came, close, close_if, closes_at, conn_given, conn_step, dequeued, fail, failed, has_left, heard, is_limit_reached, keep_login, left, lives_opened, new_state, path_heard, paths_by, paths_given, paths_given_up, ran_out, runs, told, want_in, windowed, with_meaning, with_session}
-use Rattle.gate_model.specs.Upstream.{UpState, channel_max_of, closing_with, container_given, heard_up, meaning_by}
-use Rattle.gate_model.proofs.Connections.{asked_if, clash, close_closes, close_same, closes_again, closes_some, closing_only, ended_if, implied, late_later, late_step, only_given, opened_runs, opening_early, step_closes, step_here, stream_if}
+use Rattle.gate_model.specs.State.{Began, Came, Fed, Gave, Heard, Joined, Lost, Moment, OutOfMemory}
+use Rattle.gate_model.specs.State.{Queued, Silent, State, Step, TakenUp, Whole, before, came, close}
+use Rattle.gate_model.specs.State.{close_if, closes_at, conn_given, conn_step, dequeued, fail}
+use Rattle.gate_model.specs.State.{failed, has_left, heard, is_limit_reached, keep_login, left}
+use Rattle.gate_model.specs.State.{lives_opened, new_state, path_heard, paths_by, paths_given}
+use Rattle.gate_model.specs.State.{paths_given_up, paths_lost, ran_out, runs, told, want_in}
+use Rattle.gate_model.specs.State.{windowed, with_meaning, with_session}
+use Rattle.gate_model.specs.Upstream.{UpState, channel_max_of, closing_with, container_given}
+use Rattle.gate_model.specs.Upstream.{heard_up, meaning_by}
+use Rattle.gate_model.proofs.Connections.{asked_if, clash, close_closes, close_same, closes_again}
+use Rattle.gate_model.proofs.Connections.{closes_some, closing_only, ended_if, implied, late_later}
+use Rattle.gate_model.proofs.Connections.{late_step, only_given, opened_runs, opening_early}
+use Rattle.gate_model.proofs.Connections.{step_closes, step_here, stream_if}
 use Rattle.gate_model.proofs.Outcomes.{OnlyChannels, only_closing}
 use Rattle.gate_model.proofs.Queues.{none_left, none_next}
 use Rattle.gate_model.proofs.Sessions.{peers_at, session_by, session_cases}
 use Rattle.session_path.specs.Path.{PathState}
-use Rattle.gate_model.specs.Paths.{lost_path, with_path}
+use Rattle.gate_model.specs.Paths.{lost_path, told_paths, with_path}
+use Rattle.gate_model.specs.Setup.{SiteText}
+use Rattle.gate_model.specs.declared.setup.Route.{Route}
 
 -- ---- what both know
 
 pub record Seen : Type 0 where
   pub memory : Bool
+  pub routes : List Route
   pub conn : Connection
   pub container : Option Upstream
   pub paths : List (Option PathState)
@@ -55,6 +74,7 @@ pub record Seen : Type 0 where
 abbrev pub seen : State → Seen
 seen w = record {
   memory = w.out_of_memory;
+  routes = w.routes;
   conn = w.conn;
   container = w.up.container;
   paths = w.paths;
@@ -71,6 +91,7 @@ seen w = record {
 abbrev pub seen_in : List Step → Seen
 seen_in h = record {
   memory = ran_out_in h;
+  routes = routes_in h;
   conn = connection h;
   container = container h;
   paths = paths_in h;
@@ -85,11 +106,12 @@ seen_in h = record {
 }
 
 abbrev peers_of : Seen → Peers
-peers_of x = record { client = x.conn; container = x.container; paths = x.paths; opened = x.opened }
+peers_of x = record { routes = x.routes; client = x.conn; container = x.container; paths = x.paths; opened = x.opened }
 
 -- the closing event is the first after which the client's connection is closing
 abbrev with_peers : Seen → Peers → Seen
 with_peers x p = record x {
+  routes = p.routes;
   conn = p.client;
   container = p.container;
   paths = p.paths;
@@ -121,11 +143,17 @@ Known h = KnownIn (before h) h
 pub conn_is : {h : List Step} → Known h → (before h).conn ≡ connection h
 conn_is k = ap (λ (x : Seen). x.conn) k.same
 
+pub routes_are : {h : List Step} → Known h → (before h).routes ≡ routes_in h
+routes_are k = ap (λ (x : Seen). x.routes) k.same
+
 pub container_is : {h : List Step} → Known h → (before h).up.container ≡ container h
 container_is k = ap (λ (x : Seen). x.container) k.same
 
 pub paths_are : {h : List Step} → Known h → (before h).paths ≡ paths_in h
 paths_are k = ap (λ (x : Seen). x.paths) k.same
+
+pub opened_is : {h : List Step} → Known h → (before h).opened ≡ (peers h).opened
+opened_is k = ap (λ (x : Seen). x.opened) k.same
 
 pub side_is : {h : List Step} → Known h → (before h).up.side ≡ side_in h
 side_is k = ap (λ (x : Seen). x.side) k.same
@@ -182,19 +210,19 @@ came_is w u l s = by w.out_of_memory
   where
     taken : UpState → Seen
     taken t = record (seen w) {
-      conn = conn_step w.conn u;
+      conn = conn_step w.routes w.conn u;
       container = t.container;
-      paths = paths_by w.opened (want_in w.conn u) w.paths;
-      opened = w.opened + lives_opened (want_in w.conn u);
+      paths = paths_by w.routes w.opened (want_in w.routes w.conn u) w.paths;
+      opened = w.opened + lives_opened (want_in w.routes w.conn u);
       side = t.side;
-      closed = closes_at w.closed_at (is_closing (conn_step w.conn u)) w.moment;
+      closed = closes_at w.closed_at (is_closing (conn_step w.routes w.conn u)) w.moment;
       silent = t.silent;
       up_fed = t.fed_at;
     }
 
     by : (b : Bool) → seen (if b then w else came (dequeued w) u) ≡ with_peers (seen w) (if b then peers_of (seen w) else peers_came (peers_of (seen w)) u)
     by true = kept w l s
-    by false = ap taken (closing_is (is_closing w.conn) _ _) ∙ ap taken (keep_is (client_step w.conn u).1 w.up)
+    by false = ap taken (closing_is (is_closing w.conn) _ _) ∙ ap taken (keep_is (client_step w.routes w.conn u).1 w.up)
 
 abbrev seen_taken : Seen → Bool → Seen
 seen_taken x l = with_peers x (if not x.memory && l then record (peers_of x) { client = after_ended x.conn } else peers_of x)
@@ -292,15 +320,18 @@ heard_is w u l s = by w.out_of_memory
 abbrev seen_told : Seen → ℕ → Seen
 seen_told x ms =
     let c : Connection = close_if (is_limit_reached x.conn x.accepted ms) x.conn in
-    record x { conn = c; moment = ms; closed = closes_at x.closed (is_closing c) ms }
+    record x { conn = c; paths = told_paths x.paths; moment = ms; closed = closes_at x.closed (is_closing c) ms }
 
 told_is : (w : State) (ms : ℕ) (l : Bool) → SoundIn w l → seen (told w ms) ≡ seen_told (seen w) ms
 told_is w ms l s = by (is_limit_reached w.conn w.accepted_at ms)
   where
-    by : (b : Bool) → record (seen w) { conn = close_if b w.conn; moment = ms; closed = closes_at w.closed_at b ms }
-        ≡ record (seen w) { conn = close_if b w.conn; moment = ms; closed = closes_at w.closed_at (is_closing (close_if b w.conn)) ms }
-    by true = ap (λ (x : Bool). record (seen w) { conn = close w.conn; moment = ms; closed = closes_at w.closed_at x ms }) (sym (close_closes w.conn.phase))
-    by false = ap (λ (o : Option ℕ). record (seen w) { moment = ms; closed = o })
+    reported : Seen
+    reported = record (seen w) { paths = told_paths w.paths }
+
+    by : (b : Bool) → record reported { conn = close_if b w.conn; moment = ms; closed = closes_at w.closed_at b ms }
+        ≡ record reported { conn = close_if b w.conn; moment = ms; closed = closes_at w.closed_at (is_closing (close_if b w.conn)) ms }
+    by true = ap (λ (x : Bool). record reported { conn = close w.conn; moment = ms; closed = closes_at w.closed_at x ms }) (sym (close_closes w.conn.phase))
+    by false = ap (λ (o : Option ℕ). record reported { moment = ms; closed = o })
         (closes_again w.closed_at false ms (λ x. absurd (clash false x refl)) ∙ sym (closes_again w.closed_at (is_closing w.conn) ms s.closing))
 
 abbrev seen_memory : Seen → Seen
@@ -329,8 +360,8 @@ seen_lost y x = record (with_peers x (peers_lost (peers_of x))) { side = y }
 fresh : (ms : ℕ) → nat_le HANDSHAKE_LIMIT (ms - ms) ≡ false
 fresh ms = let e : ms - ms ≡ 0 = omega arith in ap (nat_le HANDSHAKE_LIMIT) e
 
-sound_new : (vhost : List ℕ) (n ms : ℕ) → SoundIn (new_state vhost n ms) false
-sound_new vhost n ms = record {
+sound_new : (site : SiteText) (n ms : ℕ) → SoundIn (new_state site n ms) false
+sound_new site n ms = record {
   leaves = λ x. absurd (clash false x refl);
   left_is = λ x y z. absurd (clash false y refl);
   ended = λ x. absurd (clash false x refl);
@@ -394,10 +425,10 @@ sound_came w u l none s = by w.out_of_memory refl
     by false m = record {
       leaves = s.leaves;
       left_is = λ x y z. absurd (none (s.left_is x y z));
-      ended = λ x. absurd (none (step_here w.conn u x));
-      late_is = s.late_is ∙ sym (late_step w.conn u w.accepted_at w.moment (λ x. s.late_closes (s.late_is ∙ x)));
-      late_closes = λ x. step_closes w.conn u (s.late_closes x);
-      closing = λ x. closes_some w.closed_at (is_closing (conn_step w.conn u)) w.moment x;
+      ended = λ x. absurd (none (step_here w.routes w.conn u x));
+      late_is = s.late_is ∙ sym (late_step w.routes w.conn u w.accepted_at w.moment (λ x. s.late_closes (s.late_is ∙ x)));
+      late_closes = λ x. step_closes w.routes w.conn u (s.late_closes x);
+      closing = λ x. closes_some w.closed_at (is_closing (conn_step w.routes w.conn u)) w.moment x;
       shuts = λ x. absurd (clash _ x m);
     }
 
@@ -517,9 +548,9 @@ known_queued h u k = by (before h).out_of_memory
     by false = record { same = still k; sound = k.sound }
 
 pub known : (h : List Step) → ArePicks h → Known h
-known [] p = record { same = refl; sound = sound_new [] 0 0 }
-known (Began vhost n ms ∷ h) p =
-    subst (λ (x : List Step). Known (Began vhost n ms ∷ x)) (sym p.0) (record { same = refl; sound = sound_new vhost n ms })
+known [] p = record { same = refl; sound = sound_new (record { vhost = []; routes = [] }) 0 0 }
+known (Began site n ms ∷ h) p =
+    subst (λ (x : List Step). Known (Began site n ms ∷ x)) (sym p.0) (record { same = refl; sound = sound_new site n ms })
 known (Moment ms ∷ h) p =
     let k : Known h = known h p.1 in
     record {
@@ -529,7 +560,7 @@ known (Moment ms ∷ h) p =
 known (Fed Client ∷ h) p = let k : Known h = known h p.1 in record { same = still k; sound = k.sound }
 known (Fed Up ∷ h) p =
     let k : Known h = known h p.1 in
-    record { same = ap (λ (x : Seen). record x { up_fed = x.moment }) (still k); sound = k.sound }
+    record { same = ap (λ (x : Seen). record x { paths = told_paths x.paths; up_fed = x.moment }) (still k); sound = k.sound }
 known (Silent Client ∷ h) p =
     let k : Known h = known h p.1 in
     record {
@@ -558,12 +589,12 @@ known (Heard u ∷ h) p =
     record { same = heard_is (before h) u _ k.sound ∙ ap (λ (x : Seen). seen_heard x u) k.same; sound = sound_heard (before h) u _ k.sound }
 known (Joined link.Ok ∷ h) p =
     let k : Known h = known h p.1 in
-    record { same = ap (λ (x : Seen). record x { side = side.Open; up_fed = x.moment }) (still k); sound = k.sound }
+    record { same = ap (λ (x : Seen). record x { paths = told_paths x.paths; side = side.Open; up_fed = x.moment }) (still k); sound = k.sound }
 known (Joined link.Failed ∷ h) p =
     let k : Known h = known h p.1 in
     record {
       same = fail_is _ None _ (leaving_in h) k.sound
-          ∙ ap (λ (x : Seen). record (with_peers x (peers_failed (peers_of x))) { side = side.Gone }) k.same;
+          ∙ ap (λ (x : Seen). record (with_peers x (peers_failed (peers_told (peers_of x)))) { side = side.Gone }) k.same;
       sound = sound_fail _ None _ _ k.sound;
     }
 known (Lost Client loss.Ended ∷ h) p =
@@ -587,7 +618,7 @@ known (Lost Up loss.Failed ∷ h) p =
     }
 known (Lost Up loss.Shut ∷ h) p =
     let k : Known h = known h p.1 in
-    record { same = ap (λ (x : Seen). record x { side = side.Gone }) (still k); sound = k.sound }
+    record { same = ap (λ (x : Seen). record x { paths = paths_lost x.paths; side = side.Gone }) (still k); sound = k.sound }
 known (Gave (ToClient u) text ∷ h) p =
     let k : Known h = known h p.1 in
     record {

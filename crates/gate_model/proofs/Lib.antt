@@ -15,6 +15,7 @@ pub mod Orders
 pub mod Outcomes
 pub mod Publishing
 pub mod Queues
+pub mod Reports
 pub mod Rows
 pub mod Said
 pub mod Sessions

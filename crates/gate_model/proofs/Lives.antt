@@ -1,5 +1,6 @@
 -- There are 256 lives.
-use Rattle.std.proofs.Common.{◌≡◌, ℕ, zero, suc, Bool, true, false, if◌then◌else◌, List, [], ◌∷◌, Option, Some, refl, ap, ◌∙◌, length}
+use Rattle.std.proofs.Common.{◌≡◌, ℕ, zero, suc, Bool, true, false, if◌then◌else◌, List, [], ◌∷◌}
+use Rattle.std.proofs.Common.{Option, Some, refl, ap, ◌∙◌, length}
 use Rattle.gate_outside.specs.declared.ports.End.TheVariants.{Client, Up}
 use Rattle.gate_outside.specs.declared.ports.Linked.TheVariants as link
 use Rattle.gate_relay.specs.declared.loss.Loss.TheVariants as loss
@@ -18,10 +19,14 @@ use Rattle.gate_model.specs.declared.outgoing.UpUnit.{UpUnit}
 use Rattle.gate_model.specs.declared.outgoing.UpUnit.TheVariants as up
 use Rattle.gate_model.specs.declared.reply.Reply.{Reply}
 use Rattle.gate_model.specs.declared.reply.Reply.TheVariants as reply
-use Rattle.gate_model.specs.Lives.{failed_life, lives_by, no_lives, with_life, life_at, is_of_channel}
+use Rattle.gate_model.specs.Lives.{failed_life, lives_by, no_lives, with_life, life_at}
+use Rattle.gate_model.specs.Lives.{is_of_channel}
 use Rattle.gate_model.specs.Picks.{ArePicks}
 use Rattle.gate_model.specs.Requests.{client_step}
-use Rattle.gate_model.specs.State.{Began, Came, Fed, Gave, Heard, Joined, Lost, Moment, OutOfMemory, Queued, Silent, State, Step, TakenUp, Whole, before, came, carried, dequeued, fail, failed, heard, left, runs, windowed, with_meaning, without_begin, without_life}
+use Rattle.gate_model.specs.State.{Began, Came, Fed, Gave, Heard, Joined, Lost, Moment, OutOfMemory}
+use Rattle.gate_model.specs.State.{Queued, Silent, State, Step, TakenUp, Whole, before, came}
+use Rattle.gate_model.specs.State.{carried, dequeued, fail, failed, heard, left, runs, windowed}
+use Rattle.gate_model.specs.State.{with_meaning, without_begin, without_life}
 use Rattle.gate_model.specs.Upstream.{heard_up, meaning_by}
 use Rattle.gate_model.proofs.Sessions.{session_cases}
 
@@ -119,7 +124,7 @@ came_all w u e = by w.out_of_memory
   where
     by : (b : Bool) → All (if b then w else came (dequeued w) u).lives
     by true = e
-    by false = want_all w.moment (client_step w.conn u).1 w.lives e
+    by false = want_all w.moment (client_step w.routes w.conn u).1 w.lives e
 
 heard_all : (w : State) (u : Unit10) → All w.lives → All (if w.out_of_memory then w else heard w u).lives
 heard_all w u e = by w.out_of_memory
@@ -141,7 +146,7 @@ left_all w false e = e
 
 pub lives_all : (h : List Step) → ArePicks h → length (before h).lives ≡ 256
 lives_all [] p = new_all
-lives_all (Began vhost n ms ∷ h) p = lives_all h p.1
+lives_all (Began site n ms ∷ h) p = lives_all h p.1
 lives_all (Moment ms ∷ h) p = lives_all h p.1
 lives_all (Fed Client ∷ h) p = lives_all h p.1
 lives_all (Fed Up ∷ h) p = lives_all h p.1

@@ -1,5 +1,7 @@
 -- What is due on a channel and what went there answers what was asked there.
-use Rattle.std.proofs.Common.{◌≡◌, ◌≢◌, ◌⊎◌, ℕ, zero, suc, ◌+◌, ◌==◌, ◌≤◌, Bool, true, false, ◌&&◌, ◌||◌, if◌then◌else◌, List, [], ◌∷◌, ◌++◌, Option, None, Some, replicate, arith, inl, inr, refl, sym, ap, ◌∙◌, subst}
+use Rattle.std.proofs.Common.{◌≡◌, ◌≢◌, ◌⊎◌, ℕ, zero, suc, ◌+◌, ◌==◌, ◌≤◌, Bool, true, false, ◌&&◌}
+use Rattle.std.proofs.Common.{◌||◌, if◌then◌else◌, List, [], ◌∷◌, ◌++◌, Option, None, Some}
+use Rattle.std.proofs.Common.{replicate, arith, inl, inr, refl, sym, ap, ◌∙◌, subst}
 use Rattle.std.specs.Prelude.{slice_get}
 use Rattle.std.proofs.lemmas.Bool.Decides.{nat_tests}
 use Rattle.gate_outside.specs.declared.ports.End.TheVariants.{Client, Up}
@@ -33,20 +35,31 @@ use Rattle.session_path.specs.declared.path.PathOk.{PathOk}
 use Rattle.gate_model.proofs.Flows.{flows_once}
 use Rattle.gate_model.specs.declared.reply.Reply.{Reply}
 use Rattle.gate_model.specs.declared.reply.Reply.TheVariants as reply
-use Rattle.gate_model.specs.Due.{close_oks_on, confirm_on, confirms_on, ok_on, oks_on, open_oks, path_oks, refused_on, when}
-use Rattle.gate_model.specs.Folds.{is_answer, ran_out_in}
-use Rattle.gate_model.specs.Lives.{refusal_on, begun_life, failed_life, freed_life, life_at, lives_by, method_life, no_life, no_lives, or_none, with_life, is_of_channel}
-use Rattle.gate_model.specs.Once.{AnswersOnce, is_channel_close, is_channel_open, is_close_ok_on, is_method_on, is_open_ok_on, one_if, wanted_in, went_in}
+use Rattle.gate_model.specs.Due.{close_oks_on, confirm_on, confirms_on, ok_on, oks_on, open_oks}
+use Rattle.gate_model.specs.Due.{path_oks, refused_on, when}
+use Rattle.gate_model.specs.Folds.{is_answer, ran_out_in, connection}
+use Rattle.gate_model.specs.Lives.{refusal_on, begun_life, failed_life, freed_life, life_at}
+use Rattle.gate_model.specs.Lives.{lives_by, method_life, no_life, no_lives, or_none, with_life}
+use Rattle.gate_model.specs.Lives.{is_of_channel}
+use Rattle.gate_model.specs.Once.{AnswersOnce, is_channel_close, is_channel_open, is_close_ok_on}
+use Rattle.gate_model.specs.Once.{is_method_on, is_open_ok_on, one_if, wanted_in, went_in}
 use Rattle.gate_model.specs.Picks.{ArePicks}
 use Rattle.gate_model.specs.Requests.{client_step}
 use Rattle.gate_model.specs.State as sent
-use Rattle.gate_model.specs.State.{Began, Came, Gave, Heard, Joined, Lost, Moment, OutOfMemory, Queued, State, Step, TakenUp, Whole, before, came, carried, dequeued, fail, failed, heard, is_channel_settled, is_settled, left, life_failed, lost_up, runs, windowed, with_meaning, without_begin, without_life, Fed, Silent}
+use Rattle.gate_model.specs.State.{Began, Came, Gave, Heard, Joined, Lost, Moment, OutOfMemory}
+use Rattle.gate_model.specs.State.{Queued, State, Step, TakenUp, Whole, before, came, carried}
+use Rattle.gate_model.specs.State.{dequeued, fail, failed, heard, is_channel_settled, is_settled}
+use Rattle.gate_model.specs.State.{left, life_failed, runs, windowed, with_meaning}
+use Rattle.gate_model.specs.State.{without_begin, without_life, Fed, Silent}
 use Rattle.gate_model.specs.Upstream.{first, heard_up, meaning_by}
-use Rattle.gate_model.proofs.Known.{conn_is, known, memory_is}
-use Rattle.gate_model.proofs.Rows.{Has, HasFirst, HasNone, first_at, first_none, first_some, has, same_first}
-use Rattle.gate_model.proofs.Said.{Beats, InAnswers, InConfirms, InCloses, InOks, IsDue, IsOfChannel, OnChannel, Picked, calm_now, first_due, picked}
+use Rattle.gate_model.proofs.Known.{conn_is, known, memory_is, routes_are}
+use Rattle.gate_model.proofs.Rows.{Has, HasFirst, HasNone, first_at, first_none, first_some, has}
+use Rattle.gate_model.proofs.Rows.{same_first}
+use Rattle.gate_model.proofs.Said.{Beats, InAnswers, InConfirms, InCloses, InOks, IsDue}
+use Rattle.gate_model.proofs.Said.{IsOfChannel, OnChannel, Picked, calm_now, first_due, picked}
 use Rattle.gate_model.proofs.Sessions.{session_cases}
 use Rattle.gate_model.proofs.Times.{and_left}
+use Rattle.gate_model.specs.declared.setup.Route.{Route}
 
 -- ---- lives by their numbers
 
@@ -315,10 +328,10 @@ wanted_less {n} {v} {asks} c ms (want.Refuse r) ls = by (is_of_channel r)
 
 came_less : {n : ℕ} {v : Life → ℕ} {asks : Want91 → Bool} {answers : Reply → Bool} → Counts n v asks answers → (w : State) (u : Unit91) (b : Bool) (total : ℕ)
     → (went : ℕ) → went + Value v n w ≤ total
-    → went + Value v n (if b then w else came (dequeued w) u) ≤ (if b then total else total + one_if (asks (client_step w.conn u).1))
+    → went + Value v n (if b then w else came (dequeued w) u) ≤ (if b then total else total + one_if (asks (client_step w.routes w.conn u).1))
 came_less c w u true total went e = e
 came_less {n} {v} {asks} c w u false total went e =
-    let less : v (life_at (lives_by w.moment (client_step w.conn u).1 w.lives) n) ≤ v (life_at w.lives n) + one_if (asks (client_step w.conn u).1) = wanted_less c w.moment (client_step w.conn u).1 w.lives in
+    let less : v (life_at (lives_by w.moment (client_step w.routes w.conn u).1 w.lives) n) ≤ v (life_at w.lives n) + one_if (asks (client_step w.routes w.conn u).1) = wanted_less c w.moment (client_step w.routes w.conn u).1 w.lives in
     omega (arith, e, less)
 
 -- ---- an answer
@@ -393,15 +406,17 @@ left_less v n w false = omega arith
 came_counts : {n : ℕ} {v : Life → ℕ} {asks : Want91 → Bool} {answers : Reply → Bool} → Counts n v asks answers → (u : Unit91) (h : List Step) → ArePicks h
     → went_in answers h + Value v n (before h) ≤ wanted_in asks h → went_in answers h + Value v n (before (Came u ∷ h)) ≤ wanted_in asks (Came u ∷ h)
 came_counts {n} {v} {asks} {answers} c u h p e =
-    subst (λ (d : Connection). went_in answers h + Value v n (before (Came u ∷ h)) ≤ (if ran_out_in h then wanted_in asks h else wanted_in asks h + one_if (asks (client_step d u).1)))
+    subst (λ (rs : List Route). went_in answers h + Value v n (before (Came u ∷ h)) ≤ (if ran_out_in h then wanted_in asks h else wanted_in asks h + one_if (asks (client_step rs (connection h) u).1)))
+    (routes_are (known h p))
+    (subst (λ (d : Connection). went_in answers h + Value v n (before (Came u ∷ h)) ≤ (if ran_out_in h then wanted_in asks h else wanted_in asks h + one_if (asks (client_step (before h).routes d u).1)))
     (conn_is (known h p))
-    (subst (λ (b : Bool). went_in answers h + Value v n (before (Came u ∷ h)) ≤ (if b then wanted_in asks h else wanted_in asks h + one_if (asks (client_step (before h).conn u).1)))
-    (memory_is (known h p)) (came_less c (before h) u (before h).out_of_memory (wanted_in asks h) (went_in answers h) e))
+    (subst (λ (b : Bool). went_in answers h + Value v n (before (Came u ∷ h)) ≤ (if b then wanted_in asks h else wanted_in asks h + one_if (asks (client_step (before h).routes (before h).conn u).1)))
+    (memory_is (known h p)) (came_less c (before h) u (before h).out_of_memory (wanted_in asks h) (went_in answers h) e)))
 
 counts : {n : ℕ} {v : Life → ℕ} {asks : Want91 → Bool} {answers : Reply → Bool} → Counts n v asks answers → (h : List Step) → ArePicks h
     → went_in answers h + Value v n (before h) ≤ wanted_in asks h
 counts {n} {v} c [] p = let none : v (life_at no_lives n) ≡ 0 = ap v (new_at n) ∙ c.none in omega (arith, none)
-counts {n} {v} c (Began vhost i ms ∷ h) p = counts c h p.1
+counts {n} {v} c (Began site i ms ∷ h) p = counts c h p.1
 counts c (Moment ms ∷ h) p = counts c h p.1
 counts c (Fed Client ∷ h) p = counts c h p.1
 counts c (Fed Up ∷ h) p = counts c h p.1

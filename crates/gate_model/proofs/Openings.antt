@@ -1,5 +1,7 @@
 -- The units of the opening to a container: what calls for them, and how they go.
-use Rattle.std.proofs.Common.{◌≡◌, Bool, true, false, not, ◌&&◌, ◌||◌, if◌then◌else◌, List, [], ◌∷◌, ◌++◌, Option, None, Some, append_assoc, append-nil, refl, sym, ap, ◌∙◌, subst}
+use Rattle.std.proofs.Common.{◌≡◌, Bool, true, false, not, ◌&&◌, ◌||◌, if◌then◌else◌, List, [], ◌∷◌}
+use Rattle.std.proofs.Common.{◌++◌, Option, None, Some, append_assoc, append-nil, refl, sym, ap}
+use Rattle.std.proofs.Common.{◌∙◌, subst}
 use Rattle.std.specs.Prelude.{filter}
 use Rattle.std.proofs.lemmas.List.Elements.{filter-append}
 use Rattle.frames_10.specs.declared.frame.Kind10.{Kind10}
@@ -16,7 +18,8 @@ use Rattle.gate_model.specs.declared.outgoing.UpPending.{UpPending}
 use Rattle.gate_model.specs.declared.outgoing.UpUnit.{UpUnit}
 use Rattle.gate_model.specs.declared.outgoing.UpUnit.TheVariants as up
 use Rattle.gate_model.specs.Asked.{called_by, called_from, is_opening_unit, openings_of}
-use Rattle.gate_model.specs.Upstream.{container_by, first, is_open_phase, opening_rows, opens, when_up, without_up}
+use Rattle.gate_model.specs.Upstream.{container_by, first, is_open_phase, opening_rows, opens}
+use Rattle.gate_model.specs.Upstream.{when_up, without_up}
 use Rattle.gate_model.proofs.Connections.{clash}
 
 -- ---- phases

@@ -1,5 +1,8 @@
 -- The units of each channel are taken up in their order.
-use Rattle.std.proofs.Common.{◌≡◌, ℕ, ◌+◌, ◌==◌, Bool, true, false, not, ◌&&◌, ◌||◌, if◌then◌else◌, List, [], ◌∷◌, ◌++◌, length, length-append, take, take_at, Option, None, Some, append_assoc, append-nil, arith, refl, sym, ap, ◌∙◌, subst}
+use Rattle.std.proofs.Common.{◌≡◌, ℕ, ◌+◌, ◌==◌, Bool, true, false, not, ◌&&◌, ◌||◌, if◌then◌else◌}
+use Rattle.std.proofs.Common.{List, [], ◌∷◌, ◌++◌, length, length-append, take, take_at, Option}
+use Rattle.std.proofs.Common.{None, Some, append_assoc, append-nil, arith, refl, sym, ap, ◌∙◌}
+use Rattle.std.proofs.Common.{subst}
 use Rattle.std.proofs.lemmas.List.Elements.{filter-append}
 use Rattle.std.proofs.lemmas.Bool.Decides.{nat_tests}
 use Rattle.std.specs.Prelude.{slice_get}
@@ -12,11 +15,15 @@ use Rattle.gate_model.specs.declared.outgoing.Outgoing.TheVariants.{ToClient, To
 use Rattle.gate_model.specs.Folds.{ran_out_in}
 use Rattle.gate_model.specs.Order.{TakesInOrder, came_in, is_of, on_channel, taken_in}
 use Rattle.gate_model.specs.Picks.{ArePicks}
-use Rattle.gate_model.specs.Queue.{Waits, can_take, channel_of, holds, is_empty, place_from, removed, unit_at, waits_for_all, without_at}
-use Rattle.gate_model.specs.State.{State, Step, Began, Moment, Queued, Came, TakenUp, Heard, Joined, Lost, Gave, Whole, OutOfMemory, before, came, dequeued, left, next_unit, place, waits, Fed, Silent}
+use Rattle.gate_model.specs.Queue.{Waits, can_take, channel_of, holds, is_empty, place_from}
+use Rattle.gate_model.specs.Queue.{removed, unit_at, waits_for_all, without_at, place_in}
+use Rattle.gate_model.specs.State.{State, Step, Began, Moment, Queued, Came, TakenUp, Heard, Joined}
+use Rattle.gate_model.specs.State.{Lost, Gave, Whole, OutOfMemory, before, came, dequeued, left}
+use Rattle.gate_model.specs.State.{next_unit, place, waits, Fed, Silent}
 use Rattle.gate_model.proofs.Known.{known, memory_is}
 use Rattle.gate_model.proofs.Queues.{empty_is, rests_fail, rests_heard}
 use Rattle.gate_model.proofs.Times.{and_left, and_right}
+use Rattle.gate_model.specs.Paths.{is_laden}
 
 -- ---- the unit that is taken up
 
@@ -116,11 +123,15 @@ took : (n : ℕ) (w : State) (taken : List Unit91) (u : Unit91) → next_unit w 
     → on_channel n taken ++ on_channel n w.queue ≡ on_channel n (taken ++ u ∷ []) ++ on_channel n (dequeued w).queue
 took n w taken u e = by (place w) refl e
   where
+    placed : {i : ℕ} (b : Bool) → (if b then None else place_in (waits w) w.queue) ≡ Some i → place_in (waits w) w.queue ≡ Some i
+    placed true g = absurd cc
+    placed false g = g
+
     by : (o : Option ℕ) → place w ≡ o → unit_at o w.queue ≡ Some u
         → on_channel n taken ++ on_channel n w.queue ≡ on_channel n (taken ++ u ∷ []) ++ on_channel n (without_at o w.queue)
     by None f e = absurd cc
     by (Some i) f e =
-        let s : Stands (waits w) w.queue i u = stands_from (waits w) [] w.queue i u f e in
+        let s : Stands (waits w) w.queue i u = stands_from (waits w) [] w.queue i u (placed (is_laden w.paths) f) e in
         let without : removed i w.queue ≡ s.front ++ s.behind = ap (λ (k : ℕ). removed k w.queue) (sym s.at) ∙ ap (removed (length s.front)) s.parts ∙ gone s.front u s.behind in
         ap (λ (x : List Unit91). on_channel n taken ++ on_channel n x) s.parts ∙ moved n (waits w) taken s.front s.behind u s.may
         ∙ ap (λ (x : List Unit91). on_channel n (taken ++ u ∷ []) ++ on_channel n x) (sym without)
@@ -158,7 +169,7 @@ taken_queue false w = refl
 
 pub takes_in_order : (h : List Step) → ArePicks h → TakesInOrder h
 takes_in_order [] p n e = refl
-takes_in_order (Began vhost k ms ∷ h) p n e = same_queue n h _ _ refl (takes_in_order h p.1 n e)
+takes_in_order (Began site k ms ∷ h) p n e = same_queue n h _ _ refl (takes_in_order h p.1 n e)
 takes_in_order (Moment ms ∷ h) p n e = takes_in_order h p.1 n e
 takes_in_order (Fed Client ∷ h) p n e = takes_in_order h p.1 n e
 takes_in_order (Fed Up ∷ h) p n e = takes_in_order h p.1 n e

@@ -1,15 +1,17 @@
 -- What a unit may do to a client's connection.
-use Rattle.std.proofs.Common.{◌≡◌, ℕ, zero, suc, ◌∙◌, replicate, ◌∷◌, ◌==◌, Bool, true, false, ◌&&◌, ◌||◌, List, Option, None, Some, ap, refl}
+use Rattle.std.proofs.Common.{◌≡◌, ℕ, zero, suc, ◌∙◌, replicate, ◌∷◌, ◌==◌, Bool, true, false, ◌&&◌}
+use Rattle.std.proofs.Common.{◌||◌, List, Option, None, Some, ap, refl}
 use Rattle.std.specs.Prelude.{slice_set, if◌then◌else◌}
-use Rattle.close_translate.specs.declared.codes.TheConstants.{NOT_ALLOWED}
+use Rattle.close_translate.specs.declared.codes.TheConstants.{NOT_ALLOWED, NOT_IMPLEMENTED}
 use Rattle.close_translate.specs.declared.conditions.Scope.TheVariants as scope
 use Rattle.machine_091.specs.Calls.{after_closing, closing_channel}
 use Rattle.frames_091.specs.declared.frame.Kind91.{Kind91}
 use Rattle.frames_091.specs.declared.frame.Kind91.TheVariants as frame
 use Rattle.machine_091.specs.Contents.{no_contents}
-use Rattle.machine_091.specs.Refusals.{channel_of, refusal_by, refusal_of}
-use Rattle.machine_091.specs.State.{channel_at, is_closing, is_open_phase, is_running, with_channel, with_content}
-use Rattle.machine_091.specs.Transitions.{asked_by, stream_after, unit_step, with_stream}
+use Rattle.machine_091.specs.Refusals.{channel_of, refusal_by, refusal_of, refusal_with}
+use Rattle.machine_091.specs.State.{channel_at, is_closing, is_open_phase, is_running, with_channel}
+use Rattle.machine_091.specs.State.{with_content}
+use Rattle.machine_091.specs.Transitions.{asked_by, stream_after, with_stream}
 use Rattle.machine_091.specs.Transitions as machine
 use Rattle.machine_091.specs.declared.contents.Incoming.{Incoming}
 use Rattle.machine_091.specs.declared.limits.Limits.{Limits}
@@ -25,13 +27,13 @@ use Rattle.machine_091.specs.declared.unit.Want91.TheVariants as want
 use Rattle.machine_091.proofs.StepCases.{step_rows}
 use Rattle.methods_091.specs.declared.method.Method91.{Method91}
 use Rattle.gate_model.specs.Lives.{is_of_channel}
-use Rattle.close_translate.specs.declared.codes.TheConstants.{NOT_IMPLEMENTED}
 use Rattle.content_091.specs.declared.assembly.Content.{Content}
-use Rattle.machine_091.specs.Refusals.{refusal_with}
 use Rattle.machine_091.specs.declared.unit.Want91.{Want91}
 use Rattle.methods_091.specs.Rows.{class_of, id_of}
 use Rattle.methods_091.specs.View.{kind_of}
-use Rattle.gate_model.specs.Requests.{client_step, is_mandatory, message_of, method_fault, publish_fault, refusal_of_want, refused_by, refused_for}
+use Rattle.gate_model.specs.Requests.{client_step, is_mandatory, message_of, method_fault}
+use Rattle.gate_model.specs.Requests.{publish_fault, refusal_of_want, refused_by, refused_for}
+use Rattle.gate_model.specs.declared.setup.Route.{Route}
 use Rattle.gate_model.specs.State.{close}
 
 -- no content is in progress still, where none is set
@@ -125,8 +127,8 @@ of_unit code (unit.Frame f) = by f.kind
     by frame.Heartbeat = refl
 
 -- so is what its refusals of requests make of it
-abbrev Told : (c : Connection) (u : Unit91) → machine.Step → Type 0
-Told c u x = Outcome c u (refused_by (refusal_of_want x.1) x)
+abbrev Told : (rs : List Route) (c : Connection) (u : Unit91) → machine.Step → Type 0
+Told rs c u x = Outcome c u (refused_by (refusal_of_want rs x.1) x)
 
 -- a request of a channel, which is met or refused
 met_or_refused : (c d : Connection) (u : Unit91) (n : ℕ) (m : Method91) (x : Want91) (o : Option ℕ) → OnlyChannels c d → is_running c.phase ≡ true
@@ -147,12 +149,12 @@ met_or_refused c d u n m x (Some code) only e met = by (code == NOT_IMPLEMENTED)
     by true = Declines (refusal true) d only e refl
     by false = Drops (refusal false) (after_closing scope.Channel n d) (only_both only (only_closing n d)) e refl
 
-called : (c d : Connection) (u : Unit91) (n : ℕ) (m : Method91) → OnlyChannels c d → is_running c.phase ≡ true
-    → Outcome c u (d, want.Method n m) → Told c u (d, want.Method n m)
-called c d u n m only e calls = met_or_refused c d u n m (want.Method n m) (method_fault m) only e calls
+called : (rs : List Route) (c d : Connection) (u : Unit91) (n : ℕ) (m : Method91) → OnlyChannels c d → is_running c.phase ≡ true
+    → Outcome c u (d, want.Method n m) → Told rs c u (d, want.Method n m)
+called rs c d u n m only e calls = met_or_refused c d u n m (want.Method n m) (method_fault rs m) only e calls
 
-pub outcome : (c : Connection) (u : Unit91) → Outcome c u (client_step c u)
-outcome c u = step_rows (Told c u) c u (record {
+pub outcome : (rs : List Route) (c : Connection) (u : Unit91) → Outcome c u (client_step rs c u)
+outcome rs c u = step_rows (Told rs c u) c u (record {
   greeted = λ e. Greets e;
   foreign = λ e. Parts e;
   refused = λ code e ruled. Refuses _ (asked_by c code) (λ k. ap (λ (b : Bool). b || (is_open_phase c.phase && code == NOT_ALLOWED)) k) e (of_unit code u);
@@ -163,13 +165,13 @@ outcome c u = step_rows (Told c u) c u (record {
   tuned = λ channels size heartbeat e l. Tunes _ e;
   asked = λ e. Asks e;
   closed = λ e. Parting e;
-  opened = λ n m of. called c _ u n m (one_differs c n _) of.runs (Calls n _ m of.runs);
-  ended = λ n m of. called c _ u n m (one_differs c n _) of.runs (Calls n _ m of.runs);
-  passed_on = λ n m of. called c _ u n m (none_differ c) of.runs (Asking n m of.runs);
+  opened = λ n m of. called rs c _ u n m (one_differs c n _) of.runs (Calls n _ m of.runs);
+  ended = λ n m of. called rs c _ u n m (one_differs c n _) of.runs (Calls n _ m of.runs);
+  passed_on = λ n m of. called rs c _ u n m (none_differ c) of.runs (Asking n m of.runs);
   begun = λ f k args is. Fills _ _ is.on.runs;
   grown = λ f i a is. Fills _ _ is.on.runs;
   published = λ f i a d is at_once. met_or_refused c _ u f.channel i.method (want.Publish f.channel i.method d)
-      (publish_fault (is_mandatory i.method) (message_of i.method d)) (content_dropped c f.channel) is.on.runs
+      (publish_fault rs (is_mandatory i.method) (message_of i.method d)) (content_dropped c f.channel) is.on.runs
       (Publishes f.channel i.method d is.on.runs);
   freed = λ n of. Frees n of.runs;
   crossed = λ e. Closes e;

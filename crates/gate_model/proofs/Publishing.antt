@@ -1,5 +1,7 @@
 -- The path of a channel is what the events of its life in progress make of it.
-use Rattle.std.proofs.Common.{◌≡◌, ℕ, ◌+◌, ◌==◌, ◌<◌, ◌≤◌, Bool, true, false, not, ◌&&◌, if◌then◌else◌, List, [], ◌∷◌, ◌++◌, length, map, Option, None, Some, option_map, refl, sym, ap, ◌∙◌, subst, arith}
+use Rattle.std.proofs.Common.{◌≡◌, ℕ, ◌+◌, ◌==◌, ◌<◌, ◌≤◌, Bool, true, false, not, ◌&&◌}
+use Rattle.std.proofs.Common.{if◌then◌else◌, List, [], ◌∷◌, ◌++◌, length, map, Option, None, Some}
+use Rattle.std.proofs.Common.{option_map, refl, sym, ap, ◌∙◌, subst, arith}
 use Rattle.std.proofs.lemmas.Bool.Decides.{nat_tests}
 use Rattle.close_translate.specs.declared.conditions.Scope.{Scope}
 use Rattle.close_translate.specs.declared.conditions.Scope.TheVariants as scope
@@ -22,7 +24,7 @@ use Rattle.methods_091.specs.declared.method.Method91.TheVariants as method
 use Rattle.property_map.specs.Spelling.{image_text}
 use Rattle.session_path.specs.Events as event
 use Rattle.session_path.specs.Events.{PathEvent, after_event, after_events}
-use Rattle.session_path.specs.Path.{PathState, opened, published, selected}
+use Rattle.session_path.specs.Path.{PathState, opened, published, selected, lines_told}
 use Rattle.session_path.specs.declared.path.PathOk.{PathOk}
 use Rattle.session_path.specs.declared.path.PathOk.TheVariants as ok
 use Rattle.gate_model.specs.declared.channel.ChannelUnit.{ChannelUnit}
@@ -34,17 +36,28 @@ use Rattle.gate_model.specs.declared.outgoing.UpUnit.{UpUnit}
 use Rattle.gate_model.specs.declared.outgoing.UpUnit.TheVariants as up
 use Rattle.gate_model.specs.declared.reply.Reply.{Reply}
 use Rattle.gate_model.specs.declared.reply.Reply.TheVariants as reply
-use Rattle.gate_model.specs.Folds.{Peers, connection, container, ended_on, leaving_in, paths_failed, paths_in, peers, peers_by, peers_came, peers_failed, peers_heard, peers_lost, peers_scoped, ran_out_in}
+use Rattle.gate_model.specs.Folds.{Peers, connection, container, ended_on, leaving_in, paths_failed}
+use Rattle.gate_model.specs.Folds.{paths_in, peers, peers_by, peers_came, peers_failed, peers_heard}
+use Rattle.gate_model.specs.Folds.{peers_lost, peers_scoped, ran_out_in, routes_in, peers_told}
 use Rattle.gate_model.specs.Once.{is_channel_open, is_method_on}
-use Rattle.gate_model.specs.Paths.{attach_by, is_outcome, is_there, lost_path, name_in, no_paths, path_at, set_path, slot_at, text_of, with_path}
+use Rattle.gate_model.specs.Paths.{attach_by, is_outcome, is_there, lost_path, name_in, no_paths}
+use Rattle.gate_model.specs.Paths.{path_at, set_path, slot_at, text_of, with_path, told_paths}
 use Rattle.gate_model.specs.Picks.{ArePicks}
-use Rattle.gate_model.specs.Publishing.{attach_events, ending, failing, given_event, heard_events, lost_if, meaning_events, method_events, owed_unless, path_events, path_life, reply_events, session_events, step_events, told_event, up_events, want_events}
-use Rattle.gate_model.specs.Requests.{message_of}
+use Rattle.gate_model.specs.Publishing.{attach_events, ending, failing, given_event, heard_events}
+use Rattle.gate_model.specs.Publishing.{lost_if, meaning_events, method_events, owed_unless, losing}
+use Rattle.gate_model.specs.Publishing.{path_events, path_life, reply_events, session_events}
+use Rattle.gate_model.specs.Publishing.{step_events, told_event, up_events, want_events}
+use Rattle.gate_model.specs.Requests.{message_of, address_of}
 use Rattle.gate_model.specs.Session.{is_of_session}
-use Rattle.gate_model.specs.State.{Began, Came, Fed, Gave, Heard, Joined, Lost, Moment, OutOfMemory, Queued, Silent, Step, TakenUp, Whole, answered_if, before, link_scope, path_given, path_heard, path_told, paths_by, paths_given, paths_given_up, paths_with, want_in}
+use Rattle.gate_model.specs.State.{Began, Came, Fed, Gave, Heard, Joined, Lost, Moment, OutOfMemory}
+use Rattle.gate_model.specs.State.{Queued, Silent, Step, TakenUp, Whole, answered_if, before}
+use Rattle.gate_model.specs.State.{link_scope, path_given, path_heard, path_told, paths_by}
+use Rattle.gate_model.specs.State.{paths_given, paths_given_up, paths_with, want_in, paths_lost}
 use Rattle.gate_model.specs.Upstream.{container_by, meaning_by}
 use Rattle.gate_model.proofs.Known.{known, paths_are}
-use Rattle.gate_model.proofs.Slots.{map_long, map_slot, none_long, none_there, set_elsewhere, set_here, set_long, with_here}
+use Rattle.gate_model.proofs.Slots.{map_long, map_slot, none_long, none_there, set_elsewhere}
+use Rattle.gate_model.proofs.Slots.{set_here, set_long, with_here}
+use Rattle.gate_model.specs.declared.setup.Route.{Route}
 
 -- ---- events on top of others
 
@@ -104,6 +117,12 @@ changes n k ps f xs e = by (k == n) refl
 each_lost : (n : ℕ) (ps : List (Option PathState)) → Goes n ps (event.SessionLost ∷ []) (map (option_map lost_path) ps)
 each_lost n ps = record { slot = map_slot ps n lost_path; long = map_long ps lost_path }
 
+each_told : (n : ℕ) (ps : List (Option PathState)) → Goes n ps (event.LinesWent ∷ []) (told_paths ps)
+each_told n ps = record { slot = map_slot ps n lines_told; long = map_long ps lines_told }
+
+all_lost : (n : ℕ) (ps : List (Option PathState)) → Goes n ps losing (paths_lost ps)
+all_lost n ps = behind (each_told n ps) (each_lost n (told_paths ps))
+
 -- ---- what fails
 
 fails : (n : ℕ) (p : Peers) → Goes n p.paths (failing p.client) (peers_failed p).paths
@@ -113,8 +132,12 @@ fails n p = by (is_closing p.client)
     by true = stays n p.paths
     by false = each_lost n p.paths
 
-falls : (n : ℕ) (p : Peers) → Goes n p.paths (failing p.client ++ event.SessionLost ∷ []) (peers_lost p).paths
-falls n p = behind (each_lost n p.paths) (fails n (record p { paths = map (option_map lost_path) p.paths }))
+falls : (n : ℕ) (p : Peers) → Goes n p.paths (failing p.client ++ losing) (peers_lost p).paths
+falls n p = behind (all_lost n p.paths) (fails n (record p { paths = paths_lost p.paths }))
+
+-- there is no way to the container
+misses : (n : ℕ) (p : Peers) → Goes n p.paths (failing p.client ++ event.LinesWent ∷ []) (peers_failed (peers_told p)).paths
+misses n p = behind (each_told n p.paths) (fails n (peers_told p))
 
 -- a channel
 idles : (n k : ℕ) (ps : List (Option PathState)) → Goes n ps (if k == n then [] else []) ps
@@ -227,7 +250,13 @@ up_is n up.Empty ps = stays n ps
 up_is n (up.OnSession k u) ps = changes n k ps (path_given u) (given_event u ∷ []) (given_is u)
 up_is n (up.Flow k i o) ps = stays n ps
 up_is n (up.Begin k) ps = stays n ps
-up_is n (up.End k why) ps = changes n k ps lost_path (event.SessionLost ∷ []) (λ s. refl)
+up_is n (up.End k why) ps =
+    subst (λ (xs : List PathEvent). Goes n ps xs (with_path k lost_path (told_paths ps))) (by (k == n))
+    (behind (each_told n ps) (changes n k (told_paths ps) lost_path (event.SessionLost ∷ []) (λ s. refl)))
+  where
+    by : (b : Bool) → (if b then event.SessionLost ∷ [] else []) ++ event.LinesWent ∷ [] ≡ (if b then losing else event.LinesWent ∷ [])
+    by true = refl
+    by false = refl
 
 -- ---- the life in progress
 
@@ -291,19 +320,19 @@ method_tells n k life (method.ExchangeDeclare name kind passive durable deletes 
 method_tells n k life (method.ConfirmSelect no_wait) ps o es t = not_opened (k == n) life _ es (goes_on t (changes n k ps _ _ (selected_is no_wait)))
 method_tells n k life m ps o es t = not_opened (k == n) life _ es (goes_on t (changes n k ps (λ s. s) [] (λ s. refl)))
 
-want_tells : (n life : ℕ) (x : Want91) (ps : List (Option PathState)) (o : Option ℕ) (es : List PathEvent) → Tells ps n o es
-    → TellsBy (paths_by life x ps) n (is_method_on is_channel_open n x) (life + 1) o (want_events n x) es
-want_tells n life want.Nothing ps o es t = t
-want_tells n life want.Start ps o es t = t
-want_tells n life (want.Login mechanism response) ps o es t = t
-want_tells n life want.Tuned ps o es t = t
-want_tells n life want.OpenUp ps o es t = t
-want_tells n life (want.Method k m) ps o es t = method_tells n k (life + 1) m ps o es t
-want_tells n life (want.Publish k m c) ps o es t = goes_on t (changes n k ps (published (message_of m c).key (image_text (message_of m c))) _ (λ s. refl))
-want_tells n life (want.ChannelCloseOk k) ps o es t = t
-want_tells n life want.Close ps o es t = t
-want_tells n life want.CloseOk ps o es t = t
-want_tells n life (want.Refuse r) ps o es t = t
+want_tells : (rs : List Route) (n life : ℕ) (x : Want91) (ps : List (Option PathState)) (o : Option ℕ) (es : List PathEvent) → Tells ps n o es
+    → TellsBy (paths_by rs life x ps) n (is_method_on is_channel_open n x) (life + 1) o (want_events rs n x) es
+want_tells rs n life want.Nothing ps o es t = t
+want_tells rs n life want.Start ps o es t = t
+want_tells rs n life (want.Login mechanism response) ps o es t = t
+want_tells rs n life want.Tuned ps o es t = t
+want_tells rs n life want.OpenUp ps o es t = t
+want_tells rs n life (want.Method k m) ps o es t = method_tells n k (life + 1) m ps o es t
+want_tells rs n life (want.Publish k m c) ps o es t = goes_on t (changes n k ps (published (address_of rs (message_of m c)) (image_text (message_of m c))) _ (λ s. refl))
+want_tells rs n life (want.ChannelCloseOk k) ps o es t = t
+want_tells rs n life want.Close ps o es t = t
+want_tells rs n life want.CloseOk ps o es t = t
+want_tells rs n life (want.Refuse r) ps o es t = t
 
 -- ---- all steps
 
@@ -317,12 +346,12 @@ came_tells : (n : ℕ) (u : Unit91) (h : List Step) → TellsIn h n → TellsIn 
 came_tells n u h t = by (ran_out_in h)
   where
     x : Want91
-    x = want_in (connection h) u
+    x = want_in (routes_in h) (connection h) u
 
     by : (b : Bool) → TellsBy (if b then peers h else peers_came (peers h) u).paths n (not b && is_method_on is_channel_open n x) ((peers h).opened + 1)
-        (path_life h n) (if b then [] else want_events n x) (path_events h n)
+        (path_life h n) (if b then [] else want_events (routes_in h) n x) (path_events h n)
     by true = t
-    by false = want_tells n (peers h).opened x (paths_in h) (path_life h n) (path_events h n) t
+    by false = want_tells (routes_in h) n (peers h).opened x (paths_in h) (path_life h n) (path_events h n) t
 
 taken_tells : (n : ℕ) (h : List Step) → TellsIn h n → TellsIn (TakenUp ∷ h) n
 taken_tells n h t = by (not (ran_out_in h) && leaving_in h)
@@ -333,22 +362,23 @@ taken_tells n h t = by (not (ran_out_in h) && leaving_in h)
 
 pub tells : (n : ℕ) (h : List Step) → ArePicks h → TellsIn h n
 tells n [] p = tells_new n
-tells n (Began vhost number ms ∷ h) p =
-    subst (λ (x : List Step). TellsIn (Began vhost number ms ∷ x) n) (sym p.0) (tells_new n)
-tells n (Moment ms ∷ h) p = tells n h p.1
-tells n (Fed end ∷ h) p = tells n h p.1
+tells n (Began site number ms ∷ h) p =
+    subst (λ (x : List Step). TellsIn (Began site number ms ∷ x) n) (sym p.0) (tells_new n)
+tells n (Moment ms ∷ h) p = goes_on (tells n h p.1) (each_told n (paths_in h))
+tells n (Fed Client ∷ h) p = tells n h p.1
+tells n (Fed Up ∷ h) p = goes_on (tells n h p.1) (each_told n (paths_in h))
 tells n (Silent Client ∷ h) p = tells n h p.1
 tells n (Silent Up ∷ h) p = goes_on (tells n h p.1) (fails n (peers h))
 tells n (Queued u ∷ h) p = tells n h p.1
 tells n (Came u ∷ h) p = came_tells n u h (tells n h p.1)
 tells n (TakenUp ∷ h) p = taken_tells n h (tells n h p.1)
 tells n (Heard u ∷ h) p = goes_on (tells n h p.1) (heard_goes n h u)
-tells n (Joined link.Ok ∷ h) p = tells n h p.1
-tells n (Joined link.Failed ∷ h) p = goes_on (tells n h p.1) (fails n (peers h))
+tells n (Joined link.Ok ∷ h) p = goes_on (tells n h p.1) (each_told n (paths_in h))
+tells n (Joined link.Failed ∷ h) p = goes_on (tells n h p.1) (misses n (peers h))
 tells n (Lost Client how ∷ h) p = tells n h p.1
 tells n (Lost Up loss.Ended ∷ h) p = goes_on (tells n h p.1) (falls n (peers h))
 tells n (Lost Up loss.Failed ∷ h) p = goes_on (tells n h p.1) (falls n (peers h))
-tells n (Lost Up loss.Shut ∷ h) p = tells n h p.1
+tells n (Lost Up loss.Shut ∷ h) p = goes_on (tells n h p.1) (all_lost n (paths_in h))
 tells n (Gave (ToClient u) text ∷ h) p = goes_on (tells n h p.1) (reply_is n u (paths_in h))
 tells n (Gave (ToUp u) text ∷ h) p = goes_on (tells n h p.1) (up_is n u (paths_in h))
 tells n (Whole end ∷ h) p = tells n h p.1

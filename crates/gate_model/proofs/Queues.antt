@@ -1,5 +1,6 @@
 -- Nothing waits behind the client's end.
-use Rattle.std.proofs.Common.{◌≡◌, ℕ, Bool, true, false, not, ◌&&◌, if◌then◌else◌, List, [], ◌∷◌, ◌++◌, Option, None, Some, refl, sym, ap, ◌∙◌, subst}
+use Rattle.std.proofs.Common.{◌≡◌, ℕ, Bool, true, false, not, ◌&&◌, if◌then◌else◌, List, [], ◌∷◌}
+use Rattle.std.proofs.Common.{◌++◌, Option, None, Some, refl, sym, ap, ◌∙◌, subst}
 use Rattle.gate_outside.specs.declared.ports.End.TheVariants.{Client, Up}
 use Rattle.gate_outside.specs.declared.ports.Linked.TheVariants as link
 use Rattle.gate_relay.specs.declared.loss.Loss.TheVariants as loss
@@ -15,11 +16,15 @@ use Rattle.gate_model.specs.declared.outgoing.Outgoing.TheVariants.{ToClient, To
 use Rattle.gate_model.specs.Due.{can_leave}
 use Rattle.gate_model.specs.Picks.{ArePicks, MayComeAs}
 use Rattle.gate_model.specs.Queue.{is_empty, place_in, unit_at}
-use Rattle.gate_model.specs.State.{Began, Came, Fed, Gave, Heard, Joined, Lost, Moment, OutOfMemory, Queued, Silent, State, Step, TakenUp, Whole, before, came, dequeued, fail, failed, has_left, heard, left, next_unit, runs, waits, windowed, with_meaning, with_session}
+use Rattle.gate_model.specs.State.{Began, Came, Fed, Gave, Heard, Joined, Lost, Moment, OutOfMemory}
+use Rattle.gate_model.specs.State.{Queued, Silent, State, Step, TakenUp, Whole, before, came}
+use Rattle.gate_model.specs.State.{dequeued, fail, failed, has_left, heard, left, next_unit, runs}
+use Rattle.gate_model.specs.State.{waits, windowed, with_meaning, with_session}
 use Rattle.gate_model.specs.Upstream.{heard_up, meaning_by}
 use Rattle.gate_model.proofs.Connections.{none_comes, only_given, step_here, stream_if, stream_only}
 use Rattle.gate_model.proofs.Outcomes.{only_closing}
 use Rattle.gate_model.proofs.Sessions.{session_cases}
+use Rattle.gate_model.specs.Paths.{is_laden}
 
 -- ---- what no unit of the client changes
 
@@ -82,16 +87,20 @@ none_after w v r f e = r.queue ∙ f (sym (ap has_left r.stream) ∙ e)
 
 -- so no unit is taken up then
 pub none_next : (w : State) (u : Unit91) → w.queue ≡ [] → next_unit w ≡ Some u → ⊥
-none_next w u e f = let wrong : None ≡ Some u = sym (ap (λ (us : List Unit91). unit_at (place_in (waits w) us) us) e) ∙ f in absurd cc
+none_next w u e f = by (is_laden w.paths) f
+  where
+    by : (b : Bool) → unit_at (if b then None else place_in (waits w) w.queue) w.queue ≡ Some u → ⊥
+    by true g = cc
+    by false g = let wrong : None ≡ Some u = sym (ap (λ (us : List Unit91). unit_at (place_in (waits w) us) us) e) ∙ g in cc
 
 pub empty_is : (us : List Unit91) → is_empty us ≡ true → us ≡ []
 empty_is [] e = refl
 empty_is (u ∷ us) e = absurd cc
 
 leaves_empty : (w : State) → can_leave w ≡ true → w.queue ≡ []
-leaves_empty w e = by w.leaving w.out_of_memory (is_empty w.queue) (waits w).some refl e
+leaves_empty w e = by w.leaving w.out_of_memory (is_empty w.queue) (not (waits w).some && not (is_laden w.paths)) refl e
   where
-    by : (a b c d : Bool) → is_empty w.queue ≡ c → (a && (not b && (c && not d))) ≡ true → w.queue ≡ []
+    by : (a b c d : Bool) → is_empty w.queue ≡ c → (a && (not b && (c && d))) ≡ true → w.queue ≡ []
     by true false true d f e = empty_is w.queue f
     by true false false d f e = absurd cc
     by true true c d f e = absurd cc
@@ -109,7 +118,7 @@ none_came w u may f = by w.out_of_memory
   where
     by : (b : Bool) → NoneLeft (if b then w else came (dequeued w) u)
     by true = f
-    by false = λ e. absurd (none_next w u (f (step_here w.conn u e)) may)
+    by false = λ e. absurd (none_next w u (f (step_here w.routes w.conn u e)) may)
 
 none_taken : (w : State) → w.queue ≡ [] → NoneLeft (if not w.out_of_memory && w.leaving then left w else w)
 none_taken w e = by (not w.out_of_memory && w.leaving)
@@ -120,7 +129,7 @@ none_taken w e = by (not w.out_of_memory && w.leaving)
 
 pub none_left : (h : List Step) → ArePicks h → NoneLeft (before h)
 none_left [] p = λ e. refl
-none_left (Began vhost n ms ∷ h) p = subst (λ (x : List Step). NoneLeft (before (Began vhost n ms ∷ x))) (sym p.0) (λ e. refl)
+none_left (Began site n ms ∷ h) p = subst (λ (x : List Step). NoneLeft (before (Began site n ms ∷ x))) (sym p.0) (λ e. refl)
 none_left (Moment ms ∷ h) p = none_after (before h) (before (Moment ms ∷ h)) (record { stream = stream_if _ (before h).conn; queue = refl }) (none_left h p.1)
 none_left (Fed Client ∷ h) p = none_left h p.1
 none_left (Fed Up ∷ h) p = none_left h p.1

@@ -1,16 +1,18 @@
 -- What was sent to a client without heartbeats, and then what is due to it, are the replies to its units; after the pair ran
 -- out of memory they are the last units.
-use Rattle.std.proofs.Common.{◌⊎◌, inl, inr, Bool, List, None, Option, Some, [], ap, append-nil, append_assoc, false, if◌then◌else◌, not, refl, subst, sym, true, ℕ, ◌&&◌, ◌++◌, ◌||◌, ◌∙◌, ◌∷◌, ◌≡◌, ◌==◌}
+use Rattle.std.proofs.Common.{◌⊎◌, inl, inr, Bool, List, None, Option, Some, [], ap, append-nil}
+use Rattle.std.proofs.Common.{append_assoc, false, if◌then◌else◌, not, refl, subst, sym, true, ℕ}
+use Rattle.std.proofs.Common.{◌&&◌, ◌++◌, ◌||◌, ◌∙◌, ◌∷◌, ◌≡◌, ◌==◌}
 use Rattle.std.specs.Prelude.{filter, map}
 use Rattle.std.proofs.lemmas.List.Elements.{filter-append}
 use Rattle.gate_outside.specs.declared.ports.End.TheVariants.{Client, Up}
 use Rattle.gate_outside.specs.declared.ports.Linked.TheVariants as link
 use Rattle.gate_relay.specs.declared.loss.Loss.TheVariants as loss
-use Rattle.close_translate.specs.declared.codes.TheConstants.{CONNECTION_FORCED}
+use Rattle.close_translate.specs.declared.codes.TheConstants.{CONNECTION_FORCED, INTERNAL_ERROR}
 use Rattle.performatives_10.specs.declared.condition.Condition.{Condition}
-use Rattle.machine_091.specs.Calls.{after_ended, after_opened, closing_phase}
+use Rattle.machine_091.specs.Calls.{after_ended, after_opened, closing_phase, after_closing}
 use Rattle.machine_091.specs.State.{is_closing, is_closing_phase, is_open, is_opening, is_running}
-use Rattle.machine_091.specs.Transitions.{greeted, stream_after}
+use Rattle.machine_091.specs.Transitions.{stream_after}
 use Rattle.machine_091.specs.Transitions as machine
 use Rattle.machine_091.specs.declared.state.Connection.{Connection}
 use Rattle.machine_091.specs.declared.state.Phase91.{Phase91}
@@ -30,29 +32,46 @@ use Rattle.machine_10.specs.Parts as container
 use Rattle.gate_model.specs.Paths.{path_at, with_path}
 use Rattle.gate_model.specs.declared.life.Life.{Life}
 use Rattle.gate_model.specs.Lives.{is_of_channel}
-use Rattle.close_translate.specs.declared.codes.TheConstants.{INTERNAL_ERROR}
 use Rattle.close_translate.specs.declared.conditions.Scope.TheVariants as scope
-use Rattle.machine_091.specs.Calls.{after_closing}
 use Rattle.gate_model.specs.declared.reply.Pending.{Pending}
 use Rattle.gate_model.specs.declared.reply.Reply.{Reply}
 use Rattle.gate_model.specs.declared.reply.Reply.TheVariants as reply
-use Rattle.gate_model.specs.Answers.{AreAnswered, AreReplies, All, Overtaken, TakenBack, is_close, is_close_ok, last_units}
-use Rattle.gate_model.specs.Due.{channel_closes, channel_oks, client_units, close_oks, close_oks_on, closes, confirm_on, confirms, if_so, ok_on, path_oks, is_beat_due, last_closes, may_answer, may_end, may_go, may_tell, open_oks, openings, pick, refused_on, rows, when, is_awaiting, is_silent}
-use Rattle.gate_model.specs.Folds.{Peers, answers_of, closes_connection, connection, ended_on, failure_to, is_answer, leaving_in, opened_by, peers, peers_by, peers_came, peers_heard, peers_scoped, peers_session, ran_out_in, replies, replies_to, reply_by, reply_to, sent, sent_since, until_memory}
+use Rattle.gate_model.specs.Answers.{AreAnswered, AreReplies, All, Overtaken, TakenBack, is_close}
+use Rattle.gate_model.specs.Answers.{is_close_ok, last_units}
+use Rattle.gate_model.specs.Due.{channel_closes, channel_oks, client_units, close_oks, close_oks_on}
+use Rattle.gate_model.specs.Due.{closes, confirm_on, confirms, if_so, ok_on, path_oks, is_beat_due}
+use Rattle.gate_model.specs.Due.{last_closes, may_answer, may_end, may_go, may_tell, open_oks}
+use Rattle.gate_model.specs.Due.{openings, pick, refused_on, rows, when, is_awaiting, is_silent}
+use Rattle.gate_model.specs.Folds.{Peers, answers_of, closes_connection, connection, ended_on}
+use Rattle.gate_model.specs.Folds.{failure_to, is_answer, leaving_in, opened_by, peers, peers_by}
+use Rattle.gate_model.specs.Folds.{peers_came, peers_heard, peers_scoped, peers_session, ran_out_in}
+use Rattle.gate_model.specs.Folds.{replies, replies_to, reply_by, reply_to, sent, sent_since}
+use Rattle.gate_model.specs.Folds.{until_memory}
 use Rattle.gate_model.specs.Picks.{ArePicks}
 use Rattle.gate_model.specs.Requests.{client_step}
-use Rattle.gate_model.specs.State.{Began, Came, Fed, Gave, Heard, Joined, Lost, Moment, OutOfMemory, Queued, Silent, State, Step, TakenUp, Whole, before, begun_session, came, carried, close, close_if, conn_step, dequeued, fail, failed, failure, has_left, heard, is_channel_settled, is_foreign, is_limit_reached, is_settled, last_pending, left, life_failed, link_scope, none_pending, path_heard, runs, turns_foreign, with_header, with_meaning, with_session, with_want, without, fail_life, scoped, windowed, closing_error}
+use Rattle.gate_model.specs.State.{Began, Came, Fed, Gave, Heard, Joined, Lost, Moment, OutOfMemory}
+use Rattle.gate_model.specs.State.{Queued, Silent, State, Step, TakenUp, Whole, before}
+use Rattle.gate_model.specs.State.{begun_session, came, carried, close, close_if, conn_step}
+use Rattle.gate_model.specs.State.{dequeued, fail, failed, failure, has_left, heard}
+use Rattle.gate_model.specs.State.{is_channel_settled, is_foreign, is_limit_reached, is_settled}
+use Rattle.gate_model.specs.State.{last_pending, left, life_failed, link_scope, none_pending}
+use Rattle.gate_model.specs.State.{path_heard, runs, turns_foreign, with_header, with_meaning}
+use Rattle.gate_model.specs.State.{with_session, with_want, without, fail_life, scoped, windowed}
+use Rattle.gate_model.specs.State.{closing_error}
 use Rattle.gate_relay.specs.Sides.{is_readable}
-use Rattle.gate_model.specs.Upstream.{channel_max_in, condition_in, container_by, first, has_closed, heard_up, meaning_by}
+use Rattle.gate_model.specs.Upstream.{channel_max_in, condition_in, container_by, first, has_closed}
+use Rattle.gate_model.specs.Upstream.{heard_up, meaning_by}
 use Rattle.gate_model.specs.declared.outgoing.Outgoing.TheVariants.{ToClient, ToUp}
 use Rattle.machine_10.specs.Transitions as ten
 use Rattle.machine_10.specs.Transitions.{Meaning}
 use Rattle.machine_10.specs.declared.state.Upstream.{Upstream}
 use Rattle.machine_10.specs.declared.unit.Unit10.{Unit10}
-use Rattle.gate_model.proofs.Connections.{clash, close_same, only_given, opened_runs, opening_early, opening_phase, phase_only, step_here, stream_only}
+use Rattle.gate_model.proofs.Connections.{clash, close_same, only_given, opened_runs, opening_early}
+use Rattle.gate_model.proofs.Connections.{opening_phase, phase_only, step_here, stream_only}
 use Rattle.gate_model.proofs.Outcomes.{OnlyChannels, only_closing}
 use Rattle.gate_model.proofs.Queues.{none_left, none_next}
-use Rattle.gate_model.proofs.Rows.{Has, HasNone, HasFirst, first_each, first_none, first_some, has, same_first}
+use Rattle.gate_model.proofs.Rows.{Has, HasNone, HasFirst, first_each, first_none, first_some, has}
+use Rattle.gate_model.proofs.Rows.{same_first}
 use Rattle.gate_model.proofs.Sessions.{peers_like}
 use Rattle.session_path.specs.Path.{PathState}
 use Rattle.session_path.specs.declared.path.PathOk.{PathOk}
@@ -60,7 +79,11 @@ use Rattle.publish_path.specs.declared.publish.Confirm.{Confirm}
 use Rattle.gate_model.specs.declared.channel.ChannelUnit.{ChannelUnit}
 use Rattle.gate_model.specs.declared.channel.ChannelUnit.TheVariants as told_unit
 use Rattle.gate_model.proofs.Known.{Known, conn_is, container_is, known, memory_is, paths_are}
-use Rattle.gate_model.proofs.Outcomes.{Outcome, Greets, Parts, LogsIn, Tunes, Asks, Passes, Refuses, Declines, Drops, Parting, Calls, Asking, Publishes, Fills, Frees, Closes, Answers, Ignores, outcome}
+use Rattle.gate_model.proofs.Outcomes.{Outcome, Greets, Parts, LogsIn, Tunes, Asks, Passes, Refuses}
+use Rattle.gate_model.proofs.Outcomes.{Declines, Drops, Parting, Calls, Asking, Publishes, Fills}
+use Rattle.gate_model.proofs.Outcomes.{Frees, Closes, Answers, Ignores, outcome}
+use Rattle.gate_model.specs.declared.setup.Route.{Route}
+use Rattle.gate_model.proofs.Known.{routes_are}
 
 -- ---- what is due, by the phase of the connection
 
@@ -248,9 +271,9 @@ said_in : {p q : Phase91} (d : Pending) (said all : List Reply) (gone : Bool) �
 said_in {p} {q} d said all gone e s = subst (λ (x : Phase91). IsSaid x d said all gone) e s
 
 -- a unit was taken up
-said_next : (c : Connection) (u : Unit91) (d : Pending) (said all : List Reply) (gone : Bool) → IsSaid c.phase d said all gone
-    → IsSaid (conn_step c u).phase (with_header (turns_foreign c u) (with_want (client_step c u).1 d)) said (all ++ replies_to c u) gone
-said_next c u d said all gone s = by (client_step c u) (outcome c u)
+said_next : (rs : List Route) (c : Connection) (u : Unit91) (d : Pending) (said all : List Reply) (gone : Bool) → IsSaid c.phase d said all gone
+    → IsSaid (conn_step rs c u).phase (with_header (turns_foreign rs c u) (with_want (client_step rs c u).1 d)) said (all ++ replies_to rs c u) gone
+said_next rs c u d said all gone s = by (client_step rs c u) (outcome rs c u)
   where
     same_stream : {x : Connection} → OnlyChannels c x → (is_foreign x.stream && not (is_foreign c.stream)) ≡ false
     same_stream o = ap (λ (t : Stream91). is_foreign t && not (is_foreign c.stream)) (stream_only o) ∙ never c.stream
@@ -783,18 +806,20 @@ isnt_left true b f g = absurd (f refl)
 isnt_left false true f g = absurd (f (g refl))
 isnt_left false false f g = refl
 
-says_came : (w : State) (u : Unit91) (b : Bool) (c : Peers) (went since all last : List Reply) → (has_left c.client.stream ≡ true → ⊥) → w.conn ≡ c.client
+says_came : (w : State) (u : Unit91) (b : Bool) (c : Peers) (went since all last : List Reply) → (has_left c.client.stream ≡ true → ⊥) → w.routes ≡ c.routes → w.conn ≡ c.client
     → SaysIn b c.client.phase w.pending went since all (has_left c.client.stream) last
     → let d : Peers = if b then c else peers_came c u in
-    SaysIn b d.client.phase (if b then w else came (dequeued w) u).pending went since (if b then all else all ++ replies_to c.client u) (has_left d.client.stream) last
-says_came w u true c went since all last may e s = s
-says_came w u false p went since all last may e s =
+    SaysIn b d.client.phase (if b then w else came (dequeued w) u).pending went since (if b then all else all ++ replies_to c.routes c.client u) (has_left d.client.stream) last
+says_came w u true c went since all last may r e s = s
+says_came w u false p went since all last may r e s =
     let c : Connection = p.client in
-    let here : has_left c.stream ≡ has_left (conn_step c u).stream = isnt_left (has_left c.stream) (has_left (conn_step c u).stream) may (step_here c u) in
+    let rs : List Route = p.routes in
+    let here : has_left c.stream ≡ has_left (conn_step rs c u).stream = isnt_left (has_left c.stream) (has_left (conn_step rs c u).stream) may (step_here rs c u) in
     record {
-      said = λ m. subst (λ (g : Bool). IsSaid (conn_step c u).phase (came (dequeued w) u).pending (answers_of went) (all ++ replies_to c u) g) here
-          (subst (λ (x : Connection). IsSaid (conn_step c u).phase (with_header (turns_foreign x u) (with_want (client_step x u).1 w.pending)) (answers_of went) (all ++ replies_to c u) (has_left c.stream)) (sym e)
-          (said_next c u w.pending (answers_of went) all (has_left c.stream) (s.said m)));
+      said = λ m. subst (λ (g : Bool). IsSaid (conn_step rs c u).phase (came (dequeued w) u).pending (answers_of went) (all ++ replies_to rs c u) g) here
+          (subst (λ (x : Connection). IsSaid (conn_step rs c u).phase (with_header (turns_foreign w.routes x u) (with_want (client_step w.routes x u).1 w.pending)) (answers_of went) (all ++ replies_to rs c u) (has_left c.stream)) (sym e)
+          (subst (λ (x : List Route). IsSaid (conn_step rs c u).phase (with_header (turns_foreign x c u) (with_want (client_step x c u).1 w.pending)) (answers_of went) (all ++ replies_to rs c u) (has_left c.stream)) (sym r)
+          (said_next rs c u w.pending (answers_of went) all (has_left c.stream) (s.said m))));
       ending = λ m. absurd (clash false m refl);
     }
 
@@ -872,13 +897,13 @@ says_session g q w b o n went since all last shuts s = by (link_scope q (path_at
     by (Some scope.Connection) = says_fail (windowed g q w) INTERNAL_ERROR (Some (closing_error q (path_at w.paths g))) b w.conn went since all last refl shuts s
     by (Some scope.Channel) = ended (is_open w.conn g) w.paths (windowed g q w) _ _ refl refl
 
-says_meaning : (m : Meaning) (w : State) (b : Bool) (p : Peers) (went since all last : List Reply) → w.conn ≡ p.client → w.paths ≡ p.paths → (b ≡ true → is_closing p.client ≡ true)
+says_meaning : (m : Meaning) (w : State) (b : Bool) (p : Peers) (went since all last : List Reply) → w.routes ≡ p.routes → w.conn ≡ p.client → w.paths ≡ p.paths → (b ≡ true → is_closing p.client ≡ true)
     → SaysIn b p.client.phase w.pending went since all (has_left p.client.stream) last
     → SaysIn b (peers_by m p).client.phase (with_meaning m w).pending went since (all ++ reply_by p.client p.paths m) (has_left (peers_by m p).client.stream) last
-says_meaning ten.Nothing w b p went since all last e f shuts s = says_nothing b p.client w.pending went since all last s
-says_meaning ten.Init w b p went since all last e f shuts s = says_nothing b p.client w.pending went since all last s
-says_meaning ten.AmqpHeader w b p went since all last e f shuts s = says_nothing b p.client w.pending went since all last s
-says_meaning ten.Opened w b p went since all last e f shuts s =
+says_meaning ten.Nothing w b p went since all last r e f shuts s = says_nothing b p.client w.pending went since all last s
+says_meaning ten.Init w b p went since all last r e f shuts s = says_nothing b p.client w.pending went since all last s
+says_meaning ten.AmqpHeader w b p went since all last r e f shuts s = says_nothing b p.client w.pending went since all last s
+says_meaning ten.Opened w b p went since all last r e f shuts s =
     subst (λ (x : Connection). SaysIn b (opened_by p.container c).phase (if is_opening x then runs w else w).pending went since (all ++ when (is_opening c) reply.OpenOk) (has_left (opened_by p.container c).stream) last) (sym e)
     (by (is_opening c) refl)
   where
@@ -895,29 +920,30 @@ says_meaning ten.Opened w b p went since all last e f shuts s =
       ending = λ m. absurd (opening_early c k (shuts m));
     }
     by false k = says_nothing b c w.pending went since all last s
-says_meaning (ten.OfSession g q payload) w b p went since all last e f shuts s =
-    subst (λ (c : Connection). Goal c p.paths) e (subst (λ (ps : List (Option PathState)). Goal w.conn ps) f
+says_meaning (ten.OfSession g q payload) w b p went since all last r e f shuts s =
+    subst (λ (rs : List Route). Goal rs p.client p.paths) r (subst (λ (c : Connection). Goal w.routes c p.paths) e
+    (subst (λ (ps : List (Option PathState)). Goal w.routes w.conn ps) f
     (says_session g q w b p.container p.opened went since all last (λ m. ap is_closing e ∙ shuts m)
-    (subst (λ (c : Connection). SaysIn b c.phase w.pending went since all (has_left c.stream) last) (sym e) s)))
+    (subst (λ (c : Connection). SaysIn b c.phase w.pending went since all (has_left c.stream) last) (sym e) s))))
   where
-    Goal : Connection → List (Option PathState) → Type 0
-    Goal c ps = SaysIn b (peers_session g q (record p { client = c; paths = ps })).client.phase (with_session g q w).pending went since
+    Goal : List Route → Connection → List (Option PathState) → Type 0
+    Goal rs c ps = SaysIn b (peers_session g q (record p { routes = rs; client = c; paths = ps })).client.phase (with_session g q w).pending went since
         (all ++ (if closes_connection (link_scope q (path_at ps g)) then failure_to c INTERNAL_ERROR else []))
-        (has_left (peers_session g q (record p { client = c; paths = ps })).client.stream) last
-says_meaning (ten.Closed x) w b p went since all last e f shuts s = says_fail w _ None b p.client went since all last e shuts s
-says_meaning ten.Refused w b p went since all last e f shuts s = says_fail w _ None b p.client went since all last e shuts s
-says_meaning (ten.Violation x) w b p went since all last e f shuts s = says_fail w _ (Some x) b p.client went since all last e shuts s
+        (has_left (peers_session g q (record p { routes = rs; client = c; paths = ps })).client.stream) last
+says_meaning (ten.Closed x) w b p went since all last r e f shuts s = says_fail w _ None b p.client went since all last e shuts s
+says_meaning ten.Refused w b p went since all last r e f shuts s = says_fail w _ None b p.client went since all last e shuts s
+says_meaning (ten.Violation x) w b p went since all last r e f shuts s = says_fail w _ (Some x) b p.client went since all last e shuts s
 
-says_heard : (w : State) (u : Unit10) (b : Bool) (p : Peers) (went since all last : List Reply) → w.conn ≡ p.client → w.up.container ≡ p.container → w.paths ≡ p.paths
+says_heard : (w : State) (u : Unit10) (b : Bool) (p : Peers) (went since all last : List Reply) → w.routes ≡ p.routes → w.conn ≡ p.client → w.up.container ≡ p.container → w.paths ≡ p.paths
     → (b ≡ true → is_closing p.client ≡ true) → SaysIn b p.client.phase w.pending went since all (has_left p.client.stream) last
     → let q : Peers = if b then p else peers_heard p u in
     SaysIn b q.client.phase (if b then w else heard w u).pending went since (if b then all else all ++ reply_by p.client p.paths (meaning_by p.container u)) (has_left q.client.stream) last
-says_heard w u true p went since all last e f g shuts s = s
-says_heard w u false p went since all last e f g shuts s =
+says_heard w u true p went since all last r e f g shuts s = s
+says_heard w u false p went since all last r e f g shuts s =
     let m : Meaning = meaning_by p.container u in
     let x : Peers = record p { container = container_by p.container u } in
     subst (λ (o : Option Upstream). SaysIn false (peers_by m x).client.phase (with_meaning (meaning_by o u) (record w { up = heard_up u w.up })).pending went since (all ++ reply_by p.client p.paths m) (has_left (peers_by m x).client.stream) last) (sym f)
-    (says_meaning m (record w { up = heard_up u w.up }) false x went since all last e g shuts s)
+    (says_meaning m (record w { up = heard_up u w.up }) false x went since all last r e g shuts s)
 
 -- the connection is closing once the pair ran out of memory
 pub shuts_in : {h : List Step} → Known h → ran_out_in h ≡ true → is_closing (connection h) ≡ true
@@ -937,7 +963,7 @@ calm_silent w e = by (is_awaiting w Client) w.given_up w.gone w.leaving w.out_of
 
 pub says : (h : List Step) → ArePicks h → Says h
 says [] p = record { said = λ m. (refl, refl); ending = λ m. absurd (clash false m refl) }
-says (Began vhost n ms ∷ h) p = subst (λ (x : List Step). Says (Began vhost n ms ∷ x)) (sym p.0) (record { said = λ m. (refl, refl); ending = λ m. absurd (clash false m refl) })
+says (Began site n ms ∷ h) p = subst (λ (x : List Step). Says (Began site n ms ∷ x)) (sym p.0) (record { said = λ m. (refl, refl); ending = λ m. absurd (clash false m refl) })
 says (Moment ms ∷ h) p =
     let s : Says h = says h p.1 in
     record { said = λ m. said_if (is_limit_reached (connection h) _ ms) (connection h) (before h).pending (answers_of (sent h)) (replies h) (s.said m); ending = s.ending }
@@ -963,7 +989,7 @@ says (Came u ∷ h) p =
     subst (λ (x : Bool). SaysIn (ran_out_in h) (connection (Came u ∷ h)).phase (if x then before h else came (dequeued (before h)) u).pending (sent h) (sent_since h) (replies (Came u ∷ h)) (has_left (connection (Came u ∷ h)).stream) (last_of (until_memory h)))
     (sym (memory_is k))
     (says_came (before h) u (ran_out_in h) (peers h) (sent h) (sent_since h) (replies h) (last_of (until_memory h))
-    (λ x. none_next (before h) u (none_left h p.1 (ap (λ (c : Connection). has_left c.stream) (conn_is k) ∙ x)) p.0) (conn_is k) (says h p.1))
+    (λ x. none_next (before h) u (none_left h p.1 (ap (λ (c : Connection). has_left c.stream) (conn_is k) ∙ x)) p.0) (routes_are k) (conn_is k) (says h p.1))
 says (TakenUp ∷ h) p =
     let k : Known h = known h p.1 in
     subst (λ (x : Bool). SaysIn (ran_out_in h) (connection (TakenUp ∷ h)).phase (if not x && (before h).leaving then left (before h) else before h).pending (sent h) (sent_since h) (replies h) (has_left (connection (TakenUp ∷ h)).stream) (last_of (until_memory h)))
@@ -974,7 +1000,7 @@ says (Heard u ∷ h) p =
     let k : Known h = known h p.1 in
     subst (λ (x : Bool). SaysIn (ran_out_in h) (connection (Heard u ∷ h)).phase (if x then before h else heard (before h) u).pending (sent h) (sent_since h) (replies (Heard u ∷ h)) (has_left (connection (Heard u ∷ h)).stream) (last_of (until_memory h)))
     (sym (memory_is k))
-    (says_heard (before h) u (ran_out_in h) (peers h) (sent h) (sent_since h) (replies h) (last_of (until_memory h)) (conn_is k) (container_is k) (paths_are k) (shuts_in k) (says h p.1))
+    (says_heard (before h) u (ran_out_in h) (peers h) (sent h) (sent_since h) (replies h) (last_of (until_memory h)) (routes_are k) (conn_is k) (container_is k) (paths_are k) (shuts_in k) (says h p.1))
 says (Joined link.Ok ∷ h) p = says h p.1
 says (Joined link.Failed ∷ h) p =
     let k : Known h = known h p.1 in

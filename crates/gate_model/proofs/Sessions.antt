@@ -11,16 +11,19 @@ use Rattle.machine_10.specs.Parts.{Parts}
 use Rattle.machine_10.specs.declared.state.Upstream.{Upstream}
 use Rattle.machine_10.specs.Reading.{field}
 use Rattle.performatives_10.specs.declared.condition.Condition.{Condition}
-use Rattle.gate_model.specs.Folds.{Peers, ended_on, peers_failed, peers_met, peers_scoped, peers_session}
+use Rattle.gate_model.specs.Folds.{Peers, ended_on, peers_failed, peers_met, peers_scoped}
+use Rattle.gate_model.specs.Folds.{peers_session}
 use Rattle.gate_model.specs.Lives.{life_at, refusal_on}
 use Rattle.gate_model.specs.Paths.{path_at, with_path}
 use Rattle.session_path.specs.Path.{PathState}
-use Rattle.gate_model.specs.State.{State, begun_session, carried, close, fail, fail_life, life_failed, closing_error, ending_error, link_scope, met_session, path_heard, scoped, windowed, with_session}
+use Rattle.gate_model.specs.State.{State, begun_session, carried, close, fail, fail_life}
+use Rattle.gate_model.specs.State.{life_failed, closing_error, ending_error, link_scope}
+use Rattle.gate_model.specs.State.{met_session, path_heard, scoped, windowed, with_session}
 use Rattle.gate_model.specs.Upstream.{condition_in}
 
 -- both connections and the paths, as a state has them
 abbrev pub peers_like : Option Upstream → ℕ → State → Peers
-peers_like c o w = record { client = w.conn; container = c; paths = w.paths; opened = o }
+peers_like c o w = record { routes = w.routes; client = w.conn; container = c; paths = w.paths; opened = o }
 
 abbrev pub peers_at : State → Peers
 peers_at w = peers_like w.up.container w.opened w

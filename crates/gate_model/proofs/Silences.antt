@@ -1,5 +1,7 @@
 -- An end is given up exactly where the folds say so.
-use Rattle.std.proofs.Common.{◌≡◌, ◌∙◌, ℕ, ◌+◌, ◌-◌, ◌*◌, ◌==◌, ◌<◌, ◌≤◌, nat_le, Bool, true, false, not, ◌&&◌, ◌||◌, if◌then◌else◌, List, [], ◌∷◌, Option, None, Some, refl, sym, ap, subst, arith}
+use Rattle.std.proofs.Common.{◌≡◌, ◌∙◌, ℕ, ◌+◌, ◌-◌, ◌*◌, ◌==◌, ◌<◌, ◌≤◌, nat_le, Bool, true, false}
+use Rattle.std.proofs.Common.{not, ◌&&◌, ◌||◌, if◌then◌else◌, List, [], ◌∷◌, Option, None, Some}
+use Rattle.std.proofs.Common.{refl, sym, ap, subst, arith}
 use Rattle.std.proofs.lemmas.Bool.Decides.{nat_tests}
 use Rattle.gate_outside.specs.declared.ports.End.TheVariants.{Client, Up}
 use Rattle.gate_outside.specs.declared.ports.Linked.TheVariants as link
@@ -14,13 +16,18 @@ use Rattle.performatives_10.specs.declared.condition.Condition.{Condition}
 use Rattle.gate_model.specs.declared.outgoing.Outgoing.TheVariants.{ToClient, ToUp}
 use Rattle.gate_model.specs.declared.timers.TheConstants.{SILENCE_PER_SECOND, UP_SILENCE}
 use Rattle.gate_model.specs.Due.{is_awaiting, is_silent, is_silent_by}
-use Rattle.gate_model.specs.Folds.{connection, given_up_in, gone_in, moment_in, ran_out_in, up_fed_at}
+use Rattle.gate_model.specs.Folds.{connection, given_up_in, gone_in, moment_in, ran_out_in}
+use Rattle.gate_model.specs.Folds.{up_fed_at}
 use Rattle.gate_model.specs.Picks.{ArePicks}
 use Rattle.gate_model.specs.Silence.{fed_in, MayGiveUp, MayGiveUpUp, SilentAtOnce, SilentWhenDue}
-use Rattle.gate_model.specs.State.{Began, Came, Fed, Gave, Heard, Joined, Lost, Moment, OutOfMemory, Queued, Silent, State, Step, TakenUp, Whole, before, came, dequeued, fail, failed, fed_by, heard, is_held, left, runs, told, windowed, with_meaning}
+use Rattle.gate_model.specs.State.{Began, Came, Fed, Gave, Heard, Joined, Lost, Moment, OutOfMemory}
+use Rattle.gate_model.specs.State.{Queued, Silent, State, Step, TakenUp, Whole, before, came}
+use Rattle.gate_model.specs.State.{dequeued, fail, failed, fed_by, heard, is_held, left, runs, told}
+use Rattle.gate_model.specs.State.{windowed, with_meaning}
 use Rattle.gate_model.specs.Upstream.{heard_up, meaning_by}
 use Rattle.gate_model.proofs.Connections.{clash}
-use Rattle.gate_model.proofs.Known.{Known, conn_is, known, memory_is, moment_is, side_is, silent_is, up_fed_is}
+use Rattle.gate_model.proofs.Known.{Known, conn_is, known, memory_is, moment_is, side_is, silent_is}
+use Rattle.gate_model.proofs.Known.{up_fed_is}
 use Rattle.gate_model.proofs.Sessions.{session_cases}
 use Rattle.gate_model.proofs.Times.{and_both, and_left, and_right}
 
@@ -99,7 +106,7 @@ end_told w ms x e = by (is_held w)
 
 end_is : (h : List Step) → ArePicks h → end_of (before h) ≡ end_in h
 end_is [] p = refl
-end_is (Began vhost n ms ∷ h) p = ap (λ (x : End). record x { fed = ms }) (end_is h p.1)
+end_is (Began site n ms ∷ h) p = ap (λ (x : End). record x { fed = ms }) (end_is h p.1)
 end_is (Moment ms ∷ h) p = end_told (before h) ms (end_in h) (end_is h p.1)
 end_is (Fed Client ∷ h) p =
     ap (λ (x : End). record x { fed = (before h).moment }) (end_is h p.1) ∙ ap (λ (n : ℕ). record (end_in h) { fed = n }) (moment_is (known h p.1))
@@ -265,7 +272,7 @@ pub silent_when_due : (h : List Step) → ArePicks h → SilentWhenDue h
 silent_when_due [] p = tt
 silent_when_due (Silent Client ∷ h) p = (client_by h p.1 p.0, silent_when_due h p.1)
 silent_when_due (Silent Up ∷ h) p = (up_by h p.1 p.0, silent_when_due h p.1)
-silent_when_due (Began vhost n ms ∷ h) p = silent_when_due h p.1
+silent_when_due (Began site n ms ∷ h) p = silent_when_due h p.1
 silent_when_due (Moment ms ∷ h) p = silent_when_due h p.1
 silent_when_due (Fed end ∷ h) p = silent_when_due h p.1
 silent_when_due (Queued u ∷ h) p = silent_when_due h p.1

@@ -1,5 +1,6 @@
 -- The paths of channels by their numbers, where one is changed, or all are.
-use Rattle.std.proofs.Common.{◌≡◌, ℕ, zero, suc, ◌==◌, ◌<◌, false, List, [], ◌∷◌, length, map, replicate, Option, None, Some, option_map, refl, ap, arith}
+use Rattle.std.proofs.Common.{◌≡◌, ℕ, zero, suc, ◌==◌, ◌<◌, false, List, [], ◌∷◌, length, map}
+use Rattle.std.proofs.Common.{replicate, Option, None, Some, option_map, refl, ap, arith}
 use Rattle.std.proofs.lemmas.Bool.Decides.{nat_tests}
 use Rattle.std.specs.Prelude.{slice_get, slice_set}
 use Rattle.session_path.specs.Path.{PathState}

@@ -1,5 +1,6 @@
 -- The bytes of a unit to a client are some, and few.
-use Rattle.std.proofs.Common.{Bool, List, arith, codes, false, if◌then◌else◌, length, ℕ, ◌<◌, ◌≤◌, true}
+use Rattle.std.proofs.Common.{Bool, List, arith, codes, false, if◌then◌else◌, length, ℕ, ◌<◌, ◌≤◌}
+use Rattle.std.proofs.Common.{true}
 use Rattle.std.proofs.lemmas.List.{length-append}
 use Rattle.close_translate.specs.Codes.{name_of}
 use Rattle.frames_091.specs.Frames.{frame_text}

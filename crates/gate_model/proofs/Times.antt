@@ -1,5 +1,7 @@
 -- Heartbeats and shuts are due exactly when the folds say so.
-use Rattle.std.proofs.Common.{◌≡◌, ℕ, zero, suc, ◌+◌, ◌-◌, ◌*◌, ◌==◌, ◌<◌, ◌≤◌, nat_le, Bool, true, false, not, ◌&&◌, ◌||◌, if◌then◌else◌, List, [], ◌∷◌, ◌++◌, Option, None, Some, append-nil, refl, sym, ap, ◌∙◌, subst, arith}
+use Rattle.std.proofs.Common.{◌≡◌, ℕ, zero, suc, ◌+◌, ◌-◌, ◌*◌, ◌==◌, ◌<◌, ◌≤◌, nat_le, Bool, true}
+use Rattle.std.proofs.Common.{false, not, ◌&&◌, ◌||◌, if◌then◌else◌, List, [], ◌∷◌, ◌++◌, Option}
+use Rattle.std.proofs.Common.{None, Some, append-nil, refl, sym, ap, ◌∙◌, subst, arith}
 use Rattle.std.specs.Prelude.{is_some, map}
 use Rattle.std.specs.List.{list_any}
 use Rattle.std.specs.Option.{option_map, option_to_list}
@@ -18,19 +20,32 @@ use Rattle.machine_091.specs.declared.state.Stream91.TheVariants as stream
 use Rattle.gate_model.specs.declared.reply.Reply.{Reply}
 use Rattle.gate_model.specs.declared.reply.Reply.TheVariants as reply
 use Rattle.gate_model.specs.declared.reply.SentLast.{SentLast}
-use Rattle.gate_model.specs.declared.timers.TheConstants.{BEAT_PER_SECOND, CLOSING_LIMIT, HANDSHAKE_LIMIT}
+use Rattle.gate_model.specs.declared.timers.TheConstants.{BEAT_PER_SECOND, CLOSING_LIMIT}
+use Rattle.gate_model.specs.declared.timers.TheConstants.{HANDSHAKE_LIMIT}
 use Rattle.gate_model.specs.Answers.{is_close_ok}
-use Rattle.gate_model.specs.Due.{is_bad, is_beat_by, is_beat_due, is_busy, is_overdue, is_shut_due, is_unheard, pick, when}
+use Rattle.gate_model.specs.Due.{is_bad, is_beat_by, is_beat_due, is_busy, is_overdue, is_shut_due}
+use Rattle.gate_model.specs.Due.{is_unheard, pick, when}
 use Rattle.gate_model.specs.Upstream.{first, heard_up, meaning_by}
 use Rattle.gate_model.specs.declared.outgoing.Outgoing.TheVariants.{ToClient, ToUp}
-use Rattle.gate_model.specs.Folds.{accepted_in, closed_in, connection, failed_in, moment_in, sent, sent_at}
+use Rattle.gate_model.specs.Folds.{accepted_in, closed_in, connection, failed_in, moment_in, sent}
+use Rattle.gate_model.specs.Folds.{sent_at}
 use Rattle.gate_model.specs.Picks.{ArePicks}
-use Rattle.gate_model.specs.State.{Began, Came, Fed, Gave, Heard, Joined, Lost, Moment, OutOfMemory, Queued, Silent, State, Step, TakenUp, Whole, before, came, dequeued, fail, failed, has_left, heard, is_limit_reached, is_settled, left, new_state, opened, runs, windowed, with_last, with_meaning}
-use Rattle.gate_model.specs.Times.{BeatsAtOnce, BeatsWhenDue, IsLate, LateCloses, MayBeat, ShutFor, Failed, Left, Answered, Greeted, Closed, ClosedBad, ClosedLast, Unheard, NotOpened, Overdue, ShutsAtOnce, is_any_close, is_protocol, sent_whole}
+use Rattle.gate_model.specs.State.{Began, Came, Fed, Gave, Heard, Joined, Lost, Moment, OutOfMemory}
+use Rattle.gate_model.specs.State.{Queued, Silent, State, Step, TakenUp, Whole, before, came}
+use Rattle.gate_model.specs.State.{dequeued, fail, failed, has_left, heard, is_limit_reached}
+use Rattle.gate_model.specs.State.{is_settled, left, new_state, opened, runs, windowed, with_last}
+use Rattle.gate_model.specs.State.{with_meaning}
+use Rattle.gate_model.specs.Times.{BeatsAtOnce, BeatsWhenDue, IsLate, LateCloses, MayBeat, ShutFor}
+use Rattle.gate_model.specs.Times.{Failed, Left, Answered, Greeted, Closed, ClosedBad, ClosedLast}
+use Rattle.gate_model.specs.Times.{Unheard, NotOpened, Overdue, ShutsAtOnce, is_any_close}
+use Rattle.gate_model.specs.Times.{is_protocol, sent_whole}
 use Rattle.gate_model.proofs.Connections.{clash}
-use Rattle.gate_model.proofs.Known.{Known, accepted_is, closed_is, conn_is, known, memory_is, moment_is}
+use Rattle.gate_model.proofs.Known.{Known, accepted_is, closed_is, conn_is, known, memory_is}
+use Rattle.gate_model.proofs.Known.{moment_is}
 use Rattle.gate_model.proofs.Sessions.{session_cases}
-use Rattle.gate_model.proofs.Said.{Beats, IsDue, OnChannel, Picked, calm_now, first_due, of_channel, picked}
+use Rattle.gate_model.proofs.Said.{Beats, IsDue, OnChannel, Picked, calm_now, first_due, of_channel}
+use Rattle.gate_model.proofs.Said.{picked}
+use Rattle.gate_model.specs.Setup.{SiteText}
 
 -- ---- what was sent
 
@@ -137,11 +152,11 @@ sends_whole (Some u) s at ms broken all whole at' ms' broken' e m k = record {
   broken_is = k.broken_is;
 }
 
-sends_new : SendsIn (part (new_state [] 0 0)) [] [] 0 false
+sends_new : SendsIn (part (new_state (record { vhost = []; routes = [] }) 0 0)) [] [] 0 false
 sends_new = record { going_is = refl; protocol_is = refl; close_ok_is = refl; close_is = refl; at_is = refl; broken_is = refl }
 
-sends_began : (vhost : List ℕ) (n ms : ℕ) → SendsIn (part (new_state vhost n ms)) [] [] ms false
-sends_began vhost n ms = record { going_is = refl; protocol_is = refl; close_ok_is = refl; close_is = refl; at_is = refl; broken_is = refl }
+sends_began : (site : SiteText) (n ms : ℕ) → SendsIn (part (new_state site n ms)) [] [] ms false
+sends_began site n ms = record { going_is = refl; protocol_is = refl; close_ok_is = refl; close_is = refl; at_is = refl; broken_is = refl }
 
 part_came : (w v : State) (b : Bool) → part v ≡ part w → part (if b then w else v) ≡ part w
 part_came w v true e = refl
@@ -184,7 +199,7 @@ part_meaning (ten.Violation c) w = part_fail _ (Some c) w
 
 pub sends : (h : List Step) → ArePicks h → Sends h
 sends [] p = sends_new
-sends (Began vhost n ms ∷ h) p = subst (λ (x : List Step). Sends (Began vhost n ms ∷ x)) (sym p.0) (sends_began vhost n ms)
+sends (Began site n ms ∷ h) p = subst (λ (x : List Step). Sends (Began site n ms ∷ x)) (sym p.0) (sends_began site n ms)
 sends (Moment ms ∷ h) p = sends h p.1
 sends (Fed Client ∷ h) p = sends h p.1
 sends (Fed Up ∷ h) p = sends h p.1
@@ -323,7 +338,7 @@ pub beats_when_due : (h : List Step) → ArePicks h → BeatsWhenDue h
 beats_when_due [] p = tt
 beats_when_due (Gave (ToClient u) text ∷ h) p = beats_given h u text p.1 p.0.0 p.0.1 (beats_when_due h p.1)
 beats_when_due (Gave (ToUp u) text ∷ h) p = beats_when_due h p.1
-beats_when_due (Began vhost n ms ∷ h) p = beats_when_due h p.1
+beats_when_due (Began site n ms ∷ h) p = beats_when_due h p.1
 beats_when_due (Moment ms ∷ h) p = beats_when_due h p.1
 beats_when_due (Fed end ∷ h) p = beats_when_due h p.1
 beats_when_due (Silent end ∷ h) p = beats_when_due h p.1

@@ -1,5 +1,7 @@
 -- What the state knows of the units to a container, by the folds.
-use Rattle.std.proofs.Common.{◌≡◌, ℕ, ◌⊎◌, inl, inr, Bool, true, false, not, ◌&&◌, ◌||◌, if◌then◌else◌, List, [], ◌∷◌, ◌++◌, Option, None, Some, append-nil, refl, sym, ap, ◌∙◌, subst, ◌==◌}
+use Rattle.std.proofs.Common.{◌≡◌, ℕ, ◌⊎◌, inl, inr, Bool, true, false, not, ◌&&◌, ◌||◌}
+use Rattle.std.proofs.Common.{if◌then◌else◌, List, [], ◌∷◌, ◌++◌, Option, None, Some, append-nil}
+use Rattle.std.proofs.Common.{refl, sym, ap, ◌∙◌, subst, ◌==◌}
 use Rattle.std.specs.Prelude.{is_some, map}
 use Rattle.std.specs.List.{list_any}
 use Rattle.std.specs.Option.{option_map, option_to_list}
@@ -25,34 +27,51 @@ use Rattle.machine_10.specs.declared.unit.Unit10.{Unit10}
 use Rattle.performatives_10.specs.declared.condition.Condition.{Condition}
 use Rattle.close_translate.specs.declared.conditions.Scope.{Scope}
 use Rattle.close_translate.specs.declared.conditions.Scope.TheVariants as scope
-use Rattle.gate_model.specs.Paths.{path_at, with_path, lost_path}
+use Rattle.gate_model.specs.Paths.{path_at, with_path}
 use Rattle.gate_model.specs.declared.channel.SessionUnit.{SessionUnit}
 use Rattle.gate_model.specs.declared.outgoing.Outgoing.TheVariants.{ToClient, ToUp}
 use Rattle.gate_model.specs.declared.outgoing.UpPending.{UpPending}
 use Rattle.gate_model.specs.declared.outgoing.UpSent.{UpSent}
 use Rattle.gate_model.specs.declared.outgoing.UpUnit.{UpUnit}
 use Rattle.gate_model.specs.declared.outgoing.UpUnit.TheVariants as up
-use Rattle.gate_model.specs.Asked.{called, called_by, called_from, is_opening_unit, is_up_close, is_up_open, sent_up_whole}
-use Rattle.gate_model.specs.Due.{attaches, begins, carried_rows, close_behind, detaches, ends, flows_on, is_end_due, link_flows, none_left, pick, row_on, rows_in, session_flows, session_rows, settlings, transfers, unless_out, up_rows}
+use Rattle.gate_model.specs.Asked.{called, called_by, called_from, is_opening_unit, is_up_close}
+use Rattle.gate_model.specs.Asked.{is_up_open, sent_up_whole}
+use Rattle.gate_model.specs.Due.{attaches, begins, carried_rows, close_behind, detaches, ends}
+use Rattle.gate_model.specs.Due.{flows_on, is_end_due, link_flows, none_left, pick, row_on, rows_in}
+use Rattle.gate_model.specs.Due.{session_flows, session_rows, settlings, transfers, unless_out}
+use Rattle.gate_model.specs.Due.{up_rows}
 use Rattle.gate_model.specs.Session.{is_flow_owed}
-use Rattle.gate_model.specs.Folds.{Peers, accepted_in, connection, container, container_kept, ended_on, leaving_in, moment_in, peers, peers_by, peers_came, peers_heard, peers_scoped, ran_out_in, sent_up, sent_up_at}
+use Rattle.gate_model.specs.Folds.{Peers, accepted_in, connection, container, container_kept}
+use Rattle.gate_model.specs.Folds.{ended_on, leaving_in, moment_in, peers, peers_by, peers_came}
+use Rattle.gate_model.specs.Folds.{peers_heard, peers_scoped, ran_out_in, sent_up, sent_up_at}
 use Rattle.gate_model.specs.Picks.{ArePicks}
 use Rattle.gate_model.specs.Requests.{client_step}
-use Rattle.gate_model.specs.State.{Began, Came, Fed, Gave, Heard, Joined, Lost, Moment, OutOfMemory, Queued, Silent, State, Step, TakenUp, Whole, before, came, close_if, dequeued, fail, failed, heard, is_limit_reached, left, runs, windowed, with_meaning, path_heard, link_scope}
+use Rattle.gate_model.specs.State.{Began, Came, Fed, Gave, Heard, Joined, Lost, Moment, OutOfMemory}
+use Rattle.gate_model.specs.State.{Queued, Silent, State, Step, TakenUp, Whole, before, came}
+use Rattle.gate_model.specs.State.{close_if, dequeued, fail, failed, heard, is_limit_reached, left}
+use Rattle.gate_model.specs.State.{runs, windowed, with_meaning, path_heard, link_scope, paths_lost}
 use Rattle.gate_model.specs.Lives.{is_carried, is_free, session_in}
 use Rattle.gate_model.specs.declared.life.Life.{Life}
 use Rattle.machine_10.specs.Calls.{asked, left as left_session, may_begin}
 use Rattle.machine_10.specs.State.{session_at}
 use Rattle.machine_10.specs.declared.state.Session.{Session}
 use Rattle.machine_10.specs.declared.state.Session.TheVariants as session
-use Rattle.gate_model.specs.Upstream.{UpState, begun, channel_max_in, closing_with, container_by, container_given, ended_in, first, heard_up, is_idle_due, meaning_by, no_end, nothing_due, opening_rows, when_up, with_begun, with_whole, without_up}
+use Rattle.gate_model.specs.Upstream.{UpState, begun, channel_max_in, closing_with, container_by}
+use Rattle.gate_model.specs.Upstream.{container_given, ended_in, first, heard_up, is_idle_due}
+use Rattle.gate_model.specs.Upstream.{meaning_by, no_end, nothing_due, opening_rows, when_up}
+use Rattle.gate_model.specs.Upstream.{with_begun, with_whole, without_up}
 use Rattle.gate_model.proofs.Connections.{clash, only_given, phase_only}
 use Rattle.gate_model.proofs.Outcomes.{only_closing}
 use Rattle.gate_model.proofs.Rows.{first_each}
 use Rattle.gate_model.proofs.Sessions.{conn_cases, session_cases}
-use Rattle.gate_model.proofs.Known.{Known, conn_is, container_is, keep_is, known, memory_is, moment_is}
-use Rattle.gate_model.proofs.Openings.{UpTo, Ups, is_opening_first, phase_in, up_to_closed, ups_gone, ups_heard, ups_other}
-use Rattle.gate_model.proofs.Outcomes.{Outcome, Greets, Parts, LogsIn, Tunes, Asks, Passes, Refuses, Declines, Drops, Parting, Calls, Asking, Publishes, Fills, Frees, Closes, Answers, Ignores, outcome}
+use Rattle.gate_model.proofs.Known.{Known, conn_is, container_is, keep_is, known, memory_is}
+use Rattle.gate_model.proofs.Known.{moment_is}
+use Rattle.gate_model.proofs.Openings.{UpTo, Ups, is_opening_first, phase_in, up_to_closed}
+use Rattle.gate_model.proofs.Openings.{ups_gone, ups_heard, ups_other}
+use Rattle.gate_model.proofs.Outcomes.{Outcome, Greets, Parts, LogsIn, Tunes, Asks, Passes, Refuses}
+use Rattle.gate_model.proofs.Outcomes.{Declines, Drops, Parting, Calls, Asking, Publishes, Fills}
+use Rattle.gate_model.proofs.Outcomes.{Frees, Closes, Answers, Ignores, outcome}
+use Rattle.gate_model.specs.declared.setup.Route.{Route}
 
 -- ---- before the login there is no container
 
@@ -78,7 +97,7 @@ closing_late phase.Closing = refl
 closing_late phase.Closed = refl
 
 early_came : (p : Peers) (u : Unit91) → Early p → Early (peers_came p u)
-early_came p u f = by (client_step p.client u) (outcome p.client u)
+early_came p u f = by (client_step p.routes p.client u) (outcome p.routes p.client u)
   where
     c : Connection
     c = p.client
@@ -164,9 +183,10 @@ early_close false c e = e
 
 pub early : (h : List Step) → Early (peers h)
 early [] e = refl
-early (Began vhost n ms ∷ h) e = refl
+early (Began site n ms ∷ h) e = refl
 early (Moment ms ∷ h) e = early h (early_close (is_limit_reached (connection h) (accepted_in h) ms) (connection h) e)
-early (Fed end ∷ h) e = early h e
+early (Fed Client ∷ h) e = early h e
+early (Fed Up ∷ h) e = early h e
 early (Silent Client ∷ h) e = absurd cc
 early (Silent Up ∷ h) e = absurd (clash _ e (closing_late (connection h).phase))
 early (Queued u ∷ h) e = early h e
@@ -221,9 +241,9 @@ UpSays h = UpSaysIn (part (before h).up) (sent_up h) (sent_up_whole h) (sent_up_
 
 -- ---- steps that change none of that, or little
 
-kept_phase : (c : Connection) (u : Unit91) (o : Option Upstream) → (is_early c.phase ≡ true → o ≡ None)
-    → phase_in (container_kept o (client_step c u).1) ≡ phase_in o
-kept_phase c u o f = by (client_step c u) (outcome c u)
+kept_phase : (rs : List Route) (c : Connection) (u : Unit91) (o : Option Upstream) → (is_early c.phase ≡ true → o ≡ None)
+    → phase_in (container_kept o (client_step rs c u).1) ≡ phase_in o
+kept_phase rs c u o f = by (client_step rs c u) (outcome rs c u)
   where
     by : (x : machine.Step) → Outcome c u x → phase_in (container_kept o x.1) ≡ phase_in o
     by _ (Greets e) = refl
@@ -262,8 +282,8 @@ part_came w u f = by w.out_of_memory
     by : (b : Bool) → part (if b then w else came (dequeued w) u).up ≡ part w.up
     by true = refl
     by false =
-        part_closing (is_closing w.conn) _ _ ∙ ap part (keep_is (client_step w.conn u).1 w.up)
-        ∙ ap (λ (x : Phase10). record (part w.up) { at = x }) (kept_phase w.conn u w.up.container f)
+        part_closing (is_closing w.conn) _ _ ∙ ap part (keep_is (client_step w.routes w.conn u).1 w.up)
+        ∙ ap (λ (x : Phase10). record (part w.up) { at = x }) (kept_phase w.routes w.conn u w.up.container f)
 
 part_taken : (w : State) (b : Bool) → part (if b then left w else w).up ≡ part w.up
 part_taken w true = part_closing (is_closing w.conn) None w.up
@@ -791,7 +811,7 @@ early_now {h} k e = container_is k ∙ early h (ap (λ (c : Connection). is_earl
 
 pub up_says : (h : List Step) → ArePicks h → UpSays h
 up_says [] p = up_none
-up_says (Began vhost n ms ∷ h) p = subst (λ (x : List Step). UpSays (Began vhost n ms ∷ x)) (sym p.0) up_none
+up_says (Began site n ms ∷ h) p = subst (λ (x : List Step). UpSays (Began site n ms ∷ x)) (sym p.0) up_none
 up_says (Moment ms ∷ h) p = up_says h p.1
 up_says (Fed Client ∷ h) p = up_says h p.1
 up_says (Fed Up ∷ h) p = up_says h p.1
@@ -817,8 +837,8 @@ up_says (Joined link.Failed ∷ h) p =
 up_says (Lost Client loss.Ended ∷ h) p = up_says h p.1
 up_says (Lost Client loss.Failed ∷ h) p = up_says h p.1
 up_says (Lost Client loss.Shut ∷ h) p = up_says h p.1
-up_says (Lost Up loss.Ended ∷ h) p = up_lost side.Ended (record (before h) { paths = map (option_map lost_path) (before h).paths }) _ (sent_up h) (sent_up_whole h) (sent_up_at h) (called h) refl (up_says h p.1)
-up_says (Lost Up loss.Failed ∷ h) p = up_lost side.Failed (record (before h) { paths = map (option_map lost_path) (before h).paths }) _ (sent_up h) (sent_up_whole h) (sent_up_at h) (called h) refl (up_says h p.1)
+up_says (Lost Up loss.Ended ∷ h) p = up_lost side.Ended (record (before h) { paths = paths_lost (before h).paths }) _ (sent_up h) (sent_up_whole h) (sent_up_at h) (called h) refl (up_says h p.1)
+up_says (Lost Up loss.Failed ∷ h) p = up_lost side.Failed (record (before h) { paths = paths_lost (before h).paths }) _ (sent_up h) (sent_up_whole h) (sent_up_at h) (called h) refl (up_says h p.1)
 up_says (Lost Up loss.Shut ∷ h) p = up_gone (part (before h).up) (sent_up h) (sent_up_whole h) (sent_up_at h) (called h) (up_says h p.1)
 up_says (Gave (ToClient u) text ∷ h) p = up_says h p.1
 up_says (Gave (ToUp u) text ∷ h) p =

@@ -1,5 +1,6 @@
 -- What ends a client's connection waits for the upstream end, and connection.open-ok for the container's open.
-use Rattle.std.proofs.Common.{◌≡◌, ℕ, Bool, true, false, not, ◌&&◌, ◌||◌, if◌then◌else◌, List, [], ◌∷◌, Option, None, Some, refl, sym, ap, ◌∙◌, subst}
+use Rattle.std.proofs.Common.{◌≡◌, ℕ, Bool, true, false, not, ◌&&◌, ◌||◌, if◌then◌else◌, List, []}
+use Rattle.std.proofs.Common.{◌∷◌, Option, None, Some, refl, sym, ap, ◌∙◌, subst}
 use Rattle.gate_outside.specs.declared.ports.End.TheVariants.{Client, Up}
 use Rattle.gate_outside.specs.declared.ports.Linked.TheVariants as link
 use Rattle.gate_relay.specs.Sides.{is_readable}
@@ -26,9 +27,15 @@ use Rattle.gate_model.specs.Due.{may_go, rows}
 use Rattle.gate_model.specs.Folds.{container, is_answer, ran_out_in}
 use Rattle.gate_model.specs.Picks.{ArePicks}
 use Rattle.gate_model.specs.Requests.{client_step}
-use Rattle.gate_model.specs.State.{Began, Came, Fed, Gave, Heard, Joined, Lost, Moment, OutOfMemory, Queued, Silent, State, Step, TakenUp, Whole, before, came, dequeued, fail, failed, heard, is_settled, last_pending, left, turns_foreign, windowed, with_header, with_meaning, with_session, with_want, without}
-use Rattle.gate_model.specs.Upstream.{first, has_closed, heard_up, is_closed_stream, meaning_by, stream_in}
-use Rattle.gate_model.specs.Waiting.{EndsWhenSettled, OpensWhenOpened, Settled, RanOut, NotOpen, HasClosed, is_ending, is_opened, opened_in, GivenUp}
+use Rattle.gate_model.specs.State.{Began, Came, Fed, Gave, Heard, Joined, Lost, Moment, OutOfMemory}
+use Rattle.gate_model.specs.State.{Queued, Silent, State, Step, TakenUp, Whole, before, came}
+use Rattle.gate_model.specs.State.{dequeued, fail, failed, heard, is_settled, last_pending, left}
+use Rattle.gate_model.specs.State.{turns_foreign, windowed, with_header, with_meaning, with_session}
+use Rattle.gate_model.specs.State.{with_want, without}
+use Rattle.gate_model.specs.Upstream.{first, has_closed, heard_up, is_closed_stream, meaning_by}
+use Rattle.gate_model.specs.Upstream.{stream_in}
+use Rattle.gate_model.specs.Waiting.{EndsWhenSettled, OpensWhenOpened, Settled, RanOut, NotOpen}
+use Rattle.gate_model.specs.Waiting.{HasClosed, is_ending, is_opened, opened_in, GivenUp}
 use Rattle.gate_model.proofs.Connections.{clash}
 use Rattle.gate_model.proofs.Known.{Known, container_is, known, memory_is, side_is, silent_is}
 use Rattle.gate_model.proofs.Sessions.{session_cases}
@@ -92,7 +99,7 @@ pub ends_when_settled : (h : List Step) → ArePicks h → EndsWhenSettled h
 ends_when_settled [] p = tt
 ends_when_settled (Gave (ToClient u) text ∷ h) p = (ends_picked h u p.1 (picked (before h) u p.0.1), ends_when_settled h p.1)
 ends_when_settled (Gave (ToUp u) text ∷ h) p = ends_when_settled h p.1
-ends_when_settled (Began vhost n ms ∷ h) p = ends_when_settled h p.1
+ends_when_settled (Began site n ms ∷ h) p = ends_when_settled h p.1
 ends_when_settled (Moment ms ∷ h) p = ends_when_settled h p.1
 ends_when_settled (Fed end ∷ h) p = ends_when_settled h p.1
 ends_when_settled (Silent end ∷ h) p = ends_when_settled h p.1
@@ -136,7 +143,7 @@ open_ok_came w u = by w.out_of_memory
   where
     by : (b : Bool) → (if b then w else came (dequeued w) u).pending.open_ok ≡ w.pending.open_ok
     by true = refl
-    by false = open_ok_after (turns_foreign w.conn u) (client_step w.conn u).1 w.pending
+    by false = open_ok_after (turns_foreign w.routes w.conn u) (client_step w.routes w.conn u).1 w.pending
 
 open_ok_taken : (w : State) (b : Bool) → (if b then left w else w).pending.open_ok ≡ w.pending.open_ok
 open_ok_taken w true = refl
@@ -226,8 +233,8 @@ open_ok_last phase.Closed d = refl
 -- one that is due was called for by the container's open
 open_ok_opened : (h : List Step) → ArePicks h → (before h).pending.open_ok ≡ true → opened_in h ≡ true
 open_ok_opened [] p e = absurd cc
-open_ok_opened (Began vhost n ms ∷ h) p e =
-    let none : (before (Began vhost n ms ∷ [])).pending.open_ok ≡ true = subst (λ (x : List Step). (before (Began vhost n ms ∷ x)).pending.open_ok ≡ true) p.0 e in absurd cc
+open_ok_opened (Began site n ms ∷ h) p e =
+    let none : (before (Began site n ms ∷ [])).pending.open_ok ≡ true = subst (λ (x : List Step). (before (Began site n ms ∷ x)).pending.open_ok ≡ true) p.0 e in absurd cc
 open_ok_opened (Moment ms ∷ h) p e = open_ok_opened h p.1 e
 open_ok_opened (Fed Client ∷ h) p e = open_ok_opened h p.1 e
 open_ok_opened (Fed Up ∷ h) p e = open_ok_opened h p.1 e
@@ -314,7 +321,7 @@ pub opens_when_opened : (h : List Step) → ArePicks h → OpensWhenOpened h
 opens_when_opened [] p = tt
 opens_when_opened (Gave (ToClient u) text ∷ h) p = opens_given h u text p.1 (picked (before h) u p.0.1) (opens_when_opened h p.1)
 opens_when_opened (Gave (ToUp u) text ∷ h) p = opens_when_opened h p.1
-opens_when_opened (Began vhost n ms ∷ h) p = opens_when_opened h p.1
+opens_when_opened (Began site n ms ∷ h) p = opens_when_opened h p.1
 opens_when_opened (Moment ms ∷ h) p = opens_when_opened h p.1
 opens_when_opened (Fed end ∷ h) p = opens_when_opened h p.1
 opens_when_opened (Silent end ∷ h) p = opens_when_opened h p.1

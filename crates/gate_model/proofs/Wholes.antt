@@ -1,5 +1,7 @@
 -- The frames of a publish carry the text of the image of its message: the fates of the life's publishes say what the steps say.
-use Rattle.std.proofs.Common.{◌≡◌, ℕ, ◌+◌, ◌==◌, ◌<◌, ◌≤◌, nat_lt, not, ◌&&◌, Bool, true, false, if◌then◌else◌, List, [], ◌∷◌, ◌++◌, take, drop, length, Option, None, Some, refl, sym, ap, ◌∙◌, subst, arith, take_all, take-append-drop}
+use Rattle.std.proofs.Common.{◌≡◌, ℕ, ◌+◌, ◌==◌, ◌<◌, ◌≤◌, nat_lt, not, ◌&&◌, Bool, true, false}
+use Rattle.std.proofs.Common.{if◌then◌else◌, List, [], ◌∷◌, ◌++◌, take, drop, length, Option, None}
+use Rattle.std.proofs.Common.{Some, refl, sym, ap, ◌∙◌, subst, arith, take_all, take-append-drop}
 use Rattle.std.proofs.lemmas.Bool.Decides.{nat_tests}
 use Rattle.close_translate.specs.declared.conditions.Scope.{Scope}
 use Rattle.close_translate.specs.declared.conditions.Scope.TheVariants as scope
@@ -21,7 +23,8 @@ use Rattle.property_map.specs.Spelling.{image_text}
 use Rattle.publish_path.specs.Journal.{Fate, confirms_of, fate_of, new_fate, numbers_of, rest_by}
 use Rattle.publish_path.specs.Laws.{AreParts, IsFrontOf, IsWhole}
 use Rattle.publish_path.specs.Offers.{rest_of}
-use Rattle.publish_path.specs.Publishes.{ConfirmSent, FrameSent, LineTold, LinkGone, OutcomeCame, PublishEvent, PublishState, TakenUp, next_number}
+use Rattle.publish_path.specs.Publishes.{ConfirmSent, FrameSent, LinesTold, LinkGone, OutcomeCame}
+use Rattle.publish_path.specs.Publishes.{PublishEvent, PublishState, TakenUp, next_number}
 use Rattle.session_path.specs.Events as event
 use Rattle.session_path.specs.Events.{PathEvent, after_events, losses, publishes_of}
 use Rattle.session_path.specs.Links.{named}
@@ -37,16 +40,23 @@ use Rattle.gate_model.specs.declared.outgoing.UpUnit.{UpUnit}
 use Rattle.gate_model.specs.declared.outgoing.UpUnit.TheVariants as up
 use Rattle.gate_model.specs.declared.reply.Reply.{Reply}
 use Rattle.gate_model.specs.declared.reply.Reply.TheVariants as reply
-use Rattle.gate_model.specs.Folds.{connection, container, paths_in, peers, ran_out_in}
+use Rattle.gate_model.specs.Folds.{connection, container, paths_in, peers, ran_out_in, routes_in}
 use Rattle.gate_model.specs.Once.{is_channel_open, is_method_on}
 use Rattle.gate_model.specs.Paths.{is_outcome, is_there, name_in, path_at, text_of}
 use Rattle.gate_model.specs.Picks.{ArePicks}
-use Rattle.gate_model.specs.Publishing.{ArePieces, EndWhole, MayCarry, MayFinish, MayTransfer, attach_events, heard_events, image_by, image_in, joined_in, joined_on, left_of, lost_if, meaning_events, method_events, one_more, owed_unless, path_events, path_life, publishes_in, reply_events, session_events, step_events, text_wanted, up_events, want_events}
-use Rattle.gate_model.specs.Requests.{message_of}
+use Rattle.gate_model.specs.Publishing.{ArePieces, EndWhole, MayCarry, MayFinish, MayTransfer}
+use Rattle.gate_model.specs.Publishing.{attach_events, heard_events, image_by, image_in, joined_in}
+use Rattle.gate_model.specs.Publishing.{joined_on, left_of, lost_if, meaning_events, method_events}
+use Rattle.gate_model.specs.Publishing.{one_more, owed_unless, path_events, path_life, publishes_in}
+use Rattle.gate_model.specs.Publishing.{reply_events, session_events, step_events, text_wanted}
+use Rattle.gate_model.specs.Publishing.{up_events, want_events, losing}
+use Rattle.gate_model.specs.Requests.{message_of, address_of}
 use Rattle.gate_model.specs.Session.{is_of_session}
-use Rattle.gate_model.specs.State.{Began, Came, Fed, Gave, Heard, Joined, Lost, Moment, OutOfMemory, Queued, Silent, Step, TakenUp, Whole, link_scope, want_in}
+use Rattle.gate_model.specs.State.{Began, Came, Fed, Gave, Heard, Joined, Lost, Moment, OutOfMemory}
+use Rattle.gate_model.specs.State.{Queued, Silent, Step, TakenUp, Whole, link_scope, want_in}
 use Rattle.gate_model.specs.Upstream.{meaning_by}
 use Rattle.gate_model.proofs.Fates.{FramesAre, IsToGo, PublishesAre, RestsAre, carry_is, to_go}
+use Rattle.gate_model.specs.declared.setup.Route.{Route}
 
 -- ---- events by which no publish is taken up and no frame goes
 
@@ -66,7 +76,7 @@ is_plain (event.SettleSent settling) = true
 is_plain event.DetachSent = true
 is_plain (event.ConfirmWent confirm) = true
 is_plain (event.OkSent ok) = true
-is_plain (event.LineWent number) = true
+is_plain event.LinesWent = true
 is_plain event.SessionLost = true
 
 abbrev ArePlain : List PathEvent → Type 0
@@ -86,9 +96,8 @@ lost_plain true = (refl, tt)
 lost_plain false = tt
 
 -- the upstream end is lost
-fallen_plain : (b : Bool) → ArePlain (lost_if b ++ event.SessionLost ∷ [])
-fallen_plain true = (refl, (refl, tt))
-fallen_plain false = (refl, tt)
+fallen_plain : (b : Bool) → ArePlain (lost_if b ++ losing)
+fallen_plain b = both_plain (lost_if b) losing (lost_plain b) (refl, (refl, tt))
 
 owed_plain : (no_wait : Bool) (x : PathOk) → ArePlain (owed_unless no_wait (event.Owed x))
 owed_plain true x = tt
@@ -143,7 +152,7 @@ is_quiet (FrameSent number first part) = false
 is_quiet (OutcomeCame first last accepted) = true
 is_quiet (LinkGone link) = true
 is_quiet (ConfirmSent c) = true
-is_quiet (LineTold number) = true
+is_quiet LinesTold = true
 
 quiet : {h : List PublishEvent} {number count : ℕ} {image joined : List ℕ} (x : PublishEvent) → is_quiet x ≡ true
     → Carried h number count image joined → Carried (x ∷ h) number count image joined
@@ -152,7 +161,7 @@ quiet (FrameSent number first part) e t = absurd cc
 quiet (OutcomeCame first last accepted) e t = record { count_is = t.count_is; image_is = t.image_is; joined_is = t.joined_is; none = t.none; parts = (tt, t.parts) }
 quiet (LinkGone link) e t = record { count_is = t.count_is; image_is = t.image_is; joined_is = t.joined_is; none = t.none; parts = (tt, t.parts) }
 quiet (ConfirmSent c) e t = record { count_is = t.count_is; image_is = t.image_is; joined_is = t.joined_is; none = t.none; parts = (tt, t.parts) }
-quiet (LineTold n) e t = record { count_is = t.count_is; image_is = t.image_is; joined_is = t.joined_is; none = t.none; parts = (tt, t.parts) }
+quiet LinesTold e t = record { count_is = t.count_is; image_is = t.image_is; joined_is = t.joined_is; none = t.none; parts = (tt, t.parts) }
 
 loses : {h : List PublishEvent} {number count : ℕ} {image joined : List ℕ} (o : Option PathLink)
     → Carried h number count image joined → Carried (losses o ++ h) number count image joined
@@ -176,7 +185,7 @@ plain life es (event.SettleSent settling) e t = t
 plain life es event.DetachSent e t = t
 plain life es (event.ConfirmWent confirm) e t = quiet (ConfirmSent confirm) refl t
 plain life es (event.OkSent ok) e t = t
-plain life es (event.LineWent number) e t = quiet (LineTold number) refl t
+plain life es event.LinesWent e t = quiet LinesTold refl t
 plain life es event.SessionLost e t = quiet (LinkGone None) refl t
 
 takes : {h : List PublishEvent} {number count : ℕ} {image joined : List ℕ} (k : ℕ) (confirm : Bool) (text : List ℕ) → Carried h number count image joined
@@ -237,26 +246,26 @@ method_joins true (method.ConfirmSelect no_wait) life o es number count image jo
     (both_plain _ _ (owed_plain no_wait ok.Select) (refl, tt)) t
 method_joins true m life o es number count image joined t = t
 
-want_joins : (n life : ℕ) (x : Want91) (o : Option ℕ) (es : List PathEvent) (number count : ℕ) (image joined : List ℕ) → Joins o es number count image joined
-    → JoinsBy (is_method_on is_channel_open n x) life (want_events n x) (text_wanted n x) o es number count image joined
-want_joins n life want.Nothing o es number count image joined t = t
-want_joins n life want.Start o es number count image joined t = t
-want_joins n life (want.Login mechanism response) o es number count image joined t = t
-want_joins n life want.Tuned o es number count image joined t = t
-want_joins n life want.OpenUp o es number count image joined t = t
-want_joins n life (want.Method k m) o es number count image joined t = method_joins (k == n) m life o es number count image joined t
-want_joins n life (want.Publish k m c) o es number count image joined t = by (k == n)
+want_joins : (rs : List Route) (n life : ℕ) (x : Want91) (o : Option ℕ) (es : List PathEvent) (number count : ℕ) (image joined : List ℕ) → Joins o es number count image joined
+    → JoinsBy (is_method_on is_channel_open n x) life (want_events rs n x) (text_wanted n x) o es number count image joined
+want_joins rs n life want.Nothing o es number count image joined t = t
+want_joins rs n life want.Start o es number count image joined t = t
+want_joins rs n life (want.Login mechanism response) o es number count image joined t = t
+want_joins rs n life want.Tuned o es number count image joined t = t
+want_joins rs n life want.OpenUp o es number count image joined t = t
+want_joins rs n life (want.Method k m) o es number count image joined t = method_joins (k == n) m life o es number count image joined t
+want_joins rs n life (want.Publish k m c) o es number count image joined t = by (k == n)
   where
     text : List ℕ
     text = image_text (message_of m c)
 
-    by : (b : Bool) → JoinsBy false life (if b then event.Published (message_of m c).key text ∷ [] else []) (if b then Some text else None) o es number count image joined
-    by true = taken_joins o es number count image joined (message_of m c).key text t
+    by : (b : Bool) → JoinsBy false life (if b then event.Published (address_of rs (message_of m c)) text ∷ [] else []) (if b then Some text else None) o es number count image joined
+    by true = taken_joins o es number count image joined (address_of rs (message_of m c)) text t
     by false = t
-want_joins n life (want.ChannelCloseOk k) o es number count image joined t = t
-want_joins n life want.Close o es number count image joined t = t
-want_joins n life want.CloseOk o es number count image joined t = t
-want_joins n life (want.Refuse r) o es number count image joined t = t
+want_joins rs n life (want.ChannelCloseOk k) o es number count image joined t = t
+want_joins rs n life want.Close o es number count image joined t = t
+want_joins rs n life want.CloseOk o es number count image joined t = t
+want_joins rs n life (want.Refuse r) o es number count image joined t = t
 
 -- ---- a frame
 
@@ -341,7 +350,7 @@ up_joins publishes rests h n number (up.OnSession k (unit.Settle x)) text m join
 up_joins publishes rests h n number (up.OnSession k (unit.Detach l handle)) text m joins =
     plain_joins (path_life h n) _ (path_events h n) number _ _ _ (if_plain (k == n) (event.DetachSent ∷ []) [] (refl, tt) tt) joins
 up_joins publishes rests h n number (up.End k why) text m joins =
-    plain_joins (path_life h n) _ (path_events h n) number _ _ _ (if_plain (k == n) (event.SessionLost ∷ []) [] (refl, tt) tt) joins
+    plain_joins (path_life h n) _ (path_events h n) number _ _ _ (if_plain (k == n) losing (event.LinesWent ∷ []) (refl, (refl, tt)) (refl, tt)) joins
 up_joins publishes rests h n number u text m joins = joins
 
 -- ---- all steps
@@ -350,12 +359,12 @@ came_joins : (h : List Step) (n number : ℕ) (u : Unit91) → JoinsIn h n numbe
 came_joins h n number u t = by (ran_out_in h)
   where
     x : Want91
-    x = want_in (connection h) u
+    x = want_in (routes_in h) (connection h) u
 
-    by : (b : Bool) → JoinsBy (not b && is_method_on is_channel_open n x) ((peers h).opened + 1) (if b then [] else want_events n x) (if b then None else text_wanted n x)
+    by : (b : Bool) → JoinsBy (not b && is_method_on is_channel_open n x) ((peers h).opened + 1) (if b then [] else want_events (routes_in h) n x) (if b then None else text_wanted n x)
         (path_life h n) (path_events h n) number (publishes_in n h) (image_in n number h) (joined_in n number h)
     by true = t
-    by false = want_joins n ((peers h).opened + 1) x (path_life h n) (path_events h n) number _ _ _ t
+    by false = want_joins (routes_in h) n ((peers h).opened + 1) x (path_life h n) (path_events h n) number _ _ _ t
 
 heard_plain_in : (h : List Step) (n : ℕ) (u : Unit10) → ArePlain (step_events n h (Heard u))
 heard_plain_in h n u = if_plain (ran_out_in h) _ _ tt (meaning_plain (connection h) (paths_in h) n (meaning_by (container h) u))
@@ -366,21 +375,22 @@ quietly h n number xs p t = plain_joins (path_life h n) xs (path_events h n) num
 
 joins : PublishesAre → FramesAre → RestsAre → (n number : ℕ) (h : List Step) → ArePicks h → JoinsIn h n number
 joins a b c n number [] p = refl
-joins a b c n number (Began vhost i ms ∷ h) p = joins a b c n number h p.1
-joins a b c n number (Moment ms ∷ h) p = joins a b c n number h p.1
-joins a b c n number (Fed end ∷ h) p = joins a b c n number h p.1
+joins a b c n number (Began site i ms ∷ h) p = joins a b c n number h p.1
+joins a b c n number (Moment ms ∷ h) p = quietly h n number (event.LinesWent ∷ []) (refl, tt) (joins a b c n number h p.1)
+joins a b c n number (Fed Client ∷ h) p = joins a b c n number h p.1
+joins a b c n number (Fed Up ∷ h) p = quietly h n number (event.LinesWent ∷ []) (refl, tt) (joins a b c n number h p.1)
 joins a b c n number (Silent Client ∷ h) p = joins a b c n number h p.1
 joins a b c n number (Silent Up ∷ h) p = quietly h n number _ (lost_plain _) (joins a b c n number h p.1)
 joins a b c n number (Queued u ∷ h) p = joins a b c n number h p.1
 joins a b c n number (Came u ∷ h) p = came_joins h n number u (joins a b c n number h p.1)
 joins a b c n number (TakenUp ∷ h) p = joins a b c n number h p.1
 joins a b c n number (Heard u ∷ h) p = quietly h n number _ (heard_plain_in h n u) (joins a b c n number h p.1)
-joins a b c n number (Joined link.Ok ∷ h) p = joins a b c n number h p.1
-joins a b c n number (Joined link.Failed ∷ h) p = quietly h n number _ (lost_plain _) (joins a b c n number h p.1)
+joins a b c n number (Joined link.Ok ∷ h) p = quietly h n number (event.LinesWent ∷ []) (refl, tt) (joins a b c n number h p.1)
+joins a b c n number (Joined link.Failed ∷ h) p = quietly h n number _ (both_plain _ (event.LinesWent ∷ []) (lost_plain _) (refl, tt)) (joins a b c n number h p.1)
 joins a b c n number (Lost Client how ∷ h) p = joins a b c n number h p.1
 joins a b c n number (Lost Up loss.Ended ∷ h) p = quietly h n number _ (fallen_plain _) (joins a b c n number h p.1)
 joins a b c n number (Lost Up loss.Failed ∷ h) p = quietly h n number _ (fallen_plain _) (joins a b c n number h p.1)
-joins a b c n number (Lost Up loss.Shut ∷ h) p = joins a b c n number h p.1
+joins a b c n number (Lost Up loss.Shut ∷ h) p = quietly h n number losing (refl, (refl, tt)) (joins a b c n number h p.1)
 joins a b c n number (Gave (ToClient u) text ∷ h) p = quietly h n number _ (reply_plain n u) (joins a b c n number h p.1)
 joins a b c n number (Gave (ToUp u) text ∷ h) p = up_joins a c h n number u text (carry_is a b c h u text p.1 p.0.1 p.0.2) (joins a b c n number h p.1)
 joins a b c n number (Whole end ∷ h) p = joins a b c n number h p.1

@@ -21,6 +21,7 @@ use Rattle.gate_model.specs.declared.outgoing.UpUnit.{UpUnit}
 use Rattle.gate_model.specs.declared.outgoing.UpUnit.TheVariants as up
 use Rattle.gate_model.specs.declared.timers.TheConstants.{CLOSING_LIMIT}
 use Rattle.gate_model.specs.Due.{is_shut_due, up_rows}
+use Rattle.gate_model.specs.Folds.{routes_in}
 use Rattle.gate_model.specs.Folds.{carrying, closed_in, connection, container, moment_in}
 use Rattle.gate_model.specs.Folds.{ran_out_in}
 use Rattle.performatives_10.specs.declared.condition.Condition.TheVariants.{ResourceLimitExceeded}
@@ -132,7 +133,7 @@ condition_told ps (ten.Violation why) = Some why
 
 -- what a step says of the error of the gateway's close, if it is the closing event
 abbrev pub condition_at : Step → List Step → Option Condition
-condition_at (Came u) h = condition_by (want_in (connection h) u)
+condition_at (Came u) h = condition_by (want_in (routes_in h) (connection h) u)
 condition_at (Heard u) h = condition_told (paths_in h) (meaning_by (container h) u)
 condition_at (Silent Up) h = Some ResourceLimitExceeded
 condition_at OutOfMemory h = Some (condition_of RESOURCE_ERROR)

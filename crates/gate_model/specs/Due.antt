@@ -42,7 +42,7 @@ use Rattle.session_path.specs.declared.path.PathOk.{PathOk}
 use Rattle.gate_model.specs.declared.channel.ChannelUnit.TheVariants as unit
 use Rattle.gate_model.specs.declared.channel.SessionUnit.{SessionUnit}
 use Rattle.gate_model.specs.declared.channel.SessionUnit.TheVariants as session_unit
-use Rattle.gate_model.specs.Paths.{attach_out, flow_out, part_of, path_at, transfer_of}
+use Rattle.gate_model.specs.Paths.{attach_out, flow_out, is_laden, part_of, path_at, transfer_of}
 use Rattle.gate_model.specs.Lives.{any_life, each, is_begun, is_carried, is_ended, is_free, life_at}
 use Rattle.gate_model.specs.Lives.{session_in}
 use Rattle.gate_model.specs.Session.{is_flow_owed}
@@ -358,6 +358,27 @@ in_progress w Up = option_map ToUp w.up.in_progress
 abbrev pub is_busy : State → End → Bool
 is_busy w end = is_some (in_progress w end)
 
+-- an end of a session goes next to the container
+abbrev pub is_end : UpUnit → Bool
+is_end up.SaslHeader = false
+is_end up.SaslInit = false
+is_end up.AmqpHeader = false
+is_end up.Open = false
+is_end (up.Close why) = false
+is_end up.Empty = false
+is_end (up.OnSession n u) = false
+is_end (up.Flow n i o) = false
+is_end (up.Begin n) = false
+is_end (up.End n why) = true
+
+abbrev pub is_end_out : Option Outgoing → Bool
+is_end_out None = false
+is_end_out (Some (ToClient u)) = false
+is_end_out (Some (ToUp u)) = is_end u
+
+abbrev pub is_end_next : State → Bool
+is_end_next w = not (is_busy w Up) && is_end_out (pick w Up)
+
 -- ---- ends
 
 abbrev pub is_awaited : Awaited91 → Bool
@@ -388,9 +409,12 @@ is_silent w Up = is_up_silent w.up w.moment
 abbrev pub is_connect_due : State → Bool
 is_connect_due w = is_opening w.conn && is_absent w.up.side
 
--- that the client's end ended or failed can be taken up, behind all else
+-- that the client's end ended or failed can be taken up, behind all else, and while not too many
+-- publishes are held
 abbrev pub can_leave : State → Bool
-can_leave w = w.leaving && (not w.out_of_memory && (is_empty w.queue && not (waits w).some))
+can_leave w =
+    w.leaving && (not w.out_of_memory && (is_empty w.queue && (not (waits w).some
+    && not (is_laden w.paths))))
 
 -- a unit of the client can be taken up
 abbrev pub can_take_unit : State → Bool

@@ -15,7 +15,7 @@ use Rattle.close_translate.specs.declared.codes.TheConstants.{NOT_ALLOWED}
 use Rattle.close_translate.specs.declared.conditions.Scope.{Scope}
 use Rattle.close_translate.specs.declared.conditions.Scope.TheVariants as scope
 use Rattle.session_path.specs.Path.{PathState}
-use Rattle.gate_model.specs.Paths.{lost_path, no_paths, path_at, with_path}
+use Rattle.gate_model.specs.Paths.{lost_path, no_paths, path_at, told_paths, with_path}
 use Rattle.machine_091.specs.Calls.{after_closing, after_ended, after_opened}
 use Rattle.machine_091.specs.State.{new_connection, is_closing, is_open, is_opening}
 use Rattle.machine_091.specs.declared.state.Connection.{Connection}
@@ -36,7 +36,9 @@ use Rattle.gate_model.specs.State.{Began, Came, Fed, Gave, Heard, Joined, Lost, 
 use Rattle.gate_model.specs.State.{Silent, Step, TakenUp, want_in}
 use Rattle.gate_model.specs.State.{Whole, OutOfMemory, close, close_if, closes_at, conn_step}
 use Rattle.gate_model.specs.State.{conn_given, failure, is_limit_reached, link_scope, lives_opened}
-use Rattle.gate_model.specs.State.{path_heard}
+use Rattle.gate_model.specs.State.{path_heard, paths_lost}
+use Rattle.gate_model.specs.Setup.{SiteText}
+use Rattle.gate_model.specs.declared.setup.Route.{Route}
 use Rattle.gate_model.specs.State.{paths_by, paths_given, paths_given_up, session_by, turns_foreign}
 use Rattle.gate_model.specs.Upstream.{channel_max_in, condition_in, container_by, container_for}
 use Rattle.gate_model.specs.Upstream.{container_given, ended_in}
@@ -51,20 +53,20 @@ use Rattle.gate_model.specs.declared.outgoing.UpUnit.TheVariants as up
 -- the moment of the accept
 abbrev pub accepted_in : List Step → ℕ
 accepted_in [] = 0
-accepted_in (Began vhost n ms ∷ h) = ms
+accepted_in (Began site n ms ∷ h) = ms
 accepted_in (s ∷ h) = accepted_in h
 
 -- the last moment
 abbrev pub moment_in : List Step → ℕ
 moment_in [] = 0
-moment_in (Began vhost n ms ∷ h) = ms
+moment_in (Began site n ms ∷ h) = ms
 moment_in (Moment ms ∷ h) = ms
 moment_in (s ∷ h) = moment_in h
 
 -- the moment at which the last unit was sent whole, that of the accept before
 abbrev pub sent_at : List Step → ℕ
 sent_at [] = 0
-sent_at (Began vhost n ms ∷ h) = ms
+sent_at (Began site n ms ∷ h) = ms
 sent_at (Whole Client ∷ h) = moment_in h
 sent_at (s ∷ h) = sent_at h
 
@@ -126,11 +128,12 @@ silent_in [] = false
 silent_in (Silent Up ∷ h) = true
 silent_in (s ∷ h) = silent_in h
 
--- both connections and the paths of the channels: of the client, by its units, by the handshake
--- limit, by its end and by what happens upstream; of the container, by the client's login and the
--- container's units; and how many channels were opened. After the pair ran out of memory no unit
--- counts
+-- the exchanges that the client may publish to; both connections and the paths of the channels: of
+-- the client, by its units, by the handshake limit, by its end and by what happens upstream; of the
+-- container, by the client's login and the container's units; and how many channels were opened.
+-- After the pair ran out of memory no unit counts
 pub record Peers : Type 0 where
+  pub routes : List Route
   pub client : Connection
   pub container : Option Upstream
   pub paths : List (Option PathState)
@@ -197,12 +200,14 @@ container_kept o want.CloseOk = o
 container_kept o (want.Refuse r) = o
 
 abbrev pub peers_came : Peers → Unit91 → Peers
-peers_came p u = record {
-  client = conn_step p.client u;
-  container = container_kept p.container (want_in p.client u);
-  paths = paths_by p.opened (want_in p.client u) p.paths;
-  opened = p.opened + lives_opened (want_in p.client u);
-}
+peers_came p u =
+    let x = want_in p.routes p.client u in
+    record p {
+      client = conn_step p.routes p.client u;
+      container = container_kept p.container x;
+      paths = paths_by p.routes p.opened x p.paths;
+      opened = p.opened + lives_opened x;
+    }
 
 abbrev pub peers_heard : Peers → Unit10 → Peers
 peers_heard p u =
@@ -212,19 +217,29 @@ peers_heard p u =
 abbrev pub peers_lost : Peers → Peers
 peers_lost p =
     peers_failed
-    (record p { container = ended_in p.container; paths = map (option_map lost_path) p.paths })
+    (record p { container = ended_in p.container; paths = paths_lost p.paths })
 
-abbrev pub new_peers : List ℕ → Peers
-new_peers vhost =
-    record { client = new_connection vhost; container = None; paths = no_paths; opened = 0 }
+abbrev pub new_peers : SiteText → Peers
+new_peers site = record {
+  routes = site.routes;
+  client = new_connection site.vhost;
+  container = None;
+  paths = no_paths;
+  opened = 0;
+}
+
+-- what the report was owed of the paths was reported
+abbrev pub peers_told : Peers → Peers
+peers_told p = record p { paths = told_paths p.paths }
 
 abbrev pub peers : List Step → Peers
-peers [] = new_peers []
-peers (Began vhost n ms ∷ h) = new_peers vhost
-peers (Moment ms ∷ h) = record (peers h) {
+peers [] = new_peers (record { vhost = []; routes = [] })
+peers (Began site n ms ∷ h) = new_peers site
+peers (Moment ms ∷ h) = record (peers_told (peers h)) {
   client = close_if (is_limit_reached (peers h).client (accepted_in h) ms) (peers h).client;
 }
-peers (Fed end ∷ h) = peers h
+peers (Fed Client ∷ h) = peers h
+peers (Fed Up ∷ h) = peers_told (peers h)
 peers (Silent Client ∷ h) = record (peers h) { client = after_ended (peers h).client }
 peers (Silent Up ∷ h) = peers_failed (peers h)
 peers (Queued u ∷ h) = peers h
@@ -234,12 +249,12 @@ peers (TakenUp ∷ h) =
     record (peers h) { client = after_ended (peers h).client }
     else peers h
 peers (Heard u ∷ h) = if ran_out_in h then peers h else peers_heard (peers h) u
-peers (Joined link.Ok ∷ h) = peers h
-peers (Joined link.Failed ∷ h) = peers_failed (peers h)
+peers (Joined link.Ok ∷ h) = peers_told (peers h)
+peers (Joined link.Failed ∷ h) = peers_failed (peers_told (peers h))
 peers (Lost Client how ∷ h) = peers h
 peers (Lost Up loss.Ended ∷ h) = peers_lost (peers h)
 peers (Lost Up loss.Failed ∷ h) = peers_lost (peers h)
-peers (Lost Up loss.Shut ∷ h) = peers h
+peers (Lost Up loss.Shut ∷ h) = record (peers h) { paths = paths_lost (peers h).paths }
 peers (Gave (ToClient u) text ∷ h) = record (peers h) {
   client = conn_given u (peers h).client;
   paths = paths_given u (peers h).paths;
@@ -254,6 +269,9 @@ peers (OutOfMemory ∷ h) = record (peers h) { client = close (peers h).client }
 -- the paths of the channels
 abbrev pub paths_in : List Step → List (Option PathState)
 paths_in h = (peers h).paths
+
+abbrev pub routes_in : List Step → List Route
+routes_in h = (peers h).routes
 
 abbrev pub connection : List Step → Connection
 connection h = (peers h).client
@@ -311,21 +329,22 @@ reply_to want.CloseOk = []
 reply_to (want.Refuse r) = if is_of_channel r then [] else reply.Close r ∷ []
 
 -- bytes that begin no protocol header get the gateway's own
-abbrev pub replies_to : Connection → Unit91 → List Reply
-replies_to c u = when (turns_foreign c u) reply.Protocol ++ reply_to (want_in c u)
+abbrev pub replies_to : List Route → Connection → Unit91 → List Reply
+replies_to routes c u =
+    when (turns_foreign routes c u) reply.Protocol ++ reply_to (want_in routes c u)
 
 -- a client whose connection isn't closing yet is told of a failure upstream
 abbrev pub failure_to : Connection → ℕ → List Reply
 failure_to c code = when (not (is_closing c)) (reply.Close (failure code))
 
--- the reply to what a unit of the container means: to its open connection.open-ok, where that is
--- awaited
 -- what closes the connection
 abbrev pub closes_connection : Option Scope → Bool
 closes_connection None = false
 closes_connection (Some scope.Connection) = true
 closes_connection (Some scope.Channel) = false
 
+-- the reply to what a unit of the container means: to its open connection.open-ok, where that is
+-- awaited
 abbrev pub reply_by : Connection → List (Option PathState) → Meaning → List Reply
 reply_by c ps ten.Nothing = []
 reply_by c ps ten.Init = []
@@ -341,7 +360,9 @@ reply_by c ps (ten.Violation why) = failure_to c INTERNAL_ERROR
 -- ran out of memory units are passed over
 abbrev pub replies : List Step → List Reply
 replies [] = []
-replies (Came u ∷ h) = if ran_out_in h then replies h else replies h ++ replies_to (connection h) u
+replies (Came u ∷ h) =
+    if ran_out_in h then replies h
+    else replies h ++ replies_to (routes_in h) (connection h) u
 replies (Heard u ∷ h) =
     if ran_out_in h then replies h
     else replies h ++ reply_by (connection h) (paths_in h) (meaning_by (container h) u)
@@ -402,5 +423,5 @@ sent_up_at (s ∷ h) = sent_up_at h
 -- the pair's number
 abbrev pub number_in : List Step → ℕ
 number_in [] = 0
-number_in (Began vhost n ms ∷ h) = n
+number_in (Began site n ms ∷ h) = n
 number_in (s ∷ h) = number_in h

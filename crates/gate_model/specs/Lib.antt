@@ -10,6 +10,7 @@ pub mod Paths
 pub mod Picks
 pub mod Publishing
 pub mod Queue
+pub mod Reports
 pub mod Requests
 pub mod Session
 pub mod Setup

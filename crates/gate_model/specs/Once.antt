@@ -11,6 +11,7 @@ use Rattle.gate_model.specs.declared.channel.ChannelUnit.TheVariants as unit
 use Rattle.session_path.specs.declared.path.PathOk.TheVariants as ok
 use Rattle.gate_model.specs.declared.reply.Reply.{Reply}
 use Rattle.gate_model.specs.declared.reply.Reply.TheVariants as reply
+use Rattle.gate_model.specs.Folds.{routes_in}
 use Rattle.gate_model.specs.Folds.{connection, ran_out_in}
 use Rattle.gate_model.specs.State.{Came, Gave, Step, want_in}
 
@@ -23,7 +24,7 @@ abbrev pub wanted_in : (Want91 → Bool) → List Step → ℕ
 wanted_in t [] = 0
 wanted_in t (Came u ∷ h) =
     if ran_out_in h then wanted_in t h
-    else wanted_in t h + one_if (t (want_in (connection h) u))
+    else wanted_in t h + one_if (t (want_in (routes_in h) (connection h) u))
 wanted_in t (s ∷ h) = wanted_in t h
 
 -- how many units to it, of which the first byte was sent, pass one

@@ -1,9 +1,9 @@
 -- The paths of channels: the links, publishes and answers of each, by the numbers of channels.
-use Rattle.std.specs.Prelude.{ℕ, eqb, ◌+◌, ◌-◌, ◌==◌, ◌%◌, ◌^◌, nat_lt, min, Bool, true}
+use Rattle.std.specs.Prelude.{ℕ, zero, suc, eqb, ◌+◌, ◌-◌, ◌==◌, ◌%◌, ◌^◌, nat_lt, min, Bool, true}
 use Rattle.std.specs.Prelude.{false, not, ◌&&◌, ◌||◌}
 use Rattle.std.specs.Prelude.{if◌then◌else◌, List, [], ◌∷◌, replicate, slice_get}
 use Rattle.std.specs.Prelude.{slice_set}
-use Rattle.std.specs.Prelude.{take, length, Option, Some, None}
+use Rattle.std.specs.Prelude.{take, length, map, sum_by, nat_le, ◌++◌, Option, Some, None}
 use Rattle.std.specs.Int.{to_be_bytes, w64}
 use Rattle.std.specs.Option.{option_map}
 use Rattle.machine_10.specs.Reading.{field, number_at, number_in}
@@ -16,7 +16,10 @@ use Rattle.publish_path.specs.Offers.{rest_of}
 use Rattle.publish_path.specs.declared.publish.NextFrame.{NextFrame}
 use Rattle.session_path.specs.Links.{handle_at}
 use Rattle.session_path.specs.Path.{PathState, attach_came, flow_came, lost, opened}
-use Rattle.session_path.specs.Path.{outcome_came}
+use Rattle.session_path.specs.Due.{held, held_size_of, lines}
+use Rattle.session_path.specs.Path.{lines_told, outcome_came}
+use Rattle.open_items.specs.declared.lost.LostItem.{LostItem}
+use Rattle.gate_model.specs.declared.limits.TheConstants.{HELD_BYTES, HELD_PUBLISHES}
 use Rattle.session_path.specs.Links.{attach_fault}
 use Rattle.session_path.specs.declared.path.AttachDue.{AttachDue}
 use Rattle.session_path.specs.declared.path.AttachFault.{AttachFault}
@@ -56,6 +59,47 @@ set_path n s ps = slice_set ps n (Some s)
 abbrev pub with_path : ℕ → (PathState → PathState) → List (Option PathState)
     → List (Option PathState)
 with_path n f ps = slice_set ps n (option_map f (slot_at ps n))
+
+-- ---- what all hold
+
+-- the publishes that are held on all channels, and the bytes of their payloads
+abbrev pub held_on : Option PathState → ℕ
+held_on None = 0
+held_on (Some s) = held s
+
+abbrev pub bytes_on : Option PathState → ℕ
+bytes_on None = 0
+bytes_on (Some s) = held_size_of s
+
+abbrev pub held_in : List (Option PathState) → ℕ
+held_in ps = sum_by held_on ps
+
+abbrev pub bytes_in : List (Option PathState) → ℕ
+bytes_in ps = sum_by bytes_on ps
+
+-- so many, or so many bytes of them, are held that nothing more is taken up
+abbrev pub is_laden : List (Option PathState) → Bool
+is_laden ps = nat_le HELD_PUBLISHES (held_in ps) || nat_le HELD_BYTES (bytes_in ps)
+
+-- ---- what the report is owed
+
+-- the lines of the life with this number, where it is in progress on a channel
+abbrev pub lines_on : ℕ → Option PathState → List LostItem
+lines_on life None = []
+lines_on life (Some s) = if s.publishes.life == life then lines s else []
+
+abbrev pub lines_of_life : ℕ → List (Option PathState) → List LostItem
+lines_of_life life [] = []
+lines_of_life life (o ∷ os) = lines_on life o ++ lines_of_life life os
+
+-- those of lives 1 to n, by rising number
+abbrev pub lines_in : List (Option PathState) → ℕ → List LostItem
+lines_in ps zero = []
+lines_in ps (suc n) = lines_in ps n ++ lines_of_life (suc n) ps
+
+-- they were reported
+abbrev pub told_paths : List (Option PathState) → List (Option PathState)
+told_paths ps = map (option_map lines_told) ps
 
 -- ---- what the container says of links and transfers
 

@@ -52,7 +52,7 @@ pub record MayQueue (w : State) : Type 0 where
 
 -- what a step wants of those before it
 abbrev pub MayStep : List Step → Step → Type 0
-MayStep h (Began vhost n ms) = h ≡ []
+MayStep h (Began site n ms) = h ≡ []
 MayStep h (Moment ms) = moment_in h ≤ ms
 MayStep h (Fed end) = Unit {0}
 MayStep h (Silent end) = is_silent (before h) end ≡ true

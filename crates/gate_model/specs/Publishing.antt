@@ -37,11 +37,13 @@ use Rattle.gate_model.specs.declared.outgoing.UpUnit.{UpUnit}
 use Rattle.gate_model.specs.declared.outgoing.UpUnit.TheVariants as up
 use Rattle.gate_model.specs.declared.reply.Reply.{Reply}
 use Rattle.gate_model.specs.declared.reply.Reply.TheVariants as reply
+use Rattle.gate_model.specs.Folds.{routes_in}
 use Rattle.gate_model.specs.Folds.{carrying, connection, container, paths_in, peers, ran_out_in}
 use Rattle.gate_model.specs.Once.{is_channel_open, is_method_on}
 use Rattle.gate_model.specs.Paths.{credit_of, is_accepted, is_outcome, is_there, name_in, path_at}
 use Rattle.gate_model.specs.Paths.{text_of}
-use Rattle.gate_model.specs.Requests.{message_of}
+use Rattle.gate_model.specs.Requests.{address_of, message_of}
+use Rattle.gate_model.specs.declared.setup.Route.{Route}
 use Rattle.gate_model.specs.Session.{is_of_session, is_true}
 use Rattle.gate_model.specs.State.{Began, Came, Fed, Gave, Heard, Joined, Lost, Moment, Queued}
 use Rattle.gate_model.specs.State.{OutOfMemory, Silent, Step, TakenUp, Whole, link_scope, want_in}
@@ -66,19 +68,20 @@ method_events m = []
 
 -- of channel n, by what a unit of the client wants; a whole publish is taken up with the text of
 -- its image
-abbrev pub want_events : ℕ → Want91 → List PathEvent
-want_events n want.Nothing = []
-want_events n want.Start = []
-want_events n (want.Login mechanism response) = []
-want_events n want.Tuned = []
-want_events n want.OpenUp = []
-want_events n (want.Method k m) = if k == n then method_events m else []
-want_events n (want.Publish k m c) =
-    if k == n then event.Published (message_of m c).key (image_text (message_of m c)) ∷ [] else []
-want_events n (want.ChannelCloseOk k) = []
-want_events n want.Close = []
-want_events n want.CloseOk = []
-want_events n (want.Refuse r) = []
+abbrev pub want_events : List Route → ℕ → Want91 → List PathEvent
+want_events routes n want.Nothing = []
+want_events routes n want.Start = []
+want_events routes n (want.Login mechanism response) = []
+want_events routes n want.Tuned = []
+want_events routes n want.OpenUp = []
+want_events routes n (want.Method k m) = if k == n then method_events m else []
+want_events routes n (want.Publish k m c) =
+    if k == n then
+    event.Published (address_of routes (message_of m c)) (image_text (message_of m c)) ∷ [] else []
+want_events routes n (want.ChannelCloseOk k) = []
+want_events routes n want.Close = []
+want_events routes n want.CloseOk = []
+want_events routes n (want.Refuse r) = []
 
 -- ---- the container
 
@@ -107,6 +110,10 @@ heard_events p =
 abbrev pub lost_if : Bool → List PathEvent
 lost_if true = event.SessionLost ∷ []
 lost_if false = []
+
+-- the sessions are lost; what the report was owed before was reported
+abbrev pub losing : List PathEvent
+losing = event.SessionLost ∷ event.LinesWent ∷ []
 
 -- where the container is the cause, a connection that isn't closing yet closes, and the sessions
 -- are lost
@@ -166,7 +173,7 @@ given_event (unit.Transfer t) = event.TransferSent t.frame t.bytes
 given_event (unit.Settle x) = event.SettleSent x
 given_event (unit.Detach link handle) = event.DetachSent
 
--- the gateway's end loses the session
+-- the gateway's end loses the session, and what the report was owed before was reported
 abbrev pub up_events : ℕ → UpUnit → List PathEvent
 up_events n up.SaslHeader = []
 up_events n up.SaslInit = []
@@ -177,31 +184,33 @@ up_events n up.Empty = []
 up_events n (up.OnSession k u) = if k == n then given_event u ∷ [] else []
 up_events n (up.Flow k i o) = []
 up_events n (up.Begin k) = []
-up_events n (up.End k why) = if k == n then event.SessionLost ∷ [] else []
+up_events n (up.End k why) = if k == n then losing else event.LinesWent ∷ []
 
 -- ---- all steps
 
 -- what a step behind h is on channel n. Nothing that comes counts after the pair ran out of memory.
 -- A container's end that ended or failed loses the sessions even where the connection closes
 abbrev pub step_events : ℕ → List Step → Step → List PathEvent
-step_events n h (Began vhost number ms) = []
-step_events n h (Moment ms) = []
-step_events n h (Fed end) = []
+step_events n h (Began site number ms) = []
+step_events n h (Moment ms) = event.LinesWent ∷ []
+step_events n h (Fed Client) = []
+step_events n h (Fed Up) = event.LinesWent ∷ []
 step_events n h (Silent Client) = []
 step_events n h (Silent Up) = failing (connection h)
 step_events n h (Queued u) = []
 step_events n h (Came u) =
-    if ran_out_in h then [] else want_events n (want_in (connection h) u)
+    if ran_out_in h then []
+    else want_events (routes_in h) n (want_in (routes_in h) (connection h) u)
 step_events n h TakenUp = []
 step_events n h (Heard u) =
     if ran_out_in h then []
     else meaning_events (connection h) (paths_in h) n (meaning_by (container h) u)
-step_events n h (Joined link.Ok) = []
-step_events n h (Joined link.Failed) = failing (connection h)
+step_events n h (Joined link.Ok) = event.LinesWent ∷ []
+step_events n h (Joined link.Failed) = failing (connection h) ++ event.LinesWent ∷ []
 step_events n h (Lost Client how) = []
-step_events n h (Lost Up loss.Ended) = failing (connection h) ++ event.SessionLost ∷ []
-step_events n h (Lost Up loss.Failed) = failing (connection h) ++ event.SessionLost ∷ []
-step_events n h (Lost Up loss.Shut) = []
+step_events n h (Lost Up loss.Ended) = failing (connection h) ++ losing
+step_events n h (Lost Up loss.Failed) = failing (connection h) ++ losing
+step_events n h (Lost Up loss.Shut) = losing
 step_events n h (Gave (ToClient u) text) = reply_events n u
 step_events n h (Gave (ToUp u) text) = up_events n u
 step_events n h (Whole end) = []
@@ -210,7 +219,8 @@ step_events n h OutOfMemory = []
 -- it is a channel.open of channel n, which begins a life
 abbrev pub opens_channel : ℕ → List Step → Step → Bool
 opens_channel n h (Came u) =
-    not (ran_out_in h) && is_method_on is_channel_open n (want_in (connection h) u)
+    not (ran_out_in h)
+    && is_method_on is_channel_open n (want_in (routes_in h) (connection h) u)
 opens_channel n h s = false
 
 -- the events of the life in progress
@@ -297,7 +307,8 @@ text_wanted n want.CloseOk = None
 text_wanted n (want.Refuse r) = None
 
 abbrev pub text_taken : ℕ → List Step → Step → Option (List ℕ)
-text_taken n h (Came u) = if ran_out_in h then None else text_wanted n (want_in (connection h) u)
+text_taken n h (Came u) =
+    if ran_out_in h then None else text_wanted n (want_in (routes_in h) (connection h) u)
 text_taken n h s = None
 
 -- how many publishes of the life in progress were taken up

@@ -1,7 +1,9 @@
 -- What a unit of the client makes of its connection, and what it wants of the gateway: of the
 -- requests that the connection passes on, those that the gateway can't meet are refused.
-use Rattle.std.specs.Prelude.{ℕ, ◌==◌, Bool, false, not, ◌&&◌, if◌then◌else◌, []}
-use Rattle.std.specs.Prelude.{length, Option, None, Some, is_some}
+use Rattle.std.specs.Prelude.{ℕ, ◌==◌, Bool, false, not, ◌||◌, if◌then◌else◌, List, []}
+use Rattle.std.specs.Prelude.{length, Option, None, Some, is_some, unwrap_or}
+use Rattle.gate_model.specs.declared.setup.Route.{Route}
+use Rattle.gate_model.specs.Setup.{route_to}
 use Rattle.close_translate.specs.declared.codes.TheConstants.{NOT_FOUND, NOT_IMPLEMENTED}
 use Rattle.close_translate.specs.declared.codes.TheConstants.{PRECONDITION_FAILED}
 use Rattle.close_translate.specs.declared.conditions.Scope.TheVariants as scope
@@ -35,27 +37,38 @@ abbrev pub is_mandatory : Method91 → Bool
 is_mandatory (method.BasicPublish exchange key mandatory immediate) = mandatory
 is_mandatory m = false
 
--- it goes to the address that its routing key names, on the default exchange (AMQP 0-9-1 3.1.3.1)
-abbrev pub is_routed : Message091 → Bool
-is_routed m = length m.exchange == 0 && not (length m.key == 0)
+-- where it goes: on the default exchange to the address that its routing key names (AMQP 0-9-1
+-- 3.1.3.1), on another one to the address that this stands for
+abbrev pub key_address : List ℕ → Option (List ℕ)
+key_address key = if length key == 0 then None else Some key
+
+abbrev pub address_for : List Route → Message091 → Option (List ℕ)
+address_for routes m =
+    if length m.exchange == 0 then key_address m.key else route_to routes m.exchange
+
+abbrev pub address_of : List Route → Message091 → List ℕ
+address_of routes m = unwrap_or (address_for routes m) []
 
 -- ---- refusals
 
 -- of a publish: what isn't built, an exchange or a queue that isn't known, and a message that has
 -- no image in AMQP 1.0 (AMQP 0-9-1 1.2)
-abbrev pub publish_fault : Bool → Message091 → Option ℕ
-publish_fault mandatory m =
+abbrev pub publish_fault : List Route → Bool → Message091 → Option ℕ
+publish_fault routes mandatory m =
     if mandatory then Some NOT_IMPLEMENTED
-    else if not (is_routed m) then Some NOT_FOUND
+    else if not (is_some (address_for routes m)) then Some NOT_FOUND
     else if is_some (first_fault m) then Some PRECONDITION_FAILED
     else None
 
 -- of a method: an exchange that isn't known
-abbrev pub method_fault : Method91 → Option ℕ
-method_fault
+abbrev pub is_known : List Route → List ℕ → Bool
+is_known routes name = length name == 0 || is_some (route_to routes name)
+
+abbrev pub method_fault : List Route → Method91 → Option ℕ
+method_fault routes
     (method.ExchangeDeclare name kind passive durable auto_delete internal no_wait arguments) =
-    if length name == 0 then None else Some NOT_FOUND
-method_fault m = None
+    if is_known routes name then None else Some NOT_FOUND
+method_fault routes m = None
 
 -- what isn't built closes the connection, all else the channel; with the ids of the method
 abbrev pub refusal_for : ℕ → Method91 → ℕ → Refusal
@@ -73,24 +86,24 @@ abbrev pub refused_for : ℕ → Method91 → Option ℕ → Option Refusal
 refused_for n m None = None
 refused_for n m (Some code) = Some (refusal_for n m code)
 
-abbrev pub refusal_of_want : Want91 → Option Refusal
-refusal_of_want want.Nothing = None
-refusal_of_want want.Start = None
-refusal_of_want (want.Login mechanism response) = None
-refusal_of_want want.Tuned = None
-refusal_of_want want.OpenUp = None
-refusal_of_want (want.Method n m) = refused_for n m (method_fault m)
-refusal_of_want (want.Publish n m c) =
-    refused_for n m (publish_fault (is_mandatory m) (message_of m c))
-refusal_of_want (want.ChannelCloseOk n) = None
-refusal_of_want want.Close = None
-refusal_of_want want.CloseOk = None
-refusal_of_want (want.Refuse r) = None
+abbrev pub refusal_of_want : List Route → Want91 → Option Refusal
+refusal_of_want routes want.Nothing = None
+refusal_of_want routes want.Start = None
+refusal_of_want routes (want.Login mechanism response) = None
+refusal_of_want routes want.Tuned = None
+refusal_of_want routes want.OpenUp = None
+refusal_of_want routes (want.Method n m) = refused_for n m (method_fault routes m)
+refusal_of_want routes (want.Publish n m c) =
+    refused_for n m (publish_fault routes (is_mandatory m) (message_of m c))
+refusal_of_want routes (want.ChannelCloseOk n) = None
+refusal_of_want routes want.Close = None
+refusal_of_want routes want.CloseOk = None
+refusal_of_want routes (want.Refuse r) = None
 
 -- what is refused here is as what the connection refused
 abbrev pub refused_by : Option Refusal → machine.Step → machine.Step
 refused_by None x = x
 refused_by (Some r) x = (after_closing r.scope r.channel x.0, want.Refuse r)
 
-abbrev pub client_step : Connection → Unit91 → machine.Step
-client_step c u = refused_by (refusal_of_want (unit_step c u).1) (unit_step c u)
+abbrev pub client_step : List Route → Connection → Unit91 → machine.Step
+client_step routes c u = refused_by (refusal_of_want routes (unit_step c u).1) (unit_step c u)

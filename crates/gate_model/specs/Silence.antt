@@ -15,7 +15,7 @@ use Rattle.gate_model.specs.State.{Step, Began, Moment, Fed, Silent, Came, befor
 -- a unit is taken up on; that of the accept before
 abbrev pub fed_in : List Step → ℕ
 fed_in [] = 0
-fed_in (Began vhost n ms ∷ h) = ms
+fed_in (Began site n ms ∷ h) = ms
 fed_in (Moment ms ∷ h) = if is_held (before h) then ms else fed_in h
 fed_in (Fed Client ∷ h) = moment_in h
 fed_in (Came u ∷ h) =

@@ -51,6 +51,10 @@ use Rattle.gate_model.specs.declared.channel.SessionUnit.{SessionUnit}
 use Rattle.gate_model.specs.declared.channel.SessionUnit.TheVariants as session_unit
 use Rattle.gate_model.specs.Paths.{transfer_perf}
 use Rattle.gate_model.specs.Setup.{SetupText}
+use Rattle.open_items.specs.declared.lost.LostItem.{LostItem}
+use Rattle.open_items.specs.declared.lost.LostKind.{LostKind}
+use Rattle.open_items.specs.declared.lost.LostKind.TheVariants.{DeliveryLeft, DeliveryLost}
+use Rattle.open_items.specs.declared.lost.LostKind.TheVariants.{PublishLost, PublishUnknown}
 use Rattle.gate_model.specs.State.{State}
 use Rattle.gate_model.specs.declared.limits.TheConstants.{HANDLE_MAX}
 use Rattle.gate_model.specs.declared.timers.TheConstants.{IDLE_STATED}
@@ -155,6 +159,31 @@ spell_reply (reply.OnChannel n u) = channel_text n (channel_method u)
 spell_reply (reply.ChannelCloseOk n) = close_ok_on n
 spell_reply (reply.CrossedOk n) = close_ok_on n
 spell_reply (reply.ChannelClose n r) = close_on n r
+
+-- ---- lines of the report
+
+abbrev pub what_name : LostKind → List ℕ
+what_name PublishLost = codes " publish "
+what_name PublishUnknown = codes " publish "
+what_name DeliveryLeft = codes " delivery "
+what_name DeliveryLost = codes " delivery "
+
+abbrev pub fate_name : LostKind → List ℕ
+fate_name PublishLost = codes " lost\n"
+fate_name PublishUnknown = codes " unknown\n"
+fate_name DeliveryLeft = codes " left\n"
+fate_name DeliveryLost = codes " lost\n"
+
+-- what became of a message: the pair, the life of the channel on it, the number in the life, and
+-- what is known
+abbrev pub line_text : ℕ → LostItem → List ℕ
+line_text pair item =
+    codes "pair " ++ (decimal pair ++ (codes " life " ++ (decimal item.life
+    ++ (what_name item.kind ++ (decimal item.number ++ fate_name item.kind)))))
+
+abbrev pub lines_text : ℕ → List LostItem → List ℕ
+lines_text pair [] = []
+lines_text pair (item ∷ items) = line_text pair item ++ lines_text pair items
 
 -- ---- units to the container
 

@@ -51,7 +51,10 @@ use Rattle.machine_10.specs.Reading.{field}
 use Rattle.performatives_10.specs.declared.condition.Condition.TheVariants.{NotAllowed}
 use Rattle.performatives_10.specs.declared.condition.Condition.TheVariants.{ResourceLimitExceeded}
 use Rattle.gate_model.specs.declared.life.Life.{Life}
-use Rattle.gate_model.specs.Requests.{client_step, message_of}
+use Rattle.gate_model.specs.Requests.{address_of, client_step, message_of}
+use Rattle.gate_model.specs.Setup.{SiteText}
+use Rattle.gate_model.specs.declared.setup.Route.{Route}
+use Rattle.open_items.specs.declared.lost.LostItem.{LostItem}
 use Rattle.gate_model.specs.declared.outgoing.UpUnit.{UpUnit}
 use Rattle.gate_model.specs.declared.outgoing.UpUnit.TheVariants as up
 use Rattle.gate_model.specs.Lives.{any_life, begun_life, failed_life, is_done, is_of_channel}
@@ -80,7 +83,8 @@ use Rattle.gate_model.specs.declared.channel.SessionUnit.{SessionUnit}
 use Rattle.gate_model.specs.declared.channel.SessionUnit.TheVariants as unit
 use Rattle.gate_model.specs.declared.life.SessionState.{SessionState}
 use Rattle.gate_model.specs.Lives.{is_of_channel}
-use Rattle.gate_model.specs.Paths.{attach_by, fault_by, is_there, link_flowed, lost_path, name_in}
+use Rattle.gate_model.specs.Paths.{attach_by, fault_by, is_laden, is_there, lines_in, link_flowed}
+use Rattle.gate_model.specs.Paths.{lost_path, name_in, told_paths}
 use Rattle.gate_model.specs.Paths.{no_paths, outcome_by, path_at, set_path}
 use Rattle.gate_model.specs.Paths.{text_of, with_path}
 use Rattle.property_map.specs.Spelling.{image_text}
@@ -89,9 +93,9 @@ use Rattle.gate_model.specs.Queue.{Waits, is_bad_unit, is_full, place_in, unit_a
 use Rattle.performatives_10.specs.declared.condition.Condition.{Condition}
 
 pub data Step : Type 0 where
-  -- the pair with this number was accepted at this moment, and its client may open this virtual
-  -- host
-  Began : List ℕ → ℕ → ℕ → Step
+  -- the pair with this number was accepted at this moment, and its client may open and publish to
+  -- this
+  Began : SiteText → ℕ → ℕ → Step
   -- a moment was given
   Moment : ℕ → Step
   -- bytes of an end came
@@ -120,6 +124,8 @@ pub data Step : Type 0 where
 
 pub record State : Type 0 where
   pub number : ℕ
+  -- the exchanges that the client may publish to, besides the default one
+  pub routes : List Route
   -- the client's connection
   pub conn : Connection
   -- the units that are due to the client, and of which no byte was sent; but for heartbeats
@@ -179,10 +185,11 @@ none_pending = record {
 abbrev pub none_sent : SentLast
 none_sent = record { protocol = false; close_ok = false; close = false }
 
-abbrev pub new_state : List ℕ → ℕ → ℕ → State
-new_state vhost number ms = record {
+abbrev pub new_state : SiteText → ℕ → ℕ → State
+new_state site number ms = record {
   number = number;
-  conn = new_connection vhost;
+  routes = site.routes;
+  conn = new_connection site.vhost;
   pending = none_pending;
   in_progress = None;
   sent_last = none_sent;
@@ -250,10 +257,11 @@ abbrev pub close_waits : State → Bool
 close_waits w = w.client_closed && not (is_settled w)
 
 -- the client isn't read while its connection.open or connection.close waits, behind bytes with
--- which no unit begins, and while much isn't taken up
+-- which no unit begins, while much isn't taken up, and while many publishes are held
 abbrev pub is_held : State → Bool
 is_held w =
-    is_opening w.conn || (close_waits w || (list_any is_bad_unit w.queue || is_full w.queue))
+    is_opening w.conn
+    || (close_waits w || (list_any is_bad_unit w.queue || (is_full w.queue || is_laden w.paths)))
 
 -- the moment of the client's last byte, once it is held or not
 abbrev pub fed_by : Bool → ℕ → ℕ → ℕ
@@ -263,11 +271,11 @@ fed_by false ms at = at
 -- ---- a unit of the client
 
 -- the connection after a unit, and what that wants
-abbrev pub conn_step : Connection → Unit91 → Connection
-conn_step c u = (client_step c u).0
+abbrev pub conn_step : List Route → Connection → Unit91 → Connection
+conn_step routes c u = (client_step routes c u).0
 
-abbrev pub want_in : Connection → Unit91 → Want91
-want_in c u = (client_step c u).1
+abbrev pub want_in : List Route → Connection → Unit91 → Want91
+want_in routes c u = (client_step routes c u).1
 
 -- what becomes due by what a unit wants: the gateway's close is due no more once the client closed
 abbrev pub with_want : Want91 → Pending → Pending
@@ -335,8 +343,9 @@ is_foreign stream.Answered = false
 is_foreign stream.Ended = false
 
 -- they just turned out to be none: the gateway's own header is due
-abbrev pub turns_foreign : Connection → Unit91 → Bool
-turns_foreign c u = is_foreign (conn_step c u).stream && not (is_foreign c.stream)
+abbrev pub turns_foreign : List Route → Connection → Unit91 → Bool
+turns_foreign routes c u =
+    is_foreign (conn_step routes c u).stream && not (is_foreign c.stream)
 
 abbrev pub with_header : Bool → Pending → Pending
 with_header foreign p = record p { protocol = p.protocol || foreign }
@@ -360,19 +369,20 @@ paths_with life n method.ChannelOpen ps = set_path n (session.opened life) ps
 paths_with life n m ps = with_path n (path_by m) ps
 
 -- the paths of channels after what a unit wants
-abbrev pub paths_by : ℕ → Want91 → List (Option PathState) → List (Option PathState)
-paths_by life want.Nothing ps = ps
-paths_by life want.Start ps = ps
-paths_by life (want.Login mechanism response) ps = ps
-paths_by life want.Tuned ps = ps
-paths_by life want.OpenUp ps = ps
-paths_by life (want.Method n m) ps = paths_with (life + 1) n m ps
-paths_by life (want.Publish n m c) ps =
-    with_path n (published (message_of m c).key (image_text (message_of m c))) ps
-paths_by life (want.ChannelCloseOk n) ps = ps
-paths_by life want.Close ps = ps
-paths_by life want.CloseOk ps = ps
-paths_by life (want.Refuse r) ps = ps
+abbrev pub paths_by : List Route → ℕ → Want91 → List (Option PathState) → List (Option PathState)
+paths_by routes life want.Nothing ps = ps
+paths_by routes life want.Start ps = ps
+paths_by routes life (want.Login mechanism response) ps = ps
+paths_by routes life want.Tuned ps = ps
+paths_by routes life want.OpenUp ps = ps
+paths_by routes life (want.Method n m) ps = paths_with (life + 1) n m ps
+paths_by routes life (want.Publish n m c) ps =
+    with_path n
+    (published (address_of routes (message_of m c)) (image_text (message_of m c))) ps
+paths_by routes life (want.ChannelCloseOk n) ps = ps
+paths_by routes life want.Close ps = ps
+paths_by routes life want.CloseOk ps = ps
+paths_by routes life (want.Refuse r) ps = ps
 
 abbrev pub opens_by_method : Method91 → ℕ
 opens_by_method method.ChannelOpen = 1
@@ -387,7 +397,7 @@ abbrev pub met : Bool → Want91 → State → State
 met closing x w = record w {
   pending = with_want x w.pending;
   lives = lives_by w.moment x w.lives;
-  paths = paths_by w.opened x w.paths;
+  paths = paths_by w.routes w.opened x w.paths;
   opened = w.opened + lives_opened x;
   up = closing_with closing (condition_by x) (keep_login x w.up);
   client_closed = w.client_closed || (not closing && is_close_want x);
@@ -396,13 +406,14 @@ met closing x w = record w {
 -- the connection after a unit, what is due by that, and the moment of the first closing event
 abbrev pub stepped : State → Unit91 → State
 stepped w u =
-    met (is_closing w.conn) (want_in w.conn u) (record w { conn = conn_step w.conn u })
+    met (is_closing w.conn) (want_in w.routes w.conn u)
+    (record w { conn = conn_step w.routes w.conn u })
 
 abbrev pub came : State → Unit91 → State
 came w u =
     let v = stepped w u in
     record v {
-      pending = with_header (turns_foreign w.conn u) v.pending;
+      pending = with_header (turns_foreign w.routes w.conn u) v.pending;
       fed_at = fed_by (is_held v) w.moment w.fed_at;
       closed_at = closes_at w.closed_at (is_closing v.conn) w.moment;
     }
@@ -411,8 +422,9 @@ came w u =
 
 -- the connection upstream is there or not; a client whose container can't be reached is told so
 abbrev pub joined : State → Linked → State
-joined w link.Ok = record w { up = linked w.moment w.up }
-joined w link.Failed = fail CONNECTION_FORCED None (record w { up = shut_by w.up })
+joined w link.Ok = record w { up = linked w.moment w.up; paths = told_paths w.paths }
+joined w link.Failed =
+    fail CONNECTION_FORCED None (record w { up = shut_by w.up; paths = told_paths w.paths })
 
 -- the container opened: the client's connection runs, unless it closes already
 abbrev pub runs : State → State
@@ -556,9 +568,9 @@ waits w = record {
 
 -- ---- taking up
 
--- the place of the unit that is taken up next
+-- the place of the unit that is taken up next: none is while many publishes are held
 abbrev pub place : State → Option ℕ
-place w = place_in (waits w) w.queue
+place w = if is_laden w.paths then None else place_in (waits w) w.queue
 
 abbrev pub next_unit : State → Option Unit91
 next_unit w = unit_at (place w) w.queue
@@ -566,11 +578,18 @@ next_unit w = unit_at (place w) w.queue
 abbrev pub dequeued : State → State
 dequeued w = record w { queue = without_at (place w) w.queue }
 
+-- ---- lines of the report
+
+-- those that a moment, a read of the upstream end, a connect, the loss of that end or the end of a
+-- session made owed are reported before the next of these: by rising number of the life
+abbrev pub owed_lines : State → List LostItem
+owed_lines w = lines_in w.paths w.opened
+
 -- ---- reads
 
 abbrev pub fed : State → End → State
 fed w Client = record w { fed_at = w.moment }
-fed w Up = record w { up = record w.up { fed_at = w.moment } }
+fed w Up = record w { up = record w.up { fed_at = w.moment }; paths = told_paths w.paths }
 
 -- ---- a moment
 
@@ -588,6 +607,7 @@ told w ms =
     let late = is_limit_reached w.conn w.accepted_at ms in
     record w {
       conn = close_if late w.conn;
+      paths = told_paths w.paths;
       moment = ms;
       fed_at = fed_by (is_held w) ms w.fed_at;
       closed_at = closes_at w.closed_at late ms;
@@ -605,11 +625,15 @@ has_left stream.Bad = false
 has_left stream.Answered = false
 has_left stream.Ended = true
 
+-- what was reported before isn't again
+abbrev pub paths_lost : List (Option PathState) → List (Option PathState)
+paths_lost ps = map (option_map lost_path) (told_paths ps)
+
 -- the upstream end is lost: the client is told so
 abbrev pub lost_up : Side → State → State
 lost_up x w =
     fail CONNECTION_FORCED None
-    (record w { up = lost_by x w.up; paths = map (option_map lost_path) w.paths })
+    (record w { up = lost_by x w.up; paths = paths_lost w.paths })
 
 -- the first of both that comes is taken up in its place
 abbrev pub lost : State → End → Loss → State
@@ -619,7 +643,7 @@ lost w Client loss.Failed =
 lost w Client loss.Shut = record w { gone = true }
 lost w Up loss.Ended = lost_up side.Ended w
 lost w Up loss.Failed = lost_up side.Failed w
-lost w Up loss.Shut = record w { up = shut_by w.up }
+lost w Up loss.Shut = record w { up = shut_by w.up; paths = paths_lost w.paths }
 
 -- an end is taken up as a connection.close that wants no answer
 abbrev pub left : State → State
@@ -737,7 +761,7 @@ path_given (unit.Detach link handle) s = detach_sent s
 
 abbrev pub paths_given_up : UpUnit → List (Option PathState) → List (Option PathState)
 paths_given_up (up.OnSession n u) ps = with_path n (path_given u) ps
-paths_given_up (up.End n why) ps = with_path n lost_path ps
+paths_given_up (up.End n why) ps = with_path n lost_path (told_paths ps)
 paths_given_up u ps = ps
 
 abbrev pub is_attach : SessionUnit → Bool
@@ -814,9 +838,10 @@ wrote w Up = record w { up = finished w.moment w.up }
 
 -- what comes in is passed over after the pair ran out of memory
 abbrev pub step : State → Step → State
-step w (Began vhost number ms) = record w {
+step w (Began site number ms) = record w {
   number = number;
-  conn = new_connection vhost;
+  routes = site.routes;
+  conn = new_connection site.vhost;
   accepted_at = ms;
   moment = ms;
   last_sent_at = ms;
@@ -836,5 +861,5 @@ step w (Whole end) = wrote w end
 step w OutOfMemory = ran_out w
 
 abbrev pub before : List Step → State
-before [] = new_state [] 0 0
+before [] = new_state (record { vhost = []; routes = [] }) 0 0
 before (s ∷ h) = step (before h) s

@@ -20,13 +20,14 @@ ghost use Rattle.gate_model.specs.Publishing.{ArePieces, Confirms, EndWhole, Tra
 ghost use Rattle.gate_model.specs.Publishing.{path_events, path_life};
 ghost use Rattle.gate_model.specs.Silence.{SilentAtOnce, SilentWhenDue};
 ghost use Rattle.gate_model.specs.Spelling.{spell_reply};
-ghost use Rattle.gate_model.specs.State.{Step, before};
+ghost use Rattle.gate_model.specs.Reports.{lines_owed};
+ghost use Rattle.gate_model.specs.State.{Step, before, owed_lines};
 ghost use Rattle.gate_model.specs.Times.{BeatsAtOnce, BeatsWhenDue, LateCloses, ShutsAtOnce};
 ghost use Rattle.gate_model.specs.Waiting.{ChannelsEndWhenSettled, EndsWhenSettled};
 ghost use Rattle.gate_model.specs.Waiting.{OpensWhenOpened};
 
 use machine_091::connection_laws;
-use publish_path::{confirms_lawfully, payloads_lawfully};
+use publish_path::{confirms_lawfully, lines_lawfully, payloads_lawfully};
 use session_path::publishes_lawfully;
 
 /// The state knows both connections, how far the upstream end is, the last moment, whether the pair
@@ -78,6 +79,16 @@ pub fn payloads_are_whole()
 {
     publishes_lawfully();
     payloads_lawfully();
+}
+
+/// What the report is owed of publishes: of each life in progress, by rising number, the publishes
+/// that were lost before they had an outcome and of which no line was reported, by rising number,
+/// and what became of each. By `publish_path::lines_lawfully` each of them has one line.
+pub fn lines_are_lawful()
+    ensures { (h : List Step) → ArePicks h → owed_lines (before h) ≡ lines_owed h }
+{
+    publishes_lawfully();
+    lines_lawfully();
 }
 
 /// What was sent to a client, without heartbeats, and what is due to it are the replies to its

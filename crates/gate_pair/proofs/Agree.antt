@@ -1,5 +1,6 @@
 -- What the entries say of the accept, of the ends and of the moment at which each took its last byte is what their steps say.
-use Rattle.std.proofs.Common.{◌≡◌, ◌∙◌, ℕ, Bool, true, false, if◌then◌else◌, List, [], ◌∷◌, ◌++◌, drop, length, nat_lt, map, Option, None, Some, refl, sym, ap, subst}
+use Rattle.std.proofs.Common.{◌≡◌, ◌∙◌, ℕ, Bool, true, false, if◌then◌else◌, List, [], ◌∷◌, ◌++◌}
+use Rattle.std.proofs.Common.{drop, length, nat_lt, map, Option, None, Some, refl, sym, ap, subst}
 use Rattle.std.specs.Prelude.{is_some}
 use Rattle.std.specs.Option.{option_map}
 use Rattle.gate_outside.specs.declared.ports.End.{End}
@@ -23,13 +24,17 @@ use Rattle.gate_model.specs.Due.{carries_up, client_rows, is_busy, up_rows}
 use Rattle.gate_model.specs.Folds.{accepted_in, failed_in, moment_in, sent_at, sent_up_at, side_in}
 use Rattle.gate_model.specs.Setup.{SetupText}
 use Rattle.gate_model.specs.State as state
-use Rattle.gate_model.specs.State.{State, Step, Came, Gave, Heard, Joined, Lost, TakenUp, Whole, before}
+use Rattle.gate_model.specs.Paths.{told_paths}
+use Rattle.gate_model.specs.State.{State, Step, Came, Gave, Heard, Joined, Lost, TakenUp, Whole}
+use Rattle.gate_model.specs.State.{before}
 use Rattle.gate_model.specs.Upstream.{UpState, closing_with, first, shut_by}
-use Rattle.gate_pair.specs.Meaning.{begins, ends, given, offered, pair_words, spelled_in, state_of, steps_of, told}
+use Rattle.gate_pair.specs.Meaning.{begins, ends, given, offered, pair_words, spelled_in, state_of}
+use Rattle.gate_pair.specs.Meaning.{steps_of, told}
 use Rattle.gate_pair.specs.Times.{accepted_of, has_failed, last_taken_at, last_taken_up_at}
 use Rattle.gate_pair.proofs.Picks.{offered_is}
 use Rattle.gate_pair.proofs.Saids.{after_before}
-use Rattle.gate_pair.proofs.Taken.{AreTaken, Leaves, all_leave, drop_taken, fail_leaves, fresh_taken, leave_folds, lost_leaves, moment_is, silent_leaves}
+use Rattle.gate_pair.proofs.Taken.{AreTaken, Leaves, all_leave, drop_taken, fail_leaves}
+use Rattle.gate_pair.proofs.Taken.{fresh_taken, leave_folds, lost_leaves, moment_is, silent_leaves}
 use Rattle.gate_pair.proofs.Ticks.{tick_all}
 
 -- what entries say
@@ -79,7 +84,7 @@ record LeavesUp (g h : List Step) : Type 0 where
 
 leave_up : (g h : List Step) → AreTaken g → LeavesUp g h
 leave_up [] h a = record { side_is = refl; at_is = refl }
-leave_up (state.Began vhost n ms ∷ g) h a = absurd a.0
+leave_up (state.Began site n ms ∷ g) h a = absurd a.0
 leave_up (state.Moment ms ∷ g) h a = absurd a.0
 leave_up (state.Fed end ∷ g) h a = absurd a.0
 leave_up (state.Silent end ∷ g) h a = absurd a.0
@@ -170,7 +175,7 @@ agrees_lost g Up loss.Shut h x = record { accepted_is = x.accepted_is; failed_is
 agrees_joined : (g : List Step) (answer : Linked) (h : List Entry) → moment_in g ≡ moment_of h → Agrees g (clock h) → Agrees (Joined answer ∷ g) (clock (entry.Joined answer ∷ h))
 agrees_joined g link.Ok h m x = record { accepted_is = x.accepted_is; failed_is = x.failed_is; side_is = refl; at_is = x.at_is; up_at_is = λ e. m }
 agrees_joined g link.Failed h m x =
-    let l = fail_leaves _ None (record (before g) { up = shut_by (before g).up }) in
+    let l = fail_leaves _ None (record (before g) { up = shut_by (before g).up; paths = told_paths (before g).paths }) in
     record {
       accepted_is = x.accepted_is;
       failed_is = x.failed_is;

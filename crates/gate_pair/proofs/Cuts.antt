@@ -1,5 +1,7 @@
 -- The loop of a read, over states alone.
-use Rattle.std.proofs.Common.{◌≡◌, ◌∙◌, ℕ, zero, suc, ◌+◌, ◌-◌, ◌<◌, List, [], ◌∷◌, ◌++◌, refl, sym, ap, subst, arith, drop, length, append_assoc}
+use Rattle.std.proofs.Common.{◌≡◌, ◌∙◌, ℕ, zero, suc, ◌+◌, ◌-◌, ◌<◌, Bool, true, false, List, []}
+use Rattle.std.proofs.Common.{◌∷◌, ◌++◌, refl, sym, ap, subst, arith, drop, length, append_assoc}
+use Rattle.std.proofs.Common.{length-append}
 use Rattle.std.proofs.Math.Seq.{drop-length, drop-nil}
 use Rattle.gate_outside.specs.declared.ports.End.{End}
 use Rattle.gate_outside.specs.declared.ports.End.TheVariants.{Client, Up}
@@ -11,12 +13,15 @@ use Rattle.machine_10.specs.declared.state.Awaited10.{Awaited10}
 use Rattle.machine_10.specs.declared.unit.Unit10.{Unit10}
 use Rattle.machine_10.specs.declared.unit.Unit10.TheVariants as unit_10
 use Rattle.performatives_10.specs.declared.condition.Condition.{Condition}
+use Rattle.frames_10.specs.FrameScan.{is_whole}
 use Rattle.wire_base.specs.declared.scan.Scan.{Scan}
 use Rattle.wire_base.specs.declared.scan.Scan.TheVariants.{Whole, More, Bad}
 use Rattle.gate_model.specs.State.{State, Step, Queued, Heard, OutOfMemory, step}
 use Rattle.gate_model.specs.Upstream.{awaited_of}
-use Rattle.gate_pair.specs.Cutting.{Cut, after, as_step, behind, cut_all, cut_of, on_scan, read_end, settle, step_scan, unit_scan, up_scan}
-use Rattle.gate_pair.specs.PairStates.{IsCut, QueuesInPart, Reads, ReadsInPart, Settles, SettlesInPart}
+use Rattle.gate_pair.specs.Cutting.{Cut, after, as_step, behind, cut_all, cut_of, on_scan, read_end}
+use Rattle.gate_pair.specs.Cutting.{settle, step_scan, unit_scan, up_scan}
+use Rattle.gate_pair.specs.PairStates.{IsCut, QueuesInPart, Reads, ReadsInPart, ReadsUpInPart}
+use Rattle.gate_pair.specs.PairStates.{Settles, SettlesInPart}
 use Rattle.gate_pair.proofs.Settlings.{Grows, grows_more, less_one, settled_grows}
 
 pub drop_list : {A : Type 0} (n at : ℕ) (xs : List A) → drop n (drop at xs) ≡ drop (at + n) xs
@@ -118,6 +123,36 @@ cut_at end old now next bytes at left r e =
       now = e ∙ ap (λ (w : State). step w OutOfMemory) r.here;
     }
 
+-- at a unit of the container: it doesn't count
+abbrev pub is_found : Scan Step Step → Bool
+is_found More = false
+is_found (Bad s) = true
+is_found (Whole s n) = true
+
+found_grows : (old : State) (f : ℕ) (k : List Step) (rest : List ℕ) (x : Scan Step Step) → is_found x ≡ true → (all : List Step)
+    → (on_scan x (cut_of k rest) (λ s. cut_of (s ∷ k) []) (λ s n. read_end Up old f (s ∷ k) (drop n rest))).fresh ≡ all
+    → (s : Step) × Grows (s ∷ k) all
+found_grows old f k rest More e all is = absurd cc
+found_grows old f k rest (Bad s) e all is = (s, record { newer = []; parts = sym is })
+found_grows old f k rest (Whole s n) e all is =
+    let g = read_grows Up old f (s ∷ k) (drop n rest) in (s, record { newer = g.newer; parts = sym is ∙ g.parts })
+
+pub found_cut_at : (old now next : State) (bytes : List ℕ) (at i : ℕ) → i < length bytes → Reading Up old now bytes at (length bytes - i)
+    → is_found (step_scan Up now (drop at bytes)) ≡ true → next ≡ step now OutOfMemory → ReadsUpInPart bytes old next
+found_cut_at old now next bytes at i lt r found e =
+    let f = length bytes - (i + 1) in
+    let x = left_at Up old now bytes at i lt r in
+    let all = sym (step_read Up old now x.k f (drop at bytes) _ x.here refl) ∙ x.same in
+    let g = found_grows old f x.k (drop at bytes) (step_scan Up now (drop at bytes)) found _ (ap (λ (c : Cut). c.fresh) all) in (
+      record {
+        newer = g.1.newer ++ g.0 ∷ [];
+        older = x.k;
+        parts = g.1.parts ∙ sym (append_assoc g.1.newer (g.0 ∷ []) x.k);
+        now = e ∙ ap (λ (w : State). step w OutOfMemory) x.here;
+      },
+      omega (arith, length-append g.1.newer (g.0 ∷ [])),
+    )
+
 -- before it began
 pub none_cut : (end : End) (old next : State) (bytes : List ℕ) → next ≡ step old OutOfMemory → ReadsInPart end bytes old next
 none_cut end old next bytes e =
@@ -170,3 +205,14 @@ pub scan_hears : (w : State) (a : Awaited10) (bytes rest : List ℕ) (x : Scan U
     → step_scan Up w bytes ≡ as_step Heard unit_10.Bad x
 scan_hears w a bytes rest x e same is =
     ap (as_step Heard unit_10.Bad) (ap (λ (c : Awaited10). up_scan c bytes) (sym e) ∙ ap (up_scan a) (sym same) ∙ sym is)
+
+-- where memory ran out a unit is there
+pub whole_found : (w : State) (a : Awaited10) (bytes rest : List ℕ) → a ≡ awaited_of w.up.container → rest ≡ bytes → is_whole (up_scan a rest) ≡ true
+    → is_found (step_scan Up w bytes) ≡ true
+whole_found w a bytes rest e same is =
+    ap is_found (scan_hears w a bytes rest (up_scan a rest) e same refl) ∙ by (up_scan a rest) is
+  where
+    by : (x : Scan Unit10 Condition) → is_whole x ≡ true → is_found (as_step Heard unit_10.Bad x) ≡ true
+    by (Whole u n) e = refl
+    by More e = absurd cc
+    by (Bad code) e = absurd cc

@@ -1,5 +1,7 @@
 -- Each end's units are those with which its bytes begin, however these were cut.
-use Rattle.std.proofs.Common.{◌≡◌, ◌≢◌, ◌∙◌, ℕ, zero, suc, ◌≤◌, Bool, true, false, not, ◌&&◌, if◌then◌else◌, List, [], ◌∷◌, ◌++◌, length, drop, nat_lt, Option, None, Some, refl, sym, ap, subst, arith, append-nil}
+use Rattle.std.proofs.Common.{◌≡◌, ◌≢◌, ◌∙◌, ℕ, zero, suc, ◌≤◌, Bool, true, false, not, ◌&&◌}
+use Rattle.std.proofs.Common.{if◌then◌else◌, List, [], ◌∷◌, ◌++◌, length, drop, nat_lt, Option}
+use Rattle.std.proofs.Common.{None, Some, refl, sym, ap, subst, arith, append-nil}
 use Rattle.std.specs.Prelude.{is_some}
 use Rattle.std.proofs.lemmas.List.{drop-append-le, length-drop}
 use Rattle.gate_outside.specs.declared.ports.End.{End}
@@ -38,18 +40,26 @@ use Rattle.gate_model.specs.Due.{can_leave, is_busy, pick}
 use Rattle.gate_model.specs.Folds.{connection, container}
 use Rattle.gate_model.specs.declared.outgoing.UpUnit.{UpUnit}
 use Rattle.gate_model.specs.Picks.{ArePicks, MayStep}
-use Rattle.gate_model.specs.Setup.{SetupText}
+use Rattle.gate_model.specs.Setup.{SetupText, site_of}
 use Rattle.gate_model.specs.State as state
-use Rattle.gate_model.specs.State.{State, Step, Came, Heard, Queued, TakenUp, before, next_unit, step}
-use Rattle.gate_model.specs.Upstream.{awaited_of, container_given, ended_in, is_awaited_up, sessions_given}
+use Rattle.gate_model.specs.State.{State, Step, Came, Heard, Queued, TakenUp, before, next_unit}
+use Rattle.gate_model.specs.State.{step}
+use Rattle.gate_model.specs.Upstream.{awaited_of, container_given, ended_in, is_awaited_up}
+use Rattle.gate_model.specs.Upstream.{sessions_given}
 use Rattle.gate_model.proofs.Known.{conn_is, container_is, known}
 use Rattle.gate_model.proofs.Times.{and_right}
-use Rattle.gate_pair.specs.Answers.{AreCut, AreHeard, CutsInto, CutsUpInto, Finds, NoneWhole, heard_bytes}
-use Rattle.gate_pair.specs.Cutting.{Cut, IsWithin, after, as_step, as_unit, behind, cut_all, cut_of, on_next, on_scan, read_end, settle, settled, step_scan, unit_scan, up_scan}
-use Rattle.gate_pair.specs.Meaning.{begins, ends, given, leaves, pair_words, state_of, steps_of, told}
-use Rattle.gate_pair.proofs.Logins.{AreLoggedIn, Comes, Ends, IsUnheard, Keeps, Moves, Sends, Stays, follows, keeps_given, moves, stays_some}
+use Rattle.gate_pair.specs.Answers.{AreCut, AreHeard, CutsInto, CutsUpInto, Finds, NoneWhole}
+use Rattle.gate_pair.specs.Answers.{heard_bytes}
+use Rattle.gate_pair.specs.Cutting.{Cut, IsWithin, after, as_step, as_unit, behind, cut_all, cut_of}
+use Rattle.gate_pair.specs.Cutting.{on_next, on_scan, read_end, settle, settled, step_scan}
+use Rattle.gate_pair.specs.Cutting.{unit_scan, up_scan}
+use Rattle.gate_pair.specs.Meaning.{begins, ends, given, leaves, pair_words, state_of, steps_of}
+use Rattle.gate_pair.specs.Meaning.{told}
+use Rattle.gate_pair.proofs.Logins.{AreLoggedIn, Comes, Ends, IsUnheard, Keeps, Moves, Sends, Stays}
+use Rattle.gate_pair.proofs.Logins.{follows, keeps_given, moves, stays_some}
 use Rattle.gate_pair.proofs.Memories.{memory_of}
-use Rattle.gate_pair.proofs.Picks.{FindsMay, fed_good, found_since, good_at, moment_picks, picks, read_calm}
+use Rattle.gate_pair.proofs.Picks.{FindsMay, fed_good, found_since, good_at, moment_picks, picks}
+use Rattle.gate_pair.proofs.Picks.{read_calm}
 use Rattle.gate_pair.proofs.Queued.{IsGood, IsGoodAt, IsReadyAt, behind_picks, behind_ready}
 use Rattle.gate_pair.proofs.Saids.{after_before}
 use Rattle.gate_pair.proofs.Taken.{AreTaken, FindsTaken, IsTaken, behind_taken, found}
@@ -502,7 +512,7 @@ hears st l s [] r = record {
   up = record { cuts = ([], refl); all = λ m. record { cuts = refl; none = none_empty Up [] [] refl } };
 }
 hears st l s (entry.Began n ms ∷ h) r =
-    let x = state.Began s.vhost n ms in both_on (x ∷ []) (steps_of s h) (one_other x tt tt) (picks s (entry.Began n ms ∷ h) r) (hears st l s h r.2)
+    let x = state.Began (site_of s) n ms in both_on (x ∷ []) (steps_of s h) (one_other x tt tt) (picks s (entry.Began n ms ∷ h) r) (hears st l s h r.2)
 hears st l s (entry.Refused ∷ h) r =
     let x = hears st l s h r.2 in
     record { client = fails Client _ x.client.cuts; up = fails Up _ x.up.cuts }

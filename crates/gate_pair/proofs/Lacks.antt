@@ -1,11 +1,14 @@
 -- The rows of what is due on channels to a container hold no other unit.
-use Rattle.std.proofs.Common.{◌≡◌, ℕ, Bool, true, false, ◌&&◌, map, List, [], ◌∷◌, ◌++◌, Option, None, Some, refl, ap, ◌∙◌}
+use Rattle.std.proofs.Common.{◌≡◌, ℕ, Bool, true, false, ◌&&◌, map, List, [], ◌∷◌, ◌++◌, Option}
+use Rattle.std.proofs.Common.{None, Some, refl, ap, ◌∙◌}
 use Rattle.gate_model.specs.declared.channel.SessionUnit.{SessionUnit}
 use Rattle.gate_model.specs.declared.life.Life.{Life}
 use Rattle.gate_model.specs.declared.outgoing.Outgoing.TheVariants.{ToUp}
 use Rattle.gate_model.specs.declared.outgoing.UpUnit.{UpUnit}
 use Rattle.gate_model.specs.declared.outgoing.UpUnit.TheVariants as up
-use Rattle.gate_model.specs.Due.{attaches, begins, carried_rows, detaches, ends, is_end_due, link_flows, row_on, session_flows, session_rows, settlings, transfers, unless_out}
+use Rattle.gate_model.specs.Due.{attaches, begins, carried_rows, detaches, ends, is_end_due}
+use Rattle.gate_model.specs.Due.{link_flows, row_on, session_flows, session_rows, settlings}
+use Rattle.gate_model.specs.Due.{transfers, unless_out}
 use Rattle.gate_model.specs.Lives.{each, is_carried, is_free, session_in}
 use Rattle.gate_model.specs.Session.{is_flow_owed}
 use Rattle.gate_model.specs.State.{State}

@@ -1,5 +1,7 @@
 -- Entries that are asked for stand where what came before them allows it.
-use Rattle.std.proofs.Common.{◌≡◌, ◌⊎◌, ◌∙◌, ℕ, Bool, true, false, not, ◌&&◌, ◌||◌, map, if◌then◌else◌, List, [], ◌∷◌, Option, None, Some, refl, sym, ap, inl, inr}
+use Rattle.std.proofs.Common.{◌≡◌, ◌⊎◌, ◌∙◌, ℕ, Bool, true, false, not, ◌&&◌, ◌||◌, map}
+use Rattle.std.proofs.Common.{if◌then◌else◌, List, [], ◌∷◌, Option, None, Some, refl, sym, ap, inl}
+use Rattle.std.proofs.Common.{inr}
 use Rattle.std.specs.Prelude.{is_some}
 use Rattle.std.specs.Option.{option_map}
 use Rattle.gate_outside.specs.declared.ports.End.{End}
@@ -10,7 +12,8 @@ use Rattle.gate_relay.specs.Entries.{Entry, is_out_of_memory}
 use Rattle.gate_relay.specs.Guards.{connects, offers, reads, takes_up}
 use Rattle.gate_relay.specs.Relayed as relayed
 use Rattle.gate_relay.specs.Relayed.{IsRelayed, MayCome, RunsOut}
-use Rattle.gate_relay.specs.Sides.{is_absent, is_open_side, is_readable, is_writable, side_of, sides}
+use Rattle.gate_relay.specs.Sides.{is_absent, is_open_side, is_readable, is_writable, side_of}
+use Rattle.gate_relay.specs.Sides.{sides}
 use Rattle.machine_091.specs.State.{awaits, is_opening}
 use Rattle.machine_091.specs.declared.state.Connection.{Connection}
 use Rattle.machine_10.specs.declared.state.Upstream.{Upstream}
@@ -20,7 +23,8 @@ use Rattle.gate_model.specs.declared.outgoing.Outgoing.TheVariants.{ToClient, To
 use Rattle.gate_model.specs.declared.outgoing.UpUnit.{UpUnit}
 use Rattle.gate_model.specs.declared.outgoing.UpUnit.TheVariants as up
 use Rattle.gate_model.specs.declared.reply.Reply.{Reply}
-use Rattle.gate_model.specs.Due.{can_leave, can_take_unit, carries, client_rows, is_awaited, is_awaiting, is_busy, pick, takes_memory, takes_memory_up, up_rows}
+use Rattle.gate_model.specs.Due.{can_leave, can_take_unit, carries, client_rows, is_awaited}
+use Rattle.gate_model.specs.Due.{is_awaiting, is_busy, pick, takes_memory, takes_memory_up, up_rows}
 use Rattle.gate_model.specs.Folds.{connection, given_up_in}
 use Rattle.gate_model.specs.Setup.{SetupText}
 use Rattle.gate_model.specs.Spelling.{Context, spell}
@@ -29,8 +33,12 @@ use Rattle.gate_model.specs.Upstream.{awaited_of, first, is_awaited_up}
 use Rattle.gate_model.proofs.Known.{Known, conn_is, container_is, known, number_is}
 use Rattle.gate_model.proofs.Silences.{given_is}
 use Rattle.gate_model.proofs.Times.{Either, OnLeft, OnRight, and_left, and_right, either}
-use Rattle.gate_pair.specs.Lawful.{AreLawful, AtRefusal, AtTheEnd, Attaching, Beginning, Crediting, Flowing, InRead, InSpelling, InTakeUp, IsAskedFor, IsAwaited, IsHeard, IsOfferOf, IsOffered, IsTakenUp, Keeps, Login, Opening, RunsOutIn, Shuts, TakesMemory, Transferring, WhereDue}
-use Rattle.gate_pair.specs.Meaning.{needs_memory, offered, pair_words, spelled_in, state_of, steps_of, stream_of, told}
+use Rattle.gate_pair.specs.Lawful.{AreLawful, AtRefusal, AtTheEnd, Attaching, Beginning, Crediting}
+use Rattle.gate_pair.specs.Lawful.{Flowing, InRead, InSpelling, InTakeUp, IsAskedFor, IsAwaited}
+use Rattle.gate_pair.specs.Lawful.{IsHeard, IsOfferOf, IsOffered, IsTakenUp, Keeps, Login, Opening}
+use Rattle.gate_pair.specs.Lawful.{RunsOutIn, Shuts, TakesMemory, Transferring, WhereDue}
+use Rattle.gate_pair.specs.Meaning.{needs_memory, offered, pair_words, spelled_in, state_of}
+use Rattle.gate_pair.specs.Meaning.{steps_of, stream_of, told}
 use Rattle.gate_pair.proofs.Picks.{picks}
 use Rattle.gate_pair.proofs.Timings.{AreTimed, due_at}
 

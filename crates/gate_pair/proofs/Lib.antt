@@ -3,6 +3,7 @@ pub mod Cuts
 pub mod Heard
 pub mod Lacks
 pub mod Lawfuls
+pub mod Lines
 pub mod Logins
 pub mod Memories
 pub mod Picks

@@ -1,5 +1,6 @@
 -- The login of a container stays once it came, and with it the bytes of the units that were sent.
-use Rattle.std.proofs.Common.{◌≡◌, ◌∙◌, ℕ, Bool, true, false, not, ◌&&◌, ◌||◌, if◌then◌else◌, map, List, [], ◌∷◌, ◌++◌, Option, None, Some, refl, sym, ap, subst}
+use Rattle.std.proofs.Common.{◌≡◌, ◌∙◌, ℕ, Bool, true, false, not, ◌&&◌, ◌||◌, if◌then◌else◌, map}
+use Rattle.std.proofs.Common.{List, [], ◌∷◌, ◌++◌, Option, None, Some, refl, sym, ap, subst}
 use Rattle.std.specs.Prelude.{is_some}
 use Rattle.std.specs.List.{list_any}
 use Rattle.std.proofs.lemmas.List.{map-append}
@@ -27,15 +28,21 @@ use Rattle.gate_model.specs.declared.outgoing.UpUnit.{UpUnit}
 use Rattle.gate_model.specs.declared.outgoing.UpUnit.TheVariants as up
 use Rattle.gate_model.specs.declared.reply.Reply.{Reply}
 use Rattle.gate_model.specs.Asked.{AreCalledFor, called, called_from, openings_of}
-use Rattle.gate_model.specs.Folds.{Peers, connection, container, container_kept, leaving_in, number_in, peers, peers_by, peers_came, peers_heard, peers_session, ran_out_in, sent_up}
+use Rattle.gate_model.specs.Folds.{Peers, connection, container, container_kept, leaving_in}
+use Rattle.gate_model.specs.Folds.{number_in, peers, peers_by, peers_came, peers_heard}
+use Rattle.gate_model.specs.Folds.{peers_session, ran_out_in, sent_up}
 use Rattle.gate_model.specs.Picks.{ArePicks}
 use Rattle.gate_model.specs.Setup.{SetupText}
 use Rattle.gate_model.specs.Spelling.{Context, context_of, init_text, spell}
 use Rattle.gate_model.specs.Requests.{client_step}
-use Rattle.gate_model.specs.State.{State, Step, Began, Moment, Fed, Silent, Queued, Came, TakenUp, Heard, Joined, Lost, Gave, Whole, OutOfMemory, before, new_state}
-use Rattle.gate_model.specs.Upstream.{container_by, container_given, ended_in, meaning_by, opening_rows, sessions_given, when_up}
+use Rattle.gate_model.specs.State.{State, Step, Began, Moment, Fed, Silent, Queued, Came, TakenUp}
+use Rattle.gate_model.specs.State.{Heard, Joined, Lost, Gave, Whole, OutOfMemory, before, new_state}
+use Rattle.gate_model.specs.Upstream.{container_by, container_given, ended_in, meaning_by}
+use Rattle.gate_model.specs.Upstream.{opening_rows, sessions_given, when_up}
 use Rattle.gate_model.proofs.Known.{container_is, known, number_is}
-use Rattle.gate_model.proofs.Outcomes.{Outcome, Greets, Parts, LogsIn, Tunes, Asks, Passes, Refuses, Declines, Drops, Parting, Calls, Asking, Publishes, Fills, Frees, Closes, Answers, Ignores, outcome}
+use Rattle.gate_model.proofs.Outcomes.{Outcome, Greets, Parts, LogsIn, Tunes, Asks, Passes, Refuses}
+use Rattle.gate_model.proofs.Outcomes.{Declines, Drops, Parting, Calls, Asking, Publishes, Fills}
+use Rattle.gate_model.proofs.Outcomes.{Frees, Closes, Answers, Ignores, outcome}
 use Rattle.gate_model.proofs.Sessions.{session_by}
 use Rattle.gate_model.proofs.Ups.{Early, early, is_early}
 use Rattle.gate_pair.specs.Answers.{context_in, sent_to, sent_up_with, spelled, to_client, to_up}
@@ -58,8 +65,8 @@ abbrev pub IsUnheard : Step → Type 0
 IsUnheard (Heard u) = ⊥
 IsUnheard x = Unit {0}
 
-moves_came : (p : Peers) (u : Unit91) → Early p → Moves p.container (container_kept p.container (client_step p.client u).1)
-moves_came p u f = by (client_step p.client u) (outcome p.client u)
+moves_came : (p : Peers) (u : Unit91) → Early p → Moves p.container (container_kept p.container (client_step p.routes p.client u).1)
+moves_came p u f = by (client_step p.routes p.client u) (outcome p.routes p.client u)
   where
     by : (x : machine.Step) → Outcome p.client u x → Moves p.container (container_kept p.container x.1)
     by _ (Greets e) = Stays
@@ -86,9 +93,10 @@ moves_if o true p q f g = f
 moves_if o false p q f g = g
 
 pub moves : (x : Step) (g : List Step) → IsUnheard x → ArePicks (x ∷ g) → Moves (container g) (container (x ∷ g))
-moves (Began vhost n ms) g i p = subst (λ (g : List Step). Moves (container g) None) (sym p.0) Stays
+moves (Began site n ms) g i p = subst (λ (g : List Step). Moves (container g) None) (sym p.0) Stays
 moves (Moment ms) g i p = Stays
-moves (Fed end) g i p = Stays
+moves (Fed Client) g i p = Stays
+moves (Fed Up) g i p = Stays
 moves (Silent Client) g i p = Stays
 moves (Silent Up) g i p = Stays
 moves (Queued u) g i p = Stays
@@ -184,7 +192,7 @@ follows_by l (Some c) u = let f : GoesOn c (ten.unit_step c u).0 = l.forward c u
 -- what a unit of the container means leaves it
 kept_session : (n : ℕ) (q : Read) (x : Peers) → (peers_session n q x).container ≡ x.container
 kept_session n q x =
-    session_by (λ (y : Peers) (w : State). y.container ≡ x.container) n q (record (new_state [] 0 0) { conn = x.client; paths = x.paths }) x.container x.opened
+    session_by (λ (y : Peers) (w : State). y.container ≡ x.container) n q (record (new_state (record { vhost = []; routes = [] }) 0 0) { routes = x.routes; conn = x.client; paths = x.paths }) x.container x.opened
     (record { begins = refl; stays = refl; ends = λ code why. refl; windows = refl; drops = λ code why. refl; fails = λ why. refl })
 
 kept : (m : Meaning) (x : Peers) → (peers_by m x).container ≡ x.container
@@ -343,8 +351,8 @@ client_same c d (u ∷ us) = ap (λ (b : List ℕ). spell c (ToClient u) [] ++ b
 pub bytes_stay : AreLoggedIn → (s : SetupText) (end : End) (x : Step) (g : List Step) → ArePicks (x ∷ g)
     → spelled (context_in s (x ∷ g)) (sent_to end g) ≡ spelled (context_in s g) (sent_to end g)
 bytes_stay l s Client x g p = client_same (context_in s (x ∷ g)) (context_in s g) _
-bytes_stay l s Up (Began vhost n ms) g p =
-    subst (λ (g : List Step). spelled (context_in s (Began vhost n ms ∷ g)) (sent_to Up g) ≡ spelled (context_in s g) (sent_to Up g)) (sym p.0) refl
+bytes_stay l s Up (Began site n ms) g p =
+    subst (λ (g : List Step). spelled (context_in s (Began site n ms ∷ g)) (sent_to Up g) ≡ spelled (context_in s g) (sent_to Up g)) (sym p.0) refl
 bytes_stay l s Up x g p =
     up_same (context_in s (x ∷ g)) (context_in s g) (sent_up_with g) refl refl
     (λ e. init_same (container g) (container (x ∷ g)) (init_some l g p.1 (sym (ap (list_any is_init) (units_sent g)) ∙ e)) (follows l x g p))

@@ -1,5 +1,6 @@
 -- A pair knows whether its entries say that it ran out of memory.
-use Rattle.std.proofs.Common.{◌≡◌, ◌∙◌, ℕ, Bool, true, false, if◌then◌else◌, List, [], ◌∷◌, ◌++◌, length, nat_lt, Option, None, Some, refl, ap}
+use Rattle.std.proofs.Common.{◌≡◌, ◌∙◌, ℕ, Bool, true, false, if◌then◌else◌, List, [], ◌∷◌, ◌++◌}
+use Rattle.std.proofs.Common.{length, nat_lt, Option, None, Some, refl, ap}
 use Rattle.gate_outside.specs.declared.ports.End.{End}
 use Rattle.gate_outside.specs.declared.ports.End.TheVariants.{Client, Up}
 use Rattle.gate_outside.specs.declared.ports.Linked.{Linked}
@@ -12,6 +13,7 @@ use Rattle.gate_relay.specs.Entries.{Entry, is_out_of_memory}
 use Rattle.gate_model.specs.declared.outgoing.Outgoing.{Outgoing}
 use Rattle.gate_model.specs.declared.outgoing.Outgoing.TheVariants.{ToClient, ToUp}
 use Rattle.gate_model.specs.Due.{is_busy, pick}
+use Rattle.gate_model.specs.Paths.{told_paths}
 use Rattle.gate_model.specs.Setup.{SetupText}
 use Rattle.gate_model.specs.State as state
 use Rattle.gate_model.specs.State.{State, Step, Lost, before, step}
@@ -33,7 +35,7 @@ lost_memory w Up loss.Shut = refl
 
 joined_memory : (w : State) (answer : Linked) → (step w (state.Joined answer)).out_of_memory ≡ w.out_of_memory
 joined_memory w link.Ok = refl
-joined_memory w link.Failed = (fail_leaves _ None (record w { up = shut_by w.up })).memory_is
+joined_memory w link.Failed = (fail_leaves _ None (record w { up = shut_by w.up; paths = told_paths w.paths })).memory_is
 
 begins_memory : (w : State) (h : List Step) (b : Bool) (o : Option Outgoing) → (before ((if b then [] else given w o) ++ h)).out_of_memory ≡ (before h).out_of_memory
 begins_memory w h true o = refl

@@ -1,5 +1,7 @@
 -- What entries that are asked for say is a list of steps whose outgoing ones are picks. No loop is in sight here.
-use Rattle.std.proofs.Common.{◌≡◌, ◌∙◌, ℕ, zero, suc, ◌≤◌, Bool, true, false, not, ◌&&◌, ◌||◌, if◌then◌else◌, List, [], ◌∷◌, ◌++◌, drop, length, nat_lt, Option, None, Some, refl, sym, ap, subst, append_assoc}
+use Rattle.std.proofs.Common.{◌≡◌, ◌∙◌, ℕ, zero, suc, ◌≤◌, Bool, true, false, not, ◌&&◌, ◌||◌}
+use Rattle.std.proofs.Common.{if◌then◌else◌, List, [], ◌∷◌, ◌++◌, drop, length, nat_lt, Option}
+use Rattle.std.proofs.Common.{None, Some, refl, sym, ap, subst, append_assoc}
 use Rattle.std.specs.Option.{option_map}
 use Rattle.gate_outside.specs.declared.ports.End.{End}
 use Rattle.gate_outside.specs.declared.ports.End.TheVariants.{Client, Up}
@@ -32,22 +34,28 @@ use Rattle.gate_model.specs.declared.outgoing.Outgoing.{Outgoing}
 use Rattle.gate_model.specs.declared.outgoing.Outgoing.TheVariants.{ToClient, ToUp}
 use Rattle.gate_model.specs.Due.{can_leave, carries, is_awaited, is_busy, is_connect_due, pick}
 use Rattle.gate_model.specs.Folds.{container, moment_in, ran_out_in}
+use Rattle.gate_model.specs.Paths.{is_laden}
 use Rattle.gate_model.specs.Picks.{ArePicks, MayBeHeard, MayComeAs, MayQueue, MayStep}
 use Rattle.gate_model.specs.Queue.{is_bad_unit, is_full}
 use Rattle.gate_model.specs.Setup.{SetupText}
 use Rattle.gate_model.specs.State as state
-use Rattle.gate_model.specs.State.{State, Step, Gave, Heard, Queued, TakenUp, before, close_waits, step}
+use Rattle.gate_model.specs.State.{State, Step, Gave, Heard, Queued, TakenUp, before, close_waits}
+use Rattle.gate_model.specs.State.{step}
 use Rattle.gate_model.specs.Upstream.{awaited_of}
 use Rattle.gate_model.proofs.Known.{container_is, known}
 use Rattle.gate_model.proofs.Known as knows
 use Rattle.gate_model.proofs.Times.{and_left, and_right}
-use Rattle.gate_pair.specs.Cutting.{after, as_step, as_unit, behind, cut_all, cut_of, on_scan, read_end, settle, step_scan, unit_scan, up_scan}
-use Rattle.gate_pair.specs.Meaning.{begins, ends, given, leaves, offered, pair_words, spelled_in, state_of, steps_of, told}
+use Rattle.gate_pair.specs.Cutting.{after, as_step, as_unit, behind, cut_all, cut_of, on_scan}
+use Rattle.gate_pair.specs.Cutting.{read_end, settle, step_scan, unit_scan, up_scan}
+use Rattle.gate_pair.specs.Meaning.{begins, ends, given, leaves, offered, pair_words, spelled_in}
+use Rattle.gate_pair.specs.Meaning.{state_of, steps_of, told}
 use Rattle.gate_pair.proofs.Memories.{memory_of}
-use Rattle.gate_pair.proofs.Queued.{IsGood, IsGoodAt, IsReady, IsReadyAt, behind_picks, behind_ready, none_of_both, queued_good, settle_picks}
+use Rattle.gate_pair.proofs.Queued.{IsGood, IsGoodAt, IsReady, IsReadyAt, behind_picks}
+use Rattle.gate_pair.proofs.Queued.{behind_ready, none_of_both, queued_good, settle_picks}
 use Rattle.gate_pair.proofs.Saids.{after_before}
 use Rattle.gate_pair.proofs.Sounds.{client_picks, up_picks}
-use Rattle.gate_pair.proofs.Taken.{AreTaken, FindsTaken, IsTaken, all_leave, behind_taken, cut_leaves, found, fresh_leave, moment_is}
+use Rattle.gate_pair.proofs.Taken.{AreTaken, FindsTaken, IsTaken, all_leave, behind_taken}
+use Rattle.gate_pair.proofs.Taken.{cut_leaves, found, fresh_leave, moment_is}
 use Rattle.gate_pair.proofs.Ticks.{tick_all}
 
 -- ---- units come as they are awaited
@@ -179,7 +187,7 @@ good_at s h e =
     let readable : Bool = is_readable (side_of Client (sides h)) in
     record {
       calm = memory_of s h ∙ read_calm readable (is_out_of_memory h) _ e;
-      good = read_good readable (is_out_of_memory h) (is_awaited (awaits w.conn) || w.given_up) (is_opening w.conn) (close_waits w) _ (is_full w.queue) e;
+      good = read_good readable (is_out_of_memory h) (is_awaited (awaits w.conn) || w.given_up) (is_opening w.conn) (close_waits w) _ (is_full w.queue || is_laden w.paths) e;
     }
 
 -- bytes that came change none of that

@@ -1,14 +1,19 @@
 -- A further unit of the client comes once none before it can be taken up, and each that is taken up is the next.
-use Rattle.std.proofs.Common.{◌≡◌, ◌∙◌, ℕ, zero, suc, ◌+◌, ◌<◌, ◌≤◌, Bool, true, false, ◌||◌, if◌then◌else◌, List, [], ◌∷◌, ◌++◌, length, Option, None, Some, refl, ap, arith}
+use Rattle.std.proofs.Common.{◌≡◌, ◌∙◌, ℕ, zero, suc, ◌+◌, ◌<◌, ◌≤◌, Bool, true, false, ◌||◌}
+use Rattle.std.proofs.Common.{if◌then◌else◌, List, [], ◌∷◌, ◌++◌, length, Option, None, Some, refl}
+use Rattle.std.proofs.Common.{ap, arith}
 use Rattle.std.specs.Prelude.{is_some, slice_get}
 use Rattle.std.specs.List.{list_any}
 use Rattle.std.proofs.lemmas.List.Folds.{list_any-append}
 use Rattle.gate_outside.specs.declared.ports.End.{End}
 use Rattle.gate_outside.specs.declared.ports.End.TheVariants.{Client, Up}
 use Rattle.machine_091.specs.declared.unit.Unit91.{Unit91}
+use Rattle.gate_model.specs.Paths.{is_laden}
 use Rattle.gate_model.specs.Picks.{ArePicks}
-use Rattle.gate_model.specs.Queue.{Waits, can_take, is_bad_unit, place_from, place_in, removed, unit_at, without_at}
-use Rattle.gate_model.specs.State.{State, Step, Came, Queued, before, came, dequeued, next_unit, place, step, waits}
+use Rattle.gate_model.specs.Queue.{Waits, can_take, is_bad_unit, place_from, place_in, removed}
+use Rattle.gate_model.specs.Queue.{unit_at, without_at}
+use Rattle.gate_model.specs.State.{State, Step, Came, Queued, before, came, dequeued, next_unit}
+use Rattle.gate_model.specs.State.{place, step, waits}
 use Rattle.gate_pair.specs.Cutting.{after, behind, on_next, settle, settled}
 use Rattle.gate_pair.proofs.Saids.{after_before}
 use Rattle.gate_pair.proofs.Taken.{taken_leaves}
@@ -61,13 +66,21 @@ place_within q all k i (u ∷ us) e = by (can_take q _ u) e (place_within q all 
     by false f more = let less : i < (k + 1) + length us = more f in omega (arith, less)
 
 none_next : (w : State) → next_unit w ≡ None → is_some (place w) ≡ false
-none_next w e = by (place w) refl e
+none_next w e = laden (is_laden w.paths) e
   where
-    by : (o : Option ℕ) → place w ≡ o → unit_at o w.queue ≡ None → is_some o ≡ false
+    by : (o : Option ℕ) → place_in (waits w) w.queue ≡ o → unit_at o w.queue ≡ None → is_some o ≡ false
     by None f e = refl
     by (Some i) f e =
         let less : i < 0 + length w.queue = place_within (waits w) w.queue 0 i w.queue f in
         absurd (get_within w.queue i (omega (arith, less)) e)
+
+    laden : (b : Bool) → unit_at (if b then None else place_in (waits w) w.queue) w.queue ≡ None → is_some (if b then None else place_in (waits w) w.queue) ≡ false
+    laden true e = refl
+    laden false e = by (place_in (waits w) w.queue) refl e
+
+pub none_placed : (laden : Bool) (q : Waits) → is_some (if laden then None else place_in q []) ≡ false
+none_placed true q = refl
+none_placed false q = refl
 
 no_queue : (us : List Unit91) → length us ≤ 0 → us ≡ []
 no_queue [] few = refl
@@ -105,7 +118,8 @@ came_fewer w u f calm e few =
 
 settled_done : (w : State) (f : ℕ) (g : List Step) → length (after g w).queue ≤ f → (after g w).out_of_memory ≡ false → is_some (place (after (settled w f g) w)) ≡ false
 settled_done w zero g few calm =
-    let v : State = after g w in ap (λ (us : List Unit91). is_some (place_in (waits v) us)) (no_queue v.queue few)
+    let v : State = after g w in
+    ap (λ (us : List Unit91). is_some (if is_laden v.paths then None else place_in (waits v) us)) (no_queue v.queue few) ∙ none_placed (is_laden v.paths) (waits v)
 settled_done w (suc f) g few calm =
     by (next_unit (after g w)) refl (λ u e. settled_done w f (Came u ∷ g) (came_fewer (after g w) u f calm e few) (came_calm (after g w) u calm))
   where

@@ -1,22 +1,35 @@
 -- What a pair says after a read, also where it ran out of memory within it.
-use Rattle.std.proofs.Common.{◌≡◌, ◌∙◌, ℕ, ◌+◌, List, [], ◌∷◌, ◌++◌, Option, append_assoc, refl, sym, ap, subst, drop, length}
+use Rattle.std.proofs.Common.{◌≡◌, ◌∙◌, ℕ, ◌+◌, ◌≤◌, nat_le, Bool, true, false, ◌&&◌}
+use Rattle.std.proofs.Common.{if◌then◌else◌}
+use Rattle.std.proofs.Common.{List, [], ◌∷◌, ◌++◌, Option, None, Some, append-nil, append_assoc, refl}
+use Rattle.std.proofs.Common.{sym, ap, subst, drop, length, arith}
+use Rattle.std.specs.Bool.{OnFalse, OnTrue}
 use Rattle.std.specs.Prelude.{Result, Ok, Err, OnErr, OnOk, is_some}
 use Rattle.std.specs.Option.{option_map}
 use Rattle.std.proofs.Math.Seq.{drop-append_seam}
+use Rattle.std.proofs.lemmas.Bool.Decides.{nat_tests}
 use Rattle.gate_outside.specs.declared.ports.End.{End}
 use Rattle.gate_outside.specs.declared.ports.End.TheVariants.{Client, Up}
+use Rattle.gate_outside.specs.Streams.{Appends}
+use Rattle.open_items.specs.declared.lost.LostItem.{LostItem}
 use Rattle.gate_model.specs.declared.outgoing.Outgoing.TheVariants.{ToClient, ToUp}
 use Rattle.gate_model.specs.declared.outgoing.UpUnit.{UpUnit}
 use Rattle.gate_model.specs.declared.reply.Reply.{Reply}
 use Rattle.gate_model.specs.Due.{is_busy}
+use Rattle.gate_relay.specs.Entries as entry
 use Rattle.gate_relay.specs.Entries.{Entry}
 use Rattle.gate_model.specs.Setup.{SetupText}
-use Rattle.gate_model.specs.State.{State, Step, Fed, OutOfMemory, before, step}
+use Rattle.gate_model.specs.Spelling.{lines_text}
+use Rattle.gate_model.specs.State.{State, Step, Fed, OutOfMemory, before, owed_lines, step}
 use Rattle.bridge_core.specs.Offers.{BridgeState, Keeps, moved, offer_of}
 use Rattle.gate_pair.specs.Cutting.{Cut, after, cut_all, settle}
-use Rattle.gate_pair.specs.Meaning.{Stream, Told, came, leaves, made, ran_out, read_in, settled, steps, told}
+use Rattle.gate_pair.specs.Meaning.{Stream, Told, came, leaves, made, nothing, pair_words, ran_out}
+use Rattle.gate_pair.specs.Meaning.{read_in, settled, state_of, steps, tells, told}
 use Rattle.gate_pair.proofs.Cuts.{drop_list, none_cut}
-use Rattle.gate_pair.specs.PairStates.{CutIn, FailedIn, Half, IsCut, PairState, Reads, ReadsInPart, Represents, Said, Settles, rest_at, said, said_of, stream_at}
+use Rattle.gate_pair.proofs.Lines.{none_told}
+use Rattle.gate_pair.specs.PairStates.{FailedAt, FailedIn, FailedUpIn, Half, IsCut, PairState, Reads}
+use Rattle.gate_pair.specs.PairStates.{ReadsInPart, ReadsUpInPart, Represents, Said, Says, Settles}
+use Rattle.gate_pair.specs.PairStates.{rest_at, said, said_of, stream_at, unlined}
 
 pub keeps_more : (a b c : BridgeState) → Keeps a b → Keeps b c → Keeps a c
 keeps_more a b c p q = record {
@@ -31,7 +44,7 @@ after_before [] h = refl
 after_before (s ∷ g) h = ap (λ w. step w s) (after_before g h)
 
 pub same_said : (w v : State) (c d u x : Stream) → w ≡ v → c ≡ d → u ≡ x →
-    (let y : Said = record { state = w; client = c; up = u } in y) ≡ record { state = v; client = d; up = x }
+    (let y : Said = record { state = w; client = c; up = u; lines = [] } in y) ≡ record { state = v; client = d; up = x; lines = [] }
 same_said w v c d u x e p q = cc
 
 pub same_stream : (a b c d : List ℕ) → a ≡ b → c ≡ d → (let y : Stream = record { unread = a; rest = c } in y) ≡ record { unread = b; rest = d }
@@ -53,17 +66,41 @@ stream_kept end b d x k = same_stream _ _ _ _ refl (rest_kept end b d x.at k)
 pub said_after : (g : List Step) (w : State) (t : Told) → w ≡ before (steps t) → after g w ≡ before (g ++ steps t)
 said_after g w t e = ap (after g) e ∙ sym (after_before g (steps t))
 
+-- ---- lines
+
+with_lines : (x y : Said) → unlined x ≡ unlined y → x.lines ≡ y.lines → x ≡ y
+with_lines x y e lines = ap (λ (z : Said). record z { lines = x.lines }) e ∙ ap (λ (items : List LostItem). record y { lines = items }) lines
+
+-- what a pair says besides decides its lines, with whether the newest entry may make some due
+pub told_said : (p : PairState) (t : Told) (b : Bool) → Says p t → p.telling ≡ b → said p ≡ said_of (record t { telling = b })
+told_said p t b e flag =
+    with_lines (said p) (said_of (record t { telling = b })) e
+    (ap (λ (c : Bool). if c then owed_lines p.bridge.state else []) flag ∙ ap (λ (z : Said). if b then owed_lines z.state else []) e)
+
+-- ---- a step
+
+abbrev pub pair_of : BridgeState → Half → Half → Bool → PairState
+pair_of b x y telling = record { bridge = b; client = x; up = y; telling = telling }
+
+pub says_of : (b : BridgeState) (x y : Half) (i : Bool) (old : PairState) (t : Told) → pair_of b x y i ≡ old → Says old t → Says (pair_of b x y i) t
+says_of b x y i old t was e = ap (λ (p : PairState). unlined (said p)) was ∙ e
+
+pub moved_says : (s : Step) (b d : BridgeState) (x y : Half) (i j : Bool) (old : PairState) → pair_of b x y i ≡ old → d ≡ moved s b → Keeps b d
+    → (t : Told) → Says old t → Says (pair_of d x y j) (made (s ∷ []) t)
+moved_says s b d x y i j old was is k t e =
+    let f : Says (pair_of b x y i) t = says_of b x y i old t was e in
+    same_said _ _ _ _ _ _ (ap (λ (v : BridgeState). v.state) is ∙ ap (λ (z : Said). step z.state s) f)
+    (stream_kept Client b d x k ∙ ap (λ (z : Said). z.client) f)
+    (stream_kept Up b d y k ∙ ap (λ (z : Said). z.up) f)
+
 -- ---- a read of which all counts
 
-abbrev pub pair_of : BridgeState → Half → Half → PairState
-pair_of b x y = record { bridge = b; client = x; up = y }
-
 -- bytes of the client were cut
-pub taken_in : (all bytes : List ℕ) (n : ℕ) (b d : BridgeState) (x y z : Half) (old : PairState) → pair_of b x y ≡ old → all ≡ x.unread ++ bytes
+pub taken_in : (all bytes : List ℕ) (n : ℕ) (b d : BridgeState) (x y z : Half) (i j : Bool) (old : PairState) → pair_of b x y i ≡ old → all ≡ x.unread ++ bytes
     → Reads Client all n b.state d.state → Keeps b d → z ≡ record x { unread = drop n all }
-    → (t : Told) → said old ≡ said_of t → said (pair_of d z y) ≡ said_of (read_in Client bytes t)
-taken_in all bytes n b d x y z old was is r k half t e =
-    let f : said (pair_of b x y) ≡ said_of t = ap said was ∙ e in
+    → (t : Told) → Says old t → Says (pair_of d z y j) (read_in Client bytes t)
+taken_in all bytes n b d x y z i j old was is r k half t e =
+    let f : Says (pair_of b x y i) t = says_of b x y i old t was e in
     let w : b.state ≡ before (steps t) = ap (λ (z : Said). z.state) f in
     let u : all ≡ t.client.unread ++ bytes = is ∙ ap (λ (z : Said). z.client.unread ++ bytes) f in
     let here : cut_all Client b.state all ≡ cut_all Client (before (steps t)) (t.client.unread ++ bytes) =
@@ -77,11 +114,11 @@ taken_in all bytes n b d x y z old was is r k half t e =
     (stream_kept Up b d y k ∙ ap (λ (z : Said). z.up) f)
 
 -- bytes of the container were cut
-pub heard_in : (all bytes : List ℕ) (n : ℕ) (b d : BridgeState) (x y z : Half) (old : PairState) → pair_of b x y ≡ old → all ≡ y.unread ++ bytes
+pub heard_in : (all bytes : List ℕ) (n : ℕ) (b d : BridgeState) (x y z : Half) (i j : Bool) (old : PairState) → pair_of b x y i ≡ old → all ≡ y.unread ++ bytes
     → Reads Up all n b.state d.state → Keeps b d → z ≡ record y { unread = drop n all }
-    → (t : Told) → said old ≡ said_of t → said (pair_of d x z) ≡ said_of (read_in Up bytes t)
-heard_in all bytes n b d x y z old was is r k half t e =
-    let f : said (pair_of b x y) ≡ said_of t = ap said was ∙ e in
+    → (t : Told) → Says old t → Says (pair_of d x z j) (read_in Up bytes t)
+heard_in all bytes n b d x y z i j old was is r k half t e =
+    let f : Says (pair_of b x y i) t = says_of b x y i old t was e in
     let w : b.state ≡ before (steps t) = ap (λ (z : Said). z.state) f in
     let u : all ≡ t.up.unread ++ bytes = is ∙ ap (λ (z : Said). z.up.unread ++ bytes) f in
     let here : cut_all Up b.state all ≡ cut_all Up (before (steps t)) (t.up.unread ++ bytes) =
@@ -97,33 +134,30 @@ heard_in all bytes n b d x y z old was is r k half t e =
 -- ---- a read within which the pair ran out of memory
 
 -- what is in progress goes on, and no byte waits
-pub cut_in : (all : List Step) (b d : BridgeState) (x y : Half) (old new : PairState) → pair_of b x y ≡ old
-    → new ≡ pair_of d (record x { unread = [] }) (record y { unread = [] }) → IsCut b.state d.state all → Keeps b d → CutIn all old new
-cut_in all b d x y old new was now c k =
-    subst (λ (p : PairState). CutIn all p new) was (subst (CutIn all (pair_of b x y)) (sym now) (record {
-      cut = c;
-      client = same_stream _ _ _ _ refl (rest_kept Client b d x.at k);
-      up = same_stream _ _ _ _ refl (rest_kept Up b d y.at k);
-    }))
+abbrev dropped : Half → Half
+dropped x = record x { unread = [] }
+
+abbrev lost_of : BridgeState → Half → Half → Bool → PairState
+lost_of d x y j = pair_of d (dropped x) (dropped y) j
 
 -- where the newest entry brings these steps in front of others, and leaves what is in progress
-pub failed_in : (newest : Told → Told) (old new : PairState) (more : ℕ) (all : List Step) → CutIn all old new
-    → ((t : Told) → said old ≡ said_of t → drop more (newest t).fresh ≡ all)
-    → ((t : Told) → said old ≡ said_of t → (newest t).past ≡ steps t)
-    → ((t : Told) → said old ≡ said_of t → (newest t).client.rest ≡ t.client.rest)
-    → ((t : Told) → said old ≡ said_of t → (newest t).up.rest ≡ t.up.rest) → FailedIn newest old new
-failed_in newest old new more all c fresh past client up = (
-  more + length c.cut.newer,
-  λ t e.
-      let dropped : drop (more + length c.cut.newer) (newest t).fresh ≡ c.cut.older =
-      sym (drop_list (length c.cut.newer) more (newest t).fresh) ∙ ap (drop (length c.cut.newer)) (fresh t e ∙ c.cut.parts) ∙ drop-append_seam c.cut.newer c.cut.older in
-      same_said _ _ _ _ _ _
-      (c.cut.now ∙ ap (λ (w : State). step (after c.cut.older w) OutOfMemory) (ap (λ (z : Said). z.state) e)
-      ∙ ap (λ (w : State). step w OutOfMemory) (sym (after_before c.cut.older (steps t)))
-      ∙ ap (λ (g : List Step). before (OutOfMemory ∷ g)) (sym (ap (λ (g : List Step). g ++ (newest t).past) dropped ∙ ap (λ (h : List Step). c.cut.older ++ h) (past t e))))
-      (c.client ∙ same_stream _ _ _ _ refl (ap (λ (z : Said). z.client.rest) e ∙ sym (client t e)))
-      (c.up ∙ same_stream _ _ _ _ refl (ap (λ (z : Said). z.up.rest) e ∙ sym (up t e))),
-)
+failed_at : (newest : Told → Told) (b d : BridgeState) (x y : Half) (i j : Bool) (more : ℕ) (all : List Step) (c : IsCut b.state d.state all) → Keeps b d
+    → ((t : Told) → Says (pair_of b x y i) t → drop more (newest t).fresh ≡ all)
+    → ((t : Told) → (newest t).past ≡ steps t) → ((t : Told) → (newest t).client.rest ≡ t.client.rest) → ((t : Told) → (newest t).up.rest ≡ t.up.rest)
+    → FailedAt (more + length c.newer) newest (pair_of b x y i) (lost_of d x y j)
+failed_at newest b d x y i j more all c k fresh past client up t e =
+    let left : drop (more + length c.newer) (newest t).fresh ≡ c.older =
+    sym (drop_list (length c.newer) more (newest t).fresh) ∙ ap (drop (length c.newer)) (fresh t e ∙ c.parts) ∙ drop-append_seam c.newer c.older in
+    same_said _ _ _ _ _ _
+    (c.now ∙ ap (λ (w : State). step (after c.older w) OutOfMemory) (ap (λ (z : Said). z.state) e)
+    ∙ ap (λ (w : State). step w OutOfMemory) (sym (after_before c.older (steps t)))
+    ∙ ap (λ (g : List Step). before (OutOfMemory ∷ g)) (sym (ap (λ (g : List Step). g ++ (newest t).past) left ∙ ap (λ (h : List Step). c.older ++ h) (past t))))
+    (same_stream _ _ _ _ refl (rest_kept Client b d x.at k ∙ ap (λ (z : Said). z.client.rest) e ∙ sym (client t)))
+    (same_stream _ _ _ _ refl (rest_kept Up b d y.at k ∙ ap (λ (z : Said). z.up.rest) e ∙ sym (up t)))
+
+-- by what was and what is
+between : (P : PairState → PairState → Type 0) (p q old new : PairState) → p ≡ old → new ≡ q → P p q → P old new
+between P p q old new was now x = subst (λ (o : PairState). P o new) was (subst (P p) (sym now) x)
 
 -- ---- bytes that come, behind those that are no unit yet
 
@@ -131,46 +165,69 @@ pub same_half : (a b : List ℕ) (i j : ℕ) → a ≡ b → i ≡ j → (let x 
 same_half a b i j p q = cc
 
 -- of the client
-pub taken_failed : (all bytes : List ℕ) (b d : BridgeState) (x y z : Half) (old new : PairState) → pair_of b x y ≡ old → all ≡ x.unread ++ bytes → z.at ≡ x.at
-    → new ≡ pair_of d (record z { unread = [] }) (record y { unread = [] }) → ReadsInPart Client all b.state d.state → Keeps b d → FailedIn (read_in Client bytes) old new
-taken_failed all bytes b d x y z old new was is at now r k =
-    let g : List Step = (cut_all Client b.state all).fresh in
-    failed_in (read_in Client bytes) old new 0 g
-    (cut_in g b d x y old new was
-    (now ∙ ap (λ (h : Half). pair_of d h (record y { unread = [] })) (same_half [] [] z.at x.at refl at)) r k)
-    (λ t e. ap (λ (z : Said). (cut_all Client z.state (z.client.unread ++ bytes)).fresh) (sym (ap said was ∙ e)) ∙ ap (λ (xs : List ℕ). (cut_all Client b.state xs).fresh) (sym is))
-    (λ t e. refl) (λ t e. refl) (λ t e. refl)
+pub taken_failed : (all bytes : List ℕ) (b d : BridgeState) (x y z : Half) (i j : Bool) (old new : PairState) → pair_of b x y i ≡ old → all ≡ x.unread ++ bytes → z.at ≡ x.at
+    → new ≡ lost_of d z y j → ReadsInPart Client all b.state d.state → Keeps b d → FailedIn (read_in Client bytes) old new
+taken_failed all bytes b d x y z i j old new was is at now c k =
+    between (FailedIn (read_in Client bytes)) (pair_of b x y i) (lost_of d x y j) old new was
+    (now ∙ ap (λ (h : Half). pair_of d h (dropped y) j) (same_half [] [] z.at x.at refl at)) (
+      0 + length c.newer,
+      failed_at (read_in Client bytes) b d x y i j 0 _ c k
+          (λ t e. ap (λ (z : Said). (cut_all Client z.state (z.client.unread ++ bytes)).fresh) (sym e) ∙ ap (λ (xs : List ℕ). (cut_all Client b.state xs).fresh) (sym is))
+          (λ t. refl) (λ t. refl) (λ t. refl),
+    )
 
-pub taken_lost : (bytes : List ℕ) (b d : BridgeState) (x y z : Half) (old new : PairState) → pair_of b x y ≡ old → z ≡ x
-    → new ≡ pair_of d (record z { unread = [] }) (record y { unread = [] }) → d ≡ moved OutOfMemory b → Keeps b d → FailedIn (read_in Client bytes) old new
-taken_lost bytes b d x y z old new was half now is k =
-    taken_failed (x.unread ++ bytes) bytes b d x y z old new was refl (ap (λ (h : Half). h.at) half) now
+pub taken_lost : (bytes : List ℕ) (b d : BridgeState) (x y z : Half) (i j : Bool) (old new : PairState) → pair_of b x y i ≡ old → z ≡ x
+    → new ≡ lost_of d z y j → d ≡ moved OutOfMemory b → Keeps b d → FailedIn (read_in Client bytes) old new
+taken_lost bytes b d x y z i j old new was half now is k =
+    taken_failed (x.unread ++ bytes) bytes b d x y z i j old new was refl (ap (λ (h : Half). h.at) half) now
     (none_cut Client b.state d.state (x.unread ++ bytes) (ap (λ (v : BridgeState). v.state) is)) k
 
 -- of the container
-pub heard_failed : (all bytes : List ℕ) (b d : BridgeState) (x y z : Half) (old new : PairState) → pair_of b x y ≡ old → all ≡ y.unread ++ bytes → z.at ≡ y.at
-    → new ≡ pair_of d (record x { unread = [] }) (record z { unread = [] }) → ReadsInPart Up all b.state d.state → Keeps b d → FailedIn (read_in Up bytes) old new
-heard_failed all bytes b d x y z old new was is at now r k =
-    let g : List Step = (cut_all Up b.state all).fresh in
-    failed_in (read_in Up bytes) old new 0 g
-    (cut_in g b d x y old new was
-    (now ∙ ap (λ (h : Half). pair_of d (record x { unread = [] }) h) (same_half [] [] z.at y.at refl at)) r k)
-    (λ t e. ap (λ (z : Said). (cut_all Up z.state (z.up.unread ++ bytes)).fresh) (sym (ap said was ∙ e)) ∙ ap (λ (xs : List ℕ). (cut_all Up b.state xs).fresh) (sym is))
-    (λ t e. refl) (λ t e. refl) (λ t e. refl)
+heard_at : (all bytes : List ℕ) (b d : BridgeState) (x y : Half) (i j : Bool) (c : ReadsInPart Up all b.state d.state) → Keeps b d → all ≡ y.unread ++ bytes
+    → FailedAt (0 + length c.newer) (read_in Up bytes) (pair_of b x y i) (lost_of d x y j)
+heard_at all bytes b d x y i j c k is =
+    failed_at (read_in Up bytes) b d x y i j 0 _ c k
+    (λ t e. ap (λ (z : Said). (cut_all Up z.state (z.up.unread ++ bytes)).fresh) (sym e) ∙ ap (λ (xs : List ℕ). (cut_all Up b.state xs).fresh) (sym is))
+    (λ t. refl) (λ t. refl) (λ t. refl)
 
-pub heard_lost : (bytes : List ℕ) (b d : BridgeState) (x y z : Half) (old new : PairState) → pair_of b x y ≡ old → z ≡ y
-    → new ≡ pair_of d (record x { unread = [] }) (record z { unread = [] }) → d ≡ moved OutOfMemory b → Keeps b d → FailedIn (read_in Up bytes) old new
-heard_lost bytes b d x y z old new was half now is k =
-    heard_failed (y.unread ++ bytes) bytes b d x y z old new was refl (ap (λ (h : Half). h.at) half) now
-    (none_cut Up b.state d.state (y.unread ++ bytes) (ap (λ (v : BridgeState). v.state) is)) k
+some_cut : (n : ℕ) → 1 ≤ n → nat_le 1 (0 + n) ≡ true
+some_cut n e = grind (arith, nat_tests)
+
+-- what counts of it may make lines due
+pub heard_failed : (all bytes : List ℕ) (b d : BridgeState) (x y z : Half) (i : Bool) (old new : PairState) → pair_of b x y i ≡ old → all ≡ y.unread ++ bytes → z.at ≡ y.at
+    → new ≡ lost_of d x z true → ReadsUpInPart all b.state d.state → Keeps b d → FailedUpIn (read_in Up bytes) old new
+heard_failed all bytes b d x y z i old new was is at now c k =
+    between (FailedUpIn (read_in Up bytes)) (pair_of b x y i) (lost_of d x y true) old new was
+    (now ∙ ap (λ (h : Half). pair_of d (dropped x) h true) (same_half [] [] z.at y.at refl at)) (
+      0 + length c.0.newer,
+      heard_at all bytes b d x y i true c.0 k is,
+      λ none. sym (ap (λ (some : Bool). if some then owed_lines d.state else []) (some_cut (length c.0.newer) c.1)),
+    )
+
+if_none : (b : Bool) (items : List LostItem) → items ≡ [] → [] ≡ (if b then items else [])
+if_none true items e = sym e
+if_none false items e = refl
+
+-- where none counts, none is
+pub heard_lost : (bytes : List ℕ) (b d : BridgeState) (x y z : Half) (i : Bool) (old new : PairState) → pair_of b x y i ≡ old → z ≡ y
+    → new ≡ lost_of d x z false → d ≡ moved OutOfMemory b → Keeps b d → FailedUpIn (read_in Up bytes) old new
+heard_lost bytes b d x y z i old new was half now is k =
+    let all : List ℕ = y.unread ++ bytes in
+    let c : ReadsInPart Up all b.state d.state = none_cut Up b.state d.state all (ap (λ (v : BridgeState). v.state) is) in
+    between (FailedUpIn (read_in Up bytes)) (pair_of b x y i) (lost_of d x y false) old new was
+    (now ∙ ap (λ (h : Half). pair_of d (dropped x) h false) (same_half [] [] z.at y.at refl (ap (λ (h : Half). h.at) half))) (
+      0 + length c.newer,
+      heard_at all bytes b d x y i false c k refl,
+      λ none. if_none (nat_le 1 (0 + length c.newer)) (owed_lines d.state) (ap (λ (v : BridgeState). owed_lines v.state) is ∙ none),
+    )
 
 -- ---- what can be taken up
 
 -- the client's units were, and then that its end ended or failed
-pub settled_said : (b d e : BridgeState) (x y : Half) (old : PairState) → pair_of b x y ≡ old → Settles b.state d.state → Keeps b d
-    → e.state ≡ after (leaves d.state) d.state → Keeps d e → (t : Told) → said old ≡ said_of t → said (pair_of e x y) ≡ said_of (settled t)
-settled_said b d e x y old was r k left m t f =
-    let h : said (pair_of b x y) ≡ said_of t = ap said was ∙ f in
+pub settled_said : (b d e : BridgeState) (x y : Half) (i j : Bool) (old : PairState) → pair_of b x y i ≡ old → Settles b.state d.state → Keeps b d
+    → e.state ≡ after (leaves d.state) d.state → Keeps d e → (t : Told) → Says old t → Says (pair_of e x y j) (settled t)
+settled_said b d e x y i j old was r k left m t f =
+    let h : Says (pair_of b x y i) t = says_of b x y i old t was f in
     let kept : Keeps b e = keeps_more b d e k m in
     let g : List Step = settle (before (steps t)) [] in
     let now : d.state ≡ before (g ++ steps t) = r (before (steps t)) [] (ap (λ (z : Said). z.state) h) ∙ sym (after_before g (steps t)) in
@@ -180,16 +237,20 @@ settled_said b d e x y old was r k left m t f =
     (stream_kept Client b e x kept ∙ ap (λ (z : Said). z.client) h)
     (stream_kept Up b e y kept ∙ ap (λ (z : Said). z.up) h)
 
-pub settled_failed : (old new : PairState) → CutIn (settle old.bridge.state []) old new → FailedIn settled old new
-settled_failed old new c =
-    let w : State = after (settle old.bridge.state []) old.bridge.state in
-    failed_in settled old new (length (leaves w)) (settle old.bridge.state []) c (λ t e. behind t e) (λ t e. refl) (λ t e. refl) (λ t e. refl)
+pub settled_failed : (b d : BridgeState) (x y : Half) (i j : Bool) (old new : PairState) → pair_of b x y i ≡ old → new ≡ lost_of d x y j
+    → IsCut b.state d.state (settle b.state []) → Keeps b d → FailedIn settled old new
+settled_failed b d x y i j old new was now c k =
+    between (FailedIn settled) (pair_of b x y i) (lost_of d x y j) old new was now
+    (length (leaves w) + length c.newer, failed_at settled b d x y i j (length (leaves w)) all c k behind (λ t. refl) (λ t. refl) (λ t. refl))
   where
-    behind : (t : Told) → said old ≡ said_of t
-        → drop (length (leaves (after (settle old.bridge.state []) old.bridge.state))) (settled t).fresh ≡ settle old.bridge.state []
+    all : List Step
+    all = settle b.state []
+
+    w : State
+    w = after all b.state
+
+    behind : (t : Told) → Says (pair_of b x y i) t → drop (length (leaves w)) (settled t).fresh ≡ all
     behind t e =
-        let all : List Step = settle old.bridge.state [] in
-        let w : State = after all old.bridge.state in
         let fresh : settle (before (steps t)) [] ≡ all = ap (λ (z : Said). settle z.state []) (sym e) in
         let now : before (settle (before (steps t)) [] ++ steps t) ≡ w =
         after_before (settle (before (steps t)) []) (steps t) ∙ ap (λ (g : List Step). after g (before (steps t))) fresh ∙ ap (λ (z : Said). after all z.state) (sym e) in
@@ -197,31 +258,117 @@ settled_failed old new c =
         ∙ ap (λ (g : List Step). drop (length (leaves w)) (leaves w ++ g)) fresh
         ∙ drop-append_seam (leaves w) all
 
--- ---- bytes that came, and what was cut of them
+-- ---- answers
 
--- bytes of an end came, and then they were cut
-abbrev pub IsFed : End → PairState → PairState → Type 0
-IsFed end old mid = (t : Told) → said old ≡ said_of t → said mid ≡ said_of (made (Fed end ∷ []) t)
+pub all_ok : {A E P : Type 0} (r : Result A E) → P → OnOk r P
+all_ok (Ok x) e = e
+all_ok (Err x) e = tt
 
-on_ok : {A E P Q : Type 0} (r : Result A E) → (P → Q) → OnOk r P → OnOk r Q
-on_ok (Ok x) f e = f e
-on_ok (Err x) f e = tt
+on_ok : {A E P Q R : Type 0} (r : Result A E) → (P → Q → R) → OnOk r P → OnOk r Q → OnOk r R
+on_ok (Ok x) f p q = f p q
+on_ok (Err x) f p q = tt
 
 on_err : {A E P Q : Type 0} (r : Result A E) → (P → Q) → OnErr r P → OnErr r Q
 on_err (Ok x) f e = tt
 on_err (Err x) f e = f e
 
-pub fed_in : {A E : Type 0} (s : SetupText) (end x : End) (bytes : List ℕ) (old mid new : PairState) (r : Result A E) → x ≡ end → IsFed x old mid
-    → OnOk r ((t : Told) → said mid ≡ said_of t → said new ≡ said_of (read_in end bytes t)) → OnOk r ((h : List Entry) → Represents s old h → said new ≡ said_of (came x bytes (told s h)))
-fed_in s end x bytes old mid new r is fed ok =
-    let here : IsFed end old mid = subst (λ (y : End). IsFed y old mid) is fed in
-    subst (λ (y : End). OnOk r ((h : List Entry) → Represents s old h → said new ≡ said_of (came y bytes (told s h)))) (sym is)
-    (on_ok r (λ f h e. f (made (Fed end ∷ []) (told s h)) (here (told s h) e)) ok)
+pub settled_in : {A E : Type 0} (s : SetupText) (old new : PairState) (r : Result A E) → OnOk r ((t : Told) → Says old t → Says new (settled t)) → new.telling ≡ false
+    → OnOk r ((h : List Entry) → Represents s old h → Represents s new (entry.Settled ∷ h))
+settled_in s old new r ok quiet =
+    on_ok r (λ f q h e. told_said new (settled (told s h)) false (f (told s h) (ap unlined e)) q) ok (all_ok r quiet)
 
-pub fed_failed : {A E : Type 0} (s : SetupText) (end x : End) (bytes : List ℕ) (old mid new : PairState) (r : Result A E) → x ≡ end → IsFed x old mid
-    → OnErr r (FailedIn (read_in end bytes) mid new)
-    → OnErr r ((cut : ℕ) × ((h : List Entry) → Represents s old h → said new ≡ said_of (ran_out cut (came x bytes (told s h)))))
-fed_failed s end x bytes old mid new r is fed err =
+pub settle_failed : {A E : Type 0} (s : SetupText) (old new : PairState) (r : Result A E) → OnErr r (FailedIn settled old new) → new.telling ≡ false
+    → OnErr r ((cut : ℕ) × ((h : List Entry) → Represents s old h → Represents s new (entry.OutOfMemory cut ∷ entry.Settled ∷ h)))
+settle_failed s old new r err quiet =
+    on_err r (λ f. (f.0, λ h e. told_said new (ran_out f.0 (told s (entry.Settled ∷ h))) false (f.1 (told s h) (ap unlined e)) quiet)) err
+
+-- a look that takes memory that isn't there
+pub look_failed : {A E : Type 0} (s : SetupText) (old new : PairState) (r : Result A E) → OnErr r ((t : Told) → Says old t → Says new (ran_out 0 t)) → OnErr r (new.telling ≡ false)
+    → OnErr r ((h : List Entry) → Represents s old h → Represents s new (entry.OutOfMemory 0 ∷ h))
+look_failed s old new (Ok x) says quiet = tt
+look_failed s old new (Err x) says quiet = λ h e.
+    told_said new (ran_out 0 (told s h)) ((told s h).telling && nat_le 1 0) (says (told s h) (ap unlined e)) (quiet ∙ by (told s h).telling)
+  where
+    by : (b : Bool) → false ≡ (b && nat_le 1 0)
+    by true = refl
+    by false = refl
+
+-- ---- bytes that came, and what was cut of them
+
+-- bytes of an end came, and then they were cut
+abbrev pub IsFed : End → PairState → PairState → Type 0
+IsFed end old mid = (t : Told) → Says old t → Says mid (made (Fed end ∷ []) t)
+
+came_tells : (end : End) (bytes : List ℕ) (t u : Told) → tells (entry.Came end bytes) t ≡ tells (entry.Came end bytes) u
+came_tells Client bytes t u = refl
+came_tells Up bytes t u = refl
+
+pub fed_in : {A E : Type 0} (s : SetupText) (end x : End) (bytes : List ℕ) (old mid new : PairState) (r : Result A E) → x ≡ end → IsFed x old mid
+    → OnOk r ((t : Told) → Says mid t → Says new (read_in end bytes t)) → OnOk r (new.telling ≡ tells (entry.Came end bytes) nothing)
+    → OnOk r ((h : List Entry) → Represents s old h → Represents s new (entry.Came x bytes ∷ h))
+fed_in s end x bytes old mid new r is fed ok telling =
     let here : IsFed end old mid = subst (λ (y : End). IsFed y old mid) is fed in
-    subst (λ (y : End). OnErr r ((cut : ℕ) × ((h : List Entry) → Represents s old h → said new ≡ said_of (ran_out cut (came y bytes (told s h)))))) (sym is)
-    (on_err r (λ f. (f.0, λ h e. f.1 (made (Fed end ∷ []) (told s h)) (here (told s h) e))) err)
+    subst (λ (y : End). OnOk r ((h : List Entry) → Represents s old h → Represents s new (entry.Came y bytes ∷ h))) (sym is)
+    (on_ok r (λ f flag h e. told_said new (came end bytes (told s h)) (tells (entry.Came end bytes) (told s h)) (f (made (Fed end ∷ []) (told s h)) (here (told s h) (ap unlined e)))
+    (flag ∙ came_tells end bytes nothing (told s h))) ok telling)
+
+-- of the client no line comes
+pub fed_failed : {A E : Type 0} (s : SetupText) (x : End) (bytes : List ℕ) (old mid new : PairState) (r : Result A E) → x ≡ Client → IsFed x old mid
+    → OnErr r (FailedIn (read_in Client bytes) mid new) → new.telling ≡ false
+    → OnErr r ((cut : ℕ) × ((h : List Entry) → Represents s old h → Represents s new (entry.OutOfMemory cut ∷ entry.Came x bytes ∷ h)))
+fed_failed s x bytes old mid new r is fed err quiet =
+    let here : IsFed Client old mid = subst (λ (y : End). IsFed y old mid) is fed in
+    subst (λ (y : End). OnErr r ((cut : ℕ) × ((h : List Entry) → Represents s old h → Represents s new (entry.OutOfMemory cut ∷ entry.Came y bytes ∷ h)))) (sym is)
+    (on_err r (λ f. (f.0, λ h e. told_said new (ran_out f.0 (told s (entry.Came Client bytes ∷ h))) false (f.1 (made (Fed Client ∷ []) (told s h)) (here (told s h) (ap unlined e))) quiet)) err)
+
+-- of the container those do that what counts makes due: the read took back what was due before
+pub fed_up_failed : {A E : Type 0} (s : SetupText) (x : End) (bytes : List ℕ) (old mid new : PairState) (r : Result A E) → x ≡ Up → IsFed x old mid
+    → OnErr r (FailedUpIn (read_in Up bytes) mid new)
+    → OnErr r ((cut : ℕ) × ((h : List Entry) → Represents s old h → Represents s new (entry.OutOfMemory cut ∷ entry.Came x bytes ∷ h)))
+fed_up_failed s x bytes old mid new r is fed err =
+    subst (λ (y : End). OnErr r ((cut : ℕ) × ((h : List Entry) → Represents s old h → Represents s new (entry.OutOfMemory cut ∷ entry.Came y bytes ∷ h)))) (sym is)
+    (on_err r (λ f. (f.0, λ h e. by f.0 f.1 f.2 h (ap unlined e))) err)
+  where
+    here : IsFed Up old mid
+    here = subst (λ (y : End). IsFed y old mid) is fed
+
+    by : (cut : ℕ) → FailedAt cut (read_in Up bytes) mid new
+        → (owed_lines mid.bridge.state ≡ [] → (said new).lines ≡ (if nat_le 1 cut then owed_lines new.bridge.state else []))
+        → (h : List Entry) → Says old (told s h) → Represents s new (entry.OutOfMemory cut ∷ entry.Came Up bytes ∷ h)
+    by cut failed lines h e =
+        let fed : Says mid (made (Fed Up ∷ []) (told s h)) = here (told s h) e in
+        let now : Says new (ran_out cut (told s (entry.Came Up bytes ∷ h))) = failed (made (Fed Up ∷ []) (told s h)) fed in
+        let none : owed_lines mid.bridge.state ≡ [] =
+        ap (λ (z : Said). owed_lines z.state) fed ∙ none_told (state_of s h).paths (state_of s h).opened in
+        with_lines (said new) (said_of (told s (entry.OutOfMemory cut ∷ entry.Came Up bytes ∷ h))) now
+        (lines none ∙ ap (λ (z : Said). if nat_le 1 cut then owed_lines z.state else []) now)
+
+-- ---- lines that are told
+
+-- the lines by a pair's own state are the word of its entries
+lines_word : (s : SetupText) (p : PairState) (h : List Entry) → Represents s p h → lines_text p.bridge.state.number (said p).lines ≡ (pair_words s).lines h
+unfolding pair_words
+lines_word s p h e = ap (λ (z : Said). lines_text z.state.number z.lines) e
+
+pub owed_told : (P : List ℕ → Type 0) (q p : PairState) → q ≡ p → q.telling ≡ true → P (lines_text q.bridge.state.number (owed_lines q.bridge.state))
+    → (s : SetupText) (h : List Entry) → Represents s p h → P ((pair_words s).lines h)
+owed_told P q p is on x s h e =
+    subst P
+    (ap (λ (b : Bool). lines_text q.bridge.state.number (if b then owed_lines q.bridge.state else [])) (sym on) ∙ lines_word s q h (ap said is ∙ e)) x
+
+pub none_owed : (P : List ℕ → Type 0) (q p : PairState) → q ≡ p → q.telling ≡ false → P [] → (s : SetupText) (h : List Entry) → Represents s p h → P ((pair_words s).lines h)
+none_owed P q p is off x s h e =
+    subst P
+    (ap (λ (b : Bool). lines_text q.bridge.state.number (if b then owed_lines q.bridge.state else [])) (sym off) ∙ lines_word s q h (ap said is ∙ e)) x
+
+pub on_true : {P Q : Type 0} (b : Bool) → (P → Q) → OnTrue b P → OnTrue b Q
+on_true true f x = f x
+on_true false f x = tt
+
+pub on_false : {P Q : Type 0} (b : Bool) → (P → Q) → OnFalse b P → OnFalse b Q
+on_false true f x = tt
+on_false false f x = f x
+
+pub appends_none : (a : Option (List ℕ)) → Appends a a []
+appends_none None = tt
+appends_none (Some bytes) = sym (append-nil bytes)

@@ -1,5 +1,7 @@
 -- What an end took are the bytes of the units that were sent to it, but for what is left of the one in progress.
-use Rattle.std.proofs.Common.{◌≡◌, ◌∙◌, ℕ, Bool, true, false, if◌then◌else◌, List, [], ◌∷◌, ◌++◌, length, take, drop, nat_lt, Option, None, Some, append_assoc, append-nil, refl, sym, ap, subst, arith}
+use Rattle.std.proofs.Common.{◌≡◌, ◌∙◌, ℕ, Bool, true, false, if◌then◌else◌, List, [], ◌∷◌, ◌++◌}
+use Rattle.std.proofs.Common.{length, take, drop, nat_lt, Option, None, Some, append_assoc}
+use Rattle.std.proofs.Common.{append-nil, refl, sym, ap, subst, arith}
 use Rattle.std.specs.Prelude.{is_some}
 use Rattle.std.specs.Option.{option_map}
 use Rattle.std.proofs.lemmas.List.{drop_all, map-append, take-append-drop}
@@ -19,17 +21,22 @@ use Rattle.gate_model.specs.declared.outgoing.Outgoing.TheVariants.{ToClient, To
 use Rattle.gate_model.specs.Due.{carries, carries_up, due, in_progress, is_busy, pick}
 use Rattle.gate_model.specs.Folds.{sent}
 use Rattle.gate_model.specs.Picks.{ArePicks}
-use Rattle.gate_model.specs.Setup.{SetupText}
+use Rattle.gate_model.specs.Paths.{told_paths}
+use Rattle.gate_model.specs.Setup.{SetupText, site_of}
 use Rattle.gate_model.specs.Spelling.{Context, spell}
 use Rattle.gate_model.specs.State as state
 use Rattle.gate_model.specs.State.{State, Step, Gave, Whole, before, step}
 use Rattle.gate_model.specs.Upstream.{UpState, first, linked, shut_by}
-use Rattle.gate_pair.specs.Answers.{AreSent, OwesNone, context_in, sent_to, sent_up_with, spelled, taken_bytes, to_client, to_up}
-use Rattle.gate_pair.specs.Meaning.{begins, ends, given, offered, pair_words, spelled_in, state_of, steps_of, stream_of, told}
+use Rattle.gate_pair.specs.Answers.{AreSent, OwesNone, context_in, sent_to, sent_up_with, spelled}
+use Rattle.gate_pair.specs.Answers.{taken_bytes, to_client, to_up}
+use Rattle.gate_pair.specs.Meaning.{begins, ends, given, offered, pair_words, spelled_in, state_of}
+use Rattle.gate_pair.specs.Meaning.{steps_of, stream_of, told}
 use Rattle.gate_pair.proofs.Logins.{AreLoggedIn, bytes_stay, client_same, context_is, gave_stay}
 use Rattle.gate_pair.proofs.Picks.{moment_picks, offered_is, picks}
 use Rattle.gate_pair.proofs.Sounds.{client_picks, up_picks}
-use Rattle.gate_pair.proofs.Taken.{AreTaken, IsTaken, Leaves, closing_keeps, fail_leaves, drop_taken, fresh_taken, lost_leaves, silent_leaves, taken_leaves}
+use Rattle.gate_pair.proofs.Taken.{AreTaken, IsTaken, Leaves, closing_keeps, fail_leaves}
+use Rattle.gate_pair.proofs.Taken.{drop_taken, fresh_taken, lost_leaves, silent_leaves}
+use Rattle.gate_pair.proofs.Taken.{taken_leaves}
 use Rattle.gate_pair.proofs.Ticks.{tick_all}
 
 -- ---- steps that send nothing
@@ -49,8 +56,8 @@ gone_going Up up w e = ap (option_map ToUp) e
 
 -- they leave what is in progress
 quiet_going : (end : End) (x : Step) (w : State) → IsQuiet x → in_progress (step w x) end ≡ in_progress w end
-quiet_going Client (state.Began vhost n ms) w q = refl
-quiet_going Up (state.Began vhost n ms) w q = refl
+quiet_going Client (state.Began site n ms) w q = refl
+quiet_going Up (state.Began site n ms) w q = refl
 quiet_going Client (state.Moment ms) w q = refl
 quiet_going Up (state.Moment ms) w q = refl
 quiet_going Client (state.Fed Client) w q = refl
@@ -63,7 +70,7 @@ quiet_going end (state.Came u) w q = leaves_going end (taken_leaves (state.Came 
 quiet_going end state.TakenUp w q = leaves_going end (taken_leaves state.TakenUp w tt)
 quiet_going end (state.Heard u) w q = leaves_going end (taken_leaves (state.Heard u) w tt)
 quiet_going end (state.Joined link.Ok) w q = gone_going end (linked w.moment w.up) w refl
-quiet_going end (state.Joined link.Failed) w q = leaves_going end (fail_leaves _ None (record w { up = shut_by w.up })) ∙ gone_going end (shut_by w.up) w refl
+quiet_going end (state.Joined link.Failed) w q = leaves_going end (fail_leaves _ None (record w { up = shut_by w.up; paths = told_paths w.paths })) ∙ gone_going end (shut_by w.up) w refl
 quiet_going Client (state.Lost Client loss.Ended) w q = refl
 quiet_going Up (state.Lost Client loss.Ended) w q = refl
 quiet_going Client (state.Lost Client loss.Failed) w q = refl
@@ -274,7 +281,7 @@ read_sends l s end bytes h p t q x =
 sends : AreLoggedIn → (s : SetupText) (h : List Entry) → IsRelayed (pair_words s) h → Sends s h
 unfolding pair_words
 sends l s [] r = record { client = record { bytes = refl; free = λ e. refl }; up = record { bytes = refl; free = λ e. refl } }
-sends l s (entry.Began n ms ∷ h) r = both_quiet l s (state.Began s.vhost n ms) (steps_of s h) tt (picks s (entry.Began n ms ∷ h) r) (sends l s h r.2)
+sends l s (entry.Began n ms ∷ h) r = both_quiet l s (state.Began (site_of s) n ms) (steps_of s h) tt (picks s (entry.Began n ms ∷ h) r) (sends l s h r.2)
 sends l s (entry.Refused ∷ h) r = both_quiet l s state.OutOfMemory (steps_of s h) tt (picks s (entry.Refused ∷ h) r) (sends l s h r.2)
 sends l s (entry.Moment ms ∷ h) r = ticked_sends l s ms h r (sends l s h r.2)
 sends l s (entry.Came Client bytes ∷ h) r = read_sends l s Client bytes h (picks s h r.2) (fresh_taken s (entry.Came Client bytes ∷ h)) (picks s (entry.Came Client bytes ∷ h) r) (sends l s h r.2)

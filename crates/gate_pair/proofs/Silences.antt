@@ -1,5 +1,7 @@
 -- An end that is to be given up is at the moment at which that becomes due.
-use Rattle.std.proofs.Common.{◌≡◌, ◌∙◌, ℕ, ◌-◌, ◌*◌, ◌==◌, ◌<◌, nat_le, Bool, true, false, not, ◌&&◌, ◌||◌, if◌then◌else◌, List, [], ◌∷◌, ◌++◌, Option, Some, refl, ap, arith}
+use Rattle.std.proofs.Common.{◌≡◌, ◌∙◌, ℕ, ◌-◌, ◌*◌, ◌==◌, ◌<◌, nat_le, Bool, true, false, not}
+use Rattle.std.proofs.Common.{◌&&◌, ◌||◌, if◌then◌else◌, List, [], ◌∷◌, ◌++◌, Option, Some, refl}
+use Rattle.std.proofs.Common.{ap, arith, sym}
 use Rattle.std.specs.List.{list_any}
 use Rattle.std.proofs.lemmas.Bool.Decides.{nat_tests}
 use Rattle.close_translate.specs.declared.codes.TheConstants.{CONNECTION_FORCED}
@@ -14,14 +16,18 @@ use Rattle.performatives_10.specs.declared.condition.Condition.{Condition}
 use Rattle.performatives_10.specs.declared.condition.Condition.TheVariants.{ResourceLimitExceeded}
 use Rattle.gate_model.specs.declared.timers.TheConstants.{SILENCE_PER_SECOND, UP_SILENCE}
 use Rattle.gate_model.specs.Due.{is_awaited, is_silent, is_silent_by}
+use Rattle.gate_model.specs.Paths.{is_laden}
 use Rattle.gate_model.specs.Picks.{ArePicks}
 use Rattle.gate_model.specs.Queue.{is_bad_unit, is_full}
 use Rattle.gate_model.specs.Setup.{SetupText}
 use Rattle.gate_model.specs.Silence.{SilentAtOnce, SilentWhenDue}
-use Rattle.gate_model.specs.State.{State, Step, Moment, Silent, before, close, close_if, close_waits, fail, failed, fed_by, is_held, is_limit_reached, silenced, told}
+use Rattle.gate_model.specs.State.{State, Step, Moment, Silent, before, close, close_if}
+use Rattle.gate_model.specs.State.{close_waits, fail, failed, fed_by, is_held, is_limit_reached}
+use Rattle.gate_model.specs.State.{silenced, told}
 use Rattle.gate_model.proofs.Connections.{close_closes, opening_early}
 use Rattle.gate_pair.specs.Meaning.{given_up, pair_words, state_of, steps_of}
 use Rattle.gate_pair.specs.Silence.{GivesUp, NoneIsSilent}
+use Rattle.gate_pair.proofs.Lines.{laden_told}
 use Rattle.gate_pair.proofs.Picks.{picks}
 
 -- ---- a client that is held counts from now
@@ -30,17 +36,23 @@ or_right : (a b : Bool) → b ≡ true → (a || b) ≡ true
 or_right true b e = refl
 or_right false b e = e
 
+abbrev held_if : Bool → Bool → State → Bool
+held_if opening laden w = opening || (close_waits w || (list_any is_bad_unit w.queue || (is_full w.queue || laden)))
+
 -- the limit of the opening holds no client
-held_before : (late : Bool) (w : State) → (is_opening (close_if late w.conn) || (close_waits w || (list_any is_bad_unit w.queue || is_full w.queue))) ≡ true → is_held w ≡ true
+held_before : (late : Bool) (w : State) → held_if (is_opening (close_if late w.conn)) (is_laden w.paths) w ≡ true → is_held w ≡ true
 held_before false w e = e
 held_before true w e = by (is_opening (close w.conn)) refl e
   where
-    by : (b : Bool) → is_opening (close w.conn) ≡ b → (b || (close_waits w || (list_any is_bad_unit w.queue || is_full w.queue))) ≡ true → is_held w ≡ true
+    by : (b : Bool) → is_opening (close w.conn) ≡ b → held_if b (is_laden w.paths) w ≡ true → is_held w ≡ true
     by true f e = absurd (opening_early (close w.conn) f (close_closes w.conn.phase))
     by false f e = or_right (is_opening w.conn) _ e
 
 held_now : (w : State) (ms : ℕ) → is_held (told w ms) ≡ true → (told w ms).fed_at ≡ ms
-held_now w ms e = ap (λ (b : Bool). fed_by b ms w.fed_at) (held_before (is_limit_reached w.conn w.accepted_at ms) w e)
+held_now w ms e =
+    let late : Bool = is_limit_reached w.conn w.accepted_at ms in
+    ap (λ (b : Bool). fed_by b ms w.fed_at)
+    (held_before late w (sym (ap (λ (laden : Bool). held_if (is_opening (close_if late w.conn)) laden w) (laden_told w.paths)) ∙ e))
 
 not_long : (interval ms : ℕ) → is_silent_by interval ms ms ≡ false
 not_long interval ms = by (interval == 0) refl

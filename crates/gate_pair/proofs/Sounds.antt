@@ -1,5 +1,7 @@
 -- What holds of a pair's bridge holds after each step: the login that is due to the container is known, so that what is offered has bytes.
-use Rattle.std.proofs.Common.{drop, ◌≡◌, ◌∙◌, ℕ, ◌<◌, Bool, true, false, not, ◌&&◌, ◌||◌, map, if◌then◌else◌, List, [], ◌∷◌, ◌++◌, length, Option, None, Some, refl, sym, ap, subst, arith}
+use Rattle.std.proofs.Common.{drop, ◌≡◌, ◌∙◌, ℕ, ◌<◌, Bool, true, false, not, ◌&&◌, ◌||◌, map}
+use Rattle.std.proofs.Common.{if◌then◌else◌, List, [], ◌∷◌, ◌++◌, length, Option, None, Some, refl}
+use Rattle.std.proofs.Common.{sym, ap, subst, arith}
 use Rattle.std.specs.Prelude.{is_some}
 use Rattle.std.specs.Option.{option_map}
 use Rattle.gate_outside.specs.declared.ports.End.{End}
@@ -30,18 +32,22 @@ use Rattle.gate_model.specs.declared.reply.Reply.{Reply}
 use Rattle.gate_model.specs.declared.channel.SessionUnit.{SessionUnit}
 use Rattle.gate_model.specs.declared.channel.SessionUnit.TheVariants as session
 use Rattle.gate_model.specs.Due.{carries_up, client_rows, is_busy, pick, up_rows}
-use Rattle.gate_model.specs.Paths.{lost_path}
+use Rattle.gate_model.specs.Paths.{told_paths}
 use Rattle.gate_model.specs.Setup.{SetupText}
 use Rattle.gate_model.specs.Spelling.{context_of, init_text, spell_on}
 use Rattle.gate_model.specs.Requests.{client_step}
 use Rattle.gate_model.specs.State as state
-use Rattle.gate_model.specs.State.{State, Step, condition_by, fail, failed, heard, keep_login, lost_up, next_unit, runs, step, windowed, with_meaning}
-use Rattle.gate_model.specs.Upstream.{UpState, closing_with, container_given, ended_in, first, heard_up, lost_by, meaning_by, shut_by, when_up, without_up}
+use Rattle.gate_model.specs.State.{State, Step, condition_by, fail, failed, heard, keep_login}
+use Rattle.gate_model.specs.State.{lost_up, next_unit, paths_lost, runs, step, windowed}
+use Rattle.gate_model.specs.State.{with_meaning}
+use Rattle.gate_model.specs.Upstream.{UpState, closing_with, container_given, ended_in, first}
+use Rattle.gate_model.specs.Upstream.{heard_up, lost_by, meaning_by, shut_by, when_up, without_up}
 use Rattle.gate_model.proofs.Sessions.{session_cases}
 use Rattle.gate_model.proofs.Spelled.{spelled_some}
 use Rattle.gate_model.proofs.Ups.{Begins, Closing, Ends, Flows, Opening, Picked, Telling, goes_up}
 use Rattle.gate_model.proofs.Ups as ups
-use Rattle.bridge_core.specs.Offers.{BridgeState, Keeps, advanced, bytes_of, client_bytes, moved, peeked, with_next}
+use Rattle.bridge_core.specs.Offers.{BridgeState, Keeps, advanced, bytes_of, client_bytes, moved}
+use Rattle.bridge_core.specs.Offers.{peeked, with_next}
 use Rattle.gate_pair.specs.Meaning.{offered, spelled_in}
 use Rattle.gate_pair.specs.PairStates.{IsSound, KnowsLogin, StaysSound, ready_at}
 use Rattle.gate_pair.proofs.Lacks.{begins_lack, ends_lack, flows_lack}
@@ -110,7 +116,7 @@ heard_knows w u k = by w.up.container k
     by (Some c) k = λ e. ap is_some (meaning_container (meaning_by (Some c) u) (record w { up = heard_up u (record w.up { container = Some c }) }))
 
 up_knows : (x : Side) (w : State) → KnowsLogin w.up → KnowsLogin (lost_up x w).up
-up_knows x w k = fail_knows _ None (record w { up = lost_by x w.up; paths = map (option_map lost_path) w.paths }) (ended w.up.container k)
+up_knows x w k = fail_knows _ None (record w { up = lost_by x w.up; paths = paths_lost w.paths }) (ended w.up.container k)
   where
     ended : (c : Option Upstream) → (w.up.pending.init ≡ true → is_some c ≡ true) → w.up.pending.init ≡ true → is_some (ended_in c) ≡ true
     ended None k = k
@@ -126,7 +132,7 @@ lost_knows w Up loss.Shut k = k
 
 joined_knows : (w : State) (answer : Linked) → KnowsLogin w.up → KnowsLogin (step w (state.Joined answer)).up
 joined_knows w link.Ok k = λ e. absurd cc
-joined_knows w link.Failed k = fail_knows _ None (record w { up = shut_by w.up }) k
+joined_knows w link.Failed k = fail_knows _ None (record w { up = shut_by w.up; paths = told_paths w.paths }) k
 
 given_some : (u : UpUnit) (c : Option Upstream) → is_some c ≡ true → is_some (container_given u c) ≡ true
 given_some u None e = absurd cc
@@ -145,7 +151,7 @@ begun_knows (unit.Begin n) s k = λ e. given_some (unit.Begin n) s.container (k 
 begun_knows (unit.End n why) s k = λ e. given_some (unit.End n why) s.container (k e)
 
 pub step_knows : (s : Step) (w : State) → KnowsLogin w.up → KnowsLogin (step w s).up
-step_knows (state.Began vhost n ms) w k = k
+step_knows (state.Began site n ms) w k = k
 step_knows (state.Moment ms) w k = k
 step_knows (state.Fed Client) w k = k
 step_knows (state.Fed Up) w k = k
@@ -161,8 +167,8 @@ step_knows (state.Came u) w k = by w.out_of_memory
     by : (b : Bool) → KnowsLogin (if b then w else state.came (state.dequeued w) u).up
     by true = k
     by false =
-        closing_knows (is_closing w.conn) (condition_by (client_step w.conn u).1) (keep_login (client_step w.conn u).1 w.up)
-        (keeping_knows (client_step w.conn u).1 w.up k)
+        closing_knows (is_closing w.conn) (condition_by (client_step w.routes w.conn u).1) (keep_login (client_step w.routes w.conn u).1 w.up)
+        (keeping_knows (client_step w.routes w.conn u).1 w.up k)
 step_knows state.TakenUp w k = by (not w.out_of_memory && w.leaving)
   where
     by : (b : Bool) → KnowsLogin (if b then state.left w else w).up

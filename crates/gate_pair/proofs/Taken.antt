@@ -1,6 +1,7 @@
 -- Steps that out of memory can take back are units that came and what was taken up; they leave what was sent as it was.
-use Rattle.std.proofs.Common.{◌≡◌, ◌∙◌, ℕ, zero, suc, Bool, true, false, not, ◌&&◌, if◌then◌else◌, List, [], ◌∷◌, ◌++◌, drop, length, nat_lt, map, Option, None, Some, refl, sym, ap}
-use Rattle.std.specs.Option.{option_map}
+use Rattle.std.proofs.Common.{◌≡◌, ◌∙◌, ℕ, zero, suc, Bool, true, false, not, ◌&&◌, if◌then◌else◌}
+use Rattle.std.proofs.Common.{List, [], ◌∷◌, ◌++◌, drop, length, nat_lt, Option, None, Some}
+use Rattle.std.proofs.Common.{refl, sym, ap}
 use Rattle.gate_outside.specs.declared.ports.End.{End}
 use Rattle.gate_outside.specs.declared.ports.End.TheVariants.{Client, Up}
 use Rattle.gate_relay.specs.declared.sides.Side.{Side}
@@ -19,22 +20,26 @@ use Rattle.wire_base.specs.declared.scan.Scan.{Scan}
 use Rattle.wire_base.specs.declared.scan.Scan.TheVariants.{Whole, More, Bad}
 use Rattle.gate_model.specs.declared.outgoing.Outgoing.{Outgoing}
 use Rattle.gate_model.specs.Due.{can_leave, is_busy, pick}
-use Rattle.gate_model.specs.Folds.{accepted_in, failed_in, moment_in, ran_out_in, sent, sent_at, sent_up}
-use Rattle.gate_model.specs.Paths.{lost_path}
+use Rattle.gate_model.specs.Folds.{accepted_in, failed_in, moment_in, ran_out_in, sent, sent_at}
+use Rattle.gate_model.specs.Folds.{sent_up}
 use Rattle.gate_model.specs.Setup.{SetupText}
 use Rattle.gate_model.specs.Requests.{client_step}
 use Rattle.gate_model.specs.State as state
-use Rattle.gate_model.specs.State.{State, Step, Came, Heard, Gave, Joined, TakenUp, before, came, condition_by, fail, failed, heard, keep_login, left, lost_up, next_unit, step, windowed, with_meaning}
-use Rattle.gate_model.specs.Upstream.{UpState, awaited_of, closing_with, heard_up, lost_by, meaning_by}
+use Rattle.gate_model.specs.State.{State, Step, Came, Heard, Gave, Joined, TakenUp, before, came}
+use Rattle.gate_model.specs.State.{condition_by, fail, failed, heard, keep_login, left, lost_up}
+use Rattle.gate_model.specs.State.{next_unit, paths_lost, step, windowed, with_meaning}
+use Rattle.gate_model.specs.Upstream.{UpState, awaited_of, closing_with, heard_up, lost_by}
+use Rattle.gate_model.specs.Upstream.{meaning_by}
 use Rattle.machine_091.specs.declared.unit.Want91.{Want91}
 use Rattle.machine_091.specs.declared.unit.Want91.TheVariants as want
-use Rattle.gate_pair.specs.Cutting.{after, as_step, behind, cut_all, cut_of, on_next, on_scan, read_end, settle, settled, step_scan, unit_scan, up_scan}
+use Rattle.gate_pair.specs.Cutting.{after, as_step, behind, cut_all, cut_of, on_next, on_scan}
+use Rattle.gate_pair.specs.Cutting.{read_end, settle, settled, step_scan, unit_scan, up_scan}
 use Rattle.gate_pair.specs.Meaning.{begins, ends, given, leaves, steps_of, told}
 use Rattle.gate_model.proofs.Sessions.{session_cases}
 use Rattle.gate_pair.proofs.Ticks.{tick_keeps}
 
 abbrev pub IsTaken : Step → Type 0
-IsTaken (state.Began vhost n ms) = ⊥
+IsTaken (state.Began site n ms) = ⊥
 IsTaken (state.Moment ms) = ⊥
 IsTaken (state.Fed end) = ⊥
 IsTaken (state.Silent end) = ⊥
@@ -210,8 +215,8 @@ came_leaves : (w : State) (u : Unit91) → Leaves w (came w u)
 came_leaves w u = record {
   memory_is = refl;
   going_is = refl;
-  going_up_is = closing_keeps (is_closing w.conn) (condition_by (client_step w.conn u).1) (keep_login (client_step w.conn u).1 w.up)
-      ∙ keeping (client_step w.conn u).1 w.up;
+  going_up_is = closing_keeps (is_closing w.conn) (condition_by (client_step w.routes w.conn u).1) (keep_login (client_step w.routes w.conn u).1 w.up)
+      ∙ keeping (client_step w.routes w.conn u).1 w.up;
   number_is = refl;
 }
 
@@ -243,11 +248,11 @@ silent_leaves Up w =
 -- and so does the loss of the upstream end
 pub lost_leaves : (x : Side) (w : State) → Leaves w (lost_up x w)
 lost_leaves x w =
-    let v : State = record w { up = lost_by x w.up; paths = map (option_map lost_path) w.paths } in
+    let v : State = record w { up = lost_by x w.up; paths = paths_lost w.paths } in
     leaves_more w v (lost_up x w) (record { memory_is = refl; going_is = refl; going_up_is = refl; number_is = refl }) (fail_leaves _ None v)
 
 pub taken_leaves : (s : Step) (w : State) → IsTaken s → Leaves w (step w s)
-taken_leaves (state.Began vhost n ms) w t = absurd t
+taken_leaves (state.Began site n ms) w t = absurd t
 taken_leaves (state.Moment ms) w t = absurd t
 taken_leaves (state.Fed end) w t = absurd t
 taken_leaves (state.Silent end) w t = absurd t
@@ -280,7 +285,7 @@ pub record LeavesFolds (g h : List Step) : Type 0 where
 
 pub leave_folds : (g h : List Step) → AreTaken g → LeavesFolds g h
 leave_folds [] h a = record { sent_is = refl; sent_up_is = refl; sent_at_is = refl; moment_is = refl; accepted_is = refl; memory_is = refl; failed_is = refl }
-leave_folds (state.Began vhost n ms ∷ g) h a = absurd a.0
+leave_folds (state.Began site n ms ∷ g) h a = absurd a.0
 leave_folds (state.Moment ms ∷ g) h a = absurd a.0
 leave_folds (state.Fed end ∷ g) h a = absurd a.0
 leave_folds (state.Silent end ∷ g) h a = absurd a.0

@@ -1,5 +1,7 @@
 -- An empty frame goes next to a container exactly where the steps say so.
-use Rattle.std.proofs.Common.{◌≡◌, ◌↔◌, ◌∙◌, ℕ, ◌+◌, ◌-◌, ◌/◌, ◌==◌, ◌<◌, ◌≤◌, nat_le, Bool, true, false, not, ◌&&◌, ◌||◌, map, if◌then◌else◌, List, [], ◌∷◌, ◌++◌, Option, Some, refl, sym, ap, subst, arith}
+use Rattle.std.proofs.Common.{◌≡◌, ◌↔◌, ◌∙◌, ℕ, ◌+◌, ◌-◌, ◌/◌, ◌==◌, ◌<◌, ◌≤◌, nat_le, Bool, true}
+use Rattle.std.proofs.Common.{false, not, ◌&&◌, ◌||◌, map, if◌then◌else◌, List, [], ◌∷◌, ◌++◌}
+use Rattle.std.proofs.Common.{Option, Some, refl, sym, ap, subst, arith}
 use Rattle.std.specs.List.{list_any}
 use Rattle.std.proofs.lemmas.Bool.Decides.{nat_tests}
 use Rattle.gate_outside.specs.declared.ports.End.TheVariants.{Up}
@@ -11,11 +13,13 @@ use Rattle.gate_model.specs.declared.outgoing.Outgoing.TheVariants.{ToUp}
 use Rattle.gate_model.specs.declared.outgoing.UpUnit.{UpUnit}
 use Rattle.gate_model.specs.declared.outgoing.UpUnit.TheVariants as up
 use Rattle.gate_model.specs.Asked.{Goes, GoesWhenDue, is_up_close, is_up_open}
-use Rattle.gate_model.specs.Due.{begins, close_behind, ends, is_busy, none_left, pick, rows_in, session_rows, up_rows}
+use Rattle.gate_model.specs.Due.{begins, close_behind, ends, is_busy, none_left, pick, rows_in}
+use Rattle.gate_model.specs.Due.{session_rows, up_rows}
 use Rattle.gate_model.specs.Folds.{connection, container, moment_in, sent_up, sent_up_at, side_in}
 use Rattle.gate_model.specs.Picks.{ArePicks}
 use Rattle.gate_model.specs.State.{State, Step, Gave, before}
-use Rattle.gate_model.specs.Upstream.{first, idle_in, is_idle_by, is_idle_due, opening_rows, when_up}
+use Rattle.gate_model.specs.Upstream.{first, idle_in, is_idle_by, is_idle_due, opening_rows}
+use Rattle.gate_model.specs.Upstream.{when_up}
 use Rattle.gate_model.proofs.Closings.{closes_sent, closing_now}
 use Rattle.gate_model.proofs.Connections.{clash}
 use Rattle.gate_model.proofs.Known.{Known, container_is, known, moment_is, side_is}

@@ -1,5 +1,6 @@
 -- Heartbeats, empty frames and shuts are due exactly when the entries say so.
-use Rattle.std.proofs.Common.{◌≡◌, ◌↔◌, ◌∙◌, ℕ, ◌+◌, ◌*◌, ◌/◌, ◌≤◌, Bool, true, false, ◌&&◌, List, [], ◌∷◌, Some, refl, sym, ap, subst}
+use Rattle.std.proofs.Common.{◌≡◌, ◌↔◌, ◌∙◌, ℕ, ◌+◌, ◌*◌, ◌/◌, ◌≤◌, Bool, true, false, ◌&&◌, List}
+use Rattle.std.proofs.Common.{[], ◌∷◌, Some, refl, sym, ap, subst}
 use Rattle.gate_outside.specs.declared.ports.End.{End}
 use Rattle.gate_outside.specs.declared.ports.End.TheVariants.{Client, Up}
 use Rattle.gate_relay.specs.declared.loss.Loss.TheVariants as loss
@@ -11,11 +12,13 @@ use Rattle.gate_relay.specs.Sides.{is_open_side, is_readable, side_of, sides}
 use Rattle.gate_model.specs.declared.outgoing.Outgoing.TheVariants.{ToClient, ToUp}
 use Rattle.gate_model.specs.declared.outgoing.UpUnit.TheVariants as up
 use Rattle.gate_model.specs.declared.reply.Reply.TheVariants as reply
-use Rattle.gate_model.specs.declared.timers.TheConstants.{BEAT_PER_SECOND, CLOSING_LIMIT, HANDSHAKE_LIMIT}
+use Rattle.gate_model.specs.declared.timers.TheConstants.{BEAT_PER_SECOND, CLOSING_LIMIT}
+use Rattle.gate_model.specs.declared.timers.TheConstants.{HANDSHAKE_LIMIT}
 use Rattle.gate_model.specs.Asked as asked
 use Rattle.gate_model.specs.Asked.{GoesWhenDue, ShutsUpAtOnce}
 use Rattle.gate_model.specs.Due.{is_busy, pick}
-use Rattle.gate_model.specs.Folds.{accepted_in, connection, container, moment_in, ran_out_in, sent_at, sent_up_at}
+use Rattle.gate_model.specs.Folds.{accepted_in, connection, container, moment_in, ran_out_in}
+use Rattle.gate_model.specs.Folds.{sent_at, sent_up_at}
 use Rattle.gate_model.specs.Picks.{ArePicks}
 use Rattle.gate_model.specs.Setup.{SetupText}
 use Rattle.gate_model.specs.State.{Step}
@@ -23,7 +26,12 @@ use Rattle.gate_model.specs.Times as model
 use Rattle.gate_model.specs.Times.{BeatsAtOnce, LateCloses, ShutsAtOnce}
 use Rattle.gate_model.specs.Upstream.{idle_in}
 use Rattle.gate_pair.specs.Meaning.{pair_words, state_of, steps_of}
-use Rattle.gate_pair.specs.Times.{KeepsTimes, MayBeatAt, MayTellAt, SendsBeats, SendsEmpties, ShutAt, Failed, Left, Answered, Greeted, Closed, ClosedBad, ClosedLast, Unheard, NotOpened, Overdue, ShutUpAt, UpFailed, UpEnded, UpClosed, UpClosedBad, UpClosedLast, UpUnopened, UpOverdue, ShutDueAt, ShutSince, IsDue, AtTheEnd, AtRefusal, ShutsForCause, accepted_of, last_taken_at, last_taken_up_at}
+use Rattle.gate_pair.specs.Times.{KeepsTimes, MayBeatAt, MayTellAt, SendsBeats, SendsEmpties}
+use Rattle.gate_pair.specs.Times.{ShutAt, Failed, Left, Answered, Greeted, Closed, ClosedBad}
+use Rattle.gate_pair.specs.Times.{ClosedLast, Unheard, NotOpened, Overdue, ShutUpAt, UpFailed}
+use Rattle.gate_pair.specs.Times.{UpEnded, UpClosed, UpClosedBad, UpClosedLast, UpUnopened}
+use Rattle.gate_pair.specs.Times.{UpOverdue, ShutDueAt, ShutSince, IsDue, AtTheEnd, AtRefusal}
+use Rattle.gate_pair.specs.Times.{ShutsForCause, accepted_of, last_taken_at, last_taken_up_at}
 use Rattle.gate_pair.proofs.Agree.{agrees}
 use Rattle.gate_pair.proofs.Picks.{memory_in, picks}
 use Rattle.gate_pair.proofs.Taken.{moment_is}

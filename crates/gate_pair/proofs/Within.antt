@@ -1,5 +1,6 @@
 -- A unit that is found in bytes takes some of them, and no more than there are.
-use Rattle.std.proofs.Common.{◌≡◌, ℕ, ◌+◌, ◌*◌, Bool, true, false, cond, ltb, eqb, nat_eq, List, [], ◌∷◌, length, Option, None, Some, refl, ap, sym, subst, arith}
+use Rattle.std.proofs.Common.{◌≡◌, ℕ, ◌+◌, ◌*◌, Bool, true, false, cond, ltb, eqb, nat_eq, List, []}
+use Rattle.std.proofs.Common.{◌∷◌, length, Option, None, Some, refl, ap, sym, subst, arith}
 use Rattle.std.specs.Prelude.{Result, Ok, Err, IfOk}
 use Rattle.std.proofs.lemmas.Bool.{eqb-true, ltb-false}
 use Rattle.std.proofs.lemmas.List.Sums.{common_prefix_len-le}

@@ -1,5 +1,7 @@
 -- What a bridge is once some bytes of what it offers were taken.
-use Rattle.std.proofs.Common.{◌≡◌, ◌∙◌, ℕ, ◌<◌, ◌≤◌, Bool, true, false, if◌then◌else◌, List, [], ◌∷◌, ◌++◌, length, drop, nat_lt, Option, None, Some, refl, sym, ap, subst, arith}
+use Rattle.std.proofs.Common.{◌≡◌, ◌∙◌, ℕ, ◌<◌, ◌≤◌, Bool, true, false, if◌then◌else◌, List, []}
+use Rattle.std.proofs.Common.{◌∷◌, ◌++◌, length, drop, nat_lt, Option, None, Some, refl, sym, ap}
+use Rattle.std.proofs.Common.{subst, arith}
 use Rattle.std.specs.Prelude.{IfSome, IsSome, is_some}
 use Rattle.std.proofs.lemmas.Bool.{le-ltb, lt-ltb}
 use Rattle.std.proofs.lemmas.List.{drop_all}
@@ -7,14 +9,18 @@ use Rattle.gate_outside.specs.declared.ports.End.{End}
 use Rattle.gate_outside.specs.declared.ports.End.TheVariants.{Client, Up}
 use Rattle.gate_model.specs.declared.outgoing.Outgoing.{Outgoing}
 use Rattle.gate_model.specs.declared.outgoing.Outgoing.TheVariants.{ToClient, ToUp}
-use Rattle.gate_model.specs.Due.{carries, carries_up, is_busy, pick}
+use Rattle.gate_relay.specs.Entries.{Entry, Took}
+use Rattle.gate_model.specs.Due.{carries, carries_up, is_busy, is_end_next, pick}
 use Rattle.gate_model.specs.Setup.{SetupText}
 use Rattle.gate_model.specs.State.{State, Step, Gave, Whole, before, step}
 use Rattle.bridge_core.specs.Offers.{BridgeState, moved, offer_of, peeked}
 use Rattle.gate_pair.specs.Cutting.{after}
-use Rattle.gate_pair.specs.Meaning.{Told, begins, ends, given, offered, steps, took}
-use Rattle.gate_pair.specs.PairStates.{Advances, HasLeft, Half, IsSound, IsSoundAt, PairState, Said, is_ready, ready_at, ready_bytes, rest_at, said, said_of, said_stream}
-use Rattle.gate_pair.proofs.Saids.{after_before, pair_of, same_said, same_stream}
+use Rattle.gate_pair.specs.Meaning.{Told, begins, ends, given, offered, steps, tells, told, took}
+use Rattle.gate_pair.specs.PairStates.{Advances, HasLeft, Half, IsSound, IsSoundAt, PairState, Said}
+use Rattle.gate_pair.specs.PairStates.{Represents, Says, is_ready, ready_at, ready_bytes, rest_at}
+use Rattle.gate_pair.specs.PairStates.{said, said_stream, tells_at, unlined}
+use Rattle.gate_pair.proofs.Saids.{after_before, pair_of, same_said, same_stream, says_of}
+use Rattle.gate_pair.proofs.Saids.{told_said}
 use Rattle.gate_pair.proofs.Sounds.{client_picks, looked_ready, step_knows, up_picks}
 
 -- ---- what stays sound
@@ -192,13 +198,13 @@ up_leaves n bytes w = by (nat_lt n (length bytes)) (is_busy w Up) (pick w Up) re
     by false false (Some (ToUp u)) p = refl
     by x false (Some (ToClient u)) p = absurd (up_picks w u p)
 
-pub client_took : (n now : ℕ) (b d : BridgeState) (x y z : Half) (old : PairState) → pair_of b x y ≡ old → z ≡ record x { at = now } → Advances Client n x.at now b d
-    → (t : Told) (bytes : List ℕ) → is_ready old Client ≡ Some bytes → said old ≡ said_of t → said (pair_of d z y) ≡ said_of (took Client n bytes t)
-client_took n now b d x y z old was half a t bytes ready e =
-    let f : said (pair_of b x y) ≡ said_of t = ap said was ∙ e in
+pub client_took : (n now : ℕ) (b d : BridgeState) (x y z : Half) (i j : Bool) (old : PairState) → pair_of b x y i ≡ old → z ≡ record x { at = now } → Advances Client n x.at now b d
+    → (t : Told) (bytes : List ℕ) → is_ready old Client ≡ Some bytes → Says old t → Says (pair_of d z y j) (took Client n bytes t)
+client_took n now b d x y z i j old was half a t bytes ready e =
+    let f : Says (pair_of b x y i) t = says_of b x y i old t was e in
     let r : ready_bytes Client x.at b ≡ bytes = ready_same Client x.at b bytes (ap (λ (p : PairState). is_ready p Client) was ∙ ready) in
     let g : List Step = ends Client n bytes ++ begins Client (before (steps t)) in
-    ap (λ (h : Half). said (pair_of d h y)) half
+    ap (λ (h : Half). unlined (said (pair_of d h y j))) half
     ∙ same_said _ _ _ _ _ _
     (a.state ∙ ap (λ (xs : List ℕ). after (ends Client n xs ++ begins Client b.state) b.state) r
     ∙ ap (λ (z : Said). after (ends Client n bytes ++ begins Client z.state) z.state) f ∙ sym (after_before g (steps t)))
@@ -207,13 +213,13 @@ client_took n now b d x y z old was half a t bytes ready e =
     (ap (λ (w : State). rest_at (is_busy w Up) y.at d.up.bytes) a.state ∙ ap (λ (v : Bool). rest_at v y.at d.up.bytes) (client_leaves n (ready_bytes Client x.at b) b.state)
     ∙ ap (rest_at (is_busy b.state Up) y.at) a.up) ∙ ap (λ (z : Said). z.up) f)
 
-pub up_took : (n now : ℕ) (b d : BridgeState) (x y z : Half) (old : PairState) → pair_of b x y ≡ old → z ≡ record y { at = now } → Advances Up n y.at now b d
-    → (t : Told) (bytes : List ℕ) → is_ready old Up ≡ Some bytes → said old ≡ said_of t → said (pair_of d x z) ≡ said_of (took Up n bytes t)
-up_took n now b d x y z old was half a t bytes ready e =
-    let f : said (pair_of b x y) ≡ said_of t = ap said was ∙ e in
+pub up_took : (n now : ℕ) (b d : BridgeState) (x y z : Half) (i j : Bool) (old : PairState) → pair_of b x y i ≡ old → z ≡ record y { at = now } → Advances Up n y.at now b d
+    → (t : Told) (bytes : List ℕ) → is_ready old Up ≡ Some bytes → Says old t → Says (pair_of d x z j) (took Up n bytes t)
+up_took n now b d x y z i j old was half a t bytes ready e =
+    let f : Says (pair_of b x y i) t = says_of b x y i old t was e in
     let r : ready_bytes Up y.at b ≡ bytes = ready_same Up y.at b bytes (ap (λ (p : PairState). is_ready p Up) was ∙ ready) in
     let g : List Step = ends Up n bytes ++ begins Up (before (steps t)) in
-    ap (λ (h : Half). said (pair_of d x h)) half
+    ap (λ (h : Half). unlined (said (pair_of d x h j))) half
     ∙ same_said _ _ _ _ _ _
     (a.state ∙ ap (λ (xs : List ℕ). after (ends Up n xs ++ begins Up b.state) b.state) r
     ∙ ap (λ (z : Said). after (ends Up n bytes ++ begins Up z.state) z.state) f ∙ sym (after_before g (steps t)))
@@ -221,6 +227,18 @@ up_took n now b d x y z old was half a t bytes ready e =
     (ap (λ (w : State). rest_at (is_busy w Client) x.at d.client.bytes) a.state ∙ ap (λ (v : Bool). rest_at v x.at d.client.bytes) (up_leaves n (ready_bytes Up y.at b) b.state)
     ∙ ap (rest_at (is_busy b.state Client) x.at) a.client) ∙ ap (λ (z : Said). z.client) f)
     (same_stream _ _ _ _ (ap (λ (z : Said). z.up.unread) f) (a.left ∙ ap (drop n) r))
+
+-- a line is due where an end of a session began to go
+took_tells : (end : End) (n : ℕ) (bytes : List ℕ) (w : State) (t : Told) → w ≡ before (steps t) → tells_at end w ≡ tells (Took end bytes n) t
+took_tells Client n bytes w t e = refl
+took_tells Up n bytes w t e = ap is_end_next e
+
+pub took_said : (s : SetupText) (end : End) (n : ℕ) (bytes : List ℕ) (old new : PairState) (h : List Entry)
+    → ((t : Told) (bytes : List ℕ) → is_ready old end ≡ Some bytes → Says old t → Says new (took end n bytes t)) → new.telling ≡ tells_at end old.bridge.state
+    → is_ready old end ≡ Some bytes → Represents s old h → Represents s new (Took end bytes n ∷ h)
+took_said s end n bytes old new h says telling ready e =
+    told_said new (took end n bytes (told s h)) (tells (Took end bytes n) (told s h)) (says (told s h) bytes ready (ap unlined e))
+    (telling ∙ took_tells end n bytes old.bridge.state (told s h) (ap (λ (z : Said). z.state) e))
 
 -- by the counts of both ends
 pub client_sound : (n now at : ℕ) (b d : BridgeState) (x y z : Half) → IsSound b x.at y.at → at ≡ x.at → z ≡ record x { at = now } → Advances Client n at now b d → IsSound d z.at y.at
@@ -232,7 +250,7 @@ up_sound n now at b d x y z k is half a =
     subst (λ (j : ℕ). IsSound d x.at j) (sym (ap (λ (h : Half). h.at) half)) (a.sound x.at (subst (λ (j : ℕ). IsSound b x.at j) (sym is) k))
 
 -- what a look at a pair found is what is offered
-pub look_ready : (s : SetupText) (end : End) (b : BridgeState) (x y : Half) → is_busy b.state end ≡ false
-    → is_ready (pair_of (peeked s end b) x y) end ≡ offered s end b.state (said_stream end (said (pair_of b x y))).rest
-look_ready s Client b x y free = looked_ready s Client b x.at _ free
-look_ready s Up b x y free = looked_ready s Up b y.at _ free
+pub look_ready : (s : SetupText) (end : End) (b : BridgeState) (x y : Half) (i : Bool) → is_busy b.state end ≡ false
+    → is_ready (pair_of (peeked s end b) x y i) end ≡ offered s end b.state (said_stream end (said (pair_of b x y i))).rest
+look_ready s Client b x y i free = looked_ready s Client b x.at _ free
+look_ready s Up b x y i free = looked_ready s Up b y.at _ free

@@ -119,7 +119,8 @@ on_scan (Whole s n) more bad whole = whole s n
 abbrev pub read_end : End → State → ℕ → List Step → List ℕ → Cut
 read_end end w zero g bytes = cut_of g bytes
 read_end end w (suc f) g bytes =
-    on_scan (step_scan end (after g w) bytes) (cut_of g bytes) (λ s. cut_of (behind end w (s ∷ g)) [])
+    on_scan (step_scan end (after g w) bytes) (cut_of g bytes) (λ s. cut_of (behind end w
+    (s ∷ g)) [])
     (λ s n. read_end end w f (behind end w (s ∷ g)) (drop n bytes))
 
 abbrev pub cut_all : End → State → List ℕ → Cut

@@ -1,6 +1,7 @@
 -- What the entries of a pair say: its steps, the bytes of each end that are no unit yet, and
 -- the rest of each unit in progress.
-use Rattle.std.specs.Prelude.{ℕ, nat_lt, Bool, not, ◌&&◌, if◌then◌else◌, List, [], ◌∷◌}
+use Rattle.std.specs.Prelude.{ℕ, nat_le, nat_lt, Bool, true, false, not, ◌&&◌, if◌then◌else◌}
+use Rattle.std.specs.Prelude.{List, [], ◌∷◌}
 use Rattle.std.specs.Prelude.{◌++◌, length, drop, Option, Some, None}
 use Rattle.std.specs.Option.{option_map}
 use Rattle.gate_outside.specs.declared.ports.End.{End}
@@ -10,12 +11,14 @@ use Rattle.gate_relay.specs.Entries.{Entry}
 use Rattle.gate_relay.specs.RelayWords.{RelayWords}
 use Rattle.gate_model.specs.declared.outgoing.Outgoing.{Outgoing}
 use Rattle.gate_model.specs.Due.{can_leave, can_take_up, carries, is_awaiting, is_busy}
+use Rattle.gate_model.specs.Due.{is_end_next}
 use Rattle.gate_model.specs.Due.{is_connect_due, is_shut_due, is_silent, pick, takes_memory}
-use Rattle.gate_model.specs.Setup.{SetupText}
-use Rattle.gate_model.specs.Spelling.{context_of, spell}
+use Rattle.gate_model.specs.Setup.{SetupText, site_of}
+use Rattle.open_items.specs.declared.lost.LostItem.{LostItem}
+use Rattle.gate_model.specs.Spelling.{context_of, lines_text, spell}
 use Rattle.gate_model.specs.State.{State, Step, Began, Moment, Fed, Silent, TakenUp, Joined, Lost}
 use Rattle.gate_model.specs.State.{Gave, Whole}
-use Rattle.gate_model.specs.State.{OutOfMemory, before}
+use Rattle.gate_model.specs.State.{OutOfMemory, before, owed_lines}
 use Rattle.gate_pair.specs.Cutting.{Cut, cut_all, settle}
 
 pub record Stream : Type 0 where
@@ -31,6 +34,8 @@ pub record Told : Type 0 where
   pub past : List Step
   pub client : Stream
   pub up : Stream
+  -- the newest entry may make lines of the report due
+  pub telling : Bool
 
 abbrev pub steps : Told → List Step
 steps t = t.fresh ++ t.past
@@ -101,7 +106,12 @@ abbrev pub leaves : State → List Step
 leaves w = if can_leave w then TakenUp ∷ [] else []
 
 abbrev pub settled : Told → Told
-settled t = let g = settle (before (steps t)) [] in record t { fresh = leaves (before (g ++ steps t)) ++ g; past = steps t }
+settled t =
+    let g = settle (before (steps t)) [] in record t {
+      fresh = leaves (before (g ++ steps t))
+          ++ g;
+      past = steps t;
+    }
 
 abbrev pub took : End → ℕ → List ℕ → Told → Told
 took Client n bytes t =
@@ -124,27 +134,57 @@ ran_out cut t = record {
   past = OutOfMemory ∷ drop cut t.fresh ++ t.past;
   client = forgotten t.client;
   up = forgotten t.up;
+  telling = t.telling;
 }
 
+abbrev pub tell_steps : SetupText → Entry → Told → Told
+tell_steps s (entry.Began p ms) t = made (Began (site_of s) p ms ∷ []) t
+tell_steps s entry.Refused t = made (OutOfMemory ∷ []) t
+tell_steps s (entry.Moment ms) t = ticked ms t
+tell_steps s (entry.Came end bytes) t = came end bytes t
+tell_steps s (entry.Dry end) t = brought [] t
+tell_steps s entry.Settled t = settled t
+tell_steps s (entry.Joined answer) t = made (Joined answer ∷ []) t
+tell_steps s (entry.Took end bytes n) t = took end n bytes t
+tell_steps s (entry.Stuck end bytes) t = brought [] t
+tell_steps s (entry.Lost end how) t = made (Lost end how ∷ []) t
+tell_steps s (entry.OutOfMemory cut) t = ran_out cut t
+tell_steps s entry.Over t = brought [] t
+
+-- ---- lines of the report
+
+-- sessions, links and the container's end are lost by a moment, by what the container sends, by a
+-- connect, by the loss of its end and by an end of a session that goes. Of a read within which the
+-- pair ran out of memory only what counts makes a line due
+abbrev pub tells : Entry → Told → Bool
+tells (entry.Began p ms) t = false
+tells entry.Refused t = false
+tells (entry.Moment ms) t = true
+tells (entry.Came Client bytes) t = false
+tells (entry.Came Up bytes) t = true
+tells (entry.Dry end) t = false
+tells entry.Settled t = false
+tells (entry.Joined answer) t = true
+tells (entry.Took Client bytes n) t = false
+tells (entry.Took Up bytes n) t = is_end_next (before (steps t))
+tells (entry.Stuck end bytes) t = false
+tells (entry.Lost Client how) t = false
+tells (entry.Lost Up how) t = true
+tells (entry.OutOfMemory cut) t = t.telling && nat_le 1 cut
+tells entry.Over t = false
+
+-- those that the newest entry makes due
+abbrev pub fresh_lines : Told → List LostItem
+fresh_lines t = if t.telling then owed_lines (before (steps t)) else []
+
 abbrev pub tell : SetupText → Entry → Told → Told
-tell s (entry.Began p ms) t = made (Began s.vhost p ms ∷ []) t
-tell s entry.Refused t = made (OutOfMemory ∷ []) t
-tell s (entry.Moment ms) t = ticked ms t
-tell s (entry.Came end bytes) t = came end bytes t
-tell s (entry.Dry end) t = brought [] t
-tell s entry.Settled t = settled t
-tell s (entry.Joined answer) t = made (Joined answer ∷ []) t
-tell s (entry.Took end bytes n) t = took end n bytes t
-tell s (entry.Stuck end bytes) t = brought [] t
-tell s (entry.Lost end how) t = made (Lost end how ∷ []) t
-tell s (entry.OutOfMemory cut) t = ran_out cut t
-tell s entry.Over t = brought [] t
+tell s e t = record (tell_steps s e t) { telling = tells e t }
 
 abbrev pub no_stream : Stream
 no_stream = record { unread = []; rest = [] }
 
 abbrev pub nothing : Told
-nothing = record { fresh = []; past = []; client = no_stream; up = no_stream }
+nothing = record { fresh = []; past = []; client = no_stream; up = no_stream; telling = false }
 
 abbrev pub told : SetupText → List Entry → Told
 told s [] = nothing
@@ -160,7 +200,7 @@ state_of s h = before (steps_of s h)
 abbrev pub needs_memory : State → End → Bool
 needs_memory w end = not (is_busy w end) && takes_memory (pick w end)
 
--- the words of a pair, which has no lines of its own
+-- the words of a pair
 unfoldable pub pair_words : SetupText → RelayWords
 pair_words s = record {
   awaits = λ end h. is_awaiting (state_of s h) end;
@@ -169,5 +209,5 @@ pair_words s = record {
   offer = λ end h. offered s end (state_of s h) (stream_of end (told s h)).rest;
   takes_memory = λ end h. needs_memory (state_of s h) end;
   shut_due = λ end h. is_shut_due (state_of s h) end;
-  lines = λ h. [];
+  lines = λ h. lines_text (state_of s h).number (fresh_lines (told s h));
 }

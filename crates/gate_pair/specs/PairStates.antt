@@ -1,16 +1,17 @@
 -- A pair's state is what its entries say.
-use Rattle.std.specs.Prelude.{◌≡◌, ℕ, ◌<◌, ◌≤◌, Bool, true, if◌then◌else◌, List, [], ◌∷◌}
-use Rattle.std.specs.Prelude.{◌++◌, length, drop, Option, Some, None, IfSome, is_some}
+use Rattle.std.specs.Prelude.{◌≡◌, ℕ, ◌<◌, ◌≤◌, nat_le, Bool, true, false, if◌then◌else◌, List}
+use Rattle.std.specs.Prelude.{[], ◌∷◌, ◌++◌, length, drop, Option, Some, None, IfSome, is_some}
 use Rattle.gate_outside.specs.declared.ports.End.{End}
 use Rattle.gate_outside.specs.declared.ports.End.TheVariants.{Client, Up}
 use Rattle.gate_relay.specs.Entries.{Entry}
-use Rattle.gate_model.specs.Due.{is_busy}
+use Rattle.gate_model.specs.Due.{is_busy, is_end_next}
 use Rattle.gate_model.specs.Setup.{SetupText}
-use Rattle.gate_model.specs.State.{State, Step, OutOfMemory, before, step}
+use Rattle.gate_model.specs.State.{State, Step, OutOfMemory, before, owed_lines, step}
 use Rattle.gate_model.specs.Upstream.{UpState}
 use Rattle.bridge_core.specs.Offers.{BridgeState, offer_of}
+use Rattle.open_items.specs.declared.lost.LostItem.{LostItem}
 use Rattle.gate_pair.specs.Cutting.{Cut, after, cut_all, settle}
-use Rattle.gate_pair.specs.Meaning.{Stream, Told, begins, ends, ran_out, steps, told}
+use Rattle.gate_pair.specs.Meaning.{Stream, Told, begins, ends, fresh_lines, ran_out, steps, told}
 
 -- the bytes of an end that are no unit yet, and how many bytes of the unit in progress were
 -- sent
@@ -22,6 +23,8 @@ pub record PairState : Type 0 where
   pub bridge : BridgeState
   pub client : Half
   pub up : Half
+  -- what happened last may make lines of the report due
+  pub telling : Bool
 
 abbrev pub half_of : End → PairState → Half
 half_of Client p = p.client
@@ -32,6 +35,8 @@ pub record Said : Type 0 where
   pub state : State
   pub client : Stream
   pub up : Stream
+  -- the lines of the report that what happened last made due
+  pub lines : List LostItem
 
 abbrev pub rest_at : Bool → ℕ → List ℕ → List ℕ
 rest_at busy at bytes = if busy then drop at bytes else []
@@ -48,10 +53,24 @@ said p = record {
   state = p.bridge.state;
   client = stream_at Client p.bridge p.client;
   up = stream_at Up p.bridge p.up;
+  lines = if p.telling then owed_lines p.bridge.state else [];
 }
 
 abbrev pub said_of : Told → Said
-said_of t = record { state = before (steps t); client = t.client; up = t.up }
+said_of t = record {
+  state = before (steps t);
+  client = t.client;
+  up = t.up;
+  lines = fresh_lines t;
+}
+
+-- what is said but for those lines
+abbrev pub unlined : Said → Said
+unlined x = record x { lines = [] }
+
+-- a pair's state and its streams are those that are told
+abbrev pub Says : PairState → Told → Type 0
+Says p t = unlined (said p) ≡ unlined (said_of t)
 
 abbrev pub Represents : SetupText → PairState → List Entry → Type 0
 Represents s p h = said p ≡ said_of (told s h)
@@ -123,6 +142,10 @@ pub record IsCut (old new : State) (all : List Step) : Type 0 where
 abbrev pub ReadsInPart : End → List ℕ → State → State → Type 0
 ReadsInPart end bytes old new = IsCut old new (cut_all end old bytes).fresh
 
+-- the same of the container's bytes: memory runs out at a unit, which doesn't count
+abbrev pub ReadsUpInPart : List ℕ → State → State → Type 0
+ReadsUpInPart bytes old new = (cut : ReadsInPart Up bytes old new) × (1 ≤ length cut.newer)
+
 -- what can be taken up is, whatever the steps before; and the pair ran out of memory within that,
 -- or within a unit and that
 abbrev pub Settles : State → State → Type 0
@@ -132,7 +155,8 @@ abbrev pub SettlesInPart : State → State → Type 0
 SettlesInPart old new = (w : State) (g : List Step) → old ≡ after g w → IsCut w new (settle w g)
 
 abbrev pub QueuesInPart : Step → State → State → Type 0
-QueuesInPart s old new = (w : State) (g : List Step) → old ≡ after g w → IsCut w new (settle w (s ∷ g))
+QueuesInPart s old new =
+    (w : State) (g : List Step) → old ≡ after g w → IsCut w new (settle w (s ∷ g))
 
 -- a pair without the bytes that are no unit yet
 abbrev pub forgotten : PairState → PairState
@@ -141,18 +165,27 @@ forgotten p = record p {
   up = record p.up { unread = [] };
 }
 
--- the pair ran out of memory within these steps; what is in progress goes on
-pub record CutIn (all : List Step) (old new : PairState) : Type 0 where
-  pub cut : IsCut old.bridge.state new.bridge.state all
-  pub client : (said new).client ≡ record (said old).client { unread = [] }
-  pub up : (said new).up ≡ record (said old).up { unread = [] }
+-- the pair ran out of memory within the newest entry, of which so many steps don't count
+abbrev pub FailedAt : ℕ → (Told → Told) → PairState → PairState → Type 0
+FailedAt cut newest old new = (t : Told) → Says old t → Says new (ran_out cut (newest t))
 
--- the pair ran out of memory within the newest entry
 abbrev pub FailedIn : (Told → Told) → PairState → PairState → Type 0
-FailedIn newest old new =
-    (cut : ℕ) × ((t : Told) → said old ≡ said_of t → said new ≡ said_of (ran_out cut (newest t)))
+FailedIn newest old new = (cut : ℕ) × FailedAt cut newest old new
+
+-- the same of a read of the container. Where the report was owed no line before, what counts of the
+-- read makes those due that it is owed then, and there are none if nothing of it doesn't count
+abbrev pub FailedUpIn : (Told → Told) → PairState → PairState → Type 0
+FailedUpIn newest old new =
+    (cut : ℕ) × FailedAt cut newest old new
+    × (owed_lines old.bridge.state ≡ [] → (said new).lines
+    ≡ (if nat_le 1 cut then owed_lines new.bridge.state else []))
 
 -- ---- a write
+
+-- a write makes lines due where an end of a session begins to go
+abbrev pub tells_at : End → State → Bool
+tells_at Client w = false
+tells_at Up w = is_end_next w
 
 -- the bytes that a write to an end takes from: what is left of the unit in progress, or those of
 -- the unit that is offered

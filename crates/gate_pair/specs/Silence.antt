@@ -1,5 +1,5 @@
--- When an end is given up, of entries: at the first moment at which no byte of it came for too long.
--- Moments are in milliseconds.
+-- When an end is given up, of entries: at the first moment at which no byte of it came for too
+-- long. Moments are in milliseconds.
 use Rattle.std.specs.Prelude.{◌≡◌, false, List, [], ◌∷◌}
 use Rattle.gate_outside.specs.declared.ports.End.{End}
 use Rattle.gate_relay.specs.Entries.{Entry, Moment}

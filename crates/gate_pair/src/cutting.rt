@@ -2,11 +2,12 @@
 
 ghost use Rattle.std.specs.Prelude.{◌≡◌, ◌≤◌, false, true, length, OnOk, OnErr, IfOk};
 ghost use Rattle.gate_outside.specs.declared.ports.End.TheVariants.{Client, Up};
+ghost use Rattle.frames_10.specs.FrameScan.{is_whole};
 ghost use Rattle.bridge_core.specs.Offers.{Keeps};
 ghost use Rattle.gate_model.specs.State.{Queued, step};
 ghost use Rattle.gate_pair.specs.Cutting.{IsLongEnough, IsWithin, unit_scan, up_scan};
-ghost use Rattle.gate_pair.specs.PairStates.{QueuesInPart, Reads, ReadsInPart, Settles};
-ghost use Rattle.gate_pair.specs.PairStates.{SettlesInPart, StaysSound};
+ghost use Rattle.gate_pair.specs.PairStates.{QueuesInPart, Reads, ReadsInPart, ReadsUpInPart};
+ghost use Rattle.gate_pair.specs.PairStates.{Settles, SettlesInPart, StaysSound};
 
 use bridge_core::Bridge;
 use close_translate::FRAME_ERROR;
@@ -68,7 +69,8 @@ fn scan_greeting_up(bytes: &[u8], kind: Kind10) -> Scan<Unit10, Condition>
 
 /// The frame with which a container's bytes begin.
 fn scan_next_up(alloc: Global, bytes: &[u8]) -> Result<Scan<Unit10, Condition>, Memory>
-    ensures { IfOk result (λ scan. scan ≡ up_scan Awaited10.Frame bytes.now) }
+    ensures exact { IfOk result (λ scan. scan ≡ up_scan Awaited10.Frame bytes.now) }
+    ensures memory { OnErr result (is_whole (up_scan Awaited10.Frame bytes.now) ≡ true) }
 {
     match scan_frame10(alloc, bytes, FRAME_MAX)? {
         Scan::Whole(frame, n) => Ok(Scan::Whole(Unit10::Frame(frame), n)),
@@ -86,6 +88,7 @@ fn scan_up(
 ) -> Result<Scan<Unit10, Condition>, Memory>
     ensures exact { IfOk result (λ scan. scan ≡ up_scan awaited bytes.now) }
     ensures within { IfOk result (IsWithin bytes.now) }
+    ensures memory { OnErr result (is_whole (up_scan awaited bytes.now) ≡ true) }
 {
     match awaited {
         Awaited10::Header(kind) => Ok(scan_greeting_up(bytes, kind)),
@@ -180,12 +183,13 @@ pub fn cut_client(bridge: &mut Bridge, alloc: Global, bytes: &[u8]) -> Result<us
     Ok(at)
 }
 
-/// The same of the container's bytes.
+/// The same of the container's bytes. If the pair runs out of memory, then at a unit, which doesn't
+/// count.
 pub fn cut_up(bridge: &mut Bridge, alloc: Global, bytes: &[u8]) -> Result<usize, Memory>
     requires { bridge.old.state.out_of_memory ≡ false }
     ensures ok { IfOk result (λ at. Reads Up bytes.now at bridge.old.state bridge.new.state) }
     ensures within { IfOk result (λ at. at ≤ length bytes.now) }
-    ensures err { OnErr result (ReadsInPart Up bytes.now bridge.old.state bridge.new.state) }
+    ensures err { OnErr result (ReadsUpInPart bytes.now bridge.old.state bridge.new.state) }
     ensures calm { OnOk result (bridge.new.state.out_of_memory ≡ false) }
     ensures met { OnErr result (bridge.new.state.out_of_memory ≡ true) }
     ensures kept { Keeps bridge.old bridge.new }

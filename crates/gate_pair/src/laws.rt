@@ -81,12 +81,12 @@ pub fn silent_ends_are_given_up()
 }
 
 /// Each entry stands where what came before it allows it: an end is read where it is open for that
-/// and a unit of it is awaited, or it is a client's that was given up. What is offered to it is the unit in progress or the one that goes
-/// next, whole. It is shut where that is due, or at the end of the service. Units of the client
-/// that waited, and the loss of its end, are taken up once no request of it waits. The connection
-/// upstream is asked for once, where a connection.open waits for it. After its accept the pair runs
-/// out of memory in a read, in a take-up, or where a unit that tells the container a name goes
-/// next, and nowhere else.
+/// and a unit of it is awaited, or it is a client's that was given up. What is offered to it is the
+/// unit in progress or the one that goes next, whole. It is shut where that is due, or at the end
+/// of the service. Units of the client that waited, and the loss of its end, are taken up once no
+/// request of it waits. The connection upstream is asked for once, where a connection.open waits
+/// for it. After its accept the pair runs out of memory in a read, in a take-up, or where a unit
+/// that tells the container a name goes next, and nowhere else.
 pub fn entries_are_lawful()
     ensures { (s : SetupText) (h : List Entry) → IsRelayed (pair_words s) h → AreLawful s h }
 {

@@ -6,11 +6,13 @@ ghost use Rattle.std.specs.Prelude.{OnErr, IfOk, IfSome, Some, is_some};
 ghost use Rattle.gate_outside.specs.declared.ports.End.TheVariants.{Client, Up};
 ghost use Rattle.bridge_core.specs.Offers.{Keeps};
 ghost use Rattle.gate_pair.specs.Cutting.{after};
+ghost use Rattle.gate_model.specs.Due.{is_busy, is_end_next};
 ghost use Rattle.gate_model.specs.State.{Fed, Moment, before};
 ghost use Rattle.gate_pair.specs.Meaning.{Told, given_up, leaves, made, needs_memory, offered};
 ghost use Rattle.gate_pair.specs.Meaning.{ran_out, read_in, settled, steps, took};
-ghost use Rattle.gate_pair.specs.PairStates.{Advances, FailedIn, IsOffered, StaysSound, forgotten};
-ghost use Rattle.gate_pair.specs.PairStates.{half_of, is_ready, said, said_of, said_stream};
+ghost use Rattle.gate_pair.specs.PairStates.{Advances, FailedIn, FailedUpIn, IsOffered, Says};
+ghost use Rattle.gate_pair.specs.PairStates.{StaysSound, forgotten, half_of, is_ready, said};
+ghost use Rattle.gate_pair.specs.PairStates.{said_stream, tells_at};
 
 use crate::cutting::{cut_client, cut_up, settle_all};
 use crate::half::Half;
@@ -28,6 +30,8 @@ pub struct Pair {
     bridge: Bridge,
     client: Half,
     up: Half,
+    /// What happened last may make lines of the report due.
+    telling: bool,
 }
 
 impl Model for Pair {
@@ -44,6 +48,7 @@ impl Model for Pair {
       bridge = a.bridge;
       client = a.client;
       up = a.up;
+      telling = a.telling;
     } };
 
     ghost invariant = { λ a. IsSound a.bridge a.client.at a.up.at };
@@ -73,6 +78,18 @@ fn advance(bridge: &mut Bridge, end: End, at: usize, count: usize) -> usize
     }
 }
 
+/// An end of a session goes next to the container.
+fn ends_session(bridge: &Bridge) -> bool
+    requires { is_busy bridge.now.state Up ≡ false → bridge.now.up.ready ≡ true }
+    ensures { result ≡ is_end_next bridge.now.state }
+{
+    if bridge.is_busy(End::Up) {
+        false
+    } else {
+        bridge.ends_session()
+    }
+}
+
 /// That the client's end ended or failed is taken up, where it can be.
 fn leave(bridge: &mut Bridge)
     requires { bridge.old.state.out_of_memory ≡ false }
@@ -97,8 +114,7 @@ impl Pair {
 
     /// A moment was given.
     fn clock(&mut self, moment: u64)
-        ensures step { (t : Told) → said self.old ≡ said_of t
-            → said self.new ≡ said_of (made (Moment moment ∷ []) t) }
+        ensures step { (t : Told) → Says self.old t → Says self.new (made (Moment moment ∷ []) t) }
         ensures memory { self.new.bridge.state.out_of_memory ≡ self.old.bridge.state.out_of_memory }
     {
         self.bridge.tell(moment);
@@ -106,8 +122,7 @@ impl Pair {
 
     /// Bytes of an end came.
     fn feed(&mut self, end: End)
-        ensures step { (t : Told) → said self.old ≡ said_of t
-            → said self.new ≡ said_of (made (Fed end ∷ []) t) }
+        ensures step { (t : Told) → Says self.old t → Says self.new (made (Fed end ∷ []) t) }
         ensures memory { self.new.bridge.state.out_of_memory ≡ self.old.bridge.state.out_of_memory }
     {
         self.bridge.feed(end);
@@ -115,8 +130,8 @@ impl Pair {
 
     /// An end is given up, if no byte of it came for too long.
     fn watch(&mut self, end: End)
-        ensures step { (t : Told) → said self.old ≡ said_of t
-            → said self.new ≡ said_of (made (given_up end (before (steps t))) t) }
+        ensures step { (t : Told) → Says self.old t
+            → Says self.new (made (given_up end (before (steps t))) t) }
         ensures memory { self.new.bridge.state.out_of_memory ≡ self.old.bridge.state.out_of_memory }
     {
         if self.bridge.is_silent(end) {
@@ -127,12 +142,14 @@ impl Pair {
     /// Bytes came from the client. They are cut into units, and what is no unit yet stays.
     fn came_client(&mut self, alloc: Global, bytes: &[u8]) -> Result<(), Memory>
         requires { self.old.bridge.state.out_of_memory ≡ false }
-        ensures ok { OnOk result ((t : Told) → said self.old ≡ said_of t
-            → said self.new ≡ said_of (read_in Client bytes.now t)) }
+        ensures ok { OnOk result ((t : Told) → Says self.old t
+            → Says self.new (read_in Client bytes.now t)) }
         ensures err { OnErr result (FailedIn (read_in Client bytes.now) self.old self.new) }
+        ensures quiet { self.new.telling ≡ false }
         ensures calm { OnOk result (self.new.bridge.state.out_of_memory ≡ false) }
         ensures met { OnErr result (self.new.bridge.state.out_of_memory ≡ true) }
     {
+        self.telling = false;
         match self.client.append(bytes) {
             Ok(()) => match cut_client(&mut self.bridge, alloc, self.client.unread()) {
                 Ok(at) => {
@@ -153,14 +170,17 @@ impl Pair {
     }
 
     /// Bytes came from the container. They are cut into units, and what is no unit yet stays.
+    /// Where there is no memory for the bytes no unit of them counts, so that no line is due.
     fn came_up(&mut self, alloc: Global, bytes: &[u8]) -> Result<(), Memory>
         requires { self.old.bridge.state.out_of_memory ≡ false }
-        ensures ok { OnOk result ((t : Told) → said self.old ≡ said_of t
-            → said self.new ≡ said_of (read_in Up bytes.now t)) }
-        ensures err { OnErr result (FailedIn (read_in Up bytes.now) self.old self.new) }
+        ensures ok { OnOk result ((t : Told) → Says self.old t
+            → Says self.new (read_in Up bytes.now t)) }
+        ensures err { OnErr result (FailedUpIn (read_in Up bytes.now) self.old self.new) }
+        ensures telling { OnOk result (self.new.telling ≡ true) }
         ensures calm { OnOk result (self.new.bridge.state.out_of_memory ≡ false) }
         ensures met { OnErr result (self.new.bridge.state.out_of_memory ≡ true) }
     {
+        self.telling = true;
         match self.up.append(bytes) {
             Ok(()) => match cut_up(&mut self.bridge, alloc, self.up.unread()) {
                 Ok(at) => {
@@ -174,6 +194,7 @@ impl Pair {
             },
             Err(error) => {
                 self.bridge.run_out();
+                self.telling = false;
                 self.forget();
                 Err(error)
             }
@@ -184,12 +205,13 @@ impl Pair {
     /// its end ended or failed.
     fn take_up(&mut self, alloc: Global) -> Result<(), Memory>
         requires { self.old.bridge.state.out_of_memory ≡ false }
-        ensures ok { OnOk result ((t : Told) → said self.old ≡ said_of t
-            → said self.new ≡ said_of (settled t)) }
+        ensures ok { OnOk result ((t : Told) → Says self.old t → Says self.new (settled t)) }
         ensures err { OnErr result (FailedIn settled self.old self.new) }
+        ensures quiet { self.new.telling ≡ false }
         ensures calm { OnOk result (self.new.bridge.state.out_of_memory ≡ false) }
         ensures met { OnErr result (self.new.bridge.state.out_of_memory ≡ true) }
     {
+        self.telling = false;
         match settle_all(&mut self.bridge, alloc) {
             Ok(()) => {
                 leave(&mut self.bridge);
@@ -208,8 +230,8 @@ impl Pair {
         ensures ready { OnOk result (is_ready self.new end
             ≡ offered setup.now end self.old.bridge.state (said_stream end (said self.old)).rest) }
         ensures kept { OnOk result (said self.new ≡ said self.old) }
-        ensures err { OnErr result ((t : Told) → said self.old ≡ said_of t
-            → said self.new ≡ said_of (ran_out 0 t)) }
+        ensures err { OnErr result ((t : Told) → Says self.old t → Says self.new (ran_out 0 t)) }
+        ensures quiet { OnErr result (self.new.telling ≡ false) }
         ensures takes { OnErr result (needs_memory self.old.bridge.state end ≡ true) }
         ensures calm { OnErr result (self.old.bridge.state.out_of_memory ≡ false) }
         ensures met { OnErr result (self.new.bridge.state.out_of_memory ≡ true) }
@@ -222,6 +244,7 @@ impl Pair {
         match self.bridge.peek(alloc, setup, end) {
             Ok(yes) => Ok(yes),
             Err(error) => {
+                self.telling = false;
                 self.forget();
                 Err(error)
             }
@@ -260,17 +283,21 @@ impl Pair {
         requires within { IfSome (is_ready self.old end) (λ bytes. count ≤ length bytes) }
         requires ready { is_some (is_ready self.old end) ≡ true }
         ensures step { (t : Told) (bytes : List ℕ) → is_ready self.old end ≡ Some bytes
-            → said self.old ≡ said_of t → said self.new ≡ said_of (took end count bytes t) }
+            → Says self.old t → Says self.new (took end count bytes t) }
+        ensures telling { self.new.telling ≡ tells_at end self.old.bridge.state }
         ensures memory { self.new.bridge.state.out_of_memory ≡ self.old.bridge.state.out_of_memory }
     {
         match end {
             End::Client => {
                 let at = advance(&mut self.bridge, End::Client, self.client.sent(), count);
                 self.client.set_sent(at);
+                self.telling = false;
             }
             End::Up => {
+                let ends = ends_session(&self.bridge);
                 let at = advance(&mut self.bridge, End::Up, self.up.sent(), count);
                 self.up.set_sent(at);
+                self.telling = ends;
             }
         }
     }
@@ -291,11 +318,12 @@ impl Relay for Pair {
     ghost out_of_memory = { λ p. p.bridge.state.out_of_memory };
 
     fn new(alloc: Global, setup: &Setup, number: u32, moment: u64) -> Result<Pair, Memory> {
-        let vhost = setup.vhost().copy(alloc)?;
+        let site = setup.site(alloc)?;
         Ok(Pair {
-            bridge: Bridge::new(alloc, vhost, number, moment),
+            bridge: Bridge::new(alloc, site, number, moment),
             client: Half::new(alloc),
             up: Half::new(alloc),
+            telling: false,
         })
     }
 
@@ -308,6 +336,7 @@ impl Relay for Pair {
         self.clock(moment);
         self.watch(End::Client);
         self.watch(End::Up);
+        self.telling = true;
     }
 
     #[tactic(auto, unfolding(crate::specs::Meaning::pair_words))]
@@ -329,10 +358,13 @@ impl Relay for Pair {
         }
     }
 
-    fn dry(&mut self, _end: End) {}
+    fn dry(&mut self, _end: End) {
+        self.telling = false;
+    }
 
     fn lose(&mut self, end: End, how: Loss) {
         self.bridge.lose(end, how);
+        self.telling = matches!(end, End::Up);
     }
 
     #[tactic(auto, unfolding(crate::specs::Meaning::pair_words))]
@@ -351,6 +383,7 @@ impl Relay for Pair {
 
     fn link(&mut self, answer: Linked) {
         self.bridge.link(answer);
+        self.telling = true;
     }
 
     #[tactic(auto, unfolding(crate::specs::Meaning::pair_words))]
@@ -366,17 +399,25 @@ impl Relay for Pair {
         self.take_away(end, count);
     }
 
-    fn stuck(&mut self, _end: End) {}
+    fn stuck(&mut self, _end: End) {
+        self.telling = false;
+    }
 
     #[tactic(auto, unfolding(crate::specs::Meaning::pair_words))]
     fn shut_due(&self, end: End) -> bool {
         self.bridge.is_shut_due(end)
     }
 
-    fn finish(&mut self) {}
+    fn finish(&mut self) {
+        self.telling = false;
+    }
 
     #[tactic(auto, unfolding(crate::specs::Meaning::pair_words))]
-    fn tell_lines<K: Sink>(&self, _report: &mut K) -> bool {
-        true
+    fn tell_lines<K: Sink>(&self, report: &mut K) -> bool {
+        if self.telling {
+            self.bridge.tell_lines(report)
+        } else {
+            true
+        }
     }
 }

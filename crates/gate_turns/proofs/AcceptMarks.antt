@@ -1,5 +1,6 @@
 -- A client is accepted, if one waits, and taken in or turned away.
-use Rattle.std.proofs.Common.{◌≡◌, ◌≢◌, ℕ, ◌+◌, Bool, true, false, ◌||◌, List, [], ◌∷◌, ◌++◌, Option, Result, Ok, Err, append-nil, refl, sym, ap, ◌∙◌, subst, arith}
+use Rattle.std.proofs.Common.{◌≡◌, ◌≢◌, ℕ, ◌+◌, Bool, true, false, ◌||◌, List, [], ◌∷◌, ◌++◌}
+use Rattle.std.proofs.Common.{Option, Result, Ok, Err, append-nil, refl, sym, ap, ◌∙◌, subst, arith}
 use Rattle.std.specs.List.{AllByRecursion}
 use Rattle.gate_capture.specs.Captures.{spelling}
 use Rattle.gate_capture.specs.Spelling.{spelling_of}
@@ -20,7 +21,9 @@ use Rattle.gate_runs.specs.declared.served.Outside.{Outside}
 use Rattle.gate_runs.specs.declared.served.Outside.TheVariants as outside
 use Rattle.gate_runs.specs.Journal.{journal, moment}
 use Rattle.gate_runs.specs.Marks.{History, Call, Extends, Refuse, calls}
-use Rattle.gate_runs.specs.Next.{BeforePairs, Point, accepted_count, after_accept, ahead, live_pairs, out_of_memory_count, point, round, stage_of, unless_gone, without}
+use Rattle.gate_runs.specs.Next.{BeforePairs, Point, accepted_count, after_accept, ahead}
+use Rattle.gate_runs.specs.Next.{live_pairs, out_of_memory_count, point, round, stage_of}
+use Rattle.gate_runs.specs.Next.{unless_gone, without}
 use Rattle.gate_runs.specs.Report.{closed_line, memory_line, report}
 use Rattle.gate_runs.specs.Serving.{Answered, Follows, Keeps, counted, is_ended}
 use Rattle.gate_runs.specs.Stages.{Reading}
@@ -30,10 +33,12 @@ use Rattle.gate_turns.specs.declared.tally.Tally.{Tally}
 use Rattle.gate_turns.specs.Openings.{KeptAlso, ReachesRound, WelcomeEffect, outcome}
 use Rattle.gate_turns.specs.Parts.{AreFresh, KeptBy, PairsAhead, TellsBy, both, is_inside, noted}
 use Rattle.gate_turns.specs.Represents.{Represents}
-use Rattle.gate_turns.specs.Rounds.{AtAccept, IsIn, RunAgrees, RunContext, RunState, numbers, numbers_from}
+use Rattle.gate_turns.specs.Rounds.{AtAccept, IsIn, RunAgrees, RunContext, RunState, numbers}
+use Rattle.gate_turns.specs.Rounds.{numbers_from}
 use Rattle.gate_turns.proofs.Extending.{extends_call, extends_note, extends_then}
 use Rattle.gate_turns.proofs.Fronts.{appends_none, front_more, front_then}
-use Rattle.gate_turns.proofs.NewPairs.{AreBelow, all_push, keep_below, none_among, numbers_push, without_push}
+use Rattle.gate_turns.proofs.NewPairs.{AreBelow, all_push, keep_below, none_among, numbers_push}
+use Rattle.gate_turns.proofs.NewPairs.{without_push}
 use Rattle.gate_turns.proofs.OneMark.{if_not_mine, if_same}
 use Rattle.gate_turns.proofs.Reaching.{counted_more}
 use Rattle.gate_turns.proofs.Reporting.{HasLines, KeepsAfter, kept_by, keeps_both, tells_both}

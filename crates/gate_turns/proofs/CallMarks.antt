@@ -1,5 +1,6 @@
 -- One call for a pair: what it does, whatever the call.
-use Rattle.std.proofs.Common.{◌≡◌, ◌≢◌, ℕ, Bool, true, false, ◌||◌, List, ◌∷◌, Option, Result, refl, sym, ◌∙◌, subst}
+use Rattle.std.proofs.Common.{◌≡◌, ◌≢◌, ℕ, Bool, true, false, ◌||◌, List, ◌∷◌, Option, Result, refl}
+use Rattle.std.proofs.Common.{sym, ◌∙◌, subst}
 use Rattle.gate_outside.specs.declared.log.LogEntry.{LogEntry}
 use Rattle.gate_outside.specs.declared.log.LogEntry.TheVariants.{Connect, Write}
 use Rattle.gate_outside.specs.declared.ports.End.{End}
@@ -18,7 +19,8 @@ use Rattle.gate_turns.specs.declared.live.Live.{Live}
 use Rattle.gate_turns.specs.declared.tally.SinkFault.{SinkFault}
 use Rattle.gate_turns.specs.declared.tally.Tally.{Tally}
 use Rattle.gate_turns.specs.Represents.{Represents}
-use Rattle.gate_turns.specs.Parts.{AtStage, PartContext, PartAgrees, InStage, Reaches, TellsBy, KeptBy, both, own_lines, noted, put_moved, state}
+use Rattle.gate_turns.specs.Parts.{AtStage, PartContext, PartAgrees, InStage, Reaches, TellsBy}
+use Rattle.gate_turns.specs.Parts.{KeptBy, both, own_lines, noted, put_moved, state}
 use Rattle.gate_turns.proofs.OneMark.{if_same, if_not_mine}
 use Rattle.gate_turns.proofs.Reaching.{reaches}
 use Rattle.gate_turns.proofs.ReadMarks.{unless_kept}

@@ -1,5 +1,6 @@
 -- The clock is read at the beginning of a turn.
-use Rattle.std.proofs.Common.{◌≡◌, ℕ, ◌+◌, ◌≤◌, Bool, List, ◌∷◌, Option, Result, Ok, Err, refl, sym, ap, ◌∙◌, subst, arith}
+use Rattle.std.proofs.Common.{◌≡◌, ℕ, ◌+◌, ◌≤◌, Bool, List, ◌∷◌, Option, Result, Ok, Err, refl, sym}
+use Rattle.std.proofs.Common.{ap, ◌∙◌, subst, arith}
 use Rattle.std.specs.List.{AllByRecursion}
 use Rattle.gate_outside.specs.declared.ports.End.{End}
 use Rattle.gate_outside.specs.declared.log.LogEntry.{LogEntry}
@@ -15,9 +16,11 @@ use Rattle.gate_turns.specs.declared.live.Live.{Live}
 use Rattle.gate_turns.specs.declared.service.Service.{Service}
 use Rattle.gate_turns.specs.declared.tally.SinkFault.{SinkFault}
 use Rattle.gate_turns.specs.declared.tally.Tally.{Tally}
-use Rattle.gate_turns.specs.Openings.{ClockEffect, ClockIsRead, HaveEntry, ReachesClock, numbered_sides}
+use Rattle.gate_turns.specs.Openings.{ClockEffect, ClockIsRead, HaveEntry, ReachesClock}
+use Rattle.gate_turns.specs.Openings.{numbered_sides}
 use Rattle.gate_turns.specs.Parts.{KeptBy, TellsBy, begun, both}
-use Rattle.gate_turns.specs.Rounds.{AtClock, Holds, IsIn, OwnsEnds, RunAgrees, RunContext, RunState, numbers, with_turns}
+use Rattle.gate_turns.specs.Rounds.{AtClock, Holds, IsIn, OwnsEnds, RunAgrees, RunContext, RunState}
+use Rattle.gate_turns.specs.Rounds.{numbers, with_turns}
 use Rattle.gate_turns.proofs.EachPair.{each_in, numbers_kept, owns_told}
 use Rattle.gate_turns.proofs.Extending.{extends_call}
 use Rattle.gate_turns.proofs.Reporting.{keeps_both, tells_both}

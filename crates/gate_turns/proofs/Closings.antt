@@ -1,5 +1,7 @@
 -- The end of the service: its pairs are told so and shut one after the other, and the last line is told.
-use Rattle.std.proofs.Common.{◌≡◌, ◌≢◌, ◌⊎◌, ℕ, length, ◌≤◌, Bool, true, false, not, ◌||◌, ◌&&◌, if◌then◌else◌, List, [], ◌∷◌, ◌++◌, append-nil, Option, Result, Ok, Err, refl, sym, ap, ◌∙◌, subst, inl, inr, arith}
+use Rattle.std.proofs.Common.{◌≡◌, ◌≢◌, ◌⊎◌, ℕ, length, ◌≤◌, Bool, true, false, not, ◌||◌, ◌&&◌}
+use Rattle.std.proofs.Common.{if◌then◌else◌, List, [], ◌∷◌, ◌++◌, append-nil, Option, Result, Ok}
+use Rattle.std.proofs.Common.{Err, refl, sym, ap, ◌∙◌, subst, inl, inr, arith}
 use Rattle.std.proofs.lemmas.Bool.Decides.{eqb_tells}
 use Rattle.std.specs.List.{AllByRecursion}
 use Rattle.gate_outside.specs.declared.ports.End.{End}
@@ -20,24 +22,32 @@ use Rattle.gate_relay.specs.Sides.{has_end, is_open_side, side_of, sides}
 use Rattle.gate_runs.specs.declared.limits.Limits.{Limits}
 use Rattle.gate_runs.specs.declared.served.Outside.TheVariants as outside
 use Rattle.gate_runs.specs.declared.served.Served.{Served}
-use Rattle.gate_runs.specs.declared.served.Served.TheVariants.{Stopped, PairsDone, TurnLimit, Fault, Memory}
+use Rattle.gate_runs.specs.declared.served.Served.TheVariants.{Stopped, PairsDone, TurnLimit, Fault}
+use Rattle.gate_runs.specs.declared.served.Served.TheVariants.{Memory}
 use Rattle.gate_runs.specs.Journal.{journal}
 use Rattle.gate_runs.specs.Marks.{Mark, History, Call, Finish, Extends, calls}
-use Rattle.gate_runs.specs.Next.{AskShut, Do, Point, Ended, point, after_shut, ahead, closing, live_pairs, unless_gone}
+use Rattle.gate_runs.specs.Next.{AskShut, Do, Point, Ended, point, after_shut, ahead, closing}
+use Rattle.gate_runs.specs.Next.{live_pairs, unless_gone}
 use Rattle.gate_runs.specs.Report.{closed_lines, last_line, report, shut_lines}
-use Rattle.gate_runs.specs.Serving.{AtLastLine, AtLines, HoldsReport, IsKept, IsServed, IsTold, LosesCall, is_shutting, is_sink_fault}
+use Rattle.gate_runs.specs.Serving.{AtLastLine, AtLines, HoldsReport, IsKept, IsServed, IsTold}
+use Rattle.gate_runs.specs.Serving.{LosesCall, is_shutting, is_sink_fault}
 use Rattle.gate_turns.specs.declared.live.Live.{Live}
 use Rattle.gate_turns.specs.declared.tally.SinkFault.{SinkFault}
 use Rattle.gate_turns.specs.declared.tally.SinkFault.TheVariants.{Out, Capture}
-use Rattle.gate_turns.specs.Endings.{ClosingContext, ClosingEffect, ClosingState, ConcludeEffect, HoldsWhile, IsClosing, KeepsWhile, KeptWhile, LosesLines, TellsWhile, closing_state, is_recorded, is_told, sides_shut, with_fault, with_pair}
+use Rattle.gate_turns.specs.Endings.{ClosingContext, ClosingEffect, ClosingState, ConcludeEffect}
+use Rattle.gate_turns.specs.Endings.{HoldsWhile, IsClosing, KeepsWhile, KeptWhile, LosesLines}
+use Rattle.gate_turns.specs.Endings.{TellsWhile, closing_state, is_recorded, is_told, sides_shut}
+use Rattle.gate_turns.specs.Endings.{with_fault, with_pair}
 use Rattle.gate_turns.specs.Openings.{HaveEntry, numbered_sides}
 use Rattle.gate_turns.specs.Parts.{KeepsOthers, both}
 use Rattle.gate_turns.specs.Represents.{Represents}
-use Rattle.gate_turns.specs.Rounds.{AtEnd, HasEnds, HoldsAt, IsIn, IsRising, KeepsAt, OwnsEnds, RunContext, RunState, is_among, numbers}
+use Rattle.gate_turns.specs.Rounds.{AtEnd, HasEnds, HoldsAt, IsIn, IsRising, KeepsAt, OwnsEnds}
+use Rattle.gate_turns.specs.Rounds.{RunContext, RunState, is_among, numbers}
 use Rattle.gate_turns.proofs.EachPair.{each_in, none_represents, numbers_kept, owns_told}
 use Rattle.gate_turns.proofs.Extending.{extends_call, extends_none, extends_note, extends_then}
 use Rattle.gate_turns.proofs.Fronts.{appends_none}
-use Rattle.gate_turns.proofs.LivePairs.{keep_removed, keep_set, remove_rising, set_numbers, set_rising, split_without}
+use Rattle.gate_turns.proofs.LivePairs.{keep_removed, keep_set, remove_rising, set_numbers}
+use Rattle.gate_turns.proofs.LivePairs.{set_rising, split_without}
 use Rattle.gate_turns.proofs.OneMark.{if_not_mine, if_same, is_other, is_same}
 use Rattle.gate_turns.proofs.Reporting.{HasLines, holds_front, holds_more, keeps_both}
 

@@ -1,5 +1,6 @@
 -- A pair's connection upstream is asked for, and what came of it is taken up.
-use Rattle.std.proofs.Common.{◌≡◌, ◌≢◌, ℕ, ◌+◌, Bool, true, false, not, ◌||◌, List, ◌∷◌, Option, None, Result, Ok, Err, refl, sym, ap, ◌∙◌, subst}
+use Rattle.std.proofs.Common.{◌≡◌, ◌≢◌, ℕ, ◌+◌, Bool, true, false, not, ◌||◌, List, ◌∷◌, Option}
+use Rattle.std.proofs.Common.{None, Result, Ok, Err, refl, sym, ap, ◌∙◌, subst}
 use Rattle.std.proofs.lemmas.Bool.{and_parts}
 use Rattle.gate_outside.specs.declared.log.LogEntry.{LogEntry}
 use Rattle.gate_outside.specs.declared.log.LogEntry.TheVariants.{Connect}
@@ -12,7 +13,8 @@ use Rattle.gate_relay.specs.Sides.{has_end}
 use Rattle.gate_relay.specs.declared.sides.Sides.{Sides}
 use Rattle.gate_runs.specs.Journal.{journal}
 use Rattle.gate_runs.specs.Marks.{History, Call, TakeUp, RunOut, Extends, calls}
-use Rattle.gate_runs.specs.Next.{Do, Settle, AskConnect, where_due, ask, unless_gone, out_of_memory_count}
+use Rattle.gate_runs.specs.Next.{Do, Settle, AskConnect, where_due, ask, unless_gone}
+use Rattle.gate_runs.specs.Next.{out_of_memory_count}
 use Rattle.gate_runs.specs.Report.{report}
 use Rattle.gate_runs.specs.Serving.{AtTakeUp, Keeps, counted}
 use Rattle.gate_runs.specs.Stages.{Stage, Taking, Linking, later}
@@ -21,7 +23,8 @@ use Rattle.gate_turns.specs.declared.tally.SinkFault.{SinkFault}
 use Rattle.gate_turns.specs.declared.tally.SinkFault.TheVariants.{Capture}
 use Rattle.gate_turns.specs.declared.tally.Tally.{Tally}
 use Rattle.gate_turns.specs.Represents.{Represents, with_cut}
-use Rattle.gate_turns.specs.Parts.{AtStage, PartContext, PartState, PartAgrees, InStage, Reaches, PartEffect, TellsBy, KeptBy, both, own_lines, noted, state}
+use Rattle.gate_turns.specs.Parts.{AtStage, PartContext, PartState, PartAgrees, InStage, Reaches}
+use Rattle.gate_turns.specs.Parts.{PartEffect, TellsBy, KeptBy, both, own_lines, noted, state}
 use Rattle.gate_turns.proofs.CallMarks.{is_connect, call_reaches}
 use Rattle.gate_capture.specs.Captures.{spelling}
 use Rattle.gate_turns.proofs.Fronts.{front_whole}

@@ -1,5 +1,6 @@
 -- The open ends of a pair, and of the others.
-use Rattle.std.proofs.Common.{◌≡◌, ◌≢◌, ℕ, Bool, true, false, not, cond, nat_eq, ◌||◌, ◌&&◌, List, [], ◌∷◌, ◌++◌, refl, sym, ap, ◌∙◌}
+use Rattle.std.proofs.Common.{◌≡◌, ◌≢◌, ℕ, Bool, true, false, not, cond, nat_eq, ◌||◌, ◌&&◌, List}
+use Rattle.std.proofs.Common.{[], ◌∷◌, ◌++◌, refl, sym, ap, ◌∙◌}
 use Rattle.std.proofs.lemmas.Bool.{eqb-true, and_parts}
 use Rattle.gate_outside.specs.declared.ports.End.{End}
 use Rattle.gate_outside.specs.declared.ports.End.TheVariants.{Client, Up}
@@ -9,7 +10,8 @@ use Rattle.gate_outside.specs.Ends.{is_open, is_end, same_end, closed, ends_link
 use Rattle.gate_relay.specs.declared.sides.Side.{Side}
 use Rattle.gate_relay.specs.declared.sides.Side.TheVariants as side
 use Rattle.gate_relay.specs.declared.sides.Sides.{Sides}
-use Rattle.gate_relay.specs.Sides.{side_of, with_side, side_linked, is_open_side, is_absent, has_end}
+use Rattle.gate_relay.specs.Sides.{side_of, with_side, side_linked, is_open_side, is_absent}
+use Rattle.gate_relay.specs.Sides.{has_end}
 use Rattle.gate_turns.specs.Parts.{EndsAre, KeepsOthers}
 use Rattle.gate_turns.proofs.OneMark.{is_same, is_other}
 

@@ -1,5 +1,6 @@
 -- What a sink holds after two texts were offered in turn.
-use Rattle.std.proofs.Common.{ℕ, List, [], ◌++◌, Option, None, Some, append_assoc, append-nil, sym, ap, ◌∙◌}
+use Rattle.std.proofs.Common.{ℕ, List, [], ◌++◌, Option, None, Some, append_assoc, append-nil, sym}
+use Rattle.std.proofs.Common.{ap, ◌∙◌}
 use Rattle.gate_outside.specs.Streams.{Appends, AppendsFront}
 use Rattle.gate_outside.proofs.Appending.{appends_then}
 

@@ -1,5 +1,7 @@
 -- The beginning of a turn: the clock, and an accept where another pair may be.
-use Rattle.std.proofs.Common.{◌≡◌, ℕ, suc, ◌+◌, nat_lt, Bool, true, false, ◌&&◌, if◌then◌else◌, List, [], ◌∷◌, length, Option, Result, Ok, Err, refl, sym, ap, ◌∙◌, subst}
+use Rattle.std.proofs.Common.{◌≡◌, ℕ, suc, ◌+◌, nat_lt, Bool, true, false, ◌&&◌, if◌then◌else◌}
+use Rattle.std.proofs.Common.{List, [], ◌∷◌, length, Option, Result, Ok, Err, refl, sym, ap, ◌∙◌}
+use Rattle.std.proofs.Common.{subst}
 use Rattle.gate_outside.specs.declared.log.LogEntry.{LogEntry}
 use Rattle.gate_relay.specs.Entries.{Entry}
 use Rattle.gate_relay.specs.RelayWords.{RelayWords}
@@ -7,10 +9,12 @@ use Rattle.gate_runs.specs.declared.limits.Limits.{Limits}
 use Rattle.gate_runs.specs.declared.served.Outside.{Outside}
 use Rattle.gate_runs.specs.declared.served.Served.TheVariants.{Fault}
 use Rattle.gate_runs.specs.Marks.{History, Extends}
-use Rattle.gate_runs.specs.Next.{AskAccept, ClockRead, Do, Point, accepted_count, ahead, live_pairs, may_accept, most_live, next, pair_limit, round}
+use Rattle.gate_runs.specs.Next.{AskAccept, ClockRead, Do, Point, accepted_count, ahead, live_pairs}
+use Rattle.gate_runs.specs.Next.{may_accept, most_live, next, pair_limit, round}
 use Rattle.gate_turns.specs.declared.live.Live.{Live}
 use Rattle.gate_turns.specs.declared.tally.SinkFault.{SinkFault}
-use Rattle.gate_turns.specs.Openings.{AtClockRead, ClockEffect, OpenEffect, ReachesClock, WelcomeEffect}
+use Rattle.gate_turns.specs.Openings.{AtClockRead, ClockEffect, OpenEffect, ReachesClock}
+use Rattle.gate_turns.specs.Openings.{WelcomeEffect}
 use Rattle.gate_turns.specs.Parts.{is_inside, outside_of}
 use Rattle.gate_turns.specs.Rounds.{AtEnd, RunContext, RunState, numbers, numbers_from, with_turns}
 use Rattle.gate_turns.proofs.AcceptMarks.{none_had}

@@ -1,18 +1,21 @@
 -- A part of a pair's turn reaches its next stage, or a sink failed in it.
-use Rattle.std.proofs.Common.{◌≡◌, ℕ, ◌+◌, true, false, List, Option, Result, Ok, Err, refl, ap, ◌∙◌, arith}
+use Rattle.std.proofs.Common.{◌≡◌, ℕ, ◌+◌, true, false, List, Option, Result, Ok, Err, refl, ap}
+use Rattle.std.proofs.Common.{◌∙◌, arith}
 use Rattle.std.proofs.lemmas.Bool.Decides.{nat_tests}
 use Rattle.gate_outside.specs.Streams.{Appends}
 use Rattle.gate_relay.specs.Entries.{Entry, is_empty}
 use Rattle.gate_relay.specs.RelayWords.{RelayWords}
 use Rattle.gate_relay.specs.Sides.{has_end}
 use Rattle.gate_runs.specs.Marks.{History, calls}
-use Rattle.gate_runs.specs.Next.{Point, BetweenTurns, ClockRead, BeforePairs, Refusing, InPair, Ending, Ended, point}
+use Rattle.gate_runs.specs.Next.{Point, BetweenTurns, ClockRead, BeforePairs, Refusing, InPair}
+use Rattle.gate_runs.specs.Next.{Ending, Ended, point}
 use Rattle.gate_runs.specs.Report.{Lines}
 use Rattle.gate_runs.specs.Serving.{IsCallLast, counted, is_ended}
 use Rattle.gate_runs.specs.Stages.{Stage}
 use Rattle.gate_turns.specs.declared.tally.SinkFault.{SinkFault}
 use Rattle.gate_turns.specs.declared.tally.SinkFault.TheVariants.{Out, Capture}
-use Rattle.gate_turns.specs.Parts.{AtStage, PartContext, PartState, PartAgrees, Reaches, PartEffect, TellsBy, is_inside}
+use Rattle.gate_turns.specs.Parts.{AtStage, PartContext, PartState, PartAgrees, Reaches, PartEffect}
+use Rattle.gate_turns.specs.Parts.{TellsBy, is_inside}
 use Rattle.gate_turns.proofs.Reporting.{HasLines, KeepsAfter, holds_by}
 
 pub inside_open : (x : Point) → is_inside x ≡ true → is_ended x ≡ false

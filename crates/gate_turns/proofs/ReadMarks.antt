@@ -1,5 +1,6 @@
 -- A read of a pair's end.
-use Rattle.std.proofs.Common.{◌≡◌, ◌≢◌, ℕ, ◌+◌, Bool, true, false, not, ◌||◌, ◌&&◌, if◌then◌else◌, List, ◌∷◌, length, Option, Result, refl, sym, ap, ◌∙◌, subst}
+use Rattle.std.proofs.Common.{◌≡◌, ◌≢◌, ℕ, ◌+◌, Bool, true, false, not, ◌||◌, ◌&&◌, if◌then◌else◌}
+use Rattle.std.proofs.Common.{List, ◌∷◌, length, Option, Result, refl, sym, ap, ◌∙◌, subst}
 use Rattle.std.proofs.lemmas.Bool.{and_parts}
 use Rattle.std.proofs.lemmas.List.{length-take-le}
 use Rattle.gate_outside.specs.declared.ports.End.{End}
@@ -17,7 +18,8 @@ use Rattle.gate_relay.specs.RelayWords.{RelayWords}
 use Rattle.gate_relay.specs.Sides.{has_end, sides, side_of, is_readable}
 use Rattle.gate_runs.specs.Journal.{journal, moment, read_entry}
 use Rattle.gate_runs.specs.Marks.{History, Call, RunOut, Extends, calls}
-use Rattle.gate_runs.specs.Next.{Do, AskRead, where_due, has_moved, live_pairs, unless_gone, accepted_count, turns_begun, out_of_memory_count, finish_of}
+use Rattle.gate_runs.specs.Next.{Do, AskRead, where_due, has_moved, live_pairs, unless_gone}
+use Rattle.gate_runs.specs.Next.{accepted_count, turns_begun, out_of_memory_count, finish_of}
 use Rattle.gate_runs.specs.Report.{report}
 use Rattle.gate_runs.specs.Serving.{Answered, AtRead, IsCallLast, counted}
 use Rattle.gate_runs.specs.Stages.{Reading, later}
@@ -25,7 +27,8 @@ use Rattle.gate_turns.specs.declared.live.Live.{Live}
 use Rattle.gate_turns.specs.declared.tally.SinkFault.{SinkFault}
 use Rattle.gate_turns.specs.declared.tally.Tally.{Tally}
 use Rattle.gate_turns.specs.Represents.{Represents, with_cut, has_come}
-use Rattle.gate_turns.specs.Parts.{AtStage, PartContext, PartAgrees, InStage, Reaches, PartEffect, TellsBy, KeptBy, both, own_lines, noted, got_moved, state}
+use Rattle.gate_turns.specs.Parts.{AtStage, PartContext, PartAgrees, InStage, Reaches, PartEffect}
+use Rattle.gate_turns.specs.Parts.{TellsBy, KeptBy, both, own_lines, noted, got_moved, state}
 use Rattle.gate_turns.proofs.Extending.{extends_call, extends_more}
 use Rattle.gate_turns.proofs.OneMark.{if_same, if_not_mine}
 use Rattle.gate_turns.proofs.Reaching.{reaches, counted_more}

@@ -1,5 +1,7 @@
 -- What one live pair's part of a turn does to all of them.
-use Rattle.std.proofs.Common.{◌≡◌, ◌≢◌, ℕ, suc, ◌+◌, ◌<◌, ◌≤◌, Bool, true, false, List, ◌∷◌, ◌++◌, length, take, drop, get_or, Option, Result, Ok, Err, sym, ap, ◌∙◌, subst, refl, arith, inl, inr}
+use Rattle.std.proofs.Common.{◌≡◌, ◌≢◌, ℕ, suc, ◌+◌, ◌<◌, ◌≤◌, Bool, true, false, List, ◌∷◌, ◌++◌}
+use Rattle.std.proofs.Common.{length, take, drop, get_or, Option, Result, Ok, Err, sym, ap, ◌∙◌}
+use Rattle.std.proofs.Common.{subst, refl, arith, inl, inr}
 use Rattle.std.proofs.Math.ListN.{set, drop_of_length-le}
 use Rattle.std.proofs.lemmas.Grind.{common_steps}
 use Rattle.std.proofs.Math.Seq.{drop-cons, drop-append-add}
@@ -23,11 +25,17 @@ use Rattle.gate_turns.specs.declared.live.Live.{Live}
 use Rattle.gate_turns.specs.declared.tally.SinkFault.{SinkFault}
 use Rattle.gate_turns.specs.declared.tally.SinkFault.TheVariants.{Out, Capture}
 use Rattle.gate_turns.specs.declared.tally.Tally.{Tally}
-use Rattle.gate_turns.specs.Parts.{EndsAre, KeepsOthers, PairsAhead, PartContext, PartState, PartAgrees, InStage, HoldsBy, ReachesShut, ShutEffect, outside_of, state}
+use Rattle.gate_turns.specs.Parts.{EndsAre, KeepsOthers, PairsAhead, PartContext, PartState}
+use Rattle.gate_turns.specs.Parts.{PartAgrees, InStage, HoldsBy, ReachesShut, ShutEffect}
+use Rattle.gate_turns.specs.Parts.{outside_of, state}
 use Rattle.gate_turns.specs.Represents.{Represents}
-use Rattle.gate_turns.specs.Rounds.{HasEnds, IsIn, IsRising, OwnsEnds, PairsEffect, ReachesPairs, RoundEffect, AtPairs, HoldsAt, KeepsAt, RunAgrees, RunContext, RunState, is_among, numbers, numbers_from, place_after}
+use Rattle.gate_turns.specs.Rounds.{HasEnds, IsIn, IsRising, OwnsEnds, PairsEffect, ReachesPairs}
+use Rattle.gate_turns.specs.Rounds.{RoundEffect, AtPairs, HoldsAt, KeepsAt, RunAgrees, RunContext}
+use Rattle.gate_turns.specs.Rounds.{RunState, is_among, numbers, numbers_from, place_after}
 use Rattle.gate_turns.proofs.Extending.{extends_map, extends_none, extends_then}
-use Rattle.gate_turns.proofs.LivePairs.{all_middle, all_others, among_others, keep_removed, keep_set, not_middle, remove_rising, set_numbers, set_rising, split_back, split_beyond, split_without}
+use Rattle.gate_turns.proofs.LivePairs.{all_middle, all_others, among_others, keep_removed}
+use Rattle.gate_turns.proofs.LivePairs.{keep_set, not_middle, remove_rising, set_numbers}
+use Rattle.gate_turns.proofs.LivePairs.{set_rising, split_back, split_beyond, split_without}
 use Rattle.gate_turns.proofs.ShutMarks.{no_ends}
 use Rattle.gate_turns.proofs.Stages.{at_face, face_past}
 

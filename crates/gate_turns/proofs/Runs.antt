@@ -1,5 +1,7 @@
 -- The end of a turn, turn after turn, and a run from its beginning.
-use Rattle.std.proofs.Common.{◌≡◌, ℕ, ◌+◌, ◌<◌, ◌≤◌, ◌==◌, ◌&&◌, Bool, true, false, if◌then◌else◌, List, [], ◌∷◌, ◌++◌, Option, None, Some, Result, Ok, Err, IfSome, refl, sym, ap, ◌∙◌, subst, arith, unwrap_or}
+use Rattle.std.proofs.Common.{◌≡◌, ℕ, ◌+◌, ◌<◌, ◌≤◌, ◌==◌, ◌&&◌, Bool, true, false, if◌then◌else◌}
+use Rattle.std.proofs.Common.{List, [], ◌∷◌, ◌++◌, Option, None, Some, Result, Ok, Err, IfSome}
+use Rattle.std.proofs.Common.{refl, sym, ap, ◌∙◌, subst, arith, unwrap_or}
 use Rattle.std.proofs.lemmas.Bool.Decides.{nat_tests}
 use Rattle.gate_outside.specs.declared.log.LogEntry.{LogEntry}
 use Rattle.gate_outside.specs.declared.log.LogEntry.TheVariants.{Idle}
@@ -17,17 +19,21 @@ use Rattle.gate_runs.specs.declared.served.Served.{Served}
 use Rattle.gate_runs.specs.declared.served.Served.TheVariants.{Stopped, PairsDone, TurnLimit, Fault}
 use Rattle.gate_runs.specs.Form.{IsInForm}
 use Rattle.gate_runs.specs.Marks.{History, Call, Extends, HasHistory, calls}
-use Rattle.gate_runs.specs.Next.{Do, EndBy, AskIdle, AskNow, begin, is_done, live_pairs, next, pair_limit, point, turns_begun}
+use Rattle.gate_runs.specs.Next.{Do, EndBy, AskIdle, AskNow, begin, is_done, live_pairs, next}
+use Rattle.gate_runs.specs.Next.{pair_limit, point, turns_begun}
 use Rattle.gate_runs.specs.Report.{report}
 use Rattle.gate_runs.specs.Serving.{IsServed, Follows, HoldsReport, is_ended}
 use Rattle.gate_turns.specs.declared.live.Live.{Live}
 use Rattle.gate_turns.specs.declared.service.Service.{Service}
 use Rattle.gate_turns.specs.declared.tally.SinkFault.{SinkFault}
-use Rattle.gate_turns.specs.Endings.{AtTurn, CloseEffect, ConcludeEffect, ReachesTurn, RunEffect, TurnEffect, end_of}
+use Rattle.gate_turns.specs.Endings.{AtTurn, CloseEffect, ConcludeEffect, ReachesTurn, RunEffect}
+use Rattle.gate_turns.specs.Endings.{TurnEffect, end_of}
 use Rattle.gate_turns.specs.Openings.{OpenEffect, ReachesRound}
 use Rattle.gate_turns.specs.Parts.{KeptBy, outside_of}
-use Rattle.gate_turns.specs.Rounds.{AtClock, AtEnd, AtRest, Holds, InRun, ReachesRest, RoundEffect, RunAgrees, RunContext, RunState, numbers, with_turns}
-use Rattle.gate_turns.proofs.Extending.{extends_call, extends_map, extends_none, extends_then, history_extends}
+use Rattle.gate_turns.specs.Rounds.{AtClock, AtEnd, AtRest, Holds, InRun, ReachesRest, RoundEffect}
+use Rattle.gate_turns.specs.Rounds.{RunAgrees, RunContext, RunState, numbers, with_turns}
+use Rattle.gate_turns.proofs.Extending.{extends_call, extends_map, extends_none, extends_then}
+use Rattle.gate_turns.proofs.Extending.{history_extends}
 use Rattle.gate_turns.proofs.Fronts.{appends_none}
 use Rattle.gate_turns.proofs.Reaching.{inside_open}
 use Rattle.gate_turns.proofs.Reporting.{holds_more, keeps_both}

@@ -1,5 +1,6 @@
 -- The shuts of a pair's ends.
-use Rattle.std.proofs.Common.{◌≡◌, ℕ, Bool, true, false, ◌||◌, ◌&&◌, List, ◌∷◌, ◌++◌, Option, Result, Ok, Err, refl, sym, ap, ◌∙◌, subst}
+use Rattle.std.proofs.Common.{◌≡◌, ℕ, Bool, true, false, ◌||◌, ◌&&◌, List, ◌∷◌, ◌++◌, Option}
+use Rattle.std.proofs.Common.{Result, Ok, Err, refl, sym, ap, ◌∙◌, subst}
 use Rattle.std.proofs.lemmas.Bool.{or_parts}
 use Rattle.gate_outside.specs.declared.ports.End.{End}
 use Rattle.gate_outside.specs.declared.ports.End.TheVariants.{Client, Up}
@@ -15,7 +16,9 @@ use Rattle.gate_relay.specs.RelayWords.{RelayWords}
 use Rattle.gate_relay.specs.Sides.{sides, has_end, is_open_side, side_of}
 use Rattle.gate_runs.specs.Journal.{journal}
 use Rattle.gate_runs.specs.Marks.{History, Call, Extends, calls}
-use Rattle.gate_runs.specs.Next.{Point, BetweenTurns, ClockRead, BeforePairs, Refusing, InPair, Ending, Ended, point, Do, AskShut, where_due, unless_gone, live_pairs}
+use Rattle.gate_runs.specs.Next.{Point, BetweenTurns, ClockRead, BeforePairs, Refusing, InPair}
+use Rattle.gate_runs.specs.Next.{Ending, Ended, point, Do, AskShut, where_due, unless_gone}
+use Rattle.gate_runs.specs.Next.{live_pairs}
 use Rattle.gate_runs.specs.Report.{report, shut_lines, closed_lines}
 use Rattle.gate_runs.specs.Serving.{IsCallLast}
 use Rattle.gate_runs.specs.Stages.{Stage, Shutting, Past, later}
@@ -24,11 +27,14 @@ use Rattle.gate_turns.specs.declared.tally.SinkFault.{SinkFault}
 use Rattle.gate_turns.specs.declared.tally.SinkFault.TheVariants.{Out, Capture}
 use Rattle.gate_turns.specs.declared.tally.Tally.{Tally}
 use Rattle.gate_turns.specs.Represents.{Represents}
-use Rattle.gate_turns.specs.Parts.{AtStage, PartContext, PartState, PartAgrees, InStage, InShutting, ReachesShut, ShutEffect, PartEffect, Reaches, TellsBy, KeptBy, both, is_inside, noted, state}
+use Rattle.gate_turns.specs.Parts.{AtStage, PartContext, PartState, PartAgrees, InStage, InShutting}
+use Rattle.gate_turns.specs.Parts.{ReachesShut, ShutEffect, PartEffect, Reaches, TellsBy, KeptBy}
+use Rattle.gate_turns.specs.Parts.{both, is_inside, noted, state}
 use Rattle.gate_turns.proofs.Extending.{extends_call, extends_map, extends_none, extends_then}
 use Rattle.gate_turns.proofs.OneMark.{if_same, if_not_mine}
 use Rattle.gate_turns.proofs.Reaching.{inside_open}
-use Rattle.gate_turns.proofs.Reporting.{HasLines, holds_by, ends_by, keeps_both, tells_both, KeepsAfter}
+use Rattle.gate_turns.proofs.Reporting.{HasLines, holds_by, ends_by, keeps_both, tells_both}
+use Rattle.gate_turns.proofs.Reporting.{KeepsAfter}
 use Rattle.gate_turns.proofs.Stages.{at_pass, at_call, shut_inside, beyond-gone}
 
 -- a pair reaches a stage, with an end or with none

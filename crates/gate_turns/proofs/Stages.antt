@@ -1,5 +1,6 @@
 -- How a pair goes from stage to stage: each call that is next keeps the history one in which each call is.
-use Rattle.std.proofs.Common.{◌≡◌, ℕ, nat_lt, Bool, true, false, if◌then◌else◌, List, [], ◌∷◌, Option, None, Some, refl, sym, ap, ◌∙◌, subst, inl, inr, arith}
+use Rattle.std.proofs.Common.{◌≡◌, ℕ, nat_lt, Bool, true, false, if◌then◌else◌, List, [], ◌∷◌}
+use Rattle.std.proofs.Common.{Option, None, Some, refl, sym, ap, ◌∙◌, subst, inl, inr, arith}
 use Rattle.std.proofs.lemmas.Bool.Decides.{eqb_tells}
 use Rattle.gate_outside.specs.declared.ports.End.{End}
 use Rattle.gate_outside.specs.declared.ports.End.TheVariants.{Client, Up}
@@ -9,12 +10,17 @@ use Rattle.gate_runs.specs.declared.lap.Lap.{Lap}
 use Rattle.gate_runs.specs.declared.lap.Lap.TheVariants.{ToUp, ToClient, ToClientLate, ToUpAgain}
 use Rattle.gate_relay.specs.Entries.{Entry, is_out_of_memory}
 use Rattle.gate_relay.specs.RelayWords.{RelayWords}
-use Rattle.gate_runs.specs.Stages.{Stage, Reading, Taking, Linking, Writing, Shutting, Past, later, writing_at, lap_end}
+use Rattle.gate_runs.specs.Stages.{Stage, Reading, Taking, Linking, Writing, Shutting, Past, later}
+use Rattle.gate_runs.specs.Stages.{writing_at, lap_end}
 use Rattle.gate_runs.specs.Marks.{History, Call, TakeUp, RunOut}
 use Rattle.gate_runs.specs.Journal.{journal}
-use Rattle.gate_runs.specs.Next.{asked, Upcoming, Do, Settle, Point, BetweenTurns, ClockRead, BeforePairs, Refusing, InPair, Ending, Ended, point, stage_of, after, after_shut, ask, or_more, visit, round, beyond, without, unless_gone, ahead, live_pairs}
+use Rattle.gate_runs.specs.Next.{asked, Upcoming, Do, Settle, Point, BetweenTurns, ClockRead}
+use Rattle.gate_runs.specs.Next.{BeforePairs, Refusing, InPair, Ending, Ended, point, stage_of}
+use Rattle.gate_runs.specs.Next.{after, after_shut, ask, or_more, visit, round, beyond, without}
+use Rattle.gate_runs.specs.Next.{unless_gone, ahead, live_pairs}
 use Rattle.gate_runs.specs.Serving.{Answered, RunsOutAt}
-use Rattle.gate_turns.specs.Parts.{Unwritten, Written, is_inside, AreFresh, AreOthers, AtStage, PairsAhead}
+use Rattle.gate_turns.specs.Parts.{Unwritten, Written, is_inside, AreFresh, AreOthers, AtStage}
+use Rattle.gate_turns.specs.Parts.{PairsAhead}
 use Rattle.gate_turns.proofs.OneMark.{if_same, if_other}
 
 -- a stage at which nothing is asked is passed over

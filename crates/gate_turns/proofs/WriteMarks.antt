@@ -1,5 +1,7 @@
 -- Writes to a pair's end: what is found for one, and the call.
-use Rattle.std.proofs.Common.{◌≡◌, ◌≢◌, ℕ, ◌+◌, ◌<◌, nat_lt, Bool, true, false, not, ◌||◌, if◌then◌else◌, List, ◌∷◌, length, Option, None, Some, is_some, Result, Ok, Err, refl, sym, ap, ◌∙◌, subst, arith}
+use Rattle.std.proofs.Common.{◌≡◌, ◌≢◌, ℕ, ◌+◌, ◌<◌, nat_lt, Bool, true, false, not, ◌||◌}
+use Rattle.std.proofs.Common.{if◌then◌else◌, List, ◌∷◌, length, Option, None, Some, is_some, Result}
+use Rattle.std.proofs.Common.{Ok, Err, refl, sym, ap, ◌∙◌, subst, arith}
 use Rattle.std.proofs.lemmas.Bool.Decides.{nat_tests}
 use Rattle.std.specs.Option.{option_map}
 use Rattle.gate_outside.specs.declared.ports.End.{End}
@@ -20,19 +22,25 @@ use Rattle.gate_runs.specs.declared.lap.Lap.TheVariants as lap
 use Rattle.gate_runs.specs.declared.limits.Limits.{Limits}
 use Rattle.gate_runs.specs.Journal.{journal, write_entry}
 use Rattle.gate_runs.specs.Marks.{History, Call, RunOut, Extends, calls}
-use Rattle.gate_runs.specs.Next.{Upcoming, Do, AskWrite, InPair, ask, after_put, most_writes, round, unless_gone, out_of_memory_count, point, stage_of}
+use Rattle.gate_runs.specs.Next.{Upcoming, Do, AskWrite, InPair, ask, after_put, most_writes, round}
+use Rattle.gate_runs.specs.Next.{unless_gone, out_of_memory_count, point, stage_of}
 use Rattle.gate_runs.specs.Report.{report}
 use Rattle.gate_runs.specs.Serving.{Answered, RunsOutAt, AtWrite, counted}
-use Rattle.gate_runs.specs.Stages.{Stage, Writing, Shutting, later, lap_end, lap_after, writing_at, at_running_out}
+use Rattle.gate_runs.specs.Stages.{Stage, Writing, Shutting, later, lap_end, lap_after, writing_at}
+use Rattle.gate_runs.specs.Stages.{at_running_out}
 use Rattle.gate_turns.specs.declared.live.Live.{Live}
 use Rattle.gate_turns.specs.declared.tally.SinkFault.{SinkFault}
 use Rattle.gate_turns.specs.declared.tally.SinkFault.TheVariants.{Capture}
 use Rattle.gate_turns.specs.declared.tally.Tally.{Tally}
 use Rattle.gate_turns.specs.Represents.{Represents, found_by, with_cut}
-use Rattle.gate_turns.specs.Parts.{AtStage, PartContext, PartState, PartAgrees, InStage, Reaches, PartEffect, OfferEffect, LookEffect, WriteEffect, TellsBy, KeptBy, both, own_lines, noted, put_moved, put_more, stage_wrote, state}
+use Rattle.gate_turns.specs.Parts.{AtStage, PartContext, PartState, PartAgrees, InStage, Reaches}
+use Rattle.gate_turns.specs.Parts.{PartEffect, OfferEffect, LookEffect, WriteEffect, TellsBy}
+use Rattle.gate_turns.specs.Parts.{KeptBy, both, own_lines, noted, put_moved, put_more, stage_wrote}
+use Rattle.gate_turns.specs.Parts.{state}
 use Rattle.gate_turns.proofs.CallMarks.{is_write, call_reaches}
 use Rattle.gate_turns.proofs.Connects.{no_capture}
-use Rattle.gate_turns.proofs.Extending.{extends_call, extends_map, extends_none, extends_more, extends_then}
+use Rattle.gate_turns.proofs.Extending.{extends_call, extends_map, extends_none, extends_more}
+use Rattle.gate_turns.proofs.Extending.{extends_then}
 use Rattle.gate_turns.proofs.OneMark.{if_same, if_not_mine}
 use Rattle.gate_turns.proofs.Reaching.{reaches, counted_more}
 use Rattle.gate_turns.proofs.Stages.{asks, at_pass, at_call, at_run_out, is_written}

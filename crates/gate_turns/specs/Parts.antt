@@ -1,5 +1,6 @@
 -- What the parts of a pair's turn do to a history. These words are of the loop's own functions.
-use Rattle.std.specs.Prelude.{◌≡◌, ◌≢◌, ℕ, ◌+◌, ◌<◌, ◌≤◌, Bool, true, false, ◌||◌, if◌then◌else◌, List, [], ◌++◌, Option, None, Some, Result, Ok, Err}
+use Rattle.std.specs.Prelude.{◌≡◌, ◌≢◌, ℕ, ◌+◌, ◌<◌, ◌≤◌, Bool, true, false, ◌||◌, if◌then◌else◌}
+use Rattle.std.specs.Prelude.{List, [], ◌++◌, Option, None, Some, Result, Ok, Err}
 use Rattle.std.specs.List.{AllByRecursion}
 use Rattle.gate_outside.specs.declared.ports.End.{End}
 use Rattle.gate_outside.specs.declared.ports.End.TheVariants.{Client, Up}
@@ -24,10 +25,15 @@ use Rattle.gate_runs.specs.declared.served.Outside.TheVariants as outside
 use Rattle.gate_runs.specs.Journal.{journal, moment}
 use Rattle.gate_runs.specs.Marks.{History, calls}
 use Rattle.gate_relay.specs.Guards.{offers}
-use Rattle.gate_runs.specs.Next.{most_writes, Point, BetweenTurns, Refusing, Ending, Ended, point, stage_of, visit, round, beyond, unless_gone, next, live_pairs, accepted_count, turns_begun, has_moved, out_of_memory_count, finish_of}
+use Rattle.gate_runs.specs.Next.{most_writes, Point, BetweenTurns, Refusing, Ending, Ended, point}
+use Rattle.gate_runs.specs.Next.{stage_of, visit, round, beyond, unless_gone, next, live_pairs}
+use Rattle.gate_runs.specs.Next.{accepted_count, turns_begun, has_moved, out_of_memory_count}
+use Rattle.gate_runs.specs.Next.{finish_of}
 use Rattle.gate_runs.specs.Report.{memory_line}
-use Rattle.gate_runs.specs.Serving.{Follows, EndsBy, HoldsReport, HoldsFront, Keeps, KeepsFront, counted, is_ended}
-use Rattle.gate_runs.specs.Stages.{Stage, Reading, Taking, Linking, Writing, Shutting, Past, later, writing_at, lap_end, lap_after}
+use Rattle.gate_runs.specs.Serving.{Follows, EndsBy, HoldsReport, HoldsFront, Keeps, KeepsFront}
+use Rattle.gate_runs.specs.Serving.{counted, is_ended}
+use Rattle.gate_runs.specs.Stages.{Stage, Reading, Taking, Linking, Writing, Shutting, Past, later}
+use Rattle.gate_runs.specs.Stages.{writing_at, lap_end, lap_after}
 use Rattle.gate_turns.specs.declared.live.Live.{Live}
 use Rattle.gate_turns.specs.declared.tally.SinkFault.{SinkFault}
 use Rattle.gate_turns.specs.declared.tally.SinkFault.TheVariants.{Out, Capture}
@@ -50,7 +56,11 @@ begun t = record { moved = false; out_of_memory = t.out_of_memory }
 
 abbrev pub noted : Bool → Bool → Tally → Tally
 noted moved ran_out t =
-    record { moved = t.moved || moved; out_of_memory = if ran_out then counted (t.out_of_memory + 1) else t.out_of_memory }
+    record {
+      moved = t.moved || moved;
+      out_of_memory = if ran_out then counted
+          (t.out_of_memory + 1) else t.out_of_memory;
+    }
 
 -- a read that gave nothing yet moves nothing, nor does a write that took nothing yet
 abbrev pub got_moved : Got → Bool
@@ -91,7 +101,8 @@ outside_of Out = outside.Out
 outside_of Capture = outside.Capture
 
 -- out took these lines, or failed at them
-abbrev pub TellsBy : Result (Unit {0}) SinkFault → Option (List ℕ) → Option (List ℕ) → List ℕ → Type 0
+abbrev pub TellsBy : Result (Unit {0}) SinkFault → Option (List ℕ) → Option (List ℕ) → List ℕ
+    → Type 0
 TellsBy (Ok done) old new lines = Appends old new lines
 TellsBy (Err Out) old new lines = AppendsFront old new lines × (is_empty lines ≡ false)
 TellsBy (Err Capture) old new lines = Appends old new lines
@@ -125,9 +136,11 @@ abbrev pub Written : Stage → Stage → Type 0
 Written (Reading end) s = Unwritten s
 Written Taking s = Unwritten s
 Written Linking s = Unwritten s
-Written (Writing ToUp k) s = (writing_at Up s ≡ Writing ToUp k) × (writing_at Client s ≡ Writing ToClient 0)
+Written (Writing ToUp k) s =
+    (writing_at Up s ≡ Writing ToUp k) × (writing_at Client s ≡ Writing ToClient 0)
 Written (Writing ToClient k) s = writing_at Client s ≡ Writing ToClient k
-Written (Writing ToClientLate k) s = (writing_at Client s ≡ Writing ToClientLate k) × (writing_at Up s ≡ Writing ToUpAgain 0)
+Written (Writing ToClientLate k) s =
+    (writing_at Client s ≡ Writing ToClientLate k) × (writing_at Up s ≡ Writing ToUpAgain 0)
 Written (Writing ToUpAgain k) s = writing_at Up s ≡ Writing ToUpAgain k
 Written (Shutting end) s = Unit {0}
 Written Past s = Unit {0}
@@ -141,7 +154,8 @@ abbrev pub AreOthers : ℕ → List ℕ → Type 0
 AreOthers p ps = AllByRecursion (λ q. q ≢ p) ps
 
 -- pair p is at a stage of its part of the turn, and the pairs ps are behind it
-pub record AtStage (w : RelayWords) (c : Limits) (p : ℕ) (s : Stage) (ps : List ℕ) (m : History) : Type 0 where
+pub record AtStage (w : RelayWords) (c : Limits) (p : ℕ) (s : Stage) (ps : List ℕ)
+    (m : History) : Type 0 where
   pub coming : next w c m ≡ visit w p s (journal p m) (round w c m ps)
   pub behind : beyond p (live_pairs m) ≡ ps
   pub written : Written s (stage_of p (point m))
@@ -186,7 +200,8 @@ abbrev pub state : {A : Type 0} → Live A → Tally → Option (List ℕ) → O
 state live tally held kept = record { live = live; tally = tally; held = held; kept = kept }
 
 -- the pair, the counts and the other pairs agree with a history
-pub record PartAgrees {A : Type 0} (r : A → List Entry → Type 0) (x : PartContext) (t : PartState A) (m : History) : Type 0 where
+pub record PartAgrees {A : Type 0} (r : A → List Entry → Type 0) (x : PartContext)
+    (t : PartState A) (m : History) : Type 0 where
   pub number : t.live.number ≡ x.pair
   pub represents : Represents r t.live (journal x.pair m)
   pub others : (q : ℕ) → q ≢ x.pair → journal q m ≡ x.others q
@@ -199,7 +214,8 @@ pub record PartAgrees {A : Type 0} (r : A → List Entry → Type 0) (x : PartCo
   pub finish : finish_of m ≡ None
 
 -- the pair is at a stage of its part of the turn; out and the record of calls hold what they should
-pub record InStage {A : Type 0} (w : RelayWords) (r : A → List Entry → Type 0) (x : PartContext) (s : Stage) (t : PartState A) (m : History) : Type 0 where
+pub record InStage {A : Type 0} (w : RelayWords) (r : A → List Entry
+    → Type 0) (x : PartContext) (s : Stage) (t : PartState A) (m : History) : Type 0 where
   pub at : AtStage w x.limits x.pair s x.behind m
   pub has : has_end t.live.sides ≡ true
   pub agrees : PartAgrees r x t m
@@ -212,7 +228,8 @@ HoldsBy w Out base held m = HoldsFront w base held m
 HoldsBy w Capture base held m = HoldsReport w base held m
 
 -- a sink failed, and the service is to end
-pub record Halted {A : Type 0} (w : RelayWords) (r : A → List Entry → Type 0) (x : PartContext) (fault : SinkFault) (t : PartState A) (m : History) : Type 0 where
+pub record Halted {A : Type 0} (w : RelayWords) (r : A → List Entry
+    → Type 0) (x : PartContext) (fault : SinkFault) (t : PartState A) (m : History) : Type 0 where
   pub follows : Follows w x.limits m
   pub open_still : is_ended (point m) ≡ false
   pub ends : EndsBy w x.limits (Fault (outside_of fault)) m
@@ -220,12 +237,15 @@ pub record Halted {A : Type 0} (w : RelayWords) (r : A → List Entry → Type 0
   pub told : HoldsBy w fault x.held t.held m
   pub kept : KeepsFront x.kept t.kept (calls m)
 
-abbrev pub Reaches : {A : Type 0} → RelayWords → (A → List Entry → Type 0) → PartContext → Result (Unit {0}) SinkFault → Stage → PartState A → History → Type 0
+abbrev pub Reaches : {A : Type 0} → RelayWords → (A → List Entry → Type 0) → PartContext
+    → Result (Unit {0}) SinkFault → Stage → PartState A → History → Type 0
 Reaches w r x (Ok done) to t m = InStage w r x to t m
 Reaches w r x (Err fault) to t m = Halted w r x fault t m
 
 -- from one stage of a pair's part of the turn to another
-pub record PartEffect {A : Type 0} (w : RelayWords) (r : A → List Entry → Type 0) (from to : Stage) (result : Result (Unit {0}) SinkFault) (old new : PartState A) (m n : History) : Type 0 where
+pub record PartEffect {A : Type 0} (w : RelayWords) (r : A → List Entry
+    → Type 0) (from to : Stage) (result : Result (Unit {0}) SinkFault) (old new : PartState A)
+    (m n : History) : Type 0 where
   pub goes : (x : PartContext) → InStage w r x from old m → Reaches w r x result to new n
 
 -- ---- writes
@@ -236,34 +256,47 @@ stage_wrote true lap k = Writing lap (k + 1)
 stage_wrote false lap k = later (Writing lap k)
 
 -- one write of these bytes, as one of fewer than 4,096 in any lap to that end
-pub record OfferEffect {A : Type 0} (w : RelayWords) (r : A → List Entry → Type 0) (end : End) (bytes : List ℕ) (more : Bool) (result : Result (Unit {0}) SinkFault) (old new : PartState A) (m n : History) : Type 0 where
-  pub goes : (lap : Lap) (k : ℕ) (x : PartContext) → lap_end lap ≡ end → k < most_writes → offers w end (journal x.pair m) ≡ Some bytes
+pub record OfferEffect {A : Type 0} (w : RelayWords) (r : A → List Entry
+    → Type 0) (end : End) (bytes : List ℕ) (more : Bool) (result : Result (Unit {0}) SinkFault)
+    (old new : PartState A) (m n : History) : Type 0 where
+  pub goes : (lap : Lap) (k : ℕ) (x : PartContext) → lap_end lap
+      ≡ end → k < most_writes → offers w end (journal x.pair m) ≡ Some bytes
       → InStage w r x (Writing lap k) old m → Reaches w r x result (stage_wrote more lap k) new n
 
 -- what was found for a write to an end
-pub record LookEffect {A : Type 0} (w : RelayWords) (r : A → List Entry → Type 0) (end : End) (ran_out : Bool) (found : Option (List ℕ)) (result : Result (Unit {0}) SinkFault) (old new : PartState A) (m n : History) : Type 0 where
+pub record LookEffect {A : Type 0} (w : RelayWords) (r : A → List Entry
+    → Type 0) (end : End) (ran_out : Bool) (found : Option (List ℕ)) (result : Result
+    (Unit {0}) SinkFault) (old new : PartState A) (m n : History) : Type 0 where
   pub goes : (lap : Lap) (k : ℕ) (x : PartContext) → lap_end lap ≡ end → k < most_writes
-      → InStage w r x (Writing lap k) old m → Reaches w r x result (Writing (lap_after ran_out lap) k) new n
+      → InStage w r x (Writing lap k) old m → Reaches w r x result (Writing
+      (lap_after ran_out lap) k) new n
   pub found_is : (x : PartContext) → PartAgrees r x old m → offers w end (journal x.pair n) ≡ found
 
 -- one write, if something is offered, as one of fewer than 4,096 in any lap to that end
-pub record WriteEffect {A : Type 0} (w : RelayWords) (r : A → List Entry → Type 0) (end : End) (more ran_out : Bool) (result : Result (Unit {0}) SinkFault) (old new : PartState A) (m n : History) : Type 0 where
+pub record WriteEffect {A : Type 0} (w : RelayWords) (r : A → List Entry
+    → Type 0) (end : End) (more ran_out : Bool) (result : Result (Unit {0}) SinkFault)
+    (old new : PartState A) (m n : History) : Type 0 where
   pub goes : (lap : Lap) (k : ℕ) (x : PartContext) → lap_end lap ≡ end → k < most_writes
-      → InStage w r x (Writing lap k) old m → Reaches w r x result (stage_wrote more (lap_after ran_out lap) k) new n
+      → InStage w r x (Writing lap k) old m → Reaches w r x result (stage_wrote more
+      (lap_after ran_out lap) k) new n
 
 -- ---- shuts
 
 -- the pair is at a stage at which its ends are shut, and may have none any more
-pub record InShutting {A : Type 0} (w : RelayWords) (r : A → List Entry → Type 0) (x : PartContext) (s : Stage) (t : PartState A) (m : History) : Type 0 where
+pub record InShutting {A : Type 0} (w : RelayWords) (r : A → List Entry
+    → Type 0) (x : PartContext) (s : Stage) (t : PartState A) (m : History) : Type 0 where
   pub at : AtStage w x.limits x.pair s x.behind m
   pub agrees : PartAgrees r x t m
   pub told : HoldsReport w x.held t.held m
   pub kept : Keeps x.kept t.kept (calls m)
 
-abbrev pub ReachesShut : {A : Type 0} → RelayWords → (A → List Entry → Type 0) → PartContext → Result (Unit {0}) SinkFault → Stage → PartState A → History → Type 0
+abbrev pub ReachesShut : {A : Type 0} → RelayWords → (A → List Entry → Type 0) → PartContext
+    → Result (Unit {0}) SinkFault → Stage → PartState A → History → Type 0
 ReachesShut w r x (Ok done) to t m = InShutting w r x to t m
 ReachesShut w r x (Err fault) to t m = Halted w r x fault t m
 
 -- from one stage of a pair's part of the turn to another, where its ends may be shut
-pub record ShutEffect {A : Type 0} (w : RelayWords) (r : A → List Entry → Type 0) (from to : Stage) (result : Result (Unit {0}) SinkFault) (old new : PartState A) (m n : History) : Type 0 where
+pub record ShutEffect {A : Type 0} (w : RelayWords) (r : A → List Entry
+    → Type 0) (from to : Stage) (result : Result (Unit {0}) SinkFault) (old new : PartState A)
+    (m n : History) : Type 0 where
   pub goes : (x : PartContext) → InStage w r x from old m → ReachesShut w r x result to new n

@@ -11,7 +11,8 @@ use Rattle.gate_relay.specs.Entries.{Entry, OutOfMemory}
 use Rattle.gate_relay.specs.Sides.{sides, side_lost, with_side}
 use Rattle.gate_turns.specs.declared.live.Live.{Live}
 
-pub record Represents {A : Type 0} (r : A → List Entry → Type 0) (b : Live A) (h : List Entry) : Type 0 where
+pub record Represents {A : Type 0} (r : A → List Entry → Type 0) (b : Live A)
+    (h : List Entry) : Type 0 where
   pub relay : r b.relay h
   pub sides : b.sides ≡ sides h
 

@@ -1,5 +1,6 @@
 -- What the turns of the service do to a history. These words are of the loop's own functions.
-use Rattle.std.specs.Prelude.{◌≡◌, ℕ, ◌+◌, ◌<◌, ◌≤◌, ◌==◌, Bool, true, false, ◌||◌, List, [], ◌∷◌, map, drop, Option, None, Result, Ok, Err}
+use Rattle.std.specs.Prelude.{◌≡◌, ℕ, ◌+◌, ◌<◌, ◌≤◌, ◌==◌, Bool, true, false, ◌||◌, List, [], ◌∷◌}
+use Rattle.std.specs.Prelude.{map, drop, Option, None, Result, Ok, Err}
 use Rattle.std.specs.List.{AllByRecursion}
 use Rattle.gate_outside.specs.declared.ports.End.{End}
 use Rattle.gate_outside.specs.Ends.{is_open}
@@ -9,11 +10,15 @@ use Rattle.gate_relay.specs.Sides.{has_end}
 use Rattle.gate_runs.specs.declared.limits.Limits.{Limits}
 use Rattle.gate_runs.specs.declared.served.Outside.TheVariants as outside
 use Rattle.gate_runs.specs.declared.served.Served.{Served}
-use Rattle.gate_runs.specs.declared.served.Served.TheVariants.{Stopped, PairsDone, TurnLimit, Fault, Memory}
+use Rattle.gate_runs.specs.declared.served.Served.TheVariants.{Stopped, PairsDone, TurnLimit, Fault}
+use Rattle.gate_runs.specs.declared.served.Served.TheVariants.{Memory}
 use Rattle.gate_runs.specs.Journal.{journal, moment}
 use Rattle.gate_runs.specs.Marks.{History, calls}
-use Rattle.gate_runs.specs.Next.{Upcoming, Do, AskNow, AskAccept, next, point, live_pairs, accepted_count, turns_begun, has_moved, out_of_memory_count, finish_of}
-use Rattle.gate_runs.specs.Serving.{Follows, EndsBy, HoldsReport, HoldsFront, Keeps, KeepsFront, counted, is_ended}
+use Rattle.gate_runs.specs.Next.{Upcoming, Do, AskNow, AskAccept, next, point, live_pairs}
+use Rattle.gate_runs.specs.Next.{accepted_count, turns_begun, has_moved, out_of_memory_count}
+use Rattle.gate_runs.specs.Next.{finish_of}
+use Rattle.gate_runs.specs.Serving.{Follows, EndsBy, HoldsReport, HoldsFront, Keeps, KeepsFront}
+use Rattle.gate_runs.specs.Serving.{counted, is_ended}
 use Rattle.gate_turns.specs.declared.live.Live.{Live}
 use Rattle.gate_turns.specs.declared.service.Service.{Service}
 use Rattle.gate_turns.specs.declared.tally.SinkFault.{SinkFault}
@@ -43,7 +48,8 @@ pub record HasEnds {A : Type 0} (pairs : ℕ) (ends : List (ℕ × End)) (b : Li
   pub open_ends : EndsAre b.number b.sides ends
 
 -- the ports' open ends are those of the live pairs
-pub record OwnsEnds {A : Type 0} (live : List (Live A)) (pairs : ℕ) (ends : List (ℕ × End)) : Type 0 where
+pub record OwnsEnds {A : Type 0} (live : List (Live A)) (pairs : ℕ) (ends : List (ℕ
+    × End)) : Type 0 where
   pub rising : IsRising 0 live
   pub each : AllByRecursion (HasEnds pairs ends) live
   pub only : (p : ℕ) (end : End) → is_among p (numbers live) ≡ false → is_open p end ends ≡ false
@@ -73,7 +79,8 @@ pub record RunState (A : Type 0) : Type 0 where
   pub held : Option (List ℕ)
   pub kept : Option (List ℕ)
 
-abbrev pub run_state : {A : Type 0} → Service A → Tally → ℕ → Option (List ℕ) → Option (List ℕ) → RunState A
+abbrev pub run_state : {A : Type 0} → Service A → Tally → ℕ → Option (List ℕ) → Option (List ℕ)
+    → RunState A
 run_state s tally moment held kept =
     record { live = s.live.items; accepted = s.accepted; tally = tally; moment = moment; held = held; kept = kept }
 
@@ -82,7 +89,8 @@ abbrev pub IsIn : {A : Type 0} → (A → List Entry → Type 0) → History →
 IsIn r m b = Represents r b (journal b.number m)
 
 -- the live pairs and the counts agree with a history
-pub record RunAgrees {A : Type 0} (r : A → List Entry → Type 0) (x : RunContext) (t : RunState A) (m : History) : Type 0 where
+pub record RunAgrees {A : Type 0} (r : A → List Entry → Type 0) (x : RunContext) (t : RunState A)
+    (m : History) : Type 0 where
   pub each : AllByRecursion (IsIn r m) t.live
   pub live : live_pairs m ≡ numbers t.live
   pub accepts : accepted_count m ≡ t.accepted
@@ -93,7 +101,8 @@ pub record RunAgrees {A : Type 0} (r : A → List Entry → Type 0) (x : RunCont
   pub finish : finish_of m ≡ None
 
 -- the run is at a place, and the sinks hold what they should
-pub record InRun {A : Type 0} (w : RelayWords) (r : A → List Entry → Type 0) (x : RunContext) (place : Type 0) (t : RunState A) (m : History) : Type 0 where
+pub record InRun {A : Type 0} (w : RelayWords) (r : A → List Entry
+    → Type 0) (x : RunContext) (place : Type 0) (t : RunState A) (m : History) : Type 0 where
   pub at : place
   pub agrees : RunAgrees r x t m
   pub told : HoldsReport w x.held t.held m
@@ -105,7 +114,8 @@ pub record Comes (w : RelayWords) (c : Limits) (up : Upcoming) (m : History) : T
   pub follows : Follows w c m
 
 -- this comes next, and the last moment is this
-pub record ComesAt (w : RelayWords) (c : Limits) (up : Upcoming) (ms : ℕ) (m : History) : Type 0 where
+pub record ComesAt (w : RelayWords) (c : Limits) (up : Upcoming) (ms : ℕ)
+    (m : History) : Type 0 where
   pub coming : next w c m ≡ up
   pub follows : Follows w c m
   pub now : moment m ≡ ms
@@ -115,19 +125,23 @@ abbrev pub numbers_from : {A : Type 0} → ℕ → List (Live A) → List ℕ
 numbers_from at live = numbers (drop at live)
 
 -- the clock is to be read
-abbrev pub AtClock : {A : Type 0} → RelayWords → (A → List Entry → Type 0) → RunContext → RunState A → History → Type 0
+abbrev pub AtClock : {A : Type 0} → RelayWords → (A → List Entry → Type 0) → RunContext
+    → RunState A → History → Type 0
 AtClock w r x t m = InRun w r x (Comes w x.limits (Do AskNow) m) t m
 
 -- a client is to be accepted
-abbrev pub AtAccept : {A : Type 0} → RelayWords → (A → List Entry → Type 0) → RunContext → RunState A → History → Type 0
+abbrev pub AtAccept : {A : Type 0} → RelayWords → (A → List Entry → Type 0) → RunContext
+    → RunState A → History → Type 0
 AtAccept w r x t m = InRun w r x (ComesAt w x.limits (Do AskAccept) t.moment m) t m
 
 -- the pairs from a place in the list on are yet to have their part of the turn
-abbrev pub AtPairs : {A : Type 0} → RelayWords → (A → List Entry → Type 0) → ℕ → RunContext → RunState A → History → Type 0
+abbrev pub AtPairs : {A : Type 0} → RelayWords → (A → List Entry → Type 0) → ℕ → RunContext
+    → RunState A → History → Type 0
 AtPairs w r at x t m = InRun w r x (PairsAhead w x.limits (numbers_from at t.live) m) t m
 
 -- each of them had its part
-abbrev pub AtRest : {A : Type 0} → RelayWords → (A → List Entry → Type 0) → RunContext → RunState A → History → Type 0
+abbrev pub AtRest : {A : Type 0} → RelayWords → (A → List Entry → Type 0) → RunContext
+    → RunState A → History → Type 0
 AtRest w r x t m = InRun w r x (PairsAhead w x.limits [] m) t m
 
 -- what out holds at the end of the service
@@ -151,7 +165,8 @@ KeepsAt (Fault outside.Capture) base kept m = KeepsFront base kept (calls m)
 KeepsAt Memory base kept m = Keeps base kept (calls m)
 
 -- the service is to end so
-pub record AtEnd {A : Type 0} (w : RelayWords) (r : A → List Entry → Type 0) (how : Served) (x : RunContext) (t : RunState A) (m : History) : Type 0 where
+pub record AtEnd {A : Type 0} (w : RelayWords) (r : A → List Entry
+    → Type 0) (how : Served) (x : RunContext) (t : RunState A) (m : History) : Type 0 where
   pub ends : EndsBy w x.limits how m
   pub open_still : is_ended (point m) ≡ false
   pub follows : Follows w x.limits m
@@ -162,23 +177,30 @@ pub record AtEnd {A : Type 0} (w : RelayWords) (r : A → List Entry → Type 0)
 -- ---- what the parts of a turn do
 
 -- where a sink failed, the service is to end
-abbrev pub ReachesPairs : {A : Type 0} → RelayWords → (A → List Entry → Type 0) → ℕ → Result (Unit {0}) SinkFault → RunContext → RunState A → History → Type 0
+abbrev pub ReachesPairs : {A : Type 0} → RelayWords → (A → List Entry → Type 0) → ℕ
+    → Result (Unit {0}) SinkFault → RunContext → RunState A → History → Type 0
 ReachesPairs w r at (Ok done) x t m = AtPairs w r at x t m
 ReachesPairs w r at (Err fault) x t m = AtEnd w r (Fault (outside_of fault)) x t m
 
 -- the parts of the turn of the pairs from one place in the list to another
-pub record PairsEffect {A : Type 0} (w : RelayWords) (r : A → List Entry → Type 0) (from to : ℕ) (result : Result (Unit {0}) SinkFault) (old new : RunState A) (m n : History) : Type 0 where
+pub record PairsEffect {A : Type 0} (w : RelayWords) (r : A → List Entry
+    → Type 0) (from to : ℕ) (result : Result (Unit {0}) SinkFault) (old new : RunState A)
+    (m n : History) : Type 0 where
   pub goes : (x : RunContext) → AtPairs w r from x old m → ReachesPairs w r to result x new n
 
 -- the whole round
-abbrev pub ReachesRest : {A : Type 0} → RelayWords → (A → List Entry → Type 0) → Result (Unit {0}) SinkFault → RunContext → RunState A → History → Type 0
+abbrev pub ReachesRest : {A : Type 0} → RelayWords → (A → List Entry → Type 0)
+    → Result (Unit {0}) SinkFault → RunContext → RunState A → History → Type 0
 ReachesRest w r (Ok done) x t m = AtRest w r x t m
 ReachesRest w r (Err fault) x t m = AtEnd w r (Fault (outside_of fault)) x t m
 
-pub record RoundEffect {A : Type 0} (w : RelayWords) (r : A → List Entry → Type 0) (result : Result (Unit {0}) SinkFault) (old new : RunState A) (m n : History) : Type 0 where
+pub record RoundEffect {A : Type 0} (w : RelayWords) (r : A → List Entry
+    → Type 0) (result : Result (Unit {0}) SinkFault) (old new : RunState A)
+    (m n : History) : Type 0 where
   pub goes : (x : RunContext) → AtPairs w r 0 x old m → ReachesRest w r result x new n
 
--- the place in the list of the next pair, after the part of the turn of the pair at one, which lives on or not
+-- the place in the list of the next pair, after the part of the turn of the pair at one, which
+-- lives on or not
 abbrev pub place_after : Bool → ℕ → ℕ
 place_after true at = at + 1
 place_after false at = at

@@ -25,7 +25,8 @@ pub fn tell<R: Relay, K: Sink>(
     ensures mute { result ≡ Err SinkFault.Out → Rose (K.faults report.old) (K.faults report.new) }
     ensures never { result ≢ Err SinkFault.Capture }
     ensures told { (s : R.Setup) (h : List Entry) → Represents (R.represents s) live.now h
-        → TellsBy result (K.held report.old) (K.held report.new) (own_lines ran_out live.now.number ((R.words s).lines h)) }
+        → TellsBy result (K.held report.old) (K.held report.new)
+        (own_lines ran_out live.now.number ((R.words s).lines h)) }
 {
     if !tell_memory_if(report, live.number, ran_out) {
         return Err(SinkFault::Out);
@@ -37,7 +38,8 @@ pub fn tell<R: Relay, K: Sink>(
     }
 }
 
-/// Tells the lines of an end that was shut: those of the pair, and that it is closed where no end is left.
+/// Tells the lines of an end that was shut: those of the pair, and that it is closed where no end
+/// is left.
 pub fn tell_shut<R: Relay, K: Sink>(report: &mut K, live: &Live<R>) -> Result<(), SinkFault>
     ensures out { K.faults report.old ≤ K.faults report.new }
     ensures mute { result ≡ Err SinkFault.Out → Rose (K.faults report.old) (K.faults report.new) }

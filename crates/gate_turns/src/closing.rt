@@ -1,6 +1,7 @@
 //! The end of the service: the live pairs are shut, and the last line is told.
 
-ghost use Rattle.std.specs.Prelude.{◌≡◌, ◌≢◌, ◌⊎◌, ℕ, ◌≤◌, ◌∷◌, ◌++◌, [], List, true, false, Option, Some, Result, Ok, Err};
+ghost use Rattle.std.specs.Prelude.{◌≡◌, ◌≢◌, ◌⊎◌, ℕ, ◌≤◌, ◌∷◌, ◌++◌, [], List, true, false};
+ghost use Rattle.std.specs.Prelude.{Option, Some, Result, Ok, Err};
 ghost use Rattle.gate_outside.specs.Counts.{Rose};
 ghost use Rattle.gate_outside.specs.declared.log.LogEntry.{LogEntry};
 ghost use Rattle.gate_outside.specs.Ends.{is_open};
@@ -13,7 +14,9 @@ ghost use Rattle.gate_runs.specs.Serving.{IsServed, is_sink_fault};
 ghost use Rattle.gate_runs.specs.declared.limits.Limits.{Limits};
 ghost use Rattle.gate_runs.specs.declared.served.Served.{Served};
 ghost use Rattle.gate_turns.specs.declared.tally.Tally.{Tally};
-ghost use Rattle.gate_turns.specs.Endings.{ClosingEffect, ConcludeEffect, KeptWhile, TellsWhile, closing_state, is_recorded, is_told, sides_shut, with_fault, with_pair};
+ghost use Rattle.gate_turns.specs.Endings.{ClosingEffect, ConcludeEffect, KeptWhile, TellsWhile};
+ghost use Rattle.gate_turns.specs.Endings.{closing_state, is_recorded, is_told, sides_shut};
+ghost use Rattle.gate_turns.specs.Endings.{with_fault, with_pair};
 ghost use Rattle.gate_turns.specs.Openings.{HaveEntry, numbered_sides};
 ghost use Rattle.gate_turns.specs.Parts.{EndsAre, KeepsOthers, both};
 ghost use Rattle.gate_turns.specs.Represents.{Represents};
@@ -53,7 +56,8 @@ fn answer_after(answer: Served, told: Result<(), SinkFault>, kept: bool) -> Serv
     }
 }
 
-/// Records that an end was shut, unless a sink failed before. `false` tells that the record was lost.
+/// Records that an end was shut, unless a sink failed before. `false` tells that the record was
+/// lost.
 fn record_shut<T: Recorder>(recorder: &mut T, answer: Served, pair: u32, end: End) -> bool
     ensures tape { T.faults recorder.old ≤ T.faults recorder.new }
     ensures lost { result ≡ false → Rose (T.faults recorder.old) (T.faults recorder.new) }
@@ -109,11 +113,13 @@ fn shut_open<P: Ports, R: Relay, K: Sink, T: Recorder>(
     ensures mute { result ≡ Served.Fault Outside.Out
         → (answer ≡ Served.Fault Outside.Out) ⊎ Rose (K.faults report.old) (K.faults report.new) }
     ensures lost { result ≡ Served.Fault Outside.Capture
-        → (answer ≡ Served.Fault Outside.Capture) ⊎ Rose (T.faults recorder.old) (T.faults recorder.new) }
+        → (answer ≡ Served.Fault Outside.Capture) ⊎ Rose (T.faults recorder.old)
+        (T.faults recorder.new) }
     ensures log { (s : R.Setup) (back : List (Live R)) → Extends (P.log ports.old) (P.log ports.new)
         (ClosingEffect (R.words s) (R.represents s)
         (closing_state (with_pair live.old back) answer (K.held report.old) (T.held recorder.old))
-        (closing_state (with_pair live.new back) result (K.held report.new) (T.held recorder.new))) }
+        (closing_state (with_pair live.new back) result (K.held report.new)
+        (T.held recorder.new))) }
 {
     if !live.sides.of(end).is_open() {
         return answer;
@@ -146,7 +152,8 @@ fn shut_pair<P: Ports, R: Relay, K: Sink, T: Recorder>(
     ensures mute { result ≡ Served.Fault Outside.Out
         → (answer ≡ Served.Fault Outside.Out) ⊎ Rose (K.faults report.old) (K.faults report.new) }
     ensures lost { result ≡ Served.Fault Outside.Capture
-        → (answer ≡ Served.Fault Outside.Capture) ⊎ Rose (T.faults recorder.old) (T.faults recorder.new) }
+        → (answer ≡ Served.Fault Outside.Capture) ⊎ Rose (T.faults recorder.old)
+        (T.faults recorder.new) }
     ensures log { (s : R.Setup) (back : List (Live R)) → Extends (P.log ports.old) (P.log ports.new)
         (ClosingEffect (R.words s) (R.represents s)
         (closing_state (live ∷ back) answer (K.held report.old) (T.held recorder.old))
@@ -175,7 +182,8 @@ fn shut_all<P: Ports, R: Relay, K: Sink, T: Recorder>(
     ensures mute { result ≡ Served.Fault Outside.Out
         → (answer ≡ Served.Fault Outside.Out) ⊎ Rose (K.faults report.old) (K.faults report.new) }
     ensures lost { result ≡ Served.Fault Outside.Capture
-        → (answer ≡ Served.Fault Outside.Capture) ⊎ Rose (T.faults recorder.old) (T.faults recorder.new) }
+        → (answer ≡ Served.Fault Outside.Capture) ⊎ Rose (T.faults recorder.old)
+        (T.faults recorder.new) }
     ensures log { (s : R.Setup) → Extends (P.log ports.old) (P.log ports.new)
         (ClosingEffect (R.words s) (R.represents s)
         (closing_state service.live.items answer (K.held report.old) (T.held recorder.old))
@@ -207,8 +215,8 @@ fn finish_live<R: Relay>(service: &mut Service<R>)
     finish_each(service.live.as_mut_slice());
 }
 
-/// Ends the service: tells the live pairs so, shuts them, and tells the last line. A sink that failed is not tried again. The
-/// answer is how the service ended, or that a sink failed at that.
+/// Ends the service: tells the live pairs so, shuts them, and tells the last line. A sink that
+/// failed is not tried again. The answer is how the service ended, or that a sink failed at that.
 pub fn conclude<P: Ports, R: Relay, K: Sink, T: Recorder>(
     ports: &mut P,
     report: &mut K,
@@ -227,7 +235,8 @@ pub fn conclude<P: Ports, R: Relay, K: Sink, T: Recorder>(
     ensures mute { result ≡ Served.Fault Outside.Out
         → (why ≡ Served.Fault Outside.Out) ⊎ Rose (K.faults report.old) (K.faults report.new) }
     ensures lost { result ≡ Served.Fault Outside.Capture
-        → (why ≡ Served.Fault Outside.Capture) ⊎ Rose (T.faults recorder.old) (T.faults recorder.new) }
+        → (why ≡ Served.Fault Outside.Capture) ⊎ Rose (T.faults recorder.old)
+        (T.faults recorder.new) }
     ensures log { (s : R.Setup) (tally : Tally) → Extends (P.log ports.old) (P.log ports.new)
         (ConcludeEffect (R.words s) (R.represents s) why result
         (run_state service tally (P.last ports.old) (K.held report.old) (T.held recorder.old))
@@ -249,9 +258,11 @@ pub fn conclude<P: Ports, R: Relay, K: Sink, T: Recorder>(
 pub fn end_without_memory<K: Sink>(report: &mut K) -> Served
     ensures answer { (result ≡ Served.Memory) ⊎ (result ≡ Served.Fault Outside.Out) }
     ensures out { K.faults report.old ≤ K.faults report.new }
-    ensures mute { result ≡ Served.Fault Outside.Out → Rose (K.faults report.old) (K.faults report.new) }
+    ensures mute { result ≡ Served.Fault Outside.Out → Rose (K.faults report.old)
+        (K.faults report.new) }
     ensures served { (w : RelayWords) (c : Limits) (kept : Option (List ℕ))
-        → IsServed w c result 0 (K.held report.old) (K.held report.new) kept kept (Finish Served.Memory ∷ []) }
+        → IsServed w c result 0 (K.held report.old) (K.held report.new) kept kept
+        (Finish Served.Memory ∷ []) }
 {
     if tell_last(report, Served::Memory, 0) {
         Served::Memory

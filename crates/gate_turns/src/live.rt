@@ -1,7 +1,9 @@
 //! A live pair.
 
-ghost use Rattle.std.specs.Prelude.{◌≡◌, ℕ, ◌≤◌, ◌<◌, ◌^◌, true, false, List, ◌∷◌, length, Option, Some, None, is_some, IfSome};
-ghost use Rattle.gate_relay.specs.Sides.{side_of, with_side, side_lost, side_linked, is_readable, is_writable, is_absent, is_open_side};
+ghost use Rattle.std.specs.Prelude.{◌≡◌, ℕ, ◌≤◌, ◌<◌, ◌^◌, true, false, List, ◌∷◌, length, Option};
+ghost use Rattle.std.specs.Prelude.{Some, None, is_some, IfSome};
+ghost use Rattle.gate_relay.specs.Sides.{side_of, with_side, side_lost, side_linked, is_readable};
+ghost use Rattle.gate_relay.specs.Sides.{is_writable, is_absent, is_open_side};
 
 use gate_outside::{End, Got, Linked, Put};
 use gate_relay::{Loss, Relay, Sides};
@@ -27,10 +29,12 @@ pub struct Look {
 }
 
 impl<R: Relay> Live<R> {
-    ghost use Rattle.gate_relay.specs.Entries.{Entry, Moment, Settled, Joined, Lost, Over, is_out_of_memory};
+    ghost use Rattle.gate_relay.specs.Entries.{Entry, Moment, Settled, Joined, Lost, Over};
+    ghost use Rattle.gate_relay.specs.Entries.{is_out_of_memory};
     ghost use Rattle.gate_relay.specs.Guards.{reads, takes_up, connects, offers, shuts};
     ghost use Rattle.gate_runs.specs.Journal.{read_entry, write_entry};
-    ghost use Rattle.gate_turns.specs.Represents.{Represents, with_cut, sides_read, sides_wrote, has_come, found_by};
+    ghost use Rattle.gate_turns.specs.Represents.{Represents, with_cut, sides_read, sides_wrote};
+    ghost use Rattle.gate_turns.specs.Represents.{has_come, found_by};
     ghost use Rattle.gate_outside.specs.Ends.{TakesSome};
 
     /// A moment was given.
@@ -118,7 +122,8 @@ impl<R: Relay> Live<R> {
         self.relay.link(answer);
     }
 
-    /// A read of an end was answered so, with these bytes; whether the pair ran out of memory in it.
+    /// A read of an end was answered so, with these bytes; whether the pair ran out of memory in
+    /// it.
     pub fn heard(
         &mut self,
         alloc: Global,
@@ -132,8 +137,10 @@ impl<R: Relay> Live<R> {
         ensures sides { self.new.sides ≡ sides_read end got self.old.sides }
         ensures memory { R.out_of_memory self.new.relay ≡ result }
         ensures came { result ≡ true → has_come got ≡ true }
-        ensures entry { (cut : ℕ) × ((h : List Entry) → Represents (R.represents setup.now) self.old h
-            → Represents (R.represents setup.now) self.new (with_cut result cut (read_entry end got bytes.now ∷ h))) }
+        ensures entry { (cut : ℕ) × ((h : List Entry) → Represents
+            (R.represents setup.now) self.old h
+            → Represents (R.represents setup.now) self.new (with_cut result cut
+            (read_entry end got bytes.now ∷ h))) }
     {
         match got {
             Got::Bytes(_) => match self.relay.came_in(alloc, setup, end, bytes) {
@@ -161,7 +168,8 @@ impl<R: Relay> Live<R> {
         ensures number { self.new.number ≡ self.old.number }
         ensures sides { self.new.sides ≡ self.old.sides }
         ensures memory { R.out_of_memory self.new.relay ≡ result }
-        ensures entry { (cut : ℕ) × ((h : List Entry) → Represents (R.represents setup.now) self.old h
+        ensures entry { (cut : ℕ) × ((h : List Entry) → Represents
+            (R.represents setup.now) self.old h
             → Represents (R.represents setup.now) self.new (with_cut result cut (Settled ∷ h))) }
     {
         match self.relay.settle(alloc, setup) {
@@ -176,17 +184,22 @@ impl<R: Relay> Live<R> {
         ensures sides { self.new.sides ≡ self.old.sides }
         ensures first { result.ran_out ≡ true → R.out_of_memory self.old.relay ≡ false }
         ensures met { result.ran_out ≡ true → R.out_of_memory self.new.relay ≡ true }
-        ensures memory { result.ran_out ≡ false → R.out_of_memory self.new.relay ≡ R.out_of_memory self.old.relay }
+        ensures memory { result.ran_out ≡ false → R.out_of_memory self.new.relay
+            ≡ R.out_of_memory self.old.relay }
         ensures side { result.ready ≡ true → is_writable (side_of end self.old.sides) ≡ true }
         ensures ready { result.ready ≡ true → is_some (R.ready self.new.relay end) ≡ true }
-        ensures calm { result.ran_out ≡ true → (h : List Entry) → Represents (R.represents setup.now) self.old h
+        ensures calm { result.ran_out ≡ true → (h : List Entry)
+            → Represents (R.represents setup.now) self.old h
             → is_out_of_memory h ≡ false }
-        ensures due { result.ran_out ≡ true → (h : List Entry) → Represents (R.represents setup.now) self.old h
+        ensures due { result.ran_out ≡ true → (h : List Entry)
+            → Represents (R.represents setup.now) self.old h
             → is_some (offers (R.words setup.now) end h) ≡ true }
-        ensures takes { result.ran_out ≡ true → (h : List Entry) → Represents (R.represents setup.now) self.old h
+        ensures takes { result.ran_out ≡ true → (h : List Entry)
+            → Represents (R.represents setup.now) self.old h
             → (R.words setup.now).takes_memory end h ≡ true }
         ensures found { (h : List Entry) → Represents (R.represents setup.now) self.old h
-            → offers (R.words setup.now) end (with_cut result.ran_out 0 h) ≡ found_by result.ready (R.ready self.new.relay end) }
+            → offers (R.words setup.now) end (with_cut result.ran_out 0 h)
+            ≡ found_by result.ready (R.ready self.new.relay end) }
         ensures entry { (h : List Entry) → Represents (R.represents setup.now) self.old h
             → Represents (R.represents setup.now) self.new (with_cut result.ran_out 0 h) }
     {
@@ -232,12 +245,15 @@ impl<R: Relay> Live<R> {
     /// A write of what was found was answered so.
     pub fn wrote(&mut self, end: End, put: Put)
         requires ready { is_some (R.ready self.old.relay end) ≡ true }
-        requires within { IfSome (R.ready self.old.relay end) (λ bytes. TakesSome put (length bytes)) }
+        requires within { IfSome (R.ready self.old.relay end) (λ bytes. TakesSome put
+            (length bytes)) }
         ensures number { self.new.number ≡ self.old.number }
         ensures sides { self.new.sides ≡ sides_wrote end put self.old.sides }
         ensures memory { R.out_of_memory self.new.relay ≡ R.out_of_memory self.old.relay }
-        ensures entry { (s : R.Setup) (h : List Entry) (bytes : List ℕ) → R.ready self.old.relay end ≡ Some bytes
-            → Represents (R.represents s) self.old h → Represents (R.represents s) self.new (write_entry end bytes put ∷ h) }
+        ensures entry { (s : R.Setup) (h : List Entry) (bytes : List ℕ)
+            → R.ready self.old.relay end ≡ Some bytes
+            → Represents (R.represents s) self.old h → Represents (R.represents s) self.new
+            (write_entry end bytes put ∷ h) }
     {
         match put {
             Put::Took(count) => self.relay.took(end, count),

@@ -1,6 +1,8 @@
-//! One pair's part of a turn: it is read, what came is taken up, it is connected, written to and shut, each where that is due.
+//! One pair's part of a turn: it is read, what came is taken up, it is connected, written to and
+//! shut, each where that is due.
 
-ghost use Rattle.std.specs.Prelude.{◌≡◌, ◌≢◌, ℕ, ◌<◌, ◌≤◌, ◌^◌, true, false, List, length, is_some, Option, Some, Result, Ok, Err};
+ghost use Rattle.std.specs.Prelude.{◌≡◌, ◌≢◌, ℕ, ◌<◌, ◌≤◌, ◌^◌, true, false, List, length, is_some};
+ghost use Rattle.std.specs.Prelude.{Option, Some, Result, Ok, Err};
 ghost use Rattle.gate_outside.specs.Counts.{Rose};
 ghost use Rattle.gate_outside.specs.Ends.{got_bytes};
 ghost use Rattle.gate_outside.specs.declared.log.LogEntry.{LogEntry};
@@ -10,9 +12,12 @@ ghost use Rattle.gate_relay.specs.Guards.{reads};
 ghost use Rattle.gate_relay.specs.Relayed.{read_room};
 ghost use Rattle.gate_relay.specs.Sides.{side_of, is_readable, is_writable, has_end};
 ghost use Rattle.gate_runs.specs.Marks.{Extends};
-ghost use Rattle.gate_runs.specs.Stages.{Reading, Taking, Linking, Writing, Shutting, Past, later, lap_after};
+ghost use Rattle.gate_runs.specs.Stages.{Reading, Taking, Linking, Writing, Shutting, Past, later};
+ghost use Rattle.gate_runs.specs.Stages.{lap_after};
 ghost use Rattle.gate_turns.specs.Counting.{most_counted};
-ghost use Rattle.gate_turns.specs.Parts.{EndsAre, KeepsOthers, LookEffect, OfferEffect, PartEffect, ReadsWithin, ShutEffect, WriteEffect, got_moved, put_more, put_moved, state};
+ghost use Rattle.gate_turns.specs.Parts.{EndsAre, KeepsOthers, LookEffect, OfferEffect, PartEffect};
+ghost use Rattle.gate_turns.specs.Parts.{ReadsWithin, ShutEffect, WriteEffect, got_moved, put_more};
+ghost use Rattle.gate_turns.specs.Parts.{put_moved, state};
 ghost use Rattle.gate_turns.specs.Represents.{Represents, found_by};
 
 use crate::accounts::{both, tell, tell_shut};
@@ -75,10 +80,12 @@ fn read_end<P: Ports, R: Relay, K: Sink, T: Recorder>(
     ensures out { K.faults report.old ≤ K.faults report.new }
     ensures tape { T.faults recorder.old ≤ T.faults recorder.new }
     ensures mute { result ≡ Err SinkFault.Out → Rose (K.faults report.old) (K.faults report.new) }
-    ensures lost { result ≡ Err SinkFault.Capture → Rose (T.faults recorder.old) (T.faults recorder.new) }
+    ensures lost { result ≡ Err SinkFault.Capture → Rose (T.faults recorder.old)
+        (T.faults recorder.new) }
     ensures count { most_counted R.out_of_memory live.new tally.new ≤ most_counted R.out_of_memory live.old tally.old }
     ensures log { Extends (P.log ports.old) (P.log ports.new)
-        (PartEffect (R.words setup.now) (R.represents setup.now) (Reading end) (later (Reading end)) result
+        (PartEffect (R.words setup.now) (R.represents setup.now) (Reading end) (later
+        (Reading end)) result
         (state live.old tally.old (K.held report.old) (T.held recorder.old))
         (state live.new tally.new (K.held report.new) (T.held recorder.new))) }
 {
@@ -123,10 +130,12 @@ fn listen<P: Ports, R: Relay, K: Sink, T: Recorder>(
     ensures out { K.faults report.old ≤ K.faults report.new }
     ensures tape { T.faults recorder.old ≤ T.faults recorder.new }
     ensures mute { result ≡ Err SinkFault.Out → Rose (K.faults report.old) (K.faults report.new) }
-    ensures lost { result ≡ Err SinkFault.Capture → Rose (T.faults recorder.old) (T.faults recorder.new) }
+    ensures lost { result ≡ Err SinkFault.Capture → Rose (T.faults recorder.old)
+        (T.faults recorder.new) }
     ensures count { most_counted R.out_of_memory live.new tally.new ≤ most_counted R.out_of_memory live.old tally.old }
     ensures log { Extends (P.log ports.old) (P.log ports.new)
-        (PartEffect (R.words setup.now) (R.represents setup.now) (Reading end) (later (Reading end)) result
+        (PartEffect (R.words setup.now) (R.represents setup.now) (Reading end) (later
+        (Reading end)) result
         (state live.old tally.old (K.held report.old) (T.held recorder.old))
         (state live.new tally.new (K.held report.new) (T.held recorder.new))) }
 {
@@ -163,7 +172,8 @@ fn listen_both<P: Ports, R: Relay, K: Sink, T: Recorder>(
     ensures out { K.faults report.old ≤ K.faults report.new }
     ensures tape { T.faults recorder.old ≤ T.faults recorder.new }
     ensures mute { result ≡ Err SinkFault.Out → Rose (K.faults report.old) (K.faults report.new) }
-    ensures lost { result ≡ Err SinkFault.Capture → Rose (T.faults recorder.old) (T.faults recorder.new) }
+    ensures lost { result ≡ Err SinkFault.Capture → Rose (T.faults recorder.old)
+        (T.faults recorder.new) }
     ensures count { most_counted R.out_of_memory live.new tally.new ≤ most_counted R.out_of_memory live.old tally.old }
     ensures log { Extends (P.log ports.old) (P.log ports.new)
         (PartEffect (R.words setup.now) (R.represents setup.now) (Reading Up) Taking result
@@ -244,7 +254,8 @@ fn connect<P: Ports, R: Relay, K: Sink, T: Recorder>(
     ensures out { K.faults report.old ≤ K.faults report.new }
     ensures tape { T.faults recorder.old ≤ T.faults recorder.new }
     ensures mute { result ≡ Err SinkFault.Out → Rose (K.faults report.old) (K.faults report.new) }
-    ensures lost { result ≡ Err SinkFault.Capture → Rose (T.faults recorder.old) (T.faults recorder.new) }
+    ensures lost { result ≡ Err SinkFault.Capture → Rose (T.faults recorder.old)
+        (T.faults recorder.new) }
     ensures count { most_counted R.out_of_memory live.new tally.new ≤ most_counted R.out_of_memory live.old tally.old }
     ensures log { Extends (P.log ports.old) (P.log ports.new)
         (PartEffect (R.words setup.now) (R.represents setup.now) Linking (Writing Lap.ToUp 0) result
@@ -310,9 +321,11 @@ fn write_ready<P: Ports, R: Relay, K: Sink, T: Recorder>(
     ensures out { K.faults report.old ≤ K.faults report.new }
     ensures tape { T.faults recorder.old ≤ T.faults recorder.new }
     ensures mute { result.1 ≡ Err SinkFault.Out → Rose (K.faults report.old) (K.faults report.new) }
-    ensures lost { result.1 ≡ Err SinkFault.Capture → Rose (T.faults recorder.old) (T.faults recorder.new) }
+    ensures lost { result.1 ≡ Err SinkFault.Capture → Rose (T.faults recorder.old)
+        (T.faults recorder.new) }
     ensures count { most_counted R.out_of_memory live.new tally.new ≤ most_counted R.out_of_memory live.old tally.old }
-    ensures log { (s : R.Setup) (bytes : List ℕ) → R.ready live.old.relay end ≡ Some bytes → Extends (P.log ports.old) (P.log ports.new)
+    ensures log { (s : R.Setup) (bytes : List ℕ) → R.ready live.old.relay end
+        ≡ Some bytes → Extends (P.log ports.old) (P.log ports.new)
         (OfferEffect (R.words s) (R.represents s) end bytes result.0 result.1
         (state live.old tally.old (K.held report.old) (T.held recorder.old))
         (state live.new tally.new (K.held report.new) (T.held recorder.new))) }
@@ -330,7 +343,8 @@ fn write_ready<P: Ports, R: Relay, K: Sink, T: Recorder>(
     (may_go_on(put), both(tell(report, live, false), kept))
 }
 
-/// Looks for what is offered to an end, and tells it if the pair ran out of memory in that; whether something is offered.
+/// Looks for what is offered to an end, and tells it if the pair ran out of memory in that; whether
+/// something is offered.
 fn look_for<R: Relay, K: Sink>(
     alloc: Global,
     setup: &R::Setup,
@@ -382,11 +396,14 @@ fn write_once<P: Ports, R: Relay, K: Sink, T: Recorder>(
     ensures later { P.faults ports.old ≤ P.faults ports.new }
     ensures out { K.faults report.old ≤ K.faults report.new }
     ensures tape { T.faults recorder.old ≤ T.faults recorder.new }
-    ensures mute { result.result ≡ Err SinkFault.Out → Rose (K.faults report.old) (K.faults report.new) }
-    ensures lost { result.result ≡ Err SinkFault.Capture → Rose (T.faults recorder.old) (T.faults recorder.new) }
+    ensures mute { result.result ≡ Err SinkFault.Out → Rose (K.faults report.old)
+        (K.faults report.new) }
+    ensures lost { result.result ≡ Err SinkFault.Capture → Rose (T.faults recorder.old)
+        (T.faults recorder.new) }
     ensures count { most_counted R.out_of_memory live.new tally.new ≤ most_counted R.out_of_memory live.old tally.old }
     ensures log { Extends (P.log ports.old) (P.log ports.new)
-        (WriteEffect (R.words setup.now) (R.represents setup.now) end result.more result.ran_out result.result
+        (WriteEffect (R.words setup.now)
+        (R.represents setup.now) end result.more result.ran_out result.result
         (state live.old tally.old (K.held report.old) (T.held recorder.old))
         (state live.new tally.new (K.held report.new) (T.held recorder.new))) }
 {
@@ -442,11 +459,14 @@ fn write_lap<P: Ports, R: Relay, K: Sink, T: Recorder>(
     ensures later { P.faults ports.old ≤ P.faults ports.new }
     ensures out { K.faults report.old ≤ K.faults report.new }
     ensures tape { T.faults recorder.old ≤ T.faults recorder.new }
-    ensures mute { result.result ≡ Err SinkFault.Out → Rose (K.faults report.old) (K.faults report.new) }
-    ensures lost { result.result ≡ Err SinkFault.Capture → Rose (T.faults recorder.old) (T.faults recorder.new) }
+    ensures mute { result.result ≡ Err SinkFault.Out → Rose (K.faults report.old)
+        (K.faults report.new) }
+    ensures lost { result.result ≡ Err SinkFault.Capture → Rose (T.faults recorder.old)
+        (T.faults recorder.new) }
     ensures count { most_counted R.out_of_memory live.new tally.new ≤ most_counted R.out_of_memory live.old tally.old }
     ensures log { Extends (P.log ports.old) (P.log ports.new)
-        (PartEffect (R.words setup.now) (R.represents setup.now) (Writing lap 0) (later (Writing (lap_after result.ran_out lap) 0)) result.result
+        (PartEffect (R.words setup.now) (R.represents setup.now) (Writing lap 0) (later (Writing
+        (lap_after result.ran_out lap) 0)) result.result
         (state live.old tally.old (K.held report.old) (T.held recorder.old))
         (state live.new tally.new (K.held report.new) (T.held recorder.new))) }
 {
@@ -503,10 +523,12 @@ fn write_back<P: Ports, R: Relay, K: Sink, T: Recorder>(
     ensures out { K.faults report.old ≤ K.faults report.new }
     ensures tape { T.faults recorder.old ≤ T.faults recorder.new }
     ensures mute { result ≡ Err SinkFault.Out → Rose (K.faults report.old) (K.faults report.new) }
-    ensures lost { result ≡ Err SinkFault.Capture → Rose (T.faults recorder.old) (T.faults recorder.new) }
+    ensures lost { result ≡ Err SinkFault.Capture → Rose (T.faults recorder.old)
+        (T.faults recorder.new) }
     ensures count { most_counted R.out_of_memory live.new tally.new ≤ most_counted R.out_of_memory live.old tally.old }
     ensures log { Extends (P.log ports.old) (P.log ports.new)
-        (PartEffect (R.words setup.now) (R.represents setup.now) (Writing Lap.ToClient 0) (Shutting Up) result
+        (PartEffect (R.words setup.now) (R.represents setup.now) (Writing Lap.ToClient 0)
+        (Shutting Up) result
         (state live.old tally.old (K.held report.old) (T.held recorder.old))
         (state live.new tally.new (K.held report.new) (T.held recorder.new))) }
 {
@@ -560,10 +582,12 @@ fn write_both<P: Ports, R: Relay, K: Sink, T: Recorder>(
     ensures out { K.faults report.old ≤ K.faults report.new }
     ensures tape { T.faults recorder.old ≤ T.faults recorder.new }
     ensures mute { result ≡ Err SinkFault.Out → Rose (K.faults report.old) (K.faults report.new) }
-    ensures lost { result ≡ Err SinkFault.Capture → Rose (T.faults recorder.old) (T.faults recorder.new) }
+    ensures lost { result ≡ Err SinkFault.Capture → Rose (T.faults recorder.old)
+        (T.faults recorder.new) }
     ensures count { most_counted R.out_of_memory live.new tally.new ≤ most_counted R.out_of_memory live.old tally.old }
     ensures log { Extends (P.log ports.old) (P.log ports.new)
-        (PartEffect (R.words setup.now) (R.represents setup.now) (Writing Lap.ToUp 0) (Shutting Up) result
+        (PartEffect (R.words setup.now) (R.represents setup.now) (Writing Lap.ToUp 0)
+        (Shutting Up) result
         (state live.old tally.old (K.held report.old) (T.held recorder.old))
         (state live.new tally.new (K.held report.new) (T.held recorder.new))) }
 {
@@ -605,7 +629,8 @@ fn settle_and_connect<P: Ports, R: Relay, K: Sink, T: Recorder>(
     ensures out { K.faults report.old ≤ K.faults report.new }
     ensures tape { T.faults recorder.old ≤ T.faults recorder.new }
     ensures mute { result ≡ Err SinkFault.Out → Rose (K.faults report.old) (K.faults report.new) }
-    ensures lost { result ≡ Err SinkFault.Capture → Rose (T.faults recorder.old) (T.faults recorder.new) }
+    ensures lost { result ≡ Err SinkFault.Capture → Rose (T.faults recorder.old)
+        (T.faults recorder.new) }
     ensures count { most_counted R.out_of_memory live.new tally.new ≤ most_counted R.out_of_memory live.old tally.old }
     ensures log { Extends (P.log ports.old) (P.log ports.new)
         (PartEffect (R.words setup.now) (R.represents setup.now) Taking (Writing Lap.ToUp 0) result
@@ -644,10 +669,12 @@ fn take_in<P: Ports, R: Relay, K: Sink, T: Recorder>(
     ensures out { K.faults report.old ≤ K.faults report.new }
     ensures tape { T.faults recorder.old ≤ T.faults recorder.new }
     ensures mute { result ≡ Err SinkFault.Out → Rose (K.faults report.old) (K.faults report.new) }
-    ensures lost { result ≡ Err SinkFault.Capture → Rose (T.faults recorder.old) (T.faults recorder.new) }
+    ensures lost { result ≡ Err SinkFault.Capture → Rose (T.faults recorder.old)
+        (T.faults recorder.new) }
     ensures count { most_counted R.out_of_memory live.new tally.new ≤ most_counted R.out_of_memory live.old tally.old }
     ensures log { Extends (P.log ports.old) (P.log ports.new)
-        (PartEffect (R.words setup.now) (R.represents setup.now) (Reading Up) (Writing Lap.ToUp 0) result
+        (PartEffect (R.words setup.now) (R.represents setup.now) (Reading Up)
+        (Writing Lap.ToUp 0) result
         (state live.old tally.old (K.held report.old) (T.held recorder.old))
         (state live.new tally.new (K.held report.new) (T.held recorder.new))) }
 {
@@ -683,7 +710,8 @@ fn exchange<P: Ports, R: Relay, K: Sink, T: Recorder>(
     ensures out { K.faults report.old ≤ K.faults report.new }
     ensures tape { T.faults recorder.old ≤ T.faults recorder.new }
     ensures mute { result ≡ Err SinkFault.Out → Rose (K.faults report.old) (K.faults report.new) }
-    ensures lost { result ≡ Err SinkFault.Capture → Rose (T.faults recorder.old) (T.faults recorder.new) }
+    ensures lost { result ≡ Err SinkFault.Capture → Rose (T.faults recorder.old)
+        (T.faults recorder.new) }
     ensures count { most_counted R.out_of_memory live.new tally.new ≤ most_counted R.out_of_memory live.old tally.old }
     ensures log { Extends (P.log ports.old) (P.log ports.new)
         (PartEffect (R.words setup.now) (R.represents setup.now) (Reading Up) (Shutting Up) result
@@ -715,7 +743,8 @@ fn shut_end<P: Ports, R: Relay, K: Sink, T: Recorder>(
     ensures out { K.faults report.old ≤ K.faults report.new }
     ensures tape { T.faults recorder.old ≤ T.faults recorder.new }
     ensures mute { result ≡ Err SinkFault.Out → Rose (K.faults report.old) (K.faults report.new) }
-    ensures lost { result ≡ Err SinkFault.Capture → Rose (T.faults recorder.old) (T.faults recorder.new) }
+    ensures lost { result ≡ Err SinkFault.Capture → Rose (T.faults recorder.old)
+        (T.faults recorder.new) }
     ensures count { most_counted R.out_of_memory live.new tally.new ≤ most_counted R.out_of_memory live.old tally.old }
     ensures log { (s : R.Setup) → Extends (P.log ports.old) (P.log ports.new)
         (ShutEffect (R.words s) (R.represents s) (Shutting end) (later (Shutting end)) result
@@ -754,7 +783,8 @@ fn shut_both<P: Ports, R: Relay, K: Sink, T: Recorder>(
     ensures out { K.faults report.old ≤ K.faults report.new }
     ensures tape { T.faults recorder.old ≤ T.faults recorder.new }
     ensures mute { result ≡ Err SinkFault.Out → Rose (K.faults report.old) (K.faults report.new) }
-    ensures lost { result ≡ Err SinkFault.Capture → Rose (T.faults recorder.old) (T.faults recorder.new) }
+    ensures lost { result ≡ Err SinkFault.Capture → Rose (T.faults recorder.old)
+        (T.faults recorder.new) }
     ensures count { most_counted R.out_of_memory live.new tally.new ≤ most_counted R.out_of_memory live.old tally.old }
     ensures log { (s : R.Setup) → Extends (P.log ports.old) (P.log ports.new)
         (ShutEffect (R.words s) (R.represents s) (Shutting Up) Past result
@@ -795,7 +825,8 @@ pub fn visit<P: Ports, R: Relay, K: Sink, T: Recorder>(
     ensures out { K.faults report.old ≤ K.faults report.new }
     ensures tape { T.faults recorder.old ≤ T.faults recorder.new }
     ensures mute { result ≡ Err SinkFault.Out → Rose (K.faults report.old) (K.faults report.new) }
-    ensures lost { result ≡ Err SinkFault.Capture → Rose (T.faults recorder.old) (T.faults recorder.new) }
+    ensures lost { result ≡ Err SinkFault.Capture → Rose (T.faults recorder.old)
+        (T.faults recorder.new) }
     ensures count { most_counted R.out_of_memory live.new tally.new ≤ most_counted R.out_of_memory live.old tally.old }
     ensures log { Extends (P.log ports.old) (P.log ports.new)
         (ShutEffect (R.words setup.now) (R.represents setup.now) (Reading Up) Past result

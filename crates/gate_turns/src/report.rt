@@ -1,9 +1,11 @@
 //! The lines of the report.
 
-ghost use Rattle.std.specs.Prelude.{◌≡◌, ◌+◌, ◌≤◌, ◌++◌, true, false, length, codes, decimal, not, if◌then◌else◌};
+ghost use Rattle.std.specs.Prelude.{◌≡◌, ◌+◌, ◌≤◌, ◌++◌, true, false, length, codes, decimal, not};
+ghost use Rattle.std.specs.Prelude.{if◌then◌else◌};
 ghost use Rattle.gate_outside.specs.Counts.{Rose};
 ghost use Rattle.gate_outside.specs.Streams.{Appends, AppendsFront};
-ghost use Rattle.gate_runs.specs.Report.{pair_line, memory_line, closed_line, closed_lines, count_line, last_line};
+ghost use Rattle.gate_runs.specs.Report.{pair_line, memory_line, closed_line, closed_lines};
+ghost use Rattle.gate_runs.specs.Report.{count_line, last_line};
 ghost use Rattle.gate_turns.specs.Parts.{memory_lines};
 
 use gate_outside::{Sink, write_all};
@@ -14,7 +16,8 @@ use itoa::Buffer;
 fn tell_decimal<K: Sink>(report: &mut K, number: u32) -> bool
     ensures later { K.faults report.old ≤ K.faults report.new }
     ensures cause { result ≡ false → Rose (K.faults report.old) (K.faults report.new) }
-    ensures whole { result ≡ true → Appends (K.held report.old) (K.held report.new) (decimal number) }
+    ensures whole { result ≡ true → Appends (K.held report.old) (K.held report.new)
+        (decimal number) }
     ensures part { AppendsFront (K.held report.old) (K.held report.new) (decimal number) }
 {
     let mut buffer = Buffer::new();
@@ -25,8 +28,10 @@ fn tell_decimal<K: Sink>(report: &mut K, number: u32) -> bool
 fn tell_count<K: Sink>(report: &mut K, number: u32, after: &[u8]) -> bool
     ensures later { K.faults report.old ≤ K.faults report.new }
     ensures cause { result ≡ false → Rose (K.faults report.old) (K.faults report.new) }
-    ensures whole { result ≡ true → Appends (K.held report.old) (K.held report.new) (decimal number ++ after.now) }
-    ensures part { AppendsFront (K.held report.old) (K.held report.new) (decimal number ++ after.now) }
+    ensures whole { result ≡ true → Appends (K.held report.old) (K.held report.new)
+        (decimal number ++ after.now) }
+    ensures part { AppendsFront (K.held report.old) (K.held report.new) (decimal number
+        ++ after.now) }
 {
     if !tell_decimal(report, number) {
         return false;
@@ -34,14 +39,16 @@ fn tell_count<K: Sink>(report: &mut K, number: u32, after: &[u8]) -> bool
     write_all(report, after)
 }
 
-/// Writes a text, a number in decimal and a text. `false` comes only where the sink's count of faults rose; a front part was
-/// then taken.
+/// Writes a text, a number in decimal and a text. `false` comes only where the sink's count of
+/// faults rose; a front part was then taken.
 pub fn tell_number<K: Sink>(report: &mut K, before: &[u8], number: u32, after: &[u8]) -> bool
     ensures later { K.faults report.old ≤ K.faults report.new }
     ensures cause { result ≡ false → Rose (K.faults report.old) (K.faults report.new) }
     ensures whole { result ≡ true
-        → Appends (K.held report.old) (K.held report.new) (before.now ++ (decimal number ++ after.now)) }
-    ensures part { AppendsFront (K.held report.old) (K.held report.new) (before.now ++ (decimal number ++ after.now)) }
+        → Appends (K.held report.old) (K.held report.new) (before.now ++ (decimal number
+        ++ after.now)) }
+    ensures part { AppendsFront (K.held report.old) (K.held report.new) (before.now
+        ++ (decimal number ++ after.now)) }
 {
     if !write_all(report, before) {
         return false;
@@ -53,7 +60,8 @@ pub fn tell_number<K: Sink>(report: &mut K, before: &[u8], number: u32, after: &
 pub fn tell_memory<K: Sink>(report: &mut K, number: u32) -> bool
     ensures later { K.faults report.old ≤ K.faults report.new }
     ensures cause { result ≡ false → Rose (K.faults report.old) (K.faults report.new) }
-    ensures whole { result ≡ true → Appends (K.held report.old) (K.held report.new) (memory_line number) }
+    ensures whole { result ≡ true → Appends (K.held report.old) (K.held report.new)
+        (memory_line number) }
     ensures part { AppendsFront (K.held report.old) (K.held report.new) (memory_line number) }
 {
     tell_number(report, b"pair ", number, b" memory\n")
@@ -63,7 +71,8 @@ pub fn tell_memory<K: Sink>(report: &mut K, number: u32) -> bool
 pub fn tell_closed<K: Sink>(report: &mut K, number: u32) -> bool
     ensures later { K.faults report.old ≤ K.faults report.new }
     ensures cause { result ≡ false → Rose (K.faults report.old) (K.faults report.new) }
-    ensures whole { result ≡ true → Appends (K.held report.old) (K.held report.new) (closed_line number) }
+    ensures whole { result ≡ true → Appends (K.held report.old) (K.held report.new)
+        (closed_line number) }
     ensures part { AppendsFront (K.held report.old) (K.held report.new) (closed_line number) }
 {
     tell_number(report, b"pair ", number, b" closed\n")
@@ -74,8 +83,10 @@ pub fn tell_memory_if<K: Sink>(report: &mut K, number: u32, ran_out: bool) -> bo
     ensures later { K.faults report.old ≤ K.faults report.new }
     ensures cause { result ≡ false → Rose (K.faults report.old) (K.faults report.new) }
     ensures met { result ≡ false → ran_out ≡ true }
-    ensures whole { result ≡ true → Appends (K.held report.old) (K.held report.new) (memory_lines ran_out number) }
-    ensures part { AppendsFront (K.held report.old) (K.held report.new) (memory_lines ran_out number) }
+    ensures whole { result ≡ true → Appends (K.held report.old) (K.held report.new)
+        (memory_lines ran_out number) }
+    ensures part { AppendsFront (K.held report.old) (K.held report.new)
+        (memory_lines ran_out number) }
 {
     if !ran_out {
         return true;
@@ -88,8 +99,10 @@ pub fn tell_closed_if<K: Sink>(report: &mut K, number: u32, gone: bool) -> bool
     ensures later { K.faults report.old ≤ K.faults report.new }
     ensures cause { result ≡ false → Rose (K.faults report.old) (K.faults report.new) }
     ensures met { result ≡ false → gone ≡ true }
-    ensures whole { result ≡ true → Appends (K.held report.old) (K.held report.new) (closed_lines number (not gone)) }
-    ensures part { AppendsFront (K.held report.old) (K.held report.new) (closed_lines number (not gone)) }
+    ensures whole { result ≡ true → Appends (K.held report.old) (K.held report.new)
+        (closed_lines number (not gone)) }
+    ensures part { AppendsFront (K.held report.old) (K.held report.new) (closed_lines number
+        (not gone)) }
 {
     if !gone {
         return true;
@@ -102,8 +115,10 @@ pub fn tell_refused<K: Sink>(report: &mut K, number: u32) -> bool
     ensures later { K.faults report.old ≤ K.faults report.new }
     ensures cause { result ≡ false → Rose (K.faults report.old) (K.faults report.new) }
     ensures whole { result ≡ true
-        → Appends (K.held report.old) (K.held report.new) (memory_line number ++ closed_line number) }
-    ensures part { AppendsFront (K.held report.old) (K.held report.new) (memory_line number ++ closed_line number) }
+        → Appends (K.held report.old) (K.held report.new) (memory_line number
+        ++ closed_line number) }
+    ensures part { AppendsFront (K.held report.old) (K.held report.new) (memory_line number
+        ++ closed_line number) }
 {
     if !tell_memory(report, number) {
         return false;
@@ -115,7 +130,8 @@ pub fn tell_refused<K: Sink>(report: &mut K, number: u32) -> bool
 pub fn tell_last<K: Sink>(report: &mut K, how: Served, accepted: u32) -> bool
     ensures later { K.faults report.old ≤ K.faults report.new }
     ensures cause { result ≡ false → Rose (K.faults report.old) (K.faults report.new) }
-    ensures whole { result ≡ true → Appends (K.held report.old) (K.held report.new) (last_line how accepted) }
+    ensures whole { result ≡ true → Appends (K.held report.old) (K.held report.new)
+        (last_line how accepted) }
     ensures part { AppendsFront (K.held report.old) (K.held report.new) (last_line how accepted) }
 {
     match how {

@@ -1,6 +1,7 @@
 //! The parts of a turn of the live pairs, in rising number.
 
-ghost use Rattle.std.specs.Prelude.{◌≡◌, ◌+◌, ◌<◌, ◌≤◌, ◌^◌, true, false, length, if◌then◌else◌, Result, Ok, Err};
+ghost use Rattle.std.specs.Prelude.{◌≡◌, ◌+◌, ◌<◌, ◌≤◌, ◌^◌, true, false, length, if◌then◌else◌};
+ghost use Rattle.std.specs.Prelude.{Result, Ok, Err};
 ghost use Rattle.std.specs.Vec.{vec_len};
 ghost use Rattle.gate_outside.specs.Counts.{Rose};
 ghost use Rattle.gate_relay.specs.Relayed.{read_room};
@@ -24,7 +25,8 @@ struct Visited {
     result: Result<(), SinkFault>,
 }
 
-/// The part of the turn of the live pair at a place in the list. Where its ends were shut, the next pair takes its place.
+/// The part of the turn of the live pair at a place in the list. Where its ends were shut, the next
+/// pair takes its place.
 fn turn_at<P: Ports, R: Relay, K: Sink, T: Recorder>(
     alloc: Global,
     setup: &R::Setup,
@@ -42,19 +44,26 @@ fn turn_at<P: Ports, R: Relay, K: Sink, T: Recorder>(
     requires some { 0 < length room.old }
     requires small { length room.old < 2 ^ 32 }
     ensures holds { Holds service.new (P.pairs ports.new) (P.ends ports.new) }
-    ensures live { vec_len service.new.live + (if result.lives then 0 else 1) ≡ vec_len service.old.live }
+    ensures live { vec_len service.new.live + (if result.lives then 0 else 1)
+        ≡ vec_len service.old.live }
     ensures pairs { P.pairs ports.new ≡ P.pairs ports.old }
     ensures last { P.last ports.new ≡ P.last ports.old }
     ensures later { P.faults ports.old ≤ P.faults ports.new }
     ensures out { K.faults report.old ≤ K.faults report.new }
     ensures tape { T.faults recorder.old ≤ T.faults recorder.new }
-    ensures mute { result.result ≡ Err SinkFault.Out → Rose (K.faults report.old) (K.faults report.new) }
-    ensures lost { result.result ≡ Err SinkFault.Capture → Rose (T.faults recorder.old) (T.faults recorder.new) }
-    ensures count { CountWithin R.out_of_memory service.old tally.old → CountWithin R.out_of_memory service.new tally.new }
+    ensures mute { result.result ≡ Err SinkFault.Out → Rose (K.faults report.old)
+        (K.faults report.new) }
+    ensures lost { result.result ≡ Err SinkFault.Capture → Rose (T.faults recorder.old)
+        (T.faults recorder.new) }
+    ensures count { CountWithin R.out_of_memory service.old tally.old
+        → CountWithin R.out_of_memory service.new tally.new }
     ensures log { Extends (P.log ports.old) (P.log ports.new)
-        (PairsEffect (R.words setup.now) (R.represents setup.now) at (place_after result.lives at) result.result
-        (run_state service.old tally.old (P.last ports.old) (K.held report.old) (T.held recorder.old))
-        (run_state service.new tally.new (P.last ports.new) (K.held report.new) (T.held recorder.new))) }
+        (PairsEffect (R.words setup.now) (R.represents setup.now) at
+        (place_after result.lives at) result.result
+        (run_state service.old tally.old (P.last ports.old) (K.held report.old)
+        (T.held recorder.old))
+        (run_state service.new tally.new (P.last ports.new) (K.held report.new)
+        (T.held recorder.new))) }
 {
     let live = &mut service.live[at];
     let result = visit(alloc, setup, ports, report, recorder, tally, live, room);
@@ -96,12 +105,16 @@ pub fn turn_all<P: Ports, R: Relay, K: Sink, T: Recorder>(
     ensures out { K.faults report.old ≤ K.faults report.new }
     ensures tape { T.faults recorder.old ≤ T.faults recorder.new }
     ensures mute { result ≡ Err SinkFault.Out → Rose (K.faults report.old) (K.faults report.new) }
-    ensures lost { result ≡ Err SinkFault.Capture → Rose (T.faults recorder.old) (T.faults recorder.new) }
-    ensures count { CountWithin R.out_of_memory service.old tally.old → CountWithin R.out_of_memory service.new tally.new }
+    ensures lost { result ≡ Err SinkFault.Capture → Rose (T.faults recorder.old)
+        (T.faults recorder.new) }
+    ensures count { CountWithin R.out_of_memory service.old tally.old
+        → CountWithin R.out_of_memory service.new tally.new }
     ensures log { Extends (P.log ports.old) (P.log ports.new)
         (RoundEffect (R.words setup.now) (R.represents setup.now) result
-        (run_state service.old tally.old (P.last ports.old) (K.held report.old) (T.held recorder.old))
-        (run_state service.new tally.new (P.last ports.new) (K.held report.new) (T.held recorder.new))) }
+        (run_state service.old tally.old (P.last ports.old) (K.held report.old)
+        (T.held recorder.old))
+        (run_state service.new tally.new (P.last ports.new) (K.held report.new)
+        (T.held recorder.new))) }
 {
     let mut at = 0;
     while at < service.live.len() {

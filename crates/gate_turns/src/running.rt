@@ -1,6 +1,7 @@
 //! The service: turns, and how they end.
 
-ghost use Rattle.std.specs.Prelude.{◌≡◌, ◌≢◌, ◌⊎◌, ℕ, ◌+◌, ◌<◌, ◌≤◌, ◌^◌, ◌&&◌, ◌==◌, [], List, true, false, length, Result, Ok, Err, Option, Some, None, IfOk};
+ghost use Rattle.std.specs.Prelude.{◌≡◌, ◌≢◌, ◌⊎◌, ℕ, ◌+◌, ◌<◌, ◌≤◌, ◌^◌, ◌&&◌, ◌==◌, [], List};
+ghost use Rattle.std.specs.Prelude.{true, false, length, Result, Ok, Err, Option, Some, None, IfOk};
 ghost use Rattle.std.specs.Vec.{vec_len};
 ghost use Rattle.gate_outside.specs.Counts.{Rose};
 ghost use Rattle.gate_outside.specs.declared.log.LogEntry.{LogEntry};
@@ -42,15 +43,18 @@ fn read_buffer(alloc: Global) -> Result<Vec<u8>, Memory>
 
 /// The pairs asked for were accepted and have closed.
 fn is_all_done<R: Relay>(limits: &Limits, service: &Service<R>) -> bool
-    ensures { result ≡ (service.now.accepted == pair_limit limits.now) && is_empty service.now.live.items }
+    ensures { result ≡ (service.now.accepted == pair_limit limits.now)
+        && is_empty service.now.live.items }
 {
     let limit = limits.pairs.unwrap_or(u32::MAX);
     service.accepted == limit && service.live.is_empty()
 }
 
-/// What follows a turn: the next, or the end where the pairs asked for were accepted and have closed.
+/// What follows a turn: the next, or the end where the pairs asked for were accepted and have
+/// closed.
 fn end_or_go_on<R: Relay>(limits: &Limits, service: &Service<R>) -> Result<(), Served>
-    ensures { result ≡ end_of ((service.now.accepted == pair_limit limits.now) && is_empty service.now.live.items) }
+    ensures { result ≡ end_of ((service.now.accepted == pair_limit limits.now)
+        && is_empty service.now.live.items) }
 {
     if is_all_done(limits, service) {
         return Err(Served::PairsDone);
@@ -71,10 +75,13 @@ fn close_turn<P: Ports, R: Relay, T: Recorder>(
     ensures last { P.last ports.new ≡ P.last ports.old }
     ensures later { P.faults ports.old ≤ P.faults ports.new }
     ensures tape { T.faults recorder.old ≤ T.faults recorder.new }
-    ensures lost { result ≡ Err (Served.Fault Outside.Capture) → Rose (T.faults recorder.old) (T.faults recorder.new) }
-    ensures never { (result ≢ Err (Served.Fault Outside.Accept)) × (result ≢ Err (Served.Fault Outside.Out)) × (result ≢ Err Served.Memory) }
+    ensures lost { result ≡ Err (Served.Fault Outside.Capture)
+        → Rose (T.faults recorder.old) (T.faults recorder.new) }
+    ensures never { (result ≢ Err (Served.Fault Outside.Accept))
+        × (result ≢ Err (Served.Fault Outside.Out)) × (result ≢ Err Served.Memory) }
     ensures all { result ≡ Err Served.PairsDone → service.now.accepted ≡ pair_limit limits.now }
-    ensures log { (s : R.Setup) (held : Option (List ℕ)) → Extends (P.log ports.old) (P.log ports.new)
+    ensures log { (s : R.Setup) (held : Option (List ℕ)) → Extends (P.log ports.old)
+        (P.log ports.new)
         (CloseEffect (R.words s) (R.represents s) limits.now result
         (run_state service.now tally.now (P.last ports.old) held (T.held recorder.old))
         (run_state service.now tally.now (P.last ports.new) held (T.held recorder.new))) }
@@ -109,21 +116,28 @@ fn one_turn<P: Ports, R: Relay, K: Sink, T: Recorder>(
     requires some { 0 < length room.old }
     requires small { length room.old < 2 ^ 32 }
     ensures holds { Holds service.new (P.pairs ports.new) (P.ends ports.new) }
-    ensures limit { service.old.accepted ≤ pair_limit limits.now → service.new.accepted ≤ pair_limit limits.now }
+    ensures limit { service.old.accepted ≤ pair_limit limits.now
+        → service.new.accepted ≤ pair_limit limits.now }
     ensures onward { P.last ports.old ≤ P.last ports.new }
     ensures later { P.faults ports.old ≤ P.faults ports.new }
     ensures out { K.faults report.old ≤ K.faults report.new }
     ensures tape { T.faults recorder.old ≤ T.faults recorder.new }
-    ensures cause { result ≡ Err (Served.Fault Outside.Accept) → Rose (P.faults ports.old) (P.faults ports.new) }
-    ensures mute { result ≡ Err (Served.Fault Outside.Out) → Rose (K.faults report.old) (K.faults report.new) }
-    ensures lost { result ≡ Err (Served.Fault Outside.Capture) → Rose (T.faults recorder.old) (T.faults recorder.new) }
+    ensures cause { result ≡ Err (Served.Fault Outside.Accept)
+        → Rose (P.faults ports.old) (P.faults ports.new) }
+    ensures mute { result ≡ Err (Served.Fault Outside.Out) → Rose (K.faults report.old)
+        (K.faults report.new) }
+    ensures lost { result ≡ Err (Served.Fault Outside.Capture)
+        → Rose (T.faults recorder.old) (T.faults recorder.new) }
     ensures never { result ≢ Err Served.Memory }
     ensures all { result ≡ Err Served.PairsDone → service.new.accepted ≡ pair_limit limits.now }
-    ensures count { CountWithin R.out_of_memory service.old tally.old → CountWithin R.out_of_memory service.new tally.new }
+    ensures count { CountWithin R.out_of_memory service.old tally.old
+        → CountWithin R.out_of_memory service.new tally.new }
     ensures log { Extends (P.log ports.old) (P.log ports.new)
         (TurnEffect (R.words setup.now) (R.represents setup.now) limits.now result
-        (run_state service.old tally.old (P.last ports.old) (K.held report.old) (T.held recorder.old))
-        (run_state service.new tally.new (P.last ports.new) (K.held report.new) (T.held recorder.new))) }
+        (run_state service.old tally.old (P.last ports.old) (K.held report.old)
+        (T.held recorder.old))
+        (run_state service.new tally.new (P.last ports.new) (K.held report.new)
+        (T.held recorder.new))) }
 {
     if let Err(outside) = open_turn(
         alloc, setup, ports, report, recorder, tally, service, limits,
@@ -153,21 +167,28 @@ fn run<P: Ports, R: Relay, K: Sink, T: Recorder>(
     requires some { 0 < length room.old }
     requires small { length room.old < 2 ^ 32 }
     ensures holds { Holds service.new (P.pairs ports.new) (P.ends ports.new) }
-    ensures limit { service.old.accepted ≤ pair_limit limits.now → service.new.accepted ≤ pair_limit limits.now }
+    ensures limit { service.old.accepted ≤ pair_limit limits.now
+        → service.new.accepted ≤ pair_limit limits.now }
     ensures onward { P.last ports.old ≤ P.last ports.new }
     ensures later { P.faults ports.old ≤ P.faults ports.new }
     ensures out { K.faults report.old ≤ K.faults report.new }
     ensures tape { T.faults recorder.old ≤ T.faults recorder.new }
-    ensures cause { result ≡ Served.Fault Outside.Accept → Rose (P.faults ports.old) (P.faults ports.new) }
-    ensures mute { result ≡ Served.Fault Outside.Out → Rose (K.faults report.old) (K.faults report.new) }
-    ensures lost { result ≡ Served.Fault Outside.Capture → Rose (T.faults recorder.old) (T.faults recorder.new) }
+    ensures cause { result ≡ Served.Fault Outside.Accept → Rose (P.faults ports.old)
+        (P.faults ports.new) }
+    ensures mute { result ≡ Served.Fault Outside.Out → Rose (K.faults report.old)
+        (K.faults report.new) }
+    ensures lost { result ≡ Served.Fault Outside.Capture → Rose (T.faults recorder.old)
+        (T.faults recorder.new) }
     ensures never { result ≢ Served.Memory }
     ensures all { result ≡ Served.PairsDone → service.new.accepted ≡ pair_limit limits.now }
-    ensures count { CountWithin R.out_of_memory service.old tally.old → CountWithin R.out_of_memory service.new tally.new }
+    ensures count { CountWithin R.out_of_memory service.old tally.old
+        → CountWithin R.out_of_memory service.new tally.new }
     ensures log { Extends (P.log ports.old) (P.log ports.new)
         (RunEffect (R.words setup.now) (R.represents setup.now) limits.now result
-        (run_state service.old tally.old (P.last ports.old) (K.held report.old) (T.held recorder.old))
-        (run_state service.new tally.new (P.last ports.new) (K.held report.new) (T.held recorder.new))) }
+        (run_state service.old tally.old (P.last ports.old) (K.held report.old)
+        (T.held recorder.old))
+        (run_state service.new tally.new (P.last ports.new) (K.held report.new)
+        (T.held recorder.new))) }
 {
     for _ in 0..limits.turns {
         if let Err(how) = one_turn(
@@ -179,8 +200,9 @@ fn run<P: Ports, R: Relay, K: Sink, T: Recorder>(
     Served::TurnLimit
 }
 
-/// Serves the pairs that come, until `idle` answers `Stop`, the pairs or the turns of the limits were made, or the outside
-/// fails. It writes the report, and records each call. Answers how it ended, and the count of the pairs that ran out of memory.
+/// Serves the pairs that come, until `idle` answers `Stop`, the pairs or the turns of the limits
+/// were made, or the outside fails. It writes the report, and records each call. Answers how it
+/// ended, and the count of the pairs that ran out of memory.
 pub fn serve<P: Ports, R: Relay, K: Sink, T: Recorder>(
     alloc: Global,
     setup: &R::Setup,
@@ -196,7 +218,8 @@ pub fn serve<P: Ports, R: Relay, K: Sink, T: Recorder>(
     // All ends are shut.
     ensures ends { P.ends ports.new ≡ [] }
 
-    // At most as many pairs are accepted as may be, and all of them where the service ends for that.
+    // At most as many pairs are accepted as may be, and all of them where the service ends for
+    // that.
     ensures limit { P.pairs ports.new ≤ pair_limit limits.now }
     ensures all { result.0 ≡ Served.PairsDone → P.pairs ports.new ≡ pair_limit limits.now }
 
@@ -211,14 +234,18 @@ pub fn serve<P: Ports, R: Relay, K: Sink, T: Recorder>(
     ensures later { P.faults ports.old ≤ P.faults ports.new }
     ensures out { K.faults report.old ≤ K.faults report.new }
     ensures tape { T.faults recorder.old ≤ T.faults recorder.new }
-    ensures accept { result.0 ≡ Served.Fault Outside.Accept → Rose (P.faults ports.old) (P.faults ports.new) }
-    ensures report { result.0 ≡ Served.Fault Outside.Out → Rose (K.faults report.old) (K.faults report.new) }
-    ensures capture { result.0 ≡ Served.Fault Outside.Capture → Rose (T.faults recorder.old) (T.faults recorder.new) }
+    ensures accept { result.0 ≡ Served.Fault Outside.Accept → Rose (P.faults ports.old)
+        (P.faults ports.new) }
+    ensures report { result.0 ≡ Served.Fault Outside.Out → Rose (K.faults report.old)
+        (K.faults report.new) }
+    ensures capture { result.0 ≡ Served.Fault Outside.Capture
+        → Rose (T.faults recorder.old) (T.faults recorder.new) }
 
-    // Where the calls are told, each is the next one after those before it, out holds the report of them, and the recorder
-    // their spellings.
+    // Where the calls are told, each is the next one after those before it, out holds the report of
+    // them, and the recorder their spellings.
     ensures served { (base : List LogEntry) → P.log ports.old ≡ Some base
-        → HasHistory base (P.log ports.new) (IsServed (R.words setup.now) limits.now result.0 result.1
+        → HasHistory base (P.log ports.new) (IsServed
+        (R.words setup.now) limits.now result.0 result.1
         (K.held report.old) (K.held report.new) (T.held recorder.old) (T.held recorder.new)) }
 {
     let Ok(mut room) = read_buffer(alloc) else {

@@ -8,7 +8,8 @@ use gate_runs::Outside;
 /// What is counted while the pairs have their turn.
 #[derive(Clone, Copy, Debug, PartialEq, Eq)]
 pub struct Tally {
-    /// In this turn a pair was accepted, a byte was read or taken, an end ended or failed, or one was shut.
+    /// In this turn a pair was accepted, a byte was read or taken, an end ended or failed, or one
+    /// was shut.
     pub moved: bool,
     /// The pairs that ran out of memory so far. It stands still at its type's end.
     pub out_of_memory: u32,

@@ -1,6 +1,7 @@
 //! The beginning of a turn: the clock, and the next client.
 
-ghost use Rattle.std.specs.Prelude.{◌≡◌, ◌≢◌, ◌+◌, ◌<◌, ◌≤◌, ◌&&◌, ◌++◌, nat_lt, not, true, false, length, List, Result, Ok, Err, IfOk, OnOk, OnErr, is_ok};
+ghost use Rattle.std.specs.Prelude.{◌≡◌, ◌≢◌, ◌+◌, ◌<◌, ◌≤◌, ◌&&◌, ◌++◌, nat_lt, not, true, false};
+ghost use Rattle.std.specs.Prelude.{length, List, Result, Ok, Err, IfOk, OnOk, OnErr, is_ok};
 ghost use Rattle.std.specs.List.{AllByRecursion};
 ghost use Rattle.gate_outside.specs.Counts.{Rose};
 ghost use Rattle.gate_outside.specs.declared.log.LogEntry.{LogEntry};
@@ -11,7 +12,8 @@ ghost use Rattle.gate_runs.specs.Marks.{Extends, History};
 ghost use Rattle.gate_runs.specs.Next.{most_live, pair_limit};
 ghost use Rattle.gate_runs.specs.Report.{closed_line, lines_of, memory_line};
 ghost use Rattle.gate_turns.specs.Counting.{CountWithin, how_many_can};
-ghost use Rattle.gate_turns.specs.Openings.{Admitted, ClockEffect, HaveEntry, KeptAlso, OpenEffect, WelcomeEffect, numbered_sides, outcome};
+ghost use Rattle.gate_turns.specs.Openings.{Admitted, ClockEffect, HaveEntry, KeptAlso, OpenEffect};
+ghost use Rattle.gate_turns.specs.Openings.{WelcomeEffect, numbered_sides, outcome};
 ghost use Rattle.gate_turns.specs.Parts.{TellsBy, noted};
 ghost use Rattle.gate_turns.specs.Rounds.{Holds, IsIn, numbers, run_state};
 
@@ -45,8 +47,10 @@ fn tell_each<R: Relay>(live: &mut [Live<R>], moment: u64)
 fn tell_pairs<R: Relay>(service: &mut Service<R>, moment: u64)
     ensures accepted { service.new.accepted ≡ service.old.accepted }
     ensures ends { numbered_sides service.new.live.items ≡ numbered_sides service.old.live.items }
-    ensures count { how_many_can R.out_of_memory service.new.live.items ≡ how_many_can R.out_of_memory service.old.live.items }
-    ensures entry { (s : R.Setup) → HaveEntry (R.represents s) (Moment moment) service.old.live.items service.new.live.items }
+    ensures count { how_many_can R.out_of_memory service.new.live.items
+        ≡ how_many_can R.out_of_memory service.old.live.items }
+    ensures entry { (s : R.Setup) → HaveEntry (R.represents s)
+        (Moment moment) service.old.live.items service.new.live.items }
 {
     tell_each(service.live.as_mut_slice(), moment);
 }
@@ -57,7 +61,8 @@ fn tell_all_lines<R: Relay, K: Sink>(report: &mut K, live: &[Live<R>]) -> Result
     ensures mute { result ≡ Err SinkFault.Out → Rose (K.faults report.old) (K.faults report.new) }
     ensures never { result ≢ Err SinkFault.Capture }
     ensures told { (s : R.Setup) (n : History) → AllByRecursion (IsIn (R.represents s) n) live.now
-        → TellsBy result (K.held report.old) (K.held report.new) (lines_of (R.words s) (numbers live.now) n) }
+        → TellsBy result (K.held report.old) (K.held report.new) (lines_of (R.words s)
+        (numbers live.now) n) }
 {
     for pair in live.iter() {
         if !pair.relay.tell_lines(report) {
@@ -84,12 +89,16 @@ fn read_clock<P: Ports, R: Relay, K: Sink, T: Recorder>(
     ensures out { K.faults report.old ≤ K.faults report.new }
     ensures tape { T.faults recorder.old ≤ T.faults recorder.new }
     ensures mute { result ≡ Err SinkFault.Out → Rose (K.faults report.old) (K.faults report.new) }
-    ensures lost { result ≡ Err SinkFault.Capture → Rose (T.faults recorder.old) (T.faults recorder.new) }
-    ensures count { CountWithin R.out_of_memory service.old tally.old → CountWithin R.out_of_memory service.new tally.new }
+    ensures lost { result ≡ Err SinkFault.Capture → Rose (T.faults recorder.old)
+        (T.faults recorder.new) }
+    ensures count { CountWithin R.out_of_memory service.old tally.old
+        → CountWithin R.out_of_memory service.new tally.new }
     ensures log { (s : R.Setup) → Extends (P.log ports.old) (P.log ports.new)
         (ClockEffect (R.words s) (R.represents s) result
-        (run_state service.old tally.old (P.last ports.old) (K.held report.old) (T.held recorder.old))
-        (run_state service.new tally.new (P.last ports.new) (K.held report.new) (T.held recorder.new))) }
+        (run_state service.old tally.old (P.last ports.old) (K.held report.old)
+        (T.held recorder.old))
+        (run_state service.new tally.new (P.last ports.new) (K.held report.new)
+        (T.held recorder.new))) }
 {
     let ms = ports.now();
     let kept = recorder.record(Call::Now { ms }, &[]);
@@ -103,7 +112,8 @@ fn read_clock<P: Ports, R: Relay, K: Sink, T: Recorder>(
 
 /// Another pair may be accepted.
 fn has_room<R: Relay>(limits: &Limits, service: &Service<R>) -> bool
-    ensures room { result ≡ nat_lt (length service.now.live.items) most_live && nat_lt service.now.accepted (pair_limit limits.now) }
+    ensures room { result ≡ nat_lt (length service.now.live.items) most_live
+        && nat_lt service.now.accepted (pair_limit limits.now) }
     ensures limit { result ≡ true → service.now.accepted < 4294967295 }
     ensures within { result ≡ true → service.now.accepted < pair_limit limits.now }
 {
@@ -120,7 +130,8 @@ fn admit<R: Relay>(
     moment: u64,
 ) -> Result<(), Memory>
     ensures accepted { service.new.accepted ≡ service.old.accepted }
-    ensures ok { OnOk result (Admitted (R.represents setup.now) number moment service.old service.new) }
+    ensures ok { OnOk result (Admitted
+        (R.represents setup.now) number moment service.old service.new) }
     ensures err { OnErr result (service.new.live.items ≡ service.old.live.items) }
 {
     match R::new(alloc, setup, number, moment) {
@@ -145,7 +156,8 @@ fn take_in<R: Relay>(
     requires { service.old.accepted < 4294967295 }
     ensures accepted { service.new.accepted ≡ service.old.accepted + 1 }
     ensures tally { tally.new ≡ noted true (not (is_ok result)) tally.old }
-    ensures ok { OnOk result (Admitted (R.represents setup.now) number moment service.old service.new) }
+    ensures ok { OnOk result (Admitted
+        (R.represents setup.now) number moment service.old service.new) }
     ensures err { OnErr result (service.new.live.items ≡ service.old.live.items) }
 {
     service.count();
@@ -154,8 +166,8 @@ fn take_in<R: Relay>(
     taken
 }
 
-/// Shuts a pair that there was no memory for at its accept, and tells the lines of that. The call is kept unless that of the
-/// accept was lost.
+/// Shuts a pair that there was no memory for at its accept, and tells the lines of that. The call
+/// is kept unless that of the accept was lost.
 fn turn_away<P: Ports, K: Sink, T: Recorder>(
     ports: &mut P,
     report: &mut K,
@@ -170,9 +182,12 @@ fn turn_away<P: Ports, K: Sink, T: Recorder>(
     ensures out { K.faults report.old ≤ K.faults report.new }
     ensures tape { T.faults recorder.old ≤ T.faults recorder.new }
     ensures mute { result ≡ Err SinkFault.Out → Rose (K.faults report.old) (K.faults report.new) }
-    ensures lost { result ≡ Err SinkFault.Capture → kept ≡ true → Rose (T.faults recorder.old) (T.faults recorder.new) }
-    ensures told { TellsBy result (K.held report.old) (K.held report.new) (memory_line number ++ closed_line number) }
-    ensures kept { KeptAlso kept result (T.held recorder.old) (T.held recorder.new) (LogEntry.Shut number End.Client) }
+    ensures lost { result ≡ Err SinkFault.Capture → kept ≡ true
+        → Rose (T.faults recorder.old) (T.faults recorder.new) }
+    ensures told { TellsBy result (K.held report.old) (K.held report.new) (memory_line number
+        ++ closed_line number) }
+    ensures kept { KeptAlso kept result (T.held recorder.old) (T.held recorder.new)
+        (LogEntry.Shut number End.Client) }
     ensures log { Tells (P.log ports.old) (P.log ports.new) (LogEntry.Shut number End.Client) }
 {
     ports.shut(number, End::Client);
@@ -219,12 +234,16 @@ fn welcome<P: Ports, R: Relay, K: Sink, T: Recorder>(
     ensures out { K.faults report.old ≤ K.faults report.new }
     ensures tape { T.faults recorder.old ≤ T.faults recorder.new }
     ensures mute { result ≡ Err Outside.Out → Rose (K.faults report.old) (K.faults report.new) }
-    ensures lost { result ≡ Err Outside.Capture → Rose (T.faults recorder.old) (T.faults recorder.new) }
-    ensures count { CountWithin R.out_of_memory service.old tally.old → CountWithin R.out_of_memory service.new tally.new }
+    ensures lost { result ≡ Err Outside.Capture → Rose (T.faults recorder.old)
+        (T.faults recorder.new) }
+    ensures count { CountWithin R.out_of_memory service.old tally.old
+        → CountWithin R.out_of_memory service.new tally.new }
     ensures log { Extends (P.log ports.old) (P.log ports.new)
         (WelcomeEffect (R.words setup.now) (R.represents setup.now) result
-        (run_state service.old tally.old (P.last ports.old) (K.held report.old) (T.held recorder.old))
-        (run_state service.new tally.new (P.last ports.new) (K.held report.new) (T.held recorder.new))) }
+        (run_state service.old tally.old (P.last ports.old) (K.held report.old)
+        (T.held recorder.old))
+        (run_state service.new tally.new (P.last ports.new) (K.held report.new)
+        (T.held recorder.new))) }
 {
     let answer = ports.accept();
     let kept = recorder.record(Call::Accept { answer }, &[]);
@@ -252,19 +271,24 @@ pub fn open_turn<P: Ports, R: Relay, K: Sink, T: Recorder>(
 ) -> Result<(), Outside>
     requires holds { Holds service.old (P.pairs ports.old) (P.ends ports.old) }
     ensures holds { Holds service.new (P.pairs ports.new) (P.ends ports.new) }
-    ensures limit { service.old.accepted ≤ pair_limit limits.now → service.new.accepted ≤ pair_limit limits.now }
+    ensures limit { service.old.accepted ≤ pair_limit limits.now
+        → service.new.accepted ≤ pair_limit limits.now }
     ensures onward { P.last ports.old ≤ P.last ports.new }
     ensures later { P.faults ports.old ≤ P.faults ports.new }
     ensures cause { result ≡ Err Outside.Accept → Rose (P.faults ports.old) (P.faults ports.new) }
     ensures out { K.faults report.old ≤ K.faults report.new }
     ensures tape { T.faults recorder.old ≤ T.faults recorder.new }
     ensures mute { result ≡ Err Outside.Out → Rose (K.faults report.old) (K.faults report.new) }
-    ensures lost { result ≡ Err Outside.Capture → Rose (T.faults recorder.old) (T.faults recorder.new) }
-    ensures count { CountWithin R.out_of_memory service.old tally.old → CountWithin R.out_of_memory service.new tally.new }
+    ensures lost { result ≡ Err Outside.Capture → Rose (T.faults recorder.old)
+        (T.faults recorder.new) }
+    ensures count { CountWithin R.out_of_memory service.old tally.old
+        → CountWithin R.out_of_memory service.new tally.new }
     ensures log { Extends (P.log ports.old) (P.log ports.new)
         (OpenEffect (R.words setup.now) (R.represents setup.now) limits.now result
-        (run_state service.old tally.old (P.last ports.old) (K.held report.old) (T.held recorder.old))
-        (run_state service.new tally.new (P.last ports.new) (K.held report.new) (T.held recorder.new))) }
+        (run_state service.old tally.old (P.last ports.old) (K.held report.old)
+        (T.held recorder.old))
+        (run_state service.new tally.new (P.last ports.new) (K.held report.new)
+        (T.held recorder.new))) }
 {
     let moment = match read_clock(ports, report, recorder, tally, service) {
         Ok(moment) => moment,

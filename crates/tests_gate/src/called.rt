@@ -67,8 +67,8 @@ pub fn call_gateway(
     call_with(alloc, scenario, words, input, room, lost)
 }
 
-/// Calls the gateway for words that ask for a capture, and then to replay it: what the second call did,
-/// and how many calls the first made.
+/// Calls the gateway for words that ask for a capture, and then to replay it: what the second call
+/// did, and how many calls the first made.
 pub fn call_again(
     alloc: Global,
     scenario: &Scenario,

@@ -109,7 +109,8 @@ fn add_waiting(
     add_sent(alloc, names, scenario, peer, after, false, text)
 }
 
-/// The end that words speak of, and the words behind it: the container's where they begin with `up`.
+/// The end that words speak of, and the words behind it: the container's where they begin with
+/// `up`.
 pub fn end_first(words: &str) -> (End, &str) {
     match words.strip_prefix("up ") {
         Some(rest) => (End::Up, rest),

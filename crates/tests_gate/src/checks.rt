@@ -43,7 +43,8 @@ fn only_shuts_follow(run: &Run, at: usize) -> bool {
     true
 }
 
-/// Behind a place an end is shut, before anything is called for another pair, and nothing else is called for it.
+/// Behind a place an end is shut, before anything is called for another pair, and nothing else is
+/// called for it.
 fn only_its_shut_follows(run: &Run, at: usize, peer: Peer) -> bool {
     let mut is_shut = false;
     for k in 0..run.calls.len() {
@@ -90,7 +91,8 @@ fn goes_on(alloc: Global, run: &Run) -> Result<bool, Memory> {
     Ok(told && run.served == Served::Stopped)
 }
 
-/// After a failed read or write of an end, that end is shut at once, and nothing else is called for it.
+/// After a failed read or write of an end, that end is shut at once, and nothing else is called for
+/// it.
 fn end_failed(alloc: Global, run: &Run, at: usize, peer: Peer) -> Result<bool, Memory> {
     Ok(goes_on(alloc, run)? && only_its_shut_follows(run, at, peer))
 }
@@ -185,7 +187,8 @@ fn stops_at_once(run: &Run, lines: usize) -> bool {
     closed > told || told.saturating_add(1) == lines
 }
 
-/// What a report that failed holds is a front part of the whole report, and the service ended with its failure.
+/// What a report that failed holds is a front part of the whole report, and the service ended with
+/// its failure.
 fn is_front(alloc: Global, run: &Run, plain: &Run) -> Result<bool, Memory> {
     let (held, whole) = (run.report.as_slice(), plain.report.as_slice());
     let is_part = held.len() < whole.len() && held == part(whole, 0, held.len());
@@ -193,8 +196,8 @@ fn is_front(alloc: Global, run: &Run, plain: &Run) -> Result<bool, Memory> {
     Ok(is_part && ended && stops_at_once(run, lines_in(whole)) && is_all_shut(alloc, run)?)
 }
 
-/// Whether a play is as it must be in which a write of the report was to fail: each line is written, and where one write comes
-/// no more, no later one does.
+/// Whether a play is as it must be in which a write of the report was to fail: each line is
+/// written, and where one write comes no more, no later one does.
 fn write_is_right(
     alloc: Global,
     run: &Run,
@@ -209,8 +212,8 @@ fn write_is_right(
     Ok(goes_on && is_front(alloc, run, plain)?)
 }
 
-/// The report fails at each of its writes, and has room for fewer bytes than it needs: how many of its first writes failed
-/// at least, as many as it has lines, and what broke a rule.
+/// The report fails at each of its writes, and has room for fewer bytes than it needs: how many of
+/// its first writes failed at least, as many as it has lines, and what broke a rule.
 pub fn put_unreported(alloc: Global, scenario: &Scenario, out: &mut String) -> Result<(), Memory> {
     let plain = played(alloc, scenario, Way::Units)?;
     let lines = lines_in(plain.report.as_slice());

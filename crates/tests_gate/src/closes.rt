@@ -1,4 +1,5 @@
-//! The closes of both standards, made of their parts apart from the gateway's own (AMQP 0-9-1 4.2.3; AMQP 1.0 2.7.9).
+//! The closes of both standards, made of their parts apart from the gateway's own (AMQP 0-9-1
+//! 4.2.3; AMQP 1.0 2.7.9).
 
 use std::alloc::Global;
 use wire_base::{ByteText, Memory};

@@ -4,7 +4,7 @@ use crate::called::{Called, call_again, call_gateway, put_uncaptured};
 use crate::scenario::Scenario;
 use crate::telling::put_report;
 use gate_command::{Asked, Misplaced, Status, read_words};
-use gate_model::Setup;
+use gate_model::{Routes, Setup};
 use std::alloc::Global;
 use tests_support::{bytes_of, put_bytes, put_text};
 use wire_base::Memory;
@@ -43,7 +43,8 @@ fn words_of(alloc: Global, text: &str) -> Result<Option<Vec<String>>, Memory> {
     Ok(None)
 }
 
-/// What the pairs of a service share by the words between bars behind `serve`; `None` where they are told wrongly.
+/// What the pairs of a service share by the words between bars behind `serve`; `None` where they
+/// are told wrongly.
 pub fn setup_of(alloc: Global, text: &str) -> Result<Option<Setup>, Memory> {
     let mut words = Vec::new(alloc);
     words.push(String::from_str(alloc, "serve")?)?;
@@ -77,6 +78,17 @@ fn put_text_of(out: &mut String, title: &str, text: &[u8], plain: &str) -> Resul
     put_text(out, text)
 }
 
+/// The exchanges that clients may publish to, besides the default one.
+fn put_routes(out: &mut String, routes: &Routes) -> Result<(), Memory> {
+    for route in routes.as_slice() {
+        out.push_str(", exchange")?;
+        put_text(out, route.exchange.as_slice())?;
+        out.push_str(" at")?;
+        put_text(out, route.address.as_slice())?;
+    }
+    Ok(())
+}
+
 /// What the pairs share, where it is something else than where no word says it.
 fn put_setup(out: &mut String, setup: &Setup) -> Result<(), Memory> {
     put_text_of(out, ", named", setup.name().as_slice(), "amqp-gate")?;
@@ -84,7 +96,8 @@ fn put_setup(out: &mut String, setup: &Setup) -> Result<(), Memory> {
         out.push_str(", to the host")?;
         put_text(out, host.as_slice())?;
     }
-    put_text_of(out, ", virtual host", setup.vhost().as_slice(), "/")
+    put_text_of(out, ", virtual host", setup.vhost().as_slice(), "/")?;
+    put_routes(out, setup.routes())
 }
 
 /// What words ask for.
@@ -175,7 +188,8 @@ fn again_text(alloc: Global, scenario: &Scenario, text: &str) -> Result<Option<S
     Ok(Some(out))
 }
 
-/// What broke a rule where the capture failed; `None` where the words between bars are told wrongly.
+/// What broke a rule where the capture failed; `None` where the words between bars are told
+/// wrongly.
 fn uncaptured_text(
     alloc: Global,
     scenario: &Scenario,

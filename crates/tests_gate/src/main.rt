@@ -8,7 +8,7 @@
 //! | `P after N BYTES` | it sends a piece once it took N bytes |
 //! | `P takes N N ..`, `P often K N N ..` | its next writes take at most so many bytes, K times over |
 //! | `P up sends BYTES`, and so on | the same of the container of pair P |
-//! | `setup W|W` | the words between bars, behind `serve`, say what the pairs share: the gateway's name and the hosts |
+//! | `setup W|W` | the words between bars, behind `serve`, say what the pairs share: the gateway's name, the hosts and the exchanges |
 //! | `pairs N`, `idles N`, `step N` | how many clients come (1), how often `idle` answers (9), the milliseconds of a turn (1) |
 //! | `limit N`, `turns N`, `report N` | the pairs asked for (1; 0 for no limit), the turns (20,000), the bytes that the report may have |
 //! | `fault N` | call N of the run fails |

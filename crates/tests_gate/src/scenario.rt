@@ -3,7 +3,7 @@
 ghost use Rattle.gate_runs.specs.Form.{IsInForm};
 
 use crate::runs::{Peer, Run, play_into};
-use gate_model::Setup;
+use gate_model::{Routes, Setup};
 use gate_outside::{CallList, End, MemorySink, Piece, Room, Script};
 use gate_runs::Limits;
 use std::alloc::Global;
@@ -77,7 +77,7 @@ pub struct Scenario {
 fn plain_setup(alloc: Global) -> Result<Setup, Memory> {
     let name = ByteText::copy_of(alloc, b"amqp-gate")?;
     let vhost = ByteText::copy_of(alloc, b"/")?;
-    Ok(Setup::new(name, None, vhost))
+    Ok(Setup::new(name, None, vhost, Routes::empty(alloc)))
 }
 
 impl Scenario {
@@ -258,7 +258,8 @@ pub fn played(alloc: Global, scenario: &Scenario, way: Way) -> Result<Run, Memor
     failed(alloc, scenario, way, scenario.numbers.fault)
 }
 
-/// A play whose report has room for so many bytes, and of which the write with this number fails, if one is told.
+/// A play whose report has room for so many bytes, and of which the write with this number fails,
+/// if one is told.
 pub fn reported(
     alloc: Global,
     scenario: &Scenario,

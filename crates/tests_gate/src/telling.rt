@@ -81,7 +81,8 @@ fn put_moment(talk: &mut Talk, timed: bool) -> Result<(), Memory> {
     Ok(())
 }
 
-/// A write: a unit is told when it went wholly. Bytes that don't go on with a begun one are told at once.
+/// A write: a unit is told when it went wholly. Bytes that don't go on with a begun one are told at
+/// once.
 fn tell_write(
     alloc: Global,
     names: &Names,
@@ -215,7 +216,8 @@ pub fn put_report(out: &mut String, report: &[u8]) -> Result<(), Memory> {
     Ok(())
 }
 
-/// What went to the client of a pair, and to its container if the connection upstream was asked for.
+/// What went to the client of a pair, and to its container if the connection upstream was asked
+/// for.
 fn put_pair(
     alloc: Global,
     names: &Names,
@@ -236,7 +238,8 @@ fn put_pair(
     Ok(())
 }
 
-/// A play in one line: what each client and container got, the pairs that met want of memory, and the report.
+/// A play in one line: what each client and container got, the pairs that met want of memory, and
+/// the report.
 pub fn told(alloc: Global, names: &Names, run: &Run, timed: bool) -> Result<String, Memory> {
     let mut out = String::new(alloc);
     for pair in run.accepted(alloc)? {

@@ -1,5 +1,5 @@
-//! Replays of captures that an independent model of the gateway made. Each line of the input names a
-//! file; what `replay` says of it is printed behind the name.
+//! Replays of captures that an independent model of the gateway made. Each line of the input names
+//! a file; what `replay` says of it is printed behind the name.
 #![tactic(auto)]
 
 use gate_command::{CaptureSink, gateway};

@@ -60,7 +60,7 @@ impl Core {
         if self.out_of_memory || self.conn.is_closing() {
             return None;
         }
-        match first_open_ok(self.lives.all()) {
+        match first_open_ok(&self.lives) {
             Some(unit) => Some(unit),
             None => first_ok(self.lives.all(), &self.paths),
         }
@@ -99,7 +99,7 @@ impl Core {
     fn settled_ok(&self) -> Option<Reply>
         ensures { result ≡ first (channel_oks self.now) }
     {
-        first_close_ok(self.lives.all(), self.is_settled(), self.up.container())
+        first_close_ok(&self.lives, self.is_settled(), self.up.container())
     }
 
     /// The first channel.close-ok that may go.
@@ -127,7 +127,7 @@ impl Core {
         if !self.may_tell() {
             return None;
         }
-        first_close(self.lives.all(), self.is_settled(), self.up.container())
+        first_close(&self.lives, self.is_settled(), self.up.container())
     }
 
     /// The gateway's close, if nothing of the upstream end is waited for, or the last unit.
@@ -223,7 +223,7 @@ impl Core {
     fn first_begin(&self) -> Option<UpUnit>
         ensures { result ≡ first (begins self.now) }
     {
-        first_begin(self.lives.all(), self.up.container())
+        first_begin(&self.lives, self.up.container())
     }
 
     /// What decides whether the ends of sessions go.
@@ -302,7 +302,7 @@ impl Core {
     fn next_session_flow(&self) -> Option<UpUnit>
         ensures { result ≡ first (session_flows self.now) }
     {
-        first_flow(self.lives.all(), self.up.container())
+        first_flow(&self.lives, self.up.container())
     }
 
     /// The first frame of a transfer.

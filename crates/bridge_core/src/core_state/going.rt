@@ -132,6 +132,7 @@ impl Core {
             UpUnit::End(channel, _) => {
                 let life = self.lives.at(channel);
                 self.lives.set(channel, Life { why: None, ..life });
+                self.paths.lines_told();
                 self.paths.lose(channel);
             }
             UpUnit::OnSession(channel, unit) => self.give_link(channel, unit),

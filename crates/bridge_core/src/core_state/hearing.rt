@@ -1,42 +1,22 @@
 //! The units of the container.
 
-ghost use Rattle.std.specs.Prelude.{◌≡◌, ◌<◌, ◌||◌, ◌++◌, true, false, not, OnOk, OnErr, IfOk};
-ghost use Rattle.std.specs.Prelude.{IfSome, Some, None, is_some, length, slice_get, take};
-ghost use Rattle.gate_outside.specs.declared.ports.End.TheVariants.{Client, Up};
-ghost use Rattle.gate_model.specs.State.{Moment, Fed, Silent, Queued, TakenUp, Heard, Joined};
-ghost use Rattle.gate_model.specs.State.{Lost, Gave, Whole, OutOfMemory, new_state, step};
-ghost use Rattle.gate_model.specs.State.{none_pending, is_foreign, closes_at, close_if};
-ghost use Rattle.gate_model.specs.State.{is_limit_reached, has_left, last_pending, without};
-ghost use Rattle.gate_model.specs.State.{with_last, fail, fail_life, is_settled, lost_up, met};
-ghost use Rattle.gate_model.specs.State.{begun_session, came, carried, met_session};
-ghost use Rattle.gate_model.specs.State.{close_waits, conn_given, next_unit};
-ghost use Rattle.gate_model.specs.State.{opened, place, waits, with_meaning, with_session};
-ghost use Rattle.gate_model.specs.State.{fed_by, is_held, left, without_begin, without_life};
-ghost use Rattle.gate_model.specs.Due.{is_awaiting, is_beat_due, is_busy, is_connect_due};
-ghost use Rattle.gate_model.specs.Due.{is_shut_due, is_bad, is_unheard, is_overdue, can_leave};
-ghost use Rattle.gate_model.specs.Due.{can_take_up, channel_closes, channel_oks, client_rows};
-ghost use Rattle.gate_model.specs.Due.{begins, client_units, ends};
-ghost use Rattle.gate_model.specs.Due.{if_so, is_silent, last_closes, may_answer};
-ghost use Rattle.gate_model.specs.Due.{may_end, may_go, may_tell, open_oks, openings, rows_in};
-ghost use Rattle.gate_model.specs.Due.{session_flows, unless_out, up_rows};
-ghost use Rattle.gate_model.specs.Lives.{freed_life, life_at, lives_by, refusal_on, with_life};
-ghost use Rattle.gate_model.specs.Queue.{can_take};
-ghost use Rattle.gate_model.specs.Upstream.{awaited_of, condition_in, first};
+ghost use Rattle.std.specs.Prelude.{◌≡◌, ◌<◌, ◌||◌, true, false, OnOk, OnErr};
+ghost use Rattle.std.specs.Prelude.{Some, None, is_some};
+ghost use Rattle.gate_model.specs.State.{Heard};
+ghost use Rattle.gate_model.specs.State.{step};
+ghost use Rattle.gate_model.specs.State.{fail, fail_life, met};
+ghost use Rattle.gate_model.specs.State.{begun_session, came, met_session};
+ghost use Rattle.gate_model.specs.State.{opened, waits, with_meaning, with_session};
+ghost use Rattle.gate_model.specs.Lives.{life_at, refusal_on};
+ghost use Rattle.gate_model.specs.Upstream.{condition_in};
 ghost use Rattle.close_translate.specs.Conditions.{code_by};
-ghost use Rattle.machine_091.specs.Limits.{AreWithin};
-ghost use Rattle.machine_091.specs.Refusals.{refusal_with};
-ghost use Rattle.machine_091.specs.State.{awaits};
 ghost use Rattle.machine_091.specs.declared.unit.Want91.TheVariants as want;
 ghost use Rattle.machine_10.specs.Parts.{parts_of};
 ghost use Rattle.machine_10.specs.Transitions.{meaning_of};
 ghost use Rattle.performatives_10.specs.Fields.{maybe};
 ghost use Rattle.performatives_10.specs.View.{error_tree};
-ghost use Rattle.bridge_core.specs.Behind.{answering_units, closing_units, end_units, ended_units};
-ghost use Rattle.bridge_core.specs.Behind.{last_units, parting_units, session_units};
 ghost use Rattle.bridge_core.specs.Flows.{FlowsFit};
 ghost use Rattle.bridge_core.specs.Going.{KeepsGoing};
-ghost use Rattle.bridge_core.specs.Logins.{IsLoginOf, IsLoginWant};
-ghost use Rattle.bridge_core.specs.Offers.{with_next};
 ghost use Rattle.std.specs.Prelude.{is_some};
 ghost use Rattle.session_path.specs.Links.{named};
 ghost use Rattle.gate_model.specs.Paths.{fault_by, name_in, path_at, with_path};
@@ -46,38 +26,18 @@ ghost use Rattle.bridge_core.specs.LinkFaults.{link_fault, takes_memory_by, take
 ghost use Rattle.bridge_core.specs.LinkFaults.{unnamed};
 
 use super::Core;
-use crate::channel_rows::{
-    Parting, any_left, any_waits, first_attach, first_begin, first_close, first_close_ok,
-    first_confirm, first_detach, first_end, first_flow, first_link_flow, first_ok, first_open_ok,
-    first_settling, first_transfer, is_waiting_on,
-};
-use crate::lives::{Lives, old_life};
-use crate::moments::{closes_at, fed_by, is_overdue};
+use crate::lives::old_life;
 use crate::path_changes::{LinkFault, link_number, path_change};
-use crate::paths::{PathChange, Paths};
-use crate::queue::{Queue, channel_of, waits_for_all};
-use crate::replies::{last_pending, none_pending, refusal_on, refusal_with, with_last, without};
-use crate::requests::{Met, meet};
-use crate::sessions::{carried_by, fault_of, flow_sent};
-use crate::up_core::UpCore;
-use close_translate::{
-    CONNECTION_FORCED, INTERNAL_ERROR, NOT_ALLOWED, PRECONDITION_FAILED, RESOURCE_ERROR, Scope,
-    code_of, condition_of,
-};
-use gate_model::{
-    BEAT_PER_SECOND, CLOSING_LIMIT, HANDSHAKE_LIMIT, Life, Outgoing, Pending, Reply,
-    SILENCE_PER_SECOND, SentLast, SessionState, SessionUnit, UpUnit,
-};
-use gate_outside::{End, Linked};
-use gate_relay::{Loss, Side};
-use machine_10::{Awaited10, Conn10, Unit10, Want10, connection_laws};
-use machine_091::{Awaited91, Conn91, Phase91, Refusal, Stream91, Unit91, Want91};
-use methods_091::Method91;
+use crate::replies::refusal_on;
+use crate::sessions::{carried_by, fault_of};
+use close_translate::{INTERNAL_ERROR, NOT_ALLOWED, PRECONDITION_FAILED, Scope, code_of};
+use gate_model::Life;
+use gate_outside::End;
+use machine_10::{Unit10, Want10, connection_laws};
 use performatives_10::{Attach, Condition, Error10, Perf};
-use session_path::{AttachFault, PathOk, SessionPath};
+use session_path::AttachFault;
 use std::alloc::Global;
-use std::marker::Model;
-use wire_base::{ByteText, Memory};
+use wire_base::Memory;
 
 /// Lets go of what a unit of the container meant, once it is met.
 fn release(want: Want10) {

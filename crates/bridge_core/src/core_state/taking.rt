@@ -23,7 +23,7 @@ use crate::paths::PathChange;
 use crate::requests::{Met, meet};
 use close_translate::{Scope, condition_of};
 use gate_model::Life;
-use machine_091::{Refusal, Unit91, Want91};
+use machine_091::{Refusal, Unit91, Want91, connection_laws};
 use methods_091::Method91;
 use session_path::{PathOk, SessionPath};
 use std::alloc::Global;
@@ -107,7 +107,7 @@ impl Core {
         requires room { self.old.opened < 2 ^ 64 - 1 }
         requires want { is_publish want.now ≡ false }
         ensures ok { OnOk result (self.new ≡ record self.old {
-          paths = paths_by self.old.opened want.now self.old.paths;
+          paths = paths_by self.old.routes self.old.opened want.now self.old.paths;
           opened = self.old.opened + lives_opened want.now;
         }) }
         ensures err { OnErr result (self.new ≡ self.old) }
@@ -307,10 +307,11 @@ impl Core {
         ensures calm { self.new.out_of_memory ≡ self.old.out_of_memory }
         ensures kept { KeepsGoing self.old self.new }
     {
+        connection_laws();
         let foreign = is_foreign(&self.conn);
         let closing = self.conn.is_closing();
         let want = self.conn.take(alloc, unit)?;
-        let met = meet(alloc, &mut self.conn, want)?;
+        let met = meet(alloc, &self.routes, &mut self.conn, want)?;
         self.apply(alloc, closing, met, spare)?;
         self.count(foreign);
         Ok(())

@@ -1,7 +1,8 @@
 use Rattle.std.proofs.Common.{◌≡◌, Some, None, get_or, slice_get, sym, ◌∙◌, leb, true, false, arith}
 use Rattle.std.proofs.lemmas.Grind.{common_steps}
 use Rattle.std.proofs.lemmas.Bool.Decides.{nat_tests}
-use Rattle.gate_command.proofs.Numbers.{number_in-none, number_in-low, number_in-refused, number_in-parsed, first_byte}
+use Rattle.gate_command.proofs.Numbers.{number_in-none, number_in-low, number_in-refused}
+use Rattle.gate_command.proofs.Numbers.{number_in-parsed, first_byte}
 use Rattle.gate_command.proofs.options.number_of.Goals as goal
 
 pub returns-in_err-first-clause-number : goal.returns-in_err-first-clause-number

@@ -2,7 +2,8 @@ use Rattle.std.proofs.Common.{◌≡◌, Ok, Err, map, sym, ◌∙◌, ap}
 use Rattle.std.specs.String.{string_bytes}
 use Rattle.gate_command.specs.Reading.{asked_by, command_in}
 use Rattle.gate_command.specs.View.{request_of}
-use Rattle.gate_command.proofs.CommandLaws.{command_in-is, is-command_in, command_in-ceases, asked_in_form}
+use Rattle.gate_command.proofs.CommandLaws.{command_in-is, is-command_in, command_in-ceases}
+use Rattle.gate_command.proofs.CommandLaws.{asked_in_form}
 use Rattle.gate_command.proofs.words.read_words.Goals as goal
 
 pub asked_for-requires : goal.asked_for-requires

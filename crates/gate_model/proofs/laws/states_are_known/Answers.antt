@@ -1,4 +1,5 @@
-use Rattle.gate_model.proofs.Known.{conn_is, container_is, known, memory_is, moment_is, number_is, side_is}
+use Rattle.gate_model.proofs.Known.{conn_is, container_is, known, memory_is, moment_is, number_is}
+use Rattle.gate_model.proofs.Known.{side_is}
 use Rattle.gate_model.proofs.laws.states_are_known.Goals as goal
 
 pub returns : goal.returns

@@ -4,7 +4,8 @@ use Rattle.machine_091.specs.declared.unit.Unit91.TheVariants as unit
 use Rattle.wire_base.specs.declared.scan.Scan.TheVariants.{Whole, More, Bad}
 use Rattle.gate_model.specs.State.{OutOfMemory, Queued}
 use Rattle.bridge_core.specs.Offers.{BridgeState}
-use Rattle.gate_pair.proofs.Cuts.{Reading, bad_at, bad_cut_at, cut_at, more_at, read_start, scan_goes, start_cut_at, whole_at, whole_cut_at}
+use Rattle.gate_pair.proofs.Cuts.{Reading, bad_at, bad_cut_at, cut_at, more_at, read_start}
+use Rattle.gate_pair.proofs.Cuts.{scan_goes, start_cut_at, whole_at, whole_cut_at}
 use Rattle.gate_pair.proofs.Saids.{keeps_more}
 use Rattle.gate_pair.proofs.Sounds.{moved_stays, sound_more}
 use Rattle.gate_pair.proofs.cutting.cut_client.Goals as goal

@@ -4,7 +4,8 @@ use Rattle.machine_10.specs.declared.unit.Unit10.TheVariants as unit_10
 use Rattle.wire_base.specs.declared.scan.Scan.TheVariants.{Whole, More, Bad}
 use Rattle.gate_model.specs.State.{Heard, OutOfMemory}
 use Rattle.bridge_core.specs.Offers.{BridgeState}
-use Rattle.gate_pair.proofs.Cuts.{whole_at, more_at, bad_at, cut_at, scan_hears}
+use Rattle.gate_pair.proofs.Cuts.{bad_at, found_cut_at, is_found, more_at, scan_hears, whole_at}
+use Rattle.gate_pair.proofs.Cuts.{whole_found}
 use Rattle.gate_pair.proofs.Saids.{keeps_more}
 use Rattle.gate_pair.proofs.Sounds.{moved_stays, sound_more}
 use Rattle.gate_pair.proofs.cutting.cut_up.Goals as goal
@@ -29,7 +30,9 @@ returns-in-Ok-clause-sound c =
 
 pub returns-in-Err-answer-clause-err : goal.returns-in-Err-answer-clause-err
 returns-in-Err-answer-clause-err c =
-    cut_at Up c.args.bridge.now.state c.loop-i.bridge.state c.up_unit-answer.new.self.state c.args.bytes.now c.loop-i.at _ c.loop-i.invariant.runs
+    found_cut_at c.args.bridge.now.state c.loop-i.bridge.state c.up_unit-answer.new.self.state c.args.bytes.now c.loop-i.at c.loop-i.i c.loop-i-test.true c.loop-i.invariant.runs
+    (ap is_found (scan_hears c.loop-i.bridge.state c.awaits_up.result (drop c.loop-i.at c.args.bytes.now) c.split_at.result.1.now (Bad c.in-Ok-Bad.why) c.awaits_up.ensures c.split_at.ensures.back
+    (sym c.in-Ok-Bad.field-0-is ∙ c.in-Ok-Bad.ensures.exact)))
     (ap (λ (b : BridgeState). b.state) c.in-Err-answer.ensures.err)
 
 pub returns-in-Err-answer-clause-sound : goal.returns-in-Err-answer-clause-sound
@@ -39,7 +42,9 @@ returns-in-Err-answer-clause-sound c =
 
 pub returns-in-Err-up_unit-clause-err : goal.returns-in-Err-up_unit-clause-err
 returns-in-Err-up_unit-clause-err c =
-    cut_at Up c.args.bridge.now.state c.loop-i.bridge.state c.up_unit.new.self.state c.args.bytes.now c.loop-i.at _ c.loop-i.invariant.runs
+    found_cut_at c.args.bridge.now.state c.loop-i.bridge.state c.up_unit.new.self.state c.args.bytes.now c.loop-i.at c.loop-i.i c.loop-i-test.true c.loop-i.invariant.runs
+    (ap is_found (scan_hears c.loop-i.bridge.state c.awaits_up.result (drop c.loop-i.at c.args.bytes.now) c.split_at.result.1.now (Whole c.in-Ok-Whole.unit c.in-Ok-Whole.n) c.awaits_up.ensures c.split_at.ensures.back
+    (sym c.in-Ok-Whole.field-0-is ∙ c.in-Ok-Whole.ensures.exact)))
     (ap (λ (b : BridgeState). b.state) c.in-Err-up_unit.ensures.err)
 
 pub returns-in-Err-up_unit-clause-sound : goal.returns-in-Err-up_unit-clause-sound
@@ -49,7 +54,8 @@ returns-in-Err-up_unit-clause-sound c =
 
 pub returns-in-Err-clause-err : goal.returns-in-Err-clause-err
 returns-in-Err-clause-err c =
-    cut_at Up c.args.bridge.now.state c.loop-i.bridge.state c.run_out.new.self.state c.args.bytes.now c.loop-i.at _ c.loop-i.invariant.runs
+    found_cut_at c.args.bridge.now.state c.loop-i.bridge.state c.run_out.new.self.state c.args.bytes.now c.loop-i.at c.loop-i.i c.loop-i-test.true c.loop-i.invariant.runs
+    (whole_found c.loop-i.bridge.state c.awaits_up.result (drop c.loop-i.at c.args.bytes.now) c.split_at.result.1.now c.awaits_up.ensures c.split_at.ensures.back c.in-Err.ensures.memory)
     (ap (λ (b : BridgeState). b.state) c.run_out.ensures.step)
 
 pub returns-in-Err-clause-sound : goal.returns-in-Err-clause-sound

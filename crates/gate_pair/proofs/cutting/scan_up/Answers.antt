@@ -9,4 +9,4 @@ returns-in-Header-clause-within c =
     subst (IsWithin c.args.bytes.now) (sym c.scan_greeting_up.ensures) (up_within (awaited.Header c.in-Header.kind) c.args.bytes.now)
 
 pub returns-in-Frame-clause-within : goal.returns-in-Frame-clause-within
-returns-in-Frame-clause-within c = up_within_ok awaited.Frame c.args.bytes.now c.scan_next_up.result c.scan_next_up.ensures
+returns-in-Frame-clause-within c = up_within_ok awaited.Frame c.args.bytes.now c.scan_next_up.result c.scan_next_up.ensures.exact

@@ -6,7 +6,8 @@ use Rattle.gate_turns.specs.declared.live.Live.{Live}
 use Rattle.gate_turns.specs.Endings.{ClosingEffect, closing_state}
 use Rattle.gate_turns.specs.Rounds.{OwnsEnds}
 use Rattle.gate_runs.specs.Marks.{Extends}
-use Rattle.gate_turns.proofs.Closings.{answer_then, closing_then, fault_then, none_left, owns_none, owns_rest}
+use Rattle.gate_turns.proofs.Closings.{answer_then, closing_then, fault_then, none_left, owns_none}
+use Rattle.gate_turns.proofs.Closings.{owns_rest}
 use Rattle.gate_turns.proofs.closing.shut_all.Goals as goal
 
 pub loop-live-preserved : goal.loop-live-preserved

@@ -1,4 +1,5 @@
-use Rattle.gate_turns.proofs.WriteMarks.{then_log, ends_log, stops_log, to_log, to_again, to_end, to_shut}
+use Rattle.gate_turns.proofs.WriteMarks.{then_log, ends_log, stops_log, to_log, to_again, to_end}
+use Rattle.gate_turns.proofs.WriteMarks.{to_shut}
 use Rattle.gate_turns.proofs.part.write_back.Goals as goal
 
 pub returns-in-Ok-clause-log : goal.returns-in-Ok-clause-log

@@ -1,6 +1,7 @@
 use Rattle.std.proofs.Common.{◌<◌, length, refl, rules, sym, ◌∙◌, arith}
 use Rattle.gate_turns.proofs.Countings.{how_many_left, how_many_set}
-use Rattle.gate_turns.proofs.RoundMarks.{leaves_after, owns_after, owns_this, pair_visited, split_at, stays_after}
+use Rattle.gate_turns.proofs.RoundMarks.{leaves_after, owns_after, owns_this, pair_visited}
+use Rattle.gate_turns.proofs.RoundMarks.{split_at, stays_after}
 use Rattle.gate_turns.proofs.round.turn_at.Goals as goal
 
 pub returns-then-lives-clause-holds : goal.returns-then-lives-clause-holds

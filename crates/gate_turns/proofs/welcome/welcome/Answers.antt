@@ -7,7 +7,8 @@ use Rattle.gate_relay.specs.Entries.{Began}
 use Rattle.gate_turns.specs.Openings.{outcome}
 use Rattle.gate_turns.specs.Represents.{Represents}
 use Rattle.gate_turns.specs.Rounds.{run_state}
-use Rattle.gate_turns.proofs.AcceptMarks.{away_log, failed_log, failed_outcome, kept_accept, new_agrees, none_agrees, quiet_log}
+use Rattle.gate_turns.proofs.AcceptMarks.{away_log, failed_log, failed_outcome, kept_accept}
+use Rattle.gate_turns.proofs.AcceptMarks.{new_agrees, none_agrees, quiet_log}
 use Rattle.gate_turns.proofs.NewPairs.{AreBelow, are_below, holds_new, holds_same}
 use Rattle.gate_turns.proofs.welcome.welcome.Goals as goal
 

@@ -1,19 +1,16 @@
-use Rattle.std.proofs.Common.{◌+◌, ◌<◌, ◌∙◌, Bool, Some, if◌then◌else◌, ap, arith, drop, length, sym}
-use Rattle.gate_model.specs.Queue.{place_from}
-use Rattle.gate_model.specs.State.{State, waits}
-use Rattle.bridge_core.proofs.Places.{place_here}
+use Rattle.std.proofs.Common.{◌∙◌, ap, sym}
+use Rattle.machine_091.specs.State.{is_opening}
+use Rattle.gate_model.specs.Paths.{is_laden}
+use Rattle.gate_model.specs.State.{State}
+use Rattle.bridge_core.proofs.Places.{none_while_laden, none_while_opening}
 use Rattle.bridge_core.proofs.core_state.Core.place.Goals as goal
+use Rattle.bridge_core.proofs.core_state.Core.place.Goals.{else-is_opening, then-is_opening}
 
-pub loop-i-preserved : goal.loop-i-preserved
-loop-i-preserved c =
-    let w : State = c.args.self.now in
-    let inside : c.loop-i.i < length w.queue = omega (arith, c.loop-i-test.true, c.len-i-end.ensures, ap (λ (x : State). length x.queue) c.self.view_is) in
-    c.loop-i.invariant ∙ place_here (waits w) w.queue c.loop-i.i c.can_take.result c.can_take.ensures inside
-    ∙ ap (λ (b : Bool). if b then Some c.loop-i.i else place_from (waits w) w.queue (c.loop-i.i + 1) (drop (c.loop-i.i + 1) w.queue)) c.if-can_take.false
-
-pub returns-then-can_take-clause-place : goal.returns-then-can_take-clause-place
-returns-then-can_take-clause-place c =
-    let w : State = c.args.self.now in
-    let inside : c.loop-i.i < length w.queue = omega (arith, c.loop-i-test.true, c.len-i-end.ensures, ap (λ (x : State). length x.queue) c.self.view_is) in
-    sym (c.loop-i.invariant ∙ place_here (waits w) w.queue c.loop-i.i c.can_take.result c.can_take.ensures inside
-    ∙ ap (λ (b : Bool). if b then Some c.loop-i.i else place_from (waits w) w.queue (c.loop-i.i + 1) (drop (c.loop-i.i + 1) w.queue)) c.if-can_take.true)
+pub returns-then-is_laden-clause-place : goal.returns-then-is_laden-clause-place
+returns-then-is_laden-clause-place c =
+    elim c.if-is_opening.branch [
+      | then-is_opening w ↦ sym (none_while_opening c.args.self.now
+          (ap (λ (x : State). is_opening x.conn) (sym c.self.view_is) ∙ sym c.is_opening.ensures ∙ w.if-is_opening.true))
+      | else-is_opening w ↦ sym (none_while_laden c.args.self.now
+          (ap (λ (x : State). is_laden x.paths) (sym c.self.view_is) ∙ sym w.is_laden.ensures ∙ sym w.value-is ∙ c.if-is_laden.true))
+    ]

@@ -8,24 +8,24 @@ use Rattle.bridge_core.proofs.queue.Queue.remove.Goals as goal
 pub returns-clause-unit : goal.returns-clause-unit
 returns-clause-unit c =
     ap (λ (us : List Unit91). slice_get us c.args.place) (sym c.self.view_is)
-    ∙ stands_at c.args.place c.self.inside.units.items c.remove-unit.result (subst (λ (us : List Unit91). c.args.place < length us) (sym c.self.view_is) c.requires)
-    ∙ ap Some (sym c.remove-unit.ensures.value)
+    ∙ stands_at c.args.place c.self.inside.units.items c.in-Some.unit (subst (λ (us : List Unit91). c.args.place < length us) (sym c.self.view_is) c.requires)
+    ∙ ap Some (sym c.in-Some.ensures.value)
 
 pub returns-clause-rest : goal.returns-clause-rest
-returns-clause-rest c = c.remove-unit.ensures.items ∙ sym (taken_out c.args.place c.self.inside.units.items) ∙ ap (removed c.args.place) c.self.view_is
+returns-clause-rest c = c.in-Some.ensures.items ∙ sym (taken_out c.args.place c.self.inside.units.items) ∙ ap (removed c.args.place) c.self.view_is
 
 pub overflow_sub-self : goal.overflow_sub-self
 overflow_sub-self c =
-    let unit : slice_get c.self.inside.units.items c.args.place ≡ Some c.remove-unit.result =
-    stands_at c.args.place c.self.inside.units.items c.remove-unit.result (subst (λ (us : List Unit91). c.args.place < length us) (sym c.self.view_is) c.requires)
-    ∙ ap Some (sym c.remove-unit.ensures.value) in
-    omega (arith, payloads_less c.args.place c.self.inside.units.items c.remove-unit.result unit, c.self.invariant, c.payload_of.ensures)
+    let unit : slice_get c.self.inside.units.items c.args.place ≡ Some c.in-Some.unit =
+    stands_at c.args.place c.self.inside.units.items c.in-Some.unit (subst (λ (us : List Unit91). c.args.place < length us) (sym c.self.view_is) c.requires)
+    ∙ ap Some (sym c.in-Some.ensures.value) in
+    omega (arith, payloads_less c.args.place c.self.inside.units.items c.in-Some.unit unit, c.self.invariant, c.payload_of.ensures)
 
 pub invariant_of-self : goal.invariant_of-self
 invariant_of-self c =
-    let unit : slice_get c.self.inside.units.items c.args.place ≡ Some c.remove-unit.result =
-    stands_at c.args.place c.self.inside.units.items c.remove-unit.result (subst (λ (us : List Unit91). c.args.place < length us) (sym c.self.view_is) c.requires)
-    ∙ ap Some (sym c.remove-unit.ensures.value) in
-    let rest : c.remove-unit.new.self.items ≡ removed c.args.place c.self.inside.units.items =
-    c.remove-unit.ensures.items ∙ sym (taken_out c.args.place c.self.inside.units.items) in
-    omega (arith, payloads_less c.args.place c.self.inside.units.items c.remove-unit.result unit, c.self.invariant, c.payload_of.ensures, ap payloads rest)
+    let unit : slice_get c.self.inside.units.items c.args.place ≡ Some c.in-Some.unit =
+    stands_at c.args.place c.self.inside.units.items c.in-Some.unit (subst (λ (us : List Unit91). c.args.place < length us) (sym c.self.view_is) c.requires)
+    ∙ ap Some (sym c.in-Some.ensures.value) in
+    let rest : c.remove.new.self.items ≡ removed c.args.place c.self.inside.units.items =
+    c.in-Some.ensures.items ∙ sym (taken_out c.args.place c.self.inside.units.items) in
+    omega (arith, payloads_less c.args.place c.self.inside.units.items c.in-Some.unit unit, c.self.invariant, c.payload_of.ensures, ap payloads rest)

@@ -1,4 +1,4 @@
-use Rattle.std.proofs.Common.{ℕ, ◌∙◌, ap, drop, subst, sym}
+use Rattle.std.proofs.Common.{ℕ, ◌∙◌, ap, drop, subst, sym, true}
 use Rattle.gate_pair.specs.PairStates.{Half, IsSound}
 use Rattle.gate_pair.proofs.Saids.{heard_failed, heard_in, heard_lost, same_half}
 use Rattle.gate_pair.proofs.pair.Pair.came_up.Goals as goal
@@ -17,17 +17,17 @@ invariant_of-self-in-Err-cut_up c =
 pub returns-in-Ok-cut_up-clause-ok : goal.returns-in-Ok-cut_up-clause-ok
 returns-in-Ok-cut_up-clause-ok c =
     heard_in c.unread.result.now c.args.bytes.now c.in-Ok-cut_up.at c.self.inside.bridge c.cut_up.new.bridge c.self.inside.client c.self.inside.up c.discard.new.self
-    c.args.self.now c.self.view_is (c.unread.ensures ∙ ap (λ (x : Half). x.unread) c.in-Ok.ensures.ok)
+    c.self.inside.telling true c.args.self.now c.self.view_is (c.unread.ensures ∙ ap (λ (x : Half). x.unread) c.in-Ok.ensures.ok)
     c.in-Ok-cut_up.ensures.ok c.cut_up.ensures.kept
     (c.discard.ensures ∙ same_half _ _ _ _ (ap (drop c.in-Ok-cut_up.at) (sym c.unread.ensures)) (ap (λ (x : Half). x.at) c.in-Ok.ensures.ok))
 
 pub returns-in-Err-cut_up-clause-err : goal.returns-in-Err-cut_up-clause-err
 returns-in-Err-cut_up-clause-err c =
     heard_failed c.unread.result.now c.args.bytes.now c.self.inside.bridge c.cut_up.new.bridge c.self.inside.client c.self.inside.up c.append.new.self
-    c.args.self.now c.forget.new.self c.self.view_is (c.unread.ensures ∙ ap (λ (x : Half). x.unread) c.in-Ok.ensures.ok) (ap (λ (x : Half). x.at) c.in-Ok.ensures.ok)
+    c.self.inside.telling c.args.self.now c.forget.new.self c.self.view_is (c.unread.ensures ∙ ap (λ (x : Half). x.unread) c.in-Ok.ensures.ok) (ap (λ (x : Half). x.at) c.in-Ok.ensures.ok)
     c.forget.ensures c.in-Err-cut_up.ensures.err c.cut_up.ensures.kept
 
 pub returns-in-Err-clause-err : goal.returns-in-Err-clause-err
 returns-in-Err-clause-err c =
     heard_lost c.args.bytes.now c.self.inside.bridge c.run_out.new.self c.self.inside.client c.self.inside.up c.append.new.self
-    c.args.self.now c.forget-in-Err.new.self c.self.view_is c.in-Err.ensures.err c.forget-in-Err.ensures c.run_out.ensures.step c.run_out.ensures.kept
+    c.self.inside.telling c.args.self.now c.forget-in-Err.new.self c.self.view_is c.in-Err.ensures.err c.forget-in-Err.ensures c.run_out.ensures.step c.run_out.ensures.kept

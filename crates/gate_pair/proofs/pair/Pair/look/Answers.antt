@@ -16,8 +16,8 @@ pub returns-in-Ok-clause-ready : goal.returns-in-Ok-clause-ready
 returns-in-Ok-clause-ready c =
     let s = c.args.setup.now in
     let b : BridgeState = c.self.inside.bridge in
-    let p : PairState = pair_of b c.self.inside.client c.self.inside.up in
+    let p : PairState = pair_of b c.self.inside.client c.self.inside.up c.self.inside.telling in
     let free = sym c.is_busy.ensures ∙ c.if-is_busy.false in
-    ap (λ (d : BridgeState). is_ready (pair_of d c.self.inside.client c.self.inside.up) c.args.end) c.in-Ok.ensures.ok
-    ∙ look_ready s c.args.end b c.self.inside.client c.self.inside.up free
+    ap (λ (d : BridgeState). is_ready (pair_of d c.self.inside.client c.self.inside.up c.self.inside.telling) c.args.end) c.in-Ok.ensures.ok
+    ∙ look_ready s c.args.end b c.self.inside.client c.self.inside.up c.self.inside.telling free
     ∙ ap (λ (q : PairState). offered s c.args.end q.bridge.state (said_stream c.args.end (said q)).rest) c.self.view_is

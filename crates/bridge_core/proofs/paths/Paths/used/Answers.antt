@@ -1,0 +1,12 @@
+use Rattle.std.proofs.Common.{◌∙◌, ap, take}
+use Rattle.gate_model.specs.Paths.{bytes_in, held_in}
+use Rattle.bridge_core.proofs.Tops.{bytes_below, held_below}
+use Rattle.bridge_core.proofs.paths.Paths.used.Goals as goal
+
+pub returns-clause-count : goal.returns-clause-count
+returns-clause-count c =
+    ap (λ n. held_in (take n c.self.inside.paths)) c.from.ensures ∙ held_below c.self.inside.top c.self.inside.paths c.self.invariant ∙ ap held_in c.self.view_is
+
+pub returns-clause-bytes : goal.returns-clause-bytes
+returns-clause-bytes c =
+    ap (λ n. bytes_in (take n c.self.inside.paths)) c.from.ensures ∙ bytes_below c.self.inside.top c.self.inside.paths c.self.invariant ∙ ap bytes_in c.self.view_is
