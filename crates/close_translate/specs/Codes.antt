@@ -1,8 +1,15 @@
--- The names of the reply codes of AMQP 0-9-1 (reference 1.1), with RabbitMQ's NO_ROUTE, that the gateway uses.
+-- The names of the reply codes of AMQP 0-9-1 (reference 1.1), with RabbitMQ's NO_ROUTE, that the
+-- gateway uses.
 use Rattle.std.specs.Prelude.{ℕ, ◌==◌, if◌then◌else◌, List, [], ◌∷◌, codes}
-use Rattle.close_translate.specs.declared.codes.TheConstants.{CONTENT_TOO_LARGE, NO_ROUTE, CONNECTION_FORCED, INVALID_PATH, ACCESS_REFUSED, NOT_FOUND}
-use Rattle.close_translate.specs.declared.codes.TheConstants.{RESOURCE_LOCKED, PRECONDITION_FAILED, FRAME_ERROR, SYNTAX_ERROR, COMMAND_INVALID, CHANNEL_ERROR}
-use Rattle.close_translate.specs.declared.codes.TheConstants.{UNEXPECTED_FRAME, RESOURCE_ERROR, NOT_ALLOWED, NOT_IMPLEMENTED, INTERNAL_ERROR}
+use Rattle.close_translate.specs.declared.codes.TheConstants.{CONTENT_TOO_LARGE, NO_ROUTE}
+use Rattle.close_translate.specs.declared.codes.TheConstants.{CONNECTION_FORCED, INVALID_PATH}
+use Rattle.close_translate.specs.declared.codes.TheConstants.{ACCESS_REFUSED, NOT_FOUND}
+use Rattle.close_translate.specs.declared.codes.TheConstants.{RESOURCE_LOCKED, PRECONDITION_FAILED}
+use Rattle.close_translate.specs.declared.codes.TheConstants.{FRAME_ERROR, SYNTAX_ERROR}
+use Rattle.close_translate.specs.declared.codes.TheConstants.{COMMAND_INVALID, CHANNEL_ERROR}
+use Rattle.close_translate.specs.declared.codes.TheConstants.{UNEXPECTED_FRAME, RESOURCE_ERROR}
+use Rattle.close_translate.specs.declared.codes.TheConstants.{NOT_ALLOWED, NOT_IMPLEMENTED}
+use Rattle.close_translate.specs.declared.codes.TheConstants.{INTERNAL_ERROR}
 
 -- a row of the table: the code and its name
 abbrev pub names : List (ℕ × List ℕ)

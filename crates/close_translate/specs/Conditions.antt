@@ -1,9 +1,16 @@
--- The error conditions of AMQP 1.0 (2.8.15 to 2.8.18) and the reply codes of AMQP 0-9-1 for them, of a channel and of a connection.
+-- The error conditions of AMQP 1.0 (2.8.15 to 2.8.18) and the reply codes of AMQP 0-9-1 for them,
+-- of a channel and of a connection.
 use Rattle.std.specs.Prelude.{ℕ, ◌==◌, if◌then◌else◌, List, [], ◌∷◌, Option, None, Some, codes}
 use Rattle.std.specs.Str.{bytes_eq}
-use Rattle.close_translate.specs.declared.codes.TheConstants.{ACCESS_REFUSED, CONNECTION_FORCED, FRAME_ERROR, INTERNAL_ERROR, NOT_ALLOWED}
-use Rattle.close_translate.specs.declared.codes.TheConstants.{NOT_FOUND, NOT_IMPLEMENTED, PRECONDITION_FAILED, RESOURCE_ERROR, RESOURCE_LOCKED}
-use Rattle.close_translate.specs.declared.codes.TheConstants.{SYNTAX_ERROR, CHANNEL_ERROR, COMMAND_INVALID, CONTENT_TOO_LARGE, UNEXPECTED_FRAME}
+use Rattle.close_translate.specs.declared.codes.TheConstants.{ACCESS_REFUSED, CONNECTION_FORCED}
+use Rattle.close_translate.specs.declared.codes.TheConstants.{FRAME_ERROR, INTERNAL_ERROR}
+use Rattle.close_translate.specs.declared.codes.TheConstants.{NOT_ALLOWED}
+use Rattle.close_translate.specs.declared.codes.TheConstants.{NOT_FOUND, NOT_IMPLEMENTED}
+use Rattle.close_translate.specs.declared.codes.TheConstants.{PRECONDITION_FAILED, RESOURCE_ERROR}
+use Rattle.close_translate.specs.declared.codes.TheConstants.{RESOURCE_LOCKED}
+use Rattle.close_translate.specs.declared.codes.TheConstants.{SYNTAX_ERROR, CHANNEL_ERROR}
+use Rattle.close_translate.specs.declared.codes.TheConstants.{COMMAND_INVALID, CONTENT_TOO_LARGE}
+use Rattle.close_translate.specs.declared.codes.TheConstants.{UNEXPECTED_FRAME}
 use Rattle.close_translate.specs.declared.conditions.Replies.{Replies}
 use Rattle.close_translate.specs.declared.conditions.Scope.{Scope}
 use Rattle.close_translate.specs.declared.conditions.Scope.TheVariants.{Channel, Connection}
@@ -32,7 +39,8 @@ rows =
 abbrev pub codes_in : List (List ℕ × ℕ × ℕ) → List ℕ → Replies
 codes_in [] condition = record { channel = PRECONDITION_FAILED; connection = INTERNAL_ERROR }
 codes_in (row ∷ more) condition =
-    if bytes_eq condition row.0 then record { channel = row.1; connection = row.2 } else codes_in more condition
+    if bytes_eq condition row.0 then record { channel = row.1; connection = row.2 }
+    else codes_in more condition
 
 abbrev pub codes_of : List ℕ → Replies
 codes_of condition = codes_in rows condition
@@ -51,7 +59,8 @@ code_by condition scope = code_in (codes_by condition) scope
 
 -- ---- the other way
 
--- a row of the table: the code of a refusal, and the condition with which a session ends or a connection closes for it
+-- a row of the table: the code of a refusal, and the condition with which a session ends or a
+-- connection closes for it
 abbrev pub conditions : List (ℕ × Condition)
 conditions =
     (CONTENT_TOO_LARGE, condition.MessageSizeExceeded)

@@ -54,8 +54,8 @@ pub const NOT_IMPLEMENTED: u16 = 540;
 /// Any other error.
 pub const INTERNAL_ERROR: u16 = 541;
 
-/// The name of a reply code (AMQP 0-9-1 reference 1.1), as it stands in the reply text. A code that isn't among those that the
-/// gateway uses is named as an internal error.
+/// The name of a reply code (AMQP 0-9-1 reference 1.1), as it stands in the reply text. A code that
+/// isn't among those that the gateway uses is named as an internal error.
 pub fn code_name(code: u16) -> &'static [u8]
     ensures { result.now ≡ name_of code }
 {

@@ -76,8 +76,9 @@ fn codes_of(condition: &[u8]) -> Replies
     }
 }
 
-/// The reply code with which a channel or a connection of AMQP 0-9-1 closes where its session or connection of AMQP 1.0 ended
-/// with this error condition (AMQP 1.0 2.8.15 to 2.8.18), or without one.
+/// The reply code with which a channel or a connection of AMQP 0-9-1 closes where its session or
+/// connection of AMQP 1.0 ended with this error condition (AMQP 1.0 2.8.15 to 2.8.18), or without
+/// one.
 pub fn code_of(condition: Option<&[u8]>, scope: Scope) -> u16
     ensures { result ≡ code_by (option_map (λ name. name.now) condition.entry) scope }
 {
@@ -91,8 +92,8 @@ pub fn code_of(condition: Option<&[u8]>, scope: Scope) -> u16
     }
 }
 
-/// The error condition with which the gateway ends a session or closes a connection of AMQP 1.0 where it refused the client with
-/// this reply code (AMQP 1.0 2.8.15 to 2.8.18).
+/// The error condition with which the gateway ends a session or closes a connection of AMQP 1.0
+/// where it refused the client with this reply code (AMQP 1.0 2.8.15 to 2.8.18).
 pub fn condition_of(code: u16) -> Condition
     ensures { result ≡ condition_of code }
 {

@@ -1,5 +1,5 @@
-//! The codes of AMQP 0-9-1 with which a channel or a connection closes: their names, the code for an error condition of
-//! AMQP 1.0, and the condition for a code.
+//! The codes of AMQP 0-9-1 with which a channel or a connection closes: their names, the code for
+//! an error condition of AMQP 1.0, and the condition for a code.
 #![tactic(auto)]
 
 mod codes;

@@ -1,10 +1,12 @@
 -- Contents that are put together, by the headers and the payloads that were given.
-use Rattle.std.proofs.Common.{◌≡◌, ℕ, ◌+◌, ◌-◌, ◌≤◌, List, [], ◌∷◌, ◌++◌, length, Result, Ok, Err, IfOk, refl, sym, ap, subst, ◌∙◌, arith}
+use Rattle.std.proofs.Common.{◌≡◌, ℕ, ◌+◌, ◌-◌, ◌≤◌, List, [], ◌∷◌, ◌++◌, length, Result, Ok, Err}
+use Rattle.std.proofs.Common.{IfOk, refl, sym, ap, subst, ◌∙◌, arith}
 use Rattle.std.proofs.lemmas.List.{append-nil, length-append}
 use Rattle.std.proofs.lemmas.List.Folds.{concat-append}
 use Rattle.std.specs.List.{concat}
 use Rattle.content_091.specs.Grammar.{IsHeader}
-use Rattle.content_091.specs.Assembling.{header_with, IsContent, HasTaken, Starts, with_bytes, Adds, Grows, Joins}
+use Rattle.content_091.specs.Assembling.{header_with, IsContent, HasTaken, Starts, with_bytes, Adds}
+use Rattle.content_091.specs.Assembling.{Grows, Joins}
 use Rattle.wire_base.specs.declared.memory.Memory.{Memory}
 use Rattle.wire_base.specs.declared.scan.At.{At}
 use Rattle.content_091.specs.declared.header.Header91.{Header91}

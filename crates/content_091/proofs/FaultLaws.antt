@@ -1,5 +1,7 @@
 -- The answers of a reading of content headers, in the words of the grammar and of the faults.
-use Rattle.std.proofs.Common.{◌≡◌, ◌↔◌, inl, inr, ℕ, ◌%◌, ◌≤◌, Bool, true, false, cond, eqb, ltb, List, length, Option, Some, None, Result, Ok, Err, IfOk, IfErr, refl, sym, ap, subst, ◌∙◌, arith}
+use Rattle.std.proofs.Common.{◌≡◌, ◌↔◌, inl, inr, ℕ, ◌%◌, ◌≤◌, Bool, true, false, cond, eqb, ltb}
+use Rattle.std.proofs.Common.{List, length, Option, Some, None, Result, Ok, Err, IfOk, IfErr, refl}
+use Rattle.std.proofs.Common.{sym, ap, subst, ◌∙◌, arith}
 use Rattle.std.proofs.lemmas.Bool.{ltb-true, ltb-false, lt-ltb, eqb-true, eq-eqb}
 use Rattle.std.proofs.lemmas.List.{length-append}
 use Rattle.wire_base.specs.Bytes.{IsBytes}
@@ -7,7 +9,8 @@ use Rattle.wire_base.specs.Reading.{Reads, ◌>>=◌}
 use Rattle.wire_base.specs.declared.scan.At.{At}
 use Rattle.content_091.specs.Properties.{Properties, Parts}
 use Rattle.content_091.specs.Grammar.{basic, IsHeader}
-use Rattle.content_091.specs.Reading.{head_fault, all_in, behind_in, payload_in, told, header_in, seen}
+use Rattle.content_091.specs.Reading.{head_fault, all_in, behind_in, payload_in, told, header_in}
+use Rattle.content_091.specs.Reading.{seen}
 use Rattle.content_091.specs.Faults.{HasHead, IsFaultOf, IsFault}
 use Rattle.content_091.specs.Writing.{CanPut}
 use Rattle.content_091.specs.View.{parts_of}
@@ -15,7 +18,8 @@ use Rattle.content_091.specs.declared.header.Header91.{Header91}
 use Rattle.content_091.specs.declared.reading.HeaderFault.{HeaderFault}
 use Rattle.content_091.specs.declared.reading.HeaderFault.TheVariants as fault
 use Rattle.content_091.proofs.PropertyLaws.{differs, all_within}
-use Rattle.content_091.proofs.HeaderLaws.{headed, has_head, rest_fits, read_is_spelled, header_is_read, read_is}
+use Rattle.content_091.proofs.HeaderLaws.{headed, has_head, rest_fits, read_is_spelled}
+use Rattle.content_091.proofs.HeaderLaws.{header_is_read, read_is}
 use Rattle.content_091.proofs.Written.{header_writable}
 
 -- ---- what was told of a reading

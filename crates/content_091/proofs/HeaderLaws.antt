@@ -1,5 +1,7 @@
 -- A content header is read exactly where bytes spell it.
-use Rattle.std.proofs.Common.{◌≡◌, ℕ, ◌%◌, ◌≤◌, Bool, true, false, cond, eqb, ltb, List, [], ◌∷◌, ◌++◌, length, take, drop, Option, Some, None, Result, Ok, Err, refl, sym, ap, subst, ◌∙◌, arith}
+use Rattle.std.proofs.Common.{◌≡◌, ℕ, ◌%◌, ◌≤◌, Bool, true, false, cond, eqb, ltb, List, [], ◌∷◌}
+use Rattle.std.proofs.Common.{◌++◌, length, take, drop, Option, Some, None, Result, Ok, Err, refl}
+use Rattle.std.proofs.Common.{sym, ap, subst, ◌∙◌, arith}
 use Rattle.std.proofs.lemmas.Bool.{ltb-false, le-ltb, eqb-true}
 use Rattle.std.proofs.lemmas.List.{append-nil, length-append, length-drop}
 use Rattle.std.specs.Int.{w16, w64, from_be_bytes}
@@ -10,7 +12,8 @@ use Rattle.wire_base.proofs.Laws.{bind_is, ok_is}
 use Rattle.content_091.specs.Rows.{rows}
 use Rattle.content_091.specs.Properties.{Properties, Parts}
 use Rattle.content_091.specs.Grammar.{IsProps, Head, IsHead, basic, IsPayload, IsHeader}
-use Rattle.content_091.specs.Reading.{props_in, numbers_in, head_fault, nothing_in, all_in, behind_in, payload_in}
+use Rattle.content_091.specs.Reading.{props_in, numbers_in, head_fault, nothing_in, all_in}
+use Rattle.content_091.specs.Reading.{behind_in, payload_in}
 use Rattle.content_091.specs.Faults.{HasHead}
 use Rattle.content_091.specs.View.{parts_of}
 use Rattle.content_091.specs.declared.header.Header91.{Header91}

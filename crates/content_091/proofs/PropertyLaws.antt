@@ -1,5 +1,7 @@
 -- The readers of heads and properties against their spellings and faults, by the laws of their parts.
-use Rattle.std.proofs.Common.{◌≡◌, ◌≢◌, inl, inr, ℕ, ◌-◌, ◌≤◌, Bool, true, false, eqb, List, [], ◌∷◌, ◌++◌, length, drop, replicate, Option, Some, None, Result, Ok, Err, refl, sym, ap, subst, ◌∙◌, arith}
+use Rattle.std.proofs.Common.{◌≡◌, ◌≢◌, inl, inr, ℕ, ◌-◌, ◌≤◌, Bool, true, false, eqb, List, []}
+use Rattle.std.proofs.Common.{◌∷◌, ◌++◌, length, drop, replicate, Option, Some, None, Result, Ok}
+use Rattle.std.proofs.Common.{Err, refl, sym, ap, subst, ◌∙◌, arith}
 use Rattle.std.proofs.lemmas.Bool.{eqb-true}
 use Rattle.std.proofs.lemmas.List.{length-append, length-replicate, drop_at}
 use Rattle.std.specs.Int.{w8, w16, w64}
@@ -8,7 +10,8 @@ use Rattle.wire_base.specs.Spelling.{IsNumber, IsText, IsPair}
 use Rattle.wire_base.specs.Faults.{Faults, IsPairFault, IsTextFault}
 use Rattle.wire_base.specs.Reading.{Reads, ◌>>=◌, offset, made, pair_in, number_in, text_in}
 use Rattle.wire_base.proofs.Bytes.{IsBytes-append, IsBytes-replicate}
-use Rattle.wire_base.proofs.Laws.{IsReader, Finds, wide8, wide16, wide64, ok_is, made_reader, pair_reader, number_reader, text_reader}
+use Rattle.wire_base.proofs.Laws.{IsReader, Finds, wide8, wide16, wide64, ok_is, made_reader}
+use Rattle.wire_base.proofs.Laws.{pair_reader, number_reader, text_reader}
 use Rattle.wire_base.proofs.FaultLaws.{TellsFaults, bind_fails, err_is, number_faults, text_faults}
 use Rattle.tables_091.specs.Tree.{Tree}
 use Rattle.tables_091.specs.Grammar.{IsTable}
@@ -21,7 +24,8 @@ use Rattle.content_091.specs.Rows as kind
 use Rattle.content_091.specs.Properties.{Property, Properties}
 use Rattle.content_091.specs.Properties as property
 use Rattle.content_091.specs.Grammar.{bit_at, IsProperty, IsMaybe, IsProps, IsHead}
-use Rattle.content_091.specs.Reading.{property_in, maybe_in, props_in, numbers_in, nothing_in, all_in}
+use Rattle.content_091.specs.Reading.{property_in, maybe_in, props_in, numbers_in, nothing_in}
+use Rattle.content_091.specs.Reading.{all_in}
 use Rattle.content_091.specs.Faults.{IsPropertyFault, IsMaybeFault, IsPropsFault, AreLeft}
 
 -- ---- tests

@@ -1,5 +1,6 @@
 -- A header is what its size and its properties make it.
-use Rattle.std.proofs.Common.{◌≡◌, ℕ, zero, suc, List, [], ◌∷◌, Option, Some, None, refl, sym, ap, ◌∙◌}
+use Rattle.std.proofs.Common.{◌≡◌, ℕ, zero, suc, List, [], ◌∷◌, Option, Some, None, refl, sym, ap}
+use Rattle.std.proofs.Common.{◌∙◌}
 use Rattle.tables_091.specs.Tree.{Tree}
 use Rattle.content_091.specs.Properties.{Property, Properties, Parts}
 use Rattle.content_091.specs.Properties as property

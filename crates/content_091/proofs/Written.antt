@@ -1,5 +1,7 @@
 -- What is written is in the grammar, and what is spelled can be written.
-use Rattle.std.proofs.Common.{◌≡◌, ℕ, ◌+◌, ◌*◌, ◌^◌, ◌<◌, Bool, true, false, List, [], ◌∷◌, ◌++◌, Option, Some, None, Ok, append_assoc, refl, sym, ap, subst, ◌∙◌, arith}
+use Rattle.std.proofs.Common.{◌≡◌, ℕ, ◌+◌, ◌*◌, ◌^◌, ◌<◌, Bool, true, false, List, [], ◌∷◌, ◌++◌}
+use Rattle.std.proofs.Common.{Option, Some, None, Ok, append_assoc, refl, sym, ap, subst, ◌∙◌}
+use Rattle.std.proofs.Common.{arith}
 use Rattle.std.specs.Int.{w16, w64, to_be_bytes}
 use Rattle.tables_091.specs.Tree.{Tree}
 use Rattle.tables_091.proofs.Written as tables
@@ -8,13 +10,18 @@ use Rattle.content_091.specs.Rows.{PropertyKind, Row, later_rows, rows}
 use Rattle.content_091.specs.Rows as kind
 use Rattle.content_091.specs.Properties.{Property, Properties}
 use Rattle.content_091.specs.Properties as property
-use Rattle.content_091.specs.View.{an_octet, a_longlong, a_text, a_table, later_of, props_of, parts_of}
-use Rattle.content_091.specs.Grammar.{bit_at, IsProperty, IsMaybe, IsProps, IsHead, basic, AreFlags, IsHeader}
+use Rattle.content_091.specs.View.{an_octet, a_longlong, a_text, a_table, later_of, props_of}
+use Rattle.content_091.specs.View.{parts_of}
+use Rattle.content_091.specs.Grammar.{bit_at, IsProperty, IsMaybe, IsProps, IsHead, basic, AreFlags}
+use Rattle.content_091.specs.Grammar.{IsHeader}
 use Rattle.content_091.specs.Reading.{told, header_in}
-use Rattle.content_091.specs.Writing.{flags_of, property_text, maybe_text, earlier_text, later_text, head_text, props_text, header_text, CanPutOne, CanPutAll, CanPut, IsInRange, AreInRange, HasRanges}
+use Rattle.content_091.specs.Writing.{flags_of, property_text, maybe_text, earlier_text, later_text}
+use Rattle.content_091.specs.Writing.{head_text, props_text, header_text, CanPutOne, CanPutAll}
+use Rattle.content_091.specs.Writing.{CanPut, IsInRange, AreInRange, HasRanges}
 use Rattle.content_091.specs.declared.header.Props.{Props}
 use Rattle.content_091.specs.declared.header.Header91.{Header91}
-use Rattle.content_091.proofs.Flags.{Descend, is_there, there, flags_below, flags_by_four, bit_is, split_next}
+use Rattle.content_091.proofs.Flags.{Descend, is_there, there, flags_below, flags_by_four, bit_is}
+use Rattle.content_091.proofs.Flags.{split_next}
 use Rattle.content_091.proofs.HeaderLaws.{header_is_read}
 
 -- ---- properties of the kinds of their rows

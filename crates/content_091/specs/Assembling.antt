@@ -1,7 +1,8 @@
 -- How a content is put together (AMQP 0-9-1 4.2.6): a content header, and the payloads of body
 -- frames that together have as many bytes as the header says. The body is these payloads, one after
 -- another.
-use Rattle.std.specs.Prelude.{◌≡◌, ◌≢◌, ℕ, ◌+◌, ◌-◌, ◌<◌, ◌≤◌, Bool, true, false, List, [], ◌++◌, length}
+use Rattle.std.specs.Prelude.{◌≡◌, ◌≢◌, ℕ, ◌+◌, ◌-◌, ◌<◌, ◌≤◌, Bool, true, false, List, [], ◌++◌}
+use Rattle.std.specs.Prelude.{length}
 use Rattle.std.specs.List.{concat}
 use Rattle.content_091.specs.Grammar.{IsHeader}
 use Rattle.content_091.specs.Faults.{IsFault}

@@ -1,5 +1,6 @@
 -- The faults of bytes that are no content header, and where each stands (AMQP 0-9-1 4.2.6.1).
-use Rattle.std.specs.Prelude.{◌≡◌, ◌≢◌, ◌⊎◌, ℕ, ◌-◌, ◌<◌, ◌%◌, Bool, true, false, List, [], ◌∷◌, ◌++◌, length}
+use Rattle.std.specs.Prelude.{◌≡◌, ◌≢◌, ◌⊎◌, ℕ, ◌-◌, ◌<◌, ◌%◌, Bool, true, false, List, [], ◌∷◌}
+use Rattle.std.specs.Prelude.{◌++◌, length}
 use Rattle.std.specs.Int.{w8, w64}
 use Rattle.wire_base.specs.declared.scan.At.{At}
 use Rattle.wire_base.specs.Reading.{offset}

@@ -1,7 +1,8 @@
 -- How content headers are spelled (AMQP 0-9-1 4.2.6.1): a relation between a header and the bytes
 -- that spell it, all of the bytes. The class is basic, and the weight is 0. A property is there
 -- exactly where its bit of the flags is set.
-use Rattle.std.specs.Prelude.{◌≡◌, ℕ, ◌/◌, ◌%◌, ◌^◌, ◌==◌, Bool, true, false, List, [], ◌∷◌, ◌++◌, Option, Some, None}
+use Rattle.std.specs.Prelude.{◌≡◌, ℕ, ◌/◌, ◌%◌, ◌^◌, ◌==◌, Bool, true, false, List, [], ◌∷◌, ◌++◌}
+use Rattle.std.specs.Prelude.{Option, Some, None}
 use Rattle.std.specs.Int.{w8, w16, w64}
 use Rattle.wire_base.specs.Spelling.{IsNumber, IsText, IsMade, IsPair}
 use Rattle.tables_091.specs.Grammar.{IsTable}

@@ -1,6 +1,7 @@
 -- Reading a content header from left to right, with the first fault that is met (AMQP 0-9-1
 -- 4.2.6.1).
-use Rattle.std.specs.Prelude.{ℕ, ◌-◌, ◌%◌, ◌==◌, Bool, true, false, List, [], ◌∷◌, length, Option, Some, None, Ok, Err, Result, nat_lt, if◌then◌else◌}
+use Rattle.std.specs.Prelude.{ℕ, ◌-◌, ◌%◌, ◌==◌, Bool, true, false, List, [], ◌∷◌, length, Option}
+use Rattle.std.specs.Prelude.{Some, None, Ok, Err, Result, nat_lt, if◌then◌else◌}
 use Rattle.std.specs.Int.{w8, w16, w64}
 use Rattle.wire_base.specs.Reading.{Reads, ◌>>=◌, offset, made, pair_in, number_in, text_in}
 use Rattle.wire_base.specs.declared.scan.At.{At}

@@ -1,6 +1,7 @@
 -- The one spelling of a content header that is written (AMQP 0-9-1 4.2.6.1), and which headers have
 -- one.
-use Rattle.std.specs.Prelude.{ℕ, ◌+◌, ◌<◌, ◌≤◌, ◌^◌, List, [], ◌∷◌, ◌++◌, length, Option, Some, None}
+use Rattle.std.specs.Prelude.{ℕ, ◌+◌, ◌<◌, ◌≤◌, ◌^◌, List, [], ◌∷◌, ◌++◌, length, Option, Some}
+use Rattle.std.specs.Prelude.{None}
 use Rattle.std.specs.Int.{w8, w16, w64, to_be_bytes}
 use Rattle.wire_base.specs.Spelling.{text_of}
 use Rattle.tables_091.specs.Writing.{table_text, HasSpelling}

@@ -2,7 +2,9 @@
 //! that it tells.
 
 ghost use Rattle.std.specs.Prelude.{◌≡◌, ℕ, List, [], ◌∷◌, ◌++◌, IfOk, IfErr, OnErr};
-ghost use Rattle.content_091.specs.Assembling.{HasBegun, is_open, IsOpen, HasTaken, Joins, Starts, Adds, Grows, IsTooMuch, IsHeaderRefusal, IsBodyRefusal};
+ghost use Rattle.content_091.specs.Assembling.{HasBegun, is_open, IsOpen, HasTaken, Joins, Starts};
+ghost use Rattle.content_091.specs.Assembling.{Adds, Grows, IsTooMuch, IsHeaderRefusal};
+ghost use Rattle.content_091.specs.Assembling.{IsBodyRefusal};
 ghost use Rattle.content_091.specs.declared.assembly.Stage.TheVariants as stage;
 
 use crate::header::{Header91, Props};

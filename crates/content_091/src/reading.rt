@@ -7,7 +7,8 @@ ghost use Rattle.content_091.specs.View.{later_list, props_of, parts_of};
 ghost use Rattle.content_091.specs.Grammar.{IsHeader};
 ghost use Rattle.content_091.specs.Faults.{IsFault};
 ghost use Rattle.content_091.specs.Writing.{CanPut};
-ghost use Rattle.content_091.specs.Reading.{props_in, head_in, head_fault, payload_in, header_in, seen};
+ghost use Rattle.content_091.specs.Reading.{props_in, head_in, head_fault, payload_in, header_in};
+ghost use Rattle.content_091.specs.Reading.{seen};
 ghost use Rattle.content_091.specs.declared.header.Header91.{Header91};
 
 use crate::header::{BASIC, Header91, Props};

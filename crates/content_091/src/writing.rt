@@ -7,7 +7,8 @@ ghost use Rattle.std.specs.Prelude.{◌≡◌, ℕ, ◌<◌, ◌++◌, length, t
 ghost use Rattle.content_091.specs.Rows.{later_rows, rows};
 ghost use Rattle.content_091.specs.View.{later_of, props_of};
 ghost use Rattle.content_091.specs.Grammar.{IsHeader};
-ghost use Rattle.content_091.specs.Writing.{flags_of, head_text, earlier_text, later_text, header_text, CanPutAll, CanPut};
+ghost use Rattle.content_091.specs.Writing.{flags_of, head_text, earlier_text, later_text};
+ghost use Rattle.content_091.specs.Writing.{header_text, CanPutAll, CanPut};
 
 use crate::header::{BASIC, Header91, Props};
 use crate::properties::{

@@ -1,5 +1,6 @@
 -- How far two texts agree, from one place on.
-use Rattle.std.proofs.Common.{◌≡◌, ◌≢◌, ℕ, ◌+◌, ◌<◌, ◌≤◌, zero, suc, nat_eq, min, List, [], ◌∷◌, length, get_or, drop, refl, arith}
+use Rattle.std.proofs.Common.{◌≡◌, ◌≢◌, ℕ, ◌+◌, ◌<◌, ◌≤◌, zero, suc, nat_eq, min, List, [], ◌∷◌}
+use Rattle.std.proofs.Common.{length, get_or, drop, refl, arith}
 use Rattle.std.specs.List.{common_prefix_len}
 use Rattle.std.proofs.lemmas.Bool.{eq-eqb, ne_eqb}
 use Rattle.std.proofs.lemmas.List.Sums.{common_prefix_len-drop_yes, common_prefix_len-drop_no}

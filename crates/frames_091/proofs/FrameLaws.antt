@@ -1,15 +1,20 @@
 -- The laws of the grammar of frames and of its scan.
-use Rattle.std.proofs.Common.{◌≡◌, ◌≢◌, ◌↔◌, ℕ, ◌+◌, ◌-◌, ◌^◌, ◌<◌, ◌≤◌, List, [], ◌∷◌, ◌++◌, length, get_or, take, drop, replicate, Some, None, refl, sym, ◌∙◌, ap, subst, arith}
+use Rattle.std.proofs.Common.{◌≡◌, ◌≢◌, ◌↔◌, ℕ, ◌+◌, ◌-◌, ◌^◌, ◌<◌, ◌≤◌, List, [], ◌∷◌, ◌++◌}
+use Rattle.std.proofs.Common.{length, get_or, take, drop, replicate, Some, None, refl, sym, ◌∙◌, ap}
+use Rattle.std.proofs.Common.{subst, arith}
 use Rattle.std.specs.Int.{w16, w32, to_be_bytes}
 use Rattle.std.proofs.lemmas.Nat.{from_be_bytes-to_be_bytes_2, from_be_bytes-to_be_bytes_4}
-use Rattle.std.proofs.lemmas.List.{get_or-append-add, get_or_append_left, get_or_at, take_at, take_all, append_assoc, length-append, length-drop, length-take-le, length-replicate}
+use Rattle.std.proofs.lemmas.List.{get_or-append-add, get_or_append_left, get_or_at, take_at}
+use Rattle.std.proofs.lemmas.List.{take_all, append_assoc, length-append, length-drop}
+use Rattle.std.proofs.lemmas.List.{length-take-le, length-replicate}
 use Rattle.std.proofs.lemmas.Bool.{ne_eqb}
 use Rattle.wire_base.specs.Bytes.{IsBytes}
 use Rattle.wire_base.specs.Scans.{Scans, AreApart, IfBad}
 use Rattle.wire_base.specs.declared.scan.At.{At}
 use Rattle.wire_base.specs.declared.scan.Scan.{Scan}
 use Rattle.wire_base.specs.declared.scan.Scan.TheVariants.{Whole, More, Bad}
-use Rattle.wire_base.proofs.Bytes.{IsBytes-drop, IsBytes-append, IsBytes-replicate, IsBytes-one, zeros_keep}
+use Rattle.wire_base.proofs.Bytes.{IsBytes-drop, IsBytes-append, IsBytes-replicate, IsBytes-one}
+use Rattle.wire_base.proofs.Bytes.{zeros_keep}
 use Rattle.wire_base.proofs.Scans.{IsScanner, apart_by, bad_by}
 use Rattle.frames_091.specs.declared.frame.Kind91.{Kind91}
 use Rattle.frames_091.specs.declared.frame.Kind91.TheVariants.{Heartbeat}
@@ -19,7 +24,9 @@ use Rattle.frames_091.specs.Frames.{kind_byte, frame_text, IsFrame}
 use Rattle.frames_091.specs.FrameScan.{kind_of, stated_size, frame_in, bad, scan_of}
 use Rattle.frames_091.specs.declared.frame.FrameFault.TheVariants.{Kind, Size, End}
 use Rattle.frames_091.specs.FrameFaults.{BeginsWithKind, IsFaultOf, IsFrameFault}
-use Rattle.frames_091.proofs.FrameScanning.{Begins, by_cases, answers_kind, answers_large, answers_there, answers_whole, size_places, size_same, stays}
+use Rattle.frames_091.proofs.FrameScanning.{Begins, by_cases, answers_kind, answers_large}
+use Rattle.frames_091.proofs.FrameScanning.{answers_there, answers_whole, size_places, size_same}
+use Rattle.frames_091.proofs.FrameScanning.{stays}
 use Rattle.frames_091.proofs.FrameParts.{kind_again, kind_is, frame_parts}
 
 -- what follows the seven bytes before a payload

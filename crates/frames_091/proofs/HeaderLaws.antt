@@ -1,5 +1,7 @@
 -- The laws of the protocol header and of its scan.
-use Rattle.std.proofs.Common.{◌≡◌, ◌≢◌, ◌↔◌, ℕ, ◌+◌, ◌<◌, nat_eq, Bool, true, false, zero, suc, cond, List, [], ◌∷◌, ◌++◌, length, get_or, take, drop, refl, sym, ◌∙◌, ap, subst, arith}
+use Rattle.std.proofs.Common.{◌≡◌, ◌≢◌, ◌↔◌, ℕ, ◌+◌, ◌<◌, nat_eq, Bool, true, false, zero, suc}
+use Rattle.std.proofs.Common.{cond, List, [], ◌∷◌, ◌++◌, length, get_or, take, drop, refl, sym, ◌∙◌}
+use Rattle.std.proofs.Common.{ap, subst, arith}
 use Rattle.std.proofs.lemmas.Bool.{eqb-true, eqb-false, eq-eqb, ne_eqb, cond_both}
 use Rattle.std.proofs.lemmas.List.{take_all, take-append-drop, length-append, length-drop}
 use Rattle.std.proofs.lemmas.List.Sums.{common_prefix_len-le}
@@ -9,7 +11,8 @@ use Rattle.wire_base.specs.declared.scan.Scan.{Scan}
 use Rattle.wire_base.specs.declared.scan.Scan.TheVariants.{Whole, More, Bad}
 use Rattle.wire_base.proofs.Scans.{IsScanner, apart_by, bad_by}
 use Rattle.frames_091.specs.declared.header.NotHeader.{NotHeader}
-use Rattle.frames_091.specs.Headers.{header_bytes, IsHeader, agreed_with, scan_agreed, header_scan, IsHeaderFault}
+use Rattle.frames_091.specs.Headers.{header_bytes, IsHeader, agreed_with, scan_agreed, header_scan}
+use Rattle.frames_091.specs.Headers.{IsHeaderFault}
 
 -- texts agree before the place where they part
 agreed_front : (header bytes : List ℕ) → take (agreed_with header bytes) bytes ≡ take (agreed_with header bytes) header

@@ -1,4 +1,5 @@
--- The faults of the bytes with which a stream of frames begins, and where each stands (AMQP 0-9-1 4.2.3).
+-- The faults of the bytes with which a stream of frames begins, and where each stands (AMQP 0-9-1
+-- 4.2.3).
 use Rattle.std.specs.Prelude.{◌≡◌, ◌≢◌, ℕ, ◌+◌, ◌<◌, ◌≤◌, List, length, slice_index}
 use Rattle.wire_base.specs.declared.scan.At.{At}
 use Rattle.frames_091.specs.declared.frame.Kind91.{Kind91}
@@ -15,7 +16,8 @@ BeginsWithKind bytes = (0 < length bytes) × (kind : Kind91) × (slice_index byt
 -- Size, at 3: the kind is right, and the stated size and 8 together pass the limit.
 -- End, at 7 and the size: the kind and the size are right, and the byte there is not the end byte.
 abbrev pub IsFaultOf : FrameFault → ℕ → ℕ → List ℕ → Type 0
-IsFaultOf Kind at limit bytes = (at ≡ 0) × (0 < length bytes) × ((kind : Kind91) → slice_index bytes 0 ≢ kind_byte kind)
+IsFaultOf Kind at limit bytes =
+    (at ≡ 0) × (0 < length bytes) × ((kind : Kind91) → slice_index bytes 0 ≢ kind_byte kind)
 IsFaultOf Size at limit bytes = (at ≡ 3) × BeginsWithKind bytes × (limit < stated_size bytes + 8)
 IsFaultOf End at limit bytes =
     (at ≡ 7 + stated_size bytes) × BeginsWithKind bytes × (stated_size bytes + 8 ≤ limit)

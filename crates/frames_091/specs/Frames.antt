@@ -15,7 +15,8 @@ kind_byte Heartbeat = 8
 -- the kind, the channel in two bytes, the payload's length in four, the payload, and the end byte
 unfoldable pub frame_text : Frame91 → List ℕ
 frame_text frame =
-    kind_byte frame.kind ∷ to_be_bytes w16 frame.channel ++ to_be_bytes w32 (length frame.payload) ++ frame.payload ++ 206 ∷ []
+    kind_byte frame.kind ∷ to_be_bytes w16 frame.channel ++ to_be_bytes w32
+    (length frame.payload) ++ frame.payload ++ 206 ∷ []
 
 -- The bytes spell the frame, and it is within the limit.
 pub record IsFrame (limit : ℕ) (frame : Frame91) (bytes : List ℕ) : Type 0 where

@@ -1,5 +1,7 @@
--- The protocol header of AMQP 0-9-1 (AMQP 0-9-1 4.2.2), and how a stream that begins with it is scanned.
-use Rattle.std.specs.Prelude.{◌≡◌, ◌≢◌, ℕ, ◌<◌, ◌==◌, nat_eq, if◌then◌else◌, List, [], ◌∷◌, length, take, slice_index}
+-- The protocol header of AMQP 0-9-1 (AMQP 0-9-1 4.2.2), and how a stream that begins with it is
+-- scanned.
+use Rattle.std.specs.Prelude.{◌≡◌, ◌≢◌, ℕ, ◌<◌, ◌==◌, nat_eq, if◌then◌else◌, List, [], ◌∷◌, length}
+use Rattle.std.specs.Prelude.{take, slice_index}
 use Rattle.std.specs.List.{common_prefix_len}
 use Rattle.wire_base.specs.declared.scan.At.{At}
 use Rattle.wire_base.specs.declared.scan.Scan.{Scan}

@@ -45,7 +45,8 @@ fn first_header(bytes: &[u8]) -> Scan<(), At<NotHeader>>
     })
 }
 
-/// Scans the protocol header (AMQP 0-9-1 4.2.2), which has eight bytes. A fault is at the first byte that differs.
+/// Scans the protocol header (AMQP 0-9-1 4.2.2), which has eight bytes. A fault is at the first
+/// byte that differs.
 #[tactic(auto, using(crate::proofs::HeaderLaws::scans_by, crate::proofs::HeaderLaws::faults_by))]
 pub fn scan_header(bytes: &[u8]) -> Scan<(), At<NotHeader>>
     ensures exact { result ≡ header_scan bytes.now }

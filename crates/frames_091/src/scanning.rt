@@ -96,9 +96,11 @@ fn first_frame(
     Ok(Scan::Whole(frame, whole))
 }
 
-/// Scans the first frame of a stream (AMQP 0-9-1 4.2.3). `frame_max` bounds a whole frame, in bytes. A size is told as
-/// too large as soon as the bytes of it that came, with zeros for the others, say so. Of the faults the first of `Kind`,
-/// `Size` and `End` is told, with its offset. The payload is copied; `Memory` says that there was no room for it.
+/// Scans the first frame of a stream (AMQP 0-9-1 4.2.3). `frame_max` bounds a whole frame, in
+/// bytes. A size is told as too large as soon as the bytes of it that came, with zeros for the
+/// others, say so. Of the faults the first of `Kind`,
+/// `Size` and `End` is told, with its offset. The payload is copied; `Memory` says that there was
+/// no room for it.
 #[tactic(auto, using(crate::proofs::FrameLaws::scans_by, crate::proofs::FrameLaws::faults_by))]
 pub fn scan_frame(
     alloc: Global,

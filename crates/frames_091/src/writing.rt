@@ -1,6 +1,7 @@
 //! Writing a frame.
 
-ghost use Rattle.std.specs.Prelude.{◌≡◌, ℕ, ◌+◌, ◌^◌, ◌<◌, ◌≤◌, List, ◌++◌, length, take, OnOk, OnErr};
+ghost use Rattle.std.specs.Prelude.{◌≡◌, ℕ, ◌+◌, ◌^◌, ◌<◌, ◌≤◌, List, ◌++◌, length, take, OnOk};
+ghost use Rattle.std.specs.Prelude.{OnErr};
 ghost use Rattle.frames_091.specs.Frames.{IsFrame, frame_text, kind_byte};
 
 use crate::frame::{Frame91, Kind91};
@@ -35,15 +36,17 @@ fn append_frame(out: &mut ByteText, frame: &Frame91) -> Result<(), Memory>
     put_u8(out, FRAME_END)
 }
 
-/// Writes a frame at the end of the output (AMQP 0-9-1 4.2.3), 8 bytes and the payload, or answers `Memory` and leaves
-/// the output as it was.
+/// Writes a frame at the end of the output (AMQP 0-9-1 4.2.3), 8 bytes and the payload, or answers
+/// `Memory` and leaves the output as it was.
 pub fn put_frame(out: &mut ByteText, frame: &Frame91) -> Result<(), Memory>
     requires { length frame.now.payload + 8 < 2 ^ 32 }
     ensures ok { OnOk result (out.new ≡ out.old ++ frame_text frame.now) }
     ensures err { OnErr result (out.new ≡ out.old) }
 
-    // What is written is the frame's spelling, so that a scan within any limit that it fits reads it back.
-    ensures spelled { (limit : ℕ) → length frame.now.payload + 8 ≤ limit → IsFrame limit frame.now (frame_text frame.now) }
+    // What is written is the frame's spelling, so that a scan within any limit that it fits reads
+    // it back.
+    ensures spelled { (limit : ℕ) → length frame.now.payload + 8 ≤ limit
+        → IsFrame limit frame.now (frame_text frame.now) }
 {
     let start = out.as_slice().len();
     let written = append_frame(out, frame);

@@ -1,5 +1,7 @@
 -- Captures against what reads them.
-use Rattle.std.proofs.Common.{◌≡◌, ℕ, ◌<◌, ◌^◌, Bool, true, false, cond, eqb, List, [], ◌∷◌, ◌++◌, length, reverse, Result, Ok, Err, IfOk, refl, sym, ap, subst, ◌∙◌, append_assoc, append-nil, arith}
+use Rattle.std.proofs.Common.{◌≡◌, ℕ, ◌<◌, ◌^◌, Bool, true, false, cond, eqb, List, [], ◌∷◌, ◌++◌}
+use Rattle.std.proofs.Common.{length, reverse, Result, Ok, Err, IfOk, refl, sym, ap, subst, ◌∙◌}
+use Rattle.std.proofs.Common.{append_assoc, append-nil, arith}
 use Rattle.std.proofs.lemmas.Bool.{eqb-true}
 use Rattle.std.proofs.lemmas.List.{reverse-append}
 use Rattle.std.specs.Int.{w8, w32, to_be_bytes}
@@ -16,8 +18,10 @@ use Rattle.gate_capture.specs.declared.reading.CaptureFault.{CaptureFault}
 use Rattle.gate_capture.specs.declared.reading.CaptureFault.TheVariants.{Magic}
 use Rattle.gate_capture.specs.Spelling.{spelling_of, HasSpelling}
 use Rattle.gate_capture.specs.Captures.{start, capture, spelling, IsInForm, IsCapture}
-use Rattle.gate_capture.specs.Reading.{cut, octet_in, long_in, then_in, bytes_in, entry_in, letter_is, letter_in, magic_in, start_in, capture_in, seen}
-use Rattle.gate_capture.proofs.Readers.{reader_as, IsThen, then_reader, octet_reader, octet_text, long_reader, IsRun, bytes_reader}
+use Rattle.gate_capture.specs.Reading.{cut, octet_in, long_in, then_in, bytes_in, entry_in}
+use Rattle.gate_capture.specs.Reading.{letter_is, letter_in, magic_in, start_in, capture_in, seen}
+use Rattle.gate_capture.proofs.Readers.{reader_as, IsThen, then_reader, octet_reader, octet_text}
+use Rattle.gate_capture.proofs.Readers.{long_reader, IsRun, bytes_reader}
 use Rattle.gate_capture.proofs.EntryLaws.{IsEntry, entry_reader, entry_filled}
 
 pub entry_shrinks : (size : ℕ) → Shrinks (entry_in size)

@@ -1,5 +1,6 @@
 -- The readers of entries against their spellings.
-use Rattle.std.proofs.Common.{◌≡◌, ℕ, ◌^◌, ◌<◌, List, [], ◌∷◌, ◌++◌, length, refl, sym, ap, subst, arith}
+use Rattle.std.proofs.Common.{◌≡◌, ℕ, ◌^◌, ◌<◌, List, [], ◌∷◌, ◌++◌, length, refl, sym, ap, subst}
+use Rattle.std.proofs.Common.{arith}
 use Rattle.std.proofs.lemmas.List.{length-append}
 use Rattle.std.specs.Int.{w32, w64, to_be_bytes}
 use Rattle.wire_base.specs.declared.scan.At.{At}
@@ -23,13 +24,20 @@ use Rattle.gate_capture.specs.declared.kinds.EntryKind.TheVariants as kind
 use Rattle.gate_capture.specs.declared.kinds.Answer.{Answer}
 use Rattle.gate_capture.specs.declared.kinds.Answer.TheVariants as answer
 use Rattle.gate_capture.specs.declared.reading.CaptureFault.{CaptureFault}
-use Rattle.gate_capture.specs.Kinds.{kind_byte, kind_of, answer_byte, answer_of, end_byte, end_of, next_byte, next_of}
-use Rattle.gate_capture.specs.Spelling.{end_text, accepted_text, linked_text, got_text, put_text, spelling_of, HasCome}
+use Rattle.gate_capture.specs.Kinds.{kind_byte, kind_of, answer_byte, answer_of, end_byte, end_of}
+use Rattle.gate_capture.specs.Kinds.{next_byte, next_of}
+use Rattle.gate_capture.specs.Spelling.{end_text, accepted_text, linked_text, got_text, put_text}
+use Rattle.gate_capture.specs.Spelling.{spelling_of, HasCome}
 use Rattle.gate_capture.specs.Captures.{AnswerFits, IsInForm}
 use Rattle.gate_capture.specs.Parts.{GotFits, PutFits}
-use Rattle.gate_capture.specs.Reading.{cut, long_in, longlong_in, then_in, byte_in, count_in, bytes_in, pair_end_in, accepted_by, accepted_in, linked_by, linked_in, came_in, got_by, got_in, put_by, put_in, most, connect_in, read_in, write_in, entry_by, entry_in}
+use Rattle.gate_capture.specs.Reading.{cut, long_in, longlong_in, then_in, byte_in, count_in}
+use Rattle.gate_capture.specs.Reading.{bytes_in, pair_end_in, accepted_by, accepted_in, linked_by}
+use Rattle.gate_capture.specs.Reading.{linked_in, came_in, got_by, got_in, put_by, put_in, most}
+use Rattle.gate_capture.specs.Reading.{connect_in, read_in, write_in, entry_by, entry_in}
 use Rattle.gate_capture.proofs.KindLemmas.{kind_bytes, answer_bytes, end_bytes, next_bytes}
-use Rattle.gate_capture.proofs.Readers.{reader_as, IsThen, then_reader, IsValue, IsNone, value_reader, none_reader, IsByte, byte_reader, long_reader, IsCount, count_reader, IsRun, bytes_reader}
+use Rattle.gate_capture.proofs.Readers.{reader_as, IsThen, then_reader, IsValue, IsNone}
+use Rattle.gate_capture.proofs.Readers.{value_reader, none_reader, IsByte, byte_reader, long_reader}
+use Rattle.gate_capture.proofs.Readers.{IsCount, count_reader, IsRun, bytes_reader}
 
 -- ---- a pair and its end
 

@@ -1,5 +1,6 @@
 -- The bytes of a capture that tell what follows, both ways.
-use Rattle.std.proofs.Common.{◌≡◌, ℕ, ◌<◌, Bool, true, false, cond, eqb, Option, Some, refl, sym, ap, ◌∙◌, arith}
+use Rattle.std.proofs.Common.{◌≡◌, ℕ, ◌<◌, Bool, true, false, cond, eqb, Option, Some, refl, sym}
+use Rattle.std.proofs.Common.{ap, ◌∙◌, arith}
 use Rattle.std.proofs.lemmas.Bool.{eqb-true}
 use Rattle.gate_outside.specs.declared.ports.End.{End}
 use Rattle.gate_outside.specs.declared.ports.End.TheVariants.{Client, Up}
@@ -9,7 +10,8 @@ use Rattle.gate_capture.specs.declared.kinds.EntryKind.{EntryKind}
 use Rattle.gate_capture.specs.declared.kinds.EntryKind.TheVariants as kind
 use Rattle.gate_capture.specs.declared.kinds.Answer.{Answer}
 use Rattle.gate_capture.specs.declared.kinds.Answer.TheVariants as answer
-use Rattle.gate_capture.specs.Kinds.{kind_byte, kind_of, answer_byte, answer_of, end_byte, end_of, next_byte, next_of}
+use Rattle.gate_capture.specs.Kinds.{kind_byte, kind_of, answer_byte, answer_of, end_byte, end_of}
+use Rattle.gate_capture.specs.Kinds.{next_byte, next_of}
 use Rattle.gate_capture.proofs.Readers.{AreBytes}
 
 -- one link of a chain of bytes

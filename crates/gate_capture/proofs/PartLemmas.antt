@@ -1,5 +1,6 @@
 -- The parts of an entry's spelling together.
-use Rattle.std.proofs.Common.{◌≡◌, ℕ, List, [], ◌∷◌, ◌++◌, Option, length, append_assoc, append-nil, ◌∙◌, subst, refl}
+use Rattle.std.proofs.Common.{◌≡◌, ℕ, List, [], ◌∷◌, ◌++◌, Option, length, append_assoc, append-nil}
+use Rattle.std.proofs.Common.{◌∙◌, subst, refl}
 use Rattle.std.specs.Int.{w32, to_be_bytes}
 use Rattle.gate_outside.specs.declared.ports.Got.{Got}
 use Rattle.gate_outside.specs.declared.ports.Got.TheVariants as got

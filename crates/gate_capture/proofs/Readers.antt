@@ -1,5 +1,7 @@
 -- The laws of the readers from which those of a capture are put together.
-use Rattle.std.proofs.Common.{◌≡◌, ℕ, ◌<◌, ◌≤◌, ◌||◌, Bool, true, false, ltb, eqb, List, [], ◌∷◌, ◌++◌, length, take, drop, Option, Some, None, Ok, Err, refl, sym, ap, subst, ◌∙◌, append_assoc, append-nil, arith}
+use Rattle.std.proofs.Common.{◌≡◌, ℕ, ◌<◌, ◌≤◌, ◌||◌, Bool, true, false, ltb, eqb, List, [], ◌∷◌}
+use Rattle.std.proofs.Common.{◌++◌, length, take, drop, Option, Some, None, Ok, Err, refl, sym, ap}
+use Rattle.std.proofs.Common.{subst, ◌∙◌, append_assoc, append-nil, arith}
 use Rattle.std.specs.Int.{w8, w32, to_be_bytes}
 use Rattle.std.proofs.lemmas.Bool.{ltb-false, le-ltb, eqb-false, ne_eqb}
 use Rattle.std.proofs.lemmas.List.{take_at, drop_at, take-append-drop, length-append, length-take}
@@ -8,8 +10,10 @@ use Rattle.wire_base.specs.declared.scan.At.{At}
 use Rattle.wire_base.specs.Reading.{Reads, ◌>>=◌}
 use Rattle.wire_base.specs.Spelling.{IsNumber}
 use Rattle.wire_base.proofs.Bytes.{IsBytes-drop}
-use Rattle.wire_base.proofs.Laws.{IsReader, Finds, wide8, wide32, bind_is, guard_is, ok_is, number_reader}
-use Rattle.gate_capture.specs.Reading.{Part, cut, misfit, octet_in, long_in, then_in, value_in, known_in, byte_in, within_in, count_in, bytes_in}
+use Rattle.wire_base.proofs.Laws.{IsReader, Finds, wide8, wide32, bind_is, guard_is, ok_is}
+use Rattle.wire_base.proofs.Laws.{number_reader}
+use Rattle.gate_capture.specs.Reading.{Part, cut, misfit, octet_in, long_in, then_in, value_in}
+use Rattle.gate_capture.specs.Reading.{known_in, byte_in, within_in, count_in, bytes_in}
 use Rattle.gate_capture.specs.declared.reading.CaptureFault.{CaptureFault}
 
 -- a reader is one of each relation that says the same

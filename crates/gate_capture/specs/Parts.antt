@@ -1,4 +1,5 @@
--- The parts of an entry's spelling: those of fixed length, before and behind the bytes that came or were offered.
+-- The parts of an entry's spelling: those of fixed length, before and behind the bytes that came or
+-- were offered.
 use Rattle.std.specs.Prelude.{ℕ, ◌<◌, ◌^◌, List, [], ◌∷◌, ◌++◌}
 use Rattle.std.specs.Int.{w32, w64, to_be_bytes}
 use Rattle.gate_outside.specs.declared.ports.Got.{Got}
@@ -14,7 +15,8 @@ use Rattle.gate_capture.specs.Kinds.{next_byte}
 abbrev pub head_text : Call → ℕ → List ℕ
 head_text (call.Accept answer) offered = 1 ∷ accepted_text answer
 head_text (call.Connect pair answer) offered = 2 ∷ to_be_bytes w32 pair ++ linked_text answer
-head_text (call.Read pair end room answer) offered = 3 ∷ end_text pair end ++ to_be_bytes w32 room ++ got_text answer []
+head_text (call.Read pair end room answer) offered =
+    3 ∷ end_text pair end ++ to_be_bytes w32 room ++ got_text answer []
 head_text (call.Write pair end answer) offered = 4 ∷ end_text pair end ++ to_be_bytes w32 offered
 head_text (call.Shut pair end) offered = 5 ∷ end_text pair end
 head_text (call.Idle answer) offered = 6 ∷ next_byte answer ∷ []

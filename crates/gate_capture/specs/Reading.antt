@@ -1,6 +1,8 @@
--- How a capture, version 1, is read: the values and the bytes after them, or the first fault in the order of the bytes.
--- Each reader knows the size of the whole input, at which a cut is told; what is left tells how far it has come.
-use Rattle.std.specs.Prelude.{ℕ, ◌-◌, ◌==◌, ◌||◌, if◌then◌else◌, nat_lt, List, [], length, take, drop, Option, None, Some, Result, Ok, Err}
+-- How a capture, version 1, is read: the values and the bytes after them, or the first fault in the
+-- order of the bytes. Each reader knows the size of the whole input, at which a cut is told; what
+-- is left tells how far it has come.
+use Rattle.std.specs.Prelude.{ℕ, ◌-◌, ◌==◌, ◌||◌, if◌then◌else◌, nat_lt, List, [], length, take}
+use Rattle.std.specs.Prelude.{drop, Option, None, Some, Result, Ok, Err}
 use Rattle.std.specs.Int.{w8, w32, w64}
 use Rattle.wire_base.specs.declared.scan.At.{At}
 use Rattle.wire_base.specs.Reading.{Reads, ◌>>=◌, made, number_in, all_items}
@@ -47,7 +49,8 @@ abbrev pub longlong_in : ℕ → List ℕ → Part ℕ
 longlong_in size = number_in (cut size) w64 size
 
 -- one value, and another that is read by it, or the fault that the first has no such value
-abbrev pub then_in : {A B : Type 0} → (ℕ → List ℕ → Part A) → (A → At CaptureFault → ℕ → List ℕ → Part B) → ℕ → List ℕ → Part B
+abbrev pub then_in : {A B : Type 0} → (ℕ → List ℕ → Part A) → (A → At CaptureFault → ℕ → List ℕ
+    → Part B) → ℕ → List ℕ → Part B
 then_in first second size bytes = do
   a ← first size bytes
   second a.0 (misfit size bytes) size a.1
@@ -73,11 +76,13 @@ count_in most = then_in long_in (within_in most)
 
 -- so many bytes
 abbrev pub bytes_in : ℕ → ℕ → List ℕ → Part (List ℕ)
-bytes_in n size bytes = if nat_lt (length bytes) n then Err (cut size size) else Ok (take n bytes, drop n bytes)
+bytes_in n size bytes =
+    if nat_lt (length bytes) n then Err (cut size size) else Ok (take n bytes, drop n bytes)
 
 -- a pair and its end
 abbrev pub pair_end_in : ℕ → List ℕ → Part (ℕ × End)
-pair_end_in = then_in long_in (λ pair fault size bytes. made (λ end. (pair, end)) (byte_in end_of size bytes))
+pair_end_in =
+    then_in long_in (λ pair fault size bytes. made (λ end. (pair, end)) (byte_in end_of size bytes))
 
 -- ---- answers
 
@@ -129,7 +134,8 @@ abbrev pub most : ℕ
 most = 4294967295
 
 abbrev pub connect_in : ℕ → List ℕ → Part LogEntry
-connect_in = then_in long_in (λ pair fault size bytes. made (entry.Connect pair) (linked_in size bytes))
+connect_in =
+    then_in long_in (λ pair fault size bytes. made (entry.Connect pair) (linked_in size bytes))
 
 abbrev pub read_in : ℕ → List ℕ → Part LogEntry
 read_in =
@@ -138,7 +144,8 @@ read_in =
 
 abbrev pub write_in : ℕ → List ℕ → Part LogEntry
 write_in =
-    then_in pair_end_in (λ p fault. then_in (count_in most) (λ n fault. then_in (bytes_in n) (λ bytes fault size rest.
+    then_in pair_end_in (λ p fault. then_in (count_in most) (λ n fault. then_in (bytes_in n)
+    (λ bytes fault size rest.
     made (entry.Write p.0 p.1 bytes) (put_in n size rest))))
 
 -- an entry, by its kind
@@ -158,14 +165,17 @@ entry_in = then_in (byte_in kind_of) entry_by
 
 -- a letter of the start; another byte is told at its place
 abbrev pub letter_is : ℕ → ℕ → At CaptureFault → ℕ → List ℕ → Part (Unit {0})
-letter_is letter byte f size bytes = if byte == letter then Ok (tt, bytes) else Err (record { fault = fault.Magic; at = f.at })
+letter_is letter byte f size bytes =
+    if byte == letter then Ok (tt, bytes) else Err (record { fault = fault.Magic; at = f.at })
 
 abbrev pub letter_in : ℕ → ℕ → List ℕ → Part (Unit {0})
 letter_in letter = then_in octet_in (letter_is letter)
 
 -- the letters AGC and the version 1
 abbrev pub magic_in : ℕ → List ℕ → Part (Unit {0})
-magic_in = then_in (letter_in 65) (λ a f. then_in (letter_in 71) (λ g f. then_in (letter_in 67) (λ c f. letter_in 49)))
+magic_in =
+    then_in (letter_in 65) (λ a f. then_in (letter_in 71) (λ g f. then_in (letter_in 67)
+    (λ c f. letter_in 49)))
 
 -- the start: the words of the command, behind their length
 abbrev pub start_in : ℕ → List ℕ → Part (List ℕ)
@@ -179,6 +189,7 @@ capture_in bytes = do
   Ok (words.0, log)
 
 -- what a capture holds, or its first fault
-abbrev pub seen : Result Capture (At CaptureFault) → Result (List ℕ × List LogEntry) (At CaptureFault)
+abbrev pub seen : Result Capture (At CaptureFault) → Result (List ℕ
+    × List LogEntry) (At CaptureFault)
 seen (Ok capture) = Ok (capture.words, capture.entries)
 seen (Err fault) = Err fault

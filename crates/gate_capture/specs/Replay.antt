@@ -1,5 +1,7 @@
 -- Ports that answer from a log: what they hold, and how each call is answered.
-use Rattle.std.specs.Prelude.{ℕ, ◌==◌, Bool, true, false, not, ◌&&◌, if◌then◌else◌, nat_le, List, [], ◌∷◌, ◌++◌, length, take, drop, reverse, bytes_eq, Option, None, Some, option_and_then, slice_get, unwrap_or, is_some}
+use Rattle.std.specs.Prelude.{ℕ, ◌==◌, Bool, true, false, not, ◌&&◌, if◌then◌else◌, nat_le, List}
+use Rattle.std.specs.Prelude.{[], ◌∷◌, ◌++◌, length, take, drop, reverse, bytes_eq, Option, None}
+use Rattle.std.specs.Prelude.{Some, option_and_then, slice_get, unwrap_or, is_some}
 use Rattle.gate_outside.specs.declared.ports.End.{End}
 use Rattle.gate_outside.specs.declared.ports.Accepted.{Accepted}
 use Rattle.gate_outside.specs.declared.ports.Accepted.TheVariants as accepted
@@ -40,7 +42,8 @@ pub record ReplayState : Type 0 where
 
 -- before the first call
 abbrev pub begun : List LogEntry → ReplayState
-begun entries = record { log = record { left = entries; used = [] }; differs = false; faults = 0; pairs = 0; ends = []; last = 0 }
+begun entries =
+    record { log = record { left = entries; used = [] }; differs = false; faults = 0; pairs = 0; ends = []; last = 0 }
 
 -- the calls, the newest first, while each was its entry
 abbrev pub told : ReplayState → Option (List LogEntry)
@@ -50,9 +53,11 @@ abbrev pub is_nothing : List LogEntry → Bool
 is_nothing [] = true
 is_nothing (entry ∷ entries) = false
 
--- the number of the first call that is another than its entry, or for which there is none, or of the first entry that is left
+-- the number of the first call that is another than its entry, or for which there is none, or of
+-- the first entry that is left
 abbrev pub difference : ReplayState → Option ℕ
-difference replay = if not replay.differs && is_nothing replay.log.left then None else Some (length replay.log.used)
+difference replay =
+    if not replay.differs && is_nothing replay.log.left then None else Some (length replay.log.used)
 
 -- the entry of the next call, while each was its entry
 abbrev pub coming : ReplayState → Option LogEntry
@@ -60,7 +65,8 @@ coming replay = if replay.differs then None else slice_get replay.log.left 0
 
 -- a call that is its entry uses it, and another differs
 abbrev pub answered : Bool → ReplayState → ReplayState
-answered is replay = record replay { log = if is then step replay.log else replay.log; differs = not is }
+answered is replay =
+    record replay { log = if is then step replay.log else replay.log; differs = not is }
 
 -- ---- the answer that an entry records of a call, if it is that call
 
@@ -92,7 +98,8 @@ connect_in pair (entry.Now ms) = None
 abbrev pub read_in : ℕ → End → ℕ → LogEntry → Option (Got × List ℕ)
 read_in pair end room (entry.Accept answer) = None
 read_in pair end room (entry.Connect p answer) = None
-read_in pair end room (entry.Read p e r answer bytes) = if is_end pair end (p, e) && (r == room) then Some (answer, bytes) else None
+read_in pair end room (entry.Read p e r answer bytes) =
+    if is_end pair end (p, e) && (r == room) then Some (answer, bytes) else None
 read_in pair end room (entry.Write p e bytes answer) = None
 read_in pair end room (entry.Shut p e) = None
 read_in pair end room (entry.Idle answer) = None
@@ -102,7 +109,8 @@ abbrev pub write_in : ℕ → End → List ℕ → LogEntry → Option Put
 write_in pair end offered (entry.Accept answer) = None
 write_in pair end offered (entry.Connect p answer) = None
 write_in pair end offered (entry.Read p e room answer bytes) = None
-write_in pair end offered (entry.Write p e bytes answer) = if is_end pair end (p, e) && bytes_eq bytes offered then Some answer else None
+write_in pair end offered (entry.Write p e bytes answer) =
+    if is_end pair end (p, e) && bytes_eq bytes offered then Some answer else None
 write_in pair end offered (entry.Shut p e) = None
 write_in pair end offered (entry.Idle answer) = None
 write_in pair end offered (entry.Now ms) = None
@@ -217,7 +225,8 @@ is_shut_next pair end (Some entry) = is_shut pair end entry
 
 abbrev pub after_shut : ℕ → End → ReplayState → ReplayState
 after_shut pair end replay =
-    record (answered (is_shut_next pair end (coming replay)) replay) { ends = closed pair end replay.ends }
+    record (answered (is_shut_next pair end
+    (coming replay)) replay) { ends = closed pair end replay.ends }
 
 abbrev pub recorded_idle : ReplayState → Option Next
 recorded_idle replay = option_and_then idle_in (coming replay)
@@ -235,4 +244,5 @@ abbrev pub now_answer : ReplayState → ℕ
 now_answer replay = unwrap_or (recorded_now replay) replay.last
 
 abbrev pub after_now : ReplayState → ReplayState
-after_now replay = record (answered (is_some (recorded_now replay)) replay) { last = now_answer replay }
+after_now replay =
+    record (answered (is_some (recorded_now replay)) replay) { last = now_answer replay }

@@ -1,4 +1,5 @@
--- How a log is spelled in a capture, version 1: an entry for each call, in the order of the calls. Numbers are big-endian.
+-- How a log is spelled in a capture, version 1: an entry for each call, in the order of the calls.
+-- Numbers are big-endian.
 use Rattle.std.specs.Prelude.{◌≡◌, ℕ, ◌<◌, ◌≤◌, ◌^◌, List, [], ◌∷◌, ◌++◌, length}
 use Rattle.std.specs.Int.{w32, w64, to_be_bytes}
 use Rattle.gate_outside.specs.declared.ports.End.{End}
@@ -44,14 +45,16 @@ put_text put.Failed = 2 ∷ []
 abbrev pub spelling_of : LogEntry → List ℕ
 spelling_of (entry.Accept answer) = 1 ∷ accepted_text answer
 spelling_of (entry.Connect pair answer) = 2 ∷ to_be_bytes w32 pair ++ linked_text answer
-spelling_of (entry.Read pair end room answer bytes) = 3 ∷ end_text pair end ++ to_be_bytes w32 room ++ got_text answer bytes
+spelling_of (entry.Read pair end room answer bytes) =
+    3 ∷ end_text pair end ++ to_be_bytes w32 room ++ got_text answer bytes
 spelling_of (entry.Write pair end bytes answer) =
     4 ∷ end_text pair end ++ to_be_bytes w32 (length bytes) ++ bytes ++ put_text answer
 spelling_of (entry.Shut pair end) = 5 ∷ end_text pair end
 spelling_of (entry.Idle answer) = 6 ∷ next_byte answer ∷ []
 spelling_of (entry.Now ms) = 7 ∷ to_be_bytes w64 ms
 
--- what a read says that came: as many bytes as its answer says, at least one and no more than there was room for
+-- what a read says that came: as many bytes as its answer says, at least one and no more than there
+-- was room for
 abbrev pub HasCome : Got → ℕ → List ℕ → Type 0
 HasCome (got.Bytes n) room bytes = (n ≡ length bytes) × (1 ≤ n) × (n ≤ room)
 HasCome got.NotYet room bytes = bytes ≡ []

@@ -1,7 +1,8 @@
 //! The bytes of a capture that tell what follows: the kinds of entries, and the answers.
 
 ghost use Rattle.std.specs.Prelude.{◌≡◌};
-ghost use Rattle.gate_capture.specs.Kinds.{answer_byte, answer_of, end_byte, end_of, kind_byte, kind_of, next_byte, next_of};
+ghost use Rattle.gate_capture.specs.Kinds.{answer_byte, answer_of, end_byte, end_of, kind_byte};
+ghost use Rattle.gate_capture.specs.Kinds.{kind_of, next_byte, next_of};
 
 use gate_outside::{End, Next};
 
@@ -17,8 +18,8 @@ pub(crate) enum EntryKind {
     Now,
 }
 
-/// The byte of an answer of `accept`, `connect`, `read` or `write`. `Done` is that it did what it was asked, at least in
-/// part: `Pair`, `Ok`, `Bytes` and `Took`.
+/// The byte of an answer of `accept`, `connect`, `read` or `write`. `Done` is that it did what it
+/// was asked, at least in part: `Pair`, `Ok`, `Bytes` and `Took`.
 #[derive(Clone, Copy)]
 pub(crate) enum Answer {
     NotYet,

@@ -4,9 +4,11 @@ ghost use Rattle.std.specs.Prelude.{◌≡◌, ℕ, ◌+◌, ◌<◌, ◌≤◌,
 ghost use Rattle.std.specs.Int.{w32, to_be_bytes};
 ghost use Rattle.arrayvec.specs.ArrayVec.{array_vec_len};
 ghost use Rattle.gate_outside.specs.LogState.{entry_of};
-ghost use Rattle.gate_capture.specs.Spelling.{end_text, accepted_text, linked_text, got_text, put_text};
+ghost use Rattle.gate_capture.specs.Spelling.{end_text, accepted_text, linked_text, got_text};
+ghost use Rattle.gate_capture.specs.Spelling.{put_text};
 ghost use Rattle.gate_capture.specs.Kinds.{kind_byte};
-ghost use Rattle.gate_capture.specs.Parts.{head_text, body_text, tail_text, GotFits, PutFits, CallFits};
+ghost use Rattle.gate_capture.specs.Parts.{head_text, body_text, tail_text, GotFits, PutFits};
+ghost use Rattle.gate_capture.specs.Parts.{CallFits};
 
 use crate::kinds::{Answer, EntryKind, end_byte_of, next_byte_of};
 use arrayvec::ArrayVec;

@@ -1,9 +1,10 @@
 //! Reading captures.
 //!
-//! Each function takes `size`, the length of the whole input, and the bytes that are left; it answers its value and the
-//! bytes after it.
+//! Each function takes `size`, the length of the whole input, and the bytes that are left; it
+//! answers its value and the bytes after it.
 
-ghost use Rattle.std.specs.Prelude.{◌≡◌, ℕ, ◌-◌, ◌<◌, ◌≤◌, ◌^◌, List, [], length, Option, Ok, Err, IfOk, IfErr};
+ghost use Rattle.std.specs.Prelude.{◌≡◌, ℕ, ◌-◌, ◌<◌, ◌≤◌, ◌^◌, List, [], length, Option, Ok, Err};
+ghost use Rattle.std.specs.Prelude.{IfOk, IfErr};
 ghost use Rattle.std.specs.Int.{w8, w32, w64};
 ghost use Rattle.std.specs.List.{AllByRecursion};
 ghost use Rattle.wire_base.specs.declared.stop.Stop.{Stop};
@@ -13,7 +14,11 @@ ghost use Rattle.gate_outside.specs.declared.log.LogEntry.{LogEntry};
 ghost use Rattle.gate_capture.specs.Spelling.{HasSpelling};
 ghost use Rattle.gate_capture.specs.Captures.{IsCapture};
 ghost use Rattle.gate_capture.specs.Kinds.{kind_of, answer_of, end_of, next_of};
-ghost use Rattle.gate_capture.specs.Reading.{cut, misfit, octet_in, long_in, longlong_in, byte_in, count_in, bytes_in, pair_end_in, accepted_in, linked_in, got_in, put_in, connect_in, read_in, write_in, entry_in, letter_in, magic_in, start_in, capture_in, seen};
+ghost use Rattle.gate_capture.specs.Reading.{cut, misfit, octet_in, long_in, longlong_in, byte_in};
+ghost use Rattle.gate_capture.specs.Reading.{count_in, bytes_in, pair_end_in, accepted_in};
+ghost use Rattle.gate_capture.specs.Reading.{linked_in, got_in, put_in, connect_in, read_in};
+ghost use Rattle.gate_capture.specs.Reading.{write_in, entry_in, letter_in, magic_in, start_in};
+ghost use Rattle.gate_capture.specs.Reading.{capture_in, seen};
 
 use crate::kinds::{Answer, EntryKind, end_at, next_at};
 use gate_outside::{Accepted, End, Entries, Got, Linked, LogEntry, Next, Put};
@@ -27,7 +32,8 @@ pub enum CaptureFault {
     Magic,
     /// The input ends inside a field; at its length.
     Cut,
-    /// A kind, an end or an answer that no entry has, or a length or a count that is 0 or passes its room; at its first byte.
+    /// A kind, an end or an answer that no entry has, or a length or a count that is 0 or passes
+    /// its room; at its first byte.
     Kind,
 }
 
@@ -380,9 +386,9 @@ fn seen_in(alloc: Global, bytes: &[u8]) -> Result<Result<Capture, At<CaptureFaul
 ///
 /// # Errors
 ///
-/// The first fault in the order of the bytes: `Magic` at the first of the four letters that differs; `Kind` at a kind, an end
-/// or an answer byte that no entry has, or at a length or a count that is 0 or passes its room; `Cut` at the length of the
-/// input where it ends inside a field.
+/// The first fault in the order of the bytes: `Magic` at the first of the four letters that
+/// differs; `Kind` at a kind, an end or an answer byte that no entry has, or at a length or a count
+/// that is 0 or passes its room; `Cut` at the length of the input where it ends inside a field.
 ///
 /// `Memory` where the allocator has no room.
 pub fn read_capture(

@@ -23,7 +23,11 @@ impl Model for RecordedLog {
 
     ghost Value = { Recorded };
 
-    ghost view = { λ a. record { left = drop a.at a.entries; used = reverse (take a.at a.entries) } };
+    ghost view = { λ a. record {
+      left = drop a.at a.entries;
+      used = reverse
+          (take a.at a.entries);
+    } };
 
     ghost invariant = { λ a. (a.at ≤ length a.entries) × AllByRecursion HasSpelling a.entries };
 }

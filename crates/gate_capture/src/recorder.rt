@@ -17,14 +17,16 @@ pub trait Recorder {
     /// What was kept, where it is told.
     ghost held: { Self → Option (List ℕ) };
 
-    /// Keeps a call, with the bytes that came or were offered. It takes no memory. `false` comes only where the count of
-    /// faults rose; a front part of the entry was then kept.
+    /// Keeps a call, with the bytes that came or were offered. It takes no memory. `false` comes
+    /// only where the count of faults rose; a front part of the entry was then kept.
     fn record(&mut self, call: Call, bytes: &[u8]) -> bool
         requires { HasSpelling (entry_of call bytes.now) }
         ensures later { faults self.old ≤ faults self.new }
         ensures cause { result ≡ false → Rose (faults self.old) (faults self.new) }
-        ensures whole { result ≡ true → Appends (held self.old) (held self.new) (spelling_of (entry_of call bytes.now)) }
-        ensures part { AppendsFront (held self.old) (held self.new) (spelling_of (entry_of call bytes.now)) };
+        ensures whole { result ≡ true → Appends (held self.old) (held self.new) (spelling_of
+            (entry_of call bytes.now)) }
+        ensures part { AppendsFront (held self.old) (held self.new) (spelling_of
+            (entry_of call bytes.now)) };
 }
 
 /// Writes each call to a sink.

@@ -1,14 +1,20 @@
 //! Ports that answer from the log of a run, while each call is the one that the run made.
 
-ghost use Rattle.std.specs.Prelude.{◌≡◌, ℕ, ◌+◌, ◌<◌, ◌≤◌, ◌^◌, [], length, true, false, Option, None, Some, is_some, IfOk, MatchOption, option_copied, option_map, unwrap_or};
+ghost use Rattle.std.specs.Prelude.{◌≡◌, ℕ, ◌+◌, ◌<◌, ◌≤◌, ◌^◌, [], length, true, false, Option};
+ghost use Rattle.std.specs.Prelude.{None, Some, is_some, IfOk, MatchOption, option_copied};
+ghost use Rattle.std.specs.Prelude.{option_map, unwrap_or};
 ghost use Rattle.std.specs.List.{AllByRecursion};
 ghost use Rattle.gate_outside.specs.Counts.{Rose};
 ghost use Rattle.gate_outside.specs.declared.ports.End.{End};
 ghost use Rattle.gate_outside.specs.declared.log.LogEntry.{LogEntry};
-ghost use Rattle.gate_outside.specs.Ends.{is_end, is_open, closed, IsNumbered, pairs_after, ends_accepted, ends_linked, ReadsInto, got_bytes, TakesSome};
+ghost use Rattle.gate_outside.specs.Ends.{is_end, is_open, closed, IsNumbered, pairs_after};
+ghost use Rattle.gate_outside.specs.Ends.{ends_accepted, ends_linked, ReadsInto, got_bytes};
+ghost use Rattle.gate_outside.specs.Ends.{TakesSome};
 ghost use Rattle.gate_outside.specs.History.{Tells};
 ghost use Rattle.gate_capture.specs.Spelling.{HasSpelling, HasCome};
-ghost use Rattle.gate_capture.specs.Replay.{accept_in, begun, coming, connect_in, difference, idle_in, is_in_order, is_shut, now_in, read_in, told, whole, write_in};
+ghost use Rattle.gate_capture.specs.Replay.{accept_in, begun, coming, connect_in, difference};
+ghost use Rattle.gate_capture.specs.Replay.{idle_in, is_in_order, is_shut, now_in, read_in, told};
+ghost use Rattle.gate_capture.specs.Replay.{whole, write_in};
 
 use crate::recorded::RecordedLog;
 use gate_outside::{Accepted, End, Entries, Got, Linked, LogEntry, Next, Ports, Put};
@@ -113,9 +119,9 @@ fn now_in(last: u64, entry: &LogEntry) -> Option<u64>
     }
 }
 
-/// Ports that answer from the log of a run, while each call is the one that the run made. From the first call on that is
-/// another, or for which there is no entry, they answer NotYet, Failed, Stop and the last moment. All memory that their
-/// calls need is reserved when they are made.
+/// Ports that answer from the log of a run, while each call is the one that the run made. From the
+/// first call on that is another, or for which there is no entry, they answer NotYet, Failed, Stop
+/// and the last moment. All memory that their calls need is reserved when they are made.
 #[derive(Debug, Drop)]
 pub struct ReplayPorts {
     log: RecordedLog,
@@ -146,7 +152,12 @@ impl Model for ReplayPorts {
 }
 
 impl ReplayPorts {
-    ghost use Rattle.gate_capture.specs.Replay.{recorded_accept, accept_answer, after_accept, recorded_connect, connect_answer, after_connect, recorded_read, read_answer, after_read, recorded_write, write_answer, after_write, answered, is_shut_next, recorded_idle, idle_answer, after_idle, recorded_now, now_answer, after_now};
+    ghost use Rattle.gate_capture.specs.Replay.{recorded_accept, accept_answer, after_accept};
+    ghost use Rattle.gate_capture.specs.Replay.{recorded_connect, connect_answer, after_connect};
+    ghost use Rattle.gate_capture.specs.Replay.{recorded_read, read_answer, after_read};
+    ghost use Rattle.gate_capture.specs.Replay.{recorded_write, write_answer, after_write};
+    ghost use Rattle.gate_capture.specs.Replay.{answered, is_shut_next, recorded_idle, idle_answer};
+    ghost use Rattle.gate_capture.specs.Replay.{after_idle, recorded_now, now_answer, after_now};
 
     /// Ports that answer from this log, from its first entry on.
     pub fn new(alloc: Global, entries: Entries) -> Result<ReplayPorts, Memory>
@@ -164,8 +175,9 @@ impl ReplayPorts {
         })
     }
 
-    /// The number of the first call that was another than its entry, or for which there was none, or of the first entry that
-    /// is left; they count from 0. `None` where the calls were exactly the recorded ones.
+    /// The number of the first call that was another than its entry, or for which there was none,
+    /// or of the first entry that is left; they count from 0. `None` where the calls were exactly
+    /// the recorded ones.
     pub fn differs(&self) -> Option<u64>
         ensures { result ≡ difference self.now }
     {
@@ -252,7 +264,8 @@ impl ReplayPorts {
 
     /// The answer of the recorded read, and the bytes that came, if this is that read.
     fn recorded_read(&self, pair: u32, end: End, room: usize) -> Option<(Got, &[u8])>
-        ensures answer { option_map (λ x. (x.0, x.1.now)) result ≡ recorded_read pair end room self.now }
+        ensures answer { option_map (λ x. (x.0, x.1.now)) result
+            ≡ recorded_read pair end room self.now }
         ensures there { MatchOption result (Unit {0}) (λ x. 0 < length self.now.log.left) }
         ensures came { MatchOption result (Unit {0}) (λ x. HasCome x.0 room x.1.now) }
     {
@@ -262,10 +275,13 @@ impl ReplayPorts {
 
     /// Copies the bytes that came into the front of the buffer.
     fn give(&self, pair: u32, end: End, buf: &mut [u8]) -> Option<Got>
-        ensures answer { result ≡ option_map (λ x. x.0) (recorded_read pair end (length buf.old) self.now) }
+        ensures answer { result ≡ option_map (λ x. x.0) (recorded_read pair end
+            (length buf.old) self.now) }
         ensures there { MatchOption result (Unit {0}) (λ x. 0 < length self.now.log.left) }
-        ensures came { got_bytes (read_answer pair end (length buf.old) self.now).0 buf.new ≡ (read_answer pair end (length buf.old) self.now).1 }
-        ensures bytes { ReadsInto (read_answer pair end (length buf.old) self.now).0 buf.old buf.new }
+        ensures came { got_bytes (read_answer pair end (length buf.old) self.now).0 buf.new
+            ≡ (read_answer pair end (length buf.old) self.now).1 }
+        ensures bytes { ReadsInto (read_answer pair end
+            (length buf.old) self.now).0 buf.old buf.new }
     {
         let (answer, bytes) = self.recorded_read(pair, end, buf.len())?;
         buf[..bytes.len()].copy_from_slice(bytes);
@@ -274,7 +290,8 @@ impl ReplayPorts {
 
     fn read_next(&mut self, pair: u32, end: End, buf: &mut [u8]) -> Got
         ensures answer { result ≡ (read_answer pair end (length buf.old) self.old).0 }
-        ensures came { got_bytes result buf.new ≡ (read_answer pair end (length buf.old) self.old).1 }
+        ensures came { got_bytes result buf.new ≡ (read_answer pair end
+            (length buf.old) self.old).1 }
         ensures bytes { ReadsInto result buf.old buf.new }
         ensures goes { self.new ≡ after_read pair end (length buf.old) self.old }
         ensures later { self.old.faults ≤ self.new.faults }
@@ -293,7 +310,8 @@ impl ReplayPorts {
     fn recorded_write(&self, pair: u32, end: End, bytes: &[u8]) -> Option<Put>
         ensures answer { result ≡ recorded_write pair end bytes.now self.now }
         ensures there { MatchOption result (Unit {0}) (λ answer. 0 < length self.now.log.left) }
-        ensures taken { MatchOption result (Unit {0}) (λ answer. TakesSome answer (length bytes.now)) }
+        ensures taken { MatchOption result (Unit {0}) (λ answer. TakesSome answer
+            (length bytes.now)) }
     {
         let entry = self.coming()?;
         write_in(pair, end, bytes, entry)
@@ -382,7 +400,10 @@ impl ReplayPorts {
 }
 
 impl Ports for ReplayPorts {
-    ghost use Rattle.gate_capture.specs.Replay.{told, accept_answer, after_accept, connect_answer, after_connect, read_answer, after_read, write_answer, after_write, after_shut, idle_answer, after_idle, now_answer, after_now};
+    ghost use Rattle.gate_capture.specs.Replay.{told, accept_answer, after_accept, connect_answer};
+    ghost use Rattle.gate_capture.specs.Replay.{after_connect, read_answer, after_read};
+    ghost use Rattle.gate_capture.specs.Replay.{write_answer, after_write, after_shut, idle_answer};
+    ghost use Rattle.gate_capture.specs.Replay.{after_idle, now_answer, after_now};
 
     ghost faults = { λ ports. ports.faults };
 
@@ -437,7 +458,8 @@ impl Ports for ReplayPorts {
         ensures log { Tells (told self.old) (told self.new)
             (LogEntry.Read pair end (length buf.old) result (got_bytes result buf.new)) }
         ensures answer { result ≡ (read_answer pair end (length buf.old) self.old).0 }
-        ensures came { got_bytes result buf.new ≡ (read_answer pair end (length buf.old) self.old).1 }
+        ensures came { got_bytes result buf.new ≡ (read_answer pair end
+            (length buf.old) self.old).1 }
         ensures goes { self.new ≡ after_read pair end (length buf.old) self.old }
     {
         self.read_next(pair, end, buf)
@@ -453,7 +475,8 @@ impl Ports for ReplayPorts {
         ensures pairs { self.new.pairs ≡ self.old.pairs }
         ensures ends { self.new.ends ≡ self.old.ends }
         ensures last { self.new.last ≡ self.old.last }
-        ensures log { Tells (told self.old) (told self.new) (LogEntry.Write pair end bytes.now result) }
+        ensures log { Tells (told self.old) (told self.new)
+            (LogEntry.Write pair end bytes.now result) }
         ensures answer { result ≡ write_answer pair end bytes.now self.old }
         ensures goes { self.new ≡ after_write pair end bytes.now self.old }
     {

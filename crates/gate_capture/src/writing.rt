@@ -1,6 +1,7 @@
 //! Writing captures.
 
-ghost use Rattle.std.specs.Prelude.{◌≡◌, ℕ, ◌+◌, ◌<◌, ◌≤◌, ◌^◌, ◌++◌, length, take, true, false, OnOk, OnErr};
+ghost use Rattle.std.specs.Prelude.{◌≡◌, ℕ, ◌+◌, ◌<◌, ◌≤◌, ◌^◌, ◌++◌, length, take, true, false};
+ghost use Rattle.std.specs.Prelude.{OnOk, OnErr};
 ghost use Rattle.std.specs.List.{AllByRecursion};
 ghost use Rattle.gate_outside.specs.Counts.{Rose};
 ghost use Rattle.gate_outside.specs.LogState.{entry_of};
@@ -13,13 +14,14 @@ use crate::parts::{body, head, tail};
 use gate_outside::{Call, Entries, LogEntry, Sink, write_all};
 use wire_base::{ByteText, Memory};
 
-/// Writes two texts, one after the other. `false` comes only where the sink's count of faults rose; a front part of them
-/// was then taken.
+/// Writes two texts, one after the other. `false` comes only where the sink's count of faults rose;
+/// a front part of them was then taken.
 #[tactic(auto, using(crate::proofs::Fronts::front_of_first, crate::proofs::Fronts::front_of_second))]
 fn write_both<K: Sink>(sink: &mut K, first: &[u8], second: &[u8]) -> bool
     ensures later { K.faults sink.old ≤ K.faults sink.new }
     ensures cause { result ≡ false → Rose (K.faults sink.old) (K.faults sink.new) }
-    ensures whole { result ≡ true → Appends (K.held sink.old) (K.held sink.new) (first.now ++ second.now) }
+    ensures whole { result ≡ true → Appends (K.held sink.old) (K.held sink.new) (first.now
+        ++ second.now) }
     ensures part { AppendsFront (K.held sink.old) (K.held sink.new) (first.now ++ second.now) }
 {
     if !write_all(sink, first) {
@@ -33,8 +35,10 @@ fn write_both<K: Sink>(sink: &mut K, first: &[u8], second: &[u8]) -> bool
 fn write_three<K: Sink>(sink: &mut K, front: &[u8], middle: &[u8], back: &[u8]) -> bool
     ensures later { K.faults sink.old ≤ K.faults sink.new }
     ensures cause { result ≡ false → Rose (K.faults sink.old) (K.faults sink.new) }
-    ensures whole { result ≡ true → Appends (K.held sink.old) (K.held sink.new) (front.now ++ middle.now ++ back.now) }
-    ensures part { AppendsFront (K.held sink.old) (K.held sink.new) (front.now ++ middle.now ++ back.now) }
+    ensures whole { result ≡ true → Appends (K.held sink.old) (K.held sink.new) (front.now
+        ++ middle.now ++ back.now) }
+    ensures part { AppendsFront (K.held sink.old) (K.held sink.new) (front.now ++ middle.now
+        ++ back.now) }
 {
     if !write_both(sink, front, middle) {
         return false;
@@ -42,15 +46,18 @@ fn write_three<K: Sink>(sink: &mut K, front: &[u8], middle: &[u8], back: &[u8]) 
     write_all(sink, back)
 }
 
-/// Writes the entry of a call, with the bytes that came or were offered. It takes no memory, and asks at most three times
-/// for a write of all. `false` comes only where the sink's count of faults rose; a front part of the entry was then taken.
+/// Writes the entry of a call, with the bytes that came or were offered. It takes no memory, and
+/// asks at most three times for a write of all. `false` comes only where the sink's count of faults
+/// rose; a front part of the entry was then taken.
 #[tactic(auto, using(crate::proofs::PartLemmas::entry_front))]
 pub fn write_entry<K: Sink>(sink: &mut K, call: Call, bytes: &[u8]) -> bool
     requires { HasSpelling (entry_of call bytes.now) }
     ensures later { K.faults sink.old ≤ K.faults sink.new }
     ensures cause { result ≡ false → Rose (K.faults sink.old) (K.faults sink.new) }
-    ensures whole { result ≡ true → Appends (K.held sink.old) (K.held sink.new) (spelling_of (entry_of call bytes.now)) }
-    ensures part { AppendsFront (K.held sink.old) (K.held sink.new) (spelling_of (entry_of call bytes.now)) }
+    ensures whole { result ≡ true → Appends (K.held sink.old) (K.held sink.new) (spelling_of
+        (entry_of call bytes.now)) }
+    ensures part { AppendsFront (K.held sink.old) (K.held sink.new) (spelling_of
+        (entry_of call bytes.now)) }
 {
     let bytes = body(call, bytes);
     let front = head(call, bytes.len() as u32);
@@ -149,7 +156,8 @@ fn parts_of(entry: &LogEntry) -> (Call, &[u8])
 /// The letters AGC, and the version 1.
 const MAGIC: [u8; 4] = *b"AGC1";
 
-/// Adds the start of a capture, or leaves the output as it was. The words are those of the command, joined by line feeds.
+/// Adds the start of a capture, or leaves the output as it was. The words are those of the command,
+/// joined by line feeds.
 pub fn put_start(out: &mut ByteText, words: &ByteText) -> Result<(), Memory>
     requires { length words.now < 2 ^ 32 }
     ensures ok { OnOk result (out.new ≡ out.old ++ start words.now) }
@@ -160,8 +168,8 @@ pub fn put_start(out: &mut ByteText, words: &ByteText) -> Result<(), Memory>
     put_three(out, &MAGIC, &len.to_be_bytes(), words)
 }
 
-/// Writes the start of a capture. It takes no memory. `false` comes only where the sink's count of faults rose; a front
-/// part of the start was then taken.
+/// Writes the start of a capture. It takes no memory. `false` comes only where the sink's count of
+/// faults rose; a front part of the start was then taken.
 pub fn write_start<K: Sink>(sink: &mut K, words: &[u8]) -> bool
     requires { length words.now < 2 ^ 32 }
     ensures later { K.faults sink.old ≤ K.faults sink.new }
@@ -189,7 +197,8 @@ fn append_capture(out: &mut ByteText, words: &ByteText, entries: &Entries) -> Re
     Ok(())
 }
 
-/// Adds a whole capture, or leaves the output as it was. The words are those of the command, joined by line feeds.
+/// Adds a whole capture, or leaves the output as it was. The words are those of the command, joined
+/// by line feeds.
 pub fn put_capture(out: &mut ByteText, words: &ByteText, entries: &Entries) -> Result<(), Memory>
     requires words { length words.now < 2 ^ 32 }
     requires entries { AllByRecursion HasSpelling entries.now }

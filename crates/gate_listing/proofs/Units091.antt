@@ -1,5 +1,7 @@
 -- The first unit of AMQP 0-9-1: what is found is a unit, a fault that is told is there, and a unit is found again, whatever follows.
-use Rattle.std.proofs.Common.{◌≡◌, ◌≢◌, ℕ, ◌+◌, ◌≤◌, Bool, true, false, cond, ◌==◌, ◌&&◌, List, [], ◌++◌, length, take, drop, get_or, Option, Some, None, Result, Ok, Err, refl, sym, ap, subst, ◌∙◌, inl, inr, arith, codes}
+use Rattle.std.proofs.Common.{◌≡◌, ◌≢◌, ℕ, ◌+◌, ◌≤◌, Bool, true, false, cond, ◌==◌, ◌&&◌, List, []}
+use Rattle.std.proofs.Common.{◌++◌, length, take, drop, get_or, Option, Some, None, Result, Ok, Err}
+use Rattle.std.proofs.Common.{refl, sym, ap, subst, ◌∙◌, inl, inr, arith, codes}
 use Rattle.std.proofs.lemmas.Bool.{eqb-true, eq-eqb, and_parts, and_from}
 use Rattle.std.proofs.lemmas.List.{take-append-drop, length-take-le}
 use Rattle.wire_base.specs.Bytes.{IsBytes}
@@ -30,9 +32,12 @@ use Rattle.content_091.specs.Reading as contents
 use Rattle.content_091.specs.declared.reading.HeaderFault.{HeaderFault}
 use Rattle.content_091.proofs.FaultLaws as content_laws
 use Rattle.content_091.proofs.HeaderLaws as content_readers
-use Rattle.gate_listing.specs.Units.{most_091, IsFrame091, frame_091, Shows091, HeaderLine, MethodLine, ContentLine, BodyLine, HeartbeatLine}
-use Rattle.gate_listing.specs.Faults.{IsFault091, IsHeaderPlace, BeginsWithFrame, at_place, CutHeader, CutFrame, NoHeader, NoFrame, NoMethod, NoContent}
-use Rattle.gate_listing.specs.Scanning.{Found, begins_with_a, place, method_in, content_in, payload_in, frame_091_in, header_091_in, unit_091_in}
+use Rattle.gate_listing.specs.Units.{most_091, IsFrame091, frame_091, Shows091, HeaderLine}
+use Rattle.gate_listing.specs.Units.{MethodLine, ContentLine, BodyLine, HeartbeatLine}
+use Rattle.gate_listing.specs.Faults.{IsFault091, IsHeaderPlace, BeginsWithFrame, at_place}
+use Rattle.gate_listing.specs.Faults.{CutHeader, CutFrame, NoHeader, NoFrame, NoMethod, NoContent}
+use Rattle.gate_listing.specs.Scanning.{Found, begins_with_a, place, method_in, content_in}
+use Rattle.gate_listing.specs.Scanning.{payload_in, frame_091_in, header_091_in, unit_091_in}
 use Rattle.gate_listing.specs.declared.fault.UnitFault.{UnitFault}
 use Rattle.gate_listing.specs.declared.fault.UnitFault.TheVariants as fault
 use Rattle.gate_listing.proofs.Payloads.{payload_fits, some_091}

@@ -1,5 +1,7 @@
 -- The first unit of AMQP 1.0: what is found is a unit, a fault that is told is there, and a unit is found again, whatever follows.
-use Rattle.std.proofs.Common.{◌≡◌, ◌≢◌, ℕ, ◌+◌, ◌-◌, ◌≤◌, Bool, true, false, cond, ◌==◌, List, [], ◌∷◌, ◌++◌, length, take, drop, get_or, Result, Ok, Err, refl, sym, ap, subst, ◌∙◌, inl, inr, arith}
+use Rattle.std.proofs.Common.{◌≡◌, ◌≢◌, ℕ, ◌+◌, ◌-◌, ◌≤◌, Bool, true, false, cond, ◌==◌, List, []}
+use Rattle.std.proofs.Common.{◌∷◌, ◌++◌, length, take, drop, get_or, Result, Ok, Err, refl, sym, ap}
+use Rattle.std.proofs.Common.{subst, ◌∙◌, inl, inr, arith}
 use Rattle.std.proofs.lemmas.Bool.{eqb-true, eq-eqb, ne_eqb}
 use Rattle.std.proofs.lemmas.List.{take-append-drop, length-take-le, nil_from_length}
 use Rattle.wire_base.specs.Bytes.{IsBytes}
@@ -27,9 +29,14 @@ use Rattle.frames_10.proofs.FrameScanning.{size_places}
 use Rattle.performatives_10.specs.Reading as performatives
 use Rattle.performatives_10.specs.declared.fault.PerfFault.{PerfFault}
 use Rattle.performatives_10.proofs.PerfLaws as perf_laws
-use Rattle.gate_listing.specs.Units.{most_10, IsFrame10, frame_10, BeginsWithPerf, is_empty, header_words, empty_words, performative_words, Shows10, HeaderLine10, EmptyLine, PerformativeLine}
-use Rattle.gate_listing.specs.Faults.{IsFault10, BeginsLikeHeader, BeginsWithFrame, at_place, CutHeader10, CutFrame10, NoHeader10, NoFrame10, NoPerformative}
-use Rattle.gate_listing.specs.Scanning.{Found, begins_with_a, place, performative_in, body_in, frame_10_in, header_10_in, unit_10_in}
+use Rattle.gate_listing.specs.Units.{most_10, IsFrame10, frame_10, BeginsWithPerf, is_empty}
+use Rattle.gate_listing.specs.Units.{header_words, empty_words, performative_words, Shows10}
+use Rattle.gate_listing.specs.Units.{HeaderLine10, EmptyLine, PerformativeLine}
+use Rattle.gate_listing.specs.Faults.{IsFault10, BeginsLikeHeader, BeginsWithFrame, at_place}
+use Rattle.gate_listing.specs.Faults.{CutHeader10, CutFrame10, NoHeader10, NoFrame10}
+use Rattle.gate_listing.specs.Faults.{NoPerformative}
+use Rattle.gate_listing.specs.Scanning.{Found, begins_with_a, place, performative_in, body_in}
+use Rattle.gate_listing.specs.Scanning.{frame_10_in, header_10_in, unit_10_in}
 use Rattle.gate_listing.specs.declared.fault.UnitFault.{UnitFault}
 use Rattle.gate_listing.specs.declared.fault.UnitFault.TheVariants as fault
 use Rattle.gate_listing.proofs.Payloads.{body_fits, some_10}

@@ -1,5 +1,7 @@
 -- The listing of a whole input.
-use Rattle.std.proofs.Common.{◌≡◌, ◌≢◌, ℕ, ◌+◌, ◌≤◌, List, [], ◌∷◌, ◌++◌, length, take, drop, Option, Result, Ok, Err, IfOk, refl, sym, ap, subst, ◌∙◌, append_assoc, append-nil, arith}
+use Rattle.std.proofs.Common.{◌≡◌, ◌≢◌, ℕ, ◌+◌, ◌≤◌, List, [], ◌∷◌, ◌++◌, length, take, drop}
+use Rattle.std.proofs.Common.{Option, Result, Ok, Err, IfOk, refl, sym, ap, subst, ◌∙◌}
+use Rattle.std.proofs.Common.{append_assoc, append-nil, arith}
 use Rattle.std.proofs.lemmas.List.{length-append, drop_at, take_at}
 use Rattle.wire_base.specs.Bytes.{IsBytes}
 use Rattle.wire_base.specs.declared.memory.Memory.{Memory}
@@ -7,7 +9,8 @@ use Rattle.wire_base.specs.declared.scan.At.{At}
 use Rattle.wire_base.proofs.Bytes.{IsBytes-drop, IsBytes-take}
 use Rattle.wire_base.proofs.Laws.{ok_is}
 use Rattle.gate_outside.specs.Streams.{Appends}
-use Rattle.gate_listing.specs.Listing.{Piece, Shows, IsFault, AreUnits, BeginsWith, IsListed, EndsAll, bytes_of, lines}
+use Rattle.gate_listing.specs.Listing.{Piece, Shows, IsFault, AreUnits, BeginsWith, IsListed}
+use Rattle.gate_listing.specs.Listing.{EndsAll, bytes_of, lines}
 use Rattle.gate_listing.specs.Scanning.{place}
 use Rattle.gate_listing.specs.Steps.{unit_in, UnitsListed}
 use Rattle.gate_listing.specs.declared.fault.UnitFault.{UnitFault}

@@ -1,5 +1,6 @@
 -- Listings: the units of a whole input, one after another, each with the line for it.
-use Rattle.std.specs.Prelude.{◌≡◌, ℕ, ◌+◌, List, [], ◌∷◌, ◌++◌, length, codes, decimal, Option, Result, Ok, Err}
+use Rattle.std.specs.Prelude.{◌≡◌, ℕ, ◌+◌, List, [], ◌∷◌, ◌++◌, length, codes, decimal, Option}
+use Rattle.std.specs.Prelude.{Result, Ok, Err}
 use Rattle.wire_base.specs.declared.memory.Memory.{Memory}
 use Rattle.wire_base.specs.declared.scan.At.{At}
 use Rattle.gate_outside.specs.Streams.{Appends, AppendsFront}
@@ -48,15 +49,20 @@ pub record BeginsWith (d : Dialect) (us : List Piece) (rest bytes : List ℕ) : 
   pub units : AreUnits d 0 us
   pub parts : bytes ≡ bytes_of us ++ rest
 
--- Whole: the input is these units, and out holds their lines. Bad: it begins with these units, whose lines out holds, and this is
--- the fault behind them. OutFailed, and where memory ran out: a front part of the lines of units with which the input begins.
-abbrev pub IsListed : Dialect → List ℕ → Option (List ℕ) → Option (List ℕ) → Result Listed Memory → Type 0
-IsListed d bytes old new (Ok Whole) = (us : List Piece) × BeginsWith d us [] bytes × Appends old new (lines 0 us)
+-- Whole: the input is these units, and out holds their lines. Bad: it begins with these units,
+-- whose lines out holds, and this is the fault behind them. OutFailed, and where memory ran out: a
+-- front part of the lines of units with which the input begins.
+abbrev pub IsListed : Dialect → List ℕ → Option (List ℕ) → Option (List ℕ)
+    → Result Listed Memory → Type 0
+IsListed d bytes old new (Ok Whole) =
+    (us : List Piece) × BeginsWith d us [] bytes × Appends old new (lines 0 us)
 IsListed d bytes old new (Ok (Bad e)) =
-    (us : List Piece) × (rest : List ℕ) × BeginsWith d us rest bytes × IsFault d (length (bytes_of us)) rest e
+    (us : List Piece) × (rest : List ℕ) × BeginsWith d us rest bytes
+    × IsFault d (length (bytes_of us)) rest e
     × Appends old new (lines 0 us)
 IsListed d bytes old new (Ok OutFailed) =
-    (us : List Piece) × (rest : List ℕ) × BeginsWith d us rest bytes × AppendsFront old new (lines 0 us)
+    (us : List Piece) × (rest : List ℕ) × BeginsWith d us rest bytes
+    × AppendsFront old new (lines 0 us)
 IsListed d bytes old new (Err e) =
     (us : List Piece) × (rest : List ℕ) × BeginsWith d us rest bytes × Appends old new (lines 0 us)
 

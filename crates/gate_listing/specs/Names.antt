@@ -15,7 +15,8 @@ use Rattle.performatives_10.specs.declared.fault.PerfFault.TheVariants as in_per
 use Rattle.gate_listing.specs.declared.fault.UnitFault.{UnitFault}
 use Rattle.gate_listing.specs.declared.fault.UnitFault.TheVariants as fault
 
--- ---- methods, by the ids of the class and of the method (AMQP 0-9-1 1.3 to 1.8, with the additions of RabbitMQ)
+-- ---- methods, by the ids of the class and of the method (AMQP 0-9-1 1.3 to 1.8, with the
+-- additions of RabbitMQ)
 
 abbrev pub method_names : List (ℕ × ℕ × List ℕ)
 method_names =
@@ -79,7 +80,8 @@ method_names =
 -- the name in the first row with these ids
 abbrev pub named_in : List (ℕ × ℕ × List ℕ) → ℕ → ℕ → List ℕ
 named_in [] class id = []
-named_in (row ∷ rows) class id = if (row.0 == class) && (row.1 == id) then row.2 else named_in rows class id
+named_in (row ∷ rows) class id =
+    if (row.0 == class) && (row.1 == id) then row.2 else named_in rows class id
 
 abbrev pub method_name : ℕ → ℕ → List ℕ
 method_name class id = named_in method_names class id

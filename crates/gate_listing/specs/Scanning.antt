@@ -1,6 +1,8 @@
--- The first unit of bytes, as a function of them: the line of the unit behind its offset and the count of its bytes, or the first
--- fault. The bytes end at an offset, which is the length of the whole input.
-use Rattle.std.specs.Prelude.{ℕ, ◌+◌, ◌-◌, ◌^◌, ◌==◌, ◌&&◌, min, max, Bool, if◌then◌else◌, List, length, codes, slice_index, Result, Ok, Err}
+-- The first unit of bytes, as a function of them: the line of the unit behind its offset and the
+-- count of its bytes, or the first fault. The bytes end at an offset, which is the length of the
+-- whole input.
+use Rattle.std.specs.Prelude.{ℕ, ◌+◌, ◌-◌, ◌^◌, ◌==◌, ◌&&◌, min, max, Bool, if◌then◌else◌, List}
+use Rattle.std.specs.Prelude.{length, codes, slice_index, Result, Ok, Err}
 use Rattle.wire_base.specs.Reading.{◌>>=◌}
 use Rattle.wire_base.specs.declared.scan.At.{At}
 use Rattle.wire_base.specs.declared.scan.Scan.{Scan}
@@ -27,7 +29,9 @@ use Rattle.performatives_10.specs.Reading as performatives_10
 use Rattle.performatives_10.specs.declared.fault.PerfFault.{PerfFault}
 use Rattle.performatives_10.specs.declared.fault.PerfFault.TheVariants as in_perf
 use Rattle.gate_listing.specs.Names.{method_name}
-use Rattle.gate_listing.specs.Units.{most_091, most_10, method_words, content_words, body_words, heartbeat_words, header_words, empty_words, performative_words, is_empty}
+use Rattle.gate_listing.specs.Units.{most_091, most_10, method_words, content_words, body_words}
+use Rattle.gate_listing.specs.Units.{heartbeat_words, header_words, empty_words, performative_words}
+use Rattle.gate_listing.specs.Units.{is_empty}
 use Rattle.gate_listing.specs.declared.fault.UnitFault.{UnitFault}
 use Rattle.gate_listing.specs.declared.fault.UnitFault.TheVariants as fault
 
@@ -76,7 +80,8 @@ payload_in at kind.Body channel payload = Ok (body_words channel (length payload
 payload_in at kind.Heartbeat channel payload = Ok (heartbeat_words channel)
 
 abbrev pub frame_091_in : ℕ → ℕ → Scan Frame91 (At FrameFault) → Found
-frame_091_in end at (Whole frame size) = with_size size (payload_in at frame.kind frame.channel frame.payload)
+frame_091_in end at (Whole frame size) =
+    with_size size (payload_in at frame.kind frame.channel frame.payload)
 frame_091_in end at More = fault_at fault.Cut end
 frame_091_in end at (Bad e) = fault_at (fault.Frame91 e.fault) (further at e.at)
 
@@ -88,12 +93,14 @@ header_091_in end (Bad e) = fault_at fault.NotHeader e.at
 -- a protocol header is looked for at the front of the input alone
 unfoldable pub unit_091_in : ℕ → List ℕ → Found
 unit_091_in end bytes =
-    if begins_with_a bytes && (place end bytes == 0) then header_091_in end (headers_091.header_scan bytes)
+    if begins_with_a bytes && (place end bytes == 0) then header_091_in end
+    (headers_091.header_scan bytes)
     else frame_091_in end (place end bytes) (frames_091.scan_of most_091 bytes)
 
 -- ---- AMQP 1.0
 
--- of a value that can't be read the fault's own place counts, and of another fault that of the frame
+-- of a value that can't be read the fault's own place counts, and of another fault that of the
+-- frame
 abbrev pub fault_place : ℕ → ℕ → PerfFault → ℕ
 fault_place at start (in_perf.Value e) = further (further at start) e.at
 fault_place at start in_perf.UnknownDescriptor = at
@@ -102,7 +109,9 @@ fault_place at start (in_perf.WrongType k) = at
 
 -- the body begins so many bytes behind the frame's offset
 abbrev pub performative_in : ℕ → ℕ → Frame10 → Result (performatives_10.Parts × ℕ) PerfFault → Words
-performative_in at start frame (Ok x) = Ok (performative_words frame.kind frame.channel (performatives_10.code_of x.0.0) (length frame.body - x.1))
+performative_in at start frame (Ok x) =
+    Ok (performative_words frame.kind frame.channel (performatives_10.code_of x.0.0)
+    (length frame.body - x.1))
 performative_in at start frame (Err e) = fault_at (fault.Performative e) (fault_place at start e)
 
 abbrev pub body_in : ℕ → ℕ → Frame10 → Words
@@ -115,8 +124,10 @@ frame_10_in end at (Whole frame size) = with_size size (body_in at (size - lengt
 frame_10_in end at More = fault_at fault.Cut end
 frame_10_in end at (Bad e) = fault_at (fault.Frame10 e.fault) (further at e.at)
 
--- what the scans for both headers say: where both find none, the fault is where the longer one of both parts from the bytes
-abbrev pub header_10_in : ℕ → ℕ → Scan (Unit {0}) (At not_10.NotHeader.NotHeader) → Scan (Unit {0}) (At not_10.NotHeader.NotHeader) → Found
+-- what the scans for both headers say: where both find none, the fault is where the longer one of
+-- both parts from the bytes
+abbrev pub header_10_in : ℕ → ℕ → Scan (Unit {0}) (At not_10.NotHeader.NotHeader)
+    → Scan (Unit {0}) (At not_10.NotHeader.NotHeader) → Found
 header_10_in end at (Whole x size) sasl = Ok (header_words Amqp, size)
 header_10_in end at More sasl = fault_at fault.Cut end
 header_10_in end at (Bad e) (Whole x size) = Ok (header_words Sasl, size)
@@ -126,5 +137,6 @@ header_10_in end at (Bad e) (Bad f) = fault_at fault.NotHeader (further at (max 
 unfoldable pub unit_10_in : ℕ → List ℕ → Found
 unit_10_in end bytes =
     if begins_with_a bytes
-    then header_10_in end (place end bytes) (headers_10.header_scan Amqp bytes) (headers_10.header_scan Sasl bytes)
+    then header_10_in end (place end bytes) (headers_10.header_scan Amqp bytes)
+    (headers_10.header_scan Sasl bytes)
     else frame_10_in end (place end bytes) (frames_10.scan_of most_10 bytes)

@@ -1,5 +1,7 @@
--- The units of both byte streams, and what the line of each says behind its offset; a row for each kind of unit.
-use Rattle.std.specs.Prelude.{◌≡◌, ℕ, ◌-◌, ◌==◌, nat_le, Bool, false, if◌then◌else◌, List, [], ◌++◌, length, codes, decimal}
+-- The units of both byte streams, and what the line of each says behind its offset; a row for each
+-- kind of unit.
+use Rattle.std.specs.Prelude.{◌≡◌, ℕ, ◌-◌, ◌==◌, nat_le, Bool, false, if◌then◌else◌, List, [], ◌++◌}
+use Rattle.std.specs.Prelude.{length, codes, decimal}
 use Rattle.frames_091.specs.declared.frame.Kind91.{Kind91}
 use Rattle.frames_091.specs.declared.frame.Kind91.TheVariants.{Method, Header, Body, Heartbeat}
 use Rattle.frames_091.specs.declared.frame.Frame91.{Frame91}
@@ -48,20 +50,26 @@ heartbeat_words channel = codes "heartbeat " ++ decimal channel
 
 -- a method with these ids fills the payload
 abbrev pub IsMethodOf : ℕ → ℕ → List ℕ → Type 0
-IsMethodOf class id payload = (m : _) × methods_091.IsPayload m payload × (class ≡ class_of m.0) × (id ≡ id_of m.0)
+IsMethodOf class id payload =
+    (m : _) × methods_091.IsPayload m payload × (class ≡ class_of m.0) × (id ≡ id_of m.0)
 
--- the line of a unit at this offset, and the unit's bytes. A protocol header stands at the front of the stream alone.
+-- the line of a unit at this offset, and the unit's bytes. A protocol header stands at the front of
+-- the stream alone.
 pub data Shows091 (at : ℕ) : List ℕ → List ℕ → Type 0 where
   HeaderLine : at ≡ 0 → Shows091 at (codes "header 0-9-1") headers_091.header_bytes
   -- the name is that of the method that fills the payload
-  MethodLine : (channel class id : ℕ) (payload text : List ℕ) → IsFrame091 (frame_091 Method channel payload) text
+  MethodLine : (channel class id : ℕ) (payload text : List ℕ)
+      → IsFrame091 (frame_091 Method channel payload) text
       → IsMethodOf class id payload → Shows091 at (method_words channel (method_name class id)) text
   -- the size is that of the body that is to follow
-  ContentLine : (channel : ℕ) (payload text : List ℕ) (h : Parts) → IsFrame091 (frame_091 Header channel payload) text
+  ContentLine : (channel : ℕ) (payload text : List ℕ) (h : Parts)
+      → IsFrame091 (frame_091 Header channel payload) text
       → content_091.IsPayload h payload → Shows091 at (content_words channel h.0) text
-  BodyLine : (channel : ℕ) (payload text : List ℕ) → IsFrame091 (frame_091 Body channel payload) text
+  BodyLine : (channel : ℕ) (payload text : List ℕ) → IsFrame091
+      (frame_091 Body channel payload) text
       → Shows091 at (body_words channel (length payload)) text
-  HeartbeatLine : (channel : ℕ) (payload text : List ℕ) → IsFrame091 (frame_091 Heartbeat channel payload) text
+  HeartbeatLine : (channel : ℕ) (payload text : List ℕ) → IsFrame091
+      (frame_091 Heartbeat channel payload) text
       → Shows091 at (heartbeat_words channel) text
 
 -- ---- AMQP 1.0 (2.2, 2.3, 5.3)
@@ -76,7 +84,8 @@ frame_10 kind channel body = record { kind = kind; channel = channel; body = bod
 abbrev pub IsFrame10 : Frame10 → List ℕ → Type 0
 IsFrame10 = frames_10.IsFrame most_10
 
--- a frame body begins with a performative of this kind and with these fields, and this is the offset behind it
+-- a frame body begins with a performative of this kind and with these fields, and this is the
+-- offset behind it
 abbrev pub BeginsWithPerf : performatives_10.Parts → List ℕ → ℕ → Type 0
 BeginsWithPerf p body after = (t : Tree) × StandsAt IsValue t body 0 after × IsParts p t
 
@@ -100,19 +109,24 @@ abbrev pub sasl_words : List ℕ → List ℕ
 sasl_words name = codes "sasl " ++ name
 
 abbrev pub performed_words : ℕ → List ℕ → ℕ → List ℕ
-performed_words channel name size = decimal channel ++ (codes " " ++ (name ++ (codes " " ++ decimal size)))
+performed_words channel name size =
+    decimal channel ++ (codes " " ++ (name ++ (codes " " ++ decimal size)))
 
 -- a frame of the SASL layer, by its type or by its performative, has no channel and no payload
 abbrev pub performative_words : Kind10 → ℕ → ℕ → ℕ → List ℕ
 performative_words Amqp channel code size =
-    if is_sasl code then sasl_words (performative_name code) else performed_words channel (performative_name code) size
+    if is_sasl code then sasl_words (performative_name code) else performed_words channel
+    (performative_name code) size
 performative_words Sasl channel code size = sasl_words (performative_name code)
 
 -- the line of a unit, and the unit's bytes
 pub data Shows10 : List ℕ → List ℕ → Type 0 where
   HeaderLine10 : (kind : Kind10) → Shows10 (header_words kind) (headers_10.header_bytes kind)
-  EmptyLine : (channel : ℕ) (text : List ℕ) → IsFrame10 (frame_10 Amqp channel []) text → Shows10 (empty_words channel) text
+  EmptyLine : (channel : ℕ) (text : List ℕ) → IsFrame10 (frame_10 Amqp channel []) text
+      → Shows10 (empty_words channel) text
   -- the payload is what stands behind the performative
-  PerformativeLine : (kind : Kind10) (channel : ℕ) (body text : List ℕ) (p : performatives_10.Parts) (after : ℕ)
+  PerformativeLine : (kind : Kind10) (channel : ℕ) (body text : List ℕ)
+      (p : performatives_10.Parts) (after : ℕ)
       → IsFrame10 (frame_10 kind channel body) text → BeginsWithPerf p body after
-      → Shows10 (performative_words kind channel (performatives_10.code_of p.0) (length body - after)) text
+      → Shows10 (performative_words kind channel (performatives_10.code_of p.0)
+      (length body - after)) text

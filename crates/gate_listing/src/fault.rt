@@ -1,7 +1,9 @@
 //! Why bytes begin with no unit.
 
 ghost use Rattle.std.specs.Prelude.{◌≡◌, ℕ, ◌+◌, ◌-◌, ◌^◌, min};
-ghost use Rattle.gate_listing.specs.Names.{content_fault_text, fault_text, frame_fault_text, frame10_fault_text, method_fault_text, perf_fault_text, type_fault_text};
+ghost use Rattle.gate_listing.specs.Names.{content_fault_text, fault_text, frame_fault_text};
+ghost use Rattle.gate_listing.specs.Names.{frame10_fault_text, method_fault_text, perf_fault_text};
+ghost use Rattle.gate_listing.specs.Names.{type_fault_text};
 ghost use Rattle.gate_listing.specs.Scanning.{further};
 
 use content_091::HeaderFault;

@@ -1,4 +1,5 @@
-//! Listings of the byte streams of AMQP 0-9-1 and of AMQP 1.0: a line for each protocol header and each frame.
+//! Listings of the byte streams of AMQP 0-9-1 and of AMQP 1.0: a line for each protocol header and
+//! each frame.
 //!
 //! - Listing: `list_units`.
 //! - The names of faults: `fault_text`.

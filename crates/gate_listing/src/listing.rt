@@ -1,6 +1,7 @@
 //! Listings of whole inputs.
 
-ghost use Rattle.std.specs.Prelude.{◌≡◌, ℕ, ◌+◌, ◌≤◌, List, [], ◌++◌, codes, decimal, length, false, true, Ok, Err, IfOk, OnErr, OnOk};
+ghost use Rattle.std.specs.Prelude.{◌≡◌, ℕ, ◌+◌, ◌≤◌, List, [], ◌++◌, codes, decimal, length};
+ghost use Rattle.std.specs.Prelude.{false, true, Ok, Err, IfOk, OnErr, OnOk};
 ghost use Rattle.wire_base.specs.Reading.{Gives};
 ghost use Rattle.wire_base.specs.declared.stop.Stop.TheVariants.{Fault};
 ghost use Rattle.gate_outside.specs.Counts.{Rose};
@@ -67,7 +68,8 @@ fn whole_line(alloc: Global, at: usize, words: &[u8]) -> Result<ByteText, Memory
 fn write_line<K: Sink>(alloc: Global, out: &mut K, at: usize, words: &[u8]) -> Result<bool, Memory>
     ensures later { K.faults out.old ≤ K.faults out.new }
     ensures cause { result ≡ Ok false → Rose (K.faults out.old) (K.faults out.new) }
-    ensures whole { result ≡ Ok true → Appends (K.held out.old) (K.held out.new) (line at words.now) }
+    ensures whole { result ≡ Ok true → Appends (K.held out.old) (K.held out.new)
+        (line at words.now) }
     ensures part { AppendsFront (K.held out.old) (K.held out.new) (line at words.now) }
     ensures none { OnErr result (Appends (K.held out.old) (K.held out.new) []) }
 {
@@ -84,8 +86,10 @@ fn list_next<'a, K: Sink>(
     out: &mut K,
 ) -> Result<&'a [u8], Stop<Listed>>
     ensures later { K.faults out.old ≤ K.faults out.new }
-    ensures cause { result ≡ Err (Fault Listed.OutFailed) → Rose (K.faults out.old) (K.faults out.new) }
-    ensures listed { NextListed (λ rest. rest.now) dialect end bytes.now (K.held out.old) (K.held out.new) result }
+    ensures cause { result ≡ Err (Fault Listed.OutFailed) → Rose (K.faults out.old)
+        (K.faults out.new) }
+    ensures listed { NextListed (λ rest. rest.now) dialect end bytes.now (K.held out.old)
+        (K.held out.new) result }
 {
     let (words, size) = match first_unit(alloc, dialect, end, bytes) {
         Ok(found) => found,
@@ -131,8 +135,9 @@ fn list_all<K: Sink>(
     Ok(Listed::Whole)
 }
 
-/// Writes the listing of a byte stream: a line for each protocol header and each frame, with its offset. Where the bytes aren't whole
-/// units, the lines of the units before the first fault are written; `OutFailed` comes only where the count of faults of `out` rose.
+/// Writes the listing of a byte stream: a line for each protocol header and each frame, with its
+/// offset. Where the bytes aren't whole units, the lines of the units before the first fault are
+/// written; `OutFailed` comes only where the count of faults of `out` rose.
 ///
 /// # Errors
 ///

@@ -9,7 +9,8 @@ use methods_091::Method91;
 
 /// The name of a method's class, and its own; one arm a row of the standard.
 pub(crate) fn method_name(method: &Method91) -> &'static [u8]
-    ensures { result.now ≡ method_name (class_of (kind_of method.now)) (id_of (kind_of method.now)) }
+    ensures { result.now ≡ method_name (class_of (kind_of method.now)) (id_of
+        (kind_of method.now)) }
 {
     match method {
         Method91::ConnectionStart { .. } => b"connection.start",

@@ -30,7 +30,8 @@ pub(crate) fn named(
     number: u64,
     after: &[u8],
 ) -> Result<ByteText, Memory>
-    ensures { IfOk result (λ text. text ≡ before.now ++ (decimal number ++ (codes " " ++ after.now))) }
+    ensures { IfOk result (λ text. text ≡ before.now ++ (decimal number ++ (codes " "
+        ++ after.now))) }
 {
     let mut text = counted(alloc, before, number)?;
     text.append(b" ")?;
@@ -45,7 +46,8 @@ pub(crate) fn sized(
     number: u64,
     size: u64,
 ) -> Result<ByteText, Memory>
-    ensures { IfOk result (λ text. text ≡ before.now ++ (decimal number ++ (codes " " ++ decimal size))) }
+    ensures { IfOk result (λ text. text ≡ before.now ++ (decimal number ++ (codes " "
+        ++ decimal size))) }
 {
     let mut text = counted(alloc, before, number)?;
     text.append(b" ")?;

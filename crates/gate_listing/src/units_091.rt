@@ -2,7 +2,8 @@
 
 ghost use Rattle.std.specs.Prelude.{◌≡◌, ℕ, ◌≤◌, length, IfOk};
 ghost use Rattle.wire_base.specs.Reading.{Gives};
-ghost use Rattle.gate_listing.specs.Scanning.{begins_with_a, content_in, frame_091_in, header_091_in, method_in, payload_in, unit_091_in};
+ghost use Rattle.gate_listing.specs.Scanning.{begins_with_a, content_in, frame_091_in};
+ghost use Rattle.gate_listing.specs.Scanning.{header_091_in, method_in, payload_in, unit_091_in};
 ghost use Rattle.frames_091.specs.FrameScan.{scan_of};
 ghost use Rattle.frames_091.specs.Headers.{header_scan};
 ghost use Rattle.methods_091.specs.Reading as methods;
@@ -71,7 +72,8 @@ fn content_line(
 
 /// The line of a frame at this offset.
 fn frame_line(alloc: Global, at: usize, frame: &Frame91) -> Result<ByteText, Stop<Fault>>
-    ensures { Gives (λ text. text) result (payload_in at frame.now.kind frame.now.channel frame.now.payload) }
+    ensures { Gives (λ text. text) result
+        (payload_in at frame.now.kind frame.now.channel frame.now.payload) }
 {
     let channel = frame.channel;
     let payload = frame.payload.as_slice();
@@ -90,7 +92,8 @@ fn first_frame(
     at: usize,
     bytes: &[u8],
 ) -> Result<(ByteText, usize), Stop<Fault>>
-    ensures exact { Gives (λ x. (x.0, x.1)) result (frame_091_in end at (scan_of most_091 bytes.now)) }
+    ensures exact { Gives (λ x. (x.0, x.1)) result (frame_091_in end at
+        (scan_of most_091 bytes.now)) }
     ensures within { IfOk result (λ x. x.1 ≤ length bytes.now) }
 {
     match scan_frame(alloc, bytes, MOST)? {
@@ -137,7 +140,8 @@ pub(crate) fn begins_with_a(bytes: &[u8]) -> bool
     }
 }
 
-/// The line of the unit with which the bytes begin, which end at `end`, and how many bytes the unit has.
+/// The line of the unit with which the bytes begin, which end at `end`, and how many bytes the unit
+/// has.
 #[tactic(auto, unfolding(crate::specs::Scanning::unit_091_in))]
 pub(crate) fn first_unit(
     alloc: Global,

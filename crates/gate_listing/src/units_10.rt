@@ -7,8 +7,10 @@ ghost use Rattle.frames_10.specs.Headers.{header_scan};
 ghost use Rattle.frames_10.specs.declared.frame.Kind10.TheVariants.{Amqp, Sasl};
 ghost use Rattle.performatives_10.specs.Reading.{code_of, perf_at, seen};
 ghost use Rattle.performatives_10.specs.View.{kind_of};
-ghost use Rattle.gate_listing.specs.Scanning.{body_in, fault_place, frame_10_in, header_10_in, performative_in, unit_10_in};
-ghost use Rattle.gate_listing.specs.Units.{empty_words, header_words, is_empty, most_10, performative_words, performed_words, sasl_words};
+ghost use Rattle.gate_listing.specs.Scanning.{body_in, fault_place, frame_10_in, header_10_in};
+ghost use Rattle.gate_listing.specs.Scanning.{performative_in, unit_10_in};
+ghost use Rattle.gate_listing.specs.Units.{empty_words, header_words, is_empty, most_10};
+ghost use Rattle.gate_listing.specs.Units.{performative_words, performed_words, sasl_words};
 
 use crate::fault::{UnitFault, further};
 use crate::performative_names::{is_sasl, performative_name};
@@ -49,7 +51,8 @@ fn performative_line(
     perf: &Perf,
     size: u64,
 ) -> Result<ByteText, Memory>
-    ensures { IfOk result (λ text. text ≡ performative_words kind channel (code_of (kind_of perf.now)) size) }
+    ensures { IfOk result (λ text. text ≡ performative_words kind channel (code_of
+        (kind_of perf.now)) size) }
 {
     let name = performative_name(perf);
     match kind {
@@ -58,7 +61,8 @@ fn performative_line(
     }
 }
 
-/// Where a fault of a frame's body counts: a value that can't be read at its own place, else the frame's offset.
+/// Where a fault of a frame's body counts: a value that can't be read at its own place, else the
+/// frame's offset.
 fn fault_place(at: usize, start: usize, fault: PerfFault) -> usize
     ensures { result ≡ fault_place at start fault }
 {
@@ -68,7 +72,8 @@ fn fault_place(at: usize, start: usize, fault: PerfFault) -> usize
     }
 }
 
-/// The line of a frame with what was read of its body, which begins so many bytes behind the frame's offset.
+/// The line of a frame with what was read of its body, which begins so many bytes behind the
+/// frame's offset.
 fn read_line(
     alloc: Global,
     at: usize,
@@ -136,7 +141,8 @@ fn first_frame(
     at: usize,
     bytes: &[u8],
 ) -> Result<(ByteText, usize), Stop<Fault>>
-    ensures exact { Gives (λ x. (x.0, x.1)) result (frame_10_in end at (scan_of most_10 bytes.now)) }
+    ensures exact { Gives (λ x. (x.0, x.1)) result (frame_10_in end at
+        (scan_of most_10 bytes.now)) }
     ensures within { IfOk result (λ x. x.1 ≤ length bytes.now) }
 {
     match scan_frame10(alloc, bytes, MOST)? {
@@ -173,7 +179,8 @@ fn first_header(
     at: usize,
     bytes: &[u8],
 ) -> Result<(ByteText, usize), Stop<Fault>>
-    ensures exact { Gives (λ x. (x.0, x.1)) result (header_10_in end at (header_scan Amqp bytes.now) (header_scan Sasl bytes.now)) }
+    ensures exact { Gives (λ x. (x.0, x.1)) result (header_10_in end at
+        (header_scan Amqp bytes.now) (header_scan Sasl bytes.now)) }
     ensures within { IfOk result (λ x. x.1 ≤ length bytes.now) }
 {
     let amqp = scan_header10(bytes, Kind10::Amqp);
@@ -192,7 +199,8 @@ fn first_header(
     }
 }
 
-/// The line of the unit with which the bytes begin, which end at `end`, and how many bytes the unit has.
+/// The line of the unit with which the bytes begin, which end at `end`, and how many bytes the unit
+/// has.
 #[tactic(auto, unfolding(crate::specs::Scanning::unit_10_in))]
 pub(crate) fn first_unit(
     alloc: Global,

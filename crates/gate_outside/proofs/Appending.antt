@@ -1,6 +1,7 @@
 -- What is added in two steps.
 use Rattle.std.proofs.lemmas.List.{drop-drop, take-append-drop}
-use Rattle.std.proofs.Common.{◌≡◌, ℕ, ◌+◌, List, ◌++◌, Option, None, Some, take, drop, append_assoc, ap, ◌∙◌, subst, sym}
+use Rattle.std.proofs.Common.{◌≡◌, ℕ, ◌+◌, List, ◌++◌, Option, None, Some, take, drop, append_assoc}
+use Rattle.std.proofs.Common.{ap, ◌∙◌, subst, sym}
 use Rattle.std.proofs.Math.Seq.{take-add}
 use Rattle.gate_outside.specs.Streams.{Appends}
 

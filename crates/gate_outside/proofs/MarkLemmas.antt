@@ -1,11 +1,13 @@
 -- The marks of a log, as its byte string grows.
-use Rattle.std.proofs.Common.{◌≡◌, ℕ, ◌+◌, ◌≤◌, Some, slice_get, List, [], ◌∷◌, ◌++◌, length, take, drop, map, ap, ◌∙◌, subst, arith, get_or, refl, ◌<◌, zero, suc}
+use Rattle.std.proofs.Common.{◌≡◌, ℕ, ◌+◌, ◌≤◌, Some, slice_get, List, [], ◌∷◌, ◌++◌, length, take}
+use Rattle.std.proofs.Common.{drop, map, ap, ◌∙◌, subst, arith, get_or, refl, ◌<◌, zero, suc}
 use Rattle.std.proofs.lemmas.Option.{slice_get_within, get_or_from_slice_get}
 use Rattle.gate_outside.specs.declared.log.Mark.{Mark}
 use Rattle.gate_outside.specs.declared.log.Call.{Call}
 use Rattle.gate_outside.specs.LogState.{entry_of}
 use Rattle.gate_outside.specs.Marks.{entry_at, AreWithin}
-use Rattle.std.proofs.lemmas.List.{drop-append-le, take-append-le, length-drop, take_all, drop_at, map-append}
+use Rattle.std.proofs.lemmas.List.{drop-append-le, take-append-le, length-drop, take_all, drop_at}
+use Rattle.std.proofs.lemmas.List.{map-append}
 
 -- a part of a text stands there still in a longer one
 pub part-append : (text more : List ℕ) (start len : ℕ) → start + len ≤ length text

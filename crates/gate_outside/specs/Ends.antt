@@ -1,5 +1,6 @@
 -- The open ends of pairs, what an answer does to them, and what a read or a write may answer.
-use Rattle.std.specs.Prelude.{◌≡◌, ℕ, ◌+◌, ◌≤◌, ◌==◌, Bool, true, false, not, ◌&&◌, ◌||◌, List, [], ◌∷◌, ◌++◌, length, take, drop, filter}
+use Rattle.std.specs.Prelude.{◌≡◌, ℕ, ◌+◌, ◌≤◌, ◌==◌, Bool, true, false, not, ◌&&◌, ◌||◌, List, []}
+use Rattle.std.specs.Prelude.{◌∷◌, ◌++◌, length, take, drop, filter}
 use Rattle.gate_outside.specs.declared.ports.End.{End}
 use Rattle.gate_outside.specs.declared.ports.End.TheVariants.{Client, Up}
 use Rattle.gate_outside.specs.declared.ports.Accepted.{Accepted}
@@ -49,7 +50,8 @@ abbrev pub ends_linked : Linked → ℕ → List (ℕ × End) → List (ℕ × E
 ends_linked linked.Ok pair ends = ends ++ (pair, Up) ∷ []
 ends_linked linked.Failed pair ends = ends
 
--- the first n bytes of the buffer came, and the rest of it stays; another answer leaves it as it was
+-- the first n bytes of the buffer came, and the rest of it stays; another answer leaves it as it
+-- was
 abbrev pub ReadsInto : Got → List ℕ → List ℕ → Type 0
 ReadsInto (got.Bytes n) old new = (1 ≤ n) × (n ≤ length old) × (drop n new ≡ drop n old)
 ReadsInto got.NotYet old new = new ≡ old

@@ -1,5 +1,6 @@
 -- The marks of a log over its byte string.
-use Rattle.std.specs.Prelude.{ℕ, ◌+◌, ◌≤◌, List, [], ◌∷◌, length, take, drop, map, vec_len, vec_capacity}
+use Rattle.std.specs.Prelude.{ℕ, ◌+◌, ◌≤◌, List, [], ◌∷◌, length, take, drop, map, vec_len}
+use Rattle.std.specs.Prelude.{vec_capacity}
 use Rattle.gate_outside.specs.declared.log.LogEntry.{LogEntry}
 use Rattle.gate_outside.specs.declared.log.Mark.{Mark}
 use Rattle.gate_outside.specs.declared.log.Log.TheInside.{Inside}

@@ -1,5 +1,6 @@
 -- How a source and a sink in memory answer.
-use Rattle.std.specs.Prelude.{ℕ, ◌-◌, ◌==◌, Bool, true, if◌then◌else◌, List, [], ◌∷◌, ◌++◌, length, drop, min}
+use Rattle.std.specs.Prelude.{ℕ, ◌-◌, ◌==◌, Bool, true, if◌then◌else◌, List, [], ◌∷◌, ◌++◌, length}
+use Rattle.std.specs.Prelude.{drop, min}
 use Rattle.gate_outside.specs.declared.calls.Calls.{Calls}
 use Rattle.gate_outside.specs.declared.streams.Drawn.{Drawn}
 use Rattle.gate_outside.specs.declared.streams.Drawn.TheVariants as drawn
@@ -20,7 +21,8 @@ drawn_from (x ∷ xs) room = drawn.Bytes (min room (length (x ∷ xs)))
 
 -- a source fails where the number of the call says so
 abbrev pub draw_answer : ℕ → SourceState → Drawn
-draw_answer room source = if is_to_fail source.calls then drawn.Failed else drawn_from source.left room
+draw_answer room source =
+    if is_to_fail source.calls then drawn.Failed else drawn_from source.left room
 
 -- the bytes that did not come are left
 abbrev pub left_after : Drawn → List ℕ → List ℕ
@@ -30,7 +32,8 @@ left_after drawn.Failed left = left
 
 -- a source after an answer
 abbrev pub after_draw : Drawn → SourceState → SourceState
-after_draw answer source = record { left = left_after answer source.left; calls = tried source.calls }
+after_draw answer source =
+    record { left = left_after answer source.left; calls = tried source.calls }
 
 -- what a sink holds, how many bytes more it takes, and its calls
 pub record SinkState : Type 0 where
@@ -44,7 +47,8 @@ sink_fails sink = if sink.room == 0 then true else is_to_fail sink.calls
 
 -- as much of what is offered as finds room
 abbrev pub sink_answer : ℕ → SinkState → Sunk
-sink_answer offered sink = if sink_fails sink then sunk.Failed else sunk.Took (min offered sink.room)
+sink_answer offered sink =
+    if sink_fails sink then sunk.Failed else sunk.Took (min offered sink.room)
 
 -- a sink after an answer
 abbrev pub after_sink : Sunk → List ℕ → SinkState → SinkState

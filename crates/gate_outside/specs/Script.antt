@@ -1,5 +1,7 @@
 -- How scripted ports answer, and what each answer does to what is left of their script.
-use Rattle.std.specs.Prelude.{ℕ, ◌+◌, ◌==◌, Bool, true, false, not, ◌&&◌, if◌then◌else◌, nat_lt, List, [], ◌∷◌, ◌++◌, length, drop, min, remove, Option, None, Some, slice_index_or, slice_set}
+use Rattle.std.specs.Prelude.{ℕ, ◌+◌, ◌==◌, Bool, true, false, not, ◌&&◌, if◌then◌else◌, nat_lt}
+use Rattle.std.specs.Prelude.{List, [], ◌∷◌, ◌++◌, length, drop, min, remove, Option, None, Some}
+use Rattle.std.specs.Prelude.{slice_index_or, slice_set}
 use Rattle.std.specs.List.{find, position_or_len}
 use Rattle.gate_outside.specs.declared.ports.End.{End}
 use Rattle.gate_outside.specs.declared.ports.End.TheVariants.{Client, Up}
@@ -15,7 +17,8 @@ use Rattle.gate_outside.specs.declared.pairs.Taken.{Taken}
 use Rattle.gate_outside.specs.CallCounts.{capped}
 use Rattle.gate_outside.specs.Ends.{is_end, ends_accepted}
 
--- Pairs: how many are accepted in all, the bytes taken at the ends of those accepted, and the open ends.
+-- Pairs: how many are accepted in all, the bytes taken at the ends of those accepted, and the open
+-- ends.
 pub record PairsState : Type 0 where
   pub most : ℕ
   pub taken : List Taken
@@ -23,7 +26,9 @@ pub record PairsState : Type 0 where
 
 -- the next pair, while there is one
 abbrev pub pair_answer : PairsState → Accepted
-pair_answer pairs = if nat_lt (length pairs.taken) pairs.most then accepted.Pair (length pairs.taken) else accepted.NotYet
+pair_answer pairs =
+    if nat_lt (length pairs.taken) pairs.most then accepted.Pair (length pairs.taken)
+    else accepted.NotYet
 
 -- no byte was taken at either end
 abbrev pub nothing_taken : Taken
@@ -37,7 +42,8 @@ taken_after accepted.Failed taken = taken
 
 -- an accepted pair has its client's end open, and nothing was taken at its ends
 abbrev pub pairs_accepted : Accepted → PairsState → PairsState
-pairs_accepted answer pairs = record pairs { taken = taken_after answer pairs.taken; ends = ends_accepted answer pairs.ends }
+pairs_accepted answer pairs =
+    record pairs { taken = taken_after answer pairs.taken; ends = ends_accepted answer pairs.ends }
 
 -- the bytes taken at one end of a pair
 abbrev pub taken_at_end : End → Taken → ℕ
@@ -56,7 +62,10 @@ more_at_end Up n taken = record taken { up = capped (taken.up + n) }
 -- so many bytes more were taken at an end
 abbrev pub more_taken : ℕ → End → ℕ → PairsState → PairsState
 more_taken pair end n pairs =
-    record pairs { taken = slice_set pairs.taken pair (more_at_end end n (slice_index_or pairs.taken pair nothing_taken)) }
+    record pairs {
+      taken = slice_set pairs.taken pair (more_at_end end n
+          (slice_index_or pairs.taken pair nothing_taken));
+    }
 
 -- Pieces: what reads give.
 -- no byte is left
@@ -83,7 +92,8 @@ bytes_or_end room (x ∷ xs) = got.Bytes (min room (length (x ∷ xs)))
 
 -- a piece is readable once so many bytes were taken at its end
 abbrev pub piece_answer : ℕ → ℕ → Piece → Got
-piece_answer room taken piece = if nat_lt taken piece.after then got.NotYet else bytes_or_end room piece.bytes
+piece_answer room taken piece =
+    if nat_lt taken piece.after then got.NotYet else bytes_or_end room piece.bytes
 
 -- where each piece of an end is used up, nothing comes
 abbrev pub pieces_answer : ℕ → ℕ → Option Piece → Got
@@ -113,11 +123,13 @@ bytes_of (Some piece) = piece.bytes
 -- the first item that passes a test is changed
 abbrev pub first_changed : {X : Type 0} → (X → Bool) → (X → X) → List X → List X
 first_changed test change [] = []
-first_changed test change (x ∷ xs) = if test x then change x ∷ xs else x ∷ first_changed test change xs
+first_changed test change (x ∷ xs) =
+    if test x then change x ∷ xs else x ∷ first_changed test change xs
 
 -- a read uses the current piece of its end, and none where it gives nothing
 abbrev pub pieces_after : ℕ → End → Got → List Piece → List Piece
-pieces_after pair end (got.Bytes n) pieces = first_changed (is_left pair end) (without_front n) pieces
+pieces_after pair end (got.Bytes n) pieces =
+    first_changed (is_left pair end) (without_front n) pieces
 pieces_after pair end got.Ended pieces = first_changed (is_left pair end) without_end pieces
 pieces_after pair end got.NotYet pieces = pieces
 pieces_after pair end got.Failed pieces = pieces
@@ -130,7 +142,8 @@ is_room_of pair end room = is_end pair end (room.pair, room.end)
 -- a write takes all where no room is left for its end
 abbrev pub room_answer : ℕ → Option Room → Put
 room_answer offered None = put.Took offered
-room_answer offered (Some room) = if room.most == 0 then put.NotYet else put.Took (min offered room.most)
+room_answer offered (Some room) =
+    if room.most == 0 then put.NotYet else put.Took (min offered room.most)
 
 -- a write uses the first room of its end
 abbrev pub rooms_after : ℕ → End → List Room → List Room

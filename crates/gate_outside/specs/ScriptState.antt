@@ -20,7 +20,9 @@ use Rattle.gate_outside.specs.declared.telling.Telling.{Telling}
 use Rattle.gate_outside.specs.declared.script.Script.{Script}
 use Rattle.gate_outside.specs.CallCounts.{is_to_fail, counted, tried}
 use Rattle.gate_outside.specs.Ends.{ends_linked, closed}
-use Rattle.gate_outside.specs.Script.{PairsState, ClockState, pair_answer, pairs_accepted, taken_at, more_taken, current_piece, pieces_answer, pieces_after, is_room_of, room_answer, rooms_after, clock_after}
+use Rattle.gate_outside.specs.Script.{PairsState, ClockState, pair_answer, pairs_accepted, taken_at}
+use Rattle.gate_outside.specs.Script.{more_taken, current_piece, pieces_answer, pieces_after}
+use Rattle.gate_outside.specs.Script.{is_room_of, room_answer, rooms_after, clock_after}
 use Rattle.gate_outside.specs.Telling.{told}
 
 -- what is left of a script, the calls and pairs so far, and the log
@@ -90,7 +92,8 @@ HasCome got.Failed buffer = Unit {0}
 -- a write takes what the first room of its end says
 abbrev pub write_answer : ℕ → End → ℕ → ScriptState → Put
 write_answer pair end offered script =
-    if is_to_fail script.calls then put.Failed else room_answer offered (find (is_room_of pair end) script.rooms)
+    if is_to_fail script.calls then put.Failed else room_answer offered (find
+    (is_room_of pair end) script.rooms)
 
 -- a write that failed uses no room
 abbrev pub rooms_written : ℕ → End → Put → List Room → List Room

@@ -28,7 +28,8 @@ abbrev pub sunk_bytes : Sunk → List ℕ → List ℕ
 sunk_bytes (sunk.Took n) bytes = take n bytes
 sunk_bytes sunk.Failed bytes = []
 
--- the first n bytes of the buffer came, and the rest of it stays; another answer leaves it as it was
+-- the first n bytes of the buffer came, and the rest of it stays; another answer leaves it as it
+-- was
 abbrev pub DrawsInto : Drawn → List ℕ → List ℕ → Type 0
 DrawsInto (drawn.Bytes n) old new = (1 ≤ n) × (n ≤ length old) × (drop n new ≡ drop n old)
 DrawsInto drawn.Ended old new = new ≡ old

@@ -1,5 +1,6 @@
 -- A log that is told until an entry finds no room.
-use Rattle.std.specs.Prelude.{ℕ, true, false, ◌&&◌, if◌then◌else◌, List, length, reverse, Option, None, Some}
+use Rattle.std.specs.Prelude.{ℕ, true, false, ◌&&◌, if◌then◌else◌, List, length, reverse, Option}
+use Rattle.std.specs.Prelude.{None, Some}
 use Rattle.gate_outside.specs.declared.log.LogEntry.{LogEntry}
 use Rattle.gate_outside.specs.declared.log.Call.{Call}
 use Rattle.gate_outside.specs.declared.telling.Telling.{Telling}

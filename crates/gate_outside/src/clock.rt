@@ -5,7 +5,8 @@ ghost use Rattle.gate_outside.specs.Script.{ClockState, clock_after};
 
 use std::marker::Model;
 
-/// A clock that gives 0 first and the same step more at each call. It stands still at the largest `u64`.
+/// A clock that gives 0 first and the same step more at each call. It stands still at the largest
+/// `u64`.
 #[derive(Debug, Drop)]
 pub struct Clock {
     next: u64,

@@ -21,7 +21,8 @@ pub enum LogEntry {
         pair: u32,
         answer: Linked,
     },
-    /// `room` is the length of the buffer, `bytes` what came: as many as a `Bytes` answer says, else none.
+    /// `room` is the length of the buffer, `bytes` what came: as many as a `Bytes` answer says,
+    /// else none.
     Read {
         pair: u32,
         end: End,
@@ -92,7 +93,8 @@ struct Mark {
     len: usize,
 }
 
-/// A log whose memory is reserved when it is made. Contracts see its entries, and the room that it has left.
+/// A log whose memory is reserved when it is made. Contracts see its entries, and the room that it
+/// has left.
 #[derive(Debug, Drop)]
 pub struct Log {
     marks: Vec<Mark>,
@@ -116,7 +118,8 @@ impl Model for Log {
 impl Log {
     /// An empty log with room for so many entries, whose bytes are so many in all.
     pub fn new(alloc: Global, entries: usize, bytes: usize) -> Result<Log, Memory>
-        ensures { IfOk result (λ log. log ≡ record { entries = []; entry_room = entries; byte_room = bytes }) }
+        ensures { IfOk result (λ log. log
+            ≡ record { entries = []; entry_room = entries; byte_room = bytes }) }
     {
         let marks = Vec::with_capacity(alloc, entries)?;
         let text = Vec::with_capacity(alloc, bytes)?;
@@ -148,7 +151,8 @@ impl Log {
         }
     }
 
-    /// Adds the entry of a call, with the bytes that came or were offered, where it finds room. It takes no memory.
+    /// Adds the entry of a call, with the bytes that came or were offered, where it finds room. It
+    /// takes no memory.
     pub fn add(&mut self, call: Call, bytes: &[u8]) -> bool
         ensures room { result ≡ finds_room (length bytes.now) self.old }
         ensures added { OnTrue result (self.new ≡ added call bytes.now self.old) }

@@ -3,7 +3,8 @@
 ghost use Rattle.std.specs.Prelude.{◌≡◌, ◌+◌, ◌<◌, ◌≤◌, [], length, IfOk};
 ghost use Rattle.gate_outside.specs.Counts.{Rose};
 ghost use Rattle.gate_outside.specs.Streams.{Appends, SinksSome, sunk_bytes, DrawsInto, Draws};
-ghost use Rattle.gate_outside.specs.MemoryStreams.{draw_answer, after_draw, sink_answer, after_sink};
+ghost use Rattle.gate_outside.specs.MemoryStreams.{draw_answer, after_draw, sink_answer};
+ghost use Rattle.gate_outside.specs.MemoryStreams.{after_sink};
 
 use crate::calls::{CallList, Calls};
 use crate::copying::copy_front;
@@ -33,9 +34,11 @@ impl Model for MemorySource {
 }
 
 impl MemorySource {
-    /// A source that gives these bytes. It fails at the calls with these numbers, which count from 0.
+    /// A source that gives these bytes. It fails at the calls with these numbers, which count from
+    /// 0.
     pub fn new(bytes: ByteText, fails: CallList) -> MemorySource
-        ensures { result ≡ record { left = bytes; calls = record { fails = fails; call = 0; faults = 0 } } }
+        ensures { result
+            ≡ record { left = bytes; calls = record { fails = fails; call = 0; faults = 0 } } }
     {
         MemorySource {
             bytes,
@@ -94,7 +97,8 @@ impl Model for MemorySink {
 }
 
 impl MemorySink {
-    /// A sink with room for so many bytes. It fails at the calls with these numbers, which count from 0.
+    /// A sink with room for so many bytes. It fails at the calls with these numbers, which count
+    /// from 0.
     pub fn new(alloc: Global, room: usize, fails: CallList) -> Result<MemorySink, Memory>
         ensures { IfOk result (λ sink. sink ≡ record {
           held = [];
@@ -130,7 +134,8 @@ impl Sink for MemorySink {
         ensures later { self.old.calls.faults ≤ self.new.calls.faults }
         ensures cause { result ≡ Sunk.Failed → Rose self.old.calls.faults self.new.calls.faults }
         ensures taken { SinksSome result (length bytes.now) }
-        ensures held { Appends (Some self.old.held) (Some self.new.held) (sunk_bytes result bytes.now) }
+        ensures held { Appends (Some self.old.held) (Some self.new.held)
+            (sunk_bytes result bytes.now) }
         ensures answer { result ≡ sink_answer (length bytes.now) self.old }
         ensures goes { self.new ≡ after_sink result bytes.now self.old }
     {

@@ -3,7 +3,8 @@
 ghost use Rattle.std.specs.Prelude.{◌≡◌, ◌<◌, [], ◌∷◌, ◌++◌, false, length, IfOk};
 ghost use Rattle.gate_outside.specs.declared.ports.End.{End};
 ghost use Rattle.gate_outside.specs.Ends.{is_end, is_open, closed};
-ghost use Rattle.gate_outside.specs.Script.{PairsState, pair_answer, pairs_accepted, taken_at, taken_at_end, more_taken, more_at_end};
+ghost use Rattle.gate_outside.specs.Script.{PairsState, pair_answer, pairs_accepted, taken_at};
+ghost use Rattle.gate_outside.specs.Script.{taken_at_end, more_taken, more_at_end};
 
 use crate::ports::{Accepted, End};
 use std::alloc::Global;

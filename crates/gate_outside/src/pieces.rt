@@ -2,7 +2,8 @@
 
 ghost use Rattle.std.specs.Prelude.{◌≡◌, ◌<◌, length, IfOk, position};
 ghost use Rattle.gate_outside.specs.Ends.{ReadsInto, got_bytes};
-ghost use Rattle.gate_outside.specs.Script.{is_left, current_piece, piece_answer, piece_after, pieces_answer, pieces_after, bytes_of};
+ghost use Rattle.gate_outside.specs.Script.{is_left, current_piece, piece_answer, piece_after};
+ghost use Rattle.gate_outside.specs.Script.{pieces_answer, pieces_after, bytes_of};
 
 use crate::copying::copy_front;
 use crate::ports::{End, Got};
@@ -10,7 +11,8 @@ use std::alloc::Global;
 use std::marker::Model;
 use wire_base::{ByteText, ItemList, Memory};
 
-/// Bytes that reads at an end give, once `after` bytes were taken at that end and its earlier pieces are used up. Where
+/// Bytes that reads at an end give, once `after` bytes were taken at that end and its earlier
+/// pieces are used up. Where
 /// `ends` is set, the read after the last of the bytes answers `Ended`.
 #[derive(Debug, Drop)]
 pub struct Piece {
@@ -128,10 +130,12 @@ impl PiecesLeft {
     /// Answers a read at an end, where so many bytes were taken there.
     pub fn read(&mut self, pair: u32, end: End, taken: u64, buf: &mut [u8]) -> Got
         requires { 0 < length buf.old }
-        ensures answer { result ≡ pieces_answer (length buf.old) taken (current_piece pair end self.old) }
+        ensures answer { result ≡ pieces_answer (length buf.old) taken
+            (current_piece pair end self.old) }
         ensures goes { self.new ≡ pieces_after pair end result self.old }
         ensures bytes { ReadsInto result buf.old buf.new }
-        ensures came { got_bytes result buf.new ≡ got_bytes result (bytes_of (current_piece pair end self.old)) }
+        ensures came { got_bytes result buf.new ≡ got_bytes result (bytes_of
+            (current_piece pair end self.old)) }
     {
         match self.current(pair, end) {
             Some(at) => {

@@ -1,10 +1,12 @@
-//! The ports of the gateway: clients' ends that are accepted, upstream ends that are connected, and the clock.
+//! The ports of the gateway: clients' ends that are accepted, upstream ends that are connected, and
+//! the clock.
 
 ghost use Rattle.std.specs.Prelude.{◌≡◌, ℕ, ◌+◌, ◌<◌, ◌≤◌, ◌^◌, List, length, Option, true, false};
 ghost use Rattle.gate_outside.specs.Counts.{Rose};
 ghost use Rattle.gate_outside.specs.declared.ports.End.{End};
 ghost use Rattle.gate_outside.specs.declared.log.LogEntry.{LogEntry};
-ghost use Rattle.gate_outside.specs.Ends.{is_open, closed, IsNumbered, pairs_after, ends_accepted, ends_linked, ReadsInto, got_bytes, TakesSome};
+ghost use Rattle.gate_outside.specs.Ends.{is_open, closed, IsNumbered, pairs_after, ends_accepted};
+ghost use Rattle.gate_outside.specs.Ends.{ends_linked, ReadsInto, got_bytes, TakesSome};
 ghost use Rattle.gate_outside.specs.History.{Tells};
 
 /// An end of a pair: that of its client, or that of its upstream connection.
@@ -53,8 +55,8 @@ pub enum Next {
     Stop,
 }
 
-/// What the gateway asks of the outside. A call changes only what its clauses name, and `Failed` comes only where the
-/// count of faults rose in that call.
+/// What the gateway asks of the outside. A call changes only what its clauses name, and `Failed`
+/// comes only where the count of faults rose in that call.
 pub trait Ports {
     /// A count of faults, which never falls.
     ghost faults: { Self → ℕ };
@@ -118,7 +120,8 @@ pub trait Ports {
         ensures pairs { pairs self.new ≡ pairs self.old }
         ensures ends { ends self.new ≡ ends self.old }
         ensures last { last self.new ≡ last self.old }
-        ensures log { Tells (log self.old) (log self.new) (LogEntry.Write pair end bytes.now result) };
+        ensures log { Tells (log self.old) (log self.new)
+            (LogEntry.Write pair end bytes.now result) };
 
     /// Closes an end.
     fn shut(&mut self, pair: u32, end: End)

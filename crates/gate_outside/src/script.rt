@@ -5,7 +5,8 @@ ghost use Rattle.gate_outside.specs.Counts.{Rose};
 ghost use Rattle.gate_outside.specs.declared.ports.End.{End};
 ghost use Rattle.gate_outside.specs.declared.log.LogEntry.{LogEntry};
 ghost use Rattle.gate_outside.specs.declared.log.Call.TheVariants as call;
-ghost use Rattle.gate_outside.specs.Ends.{is_open, closed, IsNumbered, pairs_after, ends_accepted, ends_linked, ReadsInto, got_bytes, TakesSome};
+ghost use Rattle.gate_outside.specs.Ends.{is_open, closed, IsNumbered, pairs_after, ends_accepted};
+ghost use Rattle.gate_outside.specs.Ends.{ends_linked, ReadsInto, got_bytes, TakesSome};
 ghost use Rattle.gate_outside.specs.History.{Tells};
 ghost use Rattle.gate_outside.specs.Script.{bytes_of, current_piece};
 ghost use Rattle.gate_outside.specs.Telling.{told_log};
@@ -23,9 +24,10 @@ use std::alloc::Global;
 use std::marker::Model;
 use wire_base::Memory;
 
-/// What scripted ports answer. They give so many pairs, answer `Go` so many times to `idle`, and step the clock by
-/// `step` milliseconds at each `now`. The calls whose numbers stand in `fails` answer `Failed`, if their kind can: all
-/// calls are numbered together, from 0.
+/// What scripted ports answer. They give so many pairs, answer `Go` so many times to `idle`, and
+/// step the clock by
+/// `step` milliseconds at each `now`. The calls whose numbers stand in `fails` answer `Failed`, if
+/// their kind can: all calls are numbered together, from 0.
 #[derive(Debug, Drop)]
 pub struct Script {
     pub pairs: u32,
@@ -65,9 +67,12 @@ impl Model for ScriptPorts {
 }
 
 impl ScriptPorts {
-    ghost use Rattle.gate_outside.specs.ScriptState.{fresh, accept_answer, after_accept, connect_answer, after_connect, read_answer, after_read, write_answer, after_write};
+    ghost use Rattle.gate_outside.specs.ScriptState.{fresh, accept_answer, after_accept};
+    ghost use Rattle.gate_outside.specs.ScriptState.{connect_answer, after_connect, read_answer};
+    ghost use Rattle.gate_outside.specs.ScriptState.{after_read, write_answer, after_write};
 
-    /// Ports that play a script from its start, with a log of so many entries, whose bytes are so many in all.
+    /// Ports that play a script from its start, with a log of so many entries, whose bytes are so
+    /// many in all.
     pub fn new(
         alloc: Global,
         script: Script,
@@ -102,7 +107,8 @@ impl ScriptPorts {
         ensures answer { result ≡ accept_answer self.old }
         ensures goes { self.new ≡ after_accept result self.old }
         ensures later { self.old.calls.faults ≤ self.new.calls.faults }
-        ensures cause { result ≡ Accepted.Failed → Rose self.old.calls.faults self.new.calls.faults }
+        ensures cause { result ≡ Accepted.Failed
+            → Rose self.old.calls.faults self.new.calls.faults }
     {
         if self.calls.fails() {
             return Accepted::Failed;
@@ -128,7 +134,8 @@ impl ScriptPorts {
     fn read_piece(&mut self, pair: u32, end: End, buf: &mut [u8]) -> Got
         requires { 0 < length buf.old }
         ensures answer { result ≡ read_answer pair end (length buf.old) self.old }
-        ensures came { got_bytes result buf.new ≡ got_bytes result (bytes_of (current_piece pair end self.old.pieces)) }
+        ensures came { got_bytes result buf.new ≡ got_bytes result (bytes_of
+            (current_piece pair end self.old.pieces)) }
         ensures goes { self.new ≡ after_read pair end result self.old }
         ensures bytes { ReadsInto result buf.old buf.new }
         ensures later { self.old.calls.faults ≤ self.new.calls.faults }
@@ -172,7 +179,11 @@ fn bytes_that_came(answer: Got, buf: &[u8]) -> &[u8]
 }
 
 impl Ports for ScriptPorts {
-    ghost use Rattle.gate_outside.specs.ScriptState.{logged, accept_answer, after_accept, connect_answer, after_connect, read_answer, after_read, write_answer, after_write, after_shut, idle_answer, after_idle, after_now};
+    ghost use Rattle.gate_outside.specs.ScriptState.{logged, accept_answer, after_accept};
+    ghost use Rattle.gate_outside.specs.ScriptState.{connect_answer, after_connect, read_answer};
+    ghost use Rattle.gate_outside.specs.ScriptState.{after_read, write_answer, after_write};
+    ghost use Rattle.gate_outside.specs.ScriptState.{after_shut, idle_answer, after_idle};
+    ghost use Rattle.gate_outside.specs.ScriptState.{after_now};
 
     ghost faults = { λ ports. ports.calls.faults };
 
@@ -187,12 +198,15 @@ impl Ports for ScriptPorts {
     fn accept(&mut self) -> Accepted
         requires { length self.old.pairs.taken < 4294967295 }
         ensures later { self.old.calls.faults ≤ self.new.calls.faults }
-        ensures cause { result ≡ Accepted.Failed → Rose self.old.calls.faults self.new.calls.faults }
+        ensures cause { result ≡ Accepted.Failed
+            → Rose self.old.calls.faults self.new.calls.faults }
         ensures number { IsNumbered result (length self.old.pairs.taken) }
-        ensures pairs { length self.new.pairs.taken ≡ pairs_after result (length self.old.pairs.taken) }
+        ensures pairs { length self.new.pairs.taken ≡ pairs_after result
+            (length self.old.pairs.taken) }
         ensures ends { self.new.pairs.ends ≡ ends_accepted result self.old.pairs.ends }
         ensures last { self.new.clock.last ≡ self.old.clock.last }
-        ensures log { Tells (told_log self.old.telling) (told_log self.new.telling) (LogEntry.Accept result) }
+        ensures log { Tells (told_log self.old.telling) (told_log self.new.telling)
+            (LogEntry.Accept result) }
         ensures answer { result ≡ accept_answer self.old }
         ensures goes { self.new ≡ logged (call.Accept result) [] (after_accept result self.old) }
     {
@@ -209,9 +223,11 @@ impl Ports for ScriptPorts {
         ensures pairs { length self.new.pairs.taken ≡ length self.old.pairs.taken }
         ensures ends { self.new.pairs.ends ≡ ends_linked result pair self.old.pairs.ends }
         ensures last { self.new.clock.last ≡ self.old.clock.last }
-        ensures log { Tells (told_log self.old.telling) (told_log self.new.telling) (LogEntry.Connect pair result) }
+        ensures log { Tells (told_log self.old.telling) (told_log self.new.telling)
+            (LogEntry.Connect pair result) }
         ensures answer { result ≡ connect_answer self.old }
-        ensures goes { self.new ≡ logged (call.Connect pair result) [] (after_connect pair result self.old) }
+        ensures goes { self.new ≡ logged (call.Connect pair result) []
+            (after_connect pair result self.old) }
     {
         let answer = self.connect_to(pair);
         self.telling.tell(Call::Connect { pair, answer }, &[]);
@@ -231,8 +247,10 @@ impl Ports for ScriptPorts {
         ensures log { Tells (told_log self.old.telling) (told_log self.new.telling)
             (LogEntry.Read pair end (length buf.old) result (got_bytes result buf.new)) }
         ensures answer { result ≡ read_answer pair end (length buf.old) self.old }
-        ensures came { got_bytes result buf.new ≡ got_bytes result (bytes_of (current_piece pair end self.old.pieces)) }
-        ensures goes { self.new ≡ logged (call.Read pair end (length buf.old) result) (got_bytes result buf.new)
+        ensures came { got_bytes result buf.new ≡ got_bytes result (bytes_of
+            (current_piece pair end self.old.pieces)) }
+        ensures goes { self.new ≡ logged (call.Read pair end (length buf.old) result)
+            (got_bytes result buf.new)
             (after_read pair end result self.old) }
     {
         let answer = self.read_piece(pair, end, buf);
@@ -256,9 +274,11 @@ impl Ports for ScriptPorts {
         ensures pairs { length self.new.pairs.taken ≡ length self.old.pairs.taken }
         ensures ends { self.new.pairs.ends ≡ self.old.pairs.ends }
         ensures last { self.new.clock.last ≡ self.old.clock.last }
-        ensures log { Tells (told_log self.old.telling) (told_log self.new.telling) (LogEntry.Write pair end bytes.now result) }
+        ensures log { Tells (told_log self.old.telling) (told_log self.new.telling)
+            (LogEntry.Write pair end bytes.now result) }
         ensures answer { result ≡ write_answer pair end (length bytes.now) self.old }
-        ensures goes { self.new ≡ logged (call.Write pair end result) bytes.now (after_write pair end result self.old) }
+        ensures goes { self.new ≡ logged (call.Write pair end result) bytes.now
+            (after_write pair end result self.old) }
     {
         let answer = self.write_room(pair, end, bytes.len());
         self.telling.tell(Call::Write { pair, end, answer }, bytes);
@@ -270,7 +290,8 @@ impl Ports for ScriptPorts {
         ensures pairs { length self.new.pairs.taken ≡ length self.old.pairs.taken }
         ensures ends { self.new.pairs.ends ≡ closed pair end self.old.pairs.ends }
         ensures last { self.new.clock.last ≡ self.old.clock.last }
-        ensures log { Tells (told_log self.old.telling) (told_log self.new.telling) (LogEntry.Shut pair end) }
+        ensures log { Tells (told_log self.old.telling) (told_log self.new.telling)
+            (LogEntry.Shut pair end) }
         ensures goes { self.new ≡ logged (call.Shut pair end) [] (after_shut pair end self.old) }
     {
         self.calls.count();
@@ -283,7 +304,8 @@ impl Ports for ScriptPorts {
         ensures pairs { length self.new.pairs.taken ≡ length self.old.pairs.taken }
         ensures ends { self.new.pairs.ends ≡ self.old.pairs.ends }
         ensures last { self.new.clock.last ≡ self.old.clock.last }
-        ensures log { Tells (told_log self.old.telling) (told_log self.new.telling) (LogEntry.Idle result) }
+        ensures log { Tells (told_log self.old.telling) (told_log self.new.telling)
+            (LogEntry.Idle result) }
         ensures answer { result ≡ idle_answer self.old }
         ensures goes { self.new ≡ logged (call.Idle result) [] (after_idle self.old) }
     {
@@ -304,7 +326,8 @@ impl Ports for ScriptPorts {
         ensures last { self.new.clock.last ≡ result }
         ensures pairs { length self.new.pairs.taken ≡ length self.old.pairs.taken }
         ensures ends { self.new.pairs.ends ≡ self.old.pairs.ends }
-        ensures log { Tells (told_log self.old.telling) (told_log self.new.telling) (LogEntry.Now result) }
+        ensures log { Tells (told_log self.old.telling) (told_log self.new.telling)
+            (LogEntry.Now result) }
         ensures answer { result ≡ self.old.clock.next }
         ensures goes { self.new ≡ logged (call.Now result) [] (after_now self.old) }
     {

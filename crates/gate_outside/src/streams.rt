@@ -2,7 +2,8 @@
 
 ghost use Rattle.std.specs.Prelude.{◌≡◌, ℕ, ◌+◌, ◌<◌, ◌≤◌, List, [], length, Option, true, false};
 ghost use Rattle.gate_outside.specs.Counts.{Rose};
-ghost use Rattle.gate_outside.specs.Streams.{Appends, AppendsFront, SinksSome, sunk_bytes, DrawsInto, Draws};
+ghost use Rattle.gate_outside.specs.Streams.{Appends, AppendsFront, SinksSome, sunk_bytes};
+ghost use Rattle.gate_outside.specs.Streams.{DrawsInto, Draws};
 
 /// The answer of a source; the number is a count of bytes.
 #[derive(Clone, Copy, Debug, PartialEq, Eq)]
@@ -53,7 +54,8 @@ pub trait Sink {
         ensures held { Appends (held self.old) (held self.new) (sunk_bytes result bytes.now) };
 }
 
-/// Writes all the bytes. `false` comes only where the sink's count of faults rose; a front part of the bytes was then taken.
+/// Writes all the bytes. `false` comes only where the sink's count of faults rose; a front part of
+/// the bytes was then taken.
 pub fn write_all<K: Sink>(sink: &mut K, bytes: &[u8]) -> bool
     ensures later { K.faults sink.old ≤ K.faults sink.new }
     ensures cause { result ≡ false → Rose (K.faults sink.old) (K.faults sink.new) }

@@ -6,9 +6,11 @@ use Rattle.gate_outside.specs.declared.ports.Got.{Got}
 use Rattle.gate_outside.specs.declared.ports.Got.TheVariants as got
 use Rattle.gate_outside.specs.declared.ports.Put.{Put}
 use Rattle.gate_outside.specs.declared.ports.Put.TheVariants as put
-use Rattle.gate_outside.specs.declared.log.LogEntry.TheVariants.{Accept, Connect, Read, Write, Shut, Idle, Now}
+use Rattle.gate_outside.specs.declared.log.LogEntry.TheVariants.{Accept, Connect, Read, Write, Shut}
+use Rattle.gate_outside.specs.declared.log.LogEntry.TheVariants.{Idle, Now}
 use Rattle.gate_relay.specs.declared.loss.Loss.TheVariants as loss
-use Rattle.gate_relay.specs.Entries.{Entry, Began, Refused, Moment, Came, Dry, Settled, Joined, Took, Stuck, Lost, OutOfMemory, Over}
+use Rattle.gate_relay.specs.Entries.{Entry, Began, Refused, Moment, Came, Dry, Settled, Joined}
+use Rattle.gate_relay.specs.Entries.{Took, Stuck, Lost, OutOfMemory, Over}
 use Rattle.gate_runs.specs.Marks.{Mark, History, Call, Refuse, TakeUp, RunOut, Finish}
 
 -- the last moment that was given
@@ -41,8 +43,10 @@ with_mark p ms (Call (Accept (accepted.Pair q))) h = if q == p then Began p ms �
 with_mark p ms (Call (Accept accepted.NotYet)) h = h
 with_mark p ms (Call (Accept accepted.Failed)) h = h
 with_mark p ms (Call (Connect q answer)) h = if q == p then Joined answer ∷ h else h
-with_mark p ms (Call (Read q end room answer bytes)) h = if q == p then read_entry end answer bytes ∷ h else h
-with_mark p ms (Call (Write q end bytes answer)) h = if q == p then write_entry end bytes answer ∷ h else h
+with_mark p ms (Call (Read q end room answer bytes)) h =
+    if q == p then read_entry end answer bytes ∷ h else h
+with_mark p ms (Call (Write q end bytes answer)) h =
+    if q == p then write_entry end bytes answer ∷ h else h
 with_mark p ms (Call (Shut q end)) h = if q == p then Lost end loss.Shut ∷ h else h
 with_mark p ms (Call (Idle answer)) h = h
 with_mark p ms (Call (Now now)) h = since (Moment now) h

@@ -11,8 +11,8 @@ pub data Mark : Type 0 where
   Refuse : ℕ → Mark
   -- what came of this pair was taken up, as far as it could be
   TakeUp : ℕ → Mark
-  -- this pair ran out of memory, and its part of the turn goes on at this stage; of what the mark before brought, the newest
-  -- so many steps don't count
+  -- this pair ran out of memory, and its part of the turn goes on at this stage; of what the mark
+  -- before brought, the newest so many steps don't count
   RunOut : ℕ → Stage → ℕ → Mark
   -- the service ended so
   Finish : Served → Mark
@@ -36,7 +36,8 @@ HasHistory base None P = Unit {0}
 HasHistory base (Some log) P = (m : History) × (log ≡ calls m ++ base) × P m
 
 -- from told calls to told calls: each history of the first goes on to one of the second, by R
-abbrev pub Extends : Option (List LogEntry) → Option (List LogEntry) → (History → History → Type 0) → Type 0
+abbrev pub Extends : Option (List LogEntry) → Option (List LogEntry) → (History → History
+    → Type 0) → Type 0
 Extends old None R = Unit {0}
 Extends None (Some new) R = ⊥
 Extends (Some old) (Some new) R = (m : History) (base : List LogEntry) → old ≡ calls m ++ base →

@@ -1,6 +1,7 @@
--- The marks of a run are determined: each is a function of those before it and of what the words of its pairs' journals say.
--- All histories are newest first.
-use Rattle.std.specs.Prelude.{ℕ, ◌+◌, ◌==◌, nat_lt, Bool, true, false, not, ◌&&◌, if◌then◌else◌, List, [], ◌∷◌, ◌++◌, length, filter, Option, None, Some, unwrap_or}
+-- The marks of a run are determined: each is a function of those before it and of what the words of
+-- its pairs' journals say. All histories are newest first.
+use Rattle.std.specs.Prelude.{ℕ, ◌+◌, ◌==◌, nat_lt, Bool, true, false, not, ◌&&◌, if◌then◌else◌}
+use Rattle.std.specs.Prelude.{List, [], ◌∷◌, ◌++◌, length, filter, Option, None, Some, unwrap_or}
 use Rattle.std.specs.Option.{option_map}
 use Rattle.gate_outside.specs.declared.ports.End.{End}
 use Rattle.gate_outside.specs.declared.ports.End.TheVariants.{Client, Up}
@@ -11,7 +12,8 @@ use Rattle.gate_outside.specs.declared.ports.Put.{Put}
 use Rattle.gate_outside.specs.declared.ports.Put.TheVariants as put
 use Rattle.gate_outside.specs.declared.ports.Next.TheVariants.{Go, Stop}
 use Rattle.gate_outside.specs.declared.log.LogEntry.{LogEntry}
-use Rattle.gate_outside.specs.declared.log.LogEntry.TheVariants.{Accept, Connect, Read, Write, Shut, Idle, Now}
+use Rattle.gate_outside.specs.declared.log.LogEntry.TheVariants.{Accept, Connect, Read, Write, Shut}
+use Rattle.gate_outside.specs.declared.log.LogEntry.TheVariants.{Idle, Now}
 use Rattle.gate_relay.specs.Entries.{Entry, is_empty}
 use Rattle.gate_relay.specs.Guards.{reads, takes_up, connects, offers, shuts}
 use Rattle.gate_relay.specs.Relayed.{read_room}
@@ -23,7 +25,8 @@ use Rattle.gate_runs.specs.declared.served.Served.TheVariants.{Stopped, PairsDon
 use Rattle.gate_runs.specs.declared.served.Outside.TheVariants as outside
 use Rattle.gate_runs.specs.Journal.{journal}
 use Rattle.gate_runs.specs.Marks.{History, Call, Refuse, TakeUp, RunOut, Finish}
-use Rattle.gate_runs.specs.Stages.{Stage, Reading, Taking, Linking, Writing, Shutting, Past, later, stages_from, writing_at, one_more, lap_end}
+use Rattle.gate_runs.specs.Stages.{Stage, Reading, Taking, Linking, Writing, Shutting, Past, later}
+use Rattle.gate_runs.specs.Stages.{stages_from, writing_at, one_more, lap_end}
 
 -- ---- what comes next
 
@@ -70,7 +73,8 @@ ask w p (Reading end) h = where_due (reads w end h) (Do (AskRead p end read_room
 ask w p Taking h = where_due (takes_up w h) (Settle p)
 ask w p Linking h = where_due (connects w h) (Do (AskConnect p))
 ask w p (Writing lap k) h =
-    if nat_lt k most_writes then option_map (λ bytes. Do (AskWrite p (lap_end lap) bytes)) (offers w (lap_end lap) h) else None
+    if nat_lt k most_writes then option_map (λ bytes. Do (AskWrite p (lap_end lap) bytes))
+    (offers w (lap_end lap) h) else None
 ask w p (Shutting end) h = where_due (shuts w end h) (Do (AskShut p end))
 ask w p Past h = None
 
@@ -113,7 +117,8 @@ unless_gone false p ps = without p ps
 abbrev pub live_pairs : History → List ℕ
 live_pairs [] = []
 live_pairs (Call (Accept (accepted.Pair p)) ∷ m) = live_pairs m ++ p ∷ []
-live_pairs (Call (Shut p end) ∷ m) = unless_gone (has_end (sides (journal p (Call (Shut p end) ∷ m)))) p (live_pairs m)
+live_pairs (Call (Shut p end) ∷ m) =
+    unless_gone (has_end (sides (journal p (Call (Shut p end) ∷ m)))) p (live_pairs m)
 live_pairs (x ∷ m) = live_pairs m
 
 -- the turns begun: each begins with the clock
@@ -122,7 +127,8 @@ turns_begun [] = 0
 turns_begun (Call (Now ms) ∷ m) = turns_begun m + 1
 turns_begun (x ∷ m) = turns_begun m
 
--- in this turn a pair was accepted, a byte was read or taken, an end ended or failed, or one was shut
+-- in this turn a pair was accepted, a byte was read or taken, an end ended or failed, or one was
+-- shut
 abbrev pub has_moved : History → Bool
 has_moved [] = false
 has_moved (Call (Now ms) ∷ m) = false
@@ -211,7 +217,9 @@ is_done c m = (accepted_count m == pair_limit c) && is_empty (live_pairs m)
 
 -- after a turn
 abbrev pub begin : Limits → History → Upcoming
-begin c m = if is_done c m then EndBy PairsDone else (if turns_begun m == c.turns then EndBy TurnLimit else Do AskNow)
+begin c m =
+    if is_done c m then EndBy PairsDone else (if turns_begun m == c.turns
+    then EndBy TurnLimit else Do AskNow)
 
 -- after the last pair: idle, where nothing moved
 abbrev pub rest : Limits → History → Upcoming
@@ -224,7 +232,8 @@ round w c m (p ∷ ps) = visit w p (Reading Up) (journal p m) (round w c m ps)
 
 -- fewer than 256 pairs live, and fewer than may be were accepted
 abbrev pub may_accept : Limits → History → Bool
-may_accept c m = nat_lt (length (live_pairs m)) most_live && nat_lt (accepted_count m) (pair_limit c)
+may_accept c m =
+    nat_lt (length (live_pairs m)) most_live && nat_lt (accepted_count m) (pair_limit c)
 
 -- the pairs behind p
 abbrev pub beyond : ℕ → List ℕ → List ℕ

@@ -1,12 +1,14 @@
 -- The report of a run: the lines of each mark, and one last line.
 use Rattle.std.specs.Prelude.{ℕ, Bool, true, false, List, [], ◌∷◌, ◌++◌, codes, decimal}
 use Rattle.gate_outside.specs.declared.log.LogEntry.{LogEntry}
-use Rattle.gate_outside.specs.declared.log.LogEntry.TheVariants.{Accept, Connect, Read, Write, Shut, Idle, Now}
+use Rattle.gate_outside.specs.declared.log.LogEntry.TheVariants.{Accept, Connect, Read, Write, Shut}
+use Rattle.gate_outside.specs.declared.log.LogEntry.TheVariants.{Idle, Now}
 use Rattle.gate_relay.specs.Entries.{Entry}
 use Rattle.gate_relay.specs.RelayWords.{RelayWords}
 use Rattle.gate_relay.specs.Sides.{sides, has_end}
 use Rattle.gate_runs.specs.declared.served.Served.{Served}
-use Rattle.gate_runs.specs.declared.served.Served.TheVariants.{Stopped, PairsDone, TurnLimit, Fault, Memory}
+use Rattle.gate_runs.specs.declared.served.Served.TheVariants.{Stopped, PairsDone, TurnLimit, Fault}
+use Rattle.gate_runs.specs.declared.served.Served.TheVariants.{Memory}
 use Rattle.gate_runs.specs.declared.served.Outside.TheVariants as outside
 use Rattle.gate_runs.specs.Journal.{journal}
 use Rattle.gate_runs.specs.Marks.{Mark, History, Call, Refuse, TakeUp, RunOut, Finish}
@@ -28,7 +30,8 @@ closed_line p = pair_line p (codes " closed\n")
 abbrev pub count_line : List ℕ → ℕ → List ℕ
 count_line what accepted = what ++ (decimal accepted ++ codes " pairs\n")
 
--- the last line: how the service ended, after so many pairs were accepted; there is none where out failed
+-- the last line: how the service ended, after so many pairs were accepted; there is none where out
+-- failed
 abbrev pub last_line : Served → ℕ → List ℕ
 last_line Stopped accepted = count_line (codes "stopped: ") accepted
 last_line PairsDone accepted = count_line (codes "done: ") accepted
@@ -59,8 +62,10 @@ lines_of w (p ∷ ps) n = w.lines (journal p n) ++ lines_of w ps n
 abbrev pub call_lines : RelayWords → LogEntry → History → List ℕ
 call_lines w (Accept answer) m = []
 call_lines w (Connect p answer) m = w.lines (journal p (Call (Connect p answer) ∷ m))
-call_lines w (Read p end room answer bytes) m = w.lines (journal p (Call (Read p end room answer bytes) ∷ m))
-call_lines w (Write p end bytes answer) m = w.lines (journal p (Call (Write p end bytes answer) ∷ m))
+call_lines w (Read p end room answer bytes) m =
+    w.lines (journal p (Call (Read p end room answer bytes) ∷ m))
+call_lines w (Write p end bytes answer) m =
+    w.lines (journal p (Call (Write p end bytes answer) ∷ m))
 call_lines w (Shut p end) m = shut_lines w p (point m) (journal p (Call (Shut p end) ∷ m))
 call_lines w (Idle answer) m = []
 call_lines w (Now ms) m = lines_of w (live_pairs m) (Call (Now ms) ∷ m)
@@ -83,7 +88,8 @@ pub record Lines : Type 0 where
 abbrev pub all_lines : Lines → List ℕ
 all_lines t = t.before ++ t.newest
 
--- of a read or a take-up within which the pair ran out of memory only what counts is told, so the lines of that mark fall away
+-- of a read or a take-up within which the pair ran out of memory only what counts is told, so the
+-- lines of that mark fall away
 abbrev pub lines_before : Mark → Lines → List ℕ
 lines_before (RunOut p (Writing lap k) cut) t = all_lines t
 lines_before (RunOut p s cut) t = t.before
@@ -91,7 +97,8 @@ lines_before x t = all_lines t
 
 abbrev pub lines_so_far : RelayWords → History → Lines
 lines_so_far w [] = record { before = []; newest = [] }
-lines_so_far w (x ∷ m) = record { before = lines_before x (lines_so_far w m); newest = mark_lines w x m }
+lines_so_far w (x ∷ m) =
+    record { before = lines_before x (lines_so_far w m); newest = mark_lines w x m }
 
 abbrev pub report : RelayWords → History → List ℕ
 report w m = all_lines (lines_so_far w m)

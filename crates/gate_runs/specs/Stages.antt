@@ -62,8 +62,10 @@ stages_from (Writing ToClient k) = Writing ToClient k ∷ shuttings
 stages_from (Writing ToUp k) = Writing ToUp k ∷ Writing ToClient 0 ∷ shuttings
 stages_from Linking = Linking ∷ Writing ToUp 0 ∷ Writing ToClient 0 ∷ shuttings
 stages_from Taking = Taking ∷ Linking ∷ Writing ToUp 0 ∷ Writing ToClient 0 ∷ shuttings
-stages_from (Reading Client) = Reading Client ∷ Taking ∷ Linking ∷ Writing ToUp 0 ∷ Writing ToClient 0 ∷ shuttings
-stages_from (Reading Up) = Reading Up ∷ Reading Client ∷ Taking ∷ Linking ∷ Writing ToUp 0 ∷ Writing ToClient 0 ∷ shuttings
+stages_from (Reading Client) =
+    Reading Client ∷ Taking ∷ Linking ∷ Writing ToUp 0 ∷ Writing ToClient 0 ∷ shuttings
+stages_from (Reading Up) =
+    Reading Up ∷ Reading Client ∷ Taking ∷ Linking ∷ Writing ToUp 0 ∷ Writing ToClient 0 ∷ shuttings
 
 -- the stage of a write to an end, after a stage that was reached by a mark
 abbrev pub writing_at : End → Stage → Stage

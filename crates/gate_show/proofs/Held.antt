@@ -1,5 +1,6 @@
 -- What a sink holds before anything was written, and after one line more.
-use Rattle.std.proofs.Common.{◌≡◌, ℕ, ◌+◌, List, [], ◌∷◌, ◌++◌, length, Option, None, Some, refl, sym, ap, subst, ◌∙◌, append_assoc, append-nil, arith}
+use Rattle.std.proofs.Common.{◌≡◌, ℕ, ◌+◌, List, [], ◌∷◌, ◌++◌, length, Option, None, Some, refl}
+use Rattle.std.proofs.Common.{sym, ap, subst, ◌∙◌, append_assoc, append-nil, arith}
 use Rattle.std.specs.List.{flat_map, AllByRecursion}
 use Rattle.gate_outside.specs.declared.log.LogEntry.{LogEntry}
 use Rattle.gate_outside.specs.Streams.{Appends, AppendsFront}

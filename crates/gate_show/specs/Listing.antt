@@ -51,8 +51,10 @@ at_end pair end = decimal pair ++ end_words end
 abbrev pub call_words : LogEntry → List ℕ
 call_words (entry.Accept answer) = codes "accept" ++ accepted_words answer
 call_words (entry.Connect pair answer) = codes "connect " ++ (decimal pair ++ linked_words answer)
-call_words (entry.Read pair end room answer bytes) = codes "read " ++ (at_end pair end ++ got_words answer)
-call_words (entry.Write pair end bytes answer) = codes "write " ++ (at_end pair end ++ put_words answer)
+call_words (entry.Read pair end room answer bytes) =
+    codes "read " ++ (at_end pair end ++ got_words answer)
+call_words (entry.Write pair end bytes answer) =
+    codes "write " ++ (at_end pair end ++ put_words answer)
 call_words (entry.Shut pair end) = codes "shut " ++ at_end pair end
 call_words (entry.Idle answer) = codes "idle" ++ next_words answer
 call_words (entry.Now ms) = codes "now " ++ decimal ms

@@ -1,7 +1,8 @@
 //! The lines of the entries of a capture.
 
 ghost use Rattle.std.specs.Prelude.{◌≡◌, ◌++◌, codes, decimal, OnOk};
-ghost use Rattle.gate_show.specs.Listing.{accepted_words, at_end, call_words, end_words, got_words, line, linked_words, next_words, put_words};
+ghost use Rattle.gate_show.specs.Listing.{accepted_words, at_end, call_words, end_words, got_words};
+ghost use Rattle.gate_show.specs.Listing.{line, linked_words, next_words, put_words};
 
 use gate_outside::{Accepted, End, Got, Linked, LogEntry, Next, Put};
 use itoa::Buffer;

@@ -4,7 +4,8 @@ ghost use Rattle.std.specs.Prelude.{◌≡◌, ℕ, ◌+◌, ◌≤◌, [], leng
 ghost use Rattle.wire_base.specs.declared.stop.Stop.TheVariants.{Fault};
 ghost use Rattle.gate_outside.specs.Counts.{Rose};
 ghost use Rattle.gate_outside.specs.Streams.{Appends, AppendsFront};
-ghost use Rattle.gate_show.specs.Showing.{ended_by, start_ended_by, EntriesListed, IsListed, NextListed};
+ghost use Rattle.gate_show.specs.Showing.{ended_by, start_ended_by, EntriesListed, IsListed};
+ghost use Rattle.gate_show.specs.Showing.{NextListed};
 ghost use Rattle.gate_show.specs.Listing.{line};
 
 use crate::lines::put_line;
@@ -33,7 +34,8 @@ fn write_line<K: Sink>(
 ) -> Result<bool, Memory>
     ensures later { K.faults out.old ≤ K.faults out.new }
     ensures cause { result ≡ Ok false → Rose (K.faults out.old) (K.faults out.new) }
-    ensures whole { result ≡ Ok true → Appends (K.held out.old) (K.held out.new) (line number entry.now) }
+    ensures whole { result ≡ Ok true → Appends (K.held out.old) (K.held out.new)
+        (line number entry.now) }
     ensures part { AppendsFront (K.held out.old) (K.held out.new) (line number entry.now) }
     ensures none { OnErr result (Appends (K.held out.old) (K.held out.new) []) }
 {
@@ -51,8 +53,10 @@ fn show_next<'a, K: Sink>(
     out: &mut K,
 ) -> Result<&'a [u8], Stop<Shown>>
     ensures later { K.faults out.old ≤ K.faults out.new }
-    ensures cause { result ≡ Err (Fault Shown.OutFailed) → Rose (K.faults out.old) (K.faults out.new) }
-    ensures listed { NextListed (λ rest. rest.now) size number bytes.now (K.held out.old) (K.held out.new) result }
+    ensures cause { result ≡ Err (Fault Shown.OutFailed) → Rose (K.faults out.old)
+        (K.faults out.new) }
+    ensures listed { NextListed (λ rest. rest.now) size number bytes.now (K.held out.old)
+        (K.held out.new) result }
 {
     let (entry, rest) = match next_entry(alloc, size, bytes) {
         Ok(read) => read,
@@ -99,8 +103,9 @@ fn show_entries<K: Sink>(
     Ok(Shown::Whole)
 }
 
-/// Writes the listing of a capture: a line for each entry, numbered from 0. The words aren't listed. Where the bytes are no
-/// capture, the lines of the entries before the first fault are written; `OutFailed` comes only where the count of faults of
+/// Writes the listing of a capture: a line for each entry, numbered from 0. The words aren't
+/// listed. Where the bytes are no capture, the lines of the entries before the first fault are
+/// written; `OutFailed` comes only where the count of faults of
 /// `out` rose.
 ///
 /// # Errors

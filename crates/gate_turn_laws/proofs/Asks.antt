@@ -2,7 +2,8 @@
 use Rattle.std.proofs.Common.{◌≡◌, ℕ, true, [], ◌∷◌, subst}
 use Rattle.gate_outside.specs.declared.ports.Accepted.TheVariants as accepted
 use Rattle.gate_outside.specs.declared.log.LogEntry.{LogEntry}
-use Rattle.gate_outside.specs.declared.log.LogEntry.TheVariants.{Accept, Connect, Read, Write, Shut, Idle, Now}
+use Rattle.gate_outside.specs.declared.log.LogEntry.TheVariants.{Accept, Connect, Read, Write, Shut}
+use Rattle.gate_outside.specs.declared.log.LogEntry.TheVariants.{Idle, Now}
 use Rattle.gate_relay.specs.RelayWords.{RelayWords}
 use Rattle.gate_runs.specs.declared.limits.Limits.{Limits}
 use Rattle.gate_runs.specs.Marks.{History, Call, Refuse, TakeUp, RunOut, Finish}
@@ -12,7 +13,8 @@ use Rattle.gate_runs.specs.Serving.{RefusesAt, Follows}
 use Rattle.gate_turn_laws.specs.Pairs.{is_live}
 use Rattle.gate_turn_laws.specs.Asks.{AskedOfLive, AsksLive}
 use Rattle.gate_turn_laws.proofs.Lists.{among_pushed}
-use Rattle.gate_turn_laws.proofs.Living.{Wanted, wanted, lives, run_out_lives, reads_end, connects_end, offers_end}
+use Rattle.gate_turn_laws.proofs.Living.{Wanted, wanted, lives, run_out_lives, reads_end}
+use Rattle.gate_turn_laws.proofs.Living.{connects_end, offers_end}
 
 asked_of_live : (w : RelayWords) (c : Limits) (m : History) (entry : LogEntry) → Wanted w c m (Do (asked entry)) → AskedOfLive m entry
 asked_of_live w c m (Accept answer) a = tt

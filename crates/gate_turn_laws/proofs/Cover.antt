@@ -1,5 +1,7 @@
 -- What comes next, read as a relation: the pair of which something is asked, or else why it is no pair's.
-use Rattle.std.proofs.Common.{◌≡◌, ◌≢◌, ℕ, ◌==◌, ◌<◌, nat_lt, Bool, true, false, if◌then◌else◌, List, [], ◌∷◌, Option, None, Some, ◌⊎◌, refl, sym, ap, ◌∙◌, subst, inl, inr, arith}
+use Rattle.std.proofs.Common.{◌≡◌, ◌≢◌, ℕ, ◌==◌, ◌<◌, nat_lt, Bool, true, false, if◌then◌else◌}
+use Rattle.std.proofs.Common.{List, [], ◌∷◌, Option, None, Some, ◌⊎◌, refl, sym, ap, ◌∙◌, subst}
+use Rattle.std.proofs.Common.{inl, inr, arith}
 use Rattle.std.specs.Option.{option_map}
 use Rattle.gate_outside.specs.declared.ports.End.TheVariants.{Client, Up}
 use Rattle.gate_relay.specs.Entries.{Entry}
@@ -12,12 +14,18 @@ use Rattle.gate_runs.specs.declared.served.Served.{Served}
 use Rattle.gate_runs.specs.declared.served.Served.TheVariants.{PairsDone, TurnLimit}
 use Rattle.gate_runs.specs.Marks.{History}
 use Rattle.gate_runs.specs.Journal.{journal}
-use Rattle.gate_runs.specs.Stages.{Stage, Reading, Taking, Linking, Writing, Shutting, Past, lap_end, stages_from}
-use Rattle.gate_runs.specs.Next.{AskAccept, AskConnect, AskRead, AskWrite, AskShut, AskIdle, AskNow, Upcoming, Do, Settle, EndBy, Done, where_due, most_writes, ask, or_more, first_ask, Point, BetweenTurns, ClockRead, BeforePairs, Refusing, InPair, Ending, Ended, round, rest, begin, beyond, ahead, closing, live_pairs, may_accept, is_done, has_moved, turns_begun}
+use Rattle.gate_runs.specs.Stages.{Stage, Reading, Taking, Linking, Writing, Shutting, Past}
+use Rattle.gate_runs.specs.Stages.{lap_end, stages_from}
+use Rattle.gate_runs.specs.Next.{AskAccept, AskConnect, AskRead, AskWrite, AskShut, AskIdle, AskNow}
+use Rattle.gate_runs.specs.Next.{Upcoming, Do, Settle, EndBy, Done, where_due, most_writes, ask}
+use Rattle.gate_runs.specs.Next.{or_more, first_ask, Point, BetweenTurns, ClockRead, BeforePairs}
+use Rattle.gate_runs.specs.Next.{Refusing, InPair, Ending, Ended, round, rest, begin, beyond, ahead}
+use Rattle.gate_runs.specs.Next.{closing, live_pairs, may_accept, is_done, has_moved, turns_begun}
 use Rattle.gate_turn_laws.specs.Pairs.{is_among, is_live, IsRising}
 use Rattle.gate_turn_laws.specs.Turns.{AsksNone}
 use Rattle.gate_turn_laws.proofs.Order.{rising_filter}
-use Rattle.gate_turn_laws.proofs.Lists.{is_or_isnt, some_or_none, or_parts, or_right, is_equal, is_unequal, among_first, among_filter}
+use Rattle.gate_turn_laws.proofs.Lists.{is_or_isnt, some_or_none, or_parts, or_right, is_equal}
+use Rattle.gate_turn_laws.proofs.Lists.{is_unequal, among_first, among_filter}
 
 -- what is asked of pair q, by its journal
 abbrev pub Own : RelayWords → ℕ → List Entry → Upcoming → Type 0

@@ -1,26 +1,38 @@
 -- How the service ends, and what each turn did.
-use Rattle.std.proofs.Common.{◌≡◌, ℕ, ◌==◌, Bool, true, false, List, [], ◌∷◌, Option, None, Some, is_some, ◌⊎◌, refl, sym, ap, ◌∙◌, subst, inl, inr}
+use Rattle.std.proofs.Common.{◌≡◌, ℕ, ◌==◌, Bool, true, false, List, [], ◌∷◌, Option, None, Some}
+use Rattle.std.proofs.Common.{is_some, ◌⊎◌, refl, sym, ap, ◌∙◌, subst, inl, inr}
 use Rattle.gate_outside.specs.declared.ports.End.{End}
 use Rattle.gate_outside.specs.declared.ports.Accepted.TheVariants as accepted
 use Rattle.gate_outside.specs.declared.ports.Next.TheVariants.{Go, Stop}
 use Rattle.gate_outside.specs.declared.log.LogEntry.{LogEntry}
-use Rattle.gate_outside.specs.declared.log.LogEntry.TheVariants.{Accept, Connect, Read, Write, Shut, Idle, Now}
+use Rattle.gate_outside.specs.declared.log.LogEntry.TheVariants.{Accept, Connect, Read, Write, Shut}
+use Rattle.gate_outside.specs.declared.log.LogEntry.TheVariants.{Idle, Now}
 use Rattle.gate_relay.specs.Entries.{Entry, is_empty}
 use Rattle.gate_relay.specs.RelayWords.{RelayWords}
 use Rattle.gate_runs.specs.declared.limits.Limits.{Limits}
 use Rattle.gate_runs.specs.declared.served.Served.{Served}
-use Rattle.gate_runs.specs.declared.served.Served.TheVariants.{Stopped, PairsDone, TurnLimit, Fault, Memory}
+use Rattle.gate_runs.specs.declared.served.Served.TheVariants.{Stopped, PairsDone, TurnLimit, Fault}
+use Rattle.gate_runs.specs.declared.served.Served.TheVariants.{Memory}
 use Rattle.gate_runs.specs.declared.served.Outside.TheVariants as outside
 use Rattle.gate_runs.specs.Marks.{History, Call, Refuse, TakeUp, RunOut, Finish}
 use Rattle.gate_runs.specs.Journal.{journal}
 use Rattle.gate_runs.specs.Stages.{Stage, stages_from}
-use Rattle.gate_runs.specs.Next.{AskAccept, AskConnect, AskRead, AskWrite, AskShut, AskIdle, AskNow, Upcoming, Do, Settle, EndBy, Done, Point, BetweenTurns, ClockRead, BeforePairs, Refusing, InPair, Ending, Ended, live_pairs, accepted_count, pair_limit, is_done, finish_of, point, after, after_shut, next, asked, begin, closing}
-use Rattle.gate_runs.specs.Serving.{RunsOutAt, AtRead, AtTakeUp, AtWrite, RefusesAt, is_ended, EndsBy, Follows}
-use Rattle.gate_turn_laws.specs.Ends.{newest, is_stopped, EndsAs, Runs, ComesAfter, InService, Closes, EndsOnce, Did, NoneYet, Moved, Idled, TurnsDid}
+use Rattle.gate_runs.specs.Next.{AskAccept, AskConnect, AskRead, AskWrite, AskShut, AskIdle, AskNow}
+use Rattle.gate_runs.specs.Next.{Upcoming, Do, Settle, EndBy, Done, Point, BetweenTurns, ClockRead}
+use Rattle.gate_runs.specs.Next.{BeforePairs, Refusing, InPair, Ending, Ended, live_pairs}
+use Rattle.gate_runs.specs.Next.{accepted_count, pair_limit, is_done, finish_of, point, after}
+use Rattle.gate_runs.specs.Next.{after_shut, next, asked, begin, closing}
+use Rattle.gate_runs.specs.Serving.{RunsOutAt, AtRead, AtTakeUp, AtWrite, RefusesAt, is_ended}
+use Rattle.gate_runs.specs.Serving.{EndsBy, Follows}
+use Rattle.gate_turn_laws.specs.Ends.{newest, is_stopped, EndsAs, Runs, ComesAfter, InService}
+use Rattle.gate_turn_laws.specs.Ends.{Closes, EndsOnce, Did, NoneYet, Moved, Idled, TurnsDid}
 use Rattle.gate_turn_laws.proofs.Lists.{is_or_isnt, unlike, and_parts, is_equal}
 use Rattle.gate_turn_laws.proofs.Order.{ordered}
-use Rattle.gate_turn_laws.proofs.Points.{after_shut_by, ended_is, after_runs, is_last, runs_still, closing_call, run_out_runs, refuse_runs}
-use Rattle.gate_turn_laws.proofs.Cover.{Own, asks_own, all_stages, of_pair, of_next, rests, begins, accepts, refuses, stops, closes, cover_at, rest_at, begin_at}
+use Rattle.gate_turn_laws.proofs.Points.{after_shut_by, ended_is, after_runs, is_last, runs_still}
+use Rattle.gate_turn_laws.proofs.Points.{closing_call, run_out_runs, refuse_runs}
+use Rattle.gate_turn_laws.proofs.Cover.{Own, asks_own, all_stages, of_pair, of_next, rests, begins}
+use Rattle.gate_turn_laws.proofs.Cover.{accepts, refuses, stops, closes, cover_at, rest_at}
+use Rattle.gate_turn_laws.proofs.Cover.{begin_at}
 
 pub none_is : {A : Type 0} (o : Option A) → is_some o ≡ false → o ≡ None
 none_is None e = refl

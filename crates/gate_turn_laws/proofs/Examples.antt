@@ -6,7 +6,8 @@ use Rattle.gate_outside.specs.declared.ports.Got.TheVariants as got
 use Rattle.gate_outside.specs.declared.ports.Linked.TheVariants as linked
 use Rattle.gate_outside.specs.declared.ports.Put.TheVariants as put
 use Rattle.gate_outside.specs.declared.ports.Next.TheVariants.{Stop}
-use Rattle.gate_outside.specs.declared.log.LogEntry.TheVariants.{Accept, Connect, Read, Write, Shut, Idle, Now}
+use Rattle.gate_outside.specs.declared.log.LogEntry.TheVariants.{Accept, Connect, Read, Write, Shut}
+use Rattle.gate_outside.specs.declared.log.LogEntry.TheVariants.{Idle, Now}
 use Rattle.gate_relay.specs.Entries.{Entry, Came}
 use Rattle.gate_relay.specs.Relayed.{read_room}
 use Rattle.gate_relay.specs.RelayWords.{RelayWords}

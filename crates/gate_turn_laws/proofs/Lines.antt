@@ -1,9 +1,11 @@
 -- The lines of each mark stand behind those of the marks before it.
-use Rattle.std.proofs.Common.{◌≡◌, ℕ, Bool, true, false, List, [], ◌∷◌, ◌++◌, refl, sym, ap, ◌∙◌, subst}
+use Rattle.std.proofs.Common.{◌≡◌, ℕ, Bool, true, false, List, [], ◌∷◌, ◌++◌, refl, sym, ap, ◌∙◌}
+use Rattle.std.proofs.Common.{subst}
 use Rattle.gate_outside.specs.declared.ports.End.{End}
 use Rattle.gate_outside.specs.declared.ports.End.TheVariants.{Client, Up}
 use Rattle.gate_outside.specs.declared.ports.Got.TheVariants as got
-use Rattle.gate_outside.specs.declared.log.LogEntry.TheVariants.{Accept, Connect, Read, Write, Shut, Idle, Now}
+use Rattle.gate_outside.specs.declared.log.LogEntry.TheVariants.{Accept, Connect, Read, Write, Shut}
+use Rattle.gate_outside.specs.declared.log.LogEntry.TheVariants.{Idle, Now}
 use Rattle.gate_relay.specs.declared.loss.Loss.TheVariants as loss
 use Rattle.gate_relay.specs.Entries.{Entry, Refused, Began, Lost}
 use Rattle.gate_relay.specs.RelayWords.{RelayWords}
@@ -12,12 +14,15 @@ use Rattle.gate_runs.specs.declared.lap.Lap.TheVariants as lap
 use Rattle.gate_runs.specs.declared.limits.Limits.{Limits}
 use Rattle.gate_runs.specs.Marks.{Mark, History, Call, Refuse, TakeUp, RunOut, Finish}
 use Rattle.gate_runs.specs.Journal.{journal}
-use Rattle.gate_runs.specs.Stages.{Stage, Reading, Taking, Linking, Writing, Shutting, Past, later, writing_at, at_running_out}
+use Rattle.gate_runs.specs.Stages.{Stage, Reading, Taking, Linking, Writing, Shutting, Past, later}
+use Rattle.gate_runs.specs.Stages.{writing_at, at_running_out}
 use Rattle.gate_runs.specs.Next.{AskShut, Do, Point, Refusing, stage_of, point, next, ahead}
-use Rattle.gate_runs.specs.Report.{closed_lines, shut_lines, mark_lines, lines_before, lines_so_far, report}
+use Rattle.gate_runs.specs.Report.{closed_lines, shut_lines, mark_lines, lines_before, lines_so_far}
+use Rattle.gate_runs.specs.Report.{report}
 use Rattle.gate_runs.specs.Serving.{RunsOutAt, AtRead, AtTakeUp, AtWrite, Follows}
 use Rattle.gate_turn_laws.specs.Pairs.{is_live}
-use Rattle.gate_turn_laws.specs.Lines.{takes_back, told_lines, AddsLines, Adds, InPlace, ShutLines, OfPair, OfRefused, TellsInOrder}
+use Rattle.gate_turn_laws.specs.Lines.{takes_back, told_lines, AddsLines, Adds, InPlace, ShutLines}
+use Rattle.gate_turn_laws.specs.Lines.{OfPair, OfRefused, TellsInOrder}
 use Rattle.gate_turn_laws.proofs.Lists.{if_same}
 use Rattle.gate_turn_laws.proofs.Living.{IsRefusal, LivesAt, lives}
 

@@ -1,5 +1,6 @@
 -- A pair lives while it has an open end; and why each call is asked.
-use Rattle.std.proofs.Common.{◌≡◌, ◌≢◌, ℕ, ◌==◌, Bool, true, false, if◌then◌else◌, List, [], ◌∷◌, None, Some, ◌⊎◌, refl, sym, ap, ◌∙◌, subst, inl, inr}
+use Rattle.std.proofs.Common.{◌≡◌, ◌≢◌, ℕ, ◌==◌, Bool, true, false, if◌then◌else◌, List, [], ◌∷◌}
+use Rattle.std.proofs.Common.{None, Some, ◌⊎◌, refl, sym, ap, ◌∙◌, subst, inl, inr}
 use Rattle.std.proofs.lemmas.Bool.Decides.{eqb_tells}
 use Rattle.gate_outside.specs.declared.ports.End.{End}
 use Rattle.gate_outside.specs.declared.ports.End.TheVariants.{Client, Up}
@@ -10,27 +11,39 @@ use Rattle.gate_outside.specs.declared.ports.Linked.{Linked}
 use Rattle.gate_outside.specs.declared.ports.Put.{Put}
 use Rattle.gate_outside.specs.declared.ports.Put.TheVariants as put
 use Rattle.gate_outside.specs.declared.ports.Next.TheVariants.{Go, Stop}
-use Rattle.gate_outside.specs.declared.log.LogEntry.TheVariants.{Accept, Connect, Read, Write, Shut, Idle, Now}
+use Rattle.gate_outside.specs.declared.log.LogEntry.TheVariants.{Accept, Connect, Read, Write, Shut}
+use Rattle.gate_outside.specs.declared.log.LogEntry.TheVariants.{Idle, Now}
 use Rattle.gate_relay.specs.declared.loss.Loss.TheVariants as loss
 use Rattle.gate_relay.specs.declared.sides.Side.{Side}
 use Rattle.gate_relay.specs.declared.sides.Side.TheVariants as side
 use Rattle.gate_relay.specs.declared.sides.Sides.{Sides}
-use Rattle.gate_relay.specs.Entries.{Entry, Began, Refused, Moment, Settled, Joined, Lost, OutOfMemory, Over}
+use Rattle.gate_relay.specs.Entries.{Entry, Began, Refused, Moment, Settled, Joined, Lost}
+use Rattle.gate_relay.specs.Entries.{OutOfMemory, Over}
 use Rattle.gate_relay.specs.Guards.{reads, takes_up, connects, offers, shuts}
 use Rattle.gate_relay.specs.Relayed.{read_room}
 use Rattle.gate_relay.specs.RelayWords.{RelayWords}
-use Rattle.gate_relay.specs.Sides.{sides, side_of, side_linked, with_side, is_readable, is_writable, is_open_side, is_absent, has_end}
+use Rattle.gate_relay.specs.Sides.{sides, side_of, side_linked, with_side, is_readable, is_writable}
+use Rattle.gate_relay.specs.Sides.{is_open_side, is_absent, has_end}
 use Rattle.gate_runs.specs.declared.limits.Limits.{Limits}
 use Rattle.gate_runs.specs.Marks.{History, Call, Refuse, TakeUp, RunOut, Finish}
 use Rattle.gate_runs.specs.Journal.{journal, moment, read_entry, write_entry, since}
-use Rattle.gate_runs.specs.Stages.{Stage, Reading, Taking, Linking, Writing, Shutting, Past, later, stages_from}
-use Rattle.gate_runs.specs.Next.{AskAccept, AskConnect, AskRead, AskWrite, AskShut, AskIdle, AskNow, Upcoming, Do, Settle, EndBy, Done, Point, BetweenTurns, ClockRead, BeforePairs, Refusing, InPair, Ending, Ended, begin, closing, first_open, live_pairs, unless_gone, point, next, may_accept, has_moved, turns_begun}
+use Rattle.gate_runs.specs.Stages.{Stage, Reading, Taking, Linking, Writing, Shutting, Past, later}
+use Rattle.gate_runs.specs.Stages.{stages_from}
+use Rattle.gate_runs.specs.Next.{AskAccept, AskConnect, AskRead, AskWrite, AskShut, AskIdle, AskNow}
+use Rattle.gate_runs.specs.Next.{Upcoming, Do, Settle, EndBy, Done, Point, BetweenTurns, ClockRead}
+use Rattle.gate_runs.specs.Next.{BeforePairs, Refusing, InPair, Ending, Ended, begin, closing}
+use Rattle.gate_runs.specs.Next.{first_open, live_pairs, unless_gone, point, next, may_accept}
+use Rattle.gate_runs.specs.Next.{has_moved, turns_begun}
 use Rattle.gate_runs.specs.Serving.{RunsOutAt, AtRead, AtTakeUp, AtWrite, RefusesAt, Follows}
 use Rattle.gate_turn_laws.specs.Pairs.{is_among, is_live}
-use Rattle.gate_turn_laws.proofs.Lists.{is_or_isnt, or_left, or_right, or_parts, and_parts, if_same, among_first, among_push, among_push-other, among_without, among_without-other}
+use Rattle.gate_turn_laws.proofs.Lists.{is_or_isnt, or_left, or_right, or_parts, and_parts, if_same}
+use Rattle.gate_turn_laws.proofs.Lists.{among_first, among_push, among_push-other, among_without}
+use Rattle.gate_turn_laws.proofs.Lists.{among_without-other}
 use Rattle.gate_turn_laws.proofs.Points.{after_shut_by}
 use Rattle.gate_turn_laws.proofs.Order.{ordered}
-use Rattle.gate_turn_laws.proofs.Cover.{Own, Asks, asks_own, due_parts, of_pair, of_next, rests, begins, accepts, refuses, stops, closes, cover_at, rest_at, begin_at, all_stages}
+use Rattle.gate_turn_laws.proofs.Cover.{Own, Asks, asks_own, due_parts, of_pair, of_next, rests}
+use Rattle.gate_turn_laws.proofs.Cover.{begins, accepts, refuses, stops, closes, cover_at, rest_at}
+use Rattle.gate_turn_laws.proofs.Cover.{begin_at, all_stages}
 
 -- ---- ends
 

@@ -1,5 +1,7 @@
 -- The calls alone determine a run in which no pair ran out of memory and no sink failed.
-use Rattle.std.proofs.Common.{◌≡◌, ℕ, zero, suc, ◌+◌, ◌<◌, ◌≤◌, ◌==◌, nat_lt, Bool, true, false, List, [], ◌∷◌, length, filter, Option, None, Some, unwrap_or, ◌⊎◌, refl, sym, ap, ◌∙◌, subst, inl, inr, arith}
+use Rattle.std.proofs.Common.{◌≡◌, ℕ, zero, suc, ◌+◌, ◌<◌, ◌≤◌, ◌==◌, nat_lt, Bool, true, false}
+use Rattle.std.proofs.Common.{List, [], ◌∷◌, length, filter, Option, None, Some, unwrap_or, ◌⊎◌}
+use Rattle.std.proofs.Common.{refl, sym, ap, ◌∙◌, subst, inl, inr, arith}
 use Rattle.std.specs.Option.{option_map}
 use Rattle.std.proofs.lemmas.Bool.{lt-ltb, ltb-true}
 use Rattle.std.proofs.lemmas.Bool.Decides.{nat_tests}
@@ -11,19 +13,26 @@ use Rattle.gate_relay.specs.RelayWords.{RelayWords}
 use Rattle.gate_runs.specs.declared.lap.Lap.TheVariants.{ToUp, ToClient, ToClientLate, ToUpAgain}
 use Rattle.gate_runs.specs.declared.limits.Limits.{Limits}
 use Rattle.gate_runs.specs.declared.served.Served.{Served}
-use Rattle.gate_runs.specs.declared.served.Served.TheVariants.{Stopped, PairsDone, TurnLimit, Fault, Memory}
+use Rattle.gate_runs.specs.declared.served.Served.TheVariants.{Stopped, PairsDone, TurnLimit, Fault}
+use Rattle.gate_runs.specs.declared.served.Served.TheVariants.{Memory}
 use Rattle.gate_runs.specs.declared.served.Outside.TheVariants as outside
 use Rattle.gate_runs.specs.Marks.{Mark, History, Call, Refuse, TakeUp, RunOut, Finish, calls}
 use Rattle.gate_runs.specs.Journal.{journal}
-use Rattle.gate_runs.specs.Stages.{Stage, Reading, Taking, Linking, Writing, Shutting, Past, later, stages_from}
-use Rattle.gate_runs.specs.Next.{Upcoming, Do, Settle, EndBy, Done, Point, BetweenTurns, ClockRead, BeforePairs, Refusing, InPair, Ending, Ended, begin, beyond, closing, live_pairs, point, next}
+use Rattle.gate_runs.specs.Stages.{Stage, Reading, Taking, Linking, Writing, Shutting, Past, later}
+use Rattle.gate_runs.specs.Stages.{stages_from}
+use Rattle.gate_runs.specs.Next.{Upcoming, Do, Settle, EndBy, Done, Point, BetweenTurns, ClockRead}
+use Rattle.gate_runs.specs.Next.{BeforePairs, Refusing, InPair, Ending, Ended, begin, beyond}
+use Rattle.gate_runs.specs.Next.{closing, live_pairs, point, next}
 use Rattle.gate_runs.specs.Serving.{is_ended, counted, EndsBy, Follows, is_sink_fault, IsServed}
 use Rattle.gate_turn_laws.specs.Pairs.{is_among}
-use Rattle.gate_turn_laws.specs.Log.{mark_between, go_on, with_marks, run_of, call_of, next_call, FollowsLog, is_plain_end, IsPlain, Rests, IsWholeRun}
+use Rattle.gate_turn_laws.specs.Log.{mark_between, go_on, with_marks, run_of, call_of, next_call}
+use Rattle.gate_turn_laws.specs.Log.{FollowsLog, is_plain_end, IsPlain, Rests, IsWholeRun}
 use Rattle.gate_turn_laws.proofs.Lists.{is_or_isnt, some_or_none, or_parts, is_equal, unlike}
 use Rattle.gate_turn_laws.proofs.Points.{runs_still}
 use Rattle.gate_turn_laws.proofs.Order.{ordered}
-use Rattle.gate_turn_laws.proofs.Cover.{Asks, pairs_ahead, all_stages, of_pair, of_next, rests, begins, accepts, refuses, stops, closes, cover_at, rest_at, begin_at, asks_own}
+use Rattle.gate_turn_laws.proofs.Cover.{Asks, pairs_ahead, all_stages, of_pair, of_next, rests}
+use Rattle.gate_turn_laws.proofs.Cover.{begins, accepts, refuses, stops, closes, cover_at, rest_at}
+use Rattle.gate_turn_laws.proofs.Cover.{begin_at, asks_own}
 use Rattle.gate_turn_laws.proofs.Living.{LivesAt, is_before_shut, lives}
 use Rattle.gate_turn_laws.proofs.Stages.{chain_of, Found, found_by, among_passes}
 use Rattle.gate_turn_laws.proofs.Ends.{lasts_at, never_next}

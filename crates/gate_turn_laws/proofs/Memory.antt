@@ -1,5 +1,7 @@
 -- Each pair runs out of memory at most once.
-use Rattle.std.proofs.Common.{◌≡◌, ◌≢◌, ℕ, zero, suc, ◌+◌, ◌<◌, ◌≤◌, ◌==◌, Bool, true, false, if◌then◌else◌, List, [], ◌∷◌, refl, sym, ap, ◌∙◌, subst, inl, inr, arith, add-one}
+use Rattle.std.proofs.Common.{◌≡◌, ◌≢◌, ℕ, zero, suc, ◌+◌, ◌<◌, ◌≤◌, ◌==◌, Bool, true, false}
+use Rattle.std.proofs.Common.{if◌then◌else◌, List, [], ◌∷◌, refl, sym, ap, ◌∙◌, subst, inl, inr}
+use Rattle.std.proofs.Common.{arith, add-one}
 use Rattle.std.proofs.lemmas.Bool.Decides.{eqb_tells}
 use Rattle.gate_outside.specs.declared.ports.End.{End}
 use Rattle.gate_outside.specs.declared.ports.Accepted.TheVariants as accepted
@@ -8,9 +10,11 @@ use Rattle.gate_outside.specs.declared.ports.Got.TheVariants as got
 use Rattle.gate_outside.specs.declared.ports.Put.{Put}
 use Rattle.gate_outside.specs.declared.ports.Put.TheVariants as put
 use Rattle.gate_outside.specs.declared.log.LogEntry.{LogEntry}
-use Rattle.gate_outside.specs.declared.log.LogEntry.TheVariants.{Accept, Connect, Read, Write, Shut, Idle, Now}
+use Rattle.gate_outside.specs.declared.log.LogEntry.TheVariants.{Accept, Connect, Read, Write, Shut}
+use Rattle.gate_outside.specs.declared.log.LogEntry.TheVariants.{Idle, Now}
 use Rattle.gate_relay.specs.declared.loss.Loss.TheVariants as loss
-use Rattle.gate_relay.specs.Entries.{Entry, Began, Refused, Moment, Settled, Joined, Lost, OutOfMemory, Over, is_out_of_memory}
+use Rattle.gate_relay.specs.Entries.{Entry, Began, Refused, Moment, Settled, Joined, Lost}
+use Rattle.gate_relay.specs.Entries.{OutOfMemory, Over, is_out_of_memory}
 use Rattle.gate_relay.specs.RelayWords.{RelayWords}
 use Rattle.gate_runs.specs.declared.limits.Limits.{Limits}
 use Rattle.gate_runs.specs.Marks.{History, Call, Refuse, TakeUp, RunOut, Finish}
@@ -18,7 +22,8 @@ use Rattle.gate_runs.specs.Journal.{journal, moment, since, read_entry, write_en
 use Rattle.gate_runs.specs.Stages.{Stage}
 use Rattle.gate_runs.specs.Next.{accepted_count, out_of_memory_count}
 use Rattle.gate_runs.specs.Serving.{RefusesAt, Follows}
-use Rattle.gate_turn_laws.specs.Memory.{one_if, has_run_out, run_outs_of, run_out_below, CountsRunOuts}
+use Rattle.gate_turn_laws.specs.Memory.{one_if, has_run_out, run_outs_of, run_out_below}
+use Rattle.gate_turn_laws.specs.Memory.{CountsRunOuts}
 use Rattle.gate_turn_laws.proofs.Lists.{if_same, if_other}
 use Rattle.gate_turn_laws.proofs.Order.{ordered}
 use Rattle.gate_turn_laws.proofs.Asks.{asks_live}

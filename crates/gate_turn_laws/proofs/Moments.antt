@@ -1,6 +1,7 @@
 -- Moments don't fall.
 use Rattle.std.proofs.Common.{◌≡◌, ℕ, ◌≤◌, [], ◌∷◌, refl, subst}
-use Rattle.gate_outside.specs.declared.log.LogEntry.TheVariants.{Accept, Connect, Read, Write, Shut, Idle, Now}
+use Rattle.gate_outside.specs.declared.log.LogEntry.TheVariants.{Accept, Connect, Read, Write, Shut}
+use Rattle.gate_outside.specs.declared.log.LogEntry.TheVariants.{Idle, Now}
 use Rattle.gate_relay.specs.RelayWords.{RelayWords}
 use Rattle.gate_runs.specs.declared.limits.Limits.{Limits}
 use Rattle.gate_runs.specs.Marks.{History, Call, Refuse, TakeUp, RunOut, Finish, calls}

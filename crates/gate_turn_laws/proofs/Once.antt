@@ -1,22 +1,27 @@
 -- In a turn accept is called at most once, each end of a pair is read at most once, and so on.
-use Rattle.std.proofs.Common.{◌≡◌, ℕ, ◌+◌, ◌<◌, ◌≤◌, ◌==◌, Bool, true, false, if◌then◌else◌, [], ◌∷◌, Some, ◌⊎◌, refl, sym, ap, ◌∙◌, subst, inl, inr, arith}
+use Rattle.std.proofs.Common.{◌≡◌, ℕ, ◌+◌, ◌<◌, ◌≤◌, ◌==◌, Bool, true, false, if◌then◌else◌, []}
+use Rattle.std.proofs.Common.{◌∷◌, Some, ◌⊎◌, refl, sym, ap, ◌∙◌, subst, inl, inr, arith}
 use Rattle.std.proofs.lemmas.Bool.Decides.{eqb_tells}
 use Rattle.gate_outside.specs.declared.ports.End.{End}
 use Rattle.gate_outside.specs.declared.ports.End.TheVariants.{Client, Up}
 use Rattle.gate_outside.specs.declared.ports.Got.TheVariants as got
 use Rattle.gate_outside.specs.declared.ports.Put.{Put}
 use Rattle.gate_outside.specs.declared.ports.Put.TheVariants as put
-use Rattle.gate_outside.specs.declared.log.LogEntry.TheVariants.{Accept, Connect, Read, Write, Shut, Idle, Now}
+use Rattle.gate_outside.specs.declared.log.LogEntry.TheVariants.{Accept, Connect, Read, Write, Shut}
+use Rattle.gate_outside.specs.declared.log.LogEntry.TheVariants.{Idle, Now}
 use Rattle.gate_relay.specs.RelayWords.{RelayWords}
 use Rattle.gate_runs.specs.declared.lap.Lap.{Lap}
 use Rattle.gate_runs.specs.declared.lap.Lap.TheVariants.{ToUp, ToClient, ToClientLate, ToUpAgain}
 use Rattle.gate_runs.specs.declared.limits.Limits.{Limits}
 use Rattle.gate_runs.specs.Marks.{Mark, History, Call, Refuse, TakeUp, RunOut, Finish}
-use Rattle.gate_runs.specs.Stages.{Stage, Reading, Taking, Linking, Writing, Shutting, Past, later, writing_at, at_running_out}
+use Rattle.gate_runs.specs.Stages.{Stage, Reading, Taking, Linking, Writing, Shutting, Past, later}
+use Rattle.gate_runs.specs.Stages.{writing_at, at_running_out}
 use Rattle.gate_runs.specs.Next.{after_put, point, stage_of}
 use Rattle.gate_runs.specs.Serving.{RunsOutAt, AtRead, AtTakeUp, AtWrite, Follows}
 use Rattle.gate_turn_laws.specs.Ends.{newest}
-use Rattle.gate_turn_laws.specs.Turns.{rank, reached_stage, IsInTurn, HasPlace, marks_in_turn, is_same_end, is_accept, is_read_of, is_take_up_of, is_connect_of, ComesOnce}
+use Rattle.gate_turn_laws.specs.Turns.{rank, reached_stage, IsInTurn, HasPlace, marks_in_turn}
+use Rattle.gate_turn_laws.specs.Turns.{is_same_end, is_accept, is_read_of, is_take_up_of}
+use Rattle.gate_turn_laws.specs.Turns.{is_connect_of, ComesOnce}
 use Rattle.gate_turn_laws.proofs.Lists.{is_or_isnt, and_parts, is_equal, if_same}
 use Rattle.gate_turn_laws.proofs.Turns.{has_place}
 

@@ -1,8 +1,10 @@
 -- The live pairs stand in the order of their accepts.
-use Rattle.std.proofs.Common.{◌≡◌, ℕ, ◌<◌, ◌==◌, Bool, true, false, not, List, [], ◌∷◌, ◌++◌, filter, refl, sym, ap, ◌∙◌, subst, inl, inr, arith}
+use Rattle.std.proofs.Common.{◌≡◌, ℕ, ◌<◌, ◌==◌, Bool, true, false, not, List, [], ◌∷◌, ◌++◌}
+use Rattle.std.proofs.Common.{filter, refl, sym, ap, ◌∙◌, subst, inl, inr, arith}
 use Rattle.gate_outside.specs.declared.ports.End.{End}
 use Rattle.gate_outside.specs.declared.ports.Accepted.TheVariants as accepted
-use Rattle.gate_outside.specs.declared.log.LogEntry.TheVariants.{Accept, Connect, Read, Write, Shut, Idle, Now}
+use Rattle.gate_outside.specs.declared.log.LogEntry.TheVariants.{Accept, Connect, Read, Write, Shut}
+use Rattle.gate_outside.specs.declared.log.LogEntry.TheVariants.{Idle, Now}
 use Rattle.gate_relay.specs.RelayWords.{RelayWords}
 use Rattle.gate_relay.specs.Sides.{sides, has_end}
 use Rattle.gate_runs.specs.declared.limits.Limits.{Limits}
@@ -11,7 +13,8 @@ use Rattle.gate_runs.specs.Journal.{journal}
 use Rattle.gate_runs.specs.Next.{live_pairs, accepted_count, unless_gone}
 use Rattle.gate_runs.specs.Serving.{Follows}
 use Rattle.gate_turn_laws.specs.Pairs.{is_among, IsRising, AreOrdered}
-use Rattle.gate_turn_laws.proofs.Lists.{is_or_isnt, or_right, or_parts, is_equal, among_first, among_push, among_filter}
+use Rattle.gate_turn_laws.proofs.Lists.{is_or_isnt, or_right, or_parts, is_equal, among_first}
+use Rattle.gate_turn_laws.proofs.Lists.{among_push, among_filter}
 
 -- a filter keeps the order
 pub rising_filter : (t : ℕ → Bool) (ps : List ℕ) → IsRising ps → IsRising (filter t ps)

@@ -1,16 +1,21 @@
 -- The points of a turn, and that after the end of the service only shuts come.
-use Rattle.std.proofs.Common.{◌≡◌, ℕ, Bool, true, false, List, [], ◌∷◌, refl, sym, ap, ◌∙◌, inl, inr}
+use Rattle.std.proofs.Common.{◌≡◌, ℕ, Bool, true, false, List, [], ◌∷◌, refl, sym, ap, ◌∙◌, inl}
+use Rattle.std.proofs.Common.{inr}
 use Rattle.gate_outside.specs.declared.ports.End.{End}
 use Rattle.gate_outside.specs.declared.ports.Accepted.TheVariants as accepted
 use Rattle.gate_outside.specs.declared.ports.Next.TheVariants.{Go, Stop}
 use Rattle.gate_outside.specs.declared.log.LogEntry.{LogEntry}
-use Rattle.gate_outside.specs.declared.log.LogEntry.TheVariants.{Accept, Connect, Read, Write, Shut, Idle, Now}
+use Rattle.gate_outside.specs.declared.log.LogEntry.TheVariants.{Accept, Connect, Read, Write, Shut}
+use Rattle.gate_outside.specs.declared.log.LogEntry.TheVariants.{Idle, Now}
 use Rattle.gate_relay.specs.RelayWords.{RelayWords}
 use Rattle.gate_runs.specs.declared.limits.Limits.{Limits}
 use Rattle.gate_runs.specs.Marks.{History, Call}
 use Rattle.gate_runs.specs.Journal.{journal}
 use Rattle.gate_runs.specs.Stages.{Stage, Shutting, later}
-use Rattle.gate_runs.specs.Next.{AskAccept, AskConnect, AskRead, AskWrite, AskShut, AskIdle, AskNow, Upcoming, Do, Settle, EndBy, Done, asked, Point, BetweenTurns, ClockRead, BeforePairs, Refusing, InPair, Ending, Ended, after, after_shut, point, ahead, first_open, closing, live_pairs, next}
+use Rattle.gate_runs.specs.Next.{AskAccept, AskConnect, AskRead, AskWrite, AskShut, AskIdle, AskNow}
+use Rattle.gate_runs.specs.Next.{Upcoming, Do, Settle, EndBy, Done, asked, Point, BetweenTurns}
+use Rattle.gate_runs.specs.Next.{ClockRead, BeforePairs, Refusing, InPair, Ending, Ended, after}
+use Rattle.gate_runs.specs.Next.{after_shut, point, ahead, first_open, closing, live_pairs, next}
 use Rattle.gate_runs.specs.Serving.{is_ended, RunsOutAt, AtRead, AtTakeUp, AtWrite, RefusesAt}
 use Rattle.gate_turn_laws.proofs.Lists.{is_or_isnt, unlike}
 

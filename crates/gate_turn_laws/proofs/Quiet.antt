@@ -1,5 +1,7 @@
 -- Where nothing moved in a turn, the pairs that had their part of it are quiet; so at idle all are.
-use Rattle.std.proofs.Common.{◌≡◌, ◌≢◌, ℕ, ◌<◌, ◌≤◌, ◌==◌, nat_lt, Bool, true, false, not, ◌&&◌, ◌||◌, if◌then◌else◌, List, [], ◌∷◌, Option, None, Some, ◌⊎◌, refl, sym, ap, ◌∙◌, subst, inl, inr, arith}
+use Rattle.std.proofs.Common.{◌≡◌, ◌≢◌, ℕ, ◌<◌, ◌≤◌, ◌==◌, nat_lt, Bool, true, false, not, ◌&&◌}
+use Rattle.std.proofs.Common.{◌||◌, if◌then◌else◌, List, [], ◌∷◌, Option, None, Some, ◌⊎◌, refl}
+use Rattle.std.proofs.Common.{sym, ap, ◌∙◌, subst, inl, inr, arith}
 use Rattle.std.specs.Option.{option_map}
 use Rattle.std.proofs.lemmas.Bool.{lt-ltb, ltb-true, ltb-false}
 use Rattle.std.proofs.lemmas.Bool.Decides.{eqb_tells}
@@ -11,8 +13,10 @@ use Rattle.gate_outside.specs.declared.ports.Linked.{Linked}
 use Rattle.gate_outside.specs.declared.ports.Linked.TheVariants as linked
 use Rattle.gate_outside.specs.declared.ports.Put.TheVariants as put
 use Rattle.gate_outside.specs.declared.ports.Next.TheVariants.{Go, Stop}
-use Rattle.gate_outside.specs.declared.log.LogEntry.TheVariants.{Accept, Connect, Read, Write, Shut, Idle, Now}
-use Rattle.gate_relay.specs.Entries.{Entry, Dry, Settled, Joined, Stuck, OutOfMemory, is_out_of_memory}
+use Rattle.gate_outside.specs.declared.log.LogEntry.TheVariants.{Accept, Connect, Read, Write, Shut}
+use Rattle.gate_outside.specs.declared.log.LogEntry.TheVariants.{Idle, Now}
+use Rattle.gate_relay.specs.Entries.{Entry, Dry, Settled, Joined, Stuck, OutOfMemory}
+use Rattle.gate_relay.specs.Entries.{is_out_of_memory}
 use Rattle.gate_relay.specs.Guards.{reads, takes_up, connects, offers, shuts}
 use Rattle.gate_relay.specs.RelayWords.{RelayWords}
 use Rattle.gate_relay.specs.Sides.{sides, side_of, is_readable, is_writable, is_absent}
@@ -22,16 +26,26 @@ use Rattle.gate_runs.specs.declared.limits.Limits.{Limits}
 use Rattle.gate_runs.specs.declared.served.Served.TheVariants.{PairsDone, TurnLimit}
 use Rattle.gate_runs.specs.Marks.{Mark, History, Call, Refuse, TakeUp, RunOut, Finish}
 use Rattle.gate_runs.specs.Journal.{journal}
-use Rattle.gate_runs.specs.Stages.{Stage, Reading, Taking, Linking, Writing, Shutting, Past, later, lap_end, stages_from, writing_at, at_running_out}
-use Rattle.gate_runs.specs.Next.{most_writes, AskAccept, AskConnect, AskRead, AskWrite, AskShut, AskIdle, AskNow, Upcoming, Done, Do, Settle, EndBy, ask, Point, BetweenTurns, ClockRead, BeforePairs, Refusing, InPair, Ending, Ended, stage_of, live_pairs, point, next, begin, beyond, closing, may_accept, has_moved}
+use Rattle.gate_runs.specs.Stages.{Stage, Reading, Taking, Linking, Writing, Shutting, Past, later}
+use Rattle.gate_runs.specs.Stages.{lap_end, stages_from, writing_at, at_running_out}
+use Rattle.gate_runs.specs.Next.{most_writes, AskAccept, AskConnect, AskRead, AskWrite, AskShut}
+use Rattle.gate_runs.specs.Next.{AskIdle, AskNow, Upcoming, Done, Do, Settle, EndBy, ask, Point}
+use Rattle.gate_runs.specs.Next.{BetweenTurns, ClockRead, BeforePairs, Refusing, InPair, Ending}
+use Rattle.gate_runs.specs.Next.{Ended, stage_of, live_pairs, point, next, begin, beyond, closing}
+use Rattle.gate_runs.specs.Next.{may_accept, has_moved}
 use Rattle.gate_runs.specs.Serving.{RunsOutAt, AtRead, AtTakeUp, AtWrite, RefusesAt, Follows}
 use Rattle.gate_turn_laws.specs.Pairs.{is_among, is_live}
-use Rattle.gate_turn_laws.specs.Quiet.{IsSteady, InTurn, Wakes, IsQuiet, is_none_waiting, IsAtRest, IdlesAtRest}
+use Rattle.gate_turn_laws.specs.Quiet.{IsSteady, InTurn, Wakes, IsQuiet, is_none_waiting, IsAtRest}
+use Rattle.gate_turn_laws.specs.Quiet.{IdlesAtRest}
 use Rattle.gate_turn_laws.specs.Turns.{AsksNone}
-use Rattle.gate_turn_laws.proofs.Lists.{unlike, is_or_isnt, some_or_none, or_right, if_same, if_other, among_kept}
+use Rattle.gate_turn_laws.proofs.Lists.{unlike, is_or_isnt, some_or_none, or_right, if_same}
+use Rattle.gate_turn_laws.proofs.Lists.{if_other, among_kept}
 use Rattle.gate_turn_laws.proofs.Order.{ordered}
-use Rattle.gate_turn_laws.proofs.Cover.{PassedAt, Below, Any, all_stages, not_due, of_pair, of_next, rests, begins, accepts, refuses, stops, closes, cover_at, rest_at, begin_at}
-use Rattle.gate_turn_laws.proofs.Stages.{WritesAt, chain_of, past_by, Found, found_by, stage_ahead, stage_own}
+use Rattle.gate_turn_laws.proofs.Cover.{PassedAt, Below, Any, all_stages, not_due, of_pair, of_next}
+use Rattle.gate_turn_laws.proofs.Cover.{rests, begins, accepts, refuses, stops, closes, cover_at}
+use Rattle.gate_turn_laws.proofs.Cover.{rest_at, begin_at}
+use Rattle.gate_turn_laws.proofs.Stages.{WritesAt, chain_of, past_by, Found, found_by, stage_ahead}
+use Rattle.gate_turn_laws.proofs.Stages.{stage_own}
 
 -- ---- what the calls of a pair's part of the turn found, where none moved
 

@@ -1,5 +1,6 @@
 -- The entries of each journal are asked for.
-use Rattle.std.proofs.Common.{◌≡◌, ℕ, ◌==◌, ◌≤◌, Bool, true, false, if◌then◌else◌, List, [], ◌∷◌, length, Some, is_some, refl, sym, ap, ◌∙◌, subst, inl, inr, arith}
+use Rattle.std.proofs.Common.{◌≡◌, ℕ, ◌==◌, ◌≤◌, Bool, true, false, if◌then◌else◌, List, [], ◌∷◌}
+use Rattle.std.proofs.Common.{length, Some, is_some, refl, sym, ap, ◌∙◌, subst, inl, inr, arith}
 use Rattle.std.proofs.lemmas.Bool.Decides.{eqb_tells}
 use Rattle.gate_outside.specs.declared.ports.End.{End}
 use Rattle.gate_outside.specs.declared.ports.End.TheVariants.{Client}
@@ -9,22 +10,30 @@ use Rattle.gate_outside.specs.declared.ports.Got.TheVariants as got
 use Rattle.gate_outside.specs.declared.ports.Put.{Put}
 use Rattle.gate_outside.specs.declared.ports.Put.TheVariants as put
 use Rattle.gate_outside.specs.declared.log.LogEntry.{LogEntry}
-use Rattle.gate_outside.specs.declared.log.LogEntry.TheVariants.{Accept, Connect, Read, Write, Shut, Idle, Now}
+use Rattle.gate_outside.specs.declared.log.LogEntry.TheVariants.{Accept, Connect, Read, Write, Shut}
+use Rattle.gate_outside.specs.declared.log.LogEntry.TheVariants.{Idle, Now}
 use Rattle.gate_relay.specs.declared.loss.Loss.TheVariants as loss
-use Rattle.gate_relay.specs.Entries.{Entry, Began, Refused, Moment, Came, Settled, Joined, Lost, OutOfMemory, Over, is_over, moment_of, is_out_of_memory}
+use Rattle.gate_relay.specs.Entries.{Entry, Began, Refused, Moment, Came, Settled, Joined, Lost}
+use Rattle.gate_relay.specs.Entries.{OutOfMemory, Over, is_over, moment_of, is_out_of_memory}
 use Rattle.gate_relay.specs.Guards.{reads, takes_up, connects, offers}
-use Rattle.gate_relay.specs.Relayed.{read_room, RunsOut, AtRead as ReadRunsOut, AtTakeUp as TakeUpRunsOut, AtWrite as WriteRunsOut, is_new, ShutFor, WhereDue, AtTheEnd, AtRefusal, MayCome, MayComeAfter, IsRelayed}
+use Rattle.gate_relay.specs.Relayed.{read_room, RunsOut, AtRead as ReadRunsOut}
+use Rattle.gate_relay.specs.Relayed.{AtTakeUp as TakeUpRunsOut, AtWrite as WriteRunsOut, is_new}
+use Rattle.gate_relay.specs.Relayed.{ShutFor, WhereDue, AtTheEnd, AtRefusal, MayCome, MayComeAfter}
+use Rattle.gate_relay.specs.Relayed.{IsRelayed}
 use Rattle.gate_relay.specs.RelayWords.{RelayWords}
 use Rattle.gate_relay.specs.Sides.{sides, has_end}
 use Rattle.gate_runs.specs.declared.limits.Limits.{Limits}
 use Rattle.gate_runs.specs.Marks.{History, Call, Refuse, TakeUp, RunOut, Finish}
 use Rattle.gate_runs.specs.Journal.{journal, moment, since, read_entry, write_entry}
 use Rattle.gate_runs.specs.Stages.{Stage}
-use Rattle.gate_runs.specs.Next.{AskWrite, AskShut, Do, Point, point, after, after_shut, asked, next, live_pairs}
-use Rattle.gate_runs.specs.Serving.{Answered, RunsOutAt, AtRead, AtTakeUp, AtWrite, RefusesAt, is_ended, Follows}
+use Rattle.gate_runs.specs.Next.{AskWrite, AskShut, Do, Point, point, after, after_shut, asked}
+use Rattle.gate_runs.specs.Next.{next, live_pairs}
+use Rattle.gate_runs.specs.Serving.{Answered, RunsOutAt, AtRead, AtTakeUp, AtWrite, RefusesAt}
+use Rattle.gate_runs.specs.Serving.{is_ended, Follows}
 use Rattle.gate_turn_laws.specs.Pairs.{is_live}
 use Rattle.gate_turn_laws.proofs.Lists.{is_or_isnt, if_same}
-use Rattle.gate_turn_laws.proofs.Points.{ended_is, after_runs, runs_still, closing_call, run_out_runs, refuse_runs}
+use Rattle.gate_turn_laws.proofs.Points.{ended_is, after_runs, runs_still, closing_call}
+use Rattle.gate_turn_laws.proofs.Points.{run_out_runs, refuse_runs}
 use Rattle.gate_turn_laws.proofs.Order.{among_gone}
 use Rattle.gate_turn_laws.proofs.Living.{Wanted, wanted, lives}
 

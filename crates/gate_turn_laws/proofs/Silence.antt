@@ -1,9 +1,12 @@
 -- Of words that don't wake, at idle an end that was opened in this turn alone isn't read dry, unless the connect failed in it.
-use Rattle.std.proofs.Common.{◌≡◌, ◌⊎◌, Bool, true, false, not, ◌&&◌, List, [], ◌∷◌, refl, sym, ◌∙◌, inl, inr}
+use Rattle.std.proofs.Common.{◌≡◌, ◌⊎◌, Bool, true, false, not, ◌&&◌, List, [], ◌∷◌, refl, sym, ◌∙◌}
+use Rattle.std.proofs.Common.{inl, inr}
 use Rattle.gate_outside.specs.declared.ports.End.TheVariants.{Client, Up}
 use Rattle.gate_outside.specs.declared.ports.Linked.TheVariants as linked
-use Rattle.gate_outside.specs.declared.log.LogEntry.TheVariants.{Accept, Connect, Read, Write, Shut, Idle, Now}
-use Rattle.gate_relay.specs.Entries.{Entry, Began, Refused, Moment, Came, Dry, Settled, Joined, Took, Stuck, Lost, OutOfMemory, Over, is_out_of_memory}
+use Rattle.gate_outside.specs.declared.log.LogEntry.TheVariants.{Accept, Connect, Read, Write, Shut}
+use Rattle.gate_outside.specs.declared.log.LogEntry.TheVariants.{Idle, Now}
+use Rattle.gate_relay.specs.Entries.{Entry, Began, Refused, Moment, Came, Dry, Settled, Joined}
+use Rattle.gate_relay.specs.Entries.{Took, Stuck, Lost, OutOfMemory, Over, is_out_of_memory}
 use Rattle.gate_relay.specs.Guards.{reads, takes_up}
 use Rattle.gate_relay.specs.Relayed.{IsRelayed}
 use Rattle.gate_relay.specs.RelayWords.{RelayWords}
@@ -11,7 +14,8 @@ use Rattle.gate_relay.specs.Sides.{sides, side_of, is_readable}
 use Rattle.gate_runs.specs.declared.limits.Limits.{Limits}
 use Rattle.gate_runs.specs.Marks.{History, Call, Refuse, TakeUp, RunOut, Finish}
 use Rattle.gate_runs.specs.Journal.{journal}
-use Rattle.gate_turn_laws.specs.Quiet.{IsSteady, WakesNone, InTurn, Wakes, IsQuiet, IsSilent, IdlesAtRest, IdlesInSilence}
+use Rattle.gate_turn_laws.specs.Quiet.{IsSteady, WakesNone, InTurn, Wakes, IsQuiet, IsSilent}
+use Rattle.gate_turn_laws.specs.Quiet.{IdlesAtRest, IdlesInSilence}
 use Rattle.gate_runs.specs.Serving.{Follows}
 use Rattle.gate_turn_laws.proofs.Quiet.{idles_at_rest, takes_settled}
 use Rattle.gate_turn_laws.proofs.Relayed.{relayed}

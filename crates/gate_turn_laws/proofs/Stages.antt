@@ -1,5 +1,6 @@
 -- The stages of a pair's part of a turn, one after the other, and which of them asks.
-use Rattle.std.proofs.Common.{◌≡◌, ℕ, ◌==◌, nat_lt, Bool, true, List, [], ◌∷◌, filter, None, Some, refl, subst, inl, inr, ◌<◌, arith}
+use Rattle.std.proofs.Common.{◌≡◌, ℕ, ◌==◌, nat_lt, Bool, true, List, [], ◌∷◌, filter, None, Some}
+use Rattle.std.proofs.Common.{refl, subst, inl, inr, ◌<◌, arith}
 use Rattle.std.proofs.lemmas.Bool.{ltb-true}
 use Rattle.gate_outside.specs.declared.ports.End.TheVariants.{Client, Up}
 use Rattle.gate_relay.specs.Entries.{Entry}
@@ -9,8 +10,12 @@ use Rattle.gate_relay.specs.RelayWords.{RelayWords}
 use Rattle.gate_runs.specs.declared.lap.Lap.{Lap}
 use Rattle.gate_runs.specs.declared.lap.Lap.TheVariants.{ToUp, ToClient, ToClientLate, ToUpAgain}
 use Rattle.gate_runs.specs.Marks.{History}
-use Rattle.gate_runs.specs.Stages.{Stage, Reading, Taking, Linking, Writing, Shutting, Past, later, lap_end, stages_from, writing_at}
-use Rattle.gate_runs.specs.Next.{AskAccept, AskConnect, AskRead, AskWrite, AskShut, AskIdle, AskNow, Upcoming, Do, Settle, EndBy, Done, ask, most_writes, Point, BetweenTurns, ClockRead, BeforePairs, Refusing, InPair, Ending, Ended, stage_of, live_pairs}
+use Rattle.gate_runs.specs.Stages.{Stage, Reading, Taking, Linking, Writing, Shutting, Past, later}
+use Rattle.gate_runs.specs.Stages.{lap_end, stages_from, writing_at}
+use Rattle.gate_runs.specs.Next.{AskAccept, AskConnect, AskRead, AskWrite, AskShut, AskIdle, AskNow}
+use Rattle.gate_runs.specs.Next.{Upcoming, Do, Settle, EndBy, Done, ask, most_writes, Point}
+use Rattle.gate_runs.specs.Next.{BetweenTurns, ClockRead, BeforePairs, Refusing, InPair, Ending}
+use Rattle.gate_runs.specs.Next.{Ended, stage_of, live_pairs}
 use Rattle.gate_turn_laws.specs.Pairs.{is_among}
 use Rattle.gate_turn_laws.specs.Turns.{AsksNone}
 use Rattle.gate_turn_laws.proofs.Lists.{is_or_isnt, or_parts, is_equal, if_same, if_other}

@@ -1,5 +1,6 @@
 -- Each mark stands in its place in the turn.
-use Rattle.std.proofs.Common.{◌≡◌, ◌≢◌, ℕ, ◌<◌, ◌≤◌, ◌==◌, nat_lt, Bool, true, false, if◌then◌else◌, List, [], ◌∷◌, Some, ◌⊎◌, refl, sym, ap, ◌∙◌, subst, inl, inr, arith}
+use Rattle.std.proofs.Common.{◌≡◌, ◌≢◌, ℕ, ◌<◌, ◌≤◌, ◌==◌, nat_lt, Bool, true, false, if◌then◌else◌}
+use Rattle.std.proofs.Common.{List, [], ◌∷◌, Some, ◌⊎◌, refl, sym, ap, ◌∙◌, subst, inl, inr, arith}
 use Rattle.std.proofs.lemmas.Bool.{lt-ltb, ltb-true, ltb-false}
 use Rattle.std.proofs.lemmas.Bool.Decides.{eqb_tells}
 use Rattle.gate_outside.specs.declared.ports.End.{End}
@@ -10,7 +11,8 @@ use Rattle.gate_outside.specs.declared.ports.Got.TheVariants as got
 use Rattle.gate_outside.specs.declared.ports.Linked.{Linked}
 use Rattle.gate_outside.specs.declared.ports.Put.{Put}
 use Rattle.gate_outside.specs.declared.ports.Next.TheVariants.{Go, Stop}
-use Rattle.gate_outside.specs.declared.log.LogEntry.TheVariants.{Accept, Connect, Read, Write, Shut, Idle, Now}
+use Rattle.gate_outside.specs.declared.log.LogEntry.TheVariants.{Accept, Connect, Read, Write, Shut}
+use Rattle.gate_outside.specs.declared.log.LogEntry.TheVariants.{Idle, Now}
 use Rattle.gate_relay.specs.declared.loss.Loss.TheVariants as loss
 use Rattle.gate_relay.specs.Entries.{Entry, Refused, Began, Settled, Joined, Lost, OutOfMemory}
 use Rattle.gate_relay.specs.Guards.{offers}
@@ -20,21 +22,33 @@ use Rattle.gate_runs.specs.declared.lap.Lap.{Lap}
 use Rattle.gate_runs.specs.declared.lap.Lap.TheVariants.{ToUp, ToClient, ToClientLate, ToUpAgain}
 use Rattle.gate_runs.specs.declared.limits.Limits.{Limits}
 use Rattle.gate_runs.specs.declared.served.Served.{Served}
-use Rattle.gate_runs.specs.declared.served.Served.TheVariants.{Stopped, PairsDone, TurnLimit, Fault, Memory}
+use Rattle.gate_runs.specs.declared.served.Served.TheVariants.{Stopped, PairsDone, TurnLimit, Fault}
+use Rattle.gate_runs.specs.declared.served.Served.TheVariants.{Memory}
 use Rattle.gate_runs.specs.Marks.{Mark, History, Call, Refuse, TakeUp, RunOut, Finish}
 use Rattle.gate_runs.specs.Journal.{journal, read_entry, write_entry}
-use Rattle.gate_runs.specs.Stages.{Stage, Reading, Taking, Linking, Writing, Shutting, Past, later, lap_end, stages_from, writing_at, at_running_out}
-use Rattle.gate_runs.specs.Next.{most_writes, AskAccept, AskConnect, AskRead, AskWrite, AskShut, AskIdle, AskNow, Upcoming, Do, Settle, EndBy, Done, Point, BetweenTurns, ClockRead, BeforePairs, Refusing, InPair, Ending, Ended, after_put, after_shut, stage_of, live_pairs, point, next, begin, beyond, closing, may_accept}
-use Rattle.gate_runs.specs.Serving.{RefusesAt, RunsOutAt, AtRead, AtTakeUp, AtWrite, is_ended, Follows}
+use Rattle.gate_runs.specs.Stages.{Stage, Reading, Taking, Linking, Writing, Shutting, Past, later}
+use Rattle.gate_runs.specs.Stages.{lap_end, stages_from, writing_at, at_running_out}
+use Rattle.gate_runs.specs.Next.{most_writes, AskAccept, AskConnect, AskRead, AskWrite, AskShut}
+use Rattle.gate_runs.specs.Next.{AskIdle, AskNow, Upcoming, Do, Settle, EndBy, Done, Point}
+use Rattle.gate_runs.specs.Next.{BetweenTurns, ClockRead, BeforePairs, Refusing, InPair, Ending}
+use Rattle.gate_runs.specs.Next.{Ended, after_put, after_shut, stage_of, live_pairs, point, next}
+use Rattle.gate_runs.specs.Next.{begin, beyond, closing, may_accept}
+use Rattle.gate_runs.specs.Serving.{RefusesAt, RunsOutAt, AtRead, AtTakeUp, AtWrite, is_ended}
+use Rattle.gate_runs.specs.Serving.{Follows}
 use Rattle.gate_turn_laws.specs.Ends.{newest}
 use Rattle.gate_turn_laws.specs.Pairs.{is_among, is_live}
-use Rattle.gate_turn_laws.specs.Turns.{rank, reached_stage, AsksNone, IsThrough, AllThrough, IsTried, IsInTurn, ShutsInTurn, AtStage, OfRefused, AtTheEnd, HasPlace, KeepsOrder}
+use Rattle.gate_turn_laws.specs.Turns.{rank, reached_stage, AsksNone, IsThrough, AllThrough}
+use Rattle.gate_turn_laws.specs.Turns.{IsTried, IsInTurn, ShutsInTurn, AtStage, OfRefused, AtTheEnd}
+use Rattle.gate_turn_laws.specs.Turns.{HasPlace, KeepsOrder}
 use Rattle.gate_turn_laws.proofs.Lists.{is_or_isnt, unlike, if_same, if_other, among_kept}
 use Rattle.gate_turn_laws.proofs.Order.{ordered, among_gone}
 use Rattle.gate_turn_laws.proofs.Points.{after_shut_by, is_last, runs_still}
-use Rattle.gate_turn_laws.proofs.Cover.{Asks, pairs_ahead, PassedAt, Below, Any, of_pair, of_next, rests, begins, accepts, refuses, stops, closes, cover_at, rest_at, begin_at}
+use Rattle.gate_turn_laws.proofs.Cover.{Asks, pairs_ahead, PassedAt, Below, Any, of_pair, of_next}
+use Rattle.gate_turn_laws.proofs.Cover.{rests, begins, accepts, refuses, stops, closes, cover_at}
+use Rattle.gate_turn_laws.proofs.Cover.{rest_at, begin_at}
 use Rattle.gate_turn_laws.proofs.Living.{IsRefusal, LivesAt, wanted, lives}
-use Rattle.gate_turn_laws.proofs.Stages.{OwnAt, WritesAt, chain_of, Found, found_by, among_passes, stage_ahead, stage_own}
+use Rattle.gate_turn_laws.proofs.Stages.{OwnAt, WritesAt, chain_of, Found, found_by, among_passes}
+use Rattle.gate_turn_laws.proofs.Stages.{stage_ahead, stage_own}
 use Rattle.gate_turn_laws.proofs.Ends.{StopMark, LedTo, led_to, finish_is}
 
 -- ---- how far the pairs are, at a point

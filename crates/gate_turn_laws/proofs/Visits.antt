@@ -1,5 +1,7 @@
 -- Each live pair's part of a turn is gone through to its end.
-use Rattle.std.proofs.Common.{◌≡◌, ℕ, ◌+◌, ◌≤◌, ◌==◌, nat_lt, Bool, true, false, if◌then◌else◌, List, [], ◌∷◌, Option, None, Some, ◌⊎◌, refl, sym, ap, ◌∙◌, subst, inl, inr, arith}
+use Rattle.std.proofs.Common.{◌≡◌, ℕ, ◌+◌, ◌≤◌, ◌==◌, nat_lt, Bool, true, false, if◌then◌else◌}
+use Rattle.std.proofs.Common.{List, [], ◌∷◌, Option, None, Some, ◌⊎◌, refl, sym, ap, ◌∙◌, subst}
+use Rattle.std.proofs.Common.{inl, inr, arith}
 use Rattle.std.specs.Option.{option_map}
 use Rattle.std.proofs.lemmas.Bool.{ltb-false}
 use Rattle.std.proofs.lemmas.Bool.Decides.{eqb_tells}
@@ -11,32 +13,43 @@ use Rattle.gate_outside.specs.declared.ports.Got.TheVariants as got
 use Rattle.gate_outside.specs.declared.ports.Linked.{Linked}
 use Rattle.gate_outside.specs.declared.ports.Put.{Put}
 use Rattle.gate_outside.specs.declared.ports.Put.TheVariants as put
-use Rattle.gate_outside.specs.declared.log.LogEntry.TheVariants.{Accept, Connect, Read, Write, Shut, Idle, Now}
+use Rattle.gate_outside.specs.declared.log.LogEntry.TheVariants.{Accept, Connect, Read, Write, Shut}
+use Rattle.gate_outside.specs.declared.log.LogEntry.TheVariants.{Idle, Now}
 use Rattle.gate_relay.specs.declared.loss.Loss.TheVariants as loss
-use Rattle.gate_relay.specs.Entries.{Entry, Began, Refused, Moment, Came, Dry, Settled, Joined, Took, Stuck, Lost, OutOfMemory, Over}
+use Rattle.gate_relay.specs.Entries.{Entry, Began, Refused, Moment, Came, Dry, Settled, Joined}
+use Rattle.gate_relay.specs.Entries.{Took, Stuck, Lost, OutOfMemory, Over}
 use Rattle.gate_relay.specs.Guards.{reads, takes_up, connects, offers, shuts}
 use Rattle.gate_relay.specs.RelayWords.{RelayWords}
 use Rattle.gate_relay.specs.Sides.{sides, has_end}
 use Rattle.gate_runs.specs.declared.lap.Lap.{Lap}
 use Rattle.gate_runs.specs.declared.lap.Lap.TheVariants.{ToUp, ToClient, ToClientLate, ToUpAgain}
 use Rattle.gate_runs.specs.declared.limits.Limits.{Limits}
-use Rattle.gate_runs.specs.declared.served.Served.TheVariants.{Stopped, PairsDone, TurnLimit, Fault, Memory}
+use Rattle.gate_runs.specs.declared.served.Served.TheVariants.{Stopped, PairsDone, TurnLimit, Fault}
+use Rattle.gate_runs.specs.declared.served.Served.TheVariants.{Memory}
 use Rattle.gate_runs.specs.Marks.{History, Call, Refuse, TakeUp, RunOut, Finish}
 use Rattle.gate_runs.specs.Journal.{journal, moment, read_entry, write_entry}
-use Rattle.gate_runs.specs.Stages.{Stage, Reading, Taking, Linking, Writing, Shutting, Past, later, lap_end, stages_from, writing_at, at_running_out}
-use Rattle.gate_runs.specs.Next.{AskConnect, AskRead, AskWrite, AskShut, AskIdle, AskNow, Upcoming, Do, Settle, EndBy, ask, most_writes, Point, ClockRead, Refusing, after_put, stage_of, point, next, live_pairs}
+use Rattle.gate_runs.specs.Stages.{Stage, Reading, Taking, Linking, Writing, Shutting, Past, later}
+use Rattle.gate_runs.specs.Stages.{lap_end, stages_from, writing_at, at_running_out}
+use Rattle.gate_runs.specs.Next.{AskConnect, AskRead, AskWrite, AskShut, AskIdle, AskNow, Upcoming}
+use Rattle.gate_runs.specs.Next.{Do, Settle, EndBy, ask, most_writes, Point, ClockRead, Refusing}
+use Rattle.gate_runs.specs.Next.{after_put, stage_of, point, next, live_pairs}
 use Rattle.gate_runs.specs.Serving.{RunsOutAt, AtRead, AtTakeUp, AtWrite, is_ended, Follows}
 use Rattle.gate_turn_laws.specs.Pairs.{is_live}
 use Rattle.gate_turn_laws.specs.Turns.{reached_stage, AllThrough, IsTried, is_same_end}
-use Rattle.gate_turn_laws.specs.Visits.{AtPoint, IsAnswer, IsTakeUp, IsLink, IsHeldUp, IsShut, taken_in_turn, WasRead, WasTakenUp, WasLinked, WasWritten, WasShut, IsVisited, AllVisited, VisitsAll}
-use Rattle.gate_turn_laws.proofs.Lists.{is_or_isnt, some_or_none, if_same, if_other, among_push-other}
+use Rattle.gate_turn_laws.specs.Visits.{AtPoint, IsAnswer, IsTakeUp, IsLink, IsHeldUp, IsShut}
+use Rattle.gate_turn_laws.specs.Visits.{taken_in_turn, WasRead, WasTakenUp, WasLinked, WasWritten}
+use Rattle.gate_turn_laws.specs.Visits.{WasShut, IsVisited, AllVisited, VisitsAll}
+use Rattle.gate_turn_laws.proofs.Lists.{is_or_isnt, some_or_none, if_same, if_other}
+use Rattle.gate_turn_laws.proofs.Lists.{among_push-other}
 use Rattle.gate_turn_laws.proofs.Order.{among_gone}
 use Rattle.gate_turn_laws.proofs.Points.{runs_still, run_out_runs, refuse_runs}
 use Rattle.gate_turn_laws.proofs.Cover.{Asks, not_due}
 use Rattle.gate_turn_laws.proofs.Living.{IsRefusal, LivesAt, lives}
 use Rattle.gate_turn_laws.proofs.Relayed.{shut_ended}
 use Rattle.gate_turn_laws.proofs.Stages.{WritesAt, chain_of, past_by, Found, found_by}
-use Rattle.gate_turn_laws.proofs.Turns.{Whole, Asked, in_part, at_refusal, at_end, of_none, asked_at, asked_part, accept_whole, refused_gone, whole, is_rest, all_through}
+use Rattle.gate_turn_laws.proofs.Turns.{Whole, Asked, in_part, at_refusal, at_end, of_none}
+use Rattle.gate_turn_laws.proofs.Turns.{asked_at, asked_part, accept_whole, refused_gone, whole}
+use Rattle.gate_turn_laws.proofs.Turns.{is_rest, all_through}
 
 -- ---- points of a turn
 

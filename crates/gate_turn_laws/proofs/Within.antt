@@ -1,17 +1,20 @@
 -- A run stays within its limits.
-use Rattle.std.proofs.Common.{◌≡◌, ◌≢◌, ℕ, ◌+◌, ◌<◌, ◌≤◌, nat_lt, Bool, true, false, not, ◌==◌, List, [], ◌∷◌, ◌++◌, length, filter, refl, sym, subst, arith}
+use Rattle.std.proofs.Common.{◌≡◌, ◌≢◌, ℕ, ◌+◌, ◌<◌, ◌≤◌, nat_lt, Bool, true, false, not, ◌==◌}
+use Rattle.std.proofs.Common.{List, [], ◌∷◌, ◌++◌, length, filter, refl, sym, subst, arith}
 use Rattle.std.proofs.lemmas.Bool.{ltb-true}
 use Rattle.std.proofs.lemmas.List.{length-append}
 use Rattle.std.proofs.lemmas.List.Sums.{length-filter, count_by-le-length}
 use Rattle.gate_outside.specs.declared.ports.End.{End}
 use Rattle.gate_outside.specs.declared.ports.Accepted.TheVariants as accepted
-use Rattle.gate_outside.specs.declared.log.LogEntry.TheVariants.{Accept, Connect, Read, Write, Shut, Idle, Now}
+use Rattle.gate_outside.specs.declared.log.LogEntry.TheVariants.{Accept, Connect, Read, Write, Shut}
+use Rattle.gate_outside.specs.declared.log.LogEntry.TheVariants.{Idle, Now}
 use Rattle.gate_relay.specs.RelayWords.{RelayWords}
 use Rattle.gate_relay.specs.Sides.{sides, has_end}
 use Rattle.gate_runs.specs.declared.limits.Limits.{Limits}
 use Rattle.gate_runs.specs.Marks.{History, Call, Refuse, TakeUp, RunOut, Finish}
 use Rattle.gate_runs.specs.Journal.{journal}
-use Rattle.gate_runs.specs.Next.{Do, AskAccept, AskNow, accepted_count, pair_limit, live_pairs, unless_gone, most_live, turns_begun, may_accept}
+use Rattle.gate_runs.specs.Next.{Do, AskAccept, AskNow, accepted_count, pair_limit, live_pairs}
+use Rattle.gate_runs.specs.Next.{unless_gone, most_live, turns_begun, may_accept}
 use Rattle.gate_runs.specs.Serving.{Follows}
 use Rattle.gate_turn_laws.specs.Within.{IsWithin}
 use Rattle.gate_turn_laws.proofs.Lists.{and_parts}

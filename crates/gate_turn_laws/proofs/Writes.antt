@@ -1,5 +1,6 @@
 -- In a turn each end of a pair is written to at most 4,096 times.
-use Rattle.std.proofs.Common.{◌≡◌, ℕ, ◌+◌, ◌<◌, ◌≤◌, ◌==◌, nat_lt, Bool, true, ◌&&◌, if◌then◌else◌, List, [], ◌∷◌, Some, refl, sym, ap, ◌∙◌, subst, inl, inr, arith}
+use Rattle.std.proofs.Common.{◌≡◌, ℕ, ◌+◌, ◌<◌, ◌≤◌, ◌==◌, nat_lt, Bool, true, ◌&&◌, if◌then◌else◌}
+use Rattle.std.proofs.Common.{List, [], ◌∷◌, Some, refl, sym, ap, ◌∙◌, subst, inl, inr, arith}
 use Rattle.std.proofs.lemmas.Bool.{ltb-true}
 use Rattle.std.proofs.lemmas.Bool.Decides.{eqb_tells}
 use Rattle.gate_outside.specs.declared.ports.End.{End}
@@ -10,9 +11,11 @@ use Rattle.gate_outside.specs.declared.ports.Got.TheVariants as got
 use Rattle.gate_outside.specs.declared.ports.Linked.{Linked}
 use Rattle.gate_outside.specs.declared.ports.Put.{Put}
 use Rattle.gate_outside.specs.declared.ports.Put.TheVariants as put
-use Rattle.gate_outside.specs.declared.log.LogEntry.TheVariants.{Accept, Connect, Read, Write, Shut, Idle, Now}
+use Rattle.gate_outside.specs.declared.log.LogEntry.TheVariants.{Accept, Connect, Read, Write, Shut}
+use Rattle.gate_outside.specs.declared.log.LogEntry.TheVariants.{Idle, Now}
 use Rattle.gate_relay.specs.declared.loss.Loss.TheVariants as loss
-use Rattle.gate_relay.specs.Entries.{Entry, Began, Refused, Moment, Came, Dry, Settled, Joined, Took, Stuck, Lost, OutOfMemory, Over}
+use Rattle.gate_relay.specs.Entries.{Entry, Began, Refused, Moment, Came, Dry, Settled, Joined}
+use Rattle.gate_relay.specs.Entries.{Took, Stuck, Lost, OutOfMemory, Over}
 use Rattle.gate_relay.specs.Guards.{offers}
 use Rattle.gate_relay.specs.RelayWords.{RelayWords}
 use Rattle.gate_runs.specs.declared.lap.Lap.{Lap}
@@ -20,10 +23,13 @@ use Rattle.gate_runs.specs.declared.lap.Lap.TheVariants.{ToUp, ToClient, ToClien
 use Rattle.gate_runs.specs.declared.limits.Limits.{Limits}
 use Rattle.gate_runs.specs.Marks.{History, Call, Refuse, TakeUp, RunOut, Finish}
 use Rattle.gate_runs.specs.Journal.{journal, since, read_entry, write_entry}
-use Rattle.gate_runs.specs.Stages.{Stage, Reading, Taking, Linking, Writing, Shutting, Past, later, lap_end, stages_from, writing_at, at_running_out}
-use Rattle.gate_runs.specs.Next.{AskConnect, AskRead, AskWrite, Upcoming, Do, Settle, most_writes, ClockRead, after_put, stage_of, point, next}
+use Rattle.gate_runs.specs.Stages.{Stage, Reading, Taking, Linking, Writing, Shutting, Past, later}
+use Rattle.gate_runs.specs.Stages.{lap_end, stages_from, writing_at, at_running_out}
+use Rattle.gate_runs.specs.Next.{AskConnect, AskRead, AskWrite, Upcoming, Do, Settle, most_writes}
+use Rattle.gate_runs.specs.Next.{ClockRead, after_put, stage_of, point, next}
 use Rattle.gate_runs.specs.Serving.{RunsOutAt, AtRead, AtTakeUp, AtWrite, Follows}
-use Rattle.gate_turn_laws.specs.Turns.{ran_out_in_turn, reached_stage, marks_in_turn, is_same_end, is_write_of, IsFewUp, WritesFew}
+use Rattle.gate_turn_laws.specs.Turns.{ran_out_in_turn, reached_stage, marks_in_turn, is_same_end}
+use Rattle.gate_turn_laws.specs.Turns.{is_write_of, IsFewUp, WritesFew}
 use Rattle.gate_turn_laws.proofs.Lists.{if_same}
 use Rattle.gate_turn_laws.proofs.Cover.{Asks}
 use Rattle.gate_turn_laws.proofs.Stages.{WritesAt, chain_of, Found, found_by}

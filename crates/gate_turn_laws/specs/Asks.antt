@@ -2,8 +2,10 @@
 use Rattle.std.specs.Prelude.{◌≡◌, true, [], ◌∷◌}
 use Rattle.gate_outside.specs.declared.ports.End.TheVariants.{Up}
 use Rattle.gate_outside.specs.declared.log.LogEntry.{LogEntry}
-use Rattle.gate_outside.specs.declared.log.LogEntry.TheVariants.{Accept, Connect, Read, Write, Shut, Idle, Now}
-use Rattle.gate_relay.specs.Sides.{sides, side_of, is_readable, is_writable, is_open_side, is_absent}
+use Rattle.gate_outside.specs.declared.log.LogEntry.TheVariants.{Accept, Connect, Read, Write, Shut}
+use Rattle.gate_outside.specs.declared.log.LogEntry.TheVariants.{Idle, Now}
+use Rattle.gate_relay.specs.Sides.{sides, side_of, is_readable, is_writable, is_open_side}
+use Rattle.gate_relay.specs.Sides.{is_absent}
 use Rattle.gate_runs.specs.Marks.{History, Call, Refuse, TakeUp, RunOut, Finish}
 use Rattle.gate_runs.specs.Journal.{journal}
 use Rattle.gate_turn_laws.specs.Pairs.{is_live}

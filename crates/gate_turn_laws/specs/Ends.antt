@@ -9,10 +9,12 @@ use Rattle.gate_relay.specs.Entries.{is_empty}
 use Rattle.gate_relay.specs.RelayWords.{RelayWords}
 use Rattle.gate_runs.specs.declared.limits.Limits.{Limits}
 use Rattle.gate_runs.specs.declared.served.Served.{Served}
-use Rattle.gate_runs.specs.declared.served.Served.TheVariants.{Stopped, PairsDone, TurnLimit, Fault, Memory}
+use Rattle.gate_runs.specs.declared.served.Served.TheVariants.{Stopped, PairsDone, TurnLimit, Fault}
+use Rattle.gate_runs.specs.declared.served.Served.TheVariants.{Memory}
 use Rattle.gate_runs.specs.declared.served.Outside.TheVariants as outside
 use Rattle.gate_runs.specs.Marks.{Mark, History, Call, Refuse, TakeUp, RunOut, Finish}
-use Rattle.gate_runs.specs.Next.{accepted_count, pair_limit, live_pairs, turns_begun, is_done, has_moved, finish_of}
+use Rattle.gate_runs.specs.Next.{accepted_count, pair_limit, live_pairs, turns_begun, is_done}
+use Rattle.gate_runs.specs.Next.{has_moved, finish_of}
 use Rattle.gate_runs.specs.Report.{lines_so_far}
 use Rattle.gate_runs.specs.Serving.{IsCallLast}
 

@@ -40,7 +40,8 @@ pub data AddsLines (w : RelayWords) (x : Mark) (m : History) : Type 0 where
 -- pair that there was no memory for at its accept the lines memory and closed
 pub data ShutLines (w : RelayWords) (p : ℕ) (end : End) (m : History) : Type 0 where
   OfPair : mark_lines w (Call (Shut p end)) m
-      ≡ w.lines (journal p (Call (Shut p end) ∷ m)) ++ closed_lines p (is_live p (Call (Shut p end) ∷ m))
+      ≡ w.lines (journal p (Call (Shut p end) ∷ m)) ++ closed_lines p (is_live p (Call
+      (Shut p end) ∷ m))
       → ShutLines w p end m
   OfRefused : (ms : ℕ) → journal p m ≡ Refused ∷ Began p ms ∷ []
       → is_live p (Call (Shut p end) ∷ m) ≡ false

@@ -1,15 +1,18 @@
 -- The calls alone: where no pair ran out of memory and no sink failed, the calls determine the run.
 -- All lists are newest first.
-use Rattle.std.specs.Prelude.{◌≡◌, ℕ, zero, suc, ◌+◌, Bool, true, false, List, [], ◌∷◌, length, Option, None, Some, unwrap_or}
+use Rattle.std.specs.Prelude.{◌≡◌, ℕ, zero, suc, ◌+◌, Bool, true, false, List, [], ◌∷◌, length}
+use Rattle.std.specs.Prelude.{Option, None, Some, unwrap_or}
 use Rattle.std.specs.Option.{option_map}
 use Rattle.gate_outside.specs.declared.log.LogEntry.{LogEntry}
 use Rattle.gate_relay.specs.RelayWords.{RelayWords}
 use Rattle.gate_runs.specs.declared.limits.Limits.{Limits}
 use Rattle.gate_runs.specs.declared.served.Served.{Served}
-use Rattle.gate_runs.specs.declared.served.Served.TheVariants.{Stopped, PairsDone, TurnLimit, Fault, Memory}
+use Rattle.gate_runs.specs.declared.served.Served.TheVariants.{Stopped, PairsDone, TurnLimit, Fault}
+use Rattle.gate_runs.specs.declared.served.Served.TheVariants.{Memory}
 use Rattle.gate_runs.specs.declared.served.Outside.TheVariants as outside
 use Rattle.gate_runs.specs.Marks.{Mark, History, Call, TakeUp, Finish}
-use Rattle.gate_runs.specs.Next.{Asked, asked, Upcoming, Do, Settle, EndBy, Done, live_pairs, out_of_memory_count, finish_of, next}
+use Rattle.gate_runs.specs.Next.{Asked, asked, Upcoming, Do, Settle, EndBy, Done, live_pairs}
+use Rattle.gate_runs.specs.Next.{out_of_memory_count, finish_of, next}
 
 -- what comes next without a call: a take-up, or the end of the service
 abbrev pub mark_between : Upcoming → Option Mark
@@ -21,7 +24,8 @@ mark_between Done = None
 -- with the marks that come next without a call, at most so many
 abbrev pub go_on : RelayWords → Limits → ℕ → History → History
 go_on w c zero m = m
-go_on w c (suc k) m = unwrap_or (option_map (λ x. go_on w c k (x ∷ m)) (mark_between (next w c m))) m
+go_on w c (suc k) m =
+    unwrap_or (option_map (λ x. go_on w c k (x ∷ m)) (mark_between (next w c m))) m
 
 -- between two calls at most one mark comes for each live pair, and the end of the service
 abbrev pub with_marks : RelayWords → Limits → History → History
@@ -67,7 +71,8 @@ pub record IsPlain (m : History) : Type 0 where
 abbrev pub Rests : RelayWords → Limits → History → Type 0
 Rests w c m = mark_between (next w c m) ≡ None
 
--- these calls are a whole run: each is the next one after those before it, and none comes after the last
+-- these calls are a whole run: each is the next one after those before it, and none comes after the
+-- last
 pub record IsWholeRun (w : RelayWords) (c : Limits) (log : List LogEntry) : Type 0 where
   pub each : FollowsLog w c log
   pub last : next_call w c log ≡ None

@@ -1,10 +1,12 @@
 -- The shape of a turn: the clock, at most one accept, each live pair once in rising number, and
 -- idle.
-use Rattle.std.specs.Prelude.{◌≡◌, ◌⊎◌, ℕ, ◌+◌, ◌*◌, ◌<◌, ◌≤◌, ◌==◌, ◌&&◌, Bool, true, false, if◌then◌else◌, List, [], ◌∷◌, None, Some, is_some}
+use Rattle.std.specs.Prelude.{◌≡◌, ◌⊎◌, ℕ, ◌+◌, ◌*◌, ◌<◌, ◌≤◌, ◌==◌, ◌&&◌, Bool, true, false}
+use Rattle.std.specs.Prelude.{if◌then◌else◌, List, [], ◌∷◌, None, Some, is_some}
 use Rattle.gate_outside.specs.declared.ports.End.{End}
 use Rattle.gate_outside.specs.declared.ports.End.TheVariants.{Client, Up}
 use Rattle.gate_outside.specs.declared.ports.Accepted.TheVariants as accepted
-use Rattle.gate_outside.specs.declared.log.LogEntry.TheVariants.{Accept, Connect, Read, Write, Shut, Idle, Now}
+use Rattle.gate_outside.specs.declared.log.LogEntry.TheVariants.{Accept, Connect, Read, Write, Shut}
+use Rattle.gate_outside.specs.declared.log.LogEntry.TheVariants.{Idle, Now}
 use Rattle.gate_relay.specs.Entries.{Entry, Began, Moment, OutOfMemory}
 use Rattle.gate_relay.specs.RelayWords.{RelayWords}
 use Rattle.gate_runs.specs.declared.lap.Lap.TheVariants.{ToUp, ToClient, ToClientLate, ToUpAgain}
@@ -12,7 +14,8 @@ use Rattle.gate_runs.specs.declared.limits.Limits.{Limits}
 use Rattle.gate_runs.specs.declared.served.Served.TheVariants.{PairsDone, TurnLimit}
 use Rattle.gate_runs.specs.Marks.{Mark, History, Call, Refuse, TakeUp, RunOut, Finish}
 use Rattle.gate_runs.specs.Journal.{journal}
-use Rattle.gate_runs.specs.Stages.{Stage, Reading, Taking, Linking, Writing, Shutting, Past, later, stages_from, writing_at}
+use Rattle.gate_runs.specs.Stages.{Stage, Reading, Taking, Linking, Writing, Shutting, Past, later}
+use Rattle.gate_runs.specs.Stages.{stages_from, writing_at}
 use Rattle.gate_runs.specs.Next.{ask, most_writes, after_put, may_accept, finish_of}
 use Rattle.gate_turn_laws.specs.Ends.{newest}
 use Rattle.gate_turn_laws.specs.Pairs.{is_live}
@@ -87,7 +90,8 @@ HasPlace w c (Call (Accept answer)) m =
     ((ms : ℕ) × (newest m ≡ Some (Call (Now ms)))) × (may_accept c m ≡ true)
 HasPlace w c (Call (Connect p answer)) m = IsInTurn w c p Linking m
 HasPlace w c (Call (Read p end room answer bytes)) m = IsInTurn w c p (Reading end) m
-HasPlace w c (Call (Write p end bytes answer)) m = IsInTurn w c p (writing_at end (reached_stage p m)) m
+HasPlace w c (Call (Write p end bytes answer)) m =
+    IsInTurn w c p (writing_at end (reached_stage p m)) m
 HasPlace w c (Call (Shut p end)) m = ShutsInTurn w c p end m
 HasPlace w c (Call (Idle answer)) m = AllThrough w m × IsTried c m
 HasPlace w c (Call (Now ms)) m = AllThrough w m × IsTried c m

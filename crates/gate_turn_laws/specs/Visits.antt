@@ -1,9 +1,11 @@
 -- What each live pair's part of a turn did: nothing that was due in it is left out.
-use Rattle.std.specs.Prelude.{◌≡◌, ◌⊎◌, ℕ, ◌+◌, ◌≤◌, true, false, if◌then◌else◌, List, [], ◌∷◌, None}
+use Rattle.std.specs.Prelude.{◌≡◌, ◌⊎◌, ℕ, ◌+◌, ◌≤◌, true, false, if◌then◌else◌, List, [], ◌∷◌}
+use Rattle.std.specs.Prelude.{None}
 use Rattle.gate_outside.specs.declared.ports.End.{End}
 use Rattle.gate_outside.specs.declared.log.LogEntry.TheVariants.{Idle, Now}
 use Rattle.gate_relay.specs.declared.loss.Loss.TheVariants as loss
-use Rattle.gate_relay.specs.Entries.{Entry, Began, Moment, Came, Dry, Settled, Joined, Took, Stuck, Lost}
+use Rattle.gate_relay.specs.Entries.{Entry, Began, Moment, Came, Dry, Settled, Joined, Took, Stuck}
+use Rattle.gate_relay.specs.Entries.{Lost}
 use Rattle.gate_relay.specs.Guards.{reads, takes_up, connects, offers, shuts}
 use Rattle.gate_relay.specs.RelayWords.{RelayWords}
 use Rattle.gate_runs.specs.declared.served.Served.TheVariants.{PairsDone, TurnLimit}

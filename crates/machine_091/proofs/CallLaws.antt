@@ -1,16 +1,22 @@
 -- What holds of a connection after any calls: its limits, and which channels are used.
-use Rattle.std.proofs.Common.{◌≡◌, ℕ, zero, suc, ◌≤◌, ◌<◌, ◌+◌, Bool, true, false, cond, ◌⊎◌, inl, inr, List, [], ◌∷◌, replicate, Option, None, Some, refl, sym, ◌∙◌, ap, subst, arith}
+use Rattle.std.proofs.Common.{◌≡◌, ℕ, zero, suc, ◌≤◌, ◌<◌, ◌+◌, Bool, true, false, cond, ◌⊎◌, inl}
+use Rattle.std.proofs.Common.{inr, List, [], ◌∷◌, replicate, Option, None, Some, refl, sym, ◌∙◌, ap}
+use Rattle.std.proofs.Common.{subst, arith}
 use Rattle.std.proofs.lemmas.List.Sums.{sum_by-cons}
 use Rattle.std.specs.Prelude.{slice_get, slice_set, count_by}
 use Rattle.close_translate.specs.declared.conditions.Scope.{Scope}
 use Rattle.close_translate.specs.declared.conditions.Scope.TheVariants as scope
 use Rattle.machine_091.specs.Contents.{begun}
-use Rattle.machine_091.specs.Calls.{opened_phase, after_opened, closing_channel, closing_phase, after_closing, told_channel, after_told, freed_channel, after_closed}
-use Rattle.machine_091.specs.Laws.{Call91, Take, Opened, Closing, Told, Closed, Ended, after_call, after_calls, is_used, AreInRange}
+use Rattle.machine_091.specs.Calls.{opened_phase, after_opened, closing_channel, closing_phase}
+use Rattle.machine_091.specs.Calls.{after_closing, told_channel, after_told, freed_channel}
+use Rattle.machine_091.specs.Calls.{after_closed}
+use Rattle.machine_091.specs.Laws.{Call91, Take, Opened, Closing, Told, Closed, Ended, after_call}
+use Rattle.machine_091.specs.Laws.{after_calls, is_used, AreInRange}
 use Rattle.machine_091.specs.Limits.{AreWithin}
 use Rattle.machine_091.specs.Methods.{publish_of}
 use Rattle.machine_091.specs.Refusals.{channel_of}
-use Rattle.machine_091.specs.State.{no_channels, new_connection, is_running, is_closing_phase, channel_at, or_free, with_channel}
+use Rattle.machine_091.specs.State.{no_channels, new_connection, is_running, is_closing_phase}
+use Rattle.machine_091.specs.State.{channel_at, or_free, with_channel}
 use Rattle.machine_091.specs.Transitions.{Step, closed_by, unit_step}
 use Rattle.machine_091.specs.declared.contents.Incoming.{Incoming}
 use Rattle.machine_091.specs.declared.state.Channel91.{Channel91}

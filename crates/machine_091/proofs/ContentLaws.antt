@@ -1,16 +1,23 @@
 -- What holds of the contents in progress: where they are after any calls.
-use Rattle.std.proofs.Common.{◌≡◌, ℕ, zero, suc, Bool, true, false, ◌&&◌, eqb, ◌⊎◌, inl, inr, List, [], ◌∷◌, replicate, Option, None, Some, refl, sym, ◌∙◌, ap, subst, arith}
+use Rattle.std.proofs.Common.{◌≡◌, ℕ, zero, suc, Bool, true, false, ◌&&◌, eqb, ◌⊎◌, inl, inr, List}
+use Rattle.std.proofs.Common.{[], ◌∷◌, replicate, Option, None, Some, refl, sym, ◌∙◌, ap, subst}
+use Rattle.std.proofs.Common.{arith}
 use Rattle.std.proofs.lemmas.Bool.{eqb-true}
 use Rattle.std.proofs.lemmas.Bool.Decides.{nat_tests}
 use Rattle.std.specs.Prelude.{is_some, slice_get, slice_set}
 use Rattle.close_translate.specs.declared.conditions.Scope.TheVariants as scope
-use Rattle.machine_091.specs.Calls.{opened_phase, after_opened, closing_contents, closing_channel, after_closing, told_channel, after_told, freed_channel, after_closed}
+use Rattle.machine_091.specs.Calls.{opened_phase, after_opened, closing_contents, closing_channel}
+use Rattle.machine_091.specs.Calls.{after_closing, told_channel, after_told, freed_channel}
+use Rattle.machine_091.specs.Calls.{after_closed}
 use Rattle.machine_091.specs.Contents.{no_contents, begun}
-use Rattle.machine_091.specs.Laws.{Call91, Take, Opened, Closing, Told, Closed, Ended, after_call, after_calls, HasNone, AreOnOpen}
+use Rattle.machine_091.specs.Laws.{Call91, Take, Opened, Closing, Told, Closed, Ended, after_call}
+use Rattle.machine_091.specs.Laws.{after_calls, HasNone, AreOnOpen}
 use Rattle.machine_091.specs.Limits.{agreed_limits}
 use Rattle.machine_091.specs.Methods.{publish_of}
 use Rattle.machine_091.specs.Refusals.{channel_of}
-use Rattle.machine_091.specs.State.{new_connection, is_running, is_closing_phase, is_open_channel, is_open, channel_at, or_free, with_channel, content_at, or_no_content, with_content}
+use Rattle.machine_091.specs.State.{new_connection, is_running, is_closing_phase, is_open_channel}
+use Rattle.machine_091.specs.State.{is_open, channel_at, or_free, with_channel, content_at}
+use Rattle.machine_091.specs.State.{or_no_content, with_content}
 use Rattle.machine_091.specs.Transitions.{Step, closed_by, unit_step}
 use Rattle.machine_091.specs.Transitions as machine
 use Rattle.machine_091.specs.declared.contents.Incoming.{Incoming}

@@ -1,5 +1,6 @@
 -- The step of a content header or a body frame, where the code asks for the places of the order in groups.
-use Rattle.std.proofs.Common.{◌≡◌, ℕ, Bool, true, false, cond, List, [], ◌∷◌, ◌++◌, Option, None, Some, Result, Ok, Err, IfOk, IfErr, refl, sym, ap, subst, ◌∙◌}
+use Rattle.std.proofs.Common.{◌≡◌, ℕ, Bool, true, false, cond, List, [], ◌∷◌, ◌++◌, Option, None}
+use Rattle.std.proofs.Common.{Some, Result, Ok, Err, IfOk, IfErr, refl, sym, ap, subst, ◌∙◌}
 use Rattle.content_091.specs.declared.assembly.Content.{Content}
 use Rattle.content_091.specs.declared.assembly.ContentFault.{ContentFault}
 use Rattle.content_091.specs.declared.assembly.ContentFault.TheVariants as fault
@@ -13,7 +14,8 @@ use Rattle.methods_091.specs.declared.method.Method91.{Method91}
 use Rattle.machine_091.specs.Checked.{IsFirstOf, IsFedAt}
 use Rattle.machine_091.specs.Contents.{Taking, IsOfContent, is_immediate, taken}
 use Rattle.machine_091.specs.Refusals.{places, taken_by}
-use Rattle.machine_091.specs.RefusalsContents.{awaited_order, fault_order, immediate_order, publish_order}
+use Rattle.machine_091.specs.RefusalsContents.{awaited_order, fault_order, immediate_order}
+use Rattle.machine_091.specs.RefusalsContents.{publish_order}
 use Rattle.machine_091.specs.RefusalsFrames.{first, content_order, channel_order, closing_order}
 use Rattle.machine_091.specs.State.{is_running, content_at, with_content}
 use Rattle.machine_091.specs.Transitions.{content_effect, frame_effect, ruled_step, ordered_step}

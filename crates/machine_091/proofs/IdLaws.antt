@@ -1,11 +1,13 @@
 -- A method that was read has the ids that stand in its frame.
-use Rattle.std.proofs.Common.{◌≡◌, ℕ, ◌-◌, Bool, true, false, cond, nat_lt, List, [], ◌∷◌, length, take, drop, Option, None, Some, Result, Ok, Err, sym, ap, ◌∙◌}
+use Rattle.std.proofs.Common.{◌≡◌, ℕ, ◌-◌, Bool, true, false, cond, nat_lt, List, [], ◌∷◌, length}
+use Rattle.std.proofs.Common.{take, drop, Option, None, Some, Result, Ok, Err, sym, ap, ◌∙◌}
 use Rattle.std.specs.Int.{w16, from_be_bytes}
 use Rattle.wire_base.specs.Reading.{Reads, ◌>>=◌, offset, pair_in, number_in}
 use Rattle.wire_base.specs.declared.scan.At.{At}
 use Rattle.wire_base.proofs.Laws.{bind_is, ok_is}
 use Rattle.methods_091.specs.Arguments.{Arg}
-use Rattle.methods_091.specs.Reading.{args_in, row_in, whole, known_in, ids_in, payload_in, told, method_in}
+use Rattle.methods_091.specs.Reading.{args_in, row_in, whole, known_in, ids_in, payload_in, told}
+use Rattle.methods_091.specs.Reading.{method_in}
 use Rattle.methods_091.specs.Rows.{Kind, class_of, id_of, shape, kind_with}
 use Rattle.methods_091.specs.declared.reading.MethodFault.{MethodFault}
 use Rattle.methods_091.proofs.KindLaws.{kind_is}

@@ -1,5 +1,7 @@
 -- The frames of a content in progress, and of one that is whole.
-use Rattle.std.proofs.Common.{◌≡◌, ℕ, ◌-◌, ◌≤◌, Bool, true, false, cond, eqb, nat_lt, List, [], ◌∷◌, ◌++◌, length, map, Some, Result, Ok, Err, refl, sym, ap, subst, ◌∙◌, arith}
+use Rattle.std.proofs.Common.{◌≡◌, ℕ, ◌-◌, ◌≤◌, Bool, true, false, cond, eqb, nat_lt, List, [], ◌∷◌}
+use Rattle.std.proofs.Common.{◌++◌, length, map, Some, Result, Ok, Err, refl, sym, ap, subst, ◌∙◌}
+use Rattle.std.proofs.Common.{arith}
 use Rattle.std.proofs.lemmas.Bool.{eqb-true}
 use Rattle.std.proofs.lemmas.Bool.Decides.{nat_tests}
 use Rattle.std.proofs.lemmas.List.{map-append}
@@ -25,7 +27,8 @@ use Rattle.content_091.proofs.Contents.{started_by, joined_by}
 use Rattle.frames_091.specs.declared.frame.Frame91.{Frame91}
 use Rattle.frames_091.specs.declared.frame.Kind91.{Kind91}
 use Rattle.frames_091.specs.declared.frame.Kind91.TheVariants as frame
-use Rattle.machine_091.specs.Contents.{Taking, IsOfContent, started, read, with_header, grown, with_body, taken}
+use Rattle.machine_091.specs.Contents.{Taking, IsOfContent, started, read, with_header, grown}
+use Rattle.machine_091.specs.Contents.{with_body, taken}
 use Rattle.machine_091.specs.Headers.{header_of}
 use Rattle.machine_091.specs.Laws.{frame_of}
 use Rattle.machine_091.specs.declared.contents.Incoming.{Incoming}

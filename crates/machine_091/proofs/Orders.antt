@@ -1,5 +1,6 @@
 -- The first place of the order of refusals that applies, where the code asks for the places in groups.
-use Rattle.std.proofs.Common.{◌≡◌, Bool, true, false, cond, List, [], ◌∷◌, ◌++◌, Option, None, Some, Ok, Err, refl, sym, ap, ◌∙◌}
+use Rattle.std.proofs.Common.{◌≡◌, Bool, true, false, cond, List, [], ◌∷◌, ◌++◌, Option, None, Some}
+use Rattle.std.proofs.Common.{Ok, Err, refl, sym, ap, ◌∙◌}
 use Rattle.wire_base.specs.declared.scan.At.{At}
 use Rattle.frames_091.specs.declared.frame.Frame91.{Frame91}
 use Rattle.frames_091.specs.declared.frame.Kind91.TheVariants as frame

@@ -1,8 +1,13 @@
 -- Which places of the order of refusals apply, where a frame counts and where one closes its channel.
-use Rattle.std.proofs.Common.{◌≡◌, ℕ, ◌≤◌, Bool, true, false, cond, eqb, nat_lt, ◌&&◌, List, [], ◌∷◌, ◌++◌, length, Option, None, Some, Ok, Err, refl, sym, ap, ◌∙◌, arith}
+use Rattle.std.proofs.Common.{◌≡◌, ℕ, ◌≤◌, Bool, true, false, cond, eqb, nat_lt, ◌&&◌, List, []}
+use Rattle.std.proofs.Common.{◌∷◌, ◌++◌, length, Option, None, Some, Ok, Err, refl, sym, ap, ◌∙◌}
+use Rattle.std.proofs.Common.{arith}
 use Rattle.std.proofs.lemmas.Bool.{eqb-true}
 use Rattle.std.proofs.lemmas.Bool.Decides.{nat_tests}
-use Rattle.close_translate.specs.declared.codes.TheConstants.{CHANNEL_ERROR, COMMAND_INVALID, CONTENT_TOO_LARGE, FRAME_ERROR, NOT_ALLOWED, NOT_IMPLEMENTED, RESOURCE_ERROR, UNEXPECTED_FRAME}
+use Rattle.close_translate.specs.declared.codes.TheConstants.{CHANNEL_ERROR, COMMAND_INVALID}
+use Rattle.close_translate.specs.declared.codes.TheConstants.{CONTENT_TOO_LARGE, FRAME_ERROR}
+use Rattle.close_translate.specs.declared.codes.TheConstants.{NOT_ALLOWED, NOT_IMPLEMENTED}
+use Rattle.close_translate.specs.declared.codes.TheConstants.{RESOURCE_ERROR, UNEXPECTED_FRAME}
 use Rattle.content_091.specs.declared.assembly.ContentFault.TheVariants as fault
 use Rattle.content_091.specs.declared.assembly.Step.TheVariants as step
 use Rattle.frames_091.specs.declared.frame.Frame91.{Frame91}
@@ -14,14 +19,22 @@ use Rattle.methods_091.specs.Reading.{Read, method_in}
 use Rattle.machine_091.specs.Contents.{Taking, is_immediate}
 use Rattle.machine_091.specs.Ids.{class_in, id_in, has_ids, is_in, is_of_kind}
 use Rattle.machine_091.specs.Methods.{flag, flags_at}
-use Rattle.machine_091.specs.Refusals.{places, order_place, channel_place, closing_place, content_place, reading_place, state_place, own_place, taken_by}
+use Rattle.machine_091.specs.Refusals.{places, order_place, channel_place, closing_place}
+use Rattle.machine_091.specs.Refusals.{content_place, reading_place, state_place, own_place}
+use Rattle.machine_091.specs.Refusals.{taken_by}
 use Rattle.machine_091.specs.RefusalsContents.{within_order}
-use Rattle.machine_091.specs.RefusalsFrames.{first, refused, content_order, channel_order, closing_order, passed_over, state_order, reading_order, is_opening, is_closing, is_answering}
-use Rattle.machine_091.specs.RefusalsOpening.{is_expected, expected_order, opening_refusal, opening_refusal_in}
-use Rattle.machine_091.specs.RefusalsRunning.{class_order, is_servers, answer_order, running_state, carried_order, is_done, running_refusal}
+use Rattle.machine_091.specs.RefusalsFrames.{first, refused, content_order, channel_order}
+use Rattle.machine_091.specs.RefusalsFrames.{closing_order, passed_over, state_order, reading_order}
+use Rattle.machine_091.specs.RefusalsFrames.{is_opening, is_closing, is_answering}
+use Rattle.machine_091.specs.RefusalsOpening.{is_expected, expected_order, opening_refusal}
+use Rattle.machine_091.specs.RefusalsOpening.{opening_refusal_in}
+use Rattle.machine_091.specs.RefusalsRunning.{class_order, is_servers, answer_order, running_state}
+use Rattle.machine_091.specs.RefusalsRunning.{carried_order, is_done, running_refusal}
 use Rattle.machine_091.specs.State.{is_running, is_open_channel, is_open, channel_at, content_at}
 use Rattle.machine_091.specs.declared.contents.Incoming.{Incoming}
-use Rattle.machine_091.specs.declared.ids.TheConstants.{BASIC_PUBLISH, CHANNEL_OPEN, CHANNEL_FLOW, CHANNEL_CLOSE, CHANNEL_CLOSE_OK, CONNECTION, CONNECTION_CLOSE}
+use Rattle.machine_091.specs.declared.ids.TheConstants.{BASIC_PUBLISH, CHANNEL_OPEN, CHANNEL_FLOW}
+use Rattle.machine_091.specs.declared.ids.TheConstants.{CHANNEL_CLOSE, CHANNEL_CLOSE_OK, CONNECTION}
+use Rattle.machine_091.specs.declared.ids.TheConstants.{CONNECTION_CLOSE}
 use Rattle.machine_091.specs.declared.state.Channel91.{Channel91}
 use Rattle.machine_091.specs.declared.state.Channel91.TheVariants as channel
 use Rattle.machine_091.specs.declared.state.Connection.{Connection}

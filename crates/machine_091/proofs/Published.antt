@@ -1,5 +1,6 @@
 -- A content that is published is that of the last frames of its channel.
-use Rattle.std.proofs.Common.{◌≡◌, Option, ℕ, ◌≤◌, Bool, true, false, ◌&&◌, cond, eqb, List, [], ◌∷◌, ◌++◌, None, Some, refl, sym, ap, subst, ◌∙◌, arith}
+use Rattle.std.proofs.Common.{◌≡◌, Option, ℕ, ◌≤◌, Bool, true, false, ◌&&◌, cond, eqb, List, []}
+use Rattle.std.proofs.Common.{◌∷◌, ◌++◌, None, Some, refl, sym, ap, subst, ◌∙◌, arith}
 use Rattle.std.proofs.lemmas.Bool.{eqb-true}
 use Rattle.std.proofs.lemmas.Bool.Decides.{nat_tests}
 use Rattle.std.proofs.lemmas.List.{append-nil, append_assoc}
@@ -16,13 +17,17 @@ use Rattle.methods_091.specs.declared.method.Method91.{Method91}
 use Rattle.content_091.specs.declared.assembly.Assembly.{Assembly}
 use Rattle.content_091.specs.declared.assembly.Content.{Content}
 use Rattle.content_091.specs.declared.assembly.Step.TheVariants as step
-use Rattle.machine_091.specs.Calls.{closing_channel, closing_contents, after_closing, told_channel, after_told, freed_channel, after_closed}
+use Rattle.machine_091.specs.Calls.{closing_channel, closing_contents, after_closing, told_channel}
+use Rattle.machine_091.specs.Calls.{after_told, freed_channel, after_closed}
 use Rattle.machine_091.specs.Contents.{no_contents, begun, is_immediate}
 use Rattle.machine_091.specs.Ids.{is_of_kind}
-use Rattle.machine_091.specs.Laws.{Call91, Take, Opened, Closing, Told, Closed, Ended, after_call, after_calls, frames_on, frame_of, unit_frames, call_frames, is_used, IsPublished}
+use Rattle.machine_091.specs.Laws.{Call91, Take, Opened, Closing, Told, Closed, Ended, after_call}
+use Rattle.machine_091.specs.Laws.{after_calls, frames_on, frame_of, unit_frames, call_frames}
+use Rattle.machine_091.specs.Laws.{is_used, IsPublished}
 use Rattle.machine_091.specs.Methods.{publish_of}
 use Rattle.machine_091.specs.Refusals.{channel_of}
-use Rattle.machine_091.specs.State.{new_connection, is_running, is_open_channel, is_open, channel_at, content_at, with_channel}
+use Rattle.machine_091.specs.State.{new_connection, is_running, is_open_channel, is_open}
+use Rattle.machine_091.specs.State.{channel_at, content_at, with_channel}
 use Rattle.machine_091.specs.Transitions.{Step, unit_step}
 use Rattle.machine_091.specs.Transitions as machine
 use Rattle.machine_091.specs.declared.contents.Incoming.{Incoming}
@@ -37,7 +42,8 @@ use Rattle.machine_091.specs.declared.unit.Unit91.TheVariants as unit
 use Rattle.machine_091.specs.declared.unit.Want91.{Want91}
 use Rattle.machine_091.specs.declared.unit.Want91.TheVariants as want
 use Rattle.machine_091.proofs.CallLaws.{channels_hold}
-use Rattle.machine_091.proofs.ContentLaws.{IsSet, Here, There, content_set, nothing_at, closing_stopped, sound_contents}
+use Rattle.machine_091.proofs.ContentLaws.{IsSet, Here, There, content_set, nothing_at}
+use Rattle.machine_091.proofs.ContentLaws.{closing_stopped, sound_contents}
 use Rattle.machine_091.proofs.Joining.{Progress, Alone, frame_is, frame_goes}
 use Rattle.machine_091.proofs.Spelled.{publish_spelled}
 use Rattle.machine_091.proofs.StepCases.{IsBeginning, IsTaken, step_rows}

@@ -1,7 +1,9 @@
 -- The rows of the table of transitions: what holds of each row holds of each step.
-use Rattle.std.proofs.Common.{◌≡◌, ℕ, ◌≤◌, Bool, true, false, cond, eqb, ◌&&◌, List, [], ◌∷◌, ◌++◌, length, Option, None, Some, Ok, Err, refl, sym, ap, subst, ◌∙◌}
+use Rattle.std.proofs.Common.{◌≡◌, ℕ, ◌≤◌, Bool, true, false, cond, eqb, ◌&&◌, List, [], ◌∷◌, ◌++◌}
+use Rattle.std.proofs.Common.{length, Option, None, Some, Ok, Err, refl, sym, ap, subst, ◌∙◌}
 use Rattle.std.proofs.lemmas.Bool.{eqb-true}
-use Rattle.close_translate.specs.declared.codes.TheConstants.{CONTENT_TOO_LARGE, FRAME_ERROR, NOT_ALLOWED, NOT_IMPLEMENTED}
+use Rattle.close_translate.specs.declared.codes.TheConstants.{CONTENT_TOO_LARGE, FRAME_ERROR}
+use Rattle.close_translate.specs.declared.codes.TheConstants.{NOT_ALLOWED, NOT_IMPLEMENTED}
 use Rattle.close_translate.specs.declared.conditions.Scope.TheVariants as scope
 use Rattle.content_091.specs.declared.assembly.Assembly.{Assembly}
 use Rattle.content_091.specs.declared.assembly.Content.{Content}
@@ -22,16 +24,28 @@ use Rattle.machine_091.specs.Contents.{IsOfContent, Taking, is_immediate, no_con
 use Rattle.machine_091.specs.Contents as contents
 use Rattle.machine_091.specs.Ids.{is_of_kind}
 use Rattle.machine_091.specs.Limits.{is_agreed, agreed_limits}
-use Rattle.machine_091.specs.Methods.{text_at, number_at, close_of, flow_of, declare_of, publish_of, select_of}
-use Rattle.machine_091.specs.Refusals.{places, channel_place, closing_place, reading_place, taken_by, unit_ruling, refusal_of, publish_refusal, channel_refusal, channel_of}
-use Rattle.machine_091.specs.RefusalsFrames.{first, content_order, channel_order, closing_order, is_opening, refused}
+use Rattle.machine_091.specs.Methods.{text_at, number_at, close_of, flow_of, declare_of, publish_of}
+use Rattle.machine_091.specs.Methods.{select_of}
+use Rattle.machine_091.specs.Refusals.{places, channel_place, closing_place, reading_place}
+use Rattle.machine_091.specs.Refusals.{taken_by, unit_ruling, refusal_of, publish_refusal}
+use Rattle.machine_091.specs.Refusals.{channel_refusal, channel_of}
+use Rattle.machine_091.specs.RefusalsFrames.{first, content_order, channel_order, closing_order}
+use Rattle.machine_091.specs.RefusalsFrames.{is_opening, refused}
 use Rattle.machine_091.specs.RefusalsOpening.{is_login, opening_refusal, opening_refusal_in}
 use Rattle.machine_091.specs.RefusalsRunning.{running_refusal}
-use Rattle.machine_091.specs.State.{is_running, is_closing_phase, is_open_channel, is_open, with_channel, channel_at, with_content, content_at}
-use Rattle.machine_091.specs.Transitions.{Step, closed_by, header_step, stream_after, opening_effect, channel_effect, running_effect, method_effect, content_effect, frame_effect, unit_effect, ruled_step, ordered_step, is_unit_of, closed_step, closing_step, step_in, unit_step}
+use Rattle.machine_091.specs.State.{is_running, is_closing_phase, is_open_channel, is_open}
+use Rattle.machine_091.specs.State.{with_channel, channel_at, with_content, content_at}
+use Rattle.machine_091.specs.Transitions.{Step, closed_by, header_step, stream_after}
+use Rattle.machine_091.specs.Transitions.{opening_effect, channel_effect, running_effect}
+use Rattle.machine_091.specs.Transitions.{method_effect, content_effect, frame_effect, unit_effect}
+use Rattle.machine_091.specs.Transitions.{ruled_step, ordered_step, is_unit_of, closed_step}
+use Rattle.machine_091.specs.Transitions.{closing_step, step_in, unit_step}
 use Rattle.machine_091.specs.Transitions as machine
 use Rattle.machine_091.specs.declared.contents.Incoming.{Incoming}
-use Rattle.machine_091.specs.declared.ids.TheConstants.{CONNECTION_CLOSE, CONNECTION_CLOSE_OK, CHANNEL_OPEN, CHANNEL_CLOSE, CHANNEL_FLOW, EXCHANGE_DECLARE, BASIC_PUBLISH, CONFIRM_SELECT}
+use Rattle.machine_091.specs.declared.ids.TheConstants.{CONNECTION_CLOSE, CONNECTION_CLOSE_OK}
+use Rattle.machine_091.specs.declared.ids.TheConstants.{CHANNEL_OPEN, CHANNEL_CLOSE, CHANNEL_FLOW}
+use Rattle.machine_091.specs.declared.ids.TheConstants.{EXCHANGE_DECLARE, BASIC_PUBLISH}
+use Rattle.machine_091.specs.declared.ids.TheConstants.{CONFIRM_SELECT}
 use Rattle.machine_091.specs.declared.state.Channel91.TheVariants as channel
 use Rattle.machine_091.specs.declared.state.Connection.{Connection}
 use Rattle.machine_091.specs.declared.state.Phase91.{Phase91}
@@ -43,7 +57,9 @@ use Rattle.machine_091.specs.declared.unit.Unit91.{Unit91}
 use Rattle.machine_091.specs.declared.unit.Unit91.TheVariants as unit
 use Rattle.machine_091.specs.declared.unit.Want91.TheVariants as want
 use Rattle.machine_091.proofs.ContentSteps.{content_places, taking_places, order_is, effect_is}
-use Rattle.machine_091.proofs.Places.{IsOnOpen, NoneOfMethod, none_of_method, none_within, rest_none, first_none, within, not_zero, content_open, method_apart, content_apart, over_closed, publish_open}
+use Rattle.machine_091.proofs.Places.{IsOnOpen, NoneOfMethod, none_of_method, none_within}
+use Rattle.machine_091.proofs.Places.{rest_none, first_none, within, not_zero, content_open}
+use Rattle.machine_091.proofs.Places.{method_apart, content_apart, over_closed, publish_open}
 
 -- ---- what is known where a frame counts
 

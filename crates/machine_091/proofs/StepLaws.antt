@@ -1,5 +1,6 @@
 -- What holds of each step of a connection.
-use Rattle.std.proofs.Common.{◌≡◌, ℕ, List, [], Bool, true, false, ◌&&◌, cond, eqb, Option, Some, refl, sym, ◌∙◌, ap, subst, arith, inl, inr}
+use Rattle.std.proofs.Common.{◌≡◌, ℕ, List, [], Bool, true, false, ◌&&◌, cond, eqb, Option, Some}
+use Rattle.std.proofs.Common.{refl, sym, ◌∙◌, ap, subst, arith, inl, inr}
 use Rattle.std.proofs.lemmas.Bool.Decides.{nat_tests}
 use Rattle.frames_091.specs.declared.frame.Kind91.{Kind91}
 use Rattle.frames_091.specs.declared.frame.Kind91.TheVariants as frame
@@ -8,9 +9,11 @@ use Rattle.close_translate.specs.declared.conditions.Scope.TheVariants as scope
 use Rattle.machine_091.specs.Calls.{closing_channel, after_closing}
 use Rattle.machine_091.specs.Laws.{ClosesConnection, ClosesChannel, Closes, StaysClosed}
 use Rattle.machine_091.specs.Limits.{AreWithin, is_agreed, agreed_limits}
-use Rattle.machine_091.specs.Refusals.{refusal_by, refusal_of, refusal_with, publish_refusal, channel_refusal, channel_of, refusal_by_order, unit_ruling}
+use Rattle.machine_091.specs.Refusals.{refusal_by, refusal_of, refusal_with, publish_refusal}
+use Rattle.machine_091.specs.Refusals.{channel_refusal, channel_of, refusal_by_order, unit_ruling}
 use Rattle.machine_091.specs.RefusalsOpening.{is_login}
-use Rattle.machine_091.specs.State.{is_running, is_closing_phase, is_open_channel, is_open, channel_at}
+use Rattle.machine_091.specs.State.{is_running, is_closing_phase, is_open_channel, is_open}
+use Rattle.machine_091.specs.State.{channel_at}
 use Rattle.machine_091.specs.Transitions.{Step, unit_step}
 use Rattle.machine_091.specs.Transitions as machine
 use Rattle.machine_091.specs.declared.state.Channel91.{Channel91}

@@ -1,6 +1,7 @@
 -- What the check of a method frame against the order of refusals answers: the method, if the frame
 -- counts, or what the order says of it. And what a frame of a content leaves.
-use Rattle.std.specs.Prelude.{◌≡◌, ℕ, Bool, true, false, List, ◌++◌, Option, Some, None, Result, Ok, Err}
+use Rattle.std.specs.Prelude.{◌≡◌, ℕ, Bool, true, false, List, ◌++◌, Option, Some, None, Result, Ok}
+use Rattle.std.specs.Prelude.{Err}
 use Rattle.frames_091.specs.declared.frame.Frame91.{Frame91}
 use Rattle.frames_091.specs.declared.frame.Kind91.TheVariants.{Method}
 use Rattle.methods_091.specs.View.{kind_of, args_of, parts_of}
@@ -27,7 +28,8 @@ IsFirstOf ps (Some r) = (behind : List (Option Ruling)) → first (ps ++ behind)
 abbrev pub IsCounted : Bool → Connection → ℕ → Method91 → Type 0
 IsCounted false c n m = is_expected c (kind_of m) ≡ true
 IsCounted true c n m =
-    (running_state (channel_at c n) n (kind_of m) ≡ None) × (running_refusal c.carried_max n (kind_of m) (args_of m) ≡ None)
+    (running_state (channel_at c n) n (kind_of m) ≡ None) × (running_refusal c.carried_max n
+    (kind_of m) (args_of m) ≡ None)
 
 -- the check of a method frame
 abbrev pub IsMethodChecked : Connection → Frame91 → Result Method91 Ruling → Type 0

@@ -1,6 +1,7 @@
 -- The contents in progress (AMQP 0-9-1 4.2.6): at most one a channel, from the method that begins
 -- it until it is whole; and what a content header and a body frame make of one.
-use Rattle.std.specs.Prelude.{◌≡◌, ℕ, ◌-◌, ◌==◌, nat_lt, Bool, false, if◌then◌else◌, List, [], length, replicate, Option, None, Some, Result, Ok, Err, ⊤}
+use Rattle.std.specs.Prelude.{◌≡◌, ℕ, ◌-◌, ◌==◌, nat_lt, Bool, false, if◌then◌else◌, List, []}
+use Rattle.std.specs.Prelude.{length, replicate, Option, None, Some, Result, Ok, Err, ⊤}
 use Rattle.wire_base.specs.declared.scan.At.{At}
 use Rattle.frames_091.specs.declared.frame.Kind91.{Kind91}
 use Rattle.frames_091.specs.declared.frame.Kind91.TheVariants as frame

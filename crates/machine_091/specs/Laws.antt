@@ -1,6 +1,7 @@
 -- Any calls on a connection, and what holds after them (AMQP 0-9-1 2.2.4, 1.4.2.6, 1.5 and 4.2.6).
 -- Lists of calls are newest first.
-use Rattle.std.specs.Prelude.{◌≡◌, ℕ, ◌≤◌, ◌==◌, Bool, true, false, ◌⊎◌, if◌then◌else◌, List, [], ◌∷◌, ◌++◌, map, count_by, is_some}
+use Rattle.std.specs.Prelude.{◌≡◌, ℕ, ◌≤◌, ◌==◌, Bool, true, false, ◌⊎◌, if◌then◌else◌, List, []}
+use Rattle.std.specs.Prelude.{◌∷◌, ◌++◌, map, count_by, is_some}
 use Rattle.wire_base.specs.Bytes.{IsBytes}
 use Rattle.close_translate.specs.declared.codes.TheConstants.{CONTENT_TOO_LARGE}
 use Rattle.close_translate.specs.declared.conditions.Scope.{Scope}
@@ -13,7 +14,8 @@ use Rattle.methods_091.specs.View.{kind_of}
 use Rattle.methods_091.specs.declared.method.Method91.{Method91}
 use Rattle.content_091.specs.Assembling.{IsContent}
 use Rattle.content_091.specs.declared.assembly.Content.{Content}
-use Rattle.machine_091.specs.Calls.{after_opened, after_closing, after_told, after_closed, after_ended}
+use Rattle.machine_091.specs.Calls.{after_opened, after_closing, after_told, after_closed}
+use Rattle.machine_091.specs.Calls.{after_ended}
 use Rattle.machine_091.specs.Contents.{no_contents, is_immediate}
 use Rattle.machine_091.specs.Ids.{is_of_kind}
 use Rattle.machine_091.specs.State.{new_connection, channel_at, content_at, is_open, is_running}

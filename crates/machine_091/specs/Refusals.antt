@@ -10,8 +10,11 @@ use Rattle.frames_091.specs.declared.frame.Kind91.TheVariants as frame
 use Rattle.methods_091.specs.Reading.{Read, method_in}
 use Rattle.machine_091.specs.Contents.{Taking, taken}
 use Rattle.machine_091.specs.Ids.{class_in, id_in}
-use Rattle.machine_091.specs.RefusalsContents.{within_order, awaited_order, fault_order, publish_order}
-use Rattle.machine_091.specs.RefusalsFrames.{refused, first, heartbeat_order, content_order, is_opening, is_closing, is_answering, channel_order, closing_order, reading_order}
+use Rattle.machine_091.specs.RefusalsContents.{within_order, awaited_order, fault_order}
+use Rattle.machine_091.specs.RefusalsContents.{publish_order}
+use Rattle.machine_091.specs.RefusalsFrames.{refused, first, heartbeat_order, content_order}
+use Rattle.machine_091.specs.RefusalsFrames.{is_opening, is_closing, is_answering, channel_order}
+use Rattle.machine_091.specs.RefusalsFrames.{closing_order, reading_order}
 use Rattle.machine_091.specs.RefusalsOpening.{expected_order, opening_refusal}
 use Rattle.machine_091.specs.RefusalsRunning.{class_order, running_state, running_refusal}
 use Rattle.machine_091.specs.State.{is_running, channel_at, content_at}
@@ -38,7 +41,8 @@ abbrev pub order_place : Connection → Frame91 → Read → Kind91 → Option R
 order_place c f read frame.Heartbeat = None
 order_place c f read frame.Header = content_order (is_running c.phase) f.channel
 order_place c f read frame.Body = content_order (is_running c.phase) f.channel
-order_place c f read frame.Method = if is_running c.phase then class_order f.channel f.payload else expected_order c read
+order_place c f read frame.Method =
+    if is_running c.phase then class_order f.channel f.payload else expected_order c read
 
 -- a channel above the greatest, one that isn't open, and one that is opened again
 abbrev pub channel_place : Connection → Frame91 → Kind91 → Option Ruling
@@ -52,7 +56,8 @@ abbrev pub closing_place : Connection → Frame91 → Kind91 → Option Ruling
 closing_place c f frame.Heartbeat = None
 closing_place c f frame.Header = closing_order c f.channel false false
 closing_place c f frame.Body = closing_order c f.channel false false
-closing_place c f frame.Method = closing_order c f.channel (is_closing f.payload) (is_answering f.payload)
+closing_place c f frame.Method =
+    closing_order c f.channel (is_closing f.payload) (is_answering f.payload)
 
 -- what a header or a body makes of the content in progress on its channel
 abbrev pub taken_by : Connection → Frame91 → Kind91 → Taking
@@ -78,7 +83,8 @@ state_place c n read frame.Heartbeat = None
 state_place c n read frame.Header = None
 state_place c n read frame.Body = None
 state_place c n (Err e) frame.Method = None
-state_place c n (Ok m) frame.Method = if is_running c.phase then running_state (channel_at c n) n m.0 else None
+state_place c n (Ok m) frame.Method =
+    if is_running c.phase then running_state (channel_at c n) n m.0 else None
 
 -- the method's own refusals; those of basic.publish, where its content is whole
 abbrev pub own_place : Connection → Frame91 → Read → Kind91 → Option Ruling
@@ -87,7 +93,8 @@ own_place c f read frame.Header = publish_order (content_at c f.channel) (taken_
 own_place c f read frame.Body = publish_order (content_at c f.channel) (taken_by c f frame.Body)
 own_place c f (Err e) frame.Method = None
 own_place c f (Ok m) frame.Method =
-    if is_running c.phase then running_refusal c.carried_max f.channel m.0 m.1 else opening_refusal c m.1
+    if is_running c.phase then running_refusal c.carried_max f.channel m.0 m.1
+    else opening_refusal c m.1
 
 -- the order
 abbrev pub places : Connection → Frame91 → Read → Kind91 → List (Option Ruling)

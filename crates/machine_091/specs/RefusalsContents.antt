@@ -2,7 +2,9 @@
 -- within it, a frame that isn't awaited, a frame that is at fault, and the refusals of its method,
 -- which come once it is whole (AMQP 0-9-1 4.2.6 and 1.8.3.7).
 use Rattle.std.specs.Prelude.{ℕ, if◌then◌else◌, Option, Some, None, Ok, Err}
-use Rattle.close_translate.specs.declared.codes.TheConstants.{CONTENT_TOO_LARGE, FRAME_ERROR, SYNTAX_ERROR, UNEXPECTED_FRAME, NOT_IMPLEMENTED}
+use Rattle.close_translate.specs.declared.codes.TheConstants.{CONTENT_TOO_LARGE, FRAME_ERROR}
+use Rattle.close_translate.specs.declared.codes.TheConstants.{SYNTAX_ERROR, UNEXPECTED_FRAME}
+use Rattle.close_translate.specs.declared.codes.TheConstants.{NOT_IMPLEMENTED}
 use Rattle.methods_091.specs.declared.method.Method91.{Method91}
 use Rattle.content_091.specs.declared.assembly.ContentFault.TheVariants as fault
 use Rattle.content_091.specs.declared.assembly.Step.TheVariants as step

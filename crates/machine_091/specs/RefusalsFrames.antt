@@ -1,14 +1,18 @@
 -- The places of the order of refusals that ask the same of each frame, in every phase (AMQP 0-9-1
 -- 4.2.3, 4.2.6, 4.2.7 and 1.5).
-use Rattle.std.specs.Prelude.{ℕ, Bool, ◌&&◌, ◌==◌, nat_lt, if◌then◌else◌, List, [], ◌∷◌, length, Option, Some, None, Ok, Err}
-use Rattle.close_translate.specs.declared.codes.TheConstants.{FRAME_ERROR, CHANNEL_ERROR, UNEXPECTED_FRAME, NOT_IMPLEMENTED, SYNTAX_ERROR}
+use Rattle.std.specs.Prelude.{ℕ, Bool, ◌&&◌, ◌==◌, nat_lt, if◌then◌else◌, List, [], ◌∷◌, length}
+use Rattle.std.specs.Prelude.{Option, Some, None, Ok, Err}
+use Rattle.close_translate.specs.declared.codes.TheConstants.{FRAME_ERROR, CHANNEL_ERROR}
+use Rattle.close_translate.specs.declared.codes.TheConstants.{UNEXPECTED_FRAME, NOT_IMPLEMENTED}
+use Rattle.close_translate.specs.declared.codes.TheConstants.{SYNTAX_ERROR}
 use Rattle.frames_091.specs.declared.frame.Frame91.{Frame91}
 use Rattle.methods_091.specs.Reading.{Read}
 use Rattle.methods_091.specs.declared.reading.MethodFault.{MethodFault}
 use Rattle.methods_091.specs.declared.reading.MethodFault.TheVariants as fault
 use Rattle.machine_091.specs.Ids.{is_in}
 use Rattle.machine_091.specs.State.{channel_at}
-use Rattle.machine_091.specs.declared.ids.TheConstants.{CHANNEL_OPEN, CHANNEL_CLOSE, CHANNEL_CLOSE_OK}
+use Rattle.machine_091.specs.declared.ids.TheConstants.{CHANNEL_OPEN, CHANNEL_CLOSE}
+use Rattle.machine_091.specs.declared.ids.TheConstants.{CHANNEL_CLOSE_OK}
 use Rattle.machine_091.specs.declared.state.Channel91.{Channel91}
 use Rattle.machine_091.specs.declared.state.Channel91.TheVariants as channel
 use Rattle.machine_091.specs.declared.state.Connection.{Connection}
@@ -70,10 +74,12 @@ abbrev pub passed_over : Channel91 → Bool → Bool → Option Ruling
 passed_over channel.Free closes answers = None
 passed_over channel.Open closes answers = None
 passed_over channel.Closing closes answers = if closes then None else Some ruling.PassedOver
-passed_over channel.Told closes answers = if closes then None else if answers then None else Some ruling.PassedOver
+passed_over channel.Told closes answers =
+    if closes then None else if answers then None else Some ruling.PassedOver
 
 abbrev pub closing_order : Connection → ℕ → Bool → Bool → Option Ruling
-closing_order c n closes answers = if n == 0 then None else passed_over (channel_at c n) closes answers
+closing_order c n closes answers =
+    if n == 0 then None else passed_over (channel_at c n) closes answers
 
 -- ---- reading a method
 

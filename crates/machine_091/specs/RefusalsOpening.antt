@@ -1,6 +1,7 @@
 -- The places of the order of refusals that ask of a method before the connection runs: the one that
 -- is expected, and what it says (AMQP 0-9-1 2.2.4 and 1.4.2).
-use Rattle.std.specs.Prelude.{ℕ, codes, Bool, false, ◌&&◌, ◌||◌, nat_le, if◌then◌else◌, List, length, Option, None, Ok, Err}
+use Rattle.std.specs.Prelude.{ℕ, codes, Bool, false, ◌&&◌, ◌||◌, nat_le, if◌then◌else◌, List}
+use Rattle.std.specs.Prelude.{length, Option, None, Ok, Err}
 use Rattle.std.specs.Str.{bytes_eq}
 use Rattle.close_translate.specs.declared.codes.TheConstants.{COMMAND_INVALID, NOT_ALLOWED}
 use Rattle.methods_091.specs.Arguments.{Arg}
@@ -10,7 +11,8 @@ use Rattle.machine_091.specs.Ids.{is_of_kind}
 use Rattle.machine_091.specs.Limits.{is_agreed}
 use Rattle.machine_091.specs.Methods.{text_at, number_at}
 use Rattle.machine_091.specs.RefusalsFrames.{refused}
-use Rattle.machine_091.specs.declared.ids.TheConstants.{CONNECTION_START_OK, CONNECTION_TUNE_OK, CONNECTION_OPEN}
+use Rattle.machine_091.specs.declared.ids.TheConstants.{CONNECTION_START_OK, CONNECTION_TUNE_OK}
+use Rattle.machine_091.specs.declared.ids.TheConstants.{CONNECTION_OPEN}
 use Rattle.machine_091.specs.declared.limits.TheConstants.{RESPONSE_MAX}
 use Rattle.machine_091.specs.declared.state.Connection.{Connection}
 use Rattle.machine_091.specs.declared.state.Phase91.{Phase91}

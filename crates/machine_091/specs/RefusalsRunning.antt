@@ -1,14 +1,20 @@
 -- The places of the order of refusals that ask of a method once the connection runs: its class on
 -- channel 0, its state, and whether this gateway does it (AMQP 0-9-1 1.4 to 1.8).
-use Rattle.std.specs.Prelude.{ℕ, Bool, true, ◌==◌, ◌%◌, nat_lt, if◌then◌else◌, List, length, Option, None}
-use Rattle.close_translate.specs.declared.codes.TheConstants.{COMMAND_INVALID, NOT_IMPLEMENTED, RESOURCE_ERROR}
+use Rattle.std.specs.Prelude.{ℕ, Bool, true, ◌==◌, ◌%◌, nat_lt, if◌then◌else◌, List, length, Option}
+use Rattle.std.specs.Prelude.{None}
+use Rattle.close_translate.specs.declared.codes.TheConstants.{COMMAND_INVALID, NOT_IMPLEMENTED}
+use Rattle.close_translate.specs.declared.codes.TheConstants.{RESOURCE_ERROR}
 use Rattle.methods_091.specs.Arguments.{Arg}
 use Rattle.methods_091.specs.Rows.{Kind, class_of, id_of}
 use Rattle.machine_091.specs.Ids.{class_in, is_of_kind}
 use Rattle.machine_091.specs.Methods.{flag, flags_at}
 use Rattle.machine_091.specs.RefusalsFrames.{refused}
-use Rattle.machine_091.specs.declared.ids.TheConstants.{CONNECTION, CONNECTION_CLOSE, CHANNEL_OPEN, CHANNEL_FLOW, CHANNEL_CLOSE, CHANNEL_CLOSE_OK}
-use Rattle.machine_091.specs.declared.ids.TheConstants.{EXCHANGE_DECLARE, BASIC_PUBLISH, BASIC_RETURN, BASIC_DELIVER, BASIC_GET_EMPTY, CONFIRM_SELECT}
+use Rattle.machine_091.specs.declared.ids.TheConstants.{CONNECTION, CONNECTION_CLOSE, CHANNEL_OPEN}
+use Rattle.machine_091.specs.declared.ids.TheConstants.{CHANNEL_FLOW, CHANNEL_CLOSE}
+use Rattle.machine_091.specs.declared.ids.TheConstants.{CHANNEL_CLOSE_OK}
+use Rattle.machine_091.specs.declared.ids.TheConstants.{EXCHANGE_DECLARE, BASIC_PUBLISH}
+use Rattle.machine_091.specs.declared.ids.TheConstants.{BASIC_RETURN, BASIC_DELIVER}
+use Rattle.machine_091.specs.declared.ids.TheConstants.{BASIC_GET_EMPTY, CONFIRM_SELECT}
 use Rattle.machine_091.specs.declared.state.Channel91.{Channel91}
 use Rattle.machine_091.specs.declared.state.Channel91.TheVariants as channel
 use Rattle.machine_091.specs.declared.unit.Ruling.{Ruling}
@@ -66,6 +72,7 @@ abbrev pub running_refusal : ℕ → ℕ → Kind → List Arg → Option Ruling
 running_refusal max n k args =
     if n == 0 then None
     else if is_of_kind CHANNEL_OPEN k then carried_order max n
-    else if is_of_kind CHANNEL_FLOW k then (if flag 0 (flags_at 0 args) then None else refused NOT_IMPLEMENTED)
+    else if is_of_kind CHANNEL_FLOW k then (if flag 0 (flags_at 0 args) then None
+    else refused NOT_IMPLEMENTED)
     else if is_done k then None
     else refused NOT_IMPLEMENTED

@@ -1,6 +1,7 @@
 -- The state of a client's connection (AMQP 0-9-1 2.2.4 and 1.5): before any unit, what is awaited
 -- of its client, which channels are open, and which contents are in progress.
-use Rattle.std.specs.Prelude.{ℕ, Bool, true, false, ◌&&◌, List, replicate, slice_get, slice_set, Option, None, Some}
+use Rattle.std.specs.Prelude.{ℕ, Bool, true, false, ◌&&◌, List, replicate, slice_get, slice_set}
+use Rattle.std.specs.Prelude.{Option, None, Some}
 use Rattle.machine_091.specs.Contents.{no_contents}
 use Rattle.machine_091.specs.Limits.{own_limits}
 use Rattle.machine_091.specs.declared.state.Awaited91.{Awaited91}

@@ -1,6 +1,7 @@
 -- The transitions of a connection (AMQP 0-9-1 2.2.4 and 1.5): for each phase and each unit the
 -- state after it, and what the unit wants.
-use Rattle.std.specs.Prelude.{ℕ, Bool, true, false, ◌&&◌, ◌||◌, ◌==◌, if◌then◌else◌, List, Option, Some, None, Ok, Err}
+use Rattle.std.specs.Prelude.{ℕ, Bool, true, false, ◌&&◌, ◌||◌, ◌==◌, if◌then◌else◌, List, Option}
+use Rattle.std.specs.Prelude.{Some, None, Ok, Err}
 use Rattle.frames_091.specs.declared.frame.Kind91.{Kind91}
 use Rattle.frames_091.specs.declared.frame.Kind91.TheVariants as frame
 use Rattle.methods_091.specs.Rows.{Kind}
@@ -11,14 +12,20 @@ use Rattle.machine_091.specs.Calls.{after_closing}
 use Rattle.machine_091.specs.Contents.{no_contents, begun, Taking, taken}
 use Rattle.machine_091.specs.Ids.{is_of_kind}
 use Rattle.machine_091.specs.Limits.{agreed_limits}
-use Rattle.machine_091.specs.Refusals.{unit_ruling, refusal_of, publish_refusal, channel_refusal, channel_of}
-use Rattle.machine_091.specs.Methods.{text_at, number_at, close_of, flow_of, declare_of, publish_of, select_of}
+use Rattle.machine_091.specs.Refusals.{unit_ruling, refusal_of, publish_refusal, channel_refusal}
+use Rattle.machine_091.specs.Refusals.{channel_of}
+use Rattle.machine_091.specs.Methods.{text_at, number_at, close_of, flow_of, declare_of, publish_of}
+use Rattle.machine_091.specs.Methods.{select_of}
 use Rattle.close_translate.specs.declared.codes.TheConstants.{NOT_ALLOWED}
 use Rattle.close_translate.specs.declared.conditions.Scope.TheVariants as scope
 use Rattle.content_091.specs.declared.assembly.Step.TheVariants as step
-use Rattle.machine_091.specs.State.{channel_at, content_at, is_open_phase, is_running, with_channel, with_content}
+use Rattle.machine_091.specs.State.{channel_at, content_at, is_open_phase, is_running, with_channel}
+use Rattle.machine_091.specs.State.{with_content}
 use Rattle.machine_091.specs.declared.contents.Incoming.{Incoming}
-use Rattle.machine_091.specs.declared.ids.TheConstants.{CONNECTION_CLOSE, CONNECTION_CLOSE_OK, CHANNEL_OPEN, CHANNEL_FLOW, CHANNEL_CLOSE, EXCHANGE_DECLARE, BASIC_PUBLISH, CONFIRM_SELECT}
+use Rattle.machine_091.specs.declared.ids.TheConstants.{CONNECTION_CLOSE, CONNECTION_CLOSE_OK}
+use Rattle.machine_091.specs.declared.ids.TheConstants.{CHANNEL_OPEN, CHANNEL_FLOW, CHANNEL_CLOSE}
+use Rattle.machine_091.specs.declared.ids.TheConstants.{EXCHANGE_DECLARE, BASIC_PUBLISH}
+use Rattle.machine_091.specs.declared.ids.TheConstants.{CONFIRM_SELECT}
 use Rattle.machine_091.specs.declared.state.Channel91.{Channel91}
 use Rattle.machine_091.specs.declared.state.Channel91.TheVariants as channel
 use Rattle.machine_091.specs.declared.state.Connection.{Connection}
@@ -62,17 +69,26 @@ with_stream u c = record c { stream = stream_after u c.stream }
 -- the protocol header, or bytes that are none
 abbrev pub header_step : Connection → Unit91 → Step
 header_step c unit.Protocol = (record c { phase = phase.Start; stream = stream.Frames }, want.Start)
-header_step c (unit.Frame f) = (record c { phase = phase.Closed; stream = stream.Foreign }, want.Nothing)
-header_step c (unit.Bad code) = (record c { phase = phase.Closed; stream = stream.Foreign }, want.Nothing)
+header_step c (unit.Frame f) =
+    (record c { phase = phase.Closed; stream = stream.Foreign }, want.Nothing)
+header_step c (unit.Bad code) =
+    (record c { phase = phase.Closed; stream = stream.Foreign }, want.Nothing)
 
 -- ---- a unit that the order of refusals asks about
 
 -- the expected method in each phase before the connection runs
 abbrev pub opening_effect : Connection → List Arg → Phase91 → Step
 opening_effect c args phase.Header = (c, want.Nothing)
-opening_effect c args phase.Start = (record c { phase = phase.Tune }, want.Login (text_at 1 args) (text_at 2 args))
-opening_effect c args phase.Tune =
-    (record c { phase = phase.Open; limits = agreed_limits (number_at 0 args) (number_at 1 args) (number_at 2 args) }, want.Tuned)
+opening_effect c args phase.Start =
+    (record c { phase = phase.Tune }, want.Login (text_at 1 args) (text_at 2 args))
+opening_effect c args phase.Tune = (
+  record c {
+    phase = phase.Open;
+    limits = agreed_limits (number_at 0 args) (number_at 1 args)
+        (number_at 2 args);
+  },
+  want.Tuned,
+)
 opening_effect c args phase.Open = (record c { asked = true }, want.OpenUp)
 opening_effect c args phase.Running = (c, want.Nothing)
 opening_effect c args phase.Closing = (c, want.Nothing)
@@ -89,7 +105,8 @@ closed_by channel.Told = channel.Told
 -- basic.publish, which begins a content, and channel.close-ok
 abbrev pub channel_effect : Connection → ℕ → Kind → List Arg → Step
 channel_effect c n k args =
-    if is_of_kind CHANNEL_OPEN k then (with_channel c n channel.Open, want.Method n method.ChannelOpen)
+    if is_of_kind CHANNEL_OPEN k then
+    (with_channel c n channel.Open, want.Method n method.ChannelOpen)
     else if is_of_kind CHANNEL_CLOSE k then
     (with_channel c n (closed_by (channel_at c n)), want.Method n (close_of args))
     else if is_of_kind CHANNEL_FLOW k then (c, want.Method n (flow_of args))
@@ -107,7 +124,8 @@ running_effect c n k args =
 
 -- a method that counts
 abbrev pub method_effect : Connection → ℕ → Read → Step
-method_effect c n (Ok m) = if is_running c.phase then running_effect c n m.0 m.1 else opening_effect c m.1 c.phase
+method_effect c n (Ok m) =
+    if is_running c.phase then running_effect c n m.0 m.1 else opening_effect c m.1 c.phase
 method_effect c n (Err e) = (c, want.Nothing)
 
 -- a frame of the content in progress on a channel: the content is handed out once it is whole
@@ -154,8 +172,11 @@ ruled_step c u (Some ruling.PassedOver) = (c, want.Nothing)
 ruled_step c u (Some (ruling.Refused code)) = (refused c u code, want.Refuse (refusal_of code u))
 ruled_step c u (Some (ruling.MethodRefused code)) =
     (refused c u code, want.Refuse (publish_refusal code))
-ruled_step c u (Some (ruling.ChannelRefused code)) =
-    (after_closing scope.Channel (channel_of u) c, want.Refuse (channel_refusal code (channel_of u)))
+ruled_step c u (Some (ruling.ChannelRefused code)) = (
+  after_closing scope.Channel (channel_of u) c,
+  want.Refuse (channel_refusal code
+      (channel_of u)),
+)
 
 abbrev pub ordered_step : Connection → Unit91 → Step
 ordered_step c u = ruled_step c u (unit_ruling c u)
@@ -181,13 +202,15 @@ is_unit_of ids (unit.Frame f) = is_frame_of ids f.channel f.payload f.kind
 -- the client's answer to the gateway's close ends the stream; any other unit is passed over
 abbrev pub closed_step : Connection → Unit91 → Step
 closed_step c u =
-    if is_unit_of CONNECTION_CLOSE_OK u then (record c { phase = phase.Closed; stream = stream.Answered }, want.CloseOk)
+    if is_unit_of CONNECTION_CLOSE_OK u then
+    (record c { phase = phase.Closed; stream = stream.Answered }, want.CloseOk)
     else (with_stream u c, want.Nothing)
 
 -- until the client closed, its close counts too
 abbrev pub closing_step : Connection → Unit91 → Step
 closing_step c u =
-    if is_unit_of CONNECTION_CLOSE u then (record c { phase = phase.Closed }, want.Close) else closed_step c u
+    if is_unit_of CONNECTION_CLOSE u then (record c { phase = phase.Closed }, want.Close)
+    else closed_step c u
 
 -- ---- the table
 

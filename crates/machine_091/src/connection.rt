@@ -1,9 +1,11 @@
 //! A client's connection: the calls on it.
 
 ghost use Rattle.std.specs.Prelude.{◌≡◌, IfOk, OnOk, OnErr};
-ghost use Rattle.machine_091.specs.Calls.{after_opened, after_closing, after_told, after_closed, after_ended};
+ghost use Rattle.machine_091.specs.Calls.{after_opened, after_closing, after_told, after_closed};
+ghost use Rattle.machine_091.specs.Calls.{after_ended};
 ghost use Rattle.machine_091.specs.Limits.{AreWithin};
-ghost use Rattle.machine_091.specs.State.{new_connection, awaits, is_opening, is_closing, is_over, is_open};
+ghost use Rattle.machine_091.specs.State.{new_connection, awaits, is_opening, is_closing, is_over};
+ghost use Rattle.machine_091.specs.State.{is_open};
 ghost use Rattle.machine_091.specs.Transitions.{unit_step};
 
 use crate::state::{Awaited91, Connection, Phase91, Stream91};
@@ -69,7 +71,8 @@ impl Conn91 {
     }
 
     /// A closing event came that no unit told: of the connection, or of this channel if it is open.
-    /// Units but those that close are passed over from now on, and a content in progress is dropped.
+    /// Units but those that close are passed over from now on, and a content in progress is
+    /// dropped.
     pub fn closing(&mut self, scope: Scope, channel: u16)
         ensures { self.new ≡ after_closing scope channel self.old }
     {

@@ -68,8 +68,10 @@ impl Incoming {
         payload: &[u8],
     ) -> Result<Result<Step, ContentFault>, Memory>
         ensures method { self.new.method ≡ self.old.method }
-        ensures taken { IfOk result (λ read. IfOk read (λ s. taken kind payload.now (Some self.old) ≡ Ok (self.new.assembly, s))) }
-        ensures refused { IfOk result (λ read. IfErr read (λ fault. taken kind payload.now (Some self.old) ≡ Err fault)) }
+        ensures taken { IfOk result (λ read. IfOk read (λ s. taken kind payload.now
+            (Some self.old) ≡ Ok (self.new.assembly, s))) }
+        ensures refused { IfOk result (λ read. IfErr read (λ fault. taken kind payload.now
+            (Some self.old) ≡ Err fault)) }
         ensures kept { IfOk result (λ read. IfErr read (λ fault. self.new ≡ self.old)) }
         ensures err { OnErr result (self.new ≡ self.old) }
     {
@@ -115,15 +117,18 @@ impl ContentSlot {
         self.incoming.is_some()
     }
 
-    /// Takes a content header or the payload of a body frame. A content that is whole is handed out.
+    /// Takes a content header or the payload of a body frame. A content that is whole is handed
+    /// out.
     pub(crate) fn take(
         &mut self,
         alloc: Global,
         kind: Kind91,
         payload: &[u8],
     ) -> Result<Result<Fed, ContentFault>, Memory>
-        ensures taken { IfOk result (λ read. IfOk read (IsFed self.old self.new (taken kind payload.now self.old))) }
-        ensures refused { IfOk result (λ read. IfErr read (λ fault. taken kind payload.now self.old ≡ Err fault)) }
+        ensures taken { IfOk result (λ read. IfOk read (IsFed self.old self.new
+            (taken kind payload.now self.old))) }
+        ensures refused { IfOk result (λ read. IfErr read
+            (λ fault. taken kind payload.now self.old ≡ Err fault)) }
         ensures kept { IfOk result (λ read. IfErr read (λ fault. self.new ≡ self.old)) }
         ensures err { OnErr result (self.new ≡ self.old) }
     {

@@ -3,7 +3,8 @@
 ghost use Rattle.std.specs.Prelude.{◌≡◌, ℕ, List, ◌∷◌, Some, true};
 ghost use Rattle.methods_091.specs.declared.method.Method91.{Method91};
 ghost use Rattle.content_091.specs.declared.assembly.Content.{Content};
-ghost use Rattle.machine_091.specs.Laws.{Call91, Take, after_call, after_calls, AreInRange, Closes, StaysClosed, HasNone, AreOnOpen, frames_on, IsPublished};
+ghost use Rattle.machine_091.specs.Laws.{Call91, Take, after_call, after_calls, AreInRange, Closes};
+ghost use Rattle.machine_091.specs.Laws.{StaysClosed, HasNone, AreOnOpen, frames_on, IsPublished};
 ghost use Rattle.machine_091.specs.Limits.{AreWithin};
 ghost use Rattle.machine_091.specs.Refusals.{refusal_by_order, unit_ruling};
 ghost use Rattle.machine_091.specs.RefusalsOpening.{is_login};
@@ -20,7 +21,8 @@ pub fn connection_laws()
     // 255.
     ensures limits { (vhost : List ℕ) (h : List Call91) → AreWithin (after_calls vhost h).limits }
     // No unit takes the limits of any connection out of that range.
-    ensures limits_stay { (c : Connection) (u : Unit91) → AreWithin c.limits → AreWithin (unit_step c u).0.limits }
+    ensures limits_stay { (c : Connection) (u : Unit91) → AreWithin c.limits
+        → AreWithin (unit_step c u).0.limits }
     // After any calls the channels that are open or closing have numbers from 1 to the agreed
     // greatest, and are no more than that.
     ensures channels { (vhost : List ℕ) (h : List Call91) → AreInRange (after_calls vhost h) }
@@ -37,9 +39,11 @@ pub fn connection_laws()
     ensures running { (c : Connection) (u : Unit91)
         → (unit_step c u).0.phase ≡ phase.Running → c.phase ≡ phase.Running }
     // A closed connection stays so, and nothing is answered but the client's close-ok.
-    ensures closed { (c : Connection) (u : Unit91) → c.phase ≡ phase.Closed → StaysClosed c (unit_step c u) }
+    ensures closed { (c : Connection) (u : Unit91) → c.phase ≡ phase.Closed
+        → StaysClosed c (unit_step c u) }
     // A content that is published is that of its frames, which are the last on its channel.
-    ensures contents { (vhost : List ℕ) (h : List Call91) (u : Unit91) (n : ℕ) (m : Method91) (d : Content)
+    ensures contents { (vhost : List ℕ) (h : List Call91) (u : Unit91) (n : ℕ) (m : Method91)
+        (d : Content)
         → (unit_step (after_calls vhost h) u).1 ≡ want.Publish n m d
         → IsPublished (frames_on n (Take u ∷ h)) n m d }
     // After any calls contents are in progress on open channels alone.

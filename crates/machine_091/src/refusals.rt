@@ -6,9 +6,11 @@ ghost use Rattle.methods_091.specs.View.{kind_of, args_of, parts_of};
 ghost use Rattle.frames_091.specs.declared.frame.Kind91.TheVariants.{Method};
 ghost use Rattle.machine_091.specs.Checked.{IsCounted, IsFirstOf, IsMethodChecked};
 ghost use Rattle.machine_091.specs.RefusalsContents.{within_order};
-ghost use Rattle.machine_091.specs.RefusalsFrames.{first, channel_order, closing_order, is_opening, is_closing, is_answering};
+ghost use Rattle.machine_091.specs.RefusalsFrames.{first, channel_order, closing_order, is_opening};
+ghost use Rattle.machine_091.specs.RefusalsFrames.{is_closing, is_answering};
 ghost use Rattle.machine_091.specs.RefusalsOpening.{is_expected};
-ghost use Rattle.machine_091.specs.Refusals.{places, refusal_with, refusal_of, publish_refusal, channel_refusal, channel_of};
+ghost use Rattle.machine_091.specs.Refusals.{places, refusal_with, refusal_of, publish_refusal};
+ghost use Rattle.machine_091.specs.Refusals.{channel_refusal, channel_of};
 ghost use Rattle.machine_091.specs.RefusalsRunning.{running_state, running_refusal};
 ghost use Rattle.machine_091.specs.State.{channel_at, content_at, is_running};
 
@@ -31,7 +33,8 @@ use wire_base::Memory;
 fn method_place(conn: &Connection, frame: &Frame91) -> Option<Ruling>
     ensures { IsFirstOf (
         channel_order conn.now frame.now.channel (is_opening frame.now.payload)
-        ∷ closing_order conn.now frame.now.channel (is_closing frame.now.payload) (is_answering frame.now.payload)
+        ∷ closing_order conn.now frame.now.channel (is_closing frame.now.payload)
+        (is_answering frame.now.payload)
         ∷ within_order (content_at conn.now frame.now.channel) ∷ []) result }
 {
     let payload = frame.payload.as_slice();
@@ -49,7 +52,8 @@ fn method_place(conn: &Connection, frame: &Frame91) -> Option<Ruling>
 fn opening_ruling(conn: &Connection, frame: &Frame91, method: &Method91) -> Option<Ruling>
     requires opening { is_running conn.now.phase ≡ false }
     requires read { method_in frame.now.payload ≡ Ok (parts_of method.now) }
-    ensures ruling { result ≡ first (places conn.now frame.now (method_in frame.now.payload) Method) }
+    ensures ruling { result ≡ first (places conn.now frame.now
+        (method_in frame.now.payload) Method) }
     ensures expected { IfNone result (is_expected conn.now (kind_of method.now) ≡ true) }
 {
     if let Some(ruling) = expected_order(conn, method) {
@@ -87,7 +91,8 @@ fn check_opening(
 fn running_ruling(conn: &Connection, channel: u16, method: &Method91) -> Option<Ruling>
     ensures ruling { result ≡ first (
         running_state (channel_at conn.now channel) channel (kind_of method.now)
-        ∷ running_refusal conn.now.carried_max channel (kind_of method.now) (args_of method.now) ∷ []) }
+        ∷ running_refusal conn.now.carried_max channel (kind_of method.now)
+        (args_of method.now) ∷ []) }
     ensures counted { IfNone result (IsCounted true conn.now channel method.now) }
 {
     match running_state(conn.channel(channel), channel, method) {

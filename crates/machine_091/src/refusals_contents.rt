@@ -1,7 +1,8 @@
 //! The places of the order of refusals that ask of the content in progress on a channel.
 
 ghost use Rattle.std.specs.Prelude.{◌≡◌, [], ◌∷◌, Some, Err};
-ghost use Rattle.machine_091.specs.RefusalsContents.{within_order, awaited_order, header_code, fault_order, immediate_order};
+ghost use Rattle.machine_091.specs.RefusalsContents.{within_order, awaited_order, header_code};
+ghost use Rattle.machine_091.specs.RefusalsContents.{fault_order, immediate_order};
 ghost use Rattle.machine_091.specs.RefusalsFrames.{first};
 ghost use Rattle.machine_091.specs.State.{content_at};
 

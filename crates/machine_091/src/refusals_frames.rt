@@ -2,7 +2,10 @@
 
 ghost use Rattle.std.specs.Prelude.{◌≡◌, false, [], ◌∷◌};
 ghost use Rattle.machine_091.specs.Checked.{IsFirstOf};
-ghost use Rattle.machine_091.specs.RefusalsFrames.{heartbeat_order, content_order, is_opening, is_closing, is_answering, state_order, channel_order, passed_over, closing_order, fault_code};
+ghost use Rattle.machine_091.specs.RefusalsFrames.{heartbeat_order, content_order, is_opening};
+ghost use Rattle.machine_091.specs.RefusalsFrames.{is_closing, is_answering, state_order};
+ghost use Rattle.machine_091.specs.RefusalsFrames.{channel_order, passed_over, closing_order};
+ghost use Rattle.machine_091.specs.RefusalsFrames.{fault_code};
 ghost use Rattle.machine_091.specs.State.{is_running};
 
 use crate::ids::{CHANNEL_CLOSE, CHANNEL_CLOSE_OK, CHANNEL_OPEN, is_in};
@@ -116,7 +119,8 @@ pub(crate) fn fault_code(fault: MethodFault) -> u16
 
 /// What the order says of a content header or body before it asks for the content in progress.
 pub(crate) fn content_place(conn: &Connection, channel: u16) -> Option<Ruling>
-    ensures { IsFirstOf (content_order (is_running conn.now.phase) channel ∷ channel_order conn.now channel false
+    ensures { IsFirstOf (content_order
+        (is_running conn.now.phase) channel ∷ channel_order conn.now channel false
         ∷ closing_order conn.now channel false false ∷ []) result }
 {
     if let Some(ruling) = content_order(conn.is_running(), channel) {

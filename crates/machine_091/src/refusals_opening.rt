@@ -4,7 +4,8 @@
 ghost use Rattle.std.specs.Prelude.{◌≡◌, ◌≢◌, true, false, Ok};
 ghost use Rattle.std.specs.Str.{bytes_eq};
 ghost use Rattle.methods_091.specs.View.{kind_of, args_of, parts_of};
-ghost use Rattle.machine_091.specs.RefusalsOpening.{is_expected, expected_order, is_login, opening_refusal};
+ghost use Rattle.machine_091.specs.RefusalsOpening.{is_expected, expected_order, is_login};
+ghost use Rattle.machine_091.specs.RefusalsOpening.{opening_refusal};
 
 use crate::ids::{CONNECTION_OPEN, CONNECTION_START_OK, CONNECTION_TUNE_OK, is_method};
 use crate::limits::{RESPONSE_MAX, is_agreed};

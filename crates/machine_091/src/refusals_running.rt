@@ -3,7 +3,9 @@
 
 ghost use Rattle.std.specs.Prelude.{◌≡◌};
 ghost use Rattle.methods_091.specs.View.{kind_of, args_of};
-ghost use Rattle.machine_091.specs.RefusalsRunning.{carried_order, class_order, is_servers, answer_order, running_state, is_done, running_refusal};
+ghost use Rattle.machine_091.specs.RefusalsRunning.{carried_order, class_order, is_servers};
+ghost use Rattle.machine_091.specs.RefusalsRunning.{answer_order, running_state, is_done};
+ghost use Rattle.machine_091.specs.RefusalsRunning.{running_refusal};
 
 use crate::ids::{
     BASIC_DELIVER, BASIC_GET_EMPTY, BASIC_PUBLISH, BASIC_RETURN, CHANNEL_CLOSE, CHANNEL_CLOSE_OK,
@@ -93,7 +95,8 @@ fn is_done(method: &Method91) -> bool
 
 /// A channel that the container upstream can't carry, and a method that this gateway doesn't do.
 pub(crate) fn running_refusal(carried_max: u16, channel: u16, method: &Method91) -> Option<Ruling>
-    ensures { result ≡ running_refusal carried_max channel (kind_of method.now) (args_of method.now) }
+    ensures { result ≡ running_refusal carried_max channel (kind_of method.now)
+        (args_of method.now) }
 {
     if channel == 0 {
         return None;

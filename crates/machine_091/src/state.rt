@@ -1,7 +1,9 @@
 //! The state of a client's connection, as a value that contracts see.
 
 ghost use Rattle.std.specs.Prelude.{◌≡◌, is_some, None, Some, Err, IfOk, IfErr, OnOk, OnErr};
-ghost use Rattle.machine_091.specs.State.{new_connection, channel_at, with_channel, content_at, with_content, is_running, awaits, is_opening, is_closing, is_over, is_open};
+ghost use Rattle.machine_091.specs.State.{new_connection, channel_at, with_channel, content_at};
+ghost use Rattle.machine_091.specs.State.{with_content, is_running, awaits, is_opening, is_closing};
+ghost use Rattle.machine_091.specs.State.{is_over, is_open};
 ghost use Rattle.machine_091.specs.Checked.{IsFedAt};
 ghost use Rattle.machine_091.specs.Contents.{begun, no_contents};
 ghost use Rattle.machine_091.specs.Refusals.{taken_by};

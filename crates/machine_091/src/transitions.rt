@@ -3,7 +3,8 @@
 
 ghost use Rattle.std.specs.Prelude.{◌≡◌, true, None, Some, Ok, IfOk, OnOk, OnErr};
 ghost use Rattle.methods_091.specs.View.{kind_of, args_of, parts_of};
-ghost use Rattle.machine_091.specs.Calls.{after_opened, after_closing, after_told, after_closed, after_ended};
+ghost use Rattle.machine_091.specs.Calls.{after_opened, after_closing, after_told, after_closed};
+ghost use Rattle.machine_091.specs.Calls.{after_ended};
 ghost use Rattle.machine_091.specs.Checked.{IsCounted};
 ghost use Rattle.machine_091.specs.Contents.{IsOfContent};
 ghost use Rattle.machine_091.specs.Ids.{is_of_kind};
@@ -13,7 +14,10 @@ ghost use Rattle.machine_091.specs.RefusalsOpening.{is_expected};
 ghost use Rattle.machine_091.specs.RefusalsRunning.{running_state, running_refusal};
 ghost use Rattle.machine_091.specs.State.{is_running, channel_at, with_channel};
 ghost use Rattle.machine_091.specs.declared.state.Channel91.TheVariants.{Free};
-ghost use Rattle.machine_091.specs.Transitions.{header_step, stream_after, refused, ruled_step, is_unit_of, opening_effect, running_effect, method_effect, ordered_step, closed_by, closed_step, closing_step, unit_step};
+ghost use Rattle.machine_091.specs.Transitions.{header_step, stream_after, refused, ruled_step};
+ghost use Rattle.machine_091.specs.Transitions.{is_unit_of, opening_effect, running_effect};
+ghost use Rattle.machine_091.specs.Transitions.{method_effect, ordered_step, closed_by};
+ghost use Rattle.machine_091.specs.Transitions.{closed_step, closing_step, unit_step};
 ghost use Rattle.machine_091.specs.declared.unit.Unit91.TheVariants.{Frame};
 ghost use Rattle.machine_091.specs.declared.unit.Want91.TheVariants as want;
 
@@ -65,7 +69,8 @@ fn login_in(method: Method91) -> Want91
 /// The limits of a tune-ok.
 fn limits_in(method: &Method91) -> Limits
     requires { is_of_kind CONNECTION_TUNE_OK (kind_of method.now) ≡ true }
-    ensures { result ≡ agreed_limits (number_at 0 (args_of method.now)) (number_at 1 (args_of method.now)) (number_at 2 (args_of method.now)) }
+    ensures { result ≡ agreed_limits (number_at 0 (args_of method.now)) (number_at 1
+        (args_of method.now)) (number_at 2 (args_of method.now)) }
 {
     match method {
         Method91::ConnectionTuneOk {
@@ -272,8 +277,10 @@ impl Connection {
     /// A method that counts.
     fn apply(&mut self, alloc: Global, channel: u16, method: Method91) -> Result<Want91, Memory>
         requires { IsCounted (is_running self.old.phase) self.old channel method }
-        ensures state { OnOk result (self.new ≡ (method_effect self.old channel (Ok (parts_of method))).0) }
-        ensures want { IfOk result (λ want. want ≡ (method_effect self.old channel (Ok (parts_of method))).1) }
+        ensures state { OnOk result (self.new ≡ (method_effect self.old channel (Ok
+            (parts_of method))).0) }
+        ensures want { IfOk result (λ want. want ≡ (method_effect self.old channel (Ok
+            (parts_of method))).1) }
         ensures err { OnErr result (self.new ≡ self.old) }
     {
         if self.is_running() {
@@ -311,7 +318,8 @@ impl Connection {
 
     /// The client closes a channel.
     fn close_channel(&mut self, channel: u16)
-        ensures { self.new ≡ with_channel self.old channel (closed_by (channel_at self.old channel)) }
+        ensures { self.new ≡ with_channel self.old channel (closed_by
+            (channel_at self.old channel)) }
     {
         let state = closed_by(self.channel(channel));
         self.set_channel(channel, state);
@@ -333,10 +341,14 @@ impl Connection {
         channel: u16,
         method: Method91,
     ) -> Result<Want91, Memory>
-        requires state { running_state (channel_at self.old channel) channel (kind_of method) ≡ None }
-        requires own { running_refusal self.old.carried_max channel (kind_of method) (args_of method) ≡ None }
-        ensures state { OnOk result (self.new ≡ (running_effect self.old channel (kind_of method) (args_of method)).0) }
-        ensures want { IfOk result (λ want. want ≡ (running_effect self.old channel (kind_of method) (args_of method)).1) }
+        requires state { running_state (channel_at self.old channel) channel (kind_of method)
+            ≡ None }
+        requires own { running_refusal self.old.carried_max channel (kind_of method)
+            (args_of method) ≡ None }
+        ensures state { OnOk result (self.new ≡ (running_effect self.old channel (kind_of method)
+            (args_of method)).0) }
+        ensures want { IfOk result (λ want. want ≡ (running_effect self.old channel
+            (kind_of method) (args_of method)).1) }
         ensures err { OnErr result (self.new ≡ self.old) }
     {
         if channel == 0 {
@@ -415,7 +427,8 @@ struct Ending {
 /// close-ok.
 fn ending_in(alloc: Global, unit: &Unit91) -> Result<Ending, Memory>
     ensures closes { IfOk result (λ ending. ending.closes ≡ is_unit_of CONNECTION_CLOSE unit.now) }
-    ensures answers { IfOk result (λ ending. ending.answers ≡ is_unit_of CONNECTION_CLOSE_OK unit.now) }
+    ensures answers { IfOk result (λ ending. ending.answers
+        ≡ is_unit_of CONNECTION_CLOSE_OK unit.now) }
 {
     let other = Ending {
         closes: false,

@@ -1,12 +1,16 @@
 -- What holds of a connection after any calls: what the container stated, and which sessions there are.
-use Rattle.std.proofs.Common.{◌≡◌, ℕ, zero, suc, ◌≤◌, ◌+◌, Bool, true, false, cond, eqb, nat_lt, not, ◌&&◌, ◌⊎◌, inl, inr, List, [], ◌∷◌, length, replicate, Option, Some, None, refl, sym, ◌∙◌, ap, subst, arith}
+use Rattle.std.proofs.Common.{◌≡◌, ℕ, zero, suc, ◌≤◌, ◌+◌, Bool, true, false, cond, eqb, nat_lt}
+use Rattle.std.proofs.Common.{not, ◌&&◌, ◌⊎◌, inl, inr, List, [], ◌∷◌, length, replicate, Option}
+use Rattle.std.proofs.Common.{Some, None, refl, sym, ◌∙◌, ap, subst, arith}
 use Rattle.std.proofs.lemmas.Bool.Decides.{nat_tests}
 use Rattle.std.specs.Prelude.{slice_get, slice_set, nat_le}
 use Rattle.std.specs.List.{position_or_len}
 use Rattle.machine_10.specs.Calls.{may_begin, asked, after_begin_sent, left, after_end_sent}
-use Rattle.machine_10.specs.Laws.{Call10, Take, BeginSent, EndSent, Ended, after_call, after_calls, is_used, AreInRange}
+use Rattle.machine_10.specs.Laws.{Call10, Take, BeginSent, EndSent, Ended, after_call, after_calls}
+use Rattle.machine_10.specs.Laws.{is_used, AreInRange}
 use Rattle.machine_10.specs.Refusals.{is_login_phase}
-use Rattle.machine_10.specs.State.{no_sessions, new_upstream, is_running, is_closing, session_at, session_of, or_free, with_session, carries}
+use Rattle.machine_10.specs.State.{no_sessions, new_upstream, is_running, is_closing, session_at}
+use Rattle.machine_10.specs.State.{session_of, or_free, with_session, carries}
 use Rattle.machine_10.specs.Transitions.{Step, unit_step}
 use Rattle.machine_10.specs.declared.limits.TheConstants.{FRAME_MIN_SIZE}
 use Rattle.machine_10.specs.declared.state.Phase10.{Phase10}

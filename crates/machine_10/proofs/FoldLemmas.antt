@@ -1,7 +1,9 @@
 -- The windows and ids of a session are the folds of the standard.
-use Rattle.std.proofs.Common.{◌≡◌, ℕ, ◌+◌, ◌-◌, ◌%◌, ◌^◌, ◌≤◌, ◌<◌, List, [], ◌∷◌, ◌∙◌, ap, subst, arith}
+use Rattle.std.proofs.Common.{◌≡◌, ℕ, ◌+◌, ◌-◌, ◌%◌, ◌^◌, ◌≤◌, ◌<◌, List, [], ◌∷◌, ◌∙◌, ap, subst}
+use Rattle.std.proofs.Common.{arith}
 use Rattle.machine_10.specs.Session.{left_of, or_first, next_id}
-use Rattle.machine_10.specs.SessionFolds.{Event10, Began, Flowed, Sent, Got, FlowSent, after_events, sent, incoming, stated_last, AreEvents, IsFold}
+use Rattle.machine_10.specs.SessionFolds.{Event10, Began, Flowed, Sent, Got, FlowSent, after_events}
+use Rattle.machine_10.specs.SessionFolds.{sent, incoming, stated_last, AreEvents, IsFold}
 
 next_of : (n : ℕ) → (n % 2 ^ 32 + 1) % 2 ^ 32 ≡ (n + 1) % 2 ^ 32
 next_of n = omega arith

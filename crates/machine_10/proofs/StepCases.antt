@@ -1,20 +1,29 @@
 -- The rows of the table of transitions: what holds of each row holds of each step.
-use Rattle.std.proofs.Common.{◌≡◌, ℕ, Bool, true, false, cond, eqb, nat_lt, List, ◌∷◌, Option, None, Some, refl, ap}
+use Rattle.std.proofs.Common.{◌≡◌, ℕ, Bool, true, false, cond, eqb, nat_lt, List, ◌∷◌, Option, None}
+use Rattle.std.proofs.Common.{Some, refl, ap}
 use Rattle.frames_10.specs.declared.frame.Kind10.{Kind10}
 use Rattle.frames_10.specs.declared.frame.Kind10.TheVariants as kind
 use Rattle.types_10.specs.Tree.{Tree}
 use Rattle.performatives_10.specs.declared.condition.Condition.{Condition}
 use Rattle.performatives_10.specs.declared.condition.Condition.TheVariants as condition
 use Rattle.machine_10.specs.Parts.{Parts}
-use Rattle.machine_10.specs.Reading.{Body, Empty, Faulty, Whole, body_in, field, offers, act_of, is_out_of_range, closes}
-use Rattle.machine_10.specs.Refusals.{first, refused, kind_order, layer_of, range_place, order_in, begin_order, is_login_phase, perf_places, body_ruling}
+use Rattle.machine_10.specs.Reading.{Body, Empty, Faulty, Whole, body_in, field, offers, act_of}
+use Rattle.machine_10.specs.Reading.{is_out_of_range, closes}
+use Rattle.machine_10.specs.Refusals.{first, refused, kind_order, layer_of, range_place, order_in}
+use Rattle.machine_10.specs.Refusals.{begin_order, is_login_phase, perf_places, body_ruling}
 use Rattle.machine_10.specs.State.{is_running, is_closing, session_at, session_of, with_session}
-use Rattle.machine_10.specs.Transitions.{Step, Meaning, Nothing, Init, AmqpHeader, Opened, Refused, Violation}
-use Rattle.machine_10.specs.Transitions.{spoiled, stream_after, violated, awaits_header, phase_after, header_step}
-use Rattle.machine_10.specs.Transitions.{offer_effect, outcome_effect, login_effect, mechanisms_effect, open_effect}
-use Rattle.machine_10.specs.Transitions.{begun_effect, begin_effect, within_effect, ended_effect, end_effect}
-use Rattle.machine_10.specs.Transitions.{close_effect, running_effect, perf_effect, body_effect, refused_step}
-use Rattle.machine_10.specs.Transitions.{ruled_step, body_step, ordered_step, closed_step, late_step, late_body_step}
+use Rattle.machine_10.specs.Transitions.{Step, Meaning, Nothing, Init, AmqpHeader, Opened, Refused}
+use Rattle.machine_10.specs.Transitions.{Violation}
+use Rattle.machine_10.specs.Transitions.{spoiled, stream_after, violated, awaits_header}
+use Rattle.machine_10.specs.Transitions.{phase_after, header_step}
+use Rattle.machine_10.specs.Transitions.{offer_effect, outcome_effect, login_effect}
+use Rattle.machine_10.specs.Transitions.{mechanisms_effect, open_effect}
+use Rattle.machine_10.specs.Transitions.{begun_effect, begin_effect, within_effect, ended_effect}
+use Rattle.machine_10.specs.Transitions.{end_effect}
+use Rattle.machine_10.specs.Transitions.{close_effect, running_effect, perf_effect, body_effect}
+use Rattle.machine_10.specs.Transitions.{refused_step}
+use Rattle.machine_10.specs.Transitions.{ruled_step, body_step, ordered_step, closed_step}
+use Rattle.machine_10.specs.Transitions.{late_step, late_body_step}
 use Rattle.machine_10.specs.Transitions.{closing_step, step_in, unit_step}
 use Rattle.machine_10.specs.Transitions as meaning
 use Rattle.machine_10.specs.declared.limits.Stated10.{Stated10}

@@ -3,10 +3,12 @@ use Rattle.std.proofs.Common.{◌≡◌, ◌≤◌, true, false, refl, sym, ap, 
 use Rattle.frames_10.specs.declared.frame.Kind10.{Kind10}
 use Rattle.frames_10.specs.declared.frame.Kind10.TheVariants as kind
 use Rattle.performatives_10.specs.declared.condition.Condition.{Condition}
-use Rattle.machine_10.specs.Laws.{Closes, GoesOn, RunsBy, StaysClosing, StaysClosed, place_of, violates}
+use Rattle.machine_10.specs.Laws.{Closes, GoesOn, RunsBy, StaysClosing, StaysClosed, place_of}
+use Rattle.machine_10.specs.Laws.{violates}
 use Rattle.machine_10.specs.Refusals.{is_login_phase}
 use Rattle.machine_10.specs.State.{is_running, is_closing}
-use Rattle.machine_10.specs.Transitions.{Step, Meaning, awaits_header, phase_after, stream_after, unit_step, step_in}
+use Rattle.machine_10.specs.Transitions.{Step, Meaning, awaits_header, phase_after, stream_after}
+use Rattle.machine_10.specs.Transitions.{unit_step, step_in}
 use Rattle.machine_10.specs.Transitions as meaning
 use Rattle.machine_10.specs.declared.state.Phase10.{Phase10}
 use Rattle.machine_10.specs.declared.state.Phase10.TheVariants as phase

@@ -1,15 +1,23 @@
 -- A performative of a session that neither begins nor ends it leaves the connection as it is.
-use Rattle.std.proofs.Common.{◌≡◌, ◌∙◌, ℕ, ◌==◌, ◌&&◌, not, Bool, true, false, if◌then◌else◌, List, Option, None, Some, refl, sym, ap}
+use Rattle.std.proofs.Common.{◌≡◌, ◌∙◌, ℕ, ◌==◌, ◌&&◌, not, Bool, true, false, if◌then◌else◌, List}
+use Rattle.std.proofs.Common.{Option, None, Some, refl, sym, ap}
 use Rattle.types_10.specs.Tree.{Tree}
 use Rattle.frames_10.specs.declared.frame.Kind10.{Kind10}
 use Rattle.performatives_10.specs.declared.condition.Condition.{Condition}
 use Rattle.performatives_10.specs.declared.condition.Condition.TheVariants.{FramingError}
 use Rattle.machine_10.specs.Laws.{is_inside, is_within}
 use Rattle.machine_10.specs.Parts.{Parts}
-use Rattle.machine_10.specs.Reading.{Body, Empty, Faulty, Whole, act_of, body_in, closes, field, number_at, number_in, offers, stated_in}
+use Rattle.machine_10.specs.Reading.{Body, Empty, Faulty, Whole, act_of, body_in, closes, field}
+use Rattle.machine_10.specs.Reading.{number_at, number_in, offers, stated_in}
 use Rattle.machine_10.specs.Refusals.{body_ruling}
 use Rattle.machine_10.specs.State.{session_at, session_of}
-use Rattle.machine_10.specs.Transitions.{AmqpHeader, Init, Meaning, Nothing, Refused, Step, Violation, awaits_header, begin_effect, begun_effect, body_effect, end_effect, ended_effect, late_step, login_effect, mechanisms_effect, offer_effect, open_effect, ordered_step, outcome_effect, perf_effect, refused_step, ruled_step, running_effect, step_in, unit_step, within_effect}
+use Rattle.machine_10.specs.Transitions.{AmqpHeader, Init, Meaning, Nothing, Refused, Step}
+use Rattle.machine_10.specs.Transitions.{Violation, awaits_header, begin_effect, begun_effect}
+use Rattle.machine_10.specs.Transitions.{body_effect, end_effect, ended_effect, late_step}
+use Rattle.machine_10.specs.Transitions.{login_effect, mechanisms_effect, offer_effect, open_effect}
+use Rattle.machine_10.specs.Transitions.{ordered_step, outcome_effect, perf_effect, refused_step}
+use Rattle.machine_10.specs.Transitions.{ruled_step, running_effect, step_in, unit_step}
+use Rattle.machine_10.specs.Transitions.{within_effect}
 use Rattle.machine_10.specs.declared.state.Phase10.{Phase10}
 use Rattle.machine_10.specs.declared.state.Phase10.TheVariants as phase
 use Rattle.machine_10.specs.declared.state.Session.{Session}

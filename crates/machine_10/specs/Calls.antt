@@ -1,5 +1,5 @@
--- What each call but that for a unit makes of a connection: the gateway's begin or end of a session went out (AMQP 1.0 2.5), or the
--- container's stream ended.
+-- What each call but that for a unit makes of a connection: the gateway's begin or end of a session
+-- went out (AMQP 1.0 2.5), or the container's stream ended.
 use Rattle.std.specs.Prelude.{ℕ, Bool, ◌&&◌, nat_le, if◌then◌else◌}
 use Rattle.machine_10.specs.State.{is_running, session_at, with_session}
 use Rattle.machine_10.specs.declared.state.Phase10.TheVariants as phase

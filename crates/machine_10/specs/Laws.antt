@@ -1,4 +1,5 @@
--- Any calls on a connection, and what holds after them (AMQP 1.0 2.4, 2.5, 2.7.1, 5.3.2). Lists of calls are newest first.
+-- Any calls on a connection, and what holds after them (AMQP 1.0 2.4, 2.5, 2.7.1, 5.3.2). Lists of
+-- calls are newest first.
 use Rattle.std.specs.Prelude.{◌≡◌, ◌==◌, ◌&&◌, ℕ, ◌≤◌, Bool, true, false, not, ◌⊎◌, List, [], ◌∷◌}
 use Rattle.machine_10.specs.Parts.{Parts}
 use Rattle.machine_10.specs.Calls.{after_begin_sent, after_end_sent, after_ended}
@@ -42,11 +43,13 @@ is_used (session.Open n) = true
 is_used (session.Leaving n) = true
 is_used (session.Ended n) = true
 
--- the container takes frames of 512 bytes at least; sessions are on channels that it takes; and no two are on one channel of it
+-- the container takes frames of 512 bytes at least; sessions are on channels that it takes; and no
+-- two are on one channel of it
 pub record AreInRange (c : Upstream) : Type 0 where
   pub max_frame : FRAME_MIN_SIZE ≤ c.stated.max_frame
   pub max : (g : ℕ) → is_used (session_at c g) ≡ true → g ≤ c.stated.channel_max
-  pub alone : (g h n : ℕ) → carries n (session_at c g) ≡ true → carries n (session_at c h) ≡ true → g ≡ h
+  pub alone : (g h n : ℕ) → carries n (session_at c g) ≡ true → carries n (session_at c h)
+      ≡ true → g ≡ h
 
 -- a step that closes the connection leaves what the container stated, and the sessions
 pub record Closes (c after : Upstream) : Type 0 where
@@ -76,7 +79,8 @@ pub record StaysClosing (c : Upstream) (x : Step) : Type 0 where
   pub stated : x.0.stated ≡ c.stated
   pub refuses : violates x.1 ≡ false
 
--- a step of a connection that is closed leaves it so, with what the container stated and the sessions, and means nothing
+-- a step of a connection that is closed leaves it so, with what the container stated and the
+-- sessions, and means nothing
 pub record StaysClosed (c : Upstream) (x : Step) : Type 0 where
   pub phase : x.0.phase ≡ phase.Closed
   pub stated : x.0.stated ≡ c.stated

@@ -1,9 +1,13 @@
--- What the body of a frame is (AMQP 1.0 2.3.2, 2.4.5, 5.3.1), what its performative says, and what that does to a connection.
-use Rattle.std.specs.Prelude.{ℕ, zero, suc, Bool, true, false, ◌==◌, nat_le, nat_lt, ◌^◌, if◌then◌else◌, List, [], ◌∷◌, length, drop, Option, Some, None, Result, Ok, Err}
+-- What the body of a frame is (AMQP 1.0 2.3.2, 2.4.5, 5.3.1), what its performative says, and what
+-- that does to a connection.
+use Rattle.std.specs.Prelude.{ℕ, zero, suc, Bool, true, false, ◌==◌, nat_le, nat_lt, ◌^◌}
+use Rattle.std.specs.Prelude.{if◌then◌else◌, List, [], ◌∷◌, length, drop, Option, Some, None}
+use Rattle.std.specs.Prelude.{Result, Ok, Err}
 use Rattle.std.specs.Str.{bytes_eq}
 use Rattle.frames_10.specs.declared.frame.Kind10.{Kind10}
 use Rattle.frames_10.specs.declared.frame.Kind10.TheVariants as kind
-use Rattle.types_10.specs.Tree.{Scalar, Tree, scalar, list, mapping, array, described, Trees, no_trees, tree}
+use Rattle.types_10.specs.Tree.{Scalar, Tree, scalar, list, mapping, array, described, Trees}
+use Rattle.types_10.specs.Tree.{no_trees, tree}
 use Rattle.types_10.specs.Tree as value
 use Rattle.performatives_10.specs.Fields.{absent}
 use Rattle.performatives_10.specs.Reading.{perf_at, code_of}
@@ -109,7 +113,13 @@ offers name (described d t) = false
 
 -- what an open states (2.7.1)
 abbrev pub stated_in : List Tree → Stated10
-stated_in ts = record { max_frame = number_at ts 2; channel_max = number_at ts 3; idle = number_in (field ts 4) }
+stated_in ts =
+    record {
+      max_frame = number_at ts 2;
+      channel_max = number_at ts 3;
+      idle = number_in
+          (field ts 4);
+    }
 
 -- what a performative does to a connection, by the code of its descriptor (2.7, 5.3.3)
 unfoldable pub act_of : Parts → Act10

@@ -1,6 +1,8 @@
--- The order of refusals (AMQP 1.0 2.3, 2.4.1, 2.4.2, 2.5.1, 2.7.1, 2.7.6, 2.8.16, 5.3.2): one list of places, of which the first that
--- applies counts. What links and windows refuse isn't asked here.
-use Rattle.std.specs.Prelude.{ℕ, Bool, true, false, if◌then◌else◌, List, [], ◌∷◌, Option, None, Some}
+-- The order of refusals (AMQP 1.0 2.3, 2.4.1, 2.4.2, 2.5.1, 2.7.1, 2.7.6, 2.8.16, 5.3.2): one list
+-- of places, of which the first that applies counts. What links and windows refuse isn't asked
+-- here.
+use Rattle.std.specs.Prelude.{ℕ, Bool, true, false, if◌then◌else◌, List, [], ◌∷◌, Option, None}
+use Rattle.std.specs.Prelude.{Some}
 use Rattle.frames_10.specs.declared.frame.Kind10.{Kind10}
 use Rattle.frames_10.specs.declared.frame.Kind10.TheVariants as kind
 use Rattle.performatives_10.specs.declared.condition.Condition.{Condition}

@@ -22,7 +22,8 @@ or_first (Some id) = id
 
 -- the gateway's begin states the whole window; the container said nothing yet
 abbrev pub new_session : Windows
-new_session = record { next_incoming = 0; next_outgoing = 0; window = 0; stated = WINDOW; handle_max = 0 }
+new_session =
+    record { next_incoming = 0; next_outgoing = 0; window = 0; stated = WINDOW; handle_max = 0 }
 
 -- the container's begin
 abbrev pub after_began : ℕ → ℕ → ℕ → Windows → Windows

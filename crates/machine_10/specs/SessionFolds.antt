@@ -1,6 +1,8 @@
--- The windows and ids of a session as the standard defines them (AMQP 1.0 2.5.6): over all that was sent and came, newest first.
+-- The windows and ids of a session as the standard defines them (AMQP 1.0 2.5.6): over all that was
+-- sent and came, newest first.
 use Rattle.std.specs.Prelude.{◌≡◌, ℕ, ◌+◌, ◌-◌, ◌%◌, ◌^◌, ◌≤◌, ◌<◌, List, [], ◌∷◌, Option}
-use Rattle.machine_10.specs.Session.{left_of, or_first, new_session, after_began, after_flowed, after_sent, after_got, after_flow_sent}
+use Rattle.machine_10.specs.Session.{left_of, or_first, new_session, after_began, after_flowed}
+use Rattle.machine_10.specs.Session.{after_sent, after_got, after_flow_sent}
 use Rattle.machine_10.specs.declared.limits.TheConstants.{WINDOW}
 use Rattle.machine_10.specs.declared.session.Windows.{Windows}
 
@@ -37,7 +39,8 @@ sent (Sent ∷ h) = sent h + 1
 sent (Got ∷ h) = sent h
 sent (FlowSent ∷ h) = sent h
 
--- the id of the first transfer frame that the container announced, and the frames that came since, added up
+-- the id of the first transfer frame that the container announced, and the frames that came since,
+-- added up
 abbrev pub incoming : List Event10 → ℕ
 incoming [] = 0
 incoming (Began next window handle_max ∷ h) = next

@@ -1,6 +1,7 @@
--- The state of a container's connection (AMQP 1.0 2.4, 2.5, 5.3.2): before any unit, what is awaited of the container, and which
--- sessions there are.
-use Rattle.std.specs.Prelude.{ℕ, Bool, true, false, ◌==◌, List, replicate, slice_get, slice_set, Option, None, Some}
+-- The state of a container's connection (AMQP 1.0 2.4, 2.5, 5.3.2): before any unit, what is
+-- awaited of the container, and which sessions there are.
+use Rattle.std.specs.Prelude.{ℕ, Bool, true, false, ◌==◌, List, replicate, slice_get, slice_set}
+use Rattle.std.specs.Prelude.{Option, None, Some}
 use Rattle.std.specs.List.{position}
 use Rattle.frames_10.specs.declared.frame.Kind10.TheVariants as kind
 use Rattle.machine_10.specs.declared.limits.Stated10.{Stated10}

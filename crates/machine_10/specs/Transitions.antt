@@ -1,4 +1,5 @@
--- The transitions of a connection (AMQP 1.0 2.4, 2.5, 5.3.2): for each phase and each unit the state after it, and what it means.
+-- The transitions of a connection (AMQP 1.0 2.4, 2.5, 5.3.2): for each phase and each unit the
+-- state after it, and what it means.
 use Rattle.std.specs.Prelude.{ℕ, Bool, true, false, ◌==◌, if◌then◌else◌, List, Option, None, Some}
 use Rattle.frames_10.specs.declared.frame.Kind10.{Kind10}
 use Rattle.frames_10.specs.declared.frame.Kind10.TheVariants as kind
@@ -8,7 +9,8 @@ use Rattle.performatives_10.specs.View.{error_tree}
 use Rattle.performatives_10.specs.declared.condition.Condition.{Condition}
 use Rattle.performatives_10.specs.declared.condition.Condition.TheVariants as condition
 use Rattle.machine_10.specs.Parts.{Parts, parts_of}
-use Rattle.machine_10.specs.Reading.{Body, Empty, Faulty, Whole, body_in, field, offers, act_of, closes}
+use Rattle.machine_10.specs.Reading.{Body, Empty, Faulty, Whole, body_in, field, offers, act_of}
+use Rattle.machine_10.specs.Reading.{closes}
 use Rattle.machine_10.specs.Refusals.{body_ruling}
 use Rattle.machine_10.specs.State.{session_at, session_of, with_session}
 use Rattle.machine_10.specs.declared.state.Phase10.{Phase10}
@@ -108,7 +110,8 @@ phase_after kind.Amqp = phase.Open
 -- the header that is awaited, or another
 abbrev pub header_step : Upstream → Kind10 → Step
 header_step c k =
-    if awaits_header k c.phase then (record c { phase = phase_after k; stream = stream.Frames }, Nothing)
+    if awaits_header k c.phase then
+    (record c { phase = phase_after k; stream = stream.Frames }, Nothing)
     else violated c condition.FramingError (spoiled c.stream)
 
 -- ---- the login
@@ -122,7 +125,8 @@ offer_effect c mechanisms =
 -- 0 is success
 abbrev pub outcome_effect : Upstream → ℕ → Step
 outcome_effect c n =
-    if n == 0 then (record c { phase = phase.AmqpHeader; stream = stream.Header kind.Amqp }, AmqpHeader)
+    if n == 0 then
+    (record c { phase = phase.AmqpHeader; stream = stream.Header kind.Amqp }, AmqpHeader)
     else (record c { phase = phase.Closed }, Refused)
 
 abbrev pub login_effect : Upstream → Act10 → Step
@@ -166,10 +170,12 @@ open_effect c act.ClientLogin = (c, Nothing)
 
 -- ---- sessions
 
--- a begin on the container's channel n for the gateway's channel g; the gateway may have ended that session already
+-- a begin on the container's channel n for the gateway's channel g; the gateway may have ended that
+-- session already
 abbrev pub begun_effect : Session → Upstream → ℕ → ℕ → Parts → List ℕ → Step
 begun_effect session.Free c n g p payload = (c, Nothing)
-begun_effect session.Asked c n g p payload = (with_session c g (session.Open n), OfSession g p payload)
+begun_effect session.Asked c n g p payload =
+    (with_session c g (session.Open n), OfSession g p payload)
 begun_effect session.Left c n g p payload = (with_session c g (session.Leaving n), Nothing)
 begun_effect (session.Open m) c n g p payload = (c, Nothing)
 begun_effect (session.Leaving m) c n g p payload = (c, Nothing)
@@ -189,8 +195,10 @@ abbrev pub ended_effect : Session → Upstream → ℕ → Parts → List ℕ �
 ended_effect session.Free c g p payload = (c, Nothing)
 ended_effect session.Asked c g p payload = (c, Nothing)
 ended_effect session.Left c g p payload = (c, Nothing)
-ended_effect (session.Open m) c g p payload = (with_session c g (session.Ended m), OfSession g p payload)
-ended_effect (session.Leaving m) c g p payload = (with_session c g session.Free, OfSession g p payload)
+ended_effect (session.Open m) c g p payload =
+    (with_session c g (session.Ended m), OfSession g p payload)
+ended_effect (session.Leaving m) c g p payload =
+    (with_session c g session.Free, OfSession g p payload)
 ended_effect (session.Ended m) c g p payload = (c, Nothing)
 
 abbrev pub end_effect : Upstream → Option ℕ → Parts → List ℕ → Step

@@ -26,7 +26,8 @@ impl Model for Conn10 {
 }
 
 impl Conn10 {
-    /// A connection of which nothing was read yet, and whose login is by this mechanism with this response.
+    /// A connection of which nothing was read yet, and whose login is by this mechanism with this
+    /// response.
     ///
     /// # Errors
     ///
@@ -39,8 +40,9 @@ impl Conn10 {
         })
     }
 
-    /// Takes the container's next unit, and answers what it wants, or that the connection is to be closed: by the first place of
-    /// the order of refusals that applies. A contract sees a performative as its kind and its fields.
+    /// Takes the container's next unit, and answers what it wants, or that the connection is to be
+    /// closed: by the first place of the order of refusals that applies. A contract sees a
+    /// performative as its kind and its fields.
     ///
     /// # Errors
     ///
@@ -53,15 +55,16 @@ impl Conn10 {
         self.state.take(alloc, unit)
     }
 
-    /// The gateway's begin on this channel was sent. It counts where the connection runs, the container takes the channel, and no
-    /// session is there.
+    /// The gateway's begin on this channel was sent. It counts where the connection runs, the
+    /// container takes the channel, and no session is there.
     pub fn begin_sent(&mut self, channel: u16)
         ensures { self.new ≡ after_begin_sent channel self.old }
     {
         self.state.begin_sent(channel);
     }
 
-    /// The gateway's end of the session on this channel was sent. The channel is free once the container's came too.
+    /// The gateway's end of the session on this channel was sent. The channel is free once the
+    /// container's came too.
     pub fn end_sent(&mut self, channel: u16)
         ensures { self.new ≡ after_end_sent channel self.old }
     {
@@ -145,8 +148,8 @@ impl Conn10 {
         self.state.stated.channel_max
     }
 
-    /// After how many milliseconds without a frame the container gives the connection up; `None` where it doesn't, and until its
-    /// open.
+    /// After how many milliseconds without a frame the container gives the connection up; `None`
+    /// where it doesn't, and until its open.
     pub fn idle(&self) -> Option<u32>
         ensures { result ≡ self.now.stated.idle }
     {

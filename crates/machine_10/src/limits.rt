@@ -19,7 +19,8 @@ pub struct Stated10 {
     pub max_frame: u32,
     /// The greatest number of a channel that it takes; 0 until its open.
     pub channel_max: u16,
-    /// After how many milliseconds without a frame it gives the connection up; `None` where it doesn't, and until its open.
+    /// After how many milliseconds without a frame it gives the connection up; `None` where it
+    /// doesn't, and until its open.
     pub idle: Option<u32>,
 }
 

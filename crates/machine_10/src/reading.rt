@@ -6,8 +6,10 @@ ghost use Rattle.types_10.specs.View.{value_tree};
 ghost use Rattle.performatives_10.specs.Fields.{maybe, tree_at};
 ghost use Rattle.performatives_10.specs.View.{open_fields};
 ghost use Rattle.machine_10.specs.Parts.{parts_of};
-ghost use Rattle.machine_10.specs.Reading.{Empty, Faulty, Whole, read_of, read_at, body_by, body_in, body_of};
-ghost use Rattle.machine_10.specs.Reading.{is_named, any_named, offers, act_of, stated_in, last_from, is_out_of_range, is_close, closes};
+ghost use Rattle.machine_10.specs.Reading.{Empty, Faulty, Whole, read_of, read_at, body_by};
+ghost use Rattle.machine_10.specs.Reading.{body_in, body_of};
+ghost use Rattle.machine_10.specs.Reading.{is_named, any_named, offers, act_of, stated_in};
+ghost use Rattle.machine_10.specs.Reading.{last_from, is_out_of_range, is_close, closes};
 
 use crate::limits::{FRAME_MIN_SIZE, Stated10};
 use crate::unit::{Act10, Body10};
@@ -18,7 +20,8 @@ use std::alloc::Global;
 use types_10::{Value10, ValueList};
 use wire_base::{ByteText, Memory};
 
-/// From so many deliveries on between the first and the last of a disposition the last one lies before the first.
+/// From so many deliveries on between the first and the last of a disposition the last one lies
+/// before the first.
 const HALF: u32 = 0x8000_0000;
 
 /// The bytes from a place on; none past the end.
@@ -71,8 +74,8 @@ fn body_from(alloc: Global, read: Read10, bytes: ByteText) -> Body10
     }
 }
 
-/// What these bytes are, which aren't read as an empty frame. They are copied first: nothing fails once the performative is there, so
-/// nothing has to let it go.
+/// What these bytes are, which aren't read as an empty frame. They are copied first: nothing fails
+/// once the performative is there, so nothing has to let it go.
 fn read_bytes(alloc: Global, bytes: &[u8]) -> Result<Body10, Memory>
     ensures { IfOk result (λ body. body_of body ≡ body_by bytes.now (read_at bytes.now)) }
 {

@@ -2,9 +2,12 @@
 
 ghost use Rattle.std.specs.Prelude.{◌≡◌};
 ghost use Rattle.machine_10.specs.Reading.{body_of};
-ghost use Rattle.machine_10.specs.Refusals.{is_needed, kind_order, layer_of, fault_condition, login_order};
-ghost use Rattle.machine_10.specs.Refusals.{open_order, answer_order, begin_order, within_order, running_order};
-ghost use Rattle.machine_10.specs.Refusals.{order_in, refused, within_passed, end_passed, passed_in};
+ghost use Rattle.machine_10.specs.Refusals.{is_needed, kind_order, layer_of, fault_condition};
+ghost use Rattle.machine_10.specs.Refusals.{login_order};
+ghost use Rattle.machine_10.specs.Refusals.{open_order, answer_order, begin_order, within_order};
+ghost use Rattle.machine_10.specs.Refusals.{running_order};
+ghost use Rattle.machine_10.specs.Refusals.{order_in, refused, within_passed, end_passed};
+ghost use Rattle.machine_10.specs.Refusals.{passed_in};
 ghost use Rattle.machine_10.specs.Refusals.{first, range_place, perf_places, body_ruling};
 ghost use Rattle.performatives_10.specs.declared.condition.Condition.TheVariants as condition;
 

@@ -1,16 +1,19 @@
 //! The windows and ids of one session (AMQP 1.0 2.5.6).
 
 ghost use Rattle.std.specs.Prelude.{◌≡◌, ◌≤◌, nat_le};
-ghost use Rattle.machine_10.specs.Session.{new_session, after_began, after_flowed, after_sent, after_got, after_flow_sent, left_of};
+ghost use Rattle.machine_10.specs.Session.{new_session, after_began, after_flowed, after_sent};
+ghost use Rattle.machine_10.specs.Session.{after_got, after_flow_sent, left_of};
 ghost use Rattle.machine_10.specs.declared.session.TheConstants.{REFILL_AT};
 
 use crate::limits::WINDOW;
 use std::marker::Model;
 
-/// A flow is due once so many transfer frames, or fewer, are left of the window that the gateway stated.
+/// A flow is due once so many transfer frames, or fewer, are left of the window that the gateway
+/// stated.
 pub const REFILL_AT: u32 = 1_024;
 
-/// The windows and ids of a session, as contracts see a `Session10`. All ids go round after 2^32 - 1.
+/// The windows and ids of a session, as contracts see a `Session10`. All ids go round after 2^32 -
+/// 1.
 #[derive(Clone, Copy, Debug, PartialEq, Eq)]
 pub struct Windows {
     /// The id of the container's next transfer frame; 0 until its begin.
@@ -32,8 +35,9 @@ fn room_from(id: u32, window: u32, next_outgoing: u32) -> u32
     window.saturating_sub(next_outgoing.wrapping_sub(id))
 }
 
-/// The windows and ids of one session (AMQP 1.0 2.5.6), which the gateway begins with the outgoing id 0 and an incoming window
-/// of 2,048 transfer frames. Contracts see its state. Each call takes the same time, whatever came before.
+/// The windows and ids of one session (AMQP 1.0 2.5.6), which the gateway begins with the outgoing
+/// id 0 and an incoming window of 2,048 transfer frames. Contracts see its state. Each call takes
+/// the same time, whatever came before.
 #[derive(Clone, Copy, Debug)]
 pub struct Session10 {
     state: Windows,
@@ -74,7 +78,8 @@ impl Session10 {
         self.state.handle_max = handle_max;
     }
 
-    /// A flow of the container came, with these fields (AMQP 1.0 2.7.4). An absent id stands for that of the gateway's begin.
+    /// A flow of the container came, with these fields (AMQP 1.0 2.7.4). An absent id stands for
+    /// that of the gateway's begin.
     pub fn flowed(&mut self, next_incoming: Option<u32>, incoming_window: u32)
         ensures { self.new ≡ after_flowed next_incoming incoming_window self.old }
     {
@@ -98,7 +103,8 @@ impl Session10 {
         self.state.window -= 1;
     }
 
-    /// A transfer frame of the container came: whether it was within the window that the gateway stated.
+    /// A transfer frame of the container came: whether it was within the window that the gateway
+    /// stated.
     pub fn got_frame(&mut self) -> bool
         ensures within { result ≡ nat_le 1 self.old.stated }
         ensures state { self.new ≡ after_got self.old }

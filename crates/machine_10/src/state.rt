@@ -2,7 +2,8 @@
 
 ghost use Rattle.std.specs.Prelude.{◌≡◌, ◌<◌, length, IfSome};
 ghost use Rattle.std.specs.List.{position};
-ghost use Rattle.machine_10.specs.State.{new_upstream, carries, session_at, session_of, with_session, awaits, is_running, is_closing};
+ghost use Rattle.machine_10.specs.State.{new_upstream, carries, session_at, session_of};
+ghost use Rattle.machine_10.specs.State.{with_session, awaits, is_running, is_closing};
 
 use crate::limits::{Stated10, unstated};
 use frames_10::Kind10;
@@ -57,7 +58,8 @@ pub enum Awaited10 {
     Nothing,
 }
 
-/// The session on one of the gateway's channels (AMQP 1.0 2.5). A number is that of the container's channel.
+/// The session on one of the gateway's channels (AMQP 1.0 2.5). A number is that of the container's
+/// channel.
 #[derive(Clone, Copy, Debug, PartialEq, Eq)]
 pub enum Session {
     /// There is none.

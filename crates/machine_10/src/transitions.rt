@@ -1,17 +1,22 @@
-//! The transitions of a connection: for each phase and unit the state after it and what the unit wants, and what the other calls
-//! change. No other file sets a phase, a stream or a session.
+//! The transitions of a connection: for each phase and unit the state after it and what the unit
+//! wants, and what the other calls change. No other file sets a phase, a stream or a session.
 
 ghost use Rattle.std.specs.Prelude.{◌≡◌, IfOk, OnOk, OnErr};
 ghost use Rattle.types_10.specs.View.{value_tree};
 ghost use Rattle.machine_10.specs.Calls.{may_begin, after_begin_sent, after_end_sent, after_ended};
 ghost use Rattle.machine_10.specs.Parts.{parts_of};
 ghost use Rattle.machine_10.specs.Reading.{body_of, act_of, closes, field};
-ghost use Rattle.machine_10.specs.Transitions.{Nothing, meaning_of, spoiled, stream_after, violated, awaits_header};
-ghost use Rattle.machine_10.specs.Transitions.{phase_after, header_step, offer_effect, outcome_effect};
-ghost use Rattle.machine_10.specs.Transitions.{login_effect, mechanisms_effect, open_effect, begin_effect};
+ghost use Rattle.machine_10.specs.Transitions.{Nothing, meaning_of, spoiled, stream_after};
+ghost use Rattle.machine_10.specs.Transitions.{violated, awaits_header};
+ghost use Rattle.machine_10.specs.Transitions.{phase_after, header_step, offer_effect};
+ghost use Rattle.machine_10.specs.Transitions.{outcome_effect};
+ghost use Rattle.machine_10.specs.Transitions.{login_effect, mechanisms_effect, open_effect};
+ghost use Rattle.machine_10.specs.Transitions.{begin_effect};
 ghost use Rattle.machine_10.specs.Transitions.{end_effect, running_effect, perf_effect};
-ghost use Rattle.machine_10.specs.Transitions.{body_effect, body_step, ordered_step, refused_step, close_effect};
-ghost use Rattle.machine_10.specs.Transitions.{late_body_step, closed_step, closing_step, unit_step};
+ghost use Rattle.machine_10.specs.Transitions.{body_effect, body_step, ordered_step, refused_step};
+ghost use Rattle.machine_10.specs.Transitions.{close_effect};
+ghost use Rattle.machine_10.specs.Transitions.{late_body_step, closed_step, closing_step};
+ghost use Rattle.machine_10.specs.Transitions.{unit_step};
 ghost use Rattle.machine_10.specs.State.{session_of};
 ghost use Rattle.machine_10.specs.declared.unit.Act10.TheVariants as act;
 
@@ -211,7 +216,8 @@ impl Upstream {
         ensures state { self.new ≡ (body_effect phase self.old channel (body_of body)).0 }
         ensures want { meaning_of result ≡ (body_effect phase self.old channel (body_of body)).1 }
     {
-        // An arm each: what one place alone drops would be proved there again, down to its last part.
+        // An arm each: what one place alone drops would be proved there again, down to its last
+        // part.
         match body {
             Body10::Empty => nothing(),
             Body10::Faulty(_) => nothing(),
@@ -239,8 +245,10 @@ impl Upstream {
 
     /// A performative where sasl-mechanisms is awaited.
     fn apply_offer(&mut self, whole: &Whole10) -> Want10
-        ensures state { self.new ≡ (mechanisms_effect self.old (field whole.now.0.1 0) (act_of whole.now.0)).0 }
-        ensures want { meaning_of result ≡ (mechanisms_effect self.old (field whole.now.0.1 0) (act_of whole.now.0)).1 }
+        ensures state { self.new ≡ (mechanisms_effect self.old (field whole.now.0.1 0)
+            (act_of whole.now.0)).0 }
+        ensures want { meaning_of result ≡ (mechanisms_effect self.old (field whole.now.0.1 0)
+            (act_of whole.now.0)).1 }
     {
         self.apply_mechanisms(whole.perf())
     }
@@ -248,8 +256,10 @@ impl Upstream {
     /// The same by the performative alone.
     #[tactic(auto, unfolding(crate::specs::Reading::act_of, crate::specs::Parts::parts_of))]
     fn apply_mechanisms(&mut self, perf: &Perf) -> Want10
-        ensures state { self.new ≡ (mechanisms_effect self.old (field (parts_of perf.now).1 0) (act_of (parts_of perf.now))).0 }
-        ensures want { meaning_of result ≡ (mechanisms_effect self.old (field (parts_of perf.now).1 0) (act_of (parts_of perf.now))).1 }
+        ensures state { self.new ≡ (mechanisms_effect self.old (field (parts_of perf.now).1 0)
+            (act_of (parts_of perf.now))).0 }
+        ensures want { meaning_of result ≡ (mechanisms_effect self.old (field
+            (parts_of perf.now).1 0) (act_of (parts_of perf.now))).1 }
     {
         match perf {
             Perf::SaslMechanisms(offer) => self.choose(&offer.mechanisms),
@@ -321,8 +331,10 @@ impl Upstream {
 
     /// A performative once the connection runs.
     fn apply_running(&mut self, channel: u16, whole: Whole10) -> Want10
-        ensures state { self.new ≡ (running_effect self.old channel (act_of whole.0) whole.0 whole.1).0 }
-        ensures want { meaning_of result ≡ (running_effect self.old channel (act_of whole.0) whole.0 whole.1).1 }
+        ensures state { self.new ≡ (running_effect self.old channel
+            (act_of whole.0) whole.0 whole.1).0 }
+        ensures want { meaning_of result ≡ (running_effect self.old channel
+            (act_of whole.0) whole.0 whole.1).1 }
     {
         let mut whole = whole;
         match whole.act() {
@@ -340,7 +352,8 @@ impl Upstream {
     /// A begin on the container's channel, for one of the gateway's.
     fn apply_begin(&mut self, channel: u16, remote: Option<u16>, whole: Whole10) -> Want10
         ensures state { self.new ≡ (begin_effect self.old channel remote whole.0 whole.1).0 }
-        ensures want { meaning_of result ≡ (begin_effect self.old channel remote whole.0 whole.1).1 }
+        ensures want { meaning_of result ≡
+            (begin_effect self.old channel remote whole.0 whole.1).1 }
     {
         let Some(own) = remote else {
             return nothing();
@@ -360,8 +373,10 @@ impl Upstream {
 
     /// An end.
     fn apply_end(&mut self, channel: u16, whole: Whole10) -> Want10
-        ensures state { self.new ≡ (end_effect self.old (session_of self.old channel) whole.0 whole.1).0 }
-        ensures want { meaning_of result ≡ (end_effect self.old (session_of self.old channel) whole.0 whole.1).1 }
+        ensures state { self.new ≡ (end_effect self.old
+            (session_of self.old channel) whole.0 whole.1).0 }
+        ensures want { meaning_of result ≡ (end_effect self.old
+            (session_of self.old channel) whole.0 whole.1).1 }
     {
         let Some(own) = self.session_of(channel) else {
             return nothing();

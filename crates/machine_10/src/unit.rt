@@ -22,15 +22,18 @@ pub enum Want10 {
     Nothing,
     /// The wanted mechanism is offered: sasl-init is due.
     Init,
-    /// The login succeeded: the gateway's AMQP header is due, and once the container's came, its open.
+    /// The login succeeded: the gateway's AMQP header is due, and once the container's came, its
+    /// open.
     AmqpHeader,
     /// The container's open came: sessions may begin.
     Opened,
-    /// A performative of a session, by the gateway's number of its channel, and the payload behind it.
+    /// A performative of a session, by the gateway's number of its channel, and the payload behind
+    /// it.
     Session(u16, Perf, ByteText),
     /// The container closes the connection, perhaps with an error: the gateway's close is due.
     Closed(Option<Error10>),
-    /// The login is refused: the wanted mechanism isn't offered, or the outcome is another one than success.
+    /// The login is refused: the wanted mechanism isn't offered, or the outcome is another one than
+    /// success.
     Refused,
     /// The unit is out of order or can't be read: a close with this condition is due.
     Violation(Condition),
@@ -69,7 +72,8 @@ pub(crate) enum Act10 {
     Within,
     End,
     Close,
-    /// It is one of the SASL layer's: what a container offers, how a login came out, a challenge, or what only clients send.
+    /// It is one of the SASL layer's: what a container offers, how a login came out, a challenge,
+    /// or what only clients send.
     Offer,
     Outcome(u8),
     Challenge,

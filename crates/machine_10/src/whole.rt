@@ -14,8 +14,8 @@ use performatives_10::{Error10, Perf};
 use std::marker::Model;
 use wire_base::ByteText;
 
-/// A performative, and the payload behind it. Contracts see the performative as its kind and its fields, so that no proof about a
-/// connection has to look at each kind.
+/// A performative, and the payload behind it. Contracts see the performative as its kind and its
+/// fields, so that no proof about a connection has to look at each kind.
 #[derive(Debug, Drop)]
 pub(crate) struct Whole10 {
     perf: Perf,

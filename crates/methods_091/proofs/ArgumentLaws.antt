@@ -3,7 +3,8 @@ use Rattle.std.proofs.Common.{ℕ, List, [], ◌∷◌, refl, subst}
 use Rattle.std.specs.Int.{w8, w16, w32, w64}
 use Rattle.wire_base.specs.Spelling.{IsNumber, IsText, IsMade, IsPair}
 use Rattle.wire_base.specs.Reading.{offset, pair_in, number_in, text_in}
-use Rattle.wire_base.proofs.Laws.{IsReader, Finds, wide8, wide16, wide32, wide64, ok_is, made_reader, pair_reader, number_reader, text_reader}
+use Rattle.wire_base.proofs.Laws.{IsReader, Finds, wide8, wide16, wide32, wide64, ok_is}
+use Rattle.wire_base.proofs.Laws.{made_reader, pair_reader, number_reader, text_reader}
 use Rattle.tables_091.specs.Grammar.{IsTable}
 use Rattle.tables_091.specs.Reading.{table_in}
 use Rattle.tables_091.proofs.ReaderLaws.{table_reader}

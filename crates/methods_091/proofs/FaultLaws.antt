@@ -1,5 +1,7 @@
 -- The answers of a reading of methods, in the words of the grammar.
-use Rattle.std.proofs.Common.{◌≡◌, ◌↔◌, ℕ, ◌-◌, ◌/◌, ◌%◌, ltb, false, List, [], ◌∷◌, length, take, drop, get_or, Option, Some, None, Result, Ok, Err, IfOk, IfErr, refl, sym, ap, subst, ◌∙◌, inl, inr, arith}
+use Rattle.std.proofs.Common.{◌≡◌, ◌↔◌, ℕ, ◌-◌, ◌/◌, ◌%◌, ltb, false, List, [], ◌∷◌, length, take}
+use Rattle.std.proofs.Common.{drop, get_or, Option, Some, None, Result, Ok, Err, IfOk, IfErr, refl}
+use Rattle.std.proofs.Common.{sym, ap, subst, ◌∙◌, inl, inr, arith}
 use Rattle.std.proofs.lemmas.Bool.{le-ltb}
 use Rattle.std.specs.Int.{w16, from_be_bytes}
 use Rattle.wire_base.specs.Bytes.{IsBytes}

@@ -1,8 +1,11 @@
 -- A kind is found by its ids, and by no others.
-use Rattle.std.proofs.Common.{◌≡◌, ℕ, ◌<◌, Bool, true, false, cond, eqb, List, [], ◌∷◌, Option, Some, None, refl, sym, ap, ◌∙◌, arith}
+use Rattle.std.proofs.Common.{◌≡◌, ℕ, ◌<◌, Bool, true, false, cond, eqb, List, [], ◌∷◌, Option}
+use Rattle.std.proofs.Common.{Some, None, refl, sym, ap, ◌∙◌, arith}
 use Rattle.std.proofs.lemmas.Bool.{eqb-true}
 use Rattle.std.specs.Prelude.{option_map}
-use Rattle.methods_091.specs.Rows.{class_of, id_of, first_with, kind_with, connection_kinds, channel_kinds, exchange_kinds, queue_kinds, basic_kinds, confirm_kinds, tx_kinds}
+use Rattle.methods_091.specs.Rows.{class_of, id_of, first_with, kind_with, connection_kinds}
+use Rattle.methods_091.specs.Rows.{channel_kinds, exchange_kinds, queue_kinds, basic_kinds}
+use Rattle.methods_091.specs.Rows.{confirm_kinds, tx_kinds}
 use Rattle.methods_091.specs.declared.kind.MethodKind.{MethodKind}
 use Rattle.methods_091.specs.declared.kind.MethodKind.TheVariants as class
 use Rattle.methods_091.specs.declared.kind.ConnectionKind.TheVariants as in_connection

@@ -8,7 +8,8 @@ use Rattle.methods_091.specs.Arguments as arg
 use Rattle.methods_091.specs.Grammar.{bits_from, IsArg, IsArgs, IsMethod}
 use Rattle.methods_091.specs.Reading.{told, method_in}
 use Rattle.methods_091.specs.View.{kind_of, args_of, parts_of}
-use Rattle.methods_091.specs.Writing.{octet_of, blank, arg_text, args_text, method_text, CanPutAll, CanPut, IsInRange, AreInRange, HasRanges}
+use Rattle.methods_091.specs.Writing.{octet_of, blank, arg_text, args_text, method_text, CanPutAll}
+use Rattle.methods_091.specs.Writing.{CanPut, IsInRange, AreInRange, HasRanges}
 use Rattle.methods_091.specs.declared.method.Method91.{Method91}
 use Rattle.methods_091.specs.declared.method.Method91.TheVariants as method
 use Rattle.methods_091.proofs.BitLaws.{flags_back, octet_below}

@@ -8,10 +8,16 @@ use Rattle.frames_091.specs.Frames.{frame_text}
 use Rattle.frames_091.specs.declared.frame.Kind91.TheVariants.{Method}
 use Rattle.methods_091.specs.Writing.{method_text}
 use Rattle.methods_091.specs.declared.method.Method91.{Method91}
-use Rattle.methods_091.specs.declared.method.Method91.TheVariants.{ConnectionClose, ConnectionCloseOk, ChannelOpenOk, ChannelFlowOk, ChannelClose, ChannelCloseOk}
-use Rattle.methods_091.specs.declared.method.Method91.TheVariants.{ExchangeDeclareOk, ConfirmSelectOk, BasicAck, BasicNack}
+use Rattle.methods_091.specs.declared.method.Method91.TheVariants.{ConnectionClose}
+use Rattle.methods_091.specs.declared.method.Method91.TheVariants.{ConnectionCloseOk, ChannelOpenOk}
+use Rattle.methods_091.specs.declared.method.Method91.TheVariants.{ChannelFlowOk, ChannelClose}
+use Rattle.methods_091.specs.declared.method.Method91.TheVariants.{ChannelCloseOk}
+use Rattle.methods_091.specs.declared.method.Method91.TheVariants.{ExchangeDeclareOk}
+use Rattle.methods_091.specs.declared.method.Method91.TheVariants.{ConfirmSelectOk, BasicAck}
+use Rattle.methods_091.specs.declared.method.Method91.TheVariants.{BasicNack}
 
--- what stands before a method's payload of this length: the kind, the channel in two bytes, and the length in four
+-- what stands before a method's payload of this length: the kind, the channel in two bytes, and the
+-- length in four
 abbrev pub head_text : ℕ → ℕ → List ℕ
 head_text n size = 1 ∷ to_be_bytes w16 n ++ to_be_bytes w32 size
 
@@ -27,10 +33,12 @@ text_on n m = frame_text (record { kind = Method; channel = n; payload = method_
 abbrev pub control_text : Method91 → List ℕ
 control_text m = text_on 0 m
 
--- the frame on a channel of the method that has these ids, a reply code, a reply text, and the ids of a method
+-- the frame on a channel of the method that has these ids, a reply code, a reply text, and the ids
+-- of a method
 abbrev pub closing_text : ℕ → List ℕ → ℕ → List ℕ → ℕ → ℕ → List ℕ
 closing_text n ids code text class method =
-    payload_text n (ids ++ to_be_bytes w16 code ++ text_of w8 text ++ to_be_bytes w16 class ++ to_be_bytes w16 method)
+    payload_text n (ids ++ to_be_bytes w16 code ++ text_of w8 text ++ to_be_bytes w16 class
+    ++ to_be_bytes w16 method)
 
 -- the frame on a channel of the method that has these ids, a delivery tag and an octet of flags
 abbrev pub tagged_text : ℕ → List ℕ → ℕ → ℕ → List ℕ

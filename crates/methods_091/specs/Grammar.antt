@@ -1,6 +1,8 @@
--- How methods are spelled (AMQP 0-9-1 2.3.5.2 and 4.2.5): a relation between a method and the bytes that spell it, all of the bytes.
--- What stands in a reserved argument is free, and so are the bits of an octet that no flag uses.
-use Rattle.std.specs.Prelude.{◌≡◌, ℕ, zero, suc, ◌+◌, ◌/◌, ◌%◌, ◌^◌, ◌==◌, Bool, List, [], ◌∷◌, ◌++◌}
+-- How methods are spelled (AMQP 0-9-1 2.3.5.2 and 4.2.5): a relation between a method and the bytes
+-- that spell it, all of the bytes. What stands in a reserved argument is free, and so are the bits
+-- of an octet that no flag uses.
+use Rattle.std.specs.Prelude.{◌≡◌, ℕ, zero, suc, ◌+◌, ◌/◌, ◌%◌, ◌^◌, ◌==◌, Bool, List, [], ◌∷◌}
+use Rattle.std.specs.Prelude.{◌++◌}
 use Rattle.std.specs.Int.{w8, w16, w32, w64, to_be_bytes}
 use Rattle.wire_base.specs.Spelling.{IsNumber, IsText, IsMade, IsPair}
 use Rattle.tables_091.specs.Grammar.{IsTable}
@@ -44,7 +46,8 @@ ids_text k = to_be_bytes w16 (class_of k) ++ to_be_bytes w16 (id_of k)
 
 -- both ids of a kind, and its arguments
 abbrev pub IsPayload : MethodKind × List Arg → List ℕ → Type 0
-IsPayload p bytes = (arguments : List ℕ) × IsArgs (shape p.0) p.1 arguments × (bytes ≡ ids_text p.0 ++ arguments)
+IsPayload p bytes =
+    (arguments : List ℕ) × IsArgs (shape p.0) p.1 arguments × (bytes ≡ ids_text p.0 ++ arguments)
 
 -- the ids of the method, and its arguments
 abbrev pub IsMethod : Method91 → List ℕ → Type 0

@@ -1,5 +1,7 @@
--- Reading a method from left to right, with the first fault that is met (AMQP 0-9-1 2.3.5.2 and 4.2.5).
-use Rattle.std.specs.Prelude.{ℕ, ◌-◌, List, [], ◌∷◌, length, Option, Some, None, Ok, Err, Result, nat_lt, if◌then◌else◌}
+-- Reading a method from left to right, with the first fault that is met (AMQP 0-9-1 2.3.5.2 and
+-- 4.2.5).
+use Rattle.std.specs.Prelude.{ℕ, ◌-◌, List, [], ◌∷◌, length, Option, Some, None, Ok, Err, Result}
+use Rattle.std.specs.Prelude.{nat_lt, if◌then◌else◌}
 use Rattle.std.specs.Int.{w8, w16, w32, w64}
 use Rattle.wire_base.specs.Reading.{Reads, ◌>>=◌, offset, made, pair_in, number_in, text_in}
 use Rattle.wire_base.specs.declared.scan.At.{At}
@@ -24,7 +26,8 @@ arg_in kind.longlong end bytes = made arg.longlong (number_in offset w64 end byt
 arg_in kind.shortstr end bytes = made arg.shortstr (text_in offset w8 end bytes)
 arg_in kind.longstr end bytes = made arg.longstr (text_in offset w32 end bytes)
 arg_in kind.fields end bytes = made arg.fields (table_in end bytes)
-arg_in (kind.bits count) end bytes = made (λ n. arg.bits (bits_from 0 count n)) (number_in offset w8 end bytes)
+arg_in (kind.bits count) end bytes =
+    made (λ n. arg.bits (bits_from 0 count n)) (number_in offset w8 end bytes)
 arg_in (kind.reserved k) end bytes = made (λ x. arg.reserved k) (arg_in k end bytes)
 
 -- arguments of these kinds, one after another

@@ -1,5 +1,7 @@
--- The one spelling of a method that is written (AMQP 0-9-1 2.3.5.2 and 4.2.5), and which methods have one.
-use Rattle.std.specs.Prelude.{ℕ, ◌+◌, ◌*◌, ◌<◌, ◌≤◌, ◌^◌, Bool, if◌then◌else◌, List, [], ◌∷◌, ◌++◌, length}
+-- The one spelling of a method that is written (AMQP 0-9-1 2.3.5.2 and 4.2.5), and which methods
+-- have one.
+use Rattle.std.specs.Prelude.{ℕ, ◌+◌, ◌*◌, ◌<◌, ◌≤◌, ◌^◌, Bool, if◌then◌else◌, List, [], ◌∷◌, ◌++◌}
+use Rattle.std.specs.Prelude.{length}
 use Rattle.std.specs.Int.{w8, w16, w32, w64, to_be_bytes}
 use Rattle.wire_base.specs.Spelling.{text_of}
 use Rattle.tables_091.specs.Writing.{table_text, HasSpelling}
@@ -29,7 +31,8 @@ blank kind.fields = table_text []
 blank (kind.bits count) = to_be_bytes w8 0
 blank (kind.reserved k) = blank k
 
--- an argument: a number most significant byte first, a text behind its length, a table, or flags in an octet
+-- an argument: a number most significant byte first, a text behind its length, a table, or flags in
+-- an octet
 abbrev pub arg_text : Arg → List ℕ
 arg_text (arg.octet n) = to_be_bytes w8 n
 arg_text (arg.short n) = to_be_bytes w16 n

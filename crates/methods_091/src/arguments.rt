@@ -1,6 +1,7 @@
 //! Arguments of methods (AMQP 0-9-1 4.2.5).
 
-ghost use Rattle.std.specs.Prelude.{◌≡◌, ℕ, ◌<◌, ◌≤◌, ◌^◌, List, [], ◌∷◌, ◌++◌, length, take, OnOk, OnErr};
+ghost use Rattle.std.specs.Prelude.{◌≡◌, ℕ, ◌<◌, ◌≤◌, ◌^◌, List, [], ◌∷◌, ◌++◌, length, take, OnOk};
+ghost use Rattle.std.specs.Prelude.{OnErr};
 ghost use Rattle.std.specs.Int.{w8, w32};
 ghost use Rattle.wire_base.specs.Spelling.{text_of};
 ghost use Rattle.wire_base.specs.Reading.{Gives, offset, text_in};

@@ -422,7 +422,8 @@ pub(crate) fn put_get_ok(
     requires routing_key { length routing_key.now ≤ 255 }
     ensures ok { OnOk result (out.new ≡ out.old
         ++ (to_be_bytes w64 delivery_tag ++ to_be_bytes w8 flags
-        ++ text_of w8 exchange.now ++ text_of w8 routing_key.now ++ to_be_bytes w32 message_count)) }
+        ++ text_of w8 exchange.now ++ text_of w8 routing_key.now
+        ++ to_be_bytes w32 message_count)) }
     ensures err { OnErr result (take (length out.old) out.new ≡ out.old) }
 {
     put_u64(out, delivery_tag)?;
@@ -432,7 +433,8 @@ pub(crate) fn put_get_ok(
     put_u32(out, message_count)
 }
 
-/// A delivery tag and flags: the arguments of basic.ack, basic.nack and basic.reject, and a part of basic.deliver.
+/// A delivery tag and flags: the arguments of basic.ack, basic.nack and basic.reject, and a part of
+/// basic.deliver.
 pub(crate) fn put_tag(out: &mut ByteText, delivery_tag: u64, flags: u8) -> Result<(), Memory>
     ensures ok { OnOk result (out.new ≡ out.old
         ++ (to_be_bytes w64 delivery_tag ++ to_be_bytes w8 flags)) }

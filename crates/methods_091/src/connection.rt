@@ -193,7 +193,8 @@ pub(crate) fn put_start(
     requires locales { length locales.now < 2 ^ 32 }
     ensures ok { OnOk result (out.new ≡ out.old
         ++ (to_be_bytes w8 version_major ++ to_be_bytes w8 version_minor
-        ++ table_text server_properties.now ++ text_of w32 mechanisms.now ++ text_of w32 locales.now)) }
+        ++ table_text server_properties.now ++ text_of w32 mechanisms.now
+        ++ text_of w32 locales.now)) }
     ensures err { OnErr result (take (length out.old) out.new ≡ out.old) }
 {
     put_version(out, version_major, version_minor)?;

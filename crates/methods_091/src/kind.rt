@@ -1,7 +1,8 @@
 //! The kinds of methods, by their ids.
 
 ghost use Rattle.std.specs.Prelude.{◌≡◌};
-ghost use Rattle.methods_091.specs.Rows.{connection_with, channel_with, exchange_with, queue_with, basic_with, confirm_with, tx_with, kind_with};
+ghost use Rattle.methods_091.specs.Rows.{connection_with, channel_with, exchange_with, queue_with};
+ghost use Rattle.methods_091.specs.Rows.{basic_with, confirm_with, tx_with, kind_with};
 
 /// The kind of a method, by its class.
 #[derive(Clone, Copy)]

@@ -18,7 +18,8 @@ pub fn method_laws()
     ensures read { (m : Method91) (bytes : List ℕ) → IsBytes bytes
         → (method_in bytes ≡ Ok (parts_of m)) ↔ IsMethod m bytes }
     // What is written is read back.
-    ensures back { (m : Method91) → CanPut m → HasRanges m → method_in (method_text m) ≡ Ok (parts_of m) }
+    ensures back { (m : Method91) → CanPut m → HasRanges m → method_in (method_text m)
+        ≡ Ok (parts_of m) }
     // What is spelled can be written.
     ensures writable { (m : Method91) (bytes : List ℕ) → IsMethod m bytes → CanPut m }
     // Bytes spell at most one method.

@@ -8,11 +8,12 @@ ghost use Rattle.methods_091.specs.Writing.{HasRanges};
 use tables_091::Table;
 use wire_base::ByteText;
 
-/// A method and its arguments, in the order of the wire. Reserved arguments are no fields: what stands there is dropped
-/// when a method is read, and is zero or empty when one is written.
+/// A method and its arguments, in the order of the wire. Reserved arguments are no fields: what
+/// stands there is dropped when a method is read, and is zero or empty when one is written.
 ///
-/// A text that is written has at most 255 bytes where it is a short string, and fewer than 2^32 where it is a long one.
-/// The long strings are the mechanisms, locales, challenges and responses of the class connection.
+/// A text that is written has at most 255 bytes where it is a short string, and fewer than 2^32
+/// where it is a long one. The long strings are the mechanisms, locales, challenges and responses
+/// of the class connection.
 #[derive(Debug, Drop)]
 pub enum Method91 {
     /// connection.start

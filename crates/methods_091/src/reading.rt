@@ -107,9 +107,9 @@ fn method_of(alloc: Global, payload: &[u8]) -> Result<Result<Method91, At<Method
 ///
 /// `UnknownMethod` at 0 exactly where the first four bytes are there and are the ids of no method.
 ///
-/// `Syntax` where fewer than four bytes are there, at their end; where an argument can't be read, at its first byte that is
-/// missing or wrong, as the readers of `wire_base` and `read_table` tell it; and where bytes are left behind the last
-/// argument, at the first of them.
+/// `Syntax` where fewer than four bytes are there, at their end; where an argument can't be read,
+/// at its first byte that is missing or wrong, as the readers of `wire_base` and `read_table` tell
+/// it; and where bytes are left behind the last argument, at the first of them.
 ///
 /// `Memory` where the allocator has no room.
 #[tactic(auto, using(crate::proofs::FaultLaws::fault_by, crate::proofs::FaultLaws::unknown_by))]
@@ -123,7 +123,8 @@ pub fn read_method(
     ensures only { (m : Method91) → IsMethod m payload.now → IfOk result (λ read. read ≡ Ok m) }
     // What is read can be written.
     ensures writable { IfOk result (λ read. IfOk read CanPut) }
-    // Which kind and arguments are read, or which fault is told, and where; an unknown method is told exactly where it is one.
+    // Which kind and arguments are read, or which fault is told, and where; an unknown method is
+    // told exactly where it is one.
     ensures exact { IfOk result (λ read. seen read ≡ method_in payload.now) }
     ensures fault { IfOk result (λ read. IfErr read (IsFault payload.now)) }
     ensures unknown { IsUnknown payload.now

@@ -1,6 +1,7 @@
 //! Writing methods.
 //!
-//! Where a private function of this crate that writes answers `Memory`, what stood in `out` before still stands at its front.
+//! Where a private function of this crate that writes answers `Memory`, what stood in `out` before
+//! still stands at its front.
 
 ghost use Rattle.std.specs.Prelude.{◌≡◌, ℕ, ◌++◌, List, length, take, OnOk, OnErr};
 ghost use Rattle.methods_091.specs.View.{args_of};
@@ -263,9 +264,11 @@ fn append_method(out: &mut ByteText, method: &Method91) -> Result<(), Memory>
     put_arguments(out, method)
 }
 
-/// Adds the spelling of a method: its ids and its arguments, the reserved ones zero or empty, or leaves `out` as it was.
+/// Adds the spelling of a method: its ids and its arguments, the reserved ones zero or empty, or
+/// leaves `out` as it was.
 ///
-/// Short strings have at most 255 bytes, long strings fewer than 2^32, and tables are as `put_table` needs.
+/// Short strings have at most 255 bytes, long strings fewer than 2^32, and tables are as
+/// `put_table` needs.
 ///
 /// # Errors
 ///

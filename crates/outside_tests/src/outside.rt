@@ -199,7 +199,8 @@ fn opens<P: Ports>(rt: &impl Abort, ports: &mut P)
     assert_eq!(rt; ports.connect(0), Linked::Ok);
 }
 
-/// A read at an end of pair 0 into a buffer of two bytes, the answer, and what the buffer then holds.
+/// A read at an end of pair 0 into a buffer of two bytes, the answer, and what the buffer then
+/// holds.
 fn reads<P: Ports>(rt: &impl Abort, ports: &mut P, end: End, answer: Got, held: &[u8])
     requires open { is_open 0 end (P.ends ports.old) ≡ true }
     requires ends { P.ends ports.old ≡ (0, End.Client) ∷ (0, End.Up) ∷ [] }

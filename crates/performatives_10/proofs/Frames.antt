@@ -1,5 +1,7 @@
 -- The frames that are written without memory, put together from their parts.
-use Rattle.std.proofs.Common.{◌≡◌, ℕ, suc, ◌+◌, ◌%◌, ◌<◌, Bool, true, false, ltb, eqb, List, [], ◌∷◌, ◌++◌, length, Option, Some, None, refl, sym, ap, ◌∙◌, append_assoc, append-nil, arith}
+use Rattle.std.proofs.Common.{◌≡◌, ℕ, suc, ◌+◌, ◌%◌, ◌<◌, Bool, true, false, ltb, eqb, List, []}
+use Rattle.std.proofs.Common.{◌∷◌, ◌++◌, length, Option, Some, None, refl, sym, ap, ◌∙◌}
+use Rattle.std.proofs.Common.{append_assoc, append-nil, arith}
 use Rattle.std.specs.Int.{w16, w32, to_be_bytes}
 use Rattle.std.proofs.lemmas.Bool.{ltb-true}
 use Rattle.std.proofs.lemmas.List.{length-append}
@@ -11,7 +13,10 @@ use Rattle.frames_10.specs.declared.frame.Kind10.TheVariants.{Amqp}
 use Rattle.performatives_10.specs.Fields.{a_boolean, a_uint, maybe}
 use Rattle.performatives_10.specs.View.{error_tree, state_tree}
 use Rattle.performatives_10.specs.Writing.{perf_text}
-use Rattle.performatives_10.specs.Closing.{head_text, state_of, settle_code, settled_by, settled_text, disposition_len, disposition_text, error_by, error_text, ending_of, end_text, frame_of, detach_count, failed_text, ended_text}
+use Rattle.performatives_10.specs.Closing.{head_text, state_of, settle_code, settled_by}
+use Rattle.performatives_10.specs.Closing.{settled_text, disposition_len, disposition_text}
+use Rattle.performatives_10.specs.Closing.{error_by, error_text, ending_of, end_text, frame_of}
+use Rattle.performatives_10.specs.Closing.{detach_count, failed_text, ended_text}
 use Rattle.performatives_10.specs.declared.condition.Condition.{Condition}
 use Rattle.performatives_10.specs.declared.closing.Ending.TheVariants as ending
 use Rattle.performatives_10.specs.declared.performative.Perf.{Perf}

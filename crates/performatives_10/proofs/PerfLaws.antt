@@ -1,5 +1,7 @@
 -- A performative is read exactly where bytes begin with one, and else the first fault is told.
-use Rattle.std.proofs.Common.{◌≡◌, ◌↔◌, ◌⊎◌, inl, inr, ℕ, Bool, true, false, cond, eqb, List, [], ◌∷◌, Option, Some, None, Result, Ok, Err, IfOk, IfErr, refl, sym, ap, subst, ◌∙◌}
+use Rattle.std.proofs.Common.{◌≡◌, ◌↔◌, ◌⊎◌, inl, inr, ℕ, Bool, true, false, cond, eqb, List, []}
+use Rattle.std.proofs.Common.{◌∷◌, Option, Some, None, Result, Ok, Err, IfOk, IfErr, refl, sym, ap}
+use Rattle.std.proofs.Common.{subst, ◌∙◌}
 use Rattle.std.specs.Prelude.{IsOkAnd}
 use Rattle.std.proofs.lemmas.Bool.{eqb-true}
 use Rattle.wire_base.specs.Bytes.{IsBytes}
@@ -13,9 +15,12 @@ use Rattle.types_10.proofs.ValueLaws.{value_is_read}
 use Rattle.performatives_10.specs.Fields.{fields_in}
 use Rattle.performatives_10.specs.Composites.{if_some, ulong_of, list_of, described_list}
 use Rattle.performatives_10.specs.Rows.{kinds}
-use Rattle.performatives_10.specs.Reading.{Parts, code_of, rows, type_in, perf_in, first_with, kind_with, known_in, listed_in, perf_of, behind, perf_at, seen}
+use Rattle.performatives_10.specs.Reading.{Parts, code_of, rows, type_in, perf_in, first_with}
+use Rattle.performatives_10.specs.Reading.{kind_with, known_in, listed_in, perf_of, behind, perf_at}
+use Rattle.performatives_10.specs.Reading.{seen}
 use Rattle.performatives_10.specs.View.{parts_of}
-use Rattle.performatives_10.specs.Grammar.{IsListed, IsParts, IsPerfAt, IsFirstFault, HasFieldFault, IsPerfFault}
+use Rattle.performatives_10.specs.Grammar.{IsListed, IsParts, IsPerfAt, IsFirstFault, HasFieldFault}
+use Rattle.performatives_10.specs.Grammar.{IsPerfFault}
 use Rattle.performatives_10.specs.declared.fault.PerfFault.{PerfFault}
 use Rattle.performatives_10.specs.declared.fault.PerfFault.TheVariants as fault
 use Rattle.performatives_10.specs.declared.kind.PerfKind.{PerfKind}

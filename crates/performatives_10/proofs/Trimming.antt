@@ -1,5 +1,6 @@
 -- Fields that are collected one by one are the fields without the nulls at their end.
-use Rattle.std.proofs.Common.{◌≡◌, ℕ, zero, suc, ◌+◌, ◌-◌, ◌<◌, Bool, true, false, List, [], ◌∷◌, ◌++◌, refl, sym, ap, ◌∙◌, append_assoc, append-nil, arith}
+use Rattle.std.proofs.Common.{◌≡◌, ℕ, zero, suc, ◌+◌, ◌-◌, ◌<◌, Bool, true, false, List, [], ◌∷◌}
+use Rattle.std.proofs.Common.{◌++◌, refl, sym, ap, ◌∙◌, append_assoc, append-nil, arith}
 use Rattle.types_10.specs.Tree.{Scalar, Tree, scalar, list, mapping, array, described}
 use Rattle.types_10.specs.Tree as value
 use Rattle.performatives_10.specs.Fields.{absent, is_absent, is_null}

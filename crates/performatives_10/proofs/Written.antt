@@ -1,5 +1,7 @@
 -- What is written of a performative is read back.
-use Rattle.std.proofs.Common.{◌≡◌, ◌≢◌, inl, ℕ, zero, suc, ◌+◌, Bool, true, false, List, [], ◌∷◌, ◌++◌, length, Option, Some, None, Result, Ok, refl, sym, ap, subst, ◌∙◌, arith}
+use Rattle.std.proofs.Common.{◌≡◌, ◌≢◌, inl, ℕ, zero, suc, ◌+◌, Bool, true, false, List, [], ◌∷◌}
+use Rattle.std.proofs.Common.{◌++◌, length, Option, Some, None, Result, Ok, refl, sym, ap, subst}
+use Rattle.std.proofs.Common.{◌∙◌, arith}
 use Rattle.types_10.specs.Tree.{Scalar, boolean, Tree, scalar, Trees, trees_of}
 use Rattle.types_10.specs.Ranges.{IsRanged}
 use Rattle.types_10.specs.Writing.{HasSpelling}
@@ -7,15 +9,20 @@ use Rattle.types_10.specs.Reading.{value_at}
 use Rattle.types_10.proofs.Canonical.{written_is_canonical}
 use Rattle.types_10.proofs.ValueLaws.{spelled_is_read}
 use Rattle.types_10.proofs.Within.{canonical_is_spelled}
-use Rattle.performatives_10.specs.Fields.{mandatory, optional, defaults, Row, is_absent, tree_at, leaf_in, field_in, fields_in, leaves_in}
+use Rattle.performatives_10.specs.Fields.{mandatory, optional, defaults, Row, is_absent, tree_at}
+use Rattle.performatives_10.specs.Fields.{leaf_in, field_in, fields_in, leaves_in}
 use Rattle.performatives_10.specs.Composites.{in_front, trim}
-use Rattle.performatives_10.specs.Reading.{rows, type_in, read_of, whole, error_in, state_in, state_read, source_in, target_in, perf_of, behind, perf_at}
-use Rattle.performatives_10.specs.View.{kind_of, fields_of, parts_of, error_tree, state_tree, source_fields, target_fields, source_tree, target_tree}
+use Rattle.performatives_10.specs.Reading.{rows, type_in, read_of, whole, error_in, state_in}
+use Rattle.performatives_10.specs.Reading.{state_read, source_in, target_in, perf_of, behind}
+use Rattle.performatives_10.specs.Reading.{perf_at}
+use Rattle.performatives_10.specs.View.{kind_of, fields_of, parts_of, error_tree, state_tree}
+use Rattle.performatives_10.specs.View.{source_fields, target_fields, source_tree, target_tree}
 use Rattle.performatives_10.specs.Rows.{source_rows, target_rows, source_code, target_code}
 use Rattle.performatives_10.specs.declared.fault.PerfFault.{PerfFault}
 use Rattle.performatives_10.specs.declared.performative.Source10.{Source10}
 use Rattle.performatives_10.specs.declared.performative.Target10.{Target10}
-use Rattle.performatives_10.specs.Writing.{is_same_boolean, written_field, written, perf_tree, perf_text}
+use Rattle.performatives_10.specs.Writing.{is_same_boolean, written_field, written, perf_tree}
+use Rattle.performatives_10.specs.Writing.{perf_text}
 use Rattle.performatives_10.specs.Grammar.{Types, IsField, AreFields, AreOfTypes, HasTypes}
 use Rattle.performatives_10.specs.declared.performative.Perf.{Perf}
 use Rattle.performatives_10.specs.declared.performative.Error10.{Error10}

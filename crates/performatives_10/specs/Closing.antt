@@ -1,7 +1,8 @@
 -- The frames that are written without memory (AMQP 1.0 2.7.6 to 2.7.9): settled dispositions, and
 -- what ends a link, a session or a connection. They are the frames of the performatives.
 use Rattle.std.specs.Int.{w16, w32, to_be_bytes}
-use Rattle.std.specs.Prelude.{◌≡◌, ℕ, ◌+◌, ◌==◌, Bool, true, false, if◌then◌else◌, List, [], ◌∷◌, ◌++◌, length, drop, Option, Some, None, option_map}
+use Rattle.std.specs.Prelude.{◌≡◌, ℕ, ◌+◌, ◌==◌, Bool, true, false, if◌then◌else◌, List, [], ◌∷◌}
+use Rattle.std.specs.Prelude.{◌++◌, length, drop, Option, Some, None, option_map}
 use Rattle.frames_10.specs.Frames.{frame_text}
 use Rattle.frames_10.specs.declared.frame.Kind10.TheVariants.{Amqp}
 use Rattle.types_10.specs.Writing.{value_text}
@@ -19,7 +20,8 @@ use Rattle.performatives_10.specs.declared.performative.Error10.{Error10}
 use Rattle.performatives_10.specs.declared.performative.State.{State}
 use Rattle.performatives_10.specs.declared.performative.State.TheVariants as state
 use Rattle.performatives_10.specs.declared.performative.Perf.{Perf}
-use Rattle.performatives_10.specs.declared.performative.Perf.TheVariants.{Disposition, Detach, End, Close}
+use Rattle.performatives_10.specs.declared.performative.Perf.TheVariants.{Disposition, Detach, End}
+use Rattle.performatives_10.specs.declared.performative.Perf.TheVariants.{Close}
 
 -- the frame of a performative on a channel
 abbrev pub frame_of : ℕ → Perf → List ℕ
@@ -37,7 +39,8 @@ last_of first last = if first == last then None else Some last
 -- a settled disposition
 abbrev pub settled_by : Bool → ℕ → Option ℕ → Option State → Perf
 settled_by role first last s =
-    Disposition (record { role = role; first = first; last = last; settled = true; state = s; batchable = false })
+    Disposition
+    (record { role = role; first = first; last = last; settled = true; state = s; batchable = false })
 
 -- of the receiver
 abbrev pub settling : ℕ → ℕ → Settle → Perf
@@ -58,7 +61,8 @@ error_of = option_map error_by
 
 -- a detach closes its link
 abbrev pub ending_of : Ending → Option Condition → Perf
-ending_of (ending.Detach handle) c = Detach (record { handle = handle; closed = true; error = error_of c })
+ending_of (ending.Detach handle) c =
+    Detach (record { handle = handle; closed = true; error = error_of c })
 ending_of ending.End c = End (record { error = error_of c })
 ending_of ending.Close c = Close (record { error = error_of c })
 
@@ -108,7 +112,8 @@ bare_text channel code = head_text channel 12 ++ 0 ∷ 83 ∷ code ∷ 69 ∷ []
 
 abbrev pub failed_text : ℕ → ℕ → Condition → List ℕ
 failed_text channel code c =
-    let e = error_text (Some c) in (head_text channel (14 + length e) ++ 0 ∷ 83 ∷ code ∷ 192 ∷ (length e + 1) ∷ 1 ∷ []) ++ e
+    let e = error_text (Some c) in (head_text channel (14 + length e)
+    ++ 0 ∷ 83 ∷ code ∷ 192 ∷ (length e + 1) ∷ 1 ∷ []) ++ e
 
 abbrev pub ended_text : ℕ → ℕ → Option Condition → List ℕ
 ended_text channel code None = bare_text channel code

@@ -1,5 +1,5 @@
--- Composite values (AMQP 1.0 1.4): a list behind the descriptor of its type, which is read as a ulong. Nulls at the end of the list are
--- left out.
+-- Composite values (AMQP 1.0 1.4): a list behind the descriptor of its type, which is read as a
+-- ulong. Nulls at the end of the list are left out.
 use Rattle.std.specs.Prelude.{ℕ, if◌then◌else◌, List, [], ◌∷◌, Option, Some, None}
 use Rattle.types_10.specs.Tree.{Tree, scalar, ulong, list, described, Trees, trees_of}
 use Rattle.performatives_10.specs.Fields.{is_absent}
@@ -32,5 +32,6 @@ if_some None f = None
 
 -- the descriptor and the fields of a described list
 abbrev pub described_list : Tree → Option (ℕ × Trees)
-described_list (described d t) = if_some (ulong_of d) (λ n. if_some (list_of t) (λ ts. Some (n, ts)))
+described_list (described d t) =
+    if_some (ulong_of d) (λ n. if_some (list_of t) (λ ts. Some (n, ts)))
 described_list t = None

@@ -1,6 +1,7 @@
--- Fields of composite types (AMQP 1.0 1.4): what a row of a table says of a field, and what is read of one. A field past the end of the
--- list is null, and null is absent.
-use Rattle.std.specs.Prelude.{ℕ, zero, suc, ◌+◌, Bool, true, false, if◌then◌else◌, List, [], ◌∷◌, Option, Some, None, Ok, Err, Result}
+-- Fields of composite types (AMQP 1.0 1.4): what a row of a table says of a field, and what is read
+-- of one. A field past the end of the list is null, and null is absent.
+use Rattle.std.specs.Prelude.{ℕ, zero, suc, ◌+◌, Bool, true, false, if◌then◌else◌, List, [], ◌∷◌}
+use Rattle.std.specs.Prelude.{Option, Some, None, Ok, Err, Result}
 use Rattle.wire_base.specs.Reading.{◌>>=◌}
 use Rattle.types_10.specs.Tree.{Scalar, Tree, scalar, list, described, Trees, no_trees, tree}
 use Rattle.types_10.specs.Tree as value
@@ -9,7 +10,8 @@ use Rattle.performatives_10.specs.declared.fault.PerfFault.TheVariants as fault
 
 -- ---- rows
 
--- the type of a field that is no composite: a primitive type, one symbol or an array of them, an address, or any value
+-- the type of a field that is no composite: a primitive type, one symbol or an array of them, an
+-- address, or any value
 pub data Leaf : Type 0 where
   boolean : Leaf
   ubyte : Leaf
@@ -113,7 +115,8 @@ abbrev pub is_multiple : Tree → Bool
 is_multiple (value.array ts) = are_symbols ts
 is_multiple t = is_symbol t
 
--- a value as a field of this type; None where it has another type. An address of another type is absent.
+-- a value as a field of this type; None where it has another type. An address of another type is
+-- absent.
 unfoldable pub leaf_in : Leaf → Tree → Option Tree
 leaf_in boolean (scalar (value.boolean b)) = Some (a_boolean b)
 leaf_in boolean t = None
@@ -153,8 +156,10 @@ filled (defaults s) k = Ok (scalar s)
 unfoldable pub field_in : Need → ℕ → Tree → Option Tree → Result Tree PerfFault
 field_in need k t read = if is_absent t then filled need k else typed k read
 
--- the fields of these rows from a place on, or the fault of the first that has one; what stands past the last is free
-abbrev pub fields_in : (FieldType → Tree → Option Tree) → List Row → ℕ → Trees → Result (List Tree) PerfFault
+-- the fields of these rows from a place on, or the fault of the first that has one; what stands
+-- past the last is free
+abbrev pub fields_in : (FieldType → Tree → Option Tree) → List Row → ℕ → Trees
+    → Result (List Tree) PerfFault
 fields_in type_in [] k ts = Ok []
 fields_in type_in (r ∷ rs) k ts = do
   x ← field_in r.1 k (tree_at ts k) (type_in r.0 (tree_at ts k))

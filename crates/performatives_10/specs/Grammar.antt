@@ -1,12 +1,13 @@
--- How performatives are spelled (AMQP 1.0 1.4, 2.7, 5.3.3): a described list, whose descriptor is the code of a row of the table as a
--- ulong, and each of whose fields is what the row says. What stands past the last field is free. And the first fault of bytes that are
--- to begin with one.
+-- How performatives are spelled (AMQP 1.0 1.4, 2.7, 5.3.3): a described list, whose descriptor is
+-- the code of a row of the table as a ulong, and each of whose fields is what the row says. What
+-- stands past the last field is free. And the first fault of bytes that are to begin with one.
 use Rattle.std.specs.Prelude.{◌≡◌, ◌≢◌, ◌⊎◌, ℕ, ◌+◌, List, [], ◌∷◌, Option, Some, None}
 use Rattle.wire_base.specs.Spelling.{StandsAt}
 use Rattle.types_10.specs.Tree.{Tree, scalar, ulong, list, described, Trees}
 use Rattle.types_10.specs.Grammar.{IsValue}
 use Rattle.types_10.specs.Faults.{IsFaultAt}
-use Rattle.performatives_10.specs.Fields.{Need, mandatory, optional, defaults, FieldType, Row, absent, tree_at}
+use Rattle.performatives_10.specs.Fields.{Need, mandatory, optional, defaults, FieldType, Row}
+use Rattle.performatives_10.specs.Fields.{absent, tree_at}
 use Rattle.performatives_10.specs.Reading.{Parts, code_of, rows, type_in}
 use Rattle.performatives_10.specs.View.{kind_of, fields_of, parts_of}
 use Rattle.performatives_10.specs.declared.fault.PerfFault.{PerfFault}
@@ -32,7 +33,8 @@ IsField type_in r t x = ((t ≡ absent) × IsFilled r.1 x) ⊎ ((t ≢ absent) �
 abbrev pub AreFields : Types → List Row → ℕ → Trees → List Tree → Type 0
 AreFields type_in [] k ts xs = xs ≡ []
 AreFields type_in (r ∷ rs) k ts xs =
-    (x : Tree) × (ys : List Tree) × (xs ≡ x ∷ ys) × IsField type_in r (tree_at ts k) x × AreFields type_in rs (k + 1) ts ys
+    (x : Tree) × (ys : List Tree) × (xs ≡ x ∷ ys) × IsField type_in r (tree_at ts k) x
+    × AreFields type_in rs (k + 1) ts ys
 
 -- the list of these fields behind the descriptor of a kind
 abbrev pub IsListed : PerfKind → Trees → Tree → Type 0
@@ -51,23 +53,28 @@ IsPerfAt p bytes after = (t : Tree) × StandsAt IsValue t bytes 0 after × IsPar
 -- a mandatory field that is absent, or a field of another type
 abbrev pub IsFieldFault : Types → Row → ℕ → Tree → PerfFault → Type 0
 IsFieldFault type_in r k t e =
-    ((t ≡ absent) × (r.1 ≡ mandatory) × (e ≡ fault.Missing k)) ⊎ ((t ≢ absent) × (type_in r.0 t ≡ None) × (e ≡ fault.WrongType k))
+    ((t ≡ absent) × (r.1 ≡ mandatory) × (e ≡ fault.Missing k)) ⊎ ((t ≢ absent) × (type_in r.0 t
+    ≡ None) × (e ≡ fault.WrongType k))
 
 -- the first field of these rows that is at fault
 abbrev pub IsFirstFault : Types → List Row → ℕ → Trees → PerfFault → Type 0
 IsFirstFault type_in [] k ts e = ⊥
 IsFirstFault type_in (r ∷ rs) k ts e =
-    IsFieldFault type_in r k (tree_at ts k) e ⊎ ((x : Tree) × IsField type_in r (tree_at ts k) x × IsFirstFault type_in rs (k + 1) ts e)
+    IsFieldFault type_in r k (tree_at ts k) e ⊎ ((x : Tree) × IsField type_in r (tree_at ts k) x
+    × IsFirstFault type_in rs (k + 1) ts e)
 
 -- a value that is a described list of some kind, and a field of it is at fault
 abbrev pub HasFieldFault : List ℕ → PerfFault → Type 0
 HasFieldFault bytes e =
-    (t : Tree) × (after : ℕ) × (k : PerfKind) × (ts : Trees) × StandsAt IsValue t bytes 0 after × IsListed k ts t
+    (t : Tree) × (after : ℕ) × (k : PerfKind) × (ts : Trees) × StandsAt IsValue t bytes 0 after
+    × IsListed k ts t
     × IsFirstFault type_in (rows k) 0 ts e
 
 -- a value that is no described list of any kind
 abbrev pub IsUnknown : List ℕ → Type 0
-IsUnknown bytes = (t : Tree) × (after : ℕ) × StandsAt IsValue t bytes 0 after × ((k : PerfKind) (ts : Trees) → IsListed k ts t → ⊥)
+IsUnknown bytes =
+    (t : Tree) × (after : ℕ) × StandsAt IsValue t bytes 0 after × ((k : PerfKind) (ts : Trees)
+    → IsListed k ts t → ⊥)
 
 abbrev pub IsPerfFault : List ℕ → PerfFault → Type 0
 IsPerfFault bytes (fault.Value f) = IsFaultAt bytes 0 f

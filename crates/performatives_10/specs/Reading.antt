@@ -1,13 +1,18 @@
--- Reading a performative (AMQP 1.0 2.7, 5.3.3), with the first fault that is met: the value, its descriptor, and the fields in their
--- order. Inside a composite field every fault is that the field has another type.
-use Rattle.std.specs.Prelude.{ℕ, ◌==◌, if◌then◌else◌, List, [], ◌∷◌, take, Option, Some, None, Ok, Err, Result}
+-- Reading a performative (AMQP 1.0 2.7, 5.3.3), with the first fault that is met: the value, its
+-- descriptor, and the fields in their order. Inside a composite field every fault is that the field
+-- has another type.
+use Rattle.std.specs.Prelude.{ℕ, ◌==◌, if◌then◌else◌, List, [], ◌∷◌, take, Option, Some, None, Ok}
+use Rattle.std.specs.Prelude.{Err, Result}
 use Rattle.wire_base.specs.Reading.{◌>>=◌}
 use Rattle.types_10.specs.Tree.{Tree, Trees}
 use Rattle.types_10.specs.Reading.{Fault, value_at}
-use Rattle.performatives_10.specs.Fields.{FieldType, leaf, error, state, source, target, Row, leaf_in, fields_in, leaves_in}
+use Rattle.performatives_10.specs.Fields.{FieldType, leaf, error, state, source, target, Row}
+use Rattle.performatives_10.specs.Fields.{leaf_in, fields_in, leaves_in}
 use Rattle.performatives_10.specs.Composites.{composite, if_some, described_list}
-use Rattle.performatives_10.specs.Rows.{row, kinds, error_rows, received_rows, rejected_rows, modified_rows, source_rows, target_rows}
-use Rattle.performatives_10.specs.Rows.{error_code, received_code, accepted_code, rejected_code, released_code, modified_code, source_code, target_code}
+use Rattle.performatives_10.specs.Rows.{row, kinds, error_rows, received_rows, rejected_rows}
+use Rattle.performatives_10.specs.Rows.{modified_rows, source_rows, target_rows}
+use Rattle.performatives_10.specs.Rows.{error_code, received_code, accepted_code, rejected_code}
+use Rattle.performatives_10.specs.Rows.{released_code, modified_code, source_code, target_code}
 use Rattle.performatives_10.specs.View.{parts_of}
 use Rattle.performatives_10.specs.declared.fault.PerfFault.{PerfFault}
 use Rattle.performatives_10.specs.declared.fault.PerfFault.TheVariants as fault
@@ -30,7 +35,8 @@ kept code n read = read >>= λ xs. Ok (composite code (take n xs))
 
 -- a composite of this code, whose fields are read so
 abbrev pub coded_in : ℕ → (Trees → Result Tree PerfFault) → Tree → Option Tree
-coded_in code read t = if_some (described_list t) (λ c. if c.0 == code then read_of (read c.1) else None)
+coded_in code read t =
+    if_some (described_list t) (λ c. if c.0 == code then read_of (read c.1) else None)
 
 -- of an error the information is dropped
 abbrev pub error_read : Trees → Result Tree PerfFault

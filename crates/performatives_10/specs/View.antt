@@ -1,10 +1,13 @@
 -- A performative as its kind and its fields in order: null for an absent field.
--- This file is written by tools/generate_performatives.py from the published definition of AMQP 1.0.
+-- This file is written by tools/generate_performatives.py from the published definition of AMQP
+-- 1.0.
 use Rattle.std.specs.Prelude.{List, [], ◌∷◌}
 use Rattle.types_10.specs.Tree.{Tree}
 use Rattle.types_10.specs.View.{value_tree}
-use Rattle.performatives_10.specs.Fields.{maybe, a_boolean, a_ubyte, a_ushort, a_uint, a_ulong, a_binary, a_string, a_symbol}
-use Rattle.performatives_10.specs.Rows.{error_code, received_code, accepted_code, rejected_code, released_code, modified_code, source_code, target_code}
+use Rattle.performatives_10.specs.Fields.{maybe, a_boolean, a_ubyte, a_ushort, a_uint, a_ulong}
+use Rattle.performatives_10.specs.Fields.{a_binary, a_string, a_symbol}
+use Rattle.performatives_10.specs.Rows.{error_code, received_code, accepted_code, rejected_code}
+use Rattle.performatives_10.specs.Rows.{released_code, modified_code, source_code, target_code}
 use Rattle.performatives_10.specs.Composites.{composite}
 use Rattle.performatives_10.specs.declared.kind.PerfKind.{PerfKind}
 use Rattle.performatives_10.specs.declared.kind.PerfKind.TheVariants as row

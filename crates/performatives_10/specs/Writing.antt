@@ -1,9 +1,12 @@
--- What is written of a performative (AMQP 1.0 1.4, 2.7): null for an absent field and for a boolean that equals its default, and nulls
--- at the end are left out. Any other field with a default is written.
-use Rattle.std.specs.Prelude.{ℕ, zero, suc, ◌+◌, Bool, true, false, if◌then◌else◌, List, [], ◌∷◌, ◌++◌}
+-- What is written of a performative (AMQP 1.0 1.4, 2.7): null for an absent field and for a boolean
+-- that equals its default, and nulls at the end are left out. Any other field with a default is
+-- written.
+use Rattle.std.specs.Prelude.{ℕ, zero, suc, ◌+◌, Bool, true, false, if◌then◌else◌, List, [], ◌∷◌}
+use Rattle.std.specs.Prelude.{◌++◌}
 use Rattle.types_10.specs.Tree.{Scalar, boolean, Tree, scalar}
 use Rattle.types_10.specs.Writing.{value_text}
-use Rattle.performatives_10.specs.Fields.{Need, mandatory, optional, defaults, Row, absent, is_absent}
+use Rattle.performatives_10.specs.Fields.{Need, mandatory, optional, defaults, Row, absent}
+use Rattle.performatives_10.specs.Fields.{is_absent}
 use Rattle.performatives_10.specs.Composites.{composite}
 use Rattle.performatives_10.specs.Reading.{code_of, rows}
 use Rattle.performatives_10.specs.View.{kind_of, fields_of}

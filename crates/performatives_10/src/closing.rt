@@ -1,6 +1,8 @@
-//! Frames that are written without memory: what settles deliveries, and what ends a link, a session or a connection.
+//! Frames that are written without memory: what settles deliveries, and what ends a link, a session
+//! or a connection.
 
-ghost use Rattle.std.specs.Prelude.{◌≡◌, ℕ, ◌+◌, ◌≤◌, ◌<◌, ◌^◌, List, [], ◌∷◌, ◌++◌, length, drop, Option, Some};
+ghost use Rattle.std.specs.Prelude.{◌≡◌, ℕ, ◌+◌, ◌≤◌, ◌<◌, ◌^◌, List, [], ◌∷◌, ◌++◌, length, drop};
+ghost use Rattle.std.specs.Prelude.{Option, Some};
 ghost use Rattle.std.specs.Int.{w16, w32, to_be_bytes};
 ghost use Rattle.types_10.specs.Writing.{value_text};
 ghost use Rattle.performatives_10.specs.Fields.{a_uint, maybe};
@@ -224,7 +226,8 @@ fn detach_count(condition: Option<Condition>) -> u8
 
 /// Writes the frame of a detach that closes its link.
 fn put_detach(out: &mut [u8; 512], channel: u16, handle: u32, condition: Option<Condition>) -> usize
-    ensures { IsWrittenOver (end_text channel (Ending.Detach handle) condition) out.old out.new result }
+    ensures { IsWrittenOver (end_text channel
+        (Ending.Detach handle) condition) out.old out.new result }
 {
     let items = 1 + uint_len(handle) + error_len(condition);
     let at = write_head(out, channel, 14 + items as u32);
@@ -265,8 +268,9 @@ fn put_ending(out: &mut [u8; 512], channel: u16, code: u8, condition: Option<Con
     }
 }
 
-/// Writes the frame of a detach, an end or a close (AMQP 1.0 2.7.7 to 2.7.9) over the first bytes of `out`, and answers its length, at
-/// most 61 bytes. A detach closes its link. An error has the condition alone. The bytes are those that `put_perf` and
+/// Writes the frame of a detach, an end or a close (AMQP 1.0 2.7.7 to 2.7.9) over the first bytes
+/// of `out`, and answers its length, at most 61 bytes. A detach closes its link. An error has the
+/// condition alone. The bytes are those that `put_perf` and
 /// `put_frame10` give; it takes no memory.
 pub fn put_end(
     out: &mut [u8; 512],

@@ -1,9 +1,13 @@
-//! The fields of a composite value, collected one by one (AMQP 1.0 1.4). Nulls at the end are left out.
+//! The fields of a composite value, collected one by one (AMQP 1.0 1.4). Nulls at the end are left
+//! out.
 
-ghost use Rattle.std.specs.Prelude.{◌≡◌, ◌+◌, ◌-◌, ◌≤◌, ◌++◌, List, [], ◌∷◌, if◌then◌else◌, Option, Some, None, IfOk, OnOk};
+ghost use Rattle.std.specs.Prelude.{◌≡◌, ◌+◌, ◌-◌, ◌≤◌, ◌++◌, List, [], ◌∷◌, if◌then◌else◌, Option};
+ghost use Rattle.std.specs.Prelude.{Some, None, IfOk, OnOk};
 ghost use Rattle.types_10.specs.Tree.{scalar, ulong, boolean, described, list, trees_of};
 ghost use Rattle.types_10.specs.View.{value_tree};
-ghost use Rattle.performatives_10.specs.Fields.{defaults, absent, is_absent, maybe, a_boolean, a_ubyte, a_ushort, a_uint, a_ulong, a_binary, a_string, a_symbol};
+ghost use Rattle.performatives_10.specs.Fields.{defaults, absent, is_absent, maybe, a_boolean};
+ghost use Rattle.performatives_10.specs.Fields.{a_ubyte, a_ushort, a_uint, a_ulong, a_binary};
+ghost use Rattle.performatives_10.specs.Fields.{a_string, a_symbol};
 ghost use Rattle.performatives_10.specs.View.{error_tree, state_tree, source_tree, target_tree};
 ghost use Rattle.performatives_10.specs.Writing.{written_field, added, no_fields, nulls};
 
@@ -65,7 +69,11 @@ impl Fields {
 
     /// Adds a field that is there, behind the nulls before it.
     fn push(&mut self, value: Value10) -> Result<(), Memory>
-        ensures { OnOk result (self.new ≡ record { list = self.old.list ++ nulls self.old.nulls ++ value_tree value ∷ []; nulls = 0 }) }
+        ensures { OnOk result (self.new ≡ record {
+          list = self.old.list ++ nulls self.old.nulls
+              ++ value_tree value ∷ [];
+          nulls = 0;
+        }) }
     {
         push_nulls(&mut self.list, self.nulls)?;
         self.nulls = 0;
@@ -154,7 +162,8 @@ impl Fields {
 
     /// Adds a boolean, which is absent where it equals its default.
     pub(crate) fn boolean_unless(&mut self, b: bool, default: bool) -> Result<(), Memory>
-        ensures { OnOk result (self.new ≡ added self.old (written_field (defaults (boolean default)) (a_boolean b))) }
+        ensures { OnOk result (self.new ≡ added self.old (written_field (defaults
+            (boolean default)) (a_boolean b))) }
     {
         if b == default {
             self.absent()

@@ -1,4 +1,5 @@
-//! Composite values that are to be written (AMQP 1.0 1.4): errors, states and termini, and a whole performative.
+//! Composite values that are to be written (AMQP 1.0 1.4): errors, states and termini, and a whole
+//! performative.
 
 ghost use Rattle.std.specs.Prelude.{◌≡◌, List, [], ◌∷◌, IfOk};
 ghost use Rattle.types_10.specs.Tree.{Tree};
@@ -6,7 +7,8 @@ ghost use Rattle.types_10.specs.View.{value_tree};
 ghost use Rattle.performatives_10.specs.Fields.{maybe};
 ghost use Rattle.performatives_10.specs.Composites.{composite};
 ghost use Rattle.performatives_10.specs.Rows.{rejected_code};
-ghost use Rattle.performatives_10.specs.View.{error_fields, source_fields, target_fields, error_tree, state_tree, source_tree, target_tree};
+ghost use Rattle.performatives_10.specs.View.{error_fields, source_fields, target_fields};
+ghost use Rattle.performatives_10.specs.View.{error_tree, state_tree, source_tree, target_tree};
 ghost use Rattle.performatives_10.specs.Writing.{all_added, no_fields};
 
 use crate::collecting::Fields;
@@ -58,7 +60,8 @@ fn rejected_written(alloc: Global, error: &Option<Error10>) -> Result<Fields, Me
 }
 
 fn rejected_value(alloc: Global, error: &Option<Error10>) -> Result<Value10, Memory>
-    ensures { IfOk result (λ v. value_tree v ≡ composite rejected_code (maybe error_tree error.now ∷ [])) }
+    ensures { IfOk result (λ v. value_tree v ≡ composite rejected_code
+        (maybe error_tree error.now ∷ [])) }
 {
     let fields = rejected_written(alloc, error)?;
     composite_value(alloc, REJECTED, fields)

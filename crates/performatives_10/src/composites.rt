@@ -1,4 +1,5 @@
-//! Errors, states and termini: the composite values inside performatives (AMQP 1.0 2.8.14, 3.4, 3.5).
+//! Errors, states and termini: the composite values inside performatives (AMQP 1.0 2.8.14, 3.4,
+//! 3.5).
 
 ghost use Rattle.std.specs.Prelude.{◌≡◌, Option, Some, None, Ok, Err, IfOk, option_map};
 ghost use Rattle.wire_base.specs.Reading.{Gives};
@@ -6,7 +7,10 @@ ghost use Rattle.types_10.specs.Tree.{trees_of};
 ghost use Rattle.types_10.specs.View.{value_tree};
 ghost use Rattle.performatives_10.specs.Composites.{described_list};
 ghost use Rattle.performatives_10.specs.View.{error_tree, state_tree, source_tree, target_tree};
-ghost use Rattle.performatives_10.specs.Reading.{error_read, received_read, rejected_read, modified_read, state_read, source_read, target_read, error_in, state_in, source_in, target_in};
+ghost use Rattle.performatives_10.specs.Reading.{error_read, received_read, rejected_read};
+ghost use Rattle.performatives_10.specs.Reading.{modified_read, state_read, source_read};
+ghost use Rattle.performatives_10.specs.Reading.{target_read, error_in, state_in, source_in};
+ghost use Rattle.performatives_10.specs.Reading.{target_in};
 
 use crate::fault::PerfFault;
 use crate::getting::{
@@ -36,7 +40,8 @@ pub(crate) const TARGET: u64 = 0x29;
 
 /// The descriptor and the fields of a described list.
 pub(crate) fn described_list(value: &Value10) -> Option<(u64, &ValueList)>
-    ensures { option_map (λ x. (x.0, trees_of x.1.now)) result ≡ described_list (value_tree value.now) }
+    ensures { option_map (λ x. (x.0, trees_of x.1.now)) result
+        ≡ described_list (value_tree value.now) }
 {
     let Value10::Described(descriptor, inside) = value else {
         return None;

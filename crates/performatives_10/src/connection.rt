@@ -1,6 +1,7 @@
 //! The performatives of a connection (AMQP 1.0 2.7.1, 2.7.9).
 //!
-//! This file is written by tools/generate_performatives.py from the published definition of AMQP 1.0.
+//! This file is written by tools/generate_performatives.py from the published definition of AMQP
+//! 1.0.
 
 ghost use Rattle.std.specs.Prelude.{◌≡◌, IfOk};
 ghost use Rattle.wire_base.specs.Reading.{Gives};
@@ -43,7 +44,8 @@ pub(crate) fn open_of(alloc: Global, fields: &ValueList) -> Result<Perf, Stop<Pe
 
 /// What is written of the fields of open.
 pub(crate) fn open_written(alloc: Global, perf: &Open) -> Result<Fields, Memory>
-    ensures { IfOk result (λ f. f ≡ all_added no_fields (written open_rows (open_fields perf.now))) }
+    ensures { IfOk result (λ f. f ≡ all_added no_fields (written open_rows
+        (open_fields perf.now))) }
 {
     let mut fields = Fields::empty(alloc);
     fields.string(alloc, &perf.container_id)?;
@@ -72,7 +74,8 @@ pub(crate) fn close_of(alloc: Global, fields: &ValueList) -> Result<Perf, Stop<P
 
 /// What is written of the fields of close.
 pub(crate) fn close_written(alloc: Global, perf: &Close) -> Result<Fields, Memory>
-    ensures { IfOk result (λ f. f ≡ all_added no_fields (written close_rows (close_fields perf.now))) }
+    ensures { IfOk result (λ f. f ≡ all_added no_fields (written close_rows
+        (close_fields perf.now))) }
 {
     let mut fields = Fields::empty(alloc);
     fields.maybe_error(alloc, &perf.error)?;

@@ -1,12 +1,17 @@
-//! The fields of composite types, by their place (AMQP 1.0 1.4). A field past the end of the list is absent, and so is null.
+//! The fields of composite types, by their place (AMQP 1.0 1.4). A field past the end of the list
+//! is absent, and so is null.
 
-ghost use Rattle.std.specs.Prelude.{◌≡◌, ◌≤◌, Bool, true, Option, Some, None, Ok, Err, IfOk, IfSome, option_map};
+ghost use Rattle.std.specs.Prelude.{◌≡◌, ◌≤◌, Bool, true, Option, Some, None, Ok, Err, IfOk};
+ghost use Rattle.std.specs.Prelude.{IfSome, option_map};
 ghost use Rattle.wire_base.specs.Reading.{Gives, Stops};
 ghost use Rattle.wire_base.specs.declared.stop.Stop.TheVariants as stop;
 ghost use Rattle.types_10.specs.Tree.{trees_of};
 ghost use Rattle.types_10.specs.Tree as value;
 ghost use Rattle.types_10.specs.View.{value_tree};
-ghost use Rattle.performatives_10.specs.Fields.{mandatory, optional, defaults, maybe, a_boolean, a_ubyte, a_ushort, a_uint, a_ulong, a_binary, a_string, a_symbol, tree_at, is_symbol, are_symbols, is_multiple, leaf_field, part_field};
+ghost use Rattle.performatives_10.specs.Fields.{mandatory, optional, defaults, maybe, a_boolean};
+ghost use Rattle.performatives_10.specs.Fields.{a_ubyte, a_ushort, a_uint, a_ulong, a_binary};
+ghost use Rattle.performatives_10.specs.Fields.{a_string, a_symbol, tree_at, is_symbol};
+ghost use Rattle.performatives_10.specs.Fields.{are_symbols, is_multiple, leaf_field, part_field};
 ghost use Rattle.performatives_10.specs.Fields as field;
 ghost use Rattle.performatives_10.specs.View.{error_tree, state_tree, source_tree, target_tree};
 ghost use Rattle.performatives_10.specs.Reading.{error_in, state_in, source_in, target_in};
@@ -49,7 +54,8 @@ fn wrong_type(place: u8) -> Stop<PerfFault>
 /// A boolean that must be there.
 #[tactic(auto, unfolding(crate::specs::Fields::leaf_in, crate::specs::Fields::field_in))]
 pub(crate) fn needed_boolean(fields: &ValueList, place: u8) -> Result<bool, Stop<PerfFault>>
-    ensures { Gives a_boolean result (leaf_field field.boolean mandatory place (trees_of fields.now)) }
+    ensures { Gives a_boolean result (leaf_field field.boolean mandatory place
+        (trees_of fields.now)) }
 {
     match value_at(fields, place) {
         None | Some(Value10::Null) => Err(missing(place)),
@@ -61,7 +67,8 @@ pub(crate) fn needed_boolean(fields: &ValueList, place: u8) -> Result<bool, Stop
 /// A boolean that may be absent.
 #[tactic(auto, unfolding(crate::specs::Fields::leaf_in, crate::specs::Fields::field_in))]
 pub(crate) fn boolean_at(fields: &ValueList, place: u8) -> Result<Option<bool>, Stop<PerfFault>>
-    ensures { Gives (maybe a_boolean) result (leaf_field field.boolean optional place (trees_of fields.now)) }
+    ensures { Gives (maybe a_boolean) result (leaf_field field.boolean optional place
+        (trees_of fields.now)) }
 {
     match value_at(fields, place) {
         None | Some(Value10::Null) => Ok(None),
@@ -77,7 +84,8 @@ pub(crate) fn boolean_or(
     place: u8,
     default: bool,
 ) -> Result<bool, Stop<PerfFault>>
-    ensures { Gives a_boolean result (leaf_field field.boolean (defaults (value.boolean default)) place (trees_of fields.now)) }
+    ensures { Gives a_boolean result (leaf_field field.boolean (defaults
+        (value.boolean default)) place (trees_of fields.now)) }
 {
     match value_at(fields, place) {
         None | Some(Value10::Null) => Ok(default),
@@ -101,7 +109,8 @@ pub(crate) fn needed_ubyte(fields: &ValueList, place: u8) -> Result<u8, Stop<Per
 /// A ubyte that may be absent.
 #[tactic(auto, unfolding(crate::specs::Fields::leaf_in, crate::specs::Fields::field_in))]
 pub(crate) fn ubyte_at(fields: &ValueList, place: u8) -> Result<Option<u8>, Stop<PerfFault>>
-    ensures { Gives (maybe a_ubyte) result (leaf_field field.ubyte optional place (trees_of fields.now)) }
+    ensures { Gives (maybe a_ubyte) result (leaf_field field.ubyte optional place
+        (trees_of fields.now)) }
 {
     match value_at(fields, place) {
         None | Some(Value10::Null) => Ok(None),
@@ -113,7 +122,8 @@ pub(crate) fn ubyte_at(fields: &ValueList, place: u8) -> Result<Option<u8>, Stop
 /// A ubyte that is this one where it is absent.
 #[tactic(auto, unfolding(crate::specs::Fields::leaf_in, crate::specs::Fields::field_in))]
 pub(crate) fn ubyte_or(fields: &ValueList, place: u8, default: u8) -> Result<u8, Stop<PerfFault>>
-    ensures { Gives a_ubyte result (leaf_field field.ubyte (defaults (value.ubyte default)) place (trees_of fields.now)) }
+    ensures { Gives a_ubyte result (leaf_field field.ubyte (defaults (value.ubyte default)) place
+        (trees_of fields.now)) }
 {
     match value_at(fields, place) {
         None | Some(Value10::Null) => Ok(default),
@@ -125,7 +135,8 @@ pub(crate) fn ubyte_or(fields: &ValueList, place: u8, default: u8) -> Result<u8,
 /// A ushort that may be absent.
 #[tactic(auto, unfolding(crate::specs::Fields::leaf_in, crate::specs::Fields::field_in))]
 pub(crate) fn ushort_at(fields: &ValueList, place: u8) -> Result<Option<u16>, Stop<PerfFault>>
-    ensures { Gives (maybe a_ushort) result (leaf_field field.ushort optional place (trees_of fields.now)) }
+    ensures { Gives (maybe a_ushort) result (leaf_field field.ushort optional place
+        (trees_of fields.now)) }
 {
     match value_at(fields, place) {
         None | Some(Value10::Null) => Ok(None),
@@ -137,7 +148,8 @@ pub(crate) fn ushort_at(fields: &ValueList, place: u8) -> Result<Option<u16>, St
 /// A ushort that is this one where it is absent.
 #[tactic(auto, unfolding(crate::specs::Fields::leaf_in, crate::specs::Fields::field_in))]
 pub(crate) fn ushort_or(fields: &ValueList, place: u8, default: u16) -> Result<u16, Stop<PerfFault>>
-    ensures { Gives a_ushort result (leaf_field field.ushort (defaults (value.ushort default)) place (trees_of fields.now)) }
+    ensures { Gives a_ushort result (leaf_field field.ushort (defaults
+        (value.ushort default)) place (trees_of fields.now)) }
 {
     match value_at(fields, place) {
         None | Some(Value10::Null) => Ok(default),
@@ -161,7 +173,8 @@ pub(crate) fn needed_uint(fields: &ValueList, place: u8) -> Result<u32, Stop<Per
 /// An uint that may be absent.
 #[tactic(auto, unfolding(crate::specs::Fields::leaf_in, crate::specs::Fields::field_in))]
 pub(crate) fn uint_at(fields: &ValueList, place: u8) -> Result<Option<u32>, Stop<PerfFault>>
-    ensures { Gives (maybe a_uint) result (leaf_field field.uint optional place (trees_of fields.now)) }
+    ensures { Gives (maybe a_uint) result (leaf_field field.uint optional place
+        (trees_of fields.now)) }
 {
     match value_at(fields, place) {
         None | Some(Value10::Null) => Ok(None),
@@ -173,7 +186,8 @@ pub(crate) fn uint_at(fields: &ValueList, place: u8) -> Result<Option<u32>, Stop
 /// An uint that is this one where it is absent.
 #[tactic(auto, unfolding(crate::specs::Fields::leaf_in, crate::specs::Fields::field_in))]
 pub(crate) fn uint_or(fields: &ValueList, place: u8, default: u32) -> Result<u32, Stop<PerfFault>>
-    ensures { Gives a_uint result (leaf_field field.uint (defaults (value.uint default)) place (trees_of fields.now)) }
+    ensures { Gives a_uint result (leaf_field field.uint (defaults (value.uint default)) place
+        (trees_of fields.now)) }
 {
     match value_at(fields, place) {
         None | Some(Value10::Null) => Ok(default),
@@ -197,7 +211,8 @@ pub(crate) fn needed_ulong(fields: &ValueList, place: u8) -> Result<u64, Stop<Pe
 /// An ulong that may be absent.
 #[tactic(auto, unfolding(crate::specs::Fields::leaf_in, crate::specs::Fields::field_in))]
 pub(crate) fn ulong_at(fields: &ValueList, place: u8) -> Result<Option<u64>, Stop<PerfFault>>
-    ensures { Gives (maybe a_ulong) result (leaf_field field.ulong optional place (trees_of fields.now)) }
+    ensures { Gives (maybe a_ulong) result (leaf_field field.ulong optional place
+        (trees_of fields.now)) }
 {
     match value_at(fields, place) {
         None | Some(Value10::Null) => Ok(None),
@@ -213,7 +228,8 @@ pub(crate) fn needed_binary(
     fields: &ValueList,
     place: u8,
 ) -> Result<ByteText, Stop<PerfFault>>
-    ensures { Gives a_binary result (leaf_field field.binary mandatory place (trees_of fields.now)) }
+    ensures { Gives a_binary result (leaf_field field.binary mandatory place
+        (trees_of fields.now)) }
 {
     match value_at(fields, place) {
         None | Some(Value10::Null) => Err(missing(place)),
@@ -229,7 +245,8 @@ pub(crate) fn binary_at(
     fields: &ValueList,
     place: u8,
 ) -> Result<Option<ByteText>, Stop<PerfFault>>
-    ensures { Gives (maybe a_binary) result (leaf_field field.binary optional place (trees_of fields.now)) }
+    ensures { Gives (maybe a_binary) result (leaf_field field.binary optional place
+        (trees_of fields.now)) }
 {
     match value_at(fields, place) {
         None | Some(Value10::Null) => Ok(None),
@@ -245,7 +262,8 @@ pub(crate) fn needed_string(
     fields: &ValueList,
     place: u8,
 ) -> Result<ByteText, Stop<PerfFault>>
-    ensures { Gives a_string result (leaf_field field.string mandatory place (trees_of fields.now)) }
+    ensures { Gives a_string result (leaf_field field.string mandatory place
+        (trees_of fields.now)) }
 {
     match value_at(fields, place) {
         None | Some(Value10::Null) => Err(missing(place)),
@@ -261,7 +279,8 @@ pub(crate) fn string_at(
     fields: &ValueList,
     place: u8,
 ) -> Result<Option<ByteText>, Stop<PerfFault>>
-    ensures { Gives (maybe a_string) result (leaf_field field.string optional place (trees_of fields.now)) }
+    ensures { Gives (maybe a_string) result (leaf_field field.string optional place
+        (trees_of fields.now)) }
 {
     match value_at(fields, place) {
         None | Some(Value10::Null) => Ok(None),
@@ -277,7 +296,8 @@ pub(crate) fn needed_symbol(
     fields: &ValueList,
     place: u8,
 ) -> Result<ByteText, Stop<PerfFault>>
-    ensures { Gives a_symbol result (leaf_field field.symbol mandatory place (trees_of fields.now)) }
+    ensures { Gives a_symbol result (leaf_field field.symbol mandatory place
+        (trees_of fields.now)) }
 {
     match value_at(fields, place) {
         None | Some(Value10::Null) => Err(missing(place)),
@@ -293,7 +313,8 @@ pub(crate) fn symbol_at(
     fields: &ValueList,
     place: u8,
 ) -> Result<Option<ByteText>, Stop<PerfFault>>
-    ensures { Gives (maybe a_symbol) result (leaf_field field.symbol optional place (trees_of fields.now)) }
+    ensures { Gives (maybe a_symbol) result (leaf_field field.symbol optional place
+        (trees_of fields.now)) }
 {
     match value_at(fields, place) {
         None | Some(Value10::Null) => Ok(None),
@@ -352,7 +373,8 @@ pub(crate) fn needed_symbols(
     fields: &ValueList,
     place: u8,
 ) -> Result<Value10, Stop<PerfFault>>
-    ensures { Gives value_tree result (leaf_field field.symbols mandatory place (trees_of fields.now)) }
+    ensures { Gives value_tree result (leaf_field field.symbols mandatory place
+        (trees_of fields.now)) }
 {
     match value_at(fields, place) {
         None | Some(Value10::Null) => Err(missing(place)),
@@ -372,7 +394,8 @@ pub(crate) fn symbols_at(
     fields: &ValueList,
     place: u8,
 ) -> Result<Option<Value10>, Stop<PerfFault>>
-    ensures { Gives (maybe value_tree) result (leaf_field field.symbols optional place (trees_of fields.now)) }
+    ensures { Gives (maybe value_tree) result (leaf_field field.symbols optional place
+        (trees_of fields.now)) }
 {
     match value_at(fields, place) {
         None | Some(Value10::Null) => Ok(None),
@@ -392,7 +415,8 @@ pub(crate) fn mapping_at(
     fields: &ValueList,
     place: u8,
 ) -> Result<Option<Value10>, Stop<PerfFault>>
-    ensures { Gives (maybe value_tree) result (leaf_field field.mapping optional place (trees_of fields.now)) }
+    ensures { Gives (maybe value_tree) result (leaf_field field.mapping optional place
+        (trees_of fields.now)) }
 {
     let Some(value) = value_at(fields, place) else {
         return Ok(None);
@@ -411,7 +435,8 @@ pub(crate) fn anything_at(
     fields: &ValueList,
     place: u8,
 ) -> Result<Option<Value10>, Stop<PerfFault>>
-    ensures { Gives (maybe value_tree) result (leaf_field field.anything optional place (trees_of fields.now)) }
+    ensures { Gives (maybe value_tree) result (leaf_field field.anything optional place
+        (trees_of fields.now)) }
 {
     match value_at(fields, place) {
         None | Some(Value10::Null) => Ok(None),
@@ -426,7 +451,8 @@ pub(crate) fn address_at(
     fields: &ValueList,
     place: u8,
 ) -> Result<Option<ByteText>, Stop<PerfFault>>
-    ensures { Gives (maybe a_string) result (leaf_field field.address optional place (trees_of fields.now)) }
+    ensures { Gives (maybe a_string) result (leaf_field field.address optional place
+        (trees_of fields.now)) }
 {
     match value_at(fields, place) {
         Some(Value10::String(text)) => Ok(Some(text.copy(alloc)?)),

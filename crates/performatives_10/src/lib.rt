@@ -1,4 +1,5 @@
-//! The performatives of AMQP 1.0 (2.7) and the frame bodies of its SASL layer (5.3.3), as structs of their fields.
+//! The performatives of AMQP 1.0 (2.7) and the frame bodies of its SASL layer (5.3.3), as structs
+//! of their fields.
 //!
 //! - Reading: `read_perf`.
 //! - Writing: `put_perf`, with the question `has_text`; without memory `put_settle`, `put_settled`

@@ -1,12 +1,15 @@
 //! The performatives of a link (AMQP 1.0 2.7.3 to 2.7.7).
 //!
-//! This file is written by tools/generate_performatives.py from the published definition of AMQP 1.0.
+//! This file is written by tools/generate_performatives.py from the published definition of AMQP
+//! 1.0.
 
 ghost use Rattle.std.specs.Prelude.{◌≡◌, IfOk};
 ghost use Rattle.wire_base.specs.Reading.{Gives};
 ghost use Rattle.types_10.specs.Tree.{trees_of};
-ghost use Rattle.performatives_10.specs.Rows.{attach_rows, flow_rows, transfer_rows, disposition_rows, detach_rows};
-ghost use Rattle.performatives_10.specs.View.{parts_of, attach_fields, flow_fields, transfer_fields, disposition_fields, detach_fields};
+ghost use Rattle.performatives_10.specs.Rows.{attach_rows, flow_rows, transfer_rows};
+ghost use Rattle.performatives_10.specs.Rows.{disposition_rows, detach_rows};
+ghost use Rattle.performatives_10.specs.View.{parts_of, attach_fields, flow_fields};
+ghost use Rattle.performatives_10.specs.View.{transfer_fields, disposition_fields, detach_fields};
 ghost use Rattle.performatives_10.specs.Reading.{perf_in};
 ghost use Rattle.performatives_10.specs.Writing.{written, all_added, no_fields};
 
@@ -48,7 +51,8 @@ pub(crate) fn attach_of(alloc: Global, fields: &ValueList) -> Result<Perf, Stop<
 
 /// What is written of the fields of attach.
 pub(crate) fn attach_written(alloc: Global, perf: &Attach) -> Result<Fields, Memory>
-    ensures { IfOk result (λ f. f ≡ all_added no_fields (written attach_rows (attach_fields perf.now))) }
+    ensures { IfOk result (λ f. f ≡ all_added no_fields (written attach_rows
+        (attach_fields perf.now))) }
 {
     let mut fields = Fields::empty(alloc);
     fields.string(alloc, &perf.name)?;
@@ -91,7 +95,8 @@ pub(crate) fn flow_of(alloc: Global, fields: &ValueList) -> Result<Perf, Stop<Pe
 
 /// What is written of the fields of flow.
 pub(crate) fn flow_written(alloc: Global, perf: &Flow) -> Result<Fields, Memory>
-    ensures { IfOk result (λ f. f ≡ all_added no_fields (written flow_rows (flow_fields perf.now))) }
+    ensures { IfOk result (λ f. f ≡ all_added no_fields (written flow_rows
+        (flow_fields perf.now))) }
 {
     let mut fields = Fields::empty(alloc);
     fields.maybe_uint(perf.next_incoming_id)?;
@@ -131,7 +136,8 @@ pub(crate) fn transfer_of(alloc: Global, fields: &ValueList) -> Result<Perf, Sto
 
 /// What is written of the fields of transfer.
 pub(crate) fn transfer_written(alloc: Global, perf: &Transfer) -> Result<Fields, Memory>
-    ensures { IfOk result (λ f. f ≡ all_added no_fields (written transfer_rows (transfer_fields perf.now))) }
+    ensures { IfOk result (λ f. f ≡ all_added no_fields (written transfer_rows
+        (transfer_fields perf.now))) }
 {
     let mut fields = Fields::empty(alloc);
     fields.uint(perf.handle)?;
@@ -166,7 +172,8 @@ pub(crate) fn disposition_of(alloc: Global, fields: &ValueList) -> Result<Perf, 
 
 /// What is written of the fields of disposition.
 pub(crate) fn disposition_written(alloc: Global, perf: &Disposition) -> Result<Fields, Memory>
-    ensures { IfOk result (λ f. f ≡ all_added no_fields (written disposition_rows (disposition_fields perf.now))) }
+    ensures { IfOk result (λ f. f ≡ all_added no_fields (written disposition_rows
+        (disposition_fields perf.now))) }
 {
     let mut fields = Fields::empty(alloc);
     fields.boolean(perf.role)?;
@@ -193,7 +200,8 @@ pub(crate) fn detach_of(alloc: Global, fields: &ValueList) -> Result<Perf, Stop<
 
 /// What is written of the fields of detach.
 pub(crate) fn detach_written(alloc: Global, perf: &Detach) -> Result<Fields, Memory>
-    ensures { IfOk result (λ f. f ≡ all_added no_fields (written detach_rows (detach_fields perf.now))) }
+    ensures { IfOk result (λ f. f ≡ all_added no_fields (written detach_rows
+        (detach_fields perf.now))) }
 {
     let mut fields = Fields::empty(alloc);
     fields.uint(perf.handle)?;

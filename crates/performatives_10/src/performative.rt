@@ -1,6 +1,8 @@
-//! The performatives as structs of their fields. An absent field is `None`, or its default where it has one.
+//! The performatives as structs of their fields. An absent field is `None`, or its default where it
+//! has one.
 //!
-//! This file is written by tools/generate_performatives.py from the published definition of AMQP 1.0.
+//! This file is written by tools/generate_performatives.py from the published definition of AMQP
+//! 1.0.
 
 use types_10::Value10;
 use wire_base::ByteText;
@@ -12,8 +14,8 @@ pub struct Error10 {
     pub description: Option<ByteText>,
 }
 
-/// The state of a delivery (AMQP 1.0 3.4). Only the error of a rejection is kept. `Received` is read, and can't be
-/// written as it stands, since its mandatory fields aren't kept.
+/// The state of a delivery (AMQP 1.0 3.4). Only the error of a rejection is kept. `Received` is
+/// read, and can't be written as it stands, since its mandatory fields aren't kept.
 #[derive(Debug, Drop)]
 pub enum State {
     Received,

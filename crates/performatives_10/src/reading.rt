@@ -69,20 +69,24 @@ fn perf_from(alloc: Global, body: &[u8]) -> Result<Result<(Perf, usize), PerfFau
     }
 }
 
-/// The performative with which a frame's body begins (AMQP 1.0 2.7, 5.3.3), and the offset in bytes behind it, where the payload
-/// begins. An absent field has its default, where it has one. Fields past the last are ignored.
+/// The performative with which a frame's body begins (AMQP 1.0 2.7, 5.3.3), and the offset in bytes
+/// behind it, where the payload begins. An absent field has its default, where it has one. Fields
+/// past the last are ignored.
 ///
-/// Of errors, states and termini a part is dropped: the information of an error; all of a state but the error of a
-/// rejection; and an address that is no string is read as absent.
+/// Of errors, states and termini a part is dropped: the information of an error; all of a state but
+/// the error of a rejection; and an address that is no string is read as absent.
 ///
 /// # Errors
 ///
-/// `Value` where no value stands at the front of the body, with the fault and its place, as `read_value` tells it.
+/// `Value` where no value stands at the front of the body, with the fault and its place, as
+/// `read_value` tells it.
 ///
-/// `UnknownDescriptor` where the value is no described list with the code of a performative as a ulong.
+/// `UnknownDescriptor` where the value is no described list with the code of a performative as a
+/// ulong.
 ///
-/// `Missing` where a mandatory field is absent, and `WrongType` where a field has another type than its row says or is a composite
-/// that has any fault inside. The number is the place of the field, from 0; the first in order counts.
+/// `Missing` where a mandatory field is absent, and `WrongType` where a field has another type than
+/// its row says or is a composite that has any fault inside. The number is the place of the field,
+/// from 0; the first in order counts.
 ///
 /// `Memory` where the allocator has no room.
 pub fn read_perf(alloc: Global, body: &[u8]) -> Result<Result<(Perf, usize), PerfFault>, Memory>

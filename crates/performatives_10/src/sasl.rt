@@ -1,12 +1,17 @@
 //! The frames of the SASL layer (AMQP 1.0 5.3.3).
 //!
-//! This file is written by tools/generate_performatives.py from the published definition of AMQP 1.0.
+//! This file is written by tools/generate_performatives.py from the published definition of AMQP
+//! 1.0.
 
 ghost use Rattle.std.specs.Prelude.{◌≡◌, IfOk};
 ghost use Rattle.wire_base.specs.Reading.{Gives};
 ghost use Rattle.types_10.specs.Tree.{trees_of};
-ghost use Rattle.performatives_10.specs.Rows.{sasl_mechanisms_rows, sasl_init_rows, sasl_challenge_rows, sasl_response_rows, sasl_outcome_rows};
-ghost use Rattle.performatives_10.specs.View.{parts_of, sasl_mechanisms_fields, sasl_init_fields, sasl_challenge_fields, sasl_response_fields, sasl_outcome_fields};
+ghost use Rattle.performatives_10.specs.Rows.{sasl_mechanisms_rows, sasl_init_rows};
+ghost use Rattle.performatives_10.specs.Rows.{sasl_challenge_rows, sasl_response_rows};
+ghost use Rattle.performatives_10.specs.Rows.{sasl_outcome_rows};
+ghost use Rattle.performatives_10.specs.View.{parts_of, sasl_mechanisms_fields, sasl_init_fields};
+ghost use Rattle.performatives_10.specs.View.{sasl_challenge_fields, sasl_response_fields};
+ghost use Rattle.performatives_10.specs.View.{sasl_outcome_fields};
 ghost use Rattle.performatives_10.specs.Reading.{perf_in};
 ghost use Rattle.performatives_10.specs.Writing.{written, all_added, no_fields};
 
@@ -39,7 +44,8 @@ pub(crate) fn sasl_mechanisms_written(
     alloc: Global,
     perf: &SaslMechanisms,
 ) -> Result<Fields, Memory>
-    ensures { IfOk result (λ f. f ≡ all_added no_fields (written sasl_mechanisms_rows (sasl_mechanisms_fields perf.now))) }
+    ensures { IfOk result (λ f. f ≡ all_added no_fields (written sasl_mechanisms_rows
+        (sasl_mechanisms_fields perf.now))) }
 {
     let mut fields = Fields::empty(alloc);
     fields.value(alloc, &perf.mechanisms)?;
@@ -61,7 +67,8 @@ pub(crate) fn sasl_init_of(alloc: Global, fields: &ValueList) -> Result<Perf, St
 
 /// What is written of the fields of sasl-init.
 pub(crate) fn sasl_init_written(alloc: Global, perf: &SaslInit) -> Result<Fields, Memory>
-    ensures { IfOk result (λ f. f ≡ all_added no_fields (written sasl_init_rows (sasl_init_fields perf.now))) }
+    ensures { IfOk result (λ f. f ≡ all_added no_fields (written sasl_init_rows
+        (sasl_init_fields perf.now))) }
 {
     let mut fields = Fields::empty(alloc);
     fields.symbol(alloc, &perf.mechanism)?;
@@ -83,7 +90,8 @@ pub(crate) fn sasl_challenge_of(alloc: Global, fields: &ValueList) -> Result<Per
 
 /// What is written of the fields of sasl-challenge.
 pub(crate) fn sasl_challenge_written(alloc: Global, perf: &SaslChallenge) -> Result<Fields, Memory>
-    ensures { IfOk result (λ f. f ≡ all_added no_fields (written sasl_challenge_rows (sasl_challenge_fields perf.now))) }
+    ensures { IfOk result (λ f. f ≡ all_added no_fields (written sasl_challenge_rows
+        (sasl_challenge_fields perf.now))) }
 {
     let mut fields = Fields::empty(alloc);
     fields.binary(alloc, &perf.challenge)?;
@@ -103,7 +111,8 @@ pub(crate) fn sasl_response_of(alloc: Global, fields: &ValueList) -> Result<Perf
 
 /// What is written of the fields of sasl-response.
 pub(crate) fn sasl_response_written(alloc: Global, perf: &SaslResponse) -> Result<Fields, Memory>
-    ensures { IfOk result (λ f. f ≡ all_added no_fields (written sasl_response_rows (sasl_response_fields perf.now))) }
+    ensures { IfOk result (λ f. f ≡ all_added no_fields (written sasl_response_rows
+        (sasl_response_fields perf.now))) }
 {
     let mut fields = Fields::empty(alloc);
     fields.binary(alloc, &perf.response)?;
@@ -124,7 +133,8 @@ pub(crate) fn sasl_outcome_of(alloc: Global, fields: &ValueList) -> Result<Perf,
 
 /// What is written of the fields of sasl-outcome.
 pub(crate) fn sasl_outcome_written(alloc: Global, perf: &SaslOutcome) -> Result<Fields, Memory>
-    ensures { IfOk result (λ f. f ≡ all_added no_fields (written sasl_outcome_rows (sasl_outcome_fields perf.now))) }
+    ensures { IfOk result (λ f. f ≡ all_added no_fields (written sasl_outcome_rows
+        (sasl_outcome_fields perf.now))) }
 {
     let mut fields = Fields::empty(alloc);
     fields.ubyte(perf.code)?;

@@ -1,6 +1,7 @@
 //! The performatives of a session (AMQP 1.0 2.7.2, 2.7.8).
 //!
-//! This file is written by tools/generate_performatives.py from the published definition of AMQP 1.0.
+//! This file is written by tools/generate_performatives.py from the published definition of AMQP
+//! 1.0.
 
 ghost use Rattle.std.specs.Prelude.{◌≡◌, IfOk};
 ghost use Rattle.wire_base.specs.Reading.{Gives};
@@ -39,7 +40,8 @@ pub(crate) fn begin_of(alloc: Global, fields: &ValueList) -> Result<Perf, Stop<P
 
 /// What is written of the fields of begin.
 pub(crate) fn begin_written(alloc: Global, perf: &Begin) -> Result<Fields, Memory>
-    ensures { IfOk result (λ f. f ≡ all_added no_fields (written begin_rows (begin_fields perf.now))) }
+    ensures { IfOk result (λ f. f ≡ all_added no_fields (written begin_rows
+        (begin_fields perf.now))) }
 {
     let mut fields = Fields::empty(alloc);
     fields.maybe_ushort(perf.remote_channel)?;

@@ -5,7 +5,8 @@ ghost use Rattle.types_10.specs.View.{value_tree};
 ghost use Rattle.types_10.specs.Writing.{HasSpelling};
 ghost use Rattle.performatives_10.specs.View.{kind_of, fields_of};
 ghost use Rattle.performatives_10.specs.Reading.{rows};
-ghost use Rattle.performatives_10.specs.Writing.{written, perf_tree, perf_text, all_added, no_fields};
+ghost use Rattle.performatives_10.specs.Writing.{written, perf_tree, perf_text, all_added};
+ghost use Rattle.performatives_10.specs.Writing.{no_fields};
 
 use crate::collecting::Fields;
 use crate::composing::composite_value;
@@ -40,7 +41,8 @@ fn kind_of(perf: &Perf) -> PerfKind
 
 /// What is written of the fields.
 fn perf_written(alloc: Global, perf: &Perf) -> Result<Fields, Memory>
-    ensures { IfOk result (λ f. f ≡ all_added no_fields (written (rows (kind_of perf.now)) (fields_of perf.now))) }
+    ensures { IfOk result (λ f. f ≡ all_added no_fields (written (rows (kind_of perf.now))
+        (fields_of perf.now))) }
 {
     match perf {
         Perf::Open(perf) => connection::open_written(alloc, perf),
@@ -82,12 +84,13 @@ pub fn has_text(alloc: Global, perf: &Perf) -> Result<bool, Memory>
 
 /// Adds the described list of a performative (AMQP 1.0 1.4), or leaves `out` as it was.
 ///
-/// An absent field is null, and so is a boolean that equals its default; any other field with a default is written. Nulls at the
-/// end are left out, and each value has its shortest encoding.
+/// An absent field is null, and so is a boolean that equals its default; any other field with a
+/// default is written. Nulls at the end are left out, and each value has its shortest encoding.
 ///
-/// The list must have a spelling, as `has_text` tells: strings are UTF-8, symbols ASCII, its depth is at most 16, and it has fewer
-/// than 2^32 bytes. That fields of the type `Value10` have the types of their rows, and that no state is `Received`, is for
-/// the caller to see to: without it other bytes are written than a performative has.
+/// The list must have a spelling, as `has_text` tells: strings are UTF-8, symbols ASCII, its depth
+/// is at most 16, and it has fewer than 2^32 bytes. That fields of the type `Value10` have the
+/// types of their rows, and that no state is `Received`, is for the caller to see to: without it
+/// other bytes are written than a performative has.
 ///
 /// # Errors
 ///

@@ -1,5 +1,7 @@
 -- Fields and entries, as loops make them one by one of values and pairs.
-use Rattle.std.proofs.Common.{◌≡◌, ℕ, zero, suc, ◌+◌, ◌≤◌, Bool, true, false, List, [], ◌∷◌, ◌++◌, length, drop, Option, Some, None, unwrap_or, slice_get, Result, Ok, Err, refl, sym, ap, subst, ◌∙◌, append-nil, arith}
+use Rattle.std.proofs.Common.{◌≡◌, ℕ, zero, suc, ◌+◌, ◌≤◌, Bool, true, false, List, [], ◌∷◌, ◌++◌}
+use Rattle.std.proofs.Common.{length, drop, Option, Some, None, unwrap_or, slice_get, Result, Ok}
+use Rattle.std.proofs.Common.{Err, refl, sym, ap, subst, ◌∙◌, append-nil, arith}
 use Rattle.wire_base.specs.Reading.{Stops}
 use Rattle.wire_base.specs.declared.stop.Stop.{Stop}
 use Rattle.wire_base.proofs.Laws.{bind_is, ok_is}
@@ -8,8 +10,10 @@ use Rattle.tables_091.specs.Tree as field
 use Rattle.types_10.specs.Tree as value
 use Rattle.property_map.specs.Names.{Holds}
 use Rattle.property_map.specs.Steps.{joined, behind}
-use Rattle.property_map.specs.Fields.{entry_name_in, field_in, fields_in, members_in, unreserved, kept_of, is_left_out, names_of, an_entry, entries_behind}
-use Rattle.property_map.specs.Rows091.{is_symbol, value_under, map_in, pairs_in_map, entries_of, one_table_in}
+use Rattle.property_map.specs.Fields.{entry_name_in, field_in, fields_in, members_in, unreserved}
+use Rattle.property_map.specs.Fields.{kept_of, is_left_out, names_of, an_entry, entries_behind}
+use Rattle.property_map.specs.Rows091.{is_symbol, value_under, map_in, pairs_in_map, entries_of}
+use Rattle.property_map.specs.Rows091.{one_table_in}
 use Rattle.property_map.specs.declared.fault.MapFault.{MapFault}
 use Rattle.property_map.specs.declared.names.Names.{Names}
 use Rattle.property_map.proofs.Places.{there_is, rest_at, rest_past}

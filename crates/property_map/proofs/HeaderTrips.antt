@@ -1,6 +1,8 @@
 -- Headers that become properties of the application and an annotation are read back: the same headers, those that hold no
 -- others first.
-use Rattle.std.proofs.Common.{◌≡◌, ℕ, Bool, true, false, not, cond, ◌||◌, List, [], ◌∷◌, ◌++◌, Some, Result, Ok, Err, nat_lt, refl, sym, ap, subst, ◌∙◌, append_assoc, append-nil}
+use Rattle.std.proofs.Common.{◌≡◌, ℕ, Bool, true, false, not, cond, ◌||◌, List, [], ◌∷◌, ◌++◌, Some}
+use Rattle.std.proofs.Common.{Result, Ok, Err, nat_lt, refl, sym, ap, subst, ◌∙◌, append_assoc}
+use Rattle.std.proofs.Common.{append-nil}
 use Rattle.std.specs.List.{filter, AllByRecursion, IsDistinct}
 use Rattle.std.specs.List.Sorted.{IsPermutation}
 use Rattle.std.specs.Str.{bytes_eq}
@@ -13,7 +15,8 @@ use Rattle.tables_091.specs.Writing.{MembersNamesAreShort}
 use Rattle.types_10.specs.Tree as value
 use Rattle.property_map.specs.Texts.{string_in, is_among, is_reserved}
 use Rattle.property_map.specs.Values.{value_in}
-use Rattle.property_map.specs.Headers.{header_name_in, holds_others, with_header, headers_in, table_in}
+use Rattle.property_map.specs.Headers.{header_name_in, holds_others, with_header, headers_in}
+use Rattle.property_map.specs.Headers.{table_in}
 use Rattle.property_map.specs.Fields.{members_in, unreserved, names_of}
 use Rattle.property_map.specs.Image.{nested_map, application_of}
 use Rattle.property_map.specs.Rows091.{pairs_in_map, nested_in, one_table_in, headers_of}

@@ -1,5 +1,6 @@
 -- A message with an image has no fault, and no other image.
-use Rattle.std.proofs.Common.{◌≡◌, ℕ, List, Option, Some, None, option_map, Result, Ok, refl, sym, ap, ◌∙◌}
+use Rattle.std.proofs.Common.{◌≡◌, ℕ, List, Option, Some, None, option_map, Result, Ok, refl, sym}
+use Rattle.std.proofs.Common.{ap, ◌∙◌}
 use Rattle.wire_base.proofs.Laws.{ok_is}
 use Rattle.types_10.specs.Tree.{Tree}
 use Rattle.types_10.specs.View.{value_tree}
@@ -10,8 +11,14 @@ use Rattle.sections_10.specs.View.{props_tree, kept_of}
 use Rattle.sections_10.specs.declared.message.MsgHeader.{MsgHeader}
 use Rattle.sections_10.specs.declared.message.MsgProps.{MsgProps}
 use Rattle.sections_10.specs.declared.message.Message10.{Message10}
-use Rattle.property_map.specs.Rows.{exchange_row, key_row, content_type_row, content_encoding_row, headers_row, delivery_mode_row, priority_row, correlation_id_row, reply_to_row, expiration_row, message_id_row, timestamp_row, kind_row, user_id_row, app_id_row, cluster_id_row}
-use Rattle.property_map.specs.Image.{a_string, application_of, IsHeader, AreAnnotations, AreProperties, HaveProperties, AreOfApplication, IsImage10, fault_of, first_fault}
+use Rattle.property_map.specs.Rows.{exchange_row, key_row, content_type_row, content_encoding_row}
+use Rattle.property_map.specs.Rows.{headers_row, delivery_mode_row, priority_row}
+use Rattle.property_map.specs.Rows.{correlation_id_row, reply_to_row, expiration_row}
+use Rattle.property_map.specs.Rows.{message_id_row, timestamp_row, kind_row, user_id_row}
+use Rattle.property_map.specs.Rows.{app_id_row, cluster_id_row}
+use Rattle.property_map.specs.Image.{a_string, application_of, IsHeader, AreAnnotations}
+use Rattle.property_map.specs.Image.{AreProperties, HaveProperties, AreOfApplication, IsImage10}
+use Rattle.property_map.specs.Image.{fault_of, first_fault}
 use Rattle.property_map.specs.declared.fault.MapFault.{MapFault}
 use Rattle.property_map.specs.declared.message.Message091.{Message091}
 

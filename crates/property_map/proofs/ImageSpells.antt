@@ -1,5 +1,7 @@
 -- The sections of an image can be written, unless they are too long.
-use Rattle.std.proofs.Common.{◌≡◌, ℕ, ◌+◌, ◌^◌, ◌<◌, ◌≤◌, max, Bool, true, false, cond, ltb, List, [], ◌∷◌, ◌++◌, length, Option, Some, None, option_map, Result, Ok, Err, refl, sym, subst, arith}
+use Rattle.std.proofs.Common.{◌≡◌, ℕ, ◌+◌, ◌^◌, ◌<◌, ◌≤◌, max, Bool, true, false, cond, ltb, List}
+use Rattle.std.proofs.Common.{[], ◌∷◌, ◌++◌, length, Option, Some, None, option_map, Result, Ok}
+use Rattle.std.proofs.Common.{Err, refl, sym, subst, arith}
 use Rattle.std.specs.Prelude.{IfOk, IfSome}
 use Rattle.std.specs.Char.{is_ascii}
 use Rattle.std.specs.List.{list_all}
@@ -8,26 +10,35 @@ use Rattle.std.proofs.lemmas.Bool.{ltb-false}
 use Rattle.std.proofs.lemmas.List.{length-append}
 use Rattle.wire_base.specs.Reading.{◌>>=◌}
 use Rattle.tables_091.specs.Tree as field
-use Rattle.types_10.specs.Tree.{Tree, scalar, list, mapping, depth, Trees, trees_depth, trees_of, Pairs, pairs_depth, pairs_of}
+use Rattle.types_10.specs.Tree.{Tree, scalar, list, mapping, depth, Trees, trees_depth, trees_of}
+use Rattle.types_10.specs.Tree.{Pairs, pairs_depth, pairs_of}
 use Rattle.types_10.specs.Tree as value
-use Rattle.types_10.specs.Writing.{IsProper, IsWritable, EachIsWritable, PairsAreWritable, HasSpelling}
-use Rattle.sections_10.specs.Fields.{absent, is_absent, maybe, a_boolean, a_ubyte, a_uint, a_timestamp, a_binary, a_string, a_symbol}
-use Rattle.sections_10.specs.Writing.{in_front, trim, fields_list, header_value, section_text, maybe_text, IfThere, IsData, CanBeWritten}
+use Rattle.types_10.specs.Writing.{IsProper, IsWritable, EachIsWritable, PairsAreWritable}
+use Rattle.types_10.specs.Writing.{HasSpelling}
+use Rattle.sections_10.specs.Fields.{absent, is_absent, maybe, a_boolean, a_ubyte, a_uint}
+use Rattle.sections_10.specs.Fields.{a_timestamp, a_binary, a_string, a_symbol}
+use Rattle.sections_10.specs.Writing.{in_front, trim, fields_list, header_value, section_text}
+use Rattle.sections_10.specs.Writing.{maybe_text, IfThere, IsData, CanBeWritten}
 use Rattle.sections_10.specs.declared.message.Body10.{Body10}
 use Rattle.sections_10.specs.declared.message.Message10.{Message10}
-use Rattle.property_map.specs.Texts.{string_in, symbol_in, milliseconds_in, maybe_in, is_among, is_reserved}
+use Rattle.property_map.specs.Texts.{string_in, symbol_in, milliseconds_in, maybe_in, is_among}
+use Rattle.property_map.specs.Texts.{is_reserved}
 use Rattle.property_map.specs.Values.{scalar_in, name_in, value_in, values_in, pairs_in}
-use Rattle.property_map.specs.Headers.{header_name_in, holds_others, with_header, headers_in, table_in}
+use Rattle.property_map.specs.Headers.{header_name_in, holds_others, with_header, headers_in}
+use Rattle.property_map.specs.Headers.{table_in}
 use Rattle.property_map.specs.Rows.{exchange_row, headers_row, timestamp_row}
-use Rattle.property_map.specs.Image.{header_with, annotation, nested_map, map_of, with_others, application_of, IsImage10}
-use Rattle.property_map.specs.Spelling.{row_value, image_header, image_annotations, image_fields, image_properties, image_application, image_text}
+use Rattle.property_map.specs.Image.{header_with, annotation, nested_map, map_of, with_others}
+use Rattle.property_map.specs.Image.{application_of, IsImage10}
+use Rattle.property_map.specs.Spelling.{row_value, image_header, image_annotations, image_fields}
+use Rattle.property_map.specs.Spelling.{image_properties, image_application, image_text}
 use Rattle.property_map.specs.declared.fault.PropName.{PropName}
 use Rattle.property_map.specs.declared.fault.PropName.TheVariants as prop
 use Rattle.property_map.specs.declared.fault.MapFault.{MapFault}
 use Rattle.property_map.specs.declared.fault.MapFault.TheVariants as fault
 use Rattle.property_map.specs.declared.headers.HeaderMaps.{HeaderMaps}
 use Rattle.property_map.specs.declared.message.Message091.{Message091}
-use Rattle.property_map.proofs.ImageTexts.{header_is, annotations_are, properties_are, application_is}
+use Rattle.property_map.proofs.ImageTexts.{header_is, annotations_are, properties_are}
+use Rattle.property_map.proofs.ImageTexts.{application_is}
 
 -- ---- rows
 

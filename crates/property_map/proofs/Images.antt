@@ -1,5 +1,6 @@
 -- What the rows say is the image of a message, and the first row at fault is the first fault.
-use Rattle.std.proofs.Common.{◌≡◌, ℕ, List, [], ◌∷◌, Bool, Option, Some, None, ℤ, Result, Ok, Err, refl, sym, ap, subst, ◌∙◌}
+use Rattle.std.proofs.Common.{◌≡◌, ℕ, List, [], ◌∷◌, Bool, Option, Some, None, ℤ, Result, Ok, Err}
+use Rattle.std.proofs.Common.{refl, sym, ap, subst, ◌∙◌}
 use Rattle.wire_base.specs.Reading.{◌>>=◌, Stops}
 use Rattle.wire_base.specs.declared.stop.Stop.{Stop}
 use Rattle.wire_base.specs.declared.stop.Stop.TheVariants as stop
@@ -8,9 +9,14 @@ use Rattle.wire_base.proofs.FaultLaws.{err_is}
 use Rattle.content_091.specs.declared.header.Props.{Props}
 use Rattle.sections_10.specs.declared.message.MsgProps.{MsgProps}
 use Rattle.sections_10.specs.declared.message.Message10.{Message10}
-use Rattle.property_map.specs.Rows.{exchange_row, key_row, content_type_row, content_encoding_row, headers_row, delivery_mode_row, priority_row, correlation_id_row, reply_to_row, expiration_row, message_id_row, timestamp_row, kind_row, user_id_row, app_id_row, cluster_id_row}
+use Rattle.property_map.specs.Rows.{exchange_row, key_row, content_type_row, content_encoding_row}
+use Rattle.property_map.specs.Rows.{headers_row, delivery_mode_row, priority_row}
+use Rattle.property_map.specs.Rows.{correlation_id_row, reply_to_row, expiration_row}
+use Rattle.property_map.specs.Rows.{message_id_row, timestamp_row, kind_row, user_id_row}
+use Rattle.property_map.specs.Rows.{app_id_row, cluster_id_row}
 use Rattle.property_map.specs.Image.{HaveProperties, IsImage10, fault_of, first, first_fault}
-use Rattle.property_map.specs.Said.{earlier_in, middle_in, later_in, HavePropertiesOf, IsMessageOf, IsStop10}
+use Rattle.property_map.specs.Said.{earlier_in, middle_in, later_in, HavePropertiesOf, IsMessageOf}
+use Rattle.property_map.specs.Said.{IsStop10}
 use Rattle.property_map.specs.declared.fault.MapFault.{MapFault}
 use Rattle.property_map.specs.declared.headers.HeaderMaps.{HeaderMaps}
 use Rattle.property_map.specs.declared.message.Message091.{Message091}

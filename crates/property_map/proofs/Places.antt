@@ -1,5 +1,7 @@
 -- What stands at a place of an array or a table, and how deep it is.
-use Rattle.std.proofs.Common.{◌≡◌, ℕ, zero, suc, ◌+◌, ◌≤◌, max, leb, Bool, true, false, List, [], ◌∷◌, length, drop, Option, Some, None, option_map, slice_get, refl, sym, ap, ◌∙◌, arith}
+use Rattle.std.proofs.Common.{◌≡◌, ℕ, zero, suc, ◌+◌, ◌≤◌, max, leb, Bool, true, false, List, []}
+use Rattle.std.proofs.Common.{◌∷◌, length, drop, Option, Some, None, option_map, slice_get, refl}
+use Rattle.std.proofs.Common.{sym, ap, ◌∙◌, arith}
 use Rattle.std.proofs.lemmas.Bool.{leb-true, leb-false, le-leb, lt-leb}
 use Rattle.tables_091.specs.Tree.{Tree, depth, list_depth, entries_depth}
 

@@ -1,5 +1,7 @@
 -- The room that bytes leave, part by part, and how many bytes a content header takes.
-use Rattle.std.proofs.Common.{◌≡◌, ℕ, suc, ◌+◌, ◌-◌, ◌≤◌, Bool, true, false, cond, leb, List, [], ◌∷◌, ◌++◌, length, drop, Option, Some, None, slice_get, Result, Ok, Err, refl, sym, ap, ◌∙◌, arith}
+use Rattle.std.proofs.Common.{◌≡◌, ℕ, suc, ◌+◌, ◌-◌, ◌≤◌, Bool, true, false, cond, leb, List, []}
+use Rattle.std.proofs.Common.{◌∷◌, ◌++◌, length, drop, Option, Some, None, slice_get, Result, Ok}
+use Rattle.std.proofs.Common.{Err, refl, sym, ap, ◌∙◌, arith}
 use Rattle.std.specs.Int.{w8, w16, w32, w64, to_be_bytes, cast_unsigned}
 use Rattle.std.proofs.lemmas.Bool.{leb-true, leb-false, le-leb}
 use Rattle.std.proofs.lemmas.List.{length-append}
@@ -15,10 +17,12 @@ use Rattle.content_091.specs.Properties.{Property, Properties}
 use Rattle.content_091.specs.Properties as property
 use Rattle.content_091.specs.Rows.{rows}
 use Rattle.content_091.specs.View.{props_of, earlier_of, later_of}
-use Rattle.content_091.specs.Writing.{flags_of, property_text, maybe_text, props_text, earlier_text, later_text, head_text}
+use Rattle.content_091.specs.Writing.{flags_of, property_text, maybe_text, props_text, earlier_text}
+use Rattle.content_091.specs.Writing.{later_text, head_text}
 use Rattle.content_091.specs.declared.header.Props.{Props}
 use Rattle.property_map.specs.Rows091.{header_len, header_row}
-use Rattle.property_map.specs.Room.{scalar_len, tree_len, trees_len, members_len, property_len, left_of, left_behind, left_behind_all, left_behind_header}
+use Rattle.property_map.specs.Room.{scalar_len, tree_len, trees_len, members_len, property_len}
+use Rattle.property_map.specs.Room.{left_of, left_behind, left_behind_all, left_behind_header}
 use Rattle.property_map.specs.declared.fault.PropName.TheVariants as prop
 use Rattle.property_map.specs.declared.fault.MapFault.{MapFault}
 use Rattle.property_map.specs.declared.fault.MapFault.TheVariants as fault

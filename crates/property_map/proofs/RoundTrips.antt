@@ -1,5 +1,7 @@
 -- A message of AMQP 0-9-1 that has an image, and fits, comes back from it.
-use Rattle.std.proofs.Common.{◌≡◌, ℕ, ◌≤◌, Bool, true, false, cond, eqb, leb, List, [], ◌∷◌, ◌++◌, length, codes, decimal, unwrap_or, Option, Some, None, option_map, ℤ, Result, Ok, Err, refl, sym, ap, subst, ◌∙◌, arith}
+use Rattle.std.proofs.Common.{◌≡◌, ℕ, ◌≤◌, Bool, true, false, cond, eqb, leb, List, [], ◌∷◌, ◌++◌}
+use Rattle.std.proofs.Common.{length, codes, decimal, unwrap_or, Option, Some, None, option_map, ℤ}
+use Rattle.std.proofs.Common.{Result, Ok, Err, refl, sym, ap, subst, ◌∙◌, arith}
 use Rattle.std.specs.Char.{is_ascii}
 use Rattle.std.specs.List.{list_all}
 use Rattle.std.specs.Str.{bytes_eq}
@@ -14,13 +16,17 @@ use Rattle.content_091.specs.declared.header.Props.{Props}
 use Rattle.sections_10.specs.declared.message.MsgHeader.{MsgHeader}
 use Rattle.sections_10.specs.declared.message.MsgProps.{MsgProps}
 use Rattle.sections_10.specs.declared.message.Message10.{Message10}
-use Rattle.property_map.specs.Texts.{string_in, symbol_in, short_in, milliseconds_in, seconds_in, maybe_in}
+use Rattle.property_map.specs.Texts.{string_in, symbol_in, short_in, milliseconds_in, seconds_in}
+use Rattle.property_map.specs.Texts.{maybe_in}
 use Rattle.property_map.specs.Headers.{table_in}
 use Rattle.property_map.specs.Rows as to_10
 use Rattle.property_map.specs.Rows091 as back
-use Rattle.property_map.specs.Image.{a_string, header_with, annotation, nested_map, map_of, annotations_with, application_of, AreAnnotations, AreProperties, HaveProperties, IsImage10}
+use Rattle.property_map.specs.Image.{a_string, header_with, annotation, nested_map, map_of}
+use Rattle.property_map.specs.Image.{annotations_with, application_of, AreAnnotations}
+use Rattle.property_map.specs.Image.{AreProperties, HaveProperties, IsImage10}
 use Rattle.property_map.specs.Image091.{earlier_in, later_in, image_in}
-use Rattle.property_map.specs.Back.{IsShortText, HasShortNames, AreShort, Fits, AreSameHeaders, IsSame}
+use Rattle.property_map.specs.Back.{IsShortText, HasShortNames, AreShort, Fits, AreSameHeaders}
+use Rattle.property_map.specs.Back.{IsSame}
 use Rattle.property_map.specs.declared.fault.PropName.{PropName}
 use Rattle.property_map.specs.declared.fault.PropName.TheVariants as prop
 use Rattle.property_map.specs.declared.fault.MapFault.{MapFault}

@@ -1,5 +1,7 @@
 -- Fields that become values are read back.
-use Rattle.std.proofs.Common.{◌≡◌, ℕ, ◌*◌, ◌/◌, ◌≤◌, Bool, true, false, cond, leb, List, [], ◌∷◌, ◌++◌, length, Result, Ok, Err, ℤ, pos, refl, sym, ap, subst, ◌∙◌, arith}
+use Rattle.std.proofs.Common.{◌≡◌, ℕ, ◌*◌, ◌/◌, ◌≤◌, Bool, true, false, cond, leb, List, [], ◌∷◌}
+use Rattle.std.proofs.Common.{◌++◌, length, Result, Ok, Err, ℤ, pos, refl, sym, ap, subst, ◌∙◌}
+use Rattle.std.proofs.Common.{arith}
 use Rattle.std.specs.Str.{is_utf8}
 use Rattle.std.proofs.lemmas.Bool.{le-leb}
 use Rattle.wire_base.specs.Reading.{◌>>=◌}
@@ -7,9 +9,11 @@ use Rattle.wire_base.proofs.Laws.{bind_is, ok_is}
 use Rattle.tables_091.specs.Tree as field
 use Rattle.tables_091.specs.Writing.{NamesAreShort, TreesNamesAreShort, MembersNamesAreShort}
 use Rattle.types_10.specs.Tree as value
-use Rattle.property_map.specs.Texts.{string_in, milliseconds_in, last_second, short_in, seconds_in, is_among}
+use Rattle.property_map.specs.Texts.{string_in, milliseconds_in, last_second, short_in, seconds_in}
+use Rattle.property_map.specs.Texts.{is_among}
 use Rattle.property_map.specs.Values.{scalar_in, name_in, value_in, values_in, pairs_in}
-use Rattle.property_map.specs.Fields.{scalar_field_in, entry_name_in, field_in, fields_in, members_in}
+use Rattle.property_map.specs.Fields.{scalar_field_in, entry_name_in, field_in, fields_in}
+use Rattle.property_map.specs.Fields.{members_in}
 use Rattle.property_map.specs.declared.fault.PropName.{PropName}
 use Rattle.property_map.specs.declared.fault.PropName.TheVariants as prop
 use Rattle.property_map.specs.declared.fault.MapFault.{MapFault}

@@ -1,7 +1,7 @@
 //! The image of a message of AMQP 1.0 in AMQP 0-9-1.
 
 ghost use Rattle.std.specs.Prelude.{◌≡◌, None, IfOk, IfErr, Ok};
-ghost use Rattle.wire_base.specs.Reading.{Gives};
+ghost use Rattle.wire_base.specs.Reading.{Gives, Stops};
 ghost use Rattle.property_map.specs.Rows091.{header_in, properties_in, body_row};
 ghost use Rattle.property_map.specs.Image091.{earlier_in, later_in, both_of, props_in, with_body};
 ghost use Rattle.property_map.specs.Image091.{AreOfMessage, image_in, IsFault091, is_redelivered};
@@ -169,55 +169,50 @@ fn props_of(alloc: Global, s: &Sections) -> Result<Props, Stop<MapFault>>
     }
 }
 
-/// A message of these parts, with the body of another one.
-fn message_with(
-    alloc: Global,
+// ---- the message
+
+/// A message but for its body.
+#[derive(Drop)]
+struct Bodiless {
     exchange: ByteText,
     key: ByteText,
     props: Props,
-    body: &Body10,
-) -> Result<Message091, Stop<MapFault>>
-    ensures { Gives (λ m. m) result (with_body exchange key props (body_row body.now)) }
-{
-    match body_of(alloc, body) {
-        Ok(body) => Ok(Message091 {
-            exchange,
-            key,
-            props,
-            body,
-        }),
-        Err(stop) => Err(stop),
-    }
 }
 
-// ---- the message
-
-/// The image of a message, or its first fault.
+/// The image of a message but for its body, or its first fault before the body.
 #[tactic(auto, unfolding(crate::specs::Image091::image_in))]
-fn image_with(
+fn bodiless_with(
     alloc: Global,
     s: &Sections,
     queue: &[u8],
     room: u32,
-) -> Result<Message091, Stop<MapFault>>
+) -> Result<Bodiless, Stop<MapFault>>
     requires { AreOfMessage s.now }
-    ensures { Gives (λ m. m) result (image_in queue.now room s.now.message.now) }
+    ensures rest { IfOk result (λ rest. image_in queue.now room s.now.message.now
+        ≡ with_body rest.exchange rest.key rest.props (body_row s.now.message.now.body)) }
+    ensures fault { IfErr result (λ stop. Stops stop (image_in queue.now room s.now.message.now)) }
 {
     let exchange = exchange_of(alloc, &s.message.annotations)?;
     let key = key_of(alloc, &s.properties.subject, queue)?;
     let all = props_of(alloc, s)?;
     let props = fitting(room, all)?;
-    message_with(alloc, exchange, key, props, &s.message.body)
+    Ok(Bodiless {
+        exchange,
+        key,
+        props,
+    })
 }
 
 /// The same of a message as it came.
-fn image_of(
+fn bodiless_of(
     alloc: Global,
     m: &Message10,
     queue: &[u8],
     room: u32,
-) -> Result<Message091, Stop<MapFault>>
-    ensures { Gives (λ m. m) result (image_in queue.now room m.now) }
+) -> Result<Bodiless, Stop<MapFault>>
+    ensures rest { IfOk result (λ rest. image_in queue.now room m.now
+        ≡ with_body rest.exchange rest.key rest.props (body_row m.now.body)) }
+    ensures fault { IfErr result (λ stop. Stops stop (image_in queue.now room m.now)) }
 {
     let absent_header = no_header();
     let absent_properties = no_properties();
@@ -226,11 +221,42 @@ fn image_of(
         header: header_or(&m.header, &absent_header),
         properties: properties_or(&m.properties, &absent_properties),
     };
-    image_with(alloc, &sections, queue, room)
+    bodiless_with(alloc, &sections, queue, room)
+}
+
+/// The same with the body of another message, which is moved.
+fn with_body(rest: Bodiless, body: Body10) -> Result<Message091, Stop<MapFault>>
+    ensures { Gives (λ m. m) result
+        (with_body rest.exchange rest.key rest.props (body_row body)) }
+{
+    match body_of(body) {
+        Ok(body) => Ok(Message091 {
+            exchange: rest.exchange,
+            key: rest.key,
+            props: rest.props,
+            body,
+        }),
+        Err(stop) => Err(stop),
+    }
+}
+
+/// The image of a message, or its first fault.
+fn image_of(
+    alloc: Global,
+    m: Message10,
+    queue: &[u8],
+    room: u32,
+) -> Result<Message091, Stop<MapFault>>
+    ensures { Gives (λ m. m) result (image_in queue.now room m) }
+{
+    match bodiless_of(alloc, &m, queue, room) {
+        Ok(rest) => with_body(rest, m.body),
+        Err(stop) => Err(stop),
+    }
 }
 
 /// The image of a message in AMQP 0-9-1, as it comes from this queue. `room` is the longest payload
-/// of a content header.
+/// of a content header. The body is moved, and not copied.
 ///
 /// # Errors
 ///
@@ -243,11 +269,11 @@ fn image_of(
 /// neither bytes nor one text.
 ///
 /// `Memory` where the allocator has no room.
-pub fn to_091(alloc: Global, m: &Message10, queue: &[u8], room: u32) -> Result<Message091, MapFault>
+pub fn to_091(alloc: Global, m: Message10, queue: &[u8], room: u32) -> Result<Message091, MapFault>
     // The image, by the rows of the table.
-    ensures image { IfOk result (λ image. image_in queue.now room m.now ≡ Ok image) }
+    ensures image { IfOk result (λ image. image_in queue.now room m ≡ Ok image) }
     // Else the first row at fault.
-    ensures fault { IfErr result (IsFault091 queue.now room m.now) }
+    ensures fault { IfErr result (IsFault091 queue.now room m) }
 {
     match image_of(alloc, m, queue, room) {
         Ok(image) => Ok(image),

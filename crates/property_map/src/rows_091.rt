@@ -140,24 +140,22 @@ pub(crate) fn timestamp_of(creation: Option<i64>) -> Result<Option<u64>, Stop<Ma
 
 // ---- the body
 
-/// A copy of bytes that become a body.
-fn body_copy(alloc: Global, bytes: &ByteText) -> Result<ByteText, Stop<MapFault>>
-    ensures { Gives (λ s. s) result (body_in bytes.now) }
+/// Bytes that become a body: they are moved, and not copied.
+fn body_within(bytes: ByteText) -> Result<ByteText, Stop<MapFault>>
+    ensures { Gives (λ s. s) result (body_in bytes) }
 {
     if bytes.as_slice().len() > BODY_MAX {
         return Err(Stop::Fault(MapFault::TooLong(PropName::Body)));
     }
-    Ok(bytes.copy(alloc)?)
+    Ok(bytes)
 }
 
 /// The body.
-pub(crate) fn body_of(alloc: Global, body: &Body10) -> Result<ByteText, Stop<MapFault>>
-    ensures { Gives (λ s. s) result (body_row body.now) }
+pub(crate) fn body_of(body: Body10) -> Result<ByteText, Stop<MapFault>>
+    ensures { Gives (λ s. s) result (body_row body) }
 {
     match body {
-        Body10::Data(bytes) | Body10::Text(bytes) | Body10::Binary(bytes) => {
-            body_copy(alloc, bytes)
-        }
+        Body10::Data(bytes) | Body10::Text(bytes) | Body10::Binary(bytes) => body_within(bytes),
         Body10::Other => Err(Stop::Fault(MapFault::BodyKind)),
     }
 }

@@ -1,25 +1,39 @@
 -- The fault that is told is that of the first section at fault.
-use Rattle.std.proofs.Common.{◌≡◌, ◌≢◌, ◌⊎◌, inl, inr, ℕ, zero, suc, ◌+◌, ◌<◌, ◌≤◌, Bool, true, false, cond, ltb, leb, eqb, ◌&&◌, List, [], ◌∷◌, length, Option, Some, None, Result, Ok, Err, IfErr, refl, sym, ap, subst, ◌∙◌, arith}
+use Rattle.std.proofs.Common.{◌≡◌, ◌≢◌, ◌⊎◌, inl, inr, ℕ, zero, suc, ◌+◌, ◌<◌, ◌≤◌, Bool, true}
+use Rattle.std.proofs.Common.{false, cond, ltb, leb, eqb, ◌&&◌, List, [], ◌∷◌, length, Option, Some}
+use Rattle.std.proofs.Common.{None, Result, Ok, Err, IfErr, refl, sym, ap, subst, ◌∙◌, arith}
 use Rattle.std.specs.List.{flat_map}
-use Rattle.std.proofs.lemmas.Bool.{ltb-true, ltb-false, le-ltb, leb-true, leb-false, eqb-true, eq-eqb}
+use Rattle.std.proofs.lemmas.Bool.{ltb-true, ltb-false, le-ltb, leb-true, leb-false, eqb-true}
+use Rattle.std.proofs.lemmas.Bool.{eq-eqb}
 use Rattle.wire_base.specs.Bytes.{IsBytes}
 use Rattle.wire_base.specs.Reading.{◌>>=◌}
 use Rattle.wire_base.specs.declared.scan.At.{At}
 use Rattle.wire_base.proofs.Laws.{bind_is, ok_is}
 use Rattle.wire_base.proofs.FaultLaws.{bind_fails, err_is}
 use Rattle.types_10.specs.Tree.{Tree}
-use Rattle.sections_10.specs.Rows.{Section, header_section, delivery_section, message_section, properties_section, application_section, data_section, sequence_section, value_section, footer_section}
+use Rattle.sections_10.specs.Rows.{Section, header_section, delivery_section, message_section}
+use Rattle.sections_10.specs.Rows.{properties_section, application_section, data_section}
+use Rattle.sections_10.specs.Rows.{sequence_section, value_section, footer_section}
 use Rattle.sections_10.specs.View.{Kept}
-use Rattle.sections_10.specs.Reading.{code_at, if_code, value_in, placed, behind_code, section_in, and_more, run_in, bytes_of, more_data, data_in, any_more, sequences_in, value_body, maybe_value, no_sequence, no_data, body_in, Sections, sections_in, rank, last_rank, fault_of, kept_in, whole, message_in, seen}
-use Rattle.sections_10.specs.Grammar.{IsCodeAt, IsSectionAt, IsMaybeAt, IsRunAt, IsBodyAt, AreInOrder}
-use Rattle.sections_10.specs.Faults.{IsKnown, IsOfTable, is_header, is_delivery, is_annotations, is_properties, is_application, is_data, is_sequence, is_value, is_footer, IsNoSection, IsFaultOf, IsFault}
+use Rattle.sections_10.specs.Reading.{code_at, if_code, value_in, placed, behind_code, section_in}
+use Rattle.sections_10.specs.Reading.{and_more, run_in, bytes_of, more_data, data_in, any_more}
+use Rattle.sections_10.specs.Reading.{sequences_in, value_body, maybe_value, no_sequence, no_data}
+use Rattle.sections_10.specs.Reading.{body_in, Sections, sections_in, rank, last_rank, fault_of}
+use Rattle.sections_10.specs.Reading.{kept_in, whole, message_in, seen}
+use Rattle.sections_10.specs.Grammar.{IsCodeAt, IsSectionAt, IsMaybeAt, IsRunAt, IsBodyAt}
+use Rattle.sections_10.specs.Grammar.{AreInOrder}
+use Rattle.sections_10.specs.Faults.{IsKnown, IsOfTable, is_header, is_delivery, is_annotations}
+use Rattle.sections_10.specs.Faults.{is_properties, is_application, is_data, is_sequence, is_value}
+use Rattle.sections_10.specs.Faults.{is_footer, IsNoSection, IsFaultOf, IsFault}
 use Rattle.sections_10.specs.declared.message.Body10.{Body10}
 use Rattle.sections_10.specs.declared.message.Body10.TheVariants as body
 use Rattle.sections_10.specs.declared.message.Message10.{Message10}
 use Rattle.sections_10.specs.declared.reading.SectionFault.{SectionFault}
 use Rattle.sections_10.specs.declared.reading.SectionFault.TheVariants as fault
 use Rattle.sections_10.proofs.ReadingLaws.{differs, order_ends}
-use Rattle.sections_10.proofs.Standing.{not_both, code_found, code_read, section_found, section_missing, section_read, maybe_found, body_found, sections_found, all_data, all_found}
+use Rattle.sections_10.proofs.Standing.{not_both, code_found, code_read, section_found}
+use Rattle.sections_10.proofs.Standing.{section_missing, section_read, maybe_found, body_found}
+use Rattle.sections_10.proofs.Standing.{sections_found, all_data, all_found}
 
 -- ---- a section without a value
 

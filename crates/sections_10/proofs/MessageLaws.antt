@@ -1,10 +1,12 @@
 -- A message is read exactly where one fills the bytes.
-use Rattle.std.proofs.Common.{◌≡◌, ◌↔◌, ℕ, Bool, true, false, cond, ltb, List, length, Option, Some, None, Result, Ok, Err, IfOk, IsOkAnd, refl, sym, subst, ◌∙◌, arith}
+use Rattle.std.proofs.Common.{◌≡◌, ◌↔◌, ℕ, Bool, true, false, cond, ltb, List, length, Option, Some}
+use Rattle.std.proofs.Common.{None, Result, Ok, Err, IfOk, IsOkAnd, refl, sym, subst, ◌∙◌, arith}
 use Rattle.std.proofs.lemmas.Bool.{ltb-false, le-ltb}
 use Rattle.wire_base.specs.Bytes.{IsBytes}
 use Rattle.wire_base.specs.declared.scan.At.{At}
 use Rattle.sections_10.specs.View.{Kept, kept_of}
-use Rattle.sections_10.specs.Reading.{code_at, Sections, sections_in, last_rank, fault_of, kept_in, whole, message_in, seen}
+use Rattle.sections_10.specs.Reading.{code_at, Sections, sections_in, last_rank, fault_of, kept_in}
+use Rattle.sections_10.specs.Reading.{whole, message_in, seen}
 use Rattle.sections_10.specs.Grammar.{IsMessage}
 use Rattle.sections_10.specs.declared.message.Body10.{Body10}
 use Rattle.sections_10.specs.declared.message.Message10.{Message10}

@@ -1,12 +1,18 @@
 -- What stands in bytes is read, up to where it stands.
-use Rattle.std.proofs.Common.{◌≡◌, ◌≢◌, ◌⊎◌, inl, inr, ℕ, zero, suc, ◌+◌, ◌<◌, ◌≤◌, Bool, true, false, ltb, eqb, List, [], ◌∷◌, length, Option, Some, None, Ok, refl, sym, ap, subst, ◌∙◌, arith}
+use Rattle.std.proofs.Common.{◌≡◌, ◌≢◌, ◌⊎◌, inl, inr, ℕ, zero, suc, ◌+◌, ◌<◌, ◌≤◌, Bool, true}
+use Rattle.std.proofs.Common.{false, ltb, eqb, List, [], ◌∷◌, length, Option, Some, None, Ok, refl}
+use Rattle.std.proofs.Common.{sym, ap, subst, ◌∙◌, arith}
 use Rattle.std.proofs.lemmas.Bool.{le-ltb, eqb-true}
 use Rattle.types_10.specs.Tree.{Tree}
-use Rattle.sections_10.specs.Rows.{Section, header_section, delivery_section, message_section, properties_section, application_section, data_section, sequence_section, value_section, footer_section}
-use Rattle.sections_10.specs.Reading.{code_at, if_code, section_in, run_in, data_in, sequences_in, body_in, Sections, sections_in}
+use Rattle.sections_10.specs.Rows.{Section, header_section, delivery_section, message_section}
+use Rattle.sections_10.specs.Rows.{properties_section, application_section, data_section}
+use Rattle.sections_10.specs.Rows.{sequence_section, value_section, footer_section}
+use Rattle.sections_10.specs.Reading.{code_at, if_code, section_in, run_in, data_in, sequences_in}
+use Rattle.sections_10.specs.Reading.{body_in, Sections, sections_in}
 use Rattle.sections_10.specs.Grammar.{IsSectionAt, IsMaybeAt, IsRunAt, IsBodyAt, AreInOrder}
 use Rattle.sections_10.specs.declared.message.Body10.{Body10}
-use Rattle.sections_10.proofs.Standing.{code_read, section_read, section_skipped, all_data, all_found}
+use Rattle.sections_10.proofs.Standing.{code_read, section_read, section_skipped, all_data}
+use Rattle.sections_10.proofs.Standing.{all_found}
 
 -- ---- where sections end
 

@@ -1,5 +1,7 @@
 -- Sections of one kind, one after another, as a loop reads them.
-use Rattle.std.proofs.Common.{◌≡◌, ◌-◌, ◌<◌, ℕ, zero, suc, Bool, true, false, List, [], ◌∷◌, ◌++◌, Option, Some, None, option_map, Result, Ok, Err, refl, sym, ap, ◌∙◌, arith}
+use Rattle.std.proofs.Common.{◌≡◌, ◌-◌, ◌<◌, ℕ, zero, suc, Bool, true, false, List, [], ◌∷◌, ◌++◌}
+use Rattle.std.proofs.Common.{Option, Some, None, option_map, Result, Ok, Err, refl, sym, ap, ◌∙◌}
+use Rattle.std.proofs.Common.{arith}
 use Rattle.wire_base.specs.Reading.{◌>>=◌, Stops}
 use Rattle.wire_base.specs.declared.stop.Stop.{Stop}
 use Rattle.wire_base.specs.declared.stop.Stop.TheVariants as stop
@@ -8,7 +10,8 @@ use Rattle.wire_base.proofs.FaultLaws.{err_is}
 use Rattle.types_10.specs.Tree.{Tree}
 use Rattle.sections_10.specs.Fields.{a_binary}
 use Rattle.sections_10.specs.Rows.{Section}
-use Rattle.sections_10.specs.Reading.{front_of, bytes_of, data_behind, sequences_behind, section_in, found_as, stands_in, run_in}
+use Rattle.sections_10.specs.Reading.{front_of, bytes_of, data_behind, sequences_behind, section_in}
+use Rattle.sections_10.specs.Reading.{found_as, stands_in, run_in}
 use Rattle.sections_10.proofs.Standing.{section_missing}
 
 -- one section more, and what is read behind it

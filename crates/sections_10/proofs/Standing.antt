@@ -1,5 +1,8 @@
 -- What is read of a message stands there.
-use Rattle.std.proofs.Common.{◌≡◌, ◌≢◌, inl, inr, ℕ, zero, suc, ◌+◌, ◌-◌, ◌<◌, Bool, true, false, cond, ltb, eqb, List, [], ◌∷◌, ◌++◌, length, take, drop, get_or, Option, Some, None, Result, Ok, Err, refl, sym, ap, subst, ◌∙◌, append_assoc, append-nil, arith}
+use Rattle.std.proofs.Common.{◌≡◌, ◌≢◌, inl, inr, ℕ, zero, suc, ◌+◌, ◌-◌, ◌<◌, Bool, true, false}
+use Rattle.std.proofs.Common.{cond, ltb, eqb, List, [], ◌∷◌, ◌++◌, length, take, drop, get_or}
+use Rattle.std.proofs.Common.{Option, Some, None, Result, Ok, Err, refl, sym, ap, subst, ◌∙◌}
+use Rattle.std.proofs.Common.{append_assoc, append-nil, arith}
 use Rattle.std.specs.List.{flat_map}
 use Rattle.std.proofs.lemmas.Bool.{ltb-true, lt-ltb, eqb-true, eq-eqb}
 use Rattle.std.proofs.lemmas.List.{take-append-drop, length-take, length-drop}
@@ -12,9 +15,16 @@ use Rattle.types_10.specs.Tree as value
 use Rattle.types_10.specs.Grammar.{IsValue}
 use Rattle.types_10.specs.Reading.{Fault, value_at}
 use Rattle.types_10.proofs.ValueLaws.{value_is_read, spelled_is_read}
-use Rattle.sections_10.specs.Rows.{SectionKind, Section, header_section, delivery_section, message_section, properties_section, application_section, data_section, sequence_section, value_section, footer_section}
-use Rattle.sections_10.specs.Reading.{meaning_in, without_fault, ulong_of, code_at, if_code, value_in, placed, behind_code, section_in, and_more, run_in, bytes_of, more_data, data_in, any_more, sequences_in, value_body, maybe_value, no_sequence, no_data, body_in, Sections, sections_in}
-use Rattle.sections_10.specs.Grammar.{IsCodeAt, IsSectionAt, IsMaybeAt, IsRunAt, IsBodyAt, AreInOrder}
+use Rattle.sections_10.specs.Rows.{SectionKind, Section, header_section, delivery_section}
+use Rattle.sections_10.specs.Rows.{message_section, properties_section, application_section}
+use Rattle.sections_10.specs.Rows.{data_section, sequence_section, value_section, footer_section}
+use Rattle.sections_10.specs.Reading.{meaning_in, without_fault, ulong_of, code_at, if_code}
+use Rattle.sections_10.specs.Reading.{value_in, placed, behind_code, section_in, and_more, run_in}
+use Rattle.sections_10.specs.Reading.{bytes_of, more_data, data_in, any_more, sequences_in}
+use Rattle.sections_10.specs.Reading.{value_body, maybe_value, no_sequence, no_data, body_in}
+use Rattle.sections_10.specs.Reading.{Sections, sections_in}
+use Rattle.sections_10.specs.Grammar.{IsCodeAt, IsSectionAt, IsMaybeAt, IsRunAt, IsBodyAt}
+use Rattle.sections_10.specs.Grammar.{AreInOrder}
 use Rattle.sections_10.specs.declared.message.Body10.{Body10}
 use Rattle.sections_10.specs.declared.message.Body10.TheVariants as body
 

@@ -1,11 +1,15 @@
 -- What is written of a message is read back.
-use Rattle.std.proofs.Common.{◌≡◌, ◌↔◌, inl, ℕ, zero, suc, ◌+◌, ◌-◌, ◌^◌, ◌<◌, Bool, true, false, cond, ltb, eqb, ℤ, List, [], ◌∷◌, ◌++◌, length, take, drop, get_or, Option, Some, None, option_map, Result, Ok, refl, sym, ap, subst, ◌∙◌, append_assoc, append-nil, arith}
+use Rattle.std.proofs.Common.{◌≡◌, ◌↔◌, inl, ℕ, zero, suc, ◌+◌, ◌-◌, ◌^◌, ◌<◌, Bool, true, false}
+use Rattle.std.proofs.Common.{cond, ltb, eqb, ℤ, List, [], ◌∷◌, ◌++◌, length, take, drop, get_or}
+use Rattle.std.proofs.Common.{Option, Some, None, option_map, Result, Ok, refl, sym, ap, subst, ◌∙◌}
+use Rattle.std.proofs.Common.{append_assoc, append-nil, arith}
 use Rattle.std.proofs.Math.Seq.{get_or-append_seam}
 use Rattle.std.proofs.lemmas.Bool.{ltb-true, eqb-true}
 use Rattle.std.proofs.lemmas.List.{take_at, drop_at, length-append}
 use Rattle.wire_base.specs.Reading.{◌>>=◌}
 use Rattle.wire_base.specs.Spelling.{StandsAt}
-use Rattle.types_10.specs.Tree.{Tree, scalar, list, mapping, array, described, ulong, Trees, trees_of}
+use Rattle.types_10.specs.Tree.{Tree, scalar, list, mapping, array, described, ulong, Trees}
+use Rattle.types_10.specs.Tree.{trees_of}
 use Rattle.types_10.specs.Tree as value
 use Rattle.types_10.specs.View.{value_tree}
 use Rattle.types_10.specs.Grammar.{IsValue}
@@ -14,13 +18,21 @@ use Rattle.types_10.specs.Writing.{value_text, HasSpelling}
 use Rattle.types_10.specs.declared.value.Value10.{Value10}
 use Rattle.types_10.proofs.Canonical.{written_is_canonical}
 use Rattle.types_10.proofs.Within.{canonical_is_spelled}
-use Rattle.sections_10.specs.Fields.{Row, may, absent, is_absent, maybe, a_boolean, a_ubyte, a_uint, a_timestamp, a_binary, a_string, a_symbol, tree_at, leaf_in, field_in, fields_in}
+use Rattle.sections_10.specs.Fields.{Row, may, absent, is_absent, maybe, a_boolean, a_ubyte, a_uint}
+use Rattle.sections_10.specs.Fields.{a_timestamp, a_binary, a_string, a_symbol, tree_at, leaf_in}
+use Rattle.sections_10.specs.Fields.{field_in, fields_in}
 use Rattle.sections_10.specs.Fields as field
-use Rattle.sections_10.specs.Rows.{Section, header_rows, properties_rows, header_section, message_section, properties_section, application_section, data_section}
+use Rattle.sections_10.specs.Rows.{Section, header_rows, properties_rows, header_section}
+use Rattle.sections_10.specs.Rows.{message_section, properties_section, application_section}
+use Rattle.sections_10.specs.Rows.{data_section}
 use Rattle.sections_10.specs.View.{header_fields, props_fields, header_tree, props_tree, kept_of}
-use Rattle.sections_10.specs.Reading.{is_key_of, keys_are, map_with, meaning_in, kind_of, Sections, message_in}
+use Rattle.sections_10.specs.Reading.{is_key_of, keys_are, map_with, meaning_in, kind_of, Sections}
+use Rattle.sections_10.specs.Reading.{message_in}
 use Rattle.sections_10.specs.Grammar.{IsSectionAt, IsMaybeAt, IsBodyAt, IsMessage}
-use Rattle.sections_10.specs.Writing.{in_front, trim, unless_false, unless_zero, header_written, header_value, props_value, section_text, maybe_text, binary_head, body_text, message_text, IfThere, IsData, EachWritten, CanBeWritten, IsId, HasIds, IsMapWith, HasTypes}
+use Rattle.sections_10.specs.Writing.{in_front, trim, unless_false, unless_zero, header_written}
+use Rattle.sections_10.specs.Writing.{header_value, props_value, section_text, maybe_text}
+use Rattle.sections_10.specs.Writing.{binary_head, body_text, message_text, IfThere, IsData}
+use Rattle.sections_10.specs.Writing.{EachWritten, CanBeWritten, IsId, HasIds, IsMapWith, HasTypes}
 use Rattle.sections_10.specs.declared.sections.Keys.{Keys}
 use Rattle.sections_10.specs.declared.sections.Keys.TheVariants as keys
 use Rattle.sections_10.specs.declared.message.MsgHeader.{MsgHeader}

@@ -1,6 +1,7 @@
--- Fields of a list (AMQP 1.0 1.4): what a row of a table says of a field, and what is read of one. A field past the end of the
--- list is null, and null is absent.
-use Rattle.std.specs.Prelude.{ℕ, zero, suc, ◌+◌, Bool, true, false, if◌then◌else◌, List, [], ◌∷◌, Option, Some, None, Ok, Err, Result, ℤ}
+-- Fields of a list (AMQP 1.0 1.4): what a row of a table says of a field, and what is read of one.
+-- A field past the end of the list is null, and null is absent.
+use Rattle.std.specs.Prelude.{ℕ, zero, suc, ◌+◌, Bool, true, false, if◌then◌else◌, List, [], ◌∷◌}
+use Rattle.std.specs.Prelude.{Option, Some, None, Ok, Err, Result, ℤ}
 use Rattle.wire_base.specs.Reading.{◌>>=◌}
 use Rattle.types_10.specs.Tree.{Scalar, Tree, scalar, Trees, no_trees, tree}
 use Rattle.types_10.specs.Tree as value
@@ -80,7 +81,8 @@ wrong = Err tt
 abbrev pub right : Tree → Result Tree (Unit {0})
 right t = Ok t
 
--- a value as a field of this type. An address of another type is absent; an id is an ulong, a uuid, a binary or a string.
+-- a value as a field of this type. An address of another type is absent; an id is an ulong, a uuid,
+-- a binary or a string.
 unfoldable pub leaf_in : Leaf → Tree → Result Tree (Unit {0})
 leaf_in boolean (scalar (value.boolean b)) = right (a_boolean b)
 leaf_in boolean t = wrong

@@ -1,12 +1,16 @@
--- How messages are spelled (AMQP 1.0 3.2): which sections stand in bytes, from one offset to another. A section is the byte 00, the
--- code of its descriptor, and a value of its kind, whose depth is counted by itself. Sections stand in the order of the table, each at
--- most once, but for data and sequences; those of a body are of one kind.
-use Rattle.std.specs.Prelude.{◌≡◌, ◌≢◌, ◌⊎◌, ℕ, ◌+◌, ◌<◌, List, [], ◌∷◌, length, slice_index, Option, Some, None, Ok}
+-- How messages are spelled (AMQP 1.0 3.2): which sections stand in bytes, from one offset to
+-- another. A section is the byte 00, the code of its descriptor, and a value of its kind, whose
+-- depth is counted by itself. Sections stand in the order of the table, each at most once, but for
+-- data and sequences; those of a body are of one kind.
+use Rattle.std.specs.Prelude.{◌≡◌, ◌≢◌, ◌⊎◌, ℕ, ◌+◌, ◌<◌, List, [], ◌∷◌, length, slice_index}
+use Rattle.std.specs.Prelude.{Option, Some, None, Ok}
 use Rattle.std.specs.List.{flat_map}
 use Rattle.wire_base.specs.Spelling.{StandsAt}
 use Rattle.types_10.specs.Tree.{Tree, scalar, ulong}
 use Rattle.types_10.specs.Grammar.{IsValue}
-use Rattle.sections_10.specs.Rows.{Section, header_section, delivery_section, message_section, properties_section, application_section, data_section, sequence_section, value_section, footer_section}
+use Rattle.sections_10.specs.Rows.{Section, header_section, delivery_section, message_section}
+use Rattle.sections_10.specs.Rows.{properties_section, application_section, data_section}
+use Rattle.sections_10.specs.Rows.{sequence_section, value_section, footer_section}
 use Rattle.sections_10.specs.Reading.{meaning_in, bytes_of, value_body, Sections}
 use Rattle.sections_10.specs.View.{Kept}
 use Rattle.sections_10.specs.declared.message.Body10.{Body10}
@@ -15,7 +19,8 @@ use Rattle.sections_10.specs.declared.message.Body10.TheVariants as body
 -- the descriptor of a section: an ulong, in any of its encodings
 abbrev pub IsCodeAt : ℕ → List ℕ → ℕ → ℕ → Type 0
 IsCodeAt code bytes at after =
-    (at < length bytes) × (slice_index bytes at ≡ 0) × StandsAt IsValue (scalar (ulong code)) bytes (at + 1) after
+    (at < length bytes) × (slice_index bytes at ≡ 0) × StandsAt IsValue (scalar
+    (ulong code)) bytes (at + 1) after
 
 -- a section that says this
 abbrev pub IsSectionAt : Section → Tree → List ℕ → ℕ → ℕ → Type 0
@@ -31,14 +36,17 @@ IsMaybeAt s (Some x) bytes at after = IsSectionAt s x bytes at after
 -- sections of one kind, one after another
 abbrev pub IsRunAt : Section → List Tree → List ℕ → ℕ → ℕ → Type 0
 IsRunAt s [] bytes at after = after ≡ at
-IsRunAt s (x ∷ xs) bytes at after = (middle : ℕ) × IsSectionAt s x bytes at middle × IsRunAt s xs bytes middle after
+IsRunAt s (x ∷ xs) bytes at after =
+    (middle : ℕ) × IsSectionAt s x bytes at middle × IsRunAt s xs bytes middle after
 
 -- a body: data sections, whose bytes are joined; sequences; or one value
 abbrev pub IsBodyAt : Option Body10 → List ℕ → ℕ → ℕ → Type 0
 IsBodyAt None bytes at after = after ≡ at
 IsBodyAt (Some b) bytes at after =
-    ((ts : List Tree) × (ts ≢ []) × IsRunAt data_section ts bytes at after × (b ≡ body.Data (flat_map bytes_of ts)))
-    ⊎ (((ts : List Tree) × (ts ≢ []) × IsRunAt sequence_section ts bytes at after × (b ≡ body.Other))
+    ((ts : List Tree) × (ts ≢ []) × IsRunAt data_section ts bytes at after × (b
+    ≡ body.Data (flat_map bytes_of ts)))
+    ⊎ (((ts : List Tree) × (ts ≢ []) × IsRunAt sequence_section ts bytes at after × (b
+    ≡ body.Other))
     ⊎ ((t : Tree) × IsSectionAt value_section t bytes at after × (b ≡ value_body t)))
 
 -- sections in their order, from the front on
@@ -57,7 +65,8 @@ pub record AreInOrder (s : Sections) (bytes : List ℕ) : Type 0 where
   pub body : IsBodyAt s.body bytes body_from footer_from
   pub footer : IsMaybeAt footer_section s.footer bytes footer_from s.after
 
--- a message: such sections fill the bytes, and a body is among them. Annotations of the delivery and the footer are dropped.
+-- a message: such sections fill the bytes, and a body is among them. Annotations of the delivery
+-- and the footer are dropped.
 pub record IsMessage (k : Kept) (bytes : List ℕ) : Type 0 where
   pub sections : Sections
   pub in_order : AreInOrder sections bytes

@@ -1,13 +1,19 @@
--- Reading a message from left to right (AMQP 1.0 3.2), section by section, with the first fault that is met.
-use Rattle.std.specs.Prelude.{ℕ, zero, suc, ◌+◌, ◌==◌, ◌||◌, ◌&&◌, nat_lt, nat_le, Bool, true, false, if◌then◌else◌, List, [], ◌∷◌, ◌++◌, length, slice_index, Option, Some, None, option_map, Ok, Err, Result}
+-- Reading a message from left to right (AMQP 1.0 3.2), section by section, with the first fault
+-- that is met.
+use Rattle.std.specs.Prelude.{ℕ, zero, suc, ◌+◌, ◌==◌, ◌||◌, ◌&&◌, nat_lt, nat_le, Bool, true}
+use Rattle.std.specs.Prelude.{false, if◌then◌else◌, List, [], ◌∷◌, ◌++◌, length, slice_index}
+use Rattle.std.specs.Prelude.{Option, Some, None, option_map, Ok, Err, Result}
 use Rattle.wire_base.specs.Reading.{◌>>=◌}
 use Rattle.wire_base.specs.declared.scan.At.{At}
-use Rattle.types_10.specs.Tree.{Scalar, Tree, scalar, list, mapping, Pairs, no_pairs, pair, trees_of}
+use Rattle.types_10.specs.Tree.{Scalar, Tree, scalar, list, mapping, Pairs, no_pairs, pair}
+use Rattle.types_10.specs.Tree.{trees_of}
 use Rattle.types_10.specs.Tree as value
 use Rattle.types_10.specs.Reading.{Fault, value_at}
 use Rattle.types_10.specs.View.{value_tree}
 use Rattle.sections_10.specs.Fields.{fields_in}
-use Rattle.sections_10.specs.Rows.{SectionKind, Section, header_section, delivery_section, message_section, properties_section, application_section, data_section, sequence_section, value_section, footer_section}
+use Rattle.sections_10.specs.Rows.{SectionKind, Section, header_section, delivery_section}
+use Rattle.sections_10.specs.Rows.{message_section, properties_section, application_section}
+use Rattle.sections_10.specs.Rows.{data_section, sequence_section, value_section, footer_section}
 use Rattle.sections_10.specs.Rows as kind
 use Rattle.sections_10.specs.View.{header_tree, props_tree, Kept, kept_of}
 use Rattle.wire_base.specs.declared.stop.Stop.{Stop}
@@ -32,7 +38,8 @@ abbrev pub is_string_key : Tree → Bool
 is_string_key (scalar (value.string s)) = true
 is_string_key t = false
 
--- the keys of annotations are symbols or ulongs, those of properties of the application strings, and those of a footer any
+-- the keys of annotations are symbols or ulongs, those of properties of the application strings,
+-- and those of a footer any
 abbrev pub is_key_of : Keys → Tree → Bool
 is_key_of keys.Annotations t = is_annotation_key t
 is_key_of keys.Strings t = is_string_key t
@@ -85,10 +92,12 @@ abbrev pub ulong_of : Result (Tree × ℕ) Fault → Option (ℕ × ℕ)
 ulong_of (Ok (scalar (value.ulong n), after)) = Some (n, after)
 ulong_of read = None
 
--- the code of the descriptor at an offset, and the offset behind it; None where no ulong describes a value there
+-- the code of the descriptor at an offset, and the offset behind it; None where no ulong describes
+-- a value there
 unfoldable pub code_at : List ℕ → ℕ → Option (ℕ × ℕ)
 code_at bytes at =
-    if nat_lt at (length bytes) then (if slice_index bytes at == 0 then ulong_of (value_at bytes (at + 1)) else None)
+    if nat_lt at (length bytes) then (if slice_index bytes at == 0 then ulong_of (value_at bytes
+    (at + 1)) else None)
     else None
 
 -- the offset behind the descriptor, where it is this code
@@ -113,7 +122,8 @@ behind_code k bytes at None = Ok (None, at)
 behind_code k bytes at (Some after) = placed at (value_in k bytes after)
 
 -- what a function read of a section, told with its offset
-abbrev pub located_at : {T : Type 0} → ℕ → Result (T × ℕ) (Stop (Unit {0})) → Result (Option T × ℕ) (Stop ℕ)
+abbrev pub located_at : {T : Type 0} → ℕ → Result (T × ℕ) (Stop (Unit {0}))
+    → Result (Option T × ℕ) (Stop ℕ)
 located_at at (Ok x) = Ok (Some x.0, x.1)
 located_at at (Err stop.Memory) = Err stop.Memory
 located_at at (Err (stop.Fault e)) = Err (stop.Fault at)
@@ -163,7 +173,8 @@ more_data body (t ∷ ts) = more_data (Some (front_of body ++ bytes_of t)) ts
 abbrev pub data_behind : Option (List ℕ) → Result (List Tree × ℕ) ℕ → Result (Option (List ℕ) × ℕ) ℕ
 data_behind body read = read >>= λ x. Ok (more_data body x.0, x.1)
 
--- the data sections at an offset: a section has more bytes than none, so there are no more than bytes
+-- the data sections at an offset: a section has more bytes than none, so there are no more than
+-- bytes
 unfoldable pub data_in : List ℕ → ℕ → Result (Option (List ℕ) × ℕ) ℕ
 data_in bytes at = data_behind None (run_in data_section (length bytes) bytes at)
 
@@ -256,7 +267,8 @@ fault_of last (Some c) =
 -- the message of these sections: nothing is left behind them, and there is a body
 abbrev pub kept_in : Sections → Option Body10 → Result Kept (At SectionFault)
 kept_in s None = Err (record { fault = fault.NoBody; at = s.after })
-kept_in s (Some b) = Ok (record { header = s.header; annotations = s.annotations; properties = s.properties; application = s.application; body = b })
+kept_in s (Some b) =
+    Ok (record { header = s.header; annotations = s.annotations; properties = s.properties; application = s.application; body = b })
 
 abbrev pub whole_of : List ℕ → Sections → Result Kept (At SectionFault)
 whole_of bytes s =

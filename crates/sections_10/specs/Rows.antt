@@ -1,5 +1,5 @@
--- The tables of a message (AMQP 1.0 3.2): its sections in their order, each with the code of its descriptor and the kind of its
--- value, and the fields of the lists among them.
+-- The tables of a message (AMQP 1.0 3.2): its sections in their order, each with the code of its
+-- descriptor and the kind of its value, and the fields of the lists among them.
 use Rattle.std.specs.Prelude.{ℕ, false, List, [], ◌∷◌}
 use Rattle.types_10.specs.Tree.{scalar, boolean, uint}
 use Rattle.sections_10.specs.Fields.{Row, may}
@@ -7,7 +7,8 @@ use Rattle.sections_10.specs.Fields as field
 use Rattle.sections_10.specs.declared.sections.Keys.{Keys}
 use Rattle.sections_10.specs.declared.sections.Keys.TheVariants as keys
 
--- the kind of a section's value: a list of fields, a map with keys of some types, bytes, a list, or any value
+-- the kind of a section's value: a list of fields, a map with keys of some types, bytes, a list, or
+-- any value
 pub data SectionKind : Type 0 where
   fields : List Row → SectionKind
   map_of : Keys → SectionKind
@@ -19,7 +20,8 @@ pub data SectionKind : Type 0 where
 abbrev pub Section : Type 0
 Section = ℕ × SectionKind
 
--- durable, priority, ttl, first-acquirer and delivery-count; the first three have defaults that tell less than their absence
+-- durable, priority, ttl, first-acquirer and delivery-count; the first three have defaults that
+-- tell less than their absence
 abbrev pub header_rows : List Row
 header_rows =
     may field.boolean
@@ -29,8 +31,8 @@ header_rows =
     ∷ (field.uint, scalar (uint 0))
     ∷ []
 
--- message-id, user-id, to, subject, reply-to, correlation-id, content-type, content-encoding, absolute-expiry-time, creation-time,
--- group-id, group-sequence, reply-to-group-id
+-- message-id, user-id, to, subject, reply-to, correlation-id, content-type, content-encoding,
+-- absolute-expiry-time, creation-time, group-id, group-sequence, reply-to-group-id
 abbrev pub properties_rows : List Row
 properties_rows =
     may field.id

@@ -1,6 +1,8 @@
--- What is written of a message (AMQP 1.0 3.2): its sections in their order, each with the shortest spelling of its value. Of a list of
--- fields, one that is absent or has its default is null, and nulls at the end are left out.
-use Rattle.std.specs.Prelude.{◌≡◌, ℕ, zero, suc, ◌+◌, ◌==◌, nat_lt, Bool, true, false, if◌then◌else◌, List, [], ◌∷◌, ◌++◌, Option, Some, None, option_map}
+-- What is written of a message (AMQP 1.0 3.2): its sections in their order, each with the shortest
+-- spelling of its value. Of a list of fields, one that is absent or has its default is null, and
+-- nulls at the end are left out.
+use Rattle.std.specs.Prelude.{◌≡◌, ℕ, zero, suc, ◌+◌, ◌==◌, nat_lt, Bool, true, false}
+use Rattle.std.specs.Prelude.{if◌then◌else◌, List, [], ◌∷◌, ◌++◌, Option, Some, None, option_map}
 use Rattle.std.specs.Int.{w8, w32, to_be_bytes}
 use Rattle.types_10.specs.Tree.{Tree, scalar, list, mapping, trees_of}
 use Rattle.types_10.specs.Tree as value
@@ -124,15 +126,17 @@ IsId t = ⊥
 
 abbrev pub HasIds : Option MsgProps → Type 0
 HasIds None = Unit {0}
-HasIds (Some p) = IfThere IsId (option_map value_tree p.message_id) × IfThere IsId (option_map value_tree p.correlation_id)
+HasIds (Some p) =
+    IfThere IsId (option_map value_tree p.message_id) × IfThere IsId
+    (option_map value_tree p.correlation_id)
 
 -- a map with such keys
 abbrev pub IsMapWith : (Tree → Bool) → Tree → Type 0
 IsMapWith is_key (mapping ps) = keys_are is_key ps ≡ true
 IsMapWith is_key t = ⊥
 
--- the values inside have the types that the tables say: the ids; annotations with symbols or ulongs as keys, and properties of the
--- application with strings
+-- the values inside have the types that the tables say: the ids; annotations with symbols or ulongs
+-- as keys, and properties of the application with strings
 pub record HasTypes (m : Message10) : Type 0 where
   pub ids : HasIds m.properties
   pub annotations : IfThere (IsMapWith is_annotation_key) (option_map value_tree m.annotations)

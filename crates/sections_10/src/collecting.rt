@@ -2,7 +2,8 @@
 
 ghost use Rattle.std.specs.Prelude.{◌≡◌, ◌++◌, [], ◌∷◌, OnOk};
 ghost use Rattle.types_10.specs.View.{value_tree};
-ghost use Rattle.sections_10.specs.Fields.{absent, is_absent, maybe, a_boolean, a_ubyte, a_uint, a_timestamp, a_binary, a_string, a_symbol};
+ghost use Rattle.sections_10.specs.Fields.{absent, is_absent, maybe, a_boolean, a_ubyte, a_uint};
+ghost use Rattle.sections_10.specs.Fields.{a_timestamp, a_binary, a_string, a_symbol};
 ghost use Rattle.sections_10.specs.Writing.{added, no_fields, nulls};
 
 use std::alloc::Global;
@@ -61,7 +62,11 @@ impl Fields {
 
     /// Adds a field that is there, behind the nulls before it.
     fn push(&mut self, value: Value10) -> Result<(), Memory>
-        ensures { OnOk result (self.new ≡ record { list = self.old.list ++ nulls self.old.nulls ++ value_tree value ∷ []; nulls = 0 }) }
+        ensures { OnOk result (self.new ≡ record {
+          list = self.old.list ++ nulls self.old.nulls
+              ++ value_tree value ∷ [];
+          nulls = 0;
+        }) }
     {
         push_nulls(&mut self.list, self.nulls)?;
         self.nulls = 0;

@@ -1,10 +1,13 @@
-//! The fields of a list, by their place (AMQP 1.0 1.4). A field past the end of the list is absent, and so is null.
+//! The fields of a list, by their place (AMQP 1.0 1.4). A field past the end of the list is absent,
+//! and so is null.
 
 ghost use Rattle.std.specs.Prelude.{◌≡◌};
 ghost use Rattle.wire_base.specs.Reading.{Gives};
 ghost use Rattle.types_10.specs.Tree.{trees_of};
 ghost use Rattle.types_10.specs.View.{value_tree};
-ghost use Rattle.sections_10.specs.Fields.{maybe, may, absent, a_boolean, a_ubyte, a_uint, a_timestamp, a_binary, a_string, a_symbol, tree_at, field_at};
+ghost use Rattle.sections_10.specs.Fields.{maybe, may, absent, a_boolean, a_ubyte, a_uint};
+ghost use Rattle.sections_10.specs.Fields.{a_timestamp, a_binary, a_string, a_symbol, tree_at};
+ghost use Rattle.sections_10.specs.Fields.{field_at};
 ghost use Rattle.sections_10.specs.Fields as field;
 
 use std::alloc::Global;
@@ -21,7 +24,8 @@ fn value_at(fields: &ValueList, place: usize) -> Option<&Value10>
 /// A boolean that may be absent.
 #[tactic(auto, unfolding(crate::specs::Fields::leaf_in, crate::specs::Fields::field_in))]
 pub(crate) fn boolean_at(fields: &ValueList, place: usize) -> Result<Option<bool>, Stop<()>>
-    ensures { Gives (maybe a_boolean) result (field_at (may field.boolean) place (trees_of fields.now)) }
+    ensures { Gives (maybe a_boolean) result (field_at (may field.boolean) place
+        (trees_of fields.now)) }
 {
     match value_at(fields, place) {
         None | Some(Value10::Null) => Ok(None),
@@ -33,7 +37,8 @@ pub(crate) fn boolean_at(fields: &ValueList, place: usize) -> Result<Option<bool
 /// A boolean that is this one where it is absent.
 #[tactic(auto, unfolding(crate::specs::Fields::leaf_in, crate::specs::Fields::field_in))]
 pub(crate) fn boolean_or(fields: &ValueList, place: usize, default: bool) -> Result<bool, Stop<()>>
-    ensures { Gives a_boolean result (field_at (field.boolean, a_boolean default) place (trees_of fields.now)) }
+    ensures { Gives a_boolean result (field_at (field.boolean, a_boolean default) place
+        (trees_of fields.now)) }
 {
     match value_at(fields, place) {
         None | Some(Value10::Null) => Ok(default),
@@ -45,7 +50,8 @@ pub(crate) fn boolean_or(fields: &ValueList, place: usize, default: bool) -> Res
 /// An ubyte that may be absent.
 #[tactic(auto, unfolding(crate::specs::Fields::leaf_in, crate::specs::Fields::field_in))]
 pub(crate) fn ubyte_at(fields: &ValueList, place: usize) -> Result<Option<u8>, Stop<()>>
-    ensures { Gives (maybe a_ubyte) result (field_at (may field.ubyte) place (trees_of fields.now)) }
+    ensures { Gives (maybe a_ubyte) result (field_at (may field.ubyte) place
+        (trees_of fields.now)) }
 {
     match value_at(fields, place) {
         None | Some(Value10::Null) => Ok(None),
@@ -69,7 +75,8 @@ pub(crate) fn uint_at(fields: &ValueList, place: usize) -> Result<Option<u32>, S
 /// An uint that is this one where it is absent.
 #[tactic(auto, unfolding(crate::specs::Fields::leaf_in, crate::specs::Fields::field_in))]
 pub(crate) fn uint_or(fields: &ValueList, place: usize, default: u32) -> Result<u32, Stop<()>>
-    ensures { Gives a_uint result (field_at (field.uint, a_uint default) place (trees_of fields.now)) }
+    ensures { Gives a_uint result (field_at (field.uint, a_uint default) place
+        (trees_of fields.now)) }
 {
     match value_at(fields, place) {
         None | Some(Value10::Null) => Ok(default),
@@ -81,7 +88,8 @@ pub(crate) fn uint_or(fields: &ValueList, place: usize, default: u32) -> Result<
 /// A timestamp that may be absent.
 #[tactic(auto, unfolding(crate::specs::Fields::leaf_in, crate::specs::Fields::field_in))]
 pub(crate) fn timestamp_at(fields: &ValueList, place: usize) -> Result<Option<i64>, Stop<()>>
-    ensures { Gives (maybe a_timestamp) result (field_at (may field.timestamp) place (trees_of fields.now)) }
+    ensures { Gives (maybe a_timestamp) result (field_at (may field.timestamp) place
+        (trees_of fields.now)) }
 {
     match value_at(fields, place) {
         None | Some(Value10::Null) => Ok(None),
@@ -97,7 +105,8 @@ pub(crate) fn binary_at(
     fields: &ValueList,
     place: usize,
 ) -> Result<Option<ByteText>, Stop<()>>
-    ensures { Gives (maybe a_binary) result (field_at (may field.binary) place (trees_of fields.now)) }
+    ensures { Gives (maybe a_binary) result (field_at (may field.binary) place
+        (trees_of fields.now)) }
 {
     match value_at(fields, place) {
         None | Some(Value10::Null) => Ok(None),
@@ -113,7 +122,8 @@ pub(crate) fn string_at(
     fields: &ValueList,
     place: usize,
 ) -> Result<Option<ByteText>, Stop<()>>
-    ensures { Gives (maybe a_string) result (field_at (may field.string) place (trees_of fields.now)) }
+    ensures { Gives (maybe a_string) result (field_at (may field.string) place
+        (trees_of fields.now)) }
 {
     match value_at(fields, place) {
         None | Some(Value10::Null) => Ok(None),
@@ -129,7 +139,8 @@ pub(crate) fn symbol_at(
     fields: &ValueList,
     place: usize,
 ) -> Result<Option<ByteText>, Stop<()>>
-    ensures { Gives (maybe a_symbol) result (field_at (may field.symbol) place (trees_of fields.now)) }
+    ensures { Gives (maybe a_symbol) result (field_at (may field.symbol) place
+        (trees_of fields.now)) }
 {
     match value_at(fields, place) {
         None | Some(Value10::Null) => Ok(None),
@@ -145,7 +156,8 @@ pub(crate) fn address_at(
     fields: &ValueList,
     place: usize,
 ) -> Result<Option<ByteText>, Stop<()>>
-    ensures { Gives (maybe a_string) result (field_at (may field.address) place (trees_of fields.now)) }
+    ensures { Gives (maybe a_string) result (field_at (may field.address) place
+        (trees_of fields.now)) }
 {
     match value_at(fields, place) {
         Some(Value10::String(text)) => Ok(Some(text.copy(alloc)?)),
@@ -160,7 +172,8 @@ pub(crate) fn id_at(
     fields: &ValueList,
     place: usize,
 ) -> Result<Option<Value10>, Stop<()>>
-    ensures { Gives (maybe value_tree) result (field_at (may field.id) place (trees_of fields.now)) }
+    ensures { Gives (maybe value_tree) result (field_at (may field.id) place
+        (trees_of fields.now)) }
 {
     match value_at(fields, place) {
         None | Some(Value10::Null) => Ok(None),

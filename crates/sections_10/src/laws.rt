@@ -14,7 +14,8 @@ ghost use Rattle.sections_10.specs.declared.reading.SectionFault.{SectionFault};
 
 /// The laws of messages, for proofs to cite; the call does nothing.
 ///
-/// `HasTypes` says that the values inside a message have the types of their rows, and `CanBeWritten` is the condition of
+/// `HasTypes` says that the values inside a message have the types of their rows, and
+/// `CanBeWritten` is the condition of
 /// `put_message`. `IsRanged` says that the numbers inside are of their types, as they are.
 pub fn message_laws()
     // A message is read exactly where it fills the bytes.

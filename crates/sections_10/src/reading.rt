@@ -5,7 +5,8 @@ ghost use Rattle.wire_base.specs.Reading.{Gives};
 ghost use Rattle.sections_10.specs.View.{Kept, kept_of};
 ghost use Rattle.sections_10.specs.Faults.{IsFault};
 ghost use Rattle.sections_10.specs.Grammar.{IsMessage};
-ghost use Rattle.sections_10.specs.Reading.{found_sections, sections_in, rank, last_rank, fault_of, whole_of, message_in, seen};
+ghost use Rattle.sections_10.specs.Reading.{found_sections, sections_in, rank, last_rank, fault_of};
+ghost use Rattle.sections_10.specs.Reading.{whole_of, message_in, seen};
 
 use crate::bodies::next_body;
 use crate::message::{Body10, Message10, MsgHeader, MsgProps};
@@ -165,13 +166,15 @@ fn whole_in(alloc: Global, bytes: &[u8]) -> Result<Result<Message10, At<SectionF
     }
 }
 
-/// The message that fills these bytes. Annotations of the delivery and the footer are read and dropped.
+/// The message that fills these bytes. Annotations of the delivery and the footer are read and
+/// dropped.
 ///
 /// # Errors
 ///
-/// That of the first section at fault, at its first byte. `Order`: a later section stood before it. `Repeated`: its kind stood before it, or it is
-/// one of a body of another kind than the first. `Value`: no section stands there, or its value can't be read or has another
-/// type. Where no section is at fault, `NoBody` at the length of the input.
+/// That of the first section at fault, at its first byte. `Order`: a later section stood before it.
+/// `Repeated`: its kind stood before it, or it is one of a body of another kind than the first.
+/// `Value`: no section stands there, or its value can't be read or has another type. Where no
+/// section is at fault, `NoBody` at the length of the input.
 ///
 /// `Memory` where the allocator has no room.
 pub fn read_message(

@@ -1,6 +1,7 @@
 //! The sections of a message (AMQP 1.0 3.2), each by itself: a descriptor, and a value of its kind.
 //!
-//! Offsets are in bytes from the front of the input. A section that isn't there leaves the offset as it is.
+//! Offsets are in bytes from the front of the input. A section that isn't there leaves the offset
+//! as it is.
 
 ghost use Rattle.std.specs.Prelude.{◌≡◌, IfOk, option_map};
 ghost use Rattle.wire_base.specs.Reading.{Gives};
@@ -8,9 +9,12 @@ ghost use Rattle.types_10.specs.Tree.{trees_of, pairs_of};
 ghost use Rattle.types_10.specs.View.{value_tree};
 ghost use Rattle.types_10.specs.Reading.{value_at};
 ghost use Rattle.sections_10.specs.Fields.{a_binary, fields_in};
-ghost use Rattle.sections_10.specs.Rows.{properties_rows, header_section, properties_section, data_section, sequence_section, value_section};
+ghost use Rattle.sections_10.specs.Rows.{properties_rows, header_section, properties_section};
+ghost use Rattle.sections_10.specs.Rows.{data_section, sequence_section, value_section};
 ghost use Rattle.sections_10.specs.View.{header_tree, props_fields, props_tree};
-ghost use Rattle.sections_10.specs.Reading.{is_key_of, key_at, keys_are, kind_of, meaning_in, value_in, without_fault, code_at, if_code, located_at, section_in, stands_in};
+ghost use Rattle.sections_10.specs.Reading.{is_key_of, key_at, keys_are, kind_of, meaning_in};
+ghost use Rattle.sections_10.specs.Reading.{value_in, without_fault, code_at, if_code, located_at};
+ghost use Rattle.sections_10.specs.Reading.{section_in, stands_in};
 
 use crate::fields::{
     address_at, binary_at, boolean_at, boolean_or, id_at, string_at, symbol_at, timestamp_at,
@@ -42,7 +46,8 @@ pub(crate) const FOOTER: u8 = 0x78;
 
 // ---- descriptors and values
 
-/// The code that describes the value at an offset, and the offset behind it; `None` where none does.
+/// The code that describes the value at an offset, and the offset behind it; `None` where none
+/// does.
 #[tactic(auto, unfolding(crate::specs::Reading::code_at))]
 pub(crate) fn code_of(
     alloc: Global,
@@ -225,7 +230,8 @@ pub(crate) fn header_in(
     bytes: &[u8],
     at: usize,
 ) -> Result<(Option<MsgHeader>, usize), Stop<usize>>
-    ensures { Gives (λ x. (option_map header_tree x.0, x.1)) result (section_in header_section bytes.now at) }
+    ensures { Gives (λ x. (option_map header_tree x.0, x.1)) result
+        (section_in header_section bytes.now at) }
 {
     match behind(alloc, bytes, at, HEADER)? {
         Some(after) => located(header_behind(alloc, bytes, after), at),
@@ -235,7 +241,8 @@ pub(crate) fn header_in(
 
 /// The fields of properties at an offset, and the offset behind them.
 fn properties_behind(alloc: Global, bytes: &[u8], at: usize) -> Result<(MsgProps, usize), Stop<()>>
-    ensures { Gives (λ x. (props_tree x.0, x.1)) result (value_in properties_section.1 bytes.now at) }
+    ensures { Gives (λ x. (props_tree x.0, x.1)) result
+        (value_in properties_section.1 bytes.now at) }
 {
     let (value, after) = value_of(alloc, bytes, at)?;
     Ok((properties_from(alloc, &value)?, after))
@@ -248,7 +255,8 @@ pub(crate) fn properties_in(
     bytes: &[u8],
     at: usize,
 ) -> Result<(Option<MsgProps>, usize), Stop<usize>>
-    ensures { Gives (λ x. (option_map props_tree x.0, x.1)) result (section_in properties_section bytes.now at) }
+    ensures { Gives (λ x. (option_map props_tree x.0, x.1)) result
+        (section_in properties_section bytes.now at) }
 {
     match behind(alloc, bytes, at, PROPERTIES)? {
         Some(after) => located(properties_behind(alloc, bytes, after), at),
@@ -278,7 +286,8 @@ pub(crate) fn map_in(
     bytes: &[u8],
     at: usize,
 ) -> Result<(Option<Value10>, usize), Stop<usize>>
-    ensures { Gives (λ x. (option_map value_tree x.0, x.1)) result (section_in (code, kind_of keys) bytes.now at) }
+    ensures { Gives (λ x. (option_map value_tree x.0, x.1)) result (section_in
+        (code, kind_of keys) bytes.now at) }
 {
     match behind(alloc, bytes, at, code)? {
         Some(after) => located(map_behind(alloc, keys, bytes, after), at),
@@ -305,7 +314,8 @@ pub(crate) fn data_section_in(
     bytes: &[u8],
     at: usize,
 ) -> Result<(Option<ByteText>, usize), Stop<usize>>
-    ensures { Gives (λ x. (option_map a_binary x.0, x.1)) result (section_in data_section bytes.now at) }
+    ensures { Gives (λ x. (option_map a_binary x.0, x.1)) result
+        (section_in data_section bytes.now at) }
 {
     match behind(alloc, bytes, at, DATA)? {
         Some(after) => located(data_behind(alloc, bytes, after), at),
@@ -332,7 +342,8 @@ fn maybe_sequence_in(
     bytes: &[u8],
     at: usize,
 ) -> Result<(Option<Value10>, usize), Stop<usize>>
-    ensures { Gives (λ x. (option_map value_tree x.0, x.1)) result (section_in sequence_section bytes.now at) }
+    ensures { Gives (λ x. (option_map value_tree x.0, x.1)) result
+        (section_in sequence_section bytes.now at) }
 {
     match behind(alloc, bytes, at, SEQUENCE)? {
         Some(after) => located(sequence_behind(alloc, bytes, after), at),
@@ -368,7 +379,8 @@ pub(crate) fn value_section_in(
     bytes: &[u8],
     at: usize,
 ) -> Result<(Option<Value10>, usize), Stop<usize>>
-    ensures { Gives (λ x. (option_map value_tree x.0, x.1)) result (section_in value_section bytes.now at) }
+    ensures { Gives (λ x. (option_map value_tree x.0, x.1)) result
+        (section_in value_section bytes.now at) }
 {
     match behind(alloc, bytes, at, VALUE)? {
         Some(after) => located(anything_behind(alloc, bytes, after), at),

@@ -1,14 +1,19 @@
 //! Writing messages.
 //!
-//! Where a function of this module but `put_message` answers `Memory`, what stood in `out` before still stands at its front.
+//! Where a function of this module but `put_message` answers `Memory`, what stood in `out` before
+//! still stands at its front.
 
-ghost use Rattle.std.specs.Prelude.{◌≡◌, ◌↔◌, ◌++◌, true, List, [], ◌∷◌, length, take, option_map, IfOk, OnOk, OnErr};
+ghost use Rattle.std.specs.Prelude.{◌≡◌, ◌↔◌, ◌++◌, true, List, [], ◌∷◌, length, take, option_map};
+ghost use Rattle.std.specs.Prelude.{IfOk, OnOk, OnErr};
 ghost use Rattle.types_10.specs.Tree.{Tree};
 ghost use Rattle.types_10.specs.View.{value_tree};
 ghost use Rattle.types_10.specs.Writing.{value_text, HasSpelling};
 ghost use Rattle.sections_10.specs.Fields.{maybe, a_boolean, a_uint, a_binary};
 ghost use Rattle.sections_10.specs.View.{props_fields};
-ghost use Rattle.sections_10.specs.Writing.{fields_list, unless_false, unless_zero, header_written, header_value, props_value, section_text, maybe_text, binary_head, body_text, message_text, IfThere, IsData, CanBeWritten, all_added, no_fields};
+ghost use Rattle.sections_10.specs.Writing.{fields_list, unless_false, unless_zero, header_written};
+ghost use Rattle.sections_10.specs.Writing.{header_value, props_value, section_text, maybe_text};
+ghost use Rattle.sections_10.specs.Writing.{binary_head, body_text, message_text, IfThere, IsData};
+ghost use Rattle.sections_10.specs.Writing.{CanBeWritten, all_added, no_fields};
 
 use crate::collecting::Fields;
 use crate::message::{Body10, Message10, MsgHeader, MsgProps};
@@ -17,7 +22,8 @@ use std::alloc::Global;
 use types_10::{Value10, has_spelling, put_value};
 use wire_base::{ByteText, Memory, put_u8, put_u32};
 
-/// The codes of an ulong of one byte, and of a binary with a length of one byte or of four (AMQP 1.0 1.6).
+/// The codes of an ulong of one byte, and of a binary with a length of one byte or of four (AMQP
+/// 1.0 1.6).
 const SMALL_ULONG: u8 = 0x53;
 
 const SHORT_BINARY: u8 = 0xA0;
@@ -27,7 +33,8 @@ const LONG_BINARY: u8 = 0xB0;
 /// The least length that doesn't fit one byte.
 const LEAST_LONG: usize = 256;
 
-/// The least length of data whose section's value has no spelling: with code and length it would have 2^32 bytes.
+/// The least length of data whose section's value has no spelling: with code and length it would
+/// have 2^32 bytes.
 const LEAST_TOO_LONG: usize = 0xFFFF_FFFB;
 
 // ---- lists of fields
@@ -130,7 +137,8 @@ fn put_section(out: &mut ByteText, code: u8, value: &Value10) -> Result<(), Memo
 /// A section that may be there.
 fn put_maybe(out: &mut ByteText, code: u8, value: &Option<Value10>) -> Result<(), Memory>
     requires { IfThere HasSpelling (option_map value_tree value.now) }
-    ensures ok { OnOk result (out.new ≡ out.old ++ maybe_text code (option_map value_tree value.now)) }
+    ensures ok { OnOk result (out.new ≡ out.old ++ maybe_text code
+        (option_map value_tree value.now)) }
     ensures err { OnErr result (take (length out.old) out.new ≡ out.old) }
 {
     match value {
@@ -142,7 +150,8 @@ fn put_maybe(out: &mut ByteText, code: u8, value: &Option<Value10>) -> Result<()
 /// A header that may be there.
 fn put_header(alloc: Global, out: &mut ByteText, header: &Option<MsgHeader>) -> Result<(), Memory>
     requires { IfThere HasSpelling (option_map header_value header.now) }
-    ensures ok { OnOk result (out.new ≡ out.old ++ maybe_text 112 (option_map header_value header.now)) }
+    ensures ok { OnOk result (out.new ≡ out.old ++ maybe_text 112
+        (option_map header_value header.now)) }
     ensures err { OnErr result (take (length out.old) out.new ≡ out.old) }
 {
     match header {
@@ -154,7 +163,8 @@ fn put_header(alloc: Global, out: &mut ByteText, header: &Option<MsgHeader>) -> 
 /// Properties that may be there.
 fn put_props(alloc: Global, out: &mut ByteText, props: &Option<MsgProps>) -> Result<(), Memory>
     requires { IfThere HasSpelling (option_map props_value props.now) }
-    ensures ok { OnOk result (out.new ≡ out.old ++ maybe_text 115 (option_map props_value props.now)) }
+    ensures ok { OnOk result (out.new ≡ out.old ++ maybe_text 115
+        (option_map props_value props.now)) }
     ensures err { OnErr result (take (length out.old) out.new ≡ out.old) }
 {
     match props {
@@ -226,7 +236,8 @@ fn value_spells(value: &Option<Value10>) -> bool
 
 /// Whether a header that may be there has a spelling.
 fn header_spells(alloc: Global, header: &Option<MsgHeader>) -> Result<bool, Memory>
-    ensures { IfOk result (λ b. b ≡ true ↔ IfThere HasSpelling (option_map header_value header.now)) }
+    ensures { IfOk result (λ b. b ≡ true ↔ IfThere HasSpelling
+        (option_map header_value header.now)) }
 {
     match header {
         Some(header) => Ok(has_spelling(&header_value(alloc, header)?)),
@@ -255,7 +266,8 @@ fn body_spells(body: &Body10) -> bool
     }
 }
 
-/// Whether a message can be written, so that `put_message` takes it: its body is data, and the value of each section has a spelling.
+/// Whether a message can be written, so that `put_message` takes it: its body is data, and the
+/// value of each section has a spelling.
 ///
 /// # Errors
 ///
@@ -274,14 +286,17 @@ pub fn can_be_written(alloc: Global, message: &Message10) -> Result<bool, Memory
     )
 }
 
-/// Adds the sections of a message (AMQP 1.0 3.2) in their order, or leaves `out` as it was. The body is one data section.
+/// Adds the sections of a message (AMQP 1.0 3.2) in their order, or leaves `out` as it was. The
+/// body is one data section.
 ///
-/// Of a header and of properties an absent field is null, and so is first-acquirer where it is false, and delivery-count where it is 0.
-/// Nulls at the end are left out, and each value has its shortest encoding.
+/// Of a header and of properties an absent field is null, and so is first-acquirer where it is
+/// false, and delivery-count where it is 0. Nulls at the end are left out, and each value has its
+/// shortest encoding.
 ///
-/// The body must be data, and each section must have a spelling, as `can_be_written` tells: strings are UTF-8, symbols ASCII, its
-/// depth is at most 16, and it has fewer than 2^32 bytes. That ids, annotations and properties of the application have the types of
-/// their rows is for the caller to see to: without it other bytes are written than a message has.
+/// The body must be data, and each section must have a spelling, as `can_be_written` tells: strings
+/// are UTF-8, symbols ASCII, its depth is at most 16, and it has fewer than 2^32 bytes. That ids,
+/// annotations and properties of the application have the types of their rows is for the caller to
+/// see to: without it other bytes are written than a message has.
 ///
 /// # Errors
 ///

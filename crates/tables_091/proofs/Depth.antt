@@ -1,5 +1,6 @@
 -- A field of some depth, where the depth is no numeral.
-use Rattle.std.proofs.Common.{◌≡◌, ℕ, zero, suc, ◌-◌, ◌<◌, false, cond, eqb, List, Result, Ok, Some, refl, sym, subst, arith, rules, tests}
+use Rattle.std.proofs.Common.{◌≡◌, ℕ, zero, suc, ◌-◌, ◌<◌, false, cond, eqb, List, Result, Ok, Some}
+use Rattle.std.proofs.Common.{refl, sym, subst, arith, rules, tests}
 use Rattle.std.specs.Int.{w8}
 use Rattle.wire_base.specs.declared.stop.Stop.{Stop}
 use Rattle.wire_base.specs.Reading.{Gives, number_in, offset}

@@ -1,5 +1,7 @@
 -- The readers of fields against the faults of bytes, by the laws of their parts.
-use Rattle.std.proofs.Common.{◌≡◌, ◌≢◌, ◌↔◌, inl, inr, ℕ, zero, suc, ◌-◌, ◌<◌, ◌≤◌, ltb, false, List, [], ◌∷◌, length, drop, Option, Some, None, Result, Ok, Err, refl, sym, ap, ◌∙◌, arith}
+use Rattle.std.proofs.Common.{◌≡◌, ◌≢◌, ◌↔◌, inl, inr, ℕ, zero, suc, ◌-◌, ◌<◌, ◌≤◌, ltb, false}
+use Rattle.std.proofs.Common.{List, [], ◌∷◌, length, drop, Option, Some, None, Result, Ok, Err}
+use Rattle.std.proofs.Common.{refl, sym, ap, ◌∙◌, arith}
 use Rattle.std.proofs.lemmas.Bool.{ltb-true, ltb-false, lt-ltb, le-ltb}
 use Rattle.std.proofs.lemmas.List.{length-append}
 use Rattle.std.specs.Int.{w8, w32, from_be_bytes}
@@ -9,13 +11,20 @@ use Rattle.wire_base.specs.Faults.{Faults, IsCut, IsNumberCut, IsTextFault}
 use Rattle.wire_base.specs.Reading.{Reads, ◌>>=◌, offset, pair_in, number_in, text_in, whole_in}
 use Rattle.wire_base.proofs.Bytes.{IsBytes-drop}
 use Rattle.wire_base.proofs.Laws.{IsReader, wide8, wide32, number_reader, text_reader}
-use Rattle.wire_base.proofs.FaultLaws.{failed, err_is, bind_fails, guard_fails, TellsFaults, made_faults, number_faults, text_faults, pair_faults, container_faults}
+use Rattle.wire_base.proofs.FaultLaws.{failed, err_is, bind_fails, guard_fails, TellsFaults}
+use Rattle.wire_base.proofs.FaultLaws.{made_faults, number_faults, text_faults, pair_faults}
+use Rattle.wire_base.proofs.FaultLaws.{container_faults}
 use Rattle.tables_091.specs.Tree.{decimal, Tree, scalar, array, table, trees_of, members_of}
-use Rattle.tables_091.specs.Kinds.{kind_byte, kind_of, octet_scalar, wide_width, wide_scalar, text_scalar}
+use Rattle.tables_091.specs.Kinds.{kind_byte, kind_of, octet_scalar, wide_width, wide_scalar}
+use Rattle.tables_091.specs.Kinds.{text_scalar}
 use Rattle.tables_091.specs.Grammar.{IsMember, IsField}
-use Rattle.tables_091.specs.Reading.{single_in, member_in, flat_in, deep_in, kinded_in, typed_in, field_in, table_in, table_at}
-use Rattle.tables_091.specs.Faults.{IsSingleFault, IsMemberFault, IsFlatFault, IsDeepFault, IsKindFault, IsTypedFault, IsFieldFault, IsTableFault, IsFaultAt}
-use Rattle.tables_091.proofs.ReaderLaws.{kind_known, kind_is, member_reader, member_filled, field_filled, field_reader}
+use Rattle.tables_091.specs.Reading.{single_in, member_in, flat_in, deep_in, kinded_in, typed_in}
+use Rattle.tables_091.specs.Reading.{field_in, table_in, table_at}
+use Rattle.tables_091.specs.Faults.{IsSingleFault, IsMemberFault, IsFlatFault, IsDeepFault}
+use Rattle.tables_091.specs.Faults.{IsKindFault, IsTypedFault, IsFieldFault, IsTableFault}
+use Rattle.tables_091.specs.Faults.{IsFaultAt}
+use Rattle.tables_091.proofs.ReaderLaws.{kind_known, kind_is, member_reader, member_filled}
+use Rattle.tables_091.proofs.ReaderLaws.{field_filled, field_reader}
 use Rattle.tables_091.specs.declared.kind.Kind.{Kind}
 use Rattle.tables_091.specs.declared.kind.Kind.TheVariants as kind
 use Rattle.tables_091.specs.declared.kind.Single.{Single}

@@ -1,12 +1,15 @@
 -- What is said of the values in a list or a table, said of the list's fields and the table's entries one by one.
-use Rattle.std.proofs.Common.{◌≡◌, ℕ, List, [], ◌∷◌, ◌++◌, length, get_or, ◌<◌, ◌^◌, map, All, refl, ap, arith}
+use Rattle.std.proofs.Common.{◌≡◌, ℕ, List, [], ◌∷◌, ◌++◌, length, get_or, ◌<◌, ◌^◌, map, All, refl}
+use Rattle.std.proofs.Common.{ap, arith}
 use Rattle.std.specs.List.{flat_map, AllByRecursion}
 use Rattle.std.proofs.lemmas.List.Folds.{length-flat_map-take}
 use Rattle.std.proofs.lemmas.List.Elements.{All-from_recursion}
 use Rattle.tables_091.specs.declared.field.Field.{Field}
 use Rattle.tables_091.specs.Tree.{trees_of, members_of}
 use Rattle.tables_091.specs.View.{field_tree, entry_member}
-use Rattle.tables_091.specs.Writing.{trees_text, members_text, field_text, entry_text, TreesNamesAreShort, MembersNamesAreShort, FieldIsShort, EntryIsShort}
+use Rattle.tables_091.specs.Writing.{trees_text, members_text, field_text, entry_text}
+use Rattle.tables_091.specs.Writing.{TreesNamesAreShort, MembersNamesAreShort, FieldIsShort}
+use Rattle.tables_091.specs.Writing.{EntryIsShort}
 
 pub fields_text : (fs : List Field) → trees_text (trees_of (map field_tree fs)) ≡ flat_map field_text fs
 fields_text [] = refl

@@ -1,18 +1,26 @@
 -- The readers of fields against their spellings, by the laws of their parts.
-use Rattle.std.proofs.Common.{◌≡◌, ◌↔◌, ℕ, zero, suc, ◌+◌, ◌-◌, ◌<◌, ◌≤◌, take, drop, Bool, true, false, cond, eqb, List, [], ◌∷◌, ◌++◌, length, Option, Some, None, Ok, Err, refl, sym, ap, subst, ◌∙◌, arith}
+use Rattle.std.proofs.Common.{◌≡◌, ◌↔◌, ℕ, zero, suc, ◌+◌, ◌-◌, ◌<◌, ◌≤◌, take, drop, Bool, true}
+use Rattle.std.proofs.Common.{false, cond, eqb, List, [], ◌∷◌, ◌++◌, length, Option, Some, None, Ok}
+use Rattle.std.proofs.Common.{Err, refl, sym, ap, subst, ◌∙◌, arith}
 use Rattle.std.proofs.lemmas.Bool.{eqb-true}
 use Rattle.std.proofs.lemmas.List.{length-append, length-drop, take_at}
 use Rattle.std.specs.Int.{w8, w32, to_be_bytes}
 use Rattle.wire_base.specs.Bytes.{IsBytes}
 use Rattle.wire_base.specs.Spelling.{IsNumber, IsText, IsPair, IsContainer, StandsAt}
-use Rattle.wire_base.specs.Reading.{Reads, offset, pair_in, number_in, text_in, whole_in, container_in}
+use Rattle.wire_base.specs.Reading.{Reads, offset, pair_in, number_in, text_in, whole_in}
+use Rattle.wire_base.specs.Reading.{container_in}
 use Rattle.wire_base.proofs.Bytes.{IsBytes-drop}
-use Rattle.wire_base.proofs.Laws.{IsReader, Finds, IsWide, wide8, wide16, wide32, wide64, bind_is, ok_is, made_reader, pair_reader, whole_reader, number_reader, text_reader, reads_exactly}
+use Rattle.wire_base.proofs.Laws.{IsReader, Finds, IsWide, wide8, wide16, wide32, wide64, bind_is}
+use Rattle.wire_base.proofs.Laws.{ok_is, made_reader, pair_reader, whole_reader, number_reader}
+use Rattle.wire_base.proofs.Laws.{text_reader, reads_exactly}
 use Rattle.wire_base.proofs.Items.{Shrinks, reader_shrinks, container_reader}
-use Rattle.tables_091.specs.Tree.{Scalar, decimal, void, Tree, scalar, array, table, trees_of, members_of}
-use Rattle.tables_091.specs.Kinds.{kind_byte, kind_of, octet_scalar, wide_width, wide_scalar, text_scalar}
+use Rattle.tables_091.specs.Tree.{Scalar, decimal, void, Tree, scalar, array, table, trees_of}
+use Rattle.tables_091.specs.Tree.{members_of}
+use Rattle.tables_091.specs.Kinds.{kind_byte, kind_of, octet_scalar, wide_width, wide_scalar}
+use Rattle.tables_091.specs.Kinds.{text_scalar}
 use Rattle.tables_091.specs.Grammar.{IsSingle, IsMember, IsFlat, IsDeep, IsTyped, IsField, IsTable}
-use Rattle.tables_091.specs.Reading.{single_in, member_in, flat_in, deep_in, kinded_in, typed_in, field_in, table_in, table_at}
+use Rattle.tables_091.specs.Reading.{single_in, member_in, flat_in, deep_in, kinded_in, typed_in}
+use Rattle.tables_091.specs.Reading.{field_in, table_in, table_at}
 use Rattle.tables_091.specs.declared.kind.Kind.{Kind}
 use Rattle.tables_091.specs.declared.kind.Kind.TheVariants as kind
 use Rattle.tables_091.specs.declared.kind.Single.{Single}

@@ -1,12 +1,16 @@
 -- What is spelled can be written, in as many bytes.
-use Rattle.std.proofs.Common.{◌≡◌, ℕ, zero, suc, ◌+◌, ◌≤◌, List, [], ◌∷◌, ◌++◌, length, refl, sym, ap, subst, arith}
+use Rattle.std.proofs.Common.{◌≡◌, ℕ, zero, suc, ◌+◌, ◌≤◌, List, [], ◌∷◌, ◌++◌, length, refl, sym}
+use Rattle.std.proofs.Common.{ap, subst, arith}
 use Rattle.std.proofs.lemmas.List.{length-append}
 use Rattle.std.specs.Int.{w8, w32, byte_len, to_be_bytes}
 use Rattle.wire_base.specs.Spelling.{IsItems, text_of}
-use Rattle.tables_091.specs.Tree.{Scalar, Tree, trees_of, members_of, depth, list_depth, entries_depth}
+use Rattle.tables_091.specs.Tree.{Scalar, Tree, trees_of, members_of, depth, list_depth}
+use Rattle.tables_091.specs.Tree.{entries_depth}
 use Rattle.tables_091.specs.Kinds.{octet_scalar, wide_width, wide_scalar, text_scalar}
 use Rattle.tables_091.specs.Grammar.{IsSingle, IsMember, IsFlat, IsDeep, IsTyped, IsField, IsTable}
-use Rattle.tables_091.specs.Writing.{scalar_text, tree_text, trees_text, members_text, NamesAreShort, TreesNamesAreShort, MembersNamesAreShort, HasSpelling}
+use Rattle.tables_091.specs.Writing.{scalar_text, tree_text, trees_text, members_text}
+use Rattle.tables_091.specs.Writing.{NamesAreShort, TreesNamesAreShort, MembersNamesAreShort}
+use Rattle.tables_091.specs.Writing.{HasSpelling}
 use Rattle.tables_091.proofs.ReaderLaws.{wide_is}
 use Rattle.tables_091.specs.declared.kind.Kind.{Kind}
 use Rattle.tables_091.specs.declared.kind.Kind.TheVariants as kind

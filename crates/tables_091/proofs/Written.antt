@@ -1,15 +1,20 @@
 -- What is written is in the grammar.
-use Rattle.std.proofs.Common.{◌≡◌, ℕ, zero, suc, ◌+◌, ◌^◌, ◌<◌, ◌≤◌, true, false, List, [], ◌∷◌, ◌++◌, length, Ok, refl, sym, ap, arith}
+use Rattle.std.proofs.Common.{◌≡◌, ℕ, zero, suc, ◌+◌, ◌^◌, ◌<◌, ◌≤◌, true, false, List, [], ◌∷◌}
+use Rattle.std.proofs.Common.{◌++◌, length, Ok, refl, sym, ap, arith}
 use Rattle.std.proofs.lemmas.Int.{ints, to_z-of_z}
 use Rattle.std.proofs.lemmas.List.{length-append, drop_at}
 use Rattle.std.specs.Int.{w8, w16, w32, w64, to_be_bytes, cast_unsigned}
 use Rattle.wire_base.specs.Spelling.{IsItems, text_of}
-use Rattle.tables_091.specs.Tree.{Scalar, boolean, int8, uint8, int16, uint16, int32, uint32, int64, float32, float64, decimal, longstr, timestamp, void, blob, Tree, scalar, array, table, Trees, no_trees, tree, Members, no_members, member, trees_of, members_of, depth, trees_depth, members_depth}
+use Rattle.tables_091.specs.Tree.{Scalar, boolean, int8, uint8, int16, uint16, int32, uint32, int64}
+use Rattle.tables_091.specs.Tree.{float32, float64, decimal, longstr, timestamp, void, blob, Tree}
+use Rattle.tables_091.specs.Tree.{scalar, array, table, Trees, no_trees, tree, Members, no_members}
+use Rattle.tables_091.specs.Tree.{member, trees_of, members_of, depth, trees_depth, members_depth}
 use Rattle.tables_091.specs.Kinds.{kind_byte}
 use Rattle.tables_091.specs.Grammar.{IsSingle, IsMember, IsField, IsTable}
 use Rattle.tables_091.specs.Reading.{table_at}
 use Rattle.tables_091.proofs.ReaderLaws.{spelled_is_read}
-use Rattle.tables_091.specs.Writing.{scalar_text, tree_text, trees_text, members_text, table_text, IsShort, HasSpelling}
+use Rattle.tables_091.specs.Writing.{scalar_text, tree_text, trees_text, members_text, table_text}
+use Rattle.tables_091.specs.Writing.{IsShort, HasSpelling}
 use Rattle.tables_091.specs.Ranges.{EachInside, EachInTrees, EachInMembers, IsInRange, AreRanged}
 use Rattle.tables_091.specs.declared.kind.Kind.TheVariants as kind
 use Rattle.tables_091.specs.declared.kind.Single.{Single}

@@ -1,4 +1,5 @@
--- What an array or a table holds is less deep than it is itself: what the models of these types have to show.
+-- What an array or a table holds is less deep than it is itself: what the models of these types
+-- have to show.
 use Rattle.std.specs.Prelude.{ℕ, ◌≤◌, max, List, [], ◌∷◌, map}
 use Rattle.std.proofs.Common.{arith}
 use denote.Param.Weighed.{most}
@@ -27,10 +28,12 @@ field_falls (field.Table ms) = omega arith
 field_falls field.Void = omega arith
 field_falls (field.Bytes s) = omega arith
 
-pub list_falls : (fs : List Field) → max (most (λ f. deep-Field f) fs) 0 ≤ list_depth (map field_tree fs)
+pub list_falls : (fs : List Field) → max (most (λ f. deep-Field f) fs) 0 ≤ list_depth
+    (map field_tree fs)
 list_falls [] = omega arith
 list_falls (f ∷ fs) = omega (arith, list_falls fs, field_falls f)
 
-pub entries_fall : (es : List (List ℕ × Field)) → max (most (λ e. max 0 (max (deep-Field e.1) 0)) es) 0 ≤ entries_depth (map entry_member es)
+pub entries_fall : (es : List (List ℕ × Field)) → max (most (λ e. max 0 (max
+    (deep-Field e.1) 0)) es) 0 ≤ entries_depth (map entry_member es)
 entries_fall [] = omega arith
 entries_fall (e ∷ es) = omega (arith, entries_fall es, field_falls e.1)

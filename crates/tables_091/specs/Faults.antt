@@ -1,12 +1,14 @@
--- The first fault of bytes that are to begin with a table, and its offset (AMQP 0-9-1 4.2.5.5), one row for each:
--- a length that is cut off or passes what holds it, at the length; a number that is cut off, at its first byte, and
--- also a decimal; a type byte that is missing, at the end of what holds it; one that is unknown or passes the depth,
--- at the byte. What stands before the fault is spelled rightly.
+-- The first fault of bytes that are to begin with a table, and its offset (AMQP 0-9-1 4.2.5.5), one
+-- row for each: a length that is cut off or passes what holds it, at the length; a number that is
+-- cut off, at its first byte, and also a decimal; a type byte that is missing, at the end of what
+-- holds it; one that is unknown or passes the depth, at the byte. What stands before the fault is
+-- spelled rightly.
 use Rattle.std.specs.Prelude.{◌≡◌, ◌≢◌, ◌⊎◌, ℕ, zero, suc, ◌-◌, List, ◌∷◌, length, drop}
 use Rattle.std.specs.Int.{w8, w32}
 use Rattle.wire_base.specs.Reading.{offset}
 use Rattle.wire_base.specs.Spelling.{IsText}
-use Rattle.wire_base.specs.Faults.{Faults, IsCut, IsNumberCut, IsTextFault, IsPairFault, IsContainerFault}
+use Rattle.wire_base.specs.Faults.{Faults, IsCut, IsNumberCut, IsTextFault, IsPairFault}
+use Rattle.wire_base.specs.Faults.{IsContainerFault}
 use Rattle.tables_091.specs.Tree.{Tree}
 use Rattle.tables_091.specs.Kinds.{kind_byte, wide_width}
 use Rattle.tables_091.specs.Grammar.{IsMember, IsField}
@@ -36,7 +38,8 @@ IsFlatFault kind.Table byte = λ end bytes at. at ≡ byte
 -- the value of a field that may hold such fields
 abbrev pub IsDeepFault : (Tree → List ℕ → Type 0) → Faults ℕ → Kind → ℕ → Faults ℕ
 IsDeepFault IsInside IsInsideFault (kind.Single k) byte = IsSingleFault k
-IsDeepFault IsInside IsInsideFault kind.Array byte = IsContainerFault offset w32 IsInside IsInsideFault
+IsDeepFault IsInside IsInsideFault kind.Array byte =
+    IsContainerFault offset w32 IsInside IsInsideFault
 IsDeepFault IsInside IsInsideFault kind.Table byte =
     IsContainerFault offset w32 (IsMember IsInside) (IsMemberFault IsInsideFault)
 

@@ -1,7 +1,9 @@
--- The kinds of fields: the byte that stands before the value of each (AMQP 0-9-1 4.2.5.5), and what its numbers and texts mean.
+-- The kinds of fields: the byte that stands before the value of each (AMQP 0-9-1 4.2.5.5), and what
+-- its numbers and texts mean.
 use Rattle.std.specs.Prelude.{ℕ, not, List, Option, Some, None, ◌==◌, if◌then◌else◌}
 use Rattle.std.specs.Int.{Width, w8, w16, w32, w64, cast_signed}
-use Rattle.tables_091.specs.Tree.{Scalar, boolean, int8, uint8, int16, uint16, int32, uint32, int64, float32, float64, longstr, timestamp, blob}
+use Rattle.tables_091.specs.Tree.{Scalar, boolean, int8, uint8, int16, uint16, int32, uint32, int64}
+use Rattle.tables_091.specs.Tree.{float32, float64, longstr, timestamp, blob}
 use Rattle.tables_091.specs.declared.kind.Kind.{Kind}
 use Rattle.tables_091.specs.declared.kind.Kind.TheVariants as kind
 use Rattle.tables_091.specs.declared.kind.Single.TheVariants as single

@@ -1,8 +1,12 @@
--- What is true of each field inside another, and that the numbers of fields are those of their types (AMQP 0-9-1 4.2.5.5).
+-- What is true of each field inside another, and that the numbers of fields are those of their
+-- types (AMQP 0-9-1 4.2.5.5).
 use Rattle.std.specs.Prelude.{ℕ, ◌<◌, ◌^◌, List}
 use Rattle.std.specs.Int.{w8, w16, w32, w64}
 use Rattle.std.specs.Int.RustNames.{FitsSigned}
-use Rattle.tables_091.specs.Tree.{Scalar, boolean, int8, uint8, int16, uint16, int32, uint32, int64, float32, float64, decimal, longstr, timestamp, void, blob, Tree, scalar, array, table, Trees, no_trees, tree, Members, no_members, member, trees_of, members_of}
+use Rattle.tables_091.specs.Tree.{Scalar, boolean, int8, uint8, int16, uint16, int32, uint32, int64}
+use Rattle.tables_091.specs.Tree.{float32, float64, decimal, longstr, timestamp, void, blob, Tree}
+use Rattle.tables_091.specs.Tree.{scalar, array, table, Trees, no_trees, tree, Members, no_members}
+use Rattle.tables_091.specs.Tree.{member, trees_of, members_of}
 
 -- such is each field inside that holds no other, and such each name inside
 abbrev mutual

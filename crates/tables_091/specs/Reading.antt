@@ -1,10 +1,14 @@
--- Reading a table from left to right, with the offset of the first fault that is met: a type byte that is unknown or passes the depth,
--- a length that passes what holds it, or a value that is cut off (AMQP 0-9-1 4.2.5.5).
-use Rattle.std.specs.Prelude.{ℕ, zero, suc, ◌-◌, List, length, drop, Option, Some, None, Ok, Err, Result}
+-- Reading a table from left to right, with the offset of the first fault that is met: a type byte
+-- that is unknown or passes the depth, a length that passes what holds it, or a value that is cut
+-- off (AMQP 0-9-1 4.2.5.5).
+use Rattle.std.specs.Prelude.{ℕ, zero, suc, ◌-◌, List, length, drop, Option, Some, None, Ok, Err}
+use Rattle.std.specs.Prelude.{Result}
 use Rattle.std.specs.Int.{w8, w32}
 use Rattle.wire_base.specs.declared.scan.At.{At}
-use Rattle.wire_base.specs.Reading.{Reads, ◌>>=◌, offset, made, pair_in, number_in, text_in, whole_in, container_in}
-use Rattle.tables_091.specs.Tree.{Scalar, decimal, void, Tree, scalar, array, table, trees_of, members_of}
+use Rattle.wire_base.specs.Reading.{Reads, ◌>>=◌, offset, made, pair_in, number_in, text_in}
+use Rattle.wire_base.specs.Reading.{whole_in, container_in}
+use Rattle.tables_091.specs.Tree.{Scalar, decimal, void, Tree, scalar, array, table, trees_of}
+use Rattle.tables_091.specs.Tree.{members_of}
 use Rattle.tables_091.specs.Kinds.{kind_of, octet_scalar, wide_width, wide_scalar, text_scalar}
 use Rattle.tables_091.specs.declared.reading.Syntax.{Syntax}
 use Rattle.tables_091.specs.declared.kind.Kind.{Kind}
@@ -15,7 +19,8 @@ use Rattle.tables_091.specs.declared.kind.Text.{Text}
 use Rattle.tables_091.specs.declared.kind.Single.{Single}
 use Rattle.tables_091.specs.declared.kind.Single.TheVariants as single
 
--- a number of one byte, a wider number, bytes behind a length of four bytes, and a decimal: a scale and a number of four bytes
+-- a number of one byte, a wider number, bytes behind a length of four bytes, and a decimal: a scale
+-- and a number of four bytes
 abbrev pub octet_in : Octet → ℕ → List ℕ → Reads Scalar ℕ
 octet_in k end bytes = made (octet_scalar k) (number_in offset w8 end bytes)
 
@@ -26,7 +31,9 @@ abbrev pub bytes_in : Text → ℕ → List ℕ → Reads Scalar ℕ
 bytes_in k end bytes = made (text_scalar k) (text_in offset w32 end bytes)
 
 abbrev pub decimal_in : ℕ → List ℕ → Reads Scalar ℕ
-decimal_in end bytes = made (λ p. decimal p.0 p.1) (whole_in offset 5 (pair_in (number_in offset w8) (number_in offset w32)) end bytes)
+decimal_in end bytes =
+    made (λ p. decimal p.0 p.1) (whole_in offset 5 (pair_in (number_in offset w8)
+    (number_in offset w32)) end bytes)
 
 -- the value of a field that holds no other
 abbrev pub single_in : Single → ℕ → List ℕ → Reads Scalar ℕ
@@ -49,11 +56,14 @@ flat_in kind.Table at end bytes = Err at
 -- the value of a field that may hold what this reader reads
 abbrev pub deep_in : (ℕ → List ℕ → Reads Tree ℕ) → Kind → ℕ → List ℕ → Reads Tree ℕ
 deep_in read (kind.Single k) end bytes = made scalar (single_in k end bytes)
-deep_in read kind.Array end bytes = made (λ ts. array (trees_of ts)) (container_in offset w32 read end bytes)
-deep_in read kind.Table end bytes = made (λ ms. table (members_of ms)) (container_in offset w32 (member_in read) end bytes)
+deep_in read kind.Array end bytes =
+    made (λ ts. array (trees_of ts)) (container_in offset w32 read end bytes)
+deep_in read kind.Table end bytes =
+    made (λ ms. table (members_of ms)) (container_in offset w32 (member_in read) end bytes)
 
 -- the value that a type byte announces; where it announces none, the fault at the type byte
-abbrev pub kinded_in : (Kind → ℕ → ℕ → List ℕ → Reads Tree ℕ) → Option Kind → ℕ → ℕ → List ℕ → Reads Tree ℕ
+abbrev pub kinded_in : (Kind → ℕ → ℕ → List ℕ → Reads Tree ℕ) → Option Kind → ℕ → ℕ → List ℕ
+    → Reads Tree ℕ
 kinded_in value None at end bytes = Err at
 kinded_in value (Some k) at end bytes = value k at end bytes
 

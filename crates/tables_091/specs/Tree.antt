@@ -1,5 +1,6 @@
--- Fields of tables as values, without where they lie in memory (AMQP 0-9-1 4.2.5.5), and how deep they are.
--- A type of the sources is seen as one of these; nothing here names a type of the sources.
+-- Fields of tables as values, without where they lie in memory (AMQP 0-9-1 4.2.5.5), and how deep
+-- they are. A type of the sources is seen as one of these; nothing here names a type of the
+-- sources.
 use Rattle.std.specs.Prelude.{ℕ, ◌+◌, max, Bool, List, [], ◌∷◌, ℤ}
 
 -- a field that holds no other
@@ -45,7 +46,8 @@ abbrev pub members_of : List (List ℕ × Tree) → Members
 members_of [] = no_members
 members_of (m ∷ ms) = member m.0 m.1 (members_of ms)
 
--- how deep a field is: one that holds no other has depth 0, another one more than the greatest depth inside it
+-- how deep a field is: one that holds no other has depth 0, another one more than the greatest
+-- depth inside it
 abbrev mutual
   pub depth : Tree → ℕ
   depth (scalar s) = 0

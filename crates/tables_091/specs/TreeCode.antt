@@ -3,7 +3,10 @@ use Rattle.std.specs.Prelude.{◌≡◌, ℕ, true, false, List, [], ◌∷◌, 
 use Rattle.std.specs.Coded.{Coded, code_by, coded×, coded_ℕ, coded_ℤ, coded_list}
 use Rattle.std.proofs.Common.{ap}
 use base.Stored.{Gv, gnil, gnum, gcons}
-use Rattle.tables_091.specs.Tree.{Scalar, boolean, int8, uint8, int16, uint16, int32, uint32, int64, float32, float64, decimal, longstr, timestamp, void, blob, Tree, scalar, array, table, Trees, no_trees, tree, Members, no_members, member}
+use Rattle.tables_091.specs.Tree.{Scalar, boolean, int8, uint8, int16, uint16, int32, uint32, int64}
+use Rattle.tables_091.specs.Tree.{float32, float64, decimal, longstr, timestamp, void, blob, Tree}
+use Rattle.tables_091.specs.Tree.{scalar, array, table, Trees, no_trees, tree, Members, no_members}
+use Rattle.tables_091.specs.Tree.{member}
 
 -- ---- fields that hold no other
 
@@ -73,7 +76,9 @@ scalar_again void = refl
 scalar_again (blob s) = refl
 
 abbrev pub scalar_code : Coded Scalar
-scalar_code = code_by (ℕ × (ℤ × List ℕ)) (coded× coded_ℕ (coded× coded_ℤ (coded_list coded_ℕ))) scalar_parts scalar_back scalar_again
+scalar_code =
+    code_by (ℕ × (ℤ × List ℕ)) (coded× coded_ℕ (coded× coded_ℤ
+    (coded_list coded_ℕ))) scalar_parts scalar_back scalar_again
 
 -- ---- fields
 
@@ -89,7 +94,8 @@ abbrev mutual
 
   pub members_gv : Members → Gv
   members_gv no_members = gnil
-  members_gv (member name t ms) = gcons ((coded_list coded_ℕ).code name) (gcons (tree_gv t) (members_gv ms))
+  members_gv (member name t ms) = gcons ((coded_list coded_ℕ).code name) (gcons (tree_gv t)
+      (members_gv ms))
 
 mutual
   pub tree_inj : (x y : Tree) → tree_gv x ≡ tree_gv y → x ≡ y

@@ -1,6 +1,9 @@
--- A field as the value that it is (AMQP 0-9-1 4.2.5.5), one level of it: what an array or a table holds is seen by its own model.
+-- A field as the value that it is (AMQP 0-9-1 4.2.5.5), one level of it: what an array or a table
+-- holds is seen by its own model.
 use Rattle.std.specs.Prelude.{ℕ, List}
-use Rattle.tables_091.specs.Tree.{boolean, int8, uint8, int16, uint16, int32, uint32, int64, float32, float64, decimal, longstr, timestamp, void, blob, Tree, scalar, array, table, trees_of, members_of}
+use Rattle.tables_091.specs.Tree.{boolean, int8, uint8, int16, uint16, int32, uint32, int64}
+use Rattle.tables_091.specs.Tree.{float32, float64, decimal, longstr, timestamp, void, blob, Tree}
+use Rattle.tables_091.specs.Tree.{scalar, array, table, trees_of, members_of}
 use Rattle.tables_091.specs.declared.field.Field.{Field}
 use Rattle.tables_091.specs.declared.field.Field.TheVariants as field
 

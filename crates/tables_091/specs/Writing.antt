@@ -3,7 +3,10 @@ use Rattle.std.specs.Prelude.{ℕ, ◌<◌, ◌≤◌, ◌^◌, List, [], ◌∷
 use Rattle.std.specs.Int.{w8, w16, w32, w64, to_be_bytes, cast_unsigned}
 use Rattle.wire_base.specs.Spelling.{text_of}
 use Rattle.tables_091.specs.Ranges.{EachInside, EachInTrees, EachInMembers}
-use Rattle.tables_091.specs.Tree.{Scalar, boolean, int8, uint8, int16, uint16, int32, uint32, int64, float32, float64, decimal, longstr, timestamp, void, blob, Tree, scalar, array, table, Trees, no_trees, tree, Members, no_members, member, members_of, depth}
+use Rattle.tables_091.specs.Tree.{Scalar, boolean, int8, uint8, int16, uint16, int32, uint32, int64}
+use Rattle.tables_091.specs.Tree.{float32, float64, decimal, longstr, timestamp, void, blob, Tree}
+use Rattle.tables_091.specs.Tree.{scalar, array, table, Trees, no_trees, tree, Members, no_members}
+use Rattle.tables_091.specs.Tree.{member, members_of, depth}
 use Rattle.tables_091.specs.View.{field_tree}
 use Rattle.tables_091.specs.declared.field.Field.{Field}
 
@@ -71,7 +74,8 @@ TreesNamesAreShort = EachInTrees (λ s. Unit {0}) IsShort
 abbrev pub MembersNamesAreShort : Members → Type 0
 MembersNamesAreShort = EachInMembers (λ s. Unit {0}) IsShort
 
--- a table that has a spelling: what it holds is shorter than 2^32 bytes, and so is all that is inside
+-- a table that has a spelling: what it holds is shorter than 2^32 bytes, and so is all that is
+-- inside
 pub record HasSpelling (ms : List (List ℕ × Tree)) : Type 0 where
   pub names : MembersNamesAreShort (members_of ms)
   pub size : length (members_text (members_of ms)) < 2 ^ 32

@@ -1,6 +1,7 @@
 //! Fields, and the lists and tables of them (AMQP 0-9-1 4.2.5.5).
 
-ghost use Rattle.std.specs.Prelude.{◌≡◌, ℕ, ◌+◌, List, [], ◌∷◌, ◌++◌, length, option_map, slice_get, OnOk, OnErr};
+ghost use Rattle.std.specs.Prelude.{◌≡◌, ℕ, ◌+◌, List, [], ◌∷◌, ◌++◌, length, option_map};
+ghost use Rattle.std.specs.Prelude.{slice_get, OnOk, OnErr};
 ghost use Rattle.tables_091.specs.View.{entry_member, field_tree};
 ghost use Rattle.tables_091.specs.Ranges.{IsRanged, AreRanged};
 
@@ -75,7 +76,8 @@ impl Model for FieldList {
 
     ghost view = { λ a. map field_tree a.items.items };
 
-    // The list in a clause is one of numbers without bounds, so the invariant keeps those of the types.
+    // The list in a clause is one of numbers without bounds, so the invariant keeps those of the
+    // types.
     ghost use Rattle.tables_091.specs.Ranges.{FieldsAreRanged};
 
     ghost invariant = { λ a. FieldsAreRanged (map field_tree a.items.items) };

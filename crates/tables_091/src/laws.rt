@@ -22,12 +22,15 @@ pub fn table_laws()
     ensures fault { (bytes : List ℕ) (at place : ℕ) → IsBytes bytes
         → (table_at bytes at ≡ Err place) ↔ IsFaultAt bytes at place }
     // What is written is read back, wherever it stands and whatever follows.
-    ensures back { (ms : List (List ℕ × Tree)) (before rest : List ℕ) → HasSpelling ms → AreRanged ms
+    ensures back { (ms : List (List ℕ × Tree)) (before rest : List ℕ) → HasSpelling ms
+        → AreRanged ms
         → table_at (before ++ (table_text ms ++ rest)) (length before)
         ≡ Ok (ms, length before + length (table_text ms)) }
-    // What is read can be written: its names were behind a length of one byte, what it held was behind one of four,
-    // and the spelling that is written is as long as the one that was read.
-    ensures writable { (ms : List (List ℕ × Tree)) (text : List ℕ) → IsTable ms text → HasSpelling ms }
+    // What is read can be written: its names were behind a length of one byte, what it held was
+    // behind one of four, and the spelling that is written is as long as the one that was read.
+    ensures writable { (ms : List (List ℕ × Tree)) (text : List ℕ) → IsTable ms text
+        → HasSpelling ms }
     // Bytes spell at most one table.
-    ensures one { (ms ns : List (List ℕ × Tree)) (text : List ℕ) → IsTable ms text → IsTable ns text → ms ≡ ns }
+    ensures one { (ms ns : List (List ℕ × Tree)) (text : List ℕ) → IsTable ms text
+        → IsTable ns text → ms ≡ ns }
 {}

@@ -1,8 +1,10 @@
 //! Reading tables (AMQP 0-9-1 4.2.5.5).
 //!
-//! Each function takes `end`, the offset at which its bytes end in the whole input, and answers its value and the bytes after it.
+//! Each function takes `end`, the offset at which its bytes end in the whole input, and answers its
+//! value and the bytes after it.
 
-ghost use Rattle.std.specs.Prelude.{◌≡◌, ℕ, ◌+◌, ◌-◌, ◌≤◌, ◌++◌, List, length, take, drop, Ok, Err, IfOk, IfErr};
+ghost use Rattle.std.specs.Prelude.{◌≡◌, ℕ, ◌+◌, ◌-◌, ◌≤◌, ◌++◌, List, length, take, drop, Ok, Err};
+ghost use Rattle.std.specs.Prelude.{IfOk, IfErr};
 ghost use Rattle.std.specs.Int.{w32};
 ghost use Rattle.wire_base.specs.Reading.{Gives, made, container_in, all_items, offset};
 ghost use Rattle.tables_091.specs.Tree.{Tree, scalar};
@@ -10,7 +12,9 @@ ghost use Rattle.tables_091.specs.View.{field_tree};
 ghost use Rattle.tables_091.specs.Grammar.{IsTable};
 ghost use Rattle.tables_091.specs.Faults.{IsFaultAt};
 ghost use Rattle.tables_091.specs.Writing.{HasSpelling};
-ghost use Rattle.tables_091.specs.Reading.{octet_in, wide_in, bytes_in, decimal_in, single_in, flat_in, deep_in, member_in, field_in, table_in, table_at, seen};
+ghost use Rattle.tables_091.specs.Reading.{octet_in, wide_in, bytes_in, decimal_in, single_in};
+ghost use Rattle.tables_091.specs.Reading.{flat_in, deep_in, member_in, field_in, table_in};
+ghost use Rattle.tables_091.specs.Reading.{table_at, seen};
 
 use crate::field::{Field, FieldList, Table};
 use crate::kind::{Kind, Octet, Single, Text, Wide, kind_at};
@@ -19,8 +23,8 @@ use wire_base::{
     At, ByteText, Memory, Stop, long_in, place, short_in, u8_in, u16_in, u32_in, u64_in,
 };
 
-/// Why bytes are no table: a type byte that is unknown or passes the depth, a length that passes what holds it,
-/// or a value that is cut off.
+/// Why bytes are no table: a type byte that is unknown or passes the depth, a length that passes
+/// what holds it, or a value that is cut off.
 #[derive(Clone, Copy, Debug, PartialEq, Eq)]
 pub struct Syntax;
 
@@ -101,7 +105,8 @@ fn text_of(
     Ok((field, rest))
 }
 
-/// A scale and a number of four bytes; where one of the five bytes is missing, the fault is at the first.
+/// A scale and a number of four bytes; where one of the five bytes is missing, the fault is at the
+/// first.
 fn decimal_of(end: usize, content: &[u8]) -> Result<(Field, &[u8]), Stop<usize>>
     ensures { Gives (λ x. (field_tree x.0, x.1.now)) result
         (made scalar (decimal_in end content.now)) }
@@ -247,7 +252,8 @@ fn table_of(
 /// The entries that fill these bytes, with fields of at most this depth.
 #[cycle(nested)]
 fn entries_of(alloc: Global, depth: u8, end: usize, body: &[u8]) -> Result<Table, Stop<usize>>
-    ensures { Gives (λ table. table) result (all_items offset (member_in (field_in depth)) end body.now) }
+    ensures { Gives (λ table. table) result (all_items offset (member_in
+        (field_in depth)) end body.now) }
 {
     let mut table = Table::empty(alloc);
     let mut rest = body;
@@ -275,7 +281,8 @@ fn entry_of(
     Ok(((ByteText::copy_of(alloc, name)?, field), rest))
 }
 
-/// The table with which these bytes begin, and the bytes after it: for readers that have a table among their parts.
+/// The table with which these bytes begin, and the bytes after it: for readers that have a table
+/// among their parts.
 ///
 /// # Errors
 ///
@@ -299,10 +306,10 @@ fn table_from(alloc: Global, bytes: &[u8], at: usize) -> Result<(Table, usize), 
 ///
 /// # Errors
 ///
-/// `Syntax` exactly where no table stands at `at`. Its offset is that of the first type byte that is unknown or passes
-/// the depth of 16, length that passes what holds it, or value that is cut off. A length and a value are told at their
-/// first byte, and what is missing altogether at the end of what holds it. Where `at` is past the end of the bytes, the
-/// offset is their length.
+/// `Syntax` exactly where no table stands at `at`. Its offset is that of the first type byte that
+/// is unknown or passes the depth of 16, length that passes what holds it, or value that is cut
+/// off. A length and a value are told at their first byte, and what is missing altogether at the
+/// end of what holds it. Where `at` is past the end of the bytes, the offset is their length.
 ///
 /// `Memory` where the allocator has no room.
 pub fn read_table(

@@ -1,14 +1,18 @@
 //! Writing tables (AMQP 0-9-1 4.2.5.5).
 //!
-//! Where a function of this module answers `Memory`, what stood in `out` before still stands at its front.
+//! Where a function of this module answers `Memory`, what stood in `out` before still stands at its
+//! front.
 
-ghost use Rattle.std.specs.Prelude.{◌≡◌, ℕ, ◌+◌, ◌<◌, ◌≤◌, ◌^◌, List, [], ◌∷◌, ◌++◌, length, take, map, OnOk, OnErr};
+ghost use Rattle.std.specs.Prelude.{◌≡◌, ℕ, ◌+◌, ◌<◌, ◌≤◌, ◌^◌, List, [], ◌∷◌, ◌++◌, length, take};
+ghost use Rattle.std.specs.Prelude.{map, OnOk, OnErr};
 ghost use Rattle.std.specs.Int.{w8, w16, w32, w64, to_be_bytes};
 ghost use Rattle.wire_base.specs.Spelling.{text_of};
 ghost use Rattle.tables_091.specs.Tree.{trees_of, members_of};
 ghost use Rattle.tables_091.specs.View.{field_tree, entry_member};
 ghost use Rattle.tables_091.specs.Grammar.{IsTable};
-ghost use Rattle.tables_091.specs.Writing.{trees_text, members_text, table_text, field_text, entry_text, TreesNamesAreShort, MembersNamesAreShort, FieldIsShort, EntryIsShort, HasSpelling};
+ghost use Rattle.tables_091.specs.Writing.{trees_text, members_text, table_text, field_text};
+ghost use Rattle.tables_091.specs.Writing.{entry_text, TreesNamesAreShort, MembersNamesAreShort};
+ghost use Rattle.tables_091.specs.Writing.{FieldIsShort, EntryIsShort, HasSpelling};
 
 use crate::field::{Field, FieldList, Table};
 use wire_base::{ByteText, Memory, put_u8, put_u16, put_u32, put_u64};
@@ -101,7 +105,8 @@ fn put_field(out: &mut ByteText, field: &Field) -> Result<(), Memory>
 fn put_list(out: &mut ByteText, list: &FieldList) -> Result<(), Memory>
     requires names { TreesNamesAreShort (trees_of list.now) }
     requires size { length (trees_text (trees_of list.now)) < 2 ^ 32 }
-    ensures ok { OnOk result (out.new ≡ out.old ++ 65 ∷ text_of w32 (trees_text (trees_of list.now))) }
+    ensures ok { OnOk result (out.new ≡ out.old ++ 65 ∷ text_of w32 (trees_text
+        (trees_of list.now))) }
     ensures err { OnErr result (take (length out.old) out.new ≡ out.old) }
 {
     put_u8(out, b'A')?;
@@ -118,7 +123,8 @@ fn put_list(out: &mut ByteText, list: &FieldList) -> Result<(), Memory>
 fn put_fields(out: &mut ByteText, fields: &[Field]) -> Result<(), Memory>
     requires names { TreesNamesAreShort (trees_of (map field_tree fields.now)) }
     requires size { length (trees_text (trees_of (map field_tree fields.now))) < 2 ^ 32 }
-    ensures ok { OnOk result (out.new ≡ out.old ++ trees_text (trees_of (map field_tree fields.now))) }
+    ensures ok { OnOk result (out.new ≡ out.old ++ trees_text (trees_of
+        (map field_tree fields.now))) }
     ensures err { OnErr result (take (length out.old) out.new ≡ out.old) }
 {
     for field in fields {
@@ -127,7 +133,8 @@ fn put_fields(out: &mut ByteText, fields: &[Field]) -> Result<(), Memory>
     Ok(())
 }
 
-/// What stands behind the type byte of a table, if it has one: the length of its entries, and the entries.
+/// What stands behind the type byte of a table, if it has one: the length of its entries, and the
+/// entries.
 #[cycle(nested)]
 fn put_body(out: &mut ByteText, table: &Table) -> Result<(), Memory>
     requires names { MembersNamesAreShort (members_of table.now) }
@@ -175,8 +182,8 @@ fn put_entry(out: &mut ByteText, entry: &(ByteText, Field)) -> Result<(), Memory
 
 /// Adds the spelling of the table, or leaves `out` as it was.
 ///
-/// Names have at most 255 bytes, what the table holds is shorter than 2^32 bytes, and its depth is at most 16.
-/// A bool is written as 0 or 1.
+/// Names have at most 255 bytes, what the table holds is shorter than 2^32 bytes, and its depth is
+/// at most 16. A bool is written as 0 or 1.
 ///
 /// # Errors
 ///

@@ -88,7 +88,8 @@ fn put_cuts(alloc: Global, out: &mut String, codec: Codec, bytes: &[u8]) -> Resu
     put_run(out, short_of(last.as_str()), count)
 }
 
-/// A case of a codec, and each shorter length where that is asked for; `None` where the words are none.
+/// A case of a codec, and each shorter length where that is asked for; `None` where the words are
+/// none.
 fn read_text(
     alloc: Global,
     names: &Names,

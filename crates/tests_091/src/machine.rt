@@ -1,4 +1,5 @@
-//! Cases of a client's connection: its units and the other events one after another, and what each unit wants.
+//! Cases of a client's connection: its units and the other events one after another, and what each
+//! unit wants.
 
 use crate::contents::put_content;
 use close_translate::Scope;
@@ -8,7 +9,8 @@ use std::alloc::Global;
 use tests_support::{Names, put_bytes};
 use wire_base::{ByteText, Memory, Scan};
 
-/// A connection to a virtual host, and the lines of the units and the other events that came since it was new.
+/// A connection to a virtual host, and the lines of the units and the other events that came since
+/// it was new.
 #[derive(Drop)]
 pub struct Made {
     conn: Conn91,
@@ -158,8 +160,8 @@ fn put_channels(out: &mut String, conn: &Conn91) -> Result<(), Memory> {
     Ok(())
 }
 
-/// What can be asked of a connection: its phase, what its stream is and what is awaited of it, its limits (of frames, of
-/// channels, and the interval of heartbeats), and what else holds.
+/// What can be asked of a connection: its phase, what its stream is and what is awaited of it, its
+/// limits (of frames, of channels, and the interval of heartbeats), and what else holds.
 fn state_text(alloc: Global, conn: &Conn91) -> Result<String, Memory> {
     let phase = conn.phase();
     let stream = conn.stream();
@@ -297,8 +299,8 @@ fn taken_step(
     step_text(alloc, names, &mut made.conn, words)
 }
 
-/// A case of the connection: `connection` begins a new one, `take` takes a unit or another event, and `try` does it to another
-/// connection to which the same came.
+/// A case of the connection: `connection` begins a new one, `take` takes a unit or another event,
+/// and `try` does it to another connection to which the same came.
 pub fn connection_text(
     alloc: Global,
     names: &Names,

@@ -62,7 +62,8 @@ fn text_text(alloc: Global, read: Result<(&[u8], &[u8]), Stop<usize>>) -> Result
     Ok(out)
 }
 
-/// What a reader takes from the front of bytes that end at an offset; `None` where there is no such reader.
+/// What a reader takes from the front of bytes that end at an offset; `None` where there is no such
+/// reader.
 pub fn reader_text(
     alloc: Global,
     reader: &str,
@@ -82,8 +83,8 @@ pub fn reader_text(
     Ok(Some(text))
 }
 
-/// Bytes after a number was written over four of them, or after so many were kept or dropped at their front; `None` where
-/// there is no such change, or no room for it.
+/// Bytes after a number was written over four of them, or after so many were kept or dropped at
+/// their front; `None` where there is no such change, or no room for it.
 pub fn changed_text(
     alloc: Global,
     change: &str,
@@ -103,7 +104,8 @@ pub fn changed_text(
     Ok(Some(out))
 }
 
-/// Bytes in reserved room, as long as they fit, how many may still be added, and what stands after the first was dropped.
+/// Bytes in reserved room, as long as they fit, how many may still be added, and what stands after
+/// the first was dropped.
 pub fn reserved_text(alloc: Global, room: usize, bytes: &[u8]) -> Result<String, Memory> {
     let mut text = ReservedText::with_room(alloc, room)?;
     if bytes.len() <= text.left() {

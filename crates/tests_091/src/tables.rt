@@ -42,7 +42,8 @@ pub fn table_text(alloc: Global, bytes: &[u8], from: usize) -> Result<String, Me
     Ok(text)
 }
 
-/// Whether a type byte is that of no field: the fault is at its place in a table that holds one field, with zeros behind it.
+/// Whether a type byte is that of no field: the fault is at its place in a table that holds one
+/// field, with zeros behind it.
 fn is_unknown(alloc: Global, kind: u8) -> Result<bool, Memory> {
     let bytes = [0, 0, 0, 11, 1, b'a', kind, 0, 0, 0, 0, 0, 0, 0, 0];
     let text = read_text(alloc, &bytes, 0, 0)?;

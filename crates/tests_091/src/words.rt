@@ -69,7 +69,8 @@ fn put_letters(out: &mut String, letter: u8, count: usize) -> Result<(), Memory>
     Ok(())
 }
 
-/// Adds a text, in which a letter that stands sixteen times or more in a row is told once with its count.
+/// Adds a text, in which a letter that stands sixteen times or more in a row is told once with its
+/// count.
 pub fn put_squeezed(out: &mut String, text: &str) -> Result<(), Memory> {
     let mut last = 0u8;
     let mut count = 0usize;

@@ -1,5 +1,7 @@
-//! Values that are built from words, one behind another with commas between them. A word pushes a value: `null`, `uint 5`,
-//! `string "a"`, `float 3E 00 00 00`. Or it makes one of the last ones: `list 2`, `map 1` (pairs), `array 2`, `described`,
+//! Values that are built from words, one behind another with commas between them. A word pushes a
+//! value: `null`, `uint 5`,
+//! `string "a"`, `float 3E 00 00 00`. Or it makes one of the last ones: `list 2`, `map 1` (pairs),
+//! `array 2`, `described`,
 //! `lists 3` (so many lists around it), `times 4` (it so many times).
 
 use std::alloc::Global;

@@ -131,7 +131,8 @@ fn spelling_of(alloc: Global, message: &Message10) -> Result<Option<ByteText>, M
     Ok(Some(text))
 }
 
-/// What is written of the message that fills bytes: `=` where it is these bytes, `-` where it can't be.
+/// What is written of the message that fills bytes: `=` where it is these bytes, `-` where it can't
+/// be.
 fn put_spelling(out: &mut String, bytes: &[u8], spelling: Option<ByteText>) -> Result<(), Memory> {
     match spelling {
         None => out.push_str(" | -")?,

@@ -1,5 +1,5 @@
-//! How values are printed: `uint 5`, `string "a"`, `[..]` a list, `{k: v}` a map, `array[..]`, `<descriptor> value`. An item
-//! that stands four times or more is told once, with its count.
+//! How values are printed: `uint 5`, `string "a"`, `[..]` a list, `{k: v}` a map, `array[..]`,
+//! `<descriptor> value`. An item that stands four times or more is told once, with its count.
 
 use std::alloc::Global;
 use tests_support::put_text;

@@ -7,7 +7,8 @@ use tests_support::{bytes_of, part, put_bytes};
 use types_10::{Value10, has_spelling, put_value, read_value};
 use wire_base::{ByteText, Memory};
 
-/// The value at an offset and the offset after it, or the fault and its place. Places are told so much less.
+/// The value at an offset and the offset after it, or the fault and its place. Places are told so
+/// much less.
 fn read_text(alloc: Global, bytes: &[u8], from: usize, less: usize) -> Result<String, Memory> {
     let mut out = String::new(alloc);
     match read_value(alloc, bytes, from)? {
@@ -52,7 +53,8 @@ fn written_at(alloc: Global, bytes: &[u8], from: usize) -> Result<Option<ByteTex
     }
 }
 
-/// What is written of the value that stands from one place to another: `=` where it is what stands there, `-` where it can't be.
+/// What is written of the value that stands from one place to another: `=` where it is what stands
+/// there, `-` where it can't be.
 fn put_written(
     alloc: Global,
     out: &mut String,
@@ -81,7 +83,8 @@ fn among(alloc: Global, bytes: &[u8], behind: bool) -> Result<ByteText, Memory> 
     Ok(among)
 }
 
-/// The answer for bytes, and another one where they stand among others and it differs. Behind a fault there are no others.
+/// The answer for bytes, and another one where they stand among others and it differs. Behind a
+/// fault there are no others.
 fn put_answer(alloc: Global, out: &mut String, bytes: &[u8], from: usize) -> Result<(), Memory> {
     let text = read_text(alloc, bytes, from, 0)?;
     out.push_str(text.as_str())?;

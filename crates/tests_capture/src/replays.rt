@@ -8,8 +8,8 @@ use gate_outside::{Accepted, End, Got, Linked, Next, Ports, Put};
 use std::process::Abort;
 use std::test::Fail;
 
-/// A capture of nine calls: moments 0 and 5, pair 0, two bytes of three, two of three taken, an upstream connection that
-/// failed, a shut, and `idle` with Go and Stop.
+/// A capture of nine calls: moments 0 and 5, pair 0, two bytes of three, two of three taken, an
+/// upstream connection that failed, a shut, and `idle` with Go and Stop.
 const CAPTURE: &[u8] =
     b"AGC1\0\0\0\0\x07\0\0\0\0\0\0\0\0\x01\x01\0\0\0\0\x03\0\0\0\0\0\0\0\0\x03\x01\0\0\0\x02ab\x04\0\0\0\0\0\0\0\0\x03xyz\x01\0\0\0\x02\x02\0\0\0\0\x02\x05\0\0\0\0\0\x06\0\x07\0\0\0\0\0\0\0\x05\x06\x01";
 

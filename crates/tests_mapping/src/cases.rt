@@ -36,17 +36,21 @@ fn put_back(
     alloc: Global,
     out: &mut String,
     m: &Message091,
-    image: &Message10,
+    image: Message10,
 ) -> Result<(), Memory> {
     out.push_str(" | ")?;
     let mut there = String::new(alloc);
     put_message(&mut there, m)?;
     let mut back = String::new(alloc);
+    let mut same_body = false;
     match to_091(alloc, image, b"queue", ROOM) {
-        Ok(m) => put_message(&mut back, &m)?,
+        Ok(again) => {
+            same_body = again.body.as_slice() == m.body.as_slice();
+            put_message(&mut back, &again)?;
+        }
         Err(fault) => put_fault(&mut back, &fault)?,
     }
-    if there.as_str() == back.as_str() {
+    if same_body && there.as_str() == back.as_str() {
         out.push_str("=")?;
     } else {
         out.push_str(back.as_str())?;
@@ -60,7 +64,7 @@ fn image_10(alloc: Global, m: &Message091) -> Result<String, Memory> {
     match to_10(alloc, m) {
         Ok(image) => {
             put_written(alloc, &mut out, &image)?;
-            put_back(alloc, &mut out, m, &image)?;
+            put_back(alloc, &mut out, m, image)?;
         }
         Err(fault) => put_fault(&mut out, &fault)?,
     }
@@ -95,18 +99,14 @@ fn to_10_text(alloc: Global, words: &str) -> Result<Option<String>, Memory> {
 }
 
 /// A message of AMQP 1.0 in AMQP 0-9-1.
-fn image_091(
-    alloc: Global,
-    message: &Message10,
-    queue: &[u8],
-    room: u32,
-) -> Result<String, Memory> {
+fn image_091(alloc: Global, message: Message10, queue: &[u8], room: u32) -> Result<String, Memory> {
     let mut out = String::new(alloc);
+    let again = redelivered(&message);
     match to_091(alloc, message, queue, room) {
         Ok(m) => put_message(&mut out, &m)?,
         Err(fault) => put_fault(&mut out, &fault)?,
     }
-    if redelivered(message) {
+    if again {
         out.push_str(" | redelivered")?;
     }
     Ok(out)
@@ -129,7 +129,7 @@ fn to_091_text(alloc: Global, words: &str) -> Result<Option<String>, Memory> {
     let Ok(message) = read_message(alloc, bytes.as_slice())? else {
         return Ok(None);
     };
-    Ok(Some(image_091(alloc, &message, queue.as_slice(), room)?))
+    Ok(Some(image_091(alloc, message, queue.as_slice(), room)?))
 }
 
 impl Cases for MappingCases {

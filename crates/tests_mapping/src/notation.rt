@@ -40,7 +40,8 @@ fn put_props(out: &mut String, props: &Props) -> Result<(), Memory> {
     put_text(out, "cluster-id", &props.cluster_id)
 }
 
-/// A message: its exchange and its key, its properties, and the length and the beginning of its body.
+/// A message: its exchange and its key, its properties, and the length and the beginning of its
+/// body.
 pub fn put_message(out: &mut String, m: &Message091) -> Result<(), Memory> {
     let exchange = &m.exchange;
     let key = &m.key;

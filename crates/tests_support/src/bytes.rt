@@ -1,4 +1,5 @@
-//! Bytes as text, for the programs whose cases are lines: pairs of hexadecimal digits, texts in quotes, and after a byte
+//! Bytes as text, for the programs whose cases are lines: pairs of hexadecimal digits, texts in
+//! quotes, and after a byte
 //! `*N`, which stands for N of it in all.
 use std::alloc::Global;
 use wire_base::{ByteText, Memory};

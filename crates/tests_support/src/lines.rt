@@ -7,12 +7,14 @@ use wire_base::Memory;
 
 /// A program whose cases are lines.
 pub trait Cases {
-    /// Answers a line that is neither empty nor a remark; `None` where it is no case. A line that only prepares others answers
-    /// the empty text, and nothing is printed for it; every other answer ends with a line feed.
+    /// Answers a line that is neither empty nor a remark; `None` where it is no case. A line that
+    /// only prepares others answers the empty text, and nothing is printed for it; every other
+    /// answer ends with a line feed.
     fn answer(&mut self, alloc: Global, line: &str) -> Result<Option<String>, Memory>;
 }
 
-/// What is printed for a line. Empty lines and remarks, which begin with `#`, are printed as they are.
+/// What is printed for a line. Empty lines and remarks, which begin with `#`, are printed as they
+/// are.
 fn answer_to<C: Cases>(alloc: Global, cases: &mut C, line: &str) -> Result<String, Memory> {
     if line.is_empty() || line.starts_with('#') {
         let text = format!(in alloc; "{line}\n")?;

@@ -47,8 +47,8 @@ impl Names {
         }
     }
 
-    /// Gives bytes a name, from a text such as `close-ok 00 0A 00 33`, in which further names may stand with commas between
-    /// them; whether they are told rightly.
+    /// Gives bytes a name, from a text such as `close-ok 00 0A 00 33`, in which further names may
+    /// stand with commas between them; whether they are told rightly.
     pub fn add(&mut self, alloc: Global, text: &str) -> Result<bool, Memory> {
         let Some((name, text)) = text.split_once(' ') else {
             return Ok(false);

@@ -1,13 +1,17 @@
 -- A value has one canonical spelling at most.
-use Rattle.std.proofs.Common.{◌≡◌, ℕ, zero, suc, ◌≤◌, List, [], ◌∷◌, ◌++◌, refl, sym, ap, subst, ◌∙◌, arith}
+use Rattle.std.proofs.Common.{◌≡◌, ℕ, zero, suc, ◌≤◌, List, [], ◌∷◌, ◌++◌, refl, sym, ap, subst}
+use Rattle.std.proofs.Common.{◌∙◌, arith}
 use Rattle.std.specs.Bool.{IsTrue}
 use Rattle.std.specs.Int.{Width, to_be_bytes}
 use Rattle.std.proofs.lemmas.List.{nil_from_length}
 use Rattle.wire_base.specs.Spelling.{text_of, IsMade, IsNumber, IsPair, IsItems}
 use Rattle.types_10.specs.Tree.{Tree, scalar, list, mapping, array, described, trees_of, pairs_of}
 use Rattle.types_10.specs.Kinds.{is_bare, size_width}
-use Rattle.types_10.specs.Grammar.{Elements, Spelled, IsDescriptorOf, IsPlainCode, IsConstructorOf, IsSingle, IsFilled, IsThen, IsTimes, IsItemList, IsPairList, IsFlat, IsDeepOf, IsElement}
-use Rattle.types_10.specs.Canonical.{IsFirstCode, IsFirstConstructor, IsFirstElements, canonical, IsCanonicalOf, IsCanonical}
+use Rattle.types_10.specs.Grammar.{Elements, Spelled, IsDescriptorOf, IsPlainCode, IsConstructorOf}
+use Rattle.types_10.specs.Grammar.{IsSingle, IsFilled, IsThen, IsTimes, IsItemList, IsPairList}
+use Rattle.types_10.specs.Grammar.{IsFlat, IsDeepOf, IsElement}
+use Rattle.types_10.specs.Canonical.{IsFirstCode, IsFirstConstructor, IsFirstElements, canonical}
+use Rattle.types_10.specs.Canonical.{IsCanonicalOf, IsCanonical}
 use Rattle.types_10.specs.Writing.{descriptors}
 use Rattle.types_10.proofs.Wider.{same_kind}
 use Rattle.types_10.proofs.Written.{single_is}

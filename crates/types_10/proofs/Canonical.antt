@@ -1,21 +1,34 @@
 -- What is written of a value is its canonical spelling.
-use Rattle.std.proofs.Common.{◌≡◌, ℕ, zero, suc, ◌*◌, ◌^◌, ◌<◌, ◌≤◌, Bool, true, false, List, [], ◌∷◌, ◌++◌, length, refl, sym, ap, subst, ◌∙◌, append_assoc, arith}
+use Rattle.std.proofs.Common.{◌≡◌, ℕ, zero, suc, ◌*◌, ◌^◌, ◌<◌, ◌≤◌, Bool, true, false, List, []}
+use Rattle.std.proofs.Common.{◌∷◌, ◌++◌, length, refl, sym, ap, subst, ◌∙◌, append_assoc, arith}
 use Rattle.std.specs.Bool.{IsTrue}
 use mathlib.Core.Logic.{◌⊎◌, inl, inr}
 use Rattle.std.proofs.lemmas.List.{length-append, nil_from_length}
 use Rattle.wire_base.specs.Spelling.{IsPair, IsItems}
-use Rattle.types_10.specs.Tree.{Scalar, Tree, scalar, list, mapping, array, described, Trees, no_trees, tree, trees_of, Pairs, no_pairs, pair, pairs_of, depth, trees_depth, pairs_depth}
+use Rattle.types_10.specs.Tree.{Scalar, Tree, scalar, list, mapping, array, described, Trees}
+use Rattle.types_10.specs.Tree.{no_trees, tree, trees_of, Pairs, no_pairs, pair, pairs_of, depth}
+use Rattle.types_10.specs.Tree.{trees_depth, pairs_depth}
 use Rattle.types_10.specs.Kinds.{kind_byte, is_bare}
 use Rattle.types_10.specs.Grammar.{Elements, IsDescriptorOf, IsConstructorOf, IsTimes}
 use Rattle.types_10.specs.Canonical.{IsFirstConstructor, canonical, IsCanonicalOf, IsCanonical}
 use Rattle.types_10.specs.Ranges.{IsInRange, IsRanged, EachInTrees, EachInPairs}
-use Rattle.types_10.specs.Writing.{single_kind, single_content, scalar_content, descriptors, Written, plain, array_body, list_kind, map_kind, array_kind, held_content, written, written_each, written_pairs, value_text, IsProper, EachIsAlike, AreOfOneType, IsWritable, EachIsWritable, PairsAreWritable, HasSpelling}
-use Rattle.types_10.proofs.Wider.{of_list, of_map, of_array, scalar_type_is, IsUpTo, IsWider, same_wider, later_wider, shared_first}
+use Rattle.types_10.specs.Writing.{single_kind, single_content, scalar_content, descriptors}
+use Rattle.types_10.specs.Writing.{Written, plain, array_body, list_kind, map_kind, array_kind}
+use Rattle.types_10.specs.Writing.{held_content, written, written_each, written_pairs, value_text}
+use Rattle.types_10.specs.Writing.{IsProper, EachIsAlike, AreOfOneType, IsWritable, EachIsWritable}
+use Rattle.types_10.specs.Writing.{PairsAreWritable, HasSpelling}
+use Rattle.types_10.proofs.Wider.{of_list, of_map, of_array, scalar_type_is, IsUpTo, IsWider}
+use Rattle.types_10.proofs.Wider.{same_wider, later_wider, shared_first}
 use Rattle.types_10.proofs.Written.{first_type, single_first, single_has_content}
-use Rattle.types_10.proofs.Elements.{late_plain, constructor_late, plain_constructor, element_told, plain_in, plain_out, scalar_in, scalar_out, element_some, items_count}
-use Rattle.types_10.proofs.Alone.{IsFirstBody, trees_same, pairs_same, values_alone, entries_alone, bodies_alone}
-use Rattle.types_10.proofs.Types.{list_type, map_type, array_type, tree_late, EachIsWider, shared_wide, none_text}
-use Rattle.types_10.proofs.Held.{IsHeld, list_for, empty_for, list_empty, list_held, sized_for, sized_held, filled_is, filled_has, body_short}
+use Rattle.types_10.proofs.Elements.{late_plain, constructor_late, plain_constructor, element_told}
+use Rattle.types_10.proofs.Elements.{plain_in, plain_out, scalar_in, scalar_out, element_some}
+use Rattle.types_10.proofs.Elements.{items_count}
+use Rattle.types_10.proofs.Alone.{IsFirstBody, trees_same, pairs_same, values_alone, entries_alone}
+use Rattle.types_10.proofs.Alone.{bodies_alone}
+use Rattle.types_10.proofs.Types.{list_type, map_type, array_type, tree_late, EachIsWider}
+use Rattle.types_10.proofs.Types.{shared_wide, none_text}
+use Rattle.types_10.proofs.Held.{IsHeld, list_for, empty_for, list_empty, list_held, sized_for}
+use Rattle.types_10.proofs.Held.{sized_held, filled_is, filled_has, body_short}
 use Rattle.types_10.specs.declared.kind.Kind.{Kind}
 use Rattle.types_10.specs.declared.kind.Kind.TheVariants as kind
 use Rattle.types_10.specs.declared.kind.Single.TheVariants as single

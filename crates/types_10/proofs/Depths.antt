@@ -2,7 +2,8 @@
 use Rattle.std.proofs.Common.{ℕ, zero, suc, ◌≤◌, List, [], ◌∷◌, ap, arith}
 use Rattle.wire_base.specs.Spelling.{IsItems, IsPair}
 use Rattle.types_10.specs.Tree.{Tree, depth, trees_depth, pairs_depth, trees_of, pairs_of}
-use Rattle.types_10.specs.Grammar.{Elements, Spelled, IsCoded, IsFlat, IsDeep, IsElement, spelled, IsValue}
+use Rattle.types_10.specs.Grammar.{Elements, Spelled, IsCoded, IsFlat, IsDeep, IsElement, spelled}
+use Rattle.types_10.specs.Grammar.{IsValue}
 use Rattle.types_10.specs.declared.kind.Kind.{Kind}
 use Rattle.types_10.specs.declared.kind.Kind.TheVariants as kind
 

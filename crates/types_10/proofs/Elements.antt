@@ -1,6 +1,7 @@
 -- Constructors and elements of canonical spellings: no constructor tells the kind of described values, and the descriptors that it
 -- tells are those of the elements.
-use Rattle.std.proofs.Common.{◌≡◌, ◌≢◌, ℕ, zero, suc, ◌≤◌, false, List, [], ◌∷◌, length, refl, sym, ap, subst, ◌∙◌, arith}
+use Rattle.std.proofs.Common.{◌≡◌, ◌≢◌, ℕ, zero, suc, ◌≤◌, false, List, [], ◌∷◌, length, refl, sym}
+use Rattle.std.proofs.Common.{ap, subst, ◌∙◌, arith}
 use Rattle.std.proofs.lemmas.List.{length-append}
 use Rattle.std.specs.Int.{Width, byte_len}
 use Rattle.wire_base.specs.Spelling.{IsMade, IsText, IsItems}

@@ -1,5 +1,8 @@
 -- The readers of values against the faults of bytes, by the laws of their parts.
-use Rattle.std.proofs.Common.{◌≡◌, ◌≢◌, ◌↔◌, ◌⊎◌, inl, inr, ℕ, zero, suc, ◌-◌, ◌/◌, ◌%◌, ◌<◌, ◌≤◌, Bool, true, false, cond, eqb, ltb, ◌&&◌, List, [], ◌∷◌, ◌++◌, length, take, drop, Option, Some, None, Result, Ok, Err, refl, sym, ap, subst, ◌∙◌, append_assoc, arith}
+use Rattle.std.proofs.Common.{◌≡◌, ◌≢◌, ◌↔◌, ◌⊎◌, inl, inr, ℕ, zero, suc, ◌-◌, ◌/◌, ◌%◌, ◌<◌, ◌≤◌}
+use Rattle.std.proofs.Common.{Bool, true, false, cond, eqb, ltb, ◌&&◌, List, [], ◌∷◌, ◌++◌, length}
+use Rattle.std.proofs.Common.{take, drop, Option, Some, None, Result, Ok, Err, refl, sym, ap, subst}
+use Rattle.std.proofs.Common.{◌∙◌, append_assoc, arith}
 use Rattle.std.proofs.lemmas.Bool.{eqb-true, ltb-true, ltb-false, lt-ltb, le-ltb}
 use Rattle.std.proofs.lemmas.List.{nil_from_length, length-append}
 use Rattle.std.specs.Int.{Width, w8, w32, from_be_bytes}
@@ -10,14 +13,32 @@ use Rattle.wire_base.specs.Reading.{Reads, ◌>>=◌, made, pair_in, number_in, 
 use Rattle.wire_base.proofs.Bytes.{IsBytes-drop}
 use Rattle.wire_base.proofs.Items.{text_bytes}
 use Rattle.wire_base.proofs.Laws.{IsReader, IsWide, wide8, wide32, pair_reader}
-use Rattle.wire_base.proofs.FaultLaws.{failed, err_is, bind_fails, guard_fails, TellsFaults, made_faults, number_faults, text_faults, pair_faults, times_faults}
-use Rattle.types_10.specs.Tree.{boolean, char, Tree, scalar, list, mapping, array, described, depth, trees_of, pairs_of}
-use Rattle.types_10.specs.Kinds.{kind_byte, kind_of, is_bare, is_described, octet_scalar, wide_width, wide_scalar, sixteen_scalar, text_scalar, is_text, is_character, size_width}
-use Rattle.types_10.specs.Grammar.{IsCoded, IsItemList, IsPairList, Elements, IsDescriptorOf, IsConstructorOf, Spelled, IsElementList, spelled}
-use Rattle.types_10.specs.Reading.{Fault, fault_at, count_in, bytes_in, sixteen_in, tested, text_fault, single_in, known_in, coded_in, code_in, Shape, with_descriptor, constructor_in, Inside, Contents, value_by, shape_by, filled_in, items_in, entries_in, elements_in, flat_in, deep_in, element_by, level, value_in, value_at}
-use Rattle.types_10.specs.Faults.{IsShort, IsBytesFault, IsTestedFault, IsSingleFault, ContentFaults, IsKindFault, IsCodedFault, IsCodeFault, IsConstructorFault, IsFilledFault, IsThenFault, IsItemListFault, IsPairsFault, IsPairListFault, FaultsInside, AreElementsFault, IsElementListFault, IsFlatFault, IsDeepFault, IsElementFault, faults, IsValueFault, IsFaultAt}
+use Rattle.wire_base.proofs.FaultLaws.{failed, err_is, bind_fails, guard_fails, TellsFaults}
+use Rattle.wire_base.proofs.FaultLaws.{made_faults, number_faults, text_faults, pair_faults}
+use Rattle.wire_base.proofs.FaultLaws.{times_faults}
+use Rattle.types_10.specs.Tree.{boolean, char, Tree, scalar, list, mapping, array, described, depth}
+use Rattle.types_10.specs.Tree.{trees_of, pairs_of}
+use Rattle.types_10.specs.Kinds.{kind_byte, kind_of, is_bare, is_described, octet_scalar}
+use Rattle.types_10.specs.Kinds.{wide_width, wide_scalar, sixteen_scalar, text_scalar, is_text}
+use Rattle.types_10.specs.Kinds.{is_character, size_width}
+use Rattle.types_10.specs.Grammar.{IsCoded, IsItemList, IsPairList, Elements, IsDescriptorOf}
+use Rattle.types_10.specs.Grammar.{IsConstructorOf, Spelled, IsElementList, spelled}
+use Rattle.types_10.specs.Reading.{Fault, fault_at, count_in, bytes_in, sixteen_in, tested}
+use Rattle.types_10.specs.Reading.{text_fault, single_in, known_in, coded_in, code_in, Shape}
+use Rattle.types_10.specs.Reading.{with_descriptor, constructor_in, Inside, Contents, value_by}
+use Rattle.types_10.specs.Reading.{shape_by, filled_in, items_in, entries_in, elements_in, flat_in}
+use Rattle.types_10.specs.Reading.{deep_in, element_by, level, value_in, value_at}
+use Rattle.types_10.specs.Faults.{IsShort, IsBytesFault, IsTestedFault, IsSingleFault}
+use Rattle.types_10.specs.Faults.{ContentFaults, IsKindFault, IsCodedFault, IsCodeFault}
+use Rattle.types_10.specs.Faults.{IsConstructorFault, IsFilledFault, IsThenFault, IsItemListFault}
+use Rattle.types_10.specs.Faults.{IsPairsFault, IsPairListFault, FaultsInside, AreElementsFault}
+use Rattle.types_10.specs.Faults.{IsElementListFault, IsFlatFault, IsDeepFault, IsElementFault}
+use Rattle.types_10.specs.Faults.{faults, IsValueFault, IsFaultAt}
 use Rattle.types_10.proofs.ReaderLaws.{size_is, count_reader, bytes_reader}
-use Rattle.types_10.proofs.ValueLaws.{kind_known, kind_is, code_found, code_again, few, few_back, IsInside, IsEachReader, values_reader, items_reader, entries_reader, constructor_reader, elements_reader, level_reader}
+use Rattle.types_10.proofs.ValueLaws.{kind_known, kind_is, code_found, code_again, few, few_back}
+use Rattle.types_10.proofs.ValueLaws.{IsInside, IsEachReader, values_reader, items_reader}
+use Rattle.types_10.proofs.ValueLaws.{entries_reader, constructor_reader, elements_reader}
+use Rattle.types_10.proofs.ValueLaws.{level_reader}
 use Rattle.types_10.specs.declared.fault.TypeFault.TheVariants as fault
 use Rattle.types_10.specs.declared.kind.Kind.{Kind}
 use Rattle.types_10.specs.declared.kind.Kind.TheVariants as kind

@@ -1,9 +1,11 @@
 -- Contents and elements of some depth, where the depth is no numeral.
-use Rattle.std.proofs.Common.{◌≡◌, ℕ, zero, suc, ◌-◌, Bool, true, false, cond, eqb, leb, ltb, ◌<◌, List, [], ◌∷◌, Err, refl, arith, rules, tests}
+use Rattle.std.proofs.Common.{◌≡◌, ℕ, zero, suc, ◌-◌, Bool, true, false, cond, eqb, leb, ltb, ◌<◌}
+use Rattle.std.proofs.Common.{List, [], ◌∷◌, Err, refl, arith, rules, tests}
 use Rattle.std.proofs.lemmas.Bool.{leb-true, leb-false, lt-ltb, le-ltb}
 use Rattle.wire_base.specs.Reading.{Reads, made}
 use Rattle.types_10.specs.Tree.{Tree, described, depth}
-use Rattle.types_10.specs.Reading.{Fault, fault_at, flat_in, deep_in, level, contents_in, element_in}
+use Rattle.types_10.specs.Reading.{Fault, fault_at, flat_in, deep_in, level, contents_in}
+use Rattle.types_10.specs.Reading.{element_in}
 use Rattle.types_10.specs.declared.fault.TypeFault.TheVariants as fault
 use Rattle.types_10.specs.declared.kind.Kind.{Kind}
 

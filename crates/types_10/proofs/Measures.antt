@@ -1,10 +1,14 @@
 -- How long what is written is: by the kind, and by what the kind does not decide.
-use Rattle.std.proofs.Common.{◌≡◌, ℕ, ◌+◌, ◌*◌, Bool, List, ◌∷◌, ◌++◌, length, ℤ, refl, sym, ap, ◌∙◌, length-append, append_assoc, arith}
+use Rattle.std.proofs.Common.{◌≡◌, ℕ, ◌+◌, ◌*◌, Bool, List, ◌∷◌, ◌++◌, length, ℤ, refl, sym, ap}
+use Rattle.std.proofs.Common.{◌∙◌, length-append, append_assoc, arith}
 use Rattle.std.specs.Int.{byte_len, to_be_bytes}
 use Rattle.wire_base.specs.Spelling.{text_of}
-use Rattle.types_10.specs.Tree.{Scalar, Tree, scalar, list, mapping, array, described, Trees, no_trees, tree}
+use Rattle.types_10.specs.Tree.{Scalar, Tree, scalar, list, mapping, array, described, Trees}
+use Rattle.types_10.specs.Tree.{no_trees, tree}
 use Rattle.types_10.specs.Kinds.{kind_byte, size_width}
-use Rattle.types_10.specs.Writing.{single_content, scalar_content, list_kind, map_kind, array_kind, held_content, array_body, written, written_each, written_pairs, scalar_type, AreOfOneType}
+use Rattle.types_10.specs.Writing.{single_content, scalar_content, list_kind, map_kind, array_kind}
+use Rattle.types_10.specs.Writing.{held_content, array_body, written, written_each, written_pairs}
+use Rattle.types_10.specs.Writing.{scalar_type, AreOfOneType}
 use Rattle.types_10.specs.Measures.{single_head, head_len, scalar_body, body_len, bodies_len}
 use Rattle.types_10.specs.declared.kind.Kind.{Kind}
 use Rattle.types_10.specs.declared.kind.Kind.TheVariants as kind
@@ -17,10 +21,12 @@ use Rattle.types_10.specs.declared.kind.Sixteen.TheVariants as sixteen
 use Rattle.types_10.specs.declared.kind.Text.TheVariants as text
 use Rattle.types_10.specs.declared.kind.Size.{Size}
 use Rattle.types_10.proofs.ReaderLaws.{size_is}
-use Rattle.types_10.proofs.Wider.{kind_type, single_type, scalar_type_is, IsWider, same_wider, of_list, of_map, of_array}
+use Rattle.types_10.proofs.Wider.{kind_type, single_type, scalar_type_is, IsWider, same_wider}
+use Rattle.types_10.proofs.Wider.{of_list, of_map, of_array}
 use Rattle.types_10.proofs.Written.{first_type, scalar_at, by_type}
 use Rattle.types_10.proofs.Held.{list_empty}
-use Rattle.types_10.proofs.Types.{list_type, map_type, array_type, EachIsWider, shared_wide, none_text}
+use Rattle.types_10.proofs.Types.{list_type, map_type, array_type, EachIsWider, shared_wide}
+use Rattle.types_10.proofs.Types.{none_text}
 
 -- ---- contents
 

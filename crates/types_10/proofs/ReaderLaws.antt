@@ -1,16 +1,21 @@
 -- Laws of readers that several kinds of values share: tests, what depends on what was read, and sizes that are filled.
-use Rattle.std.proofs.Common.{◌≡◌, ℕ, ◌-◌, ◌≤◌, Bool, true, false, cond, eqb, ltb, List, [], ◌++◌, length, take, drop, Ok, Err, refl, sym, ap, subst, ◌∙◌, append_assoc, arith}
+use Rattle.std.proofs.Common.{◌≡◌, ℕ, ◌-◌, ◌≤◌, Bool, true, false, cond, eqb, ltb, List, [], ◌++◌}
+use Rattle.std.proofs.Common.{length, take, drop, Ok, Err, refl, sym, ap, subst, ◌∙◌, append_assoc}
+use Rattle.std.proofs.Common.{arith}
 use Rattle.std.specs.Bool.{IsTrue}
 use Rattle.std.proofs.lemmas.Bool.{eqb-true, ltb-false, le-ltb}
-use Rattle.std.proofs.lemmas.List.{append-nil, nil_from_length, length-append, length-take, take_at, drop_at, take-append-drop}
+use Rattle.std.proofs.lemmas.List.{append-nil, nil_from_length, length-append, length-take, take_at}
+use Rattle.std.proofs.lemmas.List.{drop_at, take-append-drop}
 use Rattle.std.specs.Int.{Width}
 use Rattle.wire_base.specs.Bytes.{IsBytes}
 use Rattle.wire_base.specs.Spelling.{IsNumber, IsText}
 use Rattle.wire_base.specs.Reading.{Reads, ◌>>=◌, number_in, text_in}
 use Rattle.wire_base.proofs.Bytes.{IsBytes-drop}
 use Rattle.wire_base.proofs.Items.{text_bytes}
-use Rattle.wire_base.proofs.Laws.{IsReader, Finds, IsWide, wide8, wide32, bind_is, ok_is, number_reader, text_reader}
-use Rattle.types_10.specs.Reading.{Fault, fault_at, count_in, bytes_in, sixteen_in, tested, filled_in}
+use Rattle.wire_base.proofs.Laws.{IsReader, Finds, IsWide, wide8, wide32, bind_is, ok_is}
+use Rattle.wire_base.proofs.Laws.{number_reader, text_reader}
+use Rattle.types_10.specs.Reading.{Fault, fault_at, count_in, bytes_in, sixteen_in, tested}
+use Rattle.types_10.specs.Reading.{filled_in}
 use Rattle.types_10.specs.Kinds.{size_width}
 use Rattle.types_10.specs.Grammar.{IsSuch, IsSixteen, IsFilled, IsThen}
 use Rattle.types_10.specs.declared.fault.TypeFault.TheVariants as fault

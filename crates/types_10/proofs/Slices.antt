@@ -1,14 +1,19 @@
 -- Slices against trees: what is said of the trees in a list or a map, said of a slice's values and pairs one by one. Then the parts
 -- of a value that are written in turn, and its kind and its length as the program finds them.
-use Rattle.std.proofs.Common.{◌≡◌, ℕ, ◌+◌, ◌-◌, ◌*◌, ◌<◌, ◌^◌, min, Bool, true, false, cond, List, [], ◌∷◌, ◌++◌, length, get_or, map, All, ◌⊎◌, inl, inr, refl, ap, ◌∙◌, arith}
+use Rattle.std.proofs.Common.{◌≡◌, ℕ, ◌+◌, ◌-◌, ◌*◌, ◌<◌, ◌^◌, min, Bool, true, false, cond, List}
+use Rattle.std.proofs.Common.{[], ◌∷◌, ◌++◌, length, get_or, map, All, ◌⊎◌, inl, inr, refl, ap, ◌∙◌}
+use Rattle.std.proofs.Common.{arith}
 use Rattle.std.specs.List.{flat_map, AllByRecursion}
 use Rattle.std.proofs.lemmas.List.{length-append}
 use Rattle.std.proofs.lemmas.List.Folds.{length-flat_map-take}
 use Rattle.std.proofs.lemmas.List.Elements.{All-from_recursion}
 use Rattle.types_10.specs.Kinds.{kind_byte}
-use Rattle.types_10.specs.Tree.{Tree, scalar, list, mapping, array, described, Trees, trees_of, pairs_of}
+use Rattle.types_10.specs.Tree.{Tree, scalar, list, mapping, array, described, Trees, trees_of}
+use Rattle.types_10.specs.Tree.{pairs_of}
 use Rattle.types_10.specs.View.{value_tree, pair_trees}
-use Rattle.types_10.specs.Writing.{is_brief, map_kind, array_kind, array_body, written, written_each, written_pairs, value_text, AreOfOneType, IsWritable, EachIsWritable, PairsAreWritable}
+use Rattle.types_10.specs.Writing.{is_brief, map_kind, array_kind, array_body, written}
+use Rattle.types_10.specs.Writing.{written_each, written_pairs, value_text, AreOfOneType}
+use Rattle.types_10.specs.Writing.{IsWritable, EachIsWritable, PairsAreWritable}
 use Rattle.types_10.specs.Measures.{capped, head_len, held_size, pair_text, IsEachMeasure}
 use Rattle.types_10.specs.declared.kind.Kind.{Kind}
 use Rattle.types_10.specs.declared.kind.Kind.TheVariants as kind

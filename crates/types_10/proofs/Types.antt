@@ -1,10 +1,14 @@
 -- Values of a type: the kind that is written of a value is one of its type, and values of one type share a kind that has contents for
 -- each of them.
 use Rattle.std.proofs.Common.{◌≡◌, ℕ, ◌≤◌, List, [], refl, sym, ◌∙◌, arith}
-use Rattle.types_10.specs.Tree.{Tree, scalar, list, mapping, array, described, Trees, no_trees, tree}
+use Rattle.types_10.specs.Tree.{Tree, scalar, list, mapping, array, described, Trees, no_trees}
+use Rattle.types_10.specs.Tree.{tree}
 use Rattle.types_10.specs.Kinds.{kind_byte}
-use Rattle.types_10.specs.Writing.{single_kind, type_of, array_body, list_kind, map_kind, array_kind, shared, written, written_each, written_pairs, EachIsAlike}
-use Rattle.types_10.proofs.Wider.{kind_type, IsWider, same_wider, wider_trans, first_shares, rest_shares, last_shares}
+use Rattle.types_10.specs.Writing.{single_kind, type_of, array_body, list_kind, map_kind}
+use Rattle.types_10.specs.Writing.{array_kind, shared, written, written_each, written_pairs}
+use Rattle.types_10.specs.Writing.{EachIsAlike}
+use Rattle.types_10.proofs.Wider.{kind_type, IsWider, same_wider, wider_trans, first_shares}
+use Rattle.types_10.proofs.Wider.{rest_shares, last_shares}
 use Rattle.types_10.proofs.Written.{first_type}
 use Rattle.types_10.proofs.Elements.{single_late}
 use Rattle.types_10.proofs.Held.{by_brief, by_list}

@@ -1,5 +1,8 @@
 -- The readers of values against their spellings, by the laws of their parts.
-use Rattle.std.proofs.Common.{◌≡◌, ◌≢◌, ◌↔◌, ℕ, zero, suc, ◌+◌, ◌-◌, ◌*◌, ◌/◌, ◌%◌, ◌<◌, ◌≤◌, Bool, true, false, cond, eqb, ltb, ◌&&◌, List, [], ◌∷◌, ◌++◌, length, take, drop, Option, Some, None, Result, Ok, Err, refl, sym, ap, subst, ◌∙◌, append_assoc, arith}
+use Rattle.std.proofs.Common.{◌≡◌, ◌≢◌, ◌↔◌, ℕ, zero, suc, ◌+◌, ◌-◌, ◌*◌, ◌/◌, ◌%◌, ◌<◌, ◌≤◌, Bool}
+use Rattle.std.proofs.Common.{true, false, cond, eqb, ltb, ◌&&◌, List, [], ◌∷◌, ◌++◌, length, take}
+use Rattle.std.proofs.Common.{drop, Option, Some, None, Result, Ok, Err, refl, sym, ap, subst, ◌∙◌}
+use Rattle.std.proofs.Common.{append_assoc, arith}
 use Rattle.std.specs.Bool.{IsTrue}
 use Rattle.std.proofs.lemmas.Bool.{eqb-true, ltb-false, le-ltb}
 use Rattle.std.proofs.lemmas.List.{length-append, length-drop, take_at}
@@ -8,13 +11,24 @@ use Rattle.wire_base.specs.Bytes.{IsBytes}
 use Rattle.wire_base.specs.Spelling.{IsNumber, IsText, IsPair, IsItems, StandsAt}
 use Rattle.wire_base.specs.Reading.{Reads, ◌>>=◌, made, pair_in, times}
 use Rattle.wire_base.proofs.Bytes.{IsBytes-drop}
-use Rattle.wire_base.proofs.Laws.{IsReader, Finds, IsWide, wide8, wide16, wide32, wide64, bind_is, ok_is, made_reader, pair_reader, reads_exactly}
+use Rattle.wire_base.proofs.Laws.{IsReader, Finds, IsWide, wide8, wide16, wide32, wide64, bind_is}
+use Rattle.wire_base.proofs.Laws.{ok_is, made_reader, pair_reader, reads_exactly}
 use Rattle.wire_base.proofs.Items.{times_reader}
-use Rattle.types_10.specs.Tree.{boolean, char, Tree, scalar, list, mapping, array, described, depth, no_trees, trees_of, pairs_of}
-use Rattle.types_10.specs.Kinds.{kind_byte, kind_of, is_bare, is_described, bare_scalar, octet_scalar, wide_width, wide_scalar, sixteen_scalar, text_scalar, is_text, is_character, size_width}
-use Rattle.types_10.specs.Grammar.{IsSixteen, IsSingle, IsCoded, IsThen, IsTimes, IsItemList, IsPairList, Elements, IsConstructorOf, Spelled, IsElementList, IsFlat, IsDeep, IsElement, spelled, IsValueOf, IsValue}
-use Rattle.types_10.specs.Reading.{Fault, fault_at, count_in, bytes_in, sixteen_in, text_fault, single_in, known_in, coded_in, code_in, Shape, with_descriptor, constructor_in, Inside, Contents, value_by, shape_by, items_in, entries_in, elements_in, flat_in, deep_in, element_by, level, value_in, value_at}
-use Rattle.types_10.proofs.ReaderLaws.{size_is, count_reader, bytes_reader, sixteen_reader, tested_reader, then_reader, filled_reader}
+use Rattle.types_10.specs.Tree.{boolean, char, Tree, scalar, list, mapping, array, described, depth}
+use Rattle.types_10.specs.Tree.{no_trees, trees_of, pairs_of}
+use Rattle.types_10.specs.Kinds.{kind_byte, kind_of, is_bare, is_described, bare_scalar}
+use Rattle.types_10.specs.Kinds.{octet_scalar, wide_width, wide_scalar, sixteen_scalar, text_scalar}
+use Rattle.types_10.specs.Kinds.{is_text, is_character, size_width}
+use Rattle.types_10.specs.Grammar.{IsSixteen, IsSingle, IsCoded, IsThen, IsTimes, IsItemList}
+use Rattle.types_10.specs.Grammar.{IsPairList, Elements, IsConstructorOf, Spelled, IsElementList}
+use Rattle.types_10.specs.Grammar.{IsFlat, IsDeep, IsElement, spelled, IsValueOf, IsValue}
+use Rattle.types_10.specs.Reading.{Fault, fault_at, count_in, bytes_in, sixteen_in, text_fault}
+use Rattle.types_10.specs.Reading.{single_in, known_in, coded_in, code_in, Shape, with_descriptor}
+use Rattle.types_10.specs.Reading.{constructor_in, Inside, Contents, value_by, shape_by, items_in}
+use Rattle.types_10.specs.Reading.{entries_in, elements_in, flat_in, deep_in, element_by, level}
+use Rattle.types_10.specs.Reading.{value_in, value_at}
+use Rattle.types_10.proofs.ReaderLaws.{size_is, count_reader, bytes_reader, sixteen_reader}
+use Rattle.types_10.proofs.ReaderLaws.{tested_reader, then_reader, filled_reader}
 use Rattle.types_10.specs.declared.fault.TypeFault.TheVariants as fault
 use Rattle.types_10.specs.declared.kind.Kind.{Kind}
 use Rattle.types_10.specs.declared.kind.Kind.TheVariants as kind

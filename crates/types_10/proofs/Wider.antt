@@ -1,11 +1,13 @@
 -- Which kinds have contents for the values of which others: those of the same type with a later code. Of the booleans' kinds without
 -- content neither has one for the values of the other.
-use Rattle.std.proofs.Common.{◌≡◌, ℕ, ◌<◌, ◌≤◌, true, false, eqb, ltb, ◌&&◌, ◌||◌, Some, [], refl, sym, ap, subst, ◌∙◌, arith}
+use Rattle.std.proofs.Common.{◌≡◌, ℕ, ◌<◌, ◌≤◌, true, false, eqb, ltb, ◌&&◌, ◌||◌, Some, [], refl}
+use Rattle.std.proofs.Common.{sym, ap, subst, ◌∙◌, arith}
 use Rattle.std.proofs.lemmas.Bool.{cond_both, ltb-true, ltb-false}
 use Rattle.std.proofs.lemmas.Bool.Decides.{nat_tests}
 use mathlib.Core.Logic.{◌⊎◌, inl, inr}
 use Rattle.types_10.specs.Tree.{Scalar, null}
-use Rattle.types_10.specs.Kinds.{kind_byte, kind_of, bare_scalar, octet_scalar, wide_scalar, sixteen_scalar, text_scalar}
+use Rattle.types_10.specs.Kinds.{kind_byte, kind_of, bare_scalar, octet_scalar, wide_scalar}
+use Rattle.types_10.specs.Kinds.{sixteen_scalar, text_scalar}
 use Rattle.types_10.specs.Writing.{scalar_type, shared}
 use Rattle.types_10.proofs.ValueLaws.{kind_known}
 use Rattle.types_10.specs.declared.kind.Kind.{Kind}

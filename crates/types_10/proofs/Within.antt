@@ -4,7 +4,8 @@ use Rattle.std.specs.Int.{Width}
 use Rattle.wire_base.specs.Spelling.{IsPair, IsItems}
 use Rattle.types_10.specs.Tree.{Tree}
 use Rattle.types_10.specs.Kinds.{size_width}
-use Rattle.types_10.specs.Grammar.{Elements, Spelled, IsDescriptorOf, IsPlainCode, IsConstructorOf, IsCoded, IsElementList, IsDeepOf, IsElement, spelled, IsValue}
+use Rattle.types_10.specs.Grammar.{Elements, Spelled, IsDescriptorOf, IsPlainCode, IsConstructorOf}
+use Rattle.types_10.specs.Grammar.{IsCoded, IsElementList, IsDeepOf, IsElement, spelled, IsValue}
 use Rattle.types_10.specs.Canonical.{IsFirstCode, IsFirstElements, canonical, IsCanonical}
 use Rattle.types_10.specs.declared.kind.Kind.{Kind}
 use Rattle.types_10.specs.declared.kind.Kind.TheVariants as kind

@@ -1,16 +1,20 @@
 -- Values that hold no other: their contents under each kind that has one for them, and the kind with the first code.
-use Rattle.std.proofs.Common.{◌≡◌, ◌≢◌, ℕ, ◌^◌, ◌<◌, ◌≤◌, ◌%◌, Bool, true, false, cond, eqb, ltb, List, [], length, ℤ, pos, negsuc, refl, sym, ap, subst, ◌∙◌, arith}
+use Rattle.std.proofs.Common.{◌≡◌, ◌≢◌, ℕ, ◌^◌, ◌<◌, ◌≤◌, ◌%◌, Bool, true, false, cond, eqb, ltb}
+use Rattle.std.proofs.Common.{List, [], length, ℤ, pos, negsuc, refl, sym, ap, subst, ◌∙◌, arith}
 use Rattle.std.proofs.lemmas.Bool.{cond_both, eqb-true, eqb-false, ltb-true, ltb-false}
 use Rattle.std.proofs.lemmas.Bool.Decides.{nat_tests}
 use Rattle.std.proofs.lemmas.Int.{ints, to_z-of_z, of_z-to_z}
 use Rattle.std.proofs.lemmas.List.{length-append}
 use Rattle.std.specs.Int.{w8, w16, w32, w64, to_be_bytes, cast_unsigned, cast_signed}
 use Rattle.std.specs.Int.RustNames.{FitsSigned}
-use Rattle.types_10.specs.Tree.{Scalar, null, boolean, ubyte, byte, ushort, short, uint, int, ulong, long, float, double, decimal32, decimal64, decimal128, char, timestamp, uuid, binary, string, symbol}
+use Rattle.types_10.specs.Tree.{Scalar, null, boolean, ubyte, byte, ushort, short, uint, int, ulong}
+use Rattle.types_10.specs.Tree.{long, float, double, decimal32, decimal64, decimal128, char}
+use Rattle.types_10.specs.Tree.{timestamp, uuid, binary, string, symbol}
 use Rattle.types_10.specs.Kinds.{text_scalar}
 use Rattle.types_10.specs.Grammar.{IsSingle}
 use Rattle.types_10.specs.Ranges.{IsInRange}
-use Rattle.types_10.specs.Writing.{is_small, text_kind, single_kind, single_content, scalar_type, IsProper}
+use Rattle.types_10.specs.Writing.{is_small, text_kind, single_kind, single_content, scalar_type}
+use Rattle.types_10.specs.Writing.{IsProper}
 use Rattle.types_10.proofs.Wider.{single_type, IsWider, same_wider, later_wider}
 use Rattle.types_10.specs.declared.kind.Kind.TheVariants as kind
 use Rattle.types_10.specs.declared.kind.Single.{Single}

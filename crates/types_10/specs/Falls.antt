@@ -1,4 +1,5 @@
--- What a list, a map or a described value holds is less deep than it is itself: what the models of these types have to show.
+-- What a list, a map or a described value holds is less deep than it is itself: what the models of
+-- these types have to show.
 use Rattle.std.specs.Prelude.{◌≤◌, max, List, [], ◌∷◌, map}
 use Rattle.std.proofs.Common.{arith}
 use denote.Param.Weighed.{most}
@@ -35,11 +36,13 @@ value_falls (value.Map ps) = omega arith
 value_falls (value.Array ts) = omega arith
 value_falls (value.Described d t) = omega arith
 
-pub list_falls : (vs : List Value10) → max (most (λ v. deep-Value10 v) vs) 0 ≤ list_depth (map value_tree vs)
+pub list_falls : (vs : List Value10) → max (most (λ v. deep-Value10 v) vs) 0 ≤ list_depth
+    (map value_tree vs)
 list_falls [] = omega arith
 list_falls (v ∷ vs) = omega (arith, list_falls vs, value_falls v)
 
-pub pairs_fall : (ps : List (Value10 × Value10)) → max (most (λ p. max (deep-Value10 p.0) (max (deep-Value10 p.1) 0)) ps) 0 ≤ pairs_depth_of (map pair_trees ps)
+pub pairs_fall : (ps : List (Value10 × Value10)) → max (most (λ p. max (deep-Value10 p.0) (max
+    (deep-Value10 p.1) 0)) ps) 0 ≤ pairs_depth_of (map pair_trees ps)
 pairs_fall [] = omega arith
 pairs_fall (p ∷ ps) = omega (arith, pairs_fall ps, value_falls p.0, value_falls p.1)
 

@@ -1,14 +1,18 @@
--- The first fault of bytes that are to begin with a value, and its place (AMQP 1.0 1.6), one row for each. What stands
--- before the fault is spelled rightly. A value that is cut off has a fault of its own, `cut`: in the input itself Cut at
--- its end, and inside a list, a map or an array Count at its code, since there it disagrees with the size.
-use Rattle.std.specs.Prelude.{◌≡◌, ◌≢◌, ◌⊎◌, ℕ, zero, suc, ◌-◌, ◌/◌, ◌%◌, ◌<◌, ◌≤◌, Bool, false, IsTrue, nat_lt, List, [], ◌∷◌, ◌++◌, length, drop}
+-- The first fault of bytes that are to begin with a value, and its place (AMQP 1.0 1.6), one row
+-- for each. What stands before the fault is spelled rightly. A value that is cut off has a fault of
+-- its own, `cut`: in the input itself Cut at its end, and inside a list, a map or an array Count at
+-- its code, since there it disagrees with the size.
+use Rattle.std.specs.Prelude.{◌≡◌, ◌≢◌, ◌⊎◌, ℕ, zero, suc, ◌-◌, ◌/◌, ◌%◌, ◌<◌, ◌≤◌, Bool, false}
+use Rattle.std.specs.Prelude.{IsTrue, nat_lt, List, [], ◌∷◌, ◌++◌, length, drop}
 use Rattle.std.specs.Int.{Width, w8, w32}
 use Rattle.wire_base.specs.Spelling.{IsNumber, IsText, IsPair, IsItems}
-use Rattle.wire_base.specs.Faults.{Faults, IsCut, IsNumberCut, IsTextFault, IsBehind, IsPairFault, IsTimesFault}
+use Rattle.wire_base.specs.Faults.{Faults, IsCut, IsNumberCut, IsTextFault, IsBehind, IsPairFault}
+use Rattle.wire_base.specs.Faults.{IsTimesFault}
 use Rattle.types_10.specs.Tree.{Tree, depth}
 use Rattle.types_10.specs.Kinds.{kind_byte, is_bare, wide_width, is_text, is_character, size_width}
 use Rattle.types_10.specs.Reading.{Fault, fault_at, text_fault}
-use Rattle.types_10.specs.Grammar.{IsCoded, IsItemList, IsPairList, Elements, IsDescriptorOf, IsConstructorOf, Spelled, IsElementList, spelled}
+use Rattle.types_10.specs.Grammar.{IsCoded, IsItemList, IsPairList, Elements, IsDescriptorOf}
+use Rattle.types_10.specs.Grammar.{IsConstructorOf, Spelled, IsElementList, spelled}
 use Rattle.types_10.specs.declared.fault.TypeFault.TheVariants as fault
 use Rattle.types_10.specs.declared.kind.Kind.{Kind}
 use Rattle.types_10.specs.declared.kind.Kind.TheVariants as kind
@@ -25,25 +29,31 @@ IsShort w cut = IsNumberCut (λ at. cut) w
 abbrev pub IsBytesFault : Width → Fault → Faults Fault
 IsBytesFault w cut = IsTextFault (λ at. cut) w
 
--- what is spelled rightly has a fault, or fails a test: the fault depends on it, and on the offset behind it
-abbrev pub IsTestedFault : {A : Type 0} → (A → Bool) → (A → ℕ → Fault) → (A → List ℕ → Type 0) → Faults Fault → Faults Fault
+-- what is spelled rightly has a fault, or fails a test: the fault depends on it, and on the offset
+-- behind it
+abbrev pub IsTestedFault : {A : Type 0} → (A → Bool) → (A → ℕ → Fault) → (A → List ℕ → Type 0)
+    → Faults Fault → Faults Fault
 IsTestedFault {A} passes fault R IsFault end bytes f =
     IsFault end bytes f
     ⊎ ((x : A) × (front : List ℕ) × (rest : List ℕ) × R x front × (bytes ≡ front ++ rest)
     × (passes x ≡ false) × (f ≡ fault x (end - length rest)))
 
--- a value that holds no other. UnknownCode at the byte of a boolean, NotUtf8 and NotAscii at the first byte of a content
+-- a value that holds no other. UnknownCode at the byte of a boolean, NotUtf8 and NotAscii at the
+-- first byte of a content
 abbrev pub IsSingleFault : Single → Fault → Faults Fault
 IsSingleFault (single.Bare k) cut = λ end bytes f. ⊥
 IsSingleFault single.Boolean cut =
-    IsTestedFault (λ n. nat_lt n 2) (λ n after. fault_at fault.UnknownCode (after - 1)) (IsNumber w8) (IsShort w8 cut)
+    IsTestedFault (λ n. nat_lt n 2) (λ n after. fault_at fault.UnknownCode (after - 1))
+    (IsNumber w8) (IsShort w8 cut)
 IsSingleFault (single.Octet k) cut = IsShort w8 cut
 IsSingleFault (single.Wide k) cut = IsShort (wide_width k) cut
 IsSingleFault single.Char cut =
-    IsTestedFault is_character (λ n after. fault_at fault.NotUtf8 (after - 4)) (IsNumber w32) (IsShort w32 cut)
+    IsTestedFault is_character (λ n after. fault_at fault.NotUtf8 (after - 4)) (IsNumber w32)
+    (IsShort w32 cut)
 IsSingleFault (single.Sixteen k) cut = IsCut (λ at. cut) 16
 IsSingleFault (single.Text k s) cut =
-    IsTestedFault (is_text k) (text_fault k) (IsText (size_width s)) (IsBytesFault (size_width s) cut)
+    IsTestedFault (is_text k) (text_fault k) (IsText (size_width s)) (IsBytesFault
+    (size_width s) cut)
 
 -- ---- values by their code
 
@@ -68,43 +78,57 @@ IsCodedFault IsContentFault cut end bytes f =
 abbrev pub IsCodeFault : Fault → Faults Fault
 IsCodeFault = IsCodedFault (λ k at cut end bytes f. ⊥)
 
--- a constructor: behind its first descriptors a code has a fault, or the code of described values stands there, and the
--- next descriptor has a fault
-abbrev pub IsConstructorFault : (Tree → List ℕ → Type 0) → (Fault → Faults Fault) → Fault → Faults Fault
+-- a constructor: behind its first descriptors a code has a fault, or the code of described values
+-- stands there, and the next descriptor has a fault
+abbrev pub IsConstructorFault : (Tree → List ℕ → Type 0) → (Fault → Faults Fault) → Fault
+    → Faults Fault
 IsConstructorFault R IsFault cut = IsBehind (IsItems (IsDescriptorOf R)) (λ end bytes f.
     IsCodeFault cut end bytes f
     ⊎ ((rest : List ℕ) × (bytes ≡ kind_byte kind.Described ∷ rest) × IsFault cut end rest f))
 
 -- ---- lists, maps and arrays
 
--- a size has a fault; or what is to fill so many bytes has one, or leaves bytes over: Count at the code
-abbrev pub IsFilledFault : {A : Type 0} → Width → ℕ → (A → List ℕ → Type 0) → (Fault → Faults Fault) → Fault → Faults Fault
+-- a size has a fault; or what is to fill so many bytes has one, or leaves bytes over: Count at the
+-- code
+abbrev pub IsFilledFault : {A : Type 0} → Width → ℕ → (A → List ℕ → Type 0) → (Fault
+    → Faults Fault) → Fault → Faults Fault
 IsFilledFault w at R IsInner cut end bytes f =
     IsBytesFault w cut end bytes f
-    ⊎ ((body : List ℕ) × (front : List ℕ) × (rest : List ℕ) × IsText w body front × (bytes ≡ front ++ rest)
+    ⊎ ((body : List ℕ) × (front : List ℕ) × (rest : List ℕ) × IsText w body front × (bytes
+    ≡ front ++ rest)
     × (IsInner (fault_at fault.Count at) (end - length rest) body f
-    ⊎ IsBehind R (λ end bytes f. (bytes ≢ []) × (f ≡ fault_at fault.Count at)) (end - length rest) body f))
+    ⊎ IsBehind R (λ end bytes f. (bytes ≢ []) × (f ≡ fault_at fault.Count at))
+    (end - length rest) body f))
 
 -- a value has a fault, or what follows, depending on it
-abbrev pub IsThenFault : {A : Type 0} → (A → List ℕ → Type 0) → Faults Fault → (A → Faults Fault) → Faults Fault
+abbrev pub IsThenFault : {A : Type 0} → (A → List ℕ → Type 0) → Faults Fault → (A
+    → Faults Fault) → Faults Fault
 IsThenFault {A} R IsFirst IsMore end bytes f =
     IsFirst end bytes f
-    ⊎ ((x : A) × (front : List ℕ) × (rest : List ℕ) × R x front × (bytes ≡ front ++ rest) × IsMore x end rest f)
+    ⊎ ((x : A) × (front : List ℕ) × (rest : List ℕ) × R x front × (bytes
+    ≡ front ++ rest) × IsMore x end rest f)
 
 -- the count, or one of so many values
-abbrev pub IsItemListFault : Width → (Tree → List ℕ → Type 0) → (Fault → Faults Fault) → Fault → Faults Fault
-IsItemListFault w R IsFault cut = IsThenFault (IsNumber w) (IsShort w cut) (λ n. IsTimesFault R (IsFault cut) n)
+abbrev pub IsItemListFault : Width → (Tree → List ℕ → Type 0) → (Fault → Faults Fault) → Fault
+    → Faults Fault
+IsItemListFault w R IsFault cut =
+    IsThenFault (IsNumber w) (IsShort w cut) (λ n. IsTimesFault R (IsFault cut) n)
 
 -- the count of keys and values together, which is odd, or one of so many pairs
-abbrev pub IsPairsFault : (Tree → List ℕ → Type 0) → (Fault → Faults Fault) → Fault → ℕ → Faults Fault
+abbrev pub IsPairsFault : (Tree → List ℕ → Type 0) → (Fault → Faults Fault) → Fault → ℕ
+    → Faults Fault
 IsPairsFault R IsFault cut n end bytes f =
     ((n % 2 ≢ 0) × (f ≡ cut))
-    ⊎ ((n % 2 ≡ 0) × IsTimesFault (IsPair R R) (IsPairFault (IsFault cut) R (IsFault cut)) (n / 2) end bytes f)
+    ⊎ ((n % 2 ≡ 0) × IsTimesFault (IsPair R R) (IsPairFault (IsFault cut) R (IsFault cut))
+    (n / 2) end bytes f)
 
-abbrev pub IsPairListFault : Width → (Tree → List ℕ → Type 0) → (Fault → Faults Fault) → Fault → Faults Fault
-IsPairListFault w R IsFault cut = IsThenFault (IsNumber w) (IsShort w cut) (IsPairsFault R IsFault cut)
+abbrev pub IsPairListFault : Width → (Tree → List ℕ → Type 0) → (Fault → Faults Fault) → Fault
+    → Faults Fault
+IsPairListFault w R IsFault cut =
+    IsThenFault (IsNumber w) (IsShort w cut) (IsPairsFault R IsFault cut)
 
--- the faults of what stands inside a value: contents, and elements behind a constructor, the offset of whose last code is given
+-- the faults of what stands inside a value: contents, and elements behind a constructor, the offset
+-- of whose last code is given
 pub record FaultsInside : Type 1 where
   pub content : ContentFaults
   pub element : Elements → ℕ → Fault → Faults Fault
@@ -113,12 +137,14 @@ pub record FaultsInside : Type 1 where
 abbrev pub AreElementsFault : Spelled → FaultsInside → Fault → ℕ → Elements → Faults Fault
 AreElementsFault s i cut n c end bytes f =
     (IsTrue (is_bare c.1) × (65536 < n) × (f ≡ cut))
-    ⊎ ((IsTrue (is_bare c.1) → n ≤ 65536) × IsTimesFault (s.element c) (i.element c ((end - length bytes) - 1) cut) n end bytes f)
+    ⊎ ((IsTrue (is_bare c.1) → n ≤ 65536) × IsTimesFault (s.element c) (i.element c
+    ((end - length bytes) - 1) cut) n end bytes f)
 
 -- the count, the constructor, or the elements
 abbrev pub IsElementListFault : Width → Spelled → FaultsInside → Fault → Faults Fault
 IsElementListFault w s i cut = IsThenFault (IsNumber w) (IsShort w cut) (λ n.
-    IsThenFault (IsConstructorOf (IsCoded s.content)) (IsConstructorFault (IsCoded s.content) (IsCodedFault i.content) cut)
+    IsThenFault (IsConstructorOf (IsCoded s.content)) (IsConstructorFault (IsCoded s.content)
+    (IsCodedFault i.content) cut)
     (AreElementsFault s i cut n))
 
 -- ---- contents by depth
@@ -143,16 +169,19 @@ IsDeepFault s i (kind.Map z) at cut =
     IsFilledFault (size_width z) at (IsPairList (size_width z) (IsCoded s.content))
     (IsPairListFault (size_width z) (IsCoded s.content) (IsCodedFault i.content)) cut
 IsDeepFault s i (kind.Array z) at cut =
-    IsFilledFault (size_width z) at (IsElementList (size_width z) s) (IsElementListFault (size_width z) s i) cut
+    IsFilledFault (size_width z) at (IsElementList (size_width z) s) (IsElementListFault
+    (size_width z) s i) cut
 IsDeepFault s i kind.Described at cut =
     IsPairFault (IsCodedFault i.content cut) (IsCoded s.content) (IsCodedFault i.content cut)
 
--- an element behind its constructor: its descriptor is deeper than this, Depth at the constructor's last code, or its content
--- has a fault
-abbrev pub IsElementFault : ℕ → ContentFaults → (Elements → ℕ → Fault → Faults Fault) → Elements → ℕ → Fault → Faults Fault
+-- an element behind its constructor: its descriptor is deeper than this, Depth at the constructor's
+-- last code, or its content has a fault
+abbrev pub IsElementFault : ℕ → ContentFaults → (Elements → ℕ → Fault → Faults Fault) → Elements
+    → ℕ → Fault → Faults Fault
 IsElementFault d IsContentFault IsMore ([], k) at cut = IsContentFault k at cut
 IsElementFault d IsContentFault IsMore (x ∷ xs, k) at cut = λ end bytes f.
-    ((d < depth x) × (f ≡ fault_at fault.Depth at)) ⊎ ((depth x ≤ d) × IsMore (xs, k) at cut end bytes f)
+    ((d < depth x) × (f ≡ fault_at fault.Depth at)) ⊎ ((depth x ≤ d)
+    × IsMore (xs, k) at cut end bytes f)
 
 -- what stands inside values of at most this depth
 unfoldable pub faults : ℕ → FaultsInside
@@ -171,4 +200,5 @@ IsValueFault d = IsCodedFault (faults d).content
 
 -- the value that is to stand at an offset
 abbrev pub IsFaultAt : List ℕ → ℕ → Fault → Type 0
-IsFaultAt bytes from = IsValueFault 16 (fault_at fault.Cut (length bytes)) (length bytes) (drop from bytes)
+IsFaultAt bytes from =
+    IsValueFault 16 (fault_at fault.Cut (length bytes)) (length bytes) (drop from bytes)

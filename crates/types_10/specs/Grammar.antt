@@ -1,12 +1,17 @@
--- How values are spelled (AMQP 1.0 1.6): a relation between a value and the bytes that spell it, all of the bytes, one case for each
--- format code. A value is its code and a content; the size of a list, a map or an array is exactly that of what stands in it; an
--- array is a constructor and contents without codes; the depth of a value is at most 16. The descriptors of a constructor add to the
--- depth of the elements that have them, and to no other.
-use Rattle.std.specs.Prelude.{◌≡◌, ◌≢◌, ℕ, zero, suc, ◌*◌, ◌≤◌, ◌==◌, nat_lt, IsTrue, List, [], ◌∷◌, ◌++◌, length}
+-- How values are spelled (AMQP 1.0 1.6): a relation between a value and the bytes that spell it,
+-- all of the bytes, one case for each format code. A value is its code and a content; the size of a
+-- list, a map or an array is exactly that of what stands in it; an array is a constructor and
+-- contents without codes; the depth of a value is at most 16. The descriptors of a constructor add
+-- to the depth of the elements that have them, and to no other.
+use Rattle.std.specs.Prelude.{◌≡◌, ◌≢◌, ℕ, zero, suc, ◌*◌, ◌≤◌, ◌==◌, nat_lt, IsTrue, List, [], ◌∷◌}
+use Rattle.std.specs.Prelude.{◌++◌, length}
 use Rattle.std.specs.Int.{Width, w8, w32}
 use Rattle.wire_base.specs.Spelling.{IsNumber, IsText, IsMade, IsPair, IsItems}
-use Rattle.types_10.specs.Tree.{Scalar, boolean, char, Tree, scalar, list, mapping, array, described, depth, no_trees, trees_of, pairs_of}
-use Rattle.types_10.specs.Kinds.{kind_byte, is_bare, bare_scalar, octet_scalar, wide_width, wide_scalar, sixteen_scalar, text_scalar, is_text, is_character, size_width}
+use Rattle.types_10.specs.Tree.{Scalar, boolean, char, Tree, scalar, list, mapping, array}
+use Rattle.types_10.specs.Tree.{described, depth, no_trees, trees_of, pairs_of}
+use Rattle.types_10.specs.Kinds.{kind_byte, is_bare, bare_scalar, octet_scalar, wide_width}
+use Rattle.types_10.specs.Kinds.{wide_scalar, sixteen_scalar, text_scalar, is_text, is_character}
+use Rattle.types_10.specs.Kinds.{size_width}
 use Rattle.types_10.specs.declared.kind.Kind.{Kind}
 use Rattle.types_10.specs.declared.kind.Kind.TheVariants as kind
 use Rattle.types_10.specs.declared.kind.Single.{Single}
@@ -20,28 +25,34 @@ IsSuch P R x text = P x × R x text
 abbrev pub IsSixteen : List ℕ → List ℕ → Type 0
 IsSixteen s text = (length s ≡ 16) × (text ≡ s)
 
--- the content of a value that holds no other: nothing, a number, sixteen bytes, or bytes behind their length.
--- A boolean is 0 or 1, a char a Unicode scalar value, a string UTF-8 and a symbol ASCII.
+-- the content of a value that holds no other: nothing, a number, sixteen bytes, or bytes behind
+-- their length. A boolean is 0 or 1, a char a Unicode scalar value, a string UTF-8 and a symbol
+-- ASCII.
 abbrev pub IsSingle : Single → Scalar → List ℕ → Type 0
 IsSingle (single.Bare k) = λ s text. (s ≡ bare_scalar k) × (text ≡ [])
-IsSingle single.Boolean = IsMade (λ n. boolean (n == 1)) (IsSuch (λ n. IsTrue (nat_lt n 2)) (IsNumber w8))
+IsSingle single.Boolean =
+    IsMade (λ n. boolean (n == 1)) (IsSuch (λ n. IsTrue (nat_lt n 2)) (IsNumber w8))
 IsSingle (single.Octet k) = IsMade (octet_scalar k) (IsNumber w8)
 IsSingle (single.Wide k) = IsMade (wide_scalar k) (IsNumber (wide_width k))
 IsSingle single.Char = IsMade char (IsSuch (λ n. IsTrue (is_character n)) (IsNumber w32))
 IsSingle (single.Sixteen k) = IsMade (sixteen_scalar k) IsSixteen
-IsSingle (single.Text k s) = IsMade (text_scalar k) (IsSuch (λ s. IsTrue (is_text k s)) (IsText (size_width s)))
+IsSingle (single.Text k s) =
+    IsMade (text_scalar k) (IsSuch (λ s. IsTrue (is_text k s)) (IsText (size_width s)))
 
 -- the code of a kind, and a content of that kind
 abbrev pub IsCoded : {A : Type 0} → (Kind → A → List ℕ → Type 0) → A → List ℕ → Type 0
-IsCoded IsContent t text = (k : Kind) × (content : List ℕ) × IsContent k t content × (text ≡ kind_byte k ∷ content)
+IsCoded IsContent t text =
+    (k : Kind) × (content : List ℕ) × IsContent k t content × (text ≡ kind_byte k ∷ content)
 
 -- a size in this width, and so many bytes
 abbrev pub IsFilled : {A : Type 0} → Width → (A → List ℕ → Type 0) → A → List ℕ → Type 0
 IsFilled w R x text = (body : List ℕ) × R x body × IsText w body text
 
 -- a number and then, depending on it, what follows
-abbrev pub IsThen : {A B : Type 0} → (A → List ℕ → Type 0) → (A → B → List ℕ → Type 0) → B → List ℕ → Type 0
-IsThen {A} R S y text = (x : A) × (front : List ℕ) × (back : List ℕ) × R x front × S x y back × (text ≡ front ++ back)
+abbrev pub IsThen : {A B : Type 0} → (A → List ℕ → Type 0) → (A → B → List ℕ → Type 0) → B
+    → List ℕ → Type 0
+IsThen {A} R S y text =
+    (x : A) × (front : List ℕ) × (back : List ℕ) × R x front × S x y back × (text ≡ front ++ back)
 
 -- so many items, one after another
 abbrev pub IsTimes : {A : Type 0} → (A → List ℕ → Type 0) → ℕ → List A → List ℕ → Type 0
@@ -53,15 +64,19 @@ IsItemList w IsValue = IsThen (IsNumber w) (λ n. IsTimes IsValue n)
 
 -- the count of keys and values together, and the pairs of a key and a value
 abbrev pub IsPairList : Width → (Tree → List ℕ → Type 0) → List (Tree × Tree) → List ℕ → Type 0
-IsPairList w IsValue = IsThen (IsNumber w) (λ n ps text. (n ≡ 2 * length ps) × IsItems (IsPair IsValue IsValue) ps text)
+IsPairList w IsValue =
+    IsThen (IsNumber w) (λ n ps text. (n ≡ 2 * length ps) × IsItems
+    (IsPair IsValue IsValue) ps text)
 
--- what a constructor tells: the descriptors that all elements have, the outermost first, and the kind of what they describe
+-- what a constructor tells: the descriptors that all elements have, the outermost first, and the
+-- kind of what they describe
 abbrev pub Elements : Type 0
 Elements = List Tree × Kind
 
 -- a descriptor, behind the code of described values
 abbrev pub IsDescriptorOf : (Tree → List ℕ → Type 0) → Tree → List ℕ → Type 0
-IsDescriptorOf IsValue t text = (body : List ℕ) × IsValue t body × (text ≡ kind_byte kind.Described ∷ body)
+IsDescriptorOf IsValue t text =
+    (body : List ℕ) × IsValue t body × (text ≡ kind_byte kind.Described ∷ body)
 
 -- the code of what isn't described
 abbrev pub IsPlainCode : Kind → List ℕ → Type 0
@@ -76,9 +91,11 @@ pub record Spelled : Type 1 where
   pub content : Kind → Tree → List ℕ → Type 0
   pub element : Elements → Tree → List ℕ → Type 0
 
--- the count of the elements, their constructor, and the elements; there are at most 65,536 of those that have no bytes
+-- the count of the elements, their constructor, and the elements; there are at most 65,536 of those
+-- that have no bytes
 abbrev pub IsElementList : Width → Spelled → List Tree → List ℕ → Type 0
-IsElementList w inside = IsThen (IsNumber w) (λ n. IsThen (IsConstructorOf (IsCoded inside.content)) (λ c ts text.
+IsElementList w inside =
+    IsThen (IsNumber w) (λ n. IsThen (IsConstructorOf (IsCoded inside.content)) (λ c ts text.
     (IsTrue (is_bare c.1) → n ≤ 65536) × IsTimes (inside.element c) n ts text))
 
 -- the content of a value that may hold no other
@@ -91,22 +108,30 @@ IsFlat (kind.Array s) = λ t text. ⊥
 IsFlat kind.Described = λ t text. ⊥
 
 -- the content of a value that may hold such: values are spelled so, and what stands in an array so
-abbrev pub IsDeepOf : (Tree → List ℕ → Type 0) → (Width → List Tree → List ℕ → Type 0) → Kind → Tree → List ℕ → Type 0
+abbrev pub IsDeepOf : (Tree → List ℕ → Type 0) → (Width → List Tree → List ℕ → Type 0) → Kind
+    → Tree → List ℕ → Type 0
 IsDeepOf IsValue IsElements (kind.Single k) = IsMade scalar (IsSingle k)
 IsDeepOf IsValue IsElements kind.EmptyList = λ t text. (t ≡ list no_trees) × (text ≡ [])
-IsDeepOf IsValue IsElements (kind.List s) = IsMade (λ ts. list (trees_of ts)) (IsFilled (size_width s) (IsItemList (size_width s) IsValue))
-IsDeepOf IsValue IsElements (kind.Map s) = IsMade (λ ps. mapping (pairs_of ps)) (IsFilled (size_width s) (IsPairList (size_width s) IsValue))
-IsDeepOf IsValue IsElements (kind.Array s) = IsMade (λ ts. array (trees_of ts)) (IsFilled (size_width s) (IsElements (size_width s)))
-IsDeepOf IsValue IsElements kind.Described = IsMade (λ p. described p.0 p.1) (IsPair IsValue IsValue)
+IsDeepOf IsValue IsElements (kind.List s) =
+    IsMade (λ ts. list (trees_of ts)) (IsFilled (size_width s) (IsItemList (size_width s) IsValue))
+IsDeepOf IsValue IsElements (kind.Map s) =
+    IsMade (λ ps. mapping (pairs_of ps)) (IsFilled (size_width s) (IsPairList
+    (size_width s) IsValue))
+IsDeepOf IsValue IsElements (kind.Array s) =
+    IsMade (λ ts. array (trees_of ts)) (IsFilled (size_width s) (IsElements (size_width s)))
+IsDeepOf IsValue IsElements kind.Described =
+    IsMade (λ p. described p.0 p.1) (IsPair IsValue IsValue)
 
 -- the content of a value that may hold those inside
 abbrev pub IsDeep : Spelled → Kind → Tree → List ℕ → Type 0
 IsDeep inside = IsDeepOf (IsCoded inside.content) (λ w. IsElementList w inside)
 
 -- an element behind its constructor: the descriptor of a described one has at most this depth
-abbrev pub IsElement : ℕ → (Kind → Tree → List ℕ → Type 0) → (Elements → Tree → List ℕ → Type 0) → Elements → Tree → List ℕ → Type 0
+abbrev pub IsElement : ℕ → (Kind → Tree → List ℕ → Type 0) → (Elements → Tree → List ℕ → Type 0)
+    → Elements → Tree → List ℕ → Type 0
 IsElement d IsContent Inner ([], k) = IsContent k
-IsElement d IsContent Inner (x ∷ xs, k) = λ t text. (depth x ≤ d) × IsMade (described x) (Inner (xs, k)) t text
+IsElement d IsContent Inner (x ∷ xs, k) =
+    λ t text. (depth x ≤ d) × IsMade (described x) (Inner (xs, k)) t text
 
 -- values of at most this depth
 unfoldable pub spelled : ℕ → Spelled

@@ -1,10 +1,14 @@
--- The kinds of values: the format code that stands before the content of each (AMQP 1.0 1.6), and what numbers and texts mean.
-use Rattle.std.specs.Prelude.{ℕ, Bool, true, false, List, Option, Some, None, ◌==◌, ◌&&◌, ◌||◌, nat_lt, nat_le, if◌then◌else◌}
+-- The kinds of values: the format code that stands before the content of each (AMQP 1.0 1.6), and
+-- what numbers and texts mean.
+use Rattle.std.specs.Prelude.{ℕ, Bool, true, false, List, Option, Some, None, ◌==◌, ◌&&◌, ◌||◌}
+use Rattle.std.specs.Prelude.{nat_lt, nat_le, if◌then◌else◌}
 use Rattle.std.specs.Int.{Width, w8, w16, w32, w64, cast_signed}
 use Rattle.std.specs.Char.{is_ascii}
 use Rattle.std.specs.Str.{is_utf8}
 use Rattle.std.specs.List.{list_all}
-use Rattle.types_10.specs.Tree.{Scalar, null, boolean, ubyte, byte, ushort, short, uint, int, ulong, long, float, double, decimal32, decimal64, decimal128, timestamp, uuid, binary, string, symbol}
+use Rattle.types_10.specs.Tree.{Scalar, null, boolean, ubyte, byte, ushort, short, uint, int, ulong}
+use Rattle.types_10.specs.Tree.{long, float, double, decimal32, decimal64, decimal128, timestamp}
+use Rattle.types_10.specs.Tree.{uuid, binary, string, symbol}
 use Rattle.types_10.specs.declared.kind.Kind.{Kind}
 use Rattle.types_10.specs.declared.kind.Kind.TheVariants as kind
 use Rattle.types_10.specs.declared.kind.Single.TheVariants as single
@@ -164,7 +168,8 @@ wide_width wide.Double = w64
 wide_width wide.Timestamp = w64
 wide_width wide.Decimal64 = w64
 
--- what such a number means: a signed one is in two's complement, a floating one is the pattern of its bits
+-- what such a number means: a signed one is in two's complement, a floating one is the pattern of
+-- its bits
 abbrev pub wide_scalar : Wide → ℕ → Scalar
 wide_scalar wide.Ushort n = ushort n
 wide_scalar wide.Short n = short (cast_signed w16 n)

@@ -1,9 +1,14 @@
--- How many bytes are written of a value (AMQP 1.0 1.6): those of a content that its kind alone decides, and the others.
+-- How many bytes are written of a value (AMQP 1.0 1.6): those of a content that its kind alone
+-- decides, and the others.
 use Rattle.std.specs.Prelude.{◌≡◌, ℕ, ◌+◌, ◌-◌, ◌*◌, ◌^◌, min, List, ◌++◌, length, if◌then◌else◌}
 use Rattle.std.specs.Int.{byte_len, to_be_bytes}
-use Rattle.types_10.specs.Tree.{Scalar, null, boolean, ubyte, byte, ushort, short, uint, int, ulong, long, float, double, decimal32, decimal64, decimal128, char, timestamp, uuid, binary, string, symbol, Tree, scalar, list, mapping, array, described, Trees, no_trees, tree}
+use Rattle.types_10.specs.Tree.{Scalar, null, boolean, ubyte, byte, ushort, short, uint, int, ulong}
+use Rattle.types_10.specs.Tree.{long, float, double, decimal32, decimal64, decimal128, char}
+use Rattle.types_10.specs.Tree.{timestamp, uuid, binary, string, symbol, Tree, scalar, list}
+use Rattle.types_10.specs.Tree.{mapping, array, described, Trees, no_trees, tree}
 use Rattle.types_10.specs.Kinds.{wide_width, size_width}
-use Rattle.types_10.specs.Writing.{is_brief, written, written_each, written_pairs, array_body, value_text}
+use Rattle.types_10.specs.Writing.{is_brief, written, written_each, written_pairs, array_body}
+use Rattle.types_10.specs.Writing.{value_text}
 use Rattle.types_10.specs.declared.kind.Kind.{Kind}
 use Rattle.types_10.specs.declared.kind.Kind.TheVariants as kind
 use Rattle.types_10.specs.declared.kind.Single.{Single}
@@ -96,4 +101,5 @@ pair_text p = value_text (value_tree p.0) ++ value_text (value_tree p.1)
 
 -- the size, which counts the count too, and the count before so many bytes
 abbrev pub head_text : Size → ℕ → ℕ → List ℕ
-head_text z count body = to_be_bytes (size_width z) (byte_len (size_width z) + body) ++ to_be_bytes (size_width z) count
+head_text z count body =
+    to_be_bytes (size_width z) (byte_len (size_width z) + body) ++ to_be_bytes (size_width z) count

@@ -1,8 +1,13 @@
--- What is true of each value inside another, and that the numbers of values are those of their types (AMQP 1.0 1.6).
+-- What is true of each value inside another, and that the numbers of values are those of their
+-- types (AMQP 1.0 1.6).
 use Rattle.std.specs.Prelude.{◌≡◌, ◌<◌, ◌^◌, List, length}
 use Rattle.std.specs.Int.{w8, w16, w32, w64}
 use Rattle.std.specs.Int.RustNames.{FitsSigned}
-use Rattle.types_10.specs.Tree.{Scalar, null, boolean, ubyte, byte, ushort, short, uint, int, ulong, long, float, double, decimal32, decimal64, decimal128, char, timestamp, uuid, binary, string, symbol, Tree, scalar, list, mapping, array, described, Trees, no_trees, tree, Pairs, no_pairs, pair, trees_of, pairs_of}
+use Rattle.types_10.specs.Tree.{Scalar, null, boolean, ubyte, byte, ushort, short, uint, int, ulong}
+use Rattle.types_10.specs.Tree.{long, float, double, decimal32, decimal64, decimal128, char}
+use Rattle.types_10.specs.Tree.{timestamp, uuid, binary, string, symbol, Tree, scalar, list}
+use Rattle.types_10.specs.Tree.{mapping, array, described, Trees, no_trees, tree, Pairs, no_pairs}
+use Rattle.types_10.specs.Tree.{pair, trees_of, pairs_of}
 
 -- such is each value inside that holds no other
 abbrev mutual

@@ -26,7 +26,8 @@ pub data Scalar : Type 0 where
   string : List ℕ → Scalar
   symbol : List ℕ → Scalar
 
--- a value; a list and an array hold values, a map pairs of them, and a described value a descriptor and a value
+-- a value; a list and an array hold values, a map pairs of them, and a described value a descriptor
+-- and a value
 mutual
   pub data Tree : Type 0 where
     scalar : Scalar → Tree
@@ -53,7 +54,8 @@ abbrev pub pairs_of : List (Tree × Tree) → Pairs
 pairs_of [] = no_pairs
 pairs_of (p ∷ ps) = pair p.0 p.1 (pairs_of ps)
 
--- how deep a value is: one that holds no other has depth 0, another one more than the greatest depth inside it
+-- how deep a value is: one that holds no other has depth 0, another one more than the greatest
+-- depth inside it
 abbrev mutual
   pub depth : Tree → ℕ
   depth (scalar s) = 0

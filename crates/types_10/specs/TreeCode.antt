@@ -3,7 +3,11 @@ use Rattle.std.specs.Prelude.{◌≡◌, ℕ, true, false, List, [], ◌∷◌, 
 use Rattle.std.specs.Coded.{Coded, code_by, coded×, coded_ℕ, coded_ℤ, coded_list}
 use Rattle.std.proofs.Common.{ap}
 use base.Stored.{Gv, gnil, gnum, gcons}
-use Rattle.types_10.specs.Tree.{Scalar, null, boolean, ubyte, byte, ushort, short, uint, int, ulong, long, float, double, decimal32, decimal64, decimal128, char, timestamp, uuid, binary, string, symbol, Tree, scalar, list, mapping, array, described, Trees, no_trees, tree, Pairs, no_pairs, pair}
+use Rattle.types_10.specs.Tree.{Scalar, null, boolean, ubyte, byte, ushort, short, uint, int, ulong}
+use Rattle.types_10.specs.Tree.{long, float, double, decimal32, decimal64, decimal128, char}
+use Rattle.types_10.specs.Tree.{timestamp, uuid, binary, string, symbol, Tree, scalar, list}
+use Rattle.types_10.specs.Tree.{mapping, array, described, Trees, no_trees, tree, Pairs, no_pairs}
+use Rattle.types_10.specs.Tree.{pair}
 
 -- ---- values that hold no other
 
@@ -87,7 +91,9 @@ scalar_again (string s) = refl
 scalar_again (symbol s) = refl
 
 abbrev pub scalar_code : Coded Scalar
-scalar_code = code_by (ℕ × (ℤ × List ℕ)) (coded× coded_ℕ (coded× coded_ℤ (coded_list coded_ℕ))) scalar_parts scalar_back scalar_again
+scalar_code =
+    code_by (ℕ × (ℤ × List ℕ)) (coded× coded_ℕ (coded× coded_ℤ
+    (coded_list coded_ℕ))) scalar_parts scalar_back scalar_again
 
 -- ---- values
 

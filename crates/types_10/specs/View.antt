@@ -1,5 +1,9 @@
--- A value of the sources as the value that it is (AMQP 1.0 1.6), one level of it: what it holds is seen by its own model.
-use Rattle.types_10.specs.Tree.{null, boolean, ubyte, byte, ushort, short, uint, int, ulong, long, float, double, decimal32, decimal64, decimal128, char, timestamp, uuid, binary, string, symbol, Tree, scalar, list, mapping, array, described, trees_of, pairs_of}
+-- A value of the sources as the value that it is (AMQP 1.0 1.6), one level of it: what it holds is
+-- seen by its own model.
+use Rattle.types_10.specs.Tree.{null, boolean, ubyte, byte, ushort, short, uint, int, ulong, long}
+use Rattle.types_10.specs.Tree.{float, double, decimal32, decimal64, decimal128, char, timestamp}
+use Rattle.types_10.specs.Tree.{uuid, binary, string, symbol, Tree, scalar, list, mapping, array}
+use Rattle.types_10.specs.Tree.{described, trees_of, pairs_of}
 use Rattle.types_10.specs.declared.value.Value10.{Value10}
 use Rattle.types_10.specs.declared.value.Value10.TheVariants as value
 

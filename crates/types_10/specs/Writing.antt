@@ -1,10 +1,16 @@
--- What is written of a value (AMQP 1.0 1.6): a code, and the content of that kind. An element of an array is a content alone, of
--- the kind that all elements share; what describes it stands once, before them.
-use Rattle.std.specs.Prelude.{◌≡◌, ℕ, ◌+◌, ◌%◌, ◌<◌, ◌≤◌, ◌^◌, ◌==◌, ◌&&◌, ◌||◌, Bool, nat_lt, if◌then◌else◌, IsTrue, List, [], ◌∷◌, ◌++◌, length, ℤ, pos, negsuc}
+-- What is written of a value (AMQP 1.0 1.6): a code, and the content of that kind. An element of an
+-- array is a content alone, of the kind that all elements share; what describes it stands once,
+-- before them.
+use Rattle.std.specs.Prelude.{◌≡◌, ℕ, ◌+◌, ◌%◌, ◌<◌, ◌≤◌, ◌^◌, ◌==◌, ◌&&◌, ◌||◌, Bool, nat_lt}
+use Rattle.std.specs.Prelude.{if◌then◌else◌, IsTrue, List, [], ◌∷◌, ◌++◌, length, ℤ, pos, negsuc}
 use Rattle.std.specs.Int.{Width, w8, w16, w32, w64, to_be_bytes, cast_unsigned}
 use Rattle.std.specs.Int.Signed.{le_z, lt_z}
 use Rattle.wire_base.specs.Spelling.{text_of}
-use Rattle.types_10.specs.Tree.{Scalar, null, boolean, ubyte, byte, ushort, short, uint, int, ulong, long, float, double, decimal32, decimal64, decimal128, char, timestamp, uuid, binary, string, symbol, Tree, scalar, list, mapping, array, described, Trees, no_trees, tree, Pairs, no_pairs, pair, depth}
+use Rattle.types_10.specs.Tree.{Scalar, null, boolean, ubyte, byte, ushort, short, uint, int, ulong}
+use Rattle.types_10.specs.Tree.{long, float, double, decimal32, decimal64, decimal128, char}
+use Rattle.types_10.specs.Tree.{timestamp, uuid, binary, string, symbol, Tree, scalar, list}
+use Rattle.types_10.specs.Tree.{mapping, array, described, Trees, no_trees, tree, Pairs, no_pairs}
+use Rattle.types_10.specs.Tree.{pair, depth}
 use Rattle.types_10.specs.Kinds.{kind_byte, is_bare, is_text, is_character, size_width}
 use Rattle.types_10.specs.declared.kind.Kind.{Kind}
 use Rattle.types_10.specs.declared.kind.Kind.TheVariants as kind
@@ -36,9 +42,13 @@ single_kind (ubyte n) = single.Octet octet.Ubyte
 single_kind (byte z) = single.Octet octet.Byte
 single_kind (ushort n) = single.Wide wide.Ushort
 single_kind (short z) = single.Wide wide.Short
-single_kind (uint n) = if n == 0 then single.Bare bare.Uint else if nat_lt n 256 then single.Octet octet.Uint else single.Wide wide.Uint
+single_kind (uint n) =
+    if n == 0 then single.Bare bare.Uint else if nat_lt n 256 then single.Octet octet.Uint
+    else single.Wide wide.Uint
 single_kind (int z) = if is_small z then single.Octet octet.Int else single.Wide wide.Int
-single_kind (ulong n) = if n == 0 then single.Bare bare.Ulong else if nat_lt n 256 then single.Octet octet.Ulong else single.Wide wide.Ulong
+single_kind (ulong n) =
+    if n == 0 then single.Bare bare.Ulong else if nat_lt n 256 then single.Octet octet.Ulong
+    else single.Wide wide.Ulong
 single_kind (long z) = if is_small z then single.Octet octet.Long else single.Wide wide.Long
 single_kind (float n) = single.Wide wide.Float
 single_kind (double n) = single.Wide wide.Double
@@ -112,7 +122,9 @@ abbrev pub is_brief : ℕ → List ℕ → Bool
 is_brief count body = nat_lt count 256 && nat_lt (length body) 255
 
 abbrev pub list_kind : ℕ → List ℕ → Kind
-list_kind count body = if count == 0 then kind.EmptyList else if is_brief count body then kind.List size.Short else kind.List size.Long
+list_kind count body =
+    if count == 0 then kind.EmptyList else if is_brief count body then kind.List size.Short
+    else kind.List size.Long
 
 abbrev pub map_kind : ℕ → List ℕ → Kind
 map_kind count body = if is_brief count body then kind.Map size.Short else kind.Map size.Long
@@ -124,27 +136,32 @@ array_kind count body = if is_brief count body then kind.Array size.Short else k
 abbrev pub held_content : Kind → ℕ → List ℕ → List ℕ
 held_content (kind.Single k) count body = []
 held_content kind.EmptyList count body = []
-held_content (kind.List z) count body = text_of (size_width z) (to_be_bytes (size_width z) count ++ body)
-held_content (kind.Map z) count body = text_of (size_width z) (to_be_bytes (size_width z) count ++ body)
-held_content (kind.Array z) count body = text_of (size_width z) (to_be_bytes (size_width z) count ++ body)
+held_content (kind.List z) count body =
+    text_of (size_width z) (to_be_bytes (size_width z) count ++ body)
+held_content (kind.Map z) count body =
+    text_of (size_width z) (to_be_bytes (size_width z) count ++ body)
+held_content (kind.Array z) count body =
+    text_of (size_width z) (to_be_bytes (size_width z) count ++ body)
 held_content kind.Described count body = []
 
--- the kind that elements of these two kinds share: the later code, and of true and false the boolean in a byte
+-- the kind that elements of these two kinds share: the later code, and of true and false the
+-- boolean in a byte
 abbrev pub shared : Kind → Kind → Kind
 shared j k =
-    if (kind_byte j == 65 && kind_byte k == 66) || (kind_byte j == 66 && kind_byte k == 65) then kind.Single single.Boolean
+    if (kind_byte j == 65 && kind_byte k == 66) || (kind_byte j == 66
+    && kind_byte k == 65) then kind.Single single.Boolean
     else if nat_lt (kind_byte j) (kind_byte k) then k else j
 
--- what is written of a value: all of it where it stands alone; and of an element of an array the descriptors, each behind its
--- code, the kind of what they describe, and the content under a kind
+-- what is written of a value: all of it where it stands alone; and of an element of an array the
+-- descriptors, each behind its code, the kind of what they describe, and the content under a kind
 pub record Written : Type 0 where
   pub text : List ℕ
   pub front : List ℕ
   pub kind : Kind
   pub content : Kind → List ℕ
 
--- the same of values: their count, each where it stands alone, and as elements the descriptors of the first, the kind that all
--- share, which is that of null where there are none, and the contents
+-- the same of values: their count, each where it stands alone, and as elements the descriptors of
+-- the first, the kind that all share, which is that of null where there are none, and the contents
 pub record WrittenEach : Type 0 where
   pub count : ℕ
   pub text : List ℕ
@@ -163,21 +180,48 @@ array_body w = w.front ++ (kind_byte w.kind ∷ w.contents w.kind)
 abbrev mutual
   pub written : Tree → Written
   written (scalar s) = plain (kind.Single (single_kind s)) (λ k. scalar_content k s)
-  written (list ts) = let w = written_each ts in plain (list_kind w.count w.text) (λ k. held_content k w.count w.text)
-  written (mapping ps) = let w = written_pairs ps in plain (map_kind w.0 w.1) (λ k. held_content k w.0 w.1)
-  written (array ts) = let w = written_each ts in plain (array_kind w.count (array_body w)) (λ k. held_content k w.count (array_body w))
+  written (list ts) = let w = written_each ts in plain (list_kind w.count w.text)
+      (λ k. held_content k w.count w.text)
+  written (mapping ps) = let w = written_pairs ps in plain (map_kind w.0 w.1)
+      (λ k. held_content k w.0 w.1)
+  written (array ts) = let w = written_each ts in plain (array_kind w.count (array_body w))
+      (λ k. held_content k w.count (array_body w))
   written (described d t) = let x = written d in let w = written t in
-      record { text = 0 ∷ x.text ++ w.text; front = 0 ∷ x.text ++ w.front; kind = w.kind; content = w.content }
+      record {
+        text = 0 ∷ x.text ++ w.text;
+        front = 0 ∷ x.text
+            ++ w.front;
+        kind = w.kind;
+        content = w.content;
+      }
 
   pub written_each : Trees → WrittenEach
-  written_each no_trees = record { count = 0; text = []; front = []; kind = kind.Single (single.Bare bare.Null); contents = λ k. [] }
+  written_each no_trees = record {
+    count = 0;
+    text = [];
+    front = [];
+    kind = kind.Single
+        (single.Bare bare.Null);
+    contents = λ k. [];
+  }
   written_each (tree t ts) = let w = written t in let more = written_each ts in
-      record { count = more.count + 1; text = w.text ++ more.text; front = w.front; kind = shared w.kind more.kind; contents = λ k. w.content k ++ more.contents k }
+      record {
+        count = more.count + 1;
+        text = w.text
+            ++ more.text;
+        front = w.front;
+        kind = shared w.kind more.kind;
+        contents = λ k. w.content k ++ more.contents k;
+      }
 
   -- the count of keys and values together, and each key and value
   pub written_pairs : Pairs → ℕ × List ℕ
   written_pairs no_pairs = (0, [])
-  written_pairs (pair k t ps) = let more = written_pairs ps in (more.0 + 2, (written k).text ++ (written t).text ++ more.1)
+  written_pairs (pair k t ps) = let more = written_pairs ps in (
+    more.0 + 2,
+    (written k).text
+        ++ (written t).text ++ more.1,
+  )
 
 -- the bytes that are written of a value
 abbrev pub value_text : Tree → List ℕ
@@ -248,7 +292,8 @@ type_of (mapping ps) = 209
 type_of (array ts) = 240
 type_of (described d t) = type_of t
 
--- values of one type: described by equal values, where they are described, and of one type behind that
+-- values of one type: described by equal values, where they are described, and of one type behind
+-- that
 abbrev pub AreAlike : Tree → Tree → Type 0
 AreAlike t u = (descriptors t ≡ descriptors u) × (type_of t ≡ type_of u)
 
@@ -262,13 +307,15 @@ abbrev pub AreOfOneType : Trees → Type 0
 AreOfOneType no_trees = Unit {0}
 AreOfOneType (tree t ts) = EachIsAlike t ts
 
--- texts and chars are proper, an array's elements are of one type, and there are at most 65,536 of those that have no bytes
+-- texts and chars are proper, an array's elements are of one type, and there are at most 65,536 of
+-- those that have no bytes
 abbrev mutual
   pub IsWritable : Tree → Type 0
   IsWritable (scalar s) = IsProper s
   IsWritable (list ts) = EachIsWritable ts
   IsWritable (mapping ps) = PairsAreWritable ps
-  IsWritable (array ts) = EachIsWritable ts × AreOfOneType ts × (IsTrue (is_bare (written_each ts).kind) → (written_each ts).count ≤ 65536)
+  IsWritable (array ts) = EachIsWritable ts × AreOfOneType ts
+      × (IsTrue (is_bare (written_each ts).kind) → (written_each ts).count ≤ 65536)
   IsWritable (described d t) = IsWritable d × IsWritable t
 
   pub EachIsWritable : Trees → Type 0

@@ -160,8 +160,8 @@ impl Kind {
         }
     }
 
-    /// The kind that elements of these two kinds share: the wider one, since codes of one type rise with
-    /// the width, except that true and false share the boolean in a byte.
+    /// The kind that elements of these two kinds share: the wider one, since codes of one type rise
+    /// with the width, except that true and false share the boolean in a byte.
     pub(crate) fn shared(self, other: Kind) -> Kind
         ensures { result ≡ shared self other }
     {
@@ -171,8 +171,8 @@ impl Kind {
         }
     }
 
-    /// How many bytes of a content the kind alone decides: those of a number, of a text's length, or of a size
-    /// and a count.
+    /// How many bytes of a content the kind alone decides: those of a number, of a text's length,
+    /// or of a size and a count.
     pub(crate) fn head_len(self) -> usize
         ensures { result ≡ head_len self }
     {
@@ -232,7 +232,8 @@ impl Single {
         }
     }
 
-    /// How many bytes of a content the kind alone decides: none of the sixteen of a kind that has as many.
+    /// How many bytes of a content the kind alone decides: none of the sixteen of a kind that has
+    /// as many.
     fn head_len(self) -> usize
         ensures { result ≡ single_head self }
     {

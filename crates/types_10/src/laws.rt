@@ -1,4 +1,5 @@
-//! What holds of the grammar of values (AMQP 1.0 1.6), and of the spelling that is written. Only laws stand here.
+//! What holds of the grammar of values (AMQP 1.0 1.6), and of the spelling that is written. Only
+//! laws stand here.
 
 ghost use Rattle.std.specs.Prelude.{◌≡◌, ◌↔◌, ℕ, ◌+◌, ◌<◌, ◌^◌, List, ◌++◌, length, Ok, Err};
 ghost use Rattle.wire_base.specs.Bytes.{IsBytes};
@@ -13,9 +14,10 @@ ghost use Rattle.types_10.specs.Writing.{value_text, HasSpelling};
 
 /// The laws of values, for proofs to cite; the call does nothing.
 ///
-/// Bytes are numbers below 256, and offsets and lengths are in bytes. `IsRanged` says that the numbers inside are of
-/// their types, which `tell_ranges` tells of any value; `HasSpelling` is the condition of `put_value`. No law says that
-/// what is read can be written: see the head of the crate.
+/// Bytes are numbers below 256, and offsets and lengths are in bytes. `IsRanged` says that the
+/// numbers inside are of their types, which `tell_ranges` tells of any value; `HasSpelling` is the
+/// condition of `put_value`. No law says that what is read can be written: see the head of the
+/// crate.
 pub fn value_laws()
     // Bytes spell at most one value.
     ensures one { (t u : Tree) (text : List ℕ) → IsValue t text → IsValue u text → t ≡ u }
@@ -27,7 +29,8 @@ pub fn value_laws()
         → (value_at bytes at ≡ Err f) ↔ IsFaultAt bytes at f }
     // What is written is the canonical spelling.
     ensures canonical { (t : Tree) → IsRanged t → HasSpelling t → IsCanonical t (value_text t) }
-    // What has a canonical spelling of fewer than 2^32 bytes can be written, and that spelling is what is written.
+    // What has a canonical spelling of fewer than 2^32 bytes can be written, and that spelling is
+    // what is written.
     ensures writable { (t : Tree) (text : List ℕ) → IsRanged t → IsCanonical t text
         → length text < 2 ^ 32 → HasSpelling t × (value_text t ≡ text) }
     // The canonical spelling is in the grammar.

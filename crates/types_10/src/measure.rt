@@ -1,12 +1,18 @@
-//! What is known of values before they are written: their kinds, and how long they are (AMQP 1.0 1.6).
+//! What is known of values before they are written: their kinds, and how long they are (AMQP 1.0
+//! 1.6).
 //!
-//! Lengths are in bytes. They saturate, so that no sum of them overflows. A measure is one pass over a value.
+//! Lengths are in bytes. They saturate, so that no sum of them overflows. A measure is one pass
+//! over a value.
 
 ghost use Rattle.std.specs.Prelude.{◌≡◌, ℕ, List, length, map};
-ghost use Rattle.types_10.specs.Tree.{uint, int, ulong, long, Tree, list, mapping, array, described, Trees, tree, trees_of, pairs_of};
+ghost use Rattle.types_10.specs.Tree.{uint, int, ulong, long, Tree, list, mapping, array};
+ghost use Rattle.types_10.specs.Tree.{described, Trees, tree, trees_of, pairs_of};
 ghost use Rattle.types_10.specs.View.{value_tree, pair_trees};
-ghost use Rattle.types_10.specs.Writing.{text_kind, single_kind, list_kind, EachIsWritable, PairsAreWritable, AreOfOneType, IsWritable, written_pairs, value_text};
-ghost use Rattle.types_10.specs.Measures.{capped, head_len, held_size, pair_text, IsMeasure, IsEachMeasure};
+ghost use Rattle.types_10.specs.Writing.{text_kind, single_kind, list_kind, EachIsWritable};
+ghost use Rattle.types_10.specs.Writing.{PairsAreWritable, AreOfOneType, IsWritable, written_pairs};
+ghost use Rattle.types_10.specs.Writing.{value_text};
+ghost use Rattle.types_10.specs.Measures.{capped, head_len, held_size, pair_text, IsMeasure};
+ghost use Rattle.types_10.specs.Measures.{IsEachMeasure};
 
 use crate::kind::{Bare, Kind, Octet, Single, Sixteen, Size, Text, Wide};
 use crate::value::Value10;
@@ -92,7 +98,8 @@ impl Measure {
 
     /// The measure of the value behind a descriptor.
     fn described(self, descriptor: Measure) -> Measure
-        ensures { (d t : Tree) → IsMeasure descriptor d → IsMeasure self t → IsMeasure result (described d t) }
+        ensures { (d t : Tree) → IsMeasure descriptor d → IsMeasure self t
+            → IsMeasure result (described d t) }
     {
         let front = descriptor
             .whole_len()
@@ -109,7 +116,8 @@ impl Measure {
 impl EachMeasure {
     /// The measure of these values behind another one.
     fn behind(self, first: Measure) -> EachMeasure
-        ensures { (t : Tree) (ts : Trees) → IsMeasure first t → IsEachMeasure self ts → IsEachMeasure result (tree t ts) }
+        ensures { (t : Tree) (ts : Trees) → IsMeasure first t → IsEachMeasure self ts
+            → IsEachMeasure result (tree t ts) }
     {
         EachMeasure {
             text: first.whole_len().saturating_add(self.text),
@@ -121,7 +129,8 @@ impl EachMeasure {
 }
 
 impl Size {
-    /// How wide a size and a count are where they stand before so many values, which take so many bytes.
+    /// How wide a size and a count are where they stand before so many values, which take so many
+    /// bytes.
     fn of(count: usize, body: usize) -> Size
         ensures { (text : List ℕ) → body ≡ capped (length text) → result ≡ held_size count text }
     {

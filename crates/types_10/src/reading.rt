@@ -2,21 +2,28 @@
 //!
 //! Each function takes the bounds of its bytes, and answers its value and the bytes after it.
 
-ghost use Rattle.std.specs.Prelude.{◌≡◌, ℕ, ◌+◌, ◌-◌, ◌≤◌, ◌++◌, List, length, take, drop, map, Ok, Err, IfOk, IfErr, IsOkAnd};
+ghost use Rattle.std.specs.Prelude.{◌≡◌, ℕ, ◌+◌, ◌-◌, ◌≤◌, ◌++◌, List, length, take, drop, map, Ok};
+ghost use Rattle.std.specs.Prelude.{Err, IfOk, IfErr, IsOkAnd};
 ghost use Rattle.std.specs.Int.{w8, w16, w32, w64};
 ghost use Rattle.std.specs.Char.{is_ascii};
 ghost use Rattle.std.specs.Str.{is_utf8};
 ghost use Rattle.std.specs.List.{list_all};
 ghost use Rattle.wire_base.specs.Reading.{Gives, made, pair_in, times};
 ghost use Rattle.types_10.specs.Tree.{Tree, scalar, depth};
-ghost use Rattle.types_10.specs.Kinds.{bare_scalar, octet_scalar, wide_scalar, wide_width, sixteen_scalar, text_scalar, is_text, is_character, size_width};
+ghost use Rattle.types_10.specs.Kinds.{bare_scalar, octet_scalar, wide_scalar, wide_width};
+ghost use Rattle.types_10.specs.Kinds.{sixteen_scalar, text_scalar, is_text, is_character};
+ghost use Rattle.types_10.specs.Kinds.{size_width};
 ghost use Rattle.types_10.specs.declared.kind.Single.TheVariants.{Text as TextKind};
 ghost use Rattle.types_10.specs.View.{value_tree, pair_trees};
 ghost use Rattle.types_10.specs.Grammar.{IsValue};
 ghost use Rattle.types_10.specs.Faults.{IsFaultAt};
 ghost use Rattle.types_10.specs.Shapes.{shape_data};
 ghost use Rattle.types_10.specs.declared.fault.TypeFault.TheVariants as fault;
-ghost use Rattle.types_10.specs.Reading.{fault_at, code_in, contents_in, shape_in, element_in, count_in, bytes_in, sixteen_in, tested, text_fault, boolean_in, char_in, single_in, flat_in, deep_in, filled_in, items_in, entries_in, elements_in, value_by, level, value_in, value_at, seen};
+ghost use Rattle.types_10.specs.Reading.{fault_at, code_in, contents_in, shape_in, element_in};
+ghost use Rattle.types_10.specs.Reading.{count_in, bytes_in, sixteen_in, tested, text_fault};
+ghost use Rattle.types_10.specs.Reading.{boolean_in, char_in, single_in, flat_in, deep_in};
+ghost use Rattle.types_10.specs.Reading.{filled_in, items_in, entries_in, elements_in, value_by};
+ghost use Rattle.types_10.specs.Reading.{level, value_in, value_at, seen};
 
 use crate::copying::copy_value;
 use crate::depth::is_within;
@@ -31,8 +38,8 @@ type Fault = At<TypeFault>;
 /// What holds the bytes that are read.
 #[derive(Clone, Copy)]
 struct Bounds {
-    /// The fault of a value that is cut off: `Cut` in the input itself, and inside a list, a map or an array that a value
-    /// disagrees with its size.
+    /// The fault of a value that is cut off: `Cut` in the input itself, and inside a list, a map or
+    /// an array that a value disagrees with its size.
     cut: Fault,
     /// The offset at which the bytes end.
     end: usize,
@@ -46,7 +53,8 @@ struct Code {
     at: usize,
 }
 
-/// The constructor of an array: the descriptors of its elements, the outermost first, and the kind of what they describe.
+/// The constructor of an array: the descriptors of its elements, the outermost first, and the kind
+/// of what they describe.
 #[derive(Drop)]
 struct Shape {
     descriptors: ValueList,
@@ -349,8 +357,8 @@ fn code_in(bounds: Bounds, bytes: &[u8]) -> Result<(Code, &[u8]), Stop<Fault>>
     Ok((Code { kind, at }, content))
 }
 
-/// The bounds of what stands inside a value whose code stands at `at`: up to the bytes that follow, and what is cut off
-/// there disagrees with the size.
+/// The bounds of what stands inside a value whose code stands at `at`: up to the bytes that follow,
+/// and what is cut off there disagrees with the size.
 fn bounds_inside(at: usize, end: usize, rest: &[u8]) -> Bounds
     ensures { result ≡ record { cut = fault_at fault.Count at; end = end - length rest.now } }
 {
@@ -464,7 +472,8 @@ fn list_of(
     content: &[u8],
 ) -> Result<(ValueList, &[u8]), Stop<Fault>>
     ensures { Gives (λ x. (x.0, x.1.now)) result
-        (filled_in (size_width size) at (items_in (size_width size) (value_in depth)) bounds.cut bounds.end content.now) }
+        (filled_in (size_width size) at (items_in (size_width size)
+        (value_in depth)) bounds.cut bounds.end content.now) }
 {
     let (body, rest) = bytes_in(size, bounds.cut, content)?;
     let inside = bounds_inside(at, bounds.end, rest);
@@ -511,7 +520,8 @@ fn map_of(
     content: &[u8],
 ) -> Result<(PairList, &[u8]), Stop<Fault>>
     ensures { Gives (λ x. (x.0, x.1.now)) result
-        (filled_in (size_width size) at (entries_in (size_width size) (value_in depth)) bounds.cut bounds.end content.now) }
+        (filled_in (size_width size) at (entries_in (size_width size)
+        (value_in depth)) bounds.cut bounds.end content.now) }
 {
     let (body, rest) = bytes_in(size, bounds.cut, content)?;
     let inside = bounds_inside(at, bounds.end, rest);
@@ -536,7 +546,8 @@ fn pairs_of(
     bytes: &[u8],
 ) -> Result<(PairList, &[u8]), Stop<Fault>>
     ensures { Gives (λ x. (x.0, x.1.now)) result
-        (times (pair_in (value_in depth bounds.cut) (value_in depth bounds.cut) bounds.end) count bytes.now) }
+        (times (pair_in (value_in depth bounds.cut)
+        (value_in depth bounds.cut) bounds.end) count bytes.now) }
 {
     let mut list = PairList::empty(alloc);
     let mut rest = bytes;
@@ -577,7 +588,8 @@ fn array_of(
     content: &[u8],
 ) -> Result<(ValueList, &[u8]), Stop<Fault>>
     ensures { Gives (λ x. (x.0, x.1.now)) result
-        (filled_in (size_width size) at (elements_in (size_width size) (level depth)) bounds.cut bounds.end content.now) }
+        (filled_in (size_width size) at (elements_in (size_width size)
+        (level depth)) bounds.cut bounds.end content.now) }
 {
     let (body, rest) = bytes_in(size, bounds.cut, content)?;
     let inside = bounds_inside(at, bounds.end, rest);
@@ -686,7 +698,8 @@ fn element_of<'a>(
     content: &'a [u8],
 ) -> Result<(Value10, &'a [u8]), Stop<Fault>>
     ensures { Gives (λ x. (value_tree x.0, x.1.now)) result
-        (element_in depth (map value_tree descriptors.now, code.kind) code.at bounds.cut bounds.end content.now) }
+        (element_in depth
+        (map value_tree descriptors.now, code.kind) code.at bounds.cut bounds.end content.now) }
 {
     let Some((descriptor, inner)) = descriptors.split_first() else {
         return content_of(alloc, depth, code, bounds, content);
@@ -716,17 +729,19 @@ fn value_from(alloc: Global, bytes: &[u8], at: usize) -> Result<(Value10, usize)
     Ok((value, place(end, rest)))
 }
 
-/// The value that stands at `at` (AMQP 1.0 1.6), and the offset after it; offsets are in bytes from the front of `bytes`.
-/// Any of a type's encodings is taken.
+/// The value that stands at `at` (AMQP 1.0 1.6), and the offset after it; offsets are in bytes from
+/// the front of `bytes`. Any of a type's encodings is taken.
 ///
 /// # Errors
 ///
-/// A `TypeFault` exactly where no value of depth 16 or less stands at `at`, and where it is: `UnknownCode` at the code, or at
-/// the byte of a boolean; `Cut` at the length of the input; `NotUtf8` and `NotAscii` at the first byte of the content; `Depth`
-/// at the code, which is the last one of the constructor for an element of an array; `Count` at the code of the list, the map or
-/// the array. The faults of a value are looked for in the order `UnknownCode`, `Depth`, `Cut`, `Count` for a wrong count, the
-/// fault of its text or those of what it holds in order, and `Count` for bytes left over. The constructor of an array,
-/// descriptors and all, is read before the count is tested, and its descriptors count in the depth of the elements alone.
+/// A `TypeFault` exactly where no value of depth 16 or less stands at `at`, and where it is:
+/// `UnknownCode` at the code, or at the byte of a boolean; `Cut` at the length of the input;
+/// `NotUtf8` and `NotAscii` at the first byte of the content; `Depth` at the code, which is the
+/// last one of the constructor for an element of an array; `Count` at the code of the list, the map
+/// or the array. The faults of a value are looked for in the order `UnknownCode`, `Depth`, `Cut`,
+/// `Count` for a wrong count, the fault of its text or those of what it holds in order, and `Count`
+/// for bytes left over. The constructor of an array, descriptors and all, is read before the count
+/// is tested, and its descriptors count in the depth of the elements alone.
 ///
 /// `Memory` where the allocator has no room.
 pub fn read_value(
@@ -736,12 +751,14 @@ pub fn read_value(
 ) -> Result<Result<(Value10, usize), At<TypeFault>>, Memory>
     // What is read is spelled so.
     ensures found { IfOk result (λ read. IfOk read (λ x.
-        (x.1 ≤ length bytes.now) × IsValue (value_tree x.0) (take (x.1 - at) (drop at bytes.now)))) }
+        (x.1 ≤ length bytes.now) × IsValue (value_tree x.0) (take (x.1 - at)
+        (drop at bytes.now)))) }
     ensures depth { IfOk result (λ read. IfOk read (λ x. depth (value_tree x.0) ≤ 16)) }
     // What is spelled so is read, whatever follows.
     ensures only { (v : Tree) (text rest : List ℕ)
         → IsValue v text → drop at bytes.now ≡ text ++ rest
-        → IfOk result (λ read. IsOkAnd read (λ x. (value_tree x.0 ≡ v) × (x.1 ≡ at + length text))) }
+        → IfOk result (λ read. IsOkAnd read (λ x. (value_tree x.0 ≡ v) × (x.1
+        ≡ at + length text))) }
     // Which the first fault is, and where.
     ensures fault { IfOk result (λ read. IfErr read (IsFaultAt bytes.now at)) }
     // Which value is read, or which fault is told.

@@ -4,7 +4,9 @@ ghost use Rattle.std.specs.Prelude.{◌≡◌, ◌↔◌, ◌≤◌, [], true, m
 ghost use Rattle.types_10.specs.Kinds.{is_bare};
 ghost use Rattle.types_10.specs.Tree.{trees_of, pairs_of};
 ghost use Rattle.types_10.specs.View.{value_tree, pair_trees};
-ghost use Rattle.types_10.specs.Writing.{written_each, descriptors, type_of, AreAlike, EachIsAlike, AreOfOneType, IsWritable, EachIsWritable, PairsAreWritable, HasSpelling};
+ghost use Rattle.types_10.specs.Writing.{written_each, descriptors, type_of, AreAlike, EachIsAlike};
+ghost use Rattle.types_10.specs.Writing.{AreOfOneType, IsWritable, EachIsWritable};
+ghost use Rattle.types_10.specs.Writing.{PairsAreWritable, HasSpelling};
 
 use crate::depth::is_within;
 use crate::kind::Text;
@@ -99,7 +101,8 @@ fn pair_is_same(one: &(Value10, Value10), other: &(Value10, Value10)) -> bool
 
 /// Whether two values have equal descriptors, or both none.
 fn are_described_alike(one: &Value10, other: &Value10) -> bool
-    ensures { result ≡ true ↔ descriptors (value_tree one.now) ≡ descriptors (value_tree other.now) }
+    ensures { result ≡ true ↔ descriptors (value_tree one.now)
+        ≡ descriptors (value_tree other.now) }
 {
     match (one, other) {
         (Value10::Described(d, one), Value10::Described(e, other)) => {
@@ -152,7 +155,8 @@ fn are_alike(one: &Value10, other: &Value10) -> bool
 
 /// Whether each of these values and the first one may be elements of one array.
 fn each_is_alike(first: &Value10, others: &[Value10]) -> bool
-    ensures { result ≡ true ↔ EachIsAlike (value_tree first.now) (trees_of (map value_tree others.now)) }
+    ensures { result ≡ true ↔ EachIsAlike (value_tree first.now) (trees_of
+        (map value_tree others.now)) }
 {
     for other in others {
         if !are_alike(other, first) {
@@ -174,7 +178,8 @@ fn are_of_one_type(values: &[Value10]) -> bool
 /// Whether elements without bytes are no more than an array may have.
 fn fits_bare(values: &[Value10]) -> bool
     requires { EachIsWritable (trees_of (map value_tree values.now)) }
-    ensures { result ≡ true ↔ (IsTrue (is_bare (written_each (trees_of (map value_tree values.now))).kind)
+    ensures { result ≡ true ↔ (IsTrue (is_bare (written_each (trees_of
+        (map value_tree values.now))).kind)
         → (written_each (trees_of (map value_tree values.now))).count ≤ 65536) }
 {
     values.len() <= MOST_BARE as usize || !measure_each(values).kind.is_bare()
@@ -244,7 +249,8 @@ fn pairs_are_writable(pairs: &[(Value10, Value10)]) -> bool
 
 #[cycle(writable)]
 fn pair_is_writable(pair: &(Value10, Value10)) -> bool
-    ensures { result ≡ true ↔ (IsWritable (pair_trees pair.now).0 × IsWritable (pair_trees pair.now).1) }
+    ensures { result ≡ true ↔ (IsWritable (pair_trees pair.now).0
+        × IsWritable (pair_trees pair.now).1) }
 {
     let (key, value) = pair;
     is_writable(key) && is_writable(value)

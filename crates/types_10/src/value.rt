@@ -1,6 +1,7 @@
 //! Values, and the lists and maps of them (AMQP 1.0 1.6).
 
-ghost use Rattle.std.specs.Prelude.{◌≡◌, ℕ, ◌+◌, List, [], ◌∷◌, ◌++◌, length, option_map, slice_get, IfOk, OnOk, OnErr};
+ghost use Rattle.std.specs.Prelude.{◌≡◌, ℕ, ◌+◌, List, [], ◌∷◌, ◌++◌, length, option_map};
+ghost use Rattle.std.specs.Prelude.{slice_get, IfOk, OnOk, OnErr};
 ghost use Rattle.types_10.specs.Ranges.{IsRanged};
 ghost use Rattle.types_10.specs.View.{value_tree, pair_trees};
 
@@ -8,11 +9,12 @@ use std::alloc::Global;
 use std::marker::Model;
 use wire_base::{ByteText, Memory};
 
-/// A value of each type of AMQP 1.0 1.6. A float, a double or a decimal is the pattern of its bits, most significant
-/// first.
+/// A value of each type of AMQP 1.0 1.6. A float, a double or a decimal is the pattern of its bits,
+/// most significant first.
 ///
-/// The type holds more than `put_value` takes: what a variant says of its texts, its char or its elements is so of each
-/// value that `read_value` answers, and is for the caller to see to in others.
+/// The type holds more than `put_value` takes: what a variant says of its texts, its char or its
+/// elements is so of each value that `read_value` answers, and is for the caller to see to in
+/// others.
 #[derive(Debug, Drop)]
 #[cycle(value)]
 pub enum Value10 {
@@ -49,22 +51,24 @@ pub enum Value10 {
     Described(Inner, Inner),
 }
 
-/// The values of a list or an array (AMQP 1.0 1.6.22, 1.6.24), in order. Contracts see it as the list of them.
+/// The values of a list or an array (AMQP 1.0 1.6.22, 1.6.24), in order. Contracts see it as the
+/// list of them.
 #[derive(Debug, Drop)]
 #[cycle(value)]
 pub struct ValueList {
     pub(crate) items: Vec<Value10>,
 }
 
-/// The pairs of a map (AMQP 1.0 1.6.23), in order: keys and values. Keys aren't compared, so two may be equal. Contracts
-/// see it as the list of them.
+/// The pairs of a map (AMQP 1.0 1.6.23), in order: keys and values. Keys aren't compared, so two
+/// may be equal. Contracts see it as the list of them.
 #[derive(Debug, Drop)]
 #[cycle(value)]
 pub struct PairList {
     pub(crate) pairs: Vec<(Value10, Value10)>,
 }
 
-/// A value inside a described one: the descriptor, or what it describes (AMQP 1.0 1.1.2). Contracts see it as that value.
+/// A value inside a described one: the descriptor, or what it describes (AMQP 1.0 1.1.2). Contracts
+/// see it as that value.
 #[derive(Debug, Drop)]
 #[cycle(value)]
 pub struct Inner {
@@ -84,7 +88,8 @@ impl Model for ValueList {
 
     ghost view = { λ a. map value_tree a.items.items };
 
-    // The list in a clause is one of numbers without bounds, so the invariant keeps those of the types.
+    // The list in a clause is one of numbers without bounds, so the invariant keeps those of the
+    // types.
     ghost use Rattle.types_10.specs.Ranges.{ListIsRanged};
 
     ghost invariant = { λ a. ListIsRanged (map value_tree a.items.items) };
@@ -249,7 +254,8 @@ impl PairList {
         }
     }
 
-    /// Adds a pair, a key and its value, at the end, or leaves the list as it was and drops the pair.
+    /// Adds a pair, a key and its value, at the end, or leaves the list as it was and drops the
+    /// pair.
     ///
     /// # Errors
     ///
@@ -264,7 +270,8 @@ impl PairList {
         Ok(())
     }
 
-    /// The count of the pairs: half of what is written as the map's count, which is of keys and values together.
+    /// The count of the pairs: half of what is written as the map's count, which is of keys and
+    /// values together.
     pub fn len(&self) -> usize
         ensures { result ≡ length self.now }
     {

@@ -1,15 +1,18 @@
-//! Writing values (AMQP 1.0 1.6), from the numbers up to `put_value`. Lengths and kinds come from `measure`: what a
-//! value holds is measured at most three times for it, so the work grows with the depth times the number of values.
+//! Writing values (AMQP 1.0 1.6), from the numbers up to `put_value`. Lengths and kinds come from
+//! `measure`: what a value holds is measured at most three times for it, so the work grows with the
+//! depth times the number of values.
 //!
-//! Where a function of this module but `put_value` answers `Memory`, what stood in `out` before still stands at
-//! its front.
+//! Where a function of this module but `put_value` answers `Memory`, what stood in `out` before
+//! still stands at its front.
 
 ghost use Rattle.std.specs.Prelude.{◌≡◌, ◌<◌, ◌^◌, ◌++◌, length, take, map, OnOk, OnErr};
 ghost use Rattle.std.specs.Int.{w8, w16, w32, w64, to_be_bytes};
 ghost use Rattle.types_10.specs.Tree.{list, mapping, array, trees_of, pairs_of};
 ghost use Rattle.types_10.specs.View.{value_tree, pair_trees};
 ghost use Rattle.types_10.specs.Kinds.{size_width};
-ghost use Rattle.types_10.specs.Writing.{number_content, text_content, array_body, written, written_each, written_pairs, value_text, AreOfOneType, IsWritable, EachIsWritable, PairsAreWritable, HasSpelling};
+ghost use Rattle.types_10.specs.Writing.{number_content, text_content, array_body, written};
+ghost use Rattle.types_10.specs.Writing.{written_each, written_pairs, value_text, AreOfOneType};
+ghost use Rattle.types_10.specs.Writing.{IsWritable, EachIsWritable, PairsAreWritable, HasSpelling};
 ghost use Rattle.types_10.specs.Measures.{capped, body_len, head_text, pair_text};
 
 use crate::kind::{Kind, Single, Size};
@@ -81,7 +84,8 @@ fn put_longlong(out: &mut ByteText, single: Single, n: u64) -> Result<(), Memory
     }
 }
 
-/// A length, a size or a count: its lowest bytes, which hold all of it wherever the kind was chosen for the value.
+/// A length, a size or a count: its lowest bytes, which hold all of it wherever the kind was chosen
+/// for the value.
 fn put_size(out: &mut ByteText, size: Size, n: usize) -> Result<(), Memory>
     ensures ok { OnOk result (out.new ≡ out.old ++ to_be_bytes (size_width size) n) }
     ensures err { OnErr result (take (length out.old) out.new ≡ out.old) }
@@ -125,7 +129,8 @@ fn put_head(out: &mut ByteText, size: Size, count: usize, body: usize) -> Result
 /// The content of a value that holds no other, under a kind of its type; of one that does, nothing.
 #[cycle(single)]
 fn put_single(out: &mut ByteText, single: Single, value: &Value10) -> Result<(), Memory>
-    ensures ok { OnOk result (out.new ≡ out.old ++ (written (value_tree value.now)).content (Kind.Single single)) }
+    ensures ok { OnOk result (out.new ≡ out.old ++ (written (value_tree value.now)).content
+        (Kind.Single single)) }
     ensures err { OnErr result (take (length out.old) out.new ≡ out.old) }
 {
     match value {
@@ -187,7 +192,8 @@ fn put_front(out: &mut ByteText, value: &Value10) -> Result<(), Memory>
     }
 }
 
-/// The content of a value under a kind of its type. `body` is its length, but for what the kind decides.
+/// The content of a value under a kind of its type. `body` is its length, but for what the kind
+/// decides.
 #[cycle(whole)]
 fn put_content(out: &mut ByteText, kind: Kind, body: usize, value: &Value10) -> Result<(), Memory>
     requires writable { IsWritable (value_tree value.now) }
@@ -209,7 +215,8 @@ fn put_held(out: &mut ByteText, size: Size, body: usize, value: &Value10) -> Res
     requires writable { IsWritable (value_tree value.now) }
     requires size { length ((written (value_tree value.now)).content (Kind.List size)) < 2 ^ 32 }
     requires measured { body ≡ capped (body_len (value_tree value.now)) }
-    ensures ok { OnOk result (out.new ≡ out.old ++ (written (value_tree value.now)).content (Kind.List size)) }
+    ensures ok { OnOk result (out.new ≡ out.old ++ (written (value_tree value.now)).content
+        (Kind.List size)) }
     ensures err { OnErr result (take (length out.old) out.new ≡ out.old) }
 {
     match value {
@@ -227,7 +234,8 @@ fn put_list(out: &mut ByteText, size: Size, body: usize, values: &[Value10]) -> 
     requires writable { EachIsWritable (trees_of (map value_tree values.now)) }
     requires size { length (written_each (trees_of (map value_tree values.now))).text < 2 ^ 32 }
     requires measured { body ≡ length (written_each (trees_of (map value_tree values.now))).text }
-    ensures ok { OnOk result (out.new ≡ out.old ++ (written (list (trees_of (map value_tree values.now)))).content (Kind.List size)) }
+    ensures ok { OnOk result (out.new ≡ out.old ++ (written (list (trees_of
+        (map value_tree values.now)))).content (Kind.List size)) }
     ensures err { OnErr result (take (length out.old) out.new ≡ out.old) }
 {
     put_head(out, size, values.len(), body)?;
@@ -245,7 +253,8 @@ fn put_map(
     requires writable { PairsAreWritable (pairs_of (map pair_trees pairs.now)) }
     requires size { length (written_pairs (pairs_of (map pair_trees pairs.now))).1 < 2 ^ 32 }
     requires measured { body ≡ length (written_pairs (pairs_of (map pair_trees pairs.now))).1 }
-    ensures ok { OnOk result (out.new ≡ out.old ++ (written (mapping (pairs_of (map pair_trees pairs.now)))).content (Kind.Map size)) }
+    ensures ok { OnOk result (out.new ≡ out.old ++ (written (mapping (pairs_of
+        (map pair_trees pairs.now)))).content (Kind.Map size)) }
     ensures err { OnErr result (take (length out.old) out.new ≡ out.old) }
 {
     put_head(out, size, 2 * pairs.len(), body)?;
@@ -257,9 +266,12 @@ fn put_map(
 fn put_array(out: &mut ByteText, size: Size, body: usize, values: &[Value10]) -> Result<(), Memory>
     requires writable { EachIsWritable (trees_of (map value_tree values.now)) }
     requires alike { AreOfOneType (trees_of (map value_tree values.now)) }
-    requires size { length (array_body (written_each (trees_of (map value_tree values.now)))) < 2 ^ 32 }
-    requires measured { body ≡ length (array_body (written_each (trees_of (map value_tree values.now)))) }
-    ensures ok { OnOk result (out.new ≡ out.old ++ (written (array (trees_of (map value_tree values.now)))).content (Kind.Array size)) }
+    requires size { length (array_body (written_each (trees_of
+        (map value_tree values.now)))) < 2 ^ 32 }
+    requires measured { body ≡ length (array_body (written_each (trees_of
+        (map value_tree values.now)))) }
+    ensures ok { OnOk result (out.new ≡ out.old ++ (written (array (trees_of
+        (map value_tree values.now)))).content (Kind.Array size)) }
     ensures err { OnErr result (take (length out.old) out.new ≡ out.old) }
 {
     put_head(out, size, values.len(), body)?;
@@ -274,7 +286,8 @@ fn put_array(out: &mut ByteText, size: Size, body: usize, values: &[Value10]) ->
 fn put_each(out: &mut ByteText, values: &[Value10]) -> Result<(), Memory>
     requires writable { EachIsWritable (trees_of (map value_tree values.now)) }
     requires size { length (written_each (trees_of (map value_tree values.now))).text < 2 ^ 32 }
-    ensures ok { OnOk result (out.new ≡ out.old ++ (written_each (trees_of (map value_tree values.now))).text) }
+    ensures ok { OnOk result (out.new ≡ out.old ++ (written_each (trees_of
+        (map value_tree values.now))).text) }
     ensures err { OnErr result (take (length out.old) out.new ≡ out.old) }
 {
     for value in values {
@@ -288,7 +301,8 @@ fn put_each(out: &mut ByteText, values: &[Value10]) -> Result<(), Memory>
 fn put_pairs(out: &mut ByteText, pairs: &[(Value10, Value10)]) -> Result<(), Memory>
     requires writable { PairsAreWritable (pairs_of (map pair_trees pairs.now)) }
     requires size { length (written_pairs (pairs_of (map pair_trees pairs.now))).1 < 2 ^ 32 }
-    ensures ok { OnOk result (out.new ≡ out.old ++ (written_pairs (pairs_of (map pair_trees pairs.now))).1) }
+    ensures ok { OnOk result (out.new ≡ out.old ++ (written_pairs (pairs_of
+        (map pair_trees pairs.now))).1) }
     ensures err { OnErr result (take (length out.old) out.new ≡ out.old) }
 {
     for pair in pairs {
@@ -316,7 +330,8 @@ fn put_pair(out: &mut ByteText, pair: &(Value10, Value10)) -> Result<(), Memory>
 fn put_first_front(out: &mut ByteText, values: &[Value10]) -> Result<(), Memory>
     requires writable { EachIsWritable (trees_of (map value_tree values.now)) }
     requires size { length (written_each (trees_of (map value_tree values.now))).front < 2 ^ 32 }
-    ensures ok { OnOk result (out.new ≡ out.old ++ (written_each (trees_of (map value_tree values.now))).front) }
+    ensures ok { OnOk result (out.new ≡ out.old ++ (written_each (trees_of
+        (map value_tree values.now))).front) }
     ensures err { OnErr result (take (length out.old) out.new ≡ out.old) }
 {
     match values {
@@ -329,8 +344,10 @@ fn put_first_front(out: &mut ByteText, values: &[Value10]) -> Result<(), Memory>
 #[cycle(whole)]
 fn put_contents(out: &mut ByteText, kind: Kind, values: &[Value10]) -> Result<(), Memory>
     requires writable { EachIsWritable (trees_of (map value_tree values.now)) }
-    requires size { length ((written_each (trees_of (map value_tree values.now))).contents kind) < 2 ^ 32 }
-    ensures ok { OnOk result (out.new ≡ out.old ++ (written_each (trees_of (map value_tree values.now))).contents kind) }
+    requires size { length ((written_each (trees_of
+        (map value_tree values.now))).contents kind) < 2 ^ 32 }
+    ensures ok { OnOk result (out.new ≡ out.old ++ (written_each (trees_of
+        (map value_tree values.now))).contents kind) }
     ensures err { OnErr result (take (length out.old) out.new ≡ out.old) }
 {
     for value in values {
@@ -342,18 +359,20 @@ fn put_contents(out: &mut ByteText, kind: Kind, values: &[Value10]) -> Result<()
 
 /// Adds the shortest spelling of the value (AMQP 1.0 1.6), or leaves `out` as it was.
 ///
-/// Each value has the shortest of its type's encodings, and the elements of an array the shortest that all of them
-/// have; an array without elements has the constructor of null.
+/// Each value has the shortest of its type's encodings, and the elements of an array the shortest
+/// that all of them have; an array without elements has the constructor of null.
 ///
-/// The value must have a spelling, as `has_spelling` tells: its depth is at most 16, what is written of it is shorter than 2^32 bytes, and, of the
-/// value and of each one inside it,
+/// The value must have a spelling, as `has_spelling` tells: its depth is at most 16, what is
+/// written of it is shorter than 2^32 bytes, and, of the value and of each one inside it,
 ///
-/// - a string is UTF-8, a symbol is ASCII, and a char is a Unicode scalar value (at most 10FFFF, not D800 to DFFF);
-/// - the elements of an array are of one type, all of them described by equal descriptors or none described, and what
-///   the descriptors describe is of one type;
-/// - the elements of an array are at most 65,536 where their shortest encoding has no bytes: nulls, booleans that are
-///   all true or all false, uints or ulongs that are all 0, and lists that are all empty, described or not. An array
-///   with more is read where a longer encoding was sent, as 65,537 zeros behind the code 70, but can't be put.
+/// - a string is UTF-8, a symbol is ASCII, and a char is a Unicode scalar value (at most 10FFFF,
+/// not D800 to DFFF);
+/// - the elements of an array are of one type, all of them described by equal descriptors or none
+/// described, and what the descriptors describe is of one type;
+/// - the elements of an array are at most 65,536 where their shortest encoding has no bytes: nulls,
+/// booleans that are all true or all false, uints or ulongs that are all 0, and lists that are all
+/// empty, described or not. An array with more is read where a longer encoding was sent, as 65,537
+/// zeros behind the code 70, but can't be put.
 ///
 /// # Errors
 ///

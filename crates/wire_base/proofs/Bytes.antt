@@ -1,5 +1,6 @@
 -- Parts and continuations of lists of bytes.
-use Rattle.std.proofs.Common.{◌≡◌, ℕ, ◌+◌, ◌<◌, ◌≤◌, zero, suc, List, [], ◌∷◌, ◌++◌, get_or, take, drop, replicate, refl, arith}
+use Rattle.std.proofs.Common.{◌≡◌, ℕ, ◌+◌, ◌<◌, ◌≤◌, zero, suc, List, [], ◌∷◌, ◌++◌, get_or, take}
+use Rattle.std.proofs.Common.{drop, replicate, refl, arith}
 use Rattle.std.proofs.lemmas.List.{get_or-drop}
 use Rattle.wire_base.specs.Bytes.{IsBytes}
 

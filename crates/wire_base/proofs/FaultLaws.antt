@@ -1,11 +1,15 @@
 -- Readers against faults: the fault that is read is there, and a fault that is there is read.
-use Rattle.std.proofs.Common.{◌≡◌, ◌≢◌, ◌⊎◌, inl, inr, ℕ, zero, suc, ◌-◌, ◌<◌, ◌≤◌, Bool, true, false, cond, ltb, List, [], ◌∷◌, ◌++◌, length, take, drop, Result, Ok, Err, refl, sym, ap, subst, ◌∙◌, append_assoc, arith}
+use Rattle.std.proofs.Common.{◌≡◌, ◌≢◌, ◌⊎◌, inl, inr, ℕ, zero, suc, ◌-◌, ◌<◌, ◌≤◌, Bool, true}
+use Rattle.std.proofs.Common.{false, cond, ltb, List, [], ◌∷◌, ◌++◌, length, take, drop, Result, Ok}
+use Rattle.std.proofs.Common.{Err, refl, sym, ap, subst, ◌∙◌, append_assoc, arith}
 use Rattle.std.proofs.lemmas.Bool.{ltb-true, ltb-false, lt-ltb, le-ltb}
 use Rattle.std.proofs.lemmas.List.{length-append, length-drop}
 use Rattle.std.specs.Int.{Width, byte_len, from_be_bytes}
 use Rattle.wire_base.specs.Bytes.{IsBytes}
-use Rattle.wire_base.specs.Faults.{Faults, IsNumberCut, IsTextFault, IsPairFault, IsItemsFault, IsContainerFault, IsTimesFault}
-use Rattle.wire_base.specs.Reading.{Reads, ◌>>=◌, made, pair_in, number_in, text_in, many, all_items, container_in, times}
+use Rattle.wire_base.specs.Faults.{Faults, IsNumberCut, IsTextFault, IsPairFault, IsItemsFault}
+use Rattle.wire_base.specs.Faults.{IsContainerFault, IsTimesFault}
+use Rattle.wire_base.specs.Reading.{Reads, ◌>>=◌, made, pair_in, number_in, text_in, many}
+use Rattle.wire_base.specs.Reading.{all_items, container_in, times}
 use Rattle.wire_base.specs.Spelling.{IsText, IsItems}
 use Rattle.wire_base.proofs.Items.{Shrinks, reader_shrinks, text_bytes}
 use Rattle.wire_base.proofs.Laws.{IsReader, IsWide, text_reader}

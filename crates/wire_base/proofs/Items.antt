@@ -1,11 +1,13 @@
 -- Items one after another, as a loop reads them: until nothing is left, and so many times.
-use Rattle.std.proofs.Common.{◌≡◌, ℕ, zero, suc, ◌+◌, ◌-◌, ◌<◌, ◌≤◌, List, [], ◌∷◌, ◌++◌, length, drop, Result, Ok, Err, refl, sym, ap, subst, ◌∙◌, append_assoc, arith}
+use Rattle.std.proofs.Common.{◌≡◌, ℕ, zero, suc, ◌+◌, ◌-◌, ◌<◌, ◌≤◌, List, [], ◌∷◌, ◌++◌, length}
+use Rattle.std.proofs.Common.{drop, Result, Ok, Err, refl, sym, ap, subst, ◌∙◌, append_assoc, arith}
 use Rattle.std.proofs.lemmas.List.{append-nil, length-append, take_at, drop_at}
 use Rattle.std.specs.Int.{Width, to_be_bytes}
 use Rattle.wire_base.specs.declared.stop.Stop.{Stop}
 use Rattle.wire_base.specs.declared.stop.Stop.TheVariants as stop
 use Rattle.wire_base.specs.Bytes.{IsBytes}
-use Rattle.wire_base.specs.Reading.{Reads, ◌>>=◌, many, all_items, times, text_in, container_in, Stops}
+use Rattle.wire_base.specs.Reading.{Reads, ◌>>=◌, many, all_items, times, text_in, container_in}
+use Rattle.wire_base.specs.Reading.{Stops}
 use Rattle.wire_base.specs.Spelling.{IsText, IsItems, IsContainer}
 use Rattle.wire_base.proofs.Bytes.{IsBytes-drop, IsBytes-take}
 use Rattle.wire_base.proofs.Laws.{IsReader, Finds, IsWide, bind_is, ok_is, text_reader}

@@ -1,5 +1,7 @@
--- Protocol headers: a fixed text with which a stream begins (AMQP 0-9-1 4.2.2; AMQP 1.0 2.2), for any text and any fault.
-use Rattle.std.specs.Prelude.{◌≡◌, ◌≢◌, ℕ, ◌<◌, ◌==◌, nat_eq, if◌then◌else◌, List, length, take, slice_index}
+-- Protocol headers: a fixed text with which a stream begins (AMQP 0-9-1 4.2.2; AMQP 1.0 2.2), for
+-- any text and any fault.
+use Rattle.std.specs.Prelude.{◌≡◌, ◌≢◌, ℕ, ◌<◌, ◌==◌, nat_eq, if◌then◌else◌, List, length, take}
+use Rattle.std.specs.Prelude.{slice_index}
 use Rattle.std.specs.List.{common_prefix_len}
 use Rattle.wire_base.specs.declared.scan.At.{At}
 use Rattle.wire_base.specs.declared.scan.Scan.{Scan}

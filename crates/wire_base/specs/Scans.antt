@@ -1,10 +1,11 @@
--- What the answer of a scan says of the first bytes of a stream, for any grammar. A grammar relates a unit to its spellings.
+-- What the answer of a scan says of the first bytes of a stream, for any grammar. A grammar relates
+-- a unit to its spellings.
 use Rattle.std.specs.Prelude.{◌≡◌, ◌≢◌, ℕ, ◌≤◌, List, [], ◌++◌, length, take}
 use Rattle.wire_base.specs.declared.scan.Scan.{Scan}
 use Rattle.wire_base.specs.declared.scan.Scan.TheVariants.{Whole, More, Bad}
 
--- Whole: the first n bytes spell the unit. More: the bytes are a proper prefix of some unit's spelling.
--- Bad: no continuation of the bytes begins with a unit.
+-- Whole: the first n bytes spell the unit. More: the bytes are a proper prefix of some unit's
+-- spelling. Bad: no continuation of the bytes begins with a unit.
 abbrev pub Scans : {T F : Type 0} → (T → List ℕ → Type 0) → List ℕ → Scan T F → Type 0
 Scans IsUnit bytes (Whole x n) = (n ≤ length bytes) × IsUnit x (take n bytes)
 Scans {T} IsUnit bytes More = (x : T) × (rest : List ℕ) × (rest ≢ []) × IsUnit x (bytes ++ rest)

@@ -1,5 +1,6 @@
 -- How values are spelled: relations between a value and the bytes that spell it, all of the bytes.
--- Numbers, texts behind their length, and items one after another, for both protocols (AMQP 0-9-1 4.2.5; AMQP 1.0 1.6).
+-- Numbers, texts behind their length, and items one after another, for both protocols (AMQP 0-9-1
+-- 4.2.5; AMQP 1.0 1.6).
 use Rattle.std.specs.Prelude.{◌≡◌, ℕ, ◌-◌, ◌<◌, ◌≤◌, ◌^◌, List, [], ◌∷◌, ◌++◌, length, take, drop}
 use Rattle.std.specs.Int.{Width, byte_len, to_be_bytes}
 
@@ -20,13 +21,16 @@ abbrev pub IsMade : {A B : Type 0} → (A → B) → (A → List ℕ → Type 0)
 IsMade {A} make R y text = (x : A) × (y ≡ make x) × R x text
 
 -- one value, and then another
-abbrev pub IsPair : {A B : Type 0} → (A → List ℕ → Type 0) → (B → List ℕ → Type 0) → A × B → List ℕ → Type 0
-IsPair R S p text = (front : List ℕ) × (back : List ℕ) × R p.0 front × S p.1 back × (text ≡ front ++ back)
+abbrev pub IsPair : {A B : Type 0} → (A → List ℕ → Type 0) → (B → List ℕ → Type 0) → A × B
+    → List ℕ → Type 0
+IsPair R S p text =
+    (front : List ℕ) × (back : List ℕ) × R p.0 front × S p.1 back × (text ≡ front ++ back)
 
 -- items, one after another
 abbrev pub IsItems : {A : Type 0} → (A → List ℕ → Type 0) → List A → List ℕ → Type 0
 IsItems R [] text = text ≡ []
-IsItems R (x ∷ xs) text = (front : List ℕ) × (back : List ℕ) × R x front × IsItems R xs back × (text ≡ front ++ back)
+IsItems R (x ∷ xs) text =
+    (front : List ℕ) × (back : List ℕ) × R x front × IsItems R xs back × (text ≡ front ++ back)
 
 -- the length of the items' bytes in this width, and the items
 abbrev pub IsContainer : {A : Type 0} → Width → (A → List ℕ → Type 0) → List A → List ℕ → Type 0
@@ -34,4 +38,5 @@ IsContainer w R xs text = (body : List ℕ) × IsItems R xs body × IsText w bod
 
 -- the bytes from one offset to another are there, and spell the value
 abbrev pub StandsAt : {A : Type 0} → (A → List ℕ → Type 0) → A → List ℕ → ℕ → ℕ → Type 0
-StandsAt R x bytes at after = (at ≤ after) × (after ≤ length bytes) × R x (take (after - at) (drop at bytes))
+StandsAt R x bytes at after =
+    (at ≤ after) × (after ≤ length bytes) × R x (take (after - at) (drop at bytes))

@@ -1,6 +1,7 @@
 //! Byte strings that own their bytes.
 
-ghost use Rattle.std.specs.Prelude.{◌≡◌, ℕ, ◌+◌, ◌≤◌, List, [], ◌++◌, length, take, drop, IfOk, OnOk, OnErr};
+ghost use Rattle.std.specs.Prelude.{◌≡◌, ℕ, ◌+◌, ◌≤◌, List, [], ◌++◌, length, take, drop, IfOk};
+ghost use Rattle.std.specs.Prelude.{OnOk, OnErr};
 ghost use Rattle.std.specs.Int.{w32, to_be_bytes};
 
 use crate::memory::Memory;
@@ -71,7 +72,8 @@ impl ByteText {
         self.bytes.truncate(n);
     }
 
-    /// Writes a number of four bytes, most significant byte first, over the four bytes from `at` on.
+    /// Writes a number of four bytes, most significant byte first, over the four bytes from `at`
+    /// on.
     pub fn set_u32(&mut self, at: usize, n: u32)
         requires { at + 4 ≤ length self.old }
         ensures { self.new ≡ take at self.old ++ to_be_bytes w32 n ++ drop (at + 4) self.old }
@@ -87,7 +89,8 @@ impl ByteText {
     }
 }
 
-/// Prints the bytes as a text in quotes: `"queue\x00"`. What isn't printable ASCII stands as in Rust's byte strings.
+/// Prints the bytes as a text in quotes: `"queue\x00"`. What isn't printable ASCII stands as in
+/// Rust's byte strings.
 impl fmt::Debug for ByteText {
     fn fmt<W: fmt::Write>(&self, f: &mut fmt::Formatter<W>) -> fmt::Result {
         let bytes = self.bytes.escape_ascii();

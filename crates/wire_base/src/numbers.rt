@@ -1,6 +1,7 @@
 //! Numbers on the wire, most significant byte first (AMQP 0-9-1 4.2.5.1; AMQP 1.0 1.6).
 //!
-//! `take_` reads at an offset and answers `None` exactly where fewer bytes than the number needs stand from there;
+//! `take_` reads at an offset and answers `None` exactly where fewer bytes than the number needs
+//! stand from there;
 //! `put_` appends, and leaves the output as it was where it answers `Memory`.
 
 ghost use Rattle.std.specs.Prelude.{◌≡◌, ℕ, ◌+◌, ◌≤◌, List, [], ◌∷◌, ◌++◌, length, OnOk, OnErr};

@@ -1,7 +1,9 @@
-//! Readers over a slice that shrinks: each answers its value and the bytes after it (AMQP 0-9-1 4.2.5).
+//! Readers over a slice that shrinks: each answers its value and the bytes after it (AMQP 0-9-1
+//! 4.2.5).
 //!
-//! A reader takes `end`, the offset at which its bytes end in the whole input, and the bytes that are left.
-//! A fault is the offset of the number or length that is cut off, or of the length that passes the bytes that are left.
+//! A reader takes `end`, the offset at which its bytes end in the whole input, and the bytes that
+//! are left. A fault is the offset of the number or length that is cut off, or of the length that
+//! passes the bytes that are left.
 
 ghost use Rattle.std.specs.Prelude.{◌≡◌, ℕ, ◌-◌, length};
 ghost use Rattle.std.specs.Int.{w8, w16, w32, w64};

@@ -1,5 +1,6 @@
 use Rattle.gate_capture.specs.Captures.{capture}
-use Rattle.gate_capture.proofs.CaptureLaws.{capture_is_read, written_is_capture, one_capture, history_is, forms_are_spelled}
+use Rattle.gate_capture.proofs.CaptureLaws.{capture_is_read, written_is_capture, one_capture}
+use Rattle.gate_capture.proofs.CaptureLaws.{history_is, forms_are_spelled}
 use Rattle.gate_capture.proofs.laws.capture_laws.Goals as goal
 
 pub returns-clause-back : goal.returns-clause-back

@@ -1,5 +1,6 @@
 use Rattle.std.proofs.Common.{is_some, length}
-use Rattle.gate_capture.specs.Replay.{coming, recorded_accept, recorded_connect, recorded_read, recorded_write, is_shut_next, recorded_idle, recorded_now}
+use Rattle.gate_capture.specs.Replay.{coming, recorded_accept, recorded_connect, recorded_read}
+use Rattle.gate_capture.specs.Replay.{recorded_write, is_shut_next, recorded_idle, recorded_now}
 use Rattle.gate_capture.proofs.ReplayLemmas.{answered_keeps, same_log}
 use Rattle.gate_capture.proofs.laws.replay_laws.Goals as goal
 

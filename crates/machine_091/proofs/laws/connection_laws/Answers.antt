@@ -1,7 +1,8 @@
 use Rattle.machine_091.proofs.CallLaws.{limits_hold, channels_hold}
 use Rattle.machine_091.proofs.ContentLaws.{open_contents, none_call}
 use Rattle.machine_091.proofs.Published.{publishes_last}
-use Rattle.machine_091.proofs.StepLaws.{limits_stay, logins_named, refusal_ruled, refusal_closes, none_runs, closed_stays}
+use Rattle.machine_091.proofs.StepLaws.{limits_stay, logins_named, refusal_ruled, refusal_closes}
+use Rattle.machine_091.proofs.StepLaws.{none_runs, closed_stays}
 use Rattle.machine_091.proofs.laws.connection_laws.Goals as goal
 
 pub returns-clause-limits_stay : goal.returns-clause-limits_stay

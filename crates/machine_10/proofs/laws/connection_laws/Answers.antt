@@ -1,5 +1,6 @@
 use Rattle.machine_10.proofs.CallLaws.{ranges}
-use Rattle.machine_10.proofs.StepLaws.{runs_by, goes_on, closing_stays, closed_stays, violation_closes}
+use Rattle.machine_10.proofs.StepLaws.{runs_by, goes_on, closing_stays, closed_stays}
+use Rattle.machine_10.proofs.StepLaws.{violation_closes}
 use Rattle.machine_10.proofs.Within.{within_stays_all}
 use Rattle.machine_10.proofs.laws.connection_laws.Goals as goal
 

@@ -1,5 +1,6 @@
 use Rattle.std.proofs.Common.{List, ℕ, Option, Some, true, ap, ◌∙◌, subst}
-use Rattle.performatives_10.specs.Closing.{frame_of, state_of, settled_by, disposition_text, IsWrittenOver}
+use Rattle.performatives_10.specs.Closing.{frame_of, state_of, settled_by, disposition_text}
+use Rattle.performatives_10.specs.Closing.{IsWrittenOver}
 use Rattle.performatives_10.proofs.Frames.{state_part, settle_is}
 use Rattle.performatives_10.proofs.closing.put_settle.Goals as goal
 

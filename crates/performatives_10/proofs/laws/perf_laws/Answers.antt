@@ -1,5 +1,6 @@
 use Rattle.performatives_10.proofs.PerfLaws.{read_exactly}
-use Rattle.performatives_10.proofs.Written.{perf_back, error_back, state_back, source_back, target_back}
+use Rattle.performatives_10.proofs.Written.{perf_back, error_back, state_back, source_back}
+use Rattle.performatives_10.proofs.Written.{target_back}
 use Rattle.performatives_10.proofs.laws.perf_laws.Goals as goal
 
 pub returns-clause-read : goal.returns-clause-read

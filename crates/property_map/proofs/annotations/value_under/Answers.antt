@@ -5,7 +5,8 @@ use Rattle.types_10.specs.View.{pair_trees}
 use Rattle.property_map.specs.Rows091.{value_under}
 use Rattle.property_map.proofs.Places.{found_at, none_past}
 use Rattle.property_map.proofs.FieldLoops.{under_next, under_at, under_past}
-use Rattle.property_map.proofs.annotations.value_under.Goals.{else-loop-k-test, then-loop-k-test+in_default}
+use Rattle.property_map.proofs.annotations.value_under.Goals.{else-loop-k-test}
+use Rattle.property_map.proofs.annotations.value_under.Goals.{then-loop-k-test+in_default}
 use Rattle.property_map.proofs.annotations.value_under.Goals as goal
 
 pub returns-then-is_symbol : goal.returns-then-is_symbol

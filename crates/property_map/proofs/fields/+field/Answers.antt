@@ -8,8 +8,13 @@ use Rattle.types_10.specs.View.{value_tree, pair_trees}
 use Rattle.property_map.specs.Fields.{field_in, fields_in, kept_of, names_of}
 use Rattle.property_map.proofs.Places.{found_at, none_past}
 use Rattle.property_map.proofs.Steps.{next_at, fail_at}
-use Rattle.property_map.proofs.FieldLoops.{value_holds, pair_holds, all_fields, fields_one, fields_none, fields_over, made, made_skip, made_step, made_stop_named, made_stop, made_end}
-use Rattle.property_map.proofs.fields.+field.Goals.{fields_of-else-loop-k-test, fields_of-then-loop-k-test+in_default, with_pairs-else-loop-k-test, with_pairs-then-loop-k-test+in_default}
+use Rattle.property_map.proofs.FieldLoops.{value_holds, pair_holds, all_fields, fields_one}
+use Rattle.property_map.proofs.FieldLoops.{fields_none, fields_over, made, made_skip, made_step}
+use Rattle.property_map.proofs.FieldLoops.{made_stop_named, made_stop, made_end}
+use Rattle.property_map.proofs.fields.+field.Goals.{fields_of-else-loop-k-test}
+use Rattle.property_map.proofs.fields.+field.Goals.{fields_of-then-loop-k-test+in_default}
+use Rattle.property_map.proofs.fields.+field.Goals.{with_pairs-else-loop-k-test}
+use Rattle.property_map.proofs.fields.+field.Goals.{with_pairs-then-loop-k-test+in_default}
 use Rattle.property_map.proofs.fields.+field.Goals as goal
 
 -- ---- fields

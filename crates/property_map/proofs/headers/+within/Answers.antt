@@ -1,7 +1,8 @@
 use Rattle.std.proofs.Common.{leb, sym, ◌∙◌}
 use Rattle.tables_091.specs.Tree.{list_depth, entries_depth}
 use Rattle.tables_091.specs.View.{field_tree, entry_member}
-use Rattle.property_map.proofs.Places.{found_at, none_past, list_next, list_ends, list_over, table_next, table_ends, table_over}
+use Rattle.property_map.proofs.Places.{found_at, none_past, list_next, list_ends, list_over}
+use Rattle.property_map.proofs.Places.{table_next, table_ends, table_over}
 use Rattle.property_map.proofs.headers.+within.Goals as goal
 
 pub list_is_within-loop-k-preserved : goal.list_is_within-loop-k-preserved

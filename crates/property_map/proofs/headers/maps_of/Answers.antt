@@ -5,8 +5,11 @@ use Rattle.tables_091.specs.View.{entry_member}
 use Rattle.types_10.specs.View.{value_tree}
 use Rattle.property_map.specs.Headers.{headers_in}
 use Rattle.property_map.proofs.Places.{found_at, none_past}
-use Rattle.property_map.proofs.Loops.{application_next, annotation_next, headers_fail_named, headers_fail, headers_over, names_before, names_more}
-use Rattle.property_map.proofs.headers.maps_of.Goals.{then-holds_others+in_ok-push, else-holds_others+in_ok-push-2, else-loop-k-test, then-loop-k-test+in_default}
+use Rattle.property_map.proofs.Loops.{application_next, annotation_next, headers_fail_named}
+use Rattle.property_map.proofs.Loops.{headers_fail, headers_over, names_before, names_more}
+use Rattle.property_map.proofs.headers.maps_of.Goals.{then-holds_others+in_ok-push}
+use Rattle.property_map.proofs.headers.maps_of.Goals.{else-holds_others+in_ok-push-2}
+use Rattle.property_map.proofs.headers.maps_of.Goals.{else-loop-k-test, then-loop-k-test+in_default}
 use Rattle.property_map.proofs.headers.maps_of.Goals as goal
 
 pub returns-in_err-key : goal.returns-in_err-key

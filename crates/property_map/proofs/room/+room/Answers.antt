@@ -5,8 +5,12 @@ use Rattle.tables_091.specs.Tree.{trees_of, members_of}
 use Rattle.tables_091.specs.View.{field_tree, entry_member}
 use Rattle.property_map.specs.Room.{tree_len, trees_len, members_len, left_of}
 use Rattle.property_map.proofs.Places.{found_at, none_past, list_holds, table_holds}
-use Rattle.property_map.proofs.Rooms.{list_left, list_at, list_past, table_left, table_at, table_past, left_next, left_stop, left_over}
-use Rattle.property_map.proofs.room.+room.Goals.{left_of_list-else-loop-k-test, left_of_list-then-loop-k-test+in_default, left_of_entries-else-loop-k-test, left_of_entries-then-loop-k-test+in_default}
+use Rattle.property_map.proofs.Rooms.{list_left, list_at, list_past, table_left, table_at}
+use Rattle.property_map.proofs.Rooms.{table_past, left_next, left_stop, left_over}
+use Rattle.property_map.proofs.room.+room.Goals.{left_of_list-else-loop-k-test}
+use Rattle.property_map.proofs.room.+room.Goals.{left_of_list-then-loop-k-test+in_default}
+use Rattle.property_map.proofs.room.+room.Goals.{left_of_entries-else-loop-k-test}
+use Rattle.property_map.proofs.room.+room.Goals.{left_of_entries-then-loop-k-test+in_default}
 use Rattle.property_map.proofs.room.+room.Goals as goal
 
 -- ---- fields

@@ -8,8 +8,13 @@ use Rattle.types_10.specs.View.{value_tree}
 use Rattle.property_map.specs.Values.{value_in, values_in, pairs_in}
 use Rattle.property_map.proofs.Places.{found_at, none_past, list_holds, table_holds}
 use Rattle.property_map.proofs.Steps.{next_at, fail_at}
-use Rattle.property_map.proofs.Loops.{all_values, values_one, values_none, values_over, pairs_next, pairs_fail_named, pairs_fail, pairs_over, names_before, names_more}
-use Rattle.property_map.proofs.values.+value.Goals.{values_of-else-loop-k-test, values_of-then-loop-k-test+in_default, pairs_of-else-loop-k-test, pairs_of-then-loop-k-test+in_default}
+use Rattle.property_map.proofs.Loops.{all_values, values_one, values_none, values_over, pairs_next}
+use Rattle.property_map.proofs.Loops.{pairs_fail_named, pairs_fail, pairs_over, names_before}
+use Rattle.property_map.proofs.Loops.{names_more}
+use Rattle.property_map.proofs.values.+value.Goals.{values_of-else-loop-k-test}
+use Rattle.property_map.proofs.values.+value.Goals.{values_of-then-loop-k-test+in_default}
+use Rattle.property_map.proofs.values.+value.Goals.{pairs_of-else-loop-k-test}
+use Rattle.property_map.proofs.values.+value.Goals.{pairs_of-then-loop-k-test+in_default}
 use Rattle.property_map.proofs.values.+value.Goals as goal
 
 -- ---- values

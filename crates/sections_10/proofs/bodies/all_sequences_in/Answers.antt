@@ -4,7 +4,8 @@ use Rattle.std.proofs.lemmas.Grind.{common_steps}
 use Rattle.std.proofs.lemmas.Result.{err_from_is_err_and}
 use Rattle.sections_10.specs.Reading.{stands_in, sequences_in}
 use Rattle.sections_10.specs.Rows.{sequence_section}
-use Rattle.sections_10.proofs.Runs.{sequences_next, sequences_stop, sequences_over, sequences_fail_seen}
+use Rattle.sections_10.proofs.Runs.{sequences_next, sequences_stop, sequences_over}
+use Rattle.sections_10.proofs.Runs.{sequences_fail_seen}
 use Rattle.sections_10.proofs.bodies.all_sequences_in.Goals as goal
 
 pub returns-in_err-stands : goal.returns-in_err-stands

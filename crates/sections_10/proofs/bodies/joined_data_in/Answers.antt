@@ -4,7 +4,8 @@ use Rattle.std.proofs.lemmas.Result.{err_from_is_err_and}
 use Rattle.sections_10.specs.Reading.{data_in}
 use Rattle.sections_10.specs.Rows.{data_section}
 use Rattle.sections_10.proofs.Runs.{data_next, data_fails, data_over, data_stops}
-use Rattle.sections_10.proofs.bodies.joined_data_in.Goals.{else-loop-left-test, then-loop-left-test+in_ok-data+in-None}
+use Rattle.sections_10.proofs.bodies.joined_data_in.Goals.{else-loop-left-test}
+use Rattle.sections_10.proofs.bodies.joined_data_in.Goals.{then-loop-left-test+in_ok-data+in-None}
 use Rattle.sections_10.proofs.bodies.joined_data_in.Goals as goal
 
 pub returns-in_err-data : goal.returns-in_err-data

@@ -7,7 +7,8 @@ use Rattle.tables_091.specs.declared.field.Field.{Field}
 use Rattle.tables_091.specs.declared.field.FieldList.TheDeep.{size-Field}
 use Rattle.tables_091.specs.declared.field.FieldList.TheShapes.{weighed-Table-entries-at-2}
 use Rattle.tables_091.specs.Writing.{field_text, entry_text, FieldIsShort, EntryIsShort}
-use Rattle.tables_091.proofs.Lists.{fields_text, entries_text, fields_are_short, entries_are_short, field_fits, entry_fits}
+use Rattle.tables_091.proofs.Lists.{fields_text, entries_text, fields_are_short, entries_are_short}
+use Rattle.tables_091.proofs.Lists.{field_fits, entry_fits}
 use Rattle.tables_091.proofs.writing.+nested.Goals as goal
 
 pub put_fields-put_field-requires : goal.put_fields-put_field-requires

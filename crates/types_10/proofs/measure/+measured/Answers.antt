@@ -3,13 +3,16 @@ use Rattle.std.proofs.lemmas.Grind.{common_steps}
 use denote.Param.Weighed.{at_most}
 use Rattle.types_10.specs.Tree.{described, trees_of, pairs_of}
 use Rattle.types_10.specs.View.{value_tree, pair_trees}
-use Rattle.types_10.specs.Writing.{list_kind, map_kind, array_kind, array_body, written_each, written_pairs}
+use Rattle.types_10.specs.Writing.{list_kind, map_kind, array_kind, array_body, written_each}
+use Rattle.types_10.specs.Writing.{written_pairs}
 use Rattle.types_10.specs.Measures.{capped, IsMeasure}
 use Rattle.types_10.specs.declared.kind.Kind.TheVariants as kind
 use Rattle.types_10.specs.declared.value.Value10.{Value10}
 use Rattle.types_10.specs.declared.value.Inner.TheDeep.{size-Value10}
 use Rattle.types_10.specs.declared.value.Inner.TheShapes.{weighed-PairList-pairs-at-2}
-use Rattle.types_10.proofs.Slices.{each_count, pairs_count, pairs_text, ValueIsWritable, PairIsWritable, values_are_writable, pairs_are_writable, map_sized, array_sized, array_capped}
+use Rattle.types_10.proofs.Slices.{each_count, pairs_count, pairs_text, ValueIsWritable}
+use Rattle.types_10.proofs.Slices.{PairIsWritable, values_are_writable, pairs_are_writable}
+use Rattle.types_10.proofs.Slices.{map_sized, array_sized, array_capped}
 use Rattle.types_10.proofs.measure.+measured.Goals as goal
 
 pub measure_each-measure_value-requires : goal.measure_each-measure_value-requires

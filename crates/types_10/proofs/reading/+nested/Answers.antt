@@ -6,9 +6,12 @@ use Rattle.wire_base.proofs.Items.{times_go_on, times_end, times_done}
 use Rattle.types_10.specs.View.{value_tree}
 use Rattle.types_10.specs.Reading.{value_in, shape_in, element_in}
 use Rattle.types_10.specs.Shapes.{shape_data}
-use Rattle.types_10.proofs.Levels.{contents_more, element_plain, element_none, element_deep, element_more}
-use Rattle.types_10.proofs.Constructors.{descriptor_goes_on, ends_at_code, ends_at_descriptor, done_at_code, ends_without_code}
-use Rattle.types_10.proofs.reading.+nested.Goals.{element_of-then-depth-eq0-via-then-depth-eq0, element_of-then-depth-eq0-via-else-depth-eq0+then-not-is_within}
+use Rattle.types_10.proofs.Levels.{contents_more, element_plain, element_none, element_deep}
+use Rattle.types_10.proofs.Levels.{element_more}
+use Rattle.types_10.proofs.Constructors.{descriptor_goes_on, ends_at_code, ends_at_descriptor}
+use Rattle.types_10.proofs.Constructors.{done_at_code, ends_without_code}
+use Rattle.types_10.proofs.reading.+nested.Goals.{element_of-then-depth-eq0-via-then-depth-eq0}
+use Rattle.types_10.proofs.reading.+nested.Goals.{element_of-then-depth-eq0-via-else-depth-eq0+then-not-is_within}
 use Rattle.types_10.proofs.reading.+nested.Goals as goal
 
 pub values_of-returns-in_err-value : goal.values_of-returns-in_err-value

@@ -13,7 +13,10 @@ use Rattle.types_10.specs.declared.value.Value10.{Value10}
 use Rattle.types_10.specs.declared.value.Inner.TheDeep.{size-Value10}
 use Rattle.types_10.specs.declared.value.Inner.TheShapes.{weighed-PairList-pairs-at-2}
 use Rattle.types_10.proofs.Measures.{text_is}
-use Rattle.types_10.proofs.Slices.{whole_text, content_text, each_count, pairs_count, each_text, pairs_text, contents_text, part_fits, parts_fit, held_under, none_under, ValueIsWritable, PairIsWritable, values_are_writable, pairs_are_writable}
+use Rattle.types_10.proofs.Slices.{whole_text, content_text, each_count, pairs_count, each_text}
+use Rattle.types_10.proofs.Slices.{pairs_text, contents_text, part_fits, parts_fit, held_under}
+use Rattle.types_10.proofs.Slices.{none_under, ValueIsWritable, PairIsWritable, values_are_writable}
+use Rattle.types_10.proofs.Slices.{pairs_are_writable}
 use Rattle.types_10.proofs.writing.+whole.Goals as goal
 
 -- ---- a value that stands alone

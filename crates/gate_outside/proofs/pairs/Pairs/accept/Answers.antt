@@ -1,6 +1,7 @@
 use Rattle.std.proofs.Common.{◌≡◌, length, arith, rules, vec_len}
 use Rattle.gate_outside.specs.declared.ports.End.TheVariants.{Client}
-use Rattle.gate_outside.proofs.OpenEndLemmas.{distinct_push, below_push, below_more, below_free, distinct_fit}
+use Rattle.gate_outside.proofs.OpenEndLemmas.{distinct_push, below_push, below_more, below_free}
+use Rattle.gate_outside.proofs.OpenEndLemmas.{distinct_fit}
 use Rattle.gate_outside.proofs.pairs.Pairs.accept.Goals as goal
 
 pub push_reserved-requires-2 : goal.push_reserved-requires-2

@@ -1,7 +1,8 @@
 use Rattle.std.proofs.Common.{arith}
 use Rattle.gate_outside.proofs.CopyLemmas.{one_more_copy, not_past}
 use Rattle.gate_outside.proofs.pieces.PiecesLeft.new.Goals as goal
-use Rattle.gate_outside.proofs.pieces.PiecesLeft.new.Goals.{in-Some+in_ok-copy_of+in_ok-push, in_default}
+use Rattle.gate_outside.proofs.pieces.PiecesLeft.new.Goals.{in-Some+in_ok-copy_of+in_ok-push}
+use Rattle.gate_outside.proofs.pieces.PiecesLeft.new.Goals.{in_default}
 
 pub loop-k-preserved : goal.loop-k-preserved
 loop-k-preserved c =

@@ -4,7 +4,8 @@ use Rattle.machine_091.specs.Refusals.{taken_by}
 use Rattle.machine_091.specs.Transitions.{Step, ruled_step}
 use Rattle.machine_091.specs.declared.contents.Fed.TheVariants as fed
 use Rattle.machine_091.specs.declared.state.Connection.{Connection}
-use Rattle.machine_091.proofs.ContentSteps.{ruled_is, refused_is, more_is, whole_refused, whole_is, ok_given, err_given}
+use Rattle.machine_091.proofs.ContentSteps.{ruled_is, refused_is, more_is, whole_refused, whole_is}
+use Rattle.machine_091.proofs.ContentSteps.{ok_given, err_given}
 use Rattle.machine_091.proofs.state.Connection.take_content.Goals as goal
 
 pub returns-in-Some-clause-state : goal.returns-in-Some-clause-state
