@@ -5,15 +5,20 @@
     python3 tools/make_mapping_cases.py --check    compares them with those of the crate
 
 The expected lines are worked out here and not by the program: messages are built from values of this script, spelled by its
-own code after AMQP 0-9-1 4.2.5 and AMQP 1.0 1.6 and 3.2, and mapped by its own tables. This is no part of the build.
+own code after AMQP 0-9-1 4.2.5 and AMQP 1.0 1.6 and 3.2, and mapped by its own tables. The messages of client libraries stand
+in tools/captured_messages.txt, as tools/record_messages.py wrote them: their content headers are read by code of this script,
+and put into the input as they came. This is no part of the build.
 """
 
+import re
 import struct
 import sys
 import uuid
 from pathlib import Path
 
-CRATE = Path(__file__).resolve().parent.parent / "crates" / "tests_mapping"
+TOOLS = Path(__file__).resolve().parent
+CRATE = TOOLS.parent / "crates" / "tests_mapping"
+ROOM = 131064
 
 # ---- AMQP 0-9-1: fields are pairs of a type byte and a value; a table is a list of names and fields
 
@@ -64,6 +69,70 @@ def header_091(props, size=0):
             out += {"s": lambda: bytes([len(v)]) + v, "F": lambda: table_091(v), "o": lambda: bytes([v]),
                     "q": lambda: struct.pack(">Q", v)}[kind]()
     return struct.pack(">HHQH", 60, 0, size, flags) + out
+
+
+class Reader:
+    """Reads what stands in bytes, from the front on."""
+
+    def __init__(self, data):
+        self.data, self.at = data, 0
+
+    def take(self, count):
+        self.at += count
+        if self.at > len(self.data):
+            raise ValueError("cut off")
+        return self.data[self.at - count:self.at]
+
+    def number(self, packed):
+        return struct.unpack(">" + packed, self.take(struct.calcsize(">" + packed)))[0]
+
+    def short(self):
+        return self.take(self.number("B"))
+
+    def part(self):
+        return Reader(self.take(self.number("I")))
+
+    def field(self):
+        kind = chr(self.number("B"))
+        if kind in PACKED:
+            return (kind, self.number(PACKED[kind]))
+        if kind == "t":
+            return (kind, int(self.number("B") != 0))
+        if kind == "D":
+            return (kind, (self.number("B"), self.number("I")))
+        if kind in "Sx":
+            return (kind, self.part().data)
+        if kind == "A":
+            return (kind, self.part().all(Reader.field))
+        if kind == "F":
+            return (kind, self.table())
+        if kind == "V":
+            return (kind, None)
+        raise ValueError("no field begins with " + kind)
+
+    def table(self):
+        return self.part().all(lambda inner: (inner.short(), inner.field()))
+
+    def all(self, item):
+        out = []
+        while self.at < len(self.data):
+            out.append(item(self))
+        return out
+
+
+def read_header_091(payload):
+    """The properties that the payload of a content header tells, and the size of the body."""
+    reader = Reader(payload)
+    if reader.number("H") != 60 or reader.number("H") != 0:
+        raise ValueError("another class, or a weight")
+    size, flags, props = reader.number("Q"), reader.number("H"), {}
+    for k, (name, kind, _) in enumerate(PROPERTIES):
+        if flags >> (15 - k) & 1:
+            props[name] = {"s": reader.short, "F": reader.table, "o": lambda: reader.number("B"),
+                           "q": lambda: reader.number("Q")}[kind]()
+    if reader.at != len(payload) or flags & 3:
+        raise ValueError("bytes or flags are left")
+    return props, size
 
 
 def text(s):
@@ -262,7 +331,8 @@ def headers_10(entries):
     return plain, nested
 
 
-def image_10(m):
+def pieces_10(m):
+    """The parts of the image: header, annotations, properties, those of the application, body."""
     p = m["props"]
 
     def maybe(name, make):
@@ -295,8 +365,8 @@ def image_10(m):
                    ((b"exchange", exchange), (b"type", kind), (b"app-id", app), (b"cluster-id", cluster),
                     (b"headers", ("map", nested) if nested else None)) if v]
     application = None if plain is None or (not plain and nested) else plain
-    return message_10(header, annotations or None, [mid, user, None, key, reply, correlation, content_type, encoding, None, time],
-                      application, m["body"])
+    properties = [mid, user, None, key, reply, correlation, content_type, encoding, None, time]
+    return header, annotations or None, properties, application, m["body"]
 
 
 # ---- to AMQP 0-9-1
@@ -420,17 +490,15 @@ def run(b, n):
 
 
 def hexes(data):
-    out, k = "", 0
-    while k < len(data):
-        n = 1
-        while k + n < len(data) and data[k + n] == data[k]:
-            n += 1
-        out += run(data[k], n)
-        k += n
-    return out
+    return "".join(run(same[0][0], len(same[0])) for same in re.finditer(rb"(?s)(.)\1*", data))
 
 
 STDIN, STDOUT = [], []
+
+
+def must(holds, otherwise):
+    if not holds:
+        sys.exit(otherwise)
 
 
 def remark(line):
@@ -438,22 +506,36 @@ def remark(line):
     STDOUT.append("# " + line)
 
 
-def to10(exchange=b"", key=b"k", body=b"", **props):
-    m = {"exchange": exchange, "key": key, "props": {k.replace("_", "-"): v for k, v in props.items()}, "body": body}
-    STDIN.append("to10%s,%s,%s,%s" % (hexes(exchange) or " ", hexes(key) or " ", hexes(header_091(m["props"], len(body))), hexes(body)))
+def case_10(m, header):
+    """A message whose content header is spelled so, its image, and what comes back of that."""
+    exchange, key = hexes(m["exchange"]) or " ", hexes(m["key"]) or " "
+    STDIN.append("to10%s,%s,%s,%s" % (exchange, key, header, hexes(m["body"])))
     try:
-        written = image_10(m)
+        pieces = pieces_10(m)
     except Fault as fault:
         STDOUT.append(str(fault))
         return
-    back = dict(m, props=dict(m["props"]))
-    if "headers" in back["props"]:
-        h = back["props"]["headers"]
-        back["props"]["headers"] = [e for e in h if e[1][0] not in "AF"] + [e for e in h if e[1][0] in "AF"]
-    STDOUT.append("%s | %s" % (hexes(written), "=" if shown(back) == shown(m) else shown(back)))
+    try:
+        back = shown(image_091(b"queue", ROOM, *pieces))
+    except Fault as fault:
+        back = str(fault)
+    STDOUT.append("%s | %s" % (hexes(message_10(*pieces)), "=" if back == shown(m) else back))
 
 
-def to091(header=None, annotations=None, properties=None, application=None, body=b"", sections=None, queue=b"q", room=131064):
+def to10(exchange=b"", key=b"k", body=b"", **props):
+    props = {k.replace("_", "-"): v for k, v in props.items()}
+    m = {"exchange": exchange, "key": key, "props": props, "body": body}
+    case_10(m, hexes(header_091(props, len(body))))
+
+
+def published(exchange, key, header, body):
+    """A message whose content header is told by bytes."""
+    props, size = read_header_091(header)
+    must(size == len(body), "a header tells another size")
+    return {"exchange": exchange, "key": key, "props": props, "body": body}
+
+
+def to091(header=None, annotations=None, properties=None, application=None, body=b"", sections=None, queue=b"q", room=ROOM):
     written = message_10(header, annotations, properties, application, body, sections)
     STDIN.append("to091%s, %d,%s" % (hexes(queue) or " ", room, hexes(written)))
     try:
@@ -706,6 +788,11 @@ def bodies(string, binary):
         to091(body=None, sections=section(0x77, v))
     to091(body=None, sections=section(0x76, ("list", [("int", 1)])) + section(0x76, ("list", [])))
     to091(body=None, sections=section(0x76, ("list", [])), room=13)
+    remark("A body at its edge, in one section and in two")
+    most = b"x" * 16777216
+    to091(body=most)
+    to091(body=most + b"x")
+    to091(body=most + b"x", sections=section(0x75, binary(most)) + section(0x75, binary(b"x")))
 
 
 def peers():
@@ -725,11 +812,75 @@ def peers():
     to091(annotations=[(symbol(b"x-opt-jms-msg-type"), ("byte", 5))], properties=[("uuid", bytes(range(16)))], body=b"x" * 300)
 
 
+def there_and_back(header, body, *sections):
+    """A message that comes back, also from the bytes of its image, which are worked out by hand."""
+    m = published(b"", b"q", bytes.fromhex(header), bytes.fromhex(body))
+    case_10(m, " " + header)
+    written = " ".join(sections)
+    must(STDOUT[-1] == " %s | =" % written, "another image than by hand: " + written)
+    STDIN.append("to091%s, %d, %s" % (hexes(b"queue"), ROOM, written))
+    STDOUT.append(shown(m))
+
+
+def by_hand():
+    remark("Worked out by hand: three faults")
+    reserved = [(b"x-opt-091-type", ("S", b"x"))]
+    for fault, props in (("Expiration", {"expiration": b"0042"}),
+                         ("Time(Timestamp)", {"timestamp": 2 ** 63}),
+                         ('Reserved("x-opt-091-type")', {"headers": reserved})):
+        to10(**props)
+        must(STDOUT[-1] == fault, "another fault than by hand: " + fault)
+    remark("A header that holds others, without properties of the application")
+    with_headers = "00 3C" + " 00" * 10 + " 20 00 "
+    subject, no_body = "00 53 73 C0 07 04 40 40 40 A1 01 71", "00 53 75 A0 00"
+    there_and_back(with_headers + "00 00 00 1A 09 74 69 6D 65 6C 69 6D 69 74 41 00 00 00 0B "
+                   "49 00 00 00 01 53 00 00 00 01 78", "",
+                   "00 53 72 C1 2A 02 A3 11 78 2D 6F 70 74 2D 30 39 31 2D 68 65 61 64 65 72 73 "
+                   "C1 14 02 A1 09 74 69 6D 65 6C 69 6D 69 74 C0 06 02 54 01 A1 01 78",
+                   subject, no_body)
+    remark("A content with several properties")
+    there_and_back("00 3C 00 00 00 00 00 00 00 00 00 02 99 C0 0A 74 65 78 74 2F 70 6C 61 69 6E "
+                   "02 05 05 36 30 30 30 30 02 6D 31 00 00 00 00 65 53 F1 00", "68 69",
+                   "00 53 70 C0 09 03 41 50 05 70 00 00 EA 60",
+                   "00 53 73 C0 23 0A A1 02 6D 31 40 40 A1 01 71 40 40 A3 0A 74 65 78 74 2F 70 6C "
+                   "61 69 6E 40 40 83 00 00 01 8B CF E5 68 00",
+                   "00 53 75 A0 02 68 69")
+    remark("Headers with one field, and with none")
+    there_and_back(with_headers + "00 00 00 07 01 6E 49 00 00 00 05", "",
+                   subject, "00 53 74 C1 06 02 A1 01 6E 54 05", no_body)
+    there_and_back(with_headers + "00 00 00 00", "", subject, "00 53 74 C1 01 00", no_body)
+
+
+LIBRARIES = {"pika": "pika", "amqp-client": "RabbitMQ's library for Java, amqp-client",
+             "amqp091-go": "amqp091-go"}
+
+
+def captured():
+    """Messages of client libraries: each comes back, and its headers as a map."""
+    last = None
+    for line in (TOOLS / "captured_messages.txt").read_text().splitlines():
+        client, *parts = line.split(" ")
+        if client != last:
+            name, _, version = client.rpartition("-")
+            remark("Captured from %s %s" % (LIBRARIES[name], version))
+            last = client
+        exchange, key, header, body = (bytes.fromhex(part.strip("-")) for part in parts)
+        m = published(exchange, key, header, body)
+        case_10(m, hexes(header))
+        back = image_091(b"queue", ROOM, *pieces_10(m))
+        for one in (m, back):
+            if "headers" in one["props"]:
+                one["props"]["headers"] = dict(one["props"]["headers"])
+        must(back == m, "it doesn't come back: " + line)
+
+
 def main():
     remark("Written by tools/make_mapping_cases.py")
     towards_10()
     towards_091()
     peers()
+    by_hand()
+    captured()
     wanted = {"stdin": "\n".join(STDIN) + "\n", "stdout": "\n".join(STDOUT) + "\n"}
     if "--check" in sys.argv[1:]:
         differ = [name for name, lines in wanted.items() if (CRATE / name).read_text() != lines]

@@ -11,16 +11,20 @@ It starts the program on free ports of 127.0.0.1, ends each by its process id, a
   after another, alone and beside 255 idle ones, and of clients with a rest of 20 ms before each;
 - writes: the system's calls that a client's opening in one piece takes, to the client and to the container;
 - descriptors: what 100 clients get from a gateway with 50 descriptors, and what those that waited get after others have left:
-  of clients that only send the header, and of those that open their connections;
+  of clients that only send the header, and of those that open their connections; and what 10 clients get from one whose limit
+  falls to 8 after its start, and once it is raised again;
+- bursts: the time that each of many heartbeats takes which a client sends in one stream, up to the answer to the channel.flow behind
+  them, as the median of the bursts of 5 seconds; and how late heartbeats come meanwhile to 250 other clients, which have one due each
+  half second;
 - output: whether a standard output that nobody reads stalls clients, and that its lines come once it is read;
 - ends: what is reported of a client that resets its connection, what one gets that sent much more than was read before it was
   refused, and what is told where no container listens;
 - addresses: what is told of addresses that can't be used.
 
-No container is needed: where connections are opened, the script starts one of its own, which logs every client in, answers its open
-and its close, and does no more. System calls are counted by `perf` (raw_syscalls:sys_enter) and shown by `strace`, so it is run
-as root. Nothing is asserted, and this is no part of the build. `--nice N` runs both sides at that priority, for a machine with
-other work.
+No container is needed: where connections are opened, the script starts one of its own, which logs every client in, answers its open,
+its close and a begin on channel 1, and does no more. System calls are counted by `perf` (raw_syscalls:sys_enter) and shown by
+`strace`, so it is run as root. Nothing is asserted, and this is no part of the build. `--nice N` runs both sides at that priority, for
+a machine with other work.
 """
 
 import argparse
@@ -28,6 +32,7 @@ import os
 import re
 import resource
 import select
+import selectors
 import shutil
 import socket
 import struct
@@ -42,9 +47,9 @@ START = 153
 IDLE_SECONDS = 5
 
 
-def method(class_id, method_id, arguments):
+def method(class_id, method_id, arguments, channel=0):
     payload = struct.pack(">HH", class_id, method_id) + arguments
-    return struct.pack(">BHI", 1, 0, len(payload)) + payload + b"\xce"
+    return struct.pack(">BHI", 1, channel, len(payload)) + payload + b"\xce"
 
 
 def short(text):
@@ -55,14 +60,24 @@ def long(text):
     return struct.pack(">I", len(text)) + text
 
 
-OPENING = (
-    HEADER
-    + method(10, 11, long(b"") + short(b"PLAIN") + long(b"\0guest\0guest") + short(b"en_US"))
-    + method(10, 31, struct.pack(">HIH", 255, 131072, 0))
-    + method(10, 40, short(b"/") + short(b"") + b"\0")
-)
+def opening(interval):
+    """All that a client sends to open its connection, with an interval of heartbeats in seconds."""
+    return (
+        HEADER
+        + method(10, 11, long(b"") + short(b"PLAIN") + long(b"\0guest\0guest") + short(b"en_US"))
+        + method(10, 31, struct.pack(">HIH", 255, 131072, interval))
+        + method(10, 40, short(b"/") + short(b"") + b"\0")
+    )
+
+
+OPENING = opening(0)
 TUNE = 20
 OPEN_OK = method(10, 41, short(b""))
+HEARTBEAT = struct.pack(">BHI", 8, 0, 0) + b"\xce"
+CHANNEL_OPEN = method(20, 10, short(b""), 1)
+CHANNEL_OPEN_OK = method(20, 11, long(b""), 1)
+FLOW = method(20, 20, b"\1", 1)
+FLOW_OK = method(20, 21, b"\1", 1)
 
 
 def frame10(kind, body):
@@ -71,10 +86,11 @@ def frame10(kind, body):
 
 SASL = b"AMQP\x03\x01\x00\x00"
 AMQP = b"AMQP\x00\x01\x00\x00"
-# What the container says to a frame, by the code of its performative: sasl-init, open, close.
+# What the container says to a frame, by the code of its performative: sasl-init, open, begin of a session on channel 1, close.
 ANSWERS = {
     0x41: frame10(1, bytes.fromhex("00 53 44 C0 03 01 50 00")),
     0x10: frame10(0, bytes.fromhex("00 53 10 C0 07 01 A1 04") + b"peer"),
+    0x11: frame10(0, bytes.fromhex("00 53 11 C0 0F 04 60 00 01 43 70 00 00 08 00 70 00 00 08 00")),
     0x18: frame10(0, bytes.fromhex("00 53 18 45")),
 }
 MECHANISMS = frame10(1, bytes.fromhex("00 53 40 C0 08 01 A3 05") + b"PLAIN")
@@ -202,10 +218,10 @@ class Gateway:
         stream.close()
         return None
 
-    def opened(self):
+    def opened(self, interval=0):
         """A client whose connection is open on both sides, or None."""
         stream = self.client()
-        stream.sendall(OPENING)
+        stream.sendall(opening(interval))
         if met(stream) == "open":
             return stream
         stream.close()
@@ -386,6 +402,128 @@ def few_descriptors(program):
         print(f"    after {len(leaving)} of them left: {len(later)} of those that waited got it; {len(told)} lines told")
 
 
+def falling_limit(program, count=10):
+    """A gateway that has room for all, and whose limit of descriptors is then below what they need."""
+    with Gateway(program, descriptors=512) as gateway:
+        limit = lambda soft: resource.prlimit(gateway.process.pid, resource.RLIMIT_NOFILE, (soft, 512))
+        limit(8)
+        clients = [gateway.client() for _ in range(count)]
+        for stream in clients:
+            stream.sendall(HEADER)
+        waiting = clients
+        for title in (f"a limit of descriptors that fell to 8, {count} clients", "    after it was raised to 512 again"):
+            time.sleep(1)
+            ready = select.select(waiting, [], [], 0)[0]
+            served = [stream for stream in ready if got_start(stream)]
+            waiting = [stream for stream in waiting if stream not in ready]
+            print(f"{title}: {len(served)} got connection.start, {len(waiting)} wait; told {gateway.told()}")
+            limit(512)
+        print(f"    the service {'goes on' if gateway.process.poll() is None else 'has ended'}")
+
+
+class Watched:
+    """Clients with an interval of one second, watched by a thread for how late their heartbeats come.
+
+    The gateway sends one half a second after the byte that it sent last. What a heartbeat comes later after the one before it is
+    its delay. Each is answered by one.
+    """
+
+    def __init__(self, gateway, count):
+        self.streams = [stream for stream in (gateway.opened(1) for _ in range(count)) if stream]
+        self.last = {}
+        self.delays = []
+        self.lost = 0
+        self.over = threading.Event()
+        self.thread = threading.Thread(target=self.watch)
+
+    def __enter__(self):
+        self.thread.start()
+        time.sleep(2)
+        return self
+
+    def __exit__(self, *_):
+        self.over.set()
+        self.thread.join()
+        for stream in self.streams:
+            stream.close()
+
+    def watch(self):
+        selector = selectors.DefaultSelector()
+        for stream in self.streams:
+            selector.register(stream, selectors.EVENT_READ)
+        while not self.over.is_set():
+            for key, _ in selector.select(0.05):
+                if not self.note(key.fileobj):
+                    selector.unregister(key.fileobj)
+                    self.lost += 1
+
+    def note(self, stream):
+        """Takes what came, and answers it; whether the client is still connected."""
+        now = time.monotonic()
+        try:
+            came = stream.recv(4096)
+        except OSError:
+            return False
+        if not came:
+            return False
+        if stream in self.last:
+            self.delays.append(now - self.last[stream] - 0.5)
+        self.last[stream] = now
+        send_all(stream, HEARTBEAT)
+        return True
+
+    def told(self):
+        """What came since this was asked last."""
+        found, self.delays = sorted(self.delays), []
+        if not found:
+            return "no heartbeat came"
+        at = lambda part: found[min(int(len(found) * part), len(found) - 1)] * 1e3
+        lost = f", {self.lost} clients lost" if self.lost else ""
+        return f"{len(found)} heartbeats late by {at(0.5):.1f} ms, 99 of 100 within {at(0.99):.1f}, all within {at(1):.1f}{lost}"
+
+
+def burst(stream, data):
+    """The time from the first byte of a burst to the answer to the channel.flow behind it; None where none comes."""
+    begun = time.perf_counter()
+    try:
+        stream.sendall(data)
+        got = receive(stream, len(FLOW_OK))
+    except OSError:
+        return None
+    return time.perf_counter() - begun if got == FLOW_OK else None
+
+
+def bursts(program, others=250, seconds=5):
+    with Peer("contain") as container, Gateway(program, container=container) as gateway, Watched(gateway, others) as watched:
+        stream = gateway.opened()
+        stream.settimeout(60)
+        stream.sendall(CHANNEL_OPEN)
+        if receive(stream, len(CHANNEL_OPEN_OK)) != CHANNEL_OPEN_OK:
+            raise SystemExit("no channel was opened")
+        watched.told()
+        time.sleep(seconds)
+        print(f"{len(watched.streams)} clients, and none that sends more: {watched.told()}")
+        alone = 0.0
+        for count, times in ((0, 101), (1_000, 101), (10_000, 31), (100_000, 11), (1_000_000, 3)):
+            data = HEARTBEAT * count + FLOW
+            until = time.monotonic() + seconds
+            took = []
+            while len(took) < times or time.monotonic() < until:
+                took.append(burst(stream, data))
+                if took[-1] is None:
+                    print(f"{count:,} heartbeats in one stream: no answer")
+                    return
+            median = sorted(took)[len(took) // 2]
+            if count:
+                each = (median - alone) / count * 1e6
+                print(f"{count:,} heartbeats in one stream, {len(took)} times: {median * 1e3:.2f} ms, {each:.3f} us a frame")
+            else:
+                alone = median
+                print(f"a channel.flow alone, {len(took)} times: {median * 1e6:.0f} us")
+            print(f"    meanwhile of the others {watched.told()}")
+        stream.close()
+
+
 def unread_output(program, clients=6000):
     """More report lines than a pipe holds, and a reader that comes late."""
     reader, writer = os.pipe()
@@ -479,7 +617,8 @@ MEASURES = {
     "idle": [all_idle],
     "latency": [latencies],
     "writes": [writes],
-    "descriptors": [few_descriptors, opened_with_few_descriptors],
+    "descriptors": [few_descriptors, opened_with_few_descriptors, falling_limit],
+    "bursts": [bursts],
     "output": [unread_output],
     "ends": [reset, refused_late, without_container],
     "addresses": [addresses],

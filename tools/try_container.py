@@ -22,13 +22,16 @@ gateway's status, and whether a replay of the capture is the same. Nothing is as
 |---|---|---|
 | `pika` | pika | python3-pika |
 | `amqp` | py-amqp | python3-amqp |
+| `kombu` | kombu | python3-kombu |
+| `aio-pika` | aio-pika | python3-aio-pika |
+| `c` | rabbitmq-c | librabbitmq-dev, gcc |
 | `go` | amqp091-go | golang-go, golang-github-rabbitmq-amqp091-go-dev |
 | `php` | php-amqplib | php-cli, php-amqplib |
 | `bunny` | Bunny | ruby-bunny |
 | `java` | RabbitMQ's library for Java | librabbitmq-client-java, libslf4j-java, and a JDK |
 
-One that isn't installed is left out, and a line says so; the two for Python are looked for in the Python that runs this. The others
-are the programs of tools/clients. Each program is ended by its process id.
+One that isn't installed is left out, and a line says so; the four for Python are looked for in the Python that runs this. All but
+`pika`, `amqp` and `kombu` are the programs of tools/clients. Each program is ended by its process id.
 """
 
 import argparse
@@ -182,6 +185,42 @@ class AmqpClient:
         self.connection.transport.sock.close()
 
 
+class KombuClient(AmqpClient):
+    """A connection by kombu, which stands on py-amqp."""
+
+    def __init__(self, port, heartbeat, vhost="/", password="guest"):
+        import kombu
+
+        self.channels = []
+        self.outer = kombu.Connection(
+            hostname="127.0.0.1",
+            port=port,
+            userid="guest",
+            password=password,
+            virtual_host=vhost,
+            heartbeat=heartbeat,
+            connect_timeout=20,
+            transport="pyamqp",
+        )
+        self.connection = self.outer.connect()
+
+    def open_channel(self):
+        self.channels.append(self.outer.channel())
+
+    def hold(self, seconds):
+        until = time.monotonic() + seconds
+        while time.monotonic() < until:
+            try:
+                self.outer.drain_events(timeout=0.2)
+            except socket.timeout:
+                pass
+            if self.connection.heartbeat:
+                self.outer.heartbeat_check()
+
+    def close(self):
+        self.outer.close()
+
+
 class Met(Exception):
     """What a program of tools/clients met."""
 
@@ -254,7 +293,13 @@ def command_of(name, folder):
     """The command of a program of tools/clients; None where it can't run."""
     if name == "go":
         return build_go(folder)
-    if name == "php":
+    if name == "aio-pika":
+        program = [sys.executable, os.path.join(CLIENTS, "client_aio_pika.py")]
+        probe, command = [sys.executable, "-c", "import aio_pika"], program
+    elif name == "c":
+        built = os.path.join(folder, "client-c")
+        probe, command = ["gcc", "-o", built, os.path.join(CLIENTS, "client.c"), "-lrabbitmq"], [built]
+    elif name == "php":
         probe, command = ["php", "-r", 'require "PhpAmqpLib/autoload.php";'], ["php", os.path.join(CLIENTS, "client.php")]
     elif name == "bunny":
         probe, command = ["ruby", "-e", 'require "bunny"'], ["ruby", os.path.join(CLIENTS, "client.rb")]
@@ -266,9 +311,9 @@ def command_of(name, folder):
 
 def kind_of(name, folder):
     """What opens a connection by a client; None where the client isn't installed."""
-    if name in ("pika", "amqp"):
-        found = importlib.util.find_spec(name) is not None
-        return (PikaClient if name == "pika" else AmqpClient) if found else None
+    kind = {"pika": PikaClient, "amqp": AmqpClient, "kombu": KombuClient}.get(name)
+    if kind:
+        return kind if importlib.util.find_spec(name) else None
     command = command_of(name, folder)
     return command and (lambda port, heartbeat, **options: ProgramClient(command, port, heartbeat, **options))
 
@@ -376,7 +421,7 @@ def main():
     parser.add_argument("--container")
     parser.add_argument("--upstream")
     parser.add_argument("--gateway", default=BUILT)
-    parser.add_argument("--client", default="pika,amqp,go,php,bunny,java")
+    parser.add_argument("--client", default="pika,amqp,kombu,aio-pika,c,go,php,bunny,java")
     parser.add_argument("--channels", type=int, default=3)
     parser.add_argument("--hold", type=float, default=3)
     parser.add_argument("--heartbeat", type=int, default=0)

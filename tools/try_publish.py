@@ -10,7 +10,7 @@ asks for confirms, and publishes COUNT messages of each size to each routing key
 with the time that it took, and in the end the processor time of the gateway, and of each key how many messages the container
 says that it took (lines `took KEY BYTES ..`). Nothing is asserted, and this is no part of the build.
 
-The clients are those of tools/try_container.py: `pika`, `amqp`, `go`, `php`, `bunny` and `java`. One that isn't installed is
+The clients are six of tools/try_container.py: `pika`, `amqp`, `go`, `php`, `bunny` and `java`. One that isn't installed is
 left out, and a line says so. Each program is ended by its process id.
 """
 
