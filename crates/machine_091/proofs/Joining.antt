@@ -87,7 +87,7 @@ starts_as h a s e = by (eqb h.size 0) refl s e
     by false z step.More e = (grind (arith, nat_tests, z), ap (λ (x : Assembly × Step). x.0.stage) (sym e))
     by false z (step.Whole d) e = absurd (cc (ap (λ (x : Assembly × Step). x.1) e))
 
-header_joins : (payload : List ℕ) (st : Stage) (a : Assembly) (s : Step) → with_header payload st ≡ Ok (a, s) → IsBytes payload → Joins a payload [] s
+pub header_joins : (payload : List ℕ) (st : Stage) (a : Assembly) (s : Step) → with_header payload st ≡ Ok (a, s) → IsBytes payload → Joins a payload [] s
 header_joins payload st a s e fits =
     let h = header_made payload st (a, s) e in
     started_by (header_of h.parts) a payload s (header_spelled payload h.parts fits h.read_as) h.few (starts_as (header_of h.parts) a s h.made)
@@ -95,10 +95,10 @@ header_joins payload st a s e fits =
 -- ---- a body frame that was taken
 
 -- a header came, and the payload adds to the content
-record IsBodyTaken (payload : List ℕ) (st : Stage) (a : Assembly) (s : Step) : Type 0 where
-  partial : Partial
-  there : st ≡ stage.Taking partial
-  adds : Adds partial payload a s
+pub record IsBodyTaken (payload : List ℕ) (st : Stage) (a : Assembly) (s : Step) : Type 0 where
+  pub partial : Partial
+  pub there : st ≡ stage.Taking partial
+  pub adds : Adds partial payload a s
 
 adds_as : (payload : List ℕ) (p : Partial) (a : Assembly) (s : Step) → grown payload p ≡ Ok (a, s) → Adds p payload a s
 adds_as payload p a s e = by (nat_lt p.left (length payload)) (eqb (length payload) p.left) refl refl s e
@@ -121,7 +121,7 @@ adds_as payload p a s e = by (nat_lt p.left (length payload)) (eqb (length paylo
         (grind (arith, nat_tests, m, l), ap (λ (x : Assembly × Step). x.0.stage) (sym same))
     by false false m l (step.Whole d) e = absurd (cc (ap (λ (x : Assembly × Step). x.1) (taken_is _ (a, step.Whole d) e)))
 
-body_made : (payload : List ℕ) (st : Stage) (a : Assembly) (s : Step) → with_body payload st ≡ Ok (a, s) → IsBodyTaken payload st a s
+pub body_made : (payload : List ℕ) (st : Stage) (a : Assembly) (s : Step) → with_body payload st ≡ Ok (a, s) → IsBodyTaken payload st a s
 body_made payload stage.Begun a s e = absurd cc
 body_made payload (stage.Taking p) a s e = record { partial = p; there = refl; adds = adds_as payload p a s e }
 body_made payload stage.Whole a s e = absurd cc

@@ -11,3 +11,4 @@ pub mod Spelled
 pub mod StepCases
 pub mod StepLaws
 pub mod Taking
+pub mod Writable

@@ -14,3 +14,4 @@ pub mod RefusalsRunning
 pub mod State
 pub mod Transitions
 pub mod Words
+pub mod Writable

@@ -7,6 +7,7 @@ ghost use Rattle.machine_091.specs.Limits.{AreWithin};
 ghost use Rattle.machine_091.specs.State.{new_connection, awaits, is_opening, is_closing, is_over};
 ghost use Rattle.machine_091.specs.State.{is_open};
 ghost use Rattle.machine_091.specs.Transitions.{unit_step};
+ghost use Rattle.machine_091.specs.Writable.{CanPutBack};
 
 use crate::state::{Awaited91, Connection, Phase91, Stream91};
 use crate::unit::{Unit91, Want91};
@@ -24,6 +25,7 @@ pub struct Conn91 {
 impl Model for Conn91 {
     ghost use Rattle.machine_091.specs.declared.state.Connection.{Connection};
     ghost use Rattle.machine_091.specs.Limits.{AreWithin};
+    ghost use Rattle.machine_091.specs.Writable.{CanPutContents};
 
     ghost Value = { Connection };
 
@@ -34,7 +36,7 @@ impl Model for Conn91 {
 
     ghost view = { λ c. c.state };
 
-    ghost invariant = { λ c. AreWithin c.state.limits };
+    ghost invariant = { λ c. AreWithin c.state.limits × CanPutContents c.state };
 }
 
 impl Conn91 {
@@ -57,8 +59,11 @@ impl Conn91 {
     pub fn take(&mut self, alloc: Global, unit: Unit91) -> Result<Want91, Memory>
         ensures state { OnOk result (self.new ≡ (unit_step self.old unit).0) }
         ensures want { IfOk result (λ want. want ≡ (unit_step self.old unit).1) }
+        // What a publish hands out can be written again, as a basic.return does.
+        ensures put { IfOk result CanPutBack }
         ensures err { OnErr result (self.new ≡ self.old) }
     {
+        unit.tell_bytes();
         self.state.take(alloc, &unit)
     }
 

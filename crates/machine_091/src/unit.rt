@@ -1,5 +1,8 @@
 //! The units of a client, what they want, and why one is refused.
 
+ghost use Rattle.wire_base.specs.Bytes.{IsBytes};
+ghost use Rattle.machine_091.specs.Writable.{AreBytes};
+
 use close_translate::Scope;
 use content_091::Content;
 use frames_091::Frame91;
@@ -15,6 +18,23 @@ pub enum Unit91 {
     /// Bytes with which no unit begins, and the reply code that they get: the stream ends there.
     /// Where the protocol header is awaited they are those of no header, which has no code.
     Bad(u16),
+}
+
+/// Tells proofs that the items of a slice are bytes.
+fn tell_slice(bytes: &[u8])
+    ensures { IsBytes bytes.now }
+{}
+
+impl Unit91 {
+    /// Tells proofs that the payload of a frame is bytes. The call does nothing.
+    pub(crate) fn tell_bytes(&self)
+        ensures { AreBytes self.now }
+    {
+        match self {
+            Unit91::Protocol | Unit91::Bad(_) => {}
+            Unit91::Frame(frame) => tell_slice(frame.payload.as_slice()),
+        }
+    }
 }
 
 /// Why a unit is refused, in the terms of the close that follows (AMQP 0-9-1 1.4.2.9).
