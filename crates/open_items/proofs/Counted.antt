@@ -1,6 +1,7 @@
 -- A search and a count over a list of items are those over their numbers.
 use Rattle.std.proofs.Common.{◌≡◌, ◌∙◌, ℕ, zero, suc, ◌+◌, ◌≤◌, ◌<◌, List, [], ◌∷◌, Bool, true}
 use Rattle.std.proofs.Common.{false, refl, sym, ap, subst, arith, cond, map, inl, inr, length, Some}
+use Rattle.std.proofs.Common.{None}
 use Rattle.std.specs.Prelude.{filter, find, count_by, ◌⊎◌}
 use Rattle.std.specs.List.{AllByRecursion}
 use Rattle.std.specs.Option.{option_map}
@@ -125,3 +126,19 @@ least_is t n k e =
     let above : 0 < k = r.0 in
     let within : k ≤ 0 + n = r.1 in
     (omega arith, omega arith, r.2, λ j pos under. r.3 j (omega arith) under)
+
+-- where there is none, none passes
+pub least_none : (t : ℕ → Bool) (n : ℕ) → least t n ≡ None → (k : ℕ) → 1 ≤ k → k ≤ n → t k ≡ false
+least_none t n e k pos le = none_above t 0 n e k (omega arith) (omega arith)
+  where
+    none_above : (t : ℕ → Bool) (low m : ℕ) → first (passing_above t low m) ≡ None → (k : ℕ) → low < k → k ≤ low + m → t k ≡ false
+    none_above t low zero e k above le = absurd (omega arith)
+    none_above t low (suc m) e k above le = by (t (low + 1)) refl e (none_above t (low + 1) m)
+      where
+        by : (b : Bool) → t (low + 1) ≡ b → first (cond b ((low + 1) ∷ passing_above t (low + 1) m) (passing_above t (low + 1) m)) ≡ None
+            → (first (passing_above t (low + 1) m) ≡ None → (k : ℕ) → low + 1 < k → k ≤ (low + 1) + m → t k ≡ false) → t k ≡ false
+        by true is e rec = absurd (cc)
+        by false is e rec = elim (cases_eq k (low + 1)) [
+          | inl here ↦ subst (λ i. t i ≡ false) (sym here) is
+          | inr other ↦ rec e k (omega arith) (omega arith)
+        ]

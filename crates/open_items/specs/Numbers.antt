@@ -1,6 +1,6 @@
 -- The numbers that pass a test.
 use Rattle.std.specs.Prelude.{ℕ, zero, suc, ◌+◌, Bool, cond, List, [], ◌∷◌, length, Option, Some}
-use Rattle.std.specs.Prelude.{None}
+use Rattle.std.specs.Prelude.{None, true, false}
 
 -- of the m numbers above low
 abbrev pub passing_above : (ℕ → Bool) → ℕ → ℕ → List ℕ
@@ -16,6 +16,10 @@ passing passes n = passing_above passes 0 n
 abbrev pub first : {A : Type 0} → List A → Option A
 first [] = None
 first (x ∷ xs) = Some x
+
+abbrev pub has_any : {A : Type 0} → List A → Bool
+has_any [] = false
+has_any (x ∷ xs) = true
 
 -- the least of the numbers from 1 to n that passes
 abbrev pub least : (ℕ → Bool) → ℕ → Option ℕ

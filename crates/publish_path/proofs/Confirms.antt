@@ -1,84 +1,50 @@
 -- The confirm that is offered is lawful, and one is offered wherever one is owed.
-use Rattle.std.proofs.Common.{◌≡◌, ◌∙◌, ℕ, ◌+◌, ◌≤◌, ◌<◌, List, [], ◌∷◌, ◌++◌, Bool, true, false}
-use Rattle.std.proofs.Common.{refl, sym, ap, subst, arith, Option, Some, None, cond, inl, inr, map}
+use Rattle.std.proofs.Common.{◌≡◌, ◌∙◌, ℕ, ◌≤◌, ◌<◌, List, [], ◌∷◌, Bool, true, false}
+use Rattle.std.proofs.Common.{refl, sym, ap, subst, arith, Option, Some, None, cond, inl, inr, map, length}
 use Rattle.std.specs.Prelude.{not, ◌&&◌, ◌||◌, ◌==◌, find, filter, ◌⊎◌, nat_le, is_some, IfSome}
-use Rattle.std.specs.Prelude.{take_while}
+use Rattle.std.specs.Prelude.{take_while, nat_lt}
+use Rattle.open_items.specs.Numbers.{has_any}
 use Rattle.std.specs.Option.{option_map}
 use Rattle.std.specs.List.{AllByRecursion}
 use Rattle.std.proofs.lemmas.Grind.{common_steps}
 use Rattle.std.proofs.lemmas.Bool.Decides.{nat_tests}
 use Rattle.open_items.proofs.Filtered.{all_filter, all_both}
-use Rattle.open_items.proofs.Numbered.{Rising, Has, all_has, rising_weaker}
+use Rattle.open_items.proofs.Numbered.{Rising, Has, all_has, has_above, rising_weaker}
 use Rattle.publish_path.specs.declared.publish.Publish.{Publish}
 use Rattle.publish_path.specs.declared.publish.Confirm.{Confirm}
 use Rattle.publish_path.specs.declared.publish.Answer.{Answer}
 use Rattle.publish_path.specs.declared.publish.Answer.TheVariants.{Open, Owed, Settled}
 use Rattle.publish_path.specs.Publishes.{PublishEvent, TakenUp, FrameSent, OutcomeCame, LinkGone}
-use Rattle.publish_path.specs.Publishes.{ConfirmSent, LinesTold, after_events, next_number, told}
+use Rattle.publish_path.specs.Publishes.{ConfirmSent, LinesTold, after_events, told}
 use Rattle.publish_path.specs.Publishes.{link_lost, confirmed, reported, is_open, is_settled}
-use Rattle.publish_path.specs.Publishes.{covers}
+use Rattle.publish_path.specs.Publishes.{covers, ReturnSent, returned, has_no_outcome}
 use Rattle.publish_path.specs.Offers.{is_owed, is_ack, gives, is_unanswered, number_or, alone}
-use Rattle.publish_path.specs.Offers.{run_of, confirm_of, next_confirm_of}
-use Rattle.publish_path.specs.Journal.{Fate, fate_of, is_to_go, is_done, is_to_come}
-use Rattle.publish_path.specs.Laws.{IsUnanswered, IsLawfulConfirm}
+use Rattle.publish_path.specs.Offers.{run_of, confirm_of, next_confirm_of, is_ready, readies}
+use Rattle.publish_path.specs.Journal.{Fate, fate_of, is_done, is_to_return}
+use Rattle.publish_path.specs.Laws.{IsUnanswered, IsLawfulConfirm, IsReturned, AreReturned}
 use Rattle.publish_path.specs.Searches.{run_from}
+use Rattle.publish_path.specs.Kept.{number_of, Above, Climbs}
+use Rattle.publish_path.proofs.Ordered.{rising_filter, climbs_map, climbs_filter, climbs_push}
 use Rattle.publish_path.proofs.Steps.{run_is}
-use Rattle.publish_path.proofs.Matching.{AnswerIs, settled_test}
-use Rattle.publish_path.proofs.Keeping.{number_of, follows, Stands, stand}
+use Rattle.publish_path.proofs.Matching.{AnswerIs, settled_test, return_test}
+use Rattle.publish_path.proofs.Keeping.{follows, Stands, stand, to_do_comes}
+use Rattle.publish_path.proofs.Returns.{most}
 
 -- the confirm numbers rise
 
 abbrev confirm_number : Publish → ℕ
 confirm_number p = number_or 0 p.confirm
 
-abbrev Above : ℕ → Option ℕ → Type 0
-Above low None = Unit {0}
-Above low (Some k) = low < k
-
--- they rise from above low, and the greatest is at most high
-abbrev Climbs : ℕ → ℕ → List Publish → Type 0
-Climbs low high [] = low ≤ high
-Climbs low high (p ∷ ps) = Above low p.confirm × Climbs (number_or low p.confirm) high ps
-
-climbs_le : (low high : ℕ) (ps : List Publish) → Climbs low high ps → low ≤ high
-climbs_le low high [] c = c
-climbs_le low high (p ∷ ps) c = by p.confirm c.0 (climbs_le (number_or low p.confirm) high ps c.1)
-  where
-    by : (k : Option ℕ) → Above low k → number_or low k ≤ high → low ≤ high
-    by None a le = le
-    by (Some k) a le = omega arith
-
-climbs_lower : (low lower high : ℕ) (ps : List Publish) → lower ≤ low → Climbs low high ps → Climbs lower high ps
-climbs_lower low lower high [] le c = omega arith
-climbs_lower low lower high (p ∷ ps) le c = by p.confirm c.0 c.1 (λ d. climbs_lower low lower high ps le d)
-  where
-    by : (k : Option ℕ) → Above low k → Climbs (number_or low k) high ps → (Climbs low high ps → Climbs lower high ps) → Above lower k × Climbs (number_or lower k) high ps
-    by None a c rec = (tt, rec c)
-    by (Some k) a c rec = (omega arith, c)
-
 climbs_each : (f : Publish → Publish) → ((p : Publish) → (f p).confirm ≡ p.confirm) → (low high : ℕ) (ps : List Publish) → Climbs low high ps → Climbs low high (filter is_open (map f ps))
-climbs_each f same low high [] c = c
-climbs_each f same low high (p ∷ ps) c = by (is_open (f p)) (climbs_each f same (number_or low p.confirm) high ps c.1)
-  where
-    skip : (k : Option ℕ) → Above low k → Climbs (number_or low k) high (filter is_open (map f ps)) → Climbs low high (filter is_open (map f ps))
-    skip None a c = c
-    skip (Some k) a c = climbs_lower k low high _ (omega arith) c
-
-    by : (b : Bool) → Climbs (number_or low p.confirm) high (filter is_open (map f ps)) → Climbs low high (cond b (f p ∷ filter is_open (map f ps)) (filter is_open (map f ps)))
-    by true ih = subst (λ k. Above low k × Climbs (number_or low k) high (filter is_open (map f ps))) (sym (same p)) (c.0, ih)
-    by false ih = skip p.confirm c.0 ih
-
-climbs_push : (confirm : Bool) (low high : ℕ) (ps : List Publish) (y : Publish) → y.confirm ≡ next_number confirm high → Climbs low high ps → Climbs low (cond confirm (high + 1) high) (ps ++ y ∷ [])
-climbs_push true low high [] y e c = rw e (omega arith, omega arith)
-climbs_push false low high [] y e c = rw e (tt, c)
-climbs_push confirm low high (p ∷ ps) y e c = (c.0, climbs_push confirm (number_or low p.confirm) high ps y e c.1)
+climbs_each f same low high ps c = climbs_filter is_open low high (map f ps) (climbs_map f same low high ps c)
 
 climbs : (life : ℕ) (h : List PublishEvent) → Climbs 0 (after_events life h).confirms (after_events life h).list
 climbs life [] = omega arith
-climbs life (TakenUp link confirm payload ∷ h) = climbs_push confirm 0 (after_events life h).confirms (after_events life h).list _ refl (climbs life h)
+climbs life (TakenUp link confirm payload back ∷ h) = climbs_push confirm 0 (after_events life h).confirms (after_events life h).list _ refl (climbs life h)
 climbs life (FrameSent number first part ∷ h) = climbs_each _ (λ p. refl) 0 _ (after_events life h).list (climbs life h)
-climbs life (OutcomeCame first last accepted ∷ h) = climbs_each (told first last accepted) (λ p. refl) 0 _ (after_events life h).list (climbs life h)
-climbs life (LinkGone link ∷ h) = climbs_each (link_lost link) (λ p. refl) 0 _ (after_events life h).list (climbs life h)
+climbs life (OutcomeCame first last outcome ∷ h) = climbs_each (told first last outcome) (λ p. refl) 0 _ (after_events life h).list (climbs life h)
+climbs life (LinkGone link not_found ∷ h) = climbs_each (link_lost link not_found) (λ p. refl) 0 _ (after_events life h).list (climbs life h)
+climbs life (ReturnSent number ∷ h) = climbs_each (returned number) (λ p. refl) 0 _ (after_events life h).list (climbs life h)
 climbs life (ConfirmSent c ∷ h) = climbs_each (confirmed c) (λ p. refl) 0 _ (after_events life h).list (climbs life h)
 climbs life (LinesTold ∷ h) = climbs_each reported (λ p. refl) 0 _ (after_events life h).list (climbs life h)
 
@@ -104,9 +70,9 @@ In p (q ∷ qs) = (q ≡ p) ⊎ In p qs
 abbrev in_tag : Confirm → ℕ → Bool
 in_tag c k = k == c.number || (c.multiple && nat_le k c.number)
 
--- one that it covers is owed what it gives
+-- one that it covers is owed what it gives, and nothing of it is to be returned
 abbrev IsGiven : Confirm → Publish → Type 0
-IsGiven c p = in_tag c (confirm_number p) ≡ true → p.answer ≡ Owed c.ack
+IsGiven c p = in_tag c (confirm_number p) ≡ true → (p.answer ≡ Owed c.ack) × (has_any p.back ≡ false)
 
 record IsDue (list : List Publish) (c : Confirm) : Type 0 where
   tag : Publish
@@ -119,6 +85,15 @@ owed_is : (answer : Answer) → is_owed answer ≡ true → answer ≡ Owed (is_
 owed_is Open e = absurd (cc)
 owed_is (Owed a) e = refl
 owed_is Settled e = absurd (cc)
+
+and_first : (a b : Bool) → (a && b) ≡ true → a ≡ true
+and_first true b e = refl
+and_first false b e = absurd (cc)
+
+and_not : (a b : Bool) → (a && not b) ≡ true → b ≡ false
+and_not true true e = absurd (cc)
+and_not true false e = refl
+and_not false b e = absurd (cc)
 
 not_given : (c : Confirm) (p : Publish) → in_tag c (confirm_number p) ≡ false → IsGiven c p
 not_given c p e is = absurd (grind (arith, common_steps))
@@ -140,20 +115,22 @@ none_given c low (p ∷ ps) le r =
 apart : (p : Publish) (k : ℕ) → k < confirm_number p → in_tag (alone p) k ≡ false
 apart p k lt = grind (arith, nat_tests, common_steps)
 
-single_due : (low : ℕ) (ps : List Publish) (p : Publish) → Rising confirm_number low ps → find (λ q. is_owed q.answer) ps ≡ Some p → IsDue ps (alone p)
+single_due : (low : ℕ) (ps : List Publish) (p : Publish) → Rising confirm_number low ps → find is_ready ps ≡ Some p → IsDue ps (alone p)
 single_due low [] p r e = absurd (cc)
-single_due low (q ∷ qs) p r e = by (is_owed q.answer) refl (single_due (confirm_number q) qs p r.1) e
+single_due low (q ∷ qs) p r e = by (is_ready q) refl (single_due (confirm_number q) qs p r.1) e
   where
-    head : is_owed q.answer ≡ true → IsDue (q ∷ qs) (alone q)
-    head is = record {
-      tag = q;
-      within = inl refl;
-      number = refl;
-      owed = owed_is q.answer is;
-      given = ((λ _. owed_is q.answer is), none_given (alone q) (confirm_number q) qs (omega arith) r.1);
-    }
+    head : is_ready q ≡ true → IsDue (q ∷ qs) (alone q)
+    head is =
+        let owed : q.answer ≡ Owed (is_ack q.answer) = owed_is q.answer (and_first (is_owed q.answer) _ is) in
+        record {
+          tag = q;
+          within = inl refl;
+          number = refl;
+          owed = owed;
+          given = ((λ _. (owed, and_not (is_owed q.answer) (has_any q.back) is)), none_given (alone q) (confirm_number q) qs (omega arith) r.1);
+        }
 
-    by : (b : Bool) → is_owed q.answer ≡ b → (find (λ q. is_owed q.answer) qs ≡ Some p → IsDue qs (alone p)) → cond b (Some q) (find (λ q. is_owed q.answer) qs) ≡ Some p → IsDue (q ∷ qs) (alone p)
+    by : (b : Bool) → is_ready q ≡ b → (find is_ready qs ≡ Some p → IsDue qs (alone p)) → cond b (Some q) (find is_ready qs) ≡ Some p → IsDue (q ∷ qs) (alone p)
     by true is rec e = let same : q ≡ p = cc in subst (λ x. IsDue (q ∷ qs) (alone x)) same (head is)
     by false is rec e =
         let d : IsDue qs (alone p) = rec e in
@@ -177,17 +154,17 @@ gives_is ack Settled e = absurd (cc)
 
 run_runs : (n : ℕ) (m ack : Bool) (ps : List Publish) → Rising confirm_number n ps → Runs n ack ps (run_from n m ack ps)
 run_runs n m ack [] r = record { gave = refl; up = omega arith; given = tt; tag = inl refl }
-run_runs n m ack (p ∷ ps) r = by (gives ack p.answer) refl (run_runs (confirm_number p) true ack ps r.1)
+run_runs n m ack (p ∷ ps) r = by (readies ack p) refl (run_runs (confirm_number p) true ack ps r.1)
   where
-    by : (b : Bool) → gives ack p.answer ≡ b → Runs (confirm_number p) ack ps (run_from (confirm_number p) true ack ps) → Runs n ack (p ∷ ps) (cond b (run_from (confirm_number p) true ack ps) (record { number = n; multiple = m; ack = ack }))
+    by : (b : Bool) → readies ack p ≡ b → Runs (confirm_number p) ack ps (run_from (confirm_number p) true ack ps) → Runs n ack (p ∷ ps) (cond b (run_from (confirm_number p) true ack ps) (record { number = n; multiple = m; ack = ack }))
     by true g next =
-        let is : p.answer ≡ Owed ack = gives_is ack p.answer g in
+        let is : p.answer ≡ Owed ack = gives_is ack p.answer (and_first (gives ack p.answer) _ g) in
         let low = r.0 in
         let up = next.up in
         record {
           gave = next.gave;
           up = omega arith;
-          given = ((λ _. is ∙ ap Owed (sym next.gave)), next.given);
+          given = ((λ _. (is ∙ ap Owed (sym next.gave), and_not (gives ack p.answer) (has_any p.back) g)), next.given);
           tag = inr (elim next.tag [ inl e ↦ (p, inl refl, sym e, is) | inr t ↦ (t.0, inr t.1, t.2, t.3) ]);
         }
     by false g next = record {
@@ -199,19 +176,19 @@ run_runs n m ack (p ∷ ps) r = by (gives ack p.answer) refl (run_runs (confirm_
 
 confirm_due : (us : List Publish) (c : Confirm) → Rising confirm_number 0 us → confirm_of us ≡ Some c → IsDue us c
 confirm_due [] c r e = absurd (cc)
-confirm_due (q ∷ qs) c r e = by (is_owed q.answer) refl e
+confirm_due (q ∷ qs) c r e = by (is_owed q.answer) (has_any q.back) refl refl e
   where
-    run : is_owed q.answer ≡ true → IsDue (q ∷ qs) (run_from (confirm_number q) false (is_ack q.answer) qs)
-    run o =
+    run : is_owed q.answer ≡ true → has_any q.back ≡ false → IsDue (q ∷ qs) (run_from (confirm_number q) false (is_ack q.answer) qs)
+    run o none =
         let s = run_runs (confirm_number q) false (is_ack q.answer) qs r.1 in
         let is : q.answer ≡ Owed (is_ack q.answer) = owed_is q.answer o in
         let here = is ∙ ap Owed (sym s.gave) in
         elim s.tag [
-          | inl e ↦ record { tag = q; within = inl refl; number = sym e; owed = here; given = ((λ _. here), s.given) }
-          | inr t ↦ record { tag = t.0; within = inr t.1; number = t.2; owed = t.3 ∙ ap Owed (sym s.gave); given = ((λ _. here), s.given) }
+          | inl e ↦ record { tag = q; within = inl refl; number = sym e; owed = here; given = ((λ _. (here, none)), s.given) }
+          | inr t ↦ record { tag = t.0; within = inr t.1; number = t.2; owed = t.3 ∙ ap Owed (sym s.gave); given = ((λ _. (here, none)), s.given) }
         ]
 
-    single : (o : Option Publish) → find (λ q. is_owed q.answer) qs ≡ o → option_map alone o ≡ Some c → IsDue (q ∷ qs) c
+    single : (o : Option Publish) → find is_ready qs ≡ o → option_map alone o ≡ Some c → IsDue (q ∷ qs) c
     single None f e = absurd (cc)
     single (Some p) f e =
         let d : IsDue qs (alone p) = single_due (confirm_number q) qs p r.1 f in
@@ -219,9 +196,10 @@ confirm_due (q ∷ qs) c r e = by (is_owed q.answer) refl e
         let same : alone p ≡ c = cc in
         subst (IsDue (q ∷ qs)) same (record { tag = d.tag; within = inr d.within; number = d.number; owed = d.owed; given = (not_given (alone p) q (apart p (confirm_number q) lt), d.given) })
 
-    by : (b : Bool) → is_owed q.answer ≡ b → cond b (Some (run_of q (take_while (λ x. gives (is_ack q.answer) x.answer) qs))) (option_map alone (find (λ q. is_owed q.answer) qs)) ≡ Some c → IsDue (q ∷ qs) c
-    by true o e = let same : run_of q (take_while (λ x. gives (is_ack q.answer) x.answer) qs) ≡ c = cc in subst (IsDue (q ∷ qs)) (sym (run_is q qs) ∙ same) (run o)
-    by false o e = single (find (λ q. is_owed q.answer) qs) refl e
+    by : (b waits : Bool) → is_owed q.answer ≡ b → has_any q.back ≡ waits → cond b (cond waits None (Some (run_of q (take_while (readies (is_ack q.answer)) qs)))) (option_map alone (find is_ready qs)) ≡ Some c → IsDue (q ∷ qs) c
+    by true true o w e = absurd (cc)
+    by true false o w e = let same : run_of q (take_while (readies (is_ack q.answer)) qs) ≡ c = cc in subst (IsDue (q ∷ qs)) (sym (run_is q qs) ∙ same) (run o w)
+    by false waits o w e = single (find is_ready qs) refl e
 
 -- from the list to the journal
 
@@ -256,29 +234,36 @@ some_is : (k : Option ℕ) → is_some k ≡ true → k ≡ Some (number_or 0 k)
 some_is None e = absurd (cc)
 some_is (Some k) e = refl
 
-and_first : (a b : Bool) → (a && b) ≡ true → a ≡ true
-and_first true b e = refl
-and_first false b e = absurd (cc)
-
 to_do : (f : Fate) → is_some f.confirm ≡ true → f.answered ≡ false → is_done f ≡ false
 to_do f some answered = rw (answered, some) refl
 
-to_do_comes : (f : Fate) → is_done f ≡ false → is_to_come f ≡ true
-to_do_comes f e = by (is_to_go f) (is_done f) e
-  where
-    by : (a d : Bool) → d ≡ false → (a || not d || is_some f.line) ≡ true
-    by true d e = refl
-    by false d e = rw e refl
-
 -- an unanswered number is in the list, and unanswered there
 unanswered_has : (life : ℕ) (h : List PublishEvent) (n : ℕ) → IsUnanswered h n → Has number_of n (after_events life h).list
-unanswered_has life h n u = (follows life h).complete n u.0.0 u.0.1 (to_do_comes (fate_of n h) (to_do (fate_of n h) u.1 u.2))
+unanswered_has life h n u = (follows life h).complete n u.0.0 u.0.1 (to_do_comes (fate_of n h) (ap not (to_do (fate_of n h) u.1 u.2)))
 
 unanswered_there : (h : List PublishEvent) (n : ℕ) (p : Publish) → p.number ≡ n → Stands h p → IsUnanswered h n → is_unanswered p ≡ true
 unanswered_there h n p e s u =
     let some : is_some p.confirm ≡ true = ap is_some s.matches.confirm ∙ ap (λ i. is_some (fate_of i h).confirm) e ∙ u.1 in
     let open_still : is_settled p.answer ≡ false = settled_test p (fate_of p.number h) s.matches ∙ ap (λ i. is_done (fate_of i h)) e ∙ to_do (fate_of n h) u.1 u.2 in
     rw (some, open_still) refl
+
+-- whose return isn't due has gone, where it is returned
+all_went : (f : Fate) → f.returned ≤ length f.back → is_to_return f ≡ false → IsReturned f
+all_went f le none returns = by f.returned (length f.back) le (sym (ap (λ b. b && nat_lt f.returned (length f.back)) returns) ∙ none)
+  where
+    by : (k m : ℕ) → k ≤ m → nat_lt k m ≡ false → k ≡ m
+    by k m le e = grind (arith, nat_tests)
+
+none_left : (f : Fate) → IsReturned f → is_to_return f ≡ false
+none_left f all = by f.returns f.returned (length f.back) all
+  where
+    by : (b : Bool) (k m : ℕ) → (b ≡ true → k ≡ m) → (b && nat_lt k m) ≡ false
+    by true k m e = let same : k ≡ m = e refl in grind (arith, nat_tests)
+    by false k m e = refl
+
+and_false : (b : Bool) → (b && false) ≡ false
+and_false true = refl
+and_false false = refl
 
 covers_is : (c : Confirm) (k : Option ℕ) → covers c k ≡ true → in_tag c (number_or 0 k) ≡ true
 covers_is c None e = absurd (cc)
@@ -298,11 +283,14 @@ lawful_from life h c d = record {
       covered_outcome n at.0 at.1 at.2.0 at.2.1 u inside;
 }
   where
-    covered_outcome : (n : ℕ) (p : Publish) → p.number ≡ n → Stands h p → (is_unanswered p ≡ true → IsGiven c p) → IsUnanswered h n → covers c (fate_of n h).confirm ≡ true → (fate_of n h).outcome ≡ Some c.ack
+    covered_outcome : (n : ℕ) (p : Publish) → p.number ≡ n → Stands h p → (is_unanswered p ≡ true → IsGiven c p) → IsUnanswered h n → covers c (fate_of n h).confirm ≡ true → ((fate_of n h).outcome ≡ Some c.ack) × IsReturned (fate_of n h)
     covered_outcome n p e s given u inside =
         let here : covers c p.confirm ≡ true = ap (covers c) (s.matches.confirm ∙ ap (λ i. (fate_of i h).confirm) e) ∙ inside in
-        let is : p.answer ≡ Owed c.ack = given (unanswered_there h n p e s u) (covers_is c p.confirm here) in
-        ap (λ i. (fate_of i h).outcome) (sym e) ∙ (owed_fate p.answer p.confirm _ _ _ c.ack s.matches.answer is).1
+        let is = given (unanswered_there h n p e s u) (covers_is c p.confirm here) in
+        let none : is_to_return (fate_of p.number h) ≡ false = sym (return_test p (fate_of p.number h) s.matches) ∙ ap (λ b. not (has_no_outcome p.answer) && b) is.1 ∙ and_false _ in (
+          ap (λ i. (fate_of i h).outcome) (sym e) ∙ (owed_fate p.answer p.confirm _ _ _ c.ack s.matches.answer is.0).1,
+          subst (λ i. IsReturned (fate_of i h)) e (all_went (fate_of p.number h) (most p.number h) none),
+        )
 
 pub confirm_is_lawful : (life : ℕ) (h : List PublishEvent) → IfSome (next_confirm_of (after_events life h).list) (IsLawfulConfirm h)
 confirm_is_lawful life h = by (next_confirm_of (after_events life h).list) refl
@@ -313,45 +301,72 @@ confirm_is_lawful life h = by (next_confirm_of (after_events life h).list) refl
 
 -- one is offered wherever one is owed
 
-none_found : (t : Publish → Bool) (ps : List Publish) → find t ps ≡ None → AllByRecursion (λ p. t p ≡ false) ps
-none_found t [] e = tt
-none_found t (p ∷ ps) e = by (t p) refl e (none_found t ps)
+has_kept : (t : Publish → Bool) (P : Publish → Type 0) (n : ℕ) → ((p : Publish) → P p → p.number ≡ n → t p ≡ true) → (ps : List Publish) → AllByRecursion P ps → Has number_of n ps → Has number_of n (filter t ps)
+has_kept t P n passes [] a has = has
+has_kept t P n passes (p ∷ ps) a (inl e) = subst (λ b. Has number_of n (cond b (p ∷ filter t ps) (filter t ps))) (sym (passes p a.0 e)) (inl e)
+has_kept t P n passes (p ∷ ps) a (inr has) = by (t p) (has_kept t P n passes ps a.1 has)
   where
-    by : (b : Bool) → t p ≡ b → cond b (Some p) (find t ps) ≡ None → (find t ps ≡ None → AllByRecursion (λ p. t p ≡ false) ps) → (t p ≡ false) × AllByRecursion (λ p. t p ≡ false) ps
-    by true is e rec = absurd (cc)
-    by false is e rec = (is, rec e)
+    by : (b : Bool) → Has number_of n (filter t ps) → Has number_of n (cond b (p ∷ filter t ps) (filter t ps))
+    by true ih = inr ih
+    by false ih = ih
 
-none_owed : (us : List Publish) → confirm_of us ≡ None → AllByRecursion (λ p. is_owed p.answer ≡ false) us
-none_owed [] e = tt
-none_owed (p ∷ ps) e = by (is_owed p.answer) refl e
+-- the one with number n is owed a confirm, and none up to it is to be returned
+record Clears (n : ℕ) (p : Publish) : Type 0 where
+  owed : p.number ≡ n → is_owed p.answer ≡ true
+  clear : is_owed p.answer ≡ true → p.number ≤ n → has_any p.back ≡ false
+
+ready_found : (n : ℕ) (ps : List Publish) → AllByRecursion (Clears n) ps → Has number_of n ps → is_some (option_map alone (find is_ready ps)) ≡ true
+ready_found n [] a has = elim has [ ]
+ready_found n (p ∷ ps) a (inl e) = let owed : is_owed p.answer ≡ true = a.0.owed e in rw (owed, a.0.clear owed (omega arith)) refl
+ready_found n (p ∷ ps) a (inr has) = by (is_ready p) (ready_found n ps a.1 has)
   where
-    none : (o : Option Publish) → option_map alone o ≡ None → o ≡ None
-    none None e = refl
-    none (Some q) e = absurd (cc)
+    by : (b : Bool) → is_some (option_map alone (find is_ready ps)) ≡ true → is_some (option_map alone (cond b (Some p) (find is_ready ps))) ≡ true
+    by true ih = refl
+    by false ih = ih
 
-    by : (b : Bool) → is_owed p.answer ≡ b → cond b (Some (run_of p (take_while (λ x. gives (is_ack p.answer) x.answer) ps))) (option_map alone (find (λ q. is_owed q.answer) ps)) ≡ None → (is_owed p.answer ≡ false) × AllByRecursion (λ p. is_owed p.answer ≡ false) ps
-    by true is e = absurd (cc)
-    by false is e = (is, none_found (λ q. is_owed q.answer) ps (none _ e))
+is_offered : (n : ℕ) (us : List Publish) → Rising number_of 0 us → AllByRecursion (Clears n) us → Has number_of n us → is_some (confirm_of us) ≡ true
+is_offered n [] r a has = elim has [ ]
+is_offered n (p ∷ ps) r a has = by (is_owed p.answer) refl has
+  where
+    below : Has number_of n (p ∷ ps) → p.number ≤ n
+    below (inl e) = omega arith
+    below (inr later) = let up = has_above number_of p.number ps n r.1 later in omega arith
+
+    by : (b : Bool) → is_owed p.answer ≡ b → Has number_of n (p ∷ ps) → is_some (cond b (cond (has_any p.back) None (Some (run_of p (take_while (readies (is_ack p.answer)) ps)))) (option_map alone (find is_ready ps))) ≡ true
+    by true o at = rw (a.0.clear o (below at)) refl
+    by false o (inl e) = absurd (let owed : is_owed p.answer ≡ true = a.0.owed e in cc)
+    by false o (inr later) = ready_found n ps a.1 later
 
 decided_owed : (answer : Answer) (confirm : Option ℕ) (answered : Bool) (outcome : Option Bool) (cut : Bool) → AnswerIs answer confirm answered outcome cut → is_settled answer ≡ false → is_some outcome ≡ true → is_owed answer ≡ true
 decided_owed Open confirm answered outcome cut m open_still some = absurd (let none : is_some outcome ≡ false = ap is_some m.1 in cc)
 decided_owed (Owed a) confirm answered outcome cut m open_still some = refl
 decided_owed Settled confirm answered outcome cut m open_still some = absurd (cc)
 
-pub confirm_is_offered : (life : ℕ) (h : List PublishEvent) (n : ℕ) → IsUnanswered h n → is_some (fate_of n h).outcome ≡ true → is_some (next_confirm_of (after_events life h).list) ≡ true
-confirm_is_offered life h n u decided = by (next_confirm_of (after_events life h).list) refl
+pub confirm_is_offered : (life : ℕ) (h : List PublishEvent) (n : ℕ) → IsUnanswered h n → is_some (fate_of n h).outcome ≡ true → AreReturned h n → is_some (next_confirm_of (after_events life h).list) ≡ true
+confirm_is_offered life h n u decided are =
+    is_offered n us (rising_filter is_unanswered 0 list (follows life h).rising)
+    (clears us (all_filter is_unanswered (Stands h) list (stand life h)) (all_passing is_unanswered list))
+    (has_kept is_unanswered (Stands h) n (λ p s e. unanswered_there h n p e s u) list (stand life h) (unanswered_has life h n u))
   where
-    there : (p : Publish) → p.number ≡ n → Stands h p → (is_unanswered p ≡ true → is_owed p.answer ≡ false) → ⊥
-    there p e s none =
-        let un : is_unanswered p ≡ true = unanswered_there h n p e s u in
-        let open_still : is_settled p.answer ≡ false = settled_test p (fate_of p.number h) s.matches ∙ ap (λ i. is_done (fate_of i h)) e ∙ to_do (fate_of n h) u.1 u.2 in
-        let owed : is_owed p.answer ≡ true = decided_owed p.answer p.confirm _ _ _ s.matches.answer open_still (ap (λ i. is_some (fate_of i h).outcome) e ∙ decided) in
-        let no_more : is_owed p.answer ≡ false = none un in
-        cc
+    list : List Publish
+    list = (after_events life h).list
 
-    by : (o : Option Confirm) → next_confirm_of (after_events life h).list ≡ o → is_some o ≡ true
-    by None e =
-        let none = all_unfiltered (λ p. is_owed p.answer ≡ false) is_unanswered (after_events life h).list (none_owed _ e) in
-        let at = all_has number_of (λ p. Stands h p × (is_unanswered p ≡ true → is_owed p.answer ≡ false)) n (after_events life h).list (all_both _ _ (after_events life h).list (stand life h) none) (unanswered_has life h n u) in
-        absurd (there at.0 at.1 at.2.0 at.2.1)
-    by (Some c) e = refl
+    us : List Publish
+    us = filter is_unanswered list
+
+    clear : (p : Publish) → Stands h p → is_unanswered p ≡ true → is_owed p.answer ≡ true → p.number ≤ n → has_any p.back ≡ false
+    clear p s un o le =
+        let f = fate_of p.number h in
+        let is : p.answer ≡ Owed (is_ack p.answer) = owed_is p.answer o in
+        let fate = owed_fate p.answer p.confirm _ _ _ (is_ack p.answer) s.matches.answer is in
+        let here : IsUnanswered h p.number = ((s.positive, s.taken), ap is_some (sym s.matches.confirm) ∙ and_first (is_some p.confirm) _ un, fate.0) in
+        ap (λ answer. not (has_no_outcome answer) && has_any p.back) (sym is) ∙ return_test p f s.matches ∙ none_left f (are p.number le here)
+
+    owed : (p : Publish) → Stands h p → p.number ≡ n → is_owed p.answer ≡ true
+    owed p s e =
+        let open_still : is_settled p.answer ≡ false = settled_test p (fate_of p.number h) s.matches ∙ ap (λ i. is_done (fate_of i h)) e ∙ to_do (fate_of n h) u.1 u.2 in
+        decided_owed p.answer p.confirm _ _ _ s.matches.answer open_still (ap (λ i. is_some (fate_of i h).outcome) e ∙ decided)
+
+    clears : (ps : List Publish) → AllByRecursion (Stands h) ps → AllByRecursion (λ p. is_unanswered p ≡ true) ps → AllByRecursion (Clears n) ps
+    clears [] a b = tt
+    clears (p ∷ ps) a b = (record { owed = owed p a.0; clear = clear p a.0 b.0 }, clears ps a.1 b.1)

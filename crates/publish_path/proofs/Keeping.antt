@@ -12,47 +12,55 @@ use Rattle.open_items.proofs.Tracked.{Tracks, none_tracked, each_tracked, push_t
 use Rattle.publish_path.specs.declared.publish.Publish.{Publish}
 use Rattle.publish_path.specs.declared.publish.Confirm.{Confirm}
 use Rattle.publish_path.specs.Publishes.{PublishState, PublishEvent, TakenUp, FrameSent}
+use Rattle.publish_path.specs.declared.publish.Outcome.{Outcome}
 use Rattle.publish_path.specs.Publishes.{OutcomeCame, LinkGone, ConfirmSent, LinesTold, after_event}
+use Rattle.publish_path.specs.Publishes.{ReturnSent, returned, is_accepted, is_released}
 use Rattle.publish_path.specs.Publishes.{after_events, new_publish, next_number, framed, told}
 use Rattle.publish_path.specs.Publishes.{link_lost, confirmed, reported, is_open, in_range, is_on}
 use Rattle.publish_path.specs.Publishes.{lost_as, covers}
 use Rattle.publish_path.specs.Journal.{Fate, decided, fate_step, fate_of, numbers_of, confirms_of}
 use Rattle.publish_path.specs.Journal.{next_id_of, takes_up, is_to_confirm, begins, is_undecided}
-use Rattle.publish_path.specs.Journal.{has_rest, is_to_go, is_done, is_to_come}
+use Rattle.publish_path.specs.Journal.{has_rest, is_to_go, is_done, is_to_come, is_to_return}
+use Rattle.publish_path.specs.Kept.{number_of}
 use Rattle.publish_path.proofs.Matching.{Matches, framed_matches, told_matches, lost_matches}
-use Rattle.publish_path.proofs.Matching.{confirmed_matches, reported_matches, open_test}
+use Rattle.publish_path.proofs.Matching.{confirmed_matches, reported_matches, returned_matches}
+use Rattle.publish_path.proofs.Matching.{open_test}
 
 -- the numbers of the life
 
 numbers_step : (x : PublishEvent) (s : PublishState) → (after_event x s).numbers ≡ cond (takes_up x) (s.numbers + 1) s.numbers
-numbers_step (TakenUp link confirm payload) s = refl
+numbers_step (TakenUp link confirm payload back) s = refl
 numbers_step (FrameSent number first part) s = refl
-numbers_step (OutcomeCame first last accepted) s = refl
-numbers_step (LinkGone link) s = refl
+numbers_step (OutcomeCame first last outcome) s = refl
+numbers_step (LinkGone link not_found) s = refl
+numbers_step (ReturnSent number) s = refl
 numbers_step (ConfirmSent c) s = refl
 numbers_step LinesTold s = refl
 
 confirms_step : (x : PublishEvent) (s : PublishState) → (after_event x s).confirms ≡ cond (is_to_confirm x) (s.confirms + 1) s.confirms
-confirms_step (TakenUp link confirm payload) s = refl
+confirms_step (TakenUp link confirm payload back) s = refl
 confirms_step (FrameSent number first part) s = refl
-confirms_step (OutcomeCame first last accepted) s = refl
-confirms_step (LinkGone link) s = refl
+confirms_step (OutcomeCame first last outcome) s = refl
+confirms_step (LinkGone link not_found) s = refl
+confirms_step (ReturnSent number) s = refl
 confirms_step (ConfirmSent c) s = refl
 confirms_step LinesTold s = refl
 
 next_id_step : (x : PublishEvent) (s : PublishState) → (after_event x s).next_id ≡ cond (begins x) ((s.next_id + 1) % 2 ^ 32) s.next_id
-next_id_step (TakenUp link confirm payload) s = refl
+next_id_step (TakenUp link confirm payload back) s = refl
 next_id_step (FrameSent number first part) s = refl
-next_id_step (OutcomeCame first last accepted) s = refl
-next_id_step (LinkGone link) s = refl
+next_id_step (OutcomeCame first last outcome) s = refl
+next_id_step (LinkGone link not_found) s = refl
+next_id_step (ReturnSent number) s = refl
 next_id_step (ConfirmSent c) s = refl
 next_id_step LinesTold s = refl
 
 life_step : (x : PublishEvent) (s : PublishState) → (after_event x s).life ≡ s.life
-life_step (TakenUp link confirm payload) s = refl
+life_step (TakenUp link confirm payload back) s = refl
 life_step (FrameSent number first part) s = refl
-life_step (OutcomeCame first last accepted) s = refl
-life_step (LinkGone link) s = refl
+life_step (OutcomeCame first last outcome) s = refl
+life_step (LinkGone link not_found) s = refl
+life_step (ReturnSent number) s = refl
 life_step (ConfirmSent c) s = refl
 life_step LinesTold s = refl
 
@@ -74,22 +82,41 @@ life_kept life (x ∷ h) = life_step x (after_events life h) ∙ life_kept life 
 
 -- what is still to come after an event was so before
 
-or_before : (x y z a b c : Bool) → (x ≡ true → (a || b || c) ≡ true) → (y ≡ true → (a || b || c) ≡ true) → (z ≡ true → (a || b || c) ≡ true) → (x || y || z) ≡ true → (a || b || c) ≡ true
-or_before true y z a b c f g k e = f refl
-or_before false true z a b c f g k e = g refl
-or_before false false z a b c f g k e = k e
+or_before : (x y z w t : Bool) → (x ≡ true → t ≡ true) → (y ≡ true → t ≡ true) → (z ≡ true → t ≡ true) → (w ≡ true → t ≡ true) → (x || y || z || w) ≡ true → t ≡ true
+or_before true y z w t f g k r e = f refl
+or_before false true z w t f g k r e = g refl
+or_before false false true w t f g k r e = k refl
+or_before false false false w t f g k r e = r e
 
-or_first : (a b c : Bool) → a ≡ true → (a || b || c) ≡ true
-or_first a b c e = rw e refl
+or_first : (a b c d : Bool) → a ≡ true → (a || b || c || d) ≡ true
+or_first a b c d e = rw e refl
 
-or_second : (a b c : Bool) → b ≡ true → (a || b || c) ≡ true
-or_second true b c e = refl
-or_second false b c e = rw e refl
+or_second : (a b c d : Bool) → b ≡ true → (a || b || c || d) ≡ true
+or_second true b c d e = refl
+or_second false b c d e = rw e refl
 
-or_third : (a b c : Bool) → c ≡ true → (a || b || c) ≡ true
-or_third true b c e = refl
-or_third false true c e = refl
-or_third false false c e = e
+or_third : (a b c d : Bool) → c ≡ true → (a || b || c || d) ≡ true
+or_third true b c d e = refl
+or_third false true c d e = refl
+or_third false false c d e = rw e refl
+
+or_fourth : (a b c d : Bool) → d ≡ true → (a || b || c || d) ≡ true
+or_fourth true b c d e = refl
+or_fourth false true c d e = refl
+or_fourth false false true d e = refl
+or_fourth false false false d e = e
+
+to_go_comes : (f : Fate) → is_to_go f ≡ true → is_to_come f ≡ true
+to_go_comes f e = or_first (is_to_go f) (not (is_done f)) (is_some f.line) (is_to_return f) e
+
+pub to_do_comes : (f : Fate) → not (is_done f) ≡ true → is_to_come f ≡ true
+to_do_comes f e = or_second (is_to_go f) (not (is_done f)) (is_some f.line) (is_to_return f) e
+
+to_tell_comes : (f : Fate) → is_some f.line ≡ true → is_to_come f ≡ true
+to_tell_comes f e = or_third (is_to_go f) (not (is_done f)) (is_some f.line) (is_to_return f) e
+
+pub to_return_comes : (f : Fate) → is_to_return f ≡ true → is_to_come f ≡ true
+to_return_comes f e = or_fourth (is_to_go f) (not (is_done f)) (is_some f.line) (is_to_return f) e
 
 lt_before : (sent part : List ℕ) (m : ℕ) (on : Bool) → nat_lt (length (cond on (sent ++ part) sent)) m ≡ true → nat_lt (length sent) m ≡ true
 lt_before sent part m false e = e
@@ -131,36 +158,54 @@ undecided_to_do false x (Some a) e = absurd (cc)
 undecided_to_do false true None e = refl
 undecided_to_do false false None e = refl
 
-lost_before : (n : ℕ) (h : List PublishEvent) (link : Option ℕ) (f : Fate) → is_to_come (fate_step n h (LinkGone link) f) ≡ true → is_to_come f ≡ true
-lost_before n h link f e = or_before _ _ _ (is_to_go f) (not (is_done f)) (is_some f.line)
-    (λ g. or_first _ _ _ (lost_go f.cut (is_on link f.link) f.begun (has_rest f) g))
-    (λ d. or_second (is_to_go f) _ _ (done_before f.answered (not (is_some f.confirm)) (is_on link f.link) false f.outcome d))
-    (λ l. by (is_undecided f) refl l) e
+undecided_comes : (f : Fate) → is_undecided f ≡ true → is_to_come f ≡ true
+undecided_comes f u = to_do_comes f (undecided_to_do f.answered (not (is_some f.confirm)) f.outcome u)
+
+-- an outcome, or a loss, that returns it comes before any other
+returns_before : (test ret : Bool) (f : Fate) → (cond (is_undecided f && test) ret f.returns && nat_lt f.returned (length f.back)) ≡ true → is_to_come f ≡ true
+returns_before test ret f e = by (is_undecided f) refl e
   where
-    by : (b : Bool) → is_undecided f ≡ b → is_some (cond (is_undecided f && is_on link f.link) (Some (lost_as (not f.begun))) f.line) ≡ true → (is_to_go f || not (is_done f) || is_some f.line) ≡ true
-    by true u l = or_second (is_to_go f) _ _ (undecided_to_do f.answered (not (is_some f.confirm)) f.outcome u)
-    by false u l = or_third (is_to_go f) (not (is_done f)) _ (subst (λ b. is_some (cond (b && is_on link f.link) (Some (lost_as (not f.begun))) f.line) ≡ true) u l)
+    by : (b : Bool) → is_undecided f ≡ b → (cond (b && test) ret f.returns && nat_lt f.returned (length f.back)) ≡ true → is_to_come f ≡ true
+    by true u e = undecided_comes f u
+    by false u e = to_return_comes f e
+
+lost_before : (n : ℕ) (h : List PublishEvent) (link : Option ℕ) (not_found : Bool) (f : Fate) → is_to_come (fate_step n h (LinkGone link not_found) f) ≡ true → is_to_come f ≡ true
+lost_before n h link not_found f e = or_before _ _ _ _ (is_to_come f)
+    (λ g. to_go_comes f (lost_go f.cut (is_on link f.link) f.begun (has_rest f) g))
+    (λ d. to_do_comes f (done_before f.answered (not (is_some f.confirm)) (is_on link f.link) false f.outcome d))
+    (λ l. by (is_undecided f) refl l)
+    (λ r. returns_before (is_on link f.link) not_found f r) e
+  where
+    by : (b : Bool) → is_undecided f ≡ b → is_some (cond (is_undecided f && is_on link f.link) (Some (lost_as (not f.begun))) f.line) ≡ true → is_to_come f ≡ true
+    by true u l = undecided_comes f u
+    by false u l = to_tell_comes f (subst (λ b. is_some (cond (b && is_on link f.link) (Some (lost_as (not f.begun))) f.line) ≡ true) u l)
 
 frame_before : (n : ℕ) (h : List PublishEvent) (number : ℕ) (first : Bool) (part : List ℕ) (f : Fate) → is_to_come (fate_step n h (FrameSent number first part) f) ≡ true → is_to_come f ≡ true
-frame_before n h number first part f e = or_before _ _ _ (is_to_go f) (not (is_done f)) (is_some f.line)
-    (λ g. or_first _ _ _ (frame_go n h number first part f g)) (λ d. or_second (is_to_go f) _ _ d) (λ l. or_third (is_to_go f) (not (is_done f)) _ l) e
+frame_before n h number first part f e =
+    or_before _ _ _ _ (is_to_come f) (λ g. to_go_comes f (frame_go n h number first part f g)) (λ d. to_do_comes f d) (λ l. to_tell_comes f l) (λ r. to_return_comes f r) e
 
-outcome_before : (n : ℕ) (h : List PublishEvent) (first last : ℕ) (accepted : Bool) (f : Fate) → is_to_come (fate_step n h (OutcomeCame first last accepted) f) ≡ true → is_to_come f ≡ true
-outcome_before n h first last accepted f e = or_before _ _ _ (is_to_go f) (not (is_done f)) (is_some f.line)
-    (λ g. or_first _ _ _ g) (λ d. or_second (is_to_go f) _ _ (done_before f.answered (not (is_some f.confirm)) (in_range first last f.id) accepted f.outcome d)) (λ l. or_third (is_to_go f) (not (is_done f)) _ l) e
+outcome_before : (n : ℕ) (h : List PublishEvent) (first last : ℕ) (outcome : Outcome) (f : Fate) → is_to_come (fate_step n h (OutcomeCame first last outcome) f) ≡ true → is_to_come f ≡ true
+outcome_before n h first last outcome f e = or_before _ _ _ _ (is_to_come f)
+    (λ g. to_go_comes f g) (λ d. to_do_comes f (done_before f.answered (not (is_some f.confirm)) (in_range first last f.id) (is_accepted outcome) f.outcome d)) (λ l. to_tell_comes f l)
+    (λ r. returns_before (in_range first last f.id) (is_released outcome) f r) e
 
 sent_before : (n : ℕ) (h : List PublishEvent) (c : Confirm) (f : Fate) → is_to_come (fate_step n h (ConfirmSent c) f) ≡ true → is_to_come f ≡ true
-sent_before n h c f e = or_before _ _ _ (is_to_go f) (not (is_done f)) (is_some f.line)
-    (λ g. or_first _ _ _ g) (λ d. or_second (is_to_go f) _ _ (confirm_before f.answered (covers c f.confirm) _ d)) (λ l. or_third (is_to_go f) (not (is_done f)) _ l) e
+sent_before n h c f e =
+    or_before _ _ _ _ (is_to_come f) (λ g. to_go_comes f g) (λ d. to_do_comes f (confirm_before f.answered (covers c f.confirm) _ d)) (λ l. to_tell_comes f l) (λ r. to_return_comes f r) e
 
 told_before : (n : ℕ) (h : List PublishEvent) (f : Fate) → is_to_come (fate_step n h LinesTold f) ≡ true → is_to_come f ≡ true
-told_before n h f e = or_before _ _ _ (is_to_go f) (not (is_done f)) (is_some f.line)
-    (λ g. or_first _ _ _ g) (λ d. or_second (is_to_go f) _ _ d) (λ l. absurd (cc)) e
+told_before n h f e = or_before _ _ _ _ (is_to_come f) (λ g. to_go_comes f g) (λ d. to_do_comes f d) (λ l. absurd (cc)) (λ r. to_return_comes f r) e
+
+return_before : (n : ℕ) (h : List PublishEvent) (number : ℕ) (f : Fate) → is_to_come (fate_step n h (ReturnSent number) f) ≡ true → is_to_come f ≡ true
+return_before n h number f e =
+    or_before _ _ _ _ (is_to_come f) (λ g. to_go_comes f g) (λ d. to_do_comes f d) (λ l. to_tell_comes f l) (λ r. to_return_comes f (fewer f.returns (n == number && is_to_return f) f.returned (length f.back) r)) e
+  where
+    fewer : (a on : Bool) (k m : ℕ) → (a && nat_lt (cond on (k + 1) k) m) ≡ true → (a && nat_lt k m) ≡ true
+    fewer false on k m e = e
+    fewer true false k m e = e
+    fewer true true k m e = grind (arith, nat_tests)
 
 -- the list
-
-abbrev pub number_of : Publish → ℕ
-number_of p = p.number
 
 abbrev pub Follows : List PublishEvent → List Publish → Type 0
 Follows h list = Tracks number_of Matches is_to_come (λ n. fate_of n h) (numbers_of h) list
@@ -170,23 +215,23 @@ opens p f m e = open_test p f m ∙ e
 
 pub follows : (life : ℕ) (h : List PublishEvent) → Follows h (after_events life h).list
 follows life [] = none_tracked number_of Matches is_to_come (λ n. fate_of n [])
-follows life (TakenUp link confirm payload ∷ h) =
-    push_tracked number_of Matches is_to_come (λ n. fate_of n h) (λ n. fate_of n (TakenUp link confirm payload ∷ h)) (numbers_of h) s.list y
+follows life (TakenUp link confirm payload back ∷ h) =
+    push_tracked number_of Matches is_to_come (λ n. fate_of n h) (λ n. fate_of n (TakenUp link confirm payload back ∷ h)) (numbers_of h) s.list y
     (ap (λ n. n + 1) (numbers_kept life h)) old new (follows life h)
   where
     s : PublishState
     s = after_events life h
 
     y : Publish
-    y = new_publish (s.numbers + 1) link (next_number confirm s.confirms) payload
+    y = new_publish (s.numbers + 1) link (next_number confirm s.confirms) payload back
 
-    old : (k : ℕ) → k ≤ numbers_of h → fate_of k (TakenUp link confirm payload ∷ h) ≡ fate_of k h
+    old : (k : ℕ) → k ≤ numbers_of h → fate_of k (TakenUp link confirm payload back ∷ h) ≡ fate_of k h
     old k le = let other : (k == numbers_of h + 1) ≡ false = grind (arith, nat_tests) in rw other refl
 
-    new : Matches y (fate_of (numbers_of h + 1) (TakenUp link confirm payload ∷ h))
+    new : Matches y (fate_of (numbers_of h + 1) (TakenUp link confirm payload back ∷ h))
     new =
         let this : (numbers_of h + 1 == numbers_of h + 1) ≡ true = grind (arith, nat_tests) in
-        rw this (record { link = refl; confirm = ap (next_number confirm) (confirms_kept life h); id = refl; place = (refl, refl, refl, refl); answer = (refl, refl, refl); line = refl })
+        rw this (record { link = refl; confirm = ap (next_number confirm) (confirms_kept life h); id = refl; place = (refl, refl, refl, refl); answer = (refl, refl, refl); back = (refl, refl, refl, refl); line = refl })
 follows life (FrameSent number first part ∷ h) =
     each_tracked number_of Matches is_to_come is_open (framed number first s.next_id (length part)) (λ n. fate_of n h) (λ n. fate_of n (FrameSent number first part ∷ h)) (numbers_of h) s.list
     (λ p. refl) opens
@@ -195,12 +240,15 @@ follows life (FrameSent number first part ∷ h) =
   where
     s : PublishState
     s = after_events life h
-follows life (OutcomeCame first last accepted ∷ h) =
-    each_tracked number_of Matches is_to_come is_open (told first last accepted) (λ n. fate_of n h) (λ n. fate_of n (OutcomeCame first last accepted ∷ h)) (numbers_of h) (after_events life h).list
-    (λ p. refl) opens (λ p m. told_matches first last accepted p h (fate_of p.number h) m) (λ k e. outcome_before k h first last accepted (fate_of k h) e) (follows life h)
-follows life (LinkGone link ∷ h) =
-    each_tracked number_of Matches is_to_come is_open (link_lost link) (λ n. fate_of n h) (λ n. fate_of n (LinkGone link ∷ h)) (numbers_of h) (after_events life h).list
-    (λ p. refl) opens (λ p m. lost_matches link p h (fate_of p.number h) m) (λ k e. lost_before k h link (fate_of k h) e) (follows life h)
+follows life (OutcomeCame first last outcome ∷ h) =
+    each_tracked number_of Matches is_to_come is_open (told first last outcome) (λ n. fate_of n h) (λ n. fate_of n (OutcomeCame first last outcome ∷ h)) (numbers_of h) (after_events life h).list
+    (λ p. refl) opens (λ p m. told_matches first last outcome p h (fate_of p.number h) m) (λ k e. outcome_before k h first last outcome (fate_of k h) e) (follows life h)
+follows life (LinkGone link not_found ∷ h) =
+    each_tracked number_of Matches is_to_come is_open (link_lost link not_found) (λ n. fate_of n h) (λ n. fate_of n (LinkGone link not_found ∷ h)) (numbers_of h) (after_events life h).list
+    (λ p. refl) opens (λ p m. lost_matches link not_found p h (fate_of p.number h) m) (λ k e. lost_before k h link not_found (fate_of k h) e) (follows life h)
+follows life (ReturnSent number ∷ h) =
+    each_tracked number_of Matches is_to_come is_open (returned number) (λ n. fate_of n h) (λ n. fate_of n (ReturnSent number ∷ h)) (numbers_of h) (after_events life h).list
+    (λ p. refl) opens (λ p m. returned_matches number p h (fate_of p.number h) m) (λ k e. return_before k h number (fate_of k h) e) (follows life h)
 follows life (ConfirmSent c ∷ h) =
     each_tracked number_of Matches is_to_come is_open (confirmed c) (λ n. fate_of n h) (λ n. fate_of n (ConfirmSent c ∷ h)) (numbers_of h) (after_events life h).list
     (λ p. refl) opens (λ p m. confirmed_matches c p h (fate_of p.number h) m) (λ k e. sent_before k h c (fate_of k h) e) (follows life h)

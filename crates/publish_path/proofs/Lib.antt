@@ -1,6 +1,13 @@
+pub mod Places
+pub mod Ordered
 pub mod Steps
+pub mod Visited
+pub mod Ahead
+pub mod Ids
+pub mod Kept
 pub mod Matching
 pub mod Keeping
 pub mod Payloads
 pub mod Lines
+pub mod Returns
 pub mod Confirms

@@ -11,15 +11,16 @@ use Rattle.open_items.specs.Numbers.{passing_above, passing}
 use Rattle.open_items.proofs.Counted.{numbers_passing}
 use Rattle.publish_path.specs.declared.publish.Publish.{Publish}
 use Rattle.publish_path.specs.Publishes.{PublishEvent, TakenUp, FrameSent, OutcomeCame, LinkGone}
-use Rattle.publish_path.specs.Publishes.{ConfirmSent, LinesTold, after_events, next_number, in_range}
-use Rattle.publish_path.specs.Publishes.{is_on, lost_as, covers}
+use Rattle.publish_path.specs.Publishes.{ConfirmSent, LinesTold, ReturnSent, after_events, next_number}
+use Rattle.publish_path.specs.Publishes.{in_range, is_on, lost_as, covers, is_accepted}
 use Rattle.publish_path.specs.Offers.{with_line, line_of, lines_of}
 use Rattle.publish_path.specs.Journal.{Fate, new_fate, decided, fate_of, numbers_of, confirms_of}
-use Rattle.publish_path.specs.Journal.{is_undecided, is_to_go, is_done, is_to_come}
+use Rattle.publish_path.specs.Journal.{is_undecided, is_to_go, is_done, is_to_come, is_to_return}
 use Rattle.publish_path.specs.Laws.{item_by, lines_to, lines_by, is_taken, owes_line, is_lost}
 use Rattle.publish_path.specs.Laws.{one_if, times_told}
 use Rattle.publish_path.proofs.Matching.{Matches}
-use Rattle.publish_path.proofs.Keeping.{number_of, follows, Stands, stand}
+use Rattle.publish_path.specs.Kept.{number_of}
+use Rattle.publish_path.proofs.Keeping.{follows, Stands, stand}
 
 abbrev has_line : Publish → Bool
 has_line p = is_some p.line
@@ -103,12 +104,12 @@ lines_are life h =
     list = (after_events life h).list
 
     come : (f : Fate) → is_some f.line ≡ true → is_to_come f ≡ true
-    come f e = last (is_to_go f) (not (is_done f)) (is_some f.line) e
+    come f e = last (is_to_go f) (not (is_done f)) (is_some f.line) (is_to_return f) e
       where
-        last : (a b c : Bool) → c ≡ true → (a || b || c) ≡ true
-        last true b c e = refl
-        last false true c e = refl
-        last false false c e = e
+        last : (a b c d : Bool) → c ≡ true → (a || b || c || d) ≡ true
+        last true b c d e = refl
+        last false true c d e = refl
+        last false false c d e = rw e refl
 
 -- each publish that was lost has one line
 
@@ -160,12 +161,12 @@ newly_told : (later lost u v : Bool) (line : Option LostKind) (times : ℕ) → 
 newly_told later true u v line times t = absurd (let no = (t.known refl).0 in cc)
 newly_told later false u v line times t = record { known = λ e. absurd (cc); once = rw (and_false later) (let o = t.once in omega arith) }
 
-taken_told : (link : ℕ) (confirm : Bool) (payload : List ℕ) (h : List PublishEvent) (n : ℕ) → Told (is_taken n h) (is_lost n h) (owes_line n h) (is_undecided (fate_of n h)) (times_told n h)
-    → Told (is_taken n (TakenUp link confirm payload ∷ h)) (is_lost n h || false) (owes_line n (TakenUp link confirm payload ∷ h)) (is_undecided (fate_of n (TakenUp link confirm payload ∷ h))) (times_told n h + 0)
-taken_told link confirm payload h n t = by (n == numbers_of h + 1) refl
+taken_told : (link : ℕ) (confirm : Bool) (payload : List ℕ) (back : List (List ℕ)) (h : List PublishEvent) (n : ℕ) → Told (is_taken n h) (is_lost n h) (owes_line n h) (is_undecided (fate_of n h)) (times_told n h)
+    → Told (is_taken n (TakenUp link confirm payload back ∷ h)) (is_lost n h || false) (owes_line n (TakenUp link confirm payload back ∷ h)) (is_undecided (fate_of n (TakenUp link confirm payload back ∷ h))) (times_told n h + 0)
+taken_told link confirm payload back h n t = by (n == numbers_of h + 1) refl
   where
     x : Fate
-    x = new_fate link (next_number confirm (confirms_of h)) payload
+    x = new_fate link (next_number confirm (confirms_of h)) payload back
 
     later : Bool
     later = nat_le 1 n && nat_le n (numbers_of h + 1)
@@ -184,15 +185,16 @@ taken_told link confirm payload h n t = by (n == numbers_of h + 1) refl
 
 told : (h : List PublishEvent) (n : ℕ) → Told (is_taken n h) (is_lost n h) (owes_line n h) (is_undecided (fate_of n h)) (times_told n h)
 told [] n = record { known = λ e. absurd (cc); once = rw (and_false (is_taken n [])) refl }
-told (TakenUp link confirm payload ∷ h) n = taken_told link confirm payload h n (told h n)
+told (TakenUp link confirm payload back ∷ h) n = taken_told link confirm payload back h n (told h n)
 told (FrameSent number first part ∷ h) n = kept _ _ _ _ _ _ (λ e. e) (told h n)
-told (OutcomeCame first last accepted ∷ h) n =
+told (OutcomeCame first last outcome ∷ h) n =
     let f = fate_of n h in
-    kept _ _ _ _ _ _ (decided_stays (in_range first last f.id) accepted f.answered f.outcome) (told h n)
-told (LinkGone link ∷ h) n =
+    kept _ _ _ _ _ _ (decided_stays (in_range first last f.id) (is_accepted outcome) f.answered f.outcome) (told h n)
+told (LinkGone link not_found ∷ h) n =
     let f = fate_of n h in
     let on = is_on link f.link in
     lost_told (is_taken n h) (is_lost n h) (is_undecided f) on _ f.line (lost_as (not f.begun)) (times_told n h) (decided_stays on false f.answered f.outcome) (decided_gone on f.answered f.outcome) (told h n)
+told (ReturnSent number ∷ h) n = kept _ _ _ _ _ _ (λ e. e) (told h n)
 told (ConfirmSent c ∷ h) n =
     let f = fate_of n h in
     kept _ _ _ _ _ _ (answered_stays (covers c f.confirm) f.answered f.outcome) (told h n)

@@ -17,14 +17,15 @@ use Rattle.publish_path.specs.declared.publish.NextFrame.{NextFrame}
 use Rattle.publish_path.specs.declared.send_links.SendingLink.{SendingLink}
 use Rattle.publish_path.specs.Links.{link_of, can_send}
 use Rattle.publish_path.specs.Publishes.{PublishEvent, TakenUp, FrameSent, OutcomeCame, LinkGone}
-use Rattle.publish_path.specs.Publishes.{ConfirmSent, LinesTold, after_events, next_number, is_begun}
-use Rattle.publish_path.specs.Publishes.{is_sending, takes}
+use Rattle.publish_path.specs.Publishes.{ConfirmSent, LinesTold, ReturnSent, after_events, next_number}
+use Rattle.publish_path.specs.Publishes.{is_begun, is_sending, takes}
 use Rattle.publish_path.specs.Offers.{can_begin, frame_of, next_frame_of, left_of, rest_of}
 use Rattle.publish_path.specs.Journal.{Fate, new_fate, fate_of, numbers_of, confirms_of, IsTaken}
-use Rattle.publish_path.specs.Journal.{waits, goes_on, is_to_go, is_done, is_to_come, rest_by}
+use Rattle.publish_path.specs.Journal.{waits, goes_on, is_to_go, is_done, is_to_come, is_to_return, rest_by}
 use Rattle.publish_path.specs.Laws.{frame_by, IsFrontOf, AreParts, IsWhole, BeginsInOrder}
 use Rattle.publish_path.proofs.Matching.{Matches, begun_test, waits_test, sending_test, rest_test}
-use Rattle.publish_path.proofs.Keeping.{number_of, follows, Stands, stand}
+use Rattle.publish_path.specs.Kept.{number_of}
+use Rattle.publish_path.proofs.Keeping.{follows, Stands, stand}
 
 -- the frame that goes next
 
@@ -47,14 +48,14 @@ first_is life h c t first same only =
 goes_come : (f : Fate) → goes_on f ≡ true → is_to_come f ≡ true
 goes_come f e = by (waits f) (goes_on f) e
   where
-    by : (a b : Bool) → b ≡ true → ((a || b) || not (is_done f) || is_some f.line) ≡ true
+    by : (a b : Bool) → b ≡ true → ((a || b) || not (is_done f) || is_some f.line || is_to_return f) ≡ true
     by true b e = refl
     by false b e = rw e refl
 
 begins_come : (links : List SendingLink) (f : Fate) → (waits f && can_send (link_of links f.link)) ≡ true → is_to_come f ≡ true
 begins_come links f e = by (waits f) (can_send (link_of links f.link)) (goes_on f) e
   where
-    by : (a c b : Bool) → (a && c) ≡ true → ((a || b) || not (is_done f) || is_some f.line) ≡ true
+    by : (a c b : Bool) → (a && c) ≡ true → ((a || b) || not (is_done f) || is_some f.line || is_to_return f) ≡ true
     by true c b e = refl
     by false c b e = absurd (cc)
 
@@ -74,7 +75,7 @@ and_left : (a b : Bool) → (a && b) ≡ false → b ≡ true → a ≡ false
 and_left true b e t = absurd (cc)
 and_left false b e t = refl
 
-and_right : (a b : Bool) → (a && b) ≡ true → b ≡ true
+pub and_right : (a b : Bool) → (a && b) ≡ true → b ≡ true
 and_right true b e = e
 and_right false b e = absurd (cc)
 
@@ -98,10 +99,10 @@ begins_in_order life links h = subst (λ o. IfSome o (BeginsInOrder h)) (sym (fr
 
 -- what is left of a payload
 
-number_is : (m n : ℕ) (b : Bool) → ((m == n) && b) ≡ true → m ≡ n
+pub number_is : (m n : ℕ) (b : Bool) → ((m == n) && b) ≡ true → m ≡ n
 number_is m n b e = grind (arith, nat_tests, common_steps)
 
-number_same : (m n : ℕ) → m ≡ n → (m == n) ≡ true
+pub number_same : (m n : ℕ) → m ≡ n → (m == n) ≡ true
 number_same m n e = grind (arith, nat_tests)
 
 pub rest_kept : (life : ℕ) (h : List PublishEvent) (n : ℕ) → IsTaken h n → rest_of n (after_events life h).list ≡ rest_by (fate_of n h)
@@ -149,10 +150,10 @@ part_front f part front is = by (is_to_go f) is.1
 
 front_kept : (h : List PublishEvent) → AreParts h → (n : ℕ) → IsFrontOf (fate_of n h).sent (fate_of n h).payload
 front_kept [] are n = ([], refl)
-front_kept (TakenUp link confirm payload ∷ h) are n = by (n == numbers_of h + 1) (front_kept h are.1 n)
+front_kept (TakenUp link confirm payload back ∷ h) are n = by (n == numbers_of h + 1) (front_kept h are.1 n)
   where
     by : (b : Bool) → IsFrontOf (fate_of n h).sent (fate_of n h).payload
-        → IsFrontOf (cond b (new_fate link (next_number confirm (confirms_of h)) payload) (fate_of n h)).sent (cond b (new_fate link (next_number confirm (confirms_of h)) payload) (fate_of n h)).payload
+        → IsFrontOf (cond b (new_fate link (next_number confirm (confirms_of h)) payload back) (fate_of n h)).sent (cond b (new_fate link (next_number confirm (confirms_of h)) payload back) (fate_of n h)).payload
     by true ih = (payload, refl)
     by false ih = ih
 front_kept (FrameSent number first part ∷ h) are n = by (n == number) refl (front_kept h are.1 n)
@@ -163,8 +164,9 @@ front_kept (FrameSent number first part ∷ h) are n = by (n == number) refl (fr
         equal : (i j : ℕ) → (i == j) ≡ true → i ≡ j
         equal i j e = grind (arith, nat_tests)
     by false e ih = ih
-front_kept (OutcomeCame first last accepted ∷ h) are n = front_kept h are.1 n
-front_kept (LinkGone link ∷ h) are n = front_kept h are.1 n
+front_kept (OutcomeCame first last outcome ∷ h) are n = front_kept h are.1 n
+front_kept (LinkGone link not_found ∷ h) are n = front_kept h are.1 n
+front_kept (ReturnSent number ∷ h) are n = front_kept h are.1 n
 front_kept (ConfirmSent c ∷ h) are n = front_kept h are.1 n
 front_kept (LinesTold ∷ h) are n = front_kept h are.1 n
 

@@ -4,3 +4,4 @@ pub mod Offers
 pub mod Searches
 pub mod Journal
 pub mod Laws
+pub mod Kept

@@ -1,18 +1,21 @@
 -- What the open publishes make due, and what they count.
 use Rattle.std.specs.Prelude.{ℕ, Bool, true, false, not, ◌==◌, ◌&&◌, ◌||◌, if◌then◌else◌, List, []}
-use Rattle.std.specs.Prelude.{◌∷◌, map, filter, find, count_by, sum_by, length, take, drop}
+use Rattle.std.specs.Prelude.{◌∷◌, map, filter, find, count_by, sum_by, take, drop}
 use Rattle.std.specs.Prelude.{take_while, Option, Some, None, is_some, unwrap_or}
 use Rattle.std.specs.Option.{option_map, option_or}
+use Rattle.open_items.specs.Numbers.{first, has_any}
 use Rattle.open_items.specs.declared.lost.LostItem.{LostItem}
 use Rattle.publish_path.specs.declared.publish.Publish.{Publish}
 use Rattle.publish_path.specs.declared.publish.Answer.{Answer}
 use Rattle.publish_path.specs.declared.publish.Answer.TheVariants.{Open, Owed, Settled}
 use Rattle.publish_path.specs.declared.publish.NextFrame.{NextFrame}
+use Rattle.publish_path.specs.declared.publish.NextReturn.{NextReturn}
 use Rattle.publish_path.specs.declared.publish.Confirm.{Confirm}
 use Rattle.publish_path.specs.declared.send_links.SendingLink.{SendingLink}
 use Rattle.publish_path.specs.Links.{link_of, can_send, begun_on}
 use Rattle.publish_path.specs.Publishes.{PublishEvent, FrameSent, is_waiting, is_begun, is_sending}
-use Rattle.publish_path.specs.Publishes.{has_no_outcome, is_settled, is_on, takes}
+use Rattle.publish_path.specs.Publishes.{has_no_outcome, is_settled, is_on, takes, owes_return}
+use Rattle.publish_path.specs.Publishes.{takes_return}
 
 -- frames
 
@@ -45,6 +48,33 @@ rest_of number list = left_of (find (takes number) list)
 abbrev pub frame_sent : NextFrame → ℕ → List Publish → PublishEvent
 frame_sent frame bytes list =
     FrameSent frame.publish frame.first (take bytes (rest_of frame.publish list))
+
+-- returns
+
+-- its return has begun, and frames of it are still to go
+abbrev pub goes_on_returning : Publish → Bool
+goes_on_returning p = owes_return p && p.returning
+
+-- its return is owed, and hasn't begun
+abbrev pub waits_return : Publish → Bool
+waits_return p = owes_return p && not p.returning
+
+abbrev pub return_of : Bool → Publish → NextReturn
+return_of first p = record { publish = p.number; first = first }
+
+-- a return that has begun goes on; else the lowest number that is owed one begins
+abbrev pub next_return_of : List Publish → Option NextReturn
+next_return_of list =
+    option_or (option_map (return_of false) (find goes_on_returning list))
+    (option_map (return_of true) (find waits_return list))
+
+abbrev pub back_of : Option Publish → List (List ℕ)
+back_of None = []
+back_of (Some p) = p.back
+
+-- the frame of a publish's return that goes next
+abbrev pub return_frame_of : ℕ → List Publish → Option (List ℕ)
+return_frame_of number list = first (back_of (find (takes_return number) list))
 
 -- confirms
 
@@ -85,10 +115,6 @@ abbrev pub last_of : Publish → List Publish → Publish
 last_of p [] = p
 last_of p (q ∷ qs) = last_of q qs
 
-abbrev pub has_any : List Publish → Bool
-has_any [] = false
-has_any (p ∷ ps) = true
-
 -- an ack or a nack of p and of those behind it, by the number of the last
 abbrev pub run_of : Publish → List Publish → Confirm
 run_of p more = record {
@@ -97,13 +123,23 @@ run_of p more = record {
   ack = is_ack p.answer;
 }
 
--- of the unanswered ones: where the first has an outcome, the longest run from it that gives the
--- same; else the first that has an outcome, alone
+-- it is owed a confirm, and nothing of it is to be returned before
+abbrev pub is_ready : Publish → Bool
+is_ready p = is_owed p.answer && not (has_any p.back)
+
+-- and that is an ack, or a nack
+abbrev pub readies : Bool → Publish → Bool
+readies ack p = gives ack p.answer && not (has_any p.back)
+
+-- of the unanswered ones, where the first has an outcome: none while something of it is to be
+-- returned, else the longest run from it that gives the same; where it has none, the first that is
+-- ready, alone
 abbrev pub confirm_of : List Publish → Option Confirm
 confirm_of [] = None
 confirm_of (p ∷ ps) =
-    if is_owed p.answer then Some (run_of p (take_while (λ q. gives (is_ack p.answer) q.answer) ps))
-    else option_map alone (find (λ q. is_owed q.answer) ps)
+    if is_owed p.answer then (if has_any p.back then None
+    else Some (run_of p (take_while (readies (is_ack p.answer)) ps)))
+    else option_map alone (find is_ready ps)
 
 abbrev pub next_confirm_of : List Publish → Option Confirm
 next_confirm_of list = confirm_of (filter is_unanswered list)
@@ -124,18 +160,22 @@ lines_of life (p ∷ ps) = with_line (line_of life p) (lines_of life ps)
 
 -- counts
 
+-- frames of it are still to go, or it may still be returned
 abbrev pub is_held : Publish → Bool
-is_held p = is_sending p.place
+is_held p = is_sending p.place || (has_no_outcome p.answer && has_any p.back)
 
 abbrev pub held_count : List Publish → ℕ
 held_count list = count_by is_held list
 
 abbrev pub held_size : Publish → ℕ
-held_size p = if is_held p then length p.payload else 0
+held_size p = if is_held p then p.size else 0
 
 -- the lengths of the whole payloads of those held
 abbrev pub held_bytes : List Publish → ℕ
 held_bytes list = sum_by held_size list
+
+abbrev pub return_count : List Publish → ℕ
+return_count list = count_by owes_return list
 
 abbrev pub waits_on : ℕ → Publish → Bool
 waits_on link p = is_waiting p.place && (p.link == link)

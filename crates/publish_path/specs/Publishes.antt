@@ -2,9 +2,10 @@
 -- and after each.
 use Rattle.std.specs.Prelude.{ℕ, Bool, true, false, ◌+◌, ◌-◌, ◌%◌, ◌^◌, ◌==◌, ◌&&◌, ◌||◌, not}
 use Rattle.std.specs.Prelude.{nat_le, nat_lt, if◌then◌else◌, List, [], ◌∷◌, ◌++◌, map, filter}
-use Rattle.std.specs.Prelude.{length, Option, Some, None, is_some}
+use Rattle.std.specs.Prelude.{length, drop, Option, Some, None, is_some}
 use Rattle.std.specs.Option.{option_or}
 use Rattle.links_10.specs.Send.{past}
+use Rattle.open_items.specs.Numbers.{has_any}
 use Rattle.open_items.specs.declared.lost.LostKind.{LostKind}
 use Rattle.open_items.specs.declared.lost.LostKind.TheVariants.{PublishLost, PublishUnknown}
 use Rattle.publish_path.specs.declared.publish.Publish.{Publish}
@@ -12,10 +13,12 @@ use Rattle.publish_path.specs.declared.publish.Place.{Place}
 use Rattle.publish_path.specs.declared.publish.Place.TheVariants.{Waiting, Begun, Sent, Lost}
 use Rattle.publish_path.specs.declared.publish.Answer.{Answer}
 use Rattle.publish_path.specs.declared.publish.Answer.TheVariants.{Open, Owed, Settled}
+use Rattle.publish_path.specs.declared.publish.Outcome.{Outcome}
+use Rattle.publish_path.specs.declared.publish.Outcome.TheVariants.{Accepted, Released, Refused}
 use Rattle.publish_path.specs.declared.publish.Confirm.{Confirm}
 use Rattle.publish_path.specs.declared.changes.Change.{Change}
 use Rattle.publish_path.specs.declared.changes.Change.TheVariants.{Framed, Told, LinkLost}
-use Rattle.publish_path.specs.declared.changes.Change.TheVariants.{Confirmed, Reported}
+use Rattle.publish_path.specs.declared.changes.Change.TheVariants.{Confirmed, Reported, Returned}
 
 pub record PublishState : Type 0 where
   -- the number of the life
@@ -30,15 +33,18 @@ pub record PublishState : Type 0 where
   pub next_id : ℕ
 
 pub data PublishEvent : Type 0 where
-  -- a publish was taken up: its link, whether it is to be confirmed, and its payload
-  TakenUp : (link : ℕ) (confirm : Bool) (payload : List ℕ) → PublishEvent
+  -- a publish was taken up: its link, whether it is to be confirmed, its payload, and the frames of
+  -- its basic.return; none where it isn't mandatory (AMQP 0-9-1 1.8.3.7)
+  TakenUp : (link : ℕ) (confirm : Bool) (payload : List ℕ) (back : List (List ℕ)) → PublishEvent
   -- a transfer frame went: its publish, whether it is the first, and its part of the payload (AMQP
   -- 1.0 2.6.14)
   FrameSent : (number : ℕ) (first : Bool) (part : List ℕ) → PublishEvent
   -- an outcome came for the delivery-ids from first to last (AMQP 1.0 2.7.6, 3.4)
-  OutcomeCame : (first last : ℕ) (accepted : Bool) → PublishEvent
-  -- a link was refused, detached or lost, or each of them
-  LinkGone : (link : Option ℕ) → PublishEvent
+  OutcomeCame : (first last : ℕ) (outcome : Outcome) → PublishEvent
+  -- a link was refused, detached or lost, or each of them; and whether its address wasn't found
+  LinkGone : (link : Option ℕ) (not_found : Bool) → PublishEvent
+  -- one more frame of the basic.return of this publish went (AMQP 0-9-1 1.8.3.8)
+  ReturnSent : (number : ℕ) → PublishEvent
   -- an ack or a nack went to the client
   ConfirmSent : (confirm : Confirm) → PublishEvent
   -- the lines that the report was owed were reported
@@ -72,9 +78,20 @@ is_settled Open = false
 is_settled (Owed ack) = false
 is_settled Settled = true
 
--- something is still to come: frames, an outcome, its confirm or its line
+-- something is still to come: frames, an outcome, its confirm, its line or its return
 abbrev pub is_open : Publish → Bool
-is_open p = is_sending p.place || not (is_settled p.answer) || is_some p.line
+is_open p =
+    is_sending p.place || not (is_settled p.answer) || is_some p.line || has_any p.back
+
+abbrev pub is_accepted : Outcome → Bool
+is_accepted Accepted = true
+is_accepted Released = false
+is_accepted Refused = false
+
+abbrev pub is_released : Outcome → Bool
+is_released Accepted = false
+is_released Released = true
+is_released Refused = false
 
 -- what an event does to each publish
 
@@ -111,9 +128,12 @@ due_for (Some number) accepted = Owed accepted
 abbrev pub is_told : ℕ → ℕ → Publish → Bool
 is_told first last p = has_no_outcome p.answer && in_range first last p.id
 
-abbrev pub told : ℕ → ℕ → Bool → Publish → Publish
-told first last accepted p =
-    record p { answer = if is_told first last p then due_for p.confirm accepted else p.answer }
+-- its first outcome: only one that was released is returned
+abbrev pub told : ℕ → ℕ → Outcome → Publish → Publish
+told first last outcome p = record p {
+  answer = if is_told first last p then due_for p.confirm (is_accepted outcome) else p.answer;
+  back = if is_told first last p && not (is_released outcome) then [] else p.back;
+}
 
 -- this link, or any
 abbrev pub is_on : Option ℕ → ℕ → Bool
@@ -130,9 +150,10 @@ lost_place Lost = Lost
 abbrev pub lost_as : Bool → LostKind
 lost_as waiting = if waiting then PublishLost else PublishUnknown
 
--- a loss is an outcome where there was none before; no frame goes any more
-abbrev pub link_lost : Option ℕ → Publish → Publish
-link_lost link p = record p {
+-- a loss is an outcome where there was none before; no frame goes any more. A publish is returned
+-- where its address wasn't found
+abbrev pub link_lost : Option ℕ → Bool → Publish → Publish
+link_lost link not_found p = record p {
   payload = if is_on link p.link then [] else p.payload;
   gone = if is_on link p.link then 0 else p.gone;
   place = if is_on link p.link then lost_place p.place else p.place;
@@ -140,6 +161,7 @@ link_lost link p = record p {
       else p.answer;
   line = if has_no_outcome p.answer && is_on link p.link then Some (lost_as
       (is_waiting p.place)) else p.line;
+  back = if (has_no_outcome p.answer && is_on link p.link) && not not_found then [] else p.back;
 }
 
 -- the confirm numbers that a confirm covers: with multiple, all up to its own (AMQP 0-9-1 1.8.3.13)
@@ -147,33 +169,55 @@ abbrev pub covers : Confirm → Option ℕ → Bool
 covers c None = false
 covers c (Some number) = number == c.number || (c.multiple && nat_le number c.number)
 
+-- one that it covers has nothing to be returned by a later outcome
 abbrev pub confirmed : Confirm → Publish → Publish
-confirmed c p = record p { answer = if covers c p.confirm then Settled else p.answer }
+confirmed c p = record p {
+  answer = if covers c p.confirm then Settled else p.answer;
+  back = if has_no_outcome p.answer && covers c p.confirm then [] else p.back;
+}
 
 abbrev pub reported : Publish → Publish
 reported p = record p { line = None }
 
+-- it has an outcome, and frames of its return are still to go
+abbrev pub owes_return : Publish → Bool
+owes_return p = not (has_no_outcome p.answer) && has_any p.back
+
+abbrev pub takes_return : ℕ → Publish → Bool
+takes_return number p = p.number == number && owes_return p
+
+-- one more frame of the return of this publish went
+abbrev pub returned : ℕ → Publish → Publish
+returned number p = record p {
+  back = if takes_return number p then drop 1 p.back else p.back;
+  returning = if takes_return number p then has_any (drop 1 p.back) else p.returning;
+}
+
 abbrev pub changed : Change → Publish → Publish
 changed (Framed number first id count) p = framed number first id count p
-changed (Told first last accepted) p = told first last accepted p
-changed (LinkLost link) p = link_lost link p
+changed (Told first last outcome) p = told first last outcome p
+changed (LinkLost link not_found) p = link_lost link not_found p
 changed (Confirmed c) p = confirmed c p
 changed Reported p = reported p
+changed (Returned number) p = returned number p
 
 -- the publishes for which something is still to come, after a change of each
 abbrev pub each : (Publish → Publish) → PublishState → PublishState
 each f s = record s { list = filter is_open (map f s.list) }
 
-abbrev pub new_publish : ℕ → ℕ → Option ℕ → List ℕ → Publish
-new_publish number link confirm payload = record {
+abbrev pub new_publish : ℕ → ℕ → Option ℕ → List ℕ → List (List ℕ) → Publish
+new_publish number link confirm payload back = record {
   number = number;
   link = link;
   confirm = confirm;
   id = None;
   payload = payload;
   gone = 0;
+  size = length payload;
   place = Waiting;
   answer = Open;
+  back = back;
+  returning = false;
   line = None;
 }
 
@@ -186,8 +230,10 @@ abbrev pub no_publishes : ℕ → PublishState
 no_publishes life = record { life = life; list = []; numbers = 0; confirms = 0; next_id = 0 }
 
 abbrev pub after_event : PublishEvent → PublishState → PublishState
-after_event (TakenUp link confirm payload) s = record s {
-  list = s.list ++ new_publish (s.numbers + 1) link (next_number confirm s.confirms) payload ∷ [];
+after_event (TakenUp link confirm payload back) s = record s {
+  list =
+      s.list
+      ++ new_publish (s.numbers + 1) link (next_number confirm s.confirms) payload back ∷ [];
   numbers = s.numbers + 1;
   confirms = if confirm then s.confirms + 1 else s.confirms;
 }
@@ -195,8 +241,9 @@ after_event (FrameSent number first part) s = record s {
   list = filter is_open (map (framed number first s.next_id (length part)) s.list);
   next_id = if first then (s.next_id + 1) % 2 ^ 32 else s.next_id;
 }
-after_event (OutcomeCame first last accepted) s = each (told first last accepted) s
-after_event (LinkGone link) s = each (link_lost link) s
+after_event (OutcomeCame first last outcome) s = each (told first last outcome) s
+after_event (LinkGone link not_found) s = each (link_lost link not_found) s
+after_event (ReturnSent number) s = each (returned number) s
 after_event (ConfirmSent c) s = each (confirmed c) s
 after_event LinesTold s = each reported s
 

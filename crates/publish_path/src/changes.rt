@@ -1,13 +1,14 @@
 //! What an event does to each publish of a life.
 
-ghost use Rattle.std.specs.Prelude.{◌≡◌, ◌-◌, map, filter};
+ghost use Rattle.std.specs.Prelude.{◌≡◌, ◌-◌, filter};
 ghost use Rattle.publish_path.specs.declared.publish.Publish.{Publish};
 ghost use Rattle.publish_path.specs.Publishes.{is_sending, is_open, framed, in_range, due_for};
 ghost use Rattle.publish_path.specs.Publishes.{is_told, told, is_on, link_lost, covers, confirmed};
-ghost use Rattle.publish_path.specs.Publishes.{reported, changed};
+ghost use Rattle.publish_path.specs.Publishes.{reported, changed, is_accepted, is_released};
+ghost use Rattle.publish_path.specs.Publishes.{owes_return, returned};
 
-use crate::publish::{Answer, Confirm, Place, Publish};
-use open_items::LostKind;
+use crate::publish::{Answer, Confirm, Outcome, Place, Publish};
+use open_items::{Frames, LostKind};
 use std::alloc::Global;
 use wire_base::ByteText;
 
@@ -26,14 +27,16 @@ pub enum Change {
     Told {
         first: u32,
         last: u32,
-        accepted: bool,
+        outcome: Outcome,
     },
-    /// This link was lost, or each.
-    LinkLost(Option<u32>),
+    /// This link was lost, or each; and whether its address wasn't found.
+    LinkLost(Option<u32>, bool),
     /// This confirm was sent.
     Confirmed(Confirm),
     /// The lines that the report was owed were reported.
     Reported,
+    /// One more frame of the return of this publish was sent.
+    Returned(u64),
 }
 
 pub fn is_publish_sending(p: &Publish) -> bool
@@ -45,7 +48,7 @@ pub fn is_publish_sending(p: &Publish) -> bool
 fn is_publish_open(p: &Publish) -> bool
     ensures { result ≡ is_open p.now }
 {
-    is_publish_sending(p) || p.answer != Answer::Settled || p.line.is_some()
+    is_publish_sending(p) || p.answer != Answer::Settled || p.line.is_some() || !p.back.is_empty()
 }
 
 fn frame_one(alloc: Global, p: &mut Publish, first: bool, id: u32, count: usize)
@@ -91,11 +94,27 @@ pub fn is_publish_told(p: &Publish, first: u32, last: u32) -> bool
     p.answer == Answer::Open && is_in_range(p.id, first, last)
 }
 
-fn tell_one(p: &mut Publish, first: u32, last: u32, accepted: bool)
-    ensures { p.new ≡ told first last accepted p.old }
+fn is_outcome_accepted(outcome: Outcome) -> bool
+    ensures { result ≡ is_accepted outcome }
 {
-    if is_publish_told(p, first, last) {
-        p.answer = due(p.confirm, accepted);
+    outcome == Outcome::Accepted
+}
+
+fn is_outcome_released(outcome: Outcome) -> bool
+    ensures { result ≡ is_released outcome }
+{
+    outcome == Outcome::Released
+}
+
+fn tell_one(alloc: Global, p: &mut Publish, first: u32, last: u32, outcome: Outcome)
+    ensures { p.new ≡ told first last outcome p.old }
+{
+    if !is_publish_told(p, first, last) {
+        return;
+    }
+    p.answer = due(p.confirm, is_outcome_accepted(outcome));
+    if !is_outcome_released(outcome) {
+        p.back = Frames::empty(alloc);
     }
 }
 
@@ -108,8 +127,8 @@ pub fn is_link(one: Option<u32>, link: u32) -> bool
     }
 }
 
-fn lose_one(alloc: Global, p: &mut Publish, link: Option<u32>)
-    ensures { p.new ≡ link_lost link p.old }
+fn lose_one(alloc: Global, p: &mut Publish, link: Option<u32>, not_found: bool)
+    ensures { p.new ≡ link_lost link not_found p.old }
 {
     if !is_link(link, p.link) {
         return;
@@ -121,6 +140,9 @@ fn lose_one(alloc: Global, p: &mut Publish, link: Option<u32>)
         } else {
             LostKind::PublishUnknown
         });
+        if !not_found {
+            p.back = Frames::empty(alloc);
+        }
     }
     p.payload = ByteText::empty(alloc);
     p.gone = 0;
@@ -138,18 +160,37 @@ fn is_covered(confirm: Confirm, number: Option<u64>) -> bool
     }
 }
 
-fn confirm_one(p: &mut Publish, confirm: Confirm)
+fn confirm_one(alloc: Global, p: &mut Publish, confirm: Confirm)
     ensures { p.new ≡ confirmed confirm p.old }
 {
-    if is_covered(confirm, p.confirm) {
-        p.answer = Answer::Settled;
+    if !is_covered(confirm, p.confirm) {
+        return;
     }
+    if p.answer == Answer::Open {
+        p.back = Frames::empty(alloc);
+    }
+    p.answer = Answer::Settled;
 }
 
 fn report_one(p: &mut Publish)
     ensures { p.new ≡ reported p.old }
 {
     p.line = None;
+}
+
+pub fn is_return_owed(p: &Publish) -> bool
+    ensures { result ≡ owes_return p.now }
+{
+    p.answer != Answer::Open && !p.back.is_empty()
+}
+
+fn return_one(p: &mut Publish, number: u64)
+    ensures { p.new ≡ returned number p.old }
+{
+    if p.number == number && is_return_owed(p) {
+        p.back.drop_first();
+        p.returning = !p.back.is_empty();
+    }
 }
 
 fn frame_if(alloc: Global, p: &mut Publish, number: u64, first: bool, id: u32, count: usize)
@@ -160,7 +201,8 @@ fn frame_if(alloc: Global, p: &mut Publish, number: u64, first: bool, id: u32, c
     }
 }
 
-fn change_one(alloc: Global, p: &mut Publish, change: Change)
+/// What happens does to one publish what its definition says.
+pub fn change_one(alloc: Global, p: &mut Publish, change: Change)
     ensures { p.new ≡ changed change p.old }
 {
     match change {
@@ -173,21 +215,12 @@ fn change_one(alloc: Global, p: &mut Publish, change: Change)
         Change::Told {
             first,
             last,
-            accepted,
-        } => tell_one(p, first, last, accepted),
-        Change::LinkLost(link) => lose_one(alloc, p, link),
-        Change::Confirmed(confirm) => confirm_one(p, confirm),
+            outcome,
+        } => tell_one(alloc, p, first, last, outcome),
+        Change::LinkLost(link, not_found) => lose_one(alloc, p, link, not_found),
+        Change::Confirmed(confirm) => confirm_one(alloc, p, confirm),
         Change::Reported => report_one(p),
-    }
-}
-
-/// Changes each publish.
-pub fn change_all(items: &mut Vec<Publish>, change: Change)
-    ensures { items.new.items ≡ map (changed change) items.old.items }
-{
-    let alloc = *items.allocator();
-    for p in items.iter_mut() {
-        change_one(alloc, p, change);
+        Change::Returned(number) => return_one(p, number),
     }
 }
 

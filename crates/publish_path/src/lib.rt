@@ -1,8 +1,10 @@
 //! The publishes of a life of a channel, on their way to the container: from their taking up, over
-//! the frames of their transfers, to their outcomes, their confirms and their lines of the report.
+//! the frames of their transfers, to their outcomes, their returns, their confirms and their lines
+//! of the report.
 #![tactic(auto)]
 
 mod changes;
+mod counts;
 mod laws;
 mod publish;
 mod publishes;
@@ -10,8 +12,9 @@ mod searches;
 mod send_links;
 #[cfg(test)]
 mod tests;
+mod visits;
 
-pub use laws::{confirms_lawfully, lines_lawfully, payloads_lawfully};
-pub use publish::{Answer, Confirm, NextFrame, Place, Publish};
+pub use laws::{confirms_lawfully, lines_lawfully, payloads_lawfully, returns_lawfully};
+pub use publish::{Answer, Confirm, NextFrame, NextReturn, Outcome, Place, Publish};
 pub use publishes::Publishes;
 pub use send_links::SendLinks;

@@ -1,6 +1,6 @@
 //! What is kept of one publish, and what is offered of it.
 
-use open_items::LostKind;
+use open_items::{Frames, LostKind};
 use wire_base::ByteText;
 
 /// Where the frames of its transfer are.
@@ -14,6 +14,15 @@ pub enum Place {
     Sent,
     /// Its link was lost before the last was sent.
     Lost,
+}
+
+/// The outcome of a transfer (AMQP 1.0 3.4).
+#[derive(Clone, Copy, Debug, PartialEq, Eq)]
+pub enum Outcome {
+    Accepted,
+    Released,
+    /// It was rejected or modified, or settled without a state.
+    Refused,
 }
 
 /// What its client is owed.
@@ -42,8 +51,16 @@ pub struct Publish {
     pub payload: ByteText,
     /// So many bytes of the payload were sent.
     pub gone: usize,
+    /// So many bytes the whole payload has.
+    pub size: usize,
     pub place: Place,
     pub answer: Answer,
+    /// The frames of its basic.return (AMQP 0-9-1 1.8.3.8) that are still to be sent. There are
+    /// none unless it was published as mandatory, nor once it has an outcome that doesn't return
+    /// it.
+    pub back: Frames,
+    /// Some frames of its basic.return were sent, and more are to come.
+    pub returning: bool,
     /// The line that the report is owed.
     pub line: Option<LostKind>,
 }
@@ -56,6 +73,15 @@ pub struct NextFrame {
     /// The number of the link that it goes on.
     pub link: u32,
     /// It is the first of its transfer.
+    pub first: bool,
+}
+
+/// A frame of a basic.return that is due.
+#[derive(Clone, Copy, Debug, PartialEq, Eq)]
+pub struct NextReturn {
+    /// The number of its publish.
+    pub publish: u64,
+    /// It is the first of the return.
     pub first: bool,
 }
 

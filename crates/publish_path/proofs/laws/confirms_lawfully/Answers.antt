@@ -5,4 +5,4 @@ pub returns-clause-lawful : goal.returns-clause-lawful
 returns-clause-lawful c = confirm_is_lawful
 
 pub returns-clause-offered : goal.returns-clause-offered
-returns-clause-offered c = λ life n h owed. confirm_is_offered life h n owed.0 owed.1
+returns-clause-offered c = λ life n h owed are. confirm_is_offered life h n owed.0 owed.1 are
