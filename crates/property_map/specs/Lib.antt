@@ -11,4 +11,5 @@ pub mod Said
 pub mod Spelling
 pub mod Steps
 pub mod Texts
+pub mod Told
 pub mod Values

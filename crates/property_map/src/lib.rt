@@ -17,6 +17,7 @@ mod rows_091;
 mod spelling;
 mod spelling_laws;
 mod texts;
+mod told;
 mod values;
 
 pub use fault::{MapFault, PropName};
@@ -27,3 +28,4 @@ pub use message::Message091;
 pub use rows::decimal_of;
 pub use spelling::put_image;
 pub use spelling_laws::images_are_spelled;
+pub use told::{FaultName, Told, fault_name, part_name};
