@@ -1,7 +1,7 @@
 -- A unit of the container never leaves a pair out of memory that was not so before.
 use Rattle.std.proofs.Common.{◌≡◌, ℕ, ◌==◌, not, ◌&&◌, ◌||◌, Bool, true, false, if◌then◌else◌, List}
-use Rattle.std.proofs.Common.{[], ◌∷◌, map, Option, None, Some, refl, sym, ◌∙◌}
-use Rattle.gate_outside.specs.declared.ports.End.TheVariants.{Up}
+use Rattle.std.proofs.Common.{[], ◌∷◌, ◌++◌, map, Option, None, Some, refl, sym, ◌∙◌}
+use Rattle.gate_outside.specs.declared.ports.End.TheVariants.{Client, Up}
 use Rattle.gate_relay.specs.Sides.{is_readable}
 use Rattle.close_translate.specs.declared.conditions.Scope.{Scope}
 use Rattle.close_translate.specs.declared.conditions.Scope.TheVariants as scope
@@ -11,20 +11,35 @@ use Rattle.machine_10.specs.Transitions.{Meaning}
 use Rattle.machine_10.specs.Transitions as means
 use Rattle.machine_10.specs.declared.unit.Unit10.{Unit10}
 use Rattle.performatives_10.specs.declared.condition.Condition.{Condition}
+use Rattle.gate_model.specs.declared.reply.Reason.{Reason}
 use Rattle.gate_model.specs.declared.channel.SessionUnit.{SessionUnit}
-use Rattle.gate_model.specs.declared.outgoing.Outgoing.TheVariants.{ToUp}
+use Rattle.gate_model.specs.declared.outgoing.Outgoing.TheVariants.{ToClient, ToUp}
 use Rattle.gate_model.specs.declared.outgoing.UpUnit.{UpUnit}
 use Rattle.gate_model.specs.declared.outgoing.UpUnit.TheVariants as up
 use Rattle.gate_model.specs.Due.{carried_rows, close_behind, detaches, ends, is_end_due, none_left}
 use Rattle.gate_model.specs.Due.{pick, row_on, rows_in, session_rows, settlings, takes_memory}
 use Rattle.gate_model.specs.Due.{takes_memory_on, takes_memory_up, unless_out, up_rows}
-use Rattle.gate_model.specs.Lives.{is_carried, session_in}
+use Rattle.gate_model.specs.Due.{channel_closes, channel_oks, client_rows, client_units, close_oks}
+use Rattle.gate_model.specs.Due.{closes, confirm_on, confirms, contents, if_so, is_beat_due}
+use Rattle.gate_model.specs.Due.{last_closes, may_answer, may_confirm, may_end, may_go, may_return}
+use Rattle.gate_model.specs.Due.{may_tell, ok_on, open_oks, openings, path_oks, refused_on}
+use Rattle.gate_model.specs.Due.{return_on, takes_memory_back, when}
+use Rattle.gate_model.specs.Lives.{is_carried, life_at, session_in}
 use Rattle.gate_model.specs.Paths.{path_at}
+use Rattle.gate_model.specs.State.{is_channel_settled, is_settled}
 use Rattle.gate_model.specs.State.{State, Heard, begun_session, carried, fail, fail_life, heard}
 use Rattle.gate_model.specs.State.{link_scope, met_session, scoped, step, windowed, with_meaning}
 use Rattle.gate_model.specs.State.{with_session}
 use Rattle.gate_model.specs.Upstream.{first, heard_up, meaning_by}
-use Rattle.bridge_core.proofs.FirstOf.{FirstIs, both_are, each_is, when_up_is}
+use Rattle.gate_model.specs.declared.reply.Pending.{Pending}
+use Rattle.gate_model.specs.declared.reply.Reply.{Reply}
+use Rattle.gate_model.specs.declared.reply.Reply.TheVariants as reply
+use Rattle.machine_091.specs.declared.unit.Refusal.{Refusal}
+use Rattle.publish_path.specs.declared.publish.Confirm.{Confirm}
+use Rattle.publish_path.specs.declared.publish.NextReturn.{NextReturn}
+use Rattle.session_path.specs.Due.{next_confirm, next_ok, next_return}
+use Rattle.session_path.specs.declared.path.PathOk.{PathOk}
+use Rattle.bridge_core.proofs.FirstOf.{FirstIs, both_are, each_is, when_is, when_up_is}
 
 either : (b : Bool) (v w : State) → v.out_of_memory ≡ false → w.out_of_memory ≡ false → (if b then v else w).out_of_memory ≡ false
 either true v w d e = d
@@ -108,3 +123,90 @@ calm_pick w e = by w.out_of_memory refl
     by : (m : Bool) → w.out_of_memory ≡ m → m ≡ false
     by false f = refl
     by true f = let wrong : true ≡ false = sym e ∙ first_free (up_rows w) (up_free w f) in absurd cc
+
+-- ---- nor does what it offers to the client
+
+abbrev IsLight : Reply → Type 0
+IsLight u = takes_memory_back u ≡ false
+
+if_light : (b : Bool) (us : List Reply) → (b ≡ true → FirstIs IsLight us) → FirstIs IsLight (if_so b us)
+if_light true us light = light refl
+if_light false us light = tt
+
+ok_light : (n : ℕ) (o : Option PathOk) → FirstIs IsLight (ok_on n o)
+ok_light n None = tt
+ok_light n (Some x) = refl
+
+oks_light : (n : ℕ) (over : Bool) (o : Option PathOk) → FirstIs IsLight (if over then [] else ok_on n o)
+oks_light n true o = tt
+oks_light n false o = ok_light n o
+
+confirm_light : (n : ℕ) (may : Bool) (o : Option Confirm) → FirstIs IsLight (confirm_on may n o)
+confirm_light n may None = tt
+confirm_light n may (Some c) = when_is IsLight may _ refl
+
+-- none begins
+return_light : (n : ℕ) (may : Bool) (o : Option NextReturn) → may ≡ false → FirstIs IsLight (return_on may n o)
+return_light n may None e = tt
+return_light n true (Some r) e = absurd cc
+return_light n false (Some r) e = tt
+
+refused_light : (n : ℕ) (settled : Bool) (o : Option Reason) → FirstIs IsLight (refused_on settled n o)
+refused_light n settled None = tt
+refused_light n settled (Some r) = when_is IsLight settled _ refl
+
+close_light : (o : Option Refusal) → FirstIs IsLight (closes o)
+close_light None = tt
+close_light (Some r) = refl
+
+opening_light : (p : Pending) → FirstIs IsLight (openings p)
+opening_light p =
+    both_are IsLight _ _ (when_is IsLight p.protocol reply.Protocol refl)
+    (both_are IsLight _ _ (when_is IsLight p.start reply.Start refl)
+    (both_are IsLight _ _ (when_is IsLight p.tune reply.Tune refl) (when_is IsLight p.open_ok reply.OpenOk refl)))
+
+none_out : (b c : Bool) → b ≡ true → (not b && c) ≡ false
+none_out true c e = refl
+none_out false c e = absurd cc
+
+client_light : (w : State) → w.out_of_memory ≡ true → FirstIs IsLight (client_rows w)
+client_light w m =
+    both_are IsLight (client_units w) _
+    (both_are IsLight (if_so (may_return w) (contents w)) _ (if_light (may_return w) (contents w) (λ e. let wrong : true ≡ false = sym e ∙ none_out w.out_of_memory _ m in absurd cc))
+    (both_are IsLight (openings p) _ (opening_light p)
+    (both_are IsLight (if_so (may_answer w) (open_oks w ++ path_oks w)) _ (if_light (may_answer w) _ (λ e. answering))
+    (both_are IsLight (if_so (may_answer w || w.by_peer) (confirms w)) _ (if_light (may_answer w || w.by_peer) (confirms w) (λ e. confirming))
+    (both_are IsLight (close_oks p) _ (when_is IsLight p.close_ok reply.CloseOk refl)
+    (both_are IsLight (if_so (may_end w) (channel_oks w)) _ (if_light (may_end w) (channel_oks w) (λ e. ended))
+    (both_are IsLight (last_closes p) _ (both_are IsLight (closes p.close) _ (close_light p.close) (when_is IsLight p.no_memory reply.NoMemory refl))
+    (if_light (may_tell w) (channel_closes w) (λ e. each_is IsLight _ w.lives (λ n. refused_light n (is_channel_settled w n) (life_at w.lives n).close))))))))))
+    (when_is IsLight (is_beat_due w) reply.Heartbeat refl)
+  where
+    p : Pending
+    p = may_go (is_settled w) w.pending
+
+    answering : FirstIs IsLight (open_oks w ++ path_oks w)
+    answering =
+        both_are IsLight (open_oks w) (path_oks w) (each_is IsLight _ w.lives (λ n. when_is IsLight (life_at w.lives n).open_ok (reply.ChannelOpenOk n) refl))
+        (each_is IsLight _ w.lives (λ n. oks_light n (life_at w.lives n).over (next_ok (path_at w.paths n))))
+
+    confirming : FirstIs IsLight (confirms w)
+    confirming = each_is IsLight _ w.lives (λ n. both_are IsLight (return_on (not w.out_of_memory && may_confirm (life_at w.lives n)) n (next_return (path_at w.paths n))) _
+        (return_light n (not w.out_of_memory && may_confirm (life_at w.lives n)) (next_return (path_at w.paths n)) (none_out w.out_of_memory _ m))
+        (confirm_light n (may_confirm (life_at w.lives n)) (next_confirm (path_at w.paths n))))
+
+    ended : FirstIs IsLight (channel_oks w)
+    ended = each_is IsLight _ w.lives (λ n. both_are IsLight (when (life_at w.lives n).crossed_ok (reply.CrossedOk n)) _
+        (when_is IsLight (life_at w.lives n).crossed_ok (reply.CrossedOk n) refl)
+        (when_is IsLight ((life_at w.lives n).close_ok && is_channel_settled w n) (reply.ChannelCloseOk n) refl))
+
+first_light : (us : List Reply) → FirstIs IsLight us → takes_memory (first (map ToClient us)) ≡ false
+first_light [] light = refl
+first_light (u ∷ us) light = light
+
+pub calm_client : (w : State) → takes_memory (pick w Client) ≡ true → w.out_of_memory ≡ false
+calm_client w e = by w.out_of_memory refl
+  where
+    by : (m : Bool) → w.out_of_memory ≡ m → m ≡ false
+    by false f = refl
+    by true f = let wrong : true ≡ false = sym e ∙ first_light (client_rows w) (client_light w f) in absurd cc

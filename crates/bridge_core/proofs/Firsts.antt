@@ -5,7 +5,9 @@ use Rattle.std.specs.Option.{option_map}
 use Rattle.gate_model.specs.declared.outgoing.Outgoing.{Outgoing}
 use Rattle.gate_model.specs.declared.outgoing.Outgoing.TheVariants.{ToClient}
 use Rattle.gate_model.specs.declared.reply.Reply.{Reply}
+use Rattle.gate_model.specs.Due.{carries_back}
 use Rattle.gate_model.specs.Spelling.{spell_reply}
+use Rattle.gate_model.specs.State.{State}
 use Rattle.gate_model.specs.Upstream.{first}
 use Rattle.bridge_core.specs.Offers.{client_bytes}
 
@@ -13,9 +15,9 @@ first_map : {A B : Type 0} (f : A → B) (xs : List A) → first (map f xs) ≡ 
 first_map f [] = refl
 first_map f (x ∷ xs) = refl
 
-pub first_bytes : (us : List Reply) (u : Reply) (old : List ℕ) → Some u ≡ first us → client_bytes (first (map ToClient us)) old ≡ spell_reply u
-first_bytes us u old e =
-    ap (λ (o : Option Outgoing). client_bytes o old) (first_map ToClient us ∙ ap (option_map ToClient) (sym e))
+pub first_bytes : (w : State) (us : List Reply) (u : Reply) (old : List ℕ) → Some u ≡ first us → client_bytes w (first (map ToClient us)) old ≡ spell_reply u (carries_back w u)
+first_bytes w us u old e =
+    ap (λ (o : Option Outgoing). client_bytes w o old) (first_map ToClient us ∙ ap (option_map ToClient) (sym e))
 
 -- of two rows that of the first, or where it has none that of the second
 pub first_some : {A : Type 0} (xs ys : List A) (u : A) → Some u ≡ first xs → first (xs ++ ys) ≡ Some u

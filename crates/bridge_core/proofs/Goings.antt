@@ -10,9 +10,11 @@ use Rattle.machine_091.specs.declared.unit.Refusal.{Refusal}
 use Rattle.publish_path.specs.Offers.{next_frame_of}
 use Rattle.publish_path.specs.declared.publish.Confirm.{Confirm}
 use Rattle.publish_path.specs.declared.publish.NextFrame.{NextFrame}
-use Rattle.session_path.specs.Due.{next_confirm, next_frame, next_ok}
+use Rattle.publish_path.specs.declared.publish.NextReturn.{NextReturn}
+use Rattle.session_path.specs.Due.{next_confirm, next_frame, next_ok, next_return}
 use Rattle.session_path.specs.Path.{PathState}
 use Rattle.session_path.specs.declared.path.PathOk.{PathOk}
+use Rattle.gate_model.specs.declared.reply.Reason.{Reason}
 use Rattle.gate_model.specs.declared.channel.ChannelUnit.TheVariants as to_client
 use Rattle.gate_model.specs.declared.channel.SessionUnit.{SessionUnit}
 use Rattle.gate_model.specs.declared.channel.SessionUnit.TheVariants as unit
@@ -23,7 +25,8 @@ use Rattle.gate_model.specs.declared.outgoing.UpUnit.TheVariants as up
 use Rattle.gate_model.specs.declared.reply.Pending.{Pending}
 use Rattle.gate_model.specs.declared.reply.Reply.{Reply}
 use Rattle.gate_model.specs.declared.reply.Reply.TheVariants as reply
-use Rattle.gate_model.specs.Due.{attaches, begins, carried_rows, channel_closes, channel_oks}
+use Rattle.gate_model.specs.Due.{attaches, begins, carried_rows, carries_back, channel_closes}
+use Rattle.gate_model.specs.Due.{channel_oks, content_on, contents, may_return, return_on}
 use Rattle.gate_model.specs.Due.{client_rows, client_units, close_behind, close_oks, close_oks_on}
 use Rattle.gate_model.specs.Due.{closes, confirm_on, confirms, detaches, ends, frame_max_in, if_so}
 use Rattle.gate_model.specs.Due.{is_beat_due, is_end_due, last_closes, link_flows, may_answer}
@@ -124,6 +127,14 @@ answers_are w n l = by l.over
     by true = tt
     by false = oks_are w n (next_ok (path_at w.paths n))
 
+return_is : (w : State) (n : ℕ) (may : Bool) (o : Option NextReturn) → next_return (path_at w.paths n) ≡ o → FirstIs (MayReply w) (return_on may n o)
+return_is w n may None e = tt
+return_is w n may (Some r) e = when_is (MayReply w) (may && r.first) (reply.OnChannel n (to_client.Return r)) e
+
+content_is : (w : State) (n : ℕ) (o : Option NextReturn) → next_return (path_at w.paths n) ≡ o → FirstIs (MayReply w) (content_on n o)
+content_is w n None e = tt
+content_is w n (Some r) e = when_is (MayReply w) (not r.first) (reply.OnChannel n (to_client.Return r)) e
+
 confirm_is : (w : State) (n : ℕ) (may : Bool) (o : Option Confirm) → next_confirm (path_at w.paths n) ≡ o → FirstIs (MayReply w) (confirm_on may n o)
 confirm_is w n may None e = tt
 confirm_is w n may (Some c) e = when_is (MayReply w) may (reply.OnChannel n (to_client.Confirm c)) e
@@ -133,7 +144,7 @@ closings_are w n settled l =
     both_are (MayReply w) (when l.crossed_ok (reply.CrossedOk n)) _ (when_is (MayReply w) l.crossed_ok (reply.CrossedOk n) tt)
     (when_is (MayReply w) settled (reply.ChannelCloseOk n) tt)
 
-refusal_is : (w : State) (n : ℕ) (settled : Bool) (o : Option Refusal) → FirstIs (MayReply w) (refused_on settled n o)
+refusal_is : (w : State) (n : ℕ) (settled : Bool) (o : Option Reason) → FirstIs (MayReply w) (refused_on settled n o)
 refusal_is w n settled None = tt
 refusal_is w n settled (Some r) = when_is (MayReply w) settled (reply.ChannelClose n r) tt
 
@@ -172,7 +183,9 @@ confirming_are : (w : State) → FirstIs (MayReply w) (confirming_units w)
 confirming_are w =
     both_are (MayReply w) (if_so (may_answer w || w.by_peer) (confirms w)) _
     (if_so_is (MayReply w) (may_answer w || w.by_peer) (confirms w)
-    (each_is (MayReply w) _ w.lives (λ n. confirm_is w n (may_confirm (life_at w.lives n)) (next_confirm (path_at w.paths n)) refl)))
+    (each_is (MayReply w) _ w.lives (λ n. both_are (MayReply w) (return_on _ n (next_return (path_at w.paths n))) _
+    (return_is w n (not w.out_of_memory && may_confirm (life_at w.lives n)) (next_return (path_at w.paths n)) refl)
+    (confirm_is w n (may_confirm (life_at w.lives n)) (next_confirm (path_at w.paths n)) refl))))
     (closing_are w)
 
 answering_are : (w : State) → FirstIs (MayReply w) (answering_units w)
@@ -187,7 +200,10 @@ answering_are w =
 client_are : (w : State) → FirstIs (MayReply w) (client_rows w)
 client_are w =
     both_are (MayReply w) (client_units w) _
-    (both_are (MayReply w) (openings (may_go (is_settled w) w.pending)) _ (first_are w (may_go (is_settled w) w.pending)) (answering_are w))
+    (both_are (MayReply w) (if_so (may_return w) (contents w)) _
+    (if_so_is (MayReply w) (may_return w) (contents w)
+    (each_is (MayReply w) _ w.lives (λ n. content_is w n (next_return (path_at w.paths n)) refl)))
+    (both_are (MayReply w) (openings (may_go (is_settled w) w.pending)) _ (first_are w (may_go (is_settled w) w.pending)) (answering_are w)))
     (when_is (MayReply w) (is_beat_due w) reply.Heartbeat tt)
 
 -- ---- what is offered
@@ -202,7 +218,7 @@ of_client w (x ∷ us) u p e = let same : x ≡ u = cc in subst (MayReply w) sam
 
 pub offered_may_reply : (w : State) (s : SlotState) (u : Reply) → IsOffer w s → Some u ≡ s.chosen → MayReply w u
 offered_may_reply w s u offer e =
-    of_client w (client_rows w) u (client_are w) (subst (λ (o : Option Reply). IfSome o (λ r. (pick w Client ≡ Some (ToClient r)) × (s.bytes ≡ spell_reply r))) (sym e) offer).0
+    of_client w (client_rows w) u (client_are w) (subst (λ (o : Option Reply). IfSome o (λ r. (pick w Client ≡ Some (ToClient r)) × (s.bytes ≡ spell_reply r (carries_back w r)))) (sym e) offer).0
 
 pub offered_may_go : (w : State) (s : UpSlotState) (u : UpUnit) → IsUpOffer w s → Some u ≡ s.chosen → MayGoUp w u
 offered_may_go w s u offer e =

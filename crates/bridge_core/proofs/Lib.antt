@@ -1,3 +1,4 @@
+pub mod Backs
 pub mod Calm
 pub mod Errors
 pub mod FirstOf

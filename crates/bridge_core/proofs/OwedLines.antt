@@ -1,4 +1,5 @@
 -- The lines that the report is owed: of publishes, of lives, and of all lives up to one.
+use Rattle.open_items.specs.Numbers.{has_any}
 use Rattle.std.proofs.Common.{◌≡◌, ◌∙◌, ℕ, zero, suc, ◌+◌, ◌-◌, ◌<◌, ◌≤◌, Bool, true, false, not}
 use Rattle.std.proofs.Common.{◌||◌}
 use Rattle.std.proofs.Common.{List, [], ◌∷◌, ◌++◌, Option, None, Some, refl, sym, ap, subst, arith}
@@ -58,11 +59,11 @@ slots_from pair life ps i o lt is =
 -- ---- of publishes
 
 -- one for which nothing is to come any more owes none
-closed_line : (a b : Bool) (o : Option LostKind) → ((a || b) || is_some o) ≡ false → o ≡ None
-closed_line a b None e = refl
-closed_line true b (Some kind) e = absurd cc
-closed_line false true (Some kind) e = absurd cc
-closed_line false false (Some kind) e = absurd cc
+closed_line : (a b c : Bool) (o : Option LostKind) → (((a || b) || is_some o) || c) ≡ false → o ≡ None
+closed_line a b c None e = refl
+closed_line true b c (Some kind) e = absurd cc
+closed_line false true c (Some kind) e = absurd cc
+closed_line false false c (Some kind) e = absurd cc
 
 pub lines_seen : (life : ℕ) (ps : List Publish) → lines_of life (filter is_open ps) ≡ lines_of life ps
 lines_seen life [] = refl
@@ -72,7 +73,7 @@ lines_seen life (p ∷ ps) = by (is_open p) refl (lines_seen life ps)
         → lines_of life (cond b (p ∷ filter is_open ps) (filter is_open ps)) ≡ with_line (line_of life p) (lines_of life ps)
     by true e more = ap (with_line (line_of life p)) more
     by false e more =
-        more ∙ sym (ap (λ (o : Option LostKind). with_line (line_of life (record p { line = o })) (lines_of life ps)) (closed_line (is_sending p.place) (not (is_settled p.answer)) p.line e))
+        more ∙ sym (ap (λ (o : Option LostKind). with_line (line_of life (record p { line = o })) (lines_of life ps)) (closed_line (is_sending p.place) (not (is_settled p.answer)) (has_any p.back) p.line e))
 
 pub owes_lines : (life : ℕ) (ps : List Publish) → list_any has_line ps ≡ not (is_empty (lines_of life ps))
 owes_lines life [] = refl

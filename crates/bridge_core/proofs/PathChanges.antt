@@ -2,7 +2,7 @@
 use Rattle.std.proofs.Common.{◌≡◌, ◌∙◌, ℕ, Bool, Option, None, Some, refl, sym, ap}
 use Rattle.std.specs.Prelude.{is_some}
 use Rattle.performatives_10.specs.Fields.{maybe}
-use Rattle.performatives_10.specs.View.{target_tree}
+use Rattle.performatives_10.specs.View.{error_tree, target_tree}
 use Rattle.performatives_10.specs.declared.performative.Attach.{Attach}
 use Rattle.performatives_10.specs.declared.performative.Detach.{Detach}
 use Rattle.performatives_10.specs.declared.performative.Flow.{Flow}
@@ -11,12 +11,14 @@ use Rattle.performatives_10.specs.declared.performative.Perf.TheVariants as perf
 use Rattle.performatives_10.specs.declared.performative.Target10.{Target10}
 use Rattle.machine_10.specs.Parts.{parts_of}
 use Rattle.session_path.specs.Path.{PathState, attach_came, detach_came, flow_came}
-use Rattle.gate_model.specs.Paths.{attach_by, credit_of, is_there, name_in}
+use Rattle.gate_model.specs.Paths.{attach_by, credit_of, is_not_found, is_there, name_in}
+use Rattle.gate_model.specs.Upstream.{condition_in}
 use Rattle.gate_model.specs.State.{path_heard}
 
-pub detach_heard : (p : Perf) (d : Detach) → p ≡ perf.Detach d → (s : PathState) → detach_came d.handle s ≡ path_heard (parts_of p) s
+pub detach_heard : (p : Perf) (d : Detach) (b : Bool) → p ≡ perf.Detach d → b ≡ is_not_found (condition_in (maybe error_tree d.error))
+    → (s : PathState) → detach_came d.handle b s ≡ path_heard (parts_of p) s
 unfolding parts_of
-detach_heard p d e s = sym (ap (λ (q : Perf). path_heard (parts_of q) s) e)
+detach_heard p d b e f s = ap (λ (c : Bool). detach_came d.handle c s) f ∙ sym (ap (λ (q : Perf). path_heard (parts_of q) s) e)
 
 target_there : (o : Option Target10) → is_there (maybe target_tree o) ≡ is_some o
 target_there None = refl

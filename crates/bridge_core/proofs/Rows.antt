@@ -18,7 +18,8 @@ use Rattle.gate_model.specs.Lives.{any_life, each, is_carried, life_at, no_life,
 use Rattle.gate_model.specs.Lives.{session_in}
 use Rattle.gate_model.specs.Paths.{no_paths, or_no_path, path_at, slot_at}
 use Rattle.gate_model.specs.Upstream.{first, when_up}
-use Rattle.gate_model.specs.Due.{attach_row, confirms_on, detach_row, flows_on, link_flow_row}
+use Rattle.gate_model.specs.Due.{attach_row, confirms_on, contents_on, detach_row, flows_on}
+use Rattle.gate_model.specs.Due.{link_flow_row}
 use Rattle.gate_model.specs.Due.{oks_on, row_on}
 use Rattle.gate_model.specs.Due.{settle_row, transfer_row}
 use Rattle.bridge_core.specs.ChannelRows.{begin_row, close_ok_row, close_row, end_row, is_left_on}
@@ -123,8 +124,11 @@ oks_more ps k i ls lt = first_more (oks_on ps) no_life k i ls lt
 pub oks_end : (ps : List (Option PathState)) (i : ℕ) (ls : List Life) → drop i ps ≡ drop i no_paths → first (each (oks_on ps) i (drop i ls)) ≡ None
 oks_end ps i ls e = unused_end (oks_on ps) ps i ls e (λ n l none. rw none (either_same l.over []))
 
-pub confirms_end : (ps : List (Option PathState)) (i : ℕ) (ls : List Life) → drop i ps ≡ drop i no_paths → first (each (confirms_on ps) i (drop i ls)) ≡ None
-confirms_end ps i ls e = unused_end (confirms_on ps) ps i ls e (λ n l none. rw none refl)
+pub confirms_end : (calm : Bool) (ps : List (Option PathState)) (i : ℕ) (ls : List Life) → drop i ps ≡ drop i no_paths → first (each (confirms_on calm ps) i (drop i ls)) ≡ None
+confirms_end calm ps i ls e = unused_end (confirms_on calm ps) ps i ls e (λ n l none. rw none refl)
+
+pub contents_end : (ps : List (Option PathState)) (i : ℕ) (ls : List Life) → drop i ps ≡ drop i no_paths → first (each (contents_on ps) i (drop i ls)) ≡ None
+contents_end ps i ls e = unused_end (contents_on ps) ps i ls e (λ n l none. rw none refl)
 
 pub close_oks_more : (settled : Bool) (c : Option Upstream) (k i : ℕ) (ls : List Life) → i < length ls
     → first (each (close_ok_row settled c) k (drop i ls)) ≡ option_or (first (close_ok_row settled c k (life_at ls i))) (first (each (close_ok_row settled c) (k + 1) (drop (i + 1) ls)))

@@ -4,9 +4,9 @@ use Rattle.gate_model.specs.declared.outgoing.UpUnit.{UpUnit}
 use Rattle.gate_model.specs.declared.outgoing.UpUnit.TheVariants as up
 use Rattle.gate_model.specs.declared.reply.Reply.{Reply}
 use Rattle.gate_model.specs.Due.{begins, channel_closes, channel_oks, close_behind, close_oks}
-use Rattle.gate_model.specs.Due.{confirms, detaches}
+use Rattle.gate_model.specs.Due.{confirms, contents, detaches}
 use Rattle.gate_model.specs.Due.{ends, if_so, last_closes, link_flows, may_answer, may_end, may_go}
-use Rattle.gate_model.specs.Due.{may_tell}
+use Rattle.gate_model.specs.Due.{may_return, may_tell, openings}
 use Rattle.gate_model.specs.Due.{open_oks, path_oks, session_flows, session_rows, settlings}
 use Rattle.gate_model.specs.Due.{transfers}
 use Rattle.gate_model.specs.State.{State, is_settled}
@@ -34,6 +34,12 @@ answer_units w = if_so (may_answer w) (open_oks w ++ path_oks w)
 
 abbrev pub answering_units : State → List Reply
 answering_units w = answer_units w ++ confirming_units w
+
+abbrev pub opening_units : State → List Reply
+opening_units w = openings (may_go (is_settled w) w.pending) ++ answering_units w
+
+abbrev pub content_units : State → List Reply
+content_units w = if_so (may_return w) (contents w)
 
 -- to the container: of links and sessions, whose spelling takes memory or doesn't
 abbrev pub flowing_units : State → List UpUnit

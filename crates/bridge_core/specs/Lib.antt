@@ -1,3 +1,4 @@
+pub mod Backs
 pub mod Behind
 pub mod ChannelRows
 pub mod Flows

@@ -1,6 +1,10 @@
 -- What becomes of what a unit of the client wants: what the connection passes on, but for the
--- requests that the gateway refuses; a publish becomes an address and the payload of its transfer.
-use Rattle.std.specs.Prelude.{◌≡◌, ℕ, Bool, true, false, not, ◌&&◌, List, None, Some}
+-- requests that the gateway refuses; a publish becomes an address, the payload of its transfer, and
+-- the frames of its return.
+use Rattle.std.specs.Prelude.{◌≡◌, ℕ, Bool, true, false, not, ◌&&◌, if◌then◌else◌, List, []}
+use Rattle.std.specs.Prelude.{None, Option, Some, is_some}
+use Rattle.property_map.specs.Image.{first_fault}
+use Rattle.property_map.specs.declared.told.Told.{Told}
 use Rattle.machine_091.specs.State.{is_closing}
 use Rattle.machine_091.specs.declared.state.Connection.{Connection}
 use Rattle.machine_091.specs.declared.unit.Want91.{Want91}
@@ -10,8 +14,10 @@ use Rattle.methods_091.specs.declared.method.Method91.TheVariants as method
 use Rattle.property_map.specs.Spelling.{image_text}
 use Rattle.property_map.specs.declared.message.Message091.{Message091}
 use Rattle.gate_model.specs.declared.setup.Route.{Route}
-use Rattle.gate_model.specs.Requests.{address_of, message_of, publish_fault, refusal_of_want}
+use Rattle.gate_model.specs.Requests.{address_for, address_of, message_of, publish_fault}
+use Rattle.gate_model.specs.Requests.{refusal_of_want, told_by, told_in}
 use Rattle.gate_model.specs.Requests.{refused_by}
+use Rattle.gate_model.specs.Returns.{back_of, return_parts}
 use Rattle.gate_model.specs.Paths.{with_path}
 use Rattle.gate_model.specs.State.{State, closes_at, fed_by, is_foreign, is_held, with_header}
 use Rattle.gate_model.specs.State as state
@@ -25,12 +31,21 @@ use Rattle.bridge_core.specs.declared.requests.Published.TheVariants as publishe
 
 -- ---- a publish
 
-abbrev pub IsPublish : List Route → Bool → Message091 → Published → Type 0
-IsPublish routes mandatory m (published.Refused code) =
-    publish_fault routes mandatory m ≡ Some code
-IsPublish routes mandatory m (published.Sent address payload) =
-    (publish_fault routes mandatory m ≡ None) × (address ≡ address_of routes m)
-    × (payload ≡ image_text m)
+-- on channel n, of a client that takes frames of so many bytes
+abbrev pub back_if : Bool → ℕ → ℕ → Message091 → List (List ℕ)
+back_if mandatory limit n m = if mandatory then return_parts limit n m else []
+
+-- what is told of one that is refused
+abbrev pub told_of_publish : List Route → Message091 → Option Told
+told_of_publish routes m =
+    if is_some (address_for routes m) then told_by (first_fault m) else None
+
+abbrev pub IsPublish : List Route → ℕ → ℕ → Bool → Message091 → Published → Type 0
+IsPublish routes limit n mandatory m (published.Refused code told) =
+    (publish_fault routes m ≡ Some code) × (told ≡ told_of_publish routes m)
+IsPublish routes limit n mandatory m (published.Sent address payload back) =
+    (publish_fault routes m ≡ None) × (address ≡ address_of routes m)
+    × (payload ≡ image_text m) × (back ≡ back_if mandatory limit n m)
 
 -- ---- what a unit wants
 
@@ -48,17 +63,19 @@ is_publish want.CloseOk = false
 is_publish (want.Refuse r) = false
 
 -- this publish, on its channel
-abbrev pub IsOf : List Route → Want91 → ℕ → List ℕ → List ℕ → Type 0
-IsOf routes (want.Publish n m c) k address payload =
+abbrev pub IsOf : List Route → ℕ → Want91 → ℕ → List ℕ → List ℕ → List (List ℕ) → Type 0
+IsOf routes limit (want.Publish n m c) k address payload back =
     (k ≡ n) × (address ≡ address_of routes (message_of m c))
-    × (payload ≡ image_text (message_of m c))
-IsOf routes x k address payload = is_publish x ≡ true
+    × (payload ≡ image_text (message_of m c)) × (back ≡ back_of limit n m (message_of m c))
+IsOf routes limit x k address payload back = is_publish x ≡ true
 
 abbrev pub IsMet : List Route → Want91 → Connection → Connection → Met → Type 0
-IsMet routes x old new (met.Want y) =
+IsMet routes x old new (met.Want y told) =
     ((new, y) ≡ refused_by (refusal_of_want routes x) (old, x)) × (is_publish y ≡ false)
-IsMet routes x old new (met.Publish k address payload) =
-    (new ≡ old) × (refusal_of_want routes x ≡ None) × IsOf routes x k address payload
+    × (told ≡ told_in routes x)
+IsMet routes x old new (met.Publish k address payload back) =
+    (new ≡ old) × (refusal_of_want routes x ≡ None)
+    × IsOf routes old.limits.frame_max x k address payload back
 
 -- ---- which may run out of memory
 
@@ -83,25 +100,25 @@ takes_memory_for want.CloseOk = false
 takes_memory_for (want.Refuse r) = false
 
 abbrev pub takes_memory_met : Met → Bool
-takes_memory_met (met.Want x) = takes_memory_for x
-takes_memory_met (met.Publish n address payload) = true
+takes_memory_met (met.Want x told) = takes_memory_for x
+takes_memory_met (met.Publish n address payload back) = true
 
 -- ---- the state after it
 
 -- a publish is met, and is no want any more
 abbrev pub is_unmet : Met → Bool
-is_unmet (met.Want x) = is_publish x
-is_unmet (met.Publish n address payload) = false
+is_unmet (met.Want x told) = is_publish x
+is_unmet (met.Publish n address payload back) = false
 
 -- it is no login but one that a client may tell
 abbrev pub IsLoginMet : Met → Type 0
-IsLoginMet (met.Want x) = IsLoginWant x
-IsLoginMet (met.Publish n address payload) = Unit {0}
+IsLoginMet (met.Want x told) = IsLoginWant x
+IsLoginMet (met.Publish n address payload back) = Unit {0}
 
 abbrev pub applied : Bool → Met → State → State
-applied closing (met.Want x) w = state.met closing x w
-applied closing (met.Publish n address payload) w = record w {
-  paths = with_path n (session.published address payload) w.paths;
+applied closing (met.Want x told) w = state.met closing told x w
+applied closing (met.Publish n address payload back) w = record w {
+  paths = with_path n (session.published address payload back) w.paths;
   up = closing_with closing None w.up;
 }
 

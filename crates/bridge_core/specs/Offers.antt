@@ -1,7 +1,7 @@
 -- What a bridge shows: its state, and for each end whether a unit is offered, and its bytes or
 -- those of the unit in progress.
 use Rattle.std.specs.Prelude.{◌≡◌, ℕ, Bool, true, false, List, Option, Some, None, is_some}
-use Rattle.std.specs.Prelude.{IfSome}
+use Rattle.std.specs.Prelude.{◌<◌, IfSome, length}
 use Rattle.gate_outside.specs.declared.ports.End.{End}
 use Rattle.gate_outside.specs.declared.ports.End.TheVariants.{Client, Up}
 use Rattle.gate_model.specs.declared.outgoing.Outgoing.{Outgoing}
@@ -9,7 +9,7 @@ use Rattle.gate_model.specs.declared.outgoing.Outgoing.TheVariants.{ToClient, To
 use Rattle.gate_model.specs.declared.outgoing.UpUnit.{UpUnit}
 use Rattle.gate_model.specs.declared.outgoing.UpUnit.TheVariants as up
 use Rattle.gate_model.specs.declared.reply.Reply.{Reply}
-use Rattle.gate_model.specs.Due.{carries, pick}
+use Rattle.gate_model.specs.Due.{carries, carries_back, pick}
 use Rattle.gate_model.specs.Setup.{SetupText}
 use Rattle.gate_model.specs.Spelling.{Context, context_of, spell, spell_reply}
 use Rattle.gate_model.specs.State.{Came, State, Step, next_unit, step}
@@ -44,7 +44,8 @@ slot_bytes (Some text) bytes = text
 -- what is chosen is what goes next, and the bytes are its spelling
 abbrev pub IsOffer : State → SlotState → Type 0
 IsOffer w s =
-    IfSome s.chosen (λ u. (pick w Client ≡ Some (ToClient u)) × (s.bytes ≡ spell_reply u))
+    IfSome s.chosen (λ u. (pick w Client ≡ Some (ToClient u))
+    × (s.bytes ≡ spell_reply u (carries_back w u)))
 
 abbrev pub IsUpOffer : State → UpSlotState → Type 0
 IsUpOffer w s = IfSome s.chosen (λ u. pick w Up ≡ Some (ToUp u))
@@ -87,10 +88,10 @@ bytes_of c w None old = old
 bytes_of c w (Some u) old = spell c u (carries w u)
 
 -- those of a unit to the client need no context
-abbrev pub client_bytes : Option Outgoing → List ℕ → List ℕ
-client_bytes None old = old
-client_bytes (Some (ToClient u)) old = spell_reply u
-client_bytes (Some (ToUp u)) old = old
+abbrev pub client_bytes : State → Option Outgoing → List ℕ → List ℕ
+client_bytes w None old = old
+client_bytes w (Some (ToClient u)) old = spell_reply u (carries_back w u)
+client_bytes w (Some (ToUp u)) old = old
 
 -- a look at what goes next to an end
 abbrev pub looked : Context → State → Option Outgoing → OfferState → OfferState
@@ -100,10 +101,15 @@ abbrev pub peeked : SetupText → End → BridgeState → BridgeState
 peeked s Client b = record b {
   client = record {
     ready = is_some (pick b.state Client);
-    bytes = client_bytes (pick b.state Client) b.client.bytes;
+    bytes = client_bytes b.state (pick b.state Client) b.client.bytes;
   };
 }
 peeked s Up b = record b { up = looked (context_of s b.state) b.state (pick b.state Up) b.up }
+
+-- a unit to the client that a look found has bytes
+abbrev pub FindsBytes : End → Bool → BridgeState → Type 0
+FindsBytes Client found b = found ≡ true → 0 < length b.client.bytes
+FindsBytes Up found b = Unit {0}
 
 -- units in progress and their bytes stay
 pub record Keeps (old new : BridgeState) : Type 0 where

@@ -1,7 +1,7 @@
 -- What a unit changes of a path, and which units may go.
 use Rattle.std.specs.Prelude.{◌≡◌, ◌≤◌, ℕ, Bool, true, false, length, Option, Some, None}
 use Rattle.publish_path.specs.Offers.{next_frame_of, rest_of}
-use Rattle.session_path.specs.Due.{next_confirm}
+use Rattle.session_path.specs.Due.{next_confirm, next_return}
 use Rattle.session_path.specs.Path.{PathState, attach_came, began, detach_came, flow_came}
 use Rattle.session_path.specs.Path.{lost, outcome_came, owed, selected}
 use Rattle.session_path.specs.Links.{handle_of}
@@ -31,9 +31,9 @@ path_changed (change.Began handle_max) s = began handle_max s
 path_changed (change.Attached name peer target) s = attach_came name peer target s
 path_changed (change.Flowed peer flow) s =
     flow_came peer flow.count flow.credit flow.drain flow.echo s
-path_changed (change.Detached peer) s = detach_came peer s
-path_changed (change.Outcome ids accepted settled) s =
-    outcome_came ids.first ids.last accepted settled s
+path_changed (change.Detached peer not_found) s = detach_came peer not_found s
+path_changed (change.Outcome ids outcome settled) s =
+    outcome_came ids.first ids.last outcome settled s
 path_changed change.Lost s = lost s
 
 -- there may be none
@@ -48,8 +48,8 @@ takes_memory_to (change.Selected no_wait) = true
 takes_memory_to (change.Began handle_max) = false
 takes_memory_to (change.Attached name peer target) = false
 takes_memory_to (change.Flowed peer flow) = true
-takes_memory_to (change.Detached peer) = false
-takes_memory_to (change.Outcome ids accepted settled) = true
+takes_memory_to (change.Detached peer not_found) = false
+takes_memory_to (change.Outcome ids outcome settled) = true
 takes_memory_to change.Lost = false
 
 -- a link whose detach is due, and its handle
@@ -74,10 +74,11 @@ HasWindow (unit.Transfer t) x = 1 ≤ x.windows.window
 HasWindow (unit.Settle y) x = Unit {0}
 HasWindow (unit.Detach link handle) x = Unit {0}
 
--- a confirm that goes is the one that is due
+-- a confirm that goes is the one that is due, and so is a frame of a return
 abbrev pub MayTell : ChannelUnit → PathState → Type 0
 MayTell (to_client.Ok x) s = Unit {0}
 MayTell (to_client.Confirm c) s = next_confirm s ≡ Some c
+MayTell (to_client.Return r) s = next_return s ≡ Some r
 
 -- units of a state
 abbrev pub MayGoUp : State → UpUnit → Type 0

@@ -1,6 +1,6 @@
 //! A pair's bridge: its state, and the unit that is offered to each end.
 
-ghost use Rattle.std.specs.Prelude.{◌≡◌, ◌≤◌, true, false, length, OnOk, OnErr, IfOk};
+ghost use Rattle.std.specs.Prelude.{◌≡◌, ◌<◌, ◌≤◌, true, false, length, OnOk, OnErr, IfOk};
 ghost use Rattle.std.specs.Prelude.{IfSome, IsSome, Some, is_some};
 ghost use Rattle.gate_outside.specs.declared.ports.End.TheVariants.{Client, Up};
 ghost use Rattle.gate_model.specs.State.{Moment, Fed, Silent, Queued, TakenUp, Heard, Joined};
@@ -18,7 +18,8 @@ ghost use Rattle.std.specs.Bool.{OnFalse, OnTrue};
 ghost use Rattle.gate_model.specs.Upstream.{awaited_of};
 ghost use Rattle.machine_091.specs.Limits.{AreWithin};
 ghost use Rattle.machine_091.specs.State.{awaits};
-ghost use Rattle.bridge_core.specs.Offers.{BridgeState, IsOffer, IsUpOffer, Keeps, advanced};
+ghost use Rattle.bridge_core.specs.Offers.{BridgeState, FindsBytes, IsOffer, IsUpOffer, Keeps};
+ghost use Rattle.bridge_core.specs.Offers.{advanced};
 ghost use Rattle.bridge_core.specs.Offers.{bytes_of, moved};
 ghost use Rattle.bridge_core.specs.Offers.{client_bytes, offer_of, peeked, stale};
 ghost use Rattle.bridge_core.specs.PathChanges.{MayGo};
@@ -64,21 +65,26 @@ impl Model for Bridge {
     ghost invariant = { λ a. IsOffer a.state a.client × IsUpOffer a.state a.up };
 }
 
-/// Looks for what goes next to the client. Where nothing does, the bytes stay.
-fn look(state: &Core, slot: &mut Slot) -> bool
-    ensures some { result ≡ is_some (pick state.now Client) }
-    ensures offer { IsOffer state.now slot.new }
-    ensures chosen { is_some slot.new.chosen ≡ is_some (pick state.now Client) }
-    ensures bytes { slot.new.bytes ≡ client_bytes (pick state.now Client) slot.old.bytes }
+/// Looks for what goes next to the client. Where nothing does, the bytes stay; without memory all is
+/// as it was.
+fn look(state: &Core, slot: &mut Slot, alloc: Global) -> Result<bool, Memory>
+    ensures some { IfOk result (λ yes. yes ≡ is_some (pick state.now Client)) }
+    ensures offer { OnOk result (IsOffer state.now slot.new) }
+    ensures chosen { OnOk result (is_some slot.new.chosen ≡ is_some (pick state.now Client)) }
+    ensures bytes { OnOk result (slot.new.bytes
+        ≡ client_bytes state.now (pick state.now Client) slot.old.bytes) }
+    ensures long { IfOk result (λ yes. yes ≡ true → 0 < length slot.new.bytes) }
+    ensures err { OnErr result (slot.new ≡ slot.old) }
+    ensures takes { OnErr result (takes_memory (pick state.now Client) ≡ true) }
 {
     match state.next_client() {
         None => {
             slot.take_back();
-            false
+            Ok(false)
         }
         Some(unit) => {
-            slot.choose(unit);
-            true
+            slot.choose(alloc, unit, state.carried_back(unit))?;
+            Ok(true)
         }
     }
 }
@@ -400,18 +406,25 @@ impl Bridge {
     /// Looks for what goes next to an end. What is found is offered, and its bytes are `bytes`.
     /// Without memory for them the pair ran out of memory; after that, and for what ends a
     /// connection, a look takes none.
-    #[tactic(auto, using(crate::proofs::Calm::calm_pick))]
+    #[tactic(auto, using(crate::proofs::Calm::calm_pick, crate::proofs::Calm::calm_client))]
     pub fn peek(&mut self, alloc: Global, setup: &Setup, end: End) -> Result<bool, Memory>
         requires free { is_busy self.old.state end ≡ false }
         ensures some { IfOk result (λ yes. yes ≡ is_some (pick self.old.state end)) }
         ensures ok { OnOk result (self.new ≡ peeked setup.now end self.old) }
+        ensures long { IfOk result (λ yes. FindsBytes end yes self.new) }
         ensures err { OnErr result (self.new ≡ moved OutOfMemory self.old) }
         ensures calm { OnErr result (self.old.state.out_of_memory ≡ false) }
         ensures takes { OnErr result (takes_memory (pick self.old.state end) ≡ true) }
         ensures kept { OnErr result (Keeps self.old self.new) }
     {
         match end {
-            End::Client => Ok(look(&self.state, &mut self.client)),
+            End::Client => match look(&self.state, &mut self.client, alloc) {
+                Ok(yes) => Ok(yes),
+                Err(error) => {
+                    self.run_out();
+                    Err(error)
+                }
+            },
             End::Up => match look_up(&self.state, &mut self.up, alloc, setup) {
                 Ok(yes) => Ok(yes),
                 Err(error) => {
@@ -425,7 +438,7 @@ impl Bridge {
     /// The bytes of the unit to an end that is offered or in progress.
     pub fn bytes(&self, end: End) -> &[u8]
         ensures bytes { result.now ≡ (offer_of end self.now).bytes }
-        ensures small { length result.now ≤ 65536 }
+        ensures small { length result.now ≤ 131072 }
     {
         match end {
             End::Client => self.client.bytes(),

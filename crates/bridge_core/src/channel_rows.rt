@@ -1,9 +1,12 @@
 //! The first unit of each kind that may go on a channel, by rising numbers.
 
 ghost use Rattle.std.specs.Prelude.{◌≡◌, ◌&&◌};
-ghost use Rattle.gate_model.specs.Due.{attach_row, confirms_on, detach_row, flows_on};
+ghost use Rattle.gate_model.specs.Due.{attach_row, confirm_on, confirms_on, content_on};
+ghost use Rattle.gate_model.specs.Due.{contents_on};
+ghost use Rattle.gate_model.specs.Due.{detach_row};
+ghost use Rattle.gate_model.specs.Due.{flows_on};
 ghost use Rattle.gate_model.specs.Due.{frame_max_in, is_long_ago, link_flow_row, may_confirm};
-ghost use Rattle.gate_model.specs.Due.{oks_on, settle_row, transfer_row};
+ghost use Rattle.gate_model.specs.Due.{oks_on, return_on, settle_row, transfer_row};
 ghost use Rattle.gate_model.specs.Lives.{any_life, each, is_begun, is_carried, is_ended};
 ghost use Rattle.gate_model.specs.Lives.{is_free, no_life, session_in};
 ghost use Rattle.gate_model.specs.Paths.{flow_out, path_at};
@@ -12,6 +15,7 @@ ghost use Rattle.gate_model.specs.Upstream.{first};
 ghost use Rattle.bridge_core.specs.ChannelRows.{begin_row, close_ok_row, close_row, end_row};
 ghost use Rattle.bridge_core.specs.ChannelRows.{is_end_due_by, is_left_on, is_lingered_by};
 ghost use Rattle.bridge_core.specs.ChannelRows.{is_settled_on, is_waiting_on, open_ok_row};
+ghost use Rattle.session_path.specs.Due.{next_confirm, next_return};
 
 use crate::lives::{CHANNELS, Lives};
 use crate::paths::Paths;
@@ -122,24 +126,74 @@ fn may_confirm(life: Life) -> bool
     !life.over || life.by_peer
 }
 
-/// The confirm that goes on a channel.
-fn confirm_on(life: Life, paths: &Paths, channel: u16) -> Option<Reply>
-    ensures { result ≡ first (confirms_on paths.now channel life) }
+/// The confirm that goes on a channel, if one may.
+fn confirm_on(may: bool, paths: &Paths, channel: u16) -> Option<Reply>
+    ensures { result ≡ first (confirm_on may channel (next_confirm (path_at paths.now channel))) }
 {
-    if !may_confirm(life) {
+    if !may {
         return None;
     }
     let confirm = paths.next_confirm(channel)?;
     Some(Reply::OnChannel(channel, ChannelUnit::Confirm(confirm)))
 }
 
-/// The first confirm.
-#[tactic(auto, using(crate::proofs::Rows::confirms_end))]
-pub fn first_confirm(lives: &[Life; CHANNELS], paths: &Paths) -> Option<Reply>
-    ensures { result ≡ first (each (confirms_on paths.now) 0 lives.now) }
+/// The frame that goes on with a return of a channel.
+fn content_on(paths: &Paths, channel: u16) -> Option<Reply>
+    ensures { result ≡ first (content_on channel (next_return (path_at paths.now channel))) }
+{
+    let due = paths.next_return(channel)?;
+    if due.first {
+        return None;
+    }
+    Some(Reply::OnChannel(channel, ChannelUnit::Return(due)))
+}
+
+/// The first frame that goes on with a return.
+#[tactic(auto, using(crate::proofs::Rows::contents_end))]
+pub fn first_content(lives: &[Life; CHANNELS], paths: &Paths) -> Option<Reply>
+    ensures { result ≡ first (each (contents_on paths.now) 0 lives.now) }
 {
     for i in 0..paths.top() {
-        if let Some(unit) = confirm_on(lives[i as usize], paths, i) {
+        if let Some(unit) = content_on(paths, i) {
+            return Some(unit);
+        }
+    }
+    None
+}
+
+/// The return that begins on a channel, if one may.
+fn return_on(may: bool, paths: &Paths, channel: u16) -> Option<Reply>
+    ensures { result ≡ first (return_on may channel (next_return (path_at paths.now channel))) }
+{
+    if !may {
+        return None;
+    }
+    let due = paths.next_return(channel)?;
+    if !due.first {
+        return None;
+    }
+    Some(Reply::OnChannel(channel, ChannelUnit::Return(due)))
+}
+
+/// The return that begins on a channel, or else the confirm that goes there.
+#[tactic(auto, using(crate::proofs::Firsts::first_some, crate::proofs::Firsts::first_none))]
+fn outcome_on(life: Life, paths: &Paths, channel: u16, calm: bool) -> Option<Reply>
+    ensures { result ≡ first (confirms_on calm paths.now channel life) }
+{
+    let may = may_confirm(life);
+    match return_on(calm && may, paths, channel) {
+        Some(unit) => Some(unit),
+        None => confirm_on(may, paths, channel),
+    }
+}
+
+/// The first return or confirm; `calm` says that the pair didn't run out of memory.
+#[tactic(auto, using(crate::proofs::Rows::confirms_end))]
+pub fn first_confirm(lives: &[Life; CHANNELS], paths: &Paths, calm: bool) -> Option<Reply>
+    ensures { result ≡ first (each (confirms_on calm paths.now) 0 lives.now) }
+{
+    for i in 0..paths.top() {
+        if let Some(unit) = outcome_on(lives[i as usize], paths, i, calm) {
             return Some(unit);
         }
     }

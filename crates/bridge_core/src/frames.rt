@@ -4,23 +4,31 @@ ghost use Rattle.std.specs.Prelude.{◌≡◌, ◌≤◌, length};
 ghost use Rattle.frames_091.specs.Headers.{header_bytes};
 ghost use Rattle.methods_091.specs.Closing.{IsWrittenOver};
 ghost use Rattle.gate_model.specs.Spelling.{channel_text, confirm_method};
+ghost use Rattle.gate_model.specs.Due.{takes_memory_back, takes_memory_told};
+ghost use Rattle.std.specs.Prelude.{false, []};
 ghost use Rattle.gate_model.specs.Spelling.{heartbeat_frame, open_ok_frame, spell_reply};
 ghost use Rattle.gate_model.specs.Spelling.{start_frame, tune_frame};
+ghost use Rattle.property_map.specs.Told.{told_text};
 ghost use Rattle.gate_model.specs.declared.reply.Reply.TheVariants as reply;
 
+use arrayvec::ArrayString;
 use close_translate::{RESOURCE_ERROR, code_name};
-use gate_model::{ChannelUnit, Reply};
+use gate_model::{ChannelUnit, Reason, Reply};
 use machine_091::Refusal;
 use methods_091::{
     put_ack, put_channel_close, put_channel_close_ok, put_channel_open_ok, put_close, put_close_ok,
     put_declare_ok, put_flow_ok, put_nack, put_select_ok,
 };
+use property_map::{Told, fault_name, part_name};
 use publish_path::Confirm;
 use session_path::PathOk;
 
 /// So many bytes at most have the units that carry nothing of the client's: they are written in a
 /// room that is kept.
 pub const ROOM: usize = 512;
+
+/// What is told of a message that has no image has so many bytes at most.
+const TOLD_MAX: usize = 40;
 
 /// The protocol header of AMQP 0-9-1 (AMQP 0-9-1 4.2.2).
 const HEADER: [u8; 8] = [b'A', b'M', b'Q', b'P', 0, 0, 9, 1];
@@ -100,26 +108,44 @@ pub fn write_over(room: &mut [u8; ROOM], bytes: &[u8]) -> usize
 
 /// Writes a connection.close for a refusal, with the name of its code as text.
 fn write_close(room: &mut [u8; ROOM], refusal: Refusal) -> usize
-    ensures { IsWrittenOver (spell_reply (reply.Close refusal)) room.old room.new result }
+    ensures { IsWrittenOver (spell_reply (reply.Close refusal) []) room.old room.new result }
 {
     let name = code_name(refusal.code);
     put_close(room, refusal.code, name, refusal.class, refusal.method)
 }
 
-/// Writes a channel.close for a refusal, with the name of its code as text.
-fn write_channel_close(room: &mut [u8; ROOM], channel: u16, refusal: Refusal) -> usize
-    ensures { IsWrittenOver (spell_reply (reply.ChannelClose channel refusal)) room.old room.new
+/// What is told of a message that has no image: the name of the fault, and of the part of the
+/// message that it is in.
+fn told_text(told: Told) -> ArrayString<TOLD_MAX>
+    ensures text { result.bytes ≡ told_text told }
+    ensures short { length result.bytes ≤ 255 }
+{
+    let mut text = ArrayString::new();
+    text.push_str(fault_name(told.fault));
+    text.push_str(" ");
+    text.push_str(part_name(told.part));
+    text
+}
+
+/// Writes a channel.close for a reason, with the name of its code as text, or what is told of a
+/// message that has no image.
+fn write_channel_close(room: &mut [u8; ROOM], channel: u16, reason: Reason) -> usize
+    ensures { IsWrittenOver (spell_reply (reply.ChannelClose channel reason) []) room.old room.new
         result }
 {
-    let name = code_name(refusal.code);
-    put_channel_close(
-        room,
-        channel,
-        refusal.code,
-        name,
-        refusal.class,
-        refusal.method,
-    )
+    let Refusal {
+        code,
+        class,
+        method,
+        ..
+    } = reason.refusal;
+    match reason.told {
+        None => put_channel_close(room, channel, code, code_name(code), class, method),
+        Some(told) => {
+            let text = told_text(told);
+            put_channel_close(room, channel, code, text.as_bytes(), class, method)
+        }
+    }
 }
 
 /// Writes an ack or a nack on a channel.
@@ -136,19 +162,24 @@ fn write_confirm(room: &mut [u8; ROOM], channel: u16, confirm: Confirm) -> usize
 
 /// Writes an answer or a confirm on a channel.
 fn write_on_channel(room: &mut [u8; ROOM], channel: u16, unit: ChannelUnit) -> usize
-    ensures { IsWrittenOver (spell_reply (reply.OnChannel channel unit)) room.old room.new result }
+    requires { takes_memory_told unit ≡ false }
+    ensures { IsWrittenOver (spell_reply (reply.OnChannel channel unit) []) room.old room.new
+        result }
 {
     match unit {
         ChannelUnit::Ok(PathOk::Flow) => put_flow_ok(room, channel),
         ChannelUnit::Ok(PathOk::Declare) => put_declare_ok(room, channel),
         ChannelUnit::Ok(PathOk::Select) => put_select_ok(room, channel),
         ChannelUnit::Confirm(confirm) => write_confirm(room, channel, confirm),
+        ChannelUnit::Return(_) => unreachable!(),
     }
 }
 
-/// Writes the bytes of a unit to the client over the first ones of a room, and answers their count.
+/// Writes the bytes of a unit to the client that is no frame of a return over the first ones of a
+/// room, and answers their count.
 pub fn spell_reply(room: &mut [u8; ROOM], reply: Reply) -> usize
-    ensures written { IsWrittenOver (spell_reply reply) room.old room.new result }
+    requires { takes_memory_back reply ≡ false }
+    ensures written { IsWrittenOver (spell_reply reply []) room.old room.new result }
     ensures small { result ≤ ROOM }
 {
     match reply {
@@ -165,6 +196,6 @@ pub fn spell_reply(room: &mut [u8; ROOM], reply: Reply) -> usize
         Reply::ChannelCloseOk(channel) | Reply::CrossedOk(channel) => {
             put_channel_close_ok(room, channel)
         }
-        Reply::ChannelClose(channel, refusal) => write_channel_close(room, channel, refusal),
+        Reply::ChannelClose(channel, reason) => write_channel_close(room, channel, reason),
     }
 }

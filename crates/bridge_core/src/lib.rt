@@ -15,6 +15,7 @@ mod queue;
 mod replies;
 mod report;
 mod requests;
+mod returns;
 mod sessions;
 mod slot;
 mod transfers;

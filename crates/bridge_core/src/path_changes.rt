@@ -1,7 +1,10 @@
 //! What a performative of the container changes of the path of its channel.
 
 ghost use Rattle.std.specs.Prelude.{◌≡◌, IfSome, true};
-ghost use Rattle.gate_model.specs.Paths.{credit_of, name_in, outcome_by};
+ghost use Rattle.gate_model.specs.Paths.{credit_of, is_not_found, name_in, outcome_by};
+ghost use Rattle.gate_model.specs.Upstream.{condition_in};
+ghost use Rattle.performatives_10.specs.Fields.{maybe};
+ghost use Rattle.performatives_10.specs.View.{error_tree};
 ghost use Rattle.gate_model.specs.State.{path_heard};
 ghost use Rattle.machine_10.specs.Parts.{parts_of};
 ghost use Rattle.performatives_10.specs.declared.performative.Perf.TheVariants as perf;
@@ -10,8 +13,9 @@ ghost use Rattle.bridge_core.specs.LinkFaults.{takes_memory_of};
 ghost use Rattle.bridge_core.specs.PathChanges.{takes_memory_to, with_change};
 
 use crate::paths::PathChange;
-use performatives_10::{Condition, Disposition, Flow, Perf, State};
+use performatives_10::{Condition, Disposition, Error10, Flow, Perf, State};
 use property_map::decimal_of;
+use publish_path::Outcome;
 use session_path::{LinkFlow, Settling};
 
 /// What is wrong with a performative that names a link.
@@ -44,22 +48,34 @@ fn outcome_of(disposition: &Disposition) -> Option<PathChange>
     if !disposition.role {
         return None;
     }
-    let accepted = match &disposition.state {
+    let outcome = match &disposition.state {
         None => {
             if !disposition.settled {
                 return None;
             }
-            false
+            Outcome::Refused
         }
         Some(State::Received) => return None,
-        Some(State::Accepted) => true,
-        Some(_) => false,
+        Some(State::Accepted) => Outcome::Accepted,
+        Some(State::Released) => Outcome::Released,
+        Some(_) => Outcome::Refused,
     };
     let ids = Settling {
         first: disposition.first,
         last: disposition.last,
     };
-    Some(PathChange::Outcome(ids, accepted, disposition.settled))
+    Some(PathChange::Outcome(ids, outcome, disposition.settled))
+}
+
+/// An error says that there is no such node (AMQP 1.0 2.8.15).
+#[tactic(auto, using(crate::proofs::Errors::condition_is))]
+fn is_not_found(error: &Option<Error10>) -> bool
+    ensures { result ≡ is_not_found (condition_in (maybe error_tree error.now)) }
+{
+    match error {
+        None => false,
+        Some(error) => error.condition.as_slice() == b"amqp:not-found".as_slice(),
+    }
 }
 
 /// The flow of a link.
@@ -94,7 +110,10 @@ pub fn path_change(perf: &Perf) -> Option<PathChange>
             Some(PathChange::Flowed(handle, link_flow(flow)))
         }
         Perf::Disposition(disposition) => outcome_of(disposition),
-        Perf::Detach(detach) => Some(PathChange::Detached(detach.handle)),
+        Perf::Detach(detach) => Some(PathChange::Detached(
+            detach.handle,
+            is_not_found(&detach.error),
+        )),
         Perf::End(_) => Some(PathChange::Lost),
         _ => None,
     }

@@ -7,11 +7,11 @@ ghost use Rattle.std.specs.Prelude.{◌≤◌, drop};
 ghost use Rattle.std.specs.Option.{option_map};
 ghost use Rattle.session_path.specs.Due.{is_done, next_attach, next_confirm, next_detach};
 ghost use Rattle.session_path.specs.Due.{next_flow};
-ghost use Rattle.session_path.specs.Due.{next_frame, next_ok, next_settle};
+ghost use Rattle.session_path.specs.Due.{next_frame, next_ok, next_return, next_settle};
 ghost use Rattle.session_path.specs.Links.{attach_fault, handle_of, named};
 ghost use Rattle.session_path.specs.Path.{published};
 ghost use Rattle.session_path.specs.declared.path.AttachFault.TheVariants.{NotAsked};
-ghost use Rattle.gate_model.specs.Due.{carries_of};
+ghost use Rattle.gate_model.specs.Due.{carries_of, carries_told};
 ghost use Rattle.gate_model.specs.Paths.{bytes_in, bytes_on, held_in, held_on, is_laden};
 ghost use Rattle.gate_model.specs.Paths.{lost_path, no_paths, path_at, set_path, slot_at};
 ghost use Rattle.gate_model.specs.Paths.{told_paths, transfer_of, with_path};
@@ -25,7 +25,8 @@ ghost use Rattle.bridge_core.specs.Reports.{IsNextOwing, has_line, is_before, ow
 use crate::lives::CHANNELS;
 use crate::transfers::transfer_of;
 use gate_model::{ChannelUnit, HELD_BYTES, HELD_PUBLISHES, SessionUnit, TransferOut};
-use publish_path::{Confirm, Publish};
+use open_items::Frames;
+use publish_path::{Confirm, NextReturn, Outcome, Publish};
 use session_path::{
     AttachDue, AttachFault, FlowDue, LinkFlow, PathOk, SessionPath, Settling, Stage,
 };
@@ -68,10 +69,11 @@ pub enum PathChange {
     Attached(u64, u32, bool),
     /// Its flow on the link of this handle came.
     Flowed(u32, LinkFlow),
-    /// Its detach of the link of this handle did.
-    Detached(u32),
-    /// An outcome did: that it is accepted, and that it came settled.
-    Outcome(Settling, bool, bool),
+    /// Its detach of the link of this handle did, whose error says that there is no such node, or
+    /// not.
+    Detached(u32, bool),
+    /// An outcome did: which, and that it came settled.
+    Outcome(Settling, Outcome, bool),
     /// The session is lost.
     Lost,
 }
@@ -155,13 +157,11 @@ impl PathSlot {
                 Ok(())
             }
             PathChange::Flowed(peer, flow) => path.flow_came(peer, flow),
-            PathChange::Detached(peer) => {
-                path.detach_came(peer);
+            PathChange::Detached(peer, not_found) => {
+                path.detach_came(peer, not_found);
                 Ok(())
             }
-            PathChange::Outcome(ids, accepted, settled) => path.outcome_came(
-                ids, accepted, settled,
-            ),
+            PathChange::Outcome(ids, outcome, settled) => path.outcome_came(ids, outcome, settled),
             PathChange::Lost => {
                 path.lost();
                 Ok(())
@@ -169,15 +169,15 @@ impl PathSlot {
         }
     }
 
-    /// A content was taken up, for this address, with the payload of its transfer. Without memory
-    /// for it all is as it was.
-    fn publish(&mut self, address: ByteText, payload: ByteText) -> Result<(), Memory>
-        ensures ok { OnOk result (self.new ≡ option_map (published address payload) self.old) }
+    /// A content was taken up, for this address, with the payload of its transfer and the frames of
+    /// its return. Without memory for it all is as it was.
+    fn publish(&mut self, address: ByteText, payload: ByteText, back: Frames) -> Result<(), Memory>
+        ensures ok { OnOk result (self.new ≡ option_map (published address payload back) self.old) }
         ensures err { OnErr result (self.new ≡ self.old) }
     {
         match &mut self.path {
             None => Ok(()),
-            Some(path) => path.published(address, payload),
+            Some(path) => path.published(address, payload, back),
         }
     }
 
@@ -198,7 +198,7 @@ impl PathSlot {
         }
     }
 
-    /// The first byte of an answer or of a confirm was sent.
+    /// The first byte of an answer, of a confirm or of a frame of a return was sent.
     fn tell(&mut self, unit: ChannelUnit)
         requires { IfSome self.old (MayTell unit) }
         ensures { self.new ≡ option_map (path_told unit) self.old }
@@ -209,6 +209,7 @@ impl PathSlot {
         match unit {
             ChannelUnit::Ok(_) => path.ok_sent(),
             ChannelUnit::Confirm(_) => path.confirm_sent(),
+            ChannelUnit::Return(_) => path.return_sent(),
         }
     }
 }
@@ -421,22 +422,23 @@ impl Paths {
         }
     }
 
-    /// A content was taken up on a channel, for this address, with the payload of its transfer.
-    /// Without memory for it all is as it was.
+    /// A content was taken up on a channel, for this address, with the payload of its transfer and
+    /// the frames of its return. Without memory for it all is as it was.
     #[tactic(auto, using(crate::proofs::PathSlots::none_beyond))]
     pub fn publish(
         &mut self,
         channel: u16,
         address: ByteText,
         payload: ByteText,
+        back: Frames,
     ) -> Result<(), Memory>
         ensures ok { OnOk result (self.new ≡ with_path channel
-            (published address payload) self.old) }
+            (published address payload back) self.old) }
         ensures err { OnErr result (self.new ≡ self.old) }
     {
         let at = usize::from(channel);
         if at < self.paths.len() {
-            self.paths[at].publish(address, payload)
+            self.paths[at].publish(address, payload, back)
         } else {
             Ok(())
         }
@@ -454,7 +456,7 @@ impl Paths {
         }
     }
 
-    /// The first byte of an answer or of a confirm on a channel was sent.
+    /// The first byte of an answer, of a confirm or of a frame of a return on a channel was sent.
     #[tactic(auto, using(crate::proofs::PathSlots::none_beyond))]
     pub fn tell(&mut self, channel: u16, unit: ChannelUnit)
         requires { IfSome (slot_at self.old channel) (MayTell unit) }
@@ -473,6 +475,29 @@ impl Paths {
         ensures { result ≡ next_ok (path_at self.now channel) }
     {
         self.at(channel)?.next_ok()
+    }
+
+    /// The frame of a return that is due.
+    pub fn next_return(&self, channel: u16) -> Option<NextReturn>
+        ensures { result ≡ next_return (path_at self.now channel) }
+    {
+        self.at(channel)?.next_return()
+    }
+
+    /// What a unit to the client on a channel carries of the client's: a frame of a return.
+    pub fn carried_back(&self, channel: u16, unit: ChannelUnit) -> &[u8]
+        ensures { result.now ≡ carries_told (path_at self.now channel) unit }
+    {
+        let ChannelUnit::Return(due) = unit else {
+            return &[];
+        };
+        let Some(path) = self.at(channel) else {
+            return &[];
+        };
+        match path.return_frame(due.publish) {
+            None => &[],
+            Some(frame) => frame.as_slice(),
+        }
     }
 
     /// The confirm that is due.

@@ -1,13 +1,14 @@
 //! The units that are due to a client, and those that were sent whole.
 
 ghost use Rattle.std.specs.Prelude.{◌≡◌};
-ghost use Rattle.gate_model.specs.Lives.{refusal_on};
+ghost use Rattle.gate_model.specs.Lives.{reason_of, refusal_on};
 ghost use Rattle.gate_model.specs.State.{last_pending, none_pending, with_last, without};
 ghost use Rattle.machine_091.specs.Refusals.{refusal_with};
 
 use close_translate::Scope;
-use gate_model::{Pending, Reply, SentLast};
+use gate_model::{Pending, Reason, Reply, SentLast};
 use machine_091::{Phase91, Refusal};
+use property_map::Told;
 
 /// Nothing is due.
 pub fn none_pending() -> Pending
@@ -48,6 +49,13 @@ pub fn refusal_on(channel: u16, code: u16) -> Refusal
         class: 0,
         method: 0,
     }
+}
+
+/// Why a channel closes: for a refusal, of which nothing more is told, or this.
+pub fn reason_of(refusal: Refusal, told: Option<Told>) -> Reason
+    ensures { result ≡ reason_of told refusal }
+{
+    Reason { refusal, told }
 }
 
 /// The units that are due once the pair ran out of memory.

@@ -1,10 +1,12 @@
 //! What a unit of the client wants, as the gateway meets it: a request that it can't meet is
 //! refused, and a publish becomes a message of AMQP 1.0.
 
-ghost use Rattle.std.specs.Prelude.{◌≡◌, true, IfOk, OnErr, option_copied};
+ghost use Rattle.std.specs.Prelude.{◌≡◌, ◌<◌, true, IfOk, OnErr, option_copied};
 ghost use Rattle.gate_model.specs.Requests.{address_for, is_known, is_mandatory, message_of};
 ghost use Rattle.gate_model.specs.Requests.{method_fault, refusal_for};
-ghost use Rattle.bridge_core.specs.Met.{IsMet, IsPublish, is_publish};
+ghost use Rattle.bridge_core.specs.Backs.{IsWritable};
+ghost use Rattle.bridge_core.specs.Met.{IsMet, IsPublish, back_if, is_publish};
+ghost use Rattle.machine_091.specs.Writable.{CanPutBack};
 ghost use Rattle.bridge_core.specs.declared.requests.Met.TheVariants as met;
 ghost use Rattle.machine_091.specs.Calls.{after_closing};
 ghost use Rattle.methods_091.specs.Rows.{class_of, id_of};
@@ -12,29 +14,33 @@ ghost use Rattle.methods_091.specs.View.{kind_of};
 ghost use Rattle.methods_091.specs.declared.method.Method91.{Method91};
 ghost use Rattle.machine_091.specs.declared.unit.Want91.TheVariants as want;
 
+use crate::returns::return_frames;
 use close_translate::{NOT_FOUND, NOT_IMPLEMENTED, PRECONDITION_FAILED, Scope};
 use content_091::Content;
 use gate_model::Routes;
 use machine_091::{Conn91, Refusal, Want91};
 use methods_091::{Method91, ids};
-use property_map::{MapFault, Message091, put_image};
+use open_items::Frames;
+use property_map::{Message091, Told, put_image};
 use std::alloc::Global;
 use wire_base::{ByteText, Memory};
 
 /// What a unit wants, once it is known what the gateway makes of it.
 #[derive(Drop)]
 pub enum Met {
-    /// This, which is no publish.
-    Want(Want91),
-    /// A publish on this channel, to this address, with the payload of its transfer.
-    Publish(u16, ByteText, ByteText),
+    /// This, which is no publish, and what is told of one that is refused.
+    Want(Want91, Option<Told>),
+    /// A publish on this channel, to this address, with the payload of its transfer, and the frames
+    /// of its return.
+    Publish(u16, ByteText, ByteText, Frames),
 }
 
-/// What becomes of a publish: the reply code that refuses it, or its address and payload.
+/// What becomes of a publish: the reply code that refuses it and what is told of that, or its
+/// address, its payload and the frames of its return.
 #[derive(Drop)]
 enum Published {
-    Refused(u16),
-    Sent(ByteText, ByteText),
+    Refused(u16, Option<Told>),
+    Sent(ByteText, ByteText, Frames),
 }
 
 /// An exchange is known: the default one, whose name is empty, and those that have an address.
@@ -119,39 +125,66 @@ fn message_of(alloc: Global, method: Method91, content: Content) -> (Message091,
     (message, mandatory)
 }
 
-/// A publish is refused, or becomes the payload of a transfer.
+/// The frames of the return of a message on a channel, and the message; none where it isn't
+/// mandatory.
+fn back_of(
+    alloc: Global,
+    channel: u16,
+    limit: u32,
+    message: Message091,
+    mandatory: bool,
+) -> Result<(Message091, Frames), Memory>
+    requires limit { 8 < limit }
+    requires writable { IsWritable message }
+    ensures same { IfOk result (λ x. x.0 ≡ message) }
+    ensures back { IfOk result (λ x. x.1 ≡ back_if mandatory limit channel message) }
+{
+    if mandatory {
+        return_frames(alloc, channel, limit, message)
+    } else {
+        Ok((message, Frames::empty(alloc)))
+    }
+}
+
+/// A publish on a channel is refused, or becomes the payload of a transfer. Its client takes frames
+/// of so many bytes.
 fn publish(
     alloc: Global,
     routes: &Routes,
+    channel: u16,
+    limit: u32,
     message: Message091,
     mandatory: bool,
 ) -> Result<Published, Memory>
-    ensures { IfOk result (IsPublish routes.now mandatory message) }
+    requires limit { 8 < limit }
+    requires writable { IsWritable message }
+    ensures { IfOk result (IsPublish routes.now limit channel mandatory message) }
 {
-    if mandatory {
-        return Ok(Published::Refused(NOT_IMPLEMENTED));
-    }
     let Some(address) = address_for(routes, &message) else {
-        return Ok(Published::Refused(NOT_FOUND));
+        return Ok(Published::Refused(NOT_FOUND, None));
     };
     let address = address.copy(alloc)?;
+    let (message, back) = back_of(alloc, channel, limit, message, mandatory)?;
     match put_image(alloc, message) {
-        Ok(payload) => Ok(Published::Sent(address, payload)),
-        Err(MapFault::Memory) => Err(Memory),
-        Err(_) => Ok(Published::Refused(PRECONDITION_FAILED)),
+        Ok(payload) => Ok(Published::Sent(address, payload, back)),
+        Err(fault) => match fault.told() {
+            Some(told) => Ok(Published::Refused(PRECONDITION_FAILED, Some(told))),
+            None => Err(Memory),
+        },
     }
 }
 
 /// A refusal closes what it says, and is as one of the connection.
-fn refuse(conn: &mut Conn91, refusal: Refusal) -> Met
+fn refuse(conn: &mut Conn91, refusal: Refusal, told: Option<Told>) -> Met
     ensures conn { conn.new ≡ after_closing refusal.scope refusal.channel conn.old }
-    ensures met { result ≡ met.Want (want.Refuse refusal) }
+    ensures met { result ≡ met.Want (want.Refuse refusal) told }
 {
     conn.closing(refusal.scope, refusal.channel);
-    Met::Want(Want91::Refuse(refusal))
+    Met::Want(Want91::Refuse(refusal), told)
 }
 
 /// What becomes of a publish on a channel. Without memory for it the connection stays.
+#[tactic(auto, using(crate::proofs::Backs::writable))]
 fn meet_publish(
     alloc: Global,
     routes: &Routes,
@@ -160,36 +193,43 @@ fn meet_publish(
     method: Method91,
     content: Content,
 ) -> Result<Met, Memory>
+    requires put { CanPutBack (want.Publish channel method content) }
     ensures ok { IfOk result (IsMet routes.now (want.Publish channel method content) conn.old
         conn.new) }
     ensures err { OnErr result (conn.new ≡ conn.old) }
 {
     let ids = ids(&method);
+    let limit = conn.frame_max();
     let (message, mandatory) = message_of(alloc, method, content);
-    match publish(alloc, routes, message, mandatory)? {
-        Published::Sent(address, payload) => Ok(Met::Publish(channel, address, payload)),
-        Published::Refused(code) => Ok(refuse(conn, refusal_for(channel, ids, code))),
+    match publish(alloc, routes, channel, limit, message, mandatory)? {
+        Published::Sent(address, payload, back) => Ok(Met::Publish(
+            channel, address, payload, back,
+        )),
+        Published::Refused(code, told) => {
+            Ok(refuse(conn, refusal_for(channel, ids, code), told))
+        }
     }
 }
 
 /// What becomes of what a unit wants. Without memory for it the connection stays.
 pub fn meet(alloc: Global, routes: &Routes, conn: &mut Conn91, want: Want91) -> Result<Met, Memory>
+    requires put { CanPutBack want }
     ensures ok { IfOk result (IsMet routes.now want conn.old conn.new) }
     ensures err { OnErr result (conn.new ≡ conn.old) }
     ensures publish { OnErr result (is_publish want ≡ true) }
 {
     match want {
         Want91::Method(channel, method) => match method_fault(routes, &method) {
-            None => Ok(Met::Want(Want91::Method(channel, method))),
+            None => Ok(Met::Want(Want91::Method(channel, method), None)),
             Some(code) => {
                 let refusal = refusal_for(channel, ids(&method), code);
                 drop(method);
-                Ok(refuse(conn, refusal))
+                Ok(refuse(conn, refusal, None))
             }
         },
         Want91::Publish(channel, method, content) => {
             meet_publish(alloc, routes, conn, channel, method, content)
         }
-        want => Ok(Met::Want(want)),
+        want => Ok(Met::Want(want, None)),
     }
 }

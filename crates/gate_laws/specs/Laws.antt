@@ -15,7 +15,7 @@ use Rattle.gate_model.specs.Frames.{FitsClients}
 use Rattle.gate_model.specs.Once.{AnswersOnce}
 use Rattle.gate_model.specs.Order.{TakesInOrder}
 use Rattle.gate_model.specs.Picks.{ArePicks}
-use Rattle.gate_model.specs.Publishing.{ArePieces, Confirms, EndWhole, Transfers}
+use Rattle.gate_model.specs.Publishing.{ArePieces, Confirms, EndWhole, Returns, Transfers}
 use Rattle.gate_model.specs.Reports.{lines_owed}
 use Rattle.gate_model.specs.Setup.{SetupText}
 use Rattle.gate_model.specs.State.{owed_lines}
@@ -38,8 +38,10 @@ pub record IsLawfulPair (s : SetupText) (h : List Entry) : Type 0 where
   pub order : TakesInOrder (steps_of s h)
   pub once : AnswersOnce (steps_of s h)
   -- each confirm covers publishes with the outcome that it tells, accepted ones by an ack; frames
-  -- of transfers go within credit and window, in order, and carry each byte of an image once
+  -- of returns are those of mandatory publishes that no queue took; frames of transfers go within
+  -- credit and window, in order, and carry each byte of an image once
   pub confirms : Confirms (steps_of s h)
+  pub returns : Returns (steps_of s h)
   pub transfers : Transfers (steps_of s h)
   pub pieces : ArePieces (steps_of s h)
   pub wholes : EndWhole (steps_of s h)

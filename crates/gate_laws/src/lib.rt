@@ -10,7 +10,7 @@ ghost use Rattle.gate_model.specs.Frames.{FitsClients};
 ghost use Rattle.gate_model.specs.Once.{AnswersOnce};
 ghost use Rattle.gate_model.specs.Order.{TakesInOrder};
 ghost use Rattle.gate_model.specs.Picks.{ArePicks};
-ghost use Rattle.gate_model.specs.Publishing.{ArePieces, Confirms, EndWhole, Transfers};
+ghost use Rattle.gate_model.specs.Publishing.{ArePieces, Confirms, EndWhole, Returns, Transfers};
 ghost use Rattle.gate_model.specs.Reports.{lines_owed};
 ghost use Rattle.gate_model.specs.Setup.{SetupText};
 ghost use Rattle.gate_model.specs.State.{owed_lines};
@@ -83,6 +83,8 @@ pub fn channels_are_answered_once()
 
 /// Each confirm that goes to a client covers publishes of the channel's life that wait for one
 /// alone, with the outcome that it tells: an ack those that the container accepted. Each frame of a
+/// return that goes to a client is the next one of those of a mandatory publish that the container
+/// released, or whose address it didn't know; its confirm goes after the last. Each frame of a
 /// transfer that goes to a container is that of the publish that is begun, else of the least number
 /// that waits on an attached link with credit, while the window of the session has room; it carries
 /// the first bytes that are left of the payload. So the frames of a publish carry the text of the
@@ -91,6 +93,8 @@ pub fn channels_are_answered_once()
 pub fn publishes_are_lawful()
     ensures confirms { (s : SetupText) (c : Limits) (m : History) → Follows (pair_words s) c m
         → (p : ℕ) → Confirms (steps_of s (journal p m)) }
+    ensures returns { (s : SetupText) (c : Limits) (m : History) → Follows (pair_words s) c m
+        → (p : ℕ) → Returns (steps_of s (journal p m)) }
     ensures transfers { (s : SetupText) (c : Limits) (m : History) → Follows (pair_words s) c m
         → (p : ℕ) → Transfers (steps_of s (journal p m)) }
     ensures pieces { (s : SetupText) (c : Limits) (m : History) → Follows (pair_words s) c m
@@ -100,6 +104,7 @@ pub fn publishes_are_lawful()
 {
     entries_are_lawful();
     gate_model::confirms_are_lawful();
+    gate_model::returns_are_lawful();
     gate_model::transfers_are_lawful();
     gate_model::payloads_are_whole();
 }

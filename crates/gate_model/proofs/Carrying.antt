@@ -1,4 +1,5 @@
 -- The session of a channel is what the steps say of it.
+use Rattle.property_map.specs.declared.told.Told.{Told}
 use Rattle.std.proofs.Common.{◌≡◌, ◌≢◌, ◌⊎◌, ℕ, zero, suc, ◌==◌, ◌<◌, ◌≤◌, Bool, true, false}
 use Rattle.std.proofs.Common.{if◌then◌else◌, List, [], ◌∷◌, Option, Some, length, arith, inl, inr}
 use Rattle.std.proofs.Common.{refl, sym, ap, ◌∙◌, subst}
@@ -25,11 +26,11 @@ use Rattle.gate_model.specs.declared.outgoing.UpUnit.TheVariants as up
 use Rattle.gate_model.specs.declared.reply.Reply.{Reply}
 use Rattle.gate_model.specs.declared.reply.Reply.TheVariants as reply
 use Rattle.gate_model.specs.Folds.{carried_heard, carried_sent, carrying, ran_out_in}
-use Rattle.gate_model.specs.Lives.{failed_life, life_at, lives_by, method_life, no_life, with_life}
+use Rattle.gate_model.specs.Lives.{failed_life, life_at, lives_by, method_life, no_life, with_life, reason_of}
 use Rattle.gate_model.specs.Lives.{with_state, is_of_channel}
 use Rattle.gate_model.specs.Picks.{ArePicks}
 use Rattle.gate_model.specs.Session.{carried_by, flow_sent, is_flow_owed, no_session}
-use Rattle.gate_model.specs.Requests.{client_step}
+use Rattle.gate_model.specs.Requests.{client_step, client_told}
 use Rattle.gate_model.specs.State.{Began, Came, Fed, Gave, Heard, Joined, Lost, Moment, OutOfMemory}
 use Rattle.gate_model.specs.State.{Queued, Silent, State, Step, TakenUp, Whole, before, came}
 use Rattle.gate_model.specs.State.{carried, dequeued, fail, failed, heard, left, runs, windowed}
@@ -88,20 +89,20 @@ method_keeps ms method.ChannelOpen l = refl
 method_keeps ms (method.ChannelClose code text class id) l = refl
 method_keeps ms m l = refl
 
-want_keeps : (n ms : ℕ) (x : Want91) (ls : List Life) → at n (lives_by ms x ls) ≡ at n ls
-want_keeps n ms want.Nothing ls = refl
-want_keeps n ms want.Start ls = refl
-want_keeps n ms (want.Login m r) ls = refl
-want_keeps n ms want.Tuned ls = refl
-want_keeps n ms want.OpenUp ls = refl
-want_keeps n ms (want.Method k m) ls = keeps_at n k ls _ (method_keeps ms m (life_at ls k))
-want_keeps n ms (want.Publish k m x) ls = refl
-want_keeps n ms (want.ChannelCloseOk k) ls = keeps_at n k ls _ refl
-want_keeps n ms want.Close ls = refl
-want_keeps n ms want.CloseOk ls = refl
-want_keeps n ms (want.Refuse r) ls = by (is_of_channel r)
+want_keeps : (n ms : ℕ) (told : Option Told) (x : Want91) (ls : List Life) → at n (lives_by ms told x ls) ≡ at n ls
+want_keeps n ms told want.Nothing ls = refl
+want_keeps n ms told want.Start ls = refl
+want_keeps n ms told (want.Login m r) ls = refl
+want_keeps n ms told want.Tuned ls = refl
+want_keeps n ms told want.OpenUp ls = refl
+want_keeps n ms told (want.Method k m) ls = keeps_at n k ls _ (method_keeps ms m (life_at ls k))
+want_keeps n ms told (want.Publish k m x) ls = refl
+want_keeps n ms told (want.ChannelCloseOk k) ls = keeps_at n k ls _ refl
+want_keeps n ms told want.Close ls = refl
+want_keeps n ms told want.CloseOk ls = refl
+want_keeps n ms told (want.Refuse r) ls = by (is_of_channel r)
   where
-    by : (b : Bool) → (life_at (if b then with_life r.channel (failed_life false ms r (Some (condition_of r.code)) (life_at ls r.channel)) ls else ls) n).session
+    by : (b : Bool) → (life_at (if b then with_life r.channel (failed_life false ms (reason_of told r) (Some (condition_of r.code)) (life_at ls r.channel)) ls else ls) n).session
         ≡ (life_at ls n).session
     by true = keeps_at n r.channel ls _ refl
     by false = refl
@@ -200,7 +201,7 @@ came_keeps n w u = by w.out_of_memory
   where
     by : (b : Bool) → at n (if b then w else came (dequeued w) u).lives ≡ at n w.lives
     by true = refl
-    by false = want_keeps n w.moment (client_step w.routes w.conn u).1 w.lives
+    by false = want_keeps n w.moment (client_told w.routes w.conn u) (client_step w.routes w.conn u).1 w.lives
 
 queued_keeps : (n : ℕ) (w : State) (us : List Unit91) → at n (if w.out_of_memory then w else record w { queue = us }).lives ≡ at n w.lives
 queued_keeps n w us = by w.out_of_memory

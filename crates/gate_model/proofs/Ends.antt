@@ -1,5 +1,6 @@
 -- What ends a channel waits for its session.
-use Rattle.std.proofs.Common.{◌≡◌, ℕ, Bool, true, false, ◌&&◌, if◌then◌else◌, List, [], ◌∷◌, ◌++◌}
+use Rattle.gate_model.specs.declared.reply.Reason.{Reason}
+use Rattle.std.proofs.Common.{not, ◌≡◌, ℕ, Bool, true, false, ◌&&◌, if◌then◌else◌, List, [], ◌∷◌, ◌++◌}
 use Rattle.std.proofs.Common.{Option, None, Some, refl, sym, ap, ◌∙◌, subst}
 use Rattle.machine_091.specs.declared.unit.Refusal.{Refusal}
 use Rattle.machine_10.specs.declared.state.Upstream.{Upstream}
@@ -22,7 +23,7 @@ use Rattle.gate_model.specs.Waiting.{ChannelsEndWhenSettled, NoneThere, OfAll, S
 use Rattle.gate_model.proofs.Known.{container_is, known}
 use Rattle.gate_model.proofs.Rows.{Has, HasFirst, HasNone, first_each, first_none, first_some, has}
 use Rattle.gate_model.proofs.Rows.{same_first}
-use Rattle.gate_model.proofs.Said.{Beats, InAnswers, InConfirms, InCloses, InOks, IsDue}
+use Rattle.gate_model.proofs.Said.{Beats, InAnswers, InConfirms, InCloses, InOks, IsDue, InContents, a_content, an_outcome}
 use Rattle.gate_model.proofs.Said.{IsOfChannel, OnChannel, Picked, calm_now, first_due, picked}
 use Rattle.gate_model.proofs.Times.{Either, OnLeft, OnRight, and_right, either}
 use Rattle.gate_model.proofs.Waits.{settled_in}
@@ -60,7 +61,7 @@ ends_when : (w : State) (b : Bool) (u v : Reply) → (b ≡ true → EndsIn w u)
 ends_when w true u v f e = let here : u ≡ v = cc in subst (EndsIn w) here (f refl)
 ends_when w false u v f e = absurd cc
 
-ends_refused : (w : State) (b : Bool) (k : ℕ) (o : Option Refusal) (v : Reply) → (b ≡ true → is_channel_settled w k ≡ true) → first (refused_on b k o) ≡ Some v → EndsIn w v
+ends_refused : (w : State) (b : Bool) (k : ℕ) (o : Option Reason) (v : Reply) → (b ≡ true → is_channel_settled w k ≡ true) → first (refused_on b k o) ≡ Some v → EndsIn w v
 ends_refused w true k (Some x) v f e = let here : reply.ChannelClose k x ≡ v = cc in subst (EndsIn w) here (ends_only w k (reply.ChannelClose k x) refl (f refl))
 ends_refused w false k (Some x) v f e = absurd cc
 ends_refused w true k None v f e = absurd cc
@@ -71,11 +72,6 @@ an_ok w k true o v e = absurd cc
 an_ok w k false None v e = absurd cc
 an_ok w k false (Some x) v e = let here : reply.OnChannel k (unit.Ok x) ≡ v = cc in subst (EndsIn w) here (ends_none w (reply.OnChannel k (unit.Ok x)) refl)
 
-a_confirm : (w : State) (k : ℕ) (may : Bool) (o : Option Confirm) (v : Reply) → first (confirm_on may k o) ≡ Some v → EndsIn w v
-a_confirm w k may None v e = absurd cc
-a_confirm w k false (Some c) v e = absurd cc
-a_confirm w k true (Some c) v e = let here : reply.OnChannel k (unit.Confirm c) ≡ v = cc in subst (EndsIn w) here (ends_none w (reply.OnChannel k (unit.Confirm c)) refl)
-
 ends_on : (w : State) (r : Reply) → IsOfChannel w r → EndsIn w r
 ends_on w r (InAnswers e) = by (has (open_oks w))
   where
@@ -85,7 +81,9 @@ ends_on w r (InAnswers e) = by (has (open_oks w))
     by : Has (open_oks w) → EndsIn w r
     by (HasFirst u g) = subst (EndsIn w) (same_first (first (open_oks w ++ path_oks w)) u r (first_some (open_oks w) (path_oks w) u g) e) (first_each (EndsIn w) _ 0 w.lives u opens g)
     by (HasNone g) = first_each (EndsIn w) _ 0 w.lives r (λ k l v f. an_ok w k l.over _ v f) (sym (first_none (open_oks w) (path_oks w) g) ∙ e)
-ends_on w r (InConfirms e) = first_each (EndsIn w) _ 0 w.lives r (λ k l v f. a_confirm w k _ _ v f) e
+ends_on w r (InContents e) = first_each (EndsIn w) _ 0 w.lives r (λ k l v f. a_content (EndsIn w) w.paths k l v (λ u x. ends_none w (reply.OnChannel k u) refl) f) e
+ends_on w r (InConfirms e) =
+    first_each (EndsIn w) _ 0 w.lives r (λ k l v f. an_outcome (EndsIn w) (not w.out_of_memory) w.paths k l v (λ u x. ends_none w (reply.OnChannel k u) refl) f) e
 ends_on w r (InOks e) = first_each (EndsIn w) _ 0 w.lives r (λ k l v. one k l v l.crossed_ok) e
   where
     one : (k : ℕ) (l : Life) (v : Reply) (b : Bool) → first (when b (reply.CrossedOk k) ++ when (l.close_ok && is_channel_settled w k) (reply.ChannelCloseOk k)) ≡ Some v → EndsIn w v

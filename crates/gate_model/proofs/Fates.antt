@@ -15,11 +15,11 @@ use Rattle.publish_path.specs.Laws.{IsLawfulConfirm, frame_at, frame_by, may_beg
 use Rattle.publish_path.specs.Offers.{next_confirm_of, next_frame_of, rest_of}
 use Rattle.publish_path.specs.declared.publish.NextFrame.{NextFrame}
 use Rattle.publish_path.specs.declared.send_links.SendingLink.{SendingLink}
-use Rattle.publish_path.specs.Publishes.{ConfirmSent, FrameSent, LinesTold, LinkGone, OutcomeCame}
+use Rattle.publish_path.specs.Publishes.{ConfirmSent, FrameSent, LinesTold, LinkGone, OutcomeCame, ReturnSent}
 use Rattle.publish_path.specs.Publishes.{PublishEvent, PublishState, TakenUp}
 use Rattle.publish_path.specs.Publishes.{after_events as publishes_after, open_after}
 use Rattle.publish_path.specs.declared.publish.Confirm.{Confirm}
-use Rattle.session_path.specs.Due.{next_confirm, next_frame}
+use Rattle.session_path.specs.Due.{next_confirm, next_frame, next_return}
 use Rattle.session_path.specs.Events.{PathEvent, after_events, publishes_of}
 use Rattle.session_path.specs.Links.{handle_at}
 use Rattle.session_path.specs.Path.{PathState}
@@ -43,7 +43,7 @@ use Rattle.gate_model.specs.Publishing.{Confirms, MayCarry, MayConfirm, MayTell,
 use Rattle.gate_model.specs.Publishing.{Transfers, path_events, path_life}
 use Rattle.gate_model.specs.State.{Gave, State, Step, before}
 use Rattle.gate_model.proofs.Carrying.{carries_in}
-use Rattle.gate_model.proofs.Firsts.{OfChannel, OfSession, goes_as, goes_up_as}
+use Rattle.gate_model.proofs.Firsts.{OfChannel, OfSession, goes_as, goes_up_as, ChannelUnits}
 use Rattle.gate_model.proofs.Known.{known, paths_are}
 use Rattle.gate_model.proofs.Publishing.{path_is, tells}
 use Rattle.gate_model.proofs.Slots.{below}
@@ -70,7 +70,7 @@ pub record IsLived (h : List Step) (n : ℕ) (s : PathState) : Type 0 where
   pub is : s ≡ after_events life (path_events h n)
   pub below : n ≤ CHANNEL_MAX
 
-lived : (h : List Step) (n : ℕ) (s : PathState) → ArePicks h → slot_at (before h).paths n ≡ Some s → IsLived h n s
+pub lived : (h : List Step) (n : ℕ) (s : PathState) → ArePicks h → slot_at (before h).paths n ≡ Some s → IsLived h n s
 lived h n s p e = by (path_life h n) refl (sym e ∙ path_is h n p least)
   where
     least : n ≤ CHANNEL_MAX
@@ -87,9 +87,10 @@ lived h n s p e = by (path_life h n) refl (sym e ∙ path_is h n p least)
 
 -- ---- confirms
 
-abbrev IsNext : State → ℕ → ChannelUnit → Type 0
+abbrev pub IsNext : State → ℕ → ChannelUnit → Type 0
 IsNext w n (to_client.Ok x) = Unit {0}
 IsNext w n (to_client.Confirm c) = next_confirm (path_at w.paths n) ≡ Some c
+IsNext w n (to_client.Return r) = next_return (path_at w.paths n) ≡ Some r
 
 may_confirm : PublishesAre → ConfirmsAre → (h : List Step) (n : ℕ) (c : Confirm) → ArePicks h → next_confirm (path_at (before h).paths n) ≡ Some c → MayConfirm h n c
 may_confirm publishes confirms h n c p e = by (slot_at (before h).paths n) refl e
@@ -108,12 +109,17 @@ may_confirm publishes confirms h n c p e = by (slot_at (before h).paths n) refl 
 may_tell : PublishesAre → ConfirmsAre → (h : List Step) (u : Reply) → ArePicks h → OfChannel (IsNext (before h)) u → MayTell h u
 may_tell publishes confirms h (reply.OnChannel n (to_client.Ok x)) p e = tt
 may_tell publishes confirms h (reply.OnChannel n (to_client.Confirm c)) p e = may_confirm publishes confirms h n c p e
+may_tell publishes confirms h (reply.OnChannel n (to_client.Return r)) p e = tt
 may_tell publishes confirms h u p e = tt
+
+-- what goes to the client on a channel is what is due there
+pub is_next : {w : State} → ChannelUnits (IsNext w) w
+is_next {w} = record { answer = λ n x e. tt; confirm = λ n c e. e; back = λ n r e. e }
 
 pub confirms_are : PublishesAre → ConfirmsAre → (h : List Step) → ArePicks h → Confirms h
 confirms_are publishes confirms [] p = tt
 confirms_are publishes confirms (Gave (ToClient u) text ∷ h) p = (
-  may_tell publishes confirms h u p.1 (goes_as (IsNext (before h)) (before h) u (record { answer = λ n x e. tt; confirm = λ n c e. e }) p.0.1),
+  may_tell publishes confirms h u p.1 (goes_as (IsNext (before h)) (before h) u is_next p.0.1),
   confirms_are publishes confirms h p.1,
 )
 confirms_are publishes confirms (s ∷ h) p = confirms_are publishes confirms h p.1
@@ -163,6 +169,9 @@ least_above t low (suc m) k e = by (t (low + 1)) refl (λ f. least_above t (low 
         record { above = omega (arith, same); below = omega (arith, same); passes = subst (λ (i : ℕ). t i ≡ true) same g }
     by false g more f = let rest = more f in record { above = omega (arith, rest.above); below = omega (arith, rest.below); passes = rest.passes }
 
+pub least_passes : (t : ℕ → Bool) (most k : ℕ) → least t most ≡ Some k → (1 ≤ k) × (k ≤ most) × (t k ≡ true)
+least_passes t most k e = let l = least_above t 0 most k e in (omega (arith, l.above), omega (arith, l.below), l.passes)
+
 -- its publish was taken up, and is to go
 pub record IsToGo (h : List PublishEvent) (n : ℕ) : Type 0 where
   pub taken : IsTaken h n
@@ -202,11 +211,12 @@ to_go links h f e =
 -- delivery-ids count the transfers that began
 next_id_is : (life : ℕ) (h : List PublishEvent) → (publishes_after life h).next_id ≡ next_id_of h
 next_id_is life [] = refl
-next_id_is life (TakenUp link confirm payload ∷ h) = next_id_is life h
+next_id_is life (TakenUp link confirm payload back ∷ h) = next_id_is life h
 next_id_is life (FrameSent number first part ∷ h) = ap (λ (id : ℕ). if first then (id + 1) % 2 ^ 32 else id) (next_id_is life h)
-next_id_is life (OutcomeCame first last accepted ∷ h) = next_id_is life h
-next_id_is life (LinkGone link ∷ h) = next_id_is life h
+next_id_is life (OutcomeCame first last outcome ∷ h) = next_id_is life h
+next_id_is life (LinkGone link not_found ∷ h) = next_id_is life h
 next_id_is life (ConfirmSent c ∷ h) = next_id_is life h
+next_id_is life (ReturnSent number ∷ h) = next_id_is life h
 next_id_is life (LinesTold ∷ h) = next_id_is life h
 
 cut_more : (room left : ℕ) → nat_lt room left ≡ nat_lt (min room left) left

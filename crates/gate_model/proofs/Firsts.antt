@@ -1,5 +1,6 @@
 -- What holds of the first of each row holds of the unit that goes: one of a channel's answers and confirms, or one of its session's
 -- links, is the next of its kind.
+use Rattle.gate_model.specs.declared.reply.Reason.{Reason}
 use Rattle.std.proofs.Common.{◌≡◌, ℕ, zero, suc, ◌+◌, not, ◌&&◌, ◌||◌, Bool, true, false}
 use Rattle.std.proofs.Common.{if◌then◌else◌, List, [], ◌∷◌, ◌++◌, Option, None, Some, arith, refl}
 use Rattle.std.proofs.Common.{subst, map}
@@ -9,8 +10,9 @@ use Rattle.gate_relay.specs.Sides.{is_readable}
 use Rattle.machine_091.specs.State.{is_closing}
 use Rattle.machine_091.specs.declared.unit.Refusal.{Refusal}
 use Rattle.publish_path.specs.declared.publish.Confirm.{Confirm}
+use Rattle.publish_path.specs.declared.publish.NextReturn.{NextReturn}
 use Rattle.publish_path.specs.declared.publish.NextFrame.{NextFrame}
-use Rattle.session_path.specs.Due.{next_attach, next_confirm, next_detach, next_flow, next_frame}
+use Rattle.session_path.specs.Due.{next_attach, next_confirm, next_detach, next_flow, next_frame, next_return}
 use Rattle.session_path.specs.Due.{next_ok, next_settle}
 use Rattle.session_path.specs.Links.{handle_of}
 use Rattle.session_path.specs.declared.path.AttachDue.{AttachDue}
@@ -29,7 +31,7 @@ use Rattle.gate_model.specs.declared.outgoing.UpUnit.TheVariants as up
 use Rattle.gate_model.specs.declared.reply.Pending.{Pending}
 use Rattle.gate_model.specs.declared.reply.Reply.{Reply}
 use Rattle.gate_model.specs.declared.reply.Reply.TheVariants as reply
-use Rattle.gate_model.specs.Due.{attaches, begins, carried_rows, channel_closes, channel_oks}
+use Rattle.gate_model.specs.Due.{attaches, begins, carried_rows, channel_closes, channel_oks, contents, content_on, return_on, may_return}
 use Rattle.gate_model.specs.Due.{client_rows, client_units, close_behind, close_oks, close_oks_on}
 use Rattle.gate_model.specs.Due.{closes, confirm_on, confirms, detaches, ends, frame_max_in, if_so}
 use Rattle.gate_model.specs.Due.{is_beat_due, is_end_due, last_closes, link_flows, may_answer}
@@ -156,10 +158,12 @@ OfChannel Q u = Unit {0}
 pub record ChannelUnits (Q : ℕ → ChannelUnit → Type 0) (w : State) : Type 0 where
   pub answer : (n : ℕ) (x : PathOk) → next_ok (path_at w.paths n) ≡ Some x → Q n (to_client.Ok x)
   pub confirm : (n : ℕ) (c : Confirm) → next_confirm (path_at w.paths n) ≡ Some c → Q n (to_client.Confirm c)
+  pub back : (n : ℕ) (r : NextReturn) → next_return (path_at w.paths n) ≡ Some r → Q n (to_client.Return r)
 
 client_rows_are : (Q : ℕ → ChannelUnit → Type 0) (w : State) → ChannelUnits Q w → FirstIs (OfChannel Q) (client_rows w)
 client_rows_are Q w us =
-    both_are P (client_units w) _ (both_are P (openings p) _ opening (both_are P _ _ (if_so_is P (may_answer w) _ answering) confirming))
+    both_are P (client_units w) _ (both_are P (if_so (may_return w) (contents w)) _ (if_so_is P (may_return w) (contents w) going_on)
+    (both_are P (openings p) _ opening (both_are P _ _ (if_so_is P (may_answer w) _ answering) confirming)))
     (when_is P (is_beat_due w) reply.Heartbeat tt)
   where
     P : Reply → Type 0
@@ -190,10 +194,21 @@ client_rows_are Q w us =
     confirm_is n may None e = tt
     confirm_is n may (Some c) e = when_is P may (reply.OnChannel n (to_client.Confirm c)) (us.confirm n c e)
 
+    return_is : (n : ℕ) (may : Bool) (o : Option NextReturn) → next_return (path_at w.paths n) ≡ o → FirstIs P (return_on may n o)
+    return_is n may None e = tt
+    return_is n may (Some r) e = when_is P (may && r.first) (reply.OnChannel n (to_client.Return r)) (us.back n r e)
+
+    content_is : (n : ℕ) (o : Option NextReturn) → next_return (path_at w.paths n) ≡ o → FirstIs P (content_on n o)
+    content_is n None e = tt
+    content_is n (Some r) e = when_is P (not r.first) (reply.OnChannel n (to_client.Return r)) (us.back n r e)
+
+    going_on : FirstIs P (contents w)
+    going_on = each_is P _ w.lives (λ n. content_is n (next_return (path_at w.paths n)) refl)
+
     ok_is : (n : ℕ) (settled : Bool) (l : Life) → FirstIs P (close_oks_on n settled l)
     ok_is n settled l = both_are P (when l.crossed_ok (reply.CrossedOk n)) _ (when_is P l.crossed_ok (reply.CrossedOk n) tt) (when_is P settled (reply.ChannelCloseOk n) tt)
 
-    refusal_is : (n : ℕ) (settled : Bool) (o : Option Refusal) → FirstIs P (refused_on settled n o)
+    refusal_is : (n : ℕ) (settled : Bool) (o : Option Reason) → FirstIs P (refused_on settled n o)
     refusal_is n settled None = tt
     refusal_is n settled (Some r) = when_is P settled (reply.ChannelClose n r) tt
 
@@ -214,7 +229,9 @@ client_rows_are Q w us =
     confirming =
         both_are P (if_so (may_answer w || w.by_peer) (confirms w)) _
         (if_so_is P (may_answer w || w.by_peer) (confirms w)
-        (each_is P _ w.lives (λ n. confirm_is n (may_confirm (life_at w.lives n)) (next_confirm (path_at w.paths n)) refl)))
+        (each_is P _ w.lives (λ n. both_are P (return_on (not w.out_of_memory && may_confirm (life_at w.lives n)) n (next_return (path_at w.paths n))) _
+        (return_is n (not w.out_of_memory && may_confirm (life_at w.lives n)) (next_return (path_at w.paths n)) refl)
+        (confirm_is n (may_confirm (life_at w.lives n)) (next_confirm (path_at w.paths n)) refl))))
         closing
 
 -- ---- the unit that goes

@@ -1,4 +1,5 @@
 -- Each channel.flow is answered at most once (AMQP 0-9-1 1.5.2.3): what is due of its answers is what the path of its channel owes.
+use Rattle.gate_model.specs.Returns.{back_of}
 use Rattle.std.proofs.Common.{◌≡◌, ℕ, zero, suc, ◌+◌, ◌==◌, ◌≤◌, Bool, true, false, ◌&&◌}
 use Rattle.std.proofs.Common.{if◌then◌else◌, List, [], ◌∷◌, ◌++◌, Option, None, Some, arith, refl}
 use Rattle.std.proofs.Common.{sym, ap, ◌∙◌, subst}
@@ -14,7 +15,7 @@ use Rattle.machine_091.specs.declared.unit.Unit91.{Unit91}
 use Rattle.machine_091.specs.declared.unit.Want91.{Want91}
 use Rattle.machine_091.specs.declared.unit.Want91.TheVariants as want
 use Rattle.machine_10.specs.Parts.{Parts}
-use Rattle.machine_10.specs.Reading.{field, number_at}
+use Rattle.machine_10.specs.Reading.{field, number_at, act_of}
 use Rattle.machine_10.specs.Transitions as ten
 use Rattle.machine_10.specs.Transitions.{Meaning}
 use Rattle.machine_10.specs.declared.unit.Unit10.{Unit10}
@@ -51,7 +52,7 @@ use Rattle.gate_model.specs.Once.{is_channel_flow, is_flow_ok, is_flow_ok_on, is
 use Rattle.gate_model.specs.Once.{wanted_in, went_in}
 use Rattle.gate_model.specs.Paths.{attach_by, lost_path, name_in, no_paths, or_no_path, path_at}
 use Rattle.gate_model.specs.Paths.{slot_at, text_of, is_there, with_path, told_paths}
-use Rattle.gate_model.specs.State.{Began, Came, Fed, Gave, Heard, Joined, Lost, Moment, OutOfMemory}
+use Rattle.gate_model.specs.State.{Began, Came, Fed, Gave, Heard, Joined, Lost, Moment, OutOfMemory, conn_step}
 use Rattle.gate_model.specs.State.{Queued, Silent, State, Step, TakenUp, Whole, answered_if, before}
 use Rattle.gate_model.specs.State.{came, carried, left, lost_up, runs, windowed, dequeued, fail}
 use Rattle.gate_model.specs.State.{failed, heard, path_by, path_given, path_heard, path_told}
@@ -252,25 +253,25 @@ method_more n k life (method.ConfirmSelect no_wait) ps =
     with_more n k ps (λ s. answered_if no_wait ok.Select (selected s)) 0 (λ s. ok_more ok.Select no_wait (selected s) refl)
 method_more n k life m ps = with_more n k ps (path_by m) 0 (λ s. omega arith)
 
-wanted_more : (rs : List Route) (n life : ℕ) (x : Want91) (ps : List (Option PathState)) → flows_due n (paths_by rs life x ps) ≤ flows_due n ps + one_if (is_method_on is_channel_flow n x)
-wanted_more rs n life want.Nothing ps = omega arith
-wanted_more rs n life want.Start ps = omega arith
-wanted_more rs n life (want.Login m r) ps = omega arith
-wanted_more rs n life want.Tuned ps = omega arith
-wanted_more rs n life want.OpenUp ps = omega arith
-wanted_more rs n life (want.Method k m) ps = one_or (k == n) (is_channel_flow m) _ _ (method_more n k (life + 1) m ps)
-wanted_more rs n life (want.Publish k m c) ps =
-    let less = with_less n k ps (published (address_of rs (message_of m c)) (image_text (message_of m c))) (λ s. refl) in omega (arith, less)
-wanted_more rs n life (want.ChannelCloseOk k) ps = omega arith
-wanted_more rs n life want.Close ps = omega arith
-wanted_more rs n life want.CloseOk ps = omega arith
-wanted_more rs n life (want.Refuse r) ps = omega arith
+wanted_more : (rs : List Route) (limit n life : ℕ) (x : Want91) (ps : List (Option PathState)) → flows_due n (paths_by rs limit life x ps) ≤ flows_due n ps + one_if (is_method_on is_channel_flow n x)
+wanted_more rs limit n life want.Nothing ps = omega arith
+wanted_more rs limit n life want.Start ps = omega arith
+wanted_more rs limit n life (want.Login m r) ps = omega arith
+wanted_more rs limit n life want.Tuned ps = omega arith
+wanted_more rs limit n life want.OpenUp ps = omega arith
+wanted_more rs limit n life (want.Method k m) ps = one_or (k == n) (is_channel_flow m) _ _ (method_more n k (life + 1) m ps)
+wanted_more rs limit n life (want.Publish k m c) ps =
+    let less = with_less n k ps (published (address_of rs (message_of m c)) (image_text (message_of m c)) (back_of limit k m (message_of m c))) (λ s. refl) in omega (arith, less)
+wanted_more rs limit n life (want.ChannelCloseOk k) ps = omega arith
+wanted_more rs limit n life want.Close ps = omega arith
+wanted_more rs limit n life want.CloseOk ps = omega arith
+wanted_more rs limit n life (want.Refuse r) ps = omega arith
 
 came_more : (n : ℕ) (w : State) (u : Unit91) (b : Bool) (total went : ℕ) → went + flows_due n w.paths ≤ total
     → went + flows_due n (if b then w else came (dequeued w) u).paths ≤ (if b then total else total + one_if (is_method_on is_channel_flow n (want_in w.routes w.conn u)))
 came_more n w u true total went e = e
 came_more n w u false total went e =
-    let more = wanted_more w.routes n w.opened (want_in w.routes w.conn u) w.paths in
+    let more = wanted_more w.routes (conn_step w.routes w.conn u).limits.frame_max n w.opened (want_in w.routes w.conn u) w.paths in
     omega (arith, e, more)
 
 -- ---- an answer
@@ -279,6 +280,7 @@ came_more n w u false total went e =
 abbrev IsFirstOk : PathState → ChannelUnit → Type 0
 IsFirstOk s (to_client.Ok x) = next_ok s ≡ Some x
 IsFirstOk s (to_client.Confirm c) = Unit {0}
+IsFirstOk s (to_client.Return r) = Unit {0}
 
 abbrev IsFirstOn : List (Option PathState) → ℕ → ChannelUnit → Type 0
 IsFirstOn ps n u = IsFirstOk (path_at ps n) u
@@ -302,8 +304,10 @@ sent_less s x e = by s.oks x e
 told_less : (o : Option PathState) (u : ChannelUnit) → IsFirstOk (or_no_path o) u → owed_in (option_map (path_told u) o) + one_if (is_flow_ok u) ≤ owed_in o
 told_less None (to_client.Ok x) f = absurd cc
 told_less None (to_client.Confirm c) f = omega arith
+told_less None (to_client.Return r) f = omega arith
 told_less (Some s) (to_client.Ok x) f = sent_less s x f
 told_less (Some s) (to_client.Confirm c) f = omega arith
+told_less (Some s) (to_client.Return r) f = omega arith
 
 given_less : (n : ℕ) (u : Reply) (ps : List (Option PathState)) → OfChannel (IsFirstOn ps) u → flows_due n (paths_given u ps) + one_if (is_flow_ok_on n u) ≤ flows_due n ps
 given_less n reply.Protocol ps o = omega arith
@@ -388,7 +392,7 @@ counts n (Lost Up loss.Ended ∷ h) p = keeps _ _ _ _ (lost_up_less n side.Ended
 counts n (Lost Up loss.Failed ∷ h) p = keeps _ _ _ _ (lost_up_less n side.Failed (before h)) (counts n h p.1)
 counts n (Lost Up loss.Shut ∷ h) p = keeps _ _ _ _ (all_lost_less n (before h).paths) (counts n h p.1)
 counts n (Gave (ToClient u) text ∷ h) p =
-    let less = given_less n u (before h).paths (goes_as (IsFirstOn (before h).paths) (before h) u (record { answer = λ k x e. e; confirm = λ k c e. tt }) p.0.1) in
+    let less = given_less n u (before h).paths (goes_as (IsFirstOn (before h).paths) (before h) u (record { answer = λ k x e. e; confirm = λ k c e. tt; back = λ k r e. tt }) p.0.1) in
     let old = counts n h p.1 in
     omega (arith, less, old)
 counts n (Gave (ToUp u) text ∷ h) p = keeps _ _ _ _ (up_less n u (before h).paths) (counts n h p.1)

@@ -1,5 +1,5 @@
 -- What goes to a client fits it: each unit is short, and no frame-max that is agreed to is less than 4,096.
-use Rattle.std.proofs.Common.{Bool, List, Option, Some, [], arith, false, if◌then◌else◌, subst, sym}
+use Rattle.std.proofs.Common.{Bool, List, Option, Some, [], arith, false, if◌then◌else◌, length, refl, subst, sym}
 use Rattle.std.proofs.Common.{true, ℕ, ◌∷◌, ◌≤◌, None}
 use Rattle.gate_outside.specs.declared.ports.End.TheVariants.{Client, Up}
 use Rattle.machine_091.specs.Limits.{AreWithin}
@@ -31,7 +31,14 @@ use Rattle.close_translate.specs.declared.conditions.Scope.TheVariants as scope
 use Rattle.gate_model.proofs.Connections.{limits_only, only_given}
 use Rattle.gate_model.proofs.Outcomes.{OnlyChannels, only_closing}
 use Rattle.gate_model.proofs.Sessions.{conn_cases}
+use Rattle.gate_model.proofs.Fitting.{backs_fit, fit_first}
 use Rattle.gate_model.proofs.Spelled.{spelled_small}
+use Rattle.gate_model.specs.Picks.{ArePicks}
+use Rattle.gate_model.specs.Publishing.{MayGoBack, Returns, back_in, returned_in}
+use Rattle.gate_model.specs.Spelling.{spell_reply}
+use Rattle.gate_model.specs.declared.channel.ChannelUnit.TheVariants as to_client
+use Rattle.gate_model.specs.declared.reply.Reply.{Reply}
+use Rattle.gate_model.specs.declared.reply.Reply.TheVariants as reply
 use Rattle.gate_model.specs.declared.setup.Route.{Route}
 
 -- no unit of the client takes the limits out of their range
@@ -119,7 +126,25 @@ limit_least l (Came u ∷ h) =
     (after_least (limit_in h) (client_step (routes_in h) (connection h) u).0 (client_step (routes_in h) (connection h) u).1 (limit_least l h) (within_step l (routes_in h) (connection h) u (within l h)))
 limit_least l (s ∷ h) = limit_least l h
 
-pub fits_clients : LimitsStay → (h : List Step) → FitsClients h
-fits_clients l [] = tt
-fits_clients l (Gave (ToClient u) text ∷ h) = (omega (arith, spelled_small u, limit_least l h), fits_clients l h)
-fits_clients l (s ∷ h) = fits_clients l h
+-- a frame of a return is one of those that its publish was taken up with
+goes_fit : LimitsStay → (h : List Step) (u : Reply) (text : List ℕ) → ArePicks h → MayGoBack h u text → length (spell_reply u text) ≤ limit_in h
+goes_fit l h (reply.OnChannel n (to_client.Return r)) text p m = fit_first (limit_in h) (returned_in n r.publish h) (back_in n r.publish h) text (backs_fit (within l) n r.publish h p) m.frame
+goes_fit l h (reply.OnChannel n (to_client.Ok x)) text p m = let small = spelled_small (reply.OnChannel n (to_client.Ok x)) text refl in omega (arith, small, limit_least l h)
+goes_fit l h (reply.OnChannel n (to_client.Confirm c)) text p m = let small = spelled_small (reply.OnChannel n (to_client.Confirm c)) text refl in omega (arith, small, limit_least l h)
+goes_fit l h reply.Protocol text p m = omega (arith, spelled_small reply.Protocol text refl, limit_least l h)
+goes_fit l h reply.Start text p m = omega (arith, spelled_small reply.Start text refl, limit_least l h)
+goes_fit l h reply.Tune text p m = omega (arith, spelled_small reply.Tune text refl, limit_least l h)
+goes_fit l h reply.OpenOk text p m = omega (arith, spelled_small reply.OpenOk text refl, limit_least l h)
+goes_fit l h reply.CloseOk text p m = omega (arith, spelled_small reply.CloseOk text refl, limit_least l h)
+goes_fit l h (reply.Close r) text p m = omega (arith, spelled_small (reply.Close r) text refl, limit_least l h)
+goes_fit l h reply.NoMemory text p m = omega (arith, spelled_small reply.NoMemory text refl, limit_least l h)
+goes_fit l h reply.Heartbeat text p m = omega (arith, spelled_small reply.Heartbeat text refl, limit_least l h)
+goes_fit l h (reply.ChannelOpenOk n) text p m = omega (arith, spelled_small (reply.ChannelOpenOk n) text refl, limit_least l h)
+goes_fit l h (reply.ChannelCloseOk n) text p m = omega (arith, spelled_small (reply.ChannelCloseOk n) text refl, limit_least l h)
+goes_fit l h (reply.CrossedOk n) text p m = omega (arith, spelled_small (reply.CrossedOk n) text refl, limit_least l h)
+goes_fit l h (reply.ChannelClose n r) text p m = omega (arith, spelled_small (reply.ChannelClose n r) text refl, limit_least l h)
+
+pub fits_clients : LimitsStay → (h : List Step) → ArePicks h → Returns h → FitsClients h
+fits_clients l [] p r = tt
+fits_clients l (Gave (ToClient u) text ∷ h) p r = (goes_fit l h u text p.1 r.0, fits_clients l h p.1 r.1)
+fits_clients l (s ∷ h) p r = fits_clients l h p.1 r

@@ -1,9 +1,11 @@
+pub mod Backs
 pub mod Carrying
 pub mod Closings
 pub mod Connections
 pub mod Ends
 pub mod Fates
 pub mod Firsts
+pub mod Fitting
 pub mod Flows
 pub mod Frames
 pub mod Goes

@@ -1,4 +1,5 @@
 -- There are 256 lives.
+use Rattle.property_map.specs.declared.told.Told.{Told}
 use Rattle.std.proofs.Common.{◌≡◌, ℕ, zero, suc, Bool, true, false, if◌then◌else◌, List, [], ◌∷◌}
 use Rattle.std.proofs.Common.{Option, Some, refl, ap, ◌∙◌, length}
 use Rattle.gate_outside.specs.declared.ports.End.TheVariants.{Client, Up}
@@ -19,10 +20,10 @@ use Rattle.gate_model.specs.declared.outgoing.UpUnit.{UpUnit}
 use Rattle.gate_model.specs.declared.outgoing.UpUnit.TheVariants as up
 use Rattle.gate_model.specs.declared.reply.Reply.{Reply}
 use Rattle.gate_model.specs.declared.reply.Reply.TheVariants as reply
-use Rattle.gate_model.specs.Lives.{failed_life, lives_by, no_lives, with_life, life_at}
+use Rattle.gate_model.specs.Lives.{failed_life, lives_by, no_lives, with_life, life_at, reason_of}
 use Rattle.gate_model.specs.Lives.{is_of_channel}
 use Rattle.gate_model.specs.Picks.{ArePicks}
-use Rattle.gate_model.specs.Requests.{client_step}
+use Rattle.gate_model.specs.Requests.{client_step, client_told}
 use Rattle.gate_model.specs.State.{Began, Came, Fed, Gave, Heard, Joined, Lost, Moment, OutOfMemory}
 use Rattle.gate_model.specs.State.{Queued, Silent, State, Step, TakenUp, Whole, before, came}
 use Rattle.gate_model.specs.State.{carried, dequeued, fail, failed, heard, left, runs, windowed}
@@ -45,20 +46,20 @@ new_all : All no_lives
 unfolding no_lives
 new_all = refl
 
-want_all : (ms : ℕ) (x : Want91) (ls : List Life) → All ls → All (lives_by ms x ls)
-want_all ms want.Nothing ls e = e
-want_all ms want.Start ls e = e
-want_all ms (want.Login m r) ls e = e
-want_all ms want.Tuned ls e = e
-want_all ms want.OpenUp ls e = e
-want_all ms (want.Method n m) ls e = after_set ls n _ e
-want_all ms (want.Publish n m x) ls e = e
-want_all ms (want.ChannelCloseOk n) ls e = after_set ls n _ e
-want_all ms want.Close ls e = e
-want_all ms want.CloseOk ls e = e
-want_all ms (want.Refuse r) ls e = by (is_of_channel r)
+want_all : (ms : ℕ) (told : Option Told) (x : Want91) (ls : List Life) → All ls → All (lives_by ms told x ls)
+want_all ms told want.Nothing ls e = e
+want_all ms told want.Start ls e = e
+want_all ms told (want.Login m r) ls e = e
+want_all ms told want.Tuned ls e = e
+want_all ms told want.OpenUp ls e = e
+want_all ms told (want.Method n m) ls e = after_set ls n _ e
+want_all ms told (want.Publish n m x) ls e = e
+want_all ms told (want.ChannelCloseOk n) ls e = after_set ls n _ e
+want_all ms told want.Close ls e = e
+want_all ms told want.CloseOk ls e = e
+want_all ms told (want.Refuse r) ls e = by (is_of_channel r)
   where
-    by : (b : Bool) → All (if b then with_life r.channel (failed_life false ms r (Some (condition_of r.code)) (life_at ls r.channel)) ls else ls)
+    by : (b : Bool) → All (if b then with_life r.channel (failed_life false ms (reason_of told r) (Some (condition_of r.code)) (life_at ls r.channel)) ls else ls)
     by true = after_set ls r.channel _ e
     by false = e
 
@@ -124,7 +125,7 @@ came_all w u e = by w.out_of_memory
   where
     by : (b : Bool) → All (if b then w else came (dequeued w) u).lives
     by true = e
-    by false = want_all w.moment (client_step w.routes w.conn u).1 w.lives e
+    by false = want_all w.moment (client_told w.routes w.conn u) (client_step w.routes w.conn u).1 w.lives e
 
 heard_all : (w : State) (u : Unit10) → All w.lives → All (if w.out_of_memory then w else heard w u).lives
 heard_all w u e = by w.out_of_memory

@@ -1,5 +1,7 @@
 -- What is due on a channel and what went there answers what was asked there.
-use Rattle.std.proofs.Common.{◌≡◌, ◌≢◌, ◌⊎◌, ℕ, zero, suc, ◌+◌, ◌==◌, ◌≤◌, Bool, true, false, ◌&&◌}
+use Rattle.gate_model.specs.declared.reply.Reason.{Reason}
+use Rattle.property_map.specs.declared.told.Told.{Told}
+use Rattle.std.proofs.Common.{not, ◌≡◌, ◌≢◌, ◌⊎◌, ℕ, zero, suc, ◌+◌, ◌==◌, ◌≤◌, Bool, true, false, ◌&&◌}
 use Rattle.std.proofs.Common.{◌||◌, if◌then◌else◌, List, [], ◌∷◌, ◌++◌, Option, None, Some}
 use Rattle.std.proofs.Common.{replicate, arith, inl, inr, refl, sym, ap, ◌∙◌, subst}
 use Rattle.std.specs.Prelude.{slice_get}
@@ -35,16 +37,16 @@ use Rattle.session_path.specs.declared.path.PathOk.{PathOk}
 use Rattle.gate_model.proofs.Flows.{flows_once}
 use Rattle.gate_model.specs.declared.reply.Reply.{Reply}
 use Rattle.gate_model.specs.declared.reply.Reply.TheVariants as reply
-use Rattle.gate_model.specs.Due.{close_oks_on, confirm_on, confirms_on, ok_on, oks_on, open_oks}
+use Rattle.gate_model.specs.Due.{close_oks_on, confirm_on, confirms_on, ok_on, oks_on, open_oks, contents_on}
 use Rattle.gate_model.specs.Due.{path_oks, refused_on, when}
 use Rattle.gate_model.specs.Folds.{is_answer, ran_out_in, connection}
-use Rattle.gate_model.specs.Lives.{refusal_on, begun_life, failed_life, freed_life, life_at}
+use Rattle.gate_model.specs.Lives.{refusal_on, begun_life, failed_life, freed_life, life_at, reason_of}
 use Rattle.gate_model.specs.Lives.{lives_by, method_life, no_life, no_lives, or_none, with_life}
 use Rattle.gate_model.specs.Lives.{is_of_channel}
 use Rattle.gate_model.specs.Once.{AnswersOnce, is_channel_close, is_channel_open, is_close_ok_on}
 use Rattle.gate_model.specs.Once.{is_method_on, is_open_ok_on, one_if, wanted_in, went_in}
 use Rattle.gate_model.specs.Picks.{ArePicks}
-use Rattle.gate_model.specs.Requests.{client_step}
+use Rattle.gate_model.specs.Requests.{client_step, client_told}
 use Rattle.gate_model.specs.State as sent
 use Rattle.gate_model.specs.State.{Began, Came, Gave, Heard, Joined, Lost, Moment, OutOfMemory}
 use Rattle.gate_model.specs.State.{Queued, State, Step, TakenUp, Whole, before, came, carried}
@@ -55,7 +57,7 @@ use Rattle.gate_model.specs.Upstream.{first, heard_up, meaning_by}
 use Rattle.gate_model.proofs.Known.{conn_is, known, memory_is, routes_are}
 use Rattle.gate_model.proofs.Rows.{Has, HasFirst, HasNone, first_at, first_none, first_some, has}
 use Rattle.gate_model.proofs.Rows.{same_first}
-use Rattle.gate_model.proofs.Said.{Beats, InAnswers, InConfirms, InCloses, InOks, IsDue}
+use Rattle.gate_model.proofs.Said.{Beats, InAnswers, InConfirms, InCloses, InOks, IsDue, InContents, a_content, an_outcome}
 use Rattle.gate_model.proofs.Said.{IsOfChannel, OnChannel, Picked, calm_now, first_due, picked}
 use Rattle.gate_model.proofs.Sessions.{session_cases}
 use Rattle.gate_model.proofs.Times.{and_left}
@@ -137,7 +139,7 @@ owed_ok : (ls : List Life) (k : ℕ) (b c : Bool) (v : Reply) → (b ≡ true �
 owed_ok ls k true c v f g e = let here : reply.CrossedOk k ≡ v = cc in subst (IsOwed ls) here (f refl)
 owed_ok ls k false c v f g e = owed_when ls c (reply.ChannelCloseOk k) v g e
 
-owed_refused : (ls : List Life) (b : Bool) (k : ℕ) (o : Option Refusal) (v : Reply) → first (refused_on b k o) ≡ Some v → IsOwed ls v
+owed_refused : (ls : List Life) (b : Bool) (k : ℕ) (o : Option Reason) (v : Reply) → first (refused_on b k o) ≡ Some v → IsOwed ls v
 owed_refused ls true k (Some x) v e = let here : reply.ChannelClose k x ≡ v = cc in subst (IsOwed ls) here tt
 owed_refused ls false k (Some x) v e = absurd cc
 owed_refused ls b k None v e = absurd cc
@@ -146,10 +148,6 @@ owed_oks : (ls : List Life) (b : Bool) (k : ℕ) (o : Option PathOk) (v : Reply)
 owed_oks ls true k o v e = absurd cc
 owed_oks ls false k None v e = absurd cc
 owed_oks ls false k (Some x) v e = let here : reply.OnChannel k (to_client.Ok x) ≡ v = cc in subst (IsOwed ls) here tt
-
-owed_confirm : (ls : List Life) (b : Bool) (k : ℕ) (o : Option Confirm) (v : Reply) → first (confirm_on b k o) ≡ Some v → IsOwed ls v
-owed_confirm ls b k None v e = absurd cc
-owed_confirm ls b k (Some c) v e = owed_when ls b (reply.OnChannel k (to_client.Confirm c)) v (λ x. tt) e
 
 owed_on : (w : State) (r : Reply) → IsOfChannel w r → IsOwed w.lives r
 owed_on w r (InAnswers e) = by (has (open_oks w))
@@ -165,8 +163,11 @@ owed_on w r (InAnswers e) = by (has (open_oks w))
         subst (IsOwed w.lives) (same_first (first (open_oks w ++ path_oks w)) u r (first_some (open_oks w) (path_oks w) u g) e)
         (first_at (IsOwed w.lives) _ w.lives u opens g)
     by (HasNone g) = first_at (IsOwed w.lives) (oks_on w.paths) w.lives r oks (sym (first_none (open_oks w) (path_oks w) g) ∙ e)
+owed_on w r (InContents e) =
+    first_at (IsOwed w.lives) (contents_on w.paths) w.lives r (λ k v f. a_content (IsOwed w.lives) w.paths k (life_at w.lives k) v (λ u x. tt) f) e
 owed_on w r (InConfirms e) =
-    first_at (IsOwed w.lives) (confirms_on w.paths) w.lives r (λ k v f. owed_confirm w.lives _ k _ v f) e
+    first_at (IsOwed w.lives) (confirms_on (not w.out_of_memory) w.paths) w.lives r
+    (λ k v f. an_outcome (IsOwed w.lives) (not w.out_of_memory) w.paths k (life_at w.lives k) v (λ u x. tt) f) e
 owed_on w r (InOks e) =
     first_at (IsOwed w.lives) (λ (n : ℕ) (l : Life). close_oks_on n (l.close_ok && is_channel_settled w n) l) w.lives r
     (λ k v f. owed_ok w.lives k (life_at w.lives k).crossed_ok _ v (λ x. x) (λ x. and_left (life_at w.lives k).close_ok _ x) f) e
@@ -187,21 +188,21 @@ record Counts (n : ℕ) (v : Life → ℕ) (asks : Want91 → Bool) (answers : R
   asked : (ms : ℕ) (m : Method91) (l : Life) → v (method_life ms m l) ≤ v l + one_if (asks (want.Method n m))
   freed : (l : Life) → v (freed_life l) ≤ v l
   begun : (l : Life) → v (begun_life l) ≤ v l
-  failed : (by_peer : Bool) (ms : ℕ) (r : Refusal) (why : Option Condition) (l : Life) → v (failed_life by_peer ms r why l) ≤ v l
+  failed : (by_peer : Bool) (ms : ℕ) (r : Reason) (why : Option Condition) (l : Life) → v (failed_life by_peer ms r why l) ≤ v l
   carries : (s : SessionState) (l : Life) → v (record l { session = s }) ≤ v l
   begins : (l : Life) → v (record l { begin = false }) ≤ v l
   ends : (l : Life) → v (record l { why = None }) ≤ v l
   opened : (l : Life) → l.open_ok ≡ true → v (record l { open_ok = false }) + one_if (answers (reply.ChannelOpenOk n)) ≤ v l
   closed : (l : Life) → l.close_ok ≡ true → v (record l { close_ok = false }) + one_if (answers (reply.ChannelCloseOk n)) ≤ v l
   crossed : (l : Life) → l.crossed_ok ≡ true → v (record l { crossed_ok = false }) + one_if (answers (reply.CrossedOk n)) ≤ v l
-  told : (r : Refusal) (l : Life) → v (record l { close = None }) + one_if (answers (reply.ChannelClose n r)) ≤ v l
+  told : (r : Reason) (l : Life) → v (record l { close = None }) + one_if (answers (reply.ChannelClose n r)) ≤ v l
   of_connection : (u : Reply) → is_answer u ≡ true → answers u ≡ false
   beats : answers reply.Heartbeat ≡ false
   of_paths : (k : ℕ) (u : ChannelUnit) → answers (reply.OnChannel k u) ≡ false
   elsewhere_open : (k : ℕ) → k ≢ n → answers (reply.ChannelOpenOk k) ≡ false
   elsewhere_close : (k : ℕ) → k ≢ n → answers (reply.ChannelCloseOk k) ≡ false
   elsewhere_crossed : (k : ℕ) → k ≢ n → answers (reply.CrossedOk k) ≡ false
-  elsewhere_told : (k : ℕ) (r : Refusal) → k ≢ n → answers (reply.ChannelClose k r) ≡ false
+  elsewhere_told : (k : ℕ) (r : Reason) → k ≢ n → answers (reply.ChannelClose k r) ≡ false
 
 abbrev Value : (Life → ℕ) → ℕ → State → ℕ
 Value v n w = v (life_at w.lives n)
@@ -300,30 +301,30 @@ begun_less {n} {v} c (up.End k why) ls = rule_less v n k ls (λ (l : Life). reco
 
 -- ---- a request
 
-wanted_less : {n : ℕ} {v : Life → ℕ} {asks : Want91 → Bool} {answers : Reply → Bool} → Counts n v asks answers → (ms : ℕ) (x : Want91) (ls : List Life)
-    → v (life_at (lives_by ms x ls) n) ≤ v (life_at ls n) + one_if (asks x)
-wanted_less c ms want.Nothing ls = omega arith
-wanted_less c ms want.Start ls = omega arith
-wanted_less c ms (want.Login m r) ls = omega arith
-wanted_less c ms want.Tuned ls = omega arith
-wanted_less c ms want.OpenUp ls = omega arith
-wanted_less {n} {v} {asks} c ms (want.Method k m) ls =
+wanted_less : {n : ℕ} {v : Life → ℕ} {asks : Want91 → Bool} {answers : Reply → Bool} → Counts n v asks answers → (ms : ℕ) (told : Option Told) (x : Want91) (ls : List Life)
+    → v (life_at (lives_by ms told x ls) n) ≤ v (life_at ls n) + one_if (asks x)
+wanted_less c ms told want.Nothing ls = omega arith
+wanted_less c ms told want.Start ls = omega arith
+wanted_less c ms told (want.Login m r) ls = omega arith
+wanted_less c ms told want.Tuned ls = omega arith
+wanted_less c ms told want.OpenUp ls = omega arith
+wanted_less {n} {v} {asks} c ms told (want.Method k m) ls =
     set_less v n k ls (method_life ms m (life_at ls k)) (one_if (asks (want.Method k m)))
     (λ e. subst (λ (i : ℕ). v (method_life ms m (life_at ls i)) ≤ v (life_at ls n) + one_if (asks (want.Method i m))) (sym e) (c.asked ms m (life_at ls n)))
-wanted_less c ms (want.Publish k m x) ls = omega arith
-wanted_less {n} {v} c ms (want.ChannelCloseOk k) ls = let less = rule_less v n k ls freed_life c.freed in omega (arith, less)
-wanted_less c ms want.Close ls = omega arith
-wanted_less c ms want.CloseOk ls = omega arith
-wanted_less {n} {v} {asks} c ms (want.Refuse r) ls = by (is_of_channel r)
+wanted_less c ms told (want.Publish k m x) ls = omega arith
+wanted_less {n} {v} c ms told (want.ChannelCloseOk k) ls = let less = rule_less v n k ls freed_life c.freed in omega (arith, less)
+wanted_less c ms told want.Close ls = omega arith
+wanted_less c ms told want.CloseOk ls = omega arith
+wanted_less {n} {v} {asks} c ms told (want.Refuse r) ls = by (is_of_channel r)
   where
     more : ℕ
     more = one_if (asks (want.Refuse r))
 
     failed : Life → Life
-    failed = failed_life false ms r (Some (condition_of r.code))
+    failed = failed_life false ms (reason_of told r) (Some (condition_of r.code))
 
     by : (b : Bool) → v (life_at (if b then with_life r.channel (failed (life_at ls r.channel)) ls else ls) n) ≤ v (life_at ls n) + more
-    by true = let less = rule_less v n r.channel ls failed (c.failed false ms r (Some (condition_of r.code))) in omega (arith, less)
+    by true = let less = rule_less v n r.channel ls failed (c.failed false ms (reason_of told r) (Some (condition_of r.code))) in omega (arith, less)
     by false = omega arith
 
 came_less : {n : ℕ} {v : Life → ℕ} {asks : Want91 → Bool} {answers : Reply → Bool} → Counts n v asks answers → (w : State) (u : Unit91) (b : Bool) (total : ℕ)
@@ -331,7 +332,7 @@ came_less : {n : ℕ} {v : Life → ℕ} {asks : Want91 → Bool} {answers : Rep
     → went + Value v n (if b then w else came (dequeued w) u) ≤ (if b then total else total + one_if (asks (client_step w.routes w.conn u).1))
 came_less c w u true total went e = e
 came_less {n} {v} {asks} c w u false total went e =
-    let less : v (life_at (lives_by w.moment (client_step w.routes w.conn u).1 w.lives) n) ≤ v (life_at w.lives n) + one_if (asks (client_step w.routes w.conn u).1) = wanted_less c w.moment (client_step w.routes w.conn u).1 w.lives in
+    let less : v (life_at (lives_by w.moment (client_told w.routes w.conn u) (client_step w.routes w.conn u).1 w.lives) n) ≤ v (life_at w.lives n) + one_if (asks (client_step w.routes w.conn u).1) = wanted_less c w.moment (client_told w.routes w.conn u) (client_step w.routes w.conn u).1 w.lives in
     omega (arith, e, less)
 
 -- ---- an answer

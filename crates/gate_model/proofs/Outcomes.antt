@@ -171,7 +171,7 @@ outcome rs c u = step_rows (Told rs c u) c u (record {
   begun = λ f k args is. Fills _ _ is.on.runs;
   grown = λ f i a is. Fills _ _ is.on.runs;
   published = λ f i a d is at_once. met_or_refused c _ u f.channel i.method (want.Publish f.channel i.method d)
-      (publish_fault rs (is_mandatory i.method) (message_of i.method d)) (content_dropped c f.channel) is.on.runs
+      (publish_fault rs (message_of i.method d)) (content_dropped c f.channel) is.on.runs
       (Publishes f.channel i.method d is.on.runs);
   freed = λ n of. Frees n of.runs;
   crossed = λ e. Closes e;

@@ -48,9 +48,11 @@ use Rattle.gate_model.specs.Publishing.{lost_if, meaning_events, method_events, 
 use Rattle.gate_model.specs.Publishing.{path_events, path_life, reply_events, session_events}
 use Rattle.gate_model.specs.Publishing.{step_events, told_event, up_events, want_events}
 use Rattle.gate_model.specs.Requests.{message_of, address_of}
+use Rattle.gate_model.specs.Returns.{back_of}
 use Rattle.gate_model.specs.Session.{is_of_session}
 use Rattle.gate_model.specs.State.{Began, Came, Fed, Gave, Heard, Joined, Lost, Moment, OutOfMemory}
 use Rattle.gate_model.specs.State.{Queued, Silent, Step, TakenUp, Whole, answered_if, before}
+use Rattle.gate_model.specs.State.{conn_step}
 use Rattle.gate_model.specs.State.{link_scope, path_given, path_heard, path_told, paths_by}
 use Rattle.gate_model.specs.State.{paths_given, paths_given_up, paths_with, want_in, paths_lost}
 use Rattle.gate_model.specs.Upstream.{container_by, meaning_by}
@@ -217,6 +219,7 @@ heard_goes n h u = by (ran_out_in h)
 told_is : (u : ChannelUnit) (s : PathState) → path_told u s ≡ after_event (told_event u) s
 told_is (to_client.Ok x) s = refl
 told_is (to_client.Confirm c) s = refl
+told_is (to_client.Return r) s = refl
 
 reply_is : (n : ℕ) (u : Reply) (ps : List (Option PathState)) → Goes n ps (reply_events n u) (paths_given u ps)
 reply_is n reply.Protocol ps = stays n ps
@@ -320,19 +323,19 @@ method_tells n k life (method.ExchangeDeclare name kind passive durable deletes 
 method_tells n k life (method.ConfirmSelect no_wait) ps o es t = not_opened (k == n) life _ es (goes_on t (changes n k ps _ _ (selected_is no_wait)))
 method_tells n k life m ps o es t = not_opened (k == n) life _ es (goes_on t (changes n k ps (λ s. s) [] (λ s. refl)))
 
-want_tells : (rs : List Route) (n life : ℕ) (x : Want91) (ps : List (Option PathState)) (o : Option ℕ) (es : List PathEvent) → Tells ps n o es
-    → TellsBy (paths_by rs life x ps) n (is_method_on is_channel_open n x) (life + 1) o (want_events rs n x) es
-want_tells rs n life want.Nothing ps o es t = t
-want_tells rs n life want.Start ps o es t = t
-want_tells rs n life (want.Login mechanism response) ps o es t = t
-want_tells rs n life want.Tuned ps o es t = t
-want_tells rs n life want.OpenUp ps o es t = t
-want_tells rs n life (want.Method k m) ps o es t = method_tells n k (life + 1) m ps o es t
-want_tells rs n life (want.Publish k m c) ps o es t = goes_on t (changes n k ps (published (address_of rs (message_of m c)) (image_text (message_of m c))) _ (λ s. refl))
-want_tells rs n life (want.ChannelCloseOk k) ps o es t = t
-want_tells rs n life want.Close ps o es t = t
-want_tells rs n life want.CloseOk ps o es t = t
-want_tells rs n life (want.Refuse r) ps o es t = t
+want_tells : (rs : List Route) (limit n life : ℕ) (x : Want91) (ps : List (Option PathState)) (o : Option ℕ) (es : List PathEvent) → Tells ps n o es
+    → TellsBy (paths_by rs limit life x ps) n (is_method_on is_channel_open n x) (life + 1) o (want_events rs limit n x) es
+want_tells rs limit n life want.Nothing ps o es t = t
+want_tells rs limit n life want.Start ps o es t = t
+want_tells rs limit n life (want.Login mechanism response) ps o es t = t
+want_tells rs limit n life want.Tuned ps o es t = t
+want_tells rs limit n life want.OpenUp ps o es t = t
+want_tells rs limit n life (want.Method k m) ps o es t = method_tells n k (life + 1) m ps o es t
+want_tells rs limit n life (want.Publish k m c) ps o es t = goes_on t (changes n k ps (published (address_of rs (message_of m c)) (image_text (message_of m c)) (back_of limit k m (message_of m c))) _ (λ s. refl))
+want_tells rs limit n life (want.ChannelCloseOk k) ps o es t = t
+want_tells rs limit n life want.Close ps o es t = t
+want_tells rs limit n life want.CloseOk ps o es t = t
+want_tells rs limit n life (want.Refuse r) ps o es t = t
 
 -- ---- all steps
 
@@ -348,10 +351,13 @@ came_tells n u h t = by (ran_out_in h)
     x : Want91
     x = want_in (routes_in h) (connection h) u
 
+    limit : ℕ
+    limit = (conn_step (routes_in h) (connection h) u).limits.frame_max
+
     by : (b : Bool) → TellsBy (if b then peers h else peers_came (peers h) u).paths n (not b && is_method_on is_channel_open n x) ((peers h).opened + 1)
-        (path_life h n) (if b then [] else want_events (routes_in h) n x) (path_events h n)
+        (path_life h n) (if b then [] else want_events (routes_in h) limit n x) (path_events h n)
     by true = t
-    by false = want_tells (routes_in h) n (peers h).opened x (paths_in h) (path_life h n) (path_events h n) t
+    by false = want_tells (routes_in h) limit n (peers h).opened x (paths_in h) (path_life h n) (path_events h n) t
 
 taken_tells : (n : ℕ) (h : List Step) → TellsIn h n → TellsIn (TakenUp ∷ h) n
 taken_tells n h t = by (not (ran_out_in h) && leaving_in h)

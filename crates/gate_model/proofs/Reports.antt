@@ -8,7 +8,7 @@ use Rattle.open_items.specs.declared.lost.LostItem.{LostItem}
 use Rattle.publish_path.specs.Laws.{lines_by}
 use Rattle.publish_path.specs.Offers.{lines_of}
 use Rattle.publish_path.specs.Publishes.{ConfirmSent, FrameSent, LinesTold, LinkGone, OutcomeCame}
-use Rattle.publish_path.specs.Publishes.{PublishEvent, PublishState, TakenUp}
+use Rattle.publish_path.specs.Publishes.{PublishEvent, PublishState, ReturnSent, TakenUp}
 use Rattle.publish_path.specs.Publishes.{after_events as publishes_after, open_after}
 use Rattle.session_path.specs.Events.{PathEvent, after_events, publishes_of}
 use Rattle.session_path.specs.Path.{PathState}
@@ -31,11 +31,12 @@ LinesAre = (life : ℕ) (h : List PublishEvent) → lines_of life (open_after li
 -- no event changes the number of the life
 life_is : (life : ℕ) (h : List PublishEvent) → (publishes_after life h).life ≡ life
 life_is life [] = refl
-life_is life (TakenUp link confirm payload ∷ h) = life_is life h
+life_is life (TakenUp link confirm payload back ∷ h) = life_is life h
 life_is life (FrameSent number first part ∷ h) = life_is life h
-life_is life (OutcomeCame first last accepted ∷ h) = life_is life h
-life_is life (LinkGone link ∷ h) = life_is life h
+life_is life (OutcomeCame first last outcome ∷ h) = life_is life h
+life_is life (LinkGone link not_found ∷ h) = life_is life h
 life_is life (ConfirmSent c ∷ h) = life_is life h
+life_is life (ReturnSent number ∷ h) = life_is life h
 life_is life (LinesTold ∷ h) = life_is life h
 
 abbrev lines_told_by : ℕ → PublishState → List LostItem

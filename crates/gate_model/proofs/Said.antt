@@ -1,5 +1,7 @@
 -- What was sent to a client without heartbeats, and then what is due to it, are the replies to its units; after the pair ran
 -- out of memory they are the last units.
+use Rattle.gate_model.specs.declared.reply.Reason.{Reason}
+use Rattle.session_path.specs.Due.{next_return, next_confirm}
 use Rattle.std.proofs.Common.{◌⊎◌, inl, inr, Bool, List, None, Option, Some, [], ap, append-nil}
 use Rattle.std.proofs.Common.{append_assoc, false, if◌then◌else◌, not, refl, subst, sym, true, ℕ}
 use Rattle.std.proofs.Common.{◌&&◌, ◌++◌, ◌||◌, ◌∙◌, ◌∷◌, ◌≡◌, ◌==◌}
@@ -29,6 +31,8 @@ use Rattle.close_translate.specs.Conditions.{code_by}
 use Rattle.machine_10.specs.Reading.{field}
 use Rattle.close_translate.specs.declared.conditions.Scope.{Scope}
 use Rattle.machine_10.specs.Parts as container
+use Rattle.publish_path.specs.declared.publish.NextReturn.{NextReturn}
+use Rattle.gate_model.specs.Once.{is_flow_ok}
 use Rattle.gate_model.specs.Paths.{path_at, with_path}
 use Rattle.gate_model.specs.declared.life.Life.{Life}
 use Rattle.gate_model.specs.Lives.{is_of_channel}
@@ -38,7 +42,7 @@ use Rattle.gate_model.specs.declared.reply.Reply.{Reply}
 use Rattle.gate_model.specs.declared.reply.Reply.TheVariants as reply
 use Rattle.gate_model.specs.Answers.{AreAnswered, AreReplies, All, Overtaken, TakenBack, is_close}
 use Rattle.gate_model.specs.Answers.{is_close_ok, last_units}
-use Rattle.gate_model.specs.Due.{channel_closes, channel_oks, client_units, close_oks, close_oks_on}
+use Rattle.gate_model.specs.Due.{channel_closes, channel_oks, client_units, close_oks, close_oks_on, contents, may_return, contents_on, content_on, return_on, confirms_on, may_confirm}
 use Rattle.gate_model.specs.Due.{closes, confirm_on, confirms, if_so, ok_on, path_oks, is_beat_due}
 use Rattle.gate_model.specs.Due.{last_closes, may_answer, may_end, may_go, may_tell, open_oks}
 use Rattle.gate_model.specs.Due.{openings, pick, refused_on, rows, when, is_awaiting, is_silent}
@@ -543,6 +547,7 @@ said_went p d r said all gone l s = by p s
 
 -- the first of a row of channels
 pub data IsOfChannel (w : State) (r : Reply) : Type 0 where
+  InContents : first (contents w) ≡ Some r → IsOfChannel w r
   InAnswers : first (open_oks w ++ path_oks w) ≡ Some r → IsOfChannel w r
   InConfirms : first (confirms w) ≡ Some r → IsOfChannel w r
   InOks : first (channel_oks w) ≡ Some r → IsOfChannel w r
@@ -587,10 +592,13 @@ rows_are p = by p.protocol p.start p.tune p.open_ok
 -- the first of what is due is the first of the rows of the connection, or of those of channels
 units_first : (w : State) (r : Reply) → first (client_units w) ≡ Some r
     → (first (rows (may_go (is_settled w) w.pending)) ≡ Some r) ⊎ IsOfChannel w r
-units_first w r e = one (has (openings p))
+units_first w r e = zero_ (has contents_)
   where
     p : Pending
     p = may_go (is_settled w) w.pending
+
+    contents_ : List Reply
+    contents_ = if_so (may_return w) (contents w)
 
     answers : List Reply
     answers = if_so (may_answer w) (open_oks w ++ path_oks w)
@@ -642,11 +650,17 @@ units_first w r e = one (has (openings p))
         inr (InAnswers (in_if (may_answer w) (open_oks w ++ path_oks w) r (g ∙ ap Some is)))
     behind a f (HasNone g) = confirming a (sym (first_none answers _ g) ∙ f) (has confirms_)
 
-    one : Has (openings p) → (first (rows p) ≡ Some r) ⊎ IsOfChannel w r
-    one (HasFirst u g) =
-        let is : u ≡ r = same_first (first (client_units w)) u r (first_some (openings p) rest u g) e in
+    one : first (openings p ++ rest) ≡ Some r → Has (openings p) → (first (rows p) ≡ Some r) ⊎ IsOfChannel w r
+    one f (HasFirst u g) =
+        let is : u ≡ r = same_first (first (openings p ++ rest)) u r (first_some (openings p) rest u g) f in
         inl (due_by (Some r) (first_some (openings p) _ r (g ∙ ap Some is)))
-    one (HasNone g) = behind g (sym (first_none (openings p) rest g) ∙ e) (has answers)
+    one f (HasNone g) = behind g (sym (first_none (openings p) rest g) ∙ f) (has answers)
+
+    zero_ : Has contents_ → (first (rows p) ≡ Some r) ⊎ IsOfChannel w r
+    zero_ (HasFirst u g) =
+        let is : u ≡ r = same_first (first (client_units w)) u r (first_some contents_ (openings p ++ rest) u g) e in
+        inr (InContents (in_if (may_return w) (contents w) r (g ∙ ap Some is)))
+    zero_ (HasNone g) = one (sym (first_none contents_ (openings p ++ rest) g) ∙ e) (has (openings p))
 
 picked_by : (w : State) (r : Reply) (rs : List Reply) (beats : Bool) → client_units w ≡ rs → is_beat_due w ≡ beats
     → first (map ToClient (rs ++ when beats reply.Heartbeat)) ≡ Some (ToClient r) → Picked w r
@@ -678,10 +692,44 @@ an_ok k true o v e = absurd cc
 an_ok k false None v e = absurd cc
 an_ok k false (Some x) v e = let here : reply.OnChannel k (told_unit.Ok x) ≡ v = cc in subst IsOther here (on_channel_other k (told_unit.Ok x))
 
-a_confirm : (k : ℕ) (may : Bool) (o : Option Confirm) (v : Reply) → first (confirm_on may k o) ≡ Some v → IsOther v
-a_confirm k may None v e = absurd cc
-a_confirm k false (Some c) v e = absurd cc
-a_confirm k true (Some c) v e = let here : reply.OnChannel k (told_unit.Confirm c) ≡ v = cc in subst IsOther here (on_channel_other k (told_unit.Confirm c))
+-- the first of the returns and confirms of a channel is one of these, and so is a frame that goes on with a return
+a_confirm : (P : Reply → Type 0) (k : ℕ) (may : Bool) (o : Option Confirm) (v : Reply) → ((u : ChannelUnit) → is_flow_ok u ≡ false → P (reply.OnChannel k u))
+    → first (confirm_on may k o) ≡ Some v → P v
+a_confirm P k may None v each e = absurd cc
+a_confirm P k false (Some c) v each e = absurd cc
+a_confirm P k true (Some c) v each e = let here : reply.OnChannel k (told_unit.Confirm c) ≡ v = cc in subst P here (each (told_unit.Confirm c) refl)
+
+a_return : (P : Reply → Type 0) (k : ℕ) (may : Bool) (r : NextReturn) (v : Reply) → ((u : ChannelUnit) → is_flow_ok u ≡ false → P (reply.OnChannel k u))
+    → first (when may (reply.OnChannel k (told_unit.Return r))) ≡ Some v → P v
+a_return P k false r v each e = absurd cc
+a_return P k true r v each e = let here : reply.OnChannel k (told_unit.Return r) ≡ v = cc in subst P here (each (told_unit.Return r) refl)
+
+pub an_outcome : (P : Reply → Type 0) (calm : Bool) (ps : List (Option PathState)) (k : ℕ) (l : Life) (v : Reply) → ((u : ChannelUnit) → is_flow_ok u ≡ false → P (reply.OnChannel k u))
+    → first (confirms_on calm ps k l) ≡ Some v → P v
+an_outcome P calm ps k l v each e = by (next_return (path_at ps k)) e
+  where
+    confirms_ : List Reply
+    confirms_ = confirm_on (may_confirm l) k (next_confirm (path_at ps k))
+
+    begun : (r : NextReturn) → first (when (calm && may_confirm l && r.first) (reply.OnChannel k (told_unit.Return r)) ++ confirms_) ≡ Some v
+        → Has (when (calm && may_confirm l && r.first) (reply.OnChannel k (told_unit.Return r))) → P v
+    begun r f (HasFirst u g) =
+        a_return P k (calm && may_confirm l && r.first) r v each
+        (g ∙ ap Some (same_first (first (when (calm && may_confirm l && r.first) (reply.OnChannel k (told_unit.Return r)) ++ confirms_)) u v (first_some (when (calm && may_confirm l && r.first) (reply.OnChannel k (told_unit.Return r))) confirms_ u g) f))
+    begun r f (HasNone g) =
+        a_confirm P k (may_confirm l) (next_confirm (path_at ps k)) v each (sym (first_none (when (calm && may_confirm l && r.first) (reply.OnChannel k (told_unit.Return r))) confirms_ g) ∙ f)
+
+    by : (o : Option NextReturn) → first (return_on (calm && may_confirm l) k o ++ confirms_) ≡ Some v → P v
+    by None f = a_confirm P k (may_confirm l) (next_confirm (path_at ps k)) v each f
+    by (Some r) f = begun r f (has (when (calm && may_confirm l && r.first) (reply.OnChannel k (told_unit.Return r))))
+
+pub a_content : (P : Reply → Type 0) (ps : List (Option PathState)) (k : ℕ) (l : Life) (v : Reply) → ((u : ChannelUnit) → is_flow_ok u ≡ false → P (reply.OnChannel k u))
+    → first (contents_on ps k l) ≡ Some v → P v
+a_content P ps k l v each e = by (next_return (path_at ps k)) e
+  where
+    by : (o : Option NextReturn) → first (content_on k o) ≡ Some v → P v
+    by None f = absurd cc
+    by (Some r) f = a_return P k (not r.first) r v each f
 
 pub of_channel : (w : State) (r : Reply) → IsOfChannel w r → IsOther r
 of_channel w r (InAnswers e) = by (has (open_oks w))
@@ -696,7 +744,8 @@ of_channel w r (InAnswers e) = by (has (open_oks w))
     by : Has (open_oks w) → IsOther r
     by (HasFirst u g) = subst IsOther (same_first (first (open_oks w ++ path_oks w)) u r (first_some (open_oks w) (path_oks w) u g) e) (first_each IsOther _ 0 w.lives u opens g)
     by (HasNone g) = first_each IsOther _ 0 w.lives r (λ k l v f. an_ok k l.over _ v f) (sym (first_none (open_oks w) (path_oks w) g) ∙ e)
-of_channel w r (InConfirms e) = first_each IsOther _ 0 w.lives r (λ k l v f. a_confirm k _ _ v f) e
+of_channel w r (InContents e) = first_each IsOther _ 0 w.lives r (λ k l v f. a_content IsOther w.paths k l v (λ u x. on_channel_other k u) f) e
+of_channel w r (InConfirms e) = first_each IsOther _ 0 w.lives r (λ k l v f. an_outcome IsOther (not w.out_of_memory) w.paths k l v (λ u x. on_channel_other k u) f) e
 of_channel w r (InOks e) = first_each IsOther _ 0 w.lives r one e
   where
     one : (k : ℕ) (l : Life) (v : Reply) → first (close_oks_on k (l.close_ok && is_channel_settled w k) l) ≡ Some v → IsOther v
@@ -711,7 +760,7 @@ of_channel w r (InCloses e) = first_each IsOther _ 0 w.lives r one e
     one : (k : ℕ) (l : Life) (v : Reply) → first (refused_on (is_channel_settled w k) k l.close) ≡ Some v → IsOther v
     one k l v e = in_case (is_channel_settled w k) l.close e
       where
-        in_case : (b : Bool) (o : Option Refusal) → first (refused_on b k o) ≡ Some v → IsOther v
+        in_case : (b : Bool) (o : Option Reason) → first (refused_on b k o) ≡ Some v → IsOther v
         in_case true (Some x) e = let here : reply.ChannelClose k x ≡ v = cc in subst IsOther here (record { answers = refl; beats = λ e. cc; leaves = λ d. refl })
         in_case false (Some x) e = absurd cc
         in_case b None e = absurd cc

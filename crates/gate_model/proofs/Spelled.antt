@@ -1,5 +1,7 @@
 -- The bytes of a unit to a client are some, and few.
-use Rattle.std.proofs.Common.{Bool, List, arith, codes, false, if◌then◌else◌, length, ℕ, ◌<◌, ◌≤◌}
+use Rattle.property_map.specs.declared.told.Told.{Told}
+use Rattle.gate_model.specs.declared.reply.Reason.{Reason}
+use Rattle.std.proofs.Common.{◌≡◌, Bool, List, arith, codes, false, if◌then◌else◌, length, ℕ, ◌<◌, ◌≤◌, Option, None, Some, ◌∷◌}
 use Rattle.std.proofs.Common.{true}
 use Rattle.std.proofs.lemmas.List.{length-append}
 use Rattle.close_translate.specs.Codes.{name_of}
@@ -10,7 +12,13 @@ use Rattle.gate_model.specs.declared.channel.ChannelUnit.{ChannelUnit}
 use Rattle.gate_model.specs.declared.channel.ChannelUnit.TheVariants as unit
 use Rattle.session_path.specs.declared.path.PathOk.TheVariants as ok
 use Rattle.methods_091.specs.declared.method.Method91.TheVariants.{BasicAck, BasicNack}
-use Rattle.gate_model.specs.Spelling.{channel_method, channel_text}
+use Rattle.gate_model.specs.Due.{takes_memory_back, takes_memory_told}
+use Rattle.gate_model.specs.Spelling.{channel_text, reason_text, spell_told, told_or}
+use Rattle.property_map.specs.Told.{fault_text, part_text}
+use Rattle.property_map.specs.declared.fault.PropName.{PropName}
+use Rattle.property_map.specs.declared.fault.PropName.TheVariants as part
+use Rattle.property_map.specs.declared.told.FaultName.{FaultName}
+use Rattle.property_map.specs.declared.told.FaultName.TheVariants as name
 use Rattle.gate_model.specs.declared.reply.Reply.{Reply}
 use Rattle.gate_model.specs.declared.reply.Reply.TheVariants as reply
 use Rattle.gate_model.specs.Spelling.{close_on, open_ok_frame, spell_reply, start_frame, tune_frame}
@@ -32,20 +40,23 @@ open_ok_some : 0 < length open_ok_frame
 unfolding open_ok_frame
 open_ok_some = frame_some _
 
-pub spelled_some : (r : Reply) → 0 < length (spell_reply r)
-spelled_some reply.Protocol = omega arith
-spelled_some reply.Start = start_some
-spelled_some reply.Tune = tune_some
-spelled_some reply.OpenOk = open_ok_some
-spelled_some reply.CloseOk = frame_some _
-spelled_some (reply.Close r) = frame_some _
-spelled_some reply.NoMemory = frame_some _
-spelled_some reply.Heartbeat = frame_some _
-spelled_some (reply.ChannelOpenOk n) = frame_some _
-spelled_some (reply.OnChannel n u) = frame_some _
-spelled_some (reply.ChannelCloseOk n) = frame_some _
-spelled_some (reply.CrossedOk n) = frame_some _
-spelled_some (reply.ChannelClose n r) = frame_some _
+-- all but the frames of returns, which are spelled before
+pub spelled_some : (r : Reply) (text : List ℕ) → takes_memory_back r ≡ false → 0 < length (spell_reply r text)
+spelled_some reply.Protocol text e = omega arith
+spelled_some reply.Start text e = start_some
+spelled_some reply.Tune text e = tune_some
+spelled_some reply.OpenOk text e = open_ok_some
+spelled_some reply.CloseOk text e = frame_some _
+spelled_some (reply.Close r) text e = frame_some _
+spelled_some reply.NoMemory text e = frame_some _
+spelled_some reply.Heartbeat text e = frame_some _
+spelled_some (reply.ChannelOpenOk n) text e = frame_some _
+spelled_some (reply.OnChannel n (unit.Ok x)) text e = frame_some _
+spelled_some (reply.OnChannel n (unit.Confirm c)) text e = frame_some _
+spelled_some (reply.OnChannel n (unit.Return r)) text e = absurd cc
+spelled_some (reply.ChannelCloseOk n) text e = frame_some _
+spelled_some (reply.CrossedOk n) text e = frame_some _
+spelled_some (reply.ChannelClose n r) text e = frame_some _
 
 close_small : (code : ℕ) (text : List ℕ) (class method : ℕ) → length text ≤ 255 → length (close_text code text class method) ≤ 512
 unfolding frame_text
@@ -55,27 +66,69 @@ close_small code text class method short = grind (arith, length-append, short)
 name_small : (code : ℕ) → length (name_of code) ≤ 255
 name_small code = grind arith
 
+-- so have the names of faults and of parts of a message
+fault_small : (f : FaultName) → length (fault_text f) ≤ 16
+fault_small name.NotUtf8 = omega arith
+fault_small name.NotAscii = omega arith
+fault_small name.Expiration = omega arith
+fault_small name.DeliveryMode = omega arith
+fault_small name.Time = omega arith
+fault_small name.Reserved = omega arith
+fault_small name.Repeated = omega arith
+fault_small name.Depth = omega arith
+fault_small name.TooLong = omega arith
+fault_small name.BodyKind = omega arith
+fault_small name.ValueKind = omega arith
+
+part_small : (p : PropName) → length (part_text p) ≤ 16
+part_small part.Exchange = omega arith
+part_small part.RoutingKey = omega arith
+part_small part.ContentType = omega arith
+part_small part.ContentEncoding = omega arith
+part_small part.Headers = omega arith
+part_small part.DeliveryMode = omega arith
+part_small part.Priority = omega arith
+part_small part.CorrelationId = omega arith
+part_small part.ReplyTo = omega arith
+part_small part.Expiration = omega arith
+part_small part.MessageId = omega arith
+part_small part.Timestamp = omega arith
+part_small part.Kind = omega arith
+part_small part.UserId = omega arith
+part_small part.AppId = omega arith
+part_small part.ClusterId = omega arith
+part_small part.Header = omega arith
+part_small part.Body = omega arith
+
+reason_small : (r : Reason) → length (reason_text r) ≤ 255
+reason_small r = by r.told
+  where
+    by : (o : Option Told) → length (told_or (name_of r.refusal.code) o) ≤ 255
+    by None = name_small r.refusal.code
+    by (Some t) = let f = fault_small t.fault in let p = part_small t.part in let long = length-append (fault_text t.fault) (32 ∷ part_text t.part) in omega (arith, f, p, long)
+
 -- the same on a channel
-close_on_small : (n : ℕ) (r : Refusal) → length (name_of r.code) ≤ 255 → length (close_on n r) ≤ 512
+close_on_small : (n : ℕ) (r : Reason) → length (reason_text r) ≤ 255 → length (close_on n r) ≤ 512
 unfolding frame_text
 close_on_small n r short = grind (arith, length-append, short)
 
 -- so are answers and confirms
-on_channel_small : (n : ℕ) (u : ChannelUnit) → length (channel_text n (channel_method u)) ≤ 512
+on_channel_small : (n : ℕ) (u : ChannelUnit) (text : List ℕ) → takes_memory_told u ≡ false → length (spell_told n u text) ≤ 512
 unfolding frame_text
-on_channel_small n (unit.Ok ok.Flow) = omega arith
-on_channel_small n (unit.Ok ok.Declare) = omega arith
-on_channel_small n (unit.Ok ok.Select) = omega arith
-on_channel_small n (unit.Confirm c) = by c.ack
+on_channel_small n (unit.Ok ok.Flow) text e = omega arith
+on_channel_small n (unit.Ok ok.Declare) text e = omega arith
+on_channel_small n (unit.Ok ok.Select) text e = omega arith
+on_channel_small n (unit.Return r) text e = absurd cc
+on_channel_small n (unit.Confirm c) text e = by c.ack
   where
     by : (b : Bool) → length (channel_text n (if b then BasicAck c.number c.multiple else BasicNack c.number c.multiple false)) ≤ 512
     by true = omega arith
     by false = omega arith
 
-pub spelled_small : (r : Reply) → length (spell_reply r) ≤ 512
+pub spelled_small : (r : Reply) (text : List ℕ) → takes_memory_back r ≡ false → length (spell_reply r text) ≤ 512
 unfolding start_frame tune_frame open_ok_frame frame_text
-spelled_small (reply.Close r) = close_small r.code (name_of r.code) r.class r.method (name_small r.code)
-spelled_small reply.NoMemory = close_small 506 (codes "NO_MEMORY") 0 0 (omega arith)
-spelled_small (reply.ChannelClose n r) = close_on_small n r (name_small r.code)
-spelled_small (reply.OnChannel n u) = on_channel_small n u
-spelled_small r = omega arith
+spelled_small (reply.Close r) text e = close_small r.code (name_of r.code) r.class r.method (name_small r.code)
+spelled_small reply.NoMemory text e = close_small 506 (codes "NO_MEMORY") 0 0 (omega arith)
+spelled_small (reply.ChannelClose n r) text e = close_on_small n r (reason_small r)
+spelled_small (reply.OnChannel n u) text e = on_channel_small n u text e
+spelled_small r text e = omega arith

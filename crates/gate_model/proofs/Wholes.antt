@@ -24,7 +24,8 @@ use Rattle.publish_path.specs.Journal.{Fate, confirms_of, fate_of, new_fate, num
 use Rattle.publish_path.specs.Laws.{AreParts, IsFrontOf, IsWhole}
 use Rattle.publish_path.specs.Offers.{rest_of}
 use Rattle.publish_path.specs.Publishes.{ConfirmSent, FrameSent, LinesTold, LinkGone, OutcomeCame}
-use Rattle.publish_path.specs.Publishes.{PublishEvent, PublishState, TakenUp, next_number}
+use Rattle.publish_path.specs.Publishes.{PublishEvent, PublishState, ReturnSent, TakenUp}
+use Rattle.publish_path.specs.Publishes.{next_number}
 use Rattle.session_path.specs.Events as event
 use Rattle.session_path.specs.Events.{PathEvent, after_events, losses, publishes_of}
 use Rattle.session_path.specs.Links.{named}
@@ -51,55 +52,58 @@ use Rattle.gate_model.specs.Publishing.{one_more, owed_unless, path_events, path
 use Rattle.gate_model.specs.Publishing.{reply_events, session_events, step_events, text_wanted}
 use Rattle.gate_model.specs.Publishing.{up_events, want_events, losing}
 use Rattle.gate_model.specs.Requests.{message_of, address_of}
+use Rattle.gate_model.specs.Returns.{back_of}
 use Rattle.gate_model.specs.Session.{is_of_session}
 use Rattle.gate_model.specs.State.{Began, Came, Fed, Gave, Heard, Joined, Lost, Moment, OutOfMemory}
-use Rattle.gate_model.specs.State.{Queued, Silent, Step, TakenUp, Whole, link_scope, want_in}
+use Rattle.gate_model.specs.State.{Queued, Silent, Step, TakenUp, Whole, conn_step, link_scope}
+use Rattle.gate_model.specs.State.{want_in}
 use Rattle.gate_model.specs.Upstream.{meaning_by}
 use Rattle.gate_model.proofs.Fates.{FramesAre, IsToGo, PublishesAre, RestsAre, carry_is, to_go}
 use Rattle.gate_model.specs.declared.setup.Route.{Route}
 
 -- ---- events by which no publish is taken up and no frame goes
 
-abbrev is_plain : PathEvent → Bool
+abbrev pub is_plain : PathEvent → Bool
 is_plain (event.Began handle_max) = true
-is_plain (event.Published address payload) = false
+is_plain (event.Published address payload back) = false
 is_plain event.Selected = true
 is_plain (event.Owed ok) = true
 is_plain (event.AttachCame name peer target) = true
 is_plain (event.FlowCame peer count credit drain echo) = true
-is_plain (event.DetachCame peer) = true
-is_plain (event.DispositionCame first last accepted settled) = true
+is_plain (event.DetachCame peer not_found) = true
+is_plain (event.DispositionCame first last outcome settled) = true
 is_plain (event.AttachSent name) = true
 is_plain event.LinkFlowSent = true
 is_plain (event.TransferSent frame count) = false
 is_plain (event.SettleSent settling) = true
 is_plain event.DetachSent = true
 is_plain (event.ConfirmWent confirm) = true
+is_plain (event.ReturnWent number) = false
 is_plain (event.OkSent ok) = true
 is_plain event.LinesWent = true
 is_plain event.SessionLost = true
 
-abbrev ArePlain : List PathEvent → Type 0
+abbrev pub ArePlain : List PathEvent → Type 0
 ArePlain [] = Unit {0}
 ArePlain (x ∷ xs) = (is_plain x ≡ true) × ArePlain xs
 
-both_plain : (xs ys : List PathEvent) → ArePlain xs → ArePlain ys → ArePlain (xs ++ ys)
+pub both_plain : (xs ys : List PathEvent) → ArePlain xs → ArePlain ys → ArePlain (xs ++ ys)
 both_plain [] ys p q = q
 both_plain (x ∷ xs) ys p q = (p.0, both_plain xs ys p.1 q)
 
-if_plain : (b : Bool) (xs ys : List PathEvent) → ArePlain xs → ArePlain ys → ArePlain (if b then xs else ys)
+pub if_plain : (b : Bool) (xs ys : List PathEvent) → ArePlain xs → ArePlain ys → ArePlain (if b then xs else ys)
 if_plain true xs ys p q = p
 if_plain false xs ys p q = q
 
-lost_plain : (b : Bool) → ArePlain (lost_if b)
+pub lost_plain : (b : Bool) → ArePlain (lost_if b)
 lost_plain true = (refl, tt)
 lost_plain false = tt
 
 -- the upstream end is lost
-fallen_plain : (b : Bool) → ArePlain (lost_if b ++ losing)
+pub fallen_plain : (b : Bool) → ArePlain (lost_if b ++ losing)
 fallen_plain b = both_plain (lost_if b) losing (lost_plain b) (refl, (refl, tt))
 
-owed_plain : (no_wait : Bool) (x : PathOk) → ArePlain (owed_unless no_wait (event.Owed x))
+pub owed_plain : (no_wait : Bool) (x : PathOk) → ArePlain (owed_unless no_wait (event.Owed x))
 owed_plain true x = tt
 owed_plain false x = (refl, tt)
 
@@ -131,11 +135,6 @@ meaning_plain c ps n (ten.Closed e) = lost_plain _
 meaning_plain c ps n ten.Refused = lost_plain _
 meaning_plain c ps n (ten.Violation why) = lost_plain _
 
-reply_plain : (n : ℕ) (u : Reply) → ArePlain (reply_events n u)
-reply_plain n (reply.OnChannel k (to_client.Ok x)) = if_plain (k == n) _ _ (refl, tt) tt
-reply_plain n (reply.OnChannel k (to_client.Confirm c)) = if_plain (k == n) _ _ (refl, tt) tt
-reply_plain n u = tt
-
 -- ---- the fate of one publish
 
 -- so many were taken up; its payload and what its frames carried are these, and each frame was a front of what was left
@@ -147,50 +146,53 @@ record Carried (h : List PublishEvent) (number count : ℕ) (image joined : List
   parts : AreParts h
 
 abbrev is_quiet : PublishEvent → Bool
-is_quiet (TakenUp link confirm payload) = false
+is_quiet (TakenUp link confirm payload back) = false
 is_quiet (FrameSent number first part) = false
-is_quiet (OutcomeCame first last accepted) = true
-is_quiet (LinkGone link) = true
+is_quiet (OutcomeCame first last outcome) = true
+is_quiet (LinkGone link not_found) = true
 is_quiet (ConfirmSent c) = true
+is_quiet (ReturnSent number) = true
 is_quiet LinesTold = true
 
 quiet : {h : List PublishEvent} {number count : ℕ} {image joined : List ℕ} (x : PublishEvent) → is_quiet x ≡ true
     → Carried h number count image joined → Carried (x ∷ h) number count image joined
-quiet (TakenUp link confirm payload) e t = absurd cc
+quiet (TakenUp link confirm payload back) e t = absurd cc
 quiet (FrameSent number first part) e t = absurd cc
-quiet (OutcomeCame first last accepted) e t = record { count_is = t.count_is; image_is = t.image_is; joined_is = t.joined_is; none = t.none; parts = (tt, t.parts) }
-quiet (LinkGone link) e t = record { count_is = t.count_is; image_is = t.image_is; joined_is = t.joined_is; none = t.none; parts = (tt, t.parts) }
+quiet (OutcomeCame first last outcome) e t = record { count_is = t.count_is; image_is = t.image_is; joined_is = t.joined_is; none = t.none; parts = (tt, t.parts) }
+quiet (LinkGone link not_found) e t = record { count_is = t.count_is; image_is = t.image_is; joined_is = t.joined_is; none = t.none; parts = (tt, t.parts) }
 quiet (ConfirmSent c) e t = record { count_is = t.count_is; image_is = t.image_is; joined_is = t.joined_is; none = t.none; parts = (tt, t.parts) }
+quiet (ReturnSent number) e t = record { count_is = t.count_is; image_is = t.image_is; joined_is = t.joined_is; none = t.none; parts = (tt, t.parts) }
 quiet LinesTold e t = record { count_is = t.count_is; image_is = t.image_is; joined_is = t.joined_is; none = t.none; parts = (tt, t.parts) }
 
-loses : {h : List PublishEvent} {number count : ℕ} {image joined : List ℕ} (o : Option PathLink)
-    → Carried h number count image joined → Carried (losses o ++ h) number count image joined
-loses None t = t
-loses (Some l) t = quiet (LinkGone (Some l.link)) refl t
+loses : {h : List PublishEvent} {number count : ℕ} {image joined : List ℕ} (b : Bool) (o : Option PathLink)
+    → Carried h number count image joined → Carried (losses b o ++ h) number count image joined
+loses b None t = t
+loses b (Some l) t = quiet (LinkGone (Some l.link) b) refl t
 
 plain : (life : ℕ) (es : List PathEvent) {number count : ℕ} {image joined : List ℕ} (x : PathEvent) → is_plain x ≡ true
     → Carried (publishes_of life es) number count image joined → Carried (publishes_of life (x ∷ es)) number count image joined
 plain life es (event.Began handle_max) e t = t
-plain life es (event.Published address payload) e t = absurd cc
+plain life es (event.Published address payload back) e t = absurd cc
 plain life es event.Selected e t = t
 plain life es (event.Owed ok) e t = t
 plain life es (event.AttachCame name peer target) e t = t
 plain life es (event.FlowCame peer count credit drain echo) e t = t
-plain life es (event.DetachCame peer) e t = loses (named peer (after_events life es).links) t
-plain life es (event.DispositionCame first last accepted settled) e t = quiet (OutcomeCame first _ accepted) refl t
+plain life es (event.DetachCame peer not_found) e t = loses not_found (named peer (after_events life es).links) t
+plain life es (event.DispositionCame first last outcome settled) e t = quiet (OutcomeCame first _ outcome) refl t
 plain life es (event.AttachSent name) e t = t
 plain life es event.LinkFlowSent e t = t
 plain life es (event.TransferSent frame count) e t = absurd cc
 plain life es (event.SettleSent settling) e t = t
 plain life es event.DetachSent e t = t
 plain life es (event.ConfirmWent confirm) e t = quiet (ConfirmSent confirm) refl t
+plain life es (event.ReturnWent number) e t = absurd cc
 plain life es (event.OkSent ok) e t = t
 plain life es event.LinesWent e t = quiet LinesTold refl t
-plain life es event.SessionLost e t = quiet (LinkGone None) refl t
+plain life es event.SessionLost e t = quiet (LinkGone None false) refl t
 
-takes : {h : List PublishEvent} {number count : ℕ} {image joined : List ℕ} (k : ℕ) (confirm : Bool) (text : List ℕ) → Carried h number count image joined
-    → Carried (TakenUp k confirm text ∷ h) number (count + 1) (if number == count + 1 then text else image) joined
-takes {h} {number} {count} {image} {joined} k confirm text t = record {
+takes : {h : List PublishEvent} {number count : ℕ} {image joined : List ℕ} (k : ℕ) (confirm : Bool) (text : List ℕ) (back : List (List ℕ)) → Carried h number count image joined
+    → Carried (TakenUp k confirm text back ∷ h) number (count + 1) (if number == count + 1 then text else image) joined
+takes {h} {number} {count} {image} {joined} k confirm text back t = record {
   count_is = ap (λ (m : ℕ). m + 1) t.count_is;
   image_is = ap (λ (m : ℕ). (fated (number == m + 1)).payload) t.count_is ∙ imaged (number == count + 1);
   joined_is = ap (λ (m : ℕ). (fated (number == m + 1)).sent) t.count_is ∙ sent (number == count + 1) refl;
@@ -199,7 +201,7 @@ takes {h} {number} {count} {image} {joined} k confirm text t = record {
 }
   where
     fated : Bool → Fate
-    fated b = if b then new_fate k (next_number confirm (confirms_of h)) text else fate_of number h
+    fated b = if b then new_fate k (next_number confirm (confirms_of h)) text back else fate_of number h
 
     imaged : (b : Bool) → (fated b).payload ≡ (if b then text else image)
     imaged true = refl
@@ -221,10 +223,10 @@ plain_joins None xs es number count image joined p t = t
 plain_joins (Some life) [] es number count image joined p t = t
 plain_joins (Some life) (x ∷ xs) es number count image joined p t = plain life (xs ++ es) x p.0 (plain_joins (Some life) xs es number count image joined p.1 t)
 
-taken_joins : (o : Option ℕ) (es : List PathEvent) (number count : ℕ) (image joined address text : List ℕ) → Joins o es number count image joined
-    → Joins o (event.Published address text ∷ es) number (count + 1) (if number == count + 1 then text else image) joined
-taken_joins None es number count image joined address text t = t
-taken_joins (Some life) es number count image joined address text t = takes _ _ text t
+taken_joins : (o : Option ℕ) (es : List PathEvent) (number count : ℕ) (image joined address text : List ℕ) (back : List (List ℕ)) → Joins o es number count image joined
+    → Joins o (event.Published address text back ∷ es) number (count + 1) (if number == count + 1 then text else image) joined
+taken_joins None es number count image joined address text back t = t
+taken_joins (Some life) es number count image joined address text back t = takes _ _ text back t
 
 fresh : (number : ℕ) → Carried [] number 0 [] []
 fresh number = record { count_is = refl; image_is = refl; joined_is = refl; none = λ e. refl; parts = tt }
@@ -246,26 +248,29 @@ method_joins true (method.ConfirmSelect no_wait) life o es number count image jo
     (both_plain _ _ (owed_plain no_wait ok.Select) (refl, tt)) t
 method_joins true m life o es number count image joined t = t
 
-want_joins : (rs : List Route) (n life : ℕ) (x : Want91) (o : Option ℕ) (es : List PathEvent) (number count : ℕ) (image joined : List ℕ) → Joins o es number count image joined
-    → JoinsBy (is_method_on is_channel_open n x) life (want_events rs n x) (text_wanted n x) o es number count image joined
-want_joins rs n life want.Nothing o es number count image joined t = t
-want_joins rs n life want.Start o es number count image joined t = t
-want_joins rs n life (want.Login mechanism response) o es number count image joined t = t
-want_joins rs n life want.Tuned o es number count image joined t = t
-want_joins rs n life want.OpenUp o es number count image joined t = t
-want_joins rs n life (want.Method k m) o es number count image joined t = method_joins (k == n) m life o es number count image joined t
-want_joins rs n life (want.Publish k m c) o es number count image joined t = by (k == n)
+want_joins : (rs : List Route) (limit n life : ℕ) (x : Want91) (o : Option ℕ) (es : List PathEvent) (number count : ℕ) (image joined : List ℕ) → Joins o es number count image joined
+    → JoinsBy (is_method_on is_channel_open n x) life (want_events rs limit n x) (text_wanted n x) o es number count image joined
+want_joins rs limit n life want.Nothing o es number count image joined t = t
+want_joins rs limit n life want.Start o es number count image joined t = t
+want_joins rs limit n life (want.Login mechanism response) o es number count image joined t = t
+want_joins rs limit n life want.Tuned o es number count image joined t = t
+want_joins rs limit n life want.OpenUp o es number count image joined t = t
+want_joins rs limit n life (want.Method k m) o es number count image joined t = method_joins (k == n) m life o es number count image joined t
+want_joins rs limit n life (want.Publish k m c) o es number count image joined t = by (k == n)
   where
     text : List ℕ
     text = image_text (message_of m c)
 
-    by : (b : Bool) → JoinsBy false life (if b then event.Published (address_of rs (message_of m c)) text ∷ [] else []) (if b then Some text else None) o es number count image joined
-    by true = taken_joins o es number count image joined (address_of rs (message_of m c)) text t
+    back : List (List ℕ)
+    back = back_of limit k m (message_of m c)
+
+    by : (b : Bool) → JoinsBy false life (if b then event.Published (address_of rs (message_of m c)) text back ∷ [] else []) (if b then Some text else None) o es number count image joined
+    by true = taken_joins o es number count image joined (address_of rs (message_of m c)) text back t
     by false = t
-want_joins rs n life (want.ChannelCloseOk k) o es number count image joined t = t
-want_joins rs n life want.Close o es number count image joined t = t
-want_joins rs n life want.CloseOk o es number count image joined t = t
-want_joins rs n life (want.Refuse r) o es number count image joined t = t
+want_joins rs limit n life (want.ChannelCloseOk k) o es number count image joined t = t
+want_joins rs limit n life want.Close o es number count image joined t = t
+want_joins rs limit n life want.CloseOk o es number count image joined t = t
+want_joins rs limit n life (want.Refuse r) o es number count image joined t = t
 
 -- ---- a frame
 
@@ -353,6 +358,20 @@ up_joins publishes rests h n number (up.End k why) text m joins =
     plain_joins (path_life h n) _ (path_events h n) number _ _ _ (if_plain (k == n) losing (event.LinesWent ∷ []) (refl, (refl, tt)) (refl, tt)) joins
 up_joins publishes rests h n number u text m joins = joins
 
+-- a unit to the client; a frame of a return changes nothing of this
+reply_joins : (h : List Step) (n number : ℕ) (u : Reply) → JoinsIn h n number
+    → Joins (path_life h n) (reply_events n u ++ path_events h n) number (publishes_in n h) (image_in n number h) (joined_in n number h)
+reply_joins h n number (reply.OnChannel k (to_client.Ok x)) t = plain_joins (path_life h n) _ (path_events h n) number _ _ _ (if_plain (k == n) (event.OkSent x ∷ []) [] (refl, tt) tt) t
+reply_joins h n number (reply.OnChannel k (to_client.Confirm c)) t = plain_joins (path_life h n) _ (path_events h n) number _ _ _ (if_plain (k == n) (event.ConfirmWent c ∷ []) [] (refl, tt) tt) t
+reply_joins h n number (reply.OnChannel k (to_client.Return r)) t = by (path_life h n) (k == n) t
+  where
+    by : (o : Option ℕ) (b : Bool) → Joins o (path_events h n) number (publishes_in n h) (image_in n number h) (joined_in n number h)
+        → Joins o ((if b then event.ReturnWent r.publish ∷ [] else []) ++ path_events h n) number (publishes_in n h) (image_in n number h) (joined_in n number h)
+    by None b x = x
+    by (Some life) true x = quiet (ReturnSent r.publish) refl x
+    by (Some life) false x = x
+reply_joins h n number u t = t
+
 -- ---- all steps
 
 came_joins : (h : List Step) (n number : ℕ) (u : Unit91) → JoinsIn h n number → JoinsIn (Came u ∷ h) n number
@@ -361,12 +380,15 @@ came_joins h n number u t = by (ran_out_in h)
     x : Want91
     x = want_in (routes_in h) (connection h) u
 
-    by : (b : Bool) → JoinsBy (not b && is_method_on is_channel_open n x) ((peers h).opened + 1) (if b then [] else want_events (routes_in h) n x) (if b then None else text_wanted n x)
+    limit : ℕ
+    limit = (conn_step (routes_in h) (connection h) u).limits.frame_max
+
+    by : (b : Bool) → JoinsBy (not b && is_method_on is_channel_open n x) ((peers h).opened + 1) (if b then [] else want_events (routes_in h) limit n x) (if b then None else text_wanted n x)
         (path_life h n) (path_events h n) number (publishes_in n h) (image_in n number h) (joined_in n number h)
     by true = t
-    by false = want_joins (routes_in h) n ((peers h).opened + 1) x (path_life h n) (path_events h n) number _ _ _ t
+    by false = want_joins (routes_in h) limit n ((peers h).opened + 1) x (path_life h n) (path_events h n) number _ _ _ t
 
-heard_plain_in : (h : List Step) (n : ℕ) (u : Unit10) → ArePlain (step_events n h (Heard u))
+pub heard_plain_in : (h : List Step) (n : ℕ) (u : Unit10) → ArePlain (step_events n h (Heard u))
 heard_plain_in h n u = if_plain (ran_out_in h) _ _ tt (meaning_plain (connection h) (paths_in h) n (meaning_by (container h) u))
 
 quietly : (h : List Step) (n number : ℕ) (xs : List PathEvent) → ArePlain xs → JoinsIn h n number
@@ -391,7 +413,7 @@ joins a b c n number (Lost Client how ∷ h) p = joins a b c n number h p.1
 joins a b c n number (Lost Up loss.Ended ∷ h) p = quietly h n number _ (fallen_plain _) (joins a b c n number h p.1)
 joins a b c n number (Lost Up loss.Failed ∷ h) p = quietly h n number _ (fallen_plain _) (joins a b c n number h p.1)
 joins a b c n number (Lost Up loss.Shut ∷ h) p = quietly h n number losing (refl, (refl, tt)) (joins a b c n number h p.1)
-joins a b c n number (Gave (ToClient u) text ∷ h) p = quietly h n number _ (reply_plain n u) (joins a b c n number h p.1)
+joins a b c n number (Gave (ToClient u) text ∷ h) p = reply_joins h n number u (joins a b c n number h p.1)
 joins a b c n number (Gave (ToUp u) text ∷ h) p = up_joins a c h n number u text (carry_is a b c h u text p.1 p.0.1 p.0.2) (joins a b c n number h p.1)
 joins a b c n number (Whole end ∷ h) p = joins a b c n number h p.1
 joins a b c n number (OutOfMemory ∷ h) p = joins a b c n number h p.1

@@ -21,6 +21,7 @@ use Rattle.machine_091.specs.declared.unit.Refusal.{Refusal}
 use Rattle.gate_model.specs.declared.reply.Reply.{Reply}
 use Rattle.gate_model.specs.declared.reply.Reply.TheVariants as reply
 use Rattle.gate_model.specs.declared.reply.Pending.{Pending}
+use Rattle.gate_model.specs.declared.reply.Reason.{Reason}
 use Rattle.gate_model.specs.declared.life.Life.{Life}
 use Rattle.gate_model.specs.declared.timers.TheConstants.{BEAT_PER_SECOND, CLOSING_LIMIT}
 use Rattle.gate_model.specs.declared.timers.TheConstants.{LINGER_LIMIT}
@@ -33,12 +34,14 @@ use Rattle.std.specs.Prelude.{min}
 use Rattle.machine_10.specs.declared.limits.TheConstants.{FRAME_MAX}
 use Rattle.publish_path.specs.Links.{address_of}
 use Rattle.publish_path.specs.declared.publish.Confirm.{Confirm}
+use Rattle.publish_path.specs.declared.publish.NextReturn.{NextReturn}
 use Rattle.session_path.specs.Due.{next_attach, next_confirm, next_detach, next_flow}
-use Rattle.session_path.specs.Due.{next_frame, next_ok, next_settle}
+use Rattle.session_path.specs.Due.{next_frame, next_ok, next_return, next_settle, return_frame}
 use Rattle.session_path.specs.Due as path_due
 use Rattle.session_path.specs.Links.{handle_of}
 use Rattle.session_path.specs.Path.{PathState}
 use Rattle.session_path.specs.declared.path.PathOk.{PathOk}
+use Rattle.gate_model.specs.declared.channel.ChannelUnit.{ChannelUnit}
 use Rattle.gate_model.specs.declared.channel.ChannelUnit.TheVariants as unit
 use Rattle.gate_model.specs.declared.channel.SessionUnit.{SessionUnit}
 use Rattle.gate_model.specs.declared.channel.SessionUnit.TheVariants as session_unit
@@ -122,11 +125,31 @@ confirm_on may n (Some c) = when may (reply.OnChannel n (unit.Confirm c))
 abbrev pub may_confirm : Life → Bool
 may_confirm l = not l.over || l.by_peer
 
-abbrev pub confirms_on : List (Option PathState) → ℕ → Life → List Reply
-confirms_on ps n l = confirm_on (may_confirm l) n (next_confirm (path_at ps n))
+-- so does a return, before any confirm of its channel; but none that begins once the pair ran out
+-- of memory
+abbrev pub return_on : Bool → ℕ → Option NextReturn → List Reply
+return_on may n None = []
+return_on may n (Some r) = when (may && r.first) (reply.OnChannel n (unit.Return r))
+
+abbrev pub confirms_on : Bool → List (Option PathState) → ℕ → Life → List Reply
+confirms_on calm ps n l =
+    return_on (calm && may_confirm l) n (next_return (path_at ps n))
+    ++ confirm_on (may_confirm l) n (next_confirm (path_at ps n))
 
 abbrev pub confirms : State → List Reply
-confirms w = each (confirms_on w.paths) 0 w.lives
+confirms w = each (confirms_on (not w.out_of_memory) w.paths) 0 w.lives
+
+-- the frames of a return that is begun go on before all else, and where its channel closes too: a
+-- content stands together (AMQP 0-9-1 4.2.6)
+abbrev pub content_on : ℕ → Option NextReturn → List Reply
+content_on n None = []
+content_on n (Some r) = when (not r.first) (reply.OnChannel n (unit.Return r))
+
+abbrev pub contents_on : List (Option PathState) → ℕ → Life → List Reply
+contents_on ps n l = content_on n (next_return (path_at ps n))
+
+abbrev pub contents : State → List Reply
+contents w = each (contents_on w.paths) 0 w.lives
 
 -- one to a channel.close that crossed the gateway's waits for nothing
 abbrev pub close_oks_on : ℕ → Bool → Life → List Reply
@@ -137,7 +160,7 @@ abbrev pub channel_oks : State → List Reply
 channel_oks w =
     each (λ n l. close_oks_on n (l.close_ok && is_channel_settled w n) l) 0 w.lives
 
-abbrev pub refused_on : Bool → ℕ → Option Refusal → List Reply
+abbrev pub refused_on : Bool → ℕ → Option Reason → List Reply
 refused_on settled n None = []
 refused_on settled n (Some r) = when settled (reply.ChannelClose n r)
 
@@ -148,6 +171,10 @@ channel_closes w = each (λ n l. refused_on (is_channel_settled w n) n l.close) 
 -- connection.close or its close-ok went
 abbrev pub may_answer : State → Bool
 may_answer w = not (w.out_of_memory || is_closing w.conn)
+
+-- frames of returns do as confirms, until the pair runs out of memory
+abbrev pub may_return : State → Bool
+may_return w = not w.out_of_memory && (not (is_closing w.conn) || w.by_peer)
 
 abbrev pub may_end : State → Bool
 may_end w = not (w.out_of_memory || (w.sent_last.close || w.sent_last.close_ok))
@@ -174,10 +201,11 @@ if_so false us = []
 abbrev pub client_units : State → List Reply
 client_units w =
     let p = may_go (is_settled w) w.pending in
-    openings p ++ (if_so (may_answer w) (open_oks w ++ path_oks w)
+    if_so (may_return w) (contents w)
+    ++ (openings p ++ (if_so (may_answer w) (open_oks w ++ path_oks w)
     ++ (if_so (may_answer w || w.by_peer) (confirms w)
     ++ (close_oks p ++ (if_so (may_end w) (channel_oks w)
-    ++ (last_closes p ++ if_so (may_tell w) (channel_closes w))))))
+    ++ (last_closes p ++ if_so (may_tell w) (channel_closes w)))))))
 
 abbrev pub client_rows : State → List Reply
 client_rows w = client_units w ++ when (is_beat_due w) reply.Heartbeat
@@ -325,12 +353,33 @@ takes_memory_up (up.Flow n i o) = true
 takes_memory_up (up.Begin n) = true
 takes_memory_up (up.End n why) = false
 
+abbrev pub takes_memory_told : ChannelUnit → Bool
+takes_memory_told (unit.Ok x) = false
+takes_memory_told (unit.Confirm c) = false
+takes_memory_told (unit.Return r) = true
+
+abbrev pub takes_memory_back : Reply → Bool
+takes_memory_back reply.Protocol = false
+takes_memory_back reply.Start = false
+takes_memory_back reply.Tune = false
+takes_memory_back reply.OpenOk = false
+takes_memory_back reply.CloseOk = false
+takes_memory_back (reply.Close r) = false
+takes_memory_back reply.NoMemory = false
+takes_memory_back reply.Heartbeat = false
+takes_memory_back (reply.ChannelOpenOk n) = false
+takes_memory_back (reply.OnChannel n u) = takes_memory_told u
+takes_memory_back (reply.ChannelCloseOk n) = false
+takes_memory_back (reply.CrossedOk n) = false
+takes_memory_back (reply.ChannelClose n r) = false
+
 abbrev pub takes_memory : Option Outgoing → Bool
 takes_memory None = false
-takes_memory (Some (ToClient u)) = false
+takes_memory (Some (ToClient u)) = takes_memory_back u
 takes_memory (Some (ToUp u)) = takes_memory_up u
 
--- what a unit carries of the client's: the address of an attach, and the part of a payload
+-- what a unit carries of the client's: the address of an attach, the part of a payload, and a frame
+-- of a return
 abbrev pub carries_of : PathState → SessionUnit → List ℕ
 carries_of s (session_unit.Attach a) = address_of s.links.sending a.link
 carries_of s (session_unit.Flow f) = []
@@ -342,8 +391,32 @@ abbrev pub carries_up : State → UpUnit → List ℕ
 carries_up w (up.OnSession n u) = carries_of (path_at w.paths n) u
 carries_up w u = []
 
+abbrev pub or_no_bytes : Option (List ℕ) → List ℕ
+or_no_bytes None = []
+or_no_bytes (Some text) = text
+
+abbrev pub carries_told : PathState → ChannelUnit → List ℕ
+carries_told s (unit.Ok x) = []
+carries_told s (unit.Confirm c) = []
+carries_told s (unit.Return r) = or_no_bytes (return_frame r.publish s)
+
+abbrev pub carries_back : State → Reply → List ℕ
+carries_back w reply.Protocol = []
+carries_back w reply.Start = []
+carries_back w reply.Tune = []
+carries_back w reply.OpenOk = []
+carries_back w reply.CloseOk = []
+carries_back w (reply.Close r) = []
+carries_back w reply.NoMemory = []
+carries_back w reply.Heartbeat = []
+carries_back w (reply.ChannelOpenOk n) = []
+carries_back w (reply.OnChannel n u) = carries_told (path_at w.paths n) u
+carries_back w (reply.ChannelCloseOk n) = []
+carries_back w (reply.CrossedOk n) = []
+carries_back w (reply.ChannelClose n r) = []
+
 abbrev pub carries : State → Outgoing → List ℕ
-carries w (ToClient u) = []
+carries w (ToClient u) = carries_back w u
 carries w (ToUp u) = carries_up w u
 
 -- the one that goes

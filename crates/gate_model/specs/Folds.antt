@@ -201,11 +201,12 @@ container_kept o (want.Refuse r) = o
 
 abbrev pub peers_came : Peers → Unit91 → Peers
 peers_came p u =
+    let c = conn_step p.routes p.client u in
     let x = want_in p.routes p.client u in
     record p {
-      client = conn_step p.routes p.client u;
+      client = c;
       container = container_kept p.container x;
-      paths = paths_by p.routes p.opened x p.paths;
+      paths = paths_by p.routes c.limits.frame_max p.opened x p.paths;
       opened = p.opened + lives_opened x;
     }
 

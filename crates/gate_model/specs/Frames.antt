@@ -29,5 +29,6 @@ limit_in (s ∷ h) = limit_in h
 -- no unit that was sent passes the limit of its moment
 abbrev pub FitsClients : List state.Step → Type 0
 FitsClients [] = Unit {0}
-FitsClients (Gave (ToClient u) text ∷ h) = (length (spell_reply u) ≤ limit_in h) × FitsClients h
+FitsClients (Gave (ToClient u) text ∷ h) =
+    (length (spell_reply u text) ≤ limit_in h) × FitsClients h
 FitsClients (s ∷ h) = FitsClients h

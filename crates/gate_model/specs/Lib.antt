@@ -12,6 +12,7 @@ pub mod Publishing
 pub mod Queue
 pub mod Reports
 pub mod Requests
+pub mod Returns
 pub mod Session
 pub mod Setup
 pub mod Silence

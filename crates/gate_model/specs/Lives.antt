@@ -19,6 +19,8 @@ use Rattle.methods_091.specs.declared.method.Method91.TheVariants as method
 use Rattle.performatives_10.specs.declared.condition.Condition.{Condition}
 use Rattle.gate_model.specs.declared.life.Life.{Life}
 use Rattle.gate_model.specs.declared.life.SessionState.{SessionState}
+use Rattle.gate_model.specs.declared.reply.Reason.{Reason}
+use Rattle.property_map.specs.declared.told.Told.{Told}
 use Rattle.gate_model.specs.Session.{no_session}
 
 abbrev pub is_channel : Scope → Bool
@@ -72,7 +74,7 @@ closed_life ms l =
 
 -- it is at fault, or the container is: channel.close is due, and what is owed for publishes where
 -- the container was the cause
-abbrev pub failed_life : Bool → ℕ → Refusal → Option Condition → Life → Life
+abbrev pub failed_life : Bool → ℕ → Reason → Option Condition → Life → Life
 failed_life by_peer ms r why l = record (old_life l) {
   over = true;
   closed_at = Some ms;
@@ -111,26 +113,32 @@ method_life ms method.ChannelOpen l = asked_life l
 method_life ms (method.ChannelClose code text class id) l = closed_life ms l
 method_life ms m l = l
 
+-- why a channel closes: for a refusal, of which nothing more is told, or this
+abbrev pub reason_of : Option Told → Refusal → Reason
+reason_of told r = record { refusal = r; told = told }
+
 -- a refusal of a channel closes that
-abbrev pub refused_life : ℕ → Refusal → List Life → List Life
-refused_life ms r ls =
+abbrev pub refused_life : ℕ → Option Told → Refusal → List Life → List Life
+refused_life ms told r ls =
     if is_of_channel r then
     with_life r.channel
-    (failed_life false ms r (Some (condition_of r.code)) (life_at ls r.channel)) ls
+    (failed_life false ms (reason_of told r) (Some (condition_of r.code)) (life_at ls r.channel))
+    ls
     else ls
 
-abbrev pub lives_by : ℕ → Want91 → List Life → List Life
-lives_by ms want.Nothing ls = ls
-lives_by ms want.Start ls = ls
-lives_by ms (want.Login mechanism response) ls = ls
-lives_by ms want.Tuned ls = ls
-lives_by ms want.OpenUp ls = ls
-lives_by ms (want.Method n m) ls = with_life n (method_life ms m (life_at ls n)) ls
-lives_by ms (want.Publish n m c) ls = ls
-lives_by ms (want.ChannelCloseOk n) ls = with_life n (freed_life (life_at ls n)) ls
-lives_by ms want.Close ls = ls
-lives_by ms want.CloseOk ls = ls
-lives_by ms (want.Refuse r) ls = refused_life ms r ls
+-- after what a unit wants; of a publish that is refused this is told
+abbrev pub lives_by : ℕ → Option Told → Want91 → List Life → List Life
+lives_by ms told want.Nothing ls = ls
+lives_by ms told want.Start ls = ls
+lives_by ms told (want.Login mechanism response) ls = ls
+lives_by ms told want.Tuned ls = ls
+lives_by ms told want.OpenUp ls = ls
+lives_by ms told (want.Method n m) ls = with_life n (method_life ms m (life_at ls n)) ls
+lives_by ms told (want.Publish n m c) ls = ls
+lives_by ms told (want.ChannelCloseOk n) ls = with_life n (freed_life (life_at ls n)) ls
+lives_by ms told want.Close ls = ls
+lives_by ms told want.CloseOk ls = ls
+lives_by ms told (want.Refuse r) ls = refused_life ms told r ls
 
 -- what each life has, by rising numbers of channels
 abbrev pub each : {A : Type 0} → (ℕ → Life → List A) → ℕ → List Life → List A

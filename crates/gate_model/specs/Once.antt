@@ -83,6 +83,7 @@ is_flow_ok (unit.Ok ok.Flow) = true
 is_flow_ok (unit.Ok ok.Declare) = false
 is_flow_ok (unit.Ok ok.Select) = false
 is_flow_ok (unit.Confirm c) = false
+is_flow_ok (unit.Return r) = false
 
 abbrev pub is_flow_ok_on : ℕ → Reply → Bool
 is_flow_ok_on n reply.Protocol = false

@@ -1,6 +1,6 @@
 -- The paths of channels: the links, publishes and answers of each, by the numbers of channels.
 use Rattle.std.specs.Prelude.{ℕ, zero, suc, eqb, ◌+◌, ◌-◌, ◌==◌, ◌%◌, ◌^◌, nat_lt, min, Bool, true}
-use Rattle.std.specs.Prelude.{false, not, ◌&&◌, ◌||◌}
+use Rattle.std.specs.Prelude.{false, not, ◌&&◌, ◌||◌, bytes_eq, codes}
 use Rattle.std.specs.Prelude.{if◌then◌else◌, List, [], ◌∷◌, replicate, slice_get}
 use Rattle.std.specs.Prelude.{slice_set}
 use Rattle.std.specs.Prelude.{take, length, map, sum_by, nat_le, ◌++◌, Option, Some, None}
@@ -14,6 +14,8 @@ use Rattle.performatives_10.specs.declared.performative.Perf.TheVariants as perf
 use Rattle.property_map.specs.Rows.{decimal_in}
 use Rattle.publish_path.specs.Offers.{rest_of}
 use Rattle.publish_path.specs.declared.publish.NextFrame.{NextFrame}
+use Rattle.publish_path.specs.declared.publish.Outcome.{Outcome}
+use Rattle.publish_path.specs.declared.publish.Outcome.TheVariants.{Accepted, Released, Refused}
 use Rattle.session_path.specs.Links.{handle_at}
 use Rattle.session_path.specs.Path.{PathState, attach_came, flow_came, lost, opened}
 use Rattle.session_path.specs.Due.{held, held_size_of, lines}
@@ -111,8 +113,10 @@ abbrev pub state_code : Tree → ℕ
 state_code (described (scalar (ulong code)) t) = code
 state_code t = 0
 
-abbrev pub is_accepted : Tree → Bool
-is_accepted t = state_code t == 36
+-- rejected and modified count alike, and so does a settlement without a state
+abbrev pub outcome_in : Tree → Outcome
+outcome_in t =
+    if state_code t == 36 then Accepted else if state_code t == 38 then Released else Refused
 
 -- a disposition of the receiver that has an outcome: a terminal state, or a settlement without a
 -- state
@@ -126,8 +130,13 @@ abbrev pub outcome_by : List Tree → PathState → PathState
 outcome_by ts s =
     if is_outcome ts then
     outcome_came (number_at ts 1) (number_in (field ts 2))
-    (is_accepted (field ts 4)) (is_true (field ts 3)) s
+    (outcome_in (field ts 4)) (is_true (field ts 3)) s
     else s
+
+-- an error says that there is no such node (AMQP 1.0 2.8.15)
+abbrev pub is_not_found : Option (List ℕ) → Bool
+is_not_found None = false
+is_not_found (Some name) = bytes_eq name (codes "amqp:not-found")
 
 abbrev pub credit_of : Option ℕ → ℕ
 credit_of None = 0

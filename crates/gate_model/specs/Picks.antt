@@ -19,7 +19,8 @@ use Rattle.gate_model.specs.Queue.{is_bad_unit}
 use Rattle.gate_model.specs.State.{State, Step, Began, Moment, Fed, Silent, Queued, Came, TakenUp}
 use Rattle.gate_model.specs.State.{Heard, Joined}
 use Rattle.gate_model.specs.State.{Lost, Gave, Whole, OutOfMemory, before, next_unit, place}
-use Rattle.gate_model.specs.Due.{can_leave, carries_up, is_busy, is_connect_due, is_silent, pick}
+use Rattle.gate_model.specs.Due.{can_leave, carries_back, carries_up, is_busy, is_connect_due}
+use Rattle.gate_model.specs.Due.{is_silent, pick}
 use Rattle.gate_model.specs.Folds.{container, moment_in, ran_out_in}
 use Rattle.gate_model.specs.Upstream.{awaited_of}
 
@@ -64,7 +65,7 @@ MayStep h (Joined answer) = is_connect_due (before h) ≡ true
 MayStep h (Lost end how) = Unit {0}
 MayStep h (Gave (ToClient u) text) =
     (is_busy (before h) Client ≡ false) × (pick (before h) Client ≡ Some (ToClient u))
-    × (text ≡ [])
+    × (text ≡ carries_back (before h) u)
 MayStep h (Gave (ToUp u) text) =
     (is_busy (before h) Up ≡ false) × (pick (before h) Up ≡ Some (ToUp u))
     × (text ≡ carries_up (before h) u)

@@ -2,7 +2,8 @@
 -- first; the confirms and the transfers that go, by these; and the payloads that these carry.
 use Rattle.std.specs.Prelude.{◌≡◌, ℕ, ◌+◌, ◌==◌, ◌≤◌, nat_lt, length, take}
 use Rattle.std.specs.Prelude.{Bool, true, false, not, ◌&&◌, if◌then◌else◌, List}
-use Rattle.std.specs.Prelude.{[], ◌∷◌, ◌++◌, Option, None, Some}
+use Rattle.std.specs.Prelude.{[], ◌∷◌, ◌++◌, Option, None, Some, drop}
+use Rattle.open_items.specs.Numbers.{first}
 use Rattle.close_translate.specs.declared.conditions.Scope.{Scope}
 use Rattle.close_translate.specs.declared.conditions.Scope.TheVariants as scope
 use Rattle.gate_outside.specs.declared.ports.End.TheVariants.{Client, Up}
@@ -20,8 +21,9 @@ use Rattle.methods_091.specs.declared.method.Method91.{Method91}
 use Rattle.methods_091.specs.declared.method.Method91.TheVariants as method
 use Rattle.property_map.specs.Spelling.{image_text}
 use Rattle.publish_path.specs.Journal.{fate_of, next_id_of, rest_by}
-use Rattle.publish_path.specs.Laws.{IsFrontOf, IsLawfulConfirm, frame_by}
+use Rattle.publish_path.specs.Laws.{IsFrontOf, IsLawfulConfirm, frame_by, return_by}
 use Rattle.publish_path.specs.declared.publish.Confirm.{Confirm}
+use Rattle.publish_path.specs.declared.publish.NextReturn.{NextReturn}
 use Rattle.session_path.specs.Events as event
 use Rattle.session_path.specs.Events.{PathEvent, after_events, publishes_of}
 use Rattle.session_path.specs.Links.{handle_at}
@@ -40,14 +42,16 @@ use Rattle.gate_model.specs.declared.reply.Reply.TheVariants as reply
 use Rattle.gate_model.specs.Folds.{routes_in}
 use Rattle.gate_model.specs.Folds.{carrying, connection, container, paths_in, peers, ran_out_in}
 use Rattle.gate_model.specs.Once.{is_channel_open, is_method_on}
-use Rattle.gate_model.specs.Paths.{credit_of, is_accepted, is_outcome, is_there, name_in, path_at}
-use Rattle.gate_model.specs.Paths.{text_of}
+use Rattle.gate_model.specs.Paths.{credit_of, is_not_found, is_outcome, is_there, name_in}
+use Rattle.gate_model.specs.Paths.{outcome_in, path_at, text_of}
 use Rattle.gate_model.specs.Requests.{address_of, message_of}
+use Rattle.gate_model.specs.Returns.{back_of}
 use Rattle.gate_model.specs.declared.setup.Route.{Route}
 use Rattle.gate_model.specs.Session.{is_of_session, is_true}
 use Rattle.gate_model.specs.State.{Began, Came, Fed, Gave, Heard, Joined, Lost, Moment, Queued}
-use Rattle.gate_model.specs.State.{OutOfMemory, Silent, Step, TakenUp, Whole, link_scope, want_in}
-use Rattle.gate_model.specs.Upstream.{meaning_by}
+use Rattle.gate_model.specs.State.{OutOfMemory, Silent, Step, TakenUp, Whole, conn_step}
+use Rattle.gate_model.specs.State.{link_scope, want_in}
+use Rattle.gate_model.specs.Upstream.{condition_in, meaning_by}
 
 -- ---- the client's requests
 
@@ -66,22 +70,23 @@ method_events (method.ConfirmSelect no_wait) =
     owed_unless no_wait (event.Owed ok.Select) ++ event.Selected ∷ []
 method_events m = []
 
--- of channel n, by what a unit of the client wants; a whole publish is taken up with the text of
--- its image
-abbrev pub want_events : List Route → ℕ → Want91 → List PathEvent
-want_events routes n want.Nothing = []
-want_events routes n want.Start = []
-want_events routes n (want.Login mechanism response) = []
-want_events routes n want.Tuned = []
-want_events routes n want.OpenUp = []
-want_events routes n (want.Method k m) = if k == n then method_events m else []
-want_events routes n (want.Publish k m c) =
+-- of channel n, by what a unit of a client wants that takes frames of so many bytes; a whole
+-- publish is taken up with the text of its image and the frames of its return
+abbrev pub want_events : List Route → ℕ → ℕ → Want91 → List PathEvent
+want_events routes limit n want.Nothing = []
+want_events routes limit n want.Start = []
+want_events routes limit n (want.Login mechanism response) = []
+want_events routes limit n want.Tuned = []
+want_events routes limit n want.OpenUp = []
+want_events routes limit n (want.Method k m) = if k == n then method_events m else []
+want_events routes limit n (want.Publish k m c) =
     if k == n then
-    event.Published (address_of routes (message_of m c)) (image_text (message_of m c)) ∷ [] else []
-want_events routes n (want.ChannelCloseOk k) = []
-want_events routes n want.Close = []
-want_events routes n want.CloseOk = []
-want_events routes n (want.Refuse r) = []
+    event.Published (address_of routes (message_of m c)) (image_text (message_of m c))
+    (back_of limit k m (message_of m c)) ∷ [] else []
+want_events routes limit n (want.ChannelCloseOk k) = []
+want_events routes limit n want.Close = []
+want_events routes limit n want.CloseOk = []
+want_events routes limit n (want.Refuse r) = []
 
 -- ---- the container
 
@@ -102,8 +107,9 @@ heard_events p =
     (is_true (field p.1 8)) (is_true (field p.1 9)) ∷ []
     else if p.0 == 21 then
     (if is_outcome p.1 then event.DispositionCame (number_at p.1 1) (number_in (field p.1 2))
-    (is_accepted (field p.1 4)) (is_true (field p.1 3)) ∷ [] else [])
-    else if p.0 == 22 then event.DetachCame (number_at p.1 0) ∷ []
+    (outcome_in (field p.1 4)) (is_true (field p.1 3)) ∷ [] else [])
+    else if p.0 == 22 then
+    event.DetachCame (number_at p.1 0) (is_not_found (condition_in (field p.1 2))) ∷ []
     else if p.0 == 23 then event.SessionLost ∷ []
     else []
 
@@ -150,6 +156,7 @@ meaning_events c ps n (ten.Violation why) = failing c
 abbrev pub told_event : ChannelUnit → PathEvent
 told_event (to_client.Ok x) = event.OkSent x
 told_event (to_client.Confirm c) = event.ConfirmWent c
+told_event (to_client.Return r) = event.ReturnWent r.publish
 
 abbrev pub reply_events : ℕ → Reply → List PathEvent
 reply_events n reply.Protocol = []
@@ -200,7 +207,8 @@ step_events n h (Silent Up) = failing (connection h)
 step_events n h (Queued u) = []
 step_events n h (Came u) =
     if ran_out_in h then []
-    else want_events (routes_in h) n (want_in (routes_in h) (connection h) u)
+    else want_events (routes_in h) (conn_step (routes_in h) (connection h) u).limits.frame_max n
+    (want_in (routes_in h) (connection h) u)
 step_events n h TakenUp = []
 step_events n h (Heard u) =
     if ran_out_in h then []
@@ -362,3 +370,75 @@ abbrev pub EndWhole : List Step → Type 0
 EndWhole [] = Unit {0}
 EndWhole (Gave (ToUp u) text ∷ h) = MayFinish h u text × EndWhole h
 EndWhole (s ∷ h) = EndWhole h
+
+-- ---- returns
+
+-- the frames of the return of a publish that is taken up on channel n; none where it isn't
+-- mandatory
+abbrev pub back_wanted : ℕ → ℕ → Want91 → Option (List (List ℕ))
+back_wanted limit n want.Nothing = None
+back_wanted limit n want.Start = None
+back_wanted limit n (want.Login mechanism response) = None
+back_wanted limit n want.Tuned = None
+back_wanted limit n want.OpenUp = None
+back_wanted limit n (want.Method k m) = None
+back_wanted limit n (want.Publish k m c) =
+    if k == n then Some (back_of limit k m (message_of m c)) else None
+back_wanted limit n (want.ChannelCloseOk k) = None
+back_wanted limit n want.Close = None
+back_wanted limit n want.CloseOk = None
+back_wanted limit n (want.Refuse r) = None
+
+abbrev pub back_taken : ℕ → List Step → Step → Option (List (List ℕ))
+back_taken n h (Came u) =
+    if ran_out_in h then None
+    else back_wanted (conn_step (routes_in h) (connection h) u).limits.frame_max n
+    (want_in (routes_in h) (connection h) u)
+back_taken n h s = None
+
+-- those of the publish with this number; none where there is none
+abbrev pub back_by : Option (List (List ℕ)) → Bool → List (List ℕ) → List (List ℕ)
+back_by None this old = old
+back_by (Some back) this old = if this then back else old
+
+abbrev pub back_in : ℕ → ℕ → List Step → List (List ℕ)
+back_in n number [] = []
+back_in n number (s ∷ h) =
+    if opens_channel n h s then []
+    else back_by (back_taken n h s) (number == publishes_in n h + 1) (back_in n number h)
+
+-- how many of them went
+abbrev pub returned_on : ℕ → ℕ → ℕ → ChannelUnit → ℕ → ℕ
+returned_on n number k (to_client.Ok x) count = count
+returned_on n number k (to_client.Confirm c) count = count
+returned_on n number k (to_client.Return r) count =
+    if k == n && number == r.publish then count + 1 else count
+
+abbrev pub returned_by : ℕ → ℕ → Step → ℕ → ℕ
+returned_by n number (Gave (ToClient (reply.OnChannel k u)) text) count =
+    returned_on n number k u count
+returned_by n number s count = count
+
+abbrev pub returned_in : ℕ → ℕ → List Step → ℕ
+returned_in n number [] = 0
+returned_in n number (s ∷ h) =
+    if opens_channel n h s then 0 else returned_by n number s (returned_in n number h)
+
+-- a frame of a return goes: of the publish whose return is begun, else of the least that the
+-- container released, or whose address it doesn't know; it is the next one of those of its publish
+-- (AMQP 0-9-1 1.8.3.8; AMQP 1.0 3.4.4)
+pub record MayReturn (h : List Step) (n : ℕ) (r : NextReturn) (text : List ℕ) : Type 0 where
+  pub life : ℕ
+  pub lives : path_life h n ≡ Some life
+  pub due : return_by (publishes_of life (path_events h n)) ≡ Some r
+  pub frame : first (drop (returned_in n r.publish h) (back_in n r.publish h)) ≡ Some text
+
+abbrev pub MayGoBack : List Step → Reply → List ℕ → Type 0
+MayGoBack h (reply.OnChannel n (to_client.Return r)) text = MayReturn h n r text
+MayGoBack h u text = Unit {0}
+
+-- each that went is one of these
+abbrev pub Returns : List Step → Type 0
+Returns [] = Unit {0}
+Returns (Gave (ToClient u) text ∷ h) = MayGoBack h u text × Returns h
+Returns (s ∷ h) = Returns h

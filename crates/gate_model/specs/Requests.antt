@@ -22,6 +22,9 @@ use Rattle.methods_091.specs.View.{kind_of}
 use Rattle.methods_091.specs.declared.method.Method91.{Method91}
 use Rattle.methods_091.specs.declared.method.Method91.TheVariants as method
 use Rattle.property_map.specs.Image.{first_fault}
+use Rattle.property_map.specs.Told.{told_of}
+use Rattle.property_map.specs.declared.fault.MapFault.{MapFault}
+use Rattle.property_map.specs.declared.told.Told.{Told}
 use Rattle.property_map.specs.declared.message.Message091.{Message091}
 
 -- ---- a publish
@@ -32,7 +35,7 @@ message_of (method.BasicPublish exchange key mandatory immediate) c =
     record { exchange = exchange; key = key; props = c.props; body = c.body }
 message_of m c = record { exchange = []; key = []; props = c.props; body = c.body }
 
--- its basic.return, where no queue takes it, isn't built
+-- whether it goes back to its client where no queue takes it (AMQP 0-9-1 1.8.3.7)
 abbrev pub is_mandatory : Method91 → Bool
 is_mandatory (method.BasicPublish exchange key mandatory immediate) = mandatory
 is_mandatory m = false
@@ -51,12 +54,11 @@ address_of routes m = unwrap_or (address_for routes m) []
 
 -- ---- refusals
 
--- of a publish: what isn't built, an exchange or a queue that isn't known, and a message that has
--- no image in AMQP 1.0 (AMQP 0-9-1 1.2)
-abbrev pub publish_fault : List Route → Bool → Message091 → Option ℕ
-publish_fault routes mandatory m =
-    if mandatory then Some NOT_IMPLEMENTED
-    else if not (is_some (address_for routes m)) then Some NOT_FOUND
+-- of a publish: an exchange or a queue that isn't known, and a message that has no image in AMQP
+-- 1.0 (AMQP 0-9-1 1.2)
+abbrev pub publish_fault : List Route → Message091 → Option ℕ
+publish_fault routes m =
+    if not (is_some (address_for routes m)) then Some NOT_FOUND
     else if is_some (first_fault m) then Some PRECONDITION_FAILED
     else None
 
@@ -94,7 +96,7 @@ refusal_of_want routes want.Tuned = None
 refusal_of_want routes want.OpenUp = None
 refusal_of_want routes (want.Method n m) = refused_for n m (method_fault routes m)
 refusal_of_want routes (want.Publish n m c) =
-    refused_for n m (publish_fault routes (is_mandatory m) (message_of m c))
+    refused_for n m (publish_fault routes (message_of m c))
 refusal_of_want routes (want.ChannelCloseOk n) = None
 refusal_of_want routes want.Close = None
 refusal_of_want routes want.CloseOk = None
@@ -104,6 +106,29 @@ refusal_of_want routes (want.Refuse r) = None
 abbrev pub refused_by : Option Refusal → machine.Step → machine.Step
 refused_by None x = x
 refused_by (Some r) x = (after_closing r.scope r.channel x.0, want.Refuse r)
+
+-- what the client is told of a message that has no image
+abbrev pub told_by : Option MapFault → Option Told
+told_by None = None
+told_by (Some fault) = told_of fault
+
+abbrev pub told_in : List Route → Want91 → Option Told
+told_in routes want.Nothing = None
+told_in routes want.Start = None
+told_in routes (want.Login mechanism response) = None
+told_in routes want.Tuned = None
+told_in routes want.OpenUp = None
+told_in routes (want.Method n m) = None
+told_in routes (want.Publish n m c) =
+    if is_some (address_for routes (message_of m c)) then told_by (first_fault (message_of m c))
+    else None
+told_in routes (want.ChannelCloseOk n) = None
+told_in routes want.Close = None
+told_in routes want.CloseOk = None
+told_in routes (want.Refuse r) = None
+
+abbrev pub client_told : List Route → Connection → Unit91 → Option Told
+client_told routes c u = told_in routes (unit_step c u).1
 
 abbrev pub client_step : List Route → Connection → Unit91 → machine.Step
 client_step routes c u = refused_by (refusal_of_want routes (unit_step c u).1) (unit_step c u)

@@ -30,7 +30,10 @@ use Rattle.gate_model.specs.declared.outgoing.Outgoing.{Outgoing}
 use Rattle.gate_model.specs.declared.outgoing.Outgoing.TheVariants.{ToClient, ToUp}
 use Rattle.gate_model.specs.declared.outgoing.UpUnit.{UpUnit}
 use Rattle.gate_model.specs.declared.outgoing.UpUnit.TheVariants as up
+use Rattle.gate_model.specs.declared.reply.Reason.{Reason}
 use Rattle.gate_model.specs.declared.reply.Reply.{Reply}
+use Rattle.property_map.specs.Told.{told_text}
+use Rattle.property_map.specs.declared.told.Told.{Told}
 use Rattle.std.specs.Prelude.{if◌then◌else◌}
 use Rattle.methods_091.specs.declared.method.Method91.TheVariants.{BasicAck, BasicNack}
 use Rattle.methods_091.specs.declared.method.Method91.TheVariants.{ConfirmSelectOk}
@@ -133,32 +136,46 @@ abbrev pub confirm_method : Confirm → Method91
 confirm_method c =
     if c.ack then BasicAck c.number c.multiple else BasicNack c.number c.multiple false
 
-abbrev pub channel_method : ChannelUnit → Method91
-channel_method (channel_unit.Ok x) = ok_method x
-channel_method (channel_unit.Confirm c) = confirm_method c
+-- a frame of a return stands as it goes
+abbrev pub spell_told : ℕ → ChannelUnit → List ℕ → List ℕ
+spell_told n (channel_unit.Ok x) text = channel_text n (ok_method x)
+spell_told n (channel_unit.Confirm c) text = channel_text n (confirm_method c)
+spell_told n (channel_unit.Return r) text = text
 
 abbrev pub close_ok_on : ℕ → List ℕ
 close_ok_on n = channel_text n ChannelCloseOk
 
-abbrev pub close_on : ℕ → Refusal → List ℕ
-close_on n r = channel_text n (ChannelClose r.code (name_of r.code) r.class r.method)
+-- the text of a channel.close: the name of its code, or of a fault and of the part of the message
+-- that it is in
+abbrev pub told_or : List ℕ → Option Told → List ℕ
+told_or name None = name
+told_or name (Some t) = told_text t
 
--- the bytes of a unit to the client; a close has the name of its code as its text, and the ids of
--- the method that it refuses
-abbrev pub spell_reply : Reply → List ℕ
-spell_reply reply.Protocol = header_bytes
-spell_reply reply.Start = start_frame
-spell_reply reply.Tune = tune_frame
-spell_reply reply.OpenOk = open_ok_frame
-spell_reply reply.CloseOk = close_ok_text
-spell_reply (reply.Close r) = close_text r.code (name_of r.code) r.class r.method
-spell_reply reply.NoMemory = close_text RESOURCE_ERROR (codes "NO_MEMORY") 0 0
-spell_reply reply.Heartbeat = heartbeat_frame
-spell_reply (reply.ChannelOpenOk n) = open_ok_on n
-spell_reply (reply.OnChannel n u) = channel_text n (channel_method u)
-spell_reply (reply.ChannelCloseOk n) = close_ok_on n
-spell_reply (reply.CrossedOk n) = close_ok_on n
-spell_reply (reply.ChannelClose n r) = close_on n r
+abbrev pub reason_text : Reason → List ℕ
+reason_text r = told_or (name_of r.refusal.code) r.told
+
+abbrev pub close_on : ℕ → Reason → List ℕ
+close_on n r =
+    channel_text n
+    (ChannelClose r.refusal.code (reason_text r) r.refusal.class r.refusal.method)
+
+-- the bytes of a unit to the client that carries this; a close has the name of its code as its
+-- text, and the ids of the method that it refuses
+abbrev pub spell_reply : Reply → List ℕ → List ℕ
+spell_reply reply.Protocol text = header_bytes
+spell_reply reply.Start text = start_frame
+spell_reply reply.Tune text = tune_frame
+spell_reply reply.OpenOk text = open_ok_frame
+spell_reply reply.CloseOk text = close_ok_text
+spell_reply (reply.Close r) text =
+    close_text r.code (name_of r.code) r.class r.method
+spell_reply reply.NoMemory text = close_text RESOURCE_ERROR (codes "NO_MEMORY") 0 0
+spell_reply reply.Heartbeat text = heartbeat_frame
+spell_reply (reply.ChannelOpenOk n) text = open_ok_on n
+spell_reply (reply.OnChannel n u) text = spell_told n u text
+spell_reply (reply.ChannelCloseOk n) text = close_ok_on n
+spell_reply (reply.CrossedOk n) text = close_ok_on n
+spell_reply (reply.ChannelClose n r) text = close_on n r
 
 -- ---- lines of the report
 
@@ -353,7 +370,7 @@ spell_up c (up.Begin n) text = frame_on n (perf_text begin_perf)
 spell_up c (up.End n why) text = end_text n End why
 
 abbrev pub spell : Context → Outgoing → List ℕ → List ℕ
-spell c (ToClient r) text = spell_reply r
+spell c (ToClient r) text = spell_reply r text
 spell c (ToUp u) text = spell_up c u text
 
 -- the context of a state

@@ -51,7 +51,8 @@ use Rattle.machine_10.specs.Reading.{field}
 use Rattle.performatives_10.specs.declared.condition.Condition.TheVariants.{NotAllowed}
 use Rattle.performatives_10.specs.declared.condition.Condition.TheVariants.{ResourceLimitExceeded}
 use Rattle.gate_model.specs.declared.life.Life.{Life}
-use Rattle.gate_model.specs.Requests.{address_of, client_step, message_of}
+use Rattle.gate_model.specs.Requests.{address_of, client_step, client_told, message_of}
+use Rattle.gate_model.specs.Returns.{back_of}
 use Rattle.gate_model.specs.Setup.{SiteText}
 use Rattle.gate_model.specs.declared.setup.Route.{Route}
 use Rattle.open_items.specs.declared.lost.LostItem.{LostItem}
@@ -59,7 +60,8 @@ use Rattle.gate_model.specs.declared.outgoing.UpUnit.{UpUnit}
 use Rattle.gate_model.specs.declared.outgoing.UpUnit.TheVariants as up
 use Rattle.gate_model.specs.Lives.{any_life, begun_life, failed_life, is_done, is_of_channel}
 use Rattle.gate_model.specs.Lives.{life_at, lives_by}
-use Rattle.gate_model.specs.Lives.{no_lives, refusal_on, session_in, with_life, with_state}
+use Rattle.gate_model.specs.Lives.{no_lives, reason_of, refusal_on, session_in, with_life}
+use Rattle.gate_model.specs.Lives.{with_state}
 use Rattle.std.specs.Prelude.{◌+◌, ◌%◌, ◌^◌, map, is_some}
 use Rattle.methods_091.specs.declared.method.Method91.{Method91}
 use Rattle.methods_091.specs.declared.method.Method91.TheVariants as method
@@ -74,7 +76,7 @@ use Rattle.session_path.specs.declared.path.AttachFault.TheVariants.{HandleInUse
 use Rattle.session_path.specs.Path.{PathState}
 use Rattle.session_path.specs.Path.{attach_sent, confirm_sent, detach_came, detach_sent}
 use Rattle.session_path.specs.Path.{link_flow_sent, ok_sent, owed, published, selected}
-use Rattle.session_path.specs.Path.{settle_sent, transfer_sent}
+use Rattle.session_path.specs.Path.{return_sent, settle_sent, transfer_sent}
 use Rattle.session_path.specs.declared.path.PathOk.{PathOk}
 use Rattle.session_path.specs.declared.path.PathOk.TheVariants as ok
 use Rattle.gate_model.specs.declared.channel.ChannelUnit.{ChannelUnit}
@@ -84,10 +86,11 @@ use Rattle.gate_model.specs.declared.channel.SessionUnit.TheVariants as unit
 use Rattle.gate_model.specs.declared.life.SessionState.{SessionState}
 use Rattle.gate_model.specs.Lives.{is_of_channel}
 use Rattle.gate_model.specs.Paths.{attach_by, fault_by, is_laden, is_there, lines_in, link_flowed}
-use Rattle.gate_model.specs.Paths.{lost_path, name_in, told_paths}
+use Rattle.gate_model.specs.Paths.{is_not_found, lost_path, name_in, told_paths}
 use Rattle.gate_model.specs.Paths.{no_paths, outcome_by, path_at, set_path}
 use Rattle.gate_model.specs.Paths.{text_of, with_path}
 use Rattle.property_map.specs.Spelling.{image_text}
+use Rattle.property_map.specs.declared.told.Told.{Told}
 use Rattle.gate_model.specs.Session.{carried_by, fault_of, flow_sent, is_of_session, is_true}
 use Rattle.gate_model.specs.Queue.{Waits, is_bad_unit, is_full, place_in, unit_at, without_at}
 use Rattle.performatives_10.specs.declared.condition.Condition.{Condition}
@@ -115,7 +118,7 @@ pub data Step : Type 0 where
   -- an end ended or failed, or was shut
   Lost : End → Loss → Step
   -- the first byte of a unit was sent, which carries these bytes of the client's: the address of an
-  -- attach, the part of a payload of a transfer; others carry none
+  -- attach, the part of a payload of a transfer, a frame of a return; others carry none
   Gave : Outgoing → List ℕ → Step
   -- the last byte of the unit to an end was
   Whole : End → Step
@@ -368,21 +371,23 @@ abbrev pub paths_with : ℕ → ℕ → Method91 → List (Option PathState) →
 paths_with life n method.ChannelOpen ps = set_path n (session.opened life) ps
 paths_with life n m ps = with_path n (path_by m) ps
 
--- the paths of channels after what a unit wants
-abbrev pub paths_by : List Route → ℕ → Want91 → List (Option PathState) → List (Option PathState)
-paths_by routes life want.Nothing ps = ps
-paths_by routes life want.Start ps = ps
-paths_by routes life (want.Login mechanism response) ps = ps
-paths_by routes life want.Tuned ps = ps
-paths_by routes life want.OpenUp ps = ps
-paths_by routes life (want.Method n m) ps = paths_with (life + 1) n m ps
-paths_by routes life (want.Publish n m c) ps =
+-- the paths of channels after what a unit of a client wants that takes frames of so many bytes
+abbrev pub paths_by : List Route → ℕ → ℕ → Want91 → List (Option PathState)
+    → List (Option PathState)
+paths_by routes limit life want.Nothing ps = ps
+paths_by routes limit life want.Start ps = ps
+paths_by routes limit life (want.Login mechanism response) ps = ps
+paths_by routes limit life want.Tuned ps = ps
+paths_by routes limit life want.OpenUp ps = ps
+paths_by routes limit life (want.Method n m) ps = paths_with (life + 1) n m ps
+paths_by routes limit life (want.Publish n m c) ps =
     with_path n
-    (published (address_of routes (message_of m c)) (image_text (message_of m c))) ps
-paths_by routes life (want.ChannelCloseOk n) ps = ps
-paths_by routes life want.Close ps = ps
-paths_by routes life want.CloseOk ps = ps
-paths_by routes life (want.Refuse r) ps = ps
+    (published (address_of routes (message_of m c)) (image_text (message_of m c))
+    (back_of limit n m (message_of m c))) ps
+paths_by routes limit life (want.ChannelCloseOk n) ps = ps
+paths_by routes limit life want.Close ps = ps
+paths_by routes limit life want.CloseOk ps = ps
+paths_by routes limit life (want.Refuse r) ps = ps
 
 abbrev pub opens_by_method : Method91 → ℕ
 opens_by_method method.ChannelOpen = 1
@@ -392,12 +397,13 @@ abbrev pub lives_opened : Want91 → ℕ
 lives_opened (want.Method n m) = opens_by_method m
 lives_opened x = 0
 
--- what a unit of the client wants is met; the connection closed before it, or not
-abbrev pub met : Bool → Want91 → State → State
-met closing x w = record w {
+-- what a unit of the client wants is met; the connection closed before it, or not, and this is told
+-- of a publish that is refused
+abbrev pub met : Bool → Option Told → Want91 → State → State
+met closing told x w = record w {
   pending = with_want x w.pending;
-  lives = lives_by w.moment x w.lives;
-  paths = paths_by w.routes w.opened x w.paths;
+  lives = lives_by w.moment told x w.lives;
+  paths = paths_by w.routes w.conn.limits.frame_max w.opened x w.paths;
   opened = w.opened + lives_opened x;
   up = closing_with closing (condition_by x) (keep_login x w.up);
   client_closed = w.client_closed || (not closing && is_close_want x);
@@ -406,7 +412,7 @@ met closing x w = record w {
 -- the connection after a unit, what is due by that, and the moment of the first closing event
 abbrev pub stepped : State → Unit91 → State
 stepped w u =
-    met (is_closing w.conn) (want_in w.routes w.conn u)
+    met (is_closing w.conn) (client_told w.routes w.conn u) (want_in w.routes w.conn u)
     (record w { conn = conn_step w.routes w.conn u })
 
 abbrev pub came : State → Unit91 → State
@@ -442,7 +448,7 @@ opened w = if is_opening w.conn then runs w else w
 abbrev pub life_failed : ℕ → Refusal → Option Condition → State → State
 life_failed n r why w = record w {
   conn = after_closing scope.Channel n w.conn;
-  lives = with_life n (failed_life true w.moment r why (life_at w.lives n)) w.lives;
+  lives = with_life n (failed_life true w.moment (reason_of None r) why (life_at w.lives n)) w.lives;
   paths = with_path n lost_path w.paths;
 }
 
@@ -459,7 +465,7 @@ path_heard p s =
     (is_there (field p.1 6)) s
     else if p.0 == 19 && not (is_of_session p.1) then link_flowed p.1 s
     else if p.0 == 21 then outcome_by p.1 s
-    else if p.0 == 22 then detach_came (number_at p.1 0) s
+    else if p.0 == 22 then detach_came (number_at p.1 0) (is_not_found (condition_in (field p.1 2))) s
     else if p.0 == 23 then lost_path s
     else s
 
@@ -777,6 +783,7 @@ attached_by u k = k
 abbrev pub path_told : ChannelUnit → PathState → PathState
 path_told (to_client.Ok x) s = ok_sent s
 path_told (to_client.Confirm c) s = confirm_sent c s
+path_told (to_client.Return r) s = return_sent r.publish s
 
 abbrev pub paths_given : Reply → List (Option PathState) → List (Option PathState)
 paths_given (reply.OnChannel n u) ps = with_path n (path_told u) ps

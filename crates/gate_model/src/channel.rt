@@ -1,6 +1,6 @@
 //! The units of a channel's requests and publishes, and those of the session that carries it.
 
-use publish_path::{Confirm, NextFrame};
+use publish_path::{Confirm, NextFrame, NextReturn};
 use session_path::{PathOk, Settling};
 
 /// A unit to the client on a channel that is open.
@@ -10,6 +10,8 @@ pub enum ChannelUnit {
     Ok(PathOk),
     /// basic.ack or basic.nack, for publishes.
     Confirm(Confirm),
+    /// A frame of a basic.return and of its content, for a publish.
+    Return(NextReturn),
 }
 
 /// The attach of a sending link: its number on the channel, its handle, and the number in its name.

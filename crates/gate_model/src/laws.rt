@@ -2,7 +2,7 @@
 //! law is a function without parameters, whose clauses state it; a caller has the law by calling
 //! it.
 
-ghost use Rattle.std.specs.Prelude.{◌≡◌, ℕ, ◌<◌, ◌≤◌, List, length};
+ghost use Rattle.std.specs.Prelude.{◌≡◌, ℕ, ◌<◌, ◌≤◌, false, List, length};
 ghost use Rattle.std.specs.Option.{option_map};
 ghost use Rattle.machine_091.specs.declared.limits.TheConstants.{CHANNEL_MAX};
 ghost use Rattle.session_path.specs.Events.{after_events};
@@ -16,7 +16,8 @@ ghost use Rattle.gate_model.specs.Once.{AnswersOnce};
 ghost use Rattle.gate_model.specs.Order.{TakesInOrder};
 ghost use Rattle.gate_model.specs.Paths.{slot_at};
 ghost use Rattle.gate_model.specs.Picks.{ArePicks};
-ghost use Rattle.gate_model.specs.Publishing.{ArePieces, Confirms, EndWhole, Transfers};
+ghost use Rattle.gate_model.specs.Due.{takes_memory_back};
+ghost use Rattle.gate_model.specs.Publishing.{ArePieces, Confirms, EndWhole, Returns, Transfers};
 ghost use Rattle.gate_model.specs.Publishing.{path_events, path_life};
 ghost use Rattle.gate_model.specs.Silence.{SilentAtOnce, SilentWhenDue};
 ghost use Rattle.gate_model.specs.Spelling.{spell_reply};
@@ -27,7 +28,7 @@ ghost use Rattle.gate_model.specs.Waiting.{ChannelsEndWhenSettled, EndsWhenSettl
 ghost use Rattle.gate_model.specs.Waiting.{OpensWhenOpened};
 
 use machine_091::connection_laws;
-use publish_path::{confirms_lawfully, lines_lawfully, payloads_lawfully};
+use publish_path::{confirms_lawfully, lines_lawfully, payloads_lawfully, returns_lawfully};
 use session_path::publishes_lawfully;
 
 /// The state knows both connections, how far the upstream end is, the last moment, whether the pair
@@ -58,6 +59,17 @@ pub fn confirms_are_lawful()
 {
     publishes_lawfully();
     confirms_lawfully();
+}
+
+/// Each frame of a return that goes to a client is one of a publish of the channel's life that is
+/// to go back: that the container released, or whose address it didn't know. It is that of the
+/// return that is begun, else of the least number, and the next one of those of its message. By
+/// `publish_path::confirms_lawfully` no confirm of the publish went before its last.
+pub fn returns_are_lawful()
+    ensures { (h : List Step) → ArePicks h → Returns h }
+{
+    publishes_lawfully();
+    returns_lawfully();
 }
 
 /// Each frame of a transfer that goes to a container is that of the publish that is begun, else of
@@ -169,14 +181,19 @@ pub fn containers_are_left()
 /// bytes until a connection.tune-ok that is neither refused nor passed over, and from then on the
 /// frame-max of that one, or the one that was stated where it named none.
 pub fn frames_fit_clients()
-    ensures { (h : List Step) → FitsClients h }
+    ensures { (h : List Step) → ArePicks h → FitsClients h }
 {
     connection_laws();
+    publishes_lawfully();
+    returns_lawfully();
 }
 
-/// No unit to a client has over 512 bytes, an eighth of the least frame-max, and each has some.
+/// No unit to a client but the frames of returns has over 512 bytes, an eighth of the least
+/// frame-max, and each has some.
 #[tactic(auto, using(crate::proofs::Spelled::spelled_small, crate::proofs::Spelled::spelled_some))]
 pub fn units_are_short()
-    ensures small { (unit : Reply) → length (spell_reply unit) ≤ 512 }
-    ensures some { (unit : Reply) → 0 < length (spell_reply unit) }
+    ensures small { (unit : Reply) (text : List ℕ) → takes_memory_back unit ≡ false
+        → length (spell_reply unit text) ≤ 512 }
+    ensures some { (unit : Reply) (text : List ℕ) → takes_memory_back unit ≡ false
+        → 0 < length (spell_reply unit text) }
 {}

@@ -17,13 +17,13 @@ pub use channel::{AttachOut, ChannelUnit, LinkFlow, SessionUnit, TransferOut};
 pub use laws::{
     channels_are_answered_once, clients_are_answered, confirms_are_lawful, containers_are_asked,
     containers_are_left, frames_fit_clients, lines_are_lawful, paths_are_known, payloads_are_whole,
-    replies_wait, silent_ends_are_given_up, states_are_known, times_are_kept, transfers_are_lawful,
-    units_are_short, units_keep_their_order,
+    replies_wait, returns_are_lawful, silent_ends_are_given_up, states_are_known, times_are_kept,
+    transfers_are_lawful, units_are_short, units_keep_their_order,
 };
 pub use life::{Life, SessionState};
 pub use limits::{HANDLE_MAX, HELD_BYTES, HELD_PUBLISHES, QUEUE_BYTES, QUEUE_UNITS};
 pub use outgoing::{Outgoing, UpPending, UpSent, UpUnit};
-pub use reply::{Pending, Reply, SentLast};
+pub use reply::{Pending, Reason, Reply, SentLast};
 pub use setup::{Route, Routes, Setup, Site};
 pub use timers::{
     BEAT_PER_SECOND, CLOSING_LIMIT, HANDSHAKE_LIMIT, IDLE_STATED, LINGER_LIMIT, SILENCE_PER_SECOND,

@@ -1,7 +1,7 @@
 //! The channels of a client: what is due on each, to the client and to the container.
 
+use crate::reply::Reason;
 use machine_10::Session10;
-use machine_091::Refusal;
 use performatives_10::Condition;
 
 /// The session that carries a channel, and what is to be told of it.
@@ -37,8 +37,8 @@ pub struct Life {
     pub close_ok: bool,
     /// channel.close-ok is due for the life before, which the client's own channel.close-ok ended.
     pub crossed_ok: bool,
-    /// channel.close is due for this refusal, at the same point.
-    pub close: Option<Refusal>,
+    /// channel.close is due for this reason, at the same point.
+    pub close: Option<Reason>,
     /// The error of the gateway's end.
     pub why: Option<Condition>,
     /// The session of the same number.

@@ -2,6 +2,15 @@
 
 use crate::channel::ChannelUnit;
 use machine_091::Refusal;
+use property_map::Told;
+
+/// Why the gateway closes a channel.
+#[derive(Clone, Copy, Debug, PartialEq, Eq)]
+pub struct Reason {
+    pub refusal: Refusal,
+    /// What is told of a message that has no image, in place of the name of the code.
+    pub told: Option<Told>,
+}
 
 /// A unit to the client.
 #[derive(Clone, Copy, Debug, PartialEq, Eq)]
@@ -31,8 +40,8 @@ pub enum Reply {
     /// channel.close-ok to a channel.close that crossed the gateway's, after the client answered
     /// that
     CrossedOk(u16),
-    /// channel.close of this channel, for this refusal
-    ChannelClose(u16, Refusal),
+    /// channel.close of this channel, for this reason
+    ChannelClose(u16, Reason),
 }
 
 /// The units that are due to a client, and of which no byte was sent.

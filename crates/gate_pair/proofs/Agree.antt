@@ -20,7 +20,7 @@ use Rattle.machine_091.specs.State.{is_closing}
 use Rattle.gate_model.specs.declared.outgoing.Outgoing.TheVariants.{ToClient, ToUp}
 use Rattle.gate_model.specs.declared.outgoing.UpUnit.{UpUnit}
 use Rattle.gate_model.specs.declared.reply.Reply.{Reply}
-use Rattle.gate_model.specs.Due.{carries_up, client_rows, is_busy, up_rows}
+use Rattle.gate_model.specs.Due.{carries_up, client_rows, is_busy, up_rows, carries_back}
 use Rattle.gate_model.specs.Folds.{accepted_in, failed_in, moment_in, sent_at, sent_up_at, side_in}
 use Rattle.gate_model.specs.Setup.{SetupText}
 use Rattle.gate_model.specs.State as state
@@ -231,7 +231,7 @@ took_client s g n ms rest bytes c e m x = begun (is_busy (before g) Client) refl
         → Agrees ((ends Client n bytes ++ (if b then [] else given (before g) (first (map ToClient us)))) ++ g) (at_last Client ms c)
     begun true is us f = agrees_begun Client g (nat_lt n (length bytes)) [] c ms is m x
     begun false is [] f = absurd cc
-    begun false is (u ∷ us) f = agrees_begun Client g (nat_lt n (length bytes)) (Gave (ToClient u) [] ∷ []) c ms refl m (record {
+    begun false is (u ∷ us) f = agrees_begun Client g (nat_lt n (length bytes)) (Gave (ToClient u) (carries_back (before g) u) ∷ []) c ms refl m (record {
       accepted_is = x.accepted_is;
       failed_is = x.failed_is;
       side_is = x.side_is;

@@ -22,9 +22,12 @@ use Rattle.gate_model.specs.declared.outgoing.Outgoing.{Outgoing}
 use Rattle.gate_model.specs.declared.outgoing.Outgoing.TheVariants.{ToClient, ToUp}
 use Rattle.gate_model.specs.declared.outgoing.UpUnit.{UpUnit}
 use Rattle.gate_model.specs.declared.outgoing.UpUnit.TheVariants as up
+use Rattle.gate_model.specs.declared.channel.ChannelUnit.TheVariants as to_client
 use Rattle.gate_model.specs.declared.reply.Reply.{Reply}
+use Rattle.gate_model.specs.declared.reply.Reply.TheVariants as reply
 use Rattle.gate_model.specs.Due.{can_leave, can_take_unit, carries, client_rows, is_awaited}
-use Rattle.gate_model.specs.Due.{is_awaiting, is_busy, pick, takes_memory, takes_memory_up, up_rows}
+use Rattle.gate_model.specs.Due.{is_awaiting, is_busy, pick, takes_memory, takes_memory_back}
+use Rattle.gate_model.specs.Due.{takes_memory_up, up_rows}
 use Rattle.gate_model.specs.Folds.{connection, given_up_in}
 use Rattle.gate_model.specs.Setup.{SetupText}
 use Rattle.gate_model.specs.Spelling.{Context, spell}
@@ -33,7 +36,7 @@ use Rattle.gate_model.specs.Upstream.{awaited_of, first, is_awaited_up}
 use Rattle.gate_model.proofs.Known.{Known, conn_is, container_is, known, number_is}
 use Rattle.gate_model.proofs.Silences.{given_is}
 use Rattle.gate_model.proofs.Times.{Either, OnLeft, OnRight, and_left, and_right, either}
-use Rattle.gate_pair.specs.Lawful.{AreLawful, AtRefusal, AtTheEnd, Attaching, Beginning, Crediting}
+use Rattle.gate_pair.specs.Lawful.{AreLawful, AtRefusal, AtTheEnd, Attaching, Beginning, Crediting, InReturning}
 use Rattle.gate_pair.specs.Lawful.{Flowing, InRead, InSpelling, InTakeUp, IsAskedFor, IsAwaited}
 use Rattle.gate_pair.specs.Lawful.{IsHeard, IsOfferOf, IsOffered, IsTakenUp, Keeps, Login, Opening}
 use Rattle.gate_pair.specs.Lawful.{RunsOutIn, Shuts, TakesMemory, Transferring, WhereDue}
@@ -137,10 +140,28 @@ shuts_by t s _ _ r (relayed.AtRefusal h) = AtRefusal h refl refl
 
 -- ---- out of memory
 
--- no unit to the client takes memory
-client_takes : (us : List Reply) → takes_memory (first (map ToClient us)) ≡ true → ⊥
-client_takes [] e = absurd cc
-client_takes (u ∷ us) e = absurd cc
+-- of the units to the client frames of returns alone take memory
+in_returning : (s : SetupText) (h : List Entry) (us : List Reply) → is_writable (side_of Client (sides h)) ≡ true → is_busy (state_of s h) Client ≡ false
+    → pick (state_of s h) Client ≡ first (map ToClient us) → takes_memory (first (map ToClient us)) ≡ true → RunsOutIn s 0 h
+in_returning s h [] w free e f = absurd cc
+in_returning s h (u ∷ us) w free e f = by u e f
+  where
+    by : (u : Reply) → pick (state_of s h) Client ≡ Some (ToClient u) → takes_memory_back u ≡ true → RunsOutIn s 0 h
+    by (reply.OnChannel n (to_client.Return r)) e f = InReturning n r h w free e
+    by (reply.OnChannel n (to_client.Ok x)) e f = absurd cc
+    by (reply.OnChannel n (to_client.Confirm c)) e f = absurd cc
+    by reply.Protocol e f = absurd cc
+    by reply.Start e f = absurd cc
+    by reply.Tune e f = absurd cc
+    by reply.OpenOk e f = absurd cc
+    by reply.CloseOk e f = absurd cc
+    by (reply.Close r) e f = absurd cc
+    by reply.NoMemory e f = absurd cc
+    by reply.Heartbeat e f = absurd cc
+    by (reply.ChannelOpenOk n) e f = absurd cc
+    by (reply.ChannelCloseOk n) e f = absurd cc
+    by (reply.CrossedOk n) e f = absurd cc
+    by (reply.ChannelClose n r) e f = absurd cc
 
 takes_some : (u : UpUnit) → takes_memory_up u ≡ true → TakesMemory u
 takes_some up.SaslHeader e = absurd cc
@@ -168,7 +189,10 @@ in_spelling s h [] w free e f = absurd cc
 in_spelling s h (u ∷ us) w free e f = InSpelling u h w free e (takes_some u f)
 
 at_write : (s : SetupText) (end : End) (h : List Entry) → is_some (offers (pair_words s) end h) ≡ true → needs_memory (state_of s h) end ≡ true → RunsOutIn s 0 h
-at_write s Client h e f = absurd (client_takes (client_rows (state_of s h)) (and_right (not (is_busy (state_of s h) Client)) _ f))
+at_write s Client h e f =
+    let w : State = state_of s h in
+    in_returning s h (client_rows w) (writable_by (is_writable (side_of Client (sides h))) _ e)
+    (isnt (is_busy w Client) (and_left (not (is_busy w Client)) _ f)) refl (and_right (not (is_busy w Client)) _ f)
 at_write s Up h e f =
     let w : State = state_of s h in
     in_spelling s h (up_rows w) (writable_by (is_writable (side_of Up (sides h))) _ e)

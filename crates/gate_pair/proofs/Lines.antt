@@ -1,13 +1,14 @@
 -- Lines that were reported aren't owed again, and what is held stays so.
-use Rattle.std.proofs.Common.{◌≡◌, ℕ, zero, suc, ◌+◌, ◌==◌, nat_le, Bool, true, false, not, ◌||◌}
+use Rattle.std.proofs.Common.{◌≡◌, ℕ, zero, suc, ◌+◌, ◌==◌, nat_le, Bool, true, false, not, ◌||◌, ◌&&◌}
 use Rattle.std.proofs.Common.{if◌then◌else◌, cond, List, [], ◌∷◌, ◌++◌, length, map, filter, sum_by}
 use Rattle.std.proofs.Common.{Option, None, Some, refl, sym, ap, ◌∙◌, arith}
 use Rattle.std.specs.Option.{option_map}
 use Rattle.std.proofs.lemmas.List.Sums.{sum_by-cons}
 use Rattle.open_items.specs.declared.lost.LostItem.{LostItem}
+use Rattle.open_items.specs.Numbers.{has_any}
 use Rattle.publish_path.specs.declared.publish.Publish.{Publish}
 use Rattle.publish_path.specs.Offers.{held_size, is_held, lines_of}
-use Rattle.publish_path.specs.Publishes.{is_open, is_sending, is_settled, reported}
+use Rattle.publish_path.specs.Publishes.{has_no_outcome, is_open, is_sending, is_settled, reported}
 use Rattle.session_path.specs.Path.{PathState, lines_told}
 use Rattle.gate_model.specs.declared.limits.TheConstants.{HELD_BYTES, HELD_PUBLISHES}
 use Rattle.gate_model.specs.Paths.{bytes_in, bytes_on, held_in, held_on, is_laden, lines_in}
@@ -44,11 +45,17 @@ none_told ps (suc n) = ap (λ (items : List LostItem). items ++ lines_of_life (s
 
 -- one that is forgotten with its line isn't
 closed_unheld : (p : Publish) → is_open (reported p) ≡ false → is_held p ≡ false
-closed_unheld p e = by (is_sending p.place) e
+closed_unheld p e = by (is_sending p.place) (not (is_settled p.answer)) (has_any p.back) e
   where
-    by : (b : Bool) → (b || not (is_settled p.answer) || false) ≡ false → b ≡ false
-    by true e = absurd cc
-    by false e = refl
+    none : (a : Bool) → (a && false) ≡ false
+    none true = refl
+    none false = refl
+
+    by : (b c d : Bool) → ((b || c || false) || d) ≡ false → (b || (has_no_outcome p.answer && d)) ≡ false
+    by true c d e = absurd cc
+    by false true d e = absurd cc
+    by false false true e = absurd cc
+    by false false false e = none (has_no_outcome p.answer)
 
 sum_kept : (f : Publish → ℕ) → ((p : Publish) → f (reported p) ≡ f p) → ((p : Publish) → is_held p ≡ false → f p ≡ 0) → (ps : List Publish)
     → sum_by f (filter is_open (map reported ps)) ≡ sum_by f ps
@@ -80,7 +87,7 @@ held_kept (Some s) =
 bytes_kept : (o : Option PathState) → bytes_on (option_map lines_told o) ≡ bytes_on o
 bytes_kept None = refl
 bytes_kept (Some s) =
-    sum_kept held_size (λ p. refl) (λ p e. ap (λ (b : Bool). if b then length p.payload else 0) e) s.publishes.list
+    sum_kept held_size (λ p. refl) (λ p e. ap (λ (b : Bool). if b then p.size else 0) e) s.publishes.list
 
 pub laden_told : (ps : List (Option PathState)) → is_laden (told_paths ps) ≡ is_laden ps
 laden_told ps =

@@ -45,7 +45,8 @@ use Rattle.gate_model.proofs.Outcomes.{Declines, Drops, Parting, Calls, Asking, 
 use Rattle.gate_model.proofs.Outcomes.{Frees, Closes, Answers, Ignores, outcome}
 use Rattle.gate_model.proofs.Sessions.{session_by}
 use Rattle.gate_model.proofs.Ups.{Early, early, is_early}
-use Rattle.gate_pair.specs.Answers.{context_in, sent_to, sent_up_with, spelled, to_client, to_up}
+use Rattle.gate_pair.specs.Answers.{context_in, sent_to, sent_up_with, sent_with, spelled, to_client}
+use Rattle.gate_pair.specs.Answers.{to_up}
 
 -- what lower crates say of logins: no unit of the container changes one, and of the units of the opening those were sent that were called for
 pub record AreLoggedIn : Type 0 where
@@ -343,14 +344,14 @@ up_same c d (x ∷ xs) e f i =
     joins (unit_same c d x.0 x.1 e f (λ k. i (or_left (is_init x.0) (list_any is_init (units xs)) k)))
     (up_same c d xs e f (λ k. i (or_right (is_init x.0) (list_any is_init (units xs)) k)))
 
-pub client_same : (c d : Context) (us : List Reply) → spelled c (map to_client us) ≡ spelled d (map to_client us)
+pub client_same : (c d : Context) (us : List (Reply × List ℕ)) → spelled c (map to_client us) ≡ spelled d (map to_client us)
 client_same c d [] = refl
-client_same c d (u ∷ us) = ap (λ (b : List ℕ). spell c (ToClient u) [] ++ b) (client_same c d us)
+client_same c d (u ∷ us) = ap (λ (b : List ℕ). spell c (ToClient u.0) u.1 ++ b) (client_same c d us)
 
 -- no step changes the bytes of the units that were sent before it
 pub bytes_stay : AreLoggedIn → (s : SetupText) (end : End) (x : Step) (g : List Step) → ArePicks (x ∷ g)
     → spelled (context_in s (x ∷ g)) (sent_to end g) ≡ spelled (context_in s g) (sent_to end g)
-bytes_stay l s Client x g p = client_same (context_in s (x ∷ g)) (context_in s g) _
+bytes_stay l s Client x g p = client_same (context_in s (x ∷ g)) (context_in s g) (sent_with g)
 bytes_stay l s Up (Began site n ms) g p =
     subst (λ (g : List Step). spelled (context_in s (Began site n ms ∷ g)) (sent_to Up g) ≡ spelled (context_in s g) (sent_to Up g)) (sym p.0) refl
 bytes_stay l s Up x g p =

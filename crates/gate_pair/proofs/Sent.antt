@@ -18,16 +18,15 @@ use Rattle.gate_relay.specs.Sides.{is_writable, side_of, sides}
 use Rattle.machine_091.specs.State.{is_closing}
 use Rattle.gate_model.specs.declared.outgoing.Outgoing.{Outgoing}
 use Rattle.gate_model.specs.declared.outgoing.Outgoing.TheVariants.{ToClient, ToUp}
-use Rattle.gate_model.specs.Due.{carries, carries_up, due, in_progress, is_busy, pick}
-use Rattle.gate_model.specs.Folds.{sent}
+use Rattle.gate_model.specs.Due.{carries, carries_up, due, in_progress, is_busy, pick, carries_back}
 use Rattle.gate_model.specs.Picks.{ArePicks}
 use Rattle.gate_model.specs.Paths.{told_paths}
 use Rattle.gate_model.specs.Setup.{SetupText, site_of}
-use Rattle.gate_model.specs.Spelling.{Context, spell}
+use Rattle.gate_model.specs.Spelling.{Context, spell, spell_reply}
 use Rattle.gate_model.specs.State as state
 use Rattle.gate_model.specs.State.{State, Step, Gave, Whole, before, step}
 use Rattle.gate_model.specs.Upstream.{UpState, first, linked, shut_by}
-use Rattle.gate_pair.specs.Answers.{AreSent, OwesNone, context_in, sent_to, sent_up_with, spelled}
+use Rattle.gate_pair.specs.Answers.{AreSent, OwesNone, context_in, sent_to, sent_up_with, sent_with, spelled}
 use Rattle.gate_pair.specs.Answers.{taken_bytes, to_client, to_up}
 use Rattle.gate_pair.specs.Meaning.{begins, ends, given, offered, pair_words, spelled_in, state_of}
 use Rattle.gate_pair.specs.Meaning.{steps_of, stream_of, told}
@@ -155,7 +154,10 @@ spelled_next c (y ∷ xs) x =
 gave_bytes : AreLoggedIn → (s : SetupText) (end : End) (g : List Step) (u : Outgoing) → ArePicks g → is_busy (before g) end ≡ false → pick (before g) end ≡ Some u
     → bytes_in s end (Gave u (carries (before g) u) ∷ g) ≡ bytes_in s end g ++ spelled_in s (before g) u
 gave_bytes l s Client g (ToClient r) p free e =
-    ap (spelled (context_in s g)) (map-append to_client (sent g) (r ∷ [])) ∙ spelled_next (context_in s g) (sent_to Client g) (ToClient r, [])
+    let text : List ℕ = carries_back (before g) r in
+    let c : Context = context_in s (Gave (ToClient r) text ∷ g) in
+    ap (spelled c) (map-append to_client (sent_with g) ((r, text) ∷ [])) ∙ spelled_next c (sent_to Client g) (ToClient r, text)
+    ∙ ap (λ (b : List ℕ). b ++ spell_reply r text) (bytes_stay l s Client (Gave (ToClient r) text) g ((free, e, refl), p))
 gave_bytes l s Client g (ToUp r) p free e = absurd (client_picks (before g) r e)
 gave_bytes l s Up g (ToClient r) p free e = absurd (up_picks (before g) r e)
 gave_bytes l s Up g (ToUp r) p free e =
@@ -223,7 +225,7 @@ gave_same : (s : SetupText) (end : End) (g : List Step) (u : Outgoing) → pick 
 gave_same s Client g (ToClient r) e = record { bytes = refl; busy = refl }
 gave_same s Client g (ToUp r) e = absurd (client_picks (before g) r e)
 gave_same s Up g (ToClient r) e = absurd (up_picks (before g) r e)
-gave_same s Up g (ToUp r) e = record { bytes = client_same (context_in s (Gave (ToUp r) (carries_up (before g) r) ∷ g)) (context_in s g) (sent g); busy = refl }
+gave_same s Up g (ToUp r) e = record { bytes = client_same (context_in s (Gave (ToUp r) (carries_up (before g) r) ∷ g)) (context_in s g) (sent_with g); busy = refl }
 
 whole_same : (s : SetupText) (end : End) (g : List Step) → SameSent s (other end) g (Whole end ∷ g)
 whole_same s Client g = record { bytes = refl; busy = refl }

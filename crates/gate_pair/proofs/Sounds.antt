@@ -43,10 +43,10 @@ use Rattle.gate_model.specs.State.{with_meaning}
 use Rattle.gate_model.specs.Upstream.{UpState, closing_with, container_given, ended_in, first}
 use Rattle.gate_model.specs.Upstream.{heard_up, lost_by, meaning_by, shut_by, when_up, without_up}
 use Rattle.gate_model.proofs.Sessions.{session_cases}
-use Rattle.gate_model.proofs.Spelled.{spelled_some}
 use Rattle.gate_model.proofs.Ups.{Begins, Closing, Ends, Flows, Opening, Picked, Telling, goes_up}
 use Rattle.gate_model.proofs.Ups as ups
-use Rattle.bridge_core.specs.Offers.{BridgeState, Keeps, advanced, bytes_of, client_bytes, moved}
+use Rattle.bridge_core.specs.Offers.{BridgeState, FindsBytes, Keeps, advanced, bytes_of}
+use Rattle.bridge_core.specs.Offers.{client_bytes, moved}
 use Rattle.bridge_core.specs.Offers.{peeked, with_next}
 use Rattle.gate_pair.specs.Meaning.{offered, spelled_in}
 use Rattle.gate_pair.specs.PairStates.{IsSound, KnowsLogin, StaysSound, ready_at}
@@ -241,19 +241,17 @@ session_some n (session.Transfer t) text = frame_some _
 session_some n (session.Settle x) text = frame_some _
 session_some n (session.Detach link handle) text = frame_some _
 
-pub picked_some : (s : SetupText) (w : State) (end : End) (u : Outgoing) → KnowsLogin w.up → pick w end ≡ Some u → 0 < length (spelled_in s w u)
-picked_some s w end (ToClient u) k e = spelled_some u
-picked_some s w end (ToUp unit.SaslHeader) k e = omega arith
-picked_some s w Client (ToUp unit.SaslInit) k e = absurd (client_picks w unit.SaslInit e)
-picked_some s w Up (ToUp unit.SaslInit) k e = init_some w.up.container (k (login_due w e))
-picked_some s w end (ToUp unit.AmqpHeader) k e = omega arith
-picked_some s w end (ToUp unit.Open) k e = frame_some _
-picked_some s w end (ToUp (unit.Close c)) k e = frame_some _
-picked_some s w end (ToUp unit.Empty) k e = frame_some _
-picked_some s w end (ToUp (unit.OnSession n u)) k e = session_some n u (carries_up w (unit.OnSession n u))
-picked_some s w end (ToUp (unit.Flow n i o)) k e = frame_some _
-picked_some s w end (ToUp (unit.Begin n)) k e = frame_some _
-picked_some s w end (ToUp (unit.End n why)) k e = frame_some _
+picked_some : (s : SetupText) (w : State) (u : UpUnit) → KnowsLogin w.up → pick w Up ≡ Some (ToUp u) → 0 < length (spelled_in s w (ToUp u))
+picked_some s w unit.SaslHeader k e = omega arith
+picked_some s w unit.SaslInit k e = init_some w.up.container (k (login_due w e))
+picked_some s w unit.AmqpHeader k e = omega arith
+picked_some s w unit.Open k e = frame_some _
+picked_some s w (unit.Close c) k e = frame_some _
+picked_some s w unit.Empty k e = frame_some _
+picked_some s w (unit.OnSession n u) k e = session_some n u (carries_up w (unit.OnSession n u))
+picked_some s w (unit.Flow n i o) k e = frame_some _
+picked_some s w (unit.Begin n) k e = frame_some _
+picked_some s w (unit.End n why) k e = frame_some _
 
 -- ---- steps
 
@@ -292,31 +290,28 @@ advanced_stays b d is k = λ client up x. record {
 
 -- ---- looks
 
-pub looked_stays : (s : SetupText) (end : End) (b : BridgeState) → is_busy b.state end ≡ false → StaysSound b (peeked s end b)
-looked_stays s Client b free = λ client up x. record {
+pub looked_stays : (s : SetupText) (end : End) (b : BridgeState) (any : Bool) → any ≡ is_some (pick b.state end) → FindsBytes end any (peeked s end b)
+    → is_busy b.state end ≡ false → StaysSound b (peeked s end b)
+looked_stays s Client b any found bytes free = λ client up x. record {
   login = x.login;
   client_left = λ e. clash (is_busy b.state Client) free e;
   up_left = x.up_left;
-  client_bytes = by (pick b.state Client) refl;
+  client_bytes = λ e. bytes (found ∙ e);
   up_bytes = x.up_bytes;
 }
-  where
-    by : (o : Option Outgoing) → pick b.state Client ≡ o → is_some o ≡ true → 0 < length (client_bytes o b.client.bytes)
-    by None p e = absurd cc
-    by (Some (ToClient u)) p e = spelled_some u
-    by (Some (ToUp u)) p e = absurd (client_picks b.state u p)
-looked_stays s Up b free = λ client up x. record {
+looked_stays s Up b any found bytes free = λ client up x. record {
   login = x.login;
   client_left = x.client_left;
   up_left = λ e. clash (is_busy b.state Up) free e;
   client_bytes = x.client_bytes;
-  up_bytes = by (λ u p. picked_some s b.state Up u x.login p) (pick b.state Up) refl;
+  up_bytes = by (λ u p. picked_some s b.state u x.login p) (pick b.state Up) refl;
 }
   where
-    by : ((u : Outgoing) → pick b.state Up ≡ Some u → 0 < length (spelled_in s b.state u))
+    by : ((u : UpUnit) → pick b.state Up ≡ Some (ToUp u) → 0 < length (spelled_in s b.state (ToUp u)))
         → (o : Option Outgoing) → pick b.state Up ≡ o → is_some o ≡ true → 0 < length (bytes_of (context_of s b.state) b.state o b.up.bytes)
     by some None p e = absurd cc
-    by some (Some u) p e = some u p
+    by some (Some (ToUp u)) p e = some u p
+    by some (Some (ToClient u)) p e = absurd (up_picks b.state u p)
 
 -- what a look found is what is offered
 pub looked_ready : (s : SetupText) (end : End) (b : BridgeState) (at : ℕ) (rest : List ℕ) → is_busy b.state end ≡ false
@@ -324,7 +319,7 @@ pub looked_ready : (s : SetupText) (end : End) (b : BridgeState) (at : ℕ) (res
 looked_ready s Client b at rest free = by (is_busy b.state Client) (pick b.state Client) refl free
   where
     by : (busy : Bool) (o : Option Outgoing) → pick b.state Client ≡ o → busy ≡ false
-        → (if busy then Some (drop at (client_bytes o b.client.bytes)) else if is_some o then Some (client_bytes o b.client.bytes) else None)
+        → (if busy then Some (drop at (client_bytes b.state o b.client.bytes)) else if is_some o then Some (client_bytes b.state o b.client.bytes) else None)
         ≡ (if busy then Some rest else option_map (spelled_in s b.state) o)
     by true o p f = absurd cc
     by false None p f = refl

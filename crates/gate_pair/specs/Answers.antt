@@ -104,15 +104,21 @@ sent_up_with [] = []
 sent_up_with (state.Gave (ToUp u) text ∷ g) = sent_up_with g ++ (u, text) ∷ []
 sent_up_with (s ∷ g) = sent_up_with g
 
--- the same of an end; a unit to the client carries nothing
-abbrev pub to_client : Reply → Outgoing × List ℕ
-to_client u = (ToClient u, [])
+-- those to the client likewise
+abbrev pub sent_with : List Step → List (Reply × List ℕ)
+sent_with [] = []
+sent_with (state.Gave (ToClient u) text ∷ g) = sent_with g ++ (u, text) ∷ []
+sent_with (s ∷ g) = sent_with g
+
+-- the same of an end
+abbrev pub to_client : Reply × List ℕ → Outgoing × List ℕ
+to_client x = (ToClient x.0, x.1)
 
 abbrev pub to_up : UpUnit × List ℕ → Outgoing × List ℕ
 to_up x = (ToUp x.0, x.1)
 
 abbrev pub sent_to : End → List Step → List (Outgoing × List ℕ)
-sent_to Client g = map to_client (sent g)
+sent_to Client g = map to_client (sent_with g)
 sent_to Up g = map to_up (sent_up_with g)
 
 -- the bytes of units

@@ -16,7 +16,10 @@ use Rattle.gate_model.specs.declared.channel.LinkFlow.{LinkFlow}
 use Rattle.gate_model.specs.declared.channel.SessionUnit.TheVariants as unit
 use Rattle.gate_model.specs.declared.channel.TransferOut.{TransferOut}
 use Rattle.gate_model.specs.declared.outgoing.Outgoing.{Outgoing}
-use Rattle.gate_model.specs.declared.outgoing.Outgoing.TheVariants.{ToUp}
+use Rattle.gate_model.specs.declared.outgoing.Outgoing.TheVariants.{ToClient, ToUp}
+use Rattle.gate_model.specs.declared.channel.ChannelUnit.TheVariants as to_client
+use Rattle.gate_model.specs.declared.reply.Reply.TheVariants as reply
+use Rattle.publish_path.specs.declared.publish.NextReturn.{NextReturn}
 use Rattle.gate_model.specs.declared.outgoing.UpUnit.{UpUnit}
 use Rattle.gate_model.specs.declared.outgoing.UpUnit.TheVariants as up
 use Rattle.gate_model.specs.Due.{can_leave, carries, is_awaited, is_busy, pick}
@@ -102,13 +105,17 @@ pub data TakesMemory (u : UpUnit) : Type 0 where
   Transferring : (n : ℕ) (t : TransferOut) → u ≡ up.OnSession n (unit.Transfer t) → TakesMemory u
 
 -- after its accept the pair runs out of memory in a read or in a take-up, of which the newest steps
--- then don't count, or where such a unit goes next; and nowhere else
+-- then don't count, or where such a unit or a frame of a return goes next; and nowhere else
 pub data RunsOutIn (s : SetupText) : ℕ → List Entry → Type 0 where
   InRead : (cut : ℕ) (end : End) (bytes : List ℕ) (g : List Entry)
       → RunsOutIn s cut (Came end bytes ∷ g)
   InTakeUp : (cut : ℕ) (g : List Entry) → RunsOutIn s cut (Settled ∷ g)
   InSpelling : (u : UpUnit) (h : List Entry) → is_writable (side_of Up (sides h)) ≡ true
       → is_busy (state_of s h) Up ≡ false → pick (state_of s h) Up ≡ Some (ToUp u) → TakesMemory u
+      → RunsOutIn s 0 h
+  InReturning : (n : ℕ) (r : NextReturn) (h : List Entry)
+      → is_writable (side_of Client (sides h)) ≡ true → is_busy (state_of s h) Client ≡ false
+      → pick (state_of s h) Client ≡ Some (ToClient (reply.OnChannel n (to_client.Return r)))
       → RunsOutIn s 0 h
 
 -- ---- all entries

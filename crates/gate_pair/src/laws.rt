@@ -50,6 +50,7 @@ pub fn frames_fit_clients()
     ensures { (s : SetupText) (h : List Entry) → IsRelayed (pair_words s) h
         → FitsClients (steps_of s h) }
 {
+    entries_give_picks();
     gate_model::frames_fit_clients();
 }
 
@@ -86,7 +87,7 @@ pub fn silent_ends_are_given_up()
 /// of the service. Units of the client that waited, and the loss of its end, are taken up once no
 /// request of it waits. The connection upstream is asked for once, where a connection.open waits
 /// for it. After its accept the pair runs out of memory in a read, in a take-up, or where a unit
-/// that tells the container a name goes next, and nowhere else.
+/// that tells the container a name or a frame of a return goes next, and nowhere else.
 pub fn entries_are_lawful()
     ensures { (s : SetupText) (h : List Entry) → IsRelayed (pair_words s) h → AreLawful s h }
 {

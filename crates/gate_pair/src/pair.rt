@@ -266,7 +266,7 @@ impl Pair {
         requires { is_some (is_ready self.now end) ≡ true }
         ensures ready { is_ready self.now end ≡ Some result.now }
         ensures some { 0 < length result.now }
-        ensures small { length result.now ≤ 65536 }
+        ensures small { length result.now ≤ 131072 }
     {
         let bytes = self.bridge.bytes(end);
         if self.bridge.is_busy(end) {

@@ -19,7 +19,7 @@ use Rattle.session_path.specs.Path.{PathState, flow_of, given_of, owes_flow}
 use Rattle.session_path.specs.Events.{PathEvent, Began, Published, Selected, Owed, AttachCame}
 use Rattle.session_path.specs.Events.{FlowCame, DetachCame, DispositionCame, AttachSent}
 use Rattle.session_path.specs.Events.{LinkFlowSent, TransferSent, SettleSent, DetachSent}
-use Rattle.session_path.specs.Events.{ConfirmWent, OkSent, LinesWent, SessionLost, after_event}
+use Rattle.session_path.specs.Events.{ConfirmWent, ReturnWent, OkSent, LinesWent, SessionLost, after_event}
 use Rattle.session_path.specs.Events.{after_events}
 use Rattle.session_path.specs.Attaches.{asks_as, attaches_as, times_asked, times_attached}
 use Rattle.session_path.proofs.Idle.{given_found}
@@ -192,19 +192,20 @@ low k = omega arith
 step : (name times asked : ℕ) (x : PathEvent) (s : PathState) → Tied s.links → times + waiting name s.links.links ≤ asked
     → (times + attaches_as name s x) + waiting name (after_event x s).links.links ≤ asked + asks_as name x
 step name times asked (Began handle_max) s t e = stays times asked (waiting name s.links.links) _ e (same (waiting name s.links.links))
-step name times asked (Published address payload) s t e = stays times asked (waiting name s.links.links) _ e (waiting_linked name address s.links)
+step name times asked (Published address payload back) s t e = stays times asked (waiting name s.links.links) _ e (waiting_linked name address s.links)
 step name times asked Selected s t e = stays times asked (waiting name s.links.links) _ e (same (waiting name s.links.links))
 step name times asked (Owed ok) s t e = stays times asked (waiting name s.links.links) _ e (same (waiting name s.links.links))
 step name times asked (AttachCame own peer target) s t e = comes times asked (waiting name s.links.links) _ _ e (waiting_attached name own peer target s.links t)
 step name times asked (FlowCame peer count credit drain echo) s t e = stays times asked (waiting name s.links.links) _ e (waiting_flowed name peer count credit drain echo s.links t)
-step name times asked (DetachCame peer) s t e = stays times asked (waiting name s.links.links) _ e (waiting_detached name peer s.links t)
-step name times asked (DispositionCame first last accepted settled) s t e = stays times asked (waiting name s.links.links) _ e (same (waiting name s.links.links))
+step name times asked (DetachCame peer not_found) s t e = stays times asked (waiting name s.links.links) _ e (waiting_detached name peer s.links t)
+step name times asked (DispositionCame first last outcome settled) s t e = stays times asked (waiting name s.links.links) _ e (same (waiting name s.links.links))
 step name times asked (AttachSent own) s t e = asks times asked (waiting name s.links.links) _ (one (own == name)) e (waiting_asked name own s.links t)
 step name times asked LinkFlowSent s t e = stays times asked (waiting name s.links.links) _ e (waiting_told name s.publishes.list s.links t)
 step name times asked (TransferSent frame count) s t e = stays times asked (waiting name s.links.links) _ e (same (waiting name s.links.links))
 step name times asked (SettleSent settling) s t e = stays times asked (waiting name s.links.links) _ e (same (waiting name s.links.links))
 step name times asked DetachSent s t e = stays times asked (waiting name s.links.links) _ e (waiting_parted name s.publishes.list s.links (find is_left s.links.links) t)
 step name times asked (ConfirmWent confirm) s t e = stays times asked (waiting name s.links.links) _ e (same (waiting name s.links.links))
+step name times asked (ReturnWent number) s t e = stays times asked (waiting name s.links.links) _ e (same (waiting name s.links.links))
 step name times asked (OkSent ok) s t e = stays times asked (waiting name s.links.links) _ e (same (waiting name s.links.links))
 step name times asked LinesWent s t e = stays times asked (waiting name s.links.links) _ e (same (waiting name s.links.links))
 step name times asked SessionLost s t e = stays times asked (waiting name s.links.links) _ e (low (waiting name s.links.links))

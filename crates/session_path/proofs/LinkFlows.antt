@@ -20,7 +20,7 @@ use Rattle.session_path.specs.Path.{PathState, flow_of, given_of, may_drain, owe
 use Rattle.session_path.specs.Events.{PathEvent, Began, Published, Selected, Owed, AttachCame}
 use Rattle.session_path.specs.Events.{FlowCame, DetachCame, DispositionCame, AttachSent}
 use Rattle.session_path.specs.Events.{LinkFlowSent, TransferSent, SettleSent, DetachSent}
-use Rattle.session_path.specs.Events.{ConfirmWent, OkSent, LinesWent, SessionLost, after_event}
+use Rattle.session_path.specs.Events.{ConfirmWent, ReturnWent, OkSent, LinesWent, SessionLost, after_event}
 use Rattle.session_path.specs.Events.{after_events}
 use Rattle.session_path.specs.Flows.{causes_by, causes_on, flows_by, flows_on, given_in}
 use Rattle.session_path.specs.Flows.{given_named, is_link, owed_in, owed_on}
@@ -254,19 +254,20 @@ lost flows = omega arith
 step : (n flows causes : ℕ) (x : PathEvent) (s : PathState) → Tied s.links → flows + owed_on n s.links.links ≡ causes
     → (flows + flows_by n s x) + owed_on n (after_event x s).links.links ≡ causes_by n s flows causes x
 step n flows causes (Began handle_max) s t e = kept flows (owed_on n s.links.links) _ causes e refl
-step n flows causes (Published address payload) s t e = kept flows (owed_on n s.links.links) _ causes e (owed_linked n address s.links t)
+step n flows causes (Published address payload back) s t e = kept flows (owed_on n s.links.links) _ causes e (owed_linked n address s.links t)
 step n flows causes Selected s t e = kept flows (owed_on n s.links.links) _ causes e refl
 step n flows causes (Owed ok) s t e = kept flows (owed_on n s.links.links) _ causes e refl
 step n flows causes (AttachCame name peer target) s t e = kept flows (owed_on n s.links.links) _ causes e (attached_step n name peer target s.links t)
 step n flows causes (FlowCame peer count credit drain echo) s t e = flowed_step n peer flows causes count credit drain echo s.links t e
-step n flows causes (DetachCame peer) s t e = detached_step n peer flows causes s.links t e
-step n flows causes (DispositionCame first last accepted settled) s t e = kept flows (owed_on n s.links.links) _ causes e refl
+step n flows causes (DetachCame peer not_found) s t e = detached_step n peer flows causes s.links t e
+step n flows causes (DispositionCame first last outcome settled) s t e = kept flows (owed_on n s.links.links) _ causes e refl
 step n flows causes (AttachSent name) s t e = kept flows (owed_on n s.links.links) _ causes e (asked_step n name s.links t)
 step n flows causes LinkFlowSent s t e = told_step n flows causes s.publishes.list s.links t e
 step n flows causes (TransferSent frame count) s t e = kept flows (owed_on n s.links.links) _ causes e refl
 step n flows causes (SettleSent settling) s t e = kept flows (owed_on n s.links.links) _ causes e refl
 step n flows causes DetachSent s t e = parted_step n flows causes s.publishes.list s.links t e
 step n flows causes (ConfirmWent confirm) s t e = kept flows (owed_on n s.links.links) _ causes e refl
+step n flows causes (ReturnWent number) s t e = kept flows (owed_on n s.links.links) _ causes e refl
 step n flows causes (OkSent ok) s t e = kept flows (owed_on n s.links.links) _ causes e refl
 step n flows causes LinesWent s t e = kept flows (owed_on n s.links.links) _ causes e refl
 step n flows causes SessionLost s t e = lost flows

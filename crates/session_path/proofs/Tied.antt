@@ -15,7 +15,7 @@ use Rattle.session_path.specs.Path.{PathState, flow_of, given_of, owes_flow}
 use Rattle.session_path.specs.Events.{PathEvent, Began, Published, Selected, Owed, AttachCame}
 use Rattle.session_path.specs.Events.{FlowCame, DetachCame, DispositionCame, AttachSent}
 use Rattle.session_path.specs.Events.{LinkFlowSent, TransferSent, SettleSent, DetachSent}
-use Rattle.session_path.specs.Events.{ConfirmWent, OkSent, LinesWent, SessionLost, after_event}
+use Rattle.session_path.specs.Events.{ConfirmWent, ReturnWent, OkSent, LinesWent, SessionLost, after_event}
 use Rattle.session_path.specs.Events.{after_events}
 use Rattle.session_path.proofs.Idle.{given_found}
 use Rattle.session_path.proofs.Ties.{answered_tied, asked_tied, detached_tied, flowed_tied}
@@ -98,19 +98,20 @@ tied_parted list s t = by (find is_left s.links) refl
 
 tied_step : (x : PathEvent) (s : PathState) → Tied s.links → Tied (after_event x s).links
 tied_step (Began handle_max) s t = record { rising = t.rising; apart = t.apart; standing = t.standing; kept = t.kept }
-tied_step (Published address payload) s t = tied_linked address s.links t
+tied_step (Published address payload back) s t = tied_linked address s.links t
 tied_step Selected s t = t
 tied_step (Owed ok) s t = t
 tied_step (AttachCame name peer target) s t = tied_attached name peer target s.links t
 tied_step (FlowCame peer count credit drain echo) s t = tied_flowed peer count credit drain echo s.links t
-tied_step (DetachCame peer) s t = tied_detached peer s.links t
-tied_step (DispositionCame first last accepted settled) s t = t
+tied_step (DetachCame peer not_found) s t = tied_detached peer s.links t
+tied_step (DispositionCame first last outcome settled) s t = t
 tied_step (AttachSent name) s t = tied_asked name s.links t
 tied_step LinkFlowSent s t = tied_told s.publishes.list s.links t
 tied_step (TransferSent frame count) s t = framed_tied frame s.links.sending s.links.links s.links.handles t
 tied_step (SettleSent settling) s t = t
 tied_step DetachSent s t = tied_parted s.publishes.list s.links t
 tied_step (ConfirmWent confirm) s t = t
+tied_step (ReturnWent number) s t = t
 tied_step (OkSent ok) s t = t
 tied_step LinesWent s t = t
 tied_step SessionLost s t = record { rising = tt; apart = tt; standing = tt; kept = tt }

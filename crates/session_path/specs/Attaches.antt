@@ -5,24 +5,26 @@ use Rattle.session_path.specs.Path.{PathState}
 use Rattle.session_path.specs.Events.{PathEvent, Began, Published, Selected, Owed, AttachCame}
 use Rattle.session_path.specs.Events.{FlowCame, DetachCame, DispositionCame, AttachSent}
 use Rattle.session_path.specs.Events.{LinkFlowSent, TransferSent, SettleSent, DetachSent}
-use Rattle.session_path.specs.Events.{ConfirmWent, OkSent, LinesWent, SessionLost, after_events}
+use Rattle.session_path.specs.Events.{ConfirmWent, ReturnWent, OkSent, LinesWent, SessionLost}
+use Rattle.session_path.specs.Events.{after_events}
 
 -- an attach of the gateway under the name with this number
 abbrev pub asks_as : ℕ → PathEvent → ℕ
 asks_as name (Began handle_max) = 0
-asks_as name (Published address payload) = 0
+asks_as name (Published address payload back) = 0
 asks_as name Selected = 0
 asks_as name (Owed ok) = 0
 asks_as name (AttachCame own peer target) = 0
 asks_as name (FlowCame peer count credit drain echo) = 0
-asks_as name (DetachCame peer) = 0
-asks_as name (DispositionCame first last accepted settled) = 0
+asks_as name (DetachCame peer not_found) = 0
+asks_as name (DispositionCame first last outcome settled) = 0
 asks_as name (AttachSent own) = if own == name then 1 else 0
 asks_as name LinkFlowSent = 0
 asks_as name (TransferSent frame count) = 0
 asks_as name (SettleSent settling) = 0
 asks_as name DetachSent = 0
 asks_as name (ConfirmWent confirm) = 0
+asks_as name (ReturnWent number) = 0
 asks_as name (OkSent ok) = 0
 asks_as name LinesWent = 0
 asks_as name SessionLost = 0
@@ -34,20 +36,21 @@ times_asked name (x ∷ h) = times_asked name h + asks_as name x
 -- one of the container under this name, which isn't at fault
 abbrev pub attaches_as : ℕ → PathState → PathEvent → ℕ
 attaches_as name s (Began handle_max) = 0
-attaches_as name s (Published address payload) = 0
+attaches_as name s (Published address payload back) = 0
 attaches_as name s Selected = 0
 attaches_as name s (Owed ok) = 0
 attaches_as name s (AttachCame own peer target) =
     if own == name && not (is_some (attach_fault own peer s.links)) then 1 else 0
 attaches_as name s (FlowCame peer count credit drain echo) = 0
-attaches_as name s (DetachCame peer) = 0
-attaches_as name s (DispositionCame first last accepted settled) = 0
+attaches_as name s (DetachCame peer not_found) = 0
+attaches_as name s (DispositionCame first last outcome settled) = 0
 attaches_as name s (AttachSent own) = 0
 attaches_as name s LinkFlowSent = 0
 attaches_as name s (TransferSent frame count) = 0
 attaches_as name s (SettleSent settling) = 0
 attaches_as name s DetachSent = 0
 attaches_as name s (ConfirmWent confirm) = 0
+attaches_as name s (ReturnWent number) = 0
 attaches_as name s (OkSent ok) = 0
 attaches_as name s LinesWent = 0
 attaches_as name s SessionLost = 0

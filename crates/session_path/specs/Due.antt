@@ -5,9 +5,10 @@ use Rattle.std.specs.Option.{option_or}
 use Rattle.link_table.specs.Table.{free_of}
 use Rattle.publish_path.specs.Links.{link_of}
 use Rattle.publish_path.specs.Offers.{held_bytes, held_count, is_pending, next_confirm_of}
-use Rattle.publish_path.specs.Offers.{lines_of, next_frame_of}
+use Rattle.publish_path.specs.Offers.{lines_of, next_frame_of, next_return_of, return_frame_of}
 use Rattle.publish_path.specs.declared.publish.Confirm.{Confirm}
 use Rattle.publish_path.specs.declared.publish.NextFrame.{NextFrame}
+use Rattle.publish_path.specs.declared.publish.NextReturn.{NextReturn}
 use Rattle.publish_path.specs.declared.send_links.SendingLink.{SendingLink}
 use Rattle.open_items.specs.declared.lost.LostItem.{LostItem}
 use Rattle.session_path.specs.declared.path.AttachDue.{AttachDue}
@@ -72,6 +73,14 @@ next_detach s =
 
 abbrev pub next_confirm : PathState → Option Confirm
 next_confirm s = next_confirm_of s.publishes.list
+
+-- a frame of a return: of one that is begun, else of the least publish that is to be returned
+abbrev pub next_return : PathState → Option NextReturn
+next_return s = next_return_of s.publishes.list
+
+-- its bytes
+abbrev pub return_frame : ℕ → PathState → Option (List ℕ)
+return_frame number s = return_frame_of number s.publishes.list
 
 abbrev pub next_ok : PathState → Option PathOk
 next_ok s = first_of s.oks

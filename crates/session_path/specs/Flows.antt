@@ -7,7 +7,8 @@ use Rattle.session_path.specs.Path.{PathState, flow_of}
 use Rattle.session_path.specs.Events.{PathEvent, Began, Published, Selected, Owed, AttachCame}
 use Rattle.session_path.specs.Events.{FlowCame, DetachCame, DispositionCame, AttachSent}
 use Rattle.session_path.specs.Events.{LinkFlowSent, TransferSent, SettleSent, DetachSent}
-use Rattle.session_path.specs.Events.{ConfirmWent, OkSent, LinesWent, SessionLost, after_events}
+use Rattle.session_path.specs.Events.{ConfirmWent, ReturnWent, OkSent, LinesWent, SessionLost}
+use Rattle.session_path.specs.Events.{after_events}
 
 -- it is the link with this number
 abbrev pub is_link : ℕ → Option PathLink → Bool
@@ -17,19 +18,20 @@ is_link n (Some l) = l.link == n
 -- the flows that went on link n
 abbrev pub flows_by : ℕ → PathState → PathEvent → ℕ
 flows_by n s (Began handle_max) = 0
-flows_by n s (Published address payload) = 0
+flows_by n s (Published address payload back) = 0
 flows_by n s Selected = 0
 flows_by n s (Owed ok) = 0
 flows_by n s (AttachCame name peer target) = 0
 flows_by n s (FlowCame peer count credit drain echo) = 0
-flows_by n s (DetachCame peer) = 0
-flows_by n s (DispositionCame first last accepted settled) = 0
+flows_by n s (DetachCame peer not_found) = 0
+flows_by n s (DispositionCame first last outcome settled) = 0
 flows_by n s (AttachSent name) = 0
 flows_by n s LinkFlowSent = if is_link n (flow_of s.publishes.list s.links) then 1 else 0
 flows_by n s (TransferSent frame count) = 0
 flows_by n s (SettleSent settling) = 0
 flows_by n s DetachSent = 0
 flows_by n s (ConfirmWent confirm) = 0
+flows_by n s (ReturnWent number) = 0
 flows_by n s (OkSent ok) = 0
 flows_by n s LinesWent = 0
 flows_by n s SessionLost = 0
@@ -51,15 +53,15 @@ given_named peer s = given_in (named peer s)
 -- than went
 abbrev pub causes_by : ℕ → PathState → ℕ → ℕ → PathEvent → ℕ
 causes_by n s flows causes (Began handle_max) = causes
-causes_by n s flows causes (Published address payload) = causes
+causes_by n s flows causes (Published address payload back) = causes
 causes_by n s flows causes Selected = causes
 causes_by n s flows causes (Owed ok) = causes
 causes_by n s flows causes (AttachCame name peer target) = causes
 causes_by n s flows causes (FlowCame peer count credit drain echo) =
     causes + (if is_link n (named peer s.links) then one_if echo + one_if drain else 0)
-causes_by n s flows causes (DetachCame peer) =
+causes_by n s flows causes (DetachCame peer not_found) =
     if is_link n (given_named peer s.links) then flows else causes
-causes_by n s flows causes (DispositionCame first last accepted settled) = causes
+causes_by n s flows causes (DispositionCame first last outcome settled) = causes
 causes_by n s flows causes (AttachSent name) = causes
 causes_by n s flows causes LinkFlowSent = causes
 causes_by n s flows causes (TransferSent frame count) = causes
@@ -67,6 +69,7 @@ causes_by n s flows causes (SettleSent settling) = causes
 causes_by n s flows causes DetachSent =
     if is_link n (find is_left s.links.links) then flows else causes
 causes_by n s flows causes (ConfirmWent confirm) = causes
+causes_by n s flows causes (ReturnWent number) = causes
 causes_by n s flows causes (OkSent ok) = causes
 causes_by n s flows causes LinesWent = causes
 causes_by n s flows causes SessionLost = flows

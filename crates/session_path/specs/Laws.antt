@@ -6,7 +6,8 @@ use Rattle.session_path.specs.Path.{last_or, settle_if}
 use Rattle.session_path.specs.Events.{PathEvent, Began, Published, Selected, Owed, AttachCame}
 use Rattle.session_path.specs.Events.{FlowCame, DetachCame, DispositionCame, AttachSent}
 use Rattle.session_path.specs.Events.{LinkFlowSent, TransferSent, SettleSent, DetachSent}
-use Rattle.session_path.specs.Events.{ConfirmWent, OkSent, LinesWent, SessionLost, publishes_of}
+use Rattle.session_path.specs.Events.{ConfirmWent, ReturnWent, OkSent, LinesWent, SessionLost}
+use Rattle.session_path.specs.Events.{publishes_of}
 use Rattle.session_path.specs.declared.path.PathOk.{PathOk}
 use Rattle.session_path.specs.declared.path.Settling.{Settling}
 
@@ -18,38 +19,40 @@ IsFrontOf {A} front all = (rest : List A) × (front ++ rest ≡ all)
 -- the answers that became due, and those that went, in order
 abbrev pub owes : PathEvent → List PathOk
 owes (Began handle_max) = []
-owes (Published address payload) = []
+owes (Published address payload back) = []
 owes Selected = []
 owes (Owed ok) = ok ∷ []
 owes (AttachCame name peer target) = []
 owes (FlowCame peer count credit drain echo) = []
-owes (DetachCame peer) = []
-owes (DispositionCame first last accepted settled) = []
+owes (DetachCame peer not_found) = []
+owes (DispositionCame first last outcome settled) = []
 owes (AttachSent name) = []
 owes LinkFlowSent = []
 owes (TransferSent frame count) = []
 owes (SettleSent settling) = []
 owes DetachSent = []
 owes (ConfirmWent confirm) = []
+owes (ReturnWent number) = []
 owes (OkSent ok) = []
 owes LinesWent = []
 owes SessionLost = []
 
 abbrev pub answers : PathEvent → List PathOk
 answers (Began handle_max) = []
-answers (Published address payload) = []
+answers (Published address payload back) = []
 answers Selected = []
 answers (Owed ok) = []
 answers (AttachCame name peer target) = []
 answers (FlowCame peer count credit drain echo) = []
-answers (DetachCame peer) = []
-answers (DispositionCame first last accepted settled) = []
+answers (DetachCame peer not_found) = []
+answers (DispositionCame first last outcome settled) = []
 answers (AttachSent name) = []
 answers LinkFlowSent = []
 answers (TransferSent frame count) = []
 answers (SettleSent settling) = []
 answers DetachSent = []
 answers (ConfirmWent confirm) = []
+answers (ReturnWent number) = []
 answers (OkSent ok) = ok ∷ []
 answers LinesWent = []
 answers SessionLost = []
@@ -71,19 +74,20 @@ AreAnswers (x ∷ h) = IsFrontOf (oks_sent h ++ answers x) (oks_owed h) × AreAn
 
 abbrev pub settles : PathEvent → List Settling
 settles (Began handle_max) = []
-settles (Published address payload) = []
+settles (Published address payload back) = []
 settles Selected = []
 settles (Owed ok) = []
 settles (AttachCame name peer target) = []
 settles (FlowCame peer count credit drain echo) = []
-settles (DetachCame peer) = []
-settles (DispositionCame first last accepted settled) = []
+settles (DetachCame peer not_found) = []
+settles (DispositionCame first last outcome settled) = []
 settles (AttachSent name) = []
 settles LinkFlowSent = []
 settles (TransferSent frame count) = []
 settles (SettleSent settling) = settling ∷ []
 settles DetachSent = []
 settles (ConfirmWent confirm) = []
+settles (ReturnWent number) = []
 settles (OkSent ok) = []
 settles LinesWent = []
 settles SessionLost = []
@@ -102,13 +106,13 @@ is_outcome_of life first last h =
 -- than what went
 abbrev pub owed_by : ℕ → List PathEvent → List Settling → PathEvent → List Settling
 owed_by life h list (Began handle_max) = list
-owed_by life h list (Published address payload) = list
+owed_by life h list (Published address payload back) = list
 owed_by life h list Selected = list
 owed_by life h list (Owed ok) = list
 owed_by life h list (AttachCame name peer target) = list
 owed_by life h list (FlowCame peer count credit drain echo) = list
-owed_by life h list (DetachCame peer) = list
-owed_by life h list (DispositionCame first last accepted settled) =
+owed_by life h list (DetachCame peer not_found) = list
+owed_by life h list (DispositionCame first last outcome settled) =
     settle_if (not settled && is_outcome_of life first last h)
     (record { first = first; last = last }) list
 owed_by life h list (AttachSent name) = list
@@ -117,6 +121,7 @@ owed_by life h list (TransferSent frame count) = list
 owed_by life h list (SettleSent settling) = list
 owed_by life h list DetachSent = list
 owed_by life h list (ConfirmWent confirm) = list
+owed_by life h list (ReturnWent number) = list
 owed_by life h list (OkSent ok) = list
 owed_by life h list LinesWent = list
 owed_by life h list SessionLost = settles_sent h

@@ -5,9 +5,10 @@ use Rattle.std.specs.List.{list_any}
 use Rattle.publish_path.specs.Links.{link_of, link_to}
 use Rattle.publish_path.specs.Offers.{frame_sent, is_pending, links_after, waits_on}
 use Rattle.publish_path.specs.Publishes.{PublishState, TakenUp, OutcomeCame, LinkGone, ConfirmSent}
-use Rattle.publish_path.specs.Publishes.{LinesTold, after_event, is_told, no_publishes}
+use Rattle.publish_path.specs.Publishes.{LinesTold, ReturnSent, after_event, is_told, no_publishes}
 use Rattle.publish_path.specs.declared.publish.Confirm.{Confirm}
 use Rattle.publish_path.specs.declared.publish.NextFrame.{NextFrame}
+use Rattle.publish_path.specs.declared.publish.Outcome.{Outcome}
 use Rattle.publish_path.specs.declared.publish.Publish.{Publish}
 use Rattle.publish_path.specs.declared.send_links.SendingLink.{SendingLink}
 use Rattle.session_path.specs.Links.{LinksState, all_lost, attached, is_left, is_parting}
@@ -49,7 +50,7 @@ began handle_max s = record s { links = limited handle_max s.links }
 -- its session, or the connection, is lost: each publish without an outcome is, and no link is left
 abbrev pub lost : PathState → PathState
 lost s = record s {
-  publishes = after_event (LinkGone None) s.publishes;
+  publishes = after_event (LinkGone None false) s.publishes;
   links = all_lost s.links;
   settles = [];
 }
@@ -67,16 +68,18 @@ abbrev pub number_of : Option SendingLink → ℕ
 number_of None = 0
 number_of (Some l) = l.link
 
--- a whole content was taken up, for this address, with this payload, on the link to the address
-abbrev pub published_on : LinksState → List ℕ → List ℕ → PathState → PathState
-published_on links address payload s = record s {
+-- a whole content was taken up, for this address, with this payload and the frames of its return,
+-- on the link to the address
+abbrev pub published_on : LinksState → List ℕ → List ℕ → List (List ℕ) → PathState → PathState
+published_on links address payload back s = record s {
   publishes = after_event (TakenUp (number_of
-      (link_to links.sending address)) s.confirms payload) s.publishes;
+      (link_to links.sending address)) s.confirms payload back) s.publishes;
   links = links;
 }
 
-abbrev pub published : List ℕ → List ℕ → PathState → PathState
-published address payload s = published_on (linked_to address s.links) address payload s
+abbrev pub published : List ℕ → List ℕ → List (List ℕ) → PathState → PathState
+published address payload back s =
+    published_on (linked_to address s.links) address payload back s
 
 -- ---- what the container sends
 
@@ -87,14 +90,15 @@ abbrev pub flow_came : ℕ → Option ℕ → ℕ → Bool → Bool → PathStat
 flow_came peer count credit drain echo s =
     record s { links = link_flowed peer count credit drain echo s.links }
 
--- a detach: the link is lost for the publishes that have no outcome
-abbrev pub lost_on : Option PathLink → PublishState → PublishState
-lost_on None p = p
-lost_on (Some l) p = after_event (LinkGone (Some l.link)) p
+-- a detach: the link is lost for the publishes that have no outcome; its error says that there is
+-- no such node, or not (AMQP 1.0 2.8.15)
+abbrev pub lost_on : Bool → Option PathLink → PublishState → PublishState
+lost_on not_found None p = p
+lost_on not_found (Some l) p = after_event (LinkGone (Some l.link) not_found) p
 
-abbrev pub detach_came : ℕ → PathState → PathState
-detach_came peer s = record s {
-  publishes = lost_on (named peer s.links) s.publishes;
+abbrev pub detach_came : ℕ → Bool → PathState → PathState
+detach_came peer not_found s = record s {
+  publishes = lost_on not_found (named peer s.links) s.publishes;
   links = link_detached peer s.links;
 }
 
@@ -110,9 +114,9 @@ tells first last s = list_any (is_told first (last_or first last)) s.publishes.l
 abbrev pub settle_if : Bool → Settling → List Settling → List Settling
 settle_if due settling list = if due then list ++ settling ∷ [] else list
 
-abbrev pub outcome_came : ℕ → Option ℕ → Bool → Bool → PathState → PathState
-outcome_came first last accepted settled s = record s {
-  publishes = after_event (OutcomeCame first (last_or first last) accepted) s.publishes;
+abbrev pub outcome_came : ℕ → Option ℕ → Outcome → Bool → PathState → PathState
+outcome_came first last outcome settled s = record s {
+  publishes = after_event (OutcomeCame first (last_or first last) outcome) s.publishes;
   settles = settle_if (not settled && tells first last s)
       (record { first = first; last = last }) s.settles;
 }
@@ -173,6 +177,10 @@ detach_sent s = record s {
 
 abbrev pub confirm_sent : Confirm → PathState → PathState
 confirm_sent c s = record s { publishes = after_event (ConfirmSent c) s.publishes }
+
+-- a frame of the return of this publish
+abbrev pub return_sent : ℕ → PathState → PathState
+return_sent number s = record s { publishes = after_event (ReturnSent number) s.publishes }
 
 abbrev pub ok_sent : PathState → PathState
 ok_sent s = record s { oks = drop 1 s.oks }

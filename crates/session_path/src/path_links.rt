@@ -26,6 +26,7 @@ use crate::links::{
 };
 use crate::path::{AttachDue, AttachFault, FlowDue, PathLink};
 use link_table::Handles;
+use open_items::Frames;
 use publish_path::{NextFrame, Publishes, SendLinks};
 use std::alloc::Global;
 use std::marker::Model;
@@ -98,14 +99,15 @@ impl PathLinks {
         self.links.clear();
     }
 
-    /// A publish with this payload was taken up, for this address: on the link to it, or else on
-    /// one that is wanted from now on.
+    /// A publish with this payload and these frames of its return was taken up, for this address:
+    /// on the link to it, or else on one that is wanted from now on.
     pub fn publish(
         &mut self,
         publishes: &mut Publishes,
         address: ByteText,
         confirm: bool,
         payload: ByteText,
+        back: Frames,
     ) -> Result<(), Memory>
         requires numbers { publishes.old.numbers < 2 ^ 62 }
         requires count { held_count publishes.old.list + 1 < 2 ^ 32 }
@@ -113,16 +115,16 @@ impl PathLinks {
         ensures ok_links { OnOk result (self.new ≡ linked_to address self.old) }
         ensures ok_publishes { OnOk result (publishes.new ≡ after_event (TakenUp (number_of
             (link_to
-            (linked_to address self.old).sending address)) confirm payload) publishes.old) }
+            (linked_to address self.old).sending address)) confirm payload back) publishes.old) }
         ensures err_links { OnErr result (self.new ≡ self.old) }
         ensures err_publishes { OnErr result (publishes.new ≡ publishes.old) }
     {
         match self.sending.find(address.as_slice()) {
             Some(link) => {
-                publishes.add(link, confirm, payload)?;
+                publishes.add(link, confirm, payload, back)?;
                 Ok(())
             }
-            None => self.publish_on_new(publishes, address, confirm, payload),
+            None => self.publish_on_new(publishes, address, confirm, payload, back),
         }
     }
 
@@ -132,6 +134,7 @@ impl PathLinks {
         address: ByteText,
         confirm: bool,
         payload: ByteText,
+        back: Frames,
     ) -> Result<(), Memory>
         requires address { link_to self.old.sending address ≡ None }
         requires numbers { publishes.old.numbers < 2 ^ 62 }
@@ -139,12 +142,13 @@ impl PathLinks {
         requires bytes { held_bytes publishes.old.list + length payload < 2 ^ 64 }
         ensures ok_links { OnOk result (self.new ≡ with_link_to address self.old) }
         ensures ok_publishes { OnOk result (publishes.new
-            ≡ after_event (TakenUp (free_number self.old.links) confirm payload) publishes.old) }
+            ≡ after_event (TakenUp (free_number self.old.links) confirm payload back)
+            publishes.old) }
         ensures err_links { OnErr result (self.new ≡ self.old) }
         ensures err_publishes { OnErr result (publishes.new ≡ publishes.old) }
     {
         let link = add_link(&mut self.links, &mut self.sending, address)?;
-        match publishes.add(link, confirm, payload) {
+        match publishes.add(link, confirm, payload, back) {
             Ok(_) => Ok(()),
             Err(memory) => {
                 remove_one(&mut self.sending, link);

@@ -1,7 +1,7 @@
 //! The publishing side of a session: each call is one event, or a question on what is due.
 
 ghost use Rattle.std.specs.Prelude.{◌≡◌, ◌≤◌, ◌+◌, ◌<◌, ◌↔◌, [], length, filter, Some, None};
-ghost use Rattle.std.specs.Prelude.{IsSome, IsNone, IfSome, OnOk, OnErr, IfOk};
+ghost use Rattle.std.specs.Prelude.{IsSome, IsNone, IfSome, OnOk, OnErr, IfOk, option_copied};
 ghost use Rattle.publish_path.specs.Links.{address_of};
 ghost use Rattle.publish_path.specs.Offers.{next_frame_of, rest_of};
 ghost use Rattle.publish_path.specs.Publishes.{is_open};
@@ -10,14 +10,16 @@ ghost use Rattle.session_path.specs.Path.{PathState, opened, began, lost, owed, 
 ghost use Rattle.session_path.specs.Path.{selected, attach_came, flow_came, detach_came};
 ghost use Rattle.session_path.specs.Path.{outcome_came, last_or, attach_sent, link_flow_sent};
 ghost use Rattle.session_path.specs.Path.{transfer_sent, settle_sent, detach_sent, confirm_sent};
-ghost use Rattle.session_path.specs.Path.{ok_sent, lines_told};
+ghost use Rattle.session_path.specs.Path.{ok_sent, lines_told, return_sent};
 ghost use Rattle.session_path.specs.Due.{first_of, next_attach, next_flow, next_frame, next_settle};
 ghost use Rattle.session_path.specs.Due.{next_detach, next_confirm, next_ok, is_done};
+ghost use Rattle.session_path.specs.Due.{next_return, return_frame};
 ghost use Rattle.session_path.specs.Due.{held, held_size_of};
 
 use crate::path::{AttachDue, AttachFault, FlowDue, PathLink, PathOk, Settling};
 use crate::path_links::{LinkFlow, PathLinks};
-use publish_path::{Confirm, NextFrame, Publish, Publishes};
+use open_items::Frames;
+use publish_path::{Confirm, NextFrame, NextReturn, Outcome, Publish, Publishes};
 use std::alloc::Global;
 use std::collections::VecDeque;
 use std::marker::Model;
@@ -118,10 +120,16 @@ impl SessionPath {
         Ok(())
     }
 
-    /// A whole content was taken up, for this address, with the payload of its transfer. `Memory`
-    /// also if a count is full: of publishes, of those held, or of their bytes.
-    pub fn published(&mut self, address: ByteText, payload: ByteText) -> Result<(), Memory>
-        ensures ok { OnOk result (self.new ≡ published address payload self.old) }
+    /// A whole content was taken up, for this address, with the payload of its transfer and the
+    /// frames of its return; none where it isn't mandatory. `Memory` also if a count is full: of
+    /// publishes, of those held, or of their bytes.
+    pub fn published(
+        &mut self,
+        address: ByteText,
+        payload: ByteText,
+        back: Frames,
+    ) -> Result<(), Memory>
+        ensures ok { OnOk result (self.new ≡ published address payload back self.old) }
         ensures err { OnErr result (self.new ≡ self.old) }
     {
         let (count, bytes) = self.publishes.held();
@@ -130,7 +138,7 @@ impl SessionPath {
             return Err(Memory);
         }
         self.links
-            .publish(&mut self.publishes, address, self.confirms, payload)?;
+            .publish(&mut self.publishes, address, self.confirms, payload, back)?;
         self.taken += 1;
         Ok(())
     }
@@ -176,12 +184,13 @@ impl SessionPath {
         self.links.flow(peer, flow)
     }
 
-    /// A detach came under this handle of the container. Nothing changes where it names no link.
-    pub fn detach_came(&mut self, peer: u32)
-        ensures { self.new ≡ detach_came peer self.old }
+    /// A detach came under this handle of the container; its error says that there is no such node,
+    /// or not. Nothing changes where the handle names no link.
+    pub fn detach_came(&mut self, peer: u32, not_found: bool)
+        ensures { self.new ≡ detach_came peer not_found self.old }
     {
         if let Some(l) = self.links.named(peer) {
-            self.publishes.lost_link(l.link);
+            self.publishes.lost_link(l.link, not_found);
             self.links.detach(peer);
         }
     }
@@ -191,17 +200,17 @@ impl SessionPath {
     pub fn outcome_came(
         &mut self,
         ids: Settling,
-        accepted: bool,
+        outcome: Outcome,
         settled: bool,
     ) -> Result<(), Memory>
         ensures ok { OnOk result (self.new
-            ≡ outcome_came ids.first ids.last accepted settled self.old) }
+            ≡ outcome_came ids.first ids.last outcome settled self.old) }
         ensures err { OnErr result (self.new ≡ self.old) }
     {
         self.settles.try_reserve(1)?;
         let told = self
             .publishes
-            .outcome(ids.first, last_of(ids.first, ids.last), accepted);
+            .outcome(ids.first, last_of(ids.first, ids.last), outcome);
         if !settled && told {
             self.settles.push_back(ids)?;
         }
@@ -252,6 +261,15 @@ impl SessionPath {
             ≡ confirm_sent confirm self.old) }
     {
         self.publishes.confirmed();
+    }
+
+    /// The frame of a return that is due was sent.
+    pub fn return_sent(&mut self)
+        requires { IsSome (next_return self.old) }
+        ensures { IfSome (next_return self.old) (λ due. self.new
+            ≡ return_sent due.publish self.old) }
+    {
+        self.publishes.returned();
     }
 
     /// The answer that is due was sent.
@@ -331,6 +349,20 @@ impl SessionPath {
         ensures { result ≡ next_confirm self.now }
     {
         self.publishes.next_confirm()
+    }
+
+    /// The frame of a return that is due.
+    pub fn next_return(&self) -> Option<NextReturn>
+        ensures { result ≡ next_return self.now }
+    {
+        self.publishes.next_return()
+    }
+
+    /// The bytes of the next frame of a publish's return; `None` if none is due of it.
+    pub fn return_frame(&self, publish: u64) -> Option<&ByteText>
+        ensures { option_copied result ≡ return_frame publish self.now }
+    {
+        self.publishes.return_frame(publish)
     }
 
     /// The answer that is due.

@@ -1,7 +1,7 @@
 //! What goes next to each end.
 
 ghost use Rattle.std.specs.Prelude.{◌≡◌, true, false};
-ghost use Rattle.gate_model.specs.Due.{attaches, begins, carried_rows, carries_of};
+ghost use Rattle.gate_model.specs.Due.{attaches, begins, carried_rows, carries_back, carries_of};
 ghost use Rattle.gate_model.specs.Due.{channel_closes, channel_oks, client_rows, client_units};
 ghost use Rattle.gate_model.specs.Due.{detaches, ends, if_so, is_beat_due, last_closes};
 ghost use Rattle.gate_model.specs.Due.{link_flows, may_end, may_go, may_tell, none_left};
@@ -12,6 +12,7 @@ ghost use Rattle.gate_model.specs.State.{is_settled};
 ghost use Rattle.gate_model.specs.Upstream.{first};
 ghost use Rattle.bridge_core.specs.Behind.{answer_units, answering_units, carrying_units};
 ghost use Rattle.bridge_core.specs.Behind.{closing_units, confirm_units, confirming_units};
+ghost use Rattle.bridge_core.specs.Behind.{content_units, opening_units};
 ghost use Rattle.bridge_core.specs.Behind.{end_units, ended_units, flowing_units, last_units};
 ghost use Rattle.bridge_core.specs.Behind.{linked_units, parting_units, session_units};
 ghost use Rattle.bridge_core.specs.Behind.{settling_units};
@@ -19,8 +20,8 @@ ghost use Rattle.bridge_core.specs.Behind.{settling_units};
 use super::Core;
 use crate::channel_rows::{
     Parting, any_left, first_attach, first_begin, first_close, first_close_ok, first_confirm,
-    first_detach, first_end, first_flow, first_link_flow, first_ok, first_open_ok, first_settling,
-    first_transfer,
+    first_content, first_detach, first_end, first_flow, first_link_flow, first_ok, first_open_ok,
+    first_settling, first_transfer,
 };
 use gate_model::{BEAT_PER_SECOND, Reply, SessionUnit, UpUnit};
 use machine_091::Phase91;
@@ -73,7 +74,7 @@ impl Core {
         if (self.out_of_memory || self.conn.is_closing()) && !self.by_peer {
             return None;
         }
-        first_confirm(self.lives.all(), &self.paths)
+        first_confirm(self.lives.all(), &self.paths, !self.out_of_memory)
     }
 
     /// The first of the confirms, and of what closes.
@@ -190,14 +191,35 @@ impl Core {
         }
     }
 
+    /// The first of what opens the connection, and of these.
+    #[tactic(auto, using(crate::proofs::Firsts::first_some, crate::proofs::Firsts::first_none))]
+    fn next_opening_unit(&self) -> Option<Reply>
+        ensures { result ≡ first (opening_units self.now) }
+    {
+        match self.next_opening() {
+            Some(unit) => Some(unit),
+            None => self.next_answering(),
+        }
+    }
+
+    /// The frame of a return that is begun, where it may go.
+    fn next_content(&self) -> Option<Reply>
+        ensures { result ≡ first (content_units self.now) }
+    {
+        if self.out_of_memory || (self.conn.is_closing() && !self.by_peer) {
+            return None;
+        }
+        first_content(self.lives.all(), &self.paths)
+    }
+
     /// The first of all but a heartbeat.
     #[tactic(auto, using(crate::proofs::Firsts::first_some, crate::proofs::Firsts::first_none))]
     fn next_unit(&self) -> Option<Reply>
         ensures { result ≡ first (client_units self.now) }
     {
-        match self.next_opening() {
+        match self.next_content() {
             Some(unit) => Some(unit),
-            None => self.next_answering(),
+            None => self.next_opening_unit(),
         }
     }
 
@@ -439,6 +461,16 @@ impl Core {
         match self.first_begin() {
             Some(unit) => Some(unit),
             None => self.next_carrying(),
+        }
+    }
+
+    /// What a unit to the client carries of the client's: a frame of a return.
+    pub fn carried_back(&self, unit: Reply) -> &[u8]
+        ensures { result.now ≡ carries_back self.now unit }
+    {
+        match unit {
+            Reply::OnChannel(channel, unit) => self.paths.carried_back(channel, unit),
+            _ => &[],
         }
     }
 

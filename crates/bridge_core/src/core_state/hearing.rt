@@ -28,7 +28,7 @@ ghost use Rattle.bridge_core.specs.LinkFaults.{unnamed};
 use super::Core;
 use crate::lives::old_life;
 use crate::path_changes::{LinkFault, link_number, path_change};
-use crate::replies::refusal_on;
+use crate::replies::{reason_of, refusal_on};
 use crate::sessions::{carried_by, fault_of};
 use close_translate::{INTERNAL_ERROR, NOT_ALLOWED, PRECONDITION_FAILED, Scope, code_of};
 use gate_model::Life;
@@ -89,7 +89,7 @@ impl Core {
                     over: true,
                     closed_at: Some(self.moment),
                     by_peer: true,
-                    close: Some(refusal_on(channel, code)),
+                    close: Some(reason_of(refusal_on(channel, code), None)),
                     why,
                     ..old_life(life)
                 },

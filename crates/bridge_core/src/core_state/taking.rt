@@ -20,11 +20,14 @@ use super::{Core, is_foreign};
 use crate::lives::old_life;
 use crate::moments::{closes_at, fed_by};
 use crate::paths::PathChange;
+use crate::replies::reason_of;
 use crate::requests::{Met, meet};
 use close_translate::{Scope, condition_of};
 use gate_model::Life;
 use machine_091::{Refusal, Unit91, Want91, connection_laws};
 use methods_091::Method91;
+use open_items::Frames;
+use property_map::Told;
 use session_path::{PathOk, SessionPath};
 use std::alloc::Global;
 use wire_base::{ByteText, Memory};
@@ -107,7 +110,8 @@ impl Core {
         requires room { self.old.opened < 2 ^ 64 - 1 }
         requires want { is_publish want.now ≡ false }
         ensures ok { OnOk result (self.new ≡ record self.old {
-          paths = paths_by self.old.routes self.old.opened want.now self.old.paths;
+          paths = paths_by self.old.routes self.old.conn.limits.frame_max self.old.opened want.now
+              self.old.paths;
           opened = self.old.opened + lives_opened want.now;
         }) }
         ensures err { OnErr result (self.new ≡ self.old) }
@@ -134,7 +138,7 @@ impl Core {
     #[tactic(auto, using(crate::proofs::Flows::same_life))]
     fn meet_method(&mut self, channel: u16, method: &Method91)
         ensures { self.new ≡ record self.old {
-          lives = lives_by self.old.moment (want.Method channel method.now) self.old.lives;
+          lives = lives_by self.old.moment None (want.Method channel method.now) self.old.lives;
         } }
     {
         let life = self.lives.at(channel);
@@ -163,9 +167,9 @@ impl Core {
         self.lives.set(channel, freed_life(life));
     }
 
-    /// A refusal closes the connection or a channel, and that is told.
-    fn meet_refusal(&mut self, closing: bool, refusal: Refusal)
-        ensures { self.new ≡ met closing (want.Refuse refusal) self.old }
+    /// A refusal closes the connection or a channel, and that is told, of a publish with this.
+    fn meet_refusal(&mut self, closing: bool, told: Option<Told>, refusal: Refusal)
+        ensures { self.new ≡ met closing told (want.Refuse refusal) self.old }
     {
         let condition = condition_of(refusal.code);
         match refusal.scope {
@@ -180,7 +184,7 @@ impl Core {
                     Life {
                         over: true,
                         closed_at: Some(self.moment),
-                        close: Some(refusal),
+                        close: Some(reason_of(refusal, told)),
                         why: Some(condition),
                         ..old_life(life)
                     },
@@ -190,10 +194,11 @@ impl Core {
         }
     }
 
-    /// What a unit of the client wants is met. `closing` says that the connection closed before it.
-    fn meet(&mut self, alloc: Global, closing: bool, want: Want91)
+    /// What a unit of the client wants is met, and this is told of a publish that is refused.
+    /// `closing` says that the connection closed before it.
+    fn meet(&mut self, alloc: Global, closing: bool, told: Option<Told>, want: Want91)
         requires login { IsLoginWant want }
-        ensures { self.new ≡ record (met closing want self.old) {
+        ensures { self.new ≡ record (met closing told want self.old) {
           paths = self.old.paths;
           opened = self.old.opened;
         } }
@@ -232,7 +237,7 @@ impl Core {
                 release_method(method);
                 self.up.set_condition(closing, None);
             }
-            Want91::Refuse(refusal) => self.meet_refusal(closing, refusal),
+            Want91::Refuse(refusal) => self.meet_refusal(closing, told, refusal),
         }
     }
 
@@ -243,14 +248,15 @@ impl Core {
         channel: u16,
         address: ByteText,
         payload: ByteText,
+        back: Frames,
     ) -> Result<(), Memory>
         ensures ok { OnOk result (self.new ≡ record self.old {
-          paths = with_path channel (published address payload) self.old.paths;
+          paths = with_path channel (published address payload back) self.old.paths;
           up = closing_with closing None self.old.up;
         }) }
         ensures err { OnErr result (self.new ≡ self.old) }
     {
-        self.paths.publish(channel, address, payload)?;
+        self.paths.publish(channel, address, payload, back)?;
         self.up.set_condition(closing, None);
         Ok(())
     }
@@ -273,14 +279,14 @@ impl Core {
         ensures takes { OnErr result (takes_memory_met met ≡ true) }
     {
         match met {
-            Met::Publish(channel, address, payload) => {
-                self.publish(closing, channel, address, payload)?;
+            Met::Publish(channel, address, payload, back) => {
+                self.publish(closing, channel, address, payload, back)?;
                 self.spare = Some(spare);
                 Ok(())
             }
-            Met::Want(want) => {
+            Met::Want(want, told) => {
                 self.meet_path(&want, spare)?;
-                self.meet(alloc, closing, want);
+                self.meet(alloc, closing, told, want);
                 Ok(())
             }
         }

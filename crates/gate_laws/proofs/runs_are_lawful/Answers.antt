@@ -11,6 +11,7 @@ returns c = λ s l m f. record {
     order = c.units_keep_their_order.ensures s l m f p;
     once = c.channels_are_answered_once.ensures s l m f p;
     confirms = c.publishes_are_lawful.ensures.confirms s l m f p;
+    returns = c.publishes_are_lawful.ensures.returns s l m f p;
     transfers = c.publishes_are_lawful.ensures.transfers s l m f p;
     pieces = c.publishes_are_lawful.ensures.pieces s l m f p;
     wholes = c.publishes_are_lawful.ensures.end s l m f p;

@@ -1,5 +1,5 @@
 use Rattle.std.proofs.Common.{◌∙◌, ap, subst, sym}
-use Rattle.bridge_core.specs.Offers.{BridgeState}
+use Rattle.bridge_core.specs.Offers.{BridgeState, FindsBytes}
 use Rattle.gate_pair.specs.Meaning.{offered}
 use Rattle.gate_pair.specs.PairStates.{IsSound, PairState, is_ready, said, said_stream}
 use Rattle.gate_pair.proofs.Saids.{pair_of}
@@ -10,7 +10,8 @@ use Rattle.gate_pair.proofs.pair.Pair.look.Goals as goal
 pub invariant_of-self : goal.invariant_of-self
 invariant_of-self c =
     subst (λ (b : BridgeState). IsSound b c.self.inside.client.at c.self.inside.up.at) (sym c.in-Ok.ensures.ok)
-    (looked_stays c.args.setup.now c.args.end c.self.inside.bridge (sym c.is_busy.ensures ∙ c.if-is_busy.false) c.self.inside.client.at c.self.inside.up.at c.self.invariant)
+    (looked_stays c.args.setup.now c.args.end c.self.inside.bridge _ c.in-Ok.ensures.some
+    (subst (FindsBytes c.args.end _) c.in-Ok.ensures.ok c.in-Ok.ensures.long) (sym c.is_busy.ensures ∙ c.if-is_busy.false) c.self.inside.client.at c.self.inside.up.at c.self.invariant)
 
 pub returns-in-Ok-clause-ready : goal.returns-in-Ok-clause-ready
 returns-in-Ok-clause-ready c =

@@ -11,5 +11,5 @@ returns-in-None-clause-ok_publishes c =
     let none : link_to c.args.self.now.sending c.args.address ≡ None =
     sym (ap (λ (s : LinksState). link_to s.sending c.args.address) c.self.view_is)
     ∙ (sym (ap (link_to c.self.inside.sending) c.as_slice.ensures) ∙ map_none _ (sym c.find.ensures ∙ c.in-None.is)) in
-    subst (λ (n : ℕ). OnOk c.publish_on_new.result (c.publish_on_new.new.publishes ≡ after_event (TakenUp n c.args.confirm c.args.payload) c.args.publishes.now))
+    subst (λ (n : ℕ). OnOk c.publish_on_new.result (c.publish_on_new.new.publishes ≡ after_event (TakenUp n c.args.confirm c.args.payload c.args.back) c.args.publishes.now))
     (number_new c.args.address c.args.self.now none) c.publish_on_new.ensures.ok_publishes
