@@ -1,1 +1,2 @@
 mod SendLemmas
+mod RecvLemmas

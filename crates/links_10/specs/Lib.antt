@@ -1,2 +1,4 @@
 pub mod Send
 pub mod SendFolds
+pub mod Recv
+pub mod RecvFolds

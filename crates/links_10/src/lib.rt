@@ -1,10 +1,12 @@
-//! The credit of a sending link of AMQP 1.0, as a fold of what was sent and came on it.
+//! The credit of the links of AMQP 1.0, as folds of what was sent and came on each.
 #![tactic(auto)]
 
 mod laws;
+mod recv;
 mod send;
 #[cfg(test)]
 mod tests;
 
-pub use laws::link_laws;
+pub use laws::{link_laws, recv_link_laws};
+pub use recv::{Granting, RecvLink};
 pub use send::SendLink;

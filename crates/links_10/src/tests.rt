@@ -1,5 +1,6 @@
-//! The credit of a link whose flows and transfers cross, by the formula of AMQP 1.0 2.6.7.
+//! The credit of links whose flows and transfers cross, by the formulas of AMQP 1.0 2.6.7.
 
+use crate::recv::RecvLink;
 use crate::send::SendLink;
 
 /// The first frame of a transfer is sent, if there is credit.
@@ -33,4 +34,34 @@ fn flows_and_transfers_cross(rt: HostRuntime) {
     assert_eq!(rt; link.count(), 0);
     link.flow(Some(4_294_967_295), 5);
     assert_eq!(rt; link.credit(), 4);
+}
+
+#[test]
+fn a_quota_is_filled_at_half(rt: HostRuntime) {
+    let mut link = RecvLink::new(4);
+    assert_eq!(rt; link.grant_due(), None);
+    link.attached(4_294_967_295);
+    assert_eq!(rt; link.grant_due(), Some(4));
+    link.granted(4);
+    assert_eq!(rt; link.grant_due(), None);
+    link.arrived();
+    link.arrived();
+    link.recounted(2);
+    assert_eq!(rt; link.count(), 1);
+    assert_eq!(rt; link.credit(), 2);
+    assert_eq!(rt; link.grant_due(), None);
+    link.recounted(0);
+    assert_eq!(rt; link.grant_due(), Some(4));
+    link.granted(4);
+    assert_eq!(rt; link.limit_left(), 4);
+    // The container gives all but one up, and states the same count again.
+    link.flow(4);
+    link.flow(4);
+    assert_eq!(rt; link.credit(), 1);
+    assert_eq!(rt; link.count(), 4);
+    link.cancel();
+    assert_eq!(rt; link.grant_due(), None);
+    link.granted(0);
+    assert_eq!(rt; link.credit(), 0);
+    assert_eq!(rt; link.limit_left(), 1);
 }

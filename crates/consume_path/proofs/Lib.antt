@@ -1,0 +1,14 @@
+mod Steps
+mod Least
+mod Matching
+mod Keeping
+mod Fates
+mod Settling
+mod Lines
+mod Delivering
+mod Counted
+mod Finding
+mod Granting
+mod Sanity
+mod Joining
+mod Freshness

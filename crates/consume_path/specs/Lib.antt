@@ -1,0 +1,6 @@
+pub mod Items
+pub mod Links
+pub mod Deliveries
+pub mod Offers
+pub mod Journal
+pub mod Laws

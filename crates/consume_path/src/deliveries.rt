@@ -1,0 +1,589 @@
+//! The deliveries of a life of a channel: each call is one event, or a question on what is due.
+
+ghost use Rattle.std.specs.Prelude.{◌≡◌, ◌+◌, ◌<◌, ◌^◌, ◌↔◌, ◌==◌, ◌&&◌, [], filter, not, true};
+ghost use Rattle.std.specs.Prelude.{false, length, is_some, OnOk, OnErr, IsOk, IfOk, IfSome};
+ghost use Rattle.std.specs.Prelude.{IsSome, IsNone, option_copied, None, Some, if◌then◌else◌, map};
+ghost use Rattle.std.specs.Option.{option_map, option_or};
+ghost use Rattle.consume_path.specs.declared.delivery.Delivery.{Delivery};
+ghost use Rattle.consume_path.specs.declared.delivery.Settle.TheVariants.{Accepted, Rejected};
+ghost use Rattle.consume_path.specs.declared.delivery.Settle.TheVariants.{Released};
+ghost use Rattle.consume_path.specs.declared.receiving.Arrival.TheVariants.{Violation};
+ghost use Rattle.consume_path.specs.declared.receiving.ReceivingLink.{ReceivingLink};
+ghost use Rattle.consume_path.specs.Items.{is_open, is_covered, changed, first_place, new_delivery};
+ghost use Rattle.consume_path.specs.Links.{link_of, in_link, is_whole, is_empty, recount};
+ghost use Rattle.consume_path.specs.Links.{link_changed};
+ghost use Rattle.consume_path.specs.Deliveries.{DeliveryState, LinkAdded, LinkAttached, LinkFlowed};
+ghost use Rattle.consume_path.specs.Deliveries.{LinkEchoed, GetCame, TransferCame, Arrived};
+ghost use Rattle.consume_path.specs.Deliveries.{LinkDropped, Delivered, Written, Answered};
+ghost use Rattle.consume_path.specs.Deliveries.{Cancelled, Closed, EndLost, PrefetchSet, GlobalSet};
+ghost use Rattle.consume_path.specs.Deliveries.{SettleSent, GrantSent, Emptied, LinesTold};
+ghost use Rattle.consume_path.specs.Deliveries.{no_deliveries, after_event, with_list, each_link};
+ghost use Rattle.consume_path.specs.Offers.{is_open_id, fault_in, fault_at, arrival_of};
+ghost use Rattle.consume_path.specs.Offers.{arriving_in, payload_in, next_deliver_of, content_of};
+ghost use Rattle.consume_path.specs.Offers.{is_known, next_settle_of, is_all_covered};
+ghost use Rattle.consume_path.specs.Offers.{next_grant_of, is_drained, is_for_gets};
+
+use crate::changes::{Change, change_all, compact, place_of_arrival, trim};
+use crate::delivery::{
+    Arriving, Content, Delivery, NextDeliver, NextSettle, Place, Settle, Taker, UnknownTag,
+};
+use crate::link_changes::{
+    LinkChange, asked_link, change_links, close_links, is_get_empty, leave_out, link_with,
+    recount_links, taker_on, transfer_on,
+};
+use crate::receiving::{Arrival, NextGrant, Part, ReceivingLink, RecvKind, TransferFault};
+use crate::searches::{
+    any_covered, any_uncovered, arrival_by, bytes_of, first_deliver, first_grant, first_owing,
+    first_with_content, is_id_open, is_partial_whole, run_of, transfer_fault,
+};
+use open_items::LostKind;
+use std::alloc::Global;
+use std::marker::Model;
+use wire_base::Memory;
+
+/// The deliveries of a life of a channel. Contracts see its links, the deliveries for which
+/// something is still to come, and what was counted. No call takes memory but `add_link`,
+/// `transfer` and `arrived`.
+#[derive(Drop)]
+pub struct Deliveries {
+    life: u64,
+    links: Vec<ReceivingLink>,
+    items: Vec<Delivery>,
+    arrived: u64,
+    tags: u64,
+    gets: u64,
+    prefetch: u16,
+    global: u16,
+    closed: bool,
+    /// With so many items, the closed ones are left out.
+    room: usize,
+}
+
+impl Model for Deliveries {
+    ghost use Rattle.std.specs.Prelude.{filter};
+    ghost use Rattle.consume_path.specs.Deliveries.{DeliveryState};
+    ghost use Rattle.consume_path.specs.Items.{is_open};
+
+    ghost Value = { DeliveryState };
+
+    ghost view = { λ a. record {
+      life = a.life;
+      links = a.links.items;
+      list = filter is_open a.items.items;
+      arrived = a.arrived;
+      tags = a.tags;
+      gets = a.gets;
+      prefetch = a.prefetch;
+      global = a.global;
+      closed = a.closed;
+    } };
+}
+
+/// There is room for so many items at least.
+const LEAST_ROOM: usize = 16;
+
+fn new_one(
+    closed: bool,
+    number: u64,
+    arriving: Arriving,
+    content: Option<Content>,
+    again: bool,
+) -> Delivery
+    ensures { result ≡ new_delivery closed number arriving content again }
+{
+    let image = content.is_some();
+    let mut d = Delivery {
+        number,
+        link: Some(arriving.link),
+        id: arriving.id,
+        settled: arriving.settled,
+        again,
+        content,
+        taker: arriving.taker,
+        tag: 0,
+        place: place_of_arrival(closed, image, arriving.settled, arriving.taker),
+        writing: false,
+        at_risk: arriving.settled && !closed,
+        line: if arriving.settled && closed {
+            Some(LostKind::DeliveryLost)
+        } else {
+            None
+        },
+    };
+    trim(&mut d);
+    d
+}
+
+fn arriving_on(l: Option<&ReceivingLink>, link: u32) -> Arriving
+    ensures { result ≡ arriving_in link (option_copied l.entry) }
+{
+    let mut arriving = Arriving {
+        link,
+        id: 0,
+        settled: false,
+        taker: Taker::Nobody,
+    };
+    if let Some(l) = l {
+        arriving.taker = taker_on(l);
+        if let Some(partial) = &l.partial {
+            arriving.id = partial.id;
+            arriving.settled = partial.settled;
+        }
+    }
+    arriving
+}
+
+impl Deliveries {
+    /// No deliveries, in the life with this number. It takes the allocator that later growth uses,
+    /// and no memory.
+    pub fn new(alloc: Global, life: u64) -> Deliveries
+        ensures { result ≡ no_deliveries life }
+    {
+        Deliveries {
+            life,
+            links: Vec::new(alloc),
+            items: Vec::new(alloc),
+            arrived: 0,
+            tags: 0,
+            gets: 0,
+            prefetch: 0,
+            global: 0,
+            closed: false,
+            room: LEAST_ROOM,
+        }
+    }
+
+    // ---- links
+
+    /// A link is needed, under this number; its attach isn't answered yet.
+    pub fn add_link(&mut self, link: u32, kind: RecvKind) -> Result<(), Memory>
+        requires { link_of self.old.links link ≡ None }
+        ensures ok { OnOk result (self.new ≡ after_event (LinkAdded link kind) self.old) }
+        ensures err { OnErr result (self.new ≡ self.old) }
+    {
+        self.links.push(asked_link(link, kind, self.prefetch))?;
+        self.recount();
+        Ok(())
+    }
+
+    /// The link with this number.
+    pub fn link(&self, link: u32) -> Option<&ReceivingLink>
+        ensures { option_copied result ≡ link_of self.now.links link }
+    {
+        link_with(self.links.as_slice(), link)
+    }
+
+    /// The container's attach of this link was read, with this initial delivery-count (AMQP 1.0
+    /// 2.7.3).
+    pub fn link_attached(&mut self, link: u32, count: u32)
+        ensures { self.new ≡ after_event (LinkAttached link count) self.old }
+    {
+        change_links(&mut self.links, link, LinkChange::Attached { count });
+    }
+
+    /// A flow of the container came for this link, with this delivery-count (AMQP 1.0 2.7.4).
+    pub fn link_flow(&mut self, link: u32, count: u32)
+        ensures { self.new ≡ after_event (LinkFlowed link count) self.old }
+    {
+        change_links(&mut self.links, link, LinkChange::Flowed { count });
+    }
+
+    /// A flow of the container with echo came for this link; `next_grant` answers it (AMQP 1.0
+    /// 2.7.4).
+    pub fn link_echo(&mut self, link: u32)
+        ensures { self.new ≡ after_event (LinkEchoed link) self.old }
+    {
+        change_links(&mut self.links, link, LinkChange::Echoed);
+    }
+
+    /// A basic.get waits on this link, which is for gets, and where none waits.
+    pub fn get(&mut self, link: u32, no_ack: bool)
+        requires gets { self.old.gets < 2 ^ 62 }
+        requires kind { in_link (λ l. is_for_gets l.kind) (link_of self.old.links link) ≡ true }
+        requires waits { in_link (λ l. is_some l.get) (link_of self.old.links link) ≡ false }
+        ensures { self.new ≡ after_event (GetCame link no_ack) self.old }
+    {
+        let number = self.gets + 1;
+        self.gets = number;
+        change_links(&mut self.links, link, LinkChange::Waits { number, no_ack });
+    }
+
+    /// Each whole delivery of this link that didn't come settled had its disposition.
+    #[tactic(auto, using(crate::proofs::Steps::uncovered_seen))]
+    pub fn covered(&self, link: u32) -> bool
+        ensures { result ≡ is_all_covered link self.now.list }
+    {
+        !any_uncovered(self.items.as_slice(), link)
+    }
+
+    /// Counts anew what counts on each link.
+    #[tactic(auto, using(crate::proofs::Steps::recounts_seen))]
+    fn recount(&mut self)
+        ensures { self.new ≡ with_list self.old.list self.old }
+    {
+        recount_links(&mut self.links, self.items.as_slice());
+    }
+
+    /// Changes each delivery, and counts anew.
+    #[tactic(auto, using(crate::proofs::Steps::changed_seen))]
+    fn change(&mut self, change: Change)
+        ensures { self.new ≡ with_list
+            (filter is_open (map (changed change) self.old.list)) self.old }
+    {
+        change_all(&mut self.items, change);
+        self.recount();
+    }
+
+    /// This link is no more.
+    pub fn drop_link(&mut self, link: u32)
+        requires { is_all_covered link self.old.list ≡ true }
+        ensures { self.new ≡ after_event (LinkDropped link) self.old }
+    {
+        leave_out(&mut self.links, link);
+        self.change(Change::LinkDropped { link });
+    }
+
+    // ---- transfers
+
+    /// A delivery with this delivery-id is begun, held, unsettled, or its content is being written.
+    #[tactic(auto, using(crate::proofs::Steps::open_id_seen))]
+    pub fn open_id(&self, id: u32) -> bool
+        ensures { result ≡ is_open_id id self.now.links self.now.list }
+    {
+        is_id_open(self.links.as_slice(), self.items.as_slice(), id)
+    }
+
+    #[tactic(auto, using(crate::proofs::Steps::fault_seen))]
+    fn fault_on(&self, link: u32, part: Part, size: usize) -> Option<TransferFault>
+        ensures { result ≡ fault_in part size (link_of self.now.links link)
+            self.now.links self.now.list }
+    {
+        let links = self.links.as_slice();
+        match link_with(links, link) {
+            Some(l) => transfer_fault(part, size, l, links, self.items.as_slice()),
+            None => None,
+        }
+    }
+
+    /// A transfer came on this link, with this part of its delivery's payload (AMQP 1.0 2.6.14). It
+    /// changes nothing where it is at fault. A delivery that is whole is taken first, by `arrived`.
+    pub fn transfer(&mut self, link: u32, part: Part, payload: &[u8]) -> Result<Arrival, Memory>
+        requires { in_link (λ l. is_whole l.partial) (link_of self.old.links link) ≡ false }
+        ensures fault { IfSome (fault_at part (length payload.now) link self.old) (λ fault.
+            result ≡ Ok (Violation fault)) }
+        ensures unchanged { IsSome (fault_at part (length payload.now) link self.old)
+            → self.new ≡ self.old }
+        ensures arrival { IsNone (fault_at part (length payload.now) link self.old)
+            → IfOk result (λ arrival. arrival ≡ arrival_of part) }
+        ensures ok { IsNone (fault_at part (length payload.now) link self.old)
+            → OnOk result (self.new ≡ after_event
+            (TransferCame link part payload.now) self.old) }
+        ensures err { OnErr result (self.new ≡ self.old) }
+    {
+        if let Some(fault) = self.fault_on(link, part, payload.len()) {
+            return Ok(Arrival::Violation(fault));
+        }
+        transfer_on(&mut self.links, link, part, payload)?;
+        self.recount();
+        Ok(arrival_by(part))
+    }
+
+    /// The payload of this link's delivery so far.
+    pub fn payload(&self, link: u32) -> &[u8]
+        ensures { result.now ≡ payload_in (link_of self.now.links link) }
+    {
+        match link_with(self.links.as_slice(), link) {
+            Some(l) => bytes_of(&l.partial),
+            None => &[],
+        }
+    }
+
+    /// The delivery of this link is whole, and no `arrived` took it yet.
+    pub fn is_whole(&self, link: u32) -> bool
+        ensures { result ≡ in_link (λ l. is_whole l.partial) (link_of self.now.links link) }
+    {
+        match link_with(self.links.as_slice(), link) {
+            Some(l) => is_partial_whole(&l.partial),
+            None => false,
+        }
+    }
+
+    /// Leaves out what is closed, once there are as many items as there is room for. There is room
+    /// for twice as many as are left, so each item is looked at a few times in all.
+    #[tactic(auto, using(crate::proofs::Steps::open_open))]
+    fn make_room(&mut self)
+        ensures { self.new ≡ self.old }
+    {
+        if self.items.len() >= self.room {
+            compact(&mut self.items);
+            self.room = self.items.len().saturating_mul(2).max(LEAST_ROOM);
+        }
+    }
+
+    /// The whole delivery of this link is taken, with what goes to the client of it; it has none
+    /// where it has no image. `again` says whether it was delivered before.
+    #[tactic(auto, using(crate::proofs::Steps::add_seen))]
+    pub fn arrived(
+        &mut self,
+        link: u32,
+        content: Option<Content>,
+        again: bool,
+    ) -> Result<(), Memory>
+        requires numbers { self.old.arrived < 2 ^ 62 }
+        requires whole { in_link (λ l. is_whole l.partial) (link_of self.old.links link) ≡ true }
+        ensures ok { OnOk result (self.new ≡ after_event
+            (Arrived (arriving_in link (link_of self.old.links link)) content again) self.old) }
+        ensures err { OnErr result (self.new ≡ self.old) }
+    {
+        self.make_room();
+        let arriving = arriving_on(link_with(self.links.as_slice(), link), link);
+        let number = self.arrived + 1;
+        let image = content.is_some();
+        let delivery = new_one(self.closed, number, arriving, content, again);
+        self.items.push(delivery)?;
+        self.arrived = number;
+        change_links(&mut self.links, link, LinkChange::Taken { image });
+        self.recount();
+        Ok(())
+    }
+
+    /// What goes to the client of the delivery with this delivery-id, while it is held or written.
+    #[tactic(auto, using(crate::proofs::Steps::content_seen))]
+    pub fn message(&self, id: u32) -> Option<&Content>
+        ensures { option_copied result ≡ content_of id self.now.list }
+    {
+        match first_with_content(self.items.as_slice(), id) {
+            Some(d) => d.content.as_ref(),
+            None => None,
+        }
+    }
+
+    // ---- delivers
+
+    /// The deliver or get-ok that goes next.
+    #[tactic(auto, using(crate::proofs::Steps::deliver_seen))]
+    pub fn next_deliver(&self) -> Option<NextDeliver>
+        ensures { result ≡ next_deliver_of self.now.global self.now.list }
+    {
+        first_deliver(self.global, self.items.as_slice())
+    }
+
+    /// The first byte of this deliver or get-ok was taken. The answer is its delivery tag.
+    pub fn commit_deliver(&mut self, next: NextDeliver) -> u64
+        requires tags { self.old.tags < 2 ^ 62 }
+        requires next { next_deliver_of self.old.global self.old.list ≡ Some next }
+        ensures tag { result ≡ self.old.tags + 1 }
+        ensures deliveries { self.new ≡ after_event (Delivered next.number) self.old }
+    {
+        let tag = self.tags + 1;
+        self.tags = tag;
+        self.change(Change::Delivered {
+            number: next.number,
+            tag,
+        });
+        tag
+    }
+
+    /// The last byte of the content with this tag was taken.
+    pub fn written(&mut self, tag: u64)
+        ensures { self.new ≡ after_event (Written tag) self.old }
+    {
+        self.change(Change::Written { tag });
+    }
+
+    // ---- answers of the client
+
+    #[tactic(auto, using(crate::proofs::Steps::known_seen))]
+    fn knows(&self, tag: u64, multiple: bool) -> bool
+        ensures { result ≡ is_known tag multiple self.now.list }
+    {
+        multiple && tag == 0 || any_covered(self.items.as_slice(), tag, false)
+    }
+
+    fn answer(&mut self, tag: u64, multiple: bool, settle: Settle) -> Result<(), UnknownTag>
+        ensures known { IsOk result ↔ is_known tag multiple self.old.list ≡ true }
+        ensures ok { OnOk result (self.new ≡ after_event (Answered tag multiple settle) self.old) }
+        ensures err { OnErr result (self.new ≡ self.old) }
+    {
+        if !self.knows(tag, multiple) {
+            return Err(UnknownTag);
+        }
+        self.change(Change::Answered {
+            tag,
+            multiple,
+            settle,
+        });
+        Ok(())
+    }
+
+    /// The client acknowledged the deliveries with this tag (AMQP 0-9-1 1.8.3.13). A tag that isn't
+    /// outstanding is refused, and changes nothing.
+    pub fn ack(&mut self, tag: u64, multiple: bool) -> Result<(), UnknownTag>
+        ensures known { IsOk result ↔ is_known tag multiple self.old.list ≡ true }
+        ensures ok { OnOk result (self.new
+            ≡ after_event (Answered tag multiple Accepted) self.old) }
+        ensures err { OnErr result (self.new ≡ self.old) }
+    {
+        self.answer(tag, multiple, Settle::Accepted)
+    }
+
+    /// The client rejected the deliveries with this tag (AMQP 0-9-1 1.8.3.14), or had them go back.
+    /// A tag that isn't outstanding is refused, and changes nothing.
+    pub fn reject(&mut self, tag: u64, multiple: bool, requeue: bool) -> Result<(), UnknownTag>
+        ensures known { IsOk result ↔ is_known tag multiple self.old.list ≡ true }
+        ensures ok { OnOk result (self.new ≡ after_event
+            (Answered tag multiple (if requeue then Released else Rejected)) self.old) }
+        ensures err { OnErr result (self.new ≡ self.old) }
+    {
+        let settle = if requeue {
+            Settle::Released
+        } else {
+            Settle::Rejected
+        };
+        self.answer(tag, multiple, settle)
+    }
+
+    /// The client had all outstanding deliveries go back (AMQP 0-9-1 1.8.3.16).
+    pub fn recover(&mut self)
+        ensures { self.new ≡ after_event (Answered 0 true Released) self.old }
+    {
+        self.change(Change::Answered {
+            tag: 0,
+            multiple: true,
+            settle: Settle::Released,
+        });
+    }
+
+    /// The consumer of this link was cancelled (AMQP 0-9-1 1.8.3.5).
+    pub fn cancel(&mut self, link: u32)
+        ensures { self.new ≡ after_event (Cancelled link) self.old }
+    {
+        change_links(&mut self.links, link, LinkChange::Cancelled);
+        self.change(Change::Cancelled { link });
+    }
+
+    /// The prefetch of the consumers to come (AMQP 0-9-1 1.8.3.1); 0 is no limit.
+    pub fn set_prefetch(&mut self, count: u16)
+        ensures { self.new ≡ after_event (PrefetchSet count) self.old }
+    {
+        self.prefetch = count;
+    }
+
+    /// The prefetch of all consumers together (AMQP 0-9-1 1.8.3.1); 0 is no limit.
+    pub fn set_global(&mut self, count: u16)
+        ensures { self.new ≡ after_event (GlobalSet count) self.old }
+    {
+        self.global = count;
+    }
+
+    // ---- ends
+
+    /// The life closed: what the client didn't settle goes back, and so does what arrives later.
+    pub fn release_all(&mut self)
+        ensures { self.new ≡ after_event Closed self.old }
+    {
+        self.closed = true;
+        close_links(&mut self.links);
+        self.change(Change::Closed);
+    }
+
+    /// The container's end was lost or shut: no disposition goes any more.
+    pub fn lost_all(&mut self)
+        ensures { self.new ≡ after_event EndLost self.old }
+    {
+        self.change(Change::EndLost);
+    }
+
+    // ---- dispositions
+
+    /// The disposition that goes next (AMQP 1.0 2.7.6).
+    #[tactic(auto, using(crate::proofs::Steps::settle_seen))]
+    pub fn next_settle(&self) -> Option<NextSettle>
+        ensures { result ≡ next_settle_of self.now.list }
+    {
+        let items = self.items.as_slice();
+        match first_owing(items) {
+            Some(d) => match d.place {
+                Place::Owed(settle) => Some(run_of(items, settle, d.id)),
+                _ => None,
+            },
+            None => None,
+        }
+    }
+
+    /// The disposition that is due was sent.
+    pub fn settled(&mut self)
+        requires { IsSome (next_settle_of self.old.list) }
+        ensures { IfSome (next_settle_of self.old.list) (λ settle. self.new
+            ≡ after_event (SettleSent settle) self.old) }
+    {
+        if let Some(settle) = self.next_settle() {
+            self.change(Change::SettleSent { settle });
+        }
+    }
+
+    // ---- flows
+
+    /// The flow of a link that goes next (AMQP 1.0 2.7.4).
+    pub fn next_grant(&self) -> Option<NextGrant>
+        ensures { result ≡ next_grant_of self.now.closed self.now.links }
+    {
+        first_grant(self.closed, self.links.as_slice())
+    }
+
+    /// The flow that is due was sent.
+    pub fn granted(&mut self)
+        requires { IsSome (next_grant_of self.old.closed self.old.links) }
+        ensures { IfSome (next_grant_of self.old.closed self.old.links) (λ grant. self.new
+            ≡ after_event (GrantSent grant) self.old) }
+    {
+        if let Some(grant) = self.next_grant() {
+            let change = LinkChange::FlowSent {
+                credit: grant.credit,
+                cause: grant.cause,
+            };
+            change_links(&mut self.links, grant.link, change);
+        }
+    }
+
+    /// The get that waits on this link is due a get-empty.
+    pub fn drain_done(&self, link: u32) -> bool
+        ensures { result ≡ is_drained link self.now.links }
+    {
+        match link_with(self.links.as_slice(), link) {
+            Some(l) => is_get_empty(l.get),
+            None => false,
+        }
+    }
+
+    /// The get-empty of this link's get is noted.
+    pub fn emptied(&mut self, link: u32)
+        requires { is_drained link self.old.links ≡ true }
+        ensures { self.new ≡ after_event (Emptied link) self.old }
+    {
+        change_links(&mut self.links, link, LinkChange::Emptied);
+    }
+
+    // ---- lines of the report
+
+    /// The number of the life.
+    pub fn life(&self) -> u64
+        ensures { result ≡ self.now.life }
+    {
+        self.life
+    }
+
+    /// The deliveries, and among them such for which nothing is to come any more.
+    pub fn items(&self) -> &[Delivery]
+        ensures { filter is_open result.now ≡ self.now.list }
+    {
+        self.items.as_slice()
+    }
+
+    /// The lines that the report was owed were reported.
+    pub fn lines_told(&mut self)
+        ensures { self.new ≡ after_event LinesTold self.old }
+    {
+        self.change(Change::Reported);
+    }
+}

@@ -1,0 +1,501 @@
+//! Searches and counts over the deliveries and the links of a life.
+
+ghost use Rattle.std.specs.Prelude.{◌≡◌, ◌&&◌, ◌+◌, ◌^◌, ◌<◌, ◌==◌, find, count_by, option_copied};
+ghost use Rattle.std.specs.Prelude.{if◌then◌else◌, Some, None, length};
+ghost use Rattle.std.specs.List.{list_any};
+ghost use Rattle.std.specs.Option.{option_map, option_or};
+ghost use Rattle.consume_path.specs.Items.{owes, is_held, needs_content, is_covered};
+ghost use Rattle.consume_path.specs.Links.{is_to_ask, bytes_in, is_whole};
+ghost use Rattle.consume_path.specs.Offers.{sooner, soonest, has_open_id, has_begun_id, is_open_id};
+ghost use Rattle.consume_path.specs.Offers.{is_longer, most_tag, lacks_field, is_other};
+ghost use Rattle.consume_path.specs.Offers.{names_wrongly, fault_of, arrival_of, consumes};
+ghost use Rattle.consume_path.specs.Offers.{is_unsettled, unsettled_on, has_room, has_global_room};
+ghost use Rattle.consume_path.specs.Offers.{is_within, deliver_of, getting, consuming, get_offer};
+ghost use Rattle.consume_path.specs.Offers.{consumer_offer, rank_of, has_content, owes_of, owes_id};
+ghost use Rattle.consume_path.specs.Offers.{next_deliver_of, run_to, run_from, settle_in};
+ghost use Rattle.consume_path.specs.Offers.{is_uncovered, is_for_gets, echo_credit, grant_as};
+ghost use Rattle.consume_path.specs.Offers.{flow_if, flow_of, grant_link, is_partial};
+
+use crate::changes::{
+    is_delivery_covered, is_delivery_left, is_on_link, is_owed_as, is_place_held, is_place_owed,
+    is_taker_no_ack, is_unsettled as is_out_unsettled, taker_limit,
+};
+use crate::delivery::{Delivery, NextDeliver, NextSettle, Settle, Taker};
+use crate::receiving::{
+    Arrival, Cause, NextGrant, Part, Partial, ReceivingLink, RecvKind, TransferFault, WaitingGet,
+};
+
+/// A delivery-tag has at most so many bytes (AMQP 1.0 2.8.7).
+const MOST_TAG: usize = 32;
+
+/// A delivery has at most so many bytes: the max-message-size of the gateway's attaches.
+const MOST_BYTES: usize = 16_842_752;
+
+/// A deliver or get-ok, by its place among those that could be due.
+#[derive(Clone, Copy, Debug)]
+pub struct Ranked {
+    pub rank: u64,
+    pub next: NextDeliver,
+}
+
+fn is_open_id_of(d: &Delivery, id: u32) -> bool
+    ensures { result ≡ has_open_id id d.now }
+{
+    d.id == id && (is_place_held(d.place) || d.writing || is_delivery_left(d))
+}
+
+fn is_partial_of(partial: &Option<Partial>, id: u32) -> bool
+    ensures { result ≡ is_partial id partial.now }
+{
+    match partial {
+        Some(partial) => partial.id == id,
+        None => false,
+    }
+}
+
+fn is_begun_id_of(l: &ReceivingLink, id: u32) -> bool
+    ensures { result ≡ has_begun_id id l.now }
+{
+    is_partial_of(&l.partial, id)
+}
+
+fn any_begun_id(links: &[ReceivingLink], id: u32) -> bool
+    ensures { result ≡ list_any (has_begun_id id) links.now }
+{
+    links.iter().any(|l| is_begun_id_of(l, id))
+}
+
+fn any_open_id(items: &[Delivery], id: u32) -> bool
+    ensures { result ≡ list_any (has_open_id id) items.now }
+{
+    items.iter().any(|d| is_open_id_of(d, id))
+}
+
+/// A delivery that is open has this delivery-id.
+pub fn is_id_open(links: &[ReceivingLink], items: &[Delivery], id: u32) -> bool
+    ensures { result ≡ is_open_id id links.now items.now }
+{
+    any_begun_id(links, id) || any_open_id(items, id)
+}
+
+fn is_tag_long(tag_length: Option<usize>) -> bool
+    ensures { result ≡ is_longer most_tag tag_length }
+{
+    match tag_length {
+        Some(length) => length > MOST_TAG,
+        None => false,
+    }
+}
+
+fn is_field_lacking(first: bool, part: Part) -> bool
+    ensures { result ≡ lacks_field first part }
+{
+    first && (part.id.is_none() || part.tag_length.is_none())
+        || is_tag_long(part.tag_length)
+        || part.resume
+}
+
+fn is_of_another(partial: &Option<Partial>, id: Option<u32>) -> bool
+    ensures { result ≡ is_other partial.now id }
+{
+    match (partial, id) {
+        (Some(partial), Some(id)) => partial.id != id,
+        _ => false,
+    }
+}
+
+fn is_wrongly_named(
+    part: Part,
+    l: &ReceivingLink,
+    links: &[ReceivingLink],
+    items: &[Delivery],
+) -> bool
+    ensures { result ≡ names_wrongly part l.now links.now items.now }
+{
+    let first = l.partial.is_none();
+    is_field_lacking(first, part)
+        || first && is_id_open(links, items, part.id.unwrap_or(0))
+        || is_of_another(&l.partial, part.id)
+}
+
+/// The bytes of a delivery so far.
+pub fn bytes_of(partial: &Option<Partial>) -> &[u8]
+    ensures { result.now ≡ bytes_in partial.now }
+{
+    match partial {
+        Some(partial) => partial.bytes.as_slice(),
+        None => &[],
+    }
+}
+
+/// The last transfer of a delivery came.
+pub fn is_partial_whole(partial: &Option<Partial>) -> bool
+    ensures { result ≡ is_whole partial.now }
+{
+    match partial {
+        Some(partial) => partial.whole,
+        None => false,
+    }
+}
+
+/// What is wrong with a transfer of so many bytes.
+pub fn transfer_fault(
+    part: Part,
+    size: usize,
+    l: &ReceivingLink,
+    links: &[ReceivingLink],
+    items: &[Delivery],
+) -> Option<TransferFault>
+    ensures { result ≡ fault_of part size l.now links.now items.now }
+{
+    if is_wrongly_named(part, l, links, items) {
+        return Some(TransferFault::InvalidField);
+    }
+    if l.partial.is_none() && l.state.limit_left() == 0 {
+        return Some(TransferFault::LimitExceeded);
+    }
+    if bytes_of(&l.partial).len().saturating_add(size) > MOST_BYTES {
+        return Some(TransferFault::SizeExceeded);
+    }
+    None
+}
+
+/// What a transfer that isn't at fault comes to.
+pub fn arrival_by(part: Part) -> Arrival
+    ensures { result ≡ arrival_of part }
+{
+    if part.aborted {
+        Arrival::Dropped
+    } else if part.more {
+        Arrival::More
+    } else {
+        Arrival::Whole
+    }
+}
+
+fn is_consumer(taker: Taker) -> bool
+    ensures { result ≡ consumes taker }
+{
+    matches!(taker, Taker::Consumer { .. })
+}
+
+fn is_unsettled_one(d: &Delivery) -> bool
+    ensures { result ≡ is_unsettled d.now }
+{
+    is_consumer(d.taker) && is_out_unsettled(d)
+}
+
+fn is_unsettled_on(d: &Delivery, link: u32) -> bool
+    ensures { result ≡ unsettled_on link d.now }
+{
+    is_on_link(d.link, link) && is_unsettled_one(d)
+}
+
+fn has_room_for(limit: Option<u32>, count: usize) -> bool
+    ensures { result ≡ has_room limit count }
+{
+    match limit {
+        Some(limit) => (count as u64) < limit as u64,
+        None => true,
+    }
+}
+
+/// One more unsettled delivery of a consumer is within the limit of all.
+fn has_room_of_all(global: u16, items: &[Delivery]) -> bool
+    ensures { result ≡ has_global_room global items.now }
+{
+    global == 0 || items.iter().filter(|d| is_unsettled_one(d)).count() < global as usize
+}
+
+fn count_unsettled_on(items: &[Delivery], link: u32) -> usize
+    ensures { result ≡ count_by (unsettled_on link) items.now }
+{
+    items.iter().filter(|d| is_unsettled_on(d, link)).count()
+}
+
+fn is_within_limits(free: bool, items: &[Delivery], link: u32, taker: Taker) -> bool
+    ensures { result ≡ is_within free (count_by (unsettled_on link) items.now) taker }
+{
+    is_taker_no_ack(taker)
+        || free && has_room_for(taker_limit(taker), count_unsettled_on(items, link))
+}
+
+fn deliver_of(link: u32, d: &Delivery) -> NextDeliver
+    ensures { result ≡ deliver_of link d.now }
+{
+    NextDeliver {
+        number: d.number,
+        link,
+        id: d.id,
+        again: d.again,
+    }
+}
+
+fn offer_to_get(d: &Delivery) -> Option<Ranked>
+    ensures { result ≡ get_offer d.now }
+{
+    if !is_place_held(d.place) {
+        return None;
+    }
+    match (d.link, d.taker) {
+        (Some(link), Taker::Getter { number, .. }) => Some(Ranked {
+            rank: number,
+            next: deliver_of(link, d),
+        }),
+        _ => None,
+    }
+}
+
+fn offer_to_consumer(free: bool, items: &[Delivery], d: &Delivery) -> Option<Ranked>
+    ensures { result ≡ consumer_offer free items.now d.now }
+{
+    if !is_place_held(d.place) {
+        return None;
+    }
+    match d.link {
+        Some(link) if is_consumer(d.taker) && is_within_limits(free, items, link, d.taker) => {
+            Some(Ranked {
+                rank: link as u64,
+                next: deliver_of(link, d),
+            })
+        }
+        _ => None,
+    }
+}
+
+fn sooner_of(a: Option<Ranked>, b: Option<Ranked>) -> Option<Ranked>
+    ensures { result ≡ sooner rank_of a b }
+{
+    match (a, b) {
+        (Some(a), Some(b)) => Some(if b.rank < a.rank { b } else { a }),
+        (None, b) => b,
+        (a, None) => a,
+    }
+}
+
+/// The best of two offers. A consumer that doesn't come before isn't looked at any closer.
+fn sooner_consumer(
+    best: Option<Ranked>,
+    free: bool,
+    items: &[Delivery],
+    d: &Delivery,
+) -> Option<Ranked>
+    ensures { result ≡ sooner rank_of best (consumer_offer free items.now d.now) }
+{
+    match (best, d.link) {
+        (Some(best), Some(link)) if best.rank <= link as u64 => Some(best),
+        _ => sooner_of(best, offer_to_consumer(free, items, d)),
+    }
+}
+
+/// The get-ok that is due: of the first get.
+#[tactic(auto, using(crate::proofs::Least::sooner_none, crate::proofs::Least::sooner_more))]
+fn first_get(items: &[Delivery]) -> Option<Ranked>
+    ensures { result ≡ soonest rank_of get_offer items.now }
+{
+    let mut best = None;
+    for d in items {
+        best = sooner_of(best, offer_to_get(d));
+    }
+    best
+}
+
+/// The deliver that is due: of the consumer whose link has the least number.
+#[tactic(auto, using(crate::proofs::Least::sooner_none, crate::proofs::Least::sooner_more))]
+fn first_consumer(free: bool, items: &[Delivery]) -> Option<Ranked>
+    ensures { result ≡ soonest rank_of (consumer_offer free items.now) items.now }
+{
+    let mut best = None;
+    for d in items {
+        best = sooner_consumer(best, free, items, d);
+    }
+    best
+}
+
+/// The deliver or get-ok that is due: a get's before a consumer's.
+pub fn first_deliver(global: u16, items: &[Delivery]) -> Option<NextDeliver>
+    ensures { result ≡ next_deliver_of global items.now }
+{
+    let first = match first_get(items) {
+        Some(first) => Some(first),
+        None => first_consumer(has_room_of_all(global, items), items),
+    };
+    match first {
+        Some(first) => Some(first.next),
+        None => None,
+    }
+}
+
+fn has_content_of(d: &Delivery, id: u32) -> bool
+    ensures { result ≡ has_content id d.now }
+{
+    d.id == id && (is_place_held(d.place) || d.writing)
+}
+
+/// The delivery with this delivery-id whose content is needed.
+pub fn first_with_content(items: &[Delivery], id: u32) -> Option<&Delivery>
+    ensures { option_copied result ≡ find (has_content id) items.now }
+{
+    items.iter().find(|d| has_content_of(d, id))
+}
+
+/// A delivery is covered by this tag.
+pub fn any_covered(items: &[Delivery], tag: u64, multiple: bool) -> bool
+    ensures { result ≡ list_any (is_covered tag multiple) items.now }
+{
+    items.iter().any(|d| is_delivery_covered(d, tag, multiple))
+}
+
+fn is_owing(d: &Delivery) -> bool
+    ensures { result ≡ owes d.now.place }
+{
+    is_place_owed(d.place)
+}
+
+fn is_owing_of(d: &Delivery, settle: Settle) -> bool
+    ensures { result ≡ owes_of settle d.now }
+{
+    is_owed_as(d.place, settle)
+}
+
+fn is_owing_id(d: &Delivery, settle: Settle, id: u32) -> bool
+    ensures { result ≡ owes_id settle id d.now }
+{
+    is_owed_as(d.place, settle) && d.id == id
+}
+
+/// The first delivery that is owed a disposition.
+pub fn first_owing(items: &[Delivery]) -> Option<&Delivery>
+    ensures { option_copied result ≡ find (λ d. owes d.place) items.now }
+{
+    items.iter().find(|d| is_owing(d))
+}
+
+fn any_owing_id(items: &[Delivery], settle: Settle, id: u32) -> bool
+    ensures { result ≡ list_any (owes_id settle id) items.now }
+{
+    items.iter().any(|d| is_owing_id(d, settle, id))
+}
+
+fn count_owing(items: &[Delivery], settle: Settle) -> usize
+    ensures { result ≡ count_by (owes_of settle) items.now }
+{
+    items.iter().filter(|d| is_owing_of(d, settle)).count()
+}
+
+/// The last of the consecutive ids from here on that are owed this state.
+fn run_end(items: &[Delivery], settle: Settle, id: u32, most: usize) -> u32
+    ensures { result ≡ run_to most settle items.now id }
+{
+    let mut last = id;
+    for _ in 0..most {
+        let next = last.wrapping_add(1);
+        if !any_owing_id(items, settle, next) {
+            return last;
+        }
+        last = next;
+    }
+    last
+}
+
+/// The disposition of the run of ids from here on.
+pub fn run_of(items: &[Delivery], settle: Settle, id: u32) -> NextSettle
+    ensures { result ≡ run_from settle items.now id }
+{
+    NextSettle {
+        first: id,
+        last: run_end(items, settle, id, count_owing(items, settle)),
+        settle,
+    }
+}
+
+fn is_uncovered_on(d: &Delivery, link: u32) -> bool
+    ensures { result ≡ is_uncovered link d.now }
+{
+    is_on_link(d.link, link) && is_delivery_left(d)
+}
+
+/// A whole delivery of this link lacks its disposition.
+pub fn any_uncovered(items: &[Delivery], link: u32) -> bool
+    ensures { result ≡ list_any (is_uncovered link) items.now }
+{
+    items.iter().any(|d| is_uncovered_on(d, link))
+}
+
+fn is_kind_for_gets(kind: &RecvKind) -> bool
+    ensures { result ≡ is_for_gets kind.now }
+{
+    matches!(kind, RecvKind::Get)
+}
+
+fn is_get_to_ask(get: Option<WaitingGet>) -> bool
+    ensures { result ≡ is_to_ask get }
+{
+    match get {
+        Some(get) => !get.asked && !get.empty,
+        None => false,
+    }
+}
+
+fn echoed_credit(closed: bool, l: &ReceivingLink) -> u32
+    ensures { result ≡ echo_credit closed l.now }
+{
+    if l.cancelled || closed && is_kind_for_gets(&l.kind) {
+        0
+    } else {
+        l.state.credit()
+    }
+}
+
+fn grant_as(l: &ReceivingLink, cause: Cause, credit: u32) -> NextGrant
+    ensures { result ≡ grant_as l.now cause credit }
+{
+    NextGrant {
+        link: l.link,
+        credit,
+        cause,
+    }
+}
+
+fn flow_due(closed: bool, l: &ReceivingLink) -> Option<NextGrant>
+    ensures { result ≡ flow_of closed l.now }
+{
+    if !l.attached {
+        return None;
+    }
+    if let Some(credit) = l.state.grant_due() {
+        return Some(grant_as(l, Cause::Refill, credit));
+    }
+    if l.stopping {
+        return Some(grant_as(l, Cause::Stop, 0));
+    }
+    if is_get_to_ask(l.get) && !closed {
+        return Some(grant_as(l, Cause::Get, 1));
+    }
+    if l.echoes > 0 {
+        return Some(grant_as(l, Cause::Echo, echoed_credit(closed, l)));
+    }
+    None
+}
+
+fn sooner_grant(a: Option<NextGrant>, b: Option<NextGrant>) -> Option<NextGrant>
+    ensures { result ≡ sooner grant_link a b }
+{
+    match (a, b) {
+        (Some(a), Some(b)) => Some(if b.link < a.link { b } else { a }),
+        (None, b) => b,
+        (a, None) => a,
+    }
+}
+
+/// The flow that is due: of the link with the least number.
+#[tactic(auto, using(crate::proofs::Least::sooner_none, crate::proofs::Least::sooner_more))]
+pub fn first_grant(closed: bool, links: &[ReceivingLink]) -> Option<NextGrant>
+    ensures { result ≡ soonest grant_link (flow_of closed) links.now }
+{
+    let mut best = None;
+    for l in links {
+        best = sooner_grant(best, flow_due(closed, l));
+    }
+    best
+}
