@@ -1,6 +1,8 @@
 -- What the top call does with its words, its ports, its input, out and the sink for a capture.
-use Rattle.std.specs.Prelude.{◌≡◌, ℕ, ◌⊎◌, List, ◌++◌, Option, None, Some, codes, decimal}
+use Rattle.std.specs.Prelude.{◌≡◌, ℕ, ◌≤◌, ◌⊎◌, List, ◌++◌, Option, None, Some, codes, decimal}
 use Rattle.gate_outside.specs.declared.log.LogEntry.{LogEntry}
+use Rattle.gate_outside.specs.declared.ports.Ports as ports
+use Rattle.gate_outside.specs.declared.streams.Sink as sink
 use Rattle.gate_outside.specs.Counts.{Rose}
 use Rattle.gate_outside.specs.Streams.{Appends, AppendsFront}
 use Rattle.gate_capture.specs.Captures.{start}
@@ -8,7 +10,9 @@ use Rattle.gate_model.specs.Setup.{SetupText}
 use Rattle.gate_runs.specs.declared.limits.Limits.{Limits}
 use Rattle.gate_runs.specs.declared.served.Served.{Served}
 use Rattle.gate_runs.specs.declared.served.Served.TheVariants as served
+use Rattle.gate_runs.specs.declared.served.Outside.TheVariants as outside
 use Rattle.gate_runs.specs.Marks.{HasHistory}
+use Rattle.gate_runs.specs.Next.{pair_limit}
 use Rattle.gate_command.specs.declared.top_call.Status.{Status}
 use Rattle.gate_command.specs.declared.top_call.Status.TheVariants as status
 use Rattle.gate_command.specs.declared.words.Asked.TheVariants.{Serve, Replay, ShowCapture}
@@ -57,16 +61,30 @@ Tells faults faults' held held' line =
 
 -- what stands around the call, before it or after it
 pub record Around : Type 0 where
+  -- of the ports: the count of the pairs accepted, that of faults, and the calls
+  pub pairs : ℕ
+  pub port_faults : ℕ
+  pub log : Option (List LogEntry)
   -- of out: the count of faults, and what it holds
   pub faults : ℕ
   pub held : Option (List ℕ)
-  -- what the sink for a capture holds
+  -- of the sink for a capture: the count of faults, and what it holds
+  pub capture_faults : ℕ
   pub kept : Option (List ℕ)
-  -- the calls of the ports
-  pub log : Option (List LogEntry)
 
-abbrev pub around : ℕ → Option (List ℕ) → Option (List ℕ) → Option (List LogEntry) → Around
-around faults held kept log = record { faults = faults; held = held; kept = kept; log = log }
+-- of these ports, out, and the sink for a capture
+abbrev pub around : {P K C : Type 0} → ports.Ghosts P → sink.Ghosts K → sink.Ghosts C → P → K → C
+    → Around
+around p k c at out capture =
+    record {
+      pairs = p.pairs at;
+      port_faults = p.faults at;
+      log = p.log at;
+      faults = k.faults out;
+      held = k.held out;
+      capture_faults = c.faults capture;
+      kept = c.held capture;
+    }
 
 -- the words aren't a command line, and the place was told; or out failed at that. Nothing else was
 -- done
@@ -77,21 +95,78 @@ pub record IsMisread (words : List (List ℕ)) (answer : Status) (old new : Arou
   pub unrecorded : new.kept ≡ old.kept
   pub silent : new.log ≡ old.log
 
+-- the same, of a record of calls that holds this
+abbrev pub with_kept : Option (List ℕ) → Around → Around
+with_kept kept a =
+    record {
+      pairs = a.pairs;
+      port_faults = a.port_faults;
+      log = a.log;
+      faults = a.faults;
+      held = a.held;
+      capture_faults = a.capture_faults;
+      kept = kept;
+    }
+
+-- of these ports and out, where no record of calls is kept
+abbrev pub unrecorded : {P K : Type 0} → ports.Ghosts P → sink.Ghosts K → P → K → Around
+unrecorded p k at out =
+    record {
+      pairs = p.pairs at;
+      port_faults = p.faults at;
+      log = p.log at;
+      faults = k.faults out;
+      held = k.held out;
+      capture_faults = 0;
+      kept = None;
+    }
+
+abbrev pub without_record : Around → Around
+without_record a =
+    record {
+      pairs = a.pairs;
+      port_faults = a.port_faults;
+      log = a.log;
+      faults = a.faults;
+      held = a.held;
+      capture_faults = 0;
+      kept = None;
+    }
+
+-- what the counts say of a run that ended so and in which so many pairs ran out of memory, also
+-- where its calls aren't told
+pub record AreCounted (c : Limits) (how : Served) (ran_out : ℕ) (old new : Around) : Type 0 where
+  -- at most as many pairs were accepted as may be, and so many where the service ended for that
+  pub limit : new.pairs ≤ pair_limit c
+  pub all : how ≡ served.PairsDone → new.pairs ≡ pair_limit c
+  -- each is counted at most once
+  pub count : ran_out ≤ new.pairs
+  -- what failed had its count of faults rise
+  pub accept : how ≡ served.Fault outside.Accept → Rose old.port_faults new.port_faults
+  pub report : how ≡ served.Fault outside.Out → Rose old.faults new.faults
+  pub capture : how ≡ served.Fault outside.Capture → Rose old.capture_faults new.capture_faults
+
 -- a run of the service was made whose pairs share s, and this is its status
-pub record Ran (s : SetupText) (c : Limits) (answer : Status) (held held' kept kept' : Option
-    (List ℕ)) (log log' : Option (List LogEntry)) : Type 0 where
+pub record Ran (s : SetupText) (c : Limits) (answer : Status) (old new : Around) : Type 0 where
   pub how : Served
   -- how many pairs ran out of memory
   pub count : ℕ
   pub status : answer ≡ status_of how
-  pub served : (base : List LogEntry) → log ≡ Some base → HasHistory base log'
-      (IsRunOf s c how count held held' kept kept')
+  pub counted : AreCounted c how count old new
+  pub served : (base : List LogEntry) → old.log ≡ Some base → HasHistory base new.log
+      (IsRunOf s c how count old.held new.held old.kept new.kept)
 
 -- the words ask for a run of the service with these limits, whose pairs share s, and for its
 -- capture where a path is given
 abbrev pub AsksToServe : List (List ℕ) → Limits → SetupText → Option (List ℕ) → Type 0
 AsksToServe words c s path =
     (listen : List ℕ) × (upstream : List ℕ) × Asks words (Serve c s listen upstream path)
+
+-- so many pairs may be accepted in each run of the service that the words ask for
+abbrev pub MayAccept : List (List ℕ) → ℕ → Type 0
+MayAccept words n =
+    (c : Limits) (s : SetupText) (path : Option (List ℕ)) → AsksToServe words c s path
+    → n ≤ pair_limit c
 
 -- the words ask for a run of the service of which no record is kept, and it was made
 pub record IsRun (words : List (List ℕ)) (answer : Status) (old new : Around) : Type 0 where
@@ -100,7 +175,7 @@ pub record IsRun (words : List (List ℕ)) (answer : Status) (old new : Around) 
   pub listen : List ℕ
   pub upstream : List ℕ
   pub asks : Asks words (Serve limits setup listen upstream None)
-  pub ran : Ran setup limits answer old.held new.held None None old.log new.log
+  pub ran : Ran setup limits answer (without_record old) (without_record new)
   pub unrecorded : new.kept ≡ old.kept
 
 -- the start of a capture with this text of the words was written, and behind it the calls of a run
@@ -109,7 +184,7 @@ pub record BeginsAndRuns (text : List ℕ) (s : SetupText) (c : Limits) (answer 
     (old new : Around) : Type 0 where
   pub begun : Option (List ℕ)
   pub start : Appends old.kept begun (start text)
-  pub ran : Ran s c answer old.held new.held begun new.kept old.log new.log
+  pub ran : Ran s c answer (with_kept begun old) new
 
 -- the start was not taken, which out was told. Nothing was asked of the ports
 pub record FailsToBegin (text : List ℕ) (answer : Status) (old new : Around) : Type 0 where

@@ -67,6 +67,8 @@ fn list_input<R: Source, K: Sink>(
     input: &mut R,
     out: &mut K,
 ) -> Result<Status, Memory>
+    ensures drawn { R.faults input.old ≤ R.faults input.new }
+    ensures later { K.faults out.old ≤ K.faults out.new }
     ensures cause { result ≡ Ok Status.Outside
         → Rose (R.faults input.old) (R.faults input.new) ⊎ Rose (K.faults out.old)
         (K.faults out.new) }
@@ -90,6 +92,8 @@ pub fn run_listing<R: Source, K: Sink>(
     input: &mut R,
     out: &mut K,
 ) -> Status
+    ensures drawn { R.faults input.old ≤ R.faults input.new }
+    ensures later { K.faults out.old ≤ K.faults out.new }
     ensures cause { result ≡ Status.Outside
         → Rose (R.faults input.old) (R.faults input.new) ⊎ Rose (K.faults out.old)
         (K.faults out.new) }

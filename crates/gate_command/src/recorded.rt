@@ -190,6 +190,8 @@ fn replay_input<R: Source, K: Sink>(
     input: &mut R,
     out: &mut K,
 ) -> Result<Status, Memory>
+    ensures drawn { R.faults input.old ≤ R.faults input.new }
+    ensures later { K.faults out.old ≤ K.faults out.new }
     ensures cause { result ≡ Ok Status.Outside
         → Rose (R.faults input.old) (R.faults input.new) ⊎ Rose (K.faults out.old)
         (K.faults out.new) }
@@ -229,6 +231,8 @@ fn show_input<R: Source, K: Sink>(
     input: &mut R,
     out: &mut K,
 ) -> Result<Status, Memory>
+    ensures drawn { R.faults input.old ≤ R.faults input.new }
+    ensures later { K.faults out.old ≤ K.faults out.new }
     ensures cause { result ≡ Ok Status.Outside
         → Rose (R.faults input.old) (R.faults input.new) ⊎ Rose (K.faults out.old)
         (K.faults out.new) }
@@ -247,6 +251,8 @@ fn show_input<R: Source, K: Sink>(
 
 /// Replays the capture that is the input; its status.
 pub fn run_replay<R: Source, K: Sink>(alloc: Global, input: &mut R, out: &mut K) -> Status
+    ensures drawn { R.faults input.old ≤ R.faults input.new }
+    ensures later { K.faults out.old ≤ K.faults out.new }
     ensures cause { result ≡ Status.Outside
         → Rose (R.faults input.old) (R.faults input.new) ⊎ Rose (K.faults out.old)
         (K.faults out.new) }
@@ -262,6 +268,8 @@ pub fn run_replay<R: Source, K: Sink>(alloc: Global, input: &mut R, out: &mut K)
 
 /// Lists the capture that is the input; its status.
 pub fn run_show<R: Source, K: Sink>(alloc: Global, input: &mut R, out: &mut K) -> Status
+    ensures drawn { R.faults input.old ≤ R.faults input.new }
+    ensures later { K.faults out.old ≤ K.faults out.new }
     ensures cause { result ≡ Status.Outside
         → Rose (R.faults input.old) (R.faults input.new) ⊎ Rose (K.faults out.old)
         (K.faults out.new) }

@@ -1,12 +1,13 @@
 //! Runs of the service, with and without a capture of its calls.
 
-ghost use Rattle.std.specs.Prelude.{◌≡◌, ◌≢◌, ◌≤◌, ◌<◌, ◌^◌, ◌⊎◌, List, [], length, Some, None};
+ghost use Rattle.std.specs.Prelude.{◌≡◌, ◌≢◌, ◌≤◌, ◌<◌, ◌^◌, ◌⊎◌, List, [], length, Some};
 ghost use Rattle.gate_outside.specs.Counts.{Rose};
 ghost use Rattle.gate_outside.specs.declared.log.LogEntry.{LogEntry};
 ghost use Rattle.gate_runs.specs.declared.served.Outside.TheVariants as Outside;
 ghost use Rattle.gate_runs.specs.Form.{IsInForm};
 ghost use Rattle.gate_runs.specs.Marks.{HasHistory};
-ghost use Rattle.gate_command.specs.Outcome.{status_of, lost_line, around, Ran, Tells};
+ghost use Rattle.gate_runs.specs.Next.{pair_limit};
+ghost use Rattle.gate_command.specs.Outcome.{status_of, lost_line, around, unrecorded, Ran, Tells};
 ghost use Rattle.gate_command.specs.Outcome.{BeginsAndRuns, FailsToBegin};
 ghost use Rattle.gate_command.specs.Runs.{IsRunOf};
 
@@ -61,13 +62,20 @@ pub fn serve_lawfully<P: Ports, K: Sink, T: Recorder>(
     requires ends { P.ends ports.old ≡ [] }
     requires form { IsInForm limits.now }
     ensures ends { P.ends ports.new ≡ [] }
+    ensures limit { P.pairs ports.new ≤ pair_limit limits.now }
+    ensures all { result.0 ≡ Served.PairsDone → P.pairs ports.new ≡ pair_limit limits.now }
+    ensures count { result.1 ≤ P.pairs ports.new }
+    ensures memory { result.0 ≡ Served.Memory → ports.new ≡ ports.old }
+    ensures onward { P.last ports.old ≤ P.last ports.new }
+    ensures later { P.faults ports.old ≤ P.faults ports.new }
+    ensures out { K.faults out.old ≤ K.faults out.new }
+    ensures tape { T.faults recorder.old ≤ T.faults recorder.new }
     ensures accept { result.0 ≡ Served.Fault Outside.Accept → Rose (P.faults ports.old)
         (P.faults ports.new) }
     ensures report { result.0 ≡ Served.Fault Outside.Out → Rose (K.faults out.old)
         (K.faults out.new) }
     ensures capture { result.0 ≡ Served.Fault Outside.Capture
         → Rose (T.faults recorder.old) (T.faults recorder.new) }
-    ensures tape { T.faults recorder.old ≤ T.faults recorder.new }
     ensures served { (base : List LogEntry) → P.log ports.old ≡ Some base
         → HasHistory base (P.log ports.new) (IsRunOf setup.now limits.now result.0 result.1
         (K.held out.old) (K.held out.new)
@@ -93,8 +101,14 @@ pub fn run_unrecorded<P: Ports, K: Sink>(
     ensures outside { result ≡ Status.Outside
         → Rose (P.faults ports.old) (P.faults ports.new) ⊎ Rose (K.faults out.old)
         (K.faults out.new) }
-    ensures ran { Ran setup.now limits.now result (K.held out.old) (K.held out.new) None None
-        (P.log ports.old) (P.log ports.new) }
+    ensures memory { result ≡ Status.Memory → ports.new ≡ ports.old }
+    ensures onward { P.last ports.old ≤ P.last ports.new }
+    ensures later { P.faults ports.old ≤ P.faults ports.new }
+    ensures out { K.faults out.old ≤ K.faults out.new }
+    ensures limit { P.pairs ports.new ≤ pair_limit limits.now }
+    ensures ran { Ran setup.now limits.now result
+        (unrecorded ⟦<P as Ports>⟧ ⟦<K as Sink>⟧ ports.old out.old)
+        (unrecorded ⟦<P as Ports>⟧ ⟦<K as Sink>⟧ ports.new out.new) }
 {
     let mut recorder = NoCapture;
     let (served, _count) = serve_lawfully(alloc, setup, limits, ports, out, &mut recorder);
@@ -118,10 +132,15 @@ fn run_recorded<P: Ports, K: Sink, C: Sink>(
     ensures outside { result ≡ Status.Outside → Rose (P.faults ports.old) (P.faults ports.new)
         ⊎ Rose (K.faults out.old) (K.faults out.new) ⊎ Rose (C.faults capture.old.sink)
         (C.faults capture.new.sink) }
-    ensures later { C.faults capture.old.sink ≤ C.faults capture.new.sink }
-    ensures ran { Ran setup.now limits.now result (K.held out.old) (K.held out.new)
-        (C.held capture.old.sink) (C.held capture.new.sink)
-        (P.log ports.old) (P.log ports.new) }
+    ensures memory { result ≡ Status.Memory → ports.new ≡ ports.old }
+    ensures onward { P.last ports.old ≤ P.last ports.new }
+    ensures later { P.faults ports.old ≤ P.faults ports.new }
+    ensures out { K.faults out.old ≤ K.faults out.new }
+    ensures tape { C.faults capture.old.sink ≤ C.faults capture.new.sink }
+    ensures limit { P.pairs ports.new ≤ pair_limit limits.now }
+    ensures ran { Ran setup.now limits.now result
+        (around ⟦<P as Ports>⟧ ⟦<K as Sink>⟧ ⟦<C as Sink>⟧ ports.old out.old capture.old.sink)
+        (around ⟦<P as Ports>⟧ ⟦<K as Sink>⟧ ⟦<C as Sink>⟧ ports.new out.new capture.new.sink) }
 {
     let (served, _count) = serve_lawfully(alloc, setup, limits, ports, out, capture);
     status_of(served)
@@ -129,7 +148,8 @@ fn run_recorded<P: Ports, K: Sink, C: Sink>(
 
 /// Writes the line for a capture whose start was not taken.
 fn tell_lost_start<K: Sink>(out: &mut K)
-    ensures { Tells (K.faults out.old) (K.faults out.new) (K.held out.old)
+    ensures later { K.faults out.old ≤ K.faults out.new }
+    ensures told { Tells (K.faults out.old) (K.faults out.new) (K.held out.old)
         (K.held out.new) lost_line }
 {
     // The run is over for the capture, whether or not out takes the line.
@@ -156,12 +176,18 @@ pub fn begin_and_run<P: Ports, K: Sink, C: Sink>(
     ensures outside { result ≡ Status.Outside → Rose (P.faults ports.old) (P.faults ports.new)
         ⊎ Rose (K.faults out.old) (K.faults out.new) ⊎ Rose (C.faults capture.old.sink)
         (C.faults capture.new.sink) }
+    ensures memory { result ≡ Status.Memory → ports.new ≡ ports.old }
+    ensures onward { P.last ports.old ≤ P.last ports.new }
+    ensures later { P.faults ports.old ≤ P.faults ports.new }
+    ensures out { K.faults out.old ≤ K.faults out.new }
+    ensures tape { C.faults capture.old.sink ≤ C.faults capture.new.sink }
+    ensures limit { P.pairs ports.new ≤ pair_limit limits.now }
     ensures outcome { BeginsAndRuns text.now setup.now limits.now result
-        (around (K.faults out.old) (K.held out.old) (C.held capture.old.sink) (P.log ports.old))
-        (around (K.faults out.new) (K.held out.new) (C.held capture.new.sink) (P.log ports.new))
+        (around ⟦<P as Ports>⟧ ⟦<K as Sink>⟧ ⟦<C as Sink>⟧ ports.old out.old capture.old.sink)
+        (around ⟦<P as Ports>⟧ ⟦<K as Sink>⟧ ⟦<C as Sink>⟧ ports.new out.new capture.new.sink)
         ⊎ FailsToBegin text.now result
-        (around (K.faults out.old) (K.held out.old) (C.held capture.old.sink) (P.log ports.old))
-        (around (K.faults out.new) (K.held out.new) (C.held capture.new.sink) (P.log ports.new)) }
+        (around ⟦<P as Ports>⟧ ⟦<K as Sink>⟧ ⟦<C as Sink>⟧ ports.old out.old capture.old.sink)
+        (around ⟦<P as Ports>⟧ ⟦<K as Sink>⟧ ⟦<C as Sink>⟧ ports.new out.new capture.new.sink) }
 {
     if !write_start(&mut capture.sink, text) {
         tell_lost_start(out);

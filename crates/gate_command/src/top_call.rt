@@ -5,9 +5,10 @@ ghost use Rattle.std.specs.String.{string_bytes};
 ghost use Rattle.gate_outside.specs.Counts.{Rose};
 ghost use Rattle.gate_outside.specs.Streams.{Appends, AppendsFront};
 ghost use Rattle.gate_runs.specs.Form.{IsInForm};
+ghost use Rattle.gate_runs.specs.Next.{pair_limit};
 ghost use Rattle.gate_command.specs.Command.{AreInForm, Asks, text_of};
 ghost use Rattle.gate_command.specs.Outcome.{number_of, usage_line, around, AsksToServe, Outcome};
-ghost use Rattle.gate_command.specs.Outcome.{WithoutInput};
+ghost use Rattle.gate_command.specs.Outcome.{MayAccept, WithoutInput};
 
 use crate::listing::run_listing;
 use crate::recorded::{run_replay, run_show};
@@ -102,9 +103,15 @@ fn serve_as_asked<P: Ports, K: Sink, C: Sink>(
         ⊎ Rose (K.faults out.old) (K.faults out.new) ⊎ Rose (C.faults capture.old.sink)
         (C.faults capture.new.sink) }
     ensures never { result ≢ Status.Usage }
+    ensures memory { result ≡ Status.Memory → ports.new ≡ ports.old }
+    ensures onward { P.last ports.old ≤ P.last ports.new }
+    ensures later { P.faults ports.old ≤ P.faults ports.new }
+    ensures out { K.faults out.old ≤ K.faults out.new }
+    ensures tape { C.faults capture.old.sink ≤ C.faults capture.new.sink }
+    ensures limit { P.pairs ports.new ≤ pair_limit limits.now }
     ensures outcome { WithoutInput (map string_bytes words.now.items) result
-        (around (K.faults out.old) (K.held out.old) (C.held capture.old.sink) (P.log ports.old))
-        (around (K.faults out.new) (K.held out.new) (C.held capture.new.sink) (P.log ports.new)) }
+        (around ⟦<P as Ports>⟧ ⟦<K as Sink>⟧ ⟦<C as Sink>⟧ ports.old out.old capture.old.sink)
+        (around ⟦<P as Ports>⟧ ⟦<K as Sink>⟧ ⟦<C as Sink>⟧ ports.new out.new capture.new.sink) }
 {
     if path.is_none() {
         return run_unrecorded(alloc, setup, limits, ports, out);
@@ -116,6 +123,7 @@ fn serve_as_asked<P: Ports, K: Sink, C: Sink>(
 }
 
 /// Does what is asked for.
+#[tactic(auto, using(crate::proofs::RunLaws::none_accepted))]
 fn run_as_asked<P: Ports, S: Source, K: Sink, C: Sink>(
     alloc: Global,
     words: &Vec<String>,
@@ -136,9 +144,16 @@ fn run_as_asked<P: Ports, S: Source, K: Sink, C: Sink>(
         ⊎ Rose (K.faults out.old) (K.faults out.new) ⊎ Rose (C.faults capture.old.sink)
         (C.faults capture.new.sink) }
     ensures never { result ≢ Status.Usage }
+    ensures memory { result ≡ Status.Memory → ports.new ≡ ports.old }
+    ensures onward { P.last ports.old ≤ P.last ports.new }
+    ensures later { P.faults ports.old ≤ P.faults ports.new }
+    ensures out { K.faults out.old ≤ K.faults out.new }
+    ensures drawn { S.faults input.old ≤ S.faults input.new }
+    ensures tape { C.faults capture.old.sink ≤ C.faults capture.new.sink }
+    ensures limit { MayAccept (map string_bytes words.now.items) (P.pairs ports.new) }
     ensures outcome { Outcome (map string_bytes words.now.items) result
-        (around (K.faults out.old) (K.held out.old) (C.held capture.old.sink) (P.log ports.old))
-        (around (K.faults out.new) (K.held out.new) (C.held capture.new.sink) (P.log ports.new))
+        (around ⟦<P as Ports>⟧ ⟦<K as Sink>⟧ ⟦<C as Sink>⟧ ports.old out.old capture.old.sink)
+        (around ⟦<P as Ports>⟧ ⟦<K as Sink>⟧ ⟦<C as Sink>⟧ ports.new out.new capture.new.sink)
         (S.left input.old) (S.left input.new) }
 {
     match asked {
@@ -175,6 +190,19 @@ pub fn gateway<P: Ports, S: Source, K: Sink, C: Sink>(
     // All ends are shut.
     ensures ends { P.ends ports.new ≡ [] }
 
+    // At most as many pairs are accepted as the words ask for.
+    ensures limit { MayAccept (map string_bytes words.now.items) (P.pairs ports.new) }
+
+    // Where there is no memory outside of any pair, no port is called.
+    ensures memory { result ≡ Status.Memory → ports.new ≡ ports.old }
+
+    // Neither moments nor counts of faults fall.
+    ensures onward { P.last ports.old ≤ P.last ports.new }
+    ensures later { P.faults ports.old ≤ P.faults ports.new }
+    ensures drawn { S.faults input.old ≤ S.faults input.new }
+    ensures out { K.faults out.old ≤ K.faults out.new }
+    ensures tape { C.faults capture.old.sink ≤ C.faults capture.new.sink }
+
     // Accept, the input, out or the capture failed, and its count of faults rose.
     ensures outside { result ≡ Status.Outside
         → Rose (P.faults ports.old) (P.faults ports.new) ⊎ Rose (S.faults input.old)
@@ -190,8 +218,8 @@ pub fn gateway<P: Ports, S: Source, K: Sink, C: Sink>(
     // What the words ask for was done, or out holds the place at which they cease to be a command
     // line.
     ensures outcome { Outcome (map string_bytes words.now.items) result
-        (around (K.faults out.old) (K.held out.old) (C.held capture.old.sink) (P.log ports.old))
-        (around (K.faults out.new) (K.held out.new) (C.held capture.new.sink) (P.log ports.new))
+        (around ⟦<P as Ports>⟧ ⟦<K as Sink>⟧ ⟦<C as Sink>⟧ ports.old out.old capture.old.sink)
+        (around ⟦<P as Ports>⟧ ⟦<K as Sink>⟧ ⟦<C as Sink>⟧ ports.new out.new capture.new.sink)
         (S.left input.old) (S.left input.new) }
 {
     match read_words(alloc, words) {

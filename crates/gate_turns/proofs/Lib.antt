@@ -8,6 +8,7 @@ mod EachPair
 mod Ends
 mod Extending
 mod Fronts
+mod Keeping
 mod LivePairs
 mod NewPairs
 mod OneMark

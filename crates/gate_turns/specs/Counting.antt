@@ -16,6 +16,10 @@ how_many_can is_out live = sum_by (can_run_out is_out) live
 abbrev pub most_counted : {A : Type 0} → (A → Bool) → Live A → Tally → ℕ
 most_counted is_out b t = t.out_of_memory + can_run_out is_out b
 
+-- where a pair runs out of memory in its part of a turn, it is counted, once in all its turns
+abbrev pub CountsOnce : {A : Type 0} → (A → Bool) → Live A → Live A → Tally → Tally → Type 0
+CountsOnce is_out b b' t t' = most_counted is_out b' t' ≤ most_counted is_out b t
+
 -- the pairs that ran out of memory, with the live ones that can yet, are at most those accepted
 abbrev pub CountWithin : {A : Type 0} → (A → Bool) → Service A → Tally → Type 0
 CountWithin is_out s t = t.out_of_memory + how_many_can is_out s.live.items ≤ s.accepted

@@ -1,7 +1,9 @@
 -- What the parts of a pair's turn do to a history. These words are of the loop's own functions.
 use Rattle.std.specs.Prelude.{◌≡◌, ◌≢◌, ℕ, ◌+◌, ◌<◌, ◌≤◌, Bool, true, false, ◌||◌, if◌then◌else◌}
-use Rattle.std.specs.Prelude.{List, [], ◌++◌, Option, None, Some, Result, Ok, Err}
+use Rattle.std.specs.Prelude.{◌^◌, List, [], ◌++◌, length, Option, None, Some, Result, Ok, Err}
 use Rattle.std.specs.List.{AllByRecursion}
+use Rattle.gate_outside.specs.Counts.{Rose}
+use Rattle.gate_outside.specs.declared.ports.Ports as ports
 use Rattle.gate_outside.specs.declared.ports.End.{End}
 use Rattle.gate_outside.specs.declared.ports.End.TheVariants.{Client, Up}
 use Rattle.gate_outside.specs.declared.ports.Got.{Got}
@@ -14,6 +16,7 @@ use Rattle.gate_outside.specs.Ends.{is_open}
 use Rattle.gate_outside.specs.Streams.{Appends, AppendsFront}
 use Rattle.gate_relay.specs.declared.sides.Sides.{Sides}
 use Rattle.gate_relay.specs.Entries.{Entry, is_empty}
+use Rattle.gate_relay.specs.Relayed.{read_room}
 use Rattle.gate_relay.specs.RelayWords.{RelayWords}
 use Rattle.gate_relay.specs.Sides.{side_of, is_open_side, has_end}
 use Rattle.gate_runs.specs.declared.lap.Lap.{Lap}
@@ -49,6 +52,30 @@ EndsAre p s ends = (end : End) → is_open p end ends ≡ is_open_side (side_of 
 -- the open ends of the other pairs stay
 abbrev pub KeepsOthers : ℕ → List (ℕ × End) → List (ℕ × End) → Type 0
 KeepsOthers p old new = (q : ℕ) (end : End) → q ≢ p → is_open q end new ≡ is_open q end old
+
+-- the pair stays the one that it was, and knows its open ends; those of the other pairs stay
+pub record KeepsEnds {A : Type 0} (old new : Live A) (ends ends' : List (ℕ
+    × End)) : Type 0 where
+  pub number : new.number ≡ old.number
+  pub open_ends : EndsAre new.number new.sides ends'
+  pub others : KeepsOthers old.number ends ends'
+
+-- no pair is accepted and no moment is given, and the count of faults doesn't fall
+pub record KeepsPorts {P : Type 0} (g : ports.Ghosts P) (old new : P) : Type 0 where
+  pub pairs : g.pairs new ≡ g.pairs old
+  pub last : g.last new ≡ g.last old
+  pub later : g.faults old ≤ g.faults new
+
+-- a count of faults doesn't fall, and rose if this failed
+pub record CountsFaults {S : Type 0} (faults : S → ℕ) (failed : Type 0) (old new : S) : Type 0 where
+  pub later : faults old ≤ faults new
+  pub cause : failed → Rose (faults old) (faults new)
+
+-- the room of a read, as ports take it
+pub record IsReadRoom (room : List ℕ) : Type 0 where
+  pub size : length room ≡ read_room
+  pub some : 0 < length room
+  pub small : length room < 2 ^ 32
 
 -- nothing moved yet in a turn
 abbrev pub begun : Tally → Tally

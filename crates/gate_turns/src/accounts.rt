@@ -1,12 +1,10 @@
 //! What is told of a pair's newest entry, and whether a sink failed at that.
 
-ghost use Rattle.std.specs.Prelude.{◌≡◌, ◌≢◌, ℕ, ◌≤◌, ◌++◌, true, false, List, Result, Ok, Err};
-ghost use Rattle.gate_outside.specs.Counts.{Rose};
-ghost use Rattle.gate_outside.specs.Streams.{Appends, AppendsFront};
-ghost use Rattle.gate_relay.specs.Entries.{Entry, is_empty};
+ghost use Rattle.std.specs.Prelude.{◌≡◌, ◌≢◌, ◌++◌, List, Err};
+ghost use Rattle.gate_relay.specs.Entries.{Entry};
 ghost use Rattle.gate_relay.specs.Sides.{has_end};
 ghost use Rattle.gate_runs.specs.Report.{closed_lines};
-ghost use Rattle.gate_turns.specs.Parts.{own_lines, TellsBy, both};
+ghost use Rattle.gate_turns.specs.Parts.{own_lines, TellsBy, both, CountsFaults};
 ghost use Rattle.gate_turns.specs.Represents.{Represents};
 
 use crate::live::Live;
@@ -21,8 +19,7 @@ pub fn tell<R: Relay, K: Sink>(
     live: &Live<R>,
     ran_out: bool,
 ) -> Result<(), SinkFault>
-    ensures out { K.faults report.old ≤ K.faults report.new }
-    ensures mute { result ≡ Err SinkFault.Out → Rose (K.faults report.old) (K.faults report.new) }
+    ensures out { CountsFaults K.faults (result ≡ Err SinkFault.Out) report.old report.new }
     ensures never { result ≢ Err SinkFault.Capture }
     ensures told { (s : R.Setup) (h : List Entry) → Represents (R.represents s) live.now h
         → TellsBy result (K.held report.old) (K.held report.new)
@@ -41,8 +38,7 @@ pub fn tell<R: Relay, K: Sink>(
 /// Tells the lines of an end that was shut: those of the pair, and that it is closed where no end
 /// is left.
 pub fn tell_shut<R: Relay, K: Sink>(report: &mut K, live: &Live<R>) -> Result<(), SinkFault>
-    ensures out { K.faults report.old ≤ K.faults report.new }
-    ensures mute { result ≡ Err SinkFault.Out → Rose (K.faults report.old) (K.faults report.new) }
+    ensures out { CountsFaults K.faults (result ≡ Err SinkFault.Out) report.old report.new }
     ensures never { result ≢ Err SinkFault.Capture }
     ensures told { (s : R.Setup) (h : List Entry) → Represents (R.represents s) live.now h
         → TellsBy result (K.held report.old) (K.held report.new)

@@ -1,7 +1,7 @@
 //! The end of the service: the live pairs are shut, and the last line is told.
 
 ghost use Rattle.std.specs.Prelude.{◌≡◌, ◌≢◌, ◌⊎◌, ℕ, ◌≤◌, ◌∷◌, ◌++◌, [], List, true, false};
-ghost use Rattle.std.specs.Prelude.{Option, Some, Result, Ok, Err};
+ghost use Rattle.std.specs.Prelude.{Option, Err};
 ghost use Rattle.gate_outside.specs.Counts.{Rose};
 ghost use Rattle.gate_outside.specs.declared.log.LogEntry.{LogEntry};
 ghost use Rattle.gate_outside.specs.Ends.{is_open};
@@ -18,7 +18,7 @@ ghost use Rattle.gate_turns.specs.Endings.{ClosingEffect, ConcludeEffect, KeptWh
 ghost use Rattle.gate_turns.specs.Endings.{closing_state, is_recorded, is_told, sides_shut};
 ghost use Rattle.gate_turns.specs.Endings.{with_fault, with_pair};
 ghost use Rattle.gate_turns.specs.Openings.{HaveEntry, numbered_sides};
-ghost use Rattle.gate_turns.specs.Parts.{EndsAre, KeepsOthers, both};
+ghost use Rattle.gate_turns.specs.Parts.{EndsAre, KeepsOthers, both, KeepsPorts, CountsFaults};
 ghost use Rattle.gate_turns.specs.Represents.{Represents};
 ghost use Rattle.gate_turns.specs.Rounds.{Holds, OwnsEnds, run_state};
 
@@ -59,8 +59,7 @@ fn answer_after(answer: Served, told: Result<(), SinkFault>, kept: bool) -> Serv
 /// Records that an end was shut, unless a sink failed before. `false` tells that the record was
 /// lost.
 fn record_shut<T: Recorder>(recorder: &mut T, answer: Served, pair: u32, end: End) -> bool
-    ensures tape { T.faults recorder.old ≤ T.faults recorder.new }
-    ensures lost { result ≡ false → Rose (T.faults recorder.old) (T.faults recorder.new) }
+    ensures tape { CountsFaults T.faults (result ≡ false) recorder.old recorder.new }
     ensures kept { KeptWhile (is_recorded answer) result (T.held recorder.old) (T.held recorder.new)
         (LogEntry.Shut pair end) }
 {
@@ -76,8 +75,7 @@ fn tell_more<R: Relay, K: Sink>(
     answer: Served,
     live: &Live<R>,
 ) -> Result<(), SinkFault>
-    ensures out { K.faults report.old ≤ K.faults report.new }
-    ensures mute { result ≡ Err SinkFault.Out → Rose (K.faults report.old) (K.faults report.new) }
+    ensures out { CountsFaults K.faults (result ≡ Err SinkFault.Out) report.old report.new }
     ensures never { result ≢ Err SinkFault.Capture }
     ensures told { (s : R.Setup) (h : List Entry) → Represents (R.represents s) live.now h
         → TellsWhile (is_told answer) result (K.held report.old) (K.held report.new)
@@ -104,9 +102,7 @@ fn shut_open<P: Ports, R: Relay, K: Sink, T: Recorder>(
     ensures sides { live.new.sides ≡ sides_shut end live.old.sides }
     ensures open { EndsAre live.new.number live.new.sides (P.ends ports.new) }
     ensures others { KeepsOthers live.old.number (P.ends ports.old) (P.ends ports.new) }
-    ensures pairs { P.pairs ports.new ≡ P.pairs ports.old }
-    ensures last { P.last ports.new ≡ P.last ports.old }
-    ensures later { P.faults ports.old ≤ P.faults ports.new }
+    ensures ports { KeepsPorts ⟦<P as Ports>⟧ ports.old ports.new }
     ensures out { K.faults report.old ≤ K.faults report.new }
     ensures tape { T.faults recorder.old ≤ T.faults recorder.new }
     ensures answer { (result ≡ answer) ⊎ (is_sink_fault result ≡ true) }
@@ -143,9 +139,7 @@ fn shut_pair<P: Ports, R: Relay, K: Sink, T: Recorder>(
     requires has { has_end live.sides ≡ true }
     ensures none { (end : End) → is_open live.number end (P.ends ports.new) ≡ false }
     ensures others { KeepsOthers live.number (P.ends ports.old) (P.ends ports.new) }
-    ensures pairs { P.pairs ports.new ≡ P.pairs ports.old }
-    ensures last { P.last ports.new ≡ P.last ports.old }
-    ensures later { P.faults ports.old ≤ P.faults ports.new }
+    ensures ports { KeepsPorts ⟦<P as Ports>⟧ ports.old ports.new }
     ensures out { K.faults report.old ≤ K.faults report.new }
     ensures tape { T.faults recorder.old ≤ T.faults recorder.new }
     ensures answer { (result ≡ answer) ⊎ (is_sink_fault result ≡ true) }
@@ -173,9 +167,7 @@ fn shut_all<P: Ports, R: Relay, K: Sink, T: Recorder>(
 ) -> Served
     requires { OwnsEnds service.live.items (P.pairs ports.old) (P.ends ports.old) }
     ensures ends { P.ends ports.new ≡ [] }
-    ensures pairs { P.pairs ports.new ≡ P.pairs ports.old }
-    ensures last { P.last ports.new ≡ P.last ports.old }
-    ensures later { P.faults ports.old ≤ P.faults ports.new }
+    ensures ports { KeepsPorts ⟦<P as Ports>⟧ ports.old ports.new }
     ensures out { K.faults report.old ≤ K.faults report.new }
     ensures tape { T.faults recorder.old ≤ T.faults recorder.new }
     ensures answer { (result ≡ answer) ⊎ (is_sink_fault result ≡ true) }
@@ -226,9 +218,7 @@ pub fn conclude<P: Ports, R: Relay, K: Sink, T: Recorder>(
 ) -> Served
     requires { Holds service (P.pairs ports.old) (P.ends ports.old) }
     ensures ends { P.ends ports.new ≡ [] }
-    ensures pairs { P.pairs ports.new ≡ P.pairs ports.old }
-    ensures last { P.last ports.new ≡ P.last ports.old }
-    ensures later { P.faults ports.old ≤ P.faults ports.new }
+    ensures ports { KeepsPorts ⟦<P as Ports>⟧ ports.old ports.new }
     ensures out { K.faults report.old ≤ K.faults report.new }
     ensures tape { T.faults recorder.old ≤ T.faults recorder.new }
     ensures answer { (result ≡ why) ⊎ (is_sink_fault result ≡ true) }
@@ -257,9 +247,7 @@ pub fn conclude<P: Ports, R: Relay, K: Sink, T: Recorder>(
 /// Ends a service for which there was no memory, before any call.
 pub fn end_without_memory<K: Sink>(report: &mut K) -> Served
     ensures answer { (result ≡ Served.Memory) ⊎ (result ≡ Served.Fault Outside.Out) }
-    ensures out { K.faults report.old ≤ K.faults report.new }
-    ensures mute { result ≡ Served.Fault Outside.Out → Rose (K.faults report.old)
-        (K.faults report.new) }
+    ensures out { CountsFaults K.faults (result ≡ Served.Fault Outside.Out) report.old report.new }
     ensures served { (w : RelayWords) (c : Limits) (kept : Option (List ℕ))
         → IsServed w c result 0 (K.held report.old) (K.held report.new) kept kept
         (Finish Served.Memory ∷ []) }

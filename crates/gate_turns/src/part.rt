@@ -1,23 +1,21 @@
 //! One pair's part of a turn: it is read, what came is taken up, it is connected, written to and
 //! shut, each where that is due.
 
-ghost use Rattle.std.specs.Prelude.{◌≡◌, ◌≢◌, ℕ, ◌<◌, ◌≤◌, ◌^◌, true, false, List, length, is_some};
-ghost use Rattle.std.specs.Prelude.{Option, Some, Result, Ok, Err};
-ghost use Rattle.gate_outside.specs.Counts.{Rose};
+ghost use Rattle.std.specs.Prelude.{◌≡◌, ◌≢◌, ℕ, ◌<◌, true, false, List, length, is_some, Option};
+ghost use Rattle.std.specs.Prelude.{Some, Err};
 ghost use Rattle.gate_outside.specs.Ends.{got_bytes};
 ghost use Rattle.gate_outside.specs.declared.log.LogEntry.{LogEntry};
-ghost use Rattle.gate_outside.specs.declared.ports.End.TheVariants.{Client, Up};
+ghost use Rattle.gate_outside.specs.declared.ports.End.TheVariants.{Up};
 ghost use Rattle.gate_relay.specs.Entries.{Entry};
 ghost use Rattle.gate_relay.specs.Guards.{reads};
-ghost use Rattle.gate_relay.specs.Relayed.{read_room};
 ghost use Rattle.gate_relay.specs.Sides.{side_of, is_readable, is_writable, has_end};
 ghost use Rattle.gate_runs.specs.Marks.{Extends};
 ghost use Rattle.gate_runs.specs.Stages.{Reading, Taking, Linking, Writing, Shutting, Past, later};
 ghost use Rattle.gate_runs.specs.Stages.{lap_after};
-ghost use Rattle.gate_turns.specs.Counting.{most_counted};
-ghost use Rattle.gate_turns.specs.Parts.{EndsAre, KeepsOthers, LookEffect, OfferEffect, PartEffect};
-ghost use Rattle.gate_turns.specs.Parts.{ReadsWithin, ShutEffect, WriteEffect, got_moved, put_more};
-ghost use Rattle.gate_turns.specs.Parts.{put_moved, state};
+ghost use Rattle.gate_turns.specs.Counting.{CountsOnce};
+ghost use Rattle.gate_turns.specs.Parts.{EndsAre, LookEffect, OfferEffect, PartEffect, ReadsWithin};
+ghost use Rattle.gate_turns.specs.Parts.{ShutEffect, WriteEffect, got_moved, put_more, put_moved};
+ghost use Rattle.gate_turns.specs.Parts.{state, KeepsEnds, KeepsPorts, CountsFaults, IsReadRoom};
 ghost use Rattle.gate_turns.specs.Represents.{Represents, found_by};
 
 use crate::accounts::{both, tell, tell_shut};
@@ -67,22 +65,14 @@ fn read_end<P: Ports, R: Relay, K: Sink, T: Recorder>(
     requires open { EndsAre live.old.number live.old.sides (P.ends ports.old) }
     requires due { (h : List Entry) → Represents (R.represents setup.now) live.old h
         → reads (R.words setup.now) end h ≡ true }
-    requires room { length room.old ≡ read_room }
-    requires some { 0 < length room.old }
-    requires small { length room.old < 2 ^ 32 }
-    ensures number { live.new.number ≡ live.old.number }
-    ensures pairs { P.pairs ports.new ≡ P.pairs ports.old }
-    ensures last { P.last ports.new ≡ P.last ports.old }
-    ensures open { EndsAre live.new.number live.new.sides (P.ends ports.new) }
-    ensures others { KeepsOthers live.old.number (P.ends ports.old) (P.ends ports.new) }
+    requires room { IsReadRoom room.old }
+    ensures ends { KeepsEnds live.old live.new (P.ends ports.old) (P.ends ports.new) }
     ensures has { has_end live.old.sides ≡ true → has_end live.new.sides ≡ true }
-    ensures later { P.faults ports.old ≤ P.faults ports.new }
-    ensures out { K.faults report.old ≤ K.faults report.new }
-    ensures tape { T.faults recorder.old ≤ T.faults recorder.new }
-    ensures mute { result ≡ Err SinkFault.Out → Rose (K.faults report.old) (K.faults report.new) }
-    ensures lost { result ≡ Err SinkFault.Capture → Rose (T.faults recorder.old)
-        (T.faults recorder.new) }
-    ensures count { most_counted R.out_of_memory live.new tally.new ≤ most_counted R.out_of_memory live.old tally.old }
+    ensures ports { KeepsPorts ⟦<P as Ports>⟧ ports.old ports.new }
+    ensures out { CountsFaults K.faults (result ≡ Err SinkFault.Out) report.old report.new }
+    ensures tape { CountsFaults T.faults (result ≡ Err SinkFault.Capture)
+        recorder.old recorder.new }
+    ensures count { CountsOnce R.out_of_memory live.old live.new tally.old tally.new }
     ensures log { Extends (P.log ports.old) (P.log ports.new)
         (PartEffect (R.words setup.now) (R.represents setup.now) (Reading end) (later
         (Reading end)) result
@@ -117,22 +107,14 @@ fn listen<P: Ports, R: Relay, K: Sink, T: Recorder>(
     room: &mut [u8],
 ) -> Result<(), SinkFault>
     requires open { EndsAre live.old.number live.old.sides (P.ends ports.old) }
-    requires room { length room.old ≡ read_room }
-    requires some { 0 < length room.old }
-    requires small { length room.old < 2 ^ 32 }
-    ensures number { live.new.number ≡ live.old.number }
-    ensures pairs { P.pairs ports.new ≡ P.pairs ports.old }
-    ensures last { P.last ports.new ≡ P.last ports.old }
-    ensures open { EndsAre live.new.number live.new.sides (P.ends ports.new) }
-    ensures others { KeepsOthers live.old.number (P.ends ports.old) (P.ends ports.new) }
+    requires room { IsReadRoom room.old }
+    ensures ends { KeepsEnds live.old live.new (P.ends ports.old) (P.ends ports.new) }
     ensures has { has_end live.old.sides ≡ true → has_end live.new.sides ≡ true }
-    ensures later { P.faults ports.old ≤ P.faults ports.new }
-    ensures out { K.faults report.old ≤ K.faults report.new }
-    ensures tape { T.faults recorder.old ≤ T.faults recorder.new }
-    ensures mute { result ≡ Err SinkFault.Out → Rose (K.faults report.old) (K.faults report.new) }
-    ensures lost { result ≡ Err SinkFault.Capture → Rose (T.faults recorder.old)
-        (T.faults recorder.new) }
-    ensures count { most_counted R.out_of_memory live.new tally.new ≤ most_counted R.out_of_memory live.old tally.old }
+    ensures ports { KeepsPorts ⟦<P as Ports>⟧ ports.old ports.new }
+    ensures out { CountsFaults K.faults (result ≡ Err SinkFault.Out) report.old report.new }
+    ensures tape { CountsFaults T.faults (result ≡ Err SinkFault.Capture)
+        recorder.old recorder.new }
+    ensures count { CountsOnce R.out_of_memory live.old live.new tally.old tally.new }
     ensures log { Extends (P.log ports.old) (P.log ports.new)
         (PartEffect (R.words setup.now) (R.represents setup.now) (Reading end) (later
         (Reading end)) result
@@ -159,22 +141,14 @@ fn listen_both<P: Ports, R: Relay, K: Sink, T: Recorder>(
     room: &mut [u8],
 ) -> Result<(), SinkFault>
     requires open { EndsAre live.old.number live.old.sides (P.ends ports.old) }
-    requires room { length room.old ≡ read_room }
-    requires some { 0 < length room.old }
-    requires small { length room.old < 2 ^ 32 }
-    ensures number { live.new.number ≡ live.old.number }
-    ensures pairs { P.pairs ports.new ≡ P.pairs ports.old }
-    ensures last { P.last ports.new ≡ P.last ports.old }
-    ensures open { EndsAre live.new.number live.new.sides (P.ends ports.new) }
-    ensures others { KeepsOthers live.old.number (P.ends ports.old) (P.ends ports.new) }
+    requires room { IsReadRoom room.old }
+    ensures ends { KeepsEnds live.old live.new (P.ends ports.old) (P.ends ports.new) }
     ensures has { has_end live.old.sides ≡ true → has_end live.new.sides ≡ true }
-    ensures later { P.faults ports.old ≤ P.faults ports.new }
-    ensures out { K.faults report.old ≤ K.faults report.new }
-    ensures tape { T.faults recorder.old ≤ T.faults recorder.new }
-    ensures mute { result ≡ Err SinkFault.Out → Rose (K.faults report.old) (K.faults report.new) }
-    ensures lost { result ≡ Err SinkFault.Capture → Rose (T.faults recorder.old)
-        (T.faults recorder.new) }
-    ensures count { most_counted R.out_of_memory live.new tally.new ≤ most_counted R.out_of_memory live.old tally.old }
+    ensures ports { KeepsPorts ⟦<P as Ports>⟧ ports.old ports.new }
+    ensures out { CountsFaults K.faults (result ≡ Err SinkFault.Out) report.old report.new }
+    ensures tape { CountsFaults T.faults (result ≡ Err SinkFault.Capture)
+        recorder.old recorder.new }
+    ensures count { CountsOnce R.out_of_memory live.old live.new tally.old tally.new }
     ensures log { Extends (P.log ports.old) (P.log ports.new)
         (PartEffect (R.words setup.now) (R.represents setup.now) (Reading Up) Taking result
         (state live.old tally.old (K.held report.old) (T.held recorder.old))
@@ -216,10 +190,9 @@ fn settle<R: Relay, K: Sink>(
 ) -> Result<(), SinkFault>
     ensures number { live.new.number ≡ live.old.number }
     ensures sides { live.new.sides ≡ live.old.sides }
-    ensures out { K.faults report.old ≤ K.faults report.new }
-    ensures mute { result ≡ Err SinkFault.Out → Rose (K.faults report.old) (K.faults report.new) }
+    ensures out { CountsFaults K.faults (result ≡ Err SinkFault.Out) report.old report.new }
     ensures never { result ≢ Err SinkFault.Capture }
-    ensures count { most_counted R.out_of_memory live.new tally.new ≤ most_counted R.out_of_memory live.old tally.old }
+    ensures count { CountsOnce R.out_of_memory live.old live.new tally.old tally.new }
     ensures log { (log : Option (List LogEntry)) (kept : Option (List ℕ)) → Extends log log
         (PartEffect (R.words setup.now) (R.represents setup.now) Taking Linking result
         (state live.old tally.old (K.held report.old) kept)
@@ -244,19 +217,13 @@ fn connect<P: Ports, R: Relay, K: Sink, T: Recorder>(
 ) -> Result<(), SinkFault>
     requires known { live.old.number < P.pairs ports.old }
     requires open { EndsAre live.old.number live.old.sides (P.ends ports.old) }
-    ensures number { live.new.number ≡ live.old.number }
-    ensures pairs { P.pairs ports.new ≡ P.pairs ports.old }
-    ensures last { P.last ports.new ≡ P.last ports.old }
-    ensures open { EndsAre live.new.number live.new.sides (P.ends ports.new) }
-    ensures others { KeepsOthers live.old.number (P.ends ports.old) (P.ends ports.new) }
+    ensures ends { KeepsEnds live.old live.new (P.ends ports.old) (P.ends ports.new) }
     ensures has { has_end live.old.sides ≡ true → has_end live.new.sides ≡ true }
-    ensures later { P.faults ports.old ≤ P.faults ports.new }
-    ensures out { K.faults report.old ≤ K.faults report.new }
-    ensures tape { T.faults recorder.old ≤ T.faults recorder.new }
-    ensures mute { result ≡ Err SinkFault.Out → Rose (K.faults report.old) (K.faults report.new) }
-    ensures lost { result ≡ Err SinkFault.Capture → Rose (T.faults recorder.old)
-        (T.faults recorder.new) }
-    ensures count { most_counted R.out_of_memory live.new tally.new ≤ most_counted R.out_of_memory live.old tally.old }
+    ensures ports { KeepsPorts ⟦<P as Ports>⟧ ports.old ports.new }
+    ensures out { CountsFaults K.faults (result ≡ Err SinkFault.Out) report.old report.new }
+    ensures tape { CountsFaults T.faults (result ≡ Err SinkFault.Capture)
+        recorder.old recorder.new }
+    ensures count { CountsOnce R.out_of_memory live.old live.new tally.old tally.new }
     ensures log { Extends (P.log ports.old) (P.log ports.new)
         (PartEffect (R.words setup.now) (R.represents setup.now) Linking (Writing Lap.ToUp 0) result
         (state live.old tally.old (K.held report.old) (T.held recorder.old))
@@ -311,19 +278,13 @@ fn write_ready<P: Ports, R: Relay, K: Sink, T: Recorder>(
     requires ready { is_some (R.ready live.old.relay end) ≡ true }
     requires writable { is_writable (side_of end live.old.sides) ≡ true }
     requires open { EndsAre live.old.number live.old.sides (P.ends ports.old) }
-    ensures number { live.new.number ≡ live.old.number }
-    ensures pairs { P.pairs ports.new ≡ P.pairs ports.old }
-    ensures last { P.last ports.new ≡ P.last ports.old }
-    ensures open { EndsAre live.new.number live.new.sides (P.ends ports.new) }
-    ensures others { KeepsOthers live.old.number (P.ends ports.old) (P.ends ports.new) }
+    ensures ends { KeepsEnds live.old live.new (P.ends ports.old) (P.ends ports.new) }
     ensures has { has_end live.old.sides ≡ true → has_end live.new.sides ≡ true }
-    ensures later { P.faults ports.old ≤ P.faults ports.new }
-    ensures out { K.faults report.old ≤ K.faults report.new }
-    ensures tape { T.faults recorder.old ≤ T.faults recorder.new }
-    ensures mute { result.1 ≡ Err SinkFault.Out → Rose (K.faults report.old) (K.faults report.new) }
-    ensures lost { result.1 ≡ Err SinkFault.Capture → Rose (T.faults recorder.old)
-        (T.faults recorder.new) }
-    ensures count { most_counted R.out_of_memory live.new tally.new ≤ most_counted R.out_of_memory live.old tally.old }
+    ensures ports { KeepsPorts ⟦<P as Ports>⟧ ports.old ports.new }
+    ensures out { CountsFaults K.faults (result.1 ≡ Err SinkFault.Out) report.old report.new }
+    ensures tape { CountsFaults T.faults (result.1 ≡ Err SinkFault.Capture)
+        recorder.old recorder.new }
+    ensures count { CountsOnce R.out_of_memory live.old live.new tally.old tally.new }
     ensures log { (s : R.Setup) (bytes : List ℕ) → R.ready live.old.relay end
         ≡ Some bytes → Extends (P.log ports.old) (P.log ports.new)
         (OfferEffect (R.words s) (R.represents s) end bytes result.0 result.1
@@ -357,10 +318,9 @@ fn look_for<R: Relay, K: Sink>(
     ensures sides { live.new.sides ≡ live.old.sides }
     ensures side { result.0.ready ≡ true → is_writable (side_of end live.old.sides) ≡ true }
     ensures ready { result.0.ready ≡ true → is_some (R.ready live.new.relay end) ≡ true }
-    ensures out { K.faults report.old ≤ K.faults report.new }
-    ensures mute { result.1 ≡ Err SinkFault.Out → Rose (K.faults report.old) (K.faults report.new) }
+    ensures out { CountsFaults K.faults (result.1 ≡ Err SinkFault.Out) report.old report.new }
     ensures never { result.1 ≢ Err SinkFault.Capture }
-    ensures count { most_counted R.out_of_memory live.new tally.new ≤ most_counted R.out_of_memory live.old tally.old }
+    ensures count { CountsOnce R.out_of_memory live.old live.new tally.old tally.new }
     ensures log { (log : Option (List LogEntry)) (kept : Option (List ℕ)) → Extends log log
         (LookEffect (R.words setup.now) (R.represents setup.now) end result.0.ran_out
         (found_by result.0.ready (R.ready live.new.relay end)) result.1
@@ -387,20 +347,13 @@ fn write_once<P: Ports, R: Relay, K: Sink, T: Recorder>(
     end: End,
 ) -> Wrote
     requires open { EndsAre live.old.number live.old.sides (P.ends ports.old) }
-    ensures number { live.new.number ≡ live.old.number }
-    ensures pairs { P.pairs ports.new ≡ P.pairs ports.old }
-    ensures last { P.last ports.new ≡ P.last ports.old }
-    ensures open { EndsAre live.new.number live.new.sides (P.ends ports.new) }
-    ensures others { KeepsOthers live.old.number (P.ends ports.old) (P.ends ports.new) }
+    ensures ends { KeepsEnds live.old live.new (P.ends ports.old) (P.ends ports.new) }
     ensures has { has_end live.old.sides ≡ true → has_end live.new.sides ≡ true }
-    ensures later { P.faults ports.old ≤ P.faults ports.new }
-    ensures out { K.faults report.old ≤ K.faults report.new }
-    ensures tape { T.faults recorder.old ≤ T.faults recorder.new }
-    ensures mute { result.result ≡ Err SinkFault.Out → Rose (K.faults report.old)
-        (K.faults report.new) }
-    ensures lost { result.result ≡ Err SinkFault.Capture → Rose (T.faults recorder.old)
-        (T.faults recorder.new) }
-    ensures count { most_counted R.out_of_memory live.new tally.new ≤ most_counted R.out_of_memory live.old tally.old }
+    ensures ports { KeepsPorts ⟦<P as Ports>⟧ ports.old ports.new }
+    ensures out { CountsFaults K.faults (result.result ≡ Err SinkFault.Out) report.old report.new }
+    ensures tape { CountsFaults T.faults (result.result ≡ Err SinkFault.Capture)
+        recorder.old recorder.new }
+    ensures count { CountsOnce R.out_of_memory live.old live.new tally.old tally.new }
     ensures log { Extends (P.log ports.old) (P.log ports.new)
         (WriteEffect (R.words setup.now)
         (R.represents setup.now) end result.more result.ran_out result.result
@@ -450,20 +403,13 @@ fn write_lap<P: Ports, R: Relay, K: Sink, T: Recorder>(
     lap: Lap,
 ) -> Lapped
     requires open { EndsAre live.old.number live.old.sides (P.ends ports.old) }
-    ensures number { live.new.number ≡ live.old.number }
-    ensures pairs { P.pairs ports.new ≡ P.pairs ports.old }
-    ensures last { P.last ports.new ≡ P.last ports.old }
-    ensures open { EndsAre live.new.number live.new.sides (P.ends ports.new) }
-    ensures others { KeepsOthers live.old.number (P.ends ports.old) (P.ends ports.new) }
+    ensures ends { KeepsEnds live.old live.new (P.ends ports.old) (P.ends ports.new) }
     ensures has { has_end live.old.sides ≡ true → has_end live.new.sides ≡ true }
-    ensures later { P.faults ports.old ≤ P.faults ports.new }
-    ensures out { K.faults report.old ≤ K.faults report.new }
-    ensures tape { T.faults recorder.old ≤ T.faults recorder.new }
-    ensures mute { result.result ≡ Err SinkFault.Out → Rose (K.faults report.old)
-        (K.faults report.new) }
-    ensures lost { result.result ≡ Err SinkFault.Capture → Rose (T.faults recorder.old)
-        (T.faults recorder.new) }
-    ensures count { most_counted R.out_of_memory live.new tally.new ≤ most_counted R.out_of_memory live.old tally.old }
+    ensures ports { KeepsPorts ⟦<P as Ports>⟧ ports.old ports.new }
+    ensures out { CountsFaults K.faults (result.result ≡ Err SinkFault.Out) report.old report.new }
+    ensures tape { CountsFaults T.faults (result.result ≡ Err SinkFault.Capture)
+        recorder.old recorder.new }
+    ensures count { CountsOnce R.out_of_memory live.old live.new tally.old tally.new }
     ensures log { Extends (P.log ports.old) (P.log ports.new)
         (PartEffect (R.words setup.now) (R.represents setup.now) (Writing lap 0) (later (Writing
         (lap_after result.ran_out lap) 0)) result.result
@@ -513,19 +459,13 @@ fn write_back<P: Ports, R: Relay, K: Sink, T: Recorder>(
     live: &mut Live<R>,
 ) -> Result<(), SinkFault>
     requires open { EndsAre live.old.number live.old.sides (P.ends ports.old) }
-    ensures number { live.new.number ≡ live.old.number }
-    ensures pairs { P.pairs ports.new ≡ P.pairs ports.old }
-    ensures last { P.last ports.new ≡ P.last ports.old }
-    ensures open { EndsAre live.new.number live.new.sides (P.ends ports.new) }
-    ensures others { KeepsOthers live.old.number (P.ends ports.old) (P.ends ports.new) }
+    ensures ends { KeepsEnds live.old live.new (P.ends ports.old) (P.ends ports.new) }
     ensures has { has_end live.old.sides ≡ true → has_end live.new.sides ≡ true }
-    ensures later { P.faults ports.old ≤ P.faults ports.new }
-    ensures out { K.faults report.old ≤ K.faults report.new }
-    ensures tape { T.faults recorder.old ≤ T.faults recorder.new }
-    ensures mute { result ≡ Err SinkFault.Out → Rose (K.faults report.old) (K.faults report.new) }
-    ensures lost { result ≡ Err SinkFault.Capture → Rose (T.faults recorder.old)
-        (T.faults recorder.new) }
-    ensures count { most_counted R.out_of_memory live.new tally.new ≤ most_counted R.out_of_memory live.old tally.old }
+    ensures ports { KeepsPorts ⟦<P as Ports>⟧ ports.old ports.new }
+    ensures out { CountsFaults K.faults (result ≡ Err SinkFault.Out) report.old report.new }
+    ensures tape { CountsFaults T.faults (result ≡ Err SinkFault.Capture)
+        recorder.old recorder.new }
+    ensures count { CountsOnce R.out_of_memory live.old live.new tally.old tally.new }
     ensures log { Extends (P.log ports.old) (P.log ports.new)
         (PartEffect (R.words setup.now) (R.represents setup.now) (Writing Lap.ToClient 0)
         (Shutting Up) result
@@ -572,19 +512,13 @@ fn write_both<P: Ports, R: Relay, K: Sink, T: Recorder>(
     live: &mut Live<R>,
 ) -> Result<(), SinkFault>
     requires open { EndsAre live.old.number live.old.sides (P.ends ports.old) }
-    ensures number { live.new.number ≡ live.old.number }
-    ensures pairs { P.pairs ports.new ≡ P.pairs ports.old }
-    ensures last { P.last ports.new ≡ P.last ports.old }
-    ensures open { EndsAre live.new.number live.new.sides (P.ends ports.new) }
-    ensures others { KeepsOthers live.old.number (P.ends ports.old) (P.ends ports.new) }
+    ensures ends { KeepsEnds live.old live.new (P.ends ports.old) (P.ends ports.new) }
     ensures has { has_end live.old.sides ≡ true → has_end live.new.sides ≡ true }
-    ensures later { P.faults ports.old ≤ P.faults ports.new }
-    ensures out { K.faults report.old ≤ K.faults report.new }
-    ensures tape { T.faults recorder.old ≤ T.faults recorder.new }
-    ensures mute { result ≡ Err SinkFault.Out → Rose (K.faults report.old) (K.faults report.new) }
-    ensures lost { result ≡ Err SinkFault.Capture → Rose (T.faults recorder.old)
-        (T.faults recorder.new) }
-    ensures count { most_counted R.out_of_memory live.new tally.new ≤ most_counted R.out_of_memory live.old tally.old }
+    ensures ports { KeepsPorts ⟦<P as Ports>⟧ ports.old ports.new }
+    ensures out { CountsFaults K.faults (result ≡ Err SinkFault.Out) report.old report.new }
+    ensures tape { CountsFaults T.faults (result ≡ Err SinkFault.Capture)
+        recorder.old recorder.new }
+    ensures count { CountsOnce R.out_of_memory live.old live.new tally.old tally.new }
     ensures log { Extends (P.log ports.old) (P.log ports.new)
         (PartEffect (R.words setup.now) (R.represents setup.now) (Writing Lap.ToUp 0)
         (Shutting Up) result
@@ -619,19 +553,13 @@ fn settle_and_connect<P: Ports, R: Relay, K: Sink, T: Recorder>(
 ) -> Result<(), SinkFault>
     requires known { live.old.number < P.pairs ports.old }
     requires open { EndsAre live.old.number live.old.sides (P.ends ports.old) }
-    ensures number { live.new.number ≡ live.old.number }
-    ensures pairs { P.pairs ports.new ≡ P.pairs ports.old }
-    ensures last { P.last ports.new ≡ P.last ports.old }
-    ensures open { EndsAre live.new.number live.new.sides (P.ends ports.new) }
-    ensures others { KeepsOthers live.old.number (P.ends ports.old) (P.ends ports.new) }
+    ensures ends { KeepsEnds live.old live.new (P.ends ports.old) (P.ends ports.new) }
     ensures has { has_end live.old.sides ≡ true → has_end live.new.sides ≡ true }
-    ensures later { P.faults ports.old ≤ P.faults ports.new }
-    ensures out { K.faults report.old ≤ K.faults report.new }
-    ensures tape { T.faults recorder.old ≤ T.faults recorder.new }
-    ensures mute { result ≡ Err SinkFault.Out → Rose (K.faults report.old) (K.faults report.new) }
-    ensures lost { result ≡ Err SinkFault.Capture → Rose (T.faults recorder.old)
-        (T.faults recorder.new) }
-    ensures count { most_counted R.out_of_memory live.new tally.new ≤ most_counted R.out_of_memory live.old tally.old }
+    ensures ports { KeepsPorts ⟦<P as Ports>⟧ ports.old ports.new }
+    ensures out { CountsFaults K.faults (result ≡ Err SinkFault.Out) report.old report.new }
+    ensures tape { CountsFaults T.faults (result ≡ Err SinkFault.Capture)
+        recorder.old recorder.new }
+    ensures count { CountsOnce R.out_of_memory live.old live.new tally.old tally.new }
     ensures log { Extends (P.log ports.old) (P.log ports.new)
         (PartEffect (R.words setup.now) (R.represents setup.now) Taking (Writing Lap.ToUp 0) result
         (state live.old tally.old (K.held report.old) (T.held recorder.old))
@@ -656,22 +584,14 @@ fn take_in<P: Ports, R: Relay, K: Sink, T: Recorder>(
 ) -> Result<(), SinkFault>
     requires known { live.old.number < P.pairs ports.old }
     requires open { EndsAre live.old.number live.old.sides (P.ends ports.old) }
-    requires room { length room.old ≡ read_room }
-    requires some { 0 < length room.old }
-    requires small { length room.old < 2 ^ 32 }
-    ensures number { live.new.number ≡ live.old.number }
-    ensures pairs { P.pairs ports.new ≡ P.pairs ports.old }
-    ensures last { P.last ports.new ≡ P.last ports.old }
-    ensures open { EndsAre live.new.number live.new.sides (P.ends ports.new) }
-    ensures others { KeepsOthers live.old.number (P.ends ports.old) (P.ends ports.new) }
+    requires room { IsReadRoom room.old }
+    ensures ends { KeepsEnds live.old live.new (P.ends ports.old) (P.ends ports.new) }
     ensures has { has_end live.old.sides ≡ true → has_end live.new.sides ≡ true }
-    ensures later { P.faults ports.old ≤ P.faults ports.new }
-    ensures out { K.faults report.old ≤ K.faults report.new }
-    ensures tape { T.faults recorder.old ≤ T.faults recorder.new }
-    ensures mute { result ≡ Err SinkFault.Out → Rose (K.faults report.old) (K.faults report.new) }
-    ensures lost { result ≡ Err SinkFault.Capture → Rose (T.faults recorder.old)
-        (T.faults recorder.new) }
-    ensures count { most_counted R.out_of_memory live.new tally.new ≤ most_counted R.out_of_memory live.old tally.old }
+    ensures ports { KeepsPorts ⟦<P as Ports>⟧ ports.old ports.new }
+    ensures out { CountsFaults K.faults (result ≡ Err SinkFault.Out) report.old report.new }
+    ensures tape { CountsFaults T.faults (result ≡ Err SinkFault.Capture)
+        recorder.old recorder.new }
+    ensures count { CountsOnce R.out_of_memory live.old live.new tally.old tally.new }
     ensures log { Extends (P.log ports.old) (P.log ports.new)
         (PartEffect (R.words setup.now) (R.represents setup.now) (Reading Up)
         (Writing Lap.ToUp 0) result
@@ -697,22 +617,14 @@ fn exchange<P: Ports, R: Relay, K: Sink, T: Recorder>(
 ) -> Result<(), SinkFault>
     requires known { live.old.number < P.pairs ports.old }
     requires open { EndsAre live.old.number live.old.sides (P.ends ports.old) }
-    requires room { length room.old ≡ read_room }
-    requires some { 0 < length room.old }
-    requires small { length room.old < 2 ^ 32 }
-    ensures number { live.new.number ≡ live.old.number }
-    ensures pairs { P.pairs ports.new ≡ P.pairs ports.old }
-    ensures last { P.last ports.new ≡ P.last ports.old }
-    ensures open { EndsAre live.new.number live.new.sides (P.ends ports.new) }
-    ensures others { KeepsOthers live.old.number (P.ends ports.old) (P.ends ports.new) }
+    requires room { IsReadRoom room.old }
+    ensures ends { KeepsEnds live.old live.new (P.ends ports.old) (P.ends ports.new) }
     ensures has { has_end live.old.sides ≡ true → has_end live.new.sides ≡ true }
-    ensures later { P.faults ports.old ≤ P.faults ports.new }
-    ensures out { K.faults report.old ≤ K.faults report.new }
-    ensures tape { T.faults recorder.old ≤ T.faults recorder.new }
-    ensures mute { result ≡ Err SinkFault.Out → Rose (K.faults report.old) (K.faults report.new) }
-    ensures lost { result ≡ Err SinkFault.Capture → Rose (T.faults recorder.old)
-        (T.faults recorder.new) }
-    ensures count { most_counted R.out_of_memory live.new tally.new ≤ most_counted R.out_of_memory live.old tally.old }
+    ensures ports { KeepsPorts ⟦<P as Ports>⟧ ports.old ports.new }
+    ensures out { CountsFaults K.faults (result ≡ Err SinkFault.Out) report.old report.new }
+    ensures tape { CountsFaults T.faults (result ≡ Err SinkFault.Capture)
+        recorder.old recorder.new }
+    ensures count { CountsOnce R.out_of_memory live.old live.new tally.old tally.new }
     ensures log { Extends (P.log ports.old) (P.log ports.new)
         (PartEffect (R.words setup.now) (R.represents setup.now) (Reading Up) (Shutting Up) result
         (state live.old tally.old (K.held report.old) (T.held recorder.old))
@@ -734,18 +646,12 @@ fn shut_end<P: Ports, R: Relay, K: Sink, T: Recorder>(
     end: End,
 ) -> Result<(), SinkFault>
     requires open { EndsAre live.old.number live.old.sides (P.ends ports.old) }
-    ensures number { live.new.number ≡ live.old.number }
-    ensures pairs { P.pairs ports.new ≡ P.pairs ports.old }
-    ensures last { P.last ports.new ≡ P.last ports.old }
-    ensures open { EndsAre live.new.number live.new.sides (P.ends ports.new) }
-    ensures others { KeepsOthers live.old.number (P.ends ports.old) (P.ends ports.new) }
-    ensures later { P.faults ports.old ≤ P.faults ports.new }
-    ensures out { K.faults report.old ≤ K.faults report.new }
-    ensures tape { T.faults recorder.old ≤ T.faults recorder.new }
-    ensures mute { result ≡ Err SinkFault.Out → Rose (K.faults report.old) (K.faults report.new) }
-    ensures lost { result ≡ Err SinkFault.Capture → Rose (T.faults recorder.old)
-        (T.faults recorder.new) }
-    ensures count { most_counted R.out_of_memory live.new tally.new ≤ most_counted R.out_of_memory live.old tally.old }
+    ensures ends { KeepsEnds live.old live.new (P.ends ports.old) (P.ends ports.new) }
+    ensures ports { KeepsPorts ⟦<P as Ports>⟧ ports.old ports.new }
+    ensures out { CountsFaults K.faults (result ≡ Err SinkFault.Out) report.old report.new }
+    ensures tape { CountsFaults T.faults (result ≡ Err SinkFault.Capture)
+        recorder.old recorder.new }
+    ensures count { CountsOnce R.out_of_memory live.old live.new tally.old tally.new }
     ensures log { (s : R.Setup) → Extends (P.log ports.old) (P.log ports.new)
         (ShutEffect (R.words s) (R.represents s) (Shutting end) (later (Shutting end)) result
         (state live.old tally.old (K.held report.old) (T.held recorder.old))
@@ -774,18 +680,12 @@ fn shut_both<P: Ports, R: Relay, K: Sink, T: Recorder>(
     live: &mut Live<R>,
 ) -> Result<(), SinkFault>
     requires open { EndsAre live.old.number live.old.sides (P.ends ports.old) }
-    ensures number { live.new.number ≡ live.old.number }
-    ensures pairs { P.pairs ports.new ≡ P.pairs ports.old }
-    ensures last { P.last ports.new ≡ P.last ports.old }
-    ensures open { EndsAre live.new.number live.new.sides (P.ends ports.new) }
-    ensures others { KeepsOthers live.old.number (P.ends ports.old) (P.ends ports.new) }
-    ensures later { P.faults ports.old ≤ P.faults ports.new }
-    ensures out { K.faults report.old ≤ K.faults report.new }
-    ensures tape { T.faults recorder.old ≤ T.faults recorder.new }
-    ensures mute { result ≡ Err SinkFault.Out → Rose (K.faults report.old) (K.faults report.new) }
-    ensures lost { result ≡ Err SinkFault.Capture → Rose (T.faults recorder.old)
-        (T.faults recorder.new) }
-    ensures count { most_counted R.out_of_memory live.new tally.new ≤ most_counted R.out_of_memory live.old tally.old }
+    ensures ends { KeepsEnds live.old live.new (P.ends ports.old) (P.ends ports.new) }
+    ensures ports { KeepsPorts ⟦<P as Ports>⟧ ports.old ports.new }
+    ensures out { CountsFaults K.faults (result ≡ Err SinkFault.Out) report.old report.new }
+    ensures tape { CountsFaults T.faults (result ≡ Err SinkFault.Capture)
+        recorder.old recorder.new }
+    ensures count { CountsOnce R.out_of_memory live.old live.new tally.old tally.new }
     ensures log { (s : R.Setup) → Extends (P.log ports.old) (P.log ports.new)
         (ShutEffect (R.words s) (R.represents s) (Shutting Up) Past result
         (state live.old tally.old (K.held report.old) (T.held recorder.old))
@@ -813,21 +713,13 @@ pub fn visit<P: Ports, R: Relay, K: Sink, T: Recorder>(
 ) -> Result<(), SinkFault>
     requires known { live.old.number < P.pairs ports.old }
     requires open { EndsAre live.old.number live.old.sides (P.ends ports.old) }
-    requires room { length room.old ≡ read_room }
-    requires some { 0 < length room.old }
-    requires small { length room.old < 2 ^ 32 }
-    ensures number { live.new.number ≡ live.old.number }
-    ensures pairs { P.pairs ports.new ≡ P.pairs ports.old }
-    ensures last { P.last ports.new ≡ P.last ports.old }
-    ensures open { EndsAre live.new.number live.new.sides (P.ends ports.new) }
-    ensures others { KeepsOthers live.old.number (P.ends ports.old) (P.ends ports.new) }
-    ensures later { P.faults ports.old ≤ P.faults ports.new }
-    ensures out { K.faults report.old ≤ K.faults report.new }
-    ensures tape { T.faults recorder.old ≤ T.faults recorder.new }
-    ensures mute { result ≡ Err SinkFault.Out → Rose (K.faults report.old) (K.faults report.new) }
-    ensures lost { result ≡ Err SinkFault.Capture → Rose (T.faults recorder.old)
-        (T.faults recorder.new) }
-    ensures count { most_counted R.out_of_memory live.new tally.new ≤ most_counted R.out_of_memory live.old tally.old }
+    requires room { IsReadRoom room.old }
+    ensures ends { KeepsEnds live.old live.new (P.ends ports.old) (P.ends ports.new) }
+    ensures ports { KeepsPorts ⟦<P as Ports>⟧ ports.old ports.new }
+    ensures out { CountsFaults K.faults (result ≡ Err SinkFault.Out) report.old report.new }
+    ensures tape { CountsFaults T.faults (result ≡ Err SinkFault.Capture)
+        recorder.old recorder.new }
+    ensures count { CountsOnce R.out_of_memory live.old live.new tally.old tally.new }
     ensures log { Extends (P.log ports.old) (P.log ports.new)
         (ShutEffect (R.words setup.now) (R.represents setup.now) (Reading Up) Past result
         (state live.old tally.old (K.held report.old) (T.held recorder.old))

@@ -1,13 +1,11 @@
 //! The parts of a turn of the live pairs, in rising number.
 
-ghost use Rattle.std.specs.Prelude.{◌≡◌, ◌+◌, ◌<◌, ◌≤◌, ◌^◌, true, false, length, if◌then◌else◌};
-ghost use Rattle.std.specs.Prelude.{Result, Ok, Err};
+ghost use Rattle.std.specs.Prelude.{◌≡◌, ◌+◌, ◌<◌, ◌^◌, if◌then◌else◌, Err};
 ghost use Rattle.std.specs.Vec.{vec_len};
-ghost use Rattle.gate_outside.specs.Counts.{Rose};
-ghost use Rattle.gate_relay.specs.Relayed.{read_room};
 ghost use Rattle.gate_runs.specs.Marks.{Extends};
 ghost use Rattle.gate_turns.specs.Counting.{CountWithin};
 ghost use Rattle.gate_turns.specs.Rounds.{Holds, PairsEffect, RoundEffect, place_after, run_state};
+ghost use Rattle.gate_turns.specs.Parts.{KeepsPorts, CountsFaults, IsReadRoom};
 
 use crate::part::visit;
 use crate::service::Service;
@@ -40,21 +38,14 @@ fn turn_at<P: Ports, R: Relay, K: Sink, T: Recorder>(
 ) -> Visited
     requires at { at < vec_len service.old.live }
     requires holds { Holds service.old (P.pairs ports.old) (P.ends ports.old) }
-    requires room { length room.old ≡ read_room }
-    requires some { 0 < length room.old }
-    requires small { length room.old < 2 ^ 32 }
+    requires room { IsReadRoom room.old }
     ensures holds { Holds service.new (P.pairs ports.new) (P.ends ports.new) }
     ensures live { vec_len service.new.live + (if result.lives then 0 else 1)
         ≡ vec_len service.old.live }
-    ensures pairs { P.pairs ports.new ≡ P.pairs ports.old }
-    ensures last { P.last ports.new ≡ P.last ports.old }
-    ensures later { P.faults ports.old ≤ P.faults ports.new }
-    ensures out { K.faults report.old ≤ K.faults report.new }
-    ensures tape { T.faults recorder.old ≤ T.faults recorder.new }
-    ensures mute { result.result ≡ Err SinkFault.Out → Rose (K.faults report.old)
-        (K.faults report.new) }
-    ensures lost { result.result ≡ Err SinkFault.Capture → Rose (T.faults recorder.old)
-        (T.faults recorder.new) }
+    ensures ports { KeepsPorts ⟦<P as Ports>⟧ ports.old ports.new }
+    ensures out { CountsFaults K.faults (result.result ≡ Err SinkFault.Out) report.old report.new }
+    ensures tape { CountsFaults T.faults (result.result ≡ Err SinkFault.Capture)
+        recorder.old recorder.new }
     ensures count { CountWithin R.out_of_memory service.old tally.old
         → CountWithin R.out_of_memory service.new tally.new }
     ensures log { Extends (P.log ports.old) (P.log ports.new)
@@ -95,18 +86,12 @@ pub fn turn_all<P: Ports, R: Relay, K: Sink, T: Recorder>(
     room: &mut [u8],
 ) -> Result<(), SinkFault>
     requires holds { Holds service.old (P.pairs ports.old) (P.ends ports.old) }
-    requires room { length room.old ≡ read_room }
-    requires some { 0 < length room.old }
-    requires small { length room.old < 2 ^ 32 }
+    requires room { IsReadRoom room.old }
     ensures holds { Holds service.new (P.pairs ports.new) (P.ends ports.new) }
-    ensures pairs { P.pairs ports.new ≡ P.pairs ports.old }
-    ensures last { P.last ports.new ≡ P.last ports.old }
-    ensures later { P.faults ports.old ≤ P.faults ports.new }
-    ensures out { K.faults report.old ≤ K.faults report.new }
-    ensures tape { T.faults recorder.old ≤ T.faults recorder.new }
-    ensures mute { result ≡ Err SinkFault.Out → Rose (K.faults report.old) (K.faults report.new) }
-    ensures lost { result ≡ Err SinkFault.Capture → Rose (T.faults recorder.old)
-        (T.faults recorder.new) }
+    ensures ports { KeepsPorts ⟦<P as Ports>⟧ ports.old ports.new }
+    ensures out { CountsFaults K.faults (result ≡ Err SinkFault.Out) report.old report.new }
+    ensures tape { CountsFaults T.faults (result ≡ Err SinkFault.Capture)
+        recorder.old recorder.new }
     ensures count { CountWithin R.out_of_memory service.old tally.old
         → CountWithin R.out_of_memory service.new tally.new }
     ensures log { Extends (P.log ports.old) (P.log ports.new)

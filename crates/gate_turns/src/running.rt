@@ -1,7 +1,7 @@
 //! The service: turns, and how they end.
 
-ghost use Rattle.std.specs.Prelude.{◌≡◌, ◌≢◌, ◌⊎◌, ℕ, ◌+◌, ◌<◌, ◌≤◌, ◌^◌, ◌&&◌, ◌==◌, [], List};
-ghost use Rattle.std.specs.Prelude.{true, false, length, Result, Ok, Err, Option, Some, None, IfOk};
+ghost use Rattle.std.specs.Prelude.{◌≡◌, ◌≢◌, ℕ, ◌<◌, ◌≤◌, ◌^◌, ◌&&◌, ◌==◌, [], List, Err, Option};
+ghost use Rattle.std.specs.Prelude.{Some, IfOk};
 ghost use Rattle.std.specs.Vec.{vec_len};
 ghost use Rattle.gate_outside.specs.Counts.{Rose};
 ghost use Rattle.gate_outside.specs.declared.log.LogEntry.{LogEntry};
@@ -14,6 +14,7 @@ ghost use Rattle.gate_runs.specs.Serving.{IsServed};
 ghost use Rattle.gate_turns.specs.Counting.{CountWithin};
 ghost use Rattle.gate_turns.specs.Endings.{CloseEffect, RunEffect, TurnEffect, end_of};
 ghost use Rattle.gate_turns.specs.Rounds.{Holds, run_state};
+ghost use Rattle.gate_turns.specs.Parts.{KeepsPorts, CountsFaults, IsReadRoom};
 
 use crate::closing::{conclude, end_without_memory};
 use crate::round::turn_all;
@@ -70,13 +71,10 @@ fn close_turn<P: Ports, R: Relay, T: Recorder>(
     tally: &Tally,
     service: &Service<R>,
 ) -> Result<(), Served>
-    ensures pairs { P.pairs ports.new ≡ P.pairs ports.old }
     ensures ends { P.ends ports.new ≡ P.ends ports.old }
-    ensures last { P.last ports.new ≡ P.last ports.old }
-    ensures later { P.faults ports.old ≤ P.faults ports.new }
-    ensures tape { T.faults recorder.old ≤ T.faults recorder.new }
-    ensures lost { result ≡ Err (Served.Fault Outside.Capture)
-        → Rose (T.faults recorder.old) (T.faults recorder.new) }
+    ensures ports { KeepsPorts ⟦<P as Ports>⟧ ports.old ports.new }
+    ensures tape { CountsFaults T.faults (result ≡ Err (Served.Fault Outside.Capture))
+        recorder.old recorder.new }
     ensures never { (result ≢ Err (Served.Fault Outside.Accept))
         × (result ≢ Err (Served.Fault Outside.Out)) × (result ≢ Err Served.Memory) }
     ensures all { result ≡ Err Served.PairsDone → service.now.accepted ≡ pair_limit limits.now }
@@ -112,22 +110,17 @@ fn one_turn<P: Ports, R: Relay, K: Sink, T: Recorder>(
     room: &mut [u8],
 ) -> Result<(), Served>
     requires holds { Holds service.old (P.pairs ports.old) (P.ends ports.old) }
-    requires room { length room.old ≡ read_room }
-    requires some { 0 < length room.old }
-    requires small { length room.old < 2 ^ 32 }
+    requires room { IsReadRoom room.old }
     ensures holds { Holds service.new (P.pairs ports.new) (P.ends ports.new) }
     ensures limit { service.old.accepted ≤ pair_limit limits.now
         → service.new.accepted ≤ pair_limit limits.now }
     ensures onward { P.last ports.old ≤ P.last ports.new }
-    ensures later { P.faults ports.old ≤ P.faults ports.new }
-    ensures out { K.faults report.old ≤ K.faults report.new }
-    ensures tape { T.faults recorder.old ≤ T.faults recorder.new }
-    ensures cause { result ≡ Err (Served.Fault Outside.Accept)
-        → Rose (P.faults ports.old) (P.faults ports.new) }
-    ensures mute { result ≡ Err (Served.Fault Outside.Out) → Rose (K.faults report.old)
-        (K.faults report.new) }
-    ensures lost { result ≡ Err (Served.Fault Outside.Capture)
-        → Rose (T.faults recorder.old) (T.faults recorder.new) }
+    ensures accept { CountsFaults P.faults (result ≡ Err (Served.Fault Outside.Accept))
+        ports.old ports.new }
+    ensures out { CountsFaults K.faults (result ≡ Err (Served.Fault Outside.Out))
+        report.old report.new }
+    ensures tape { CountsFaults T.faults (result ≡ Err (Served.Fault Outside.Capture))
+        recorder.old recorder.new }
     ensures never { result ≢ Err Served.Memory }
     ensures all { result ≡ Err Served.PairsDone → service.new.accepted ≡ pair_limit limits.now }
     ensures count { CountWithin R.out_of_memory service.old tally.old
@@ -163,22 +156,16 @@ fn run<P: Ports, R: Relay, K: Sink, T: Recorder>(
     room: &mut [u8],
 ) -> Served
     requires holds { Holds service.old (P.pairs ports.old) (P.ends ports.old) }
-    requires room { length room.old ≡ read_room }
-    requires some { 0 < length room.old }
-    requires small { length room.old < 2 ^ 32 }
+    requires room { IsReadRoom room.old }
     ensures holds { Holds service.new (P.pairs ports.new) (P.ends ports.new) }
     ensures limit { service.old.accepted ≤ pair_limit limits.now
         → service.new.accepted ≤ pair_limit limits.now }
     ensures onward { P.last ports.old ≤ P.last ports.new }
-    ensures later { P.faults ports.old ≤ P.faults ports.new }
-    ensures out { K.faults report.old ≤ K.faults report.new }
-    ensures tape { T.faults recorder.old ≤ T.faults recorder.new }
-    ensures cause { result ≡ Served.Fault Outside.Accept → Rose (P.faults ports.old)
-        (P.faults ports.new) }
-    ensures mute { result ≡ Served.Fault Outside.Out → Rose (K.faults report.old)
-        (K.faults report.new) }
-    ensures lost { result ≡ Served.Fault Outside.Capture → Rose (T.faults recorder.old)
-        (T.faults recorder.new) }
+    ensures accept { CountsFaults P.faults (result ≡ Served.Fault Outside.Accept)
+        ports.old ports.new }
+    ensures out { CountsFaults K.faults (result ≡ Served.Fault Outside.Out) report.old report.new }
+    ensures tape { CountsFaults T.faults (result ≡ Served.Fault Outside.Capture)
+        recorder.old recorder.new }
     ensures never { result ≢ Served.Memory }
     ensures all { result ≡ Served.PairsDone → service.new.accepted ≡ pair_limit limits.now }
     ensures count { CountWithin R.out_of_memory service.old tally.old

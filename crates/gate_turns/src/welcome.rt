@@ -1,7 +1,7 @@
 //! The beginning of a turn: the clock, and the next client.
 
-ghost use Rattle.std.specs.Prelude.{◌≡◌, ◌≢◌, ◌+◌, ◌<◌, ◌≤◌, ◌&&◌, ◌++◌, nat_lt, not, true, false};
-ghost use Rattle.std.specs.Prelude.{length, List, Result, Ok, Err, IfOk, OnOk, OnErr, is_ok};
+ghost use Rattle.std.specs.Prelude.{◌≡◌, ◌≢◌, ◌+◌, ◌<◌, ◌≤◌, ◌&&◌, ◌++◌, nat_lt, not, true, length};
+ghost use Rattle.std.specs.Prelude.{Err, IfOk, OnOk, OnErr, is_ok};
 ghost use Rattle.std.specs.List.{AllByRecursion};
 ghost use Rattle.gate_outside.specs.Counts.{Rose};
 ghost use Rattle.gate_outside.specs.declared.log.LogEntry.{LogEntry};
@@ -14,7 +14,7 @@ ghost use Rattle.gate_runs.specs.Report.{closed_line, lines_of, memory_line};
 ghost use Rattle.gate_turns.specs.Counting.{CountWithin, how_many_can};
 ghost use Rattle.gate_turns.specs.Openings.{Admitted, ClockEffect, HaveEntry, KeptAlso, OpenEffect};
 ghost use Rattle.gate_turns.specs.Openings.{WelcomeEffect, numbered_sides, outcome};
-ghost use Rattle.gate_turns.specs.Parts.{TellsBy, noted};
+ghost use Rattle.gate_turns.specs.Parts.{TellsBy, noted, KeepsPorts, CountsFaults};
 ghost use Rattle.gate_turns.specs.Rounds.{Holds, IsIn, numbers, run_state};
 
 use crate::accounts::both;
@@ -57,8 +57,7 @@ fn tell_pairs<R: Relay>(service: &mut Service<R>, moment: u64)
 
 /// Tells the report the newest lines of each pair of a list.
 fn tell_all_lines<R: Relay, K: Sink>(report: &mut K, live: &[Live<R>]) -> Result<(), SinkFault>
-    ensures out { K.faults report.old ≤ K.faults report.new }
-    ensures mute { result ≡ Err SinkFault.Out → Rose (K.faults report.old) (K.faults report.new) }
+    ensures out { CountsFaults K.faults (result ≡ Err SinkFault.Out) report.old report.new }
     ensures never { result ≢ Err SinkFault.Capture }
     ensures told { (s : R.Setup) (n : History) → AllByRecursion (IsIn (R.represents s) n) live.now
         → TellsBy result (K.held report.old) (K.held report.new) (lines_of (R.words s)
@@ -86,11 +85,9 @@ fn read_clock<P: Ports, R: Relay, K: Sink, T: Recorder>(
     ensures onward { P.last ports.old ≤ P.last ports.new }
     ensures accepted { service.new.accepted ≡ service.old.accepted }
     ensures later { P.faults ports.old ≤ P.faults ports.new }
-    ensures out { K.faults report.old ≤ K.faults report.new }
-    ensures tape { T.faults recorder.old ≤ T.faults recorder.new }
-    ensures mute { result ≡ Err SinkFault.Out → Rose (K.faults report.old) (K.faults report.new) }
-    ensures lost { result ≡ Err SinkFault.Capture → Rose (T.faults recorder.old)
-        (T.faults recorder.new) }
+    ensures out { CountsFaults K.faults (result ≡ Err SinkFault.Out) report.old report.new }
+    ensures tape { CountsFaults T.faults (result ≡ Err SinkFault.Capture)
+        recorder.old recorder.new }
     ensures count { CountWithin R.out_of_memory service.old tally.old
         → CountWithin R.out_of_memory service.new tally.new }
     ensures log { (s : R.Setup) → Extends (P.log ports.old) (P.log ports.new)
@@ -175,13 +172,10 @@ fn turn_away<P: Ports, K: Sink, T: Recorder>(
     number: u32,
     kept: bool,
 ) -> Result<(), SinkFault>
-    ensures pairs { P.pairs ports.new ≡ P.pairs ports.old }
     ensures ends { P.ends ports.new ≡ closed number End.Client (P.ends ports.old) }
-    ensures last { P.last ports.new ≡ P.last ports.old }
-    ensures later { P.faults ports.old ≤ P.faults ports.new }
-    ensures out { K.faults report.old ≤ K.faults report.new }
+    ensures ports { KeepsPorts ⟦<P as Ports>⟧ ports.old ports.new }
+    ensures out { CountsFaults K.faults (result ≡ Err SinkFault.Out) report.old report.new }
     ensures tape { T.faults recorder.old ≤ T.faults recorder.new }
-    ensures mute { result ≡ Err SinkFault.Out → Rose (K.faults report.old) (K.faults report.new) }
     ensures lost { result ≡ Err SinkFault.Capture → kept ≡ true
         → Rose (T.faults recorder.old) (T.faults recorder.new) }
     ensures told { TellsBy result (K.held report.old) (K.held report.new) (memory_line number
@@ -229,13 +223,9 @@ fn welcome<P: Ports, R: Relay, K: Sink, T: Recorder>(
     ensures holds { Holds service.new (P.pairs ports.new) (P.ends ports.new) }
     ensures most { service.new.accepted ≤ service.old.accepted + 1 }
     ensures last { P.last ports.new ≡ P.last ports.old }
-    ensures later { P.faults ports.old ≤ P.faults ports.new }
-    ensures cause { result ≡ Err Outside.Accept → Rose (P.faults ports.old) (P.faults ports.new) }
-    ensures out { K.faults report.old ≤ K.faults report.new }
-    ensures tape { T.faults recorder.old ≤ T.faults recorder.new }
-    ensures mute { result ≡ Err Outside.Out → Rose (K.faults report.old) (K.faults report.new) }
-    ensures lost { result ≡ Err Outside.Capture → Rose (T.faults recorder.old)
-        (T.faults recorder.new) }
+    ensures accept { CountsFaults P.faults (result ≡ Err Outside.Accept) ports.old ports.new }
+    ensures out { CountsFaults K.faults (result ≡ Err Outside.Out) report.old report.new }
+    ensures tape { CountsFaults T.faults (result ≡ Err Outside.Capture) recorder.old recorder.new }
     ensures count { CountWithin R.out_of_memory service.old tally.old
         → CountWithin R.out_of_memory service.new tally.new }
     ensures log { Extends (P.log ports.old) (P.log ports.new)
@@ -274,13 +264,9 @@ pub fn open_turn<P: Ports, R: Relay, K: Sink, T: Recorder>(
     ensures limit { service.old.accepted ≤ pair_limit limits.now
         → service.new.accepted ≤ pair_limit limits.now }
     ensures onward { P.last ports.old ≤ P.last ports.new }
-    ensures later { P.faults ports.old ≤ P.faults ports.new }
-    ensures cause { result ≡ Err Outside.Accept → Rose (P.faults ports.old) (P.faults ports.new) }
-    ensures out { K.faults report.old ≤ K.faults report.new }
-    ensures tape { T.faults recorder.old ≤ T.faults recorder.new }
-    ensures mute { result ≡ Err Outside.Out → Rose (K.faults report.old) (K.faults report.new) }
-    ensures lost { result ≡ Err Outside.Capture → Rose (T.faults recorder.old)
-        (T.faults recorder.new) }
+    ensures accept { CountsFaults P.faults (result ≡ Err Outside.Accept) ports.old ports.new }
+    ensures out { CountsFaults K.faults (result ≡ Err Outside.Out) report.old report.new }
+    ensures tape { CountsFaults T.faults (result ≡ Err Outside.Capture) recorder.old recorder.new }
     ensures count { CountWithin R.out_of_memory service.old tally.old
         → CountWithin R.out_of_memory service.new tally.new }
     ensures log { Extends (P.log ports.old) (P.log ports.new)

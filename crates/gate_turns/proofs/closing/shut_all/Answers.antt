@@ -8,6 +8,7 @@ use Rattle.gate_turns.specs.Rounds.{OwnsEnds}
 use Rattle.gate_runs.specs.Marks.{Extends}
 use Rattle.gate_turns.proofs.Closings.{answer_then, closing_then, fault_then, none_left, owns_none}
 use Rattle.gate_turns.proofs.Closings.{owns_rest}
+use Rattle.gate_turns.proofs.Keeping.{ports_then}
 use Rattle.gate_turns.proofs.closing.shut_all.Goals as goal
 
 pub loop-live-preserved : goal.loop-live-preserved
@@ -19,11 +20,9 @@ loop-live-preserved g c =
     let next = c.shut_pair-answer in
     record {
       count = (let was = at.invariant.count in let gone = c.in-Some.ensures.steps.1 in let short = ap length steps in omega arith);
-      owns = subst (λ (pairs : ℕ). OwnsEnds (into_iter_items c.next.new.self) pairs (g.P.Ports.ends next.new.ports)) (sym next.ensures.pairs)
+      owns = subst (λ (pairs : ℕ). OwnsEnds (into_iter_items c.next.new.self) pairs (g.P.Ports.ends next.new.ports)) (sym next.ensures.ports.pairs)
           (owns_rest c.in-Some.live (into_iter_items c.next.new.self) _ _ _ left next.ensures.others next.ensures.none);
-      pairs = next.ensures.pairs ∙ at.invariant.pairs;
-      last = next.ensures.last ∙ at.invariant.last;
-      later = omega (arith, at.invariant.later, next.ensures.later);
+      ports = ports_then at.invariant.ports next.ensures.ports;
       out = omega (arith, at.invariant.out, next.ensures.out);
       tape = omega (arith, at.invariant.tape, next.ensures.tape);
       answer = answer_then c.args.answer at.answer next.result at.invariant.answer next.ensures.answer;

@@ -6,6 +6,7 @@ use Rattle.gate_runs.specs.declared.served.Served.TheVariants.{Fault}
 use Rattle.gate_runs.specs.Marks.{Extends}
 use Rattle.gate_runs.specs.Serving.{is_sink_fault}
 use Rattle.gate_turns.specs.Endings.{ClosingEffect, closing_state}
+use Rattle.gate_turns.specs.Parts.{KeepsPorts}
 use Rattle.gate_turns.specs.Rounds.{OwnsEnds}
 use Rattle.gate_turns.proofs.closing.shut_all.Given as goal
 
@@ -14,9 +15,7 @@ abbrev pub invariant-loop-live : goal.invariant-loop-live
 invariant-loop-live g l = record {
   count : into_iter_len l.live-iterator ≡ length (into_iter_items l.live-iterator);
   owns : OwnsEnds (into_iter_items l.live-iterator) (g.P.Ports.pairs l.ports) (g.P.Ports.ends l.ports);
-  pairs : g.P.Ports.pairs l.ports ≡ g.P.Ports.pairs l.fn.ports;
-  last : g.P.Ports.last l.ports ≡ g.P.Ports.last l.fn.ports;
-  later : g.P.Ports.faults l.fn.ports ≤ g.P.Ports.faults l.ports;
+  ports : KeepsPorts g.P.Ports l.fn.ports l.ports;
   out : g.K.Sink.faults l.fn.report ≤ g.K.Sink.faults l.report;
   tape : g.T.Recorder.faults l.fn.recorder ≤ g.T.Recorder.faults l.recorder;
   answer : (l.answer ≡ l.fn.answer) ⊎ (is_sink_fault l.answer ≡ true);

@@ -4,11 +4,12 @@ use Rattle.gate_turns.proofs.Ends.{linked_are, linked_keep}
 use Rattle.gate_turns.proofs.Reporting.{kept_by}
 use Rattle.gate_turns.proofs.part.connect.Goals as goal
 
-pub returns-clause-open : goal.returns-clause-open
-returns-clause-open g c = linked_are _ _ _ _ _ _ _ c.link.ensures.number c.link.ensures.sides c.connect-answer.ensures.ends (c.is_linked.ensures.side (search rules)) c.requires.open
-
-pub returns-clause-others : goal.returns-clause-others
-returns-clause-others g c = linked_keep _ _ _ _ c.connect-answer.ensures.ends
+pub returns-clause-ends : goal.returns-clause-ends
+returns-clause-ends g c = record {
+  number = c.link.ensures.number;
+  open_ends = linked_are _ _ _ _ _ _ _ c.link.ensures.number c.link.ensures.sides c.connect-answer.ensures.ends (c.is_linked.ensures.side (search rules)) c.requires.open;
+  others = linked_keep _ _ _ _ c.connect-answer.ensures.ends;
+}
 
 pub returns-clause-log : goal.returns-clause-log
 returns-clause-log g c =

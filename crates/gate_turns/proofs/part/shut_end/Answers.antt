@@ -4,11 +4,12 @@ use Rattle.gate_turns.proofs.Reporting.{kept_by}
 use Rattle.gate_turns.proofs.ShutMarks.{shut_log}
 use Rattle.gate_turns.proofs.part.shut_end.Goals as goal
 
-pub returns-clause-open : goal.returns-clause-open
-returns-clause-open g c = closed_are c.args.end _ _ _ _ _ _ c.lose.ensures.number c.lose.ensures.sides c.shut.ensures.ends c.requires.open
-
-pub returns-clause-others : goal.returns-clause-others
-returns-clause-others g c = closed_keep c.args.end _ _ _ c.shut.ensures.ends
+pub returns-clause-ends : goal.returns-clause-ends
+returns-clause-ends g c = record {
+  number = c.lose.ensures.number;
+  open_ends = closed_are c.args.end _ _ _ _ _ _ c.lose.ensures.number c.lose.ensures.sides c.shut.ensures.ends c.requires.open;
+  others = closed_keep c.args.end _ _ _ c.shut.ensures.ends;
+}
 
 pub returns-clause-log : goal.returns-clause-log
 returns-clause-log g c = λ s.

@@ -1,4 +1,5 @@
 use Rattle.std.proofs.Common.{rules, arith}
+use Rattle.gate_turns.proofs.Keeping.{ends_then, ports_then}
 use Rattle.gate_turns.proofs.WriteMarks.{lap_more, lap_last, lap_stops, lap_full}
 use Rattle.gate_turns.proofs.part.write_lap.Goals as goal
 
@@ -14,15 +15,11 @@ returns-then-not-wrote-clause-log g c =
 
 pub loop-preserved : goal.loop-preserved
 loop-preserved g c = record {
-  number = search rules;
-  pairs = search rules;
-  last = search rules;
-  ends = search rules;
-  others = search rules;
+  ends = ends_then c.loop.invariant.ends c.write_once-wrote.ensures.ends;
   has = search rules;
-  later = omega arith;
-  out = omega arith;
-  tape = omega arith;
+  ports = ports_then c.loop.invariant.ports c.write_once-wrote.ensures.ports;
+  out = omega (arith, c.loop.invariant.out, c.write_once-wrote.ensures.out.later);
+  tape = omega (arith, c.loop.invariant.tape, c.write_once-wrote.ensures.tape.later);
   count = omega arith;
   log = lap_more (g.R.Relay.words c.args.setup.now) (g.R.Relay.represents c.args.setup.now) _ c.args.lap c.loop.counter c.write_once-wrote.result.more c.loop.ran_out c.write_once-wrote.result.ran_out
       c.write_once-wrote.result.result _ _ _ _ _ _ c.end.ensures c.loop-test.true (search rules) (search rules) c.loop.invariant.log c.write_once-wrote.ensures.log;

@@ -5,9 +5,7 @@ use Rattle.gate_turns.proofs.round.turn_all.Goals as goal
 pub loop-at-init : goal.loop-at-init
 loop-at-init g c = record {
   holds = c.requires.holds;
-  pairs = refl;
-  last = refl;
-  later = omega arith;
+  ports = record { pairs = refl; last = refl; later = omega arith };
   out = omega arith;
   tape = omega arith;
   count = λ within. within;

@@ -1,7 +1,8 @@
 -- What stays while pair after pair has its part of the turn.
-use Rattle.std.proofs.Common.{◌≡◌, ◌≤◌, ◌-◌, vec_len, Ok}
+use Rattle.std.proofs.Common.{◌≤◌, ◌-◌, vec_len, Ok}
 use Rattle.gate_runs.specs.Marks.{Extends}
 use Rattle.gate_turns.specs.Counting.{CountWithin}
+use Rattle.gate_turns.specs.Parts.{KeepsPorts}
 use Rattle.gate_turns.specs.Rounds.{Holds, PairsEffect, run_state}
 use Rattle.gate_turns.proofs.round.turn_all.Given as goal
 
@@ -9,9 +10,7 @@ use Rattle.gate_turns.proofs.round.turn_all.Given as goal
 abbrev pub invariant-loop-at : goal.invariant-loop-at
 invariant-loop-at g l = record {
   holds : Holds l.service (g.P.Ports.pairs l.ports) (g.P.Ports.ends l.ports);
-  pairs : g.P.Ports.pairs l.ports ≡ g.P.Ports.pairs l.fn.ports;
-  last : g.P.Ports.last l.ports ≡ g.P.Ports.last l.fn.ports;
-  later : g.P.Ports.faults l.fn.ports ≤ g.P.Ports.faults l.ports;
+  ports : KeepsPorts g.P.Ports l.fn.ports l.ports;
   out : g.K.Sink.faults l.fn.report ≤ g.K.Sink.faults l.report;
   tape : g.T.Recorder.faults l.fn.recorder ≤ g.T.Recorder.faults l.recorder;
   count : CountWithin g.R.Relay.out_of_memory l.fn.service l.fn.tally → CountWithin g.R.Relay.out_of_memory l.service l.tally;

@@ -8,11 +8,11 @@ pub returns-then-lives-clause-holds : goal.returns-then-lives-clause-holds
 returns-then-lives-clause-holds g c =
     let lt : c.args.at < length c.args.service.now.live.items = search rules in
     record {
-      accepts = c.requires.holds.accepts ∙ sym c.visit-result.ensures.pairs;
+      accepts = c.requires.holds.accepts ∙ sym c.visit-result.ensures.ports.pairs;
       owns = owns_after _ c.args.at _ _ _ c.index_mut-live.result.now c.visit-result.new.live _ _ _ _ _
           (split_at c.args.service.now.live.items c.args.at c.index_mut-live.result.now lt c.index_mut-live.ensures.value)
           (stays_after c.args.at c.visit-result.new.live c.args.service.now.live.items _ lt refl)
-          (record { number = c.visit-result.ensures.number; same = c.visit-result.ensures.pairs; keeps = c.visit-result.ensures.others; are = c.visit-result.ensures.open })
+          (record { number = c.visit-result.ensures.ends.number; same = c.visit-result.ensures.ports.pairs; keeps = c.visit-result.ensures.ends.others; are = c.visit-result.ensures.ends.open_ends })
           (sym c.if-lives.true ∙ c.has_end-lives.ensures) c.requires.holds.owns;
     }
 
@@ -20,11 +20,11 @@ pub returns-clause-holds : goal.returns-clause-holds
 returns-clause-holds g c =
     let lt : c.args.at < length c.args.service.now.live.items = search rules in
     record {
-      accepts = c.retire.ensures.accepted ∙ c.requires.holds.accepts ∙ sym c.visit-result.ensures.pairs;
+      accepts = c.retire.ensures.accepted ∙ c.requires.holds.accepts ∙ sym c.visit-result.ensures.ports.pairs;
       owns = owns_after _ c.args.at _ _ _ c.index_mut-live.result.now c.visit-result.new.live _ _ _ _ _
           (split_at c.args.service.now.live.items c.args.at c.index_mut-live.result.now lt c.index_mut-live.ensures.value)
           (leaves_after c.args.at c.visit-result.new.live c.args.service.now.live.items _ c.retire.ensures.live)
-          (record { number = c.visit-result.ensures.number; same = c.visit-result.ensures.pairs; keeps = c.visit-result.ensures.others; are = c.visit-result.ensures.open })
+          (record { number = c.visit-result.ensures.ends.number; same = c.visit-result.ensures.ports.pairs; keeps = c.visit-result.ensures.ends.others; are = c.visit-result.ensures.ends.open_ends })
           (sym c.if-lives.false ∙ c.has_end-lives.ensures) c.requires.holds.owns;
     }
 
@@ -34,7 +34,7 @@ returns-then-lives-clause-log g c =
     let split = split_at c.args.service.now.live.items c.args.at c.index_mut-live.result.now lt c.index_mut-live.ensures.value in
     pair_visited (g.R.Relay.words c.args.setup.now) (g.R.Relay.represents c.args.setup.now) c.has_end-lives.result c.args.at _ c.index_mut-live.result.now c.visit-result.new.live _ _ _ _ c.visit-result.result _ _ _ _ _ _
     split c.requires.holds.owns.rising (owns_this _ _ _ _ _ _ _ split c.requires.holds.owns).has c.has_end-lives.ensures
-    (rw c.if-lives.true (stays_after c.args.at c.visit-result.new.live c.args.service.now.live.items _ lt refl)) refl c.visit-result.ensures.last c.visit-result.ensures.log
+    (rw c.if-lives.true (stays_after c.args.at c.visit-result.new.live c.args.service.now.live.items _ lt refl)) refl c.visit-result.ensures.ports.last c.visit-result.ensures.log
 
 pub returns-clause-log : goal.returns-clause-log
 returns-clause-log g c =
@@ -42,7 +42,7 @@ returns-clause-log g c =
     let split = split_at c.args.service.now.live.items c.args.at c.index_mut-live.result.now lt c.index_mut-live.ensures.value in
     pair_visited (g.R.Relay.words c.args.setup.now) (g.R.Relay.represents c.args.setup.now) c.has_end-lives.result c.args.at _ c.index_mut-live.result.now c.visit-result.new.live _ _ _ _ c.visit-result.result _ _ _ _ _ _
     split c.requires.holds.owns.rising (owns_this _ _ _ _ _ _ _ split c.requires.holds.owns).has c.has_end-lives.ensures
-    (rw c.if-lives.false (leaves_after c.args.at c.visit-result.new.live c.args.service.now.live.items _ c.retire.ensures.live)) c.retire.ensures.accepted c.visit-result.ensures.last c.visit-result.ensures.log
+    (rw c.if-lives.false (leaves_after c.args.at c.visit-result.new.live c.args.service.now.live.items _ c.retire.ensures.live)) c.retire.ensures.accepted c.visit-result.ensures.ports.last c.visit-result.ensures.log
 
 pub returns-then-lives-clause-count : goal.returns-then-lives-clause-count
 returns-then-lives-clause-count g c = λ within.

@@ -19,7 +19,7 @@ returns-in-Ok-clause-holds g c =
 
 pub returns-in-Err-clause-holds : goal.returns-in-Err-clause-holds
 returns-in-Err-clause-holds g c =
-    holds_same c.in-Pair.number _ _ _ _ _ _ c.in-Pair.ensures.number (c.turn_away.ensures.pairs ∙ c.in-Pair.ensures.pairs)
+    holds_same c.in-Pair.number _ _ _ _ _ _ c.in-Pair.ensures.number (c.turn_away.ensures.ports.pairs ∙ c.in-Pair.ensures.pairs)
     (c.turn_away.ensures.ends ∙ ap (λ (ends : List (ℕ × End)). closed c.in-Pair.number Client ends) c.in-Pair.ensures.ends)
     c.take_in.ensures.accepted c.in-Err.ensures.err c.requires.holds
 
@@ -43,7 +43,7 @@ returns-in-Err-clause-log g c =
     let live = c.args.service.now.live.items in
     let below : AreBelow p live = subst (λ (k : ℕ). AreBelow k live) (sym c.in-Pair.ensures.number) (are_below _ _ live c.requires.holds.owns.each) in
     away_log (g.R.Relay.words c.args.setup.now) (g.R.Relay.represents c.args.setup.now) p c.record-kept.result c.turn_away.result _ (g.T.Recorder.held c.record-kept.new.self) _ _ _ _ _
-    (c.in-Pair.ensures.number ∙ sym c.requires.holds.accepts) c.in-Err.ensures.err below c.take_in.ensures.accepted (c.turn_away.ensures.last ∙ c.in-Pair.ensures.last)
+    (c.in-Pair.ensures.number ∙ sym c.requires.holds.accepts) c.in-Err.ensures.err below c.take_in.ensures.accepted (c.turn_away.ensures.ports.last ∙ c.in-Pair.ensures.last)
     c.in-Err.ensures.tally c.turn_away.ensures.told c.outcome-in-Err.ensures
     (kept_accept c.accept-answer.result (accepted.Pair p) c.record-kept.result (g.T.Recorder.held c.args.recorder.now) (g.T.Recorder.held c.record-kept.new.self) c.in-Pair.is
     c.record-kept.ensures.whole c.record-kept.ensures.part)
