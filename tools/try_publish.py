@@ -3,10 +3,12 @@
 
     python3 tools/try_publish.py --container 'COMMAND' | --upstream ADDRESS [--gateway 'COMMAND'] [--client NAME,NAME..]
                                  [--key NAME,NAME..] [--count COUNT] [--size BYTES,BYTES..] [--wait SECONDS]
+                                 [--mandatory]
 
 It starts the container as `COMMAND --port P`, unless one listens at an address already, and the gateway as `COMMAND serve ..`
 on a free port; the gateway is crates/amqp_gate/out/amqp_gate if no command names another. Each client then opens a channel,
-asks for confirms, and publishes COUNT messages of each size to each routing key. What it counted of acks and nacks is printed
+asks for confirms, and publishes COUNT messages of each size to each routing key, with `--mandatory` as
+mandatory ones: `pika` and `amqp` then count those that came back. What it counted of acks and nacks is printed
 with the time that it took, and in the end the processor time of the gateway, and of each key how many messages the container
 says that it took (lines `took KEY BYTES ..`). Nothing is asserted, and this is no part of the build.
 
@@ -51,11 +53,11 @@ def prepared(name, command, build):
         return False
 
 
-def publish(name, command, port, key, count, size, wait):
+def publish(name, command, port, key, count, size, wait, flags):
     began = time.monotonic()
     try:
         said = subprocess.run(
-            [*command, str(port), key, str(count), str(size)], capture_output=True, text=True, timeout=wait
+            [*command, str(port), key, str(count), str(size), *flags], capture_output=True, text=True, timeout=wait
         )
         words = (said.stdout.strip() or said.stderr.strip()[-300:]) + (f", status {said.returncode}" if said.returncode else "")
     except (OSError, subprocess.TimeoutExpired) as error:
@@ -80,7 +82,9 @@ def main():
     parser.add_argument("--count", type=int, default=100)
     parser.add_argument("--size", default="100")
     parser.add_argument("--wait", type=int, default=300)
+    parser.add_argument("--mandatory", action="store_true")
     options = parser.parse_args()
+    flags = ["mandatory"] if options.mandatory else []
     with tempfile.TemporaryDirectory() as folder:
         log = open(os.path.join(folder, "container"), "w+")
         container = None
@@ -102,7 +106,7 @@ def main():
                     continue
                 for key in options.key.split(","):
                     for size in options.size.split(","):
-                        publish(name, command, port, key, options.count, int(size), options.wait)
+                        publish(name, command, port, key, options.count, int(size), options.wait, flags)
             print(f"the gateway took {processor_seconds(gateway):.2f} s of a processor")
         finally:
             end(gateway)
