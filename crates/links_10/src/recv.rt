@@ -125,7 +125,7 @@ impl RecvLink {
     }
 
     /// How many deliveries may still begin within the greatest delivery-limit that was stated. One
-    /// past them is a fault of the container (AMQP 1.0 2.8.15, transfer-limit-exceeded).
+    /// past them is a fault of the container (AMQP 1.0 2.8.18, transfer-limit-exceeded).
     pub fn limit_left(&self) -> u32
         ensures { result ≡ self.now.limit_left }
     {

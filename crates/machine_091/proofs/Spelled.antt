@@ -1,6 +1,7 @@
--- A content header and a basic.publish that were read are spelled in their frames.
+-- A content header and a basic.publish that were read are spelled in their frames, and the names in
+-- a basic.consume are short strings.
 use Rattle.std.proofs.Common.{◌≡◌, ℕ, Bool, true, false, eqb, ◌&&◌, List, [], ◌∷◌, Option, None}
-use Rattle.std.proofs.Common.{Some, Result, Ok, Err, refl, sym, ap, subst, ◌∙◌}
+use Rattle.std.proofs.Common.{Some, Result, Ok, Err, refl, sym, ap, subst, ◌∙◌, ◌≤◌, length, arith}
 use Rattle.std.proofs.lemmas.Bool.{eqb-true}
 use Rattle.wire_base.specs.Bytes.{IsBytes}
 use Rattle.wire_base.specs.declared.scan.At.{At}
@@ -27,8 +28,9 @@ use Rattle.content_091.specs.declared.reading.HeaderFault.{HeaderFault}
 use Rattle.content_091.proofs.HeaderLaws as header_laws
 use Rattle.machine_091.specs.Headers.{octet_of, longlong_of, shortstr_of, fields_of, header_of}
 use Rattle.machine_091.specs.Ids.{is_of_kind}
-use Rattle.machine_091.specs.Methods.{publish_of}
-use Rattle.machine_091.specs.declared.ids.TheConstants.{BASIC_PUBLISH}
+use Rattle.machine_091.specs.Methods.{consume_of, publish_of, text_at}
+use Rattle.machine_091.specs.Writable.{HasShortNames}
+use Rattle.machine_091.specs.declared.ids.TheConstants.{BASIC_CONSUME, BASIC_PUBLISH}
 use Rattle.machine_091.proofs.IdLaws.{told_is}
 
 -- ---- a content header
@@ -86,6 +88,28 @@ header_spelled bytes p fits e =
     by : header_grammar.IsPayload p bytes → Fits rows p.1
     by (flags, head, properties, are, is, props, split) = all_fit flags rows p.1 properties props
 
+-- ---- the ids of a method
+
+-- those of a kind are its own alone
+kind_has_ids : (j k : Kind) → is_of_kind (class_of j, id_of j) k ≡ true → k ≡ j
+kind_has_ids j k e = kinds_apart k j (first (eqb (class_of k) (class_of j)) refl e) (second (eqb (class_of k) (class_of j)) (eqb (id_of k) (id_of j)) refl e)
+  where
+    first : (b : Bool) → eqb (class_of k) (class_of j) ≡ b → (b && eqb (id_of k) (id_of j)) ≡ true → class_of k ≡ class_of j
+    first true z e = eqb-true (class_of k) (class_of j) z
+    first false z e = absurd cc
+
+    second : (b d : Bool) → eqb (id_of k) (id_of j) ≡ d → (b && d) ≡ true → id_of k ≡ id_of j
+    second true true z e = eqb-true (id_of k) (id_of j) z
+    second true false z e = absurd cc
+    second false d z e = absurd cc
+
+-- the bytes of a method that was read spell it
+read_spelled : (j : Kind) (bytes : List ℕ) (k : Kind) (args : List Arg) → IsBytes bytes → method_in bytes ≡ Ok (k, args) → is_of_kind (class_of j, id_of j) k ≡ true
+    → IsPayload (j, args) bytes
+read_spelled j bytes k args fits e is =
+    let read : methods.payload_in bytes ≡ Ok (Some (k, args)) = told_is (methods.payload_in bytes) (k, args) e in
+    subst (λ (i : Kind). IsPayload (i, args) bytes) (kind_has_ids j k is) (method_laws.read_is_spelled bytes (k, args) fits read)
+
 -- ---- a basic.publish
 
 -- its kind
@@ -94,16 +118,7 @@ publishes = kind_of (publish_of [])
 
 -- its ids are those of its kind alone
 pub publish_kind : (k : Kind) → is_of_kind BASIC_PUBLISH k ≡ true → k ≡ publishes
-publish_kind k e = kinds_apart k publishes (first (eqb (class_of k) 60) refl e) (second (eqb (class_of k) 60) (eqb (id_of k) 40) refl e)
-  where
-    first : (b : Bool) → eqb (class_of k) 60 ≡ b → (b && eqb (id_of k) 40) ≡ true → class_of k ≡ 60
-    first true z e = eqb-true (class_of k) 60 z
-    first false z e = absurd cc
-
-    second : (b d : Bool) → eqb (id_of k) 40 ≡ d → (b && d) ≡ true → id_of k ≡ 40
-    second true true z e = eqb-true (id_of k) 40 z
-    second true false z e = absurd cc
-    second false d z e = absurd cc
+publish_kind k e = kind_has_ids publishes k e
 
 -- its arguments
 abbrev four : List ℕ → List ℕ → ℕ → List Arg
@@ -124,7 +139,26 @@ publish_args args text (x, e, (f, b, (y, r, s), (x2, e2, (f2, b2, (y2, r2, s2), 
 pub publish_spelled : (bytes : List ℕ) (k : Kind) (args : List Arg) → IsBytes bytes → method_in bytes ≡ Ok (k, args) → is_of_kind BASIC_PUBLISH k ≡ true
     → IsMethod (publish_of args) bytes
 publish_spelled bytes k args fits e publish =
-    let read : methods.payload_in bytes ≡ Ok (Some (k, args)) = told_is (methods.payload_in bytes) (k, args) e in
-    let spelled : IsPayload (publishes, args) bytes =
-    subst (λ (j : Kind). IsPayload (j, args) bytes) (publish_kind k publish) (method_laws.read_is_spelled bytes (k, args) fits read) in
+    let spelled : IsPayload (publishes, args) bytes = read_spelled publishes bytes k args fits e publish in
     subst (λ (xs : List Arg). IsPayload (publishes, xs) bytes) (sym (publish_args args spelled.0 spelled.1)) spelled
+
+-- ---- a basic.consume
+
+-- its kind
+abbrev consumes : Kind
+consumes = kind_of (consume_of [])
+
+-- the names among its arguments
+consume_names : (args : List Arg) (text : List ℕ) → IsArgs (shape consumes) args text → HasShortNames (consume_of args)
+consume_names args text (x, e, (f, b, (y, r, s), (x2, e2, (f2, b2, (y2, r2, s2), (x3, e3, (f3, b3, (y3, r3, s3), others, t3)), t2)), t)) =
+    let is : args ≡ arg.reserved rows_of.short ∷ arg.shortstr y2 ∷ arg.shortstr y3 ∷ x3.1 =
+    e ∙ ap (λ (a : Arg). a ∷ x.1) r
+    ∙ ap (λ (xs : List Arg). arg.reserved rows_of.short ∷ xs)
+    (e2 ∙ ap (λ (a : Arg). a ∷ x2.1) r2 ∙ ap (λ (xs : List Arg). arg.shortstr y2 ∷ xs) (e3 ∙ ap (λ (a : Arg). a ∷ x3.1) r3)) in
+    subst (λ (xs : List Arg). (length (text_at 1 xs) ≤ 255) × (length (text_at 2 xs) ≤ 255)) (sym is) (omega (arith, s2.0), omega (arith, s3.0))
+
+pub consume_short : (bytes : List ℕ) (k : Kind) (args : List Arg) → IsBytes bytes → method_in bytes ≡ Ok (k, args) → is_of_kind BASIC_CONSUME k ≡ true
+    → HasShortNames (consume_of args)
+consume_short bytes k args fits e consume =
+    let spelled : IsPayload (consumes, args) bytes = read_spelled consumes bytes k args fits e consume in
+    consume_names args spelled.0 spelled.1

@@ -25,7 +25,7 @@ use Rattle.machine_091.specs.Contents as contents
 use Rattle.machine_091.specs.Ids.{is_of_kind}
 use Rattle.machine_091.specs.Limits.{is_agreed, agreed_limits}
 use Rattle.machine_091.specs.Methods.{text_at, number_at, close_of, flow_of, declare_of, publish_of}
-use Rattle.machine_091.specs.Methods.{select_of}
+use Rattle.machine_091.specs.Methods.{select_of, consume_of, ack_of, reject_of, nack_of}
 use Rattle.machine_091.specs.Refusals.{places, channel_place, closing_place, reading_place}
 use Rattle.machine_091.specs.Refusals.{taken_by, unit_ruling, refusal_of, publish_refusal}
 use Rattle.machine_091.specs.Refusals.{channel_refusal, channel_of}
@@ -41,11 +41,13 @@ use Rattle.machine_091.specs.Transitions.{method_effect, content_effect, frame_e
 use Rattle.machine_091.specs.Transitions.{ruled_step, ordered_step, is_unit_of, closed_step}
 use Rattle.machine_091.specs.Transitions.{closing_step, step_in, unit_step}
 use Rattle.machine_091.specs.Transitions as machine
+use Rattle.machine_091.specs.Writable.{AreBytes, HasShortNames}
 use Rattle.machine_091.specs.declared.contents.Incoming.{Incoming}
 use Rattle.machine_091.specs.declared.ids.TheConstants.{CONNECTION_CLOSE, CONNECTION_CLOSE_OK}
 use Rattle.machine_091.specs.declared.ids.TheConstants.{CHANNEL_OPEN, CHANNEL_CLOSE, CHANNEL_FLOW}
 use Rattle.machine_091.specs.declared.ids.TheConstants.{EXCHANGE_DECLARE, BASIC_PUBLISH}
-use Rattle.machine_091.specs.declared.ids.TheConstants.{CONFIRM_SELECT}
+use Rattle.machine_091.specs.declared.ids.TheConstants.{CONFIRM_SELECT, BASIC_CONSUME, BASIC_ACK}
+use Rattle.machine_091.specs.declared.ids.TheConstants.{BASIC_REJECT, BASIC_NACK}
 use Rattle.machine_091.specs.declared.state.Channel91.TheVariants as channel
 use Rattle.machine_091.specs.declared.state.Connection.{Connection}
 use Rattle.machine_091.specs.declared.state.Phase91.{Phase91}
@@ -60,6 +62,7 @@ use Rattle.machine_091.proofs.ContentSteps.{content_places, taking_places, order
 use Rattle.machine_091.proofs.Places.{IsOnOpen, NoneOfMethod, none_of_method, none_within}
 use Rattle.machine_091.proofs.Places.{rest_none, first_none, within, not_zero, content_open}
 use Rattle.machine_091.proofs.Places.{method_apart, content_apart, over_closed, publish_open}
+use Rattle.machine_091.proofs.Spelled.{consume_short}
 
 -- ---- what is known where a frame counts
 
@@ -70,6 +73,15 @@ pub record IsOfChannel (c : Connection) (u : Unit91) (n : ℕ) : Type 0 where
   pub min : 1 ≤ n
   pub max : n ≤ c.limits.channel_max
   pub none : content_at c n ≡ None
+
+-- one that is passed on
+pub record IsPassedOn (c : Connection) (u : Unit91) (n : ℕ) (m : Method91) : Type 0 where
+  pub of : channel_of u ≡ n
+  pub runs : is_running c.phase ≡ true
+  pub min : 1 ≤ n
+  pub max : n ≤ c.limits.channel_max
+  pub none : content_at c n ≡ None
+  pub short : AreBytes u → HasShortNames m
 
 -- a unit of no open channel
 abbrev pub IsIdle : Connection → Unit91 → Type 0
@@ -110,9 +122,9 @@ pub record HoldsByRow (P : Step → Type 0) (c : Connection) (u : Unit91) : Type
       → P (record c { phase = phase.Open; limits = agreed_limits channels size heartbeat }, want.Tuned)
   pub asked : c.phase ≡ phase.Open → P (record c { asked = true }, want.OpenUp)
   pub closed : is_running c.phase ≡ true → P (record c { phase = phase.Closed; contents = no_contents }, want.Close)
-  pub opened : (n : ℕ) (m : Method91) → IsOfChannel c u n → P (with_channel c n channel.Open, want.Method n m)
-  pub ended : (n : ℕ) (m : Method91) → IsOfChannel c u n → P (with_channel c n (closed_by (channel_at c n)), want.Method n m)
-  pub passed_on : (n : ℕ) (m : Method91) → IsOfChannel c u n → P (c, want.Method n m)
+  pub opened : (n : ℕ) (m : Method91) → IsPassedOn c u n m → P (with_channel c n channel.Open, want.Method n m)
+  pub ended : (n : ℕ) (m : Method91) → IsPassedOn c u n m → P (with_channel c n (closed_by (channel_at c n)), want.Method n m)
+  pub passed_on : (n : ℕ) (m : Method91) → IsPassedOn c u n m → P (c, want.Method n m)
   pub begun : (f : Frame91) (k : Kind) (args : List Arg) → IsBeginning c u f k args
       → P (with_content c f.channel (Some (contents.begun (publish_of args))), want.Nothing)
   pub grown : (f : Frame91) (i : Incoming) (a : Assembly) → IsTaken c u f i a step.More
@@ -167,25 +179,37 @@ channel_rows : (P : Step → Type 0) (c : Connection) (u : Unit91) (f : Frame91)
     → closing_place c f frame.Method ≡ None → content_at c f.channel ≡ None → P (channel_effect c f.channel k args)
 channel_rows P c u f k args rows is kind read runs z uses closes none =
     by (is_of_kind CHANNEL_OPEN k) (is_of_kind CHANNEL_CLOSE k) (is_of_kind CHANNEL_FLOW k) (is_of_kind EXCHANGE_DECLARE k) (is_of_kind CONFIRM_SELECT k)
-    (is_of_kind BASIC_PUBLISH k) refl
+    (is_of_kind BASIC_CONSUME k) (is_of_kind BASIC_ACK k) (is_of_kind BASIC_REJECT k) (is_of_kind BASIC_NACK k) (is_of_kind BASIC_PUBLISH k) refl refl
   where
     of : IsOfChannel c u f.channel
     of = record { of = ap channel_of is; runs = runs; min = not_zero f.channel z; max = within c f.channel (is_opening f.payload) z uses; none = none }
 
-    by : (opens shuts stops declares selects publishes : Bool) → is_of_kind BASIC_PUBLISH k ≡ publishes
+    passes : (m : Method91) → (AreBytes u → HasShortNames m) → IsPassedOn c u f.channel m
+    passes m short = record { of = of.of; runs = of.runs; min = of.min; max = of.max; none = of.none; short = short }
+
+    by : (opens shuts stops declares selects consumes acks rejects nacks publishes : Bool) → is_of_kind BASIC_CONSUME k ≡ consumes → is_of_kind BASIC_PUBLISH k ≡ publishes
         → P (cond {A = Step} opens (with_channel c f.channel channel.Open, want.Method f.channel method.ChannelOpen)
         (cond {A = Step} shuts (with_channel c f.channel (closed_by (channel_at c f.channel)), want.Method f.channel (close_of args))
         (cond {A = Step} stops (c, want.Method f.channel (flow_of args))
         (cond {A = Step} declares (c, want.Method f.channel (declare_of args))
         (cond {A = Step} selects (c, want.Method f.channel (select_of args))
+        (cond {A = Step} consumes (c, want.Method f.channel (consume_of args))
+        (cond {A = Step} acks (c, want.Method f.channel (ack_of args))
+        (cond {A = Step} rejects (c, want.Method f.channel (reject_of args))
+        (cond {A = Step} nacks (c, want.Method f.channel (nack_of args))
         (cond {A = Step} publishes (with_content c f.channel (Some (contents.begun (publish_of args))), want.Nothing)
-        (with_channel c f.channel channel.Free, want.ChannelCloseOk f.channel)))))))
-    by true shuts stops declares selects publishes e = rows.opened f.channel method.ChannelOpen of
-    by false true stops declares selects publishes e = rows.ended f.channel (close_of args) of
-    by false false true declares selects publishes e = rows.passed_on f.channel (flow_of args) of
-    by false false false true selects publishes e = rows.passed_on f.channel (declare_of args) of
-    by false false false false true publishes e = rows.passed_on f.channel (select_of args) of
-    by false false false false false true e =
+        (with_channel c f.channel channel.Free, want.ChannelCloseOk f.channel)))))))))))
+    by true shuts stops declares selects consumes acks rejects nacks publishes d e = rows.opened f.channel method.ChannelOpen (passes method.ChannelOpen (λ b. tt))
+    by false true stops declares selects consumes acks rejects nacks publishes d e = rows.ended f.channel (close_of args) (passes (close_of args) (λ b. tt))
+    by false false true declares selects consumes acks rejects nacks publishes d e = rows.passed_on f.channel (flow_of args) (passes (flow_of args) (λ b. tt))
+    by false false false true selects consumes acks rejects nacks publishes d e = rows.passed_on f.channel (declare_of args) (passes (declare_of args) (λ b. tt))
+    by false false false false true consumes acks rejects nacks publishes d e = rows.passed_on f.channel (select_of args) (passes (select_of args) (λ b. tt))
+    by false false false false false true acks rejects nacks publishes d e =
+        rows.passed_on f.channel (consume_of args) (passes (consume_of args) (λ b. consume_short f.payload k args (subst AreBytes is b) read d))
+    by false false false false false false true rejects nacks publishes d e = rows.passed_on f.channel (ack_of args) (passes (ack_of args) (λ b. tt))
+    by false false false false false false false true nacks publishes d e = rows.passed_on f.channel (reject_of args) (passes (reject_of args) (λ b. tt))
+    by false false false false false false false false true publishes d e = rows.passed_on f.channel (nack_of args) (passes (nack_of args) (λ b. tt))
+    by false false false false false false false false false true d e =
         rows.begun f k args (record {
           unit = is;
           on = publish_open c f k args runs z read e uses closes;
@@ -194,7 +218,7 @@ channel_rows P c u f k args rows is kind read runs z uses closes none =
           read = read;
           publish = e;
         })
-    by false false false false false false e = rows.freed f.channel of
+    by false false false false false false false false false false d e = rows.freed f.channel of
 
 running_rows : (P : Step → Type 0) (c : Connection) (u : Unit91) (f : Frame91) (k : Kind) (args : List Arg) → HoldsByRow P c u → u ≡ unit.Frame f
     → f.kind ≡ frame.Method → method_in f.payload ≡ Ok (k, args) → is_running c.phase ≡ true → channel_place c f frame.Method ≡ None

@@ -159,9 +159,9 @@ step_puts c u fits h = step_rows (λ (x : Step). CanPutContents x.0 × CanPutBac
   tuned = λ channels size heartbeat e agreed. (h, tt);
   asked = λ e. (h, tt);
   closed = λ e. (none_puts (record c { phase = phase.Closed; contents = no_contents }) refl, tt);
-  opened = λ n m o. (h, tt);
-  ended = λ n m o. (h, tt);
-  passed_on = λ n m o. (h, tt);
+  opened = λ n m o. (h, o.short fits);
+  ended = λ n m o. (h, o.short fits);
+  passed_on = λ n m o. (h, o.short fits);
   begun = λ f k args b. (
     set_puts c f.channel (Some (begun (publish_of args))) h (λ j e. one_is (begun (publish_of args)) j e (tt, begun_puts c u f k args fits b)),
     tt,

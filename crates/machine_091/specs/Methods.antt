@@ -1,5 +1,5 @@
 -- The methods of a channel that are passed on, from their arguments (AMQP 0-9-1 1.5, 1.6 and 1.8,
--- and RabbitMQ's confirms).
+-- and RabbitMQ's basic.nack and confirms).
 use Rattle.std.specs.Prelude.{ℕ, zero, suc, Bool, false, List, [], ◌∷◌}
 use Rattle.tables_091.specs.Tree.{Tree}
 use Rattle.methods_091.specs.Arguments.{Arg}
@@ -21,6 +21,7 @@ abbrev pub number_at : ℕ → List Arg → ℕ
 number_at k [] = 0
 number_at zero (arg.short n ∷ args) = n
 number_at zero (arg.long n ∷ args) = n
+number_at zero (arg.longlong n ∷ args) = n
 number_at zero (a ∷ args) = 0
 number_at (suc k) (a ∷ args) = number_at k args
 
@@ -62,6 +63,23 @@ abbrev pub publish_of : List Arg → Method91
 publish_of args =
     let flags = flags_at 3 args in
     method.BasicPublish (text_at 1 args) (text_at 2 args) (flag 0 flags) (flag 1 flags)
+
+abbrev pub consume_of : List Arg → Method91
+consume_of args =
+    let flags = flags_at 3 args in
+    method.BasicConsume (text_at 1 args) (text_at 2 args) (flag 0 flags) (flag 1 flags)
+    (flag 2 flags) (flag 3 flags) (fields_at 4 args)
+
+abbrev pub ack_of : List Arg → Method91
+ack_of args = method.BasicAck (number_at 0 args) (flag 0 (flags_at 1 args))
+
+abbrev pub reject_of : List Arg → Method91
+reject_of args = method.BasicReject (number_at 0 args) (flag 0 (flags_at 1 args))
+
+abbrev pub nack_of : List Arg → Method91
+nack_of args =
+    let flags = flags_at 1 args in
+    method.BasicNack (number_at 0 args) (flag 0 flags) (flag 1 flags)
 
 abbrev pub select_of : List Arg → Method91
 select_of args = method.ConfirmSelect (flag 0 (flags_at 0 args))

@@ -12,7 +12,9 @@ use Rattle.machine_091.specs.RefusalsFrames.{refused}
 use Rattle.machine_091.specs.declared.ids.TheConstants.{CONNECTION, CONNECTION_CLOSE, CHANNEL_OPEN}
 use Rattle.machine_091.specs.declared.ids.TheConstants.{CHANNEL_FLOW, CHANNEL_CLOSE}
 use Rattle.machine_091.specs.declared.ids.TheConstants.{CHANNEL_CLOSE_OK}
-use Rattle.machine_091.specs.declared.ids.TheConstants.{EXCHANGE_DECLARE, BASIC_PUBLISH}
+use Rattle.machine_091.specs.declared.ids.TheConstants.{EXCHANGE_DECLARE, BASIC_CONSUME}
+use Rattle.machine_091.specs.declared.ids.TheConstants.{BASIC_PUBLISH, BASIC_ACK, BASIC_REJECT}
+use Rattle.machine_091.specs.declared.ids.TheConstants.{BASIC_NACK}
 use Rattle.machine_091.specs.declared.ids.TheConstants.{BASIC_RETURN, BASIC_DELIVER}
 use Rattle.machine_091.specs.declared.ids.TheConstants.{BASIC_GET_EMPTY, CONFIRM_SELECT}
 use Rattle.machine_091.specs.declared.state.Channel91.{Channel91}
@@ -58,13 +60,18 @@ abbrev pub carried_order : ℕ → ℕ → Option Ruling
 carried_order max n = if nat_lt max n then refused RESOURCE_ERROR else None
 
 -- the methods that are done on a channel that the container carries: those that close it,
--- exchange.declare, basic.publish and confirm.select
+-- exchange.declare, basic.consume, basic.publish, basic.ack, basic.reject, basic.nack and
+-- confirm.select
 abbrev pub is_done : Kind → Bool
 is_done k =
     if is_of_kind CHANNEL_CLOSE k then true
     else if is_of_kind CHANNEL_CLOSE_OK k then true
     else if is_of_kind EXCHANGE_DECLARE k then true
+    else if is_of_kind BASIC_CONSUME k then true
     else if is_of_kind BASIC_PUBLISH k then true
+    else if is_of_kind BASIC_ACK k then true
+    else if is_of_kind BASIC_REJECT k then true
+    else if is_of_kind BASIC_NACK k then true
     else is_of_kind CONFIRM_SELECT k
 
 -- such a channel, a channel.flow that stops the flow, and all that this gateway doesn't do

@@ -12,4 +12,4 @@ pub use Rattle.machine_091.specs.Laws.{Call91, Take, Opened, Closing, Closed, En
 pub use Rattle.machine_091.specs.Laws.{after_calls, AreInRange, ClosesConnection, ClosesChannel}
 pub use Rattle.machine_091.specs.Laws.{Closes, StaysClosed, HasNone, AreOnOpen, frames_on}
 pub use Rattle.machine_091.specs.Laws.{content_frames, IsPublished}
-pub use Rattle.machine_091.specs.Writable.{CanPutBack}
+pub use Rattle.machine_091.specs.Writable.{CanPutBack, HasShortNames}

@@ -1,8 +1,11 @@
--- What a client publishes can be written again: a basic.return gives its exchange, its routing key
--- and its properties back (AMQP 0-9-1 1.8.3.7, 1.8.3.8 and 4.2.6).
-use Rattle.std.specs.Prelude.{◌≡◌, ℕ, Some}
+-- What a client sends can be written again: a basic.return gives the exchange, the routing key and
+-- the properties of a publish back, and a basic.consume-ok and each basic.deliver the tag of their
+-- consumer (AMQP 0-9-1 1.8.3.4, 1.8.3.7 to 1.8.3.9 and 4.2.6).
+use Rattle.std.specs.Prelude.{◌≡◌, ℕ, ◌≤◌, length, Some}
 use Rattle.wire_base.specs.Bytes.{IsBytes}
 use Rattle.methods_091.specs.Writing.{CanPut}
+use Rattle.methods_091.specs.declared.method.Method91.{Method91}
+use Rattle.methods_091.specs.declared.method.Method91.TheVariants as method
 use Rattle.content_091.specs.View.{props_of}
 use Rattle.content_091.specs.Writing.{CanPutAll}
 use Rattle.content_091.specs.declared.assembly.Stage.{Stage}
@@ -19,6 +22,12 @@ use Rattle.machine_091.specs.declared.unit.Want91.TheVariants as want
 
 -- ---- what is handed out
 
+-- the names in a method that is passed on are short strings: the queue and the tag of a consumer
+abbrev pub HasShortNames : Method91 → Type 0
+HasShortNames (method.BasicConsume queue tag no_local no_ack exclusive no_wait arguments) =
+    (length queue ≤ 255) × (length tag ≤ 255)
+HasShortNames m = Unit {0}
+
 -- the properties of a published content have a spelling, and so have the arguments of its method:
 -- exchange and routing key, each of at most 255 bytes
 abbrev pub CanPutBack : Want91 → Type 0
@@ -27,7 +36,7 @@ CanPutBack want.Start = Unit {0}
 CanPutBack (want.Login mechanism response) = Unit {0}
 CanPutBack want.Tuned = Unit {0}
 CanPutBack want.OpenUp = Unit {0}
-CanPutBack (want.Method n m) = Unit {0}
+CanPutBack (want.Method n m) = HasShortNames m
 CanPutBack (want.Publish n m d) = CanPutAll (props_of d.props) × CanPut m
 CanPutBack (want.ChannelCloseOk n) = Unit {0}
 CanPutBack want.Close = Unit {0}

@@ -59,7 +59,8 @@ impl Conn91 {
     pub fn take(&mut self, alloc: Global, unit: Unit91) -> Result<Want91, Memory>
         ensures state { OnOk result (self.new ≡ (unit_step self.old unit).0) }
         ensures want { IfOk result (λ want. want ≡ (unit_step self.old unit).1) }
-        // What a publish hands out can be written again, as a basic.return does.
+        // What a publish or a basic.consume hands out can be written again, as a basic.return or a
+        // basic.consume-ok does.
         ensures put { IfOk result CanPutBack }
         ensures err { OnErr result (self.new ≡ self.old) }
     {

@@ -1,5 +1,5 @@
 //! The ids of the methods that a connection knows (AMQP 0-9-1 1.4 to 1.8, and RabbitMQ's
-//! confirms): the class id and the method id.
+//! basic.nack and confirms): the class id and the method id.
 
 ghost use Rattle.std.specs.Prelude.{◌≡◌};
 ghost use Rattle.methods_091.specs.Rows.{class_of, id_of};
@@ -34,6 +34,8 @@ pub(crate) const CHANNEL_CLOSE_OK: (u16, u16) = (20, 41);
 
 pub(crate) const EXCHANGE_DECLARE: (u16, u16) = (40, 10);
 
+pub(crate) const BASIC_CONSUME: (u16, u16) = (60, 20);
+
 pub(crate) const BASIC_PUBLISH: (u16, u16) = (60, 40);
 
 pub(crate) const BASIC_RETURN: (u16, u16) = (60, 50);
@@ -41,6 +43,12 @@ pub(crate) const BASIC_RETURN: (u16, u16) = (60, 50);
 pub(crate) const BASIC_DELIVER: (u16, u16) = (60, 60);
 
 pub(crate) const BASIC_GET_EMPTY: (u16, u16) = (60, 72);
+
+pub(crate) const BASIC_ACK: (u16, u16) = (60, 80);
+
+pub(crate) const BASIC_REJECT: (u16, u16) = (60, 90);
+
+pub(crate) const BASIC_NACK: (u16, u16) = (60, 120);
 
 pub(crate) const CONFIRM_SELECT: (u16, u16) = (85, 10);
 

@@ -8,9 +8,9 @@ ghost use Rattle.machine_091.specs.RefusalsRunning.{answer_order, running_state,
 ghost use Rattle.machine_091.specs.RefusalsRunning.{running_refusal};
 
 use crate::ids::{
-    BASIC_DELIVER, BASIC_GET_EMPTY, BASIC_PUBLISH, BASIC_RETURN, CHANNEL_CLOSE, CHANNEL_CLOSE_OK,
-    CHANNEL_OPEN, CONFIRM_SELECT, CONNECTION, CONNECTION_CLOSE, EXCHANGE_DECLARE, ids_in,
-    is_method,
+    BASIC_ACK, BASIC_CONSUME, BASIC_DELIVER, BASIC_GET_EMPTY, BASIC_NACK, BASIC_PUBLISH,
+    BASIC_REJECT, BASIC_RETURN, CHANNEL_CLOSE, CHANNEL_CLOSE_OK, CHANNEL_OPEN, CONFIRM_SELECT,
+    CONNECTION, CONNECTION_CLOSE, EXCHANGE_DECLARE, ids_in, is_method,
 };
 use crate::state::Channel91;
 use crate::unit::Ruling;
@@ -89,7 +89,11 @@ fn is_done(method: &Method91) -> bool
     is_method(method, CHANNEL_CLOSE)
         || is_method(method, CHANNEL_CLOSE_OK)
         || is_method(method, EXCHANGE_DECLARE)
+        || is_method(method, BASIC_CONSUME)
         || is_method(method, BASIC_PUBLISH)
+        || is_method(method, BASIC_ACK)
+        || is_method(method, BASIC_REJECT)
+        || is_method(method, BASIC_NACK)
         || is_method(method, CONFIRM_SELECT)
 }
 

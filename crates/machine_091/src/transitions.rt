@@ -361,7 +361,11 @@ impl Connection {
             Method91::ChannelClose { .. } => self.close_channel(channel),
             Method91::ChannelFlow { .. }
             | Method91::ExchangeDeclare { .. }
-            | Method91::ConfirmSelect { .. } => {}
+            | Method91::ConfirmSelect { .. }
+            | Method91::BasicConsume { .. }
+            | Method91::BasicAck { .. }
+            | Method91::BasicReject { .. }
+            | Method91::BasicNack { .. } => {}
             Method91::BasicPublish { .. } => {
                 self.begin_content(alloc, channel, method)?;
                 return Ok(Want91::Nothing);

@@ -65,8 +65,9 @@ pub enum Want91 {
     Tuned,
     /// connection.open: the container upstream is to open, and `opened` tells that it did.
     OpenUp,
-    /// A method of this channel: channel.open, channel.flow, channel.close, exchange.declare or
-    /// confirm.select. Its answer is due, unless its no-wait is set.
+    /// A method of this channel: channel.open, channel.flow, channel.close, exchange.declare,
+    /// confirm.select or basic.consume, whose answer is due, unless its no-wait is set; or
+    /// basic.ack, basic.reject or basic.nack, which has none.
     Method(u16, Method91),
     /// A basic.publish of this channel, whose content is whole.
     Publish(u16, Method91, Content),

@@ -26,27 +26,27 @@ use Rattle.property_map.specs.declared.rows.Later.{Later}
 
 -- ---- rows one after another
 
-abbrev Row : Type 0 → Type 0
+abbrev pub Row : Type 0 → Type 0
 Row A = Result A MapFault
 
-abbrev five : {A B C D E R : Type 0} → (A → B → C → D → E → R) → Row A → Row B → Row C → Row D → Row E → Row R
+abbrev pub five : {A B C D E R : Type 0} → (A → B → C → D → E → R) → Row A → Row B → Row C → Row D → Row E → Row R
 five make a b c d e = a >>= λ v. b >>= λ w. c >>= λ x. d >>= λ y. e >>= λ z. Ok (make v w x y z)
 
 -- each said something
-record Five {A B C D E R : Type 0} (make : A → B → C → D → E → R) (a : Row A) (b : Row B) (c : Row C) (d : Row D) (e : Row E) (r : R) : Type 0 where
-  v : A
-  w : B
-  x : C
-  y : D
-  z : E
-  a_is : a ≡ Ok v
-  b_is : b ≡ Ok w
-  c_is : c ≡ Ok x
-  d_is : d ≡ Ok y
-  e_is : e ≡ Ok z
-  made : make v w x y z ≡ r
+pub record Five {A B C D E R : Type 0} (make : A → B → C → D → E → R) (a : Row A) (b : Row B) (c : Row C) (d : Row D) (e : Row E) (r : R) : Type 0 where
+  pub v : A
+  pub w : B
+  pub x : C
+  pub y : D
+  pub z : E
+  pub a_is : a ≡ Ok v
+  pub b_is : b ≡ Ok w
+  pub c_is : c ≡ Ok x
+  pub d_is : d ≡ Ok y
+  pub e_is : e ≡ Ok z
+  pub made : make v w x y z ≡ r
 
-five_said : {A B C D E R : Type 0} (make : A → B → C → D → E → R) (a : Row A) (b : Row B) (c : Row C) (d : Row D) (e : Row E) (r : R) → five make a b c d e ≡ Ok r → Five make a b c d e r
+pub five_said : {A B C D E R : Type 0} (make : A → B → C → D → E → R) (a : Row A) (b : Row B) (c : Row C) (d : Row D) (e : Row E) (r : R) → five make a b c d e ≡ Ok r → Five make a b c d e r
 five_said make (Ok v) (Ok w) (Ok x) (Ok y) (Ok z) r h = record { v = v; w = w; x = x; y = y; z = z; a_is = refl; b_is = refl; c_is = refl; d_is = refl; e_is = refl; made = ok_is {F = MapFault} (make v w x y z) r h }
 five_said make (Err f) b c d e r h = absurd (cc h)
 five_said make (Ok v) (Err f) c d e r h = absurd (cc h)

@@ -1,3 +1,4 @@
+pub mod FactLaws
 pub mod FieldLoops
 pub mod HeaderLengths
 pub mod HeaderTrips
@@ -10,6 +11,8 @@ pub mod NameSets
 pub mod Numbers
 pub mod Places
 pub mod Rooms
+pub mod ReceivedBounds
 pub mod RoundTrips
 pub mod Steps
 pub mod ValueTrips
+pub mod Writables

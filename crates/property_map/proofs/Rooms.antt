@@ -18,7 +18,7 @@ use Rattle.content_091.specs.Properties as property
 use Rattle.content_091.specs.Rows.{rows}
 use Rattle.content_091.specs.View.{props_of, earlier_of, later_of}
 use Rattle.content_091.specs.Writing.{flags_of, property_text, maybe_text, props_text, earlier_text}
-use Rattle.content_091.specs.Writing.{later_text, head_text}
+use Rattle.content_091.specs.Writing.{later_text, head_text, header_text}
 use Rattle.content_091.specs.declared.header.Props.{Props}
 use Rattle.property_map.specs.Rows091.{header_len, header_row}
 use Rattle.property_map.specs.Room.{scalar_len, tree_len, trees_len, members_len, property_len}
@@ -120,7 +120,7 @@ mutual
   trees_take field.no_trees = refl
   trees_take (field.tree t ts) = omega (arith, length-append (tree_text t) (trees_text ts), tree_takes t, trees_take ts)
 
-  members_take : (ms : field.Members) → length (members_text ms) ≡ members_len ms
+  pub members_take : (ms : field.Members) → length (members_text ms) ≡ members_len ms
   members_take field.no_members = refl
   members_take (field.member name t ms) =
       omega (arith, length-append (text_of w8 name ++ tree_text t) (members_text ms), length-append (text_of w8 name) (tree_text t), name_len name, tree_takes t, members_take ms)
@@ -172,10 +172,17 @@ later_takes : (p : Props) → length (later_text p) ≡ all_len (later_of p)
 unfolding later_text
 later_takes p = all_take (later_of p)
 
+takes_with : (size : ℕ) (p : Props) → length (header_text (record { size = size; props = p })) ≡ 14 + (all_len (earlier_of p) + all_len (later_of p))
+takes_with size p =
+    let head : List ℕ = head_text 60 0 size (flags_of rows (props_of p)) in
+    omega (arith, length-append (head ++ earlier_text p) (later_text p), length-append head (earlier_text p), head_takes 60 0 size (flags_of rows (props_of p)), earlier_takes p, later_takes p)
+
 pub header_takes : (p : Props) → header_len p ≡ 14 + (all_len (earlier_of p) + all_len (later_of p))
-header_takes p =
-    let head : List ℕ = head_text 60 0 0 (flags_of rows (props_of p)) in
-    omega (arith, length-append (head ++ earlier_text p) (later_text p), length-append head (earlier_text p), head_takes 60 0 0 (flags_of rows (props_of p)), earlier_takes p, later_takes p)
+header_takes p = takes_with 0 p
+
+-- as many, whatever the size of the body is
+pub size_is_wide : (size : ℕ) (p : Props) → length (header_text (record { size = size; props = p })) ≡ header_len p
+size_is_wide size p = takes_with size p ∙ sym (header_takes p)
 
 -- ---- the header
 

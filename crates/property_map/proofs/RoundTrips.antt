@@ -24,7 +24,8 @@ use Rattle.property_map.specs.Rows091 as back
 use Rattle.property_map.specs.Image.{a_string, header_with, annotation, nested_map, map_of}
 use Rattle.property_map.specs.Image.{annotations_with, application_of, AreAnnotations}
 use Rattle.property_map.specs.Image.{AreProperties, HaveProperties, IsImage10}
-use Rattle.property_map.specs.Image091.{earlier_in, later_in, image_in}
+use Rattle.property_map.specs.Facts.{facts_of}
+use Rattle.property_map.specs.Image091.{earlier_in, later_in, image_by, image_in}
 use Rattle.property_map.specs.Back.{IsShortText, HasShortNames, AreShort, Fits, AreSameHeaders}
 use Rattle.property_map.specs.Back.{IsSame}
 use Rattle.property_map.specs.declared.fault.PropName.{PropName}
@@ -255,7 +256,7 @@ record Later (image : Message10) (p : Props) : Type 0 where
 abbrev first_half : Props → Props
 first_half p = record p { expiration = None; message_id = None; timestamp = None; kind = None; user_id = None; app_id = None; cluster_id = None }
 
-earlier_back : (image : Message10) (p : Props) → Earlier image p → earlier_in image ≡ Ok (first_half p)
+earlier_back : (image : Message10) (p : Props) → Earlier image p → earlier_in (facts_of image) ≡ Ok (first_half p)
 unfolding earlier_in
 earlier_back image p h = rw (h.content_type, h.content_encoding, h.headers, h.delivery_mode, h.priority, h.correlation_id, h.reply_to) refl
 
@@ -263,7 +264,7 @@ earlier_back image p h = rw (h.content_type, h.content_encoding, h.headers, h.de
 abbrev second_half : Props → Props
 second_half p = record p { content_type = None; content_encoding = None; headers = None; delivery_mode = None; priority = None; correlation_id = None; reply_to = None }
 
-later_back : (image : Message10) (p : Props) → Later image p → later_in image ≡ Ok (second_half p)
+later_back : (image : Message10) (p : Props) → Later image p → later_in (facts_of image) ≡ Ok (second_half p)
 unfolding later_in
 later_back image p h = rw (h.expiration, h.message_id, h.timestamp, h.kind, h.user_id, h.app_id, h.cluster_id) refl
 
@@ -363,7 +364,7 @@ body_back : (s : List ℕ) → length s ≤ back.body_max → back.body_in s ≡
 body_back s h = let e : leb (length s) back.body_max ≡ true = le-leb _ _ h in rw e refl
 
 pub comes_back : (m : Message091) (image : Message10) (queue : List ℕ) (room : ℕ) → IsImage10 m image → Fits room m → (out : Message091) × (image_in queue room image ≡ Ok out) × IsSame m out
-unfolding image_in
+unfolding image_by
 comes_back m image queue room h fits =
     let exchange = exchange_comes m image h fits.props fits.exchange in
     let s = props_said m image.properties h.properties in

@@ -1,9 +1,11 @@
 pub mod Back
+pub mod Facts
 pub mod Fields
 pub mod Headers
 pub mod Image
 pub mod Image091
 pub mod Names
+pub mod Received
 pub mod Room
 pub mod Rows
 pub mod Rows091

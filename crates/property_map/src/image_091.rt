@@ -3,6 +3,7 @@
 ghost use Rattle.std.specs.Prelude.{◌≡◌, None, IfOk, IfErr, Ok};
 ghost use Rattle.wire_base.specs.Reading.{Gives, Stops};
 ghost use Rattle.property_map.specs.Rows091.{header_in, properties_in, body_row};
+ghost use Rattle.property_map.specs.Facts.{facts_of};
 ghost use Rattle.property_map.specs.Image091.{earlier_in, later_in, both_of, props_in, with_body};
 ghost use Rattle.property_map.specs.Image091.{AreOfMessage, image_in, IsFault091, is_redelivered};
 
@@ -88,7 +89,7 @@ fn properties_or<'a>(properties: &'a Option<MsgProps>, absent: &'a MsgProps) -> 
 #[tactic(auto, unfolding(crate::specs::Image091::earlier_in))]
 fn earlier_of(alloc: Global, s: &Sections) -> Result<Props, Stop<MapFault>>
     requires { AreOfMessage s.now }
-    ensures { Gives (λ p. p) result (earlier_in s.now.message.now) }
+    ensures { Gives (λ p. p) result (earlier_in (facts_of s.now.message.now)) }
 {
     Ok(Props {
         content_type: maybe_short(alloc, PropName::ContentType, &s.properties.content_type)?,
@@ -116,7 +117,7 @@ fn earlier_of(alloc: Global, s: &Sections) -> Result<Props, Stop<MapFault>>
 #[tactic(auto, unfolding(crate::specs::Image091::later_in))]
 fn later_of(alloc: Global, s: &Sections) -> Result<Props, Stop<MapFault>>
     requires { AreOfMessage s.now }
-    ensures { Gives (λ p. p) result (later_in s.now.message.now) }
+    ensures { Gives (λ p. p) result (later_in (facts_of s.now.message.now)) }
 {
     Ok(Props {
         content_type: None,
@@ -160,7 +161,7 @@ fn both_of(p: Props, q: Props) -> Props
 /// All properties.
 fn props_of(alloc: Global, s: &Sections) -> Result<Props, Stop<MapFault>>
     requires { AreOfMessage s.now }
-    ensures { Gives (λ p. p) result (props_in s.now.message.now) }
+    ensures { Gives (λ p. p) result (props_in (facts_of s.now.message.now)) }
 {
     let earlier = earlier_of(alloc, s)?;
     match later_of(alloc, s) {
@@ -180,7 +181,7 @@ struct Bodiless {
 }
 
 /// The image of a message but for its body, or its first fault before the body.
-#[tactic(auto, unfolding(crate::specs::Image091::image_in))]
+#[tactic(auto, unfolding(crate::specs::Image091::image_by))]
 fn bodiless_with(
     alloc: Global,
     s: &Sections,
@@ -241,7 +242,7 @@ fn with_body(rest: Bodiless, body: Body10) -> Result<Message091, Stop<MapFault>>
 }
 
 /// The image of a message, or its first fault.
-fn image_of(
+pub(crate) fn image_of(
     alloc: Global,
     m: Message10,
     queue: &[u8],
