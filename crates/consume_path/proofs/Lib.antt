@@ -1,4 +1,5 @@
 mod Steps
+mod Ending
 mod Least
 mod Matching
 mod Keeping

@@ -1,7 +1,8 @@
 -- The receiving links of a life, and what an event does to each (AMQP 1.0 2.6).
 use Rattle.std.specs.Prelude.{ℕ, Bool, true, false, ◌+◌, ◌-◌, ◌^◌, ◌==◌, ◌&&◌, ◌||◌, not, nat_lt}
 use Rattle.std.specs.Prelude.{if◌then◌else◌, List, [], ◌∷◌, ◌++◌, find, filter, count_by, Option}
-use Rattle.std.specs.Prelude.{Some, None, is_some}
+use Rattle.std.specs.Prelude.{Some, None, is_some, bytes_eq}
+use Rattle.std.specs.List.{list_any}
 use Rattle.links_10.specs.Recv.{new_recv, asked_recv, after_attach, after_peer_flow, after_grant}
 use Rattle.links_10.specs.Recv.{after_arrival, recounted, after_cancel}
 use Rattle.links_10.specs.declared.recv.Receiving.{Receiving}
@@ -34,6 +35,34 @@ link_of links link = find (has_number link) links
 abbrev pub in_link : (ReceivingLink → Bool) → Option ReceivingLink → Bool
 in_link test None = false
 in_link test (Some l) = test l
+
+-- the delivery-count of a link (AMQP 1.0 2.6.7)
+abbrev pub count_in : Option ReceivingLink → ℕ
+count_in None = 0
+count_in (Some l) = l.state.count
+
+-- consumer tags
+
+abbrev pub tag_by : RecvKind → List ℕ
+tag_by (Consumer tag no_ack) = tag
+tag_by Get = []
+tag_by Probe = []
+
+abbrev pub tag_in : Option ReceivingLink → List ℕ
+tag_in None = []
+tag_in (Some l) = tag_by l.kind
+
+abbrev pub is_tagged : List ℕ → RecvKind → Bool
+is_tagged tag (Consumer own no_ack) = bytes_eq own tag
+is_tagged tag Get = false
+is_tagged tag Probe = false
+
+-- a consumer that isn't cancelled has this tag (AMQP 0-9-1 1.8.3.3)
+abbrev pub has_tag : List ℕ → ReceivingLink → Bool
+has_tag tag l = is_tagged tag l.kind && not l.cancelled
+
+abbrev pub is_tag_used : List ℕ → List ReceivingLink → Bool
+is_tag_used tag links = list_any (has_tag tag) links
 
 -- a link that was asked for, and isn't attached yet
 
@@ -110,6 +139,10 @@ joined part payload before = if part.aborted then None else Some (record {
   bytes = bytes_in before ++ payload;
   whole = not part.more;
 })
+
+-- a transfer begins a delivery, or goes on with one
+abbrev pub begun : ReceivingLink → ReceivingLink
+begun l = record l { state = if is_between l then after_arrival l.state else l.state }
 
 -- gets
 

@@ -1,7 +1,7 @@
 -- What the open deliveries and the links make due.
 use Rattle.std.specs.Prelude.{ℕ, zero, suc, Bool, true, false, ◌+◌, ◌==◌, ◌&&◌, ◌||◌, not, nat_lt}
-use Rattle.std.specs.Prelude.{if◌then◌else◌, List, [], ◌∷◌, find, count_by, length, Option, Some}
-use Rattle.std.specs.Prelude.{None, is_some}
+use Rattle.std.specs.Prelude.{if◌then◌else◌, List, [], ◌∷◌, ◌++◌, find, count_by, length, map}
+use Rattle.std.specs.Prelude.{Option, Some, None, is_some}
 use Rattle.std.specs.List.{list_any}
 use Rattle.std.specs.Option.{option_map, option_or}
 use Rattle.links_10.specs.Recv.{grant_of}
@@ -31,11 +31,14 @@ use Rattle.consume_path.specs.declared.receiving.TransferFault.TheVariants.{Inva
 use Rattle.consume_path.specs.declared.receiving.TransferFault.TheVariants.{LimitExceeded}
 use Rattle.consume_path.specs.declared.receiving.TransferFault.TheVariants.{SizeExceeded}
 use Rattle.consume_path.specs.declared.searches.Ranked.{Ranked}
-use Rattle.consume_path.specs.Deliveries.{DeliveryState}
+use Rattle.consume_path.specs.Deliveries.{DeliveryState, Arrived, TransferCame, after_event}
+use Rattle.consume_path.specs.Deliveries.{with_list}
 use Rattle.consume_path.specs.Items.{is_held, owes, owes_as, owed_settle, is_no_ack, limit_of}
 use Rattle.consume_path.specs.Items.{is_on, is_outstanding, needs_content, is_covered, is_left}
+use Rattle.consume_path.specs.Items.{new_delivery}
 use Rattle.consume_path.specs.Links.{link_of, in_link, is_between, id_in, id_or, settled_in}
-use Rattle.consume_path.specs.Links.{bytes_in, is_empty, is_to_ask, taker_of}
+use Rattle.consume_path.specs.Links.{bytes_in, is_empty, is_to_ask, taker_of, begun, taken_from}
+use Rattle.consume_path.specs.Links.{change_first, has_number}
 
 -- the first of those with the least key
 
@@ -94,7 +97,7 @@ names_wrongly part l links list =
     lacks_field (is_between l) part || (is_between l && is_open_id (id_or 0 part.id) links list)
     || is_other l.partial part.id
 
--- the first that is wrong with a transfer of so many bytes (AMQP 1.0 2.7.5, 2.8.15, 2.8.16)
+-- the first that is wrong with a transfer of so many bytes (AMQP 1.0 2.7.5, 2.8.18)
 abbrev pub fault_of : Part → ℕ → ReceivingLink → List ReceivingLink → List Delivery
     → Option TransferFault
 fault_of part size l links list =
@@ -127,6 +130,39 @@ arriving_in link (Some l) = record {
   settled = settled_in l.partial;
   taker = taker_of l;
 }
+
+-- the whole delivery that a transfer ends
+abbrev pub ending_in : ℕ → Part → Option ReceivingLink → Arriving
+ending_in link part None = no_arrival link
+ending_in link part (Some l) = record {
+  link = link;
+  id = id_in l.partial part.id;
+  settled = settled_in l.partial || part.settled;
+  taker = taker_of l;
+}
+
+-- a whole delivery is added, and its link is as it was
+abbrev pub added : Arriving → Option Content → Bool → DeliveryState → DeliveryState
+added a content again s = record s {
+  list = s.list ++ new_delivery s.closed (s.arrived + 1) a content again ∷ [];
+  arrived = s.arrived + 1;
+}
+
+-- a transfer ends the delivery of a link, which is taken of it, with an image or without
+abbrev pub ended_on : ℕ → Bool → DeliveryState → DeliveryState
+ended_on link image s = with_list s.list (record s {
+  links = map (taken_from link image) (change_first (has_number link) begun s.links);
+})
+
+-- the whole delivery of a link is taken, with what goes to the client of it
+abbrev pub taken_whole : ℕ → Option Content → Bool → DeliveryState → DeliveryState
+taken_whole link content again s =
+    after_event (Arrived (arriving_in link (link_of s.links link)) content again) s
+
+-- a transfer ends its delivery, which is taken at once
+abbrev pub arrived_whole : ℕ → Part → List ℕ → Option Content → Bool → DeliveryState → DeliveryState
+arrived_whole link part payload content again s =
+    taken_whole link content again (after_event (TransferCame link part payload) s)
 
 abbrev pub payload_in : Option ReceivingLink → List ℕ
 payload_in None = []

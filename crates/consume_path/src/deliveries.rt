@@ -1,17 +1,16 @@
 //! The deliveries of a life of a channel: each call is one event, or a question on what is due.
 
-ghost use Rattle.std.specs.Prelude.{◌≡◌, ◌+◌, ◌<◌, ◌^◌, ◌↔◌, ◌==◌, ◌&&◌, [], filter, not, true};
-ghost use Rattle.std.specs.Prelude.{false, length, is_some, OnOk, OnErr, IsOk, IfOk, IfSome};
-ghost use Rattle.std.specs.Prelude.{IsSome, IsNone, option_copied, None, Some, if◌then◌else◌, map};
+ghost use Rattle.std.specs.Prelude.{ℕ, List, ◌≡◌, ◌+◌, ◌<◌, ◌^◌, ◌==◌, ◌&&◌, [], filter, not, true};
+ghost use Rattle.std.specs.Prelude.{false, length, is_some, OnOk, OnErr, IfOk, IfSome};
+ghost use Rattle.std.specs.Prelude.{IsSome, IsNone, option_copied, None, Some, map};
 ghost use Rattle.std.specs.Option.{option_map, option_or};
 ghost use Rattle.consume_path.specs.declared.delivery.Delivery.{Delivery};
-ghost use Rattle.consume_path.specs.declared.delivery.Settle.TheVariants.{Accepted, Rejected};
 ghost use Rattle.consume_path.specs.declared.delivery.Settle.TheVariants.{Released};
 ghost use Rattle.consume_path.specs.declared.receiving.Arrival.TheVariants.{Violation};
 ghost use Rattle.consume_path.specs.declared.receiving.ReceivingLink.{ReceivingLink};
 ghost use Rattle.consume_path.specs.Items.{is_open, is_covered, changed, first_place, new_delivery};
 ghost use Rattle.consume_path.specs.Links.{link_of, in_link, is_whole, is_empty, recount};
-ghost use Rattle.consume_path.specs.Links.{link_changed};
+ghost use Rattle.consume_path.specs.Links.{link_changed, tag_in, count_in, is_tag_used};
 ghost use Rattle.consume_path.specs.Deliveries.{DeliveryState, LinkAdded, LinkAttached, LinkFlowed};
 ghost use Rattle.consume_path.specs.Deliveries.{LinkEchoed, GetCame, TransferCame, Arrived};
 ghost use Rattle.consume_path.specs.Deliveries.{LinkDropped, Delivered, Written, Answered};
@@ -20,21 +19,20 @@ ghost use Rattle.consume_path.specs.Deliveries.{SettleSent, GrantSent, Emptied, 
 ghost use Rattle.consume_path.specs.Deliveries.{no_deliveries, after_event, with_list, each_link};
 ghost use Rattle.consume_path.specs.Offers.{is_open_id, fault_in, fault_at, arrival_of};
 ghost use Rattle.consume_path.specs.Offers.{arriving_in, payload_in, next_deliver_of, content_of};
+ghost use Rattle.consume_path.specs.Offers.{ending_in, added, arrived_whole, ended_on};
 ghost use Rattle.consume_path.specs.Offers.{is_known, next_settle_of, is_all_covered};
 ghost use Rattle.consume_path.specs.Offers.{next_grant_of, is_drained, is_for_gets};
 
 use crate::changes::{Change, change_all, compact, place_of_arrival, trim};
-use crate::delivery::{
-    Arriving, Content, Delivery, NextDeliver, NextSettle, Place, Settle, Taker, UnknownTag,
-};
+use crate::delivery::{Arriving, Content, Delivery, NextDeliver, NextSettle, Place, Settle, Taker};
 use crate::link_changes::{
-    LinkChange, asked_link, change_links, close_links, is_get_empty, leave_out, link_with,
-    recount_links, taker_on, transfer_on,
+    LinkChange, asked_link, begin_on, change_links, close_links, id_with, is_get_empty,
+    is_settled_with, leave_out, link_with, recount_links, taker_on, transfer_on,
 };
 use crate::receiving::{Arrival, NextGrant, Part, ReceivingLink, RecvKind, TransferFault};
 use crate::searches::{
-    any_covered, any_uncovered, arrival_by, bytes_of, first_deliver, first_grant, first_owing,
-    first_with_content, is_id_open, is_partial_whole, run_of, transfer_fault,
+    any_covered, any_tagged, any_uncovered, arrival_by, bytes_of, first_deliver, first_grant,
+    first_owing, first_with_content, is_id_open, is_partial_whole, run_of, tag_by, transfer_fault,
 };
 use open_items::LostKind;
 use std::alloc::Global;
@@ -43,7 +41,7 @@ use wire_base::Memory;
 
 /// The deliveries of a life of a channel. Contracts see its links, the deliveries for which
 /// something is still to come, and what was counted. No call takes memory but `add_link`,
-/// `transfer` and `arrived`.
+/// `transfer`, `join`, `arrived` and `last_transfer`.
 #[derive(Drop)]
 pub struct Deliveries {
     life: u64,
@@ -78,6 +76,9 @@ impl Model for Deliveries {
       closed = a.closed;
     } };
 }
+
+/// So many whole deliveries are taken in a life.
+const MOST_DELIVERIES: u64 = 4_611_686_018_427_387_904;
 
 /// There is room for so many items at least.
 const LEAST_ROOM: usize = 16;
@@ -133,6 +134,24 @@ fn arriving_on(l: Option<&ReceivingLink>, link: u32) -> Arriving
     arriving
 }
 
+/// The whole delivery that this transfer ends.
+fn ending_on(l: Option<&ReceivingLink>, link: u32, part: Part) -> Arriving
+    ensures { result ≡ ending_in link part (option_copied l.entry) }
+{
+    let mut arriving = Arriving {
+        link,
+        id: 0,
+        settled: false,
+        taker: Taker::Nobody,
+    };
+    if let Some(l) = l {
+        arriving.taker = taker_on(l);
+        arriving.id = id_with(&l.partial, part.id);
+        arriving.settled = is_settled_with(&l.partial, part.settled);
+    }
+    arriving
+}
+
 impl Deliveries {
     /// No deliveries, in the life with this number. It takes the allocator that later growth uses,
     /// and no memory.
@@ -157,7 +176,6 @@ impl Deliveries {
 
     /// A link is needed, under this number; its attach isn't answered yet.
     pub fn add_link(&mut self, link: u32, kind: RecvKind) -> Result<(), Memory>
-        requires { link_of self.old.links link ≡ None }
         ensures ok { OnOk result (self.new ≡ after_event (LinkAdded link kind) self.old) }
         ensures err { OnErr result (self.new ≡ self.old) }
     {
@@ -171,6 +189,40 @@ impl Deliveries {
         ensures { option_copied result ≡ link_of self.now.links link }
     {
         link_with(self.links.as_slice(), link)
+    }
+
+    /// The links, in the order in which they were needed.
+    pub fn links(&self) -> &[ReceivingLink]
+        ensures { result.now ≡ self.now.links }
+    {
+        self.links.as_slice()
+    }
+
+    /// A consumer that isn't cancelled has this tag.
+    pub fn has_tag(&self, tag: &[u8]) -> bool
+        ensures { result ≡ is_tag_used tag.now self.now.links }
+    {
+        any_tagged(self.links.as_slice(), tag)
+    }
+
+    /// The tag of this link's consumer; it is empty where there is none.
+    pub fn tag_of(&self, link: u32) -> &[u8]
+        ensures { result.now ≡ tag_in (link_of self.now.links link) }
+    {
+        match link_with(self.links.as_slice(), link) {
+            Some(l) => tag_by(&l.kind),
+            None => &[],
+        }
+    }
+
+    /// The delivery-count of this link; it is 0 where there is none.
+    pub fn count_of(&self, link: u32) -> u32
+        ensures { result ≡ count_in (link_of self.now.links link) }
+    {
+        match link_with(self.links.as_slice(), link) {
+            Some(l) => l.state.count(),
+            None => 0,
+        }
     }
 
     /// The container's attach of this link was read, with this initial delivery-count (AMQP 1.0
@@ -236,7 +288,6 @@ impl Deliveries {
 
     /// This link is no more.
     pub fn drop_link(&mut self, link: u32)
-        requires { is_all_covered link self.old.list ≡ true }
         ensures { self.new ≡ after_event (LinkDropped link) self.old }
     {
         leave_out(&mut self.links, link);
@@ -253,10 +304,10 @@ impl Deliveries {
         is_id_open(self.links.as_slice(), self.items.as_slice(), id)
     }
 
+    /// What is wrong with a transfer on this link, with so many bytes of payload.
     #[tactic(auto, using(crate::proofs::Steps::fault_seen))]
-    fn fault_on(&self, link: u32, part: Part, size: usize) -> Option<TransferFault>
-        ensures { result ≡ fault_in part size (link_of self.now.links link)
-            self.now.links self.now.list }
+    pub fn fault(&self, link: u32, part: Part, size: usize) -> Option<TransferFault>
+        ensures { result ≡ fault_at part size link self.now }
     {
         let links = self.links.as_slice();
         match link_with(links, link) {
@@ -266,9 +317,8 @@ impl Deliveries {
     }
 
     /// A transfer came on this link, with this part of its delivery's payload (AMQP 1.0 2.6.14). It
-    /// changes nothing where it is at fault. A delivery that is whole is taken first, by `arrived`.
+    /// changes nothing where it is at fault.
     pub fn transfer(&mut self, link: u32, part: Part, payload: &[u8]) -> Result<Arrival, Memory>
-        requires { in_link (λ l. is_whole l.partial) (link_of self.old.links link) ≡ false }
         ensures fault { IfSome (fault_at part (length payload.now) link self.old) (λ fault.
             result ≡ Ok (Violation fault)) }
         ensures unchanged { IsSome (fault_at part (length payload.now) link self.old)
@@ -280,12 +330,22 @@ impl Deliveries {
             (TransferCame link part payload.now) self.old) }
         ensures err { OnErr result (self.new ≡ self.old) }
     {
-        if let Some(fault) = self.fault_on(link, part, payload.len()) {
+        if let Some(fault) = self.fault(link, part, payload.len()) {
             return Ok(Arrival::Violation(fault));
         }
+        self.join(link, part, payload)?;
+        Ok(arrival_by(part))
+    }
+
+    /// A transfer that isn't at fault came on this link: `fault` says before whether it is.
+    pub fn join(&mut self, link: u32, part: Part, payload: &[u8]) -> Result<(), Memory>
+        ensures ok { OnOk result (self.new
+            ≡ after_event (TransferCame link part payload.now) self.old) }
+        ensures err { OnErr result (self.new ≡ self.old) }
+    {
         transfer_on(&mut self.links, link, part, payload)?;
         self.recount();
-        Ok(arrival_by(part))
+        Ok(())
     }
 
     /// The payload of this link's delivery so far.
@@ -320,30 +380,77 @@ impl Deliveries {
         }
     }
 
+    /// A whole delivery is added. It answers `Memory` also once so many came that their numbers are
+    /// used up.
+    #[tactic(auto, using(crate::proofs::Steps::add_seen))]
+    fn add(
+        &mut self,
+        arriving: Arriving,
+        content: Option<Content>,
+        again: bool,
+    ) -> Result<(), Memory>
+        ensures ok { OnOk result (self.new ≡ added arriving content again self.old) }
+        ensures err { OnErr result (self.new ≡ self.old) }
+    {
+        if self.arrived >= MOST_DELIVERIES {
+            return Err(Memory);
+        }
+        self.make_room();
+        let number = self.arrived + 1;
+        let delivery = new_one(self.closed, number, arriving, content, again);
+        self.items.push(delivery)?;
+        self.arrived = number;
+        Ok(())
+    }
+
     /// The whole delivery of this link is taken, with what goes to the client of it; it has none
     /// where it has no image. `again` says whether it was delivered before.
-    #[tactic(auto, using(crate::proofs::Steps::add_seen))]
     pub fn arrived(
         &mut self,
         link: u32,
         content: Option<Content>,
         again: bool,
     ) -> Result<(), Memory>
-        requires numbers { self.old.arrived < 2 ^ 62 }
         requires whole { in_link (λ l. is_whole l.partial) (link_of self.old.links link) ≡ true }
         ensures ok { OnOk result (self.new ≡ after_event
             (Arrived (arriving_in link (link_of self.old.links link)) content again) self.old) }
         ensures err { OnErr result (self.new ≡ self.old) }
     {
-        self.make_room();
         let arriving = arriving_on(link_with(self.links.as_slice(), link), link);
-        let number = self.arrived + 1;
         let image = content.is_some();
-        let delivery = new_one(self.closed, number, arriving, content, again);
-        self.items.push(delivery)?;
-        self.arrived = number;
+        self.add(arriving, content, again)?;
         change_links(&mut self.links, link, LinkChange::Taken { image });
         self.recount();
+        Ok(())
+    }
+
+    /// The transfer that ends its delivery came on this link, and the delivery is taken of it.
+    fn end_delivery(&mut self, link: u32, image: bool)
+        ensures { self.new ≡ ended_on link image self.old }
+    {
+        begin_on(&mut self.links, link);
+        change_links(&mut self.links, link, LinkChange::Taken { image });
+        self.recount();
+    }
+
+    /// The transfer that ends its delivery came on this link, and the whole delivery is taken at
+    /// once, as by `transfer` and `arrived`. Its payload isn't copied.
+    pub fn last_transfer(
+        &mut self,
+        link: u32,
+        part: Part,
+        content: Option<Content>,
+        again: bool,
+    ) -> Result<(), Memory>
+        requires { part.aborted ≡ false }
+        ensures ok { (payload : List ℕ) → OnOk result
+            (self.new ≡ arrived_whole link part payload content again self.old) }
+        ensures err { OnErr result (self.new ≡ self.old) }
+    {
+        let arriving = ending_on(link_with(self.links.as_slice(), link), link, part);
+        let image = content.is_some();
+        self.add(arriving, content, again)?;
+        self.end_delivery(link, image);
         Ok(())
     }
 
@@ -391,67 +498,40 @@ impl Deliveries {
         self.change(Change::Written { tag });
     }
 
+    /// How many delivery tags were given.
+    pub fn tags(&self) -> u64
+        ensures { result ≡ self.now.tags }
+    {
+        self.tags
+    }
+
     // ---- answers of the client
 
+    /// An answer of the client may name this tag: it is outstanding, or all are meant.
     #[tactic(auto, using(crate::proofs::Steps::known_seen))]
-    fn knows(&self, tag: u64, multiple: bool) -> bool
+    pub fn knows(&self, tag: u64, multiple: bool) -> bool
         ensures { result ≡ is_known tag multiple self.now.list }
     {
         multiple && tag == 0 || any_covered(self.items.as_slice(), tag, false)
     }
 
-    fn answer(&mut self, tag: u64, multiple: bool, settle: Settle) -> Result<(), UnknownTag>
-        ensures known { IsOk result ↔ is_known tag multiple self.old.list ≡ true }
-        ensures ok { OnOk result (self.new ≡ after_event (Answered tag multiple settle) self.old) }
-        ensures err { OnErr result (self.new ≡ self.old) }
+    /// The client acknowledged or rejected the deliveries with this tag, or had them go back (AMQP
+    /// 0-9-1 1.8.3.13, 1.8.3.14). `knows` says before whether it may name the tag.
+    pub fn answered(&mut self, tag: u64, multiple: bool, settle: Settle)
+        ensures { self.new ≡ after_event (Answered tag multiple settle) self.old }
     {
-        if !self.knows(tag, multiple) {
-            return Err(UnknownTag);
-        }
         self.change(Change::Answered {
             tag,
             multiple,
             settle,
         });
-        Ok(())
-    }
-
-    /// The client acknowledged the deliveries with this tag (AMQP 0-9-1 1.8.3.13). A tag that isn't
-    /// outstanding is refused, and changes nothing.
-    pub fn ack(&mut self, tag: u64, multiple: bool) -> Result<(), UnknownTag>
-        ensures known { IsOk result ↔ is_known tag multiple self.old.list ≡ true }
-        ensures ok { OnOk result (self.new
-            ≡ after_event (Answered tag multiple Accepted) self.old) }
-        ensures err { OnErr result (self.new ≡ self.old) }
-    {
-        self.answer(tag, multiple, Settle::Accepted)
-    }
-
-    /// The client rejected the deliveries with this tag (AMQP 0-9-1 1.8.3.14), or had them go back.
-    /// A tag that isn't outstanding is refused, and changes nothing.
-    pub fn reject(&mut self, tag: u64, multiple: bool, requeue: bool) -> Result<(), UnknownTag>
-        ensures known { IsOk result ↔ is_known tag multiple self.old.list ≡ true }
-        ensures ok { OnOk result (self.new ≡ after_event
-            (Answered tag multiple (if requeue then Released else Rejected)) self.old) }
-        ensures err { OnErr result (self.new ≡ self.old) }
-    {
-        let settle = if requeue {
-            Settle::Released
-        } else {
-            Settle::Rejected
-        };
-        self.answer(tag, multiple, settle)
     }
 
     /// The client had all outstanding deliveries go back (AMQP 0-9-1 1.8.3.16).
     pub fn recover(&mut self)
         ensures { self.new ≡ after_event (Answered 0 true Released) self.old }
     {
-        self.change(Change::Answered {
-            tag: 0,
-            multiple: true,
-            settle: Settle::Released,
-        });
+        self.answered(0, true, Settle::Released);
     }
 
     /// The consumer of this link was cancelled (AMQP 0-9-1 1.8.3.5).
@@ -492,6 +572,13 @@ impl Deliveries {
         ensures { self.new ≡ after_event EndLost self.old }
     {
         self.change(Change::EndLost);
+    }
+
+    /// The life closed.
+    pub fn is_closed(&self) -> bool
+        ensures { result ≡ self.now.closed }
+    {
+        self.closed
     }
 
     // ---- dispositions

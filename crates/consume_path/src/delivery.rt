@@ -107,7 +107,3 @@ pub struct NextSettle {
     pub last: u32,
     pub settle: Settle,
 }
-
-/// No delivery with this tag is outstanding (AMQP 0-9-1 1.8.3.13).
-#[derive(Clone, Copy, Debug, PartialEq, Eq)]
-pub struct UnknownTag;

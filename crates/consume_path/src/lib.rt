@@ -14,7 +14,7 @@ mod tests;
 
 pub use deliveries::Deliveries;
 pub use delivery::{
-    Arriving, Content, Delivery, Frames, NextDeliver, NextSettle, Place, Settle, Taker, UnknownTag,
+    Arriving, Content, Delivery, Frames, NextDeliver, NextSettle, Place, Settle, Taker,
 };
 pub use laws::{
     counts_lawfully, delivers_lawfully, delivery_lines_lawfully, ids_lawfully, links_lawfully,

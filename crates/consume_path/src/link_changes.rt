@@ -1,7 +1,7 @@
 //! What an event does to each receiving link of a life.
 
 ghost use Rattle.std.specs.Prelude.{◌≡◌, map, filter, true, false, OnOk, OnErr, count_by, not, ◌+◌};
-ghost use Rattle.std.specs.Prelude.{option_copied, if◌then◌else◌};
+ghost use Rattle.std.specs.Prelude.{option_copied, if◌then◌else◌, ◌||◌};
 ghost use Rattle.consume_path.specs.Links.{has_number, link_of, or_free, first_state, limit_by};
 ghost use Rattle.consume_path.specs.Links.{new_link, without, is_between, joined, was_asked};
 ghost use Rattle.consume_path.specs.Links.{found_empty, is_asked, is_empty, taker_of};
@@ -10,7 +10,7 @@ ghost use Rattle.consume_path.specs.Links.{new_get, link_waits, transfer_came, c
 ghost use Rattle.consume_path.specs.Links.{taken_from, link_cancelled, link_closed, flow_sent};
 ghost use Rattle.consume_path.specs.Links.{get_emptied, link_changed, counts, counts_on};
 ghost use Rattle.consume_path.specs.Links.{counted_on, recount, getter_of, taker_by, one_more};
-ghost use Rattle.consume_path.specs.Links.{served};
+ghost use Rattle.consume_path.specs.Links.{served, begun, id_in, settled_in};
 
 use crate::changes::{is_on_link, is_place_held, is_place_out, taker_limit};
 use crate::delivery::{Delivery, Taker};
@@ -362,6 +362,46 @@ pub fn transfer_on(
         }
     }
     Ok(())
+}
+
+/// The delivery-id of the delivery that a transfer with this one goes on with.
+pub fn id_with(partial: &Option<Partial>, id: Option<u32>) -> u32
+    ensures { result ≡ id_in partial.now id }
+{
+    match partial {
+        Some(partial) => partial.id,
+        None => id.unwrap_or(0),
+    }
+}
+
+/// A transfer of the delivery came settled, this one among them.
+pub fn is_settled_with(partial: &Option<Partial>, settled: bool) -> bool
+    ensures { result ≡ (settled_in partial.now || settled) }
+{
+    match partial {
+        Some(partial) => partial.settled || settled,
+        None => settled,
+    }
+}
+
+fn begin_one(l: &mut ReceivingLink)
+    ensures { l.new ≡ begun l.old }
+{
+    if l.partial.is_none() {
+        l.state.arrived();
+    }
+}
+
+/// A transfer that ends its delivery came on the link with this number.
+pub fn begin_on(links: &mut Vec<ReceivingLink>, link: u32)
+    ensures { links.new.items ≡ change_first (has_number link) begun links.old.items }
+{
+    for k in 0..links.len() {
+        if has_link_number(&links[k], link) {
+            begin_one(&mut links[k]);
+            return;
+        }
+    }
 }
 
 fn is_delivery_counted(d: &Delivery) -> bool

@@ -5,7 +5,8 @@ ghost use Rattle.std.specs.Prelude.{if◌then◌else◌, Some, None, length};
 ghost use Rattle.std.specs.List.{list_any};
 ghost use Rattle.std.specs.Option.{option_map, option_or};
 ghost use Rattle.consume_path.specs.Items.{owes, is_held, needs_content, is_covered};
-ghost use Rattle.consume_path.specs.Links.{is_to_ask, bytes_in, is_whole};
+ghost use Rattle.consume_path.specs.Links.{is_to_ask, bytes_in, is_whole, tag_by, is_tagged};
+ghost use Rattle.consume_path.specs.Links.{has_tag, is_tag_used};
 ghost use Rattle.consume_path.specs.Offers.{sooner, soonest, has_open_id, has_begun_id, is_open_id};
 ghost use Rattle.consume_path.specs.Offers.{is_longer, most_tag, lacks_field, is_other};
 ghost use Rattle.consume_path.specs.Offers.{names_wrongly, fault_of, arrival_of, consumes};
@@ -420,6 +421,38 @@ pub fn any_uncovered(items: &[Delivery], link: u32) -> bool
     ensures { result ≡ list_any (is_uncovered link) items.now }
 {
     items.iter().any(|d| is_uncovered_on(d, link))
+}
+
+/// The tag of a consumer.
+pub fn tag_by(kind: &RecvKind) -> &[u8]
+    ensures { result.now ≡ tag_by kind.now }
+{
+    match kind {
+        RecvKind::Consumer { tag, .. } => tag.as_slice(),
+        _ => &[],
+    }
+}
+
+fn is_kind_tagged(kind: &RecvKind, tag: &[u8]) -> bool
+    ensures { result ≡ is_tagged tag.now kind.now }
+{
+    match kind {
+        RecvKind::Consumer { tag: own, .. } => own.as_slice() == tag,
+        _ => false,
+    }
+}
+
+fn has_tag(l: &ReceivingLink, tag: &[u8]) -> bool
+    ensures { result ≡ has_tag tag.now l.now }
+{
+    is_kind_tagged(&l.kind, tag) && !l.cancelled
+}
+
+/// A consumer that isn't cancelled has this tag.
+pub fn any_tagged(links: &[ReceivingLink], tag: &[u8]) -> bool
+    ensures { result ≡ is_tag_used tag.now links.now }
+{
+    links.iter().any(|l| has_tag(l, tag))
 }
 
 fn is_kind_for_gets(kind: &RecvKind) -> bool

@@ -1,9 +1,9 @@
 //! The deliveries of one life, call by call.
 
-ghost use Rattle.std.specs.Prelude.{◌≡◌, ◌+◌, ◌<◌, ◌≤◌, OnOk};
+ghost use Rattle.std.specs.Prelude.{◌≡◌, ◌+◌, ◌<◌, ◌≤◌, OnOk, false};
 
 use crate::deliveries::Deliveries;
-use crate::delivery::{Content, Frames, NextDeliver, NextSettle, Settle, UnknownTag};
+use crate::delivery::{Content, Frames, NextSettle, Settle};
 use crate::receiving::{Arrival, Cause, NextGrant, Part, RecvKind, TransferFault};
 use open_items::{LostItem, LostKind};
 use std::alloc::Global;
@@ -11,13 +11,9 @@ use wire_base::{ByteText, Memory};
 
 /// A link, attached.
 fn attach(deliveries: &mut Deliveries, link: u32, kind: RecvKind) -> Result<(), Memory>
-    ensures arrived { OnOk result (deliveries.new.arrived ≡ deliveries.old.arrived) }
-    ensures tags { OnOk result (deliveries.new.tags ≡ deliveries.old.tags) }
     ensures gets { OnOk result (deliveries.new.gets ≡ deliveries.old.gets) }
 {
-    if deliveries.link(link).is_none() {
-        deliveries.add_link(link, kind)?;
-    }
+    deliveries.add_link(link, kind)?;
     deliveries.link_attached(link, 0);
     Ok(())
 }
@@ -29,8 +25,6 @@ fn consumer(alloc: Global, no_ack: bool) -> Result<RecvKind, Memory> {
 
 /// The flow that is due is sent.
 fn grant(deliveries: &mut Deliveries) -> Option<NextGrant>
-    ensures arrived { deliveries.new.arrived ≡ deliveries.old.arrived }
-    ensures tags { deliveries.new.tags ≡ deliveries.old.tags }
     ensures gets { deliveries.new.gets ≡ deliveries.old.gets }
 {
     let grant = deliveries.next_grant();
@@ -48,7 +42,9 @@ fn flow(link: u32, credit: u32, cause: Cause) -> Option<NextGrant> {
     })
 }
 
-fn part(id: u32, settled: bool, more: bool) -> Part {
+fn part(id: u32, settled: bool, more: bool) -> Part
+    ensures { result.aborted ≡ false }
+{
     Part {
         id: Some(id),
         tag_length: Some(4),
@@ -62,8 +58,6 @@ fn part(id: u32, settled: bool, more: bool) -> Part {
 /// A get waits.
 fn wait(deliveries: &mut Deliveries, link: u32)
     requires { deliveries.old.gets < 1000 }
-    ensures arrived { deliveries.new.arrived ≡ deliveries.old.arrived }
-    ensures tags { deliveries.new.tags ≡ deliveries.old.tags }
     ensures gets { deliveries.new.gets ≤ deliveries.old.gets + 1 }
 {
     if let Some(l) = deliveries.link(link)
@@ -74,6 +68,18 @@ fn wait(deliveries: &mut Deliveries, link: u32)
     }
 }
 
+/// What goes to the client of a delivery with an image.
+fn content(alloc: Global, image: bool) -> Result<Option<Content>, Memory> {
+    if !image {
+        return Ok(None);
+    }
+    Ok(Some(Content {
+        exchange: ByteText::empty(alloc),
+        key: ByteText::copy_of(alloc, b"q")?,
+        frames: Frames::empty(alloc),
+    }))
+}
+
 /// A transfer comes; a delivery that is whole is taken, with an image or without.
 fn send(
     alloc: Global,
@@ -81,48 +87,30 @@ fn send(
     link: u32,
     part: Part,
     image: bool,
-) -> Result<Option<Arrival>, Memory>
-    requires { deliveries.old.arrived < 1000 }
-    ensures arrived { OnOk result (deliveries.new.arrived ≤ deliveries.old.arrived + 1) }
-    ensures tags { OnOk result (deliveries.new.tags ≡ deliveries.old.tags) }
+) -> Result<Arrival, Memory>
     ensures gets { OnOk result (deliveries.new.gets ≡ deliveries.old.gets) }
 {
-    if deliveries.is_whole(link) {
-        return Ok(None);
-    }
     let arrival = deliveries.transfer(link, part, b"bytes")?;
     if deliveries.is_whole(link) {
-        let content = if image {
-            Some(Content {
-                exchange: ByteText::empty(alloc),
-                key: ByteText::copy_of(alloc, b"q")?,
-                frames: Frames::empty(alloc),
-            })
-        } else {
-            None
-        };
-        deliveries.arrived(link, content, false)?;
+        deliveries.arrived(link, content(alloc, image)?, false)?;
     }
-    Ok(Some(arrival))
+    Ok(arrival)
 }
 
 /// The deliver or get-ok that is due is begun. Its tag and its delivery-id.
 fn deliver(deliveries: &mut Deliveries) -> Option<(u64, u32)>
-    requires { deliveries.old.tags < 1000 }
-    ensures arrived { deliveries.new.arrived ≡ deliveries.old.arrived }
-    ensures tags { deliveries.new.tags ≤ deliveries.old.tags + 1 }
     ensures gets { deliveries.new.gets ≡ deliveries.old.gets }
 {
+    if deliveries.tags() >= 1000 {
+        return None;
+    }
     let next = deliveries.next_deliver()?;
     let tag = deliveries.commit_deliver(next);
     Some((tag, next.id))
 }
 
 /// The disposition that is due is sent.
-fn settle(deliveries: &mut Deliveries) -> Option<NextSettle>
-    ensures arrived { deliveries.new.arrived ≡ deliveries.old.arrived }
-    ensures tags { deliveries.new.tags ≡ deliveries.old.tags }
-{
+fn settle(deliveries: &mut Deliveries) -> Option<NextSettle> {
     let settle = deliveries.next_settle();
     if settle.is_some() {
         deliveries.settled();
@@ -150,19 +138,20 @@ fn what_is_left_goes_back(rt: HostRuntime) -> Result<(), Memory> {
     send(alloc, &mut deliveries, 0, part(1, false, false), true)?;
     // One in two transfers.
     let more = send(alloc, &mut deliveries, 0, part(2, false, true), true)?;
-    assert_eq!(rt; more, Some(Arrival::More));
+    assert_eq!(rt; more, Arrival::More);
     assert_eq!(rt; deliveries.payload(0), b"bytes".as_slice());
     let other = send(alloc, &mut deliveries, 0, part(1, false, false), true)?;
     let fault = Arrival::Violation(TransferFault::InvalidField);
-    assert_eq!(rt; other, Some(fault));
+    assert_eq!(rt; other, fault);
     let whole = send(alloc, &mut deliveries, 0, part(2, false, false), true)?;
-    assert_eq!(rt; whole, Some(Arrival::Whole));
+    assert_eq!(rt; whole, Arrival::Whole);
     assert_eq!(rt; deliver(&mut deliveries), Some((1, 0)));
     assert_eq!(rt; deliver(&mut deliveries), Some((2, 1)));
     assert_eq!(rt; deliver(&mut deliveries), Some((3, 2)));
-    assert_eq!(rt; deliveries.ack(4, false), Err(UnknownTag));
-    assert_eq!(rt; deliveries.reject(2, false, true), Ok(()));
-    assert_eq!(rt; deliveries.reject(2, false, true), Err(UnknownTag));
+    assert!(rt; !deliveries.knows(4, false));
+    assert!(rt; deliveries.knows(2, false));
+    deliveries.answered(2, false, Settle::Released);
+    assert!(rt; !deliveries.knows(2, false));
     assert_eq!(rt; settle(&mut deliveries), range(1, 1, Settle::Released));
     assert!(rt; !deliveries.covered(0));
     deliveries.release_all();
@@ -188,9 +177,11 @@ fn a_prefetch_is_kept(rt: HostRuntime) -> Result<(), Memory> {
     assert_eq!(rt; deliver(&mut deliveries), Some((1, 0)));
     // All consumers together have one.
     assert_eq!(rt; deliver(&mut deliveries), None);
-    assert_eq!(rt; deliveries.ack(1, false), Ok(()));
+    assert!(rt; deliveries.knows(1, false));
+    deliveries.answered(1, false, Settle::Accepted);
     assert_eq!(rt; deliver(&mut deliveries), Some((2, 1)));
-    assert_eq!(rt; deliveries.ack(0, true), Ok(()));
+    assert!(rt; deliveries.knows(0, true));
+    deliveries.answered(0, true, Settle::Accepted);
     assert_eq!(rt; settle(&mut deliveries), range(0, 1, Settle::Accepted));
     assert_eq!(rt; grant(&mut deliveries), flow(7, 4, Cause::Refill));
     deliveries.link_echo(7);
@@ -201,6 +192,42 @@ fn a_prefetch_is_kept(rt: HostRuntime) -> Result<(), Memory> {
     send(alloc, &mut deliveries, 7, part(2, false, false), true)?;
     assert_eq!(rt; deliver(&mut deliveries), None);
     assert_eq!(rt; settle(&mut deliveries), range(2, 2, Settle::Released));
+    Ok(())
+}
+
+/// Two deliveries that are taken with their last transfers, and the tag of a consumer.
+#[test]
+fn a_delivery_is_taken_at_once(rt: HostRuntime) -> Result<(), Memory> {
+    let alloc = rt.alloc();
+    let mut deliveries = Deliveries::new(alloc, 1);
+    attach(&mut deliveries, 3, consumer(alloc, false)?)?;
+    attach(&mut deliveries, 4, RecvKind::Get)?;
+    assert_eq!(rt; deliveries.links().len(), 2);
+    assert!(rt; deliveries.has_tag(b"c"));
+    assert!(rt; !deliveries.has_tag(b"d"));
+    assert_eq!(rt; deliveries.tag_of(3), b"c".as_slice());
+    assert_eq!(rt; deliveries.tag_of(4), b"".as_slice());
+    assert_eq!(rt; grant(&mut deliveries), flow(3, 64, Cause::Refill));
+    let limit = Some(TransferFault::LimitExceeded);
+    assert_eq!(rt; deliveries.fault(4, part(5, false, false), 1), limit);
+    assert_eq!(rt; deliveries.fault(3, part(5, false, false), 1), None);
+    // One in one transfer, and one in two.
+    deliveries.last_transfer(3, part(5, false, false), content(alloc, true)?, false)?;
+    send(alloc, &mut deliveries, 3, part(6, false, true), true)?;
+    deliveries.last_transfer(3, part(6, true, false), content(alloc, true)?, true)?;
+    assert!(rt; deliveries.payload(3).is_empty());
+    assert_eq!(rt; deliveries.count_of(3), 2);
+    assert_eq!(rt; deliver(&mut deliveries), Some((1, 5)));
+    assert_eq!(rt; deliver(&mut deliveries), Some((2, 6)));
+    assert_eq!(rt; deliveries.tags(), 2);
+    deliveries.answered(0, true, Settle::Accepted);
+    assert_eq!(rt; settle(&mut deliveries), range(5, 5, Settle::Accepted));
+    assert_eq!(rt; settle(&mut deliveries), None);
+    deliveries.cancel(3);
+    assert!(rt; !deliveries.has_tag(b"c"));
+    assert!(rt; !deliveries.is_closed());
+    deliveries.release_all();
+    assert!(rt; deliveries.is_closed());
     Ok(())
 }
 
@@ -238,7 +265,7 @@ fn a_get_is_served(rt: HostRuntime) -> Result<(), Memory> {
     }
     let early = send(alloc, &mut deliveries, 2, part(8, true, false), true)?;
     let fault = Arrival::Violation(TransferFault::LimitExceeded);
-    assert_eq!(rt; early, Some(fault));
+    assert_eq!(rt; early, fault);
     wait(&mut deliveries, 2);
     assert_eq!(rt; grant(&mut deliveries), flow(2, 1, Cause::Get));
     send(alloc, &mut deliveries, 2, part(8, true, false), true)?;

@@ -1,7 +1,7 @@
 -- The link that is given up for its handle: the lowest, among those on which nothing is under way.
 use Rattle.std.proofs.Common.{◌≡◌, List, [], ◌∷◌, Bool, true, false, Option, Some}
 use Rattle.std.proofs.Common.{None, refl, subst, cond}
-use Rattle.std.specs.Prelude.{filter, find, nat_lt}
+use Rattle.std.specs.Prelude.{filter, find, nat_lt, IfSome}
 use Rattle.std.specs.List.{AllByRecursion}
 use Rattle.open_items.proofs.Filtered.{all_filter}
 use Rattle.publish_path.specs.declared.publish.Publish.{Publish}
@@ -33,14 +33,19 @@ all_pass p (l ∷ ls) = by (p l) refl (all_pass p ls)
     by true e ih = (e, ih)
     by false e ih = ih
 
+pub lowest_found : (list : List Publish) (ls : List PathLink) (o : Option PathLink) → Rises 0 ls → lowest (filter (is_idle list) ls) ≡ o → IfSome o (λ l. find (has_number l.link) ls ≡ Some l)
+lowest_found list ls None r e = tt
+lowest_found list ls (Some l) r e = lowest_has (λ k. find (has_number k.link) ls ≡ Some k) (filter (is_idle list) ls) l (all_filter (is_idle list) _ ls (numbers_found 0 ls r)) e
+
+pub lowest_open : (list : List Publish) (ls : List PathLink) (o : Option PathLink) → lowest (filter (is_idle list) ls) ≡ o → IfSome o (λ l. is_stage_open l.stage ≡ true)
+lowest_open list ls None e = tt
+lowest_open list ls (Some l) e = and_left (is_stage_open l.stage) _ (and_left _ _ (lowest_has (λ k. is_idle list k ≡ true) (filter (is_idle list) ls) l (all_pass (is_idle list) ls) e))
+
 pub given_found : (list : List Publish) (s : LinksState) (l : PathLink) → Rises 0 s.links → given_of list s ≡ Some l → (find (has_number l.link) s.links ≡ Some l) × (is_stage_open l.stage ≡ true)
 given_found list s l r e = by (is_wanting s) e
   where
     by : (b : Bool) → cond b (lowest (filter (is_idle list) s.links)) None ≡ Some l → (find (has_number l.link) s.links ≡ Some l) × (is_stage_open l.stage ≡ true)
-    by true e = (
-      lowest_has (λ k. find (has_number k.link) s.links ≡ Some k) (filter (is_idle list) s.links) l (all_filter (is_idle list) _ s.links (numbers_found 0 s.links r)) e,
-      and_left (is_stage_open l.stage) _ (lowest_has (λ k. is_idle list k ≡ true) (filter (is_idle list) s.links) l (all_pass (is_idle list) s.links) e),
-    )
+    by true e = (lowest_found list s.links (Some l) r e, lowest_open list s.links (Some l) e)
     by false e = absurd (cc)
 
 -- the search for it

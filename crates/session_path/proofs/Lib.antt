@@ -3,7 +3,11 @@ pub mod Idle
 pub mod Gaps
 pub mod Credit
 pub mod Wanted
+pub mod Kept
+pub mod Consuming
 pub mod PathLaws
+pub mod SameLinks
 pub mod Tied
+pub mod Fresh
 pub mod LinkFlows
 pub mod LinkAttaches

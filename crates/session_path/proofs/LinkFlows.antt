@@ -1,32 +1,44 @@
 -- The flows on a link answer what the container asked, each once.
 use Rattle.std.proofs.Common.{◌≡◌, ◌∙◌, ℕ, zero, suc, ◌+◌, ◌-◌, ◌≤◌, List, [], ◌∷◌, Bool, true}
 use Rattle.std.proofs.Common.{false, Option, Some, None, refl, sym, subst, ap, arith, cond}
-use Rattle.std.specs.Prelude.{find, is_some, not, ◌==◌, ◌&&◌, ◌||◌, insert, nat_lt}
+use Rattle.std.specs.Prelude.{filter, find, is_some, not, ◌==◌, ◌&&◌, ◌||◌, insert, nat_lt}
 use Rattle.std.specs.List.{AllByRecursion}
-use Rattle.open_items.proofs.Filtered.{all_find}
+use Rattle.open_items.proofs.Filtered.{all_filter, all_weaker}
 use Rattle.link_table.specs.Table.{free_of, named_by}
 use Rattle.publish_path.specs.Links.{link_to}
 use Rattle.publish_path.specs.declared.publish.Publish.{Publish}
 use Rattle.publish_path.specs.declared.send_links.SendingLink.{SendingLink}
+use Rattle.consume_path.specs.Offers.{next_settle_of}
+use Rattle.consume_path.specs.declared.receiving.TransferFault.{TransferFault}
+use Rattle.session_path.specs.declared.path.AttachHeard.{AttachHeard}
 use Rattle.session_path.specs.declared.path.PathLink.{PathLink}
-use Rattle.session_path.specs.Links.{LinksState, Rises, answered, asked_as, asked_on, at_handle}
-use Rattle.session_path.specs.Links.{attach_fault, attached, attached_as, detached_on, flowed_on}
-use Rattle.session_path.specs.Links.{free_number, given_by, given_on, has_number, is_asked_as}
-use Rattle.session_path.specs.Links.{is_at, is_given, is_left, is_parting, is_wanted, left_by}
-use Rattle.session_path.specs.Links.{link_asked, link_detached, link_flowed, linked_to, named}
-use Rattle.session_path.specs.Links.{one_if, parted, put, told_by, told_on, told_once, wanted_link}
-use Rattle.session_path.specs.Links.{with_link_to}
-use Rattle.session_path.specs.Path.{PathState, flow_of, given_of, may_drain, owes_flow}
-use Rattle.session_path.specs.Events.{PathEvent, Began, Published, Selected, Owed, AttachCame}
-use Rattle.session_path.specs.Events.{FlowCame, DetachCame, DispositionCame, AttachSent}
-use Rattle.session_path.specs.Events.{LinkFlowSent, TransferSent, SettleSent, DetachSent}
-use Rattle.session_path.specs.Events.{ConfirmWent, ReturnWent, OkSent, LinesWent, SessionLost, after_event}
-use Rattle.session_path.specs.Events.{after_events}
+use Rattle.session_path.specs.Links.{LinksState, Rises, answered, asked_as, asked_by, asked_on}
+use Rattle.session_path.specs.Links.{at_handle, attach_fault, attached, attached_as, detached_on}
+use Rattle.session_path.specs.Links.{failed_by, failed_on, flowed_on, free_number, given_by, given_on}
+use Rattle.session_path.specs.Links.{gone_on, has_number, is_asked_as, is_at, is_given, is_left}
+use Rattle.session_path.specs.Links.{is_parting, is_stage_whole, is_to_part, is_wanted}
+use Rattle.session_path.specs.Links.{is_wanted_receiver, left_by, link_asked, link_detached}
+use Rattle.session_path.specs.Links.{link_failed, link_flowed, linked_to, named, one_if, parted, put}
+use Rattle.session_path.specs.Links.{told_by, told_on, told_once, wanted_link, with_link_to}
+use Rattle.session_path.specs.Links.{with_receiver}
+use Rattle.session_path.specs.Path.{PathState, flow_of, given_of, is_grant_next, may_drain}
+use Rattle.session_path.specs.Path.{owes_flow, receiver_in, sender_in, taking}
+use Rattle.session_path.specs.Events.{PathEvent, Began, Published, Selected, Owed, Consumed}
+use Rattle.session_path.specs.Events.{AnswerCame, AttachCame, FlowCame, DetachCame, TransferCame}
+use Rattle.session_path.specs.Events.{LinkFailed, DispositionCame, AttachSent, LinkFlowSent}
+use Rattle.session_path.specs.Events.{TransferSent, SettleSent, DisposeSent, DetachSent}
+use Rattle.session_path.specs.Events.{ConfirmWent, ReturnWent, DeliverSent, ContentSent}
+use Rattle.session_path.specs.Events.{ContentWhole, OkSent, LinesWent, LifeClosed, SessionLost}
+use Rattle.session_path.specs.Events.{UpLost, after_event, after_events}
 use Rattle.session_path.specs.Flows.{causes_by, causes_on, flows_by, flows_on, given_in}
-use Rattle.session_path.specs.Flows.{given_named, is_link, owed_in, owed_on}
+use Rattle.session_path.specs.Flows.{given_named, is_link, left_in, owed_in}
+use Rattle.session_path.specs.Flows.{owed_on}
+use Rattle.session_path.proofs.Fresh.{AreFresh, IsFresh, fresh_after}
 use Rattle.session_path.proofs.Idle.{given_found}
-use Rattle.session_path.proofs.Ties.{dropped, eq_of, eq_to, found_number, gone_is, ne_to, no_clash}
-use Rattle.session_path.proofs.Ties.{rises_above}
+use Rattle.session_path.proofs.SameLinks.{attach_same, disposed_same, dropped_same, flow_sent_same}
+use Rattle.session_path.proofs.SameLinks.{flowed_if, flowed_same, transfer_same}
+use Rattle.session_path.proofs.Ties.{and_left, dropped, eq_of, eq_to, found_number, found_passes}
+use Rattle.session_path.proofs.Ties.{gone_is, ne_to, no_clash, rises_above}
 use Rattle.session_path.proofs.Wanted.{absent}
 use Rattle.session_path.proofs.Tied.{Tied, tied_after}
 
@@ -57,32 +69,38 @@ find_put n x (l ∷ ls) = by (l.link == x.link) refl (l.link == n) refl (x.link 
 
 -- what it is owed
 
+abbrev owed_of : PathLink → ℕ
+owed_of l = l.echoes + l.drains
+
 owed_put : (n : ℕ) (p : PathLink → Bool) (ls : List PathLink) (l x : PathLink) → Rises 0 ls → find p ls ≡ Some l → x.link ≡ l.link
-    → owed_on n (put x ls) + cond (l.link == n) (l.echoes + l.drains) 0 ≡ owed_on n ls + cond (l.link == n) (x.echoes + x.drains) 0
+    → owed_on n (put x ls) + cond (l.link == n) (owed_of l) 0 ≡ owed_on n ls + cond (l.link == n) (owed_of x) 0
 owed_put n p ls l x r e same =
-    ap (λ o. owed_in o + cond (l.link == n) (l.echoes + l.drains) 0) (find_put n x ls)
-    ∙ (ap (λ b. owed_in (cond b (placed x (find (has_number n) ls)) (find (has_number n) ls)) + cond (l.link == n) (l.echoes + l.drains) 0) (ap (λ k. k == n) same)
+    ap (λ o. owed_in o + cond (l.link == n) (owed_of l) 0) (find_put n x ls)
+    ∙ (ap (λ b. owed_in (cond b (placed x (find (has_number n) ls)) (find (has_number n) ls)) + cond (l.link == n) (owed_of l) 0) (ap (λ k. k == n) same)
     ∙ by (l.link == n) refl)
   where
     swap : (a b : ℕ) → a + b ≡ b + a
     swap a b = omega arith
 
     by : (b : Bool) → (l.link == n) ≡ b
-        → owed_in (cond b (placed x (find (has_number n) ls)) (find (has_number n) ls)) + cond b (l.echoes + l.drains) 0 ≡ owed_in (find (has_number n) ls) + cond b (x.echoes + x.drains) 0
+        → owed_in (cond b (placed x (find (has_number n) ls)) (find (has_number n) ls)) + cond b (owed_of l) 0 ≡ owed_in (find (has_number n) ls) + cond b (owed_of x) 0
     by true f =
         let there : find (has_number n) ls ≡ Some l = subst (λ k. find (has_number k) ls ≡ Some l) (eq_of l.link n f) (found_number p ls l r e) in
-        ap (λ o. owed_in (placed x o) + (l.echoes + l.drains)) there ∙ (swap (x.echoes + x.drains) (l.echoes + l.drains) ∙ ap (λ o. owed_in o + (x.echoes + x.drains)) (sym there))
+        ap (λ o. owed_in (placed x o) + owed_of l) there ∙ (swap (owed_of x) (owed_of l) ∙ ap (λ o. owed_in o + owed_of x) (sym there))
     by false f = refl
 
 -- the counts stay
-owed_same : (n : ℕ) (p : PathLink → Bool) (ls : List PathLink) (l x : PathLink) → Rises 0 ls → find p ls ≡ Some l → x.link ≡ l.link → x.echoes ≡ l.echoes → x.drains ≡ l.drains
+owed_same : (n : ℕ) (p : PathLink → Bool) (ls : List PathLink) (l x : PathLink) → Rises 0 ls → find p ls ≡ Some l → x.link ≡ l.link → owed_of x ≡ owed_of l
     → owed_on n (put x ls) ≡ owed_on n ls
-owed_same n p ls l x r e same f g =
+owed_same n p ls l x r e same owes =
     let put_it = owed_put n p ls l x r e same in
     by (l.link == n) put_it
   where
-    by : (b : Bool) → owed_on n (put x ls) + cond b (l.echoes + l.drains) 0 ≡ owed_on n ls + cond b (x.echoes + x.drains) 0 → owed_on n (put x ls) ≡ owed_on n ls
-    by true h = omega arith
+    by : (b : Bool) → owed_on n (put x ls) + cond b (owed_of l) 0 ≡ owed_on n ls + cond b (owed_of x) 0 → owed_on n (put x ls) ≡ owed_on n ls
+    by true h = less (owed_on n (put x ls)) (owed_on n ls) (owed_of l) (owed_of x) h owes
+      where
+        less : (a b k m : ℕ) → a + k ≡ b + m → m ≡ k → a ≡ b
+        less a b k m e f = omega arith
     by false h = omega arith
 
 -- a link that is wanted
@@ -91,20 +109,20 @@ none_at : (n : ℕ) (ls : List PathLink) → AllByRecursion (λ k. (k.link == n)
 none_at n [] a = refl
 none_at n (l ∷ ls) a = ap (λ b. cond b (Some l) (find (has_number n) ls)) a.0 ∙ none_at n ls a.1
 
-owed_insert : (n k i : ℕ) (ls : List PathLink) → AllByRecursion (λ l. (l.link == k) ≡ false) ls → owed_on n (insert ls i (wanted_link k)) ≡ owed_on n ls
-owed_insert n k zero ls a = by (k == n) refl
+owed_insert : (n k i : ℕ) (receives : Bool) (ls : List PathLink) → AllByRecursion (λ l. (l.link == k) ≡ false) ls → owed_on n (insert ls i (wanted_link k receives)) ≡ owed_on n ls
+owed_insert n k zero receives ls a = by (k == n) refl
   where
-    by : (b : Bool) → (k == n) ≡ b → owed_in (cond b (Some (wanted_link k)) (find (has_number n) ls)) ≡ owed_in (find (has_number n) ls)
+    by : (b : Bool) → (k == n) ≡ b → owed_in (cond b (Some (wanted_link k receives)) (find (has_number n) ls)) ≡ owed_in (find (has_number n) ls)
     by true e = sym (ap owed_in (subst (λ m. find (has_number m) ls ≡ None) (eq_of k n e) (none_at k ls a)))
     by false e = refl
-owed_insert n k (suc i) [] a = by (k == n)
+owed_insert n k (suc i) receives [] a = by (k == n)
   where
-    by : (b : Bool) → owed_in (cond b (Some (wanted_link k)) None) ≡ 0
+    by : (b : Bool) → owed_in (cond b (Some (wanted_link k receives)) None) ≡ 0
     by true = refl
     by false = refl
-owed_insert n k (suc i) (l ∷ ls) a = by (l.link == n) (owed_insert n k i ls a.1)
+owed_insert n k (suc i) receives (l ∷ ls) a = by (l.link == n) (owed_insert n k i receives ls a.1)
   where
-    by : (b : Bool) → owed_on n (insert ls i (wanted_link k)) ≡ owed_on n ls → owed_in (cond b (Some l) (find (has_number n) (insert ls i (wanted_link k)))) ≡ owed_in (cond b (Some l) (find (has_number n) ls))
+    by : (b : Bool) → owed_on n (insert ls i (wanted_link k receives)) ≡ owed_on n ls → owed_in (cond b (Some l) (find (has_number n) (insert ls i (wanted_link k receives)))) ≡ owed_in (cond b (Some l) (find (has_number n) ls))
     by true e = refl
     by false e = e
 
@@ -113,7 +131,30 @@ owed_linked n address s t = by (is_some (link_to s.sending address))
   where
     by : (b : Bool) → owed_on n (cond b s (with_link_to address s)).links ≡ owed_on n s.links
     by true = refl
-    by false = owed_insert n (free_number s.links) (free_number s.links) s.links (absent s.links t.rising)
+    by false = owed_insert n (free_number s.links) (free_number s.links) false s.links (absent s.links t.rising)
+
+owed_received : (n : ℕ) (s : LinksState) → Tied s → owed_on n (with_receiver s).links ≡ owed_on n s.links
+owed_received n s t = owed_insert n (free_number s.links) (free_number s.links) true s.links (absent s.links t.rising)
+
+-- receiving links that are wanted no more
+
+owed_without : (n m : ℕ) (ls : List PathLink) → Rises m ls → AllByRecursion IsFresh ls → owed_on n (filter (λ l. not (is_wanted_receiver l)) ls) ≡ owed_on n ls
+owed_without n m [] r fresh = refl
+owed_without n m (l ∷ ls) r fresh = by (is_wanted_receiver l) refl (l.link == n) refl (owed_without n (l.link + 1) ls r.1 fresh.1)
+  where
+    stay : List PathLink
+    stay = filter (λ k. not (is_wanted_receiver k)) ls
+
+    above : l.link ≡ n → AllByRecursion (λ k. (k.link == n) ≡ false) stay
+    above same = all_filter (λ k. not (is_wanted_receiver k)) (λ k. (k.link == n) ≡ false) ls
+        (all_weaker (λ k. l.link + 1 ≤ k.link) _ (λ k le. ne_to k.link n (λ s. omega arith)) ls (rises_above (l.link + 1) ls r.1))
+
+    by : (b : Bool) → is_wanted_receiver l ≡ b → (c : Bool) → (l.link == n) ≡ c → owed_on n stay ≡ owed_on n ls
+        → owed_in (find (has_number n) (cond (not b) (l ∷ stay) stay)) ≡ owed_in (cond c (Some l) (find (has_number n) ls))
+    by true e true f ih = ap owed_in (none_at n stay (above (eq_of l.link n f))) ∙ sym (fresh.0 (and_left (is_wanted l) l.receives e))
+    by true e false f ih = ih
+    by false e true f ih = ap (λ b. owed_in (cond b (Some l) (find (has_number n) stay))) f
+    by false e false f ih = ap (λ b. owed_in (cond b (Some l) (find (has_number n) stay))) f ∙ ih
 
 -- one that is no more
 
@@ -147,28 +188,25 @@ owed_none n m flows causes ls is = ap (λ k. (flows + 0) + k) (owed_dropped n m 
 kept : (flows old new causes : ℕ) → flows + old ≡ causes → new ≡ old → (flows + 0) + new ≡ causes
 kept flows old new causes e f = omega arith
 
-attached_step : (n name peer : ℕ) (target : Bool) (s : LinksState) → Tied s → owed_on n (attached name peer target s).links ≡ owed_on n s.links
-attached_step n name peer target s t = by (is_some (attach_fault name peer s)) (step (find (is_asked_as name) s.links) refl)
+attached_step : (n : ℕ) (a : AttachHeard) (s : LinksState) → Tied s → owed_on n (attached a s).links ≡ owed_on n s.links
+attached_step n a s t = by (is_some (attach_fault a.name a.role a.peer s)) (find (is_asked_as a.name a.role) s.links) refl
   where
-    step : (o : Option PathLink) → find (is_asked_as name) s.links ≡ o → owed_on n (attached_as o peer target s).links ≡ owed_on n s.links
-    step None e = refl
-    step (Some l) e = owed_same n (is_asked_as name) s.links l (answered target l) t.rising e refl refl refl
-
-    by : (b : Bool) → owed_on n (attached_as (find (is_asked_as name) s.links) peer target s).links ≡ owed_on n s.links → owed_on n (cond b s (attached_as (find (is_asked_as name) s.links) peer target s)).links ≡ owed_on n s.links
-    by true e = refl
-    by false e = e
+    by : (b : Bool) (o : Option PathLink) → find (is_asked_as a.name a.role) s.links ≡ o → owed_on n (attached_as (cond b None o) a.peer a.there s).links ≡ owed_on n s.links
+    by true o e = refl
+    by false None e = refl
+    by false (Some l) e = owed_same n (is_asked_as a.name a.role) s.links l (answered a.there l) t.rising e refl refl
 
 flowed_one : (n h flows causes : ℕ) (count : Option ℕ) (credit : ℕ) (drain echo : Bool) (s : LinksState) (o : Option PathLink) → Tied s → find (is_at h) s.links ≡ o → flows + owed_on n s.links ≡ causes
     → (flows + 0) + owed_on n (flowed_on o count credit drain echo s).links ≡ causes + cond (is_link n o) (one_if echo + one_if drain) 0
 flowed_one n h flows causes count credit drain echo s None t e is = omega arith
 flowed_one n h flows causes count credit drain echo s (Some l) t e is = by (l.link == n) (owed_put n (is_at h) s.links l (told_by drain echo l) t.rising e refl)
   where
+    sum : (new old e d a b f c : ℕ) → new + (e + d) ≡ old + ((e + a) + (d + b)) → f + old ≡ c → (f + 0) + new ≡ c + (a + b)
+    sum new old e d a b f c p q = omega arith
+
     by : (b : Bool) → owed_on n (put (told_by drain echo l) s.links) + cond b (l.echoes + l.drains) 0 ≡ owed_on n s.links + cond b ((l.echoes + one_if echo) + (l.drains + one_if drain)) 0
         → (flows + 0) + owed_on n (put (told_by drain echo l) s.links) ≡ causes + cond b (one_if echo + one_if drain) 0
-    by true h = let a = one_if echo in let d = one_if drain in sum (owed_on n (put (told_by drain echo l) s.links)) (owed_on n s.links) l.echoes l.drains (one_if echo) (one_if drain) flows causes h is
-      where
-        sum : (new old e d a b f c : ℕ) → new + (e + d) ≡ old + ((e + a) + (d + b)) → f + old ≡ c → (f + 0) + new ≡ c + (a + b)
-        sum new old e d a b f c p q = omega arith
+    by true h = sum (owed_on n (put (told_by drain echo l) s.links)) (owed_on n s.links) l.echoes l.drains (one_if echo) (one_if drain) flows causes h is
     by false h = omega arith
 
 flowed_step : (n peer flows causes : ℕ) (count : Option ℕ) (credit : ℕ) (drain echo : Bool) (s : LinksState) → Tied s → flows + owed_on n s.links ≡ causes
@@ -186,7 +224,7 @@ detached_one n h flows causes s (Some l) t e is = by (is_given l)
   where
     by : (b : Bool) → (flows + 0) + owed_on n (cond b (dropped l.link s.links) (put (left_by l) s.links)) ≡ cond (is_link n (cond b (Some l) None)) flows causes
     by true = owed_none n l.link flows causes s.links is
-    by false = kept flows (owed_on n s.links) _ causes is (owed_same n (is_at h) s.links l (left_by l) t.rising e refl refl refl)
+    by false = kept flows (owed_on n s.links) _ causes is (owed_same n (is_at h) s.links l (left_by l) t.rising e refl refl)
 
 detached_step : (n peer flows causes : ℕ) (s : LinksState) → Tied s → flows + owed_on n s.links ≡ causes
     → (flows + 0) + owed_on n (link_detached peer s).links ≡ cond (is_link n (given_named peer s)) flows causes
@@ -202,19 +240,39 @@ asked_step n name s t = by (find is_wanted s.links) refl (free_of s.handles)
     by : (o : Option PathLink) → find is_wanted s.links ≡ o → (f : Option ℕ) → owed_on n (asked_on o f name s).links ≡ owed_on n s.links
     by None e f = refl
     by (Some l) e None = refl
-    by (Some l) e (Some h) = owed_same n is_wanted s.links l (asked_as h name l) t.rising e refl refl refl
+    by (Some l) e (Some h) = owed_same n is_wanted s.links l (asked_as h name l) t.rising e refl refl
 
 given_step : (n : ℕ) (list : List Publish) (s : LinksState) (o : Option PathLink) → Tied s → given_of list s ≡ o → owed_on n (given_on o s).links ≡ owed_on n s.links
 given_step n list s None t e = refl
-given_step n list s (Some l) t e = owed_same n (has_number l.link) s.links l (given_by l) t.rising (given_found list s l t.rising e).0 refl refl refl
+given_step n list s (Some l) t e = owed_same n (has_number l.link) s.links l (given_by l) t.rising (given_found list s l t.rising e).0 refl refl
 
 parted_step : (n flows causes : ℕ) (list : List Publish) (s : LinksState) → Tied s → flows + owed_on n s.links ≡ causes
-    → (flows + 0) + owed_on n (parted (find is_left s.links) (given_of list s) s).links ≡ cond (is_link n (find is_left s.links)) flows causes
-parted_step n flows causes list s t is = by (find is_left s.links) refl
+    → (flows + 0) + owed_on n (parted (find is_to_part s.links) (given_of list s) s).links ≡ cond (is_link n (left_in (find is_to_part s.links))) flows causes
+parted_step n flows causes list s t is = by (find is_to_part s.links) refl
   where
-    by : (o : Option PathLink) → find is_left s.links ≡ o → (flows + 0) + owed_on n (parted o (given_of list s) s).links ≡ cond (is_link n o) flows causes
+    either : (l : PathLink) → find is_to_part s.links ≡ Some l → (b : Bool) → is_left l ≡ b
+        → (flows + 0) + owed_on n (cond b (gone_on (Some l) s) (given_on (Some l) s)).links ≡ cond (is_link n (cond b (Some l) None)) flows causes
+    either l e true left = ap (λ ks. (flows + 0) + owed_on n ks) (gone_is is_to_part s.sending s.links s.handles l t e left) ∙ owed_none n l.link flows causes s.links is
+    either l e false left = kept flows (owed_on n s.links) _ causes is (owed_same n is_to_part s.links l (given_by l) t.rising e refl refl)
+
+    by : (o : Option PathLink) → find is_to_part s.links ≡ o → (flows + 0) + owed_on n (parted o (given_of list s) s).links ≡ cond (is_link n (left_in o)) flows causes
     by None e = kept flows (owed_on n s.links) _ causes is (given_step n list s (given_of list s) t refl)
-    by (Some l) e = ap (λ ks. (flows + 0) + owed_on n ks) (gone_is s.sending s.links s.handles l t e) ∙ owed_none n l.link flows causes s.links is
+    by (Some l) e = either l e (is_left l) refl
+
+failed_one : (n h : ℕ) (fault : TransferFault) (s : LinksState) (o : Option PathLink) → Tied s → find (is_at h) s.links ≡ o → owed_on n (failed_on o fault s).links ≡ owed_on n s.links
+failed_one n h fault s None t e = refl
+failed_one n h fault s (Some l) t e = by (is_stage_whole l.stage && l.receives)
+  where
+    by : (b : Bool) → owed_on n (cond b (record s { links = put (failed_by fault l) s.links }) s).links ≡ owed_on n s.links
+    by true = owed_same n (is_at h) s.links l (failed_by fault l) t.rising e refl refl
+    by false = refl
+
+failed_step : (n peer : ℕ) (fault : TransferFault) (s : LinksState) → Tied s → owed_on n (link_failed peer fault s).links ≡ owed_on n s.links
+failed_step n peer fault s t = by (named_by s.handles peer)
+  where
+    by : (o : Option ℕ) → owed_on n (failed_on (at_handle o s.links) fault s).links ≡ owed_on n s.links
+    by None = refl
+    by (Some h) = failed_one n h fault s (find (is_at h) s.links) t refl
 
 -- a flow that is due answers one cause
 told_less : (list : List Publish) (sending : List SendingLink) (l : PathLink) → owes_flow list sending l ≡ true → (l.echoes - 1) + cond (l.echoes == 0) (l.drains - 1) l.drains + 1 ≡ l.echoes + l.drains
@@ -241,7 +299,7 @@ told_step n flows causes list s t is = by (flow_of list s) refl
     by (Some l) e = one (l.link == n) (owed_put n (owes_flow list s.sending) s.links l (told_once l) t.rising e refl)
       where
         owes : owes_flow list s.sending l ≡ true
-        owes = (all_find (λ k. 0 ≤ k.link) (owes_flow list s.sending) s.links l (rises_above 0 s.links t.rising) e).1
+        owes = found_passes (owes_flow list s.sending) s.links l e
 
         one : (b : Bool) → owed_on n (put (told_once l) s.links) + cond b (l.echoes + l.drains) 0 ≡ owed_on n s.links + cond b ((told_once l).echoes + (told_once l).drains) 0
             → (flows + cond b 1 0) + owed_on n (put (told_once l) s.links) ≡ causes
@@ -251,27 +309,75 @@ told_step n flows causes list s t is = by (flow_of list s) refl
 lost : (flows : ℕ) → (flows + 0) + 0 ≡ flows
 lost flows = omega arith
 
-step : (n flows causes : ℕ) (x : PathEvent) (s : PathState) → Tied s.links → flows + owed_on n s.links.links ≡ causes
+-- a flow came, and one went
+
+flow_came_step : (n peer flows causes : ℕ) (count : Option ℕ) (credit : ℕ) (drain echo : Bool) (s : PathState) → Tied s.links → flows + owed_on n s.links.links ≡ causes
+    → (flows + 0) + owed_on n (after_event (FlowCame peer count credit drain echo) s).links.links ≡ causes + cond (is_link n (sender_in (named peer s.links))) (one_if echo + one_if drain) 0
+flow_came_step n peer flows causes count credit drain echo s t e =
+    ap (λ (z : LinksState). (flows + 0) + owed_on n z.links) (flowed_same (receiver_in (named peer s.links)) peer count credit drain echo s)
+    ∙ by (named peer s.links) (flowed_step n peer flows causes count credit drain echo s.links t e)
+  where
+    by : (o : Option PathLink) → (flows + 0) + owed_on n (link_flowed peer count credit drain echo s.links).links ≡ causes + cond (is_link n o) (one_if echo + one_if drain) 0
+        → (flows + 0) + owed_on n (flowed_if (receiver_in o) peer count credit drain echo s.links).links ≡ causes + cond (is_link n (sender_in o)) (one_if echo + one_if drain) 0
+    by None h = h
+    by (Some l) h = role l.receives
+      where
+        role : (r : Bool) → (flows + 0) + owed_on n (flowed_if (cond r (Some l) None) peer count credit drain echo s.links).links ≡ causes + cond (is_link n (cond r None (Some l))) (one_if echo + one_if drain) 0
+        role true = omega arith
+        role false = h
+
+flow_sent_step : (n flows causes : ℕ) (s : PathState) → Tied s.links → flows + owed_on n s.links.links ≡ causes
+    → (flows + flows_by n s LinkFlowSent) + owed_on n (after_event LinkFlowSent s).links.links ≡ causes
+flow_sent_step n flows causes s t e =
+    ap (λ (z : LinksState). (flows + flows_by n s LinkFlowSent) + owed_on n z.links) (flow_sent_same s) ∙ by (is_grant_next s)
+  where
+    by : (b : Bool) → (flows + cond (not b && is_link n (flow_of s.publishes.list s.links)) 1 0) + owed_on n (cond b s.links (told_on (flow_of s.publishes.list s.links) s.links)).links ≡ causes
+    by true = omega arith
+    by false = told_step n flows causes s.publishes.list s.links t e
+
+detach_sent_step : (n flows causes : ℕ) (s : PathState) → Tied s.links → flows + owed_on n s.links.links ≡ causes
+    → (flows + 0) + owed_on n (after_event DetachSent s).links.links ≡ causes_by n s flows causes DetachSent
+detach_sent_step n flows causes s t e =
+    ap (λ (z : LinksState). (flows + 0) + owed_on n z.links)
+    (dropped_same (find is_to_part s.links.links) (record s { links = parted (find is_to_part s.links.links) (given_of s.publishes.list s.links) s.links }))
+    ∙ parted_step n flows causes s.publishes.list s.links t e
+
+-- the links stay as they were
+as_before : (n : ℕ) (new old : LinksState) → new ≡ old → owed_on n new.links ≡ owed_on n old.links
+as_before n new old e = ap (λ (z : LinksState). owed_on n z.links) e
+
+step : (n flows causes : ℕ) (x : PathEvent) (s : PathState) → Tied s.links → AreFresh s.links → flows + owed_on n s.links.links ≡ causes
     → (flows + flows_by n s x) + owed_on n (after_event x s).links.links ≡ causes_by n s flows causes x
-step n flows causes (Began handle_max) s t e = kept flows (owed_on n s.links.links) _ causes e refl
-step n flows causes (Published address payload back) s t e = kept flows (owed_on n s.links.links) _ causes e (owed_linked n address s.links t)
-step n flows causes Selected s t e = kept flows (owed_on n s.links.links) _ causes e refl
-step n flows causes (Owed ok) s t e = kept flows (owed_on n s.links.links) _ causes e refl
-step n flows causes (AttachCame name peer target) s t e = kept flows (owed_on n s.links.links) _ causes e (attached_step n name peer target s.links t)
-step n flows causes (FlowCame peer count credit drain echo) s t e = flowed_step n peer flows causes count credit drain echo s.links t e
-step n flows causes (DetachCame peer not_found) s t e = detached_step n peer flows causes s.links t e
-step n flows causes (DispositionCame first last outcome settled) s t e = kept flows (owed_on n s.links.links) _ causes e refl
-step n flows causes (AttachSent name) s t e = kept flows (owed_on n s.links.links) _ causes e (asked_step n name s.links t)
-step n flows causes LinkFlowSent s t e = told_step n flows causes s.publishes.list s.links t e
-step n flows causes (TransferSent frame count) s t e = kept flows (owed_on n s.links.links) _ causes e refl
-step n flows causes (SettleSent settling) s t e = kept flows (owed_on n s.links.links) _ causes e refl
-step n flows causes DetachSent s t e = parted_step n flows causes s.publishes.list s.links t e
-step n flows causes (ConfirmWent confirm) s t e = kept flows (owed_on n s.links.links) _ causes e refl
-step n flows causes (ReturnWent number) s t e = kept flows (owed_on n s.links.links) _ causes e refl
-step n flows causes (OkSent ok) s t e = kept flows (owed_on n s.links.links) _ causes e refl
-step n flows causes LinesWent s t e = kept flows (owed_on n s.links.links) _ causes e refl
-step n flows causes SessionLost s t e = lost flows
+step n flows causes (Began handle_max) s t fresh e = kept flows (owed_on n s.links.links) _ causes e refl
+step n flows causes (Published address payload back) s t fresh e = kept flows (owed_on n s.links.links) _ causes e (owed_linked n address s.links t)
+step n flows causes Selected s t fresh e = kept flows (owed_on n s.links.links) _ causes e refl
+step n flows causes (Owed ok) s t fresh e = kept flows (owed_on n s.links.links) _ causes e refl
+step n flows causes (Consumed address tag no_ack no_wait) s t fresh e = kept flows (owed_on n s.links.links) _ causes e (owed_received n s.links t)
+step n flows causes (AnswerCame tag multiple settle) s t fresh e = kept flows (owed_on n s.links.links) _ causes e refl
+step n flows causes (AttachCame attach) s t fresh e =
+    kept flows (owed_on n s.links.links) _ causes e (as_before n _ (attached attach s.links) (attach_same (asked_by attach s.links) attach (record s { links = attached attach s.links })) ∙ attached_step n attach s.links t)
+step n flows causes (FlowCame peer count credit drain echo) s t fresh e = flow_came_step n peer flows causes count credit drain echo s t e
+step n flows causes (DetachCame peer not_found) s t fresh e = detached_step n peer flows causes s.links t e
+step n flows causes (TransferCame peer part payload image again) s t fresh e = kept flows (owed_on n s.links.links) _ causes e (as_before n _ s.links (transfer_same (taking peer s) part payload image again s))
+step n flows causes (LinkFailed peer fault) s t fresh e = kept flows (owed_on n s.links.links) _ causes e (failed_step n peer fault s.links t)
+step n flows causes (DispositionCame first last outcome settled) s t fresh e = kept flows (owed_on n s.links.links) _ causes e refl
+step n flows causes (AttachSent own) s t fresh e = kept flows (owed_on n s.links.links) _ causes e (asked_step n own s.links t)
+step n flows causes LinkFlowSent s t fresh e = flow_sent_step n flows causes s t e
+step n flows causes (TransferSent frame count) s t fresh e = kept flows (owed_on n s.links.links) _ causes e refl
+step n flows causes (SettleSent settling) s t fresh e = kept flows (owed_on n s.links.links) _ causes e refl
+step n flows causes DisposeSent s t fresh e = kept flows (owed_on n s.links.links) _ causes e (as_before n _ s.links (disposed_same (next_settle_of s.deliveries.list) s))
+step n flows causes DetachSent s t fresh e = detach_sent_step n flows causes s t e
+step n flows causes (ConfirmWent confirm) s t fresh e = kept flows (owed_on n s.links.links) _ causes e refl
+step n flows causes (ReturnWent number) s t fresh e = kept flows (owed_on n s.links.links) _ causes e refl
+step n flows causes (DeliverSent due) s t fresh e = kept flows (owed_on n s.links.links) _ causes e refl
+step n flows causes ContentSent s t fresh e = kept flows (owed_on n s.links.links) _ causes e refl
+step n flows causes (ContentWhole tag) s t fresh e = kept flows (owed_on n s.links.links) _ causes e refl
+step n flows causes (OkSent ok) s t fresh e = kept flows (owed_on n s.links.links) _ causes e refl
+step n flows causes LinesWent s t fresh e = kept flows (owed_on n s.links.links) _ causes e refl
+step n flows causes LifeClosed s t fresh e = kept flows (owed_on n s.links.links) _ causes e (owed_without n 0 s.links.links t.rising fresh)
+step n flows causes SessionLost s t fresh e = lost flows
+step n flows causes UpLost s t fresh e = lost flows
 
 pub flows_are : (life n : ℕ) (h : List PathEvent) → flows_on life n h + owed_on n (after_events life h).links.links ≡ causes_on life n h
 flows_are life n [] = refl
-flows_are life n (x ∷ h) = step n (flows_on life n h) (causes_on life n h) x (after_events life h) (tied_after life h) (flows_are life n h)
+flows_are life n (x ∷ h) = step n (flows_on life n h) (causes_on life n h) x (after_events life h) (tied_after life h) (fresh_after life h) (flows_are life n h)

@@ -2,8 +2,8 @@
 use Rattle.std.proofs.Common.{◌≡◌, ◌∙◌, ℕ, ◌+◌, ◌<◌, ◌≤◌, ◌≢◌, List, [], ◌∷◌, Bool, true, false}
 use Rattle.std.proofs.Common.{Option, Some, None, map, refl, sym, subst, ap, arith, cond, length}
 use Rattle.std.proofs.Common.{get_or, inl, inr}
-use Rattle.std.specs.Prelude.{◌⊎◌, nat_le, filter, find, not, ◌||◌, ◌&&◌, ◌==◌, position}
-use Rattle.std.specs.List.{list_any, AllByRecursion}
+use Rattle.std.specs.Prelude.{◌⊎◌, IfSome, nat_le, filter, find, not, ◌||◌, ◌&&◌, ◌==◌, position}
+use Rattle.std.specs.List.{AllByRecursion}
 use Rattle.std.proofs.lemmas.Bool.{cases_lt}
 use Rattle.std.proofs.lemmas.Bool.Decides.{nat_tests}
 use Rattle.std.proofs.lemmas.List.{get_or-set_same, get_or-set_other, get_or_past}
@@ -20,15 +20,17 @@ use Rattle.publish_path.specs.declared.send_links.SendingLink.{SendingLink}
 use Rattle.publish_path.specs.Links.{without, now_attached, flowed, drained, begun_on}
 use Rattle.publish_path.specs.Offers.{links_after}
 use Rattle.publish_path.specs.declared.publish.NextFrame.{NextFrame}
+use Rattle.consume_path.specs.declared.receiving.TransferFault.{TransferFault}
 use Rattle.session_path.specs.declared.path.PathLink.{PathLink}
 use Rattle.session_path.specs.declared.path.Stage.{Stage}
 use Rattle.session_path.specs.declared.path.Stage.TheVariants.{Wanted, Asked, Open, Refused, Left}
-use Rattle.session_path.specs.declared.path.Stage.TheVariants.{Given}
+use Rattle.session_path.specs.declared.path.Stage.TheVariants.{Given, Failed}
 use Rattle.session_path.specs.Links.{told_once, drained_if, told_by, answered, answered_stage}
-use Rattle.session_path.specs.Links.{asked_as, attached_if, detached_from, given_by, gone_from}
-use Rattle.session_path.specs.Links.{has_number, is_asked_as, is_at, is_given, is_left, is_left_at}
-use Rattle.session_path.specs.Links.{is_parting, is_stage_asked, is_stage_at, is_stage_given}
-use Rattle.session_path.specs.Links.{is_stage_left, is_stage_open, left_by, handle_in, handle_of}
+use Rattle.session_path.specs.Links.{asked_as, attached_if, detached_from, failed_by, given_by}
+use Rattle.session_path.specs.Links.{gone_from, has_number, is_asked_as, is_at, is_failed, is_given}
+use Rattle.session_path.specs.Links.{is_left, is_left_at, is_parting, is_stage_asked, is_stage_at}
+use Rattle.session_path.specs.Links.{is_stage_failed, is_stage_given, is_stage_left, is_stage_open}
+use Rattle.session_path.specs.Links.{is_stage_whole, is_to_part, left_by, handle_in, handle_of}
 use Rattle.session_path.specs.Links.{put_for, put, Rises, is_one, meets, AreApart, is_whole}
 use Rattle.session_path.specs.Links.{is_half, is_given_back, stands, is_kept, AreTied}
 
@@ -43,6 +45,14 @@ ne_to m n e = grind (arith, nat_tests)
 
 pub no_clash : (b : Bool) → b ≡ true → b ≡ false → ⊥
 no_clash b t f = absurd (cc)
+
+every : {X : Type 0} (P : X → Type 0) → ((x : X) → P x) → (xs : List X) → AllByRecursion P xs
+every P f [] = tt
+every P f (x ∷ xs) = (f x, every P f xs)
+
+-- what is found passes
+pub found_passes : (p : PathLink → Bool) (ls : List PathLink) (l : PathLink) → find p ls ≡ Some l → p l ≡ true
+found_passes p ls l e = (all_find (λ k. Unit {0}) p ls l (every _ (λ k. tt) ls) e).1
 
 -- numbers
 
@@ -83,6 +93,10 @@ numbers_found m (l ∷ ls) r = (
 pub found_number : (p : PathLink → Bool) (ls : List PathLink) (l : PathLink) → Rises 0 ls → find p ls ≡ Some l → find (has_number l.link) ls ≡ Some l
 found_number p ls l r e = (all_find (λ k. find (has_number k.link) ls ≡ Some k) p ls l (numbers_found 0 ls r) e).0
 
+pub found_there : (p : PathLink → Bool) (ls : List PathLink) (o : Option PathLink) → Rises 0 ls → find p ls ≡ o → IfSome o (λ l. find (has_number l.link) ls ≡ Some l)
+found_there p ls None r e = tt
+found_there p ls (Some l) r e = found_number p ls l r e
+
 -- no other has the number of the one that is found
 pub unique : (p : PathLink → Bool) (ls : List PathLink) (l : PathLink) → Rises 0 ls → find p ls ≡ Some l → AllByRecursion (λ k. (k.link == l.link) ≡ true → k ≡ l) ls
 unique p ls l r e = all_weaker (λ k. find (has_number k.link) ls ≡ Some k) _ (λ k f same. one k (sym f ∙ (ap (λ n. find (has_number n) ls) (eq_of k.link l.link same) ∙ found_number p ls l r e))) ls (numbers_found 0 ls r)
@@ -104,6 +118,7 @@ handle_some p never (Open h) e = refl
 handle_some p never (Refused h) e = refl
 handle_some p never (Left h) e = refl
 handle_some p never (Given h) e = refl
+handle_some p never (Failed h fault) e = refl
 
 one_sym : (a b : Option ℕ) → is_one a b ≡ false → is_one b a ≡ false
 one_sym None None e = refl
@@ -180,6 +195,7 @@ stands_other t h st (Open k) e is = ap is_whole (state_other t h k st e) ∙ is
 stands_other t h st (Refused k) e is = ap is_whole (state_other t h k st e) ∙ is
 stands_other t h st (Left k) e is = ap is_half (state_other t h k st e) ∙ is
 stands_other t h st (Given k) e is = ap is_given_back (state_other t h k st e) ∙ is
+stands_other t h st (Failed k fault) e is = ap is_whole (state_other t h k st e) ∙ is
 
 pub standing_put : (t : HandleTable) (h : ℕ) (st : HandleState) (x : PathLink) (ls : List PathLink)
     → stands (with_state h st t) x.stage ≡ true
@@ -226,33 +242,64 @@ pub and_right : (a b : Bool) → (a && b) ≡ true → b ≡ true
 and_right true b e = e
 and_right false b e = absurd (cc)
 
-both : (a b : Bool) → a ≡ true → b ≡ false → (a && not b) ≡ true
-both a b e f = rw (e, f) refl
+pub not_false : (b : Bool) → not b ≡ false → b ≡ true
+not_false true e = refl
+not_false false e = absurd (cc)
 
--- where the new link isn't detached
-kept_one : (x : PathLink) (s : SendingLink) (ls : List PathLink) → is_parting x ≡ false → is_kept ls s ≡ true → is_kept (put x ls) s ≡ true
-kept_one x s [] nl e = e
-kept_one x s (l ∷ ls) nl e = by (l.link == x.link) refl (λ h. kept_one x s ls nl h) (or_true ((l.link == s.link) && not (is_parting l)) (is_kept ls s) e)
+-- a link keeps the credit: by its number, its stage and its role
+abbrev pub keeps_as : SendingLink → ℕ → Stage → Bool → Bool
+keeps_as s n stage receives = (n == s.link) && not ((is_stage_left stage || is_stage_failed stage) || is_stage_given stage) && not receives
+
+abbrev pub keeps : SendingLink → PathLink → Bool
+keeps s k = keeps_as s k.link k.stage k.receives
+
+all_three : (a b c : Bool) → a ≡ true → b ≡ false → c ≡ false → (a && not b && not c) ≡ true
+all_three a b c e f g = rw (e, f, g) refl
+
+parting_out : (a b c : Bool) → b ≡ true → (a && not b && not c) ≡ false
+parting_out true b c e = rw e refl
+parting_out false b c e = refl
+
+receiver_out : (a b c : Bool) → c ≡ true → (a && not b && not c) ≡ false
+receiver_out true true c e = refl
+receiver_out true false c e = rw e refl
+receiver_out false b c e = refl
+
+pub keeps_number : (s : SendingLink) (k : PathLink) → keeps s k ≡ true → k.link ≡ s.link
+keeps_number s k e = eq_of k.link s.link (and_left _ _ (and_left _ _ e))
+
+no_receiver : (s : SendingLink) (k : PathLink) → k.receives ≡ true → keeps s k ≡ false
+no_receiver s k e = receiver_out (k.link == s.link) (is_parting k) k.receives e
+
+-- where the new link keeps what the one in its place kept
+kept_swap : (x : PathLink) (s : SendingLink) (ls : List PathLink) → AllByRecursion (λ k. (k.link == x.link) ≡ true → keeps s k ≡ true → keeps s x ≡ true) ls
+    → is_kept ls s ≡ true → is_kept (put x ls) s ≡ true
+kept_swap x s [] a e = e
+kept_swap x s (l ∷ ls) a e = by (l.link == x.link) refl (kept_swap x s ls a.1) (or_true (keeps s l) (is_kept ls s) e)
   where
-    by : (b : Bool) → (l.link == x.link) ≡ b → (is_kept ls s ≡ true → is_kept (put x ls) s ≡ true) → (((l.link == s.link) && not (is_parting l)) ≡ true) ⊎ (is_kept ls s ≡ true)
-        → ((((cond b x l).link == s.link) && not (is_parting (cond b x l))) || is_kept (put x ls) s) ≡ true
-    by true f ih (inl h) = or_left _ _ (both (x.link == s.link) (is_parting x) (eq_to x.link s.link (sym (eq_of l.link x.link f) ∙ eq_of l.link s.link (and_left _ _ h))) nl)
+    by : (b : Bool) → (l.link == x.link) ≡ b → (is_kept ls s ≡ true → is_kept (put x ls) s ≡ true) → (keeps s l ≡ true) ⊎ (is_kept ls s ≡ true)
+        → (keeps s (cond b x l) || is_kept (put x ls) s) ≡ true
+    by true f ih (inl h) = or_left _ _ (a.0 f h)
     by false f ih (inl h) = or_left _ _ h
     by b f ih (inr h) = or_right _ _ (ih h)
+
+-- where the new link isn't detached, and has the role of the old one
+pub kept_put : (x : PathLink) (sending : List SendingLink) (ls : List PathLink) → is_parting x ≡ false → AllByRecursion (λ k. (k.link == x.link) ≡ true → k.receives ≡ x.receives) ls
+    → AllByRecursion (λ s. is_kept ls s ≡ true) sending → AllByRecursion (λ s. is_kept (put x ls) s ≡ true) sending
+kept_put x sending ls stays role a =
+    all_weaker (λ s. is_kept ls s ≡ true) _ (λ s h. kept_swap x s ls (all_weaker (λ k. (k.link == x.link) ≡ true → k.receives ≡ x.receives) _ (λ k same f kept. one s k f (same f) kept) ls role) h) sending a
+  where
+    sends : (b : Bool) → not b ≡ true → b ≡ false
+    sends true e = absurd (cc)
+    sends false e = refl
+
+    one : (s : SendingLink) (k : PathLink) → (k.link == x.link) ≡ true → k.receives ≡ x.receives → keeps s k ≡ true → keeps s x ≡ true
+    one s k f same kept =
+        all_three (x.link == s.link) (is_parting x) x.receives (eq_to x.link s.link (sym (eq_of k.link x.link f) ∙ keeps_number s k kept)) stays (sym same ∙ sends k.receives (and_right ((k.link == s.link) && not (is_parting k)) (not k.receives) kept))
 
 -- where it is another link's credit
 kept_other : (x : PathLink) (s : SendingLink) (ls : List PathLink) → (s.link == x.link) ≡ false → is_kept ls s ≡ true → is_kept (put x ls) s ≡ true
-kept_other x s [] ne e = e
-kept_other x s (l ∷ ls) ne e = by (l.link == x.link) refl (λ h. kept_other x s ls ne h) (or_true ((l.link == s.link) && not (is_parting l)) (is_kept ls s) e)
-  where
-    by : (b : Bool) → (l.link == x.link) ≡ b → (is_kept ls s ≡ true → is_kept (put x ls) s ≡ true) → (((l.link == s.link) && not (is_parting l)) ≡ true) ⊎ (is_kept ls s ≡ true)
-        → ((((cond b x l).link == s.link) && not (is_parting (cond b x l))) || is_kept (put x ls) s) ≡ true
-    by true f ih (inl h) = absurd (no_clash (s.link == x.link) (eq_to s.link x.link (sym (eq_of l.link s.link (and_left _ _ h)) ∙ eq_of l.link x.link f)) ne)
-    by false f ih (inl h) = or_left _ _ h
-    by b f ih (inr h) = or_right _ _ (ih h)
-
-pub kept_put : (x : PathLink) (sending : List SendingLink) (ls : List PathLink) → is_parting x ≡ false → AllByRecursion (λ s. is_kept ls s ≡ true) sending → AllByRecursion (λ s. is_kept (put x ls) s ≡ true) sending
-kept_put x sending ls nl a = all_weaker (λ s. is_kept ls s ≡ true) _ (λ s h. kept_one x s ls nl h) sending a
+kept_other x s ls ne e = kept_swap x s ls (every _ (λ k f kept. absurd (no_clash (s.link == x.link) (eq_to s.link x.link (sym (keeps_number s k kept) ∙ eq_of k.link x.link f)) ne)) ls) e
 
 pub kept_without : (x : PathLink) (sending : List SendingLink) (ls : List PathLink) → AllByRecursion (λ s. is_kept ls s ≡ true) sending → AllByRecursion (λ s. is_kept (put x ls) s ≡ true) (without x.link sending)
 kept_without x [] ls a = tt
@@ -262,57 +309,49 @@ kept_without x (s ∷ ss) ls a = by (s.link == x.link) refl (kept_without x ss l
     by true e ih = ih
     by false e ih = (kept_other x s ls e a.0, ih)
 
--- where only a link that one end detached is dropped
-kept_dropped : (n : ℕ) (ls : List PathLink) (s : SendingLink) → AllByRecursion (λ k. (k.link == n) ≡ true → is_parting k ≡ true) ls → is_kept ls s ≡ true → is_kept (dropped n ls) s ≡ true
-kept_dropped n [] s a e = e
-kept_dropped n (l ∷ ls) s a e = by (l.link == n) refl (kept_dropped n ls s a.1) (or_true ((l.link == s.link) && not (is_parting l)) (is_kept ls s) e)
+-- where only links that keep no credit are dropped
+kept_filter : (o : PathLink → Bool) (ls : List PathLink) (s : SendingLink) → AllByRecursion (λ k. o k ≡ false → keeps s k ≡ false) ls → is_kept ls s ≡ true → is_kept (filter o ls) s ≡ true
+kept_filter o [] s a e = e
+kept_filter o (l ∷ ls) s a e = by (o l) refl (kept_filter o ls s a.1) (or_true (keeps s l) (is_kept ls s) e)
   where
-    not_both : (b : Bool) → b ≡ true → not b ≡ true → ⊥
-    not_both true f g = absurd (cc)
-    not_both false f g = absurd (cc)
-
-    by : (b : Bool) → (l.link == n) ≡ b → (is_kept ls s ≡ true → is_kept (dropped n ls) s ≡ true) → (((l.link == s.link) && not (is_parting l)) ≡ true) ⊎ (is_kept ls s ≡ true)
-        → is_kept (cond (not b) (l ∷ dropped n ls) (dropped n ls)) s ≡ true
-    by true f ih (inl h) = absurd (not_both (is_parting l) (a.0 f) (and_right (l.link == s.link) (not (is_parting l)) h))
-    by true f ih (inr h) = ih h
-    by false f ih (inl h) = or_left _ _ h
-    by false f ih (inr h) = or_right ((l.link == s.link) && not (is_parting l)) _ (ih h)
-
--- where what is changed passes as before
-any_same : {X : Type 0} (p : X → Bool) (f : X → X) (xs : List X) → AllByRecursion (λ x. p (f x) ≡ p x) xs → list_any p (map f xs) ≡ list_any p xs
-any_same p f [] a = refl
-any_same p f (x ∷ xs) a = ap (λ b. b || list_any p (map f xs)) a.0 ∙ ap (λ b. p x || b) (any_same p f xs a.1)
+    by : (b : Bool) → o l ≡ b → (is_kept ls s ≡ true → is_kept (filter o ls) s ≡ true) → (keeps s l ≡ true) ⊎ (is_kept ls s ≡ true)
+        → is_kept (cond b (l ∷ filter o ls) (filter o ls)) s ≡ true
+    by true f ih (inl h) = or_left _ _ h
+    by true f ih (inr h) = or_right (keeps s l) _ (ih h)
+    by false f ih (inl h) = absurd (no_clash (keeps s l) h (a.0 f))
+    by false f ih (inr h) = ih h
 
 -- the steps
 
--- this link keeps the credit
-abbrev keeps : SendingLink → ℕ → Stage → Bool
-keeps s n stage = (n == s.link) && not (is_stage_left stage || is_stage_given stage)
+-- a link of the same role has the number of the one that is found
+same_role : (p : PathLink → Bool) (ls : List PathLink) (l : PathLink) → Rises 0 ls → find p ls ≡ Some l → AllByRecursion (λ k. (k.link == l.link) ≡ true → k.receives ≡ l.receives) ls
+same_role p ls l r e = all_weaker (λ k. (k.link == l.link) ≡ true → k ≡ l) _ (λ k only f. ap (λ (z : PathLink). z.receives) (only f)) ls (unique p ls l r e)
 
-abbrev passes : SendingLink → PathLink → Bool
-passes s k = keeps s k.link k.stage
-
--- a link with its stage
-pub told_tied : (p : PathLink → Bool) (sending : List SendingLink) (ls : List PathLink) (t : HandleTable) (l x : PathLink)
-    → AreTied sending ls t → find p ls ≡ Some l → x.link ≡ l.link → x.stage ≡ l.stage → AreTied sending (put x ls) t
-told_tied p sending ls t l x tied e link stage = record {
+-- a link in the place of the one that is found, under its handle
+changed_tied : (p : PathLink → Bool) (sending : List SendingLink) (ls : List PathLink) (t : HandleTable) (l x : PathLink)
+    → AreTied sending ls t → find p ls ≡ Some l → x.link ≡ l.link → handle_in x.stage ≡ handle_in l.stage → stands t x.stage ≡ true
+    → ((s : SendingLink) → keeps s l ≡ true → keeps s x ≡ true) → AreTied sending (put x ls) t
+changed_tied p sending ls t l x tied e link handle is keep = record {
   rising = rises_put 0 x ls tied.rising;
   apart = apart_put 0 x ls tied.rising tied.apart
-      (all_weaker (λ k. (k.link == l.link) ≡ false → meets l k ≡ false) _ (λ k h no. ap (λ s. is_one (handle_in s) (handle_in k.stage)) stage ∙ h (ap (λ n. k.link == n) (sym link) ∙ no)) ls (apart_from p ls l e tied.apart));
+      (all_weaker (λ k. (k.link == l.link) ≡ false → meets l k ≡ false) _ (λ k h no. ap (λ o. is_one o (handle_in k.stage)) handle ∙ h (ap (λ n. k.link == n) (sym link) ∙ no)) ls (apart_from p ls l e tied.apart));
   standing = all_map (put_for x) (λ k. stands t k.stage ≡ true) _ (λ k h. one k (k.link == x.link) h) ls tied.standing;
-  kept = all_weaker (λ s. is_kept ls s ≡ true) _ (λ s h. any_same (passes s) (put_for x) ls (same s) ∙ h) sending tied.kept;
+  kept = all_weaker (λ s. is_kept ls s ≡ true) _ (λ s h. kept_swap x s ls (same s) h) sending tied.kept;
 }
   where
     one : (k : PathLink) (b : Bool) → stands t k.stage ≡ true → stands t (cond b x k).stage ≡ true
-    one k true h = ap (stands t) stage ∙ (all_find (λ k. stands t k.stage ≡ true) p ls l tied.standing e).0
+    one k true h = is
     one k false h = h
 
-    like : (s : SendingLink) (k : PathLink) (b : Bool) → (k.link == x.link) ≡ b → ((k.link == l.link) ≡ true → k ≡ l) → passes s (cond b x k) ≡ passes s k
-    like s k true f only = ap (λ n. keeps s n x.stage) link ∙ (ap (keeps s l.link) stage ∙ sym (ap (passes s) (only (ap (λ n. k.link == n) (sym link) ∙ f))))
-    like s k false f only = refl
+    same : (s : SendingLink) → AllByRecursion (λ k. (k.link == x.link) ≡ true → keeps s k ≡ true → keeps s x ≡ true) ls
+    same s = all_weaker (λ k. (k.link == l.link) ≡ true → k ≡ l) _ (λ k only f kept. keep s (subst (λ z. keeps s z ≡ true) (only (ap (λ n. k.link == n) (sym link) ∙ f)) kept)) ls (unique p ls l tied.rising e)
 
-    same : (s : SendingLink) → AllByRecursion (λ k. passes s (put_for x k) ≡ passes s k) ls
-    same s = all_weaker (λ k. (k.link == l.link) ≡ true → k ≡ l) _ (λ k only. like s k (k.link == x.link) refl only) ls (unique p ls l tied.rising e)
+-- a link with its stage
+pub told_tied : (p : PathLink → Bool) (sending : List SendingLink) (ls : List PathLink) (t : HandleTable) (l x : PathLink)
+    → AreTied sending ls t → find p ls ≡ Some l → x.link ≡ l.link → x.stage ≡ l.stage → x.receives ≡ l.receives → AreTied sending (put x ls) t
+told_tied p sending ls t l x tied e link stage role =
+    changed_tied p sending ls t l x tied e link (ap handle_in stage) (ap (stands t) stage ∙ (all_find (λ k. stands t k.stage ≡ true) p ls l tied.standing e).0)
+    (λ s kept. ap (λ n. keeps_as s n x.stage x.receives) link ∙ (ap (λ stage. keeps_as s l.link stage x.receives) stage ∙ (ap (keeps_as s l.link l.stage) role ∙ kept)))
 
 -- a link whose handle's state changes with it
 pub moved_tied : (p : PathLink → Bool) (sending sending' : List SendingLink) (ls : List PathLink) (t : HandleTable) (l x : PathLink) (h : ℕ) (st : HandleState)
@@ -335,12 +374,24 @@ dropped_tied : (p : PathLink → Bool) (sending : List SendingLink) (ls : List P
 dropped_tied p sending ls t l st tied e is = record {
   rising = rises_filter _ 0 ls tied.rising;
   apart = apart_filter _ ls tied.apart;
-  standing = standing_dropped t (handle_of l.stage) st l.link ls (others_apart p ls l (handle_of l.stage) e tied.apart (handle_some (λ s. is_stage_left s || is_stage_given s) refl l.stage is)) tied.standing;
-  kept = all_weaker (λ s. is_kept ls s ≡ true) _ (λ s k. kept_dropped l.link ls s parting k) sending tied.kept;
+  standing = standing_dropped t (handle_of l.stage) st l.link ls
+      (others_apart p ls l (handle_of l.stage) e tied.apart (handle_some (λ s. (is_stage_left s || is_stage_failed s) || is_stage_given s) refl l.stage is)) tied.standing;
+  kept = all_weaker (λ s. is_kept ls s ≡ true) _ (λ s k. kept_filter (λ k. not (has_number l.link k)) ls s (parting s) k) sending tied.kept;
 }
   where
-    parting : AllByRecursion (λ k. (k.link == l.link) ≡ true → is_parting k ≡ true) ls
-    parting = all_weaker (λ k. (k.link == l.link) ≡ true → k ≡ l) _ (λ k only same. ap is_parting (only same) ∙ is) ls (unique p ls l tied.rising e)
+    parting : (s : SendingLink) → AllByRecursion (λ k. not (k.link == l.link) ≡ false → keeps s k ≡ false) ls
+    parting s = all_weaker (λ k. (k.link == l.link) ≡ true → k ≡ l) _
+        (λ k only f. parting_out (k.link == s.link) (is_parting k) k.receives (ap is_parting (only (not_false (k.link == l.link) f)) ∙ is)) ls (unique p ls l tied.rising e)
+
+-- receiving links are dropped
+pub filtered_tied : (o : PathLink → Bool) (sending : List SendingLink) (ls : List PathLink) (t : HandleTable)
+    → ((k : PathLink) → o k ≡ false → k.receives ≡ true) → AreTied sending ls t → AreTied sending (filter o ls) t
+filtered_tied o sending ls t receives tied = record {
+  rising = rises_filter o 0 ls tied.rising;
+  apart = apart_filter o ls tied.apart;
+  standing = all_filter o (λ k. stands t k.stage ≡ true) ls tied.standing;
+  kept = all_weaker (λ s. is_kept ls s ≡ true) _ (λ s h. kept_filter o ls s (every _ (λ k f. no_receiver s k (receives k f)) ls) h) sending tied.kept;
+}
 
 free_at : (t : HandleTable) (h : ℕ) → free_of t ≡ Some h → (h < length t.states) × (state_of t h ≡ Free)
 free_at t h e = by (position is_free t.states) refl e
@@ -366,16 +417,17 @@ not_free t h (Asked k) free is = ne_to h k (λ e. let no : is_asked (state_of t 
 not_free t h (Open k) free is = ne_to h k (λ e. let no : is_whole (state_of t k) ≡ false = ap is_whole (ap (state_of t) (sym e) ∙ free) in absurd (cc))
 not_free t h (Refused k) free is = ne_to h k (λ e. let no : is_whole (state_of t k) ≡ false = ap is_whole (ap (state_of t) (sym e) ∙ free) in absurd (cc))
 not_free t h (Left k) free is = ne_to h k (λ e. let no : is_half (state_of t k) ≡ false = ap is_half (ap (state_of t) (sym e) ∙ free) in absurd (cc))
+not_free t h (Failed k fault) free is = ne_to h k (λ e. let no : is_whole (state_of t k) ≡ false = ap is_whole (ap (state_of t) (sym e) ∙ free) in absurd (cc))
 not_free t h (Given k) free is = ne_to h k (λ e. let no : is_given_back (state_of t k) ≡ false = ap is_given_back (ap (state_of t) (sym e) ∙ free) in absurd (cc))
 
 -- the gateway's attach of a link that is wanted
-pub asked_tied : (sending : List SendingLink) (ls : List PathLink) (t : HandleTable) (l : PathLink) (h name : ℕ)
-    → AreTied sending ls t → free_of t ≡ Some h → AreTied sending (put (asked_as h name l) ls) (after_attach h t)
-asked_tied sending ls t l h name tied e = record {
+pub asked_tied : (p : PathLink → Bool) (sending : List SendingLink) (ls : List PathLink) (t : HandleTable) (l : PathLink) (h name : ℕ)
+    → AreTied sending ls t → find p ls ≡ Some l → free_of t ≡ Some h → AreTied sending (put (asked_as h name l) ls) (after_attach h t)
+asked_tied p sending ls t l h name tied f e = record {
   rising = rises_put 0 (asked_as h name l) ls tied.rising;
   apart = apart_put 0 (asked_as h name l) ls tied.rising tied.apart other;
   standing = standing_put t h state.Asked (asked_as h name l) ls (ap is_asked (get_or-set_same t.states h state.Asked Free free.0)) other tied.standing;
-  kept = kept_put (asked_as h name l) sending ls refl tied.kept;
+  kept = kept_put (asked_as h name l) sending ls refl (same_role p ls l tied.rising f) tied.kept;
 }
   where
     free : (h < length t.states) × (state_of t h ≡ Free)
@@ -393,27 +445,28 @@ asked_state t (Open h) e is = absurd (cc)
 asked_state t (Refused h) e is = absurd (cc)
 asked_state t (Left h) e is = absurd (cc)
 asked_state t (Given h) e is = absurd (cc)
+asked_state t (Failed h fault) e is = absurd (cc)
 
-pub is_asked_for : (name : ℕ) (sending : List SendingLink) (ls : List PathLink) (t : HandleTable) (l : PathLink)
-    → AreTied sending ls t → find (is_asked_as name) ls ≡ Some l → is_asked (state_of t (handle_of l.stage)) ≡ true
-is_asked_for name sending ls t l tied e =
-    let found = all_find (λ k. stands t k.stage ≡ true) (is_asked_as name) ls l tied.standing e in
-    asked_state t l.stage (and_left _ _ found.1) found.0
+pub is_asked_for : (name : ℕ) (role : Bool) (sending : List SendingLink) (ls : List PathLink) (t : HandleTable) (l : PathLink)
+    → AreTied sending ls t → find (is_asked_as name role) ls ≡ Some l → is_asked (state_of t (handle_of l.stage)) ≡ true
+is_asked_for name role sending ls t l tied e =
+    let found = all_find (λ k. stands t k.stage ≡ true) (is_asked_as name role) ls l tied.standing e in
+    asked_state t l.stage (and_left _ _ (and_left _ _ found.1)) found.0
 
-now_kept : (target : Bool) (n : ℕ) (sending : List SendingLink) (ls : List PathLink) → AllByRecursion (λ s. is_kept ls s ≡ true) sending → AllByRecursion (λ s. is_kept ls s ≡ true) (attached_if target n sending)
+now_kept : (there : Bool) (n : ℕ) (sending : List SendingLink) (ls : List PathLink) → AllByRecursion (λ s. is_kept ls s ≡ true) sending → AllByRecursion (λ s. is_kept ls s ≡ true) (attached_if there n sending)
 now_kept true n sending ls a = all_map (now_attached n) (λ s. is_kept ls s ≡ true) _ (λ s h. h) sending a
 now_kept false n sending ls a = a
 
-pub answered_tied : (name peer : ℕ) (target : Bool) (sending : List SendingLink) (ls : List PathLink) (t : HandleTable) (l : PathLink)
-    → AreTied sending ls t → find (is_asked_as name) ls ≡ Some l
-    → AreTied (attached_if target l.link sending) (put (answered target l) ls) (after_attached (handle_of l.stage) peer t)
-answered_tied name peer target sending ls t l tied e =
-    moved_tied (is_asked_as name) sending (attached_if target l.link sending) ls t l (answered target l) (handle_of l.stage) _ tied e refl
-    (handle_some is_stage_asked refl l.stage (and_left _ _ found.1)) (with_handle target) (stands_now target)
-    (now_kept target l.link sending (put (answered target l) ls) (kept_put (answered target l) sending ls (stays target) tied.kept))
+pub answered_tied : (name : ℕ) (role : Bool) (peer : ℕ) (there : Bool) (sending : List SendingLink) (ls : List PathLink) (t : HandleTable) (l : PathLink)
+    → AreTied sending ls t → find (is_asked_as name role) ls ≡ Some l
+    → AreTied (attached_if there l.link sending) (put (answered there l) ls) (after_attached (handle_of l.stage) peer t)
+answered_tied name role peer there sending ls t l tied e =
+    moved_tied (is_asked_as name role) sending (attached_if there l.link sending) ls t l (answered there l) (handle_of l.stage) _ tied e refl
+    (handle_some is_stage_asked refl l.stage (and_left _ _ (and_left _ _ found.1))) (with_handle there) (stands_now there)
+    (now_kept there l.link sending (put (answered there l) ls) (kept_put (answered there l) sending ls (stays there) (same_role (is_asked_as name role) ls l tied.rising e) tied.kept))
   where
-    found : (stands t l.stage ≡ true) × (is_asked_as name l ≡ true)
-    found = all_find (λ k. stands t k.stage ≡ true) (is_asked_as name) ls l tied.standing e
+    found : (stands t l.stage ≡ true) × (is_asked_as name role l ≡ true)
+    found = all_find (λ k. stands t k.stage ≡ true) (is_asked_as name role) ls l tied.standing e
 
     with_handle : (b : Bool) → handle_in (answered_stage b (handle_of l.stage)) ≡ Some (handle_of l.stage)
     with_handle true = refl
@@ -424,7 +477,7 @@ answered_tied name peer target sending ls t l tied e =
     stays false = refl
 
     written : state_of (after_attached (handle_of l.stage) peer t) (handle_of l.stage) ≡ state.Attached (record { peer = peer; detach_sent = false; detach_read = false })
-    written = state_same is_asked t (handle_of l.stage) _ refl (is_asked_for name sending ls t l tied e)
+    written = state_same is_asked t (handle_of l.stage) _ refl (is_asked_for name role sending ls t l tied e)
 
     stands_now : (b : Bool) → stands (after_attached (handle_of l.stage) peer t) (answered_stage b (handle_of l.stage)) ≡ true
     stands_now true = ap is_whole written
@@ -439,6 +492,7 @@ at_whole t h (Open k) e not_given is = is
 at_whole t h (Refused k) e not_given is = is
 at_whole t h (Left k) e not_given is = absurd (cc)
 at_whole t h (Given k) e not_given is = absurd (cc)
+at_whole t h (Failed k fault) e not_given is = is
 
 given_state : (t : HandleTable) (s : Stage) → is_stage_given s ≡ true → stands t s ≡ true → is_given_back (state_of t (handle_of s)) ≡ true
 given_state t Wanted e is = absurd (cc)
@@ -447,6 +501,7 @@ given_state t (Open k) e is = absurd (cc)
 given_state t (Refused k) e is = absurd (cc)
 given_state t (Left k) e is = absurd (cc)
 given_state t (Given k) e is = is
+given_state t (Failed k fault) e is = absurd (cc)
 
 whole_unread : (s : HandleState) → is_whole s ≡ true → is_unread s ≡ true
 whole_unread Free e = absurd (cc)
@@ -485,7 +540,7 @@ detached_tied h sending ls t l tied e = by (is_given l) refl
 
     by : (b : Bool) → is_given l ≡ b → AreTied (without l.link sending) (cond b (dropped l.link ls) (put (left_by l) ls)) (after_detach_read (handle_of l.stage) t)
     by true given =
-        let gone = dropped_tied (is_at h) sending ls t l (with_read (state_of t (handle_of l.stage))) tied e (or_right (is_left l) (is_given l) given) in
+        let gone = dropped_tied (is_at h) sending ls t l (with_read (state_of t (handle_of l.stage))) tied e (or_right (is_to_part l) (is_given l) given) in
         record { rising = gone.rising; apart = gone.apart; standing = gone.standing; kept = all_filter _ (λ s. is_kept (dropped l.link ls) s ≡ true) sending gone.kept }
     by false given =
         let whole : is_whole (state_of t (handle_of l.stage)) ≡ true = at_whole t h l.stage found.1 given found.0 in
@@ -502,17 +557,17 @@ left_state t (Open k) e is = absurd (cc)
 left_state t (Refused k) e is = absurd (cc)
 left_state t (Left k) e is = is
 left_state t (Given k) e is = absurd (cc)
+left_state t (Failed k fault) e is = absurd (cc)
 
 half_unsent : (s : HandleState) → is_half s ≡ true → is_unsent s ≡ true
 half_unsent Free e = absurd (cc)
 half_unsent state.Asked e = absurd (cc)
 half_unsent (state.Attached a) e = and_left (not a.detach_sent) a.detach_read e
 
-pub is_unsent_at : (sending : List SendingLink) (ls : List PathLink) (t : HandleTable) (l : PathLink)
-    → AreTied sending ls t → find is_left ls ≡ Some l → is_unsent (state_of t (handle_of l.stage)) ≡ true
-is_unsent_at sending ls t l tied e =
-    let found = all_find (λ k. stands t k.stage ≡ true) is_left ls l tied.standing e in
-    half_unsent (state_of t (handle_of l.stage)) (left_state t l.stage found.1 found.0)
+pub is_unsent_at : (p : PathLink → Bool) (sending : List SendingLink) (ls : List PathLink) (t : HandleTable) (l : PathLink)
+    → AreTied sending ls t → find p ls ≡ Some l → is_left l ≡ true → is_unsent (state_of t (handle_of l.stage)) ≡ true
+is_unsent_at p sending ls t l tied e left =
+    half_unsent (state_of t (handle_of l.stage)) (left_state t l.stage left (all_find (λ k. stands t k.stage ≡ true) p ls l tied.standing e).0)
 
 left_one : (l k : PathLink) → is_left l ≡ true → meets l k ≡ false → is_left_at (handle_of l.stage) k.stage ≡ false
 left_one l k left apart = by l.stage k.stage left apart
@@ -523,12 +578,14 @@ left_one l k left apart = by l.stage k.stage left apart
     by (Open h) u e f = absurd (cc)
     by (Refused h) u e f = absurd (cc)
     by (Given h) u e f = absurd (cc)
+    by (Failed h fault) u e f = absurd (cc)
     by (Left h) Wanted e f = refl
     by (Left h) (Asked j) e f = refl
     by (Left h) (Open j) e f = refl
     by (Left h) (Refused j) e f = refl
     by (Left h) (Left j) e f = ne_to j h (λ s. no_clash (h == j) (eq_to h j (sym s)) f)
     by (Left h) (Given j) e f = refl
+    by (Left h) (Failed j fault) e f = refl
 
 left_itself : (s : Stage) → is_stage_left s ≡ true → is_left_at (handle_of s) s ≡ true
 left_itself Wanted e = absurd (cc)
@@ -537,43 +594,41 @@ left_itself (Open h) e = absurd (cc)
 left_itself (Refused h) e = absurd (cc)
 left_itself (Left h) e = eq_to h h refl
 left_itself (Given h) e = absurd (cc)
+left_itself (Failed h fault) e = absurd (cc)
 
 filter_same : {X : Type 0} (p q : X → Bool) (xs : List X) → AllByRecursion (λ x. p x ≡ q x) xs → filter (λ x. not (p x)) xs ≡ filter (λ x. not (q x)) xs
 filter_same p q [] a = refl
 filter_same p q (x ∷ xs) a = ap (λ b. cond (not b) (x ∷ filter (λ x. not (p x)) xs) (filter (λ x. not (p x)) xs)) a.0 ∙ ap (λ ys. cond (not (q x)) (x ∷ ys) ys) (filter_same p q xs a.1)
 
 -- it is the link with its number that is no more
-pub gone_is : (sending : List SendingLink) (ls : List PathLink) (t : HandleTable) (l : PathLink)
-    → AreTied sending ls t → find is_left ls ≡ Some l → gone_from (handle_of l.stage) ls ≡ dropped l.link ls
-gone_is sending ls t l tied e =
+pub gone_is : (p : PathLink → Bool) (sending : List SendingLink) (ls : List PathLink) (t : HandleTable) (l : PathLink)
+    → AreTied sending ls t → find p ls ≡ Some l → is_left l ≡ true → gone_from (handle_of l.stage) ls ≡ dropped l.link ls
+gone_is p sending ls t l tied e left =
     filter_same (λ k. is_left_at (handle_of l.stage) k.stage) (has_number l.link) ls
     (all_weaker (λ k. ((k.link == l.link) ≡ false → meets l k ≡ false) × ((k.link == l.link) ≡ true → k ≡ l)) _ (λ k h. one k (k.link == l.link) refl h.0 h.1) ls
-    (all_both _ _ ls (apart_from is_left ls l e tied.apart) (unique is_left ls l tied.rising e)))
+    (all_both _ _ ls (apart_from p ls l e tied.apart) (unique p ls l tied.rising e)))
   where
-    left : is_left l ≡ true
-    left = (all_find (λ k. stands t k.stage ≡ true) is_left ls l tied.standing e).1
-
     one : (k : PathLink) (b : Bool) → (k.link == l.link) ≡ b → ((k.link == l.link) ≡ false → meets l k ≡ false) → ((k.link == l.link) ≡ true → k ≡ l) → is_left_at (handle_of l.stage) k.stage ≡ (k.link == l.link)
     one k true f apart same = ap (λ (z : PathLink). is_left_at (handle_of l.stage) z.stage) (same f) ∙ (left_itself l.stage left ∙ sym f)
     one k false f apart same = left_one l k left (apart f) ∙ sym f
 
-pub gone_tied : (sending : List SendingLink) (ls : List PathLink) (t : HandleTable) (l : PathLink)
-    → AreTied sending ls t → find is_left ls ≡ Some l
+pub gone_tied : (p : PathLink → Bool) (sending : List SendingLink) (ls : List PathLink) (t : HandleTable) (l : PathLink)
+    → AreTied sending ls t → find p ls ≡ Some l → is_left l ≡ true
     → AreTied sending (gone_from (handle_of l.stage) ls) (after_detach_sent (handle_of l.stage) t)
-gone_tied sending ls t l tied e =
-    subst (λ ks. AreTied sending ks (after_detach_sent (handle_of l.stage) t)) (sym (gone_is sending ls t l tied e))
-    (dropped_tied is_left sending ls t l (with_sent (state_of t (handle_of l.stage))) tied e
-    (or_left (is_left l) (is_given l) (all_find (λ k. stands t k.stage ≡ true) is_left ls l tied.standing e).1))
+gone_tied p sending ls t l tied e left =
+    subst (λ ks. AreTied sending ks (after_detach_sent (handle_of l.stage) t)) (sym (gone_is p sending ls t l tied e left))
+    (dropped_tied p sending ls t l (with_sent (state_of t (handle_of l.stage))) tied e (or_left (is_to_part l) (is_given l) (or_left (is_left l) (is_failed l) left)))
 
 -- the gateway's detach of one that both attached
 
-open_whole : (t : HandleTable) (s : Stage) → is_stage_open s ≡ true → stands t s ≡ true → is_whole (state_of t (handle_of s)) ≡ true
+open_whole : (t : HandleTable) (s : Stage) → (is_stage_open s || is_stage_failed s) ≡ true → stands t s ≡ true → is_whole (state_of t (handle_of s)) ≡ true
 open_whole t Wanted e is = absurd (cc)
 open_whole t (Asked k) e is = absurd (cc)
 open_whole t (Open k) e is = is
 open_whole t (Refused k) e is = is
 open_whole t (Left k) e is = absurd (cc)
 open_whole t (Given k) e is = absurd (cc)
+open_whole t (Failed k fault) e is = is
 
 whole_unsent : (s : HandleState) → is_whole s ≡ true → is_unsent s ≡ true
 whole_unsent Free e = absurd (cc)
@@ -590,7 +645,7 @@ sent_back (state.Attached a) e = by a.detach_read (and_right (not a.detach_sent)
     by false e = refl
 
 module _ (p : PathLink → Bool) (sending : List SendingLink) (ls : List PathLink) (t : HandleTable) (l : PathLink)
-    (tied : AreTied sending ls t) (e : find p ls ≡ Some l) (open_now : is_stage_open l.stage ≡ true) where
+    (tied : AreTied sending ls t) (e : find p ls ≡ Some l) (open_now : (is_stage_open l.stage || is_stage_failed l.stage) ≡ true) where
   whole_open : is_whole (state_of t (handle_of l.stage)) ≡ true
   whole_open = open_whole t l.stage open_now (all_find (λ k. stands t k.stage ≡ true) p ls l tied.standing e).0
 
@@ -599,15 +654,35 @@ module _ (p : PathLink → Bool) (sending : List SendingLink) (ls : List PathLin
 
   pub given_tied : AreTied (without l.link sending) (put (given_by l) ls) (after_detach_sent (handle_of l.stage) t)
   given_tied =
-      moved_tied p sending (without l.link sending) ls t l (given_by l) (handle_of l.stage) _ tied e refl (handle_some is_stage_open refl l.stage open_now) refl
+      moved_tied p sending (without l.link sending) ls t l (given_by l) (handle_of l.stage) _ tied e refl (handle_some (λ s. is_stage_open s || is_stage_failed s) refl l.stage open_now) refl
       (ap is_given_back (state_same is_whole t (handle_of l.stage) (with_sent (state_of t (handle_of l.stage))) refl whole_open) ∙ sent_back (state_of t (handle_of l.stage)) whole_open)
       (kept_without (given_by l) sending ls tied.kept)
+
+-- a transfer on a receiving link passed a limit
+
+whole_state : (t : HandleTable) (s : Stage) → is_stage_whole s ≡ true → stands t s ≡ true → is_whole (state_of t (handle_of s)) ≡ true
+whole_state t Wanted e is = absurd (cc)
+whole_state t (Asked k) e is = absurd (cc)
+whole_state t (Open k) e is = is
+whole_state t (Refused k) e is = is
+whole_state t (Left k) e is = absurd (cc)
+whole_state t (Given k) e is = absurd (cc)
+whole_state t (Failed k fault) e is = absurd (cc)
+
+pub failed_tied : (p : PathLink → Bool) (fault : TransferFault) (sending : List SendingLink) (ls : List PathLink) (t : HandleTable) (l : PathLink)
+    → AreTied sending ls t → find p ls ≡ Some l → (is_stage_whole l.stage && l.receives) ≡ true → AreTied sending (put (failed_by fault l) ls) t
+failed_tied p fault sending ls t l tied e is =
+    changed_tied p sending ls t l (failed_by fault l) tied e refl (sym (handle_some is_stage_whole refl l.stage whole)) (whole_state t l.stage whole (all_find (λ k. stands t k.stage ≡ true) p ls l tied.standing e).0)
+    (λ s kept. absurd (no_clash (keeps s l) kept (no_receiver s l (and_right (is_stage_whole l.stage) l.receives is))))
+  where
+    whole : is_stage_whole l.stage ≡ true
+    whole = and_left (is_stage_whole l.stage) l.receives is
 
 -- a flow of the container on a link that both attached
 pub flowed_tied : (h : ℕ) (count : Option ℕ) (credit : ℕ) (drain echo : Bool) (sending : List SendingLink) (ls : List PathLink) (t : HandleTable) (l : PathLink)
     → AreTied sending ls t → find (is_at h) ls ≡ Some l → AreTied (map (flowed l.link count credit) sending) (put (told_by drain echo l) ls) t
 flowed_tied h count credit drain echo sending ls t l tied e =
-    let told = told_tied (is_at h) sending ls t l (told_by drain echo l) tied e refl refl in
+    let told = told_tied (is_at h) sending ls t l (told_by drain echo l) tied e refl refl refl in
     record {
       rising = told.rising;
       apart = told.apart;
@@ -619,7 +694,7 @@ flowed_tied h count credit drain echo sending ls t l tied e =
 pub told_once_tied : (p : PathLink → Bool) (drain : Bool) (sending : List SendingLink) (ls : List PathLink) (t : HandleTable) (l : PathLink)
     → AreTied sending ls t → find p ls ≡ Some l → AreTied (drained_if drain l.link sending) (put (told_once l) ls) t
 told_once_tied p drain sending ls t l tied e =
-    let told = told_tied p sending ls t l (told_once l) tied e refl refl in
+    let told = told_tied p sending ls t l (told_once l) tied e refl refl refl in
     record { rising = told.rising; apart = told.apart; standing = told.standing; kept = by drain told.kept }
   where
     by : (b : Bool) → AllByRecursion (λ s. is_kept (put (told_once l) ls) s ≡ true) sending → AllByRecursion (λ s. is_kept (put (told_once l) ls) s ≡ true) (drained_if b l.link sending)

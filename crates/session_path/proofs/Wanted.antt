@@ -2,8 +2,11 @@
 use Rattle.std.proofs.Common.{◌≡◌, ◌∙◌, ℕ, zero, suc, ◌+◌, ◌≤◌, ◌≢◌, List, [], ◌∷◌, ◌++◌, Bool}
 use Rattle.std.proofs.Common.{true, false, Option, Some, None, refl, sym, subst, ap, arith, cond}
 use Rattle.std.proofs.Common.{length, add-one, inl, inr}
-use Rattle.std.specs.Prelude.{◌⊎◌, not, ◌||◌, ◌&&◌, ◌==◌, insert, remove, bytes_eq, is_some}
+use Rattle.std.specs.Prelude.{◌⊎◌, not, filter, ◌||◌, ◌&&◌, ◌==◌, insert, remove, bytes_eq, is_some}
 use Rattle.std.specs.Option.{option_map}
+use Rattle.std.specs.Result.{OnOk, OnErr}
+use Rattle.std.specs.declared.result.Result.TheVariants.{Ok, Err}
+use Rattle.std.specs.declared.result.Result.{Result}
 use Rattle.std.specs.List.{list_any, AllByRecursion}
 use Rattle.open_items.proofs.Filtered.{all_weaker, all_push}
 use Rattle.link_table.specs.Table.{HandleTable}
@@ -11,15 +14,17 @@ use Rattle.publish_path.specs.declared.send_links.SendingLink.{SendingLink}
 use Rattle.publish_path.specs.Links.{asked_link, has_address, link_of, link_to, without}
 use Rattle.session_path.specs.declared.path.PathLink.{PathLink}
 use Rattle.session_path.specs.Path.{number_of}
-use Rattle.session_path.specs.Links.{LinksState, linked_to, with_link_to, handle_in, is_parting}
-use Rattle.session_path.specs.Links.{gap, free_number, wanted_link, with_wanted, Rises, is_one}
-use Rattle.session_path.specs.Links.{meets, AreApart, stands, is_kept, AreTied}
-use Rattle.session_path.proofs.Ties.{and_left, eq_of, eq_to, ne_to, no_clash, or_left, or_right}
+use Rattle.session_path.specs.Links.{LinksState, linked_to, with_link_to, with_receiver, handle_in}
+use Rattle.session_path.specs.Links.{gap, free_number, has_number, is_wanted_receiver, wanted_link}
+use Rattle.session_path.specs.Links.{with_wanted, Rises, is_one, meets, AreApart, stands, is_kept}
+use Rattle.session_path.specs.Links.{AreTied}
+use Rattle.session_path.proofs.Ties.{and_left, and_right, eq_of, eq_to, keeps}
+use Rattle.session_path.proofs.Ties.{keeps_number, ne_to, no_clash, not_false, or_left, or_right}
 use Rattle.session_path.proofs.Ties.{or_true, rises_above}
 
 -- an item put into a list
 
-all_insert : {X : Type 0} (P : X → Type 0) (xs : List X) (i : ℕ) (y : X) → AllByRecursion P xs → P y → AllByRecursion P (insert xs i y)
+pub all_insert : {X : Type 0} (P : X → Type 0) (xs : List X) (i : ℕ) (y : X) → AllByRecursion P xs → P y → AllByRecursion P (insert xs i y)
 all_insert P [] zero y a h = (h, tt)
 all_insert P [] (suc i) y a h = (h, tt)
 all_insert P (x ∷ xs) zero y a h = (h, a)
@@ -52,17 +57,20 @@ remove_insert (x ∷ xs) (suc i) y le = ap (λ zs. x ∷ zs) (remove_insert xs i
 more : (m g : ℕ) → m + (g + 1) ≡ (m + 1) + g
 more m g = omega arith
 
-rises_wanted : (m : ℕ) (ls : List PathLink) → Rises m ls → Rises m (insert ls (gap m ls) (wanted_link (m + gap m ls)))
-rises_wanted m [] r = (omega arith, tt)
-rises_wanted m (l ∷ ls) r = by (l.link == m) refl (rises_wanted (m + 1) ls)
+rises_wanted : (receives : Bool) (m : ℕ) (ls : List PathLink) → Rises m ls → Rises m (insert ls (gap m ls) (wanted_link (m + gap m ls) receives))
+rises_wanted receives m [] r = (omega arith, tt)
+rises_wanted receives m (l ∷ ls) r = by (l.link == m) refl (rises_wanted receives (m + 1) ls)
   where
-    by : (b : Bool) → (l.link == m) ≡ b → (Rises (m + 1) ls → Rises (m + 1) (insert ls (gap (m + 1) ls) (wanted_link ((m + 1) + gap (m + 1) ls))))
-        → Rises m (insert (l ∷ ls) (cond b (gap (m + 1) ls + 1) 0) (wanted_link (m + cond b (gap (m + 1) ls + 1) 0)))
+    wanted : ℕ → PathLink
+    wanted n = wanted_link n receives
+
+    by : (b : Bool) → (l.link == m) ≡ b → (Rises (m + 1) ls → Rises (m + 1) (insert ls (gap (m + 1) ls) (wanted ((m + 1) + gap (m + 1) ls))))
+        → Rises m (insert (l ∷ ls) (cond b (gap (m + 1) ls + 1) 0) (wanted (m + cond b (gap (m + 1) ls + 1) 0)))
     by true e ih =
         let same = eq_of l.link m e in
-        subst (λ n. Rises m (insert (l ∷ ls) (gap (m + 1) ls + 1) (wanted_link n))) (sym (more m (gap (m + 1) ls)))
-        (subst (λ i. Rises m (insert (l ∷ ls) i (wanted_link ((m + 1) + gap (m + 1) ls)))) (sym (add-one (gap (m + 1) ls)))
-        (r.0, subst (λ n. Rises (n + 1) (insert ls (gap (m + 1) ls) (wanted_link ((m + 1) + gap (m + 1) ls)))) (sym same) (ih (subst (λ n. Rises (n + 1) ls) same r.1))))
+        subst (λ n. Rises m (insert (l ∷ ls) (gap (m + 1) ls + 1) (wanted n))) (sym (more m (gap (m + 1) ls)))
+        (subst (λ i. Rises m (insert (l ∷ ls) i (wanted ((m + 1) + gap (m + 1) ls)))) (sym (add-one (gap (m + 1) ls)))
+        (r.0, subst (λ n. Rises (n + 1) (insert ls (gap (m + 1) ls) (wanted ((m + 1) + gap (m + 1) ls)))) (sym same) (ih (subst (λ n. Rises (n + 1) ls) same r.1))))
     by false e ih = (omega arith, (let a = r.0 in let ne : l.link ≢ m = (λ s. no_clash (l.link == m) (eq_to l.link m s) e) in omega arith, r.1))
 
 -- no link has it
@@ -85,10 +93,10 @@ not_there m (l ∷ ls) r = by (l.link == m) refl (not_there (m + 1) ls)
 
 not_kept : (n : ℕ) (ls : List PathLink) (x : SendingLink) → AllByRecursion (λ k. (k.link == n) ≡ false) ls → is_kept ls x ≡ true → (x.link == n) ≡ false
 not_kept n [] x a e = absurd (cc)
-not_kept n (l ∷ ls) x a e = by (not_kept n ls x a.1) (or_true ((l.link == x.link) && not (is_parting l)) (is_kept ls x) e)
+not_kept n (l ∷ ls) x a e = by (not_kept n ls x a.1) (or_true (keeps x l) (is_kept ls x) e)
   where
-    by : (is_kept ls x ≡ true → (x.link == n) ≡ false) → (((l.link == x.link) && not (is_parting l)) ≡ true) ⊎ (is_kept ls x ≡ true) → (x.link == n) ≡ false
-    by ih (inl h) = ap (λ k. k == n) (sym (eq_of l.link x.link (and_left _ _ h))) ∙ a.0
+    by : (is_kept ls x ≡ true → (x.link == n) ≡ false) → (keeps x l ≡ true) ⊎ (is_kept ls x ≡ true) → (x.link == n) ≡ false
+    by ih (inl h) = ap (λ k. k == n) (sym (keeps_number x l h)) ∙ a.0
     by ih (inr h) = ih h
 
 find_none : (n : ℕ) (xs : List SendingLink) → AllByRecursion (λ x. (x.link == n) ≡ false) xs → link_of xs n ≡ None
@@ -111,24 +119,88 @@ one_none : (o : Option ℕ) → is_one o None ≡ false
 one_none None = refl
 one_none (Some h) = refl
 
-apart_insert : (ls : List PathLink) (i n : ℕ) → AreApart ls → AreApart (insert ls i (wanted_link n))
-apart_insert [] zero n a = (tt, tt)
-apart_insert [] (suc i) n a = (tt, tt)
-apart_insert (l ∷ ls) zero n a = ((refl, all_weaker (λ k. meets l k ≡ false) _ (λ k h. refl) ls a.0), a)
-apart_insert (l ∷ ls) (suc i) n a = (all_insert (λ k. meets l k ≡ false) ls i (wanted_link n) a.0 (one_none (handle_in l.stage)), apart_insert ls i n a.1)
+apart_insert : (receives : Bool) (ls : List PathLink) (i n : ℕ) → AreApart ls → AreApart (insert ls i (wanted_link n receives))
+apart_insert receives [] zero n a = (tt, tt)
+apart_insert receives [] (suc i) n a = (tt, tt)
+apart_insert receives (l ∷ ls) zero n a = ((refl, all_weaker (λ k. meets l k ≡ false) _ (λ k h. refl) ls a.0), a)
+apart_insert receives (l ∷ ls) (suc i) n a = (all_insert (λ k. meets l k ≡ false) ls i (wanted_link n receives) a.0 (one_none (handle_in l.stage)), apart_insert receives ls i n a.1)
 
 -- the links with it
 
-pub wanted_tied : (address : List ℕ) (sending : List SendingLink) (ls : List PathLink) (t : HandleTable)
-    → AreTied sending ls t → AreTied (sending ++ asked_link (free_number ls) address ∷ []) (with_wanted (free_number ls) ls) t
-wanted_tied address sending ls t tied = record {
-  rising = subst (λ n. Rises 0 (insert ls (gap 0 ls) (wanted_link n))) (zero_plus (gap 0 ls)) (rises_wanted 0 ls tied.rising);
-  apart = apart_insert ls (free_number ls) (free_number ls) tied.apart;
-  standing = all_insert (λ k. stands t k.stage ≡ true) ls (free_number ls) (wanted_link (free_number ls)) tied.standing refl;
-  kept = all_push (λ x. is_kept (with_wanted (free_number ls) ls) x ≡ true) sending (asked_link (free_number ls) address)
-      (all_weaker (λ x. is_kept ls x ≡ true) _ (λ x k. any_old (λ l. (l.link == x.link) && not (is_parting l)) ls (free_number ls) (wanted_link (free_number ls)) k) sending tied.kept)
-      (any_new (λ l. (l.link == free_number ls) && not (is_parting l)) ls (free_number ls) (wanted_link (free_number ls)) (ap (λ b. b && true) (eq_to (free_number ls) (free_number ls) refl)));
+pub inserted_tied : (receives : Bool) (sending : List SendingLink) (ls : List PathLink) (t : HandleTable)
+    → AreTied sending ls t → AreTied sending (with_wanted (free_number ls) receives ls) t
+inserted_tied receives sending ls t tied = record {
+  rising = subst (λ n. Rises 0 (insert ls (gap 0 ls) (wanted_link n receives))) (zero_plus (gap 0 ls)) (rises_wanted receives 0 ls tied.rising);
+  apart = apart_insert receives ls (free_number ls) (free_number ls) tied.apart;
+  standing = all_insert (λ k. stands t k.stage ≡ true) ls (free_number ls) (wanted_link (free_number ls) receives) tied.standing refl;
+  kept = all_weaker (λ x. is_kept ls x ≡ true) _ (λ x k. any_old (keeps x) ls (free_number ls) (wanted_link (free_number ls) receives) k) sending tied.kept;
 }
+
+pub received_tied : {A B : Type 0} (o : Result A B) (sending : List SendingLink) (ls new : List PathLink) (t : HandleTable)
+    → OnOk o (new ≡ with_wanted (free_number ls) true ls) → OnErr o (new ≡ ls) → AreTied sending ls t → AreTied sending new t
+received_tied (Ok x) sending ls new t ok err tied = subst (λ ks. AreTied sending ks t) (sym ok) (inserted_tied true sending ls t tied)
+received_tied (Err x) sending ls new t ok err tied = subst (λ ks. AreTied sending ks t) (sym err) tied
+
+pub wanted_tied : (address : List ℕ) (sending : List SendingLink) (ls : List PathLink) (t : HandleTable)
+    → AreTied sending ls t → AreTied (sending ++ asked_link (free_number ls) address ∷ []) (with_wanted (free_number ls) false ls) t
+wanted_tied address sending ls t tied =
+    let with_it = inserted_tied false sending ls t tied in
+    record {
+      rising = with_it.rising;
+      apart = with_it.apart;
+      standing = with_it.standing;
+      kept = all_push (λ x. is_kept (with_wanted (free_number ls) false ls) x ≡ true) sending (asked_link (free_number ls) address) with_it.kept
+          (any_new (keeps (asked_link (free_number ls) address)) ls (free_number ls) (wanted_link (free_number ls) false) (ap (λ b. (b && true) && true) (eq_to (free_number ls) (free_number ls) refl)));
+    }
+
+-- a receiving link that is wanted is dropped again
+
+abbrev is_dropped : ℕ → PathLink → Bool
+is_dropped n k = is_wanted_receiver k && has_number n k
+
+one_stays : (n : ℕ) (k : PathLink) → (k.link == n) ≡ false → is_dropped n k ≡ false
+one_stays n k e = ap (λ b. is_wanted_receiver k && b) e ∙ none (is_wanted_receiver k)
+  where
+    none : (b : Bool) → (b && false) ≡ false
+    none true = refl
+    none false = refl
+
+all_stay : (n : ℕ) (ls : List PathLink) → AllByRecursion (λ k. (k.link == n) ≡ false) ls → filter (λ k. not (is_dropped n k)) ls ≡ ls
+all_stay n [] a = refl
+all_stay n (l ∷ ls) a = ap (λ b. cond (not b) (l ∷ filter (λ k. not (is_dropped n k)) ls) (filter (λ k. not (is_dropped n k)) ls)) (one_stays n l a.0) ∙ ap (λ ks. l ∷ ks) (all_stay n ls a.1)
+
+inserted_has : (P : PathLink → Type 0) (ls : List PathLink) (i : ℕ) (y : PathLink) → AllByRecursion P (insert ls i y) → P y
+inserted_has P [] zero y a = a.0
+inserted_has P [] (suc i) y a = a.0
+inserted_has P (l ∷ ls) zero y a = a.0
+inserted_has P (l ∷ ls) (suc i) y a = inserted_has P ls i y a.1
+
+last_goes : (n : ℕ) (ls : List PathLink) → AllByRecursion (λ k. (k.link == n) ≡ false) ls → filter (λ k. not (is_dropped n k)) (wanted_link n true ∷ ls) ≡ ls
+last_goes n ls a = ap (λ b. cond (not b) (wanted_link n true ∷ filter (λ k. not (is_dropped n k)) ls) (filter (λ k. not (is_dropped n k)) ls)) (eq_to n n refl) ∙ all_stay n ls a
+
+unwanted : (n m i : ℕ) (ls : List PathLink) → Rises m (insert ls i (wanted_link n true)) → filter (λ k. not (is_dropped n k)) (insert ls i (wanted_link n true)) ≡ ls
+unwanted n m zero [] r = last_goes n [] tt
+unwanted n m (suc i) [] r = last_goes n [] tt
+unwanted n m zero (l ∷ ls) r = last_goes n (l ∷ ls) (all_weaker (λ k. n + 1 ≤ k.link) _ (λ k above. ne_to k.link n (λ s. omega arith)) (l ∷ ls) (rises_above (n + 1) (l ∷ ls) r.1))
+unwanted n m (suc i) (l ∷ ls) r =
+    let above : l.link + 1 ≤ n = inserted_has (λ k. l.link + 1 ≤ k.link) ls i (wanted_link n true) (rises_above (l.link + 1) (insert ls i (wanted_link n true)) r.1) in
+    ap (λ b. cond (not b) (l ∷ filter (λ k. not (is_dropped n k)) (insert ls i (wanted_link n true))) (filter (λ k. not (is_dropped n k)) (insert ls i (wanted_link n true)))) (one_stays n l (ne_to l.link n (λ s. omega arith)))
+    ∙ ap (λ ks. l ∷ ks) (unwanted n (l.link + 1) i ls r.1)
+
+abbrev pub without_wanted : ℕ → LinksState → LinksState
+without_wanted n s = record s { links = filter (λ k. not (is_wanted_receiver k && has_number n k)) s.links }
+
+pub unwanted_is : (n : ℕ) (s old : LinksState) → Rises 0 s.links → s ≡ with_receiver old → n ≡ free_number old.links → without_wanted n s ≡ old
+unwanted_is n s old r e f =
+    ap (without_wanted n) e ∙ (ap (λ k. without_wanted k (with_receiver old)) f
+    ∙ ap (λ (ls : List PathLink). record old { links = ls }) (unwanted (free_number old.links) 0 (free_number old.links) old.links (subst (λ (z : LinksState). Rises 0 z.links) e r)))
+
+-- what is dropped receives
+pub wanted_receives : (k : PathLink) → not (is_wanted_receiver k) ≡ false → k.receives ≡ true
+wanted_receives k e = and_right _ k.receives (not_false (is_wanted_receiver k) e)
+
+pub unwanted_receives : (n : ℕ) (k : PathLink) → not (is_wanted_receiver k && has_number n k) ≡ false → k.receives ≡ true
+unwanted_receives n k e = and_right _ k.receives (and_left (is_wanted_receiver k) _ (not_false (is_dropped n k) e))
 
 -- its credit
 

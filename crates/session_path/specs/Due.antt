@@ -1,9 +1,17 @@
--- What the publishing side of a session makes due, to the container and to the client.
-use Rattle.std.specs.Prelude.{ℕ, Bool, ◌==◌, if◌then◌else◌, List, [], ◌∷◌, find, count_by, Option}
-use Rattle.std.specs.Prelude.{Some, None}
-use Rattle.std.specs.Option.{option_or}
+-- What a session and what it carries make due, to the container and to the client.
+use Rattle.std.specs.Prelude.{ℕ, Bool, false, ◌==◌, ◌+◌, ◌^◌, ◌++◌, nat_lt, if◌then◌else◌, List, []}
+use Rattle.std.specs.Prelude.{◌∷◌, find, count_by, length, slice_get, Option, Some, None, is_some}
+use Rattle.std.specs.Option.{option_map, option_or}
+use Rattle.consume_path.specs.Deliveries.{DeliveryState}
+use Rattle.consume_path.specs.Links.{count_in as count_at, is_ask, link_of as receiving_link}
+use Rattle.consume_path.specs.Links.{tag_in}
+use Rattle.consume_path.specs.Offers.{lines_of as delivery_lines, next_deliver_of, next_settle_of}
+use Rattle.consume_path.specs.Offers.{payload_in}
+use Rattle.consume_path.specs.declared.delivery.NextDeliver.{NextDeliver}
+use Rattle.consume_path.specs.declared.delivery.NextSettle.{NextSettle}
+use Rattle.consume_path.specs.declared.receiving.NextGrant.{NextGrant}
 use Rattle.link_table.specs.Table.{free_of}
-use Rattle.publish_path.specs.Links.{link_of}
+use Rattle.publish_path.specs.Links.{address_of, link_of}
 use Rattle.publish_path.specs.Offers.{held_bytes, held_count, is_pending, next_confirm_of}
 use Rattle.publish_path.specs.Offers.{lines_of, next_frame_of, next_return_of, return_frame_of}
 use Rattle.publish_path.specs.declared.publish.Confirm.{Confirm}
@@ -16,8 +24,13 @@ use Rattle.session_path.specs.declared.path.FlowDue.{FlowDue}
 use Rattle.session_path.specs.declared.path.PathLink.{PathLink}
 use Rattle.session_path.specs.declared.path.PathOk.{PathOk}
 use Rattle.session_path.specs.declared.path.Settling.{Settling}
-use Rattle.session_path.specs.Links.{handle_of, is_left, is_wanted}
-use Rattle.session_path.specs.Path.{PathState, credit_in, flow_of, given_of}
+use Rattle.session_path.specs.declared.path.ContentDue.{ContentDue}
+use Rattle.session_path.specs.declared.path.DeliverDue.{DeliverDue}
+use Rattle.session_path.specs.declared.path.Source.{Source}
+use Rattle.session_path.specs.declared.path.Writing.{Writing}
+use Rattle.session_path.specs.Links.{handle_of, is_to_part, is_wanted}
+use Rattle.session_path.specs.Path.{PathState, credit_in, flow_of, frames_of, given_of, grant_in}
+use Rattle.session_path.specs.Path.{granting, is_grant_next, is_source_of, taking}
 
 abbrev pub first_of : {A : Type 0} → List A → Option A
 first_of [] = None
@@ -29,7 +42,7 @@ first_of (x ∷ xs) = Some x
 abbrev pub attach_of : Option PathLink → Option ℕ → Option AttachDue
 attach_of None o = None
 attach_of (Some l) None = None
-attach_of (Some l) (Some h) = Some (record { link = l.link; handle = h })
+attach_of (Some l) (Some h) = Some (record { link = l.link; handle = h; receives = l.receives })
 
 abbrev pub next_attach : PathState → Option AttachDue
 next_attach s = attach_of (find is_wanted s.links.links) (free_of s.links.handles)
@@ -54,8 +67,23 @@ abbrev pub due_in : List SendingLink → Option PathLink → Option FlowDue
 due_in sending None = None
 due_in sending (Some l) = Some (flow_due sending l)
 
+-- that of a receiving link has its delivery-count, and the credit that is granted
+abbrev pub grant_due : Option PathLink → Option NextGrant → DeliveryState → Option FlowDue
+grant_due None g d = None
+grant_due (Some l) None d = None
+grant_due (Some l) (Some g) d = Some (record {
+  link = l.link;
+  handle = handle_of l.stage;
+  count = count_at (receiving_link d.links g.link);
+  credit = g.credit;
+  drains = false;
+  draining = is_ask g.cause;
+})
+
 abbrev pub next_flow : PathState → Option FlowDue
-next_flow s = due_in s.links.sending (flow_of s.publishes.list s.links)
+next_flow s =
+    if is_grant_next s then grant_due (granting s) (grant_in s) s.deliveries
+    else due_in s.links.sending (flow_of s.publishes.list s.links)
 
 -- a frame of a transfer, while the session has room for one
 abbrev pub next_frame : ℕ → PathState → Option NextFrame
@@ -64,10 +92,15 @@ next_frame window s = if window == 0 then None else next_frame_of s.links.sendin
 abbrev pub next_settle : PathState → Option Settling
 next_settle s = first_of s.settles
 
--- the detach of the first link that the container detached, or else of one that is given up
+-- a disposition of role receiver, of deliveries that are to be settled
+abbrev pub next_dispose : PathState → Option NextSettle
+next_dispose s = next_settle_of s.deliveries.list
+
+-- the detach of the first link that the container detached or that failed, or else of one that is
+-- given up
 abbrev pub next_detach : PathState → Option PathLink
 next_detach s =
-    option_or (find is_left s.links.links) (given_of s.publishes.list s.links)
+    option_or (find is_to_part s.links.links) (given_of s.publishes.list s.links)
 
 -- ---- to the client
 
@@ -85,11 +118,80 @@ return_frame number s = return_frame_of number s.publishes.list
 abbrev pub next_ok : PathState → Option PathOk
 next_ok s = first_of s.oks
 
+-- a deliver; delivery tags count up to 2^62
+abbrev pub most_tags : ℕ
+most_tags = 2 ^ 62
+
+abbrev pub deliver_with : ℕ → NextDeliver → DeliverDue
+deliver_with tags next = record { next = next; tag = tags + 1 }
+
+abbrev pub next_deliver : PathState → Option DeliverDue
+next_deliver s =
+    if nat_lt s.deliveries.tags most_tags then option_map (deliver_with s.deliveries.tags)
+    (next_deliver_of s.deliveries.global s.deliveries.list) else None
+
+-- a frame of the content that is begun, and its bytes
+abbrev pub content_due : ℕ → Writing → Option ContentDue
+content_due count w =
+    if nat_lt w.gone count then Some (record { tag = w.tag; last = w.gone + 1 == count }) else None
+
+abbrev pub content_on : Option Writing → PathState → Option ContentDue
+content_on None s = None
+content_on (Some w) s = content_due (length (frames_of w.id s)) w
+
+abbrev pub next_content : PathState → Option ContentDue
+next_content s = content_on s.writing s
+
+abbrev pub frame_on : Option Writing → PathState → Option (List ℕ)
+frame_on None s = None
+frame_on (Some w) s = slice_get (frames_of w.id s) w.gone
+
+abbrev pub content_frame : PathState → Option (List ℕ)
+content_frame s = frame_on s.writing s
+
+-- the address of a receiving link, and the tag of its consumer
+abbrev pub source_in : Option Source → List ℕ
+source_in None = []
+source_in (Some x) = x.address
+
+abbrev pub source_of : ℕ → PathState → List ℕ
+source_of link s = source_in (find (is_source_of link) s.sources)
+
+abbrev pub tag_of : ℕ → PathState → List ℕ
+tag_of link s = tag_in (receiving_link s.deliveries.links link)
+
+-- the queue and the payload of the delivery that ends with a transfer under this handle of the
+-- container
+abbrev pub queue_on : Option PathLink → PathState → List ℕ
+queue_on None s = []
+queue_on (Some l) s = source_of l.link s
+
+abbrev pub queue_at : ℕ → PathState → List ℕ
+queue_at peer s = queue_on (taking peer s) s
+
+abbrev pub partial_on : Option PathLink → DeliveryState → List ℕ
+partial_on None d = []
+partial_on (Some l) d = payload_in (receiving_link d.links l.link)
+
+abbrev pub joined_at : ℕ → List ℕ → PathState → List ℕ
+joined_at peer payload s = partial_on (taking peer s) s.deliveries ++ payload
+
+-- the address that an attach states: of a target, or of a source
+abbrev pub address_at : AttachDue → PathState → List ℕ
+address_at a s =
+    if a.receives then source_of a.link s else address_of s.links.sending a.link
+
 -- and to the report
 abbrev pub lines : PathState → List LostItem
-lines s = lines_of s.publishes.life s.publishes.list
+lines s =
+    lines_of s.publishes.life s.publishes.list
+    ++ delivery_lines s.deliveries.life s.deliveries.list
 
 -- ---- what is waited for
+
+-- a basic.consume waits for the container
+abbrev pub is_waiting : PathState → Bool
+is_waiting s = is_some s.awaited
 
 -- no publish waits, is begun, or lacks an outcome
 abbrev pub is_done : PathState → Bool

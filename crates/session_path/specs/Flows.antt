@@ -1,14 +1,18 @@
--- The flows on a link, and what they answer, by the events.
-use Rattle.std.specs.Prelude.{ℕ, Bool, false, ◌+◌, ◌==◌, if◌then◌else◌, List, [], ◌∷◌, find, Option}
-use Rattle.std.specs.Prelude.{Some, None}
+-- The flows on a link, and what they answer, by the events. Those that the deliveries of a receiving
+-- link ask for aren't counted.
+use Rattle.std.specs.Prelude.{ℕ, Bool, false, not, ◌+◌, ◌==◌, ◌&&◌, if◌then◌else◌, List, [], ◌∷◌}
+use Rattle.std.specs.Prelude.{find, Option, Some, None}
 use Rattle.session_path.specs.declared.path.PathLink.{PathLink}
-use Rattle.session_path.specs.Links.{LinksState, has_number, is_given, is_left, named, one_if}
-use Rattle.session_path.specs.Path.{PathState, flow_of}
-use Rattle.session_path.specs.Events.{PathEvent, Began, Published, Selected, Owed, AttachCame}
-use Rattle.session_path.specs.Events.{FlowCame, DetachCame, DispositionCame, AttachSent}
-use Rattle.session_path.specs.Events.{LinkFlowSent, TransferSent, SettleSent, DetachSent}
-use Rattle.session_path.specs.Events.{ConfirmWent, ReturnWent, OkSent, LinesWent, SessionLost}
-use Rattle.session_path.specs.Events.{after_events}
+use Rattle.session_path.specs.Links.{LinksState, has_number, is_given, is_left, is_to_part, named}
+use Rattle.session_path.specs.Links.{one_if}
+use Rattle.session_path.specs.Path.{PathState, flow_of, is_grant_next, sender_in}
+use Rattle.session_path.specs.Events.{PathEvent, Began, Published, Selected, Owed, Consumed}
+use Rattle.session_path.specs.Events.{AnswerCame, AttachCame, FlowCame, DetachCame, TransferCame}
+use Rattle.session_path.specs.Events.{LinkFailed, DispositionCame, AttachSent, LinkFlowSent}
+use Rattle.session_path.specs.Events.{TransferSent, SettleSent, DisposeSent, DetachSent}
+use Rattle.session_path.specs.Events.{ConfirmWent, ReturnWent, DeliverSent, ContentSent}
+use Rattle.session_path.specs.Events.{ContentWhole, OkSent, LinesWent, LifeClosed, SessionLost}
+use Rattle.session_path.specs.Events.{UpLost, after_events}
 
 -- it is the link with this number
 abbrev pub is_link : ℕ → Option PathLink → Bool
@@ -21,20 +25,31 @@ flows_by n s (Began handle_max) = 0
 flows_by n s (Published address payload back) = 0
 flows_by n s Selected = 0
 flows_by n s (Owed ok) = 0
-flows_by n s (AttachCame name peer target) = 0
+flows_by n s (Consumed address tag no_ack no_wait) = 0
+flows_by n s (AnswerCame tag multiple settle) = 0
+flows_by n s (AttachCame attach) = 0
 flows_by n s (FlowCame peer count credit drain echo) = 0
 flows_by n s (DetachCame peer not_found) = 0
+flows_by n s (TransferCame peer part payload image again) = 0
+flows_by n s (LinkFailed peer fault) = 0
 flows_by n s (DispositionCame first last outcome settled) = 0
 flows_by n s (AttachSent name) = 0
-flows_by n s LinkFlowSent = if is_link n (flow_of s.publishes.list s.links) then 1 else 0
+flows_by n s LinkFlowSent =
+    if not (is_grant_next s) && is_link n (flow_of s.publishes.list s.links) then 1 else 0
 flows_by n s (TransferSent frame count) = 0
 flows_by n s (SettleSent settling) = 0
+flows_by n s DisposeSent = 0
 flows_by n s DetachSent = 0
 flows_by n s (ConfirmWent confirm) = 0
 flows_by n s (ReturnWent number) = 0
+flows_by n s (DeliverSent due) = 0
+flows_by n s ContentSent = 0
+flows_by n s (ContentWhole tag) = 0
 flows_by n s (OkSent ok) = 0
 flows_by n s LinesWent = 0
+flows_by n s LifeClosed = 0
 flows_by n s SessionLost = 0
+flows_by n s UpLost = 0
 
 abbrev pub flows_on : ℕ → ℕ → List PathEvent → ℕ
 flows_on life n [] = 0
@@ -48,31 +63,47 @@ given_in (Some l) = if is_given l then Some l else None
 abbrev pub given_named : ℕ → LinksState → Option PathLink
 given_named peer s = given_in (named peer s)
 
--- what the container's flows on link n are owed, where so many went and so many were owed: one flow
--- for each echo, and one for each drain (AMQP 1.0 2.7.4); a link that is no more is owed no more
--- than went
+-- the link whose detach is due, where the container detached it
+abbrev pub left_in : Option PathLink → Option PathLink
+left_in None = None
+left_in (Some l) = if is_left l then Some l else None
+
+-- what the container's flows on a sending link n are owed, where so many went and so many were
+-- owed: one flow for each echo, and one for each drain (AMQP 1.0 2.7.4); a link that is no more is
+-- owed no more than went
 abbrev pub causes_by : ℕ → PathState → ℕ → ℕ → PathEvent → ℕ
 causes_by n s flows causes (Began handle_max) = causes
 causes_by n s flows causes (Published address payload back) = causes
 causes_by n s flows causes Selected = causes
 causes_by n s flows causes (Owed ok) = causes
-causes_by n s flows causes (AttachCame name peer target) = causes
+causes_by n s flows causes (Consumed address tag no_ack no_wait) = causes
+causes_by n s flows causes (AnswerCame tag multiple settle) = causes
+causes_by n s flows causes (AttachCame attach) = causes
 causes_by n s flows causes (FlowCame peer count credit drain echo) =
-    causes + (if is_link n (named peer s.links) then one_if echo + one_if drain else 0)
+    causes
+    + (if is_link n (sender_in (named peer s.links)) then one_if echo + one_if drain else 0)
 causes_by n s flows causes (DetachCame peer not_found) =
     if is_link n (given_named peer s.links) then flows else causes
+causes_by n s flows causes (TransferCame peer part payload image again) = causes
+causes_by n s flows causes (LinkFailed peer fault) = causes
 causes_by n s flows causes (DispositionCame first last outcome settled) = causes
 causes_by n s flows causes (AttachSent name) = causes
 causes_by n s flows causes LinkFlowSent = causes
 causes_by n s flows causes (TransferSent frame count) = causes
 causes_by n s flows causes (SettleSent settling) = causes
+causes_by n s flows causes DisposeSent = causes
 causes_by n s flows causes DetachSent =
-    if is_link n (find is_left s.links.links) then flows else causes
+    if is_link n (left_in (find is_to_part s.links.links)) then flows else causes
 causes_by n s flows causes (ConfirmWent confirm) = causes
 causes_by n s flows causes (ReturnWent number) = causes
+causes_by n s flows causes (DeliverSent due) = causes
+causes_by n s flows causes ContentSent = causes
+causes_by n s flows causes (ContentWhole tag) = causes
 causes_by n s flows causes (OkSent ok) = causes
 causes_by n s flows causes LinesWent = causes
+causes_by n s flows causes LifeClosed = causes
 causes_by n s flows causes SessionLost = flows
+causes_by n s flows causes UpLost = flows
 
 abbrev pub causes_on : ℕ → ℕ → List PathEvent → ℕ
 causes_on life n [] = 0

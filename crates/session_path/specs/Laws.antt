@@ -1,13 +1,20 @@
 -- What holds after any events of a session's path, by the events alone.
-use Rattle.std.specs.Prelude.{◌≡◌, ℕ, Bool, not, ◌&&◌, List, [], ◌∷◌, ◌++◌, Option}
+use Rattle.std.specs.Prelude.{◌≡◌, ℕ, Bool, not, ◌&&◌, List, [], ◌∷◌, ◌++◌, Option, Some}
+use Rattle.std.specs.Prelude.{None, if◌then◌else◌}
 use Rattle.std.specs.List.{list_any}
 use Rattle.publish_path.specs.Publishes.{is_told, open_after}
-use Rattle.session_path.specs.Path.{last_or, settle_if}
-use Rattle.session_path.specs.Events.{PathEvent, Began, Published, Selected, Owed, AttachCame}
-use Rattle.session_path.specs.Events.{FlowCame, DetachCame, DispositionCame, AttachSent}
-use Rattle.session_path.specs.Events.{LinkFlowSent, TransferSent, SettleSent, DetachSent}
-use Rattle.session_path.specs.Events.{ConfirmWent, ReturnWent, OkSent, LinesWent, SessionLost}
-use Rattle.session_path.specs.Events.{publishes_of}
+use Rattle.session_path.specs.Links.{asked_by}
+use Rattle.session_path.specs.Path.{PathState, last_or, oks_by, settle_if}
+use Rattle.session_path.specs.Events.{PathEvent, Began, Published, Selected, Owed, Consumed}
+use Rattle.session_path.specs.Events.{AnswerCame, AttachCame, FlowCame, DetachCame, TransferCame}
+use Rattle.session_path.specs.Events.{LinkFailed, DispositionCame, AttachSent, LinkFlowSent}
+use Rattle.session_path.specs.Events.{TransferSent, SettleSent, DisposeSent, DetachSent}
+use Rattle.session_path.specs.Events.{ConfirmWent, ReturnWent, DeliverSent, ContentSent}
+use Rattle.session_path.specs.Events.{ContentWhole, OkSent, LinesWent, LifeClosed, SessionLost}
+use Rattle.session_path.specs.Events.{UpLost, after_events, publishes_of}
+use Rattle.session_path.specs.declared.path.AttachHeard.{AttachHeard}
+use Rattle.session_path.specs.declared.path.Awaited.{Awaited}
+use Rattle.session_path.specs.declared.path.PathLink.{PathLink}
 use Rattle.session_path.specs.declared.path.PathOk.{PathOk}
 use Rattle.session_path.specs.declared.path.Settling.{Settling}
 
@@ -16,59 +23,85 @@ IsFrontOf {A} front all = (rest : List A) × (front ++ rest ≡ all)
 
 -- ---- answers to the client
 
+-- an attach of a receiving link with a source answers the basic.consume that waits for it
+abbrev pub begun_oks : Option PathLink → AttachHeard → Option Awaited → List PathOk
+begun_oks None a awaited = []
+begun_oks (Some l) a awaited = if l.receives && a.there then oks_by l.link awaited else []
+
 -- the answers that became due, and those that went, in order
-abbrev pub owes : PathEvent → List PathOk
-owes (Began handle_max) = []
-owes (Published address payload back) = []
-owes Selected = []
-owes (Owed ok) = ok ∷ []
-owes (AttachCame name peer target) = []
-owes (FlowCame peer count credit drain echo) = []
-owes (DetachCame peer not_found) = []
-owes (DispositionCame first last outcome settled) = []
-owes (AttachSent name) = []
-owes LinkFlowSent = []
-owes (TransferSent frame count) = []
-owes (SettleSent settling) = []
-owes DetachSent = []
-owes (ConfirmWent confirm) = []
-owes (ReturnWent number) = []
-owes (OkSent ok) = []
-owes LinesWent = []
-owes SessionLost = []
+abbrev pub owes : PathState → PathEvent → List PathOk
+owes s (Began handle_max) = []
+owes s (Published address payload back) = []
+owes s Selected = []
+owes s (Owed ok) = ok ∷ []
+owes s (Consumed address tag no_ack no_wait) = []
+owes s (AnswerCame tag multiple settle) = []
+owes s (AttachCame attach) = begun_oks (asked_by attach s.links) attach s.awaited
+owes s (FlowCame peer count credit drain echo) = []
+owes s (DetachCame peer not_found) = []
+owes s (TransferCame peer part payload image again) = []
+owes s (LinkFailed peer fault) = []
+owes s (DispositionCame first last outcome settled) = []
+owes s (AttachSent name) = []
+owes s LinkFlowSent = []
+owes s (TransferSent frame count) = []
+owes s (SettleSent settling) = []
+owes s DisposeSent = []
+owes s DetachSent = []
+owes s (ConfirmWent confirm) = []
+owes s (ReturnWent number) = []
+owes s (DeliverSent due) = []
+owes s ContentSent = []
+owes s (ContentWhole tag) = []
+owes s (OkSent ok) = []
+owes s LinesWent = []
+owes s LifeClosed = []
+owes s SessionLost = []
+owes s UpLost = []
 
 abbrev pub answers : PathEvent → List PathOk
 answers (Began handle_max) = []
 answers (Published address payload back) = []
 answers Selected = []
 answers (Owed ok) = []
-answers (AttachCame name peer target) = []
+answers (Consumed address tag no_ack no_wait) = []
+answers (AnswerCame tag multiple settle) = []
+answers (AttachCame attach) = []
 answers (FlowCame peer count credit drain echo) = []
 answers (DetachCame peer not_found) = []
+answers (TransferCame peer part payload image again) = []
+answers (LinkFailed peer fault) = []
 answers (DispositionCame first last outcome settled) = []
 answers (AttachSent name) = []
 answers LinkFlowSent = []
 answers (TransferSent frame count) = []
 answers (SettleSent settling) = []
+answers DisposeSent = []
 answers DetachSent = []
 answers (ConfirmWent confirm) = []
 answers (ReturnWent number) = []
+answers (DeliverSent due) = []
+answers ContentSent = []
+answers (ContentWhole tag) = []
 answers (OkSent ok) = ok ∷ []
 answers LinesWent = []
+answers LifeClosed = []
 answers SessionLost = []
+answers UpLost = []
 
-abbrev pub oks_owed : List PathEvent → List PathOk
-oks_owed [] = []
-oks_owed (x ∷ h) = oks_owed h ++ owes x
+abbrev pub oks_owed : ℕ → List PathEvent → List PathOk
+oks_owed life [] = []
+oks_owed life (x ∷ h) = oks_owed life h ++ owes (after_events life h) x
 
 abbrev pub oks_sent : List PathEvent → List PathOk
 oks_sent [] = []
 oks_sent (x ∷ h) = oks_sent h ++ answers x
 
 -- each answer that went was the next of those that were due
-abbrev pub AreAnswers : List PathEvent → Type 0
-AreAnswers [] = Unit {0}
-AreAnswers (x ∷ h) = IsFrontOf (oks_sent h ++ answers x) (oks_owed h) × AreAnswers h
+abbrev pub AreAnswers : ℕ → List PathEvent → Type 0
+AreAnswers life [] = Unit {0}
+AreAnswers life (x ∷ h) =
+    IsFrontOf (oks_sent h ++ answers x) (oks_owed life h) × AreAnswers life h
 
 -- ---- dispositions of role sender
 
@@ -77,20 +110,30 @@ settles (Began handle_max) = []
 settles (Published address payload back) = []
 settles Selected = []
 settles (Owed ok) = []
-settles (AttachCame name peer target) = []
+settles (Consumed address tag no_ack no_wait) = []
+settles (AnswerCame tag multiple settle) = []
+settles (AttachCame attach) = []
 settles (FlowCame peer count credit drain echo) = []
 settles (DetachCame peer not_found) = []
+settles (TransferCame peer part payload image again) = []
+settles (LinkFailed peer fault) = []
 settles (DispositionCame first last outcome settled) = []
 settles (AttachSent name) = []
 settles LinkFlowSent = []
 settles (TransferSent frame count) = []
 settles (SettleSent settling) = settling ∷ []
+settles DisposeSent = []
 settles DetachSent = []
 settles (ConfirmWent confirm) = []
 settles (ReturnWent number) = []
+settles (DeliverSent due) = []
+settles ContentSent = []
+settles (ContentWhole tag) = []
 settles (OkSent ok) = []
 settles LinesWent = []
+settles LifeClosed = []
 settles SessionLost = []
+settles UpLost = []
 
 -- those that went, in order
 abbrev pub settles_sent : List PathEvent → List Settling
@@ -109,9 +152,13 @@ owed_by life h list (Began handle_max) = list
 owed_by life h list (Published address payload back) = list
 owed_by life h list Selected = list
 owed_by life h list (Owed ok) = list
-owed_by life h list (AttachCame name peer target) = list
+owed_by life h list (Consumed address tag no_ack no_wait) = list
+owed_by life h list (AnswerCame tag multiple settle) = list
+owed_by life h list (AttachCame attach) = list
 owed_by life h list (FlowCame peer count credit drain echo) = list
 owed_by life h list (DetachCame peer not_found) = list
+owed_by life h list (TransferCame peer part payload image again) = list
+owed_by life h list (LinkFailed peer fault) = list
 owed_by life h list (DispositionCame first last outcome settled) =
     settle_if (not settled && is_outcome_of life first last h)
     (record { first = first; last = last }) list
@@ -119,12 +166,18 @@ owed_by life h list (AttachSent name) = list
 owed_by life h list LinkFlowSent = list
 owed_by life h list (TransferSent frame count) = list
 owed_by life h list (SettleSent settling) = list
+owed_by life h list DisposeSent = list
 owed_by life h list DetachSent = list
 owed_by life h list (ConfirmWent confirm) = list
 owed_by life h list (ReturnWent number) = list
+owed_by life h list (DeliverSent due) = list
+owed_by life h list ContentSent = list
+owed_by life h list (ContentWhole tag) = list
 owed_by life h list (OkSent ok) = list
 owed_by life h list LinesWent = list
+owed_by life h list LifeClosed = list
 owed_by life h list SessionLost = settles_sent h
+owed_by life h list UpLost = settles_sent h
 
 abbrev pub settles_owed : ℕ → List PathEvent → List Settling
 settles_owed life [] = []

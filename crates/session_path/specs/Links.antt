@@ -1,4 +1,4 @@
--- The sending links of a session: their credit, how far each is, and their handles.
+-- The links of a session: the credit of the sending ones, how far each is, and their handles.
 use Rattle.std.specs.Prelude.{◌≡◌, ℕ, Bool, true, false, not, ◌+◌, ◌-◌, ◌≤◌, ◌==◌, ◌&&◌, ◌||◌}
 use Rattle.std.specs.Prelude.{min, nat_lt, count_by}
 use Rattle.std.specs.Prelude.{if◌then◌else◌, List, [], ◌∷◌, ◌++◌, map, filter, find, insert, Option}
@@ -16,7 +16,9 @@ use Rattle.session_path.specs.declared.path.AttachFault.TheVariants.{NotAsked, H
 use Rattle.session_path.specs.declared.path.PathLink.{PathLink}
 use Rattle.session_path.specs.declared.path.Stage.{Stage}
 use Rattle.session_path.specs.declared.path.Stage.TheVariants.{Wanted, Asked, Open, Refused, Left}
-use Rattle.session_path.specs.declared.path.Stage.TheVariants.{Given}
+use Rattle.session_path.specs.declared.path.Stage.TheVariants.{Failed, Given}
+use Rattle.consume_path.specs.declared.receiving.TransferFault.{TransferFault}
+use Rattle.session_path.specs.declared.path.AttachHeard.{AttachHeard}
 
 pub record LinksState : Type 0 where
   -- the credit of each link that isn't lost, by address
@@ -35,6 +37,7 @@ handle_in (Open h) = Some h
 handle_in (Refused h) = Some h
 handle_in (Left h) = Some h
 handle_in (Given h) = Some h
+handle_in (Failed h fault) = Some h
 
 -- its handle; 0 where it has none
 abbrev pub handle_of : Stage → ℕ
@@ -44,6 +47,7 @@ handle_of (Open h) = h
 handle_of (Refused h) = h
 handle_of (Left h) = h
 handle_of (Given h) = h
+handle_of (Failed h fault) = h
 
 abbrev pub is_stage_wanted : Stage → Bool
 is_stage_wanted Wanted = true
@@ -52,6 +56,7 @@ is_stage_wanted (Open h) = false
 is_stage_wanted (Refused h) = false
 is_stage_wanted (Left h) = false
 is_stage_wanted (Given h) = false
+is_stage_wanted (Failed h fault) = false
 
 abbrev pub is_stage_asked : Stage → Bool
 is_stage_asked Wanted = false
@@ -60,6 +65,7 @@ is_stage_asked (Open h) = false
 is_stage_asked (Refused h) = false
 is_stage_asked (Left h) = false
 is_stage_asked (Given h) = false
+is_stage_asked (Failed h fault) = false
 
 abbrev pub is_stage_left : Stage → Bool
 is_stage_left Wanted = false
@@ -68,6 +74,7 @@ is_stage_left (Open h) = false
 is_stage_left (Refused h) = false
 is_stage_left (Left h) = true
 is_stage_left (Given h) = false
+is_stage_left (Failed h fault) = false
 
 abbrev pub is_stage_open : Stage → Bool
 is_stage_open Wanted = false
@@ -76,6 +83,7 @@ is_stage_open (Open h) = true
 is_stage_open (Refused h) = false
 is_stage_open (Left h) = false
 is_stage_open (Given h) = false
+is_stage_open (Failed h fault) = false
 
 abbrev pub is_stage_given : Stage → Bool
 is_stage_given Wanted = false
@@ -84,6 +92,36 @@ is_stage_given (Open h) = false
 is_stage_given (Refused h) = false
 is_stage_given (Left h) = false
 is_stage_given (Given h) = true
+is_stage_given (Failed h fault) = false
+
+abbrev pub is_stage_failed : Stage → Bool
+is_stage_failed Wanted = false
+is_stage_failed (Asked h) = false
+is_stage_failed (Open h) = false
+is_stage_failed (Refused h) = false
+is_stage_failed (Left h) = false
+is_stage_failed (Given h) = false
+is_stage_failed (Failed h fault) = true
+
+-- the error of the detach that is due
+abbrev pub error_of : Stage → Option TransferFault
+error_of Wanted = None
+error_of (Asked h) = None
+error_of (Open h) = None
+error_of (Refused h) = None
+error_of (Left h) = None
+error_of (Given h) = None
+error_of (Failed h fault) = Some fault
+
+-- both attached, and none detached or is to
+abbrev pub is_stage_whole : Stage → Bool
+is_stage_whole Wanted = false
+is_stage_whole (Asked h) = false
+is_stage_whole (Open h) = true
+is_stage_whole (Refused h) = true
+is_stage_whole (Left h) = false
+is_stage_whole (Given h) = false
+is_stage_whole (Failed h fault) = false
 
 -- both attached with this handle of the gateway, and the container didn't detach
 abbrev pub is_stage_at : ℕ → Stage → Bool
@@ -93,6 +131,7 @@ is_stage_at h (Open k) = k == h
 is_stage_at h (Refused k) = k == h
 is_stage_at h (Left k) = false
 is_stage_at h (Given k) = k == h
+is_stage_at h (Failed k fault) = k == h
 
 abbrev pub is_wanted : PathLink → Bool
 is_wanted l = is_stage_wanted l.stage
@@ -103,9 +142,16 @@ is_left l = is_stage_left l.stage
 abbrev pub is_given : PathLink → Bool
 is_given l = is_stage_given l.stage
 
+abbrev pub is_failed : PathLink → Bool
+is_failed l = is_stage_failed l.stage
+
+-- the gateway's detach is due
+abbrev pub is_to_part : PathLink → Bool
+is_to_part l = is_left l || is_failed l
+
 -- one end detached, and its handle will be free
 abbrev pub is_parting : PathLink → Bool
-is_parting l = is_left l || is_given l
+is_parting l = is_to_part l || is_given l
 
 abbrev pub is_at : ℕ → PathLink → Bool
 is_at h l = is_stage_at h l.stage
@@ -114,9 +160,13 @@ is_at h l = is_stage_at h l.stage
 abbrev pub link_name : ℕ → List ℕ
 link_name n = codes "l-" ++ decimal n
 
--- its attach was sent under the name with this number, and isn't answered
-abbrev pub is_asked_as : ℕ → PathLink → Bool
-is_asked_as name l = is_stage_asked l.stage && (l.name == name)
+-- the role of the container is the other one (AMQP 1.0 2.6.3)
+abbrev pub is_other_end : Bool → PathLink → Bool
+is_other_end role l = if role then not l.receives else l.receives
+
+-- its attach was sent under the name with this number, with the other role, and isn't answered
+abbrev pub is_asked_as : ℕ → Bool → PathLink → Bool
+is_asked_as name role l = is_stage_asked l.stage && (l.name == name) && is_other_end role l
 
 abbrev pub has_number : ℕ → PathLink → Bool
 has_number n l = l.link == n
@@ -158,20 +208,38 @@ gap n (l ∷ ls) = if l.link == n then gap (n + 1) ls + 1 else 0
 abbrev pub free_number : List PathLink → ℕ
 free_number links = gap 0 links
 
-abbrev pub wanted_link : ℕ → PathLink
-wanted_link n =
-    record { link = n; stage = Wanted; name = 0; echoes = 0; drains = 0; draining = false }
+abbrev pub wanted_link : ℕ → Bool → PathLink
+wanted_link n receives = record {
+  link = n;
+  receives = receives;
+  stage = Wanted;
+  name = 0;
+  echoes = 0;
+  drains = 0;
+  draining = false;
+}
 
 -- a link with this number is wanted: all that are below it stand in front of it
-abbrev pub with_wanted : ℕ → List PathLink → List PathLink
-with_wanted n links = insert links n (wanted_link n)
+abbrev pub with_wanted : ℕ → Bool → List PathLink → List PathLink
+with_wanted n receives links = insert links n (wanted_link n receives)
 
 -- a link to this address is wanted
 abbrev pub with_link_to : List ℕ → LinksState → LinksState
 with_link_to address s = record s {
   sending = s.sending ++ asked_link (free_number s.links) address ∷ [];
-  links = with_wanted (free_number s.links) s.links;
+  links = with_wanted (free_number s.links) false s.links;
 }
+
+-- a receiving link is wanted
+abbrev pub with_receiver : LinksState → LinksState
+with_receiver s = record s { links = with_wanted (free_number s.links) true s.links }
+
+-- receiving links that are wanted aren't any more
+abbrev pub is_wanted_receiver : PathLink → Bool
+is_wanted_receiver l = is_wanted l && l.receives
+
+abbrev pub without_receivers : LinksState → LinksState
+without_receivers s = record s { links = filter (λ l. not (is_wanted_receiver l)) s.links }
 
 -- it is there, or is wanted from now on
 abbrev pub linked_to : List ℕ → LinksState → LinksState
@@ -179,36 +247,41 @@ linked_to address s = if is_some (link_to s.sending address) then s else with_li
 
 -- ---- what the container sends
 
--- its attach answers the link that was asked for under this name; without a target it refuses that
+-- its attach answers the link that was asked for under this name; without a source or target it
+-- refuses that
 abbrev pub answered_stage : Bool → ℕ → Stage
-answered_stage target h = if target then Open h else Refused h
+answered_stage there h = if there then Open h else Refused h
 
 abbrev pub answered : Bool → PathLink → PathLink
-answered target l = record l { stage = answered_stage target (handle_of l.stage) }
+answered there l = record l { stage = answered_stage there (handle_of l.stage) }
 
 abbrev pub attached_if : Bool → ℕ → List SendingLink → List SendingLink
-attached_if target n sending = if target then map (now_attached n) sending else sending
+attached_if there n sending = if there then map (now_attached n) sending else sending
 
 abbrev pub attached_as : Option PathLink → ℕ → Bool → LinksState → LinksState
-attached_as None peer target s = s
-attached_as (Some l) peer target s = record {
-  sending = attached_if target l.link s.sending;
-  links = put (answered target l) s.links;
+attached_as None peer there s = s
+attached_as (Some l) peer there s = record {
+  sending = attached_if there l.link s.sending;
+  links = put (answered there l) s.links;
   handles = after_attached (handle_of l.stage) peer s.handles;
 }
 
 -- an attach under a name that no attach of the gateway asks for, and one with a handle of the
 -- container that names another link
-abbrev pub attach_fault : ℕ → ℕ → LinksState → Option AttachFault
-attach_fault name peer s =
-    if not (is_some (find (is_asked_as name) s.links)) then Some NotAsked
+abbrev pub attach_fault : ℕ → Bool → ℕ → LinksState → Option AttachFault
+attach_fault name role peer s =
+    if not (is_some (find (is_asked_as name role) s.links)) then Some NotAsked
     else if is_some (named_by s.handles peer) then Some HandleInUse
     else None
 
-abbrev pub attached : ℕ → ℕ → Bool → LinksState → LinksState
-attached name peer target s =
-    if is_some (attach_fault name peer s) then s
-    else attached_as (find (is_asked_as name) s.links) peer target s
+-- the link that an attach answers; none where it is at fault
+abbrev pub asked_by : AttachHeard → LinksState → Option PathLink
+asked_by a s =
+    if is_some (attach_fault a.name a.role a.peer s) then None
+    else find (is_asked_as a.name a.role) s.links
+
+abbrev pub attached : AttachHeard → LinksState → LinksState
+attached a s = attached_as (asked_by a s) a.peer a.there s
 
 -- the link that a handle of the container names
 abbrev pub at_handle : Option ℕ → List PathLink → Option PathLink
@@ -259,6 +332,19 @@ detached_on (Some l) s = record {
 abbrev pub link_detached : ℕ → LinksState → LinksState
 link_detached peer s = detached_on (named peer s) s
 
+-- a transfer on it passed a limit: the gateway's detach is due, with this error
+abbrev pub failed_by : TransferFault → PathLink → PathLink
+failed_by fault l = record l { stage = Failed (handle_of l.stage) fault }
+
+abbrev pub failed_on : Option PathLink → TransferFault → LinksState → LinksState
+failed_on None fault s = s
+failed_on (Some l) fault s =
+    if is_stage_whole l.stage && l.receives
+    then record s { links = put (failed_by fault l) s.links } else s
+
+abbrev pub link_failed : ℕ → TransferFault → LinksState → LinksState
+link_failed peer fault s = failed_on (named peer s) fault s
+
 -- ---- what goes to the container
 
 -- the attach of the first link that is wanted, under this name, with the lowest free handle
@@ -302,6 +388,7 @@ is_left_at h (Open k) = false
 is_left_at h (Refused k) = false
 is_left_at h (Left k) = k == h
 is_left_at h (Given k) = false
+is_left_at h (Failed k fault) = false
 
 abbrev pub gone_from : ℕ → List PathLink → List PathLink
 gone_from h links = filter (λ k. not (is_left_at h k.stage)) links
@@ -341,11 +428,14 @@ given_on (Some l) s = record {
   handles = after_detach_sent (handle_of l.stage) s.handles;
 }
 
--- the detach that is due: of the first link that the container detached, or else of one that is
--- given up
+-- the detach that is due: of the first link that the container detached or that failed, or else of
+-- one that is given up
+abbrev pub parted_on : PathLink → LinksState → LinksState
+parted_on l s = if is_left l then gone_on (Some l) s else given_on (Some l) s
+
 abbrev pub parted : Option PathLink → Option PathLink → LinksState → LinksState
 parted None given s = given_on given s
-parted (Some l) given s = gone_on (Some l) s
+parted (Some l) given s = parted_on l s
 
 -- ---- what holds of them at all times
 
@@ -392,10 +482,12 @@ stands t (Open h) = is_whole (state_of t h)
 stands t (Refused h) = is_whole (state_of t h)
 stands t (Left h) = is_half (state_of t h)
 stands t (Given h) = is_given_back (state_of t h)
+stands t (Failed h fault) = is_whole (state_of t h)
 
--- a link whose credit is kept is one that neither end detached
+-- a link whose credit is kept is a sending one that neither end detached
 abbrev pub is_kept : List PathLink → SendingLink → Bool
-is_kept links x = list_any (λ l. has_number x.link l && not (is_parting l)) links
+is_kept links x =
+    list_any (λ l. has_number x.link l && not (is_parting l) && not l.receives) links
 
 pub record AreTied (sending : List SendingLink) (links : List PathLink)
     (t : HandleTable) : Type 0 where

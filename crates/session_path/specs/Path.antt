@@ -1,5 +1,6 @@
--- The publishing side of a session, as contracts see it: before any event, and after each.
-use Rattle.std.specs.Prelude.{ℕ, Bool, true, false, not, ◌==◌, ◌&&◌, ◌||◌, nat_lt, if◌then◌else◌}
+-- A session with what it carries, as contracts see it: before any event, and after each.
+use Rattle.std.specs.Prelude.{ℕ, zero, suc, Bool, true, false, not, ◌==◌, ◌&&◌, ◌||◌, ◌+◌, nat_lt}
+use Rattle.std.specs.Prelude.{if◌then◌else◌, codes, decimal, length, is_some}
 use Rattle.std.specs.Prelude.{List, [], ◌∷◌, ◌++◌, count_by, drop, filter, find, Option, Some, None}
 use Rattle.std.specs.List.{list_any}
 use Rattle.publish_path.specs.Links.{link_of, link_to}
@@ -11,19 +12,50 @@ use Rattle.publish_path.specs.declared.publish.NextFrame.{NextFrame}
 use Rattle.publish_path.specs.declared.publish.Outcome.{Outcome}
 use Rattle.publish_path.specs.declared.publish.Publish.{Publish}
 use Rattle.publish_path.specs.declared.send_links.SendingLink.{SendingLink}
-use Rattle.session_path.specs.Links.{LinksState, all_lost, attached, is_left, is_parting}
+use Rattle.consume_path.specs.Deliveries.{DeliveryState, Answered, Arrived, Closed, Delivered}
+use Rattle.consume_path.specs.Deliveries.{EndLost, GrantSent, LinkAdded, LinkAttached, LinkDropped}
+use Rattle.consume_path.specs.Deliveries.{LinkEchoed, LinkFlowed, SettleSent, TransferCame, Written}
+use Rattle.consume_path.specs.Deliveries.{LinesTold as DeliveriesTold, no_deliveries}
+use Rattle.consume_path.specs.Deliveries as deliveries
+use Rattle.consume_path.specs.Links.{is_tag_used, link_of as receiving_link}
+use Rattle.consume_path.specs.Offers.{arriving_in, content_of, fault_at, next_grant_of}
+use Rattle.consume_path.specs.Offers.{next_settle_of}
+use Rattle.consume_path.specs.declared.delivery.Content.{Content}
+use Rattle.consume_path.specs.declared.delivery.NextSettle.{NextSettle}
+use Rattle.consume_path.specs.declared.delivery.Settle.{Settle}
+use Rattle.consume_path.specs.declared.receiving.NextGrant.{NextGrant}
+use Rattle.consume_path.specs.declared.receiving.Part.{Part}
+use Rattle.consume_path.specs.declared.receiving.ReceivingLink.{ReceivingLink}
+use Rattle.consume_path.specs.declared.receiving.RecvKind.TheVariants.{Consumer}
+use Rattle.consume_path.specs.declared.receiving.TransferFault.{TransferFault}
+use Rattle.session_path.specs.Links.{LinksState, all_lost, asked_by, attached, has_number}
+use Rattle.session_path.specs.Links.{free_number, is_parting, is_stage_whole, is_to_part}
 use Rattle.session_path.specs.Links.{is_stage_open, is_wanting, limited, link_asked, link_detached}
-use Rattle.session_path.specs.Links.{link_flowed, linked_to, lowest, named, no_links, parted}
-use Rattle.session_path.specs.Links.{told_on}
+use Rattle.session_path.specs.Links.{link_failed, link_flowed, linked_to, lowest, named, no_links}
+use Rattle.session_path.specs.Links.{parted, told_on, with_receiver, without_receivers}
+use Rattle.session_path.specs.declared.path.AttachHeard.{AttachHeard}
+use Rattle.session_path.specs.declared.path.Awaited.{Awaited}
+use Rattle.session_path.specs.declared.path.DeliverDue.{DeliverDue}
 use Rattle.session_path.specs.declared.path.PathLink.{PathLink}
 use Rattle.session_path.specs.declared.path.PathOk.{PathOk}
+use Rattle.session_path.specs.declared.path.PathOk.TheVariants as ok
 use Rattle.session_path.specs.declared.path.Settling.{Settling}
+use Rattle.session_path.specs.declared.path.Source.{Source}
+use Rattle.session_path.specs.declared.path.Writing.{Writing}
 
 pub record PathState : Type 0 where
   -- the publishes of the channel's life
   pub publishes : PublishState
-  -- the links that they go on
+  -- the deliveries to its consumers
+  pub deliveries : DeliveryState
+  -- the links that both go on
   pub links : LinksState
+  -- the addresses of the receiving ones
+  pub sources : List Source
+  -- the basic.consume that waits for the container
+  pub awaited : Option Awaited
+  -- the content of a delivery of which frames are to go
+  pub writing : Option Writing
   -- the dispositions of the container that are to be answered, in the order in which they came
   pub settles : List Settling
   -- confirm.select was taken up
@@ -31,13 +63,20 @@ pub record PathState : Type 0 where
   -- the answers that are due to the client, in the order of its requests
   pub oks : List PathOk
 
+abbrev pub with_deliveries : deliveries.DeliveryEvent → PathState → PathState
+with_deliveries x s = record s { deliveries = deliveries.after_event x s.deliveries }
+
 -- ---- a life
 
 -- channel.open was taken up, as this life of the client's connection; no begin came
 abbrev pub opened : ℕ → PathState
 opened life = record {
   publishes = no_publishes life;
+  deliveries = no_deliveries life;
   links = no_links;
+  sources = [];
+  awaited = None;
+  writing = None;
   settles = [];
   confirms = false;
   oks = [];
@@ -47,13 +86,31 @@ opened life = record {
 abbrev pub began : ℕ → PathState → PathState
 began handle_max s = record s { links = limited handle_max s.links }
 
--- its session, or the connection, is lost: each publish without an outcome is, and no link is left
-abbrev pub lost : PathState → PathState
-lost s = record s {
+-- its closing event: what no client settled goes back, and no request waits any more; no receiving
+-- link is asked for, and a content that is begun is cut (AMQP 0-9-1 1.5.2.5)
+abbrev pub closed : PathState → PathState
+closed s = record s {
+  deliveries = deliveries.after_event Closed s.deliveries;
+  links = without_receivers s.links;
+  awaited = None;
+  writing = None;
+}
+
+-- its session, or the connection, is lost: that is its closing event, if none came before; each
+-- publish without an outcome is lost, and no link is left
+abbrev pub unlinked : PathState → PathState
+unlinked s = record s {
   publishes = after_event (LinkGone None false) s.publishes;
   links = all_lost s.links;
   settles = [];
 }
+
+abbrev pub lost : PathState → PathState
+lost s = unlinked (closed s)
+
+-- the upstream end is lost or was shut: no disposition goes any more either
+abbrev pub end_lost : PathState → PathState
+end_lost s = with_deliveries EndLost (lost s)
 
 -- ---- requests of the client
 
@@ -81,14 +138,146 @@ abbrev pub published : List ℕ → List ℕ → List (List ℕ) → PathState �
 published address payload back s =
     published_on (linked_to address s.links) address payload back s
 
+-- the consumer tag that a basic.consume asks for, or else `ctag-` and the least number from 1 whose
+-- tag isn't in use on the channel (AMQP 0-9-1 1.8.3.3)
+abbrev pub numbered_tag : ℕ → List ℕ
+numbered_tag n = codes "ctag-" ++ decimal n
+
+abbrev pub free_from : ℕ → ℕ → List ReceivingLink → ℕ
+free_from zero n links = n
+free_from (suc k) n links =
+    if is_tag_used (numbered_tag n) links then free_from k (n + 1) links else n
+
+abbrev pub tag_for : List ℕ → List ReceivingLink → List ℕ
+tag_for [] links = numbered_tag (free_from (length links) 1 links)
+tag_for (c ∷ tag) links = c ∷ tag
+
+-- it is the address of the receiving link with this number
+abbrev pub is_source_of : ℕ → Source → Bool
+is_source_of link x = x.link == link
+
+-- basic.consume of this queue, which waits for the container's attach
+abbrev pub consumed : List ℕ → List ℕ → Bool → Bool → PathState → PathState
+consumed address tag no_ack no_wait s =
+    with_deliveries
+    (LinkAdded (free_number s.links.links) (Consumer (tag_for tag s.deliveries.links) no_ack))
+    (record s {
+      links = with_receiver s.links;
+      sources = s.sources ++ record { link = free_number s.links.links; address = address } ∷ [];
+      awaited = Some (record { link = free_number s.links.links; no_wait = no_wait });
+    })
+
+-- basic.ack, nack or reject
+abbrev pub answer_came : ℕ → Bool → Settle → PathState → PathState
+answer_came tag multiple settle s = with_deliveries (Answered tag multiple settle) s
+
 -- ---- what the container sends
 
-abbrev pub attach_came : ℕ → ℕ → Bool → PathState → PathState
-attach_came name peer target s = record s { links = attached name peer target s.links }
+-- an attach. That of a receiving link with a source begins its deliveries, and decides the
+-- basic.consume that waits for it
+abbrev pub is_awaited_on : ℕ → Option Awaited → Bool
+is_awaited_on link None = false
+is_awaited_on link (Some a) = a.link == link
+
+-- it is to be answered
+abbrev pub is_answered : ℕ → Option Awaited → Bool
+is_answered link None = false
+is_answered link (Some a) = a.link == link && not a.no_wait
+
+abbrev pub oks_by : ℕ → Option Awaited → List PathOk
+oks_by link awaited = if is_answered link awaited then ok.Consume link ∷ [] else []
+
+-- what waits once this link is attached
+abbrev pub still_awaited : ℕ → Option Awaited → Option Awaited
+still_awaited link awaited = if is_awaited_on link awaited then None else awaited
+
+abbrev pub begun_on : ℕ → ℕ → PathState → PathState
+begun_on link count s =
+    with_deliveries (LinkAttached link count) (record s {
+      oks = s.oks ++ oks_by link s.awaited;
+      awaited = still_awaited link s.awaited;
+    })
+
+abbrev pub begun_if : Option PathLink → AttachHeard → PathState → PathState
+begun_if None a s = s
+begun_if (Some l) a s = if l.receives && a.there then begun_on l.link a.count s else s
+
+abbrev pub attach_came : AttachHeard → PathState → PathState
+attach_came a s =
+    begun_if (asked_by a s.links) a (record s { links = attached a s.links })
+
+-- a flow on a receiving link: its delivery-count, and that it asks for the state (AMQP 1.0 2.6.7)
+abbrev pub counted_on : Option ℕ → ℕ → PathState → PathState
+counted_on None link s = s
+counted_on (Some count) link s = with_deliveries (LinkFlowed link count) s
+
+abbrev pub echoed_on : Bool → ℕ → PathState → PathState
+echoed_on false link s = s
+echoed_on true link s = with_deliveries (LinkEchoed link) s
+
+abbrev pub receiver_in : Option PathLink → Option PathLink
+receiver_in None = None
+receiver_in (Some l) = if l.receives then Some l else None
+
+abbrev pub receiver_flowed : PathLink → Option ℕ → Bool → PathState → PathState
+receiver_flowed l count echo s = echoed_on echo l.link (counted_on count l.link s)
+
+abbrev pub flowed_by : Option PathLink → ℕ → Option ℕ → ℕ → Bool → Bool → PathState → PathState
+flowed_by None peer count credit drain echo s =
+    record s { links = link_flowed peer count credit drain echo s.links }
+flowed_by (Some l) peer count credit drain echo s = receiver_flowed l count echo s
 
 abbrev pub flow_came : ℕ → Option ℕ → ℕ → Bool → Bool → PathState → PathState
 flow_came peer count credit drain echo s =
-    record s { links = link_flowed peer count credit drain echo s.links }
+    flowed_by (receiver_in (named peer s.links)) peer count credit drain echo s
+
+-- a transfer counts on a receiving link that neither end detached; elsewhere it is passed over
+abbrev pub taking_in : Option PathLink → Option PathLink
+taking_in None = None
+taking_in (Some l) = if l.receives && is_stage_whole l.stage then Some l else None
+
+abbrev pub taking : ℕ → PathState → Option PathLink
+taking peer s = taking_in (named peer s.links)
+
+abbrev pub fault_on : Option PathLink → Part → ℕ → DeliveryState → Option TransferFault
+fault_on None part size d = None
+fault_on (Some l) part size d = fault_at part size l.link d
+
+-- what is wrong with a transfer of so many bytes
+abbrev pub transfer_fault : ℕ → Part → ℕ → PathState → Option TransferFault
+transfer_fault peer part size s = fault_on (taking peer s) part size s.deliveries
+
+-- the last transfer of a delivery
+abbrev pub is_last : Part → Bool
+is_last part = not part.more && not part.aborted
+
+-- the whole delivery, and what goes to the client of that, where it has an image
+abbrev pub arrival_on : ℕ → Option Content → Bool → DeliveryState → deliveries.DeliveryEvent
+arrival_on link image again d =
+    Arrived (arriving_in link (receiving_link d.links link)) image again
+
+abbrev pub arrived_on : ℕ → Option Content → Bool → DeliveryState → DeliveryState
+arrived_on link image again d = deliveries.after_event (arrival_on link image again d) d
+
+abbrev pub transferred : ℕ → Part → List ℕ → Option Content → Bool → DeliveryState → DeliveryState
+transferred link part payload image again d =
+    if is_last part
+    then arrived_on link image again (deliveries.after_event (TransferCame link part payload) d)
+    else deliveries.after_event (TransferCame link part payload) d
+
+abbrev pub transferred_on : Option PathLink → Part → List ℕ → Option Content → Bool → PathState
+    → PathState
+transferred_on None part payload image again s = s
+transferred_on (Some l) part payload image again s =
+    record s { deliveries = transferred l.link part payload image again s.deliveries }
+
+abbrev pub transfer_came : ℕ → Part → List ℕ → Option Content → Bool → PathState → PathState
+transfer_came peer part payload image again s =
+    transferred_on (taking peer s) part payload image again s
+
+-- a transfer passed a limit of its link
+abbrev pub failed : ℕ → TransferFault → PathState → PathState
+failed peer fault s = record s { links = link_failed peer fault s.links }
 
 -- a detach: the link is lost for the publishes that have no outcome; its error says that there is
 -- no such node, or not (AMQP 1.0 2.8.15)
@@ -96,9 +285,13 @@ abbrev pub lost_on : Bool → Option PathLink → PublishState → PublishState
 lost_on not_found None p = p
 lost_on not_found (Some l) p = after_event (LinkGone (Some l.link) not_found) p
 
+abbrev pub sender_in : Option PathLink → Option PathLink
+sender_in None = None
+sender_in (Some l) = if l.receives then None else Some l
+
 abbrev pub detach_came : ℕ → Bool → PathState → PathState
 detach_came peer not_found s = record s {
-  publishes = lost_on not_found (named peer s.links) s.publishes;
+  publishes = lost_on not_found (sender_in (named peer s.links)) s.publishes;
   links = link_detached peer s.links;
 }
 
@@ -144,9 +337,37 @@ owes_flow list sending l =
 abbrev pub flow_of : List Publish → LinksState → Option PathLink
 flow_of list links = find (owes_flow list links.sending) links.links
 
+-- a flow of a receiving link is due as its deliveries say, until the gateway's detach went
+abbrev pub granting_on : Option NextGrant → LinksState → Option PathLink
+granting_on None links = None
+granting_on (Some g) links = find (has_number g.link) links.links
+
+abbrev pub grant_in : PathState → Option NextGrant
+grant_in s = next_grant_of s.deliveries.closed s.deliveries.links
+
+abbrev pub granting : PathState → Option PathLink
+granting s = granting_on (grant_in s) s.links
+
+-- of a sending and a receiving link the one with the lower number goes first
+abbrev pub goes_first : Option PathLink → Option PathLink → Bool
+goes_first None k = true
+goes_first (Some l) None = false
+goes_first (Some l) (Some k) = nat_lt k.link l.link
+
+-- the flow that is due is of a receiving link
+abbrev pub is_grant_next : PathState → Bool
+is_grant_next s =
+    is_some (granting s) && goes_first (flow_of s.publishes.list s.links) (granting s)
+
+abbrev pub granted_by : Option NextGrant → PathState → PathState
+granted_by None s = s
+granted_by (Some g) s = with_deliveries (GrantSent g) s
+
 -- the flow that is due went
 abbrev pub link_flow_sent : PathState → PathState
-link_flow_sent s = record s { links = told_on (flow_of s.publishes.list s.links) s.links }
+link_flow_sent s =
+    if is_grant_next s then granted_by (grant_in s) s
+    else record s { links = told_on (flow_of s.publishes.list s.links) s.links }
 
 -- a transfer frame with so many bytes of its publish's payload
 abbrev pub transfer_sent : NextFrame → ℕ → PathState → PathState
@@ -162,16 +383,40 @@ settle_sent s = record s { settles = drop 1 s.settles }
 -- a link is given up where its handle is wanting: of those on which no publish waits, is begun or
 -- lacks an outcome, that with the lowest handle
 abbrev pub is_idle : List Publish → PathLink → Bool
-is_idle list l = is_stage_open l.stage && (count_by (is_pending (Some l.link)) list == 0)
+is_idle list l =
+    is_stage_open l.stage && not l.receives
+    && (count_by (is_pending (Some l.link)) list == 0)
 
 abbrev pub given_of : List Publish → LinksState → Option PathLink
 given_of list s = if is_wanting s then lowest (filter (is_idle list) s.links) else None
 
+-- the disposition of role receiver that is due went (AMQP 1.0 2.7.6)
+abbrev pub disposed_by : Option NextSettle → PathState → PathState
+disposed_by None s = s
+disposed_by (Some x) s = with_deliveries (SettleSent x) s
+
+abbrev pub dispose_sent : PathState → PathState
+dispose_sent s = disposed_by (next_settle_of s.deliveries.list) s
+
+-- a receiving link has no deliveries any more, and no address, since another may take its number
+abbrev pub without_source : ℕ → List Source → List Source
+without_source link sources = filter (λ x. not (is_source_of link x)) sources
+
+abbrev pub dropped : ℕ → PathState → PathState
+dropped link s =
+    with_deliveries (LinkDropped link)
+    (record s { sources = without_source link s.sources })
+
+abbrev pub dropped_by : Option PathLink → PathState → PathState
+dropped_by None s = s
+dropped_by (Some l) s = if l.receives then dropped l.link s else s
+
 -- the detach that is due went
 abbrev pub detach_sent : PathState → PathState
-detach_sent s = record s {
-  links = parted (find is_left s.links.links) (given_of s.publishes.list s.links) s.links;
-}
+detach_sent s =
+    dropped_by (find is_to_part s.links.links) (record s {
+      links = parted (find is_to_part s.links.links) (given_of s.publishes.list s.links) s.links;
+    })
 
 -- ---- what goes to the client
 
@@ -182,8 +427,38 @@ confirm_sent c s = record s { publishes = after_event (ConfirmSent c) s.publishe
 abbrev pub return_sent : ℕ → PathState → PathState
 return_sent number s = record s { publishes = after_event (ReturnSent number) s.publishes }
 
+-- a deliver: its content goes behind it
+abbrev pub deliver_sent : DeliverDue → PathState → PathState
+deliver_sent d s =
+    with_deliveries (Delivered d.next.number) (record s {
+      writing = Some (record { id = d.next.id; tag = d.tag; gone = 0 });
+    })
+
+-- the frames of the content of a delivery
+abbrev pub frames_in : Option Content → List (List ℕ)
+frames_in None = []
+frames_in (Some c) = c.frames
+
+abbrev pub frames_of : ℕ → PathState → List (List ℕ)
+frames_of id s = frames_in (content_of id s.deliveries.list)
+
+-- a frame of the content that is begun; none is to go behind the last
+abbrev pub written_on : Option Writing → PathState → Option Writing
+written_on None s = None
+written_on (Some w) s =
+    if nat_lt (w.gone + 1) (length (frames_of w.id s)) then Some (record w { gone = w.gone + 1 })
+    else None
+
+abbrev pub content_sent : PathState → PathState
+content_sent s = record s { writing = written_on s.writing s }
+
+-- the last byte of the last frame of the content with this tag
+abbrev pub content_whole : ℕ → PathState → PathState
+content_whole tag s = with_deliveries (Written tag) s
+
 abbrev pub ok_sent : PathState → PathState
 ok_sent s = record s { oks = drop 1 s.oks }
 
 abbrev pub lines_told : PathState → PathState
-lines_told s = record s { publishes = after_event LinesTold s.publishes }
+lines_told s =
+    with_deliveries DeliveriesTold (record s { publishes = after_event LinesTold s.publishes })

@@ -2,7 +2,8 @@
 
 ghost use Rattle.std.specs.Prelude.{◌≡◌, ◌≤◌, ◌+◌, ◌++◌, ℕ, List};
 ghost use Rattle.publish_path.specs.Publishes.{after_events as publishes_after};
-ghost use Rattle.session_path.specs.Events.{PathEvent, after_events, publishes_of};
+ghost use Rattle.consume_path.specs.Deliveries.{after_events as deliveries_after};
+ghost use Rattle.session_path.specs.Events.{PathEvent, after_events, deliveries_of, publishes_of};
 ghost use Rattle.session_path.specs.Links.{AreTied};
 ghost use Rattle.session_path.specs.Attaches.{times_asked, times_attached};
 ghost use Rattle.session_path.specs.Flows.{causes_on, flows_on, owed_on};
@@ -13,8 +14,8 @@ ghost use Rattle.session_path.specs.Laws.{settles_sent};
 pub fn answers_lawfully()
     // Where each that went was the next, those that went and those due are those that became due,
     // in the order of the requests.
-    ensures { (life : ℕ) (h : List PathEvent) → AreAnswers h → oks_sent h
-        ++ (after_events life h).oks ≡ oks_owed h }
+    ensures { (life : ℕ) (h : List PathEvent) → AreAnswers life h → oks_sent h
+        ++ (after_events life h).oks ≡ oks_owed life h }
 {}
 
 /// The dispositions of role sender.
@@ -33,19 +34,27 @@ pub fn publishes_lawfully()
         ≡ publishes_after life (publishes_of life h) }
 {}
 
+/// The deliveries of a life.
+pub fn deliveries_lawfully()
+    // Its deliveries are those after the delivery events among its events, of which consume_path's
+    // laws speak.
+    ensures { (life : ℕ) (h : List PathEvent) → (after_events life h).deliveries
+        ≡ deliveries_after life (deliveries_of life h) }
+{}
+
 /// The links of a session.
 pub fn links_lawfully()
     // After any events no two links that aren't detached at both ends have one handle of the
     // gateway; each handle's state in the session's table is what its link is; each link whose
-    // credit is kept is one that neither end detached; and the numbers of the links rise.
+    // credit is kept is a sending one that neither end detached; and the numbers of the links rise.
     ensures { (life : ℕ) (h : List PathEvent) → AreTied (after_events life h).links.sending
         (after_events life h).links.links (after_events life h).links.handles }
 {}
 
-/// The flows on a link.
+/// The flows on a link, but for those that the deliveries of a receiving link ask for.
 pub fn flows_lawfully()
-    // After any events, the flows that went on a link and those that it is owed are as many as the
-    // echoes and the drains of the container's flows on it.
+    // After any events, the flows that went on a sending link and those that it is owed are as many
+    // as the echoes and the drains of the container's flows on it; a receiving link is owed none.
     ensures { (life n : ℕ) (h : List PathEvent) → flows_on life n h + owed_on n
         (after_events life h).links.links ≡ causes_on life n h }
 {}

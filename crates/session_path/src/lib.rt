@@ -1,5 +1,5 @@
-//! The publishing side of one session: its links, its publishes, and what is due of each, to the
-//! container and to the client.
+//! One session with what it carries: its links, its publishes and its deliveries, and what is due
+//! of each, to the container and to the client.
 #![tactic(auto)]
 
 mod laws;
@@ -9,9 +9,12 @@ mod path_links;
 mod session_path;
 
 pub use laws::{
-    answers_lawfully, attaches_lawfully, flows_lawfully, links_lawfully, publishes_lawfully,
-    settles_lawfully,
+    answers_lawfully, attaches_lawfully, deliveries_lawfully, flows_lawfully, links_lawfully,
+    publishes_lawfully, settles_lawfully,
 };
-pub use path::{AttachDue, AttachFault, FlowDue, PathLink, PathOk, Settling, Stage};
+pub use path::{
+    AttachDue, AttachFault, AttachHeard, ContentDue, DeliverDue, FlowDue, PathLink, PathOk,
+    Settling, Stage,
+};
 pub use path_links::LinkFlow;
 pub use session_path::SessionPath;

@@ -1,15 +1,18 @@
 //! The links of a session in the order of their numbers: searches, and the change of one.
 
-ghost use Rattle.std.specs.Prelude.{◌≡◌, ◌+◌, ◌≤◌, length, find, map, IfSome, IfOk, option_copied};
-ghost use Rattle.std.specs.Prelude.{filter, count_by, nat_lt, not, true};
+ghost use Rattle.std.specs.Prelude.{◌≡◌, ◌+◌, ◌≤◌, length, find, IfSome, IfOk, option_copied};
+ghost use Rattle.std.specs.Prelude.{filter, count_by, nat_lt, not, true, ◌&&◌};
 ghost use Rattle.std.specs.Option.{option_map_or};
 ghost use Rattle.session_path.specs.Links.{handle_of, has_number, is_wanted, is_left, is_given};
-ghost use Rattle.session_path.specs.Links.{is_parting, is_stage_open, is_at, is_asked_as, put_for};
-ghost use Rattle.session_path.specs.Links.{put, free_number, one_if, told_by, wanted_link};
-ghost use Rattle.session_path.specs.Links.{answered, left_by, given_by, asked_as, told_once};
-ghost use Rattle.session_path.specs.Links.{is_left_at, gone_from, detached_from};
+ghost use Rattle.session_path.specs.Links.{is_failed, is_to_part, is_parting, is_stage_open};
+ghost use Rattle.session_path.specs.Links.{is_stage_whole, is_wanted_receiver, is_at, is_other_end};
+ghost use Rattle.session_path.specs.Links.{is_asked_as, put_for, put, free_number, one_if, told_by};
+ghost use Rattle.session_path.specs.Links.{wanted_link, answered, left_by, given_by, failed_by};
+ghost use Rattle.session_path.specs.Links.{asked_as, told_once, is_left_at, gone_from};
+ghost use Rattle.session_path.specs.Links.{detached_from};
 
 use crate::path::{PathLink, Stage};
+use consume_path::TransferFault;
 use wire_base::Memory;
 
 /// The handle of a link; 0 where it has none.
@@ -23,6 +26,7 @@ pub fn handle(stage: Stage) -> u32
         Stage::Refused(handle) => handle,
         Stage::Left(handle) => handle,
         Stage::Given(handle) => handle,
+        Stage::Failed(handle, _) => handle,
     }
 }
 
@@ -32,10 +36,24 @@ fn is_link_wanted(l: &PathLink) -> bool
     matches!(l.stage, Stage::Wanted)
 }
 
-fn is_link_left(l: &PathLink) -> bool
+/// The container detached it, and the gateway didn't.
+pub fn is_link_left(l: &PathLink) -> bool
     ensures { result ≡ is_left l.now }
 {
     matches!(l.stage, Stage::Left(_))
+}
+
+fn is_link_failed(l: &PathLink) -> bool
+    ensures { result ≡ is_failed l.now }
+{
+    matches!(l.stage, Stage::Failed(_, _))
+}
+
+/// The gateway's detach is due.
+fn is_link_to_part(l: &PathLink) -> bool
+    ensures { result ≡ is_to_part l.now }
+{
+    is_link_left(l) || is_link_failed(l)
 }
 
 fn is_link_given(l: &PathLink) -> bool
@@ -44,11 +62,11 @@ fn is_link_given(l: &PathLink) -> bool
     matches!(l.stage, Stage::Given(_))
 }
 
-/// One end detached it.
+/// One end detached it, or the gateway's detach is due.
 pub fn is_link_parting(l: &PathLink) -> bool
     ensures { result ≡ is_parting l.now }
 {
-    is_link_left(l) || is_link_given(l)
+    is_link_to_part(l) || is_link_given(l)
 }
 
 /// Both ends attached it, and none detached.
@@ -56,6 +74,25 @@ pub fn is_link_open(l: &PathLink) -> bool
     ensures { result ≡ is_stage_open l.now.stage }
 {
     matches!(l.stage, Stage::Open(_))
+}
+
+fn is_link_whole(l: &PathLink) -> bool
+    ensures { result ≡ is_stage_whole l.now.stage }
+{
+    matches!(l.stage, Stage::Open(_) | Stage::Refused(_))
+}
+
+/// The container sends transfers on it: both ends attached it, and none detached or is to.
+pub fn is_link_taking(l: &PathLink) -> bool
+    ensures { result ≡ (is_stage_whole l.now.stage && l.now.receives) }
+{
+    is_link_whole(l) && l.receives
+}
+
+fn is_link_wanted_receiver(l: &PathLink) -> bool
+    ensures { result ≡ is_wanted_receiver l.now }
+{
+    is_link_wanted(l) && l.receives
 }
 
 /// Its handle is below that of the other, if there is one.
@@ -76,6 +113,7 @@ fn is_link_at(l: &PathLink, handle: u32) -> bool
         Stage::Open(own) => own == handle,
         Stage::Refused(own) => own == handle,
         Stage::Given(own) => own == handle,
+        Stage::Failed(own, _) => own == handle,
         _ => false,
     }
 }
@@ -89,10 +127,16 @@ fn is_link_left_at(l: &PathLink, handle: u32) -> bool
     }
 }
 
-fn is_link_asked_as(l: &PathLink, name: u64) -> bool
-    ensures { result ≡ is_asked_as name l.now }
+fn is_link_other_end(l: &PathLink, role: bool) -> bool
+    ensures { result ≡ is_other_end role l.now }
 {
-    matches!(l.stage, Stage::Asked(_)) && l.name == name
+    role != l.receives
+}
+
+fn is_link_asked_as(l: &PathLink, name: u64, role: bool) -> bool
+    ensures { result ≡ is_asked_as name role l.now }
+{
+    matches!(l.stage, Stage::Asked(_)) && l.name == name && is_link_other_end(l, role)
 }
 
 /// The first link whose attach is due.
@@ -109,18 +153,18 @@ pub fn count_wanted(links: &[PathLink]) -> usize
     links.iter().filter(|l| is_link_wanted(l)).count()
 }
 
-/// How many links one end detached.
+/// How many links one end detached, or the gateway is to detach.
 pub fn count_parting(links: &[PathLink]) -> usize
     ensures { result ≡ count_by is_parting links.now }
 {
     links.iter().filter(|l| is_link_parting(l)).count()
 }
 
-/// The first link that the container detached.
-pub fn first_left(links: &[PathLink]) -> Option<&PathLink>
-    ensures { option_copied result ≡ find is_left links.now }
+/// The first link whose detach is due.
+pub fn first_to_part(links: &[PathLink]) -> Option<&PathLink>
+    ensures { option_copied result ≡ find is_to_part links.now }
 {
-    links.iter().find(|l| is_link_left(l))
+    links.iter().find(|l| is_link_to_part(l))
 }
 
 /// The link that both attached with this handle of the gateway, and the container didn't detach.
@@ -143,11 +187,11 @@ pub fn first_numbered(links: &[PathLink], number: u32) -> Option<&PathLink>
     links.iter().find(|l| is_link_numbered(l, number))
 }
 
-/// The link whose attach under this name isn't answered.
-pub fn first_asked_as(links: &[PathLink], name: u64) -> Option<&PathLink>
-    ensures { option_copied result ≡ find (is_asked_as name) links.now }
+/// The link whose attach under this name isn't answered, for an end of this role.
+pub fn first_asked_as(links: &[PathLink], name: u64, role: bool) -> Option<&PathLink>
+    ensures { option_copied result ≡ find (is_asked_as name role) links.now }
 {
-    links.iter().find(|l| is_link_asked_as(l, name))
+    links.iter().find(|l| is_link_asked_as(l, name, role))
 }
 
 fn put_one(this: &mut PathLink, link: PathLink)
@@ -172,6 +216,21 @@ pub fn drop_left(links: &mut Vec<PathLink>, handle: u32)
     ensures { links.new.items ≡ gone_from handle links.old.items }
 {
     links.retain(|l| !is_link_left_at(l, handle));
+}
+
+/// Leaves out the receiving links that are wanted.
+pub fn drop_wanted_receivers(links: &mut Vec<PathLink>)
+    ensures { links.new.items ≡ filter (λ l. not (is_wanted_receiver l)) links.old.items }
+{
+    links.retain(|l| !is_link_wanted_receiver(l));
+}
+
+/// Leaves out the receiving link with this number, if it is wanted.
+pub fn drop_wanted_receiver(links: &mut Vec<PathLink>, number: u32)
+    ensures { links.new.items
+        ≡ filter (λ l. not (is_wanted_receiver l && has_number number l)) links.old.items }
+{
+    links.retain(|l| !(is_link_wanted_receiver(l) && is_link_numbered(l, number)));
 }
 
 fn drop_numbered(links: &mut Vec<PathLink>, number: u32)
@@ -207,11 +266,12 @@ pub fn lowest_free(links: &[PathLink]) -> usize
 }
 
 /// A link whose attach is due.
-pub fn wanted(link: u32) -> PathLink
-    ensures { result ≡ wanted_link link }
+pub fn wanted(link: u32, receives: bool) -> PathLink
+    ensures { result ≡ wanted_link link receives }
 {
     PathLink {
         link,
+        receives,
         stage: Stage::Wanted,
         name: 0,
         echoes: 0,
@@ -230,11 +290,11 @@ pub fn asked(l: PathLink, handle: u32, name: u64) -> PathLink
     }
 }
 
-pub fn answered(l: PathLink, target: bool) -> PathLink
-    ensures { result ≡ answered target l }
+pub fn answered(l: PathLink, there: bool) -> PathLink
+    ensures { result ≡ answered there l }
 {
     let own = handle(l.stage);
-    let stage = if target {
+    let stage = if there {
         Stage::Open(own)
     } else {
         Stage::Refused(own)
@@ -256,6 +316,15 @@ pub fn given(l: PathLink) -> PathLink
 {
     PathLink {
         stage: Stage::Given(handle(l.stage)),
+        ..l
+    }
+}
+
+pub fn failed(l: PathLink, fault: TransferFault) -> PathLink
+    ensures { result ≡ failed_by fault l }
+{
+    PathLink {
+        stage: Stage::Failed(handle(l.stage), fault),
         ..l
     }
 }

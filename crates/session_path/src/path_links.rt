@@ -1,8 +1,8 @@
-//! The sending links of a session: each call is one step of them.
+//! The links of a session: each call is one step of them.
 
 ghost use Rattle.std.specs.Prelude.{◌≡◌, ◌≤◌, ◌<◌, ◌+◌, ◌^◌, ◌++◌, ◌∷◌, [], ◌==◌, if◌then◌else◌};
 ghost use Rattle.std.specs.Prelude.{length, find, filter, map, option_copied, Some, None, OnOk};
-ghost use Rattle.std.specs.Prelude.{OnErr, IfOk};
+ghost use Rattle.std.specs.Prelude.{OnErr, IfOk, IfSome, true, false, ◌||◌};
 ghost use Rattle.std.specs.Option.{option_or};
 ghost use Rattle.publish_path.specs.Links.{address_of, asked_link, link_of, link_to, flowed};
 ghost use Rattle.publish_path.specs.Links.{without};
@@ -15,16 +15,21 @@ ghost use Rattle.link_table.specs.Table.{free_of};
 ghost use Rattle.session_path.specs.Due.{attach_of, count_in, due_in, flow_due};
 ghost use Rattle.session_path.specs.Links.{handle_at, attached_if, drained_if, free_number};
 ghost use Rattle.session_path.specs.Links.{linked_to, with_link_to, with_wanted, told_on, no_links};
-ghost use Rattle.session_path.specs.Links.{limited, all_lost, link_asked, attach_fault, attached};
-ghost use Rattle.session_path.specs.Links.{is_wanted, is_left, named, link_flowed, link_detached};
-ghost use Rattle.session_path.specs.Links.{is_wanting, lowest, given_on, parted};
+ghost use Rattle.session_path.specs.Links.{with_receiver, without_receivers, limited, all_lost};
+ghost use Rattle.session_path.specs.Links.{link_asked, attach_fault, asked_by, attached, is_wanted};
+ghost use Rattle.session_path.specs.Links.{has_number, is_left, is_to_part, is_stage_open, gone_on};
+ghost use Rattle.session_path.specs.Links.{is_stage_failed};
+ghost use Rattle.session_path.specs.Links.{named, link_flowed, link_detached, link_failed};
+ghost use Rattle.session_path.specs.Links.{is_wanting, lowest, given_on, parted, LinksState};
 
 use crate::links::{
-    answered, asked, count_parting, count_wanted, detach_link, drop_left, first_asked_as, first_at,
-    first_left, first_numbered, first_wanted, given, handle, is_link_lower, is_link_open,
-    is_link_parting, lowest_free, put_link, told, told_once, wanted,
+    answered, asked, count_parting, count_wanted, detach_link, drop_left, drop_wanted_receiver,
+    drop_wanted_receivers, failed, first_asked_as, first_at, first_numbered, first_to_part,
+    first_wanted, given, handle, is_link_left, is_link_lower, is_link_open, is_link_parting,
+    is_link_taking, lowest_free, put_link, told, told_once, wanted,
 };
-use crate::path::{AttachDue, AttachFault, FlowDue, PathLink};
+use crate::path::{AttachDue, AttachFault, AttachHeard, FlowDue, PathLink};
+use consume_path::TransferFault;
 use link_table::Handles;
 use open_items::Frames;
 use publish_path::{NextFrame, Publishes, SendLinks};
@@ -48,7 +53,8 @@ pub struct LinkFlow {
     pub echo: bool,
 }
 
-/// The sending links of a session. Contracts see their credit, how far each is, and their handles.
+/// The links of a session. Contracts see the credit of the sending ones, how far each is, and their
+/// handles.
 #[derive(Drop)]
 pub struct PathLinks {
     sending: SendLinks,
@@ -158,6 +164,30 @@ impl PathLinks {
         }
     }
 
+    /// A receiving link is wanted from now on: its number.
+    pub fn want_receiver(&mut self) -> Result<u32, Memory>
+        ensures number { IfOk result (λ n. n ≡ free_number self.old.links) }
+        ensures ok { OnOk result (self.new ≡ with_receiver self.old) }
+        ensures err { OnErr result (self.new ≡ self.old) }
+    {
+        insert_wanted(&mut self.links, true)
+    }
+
+    /// The receiving link that was wanted last, with this number, isn't wanted any more.
+    pub fn unwant(&mut self, link: u32)
+        ensures { (old : LinksState) → self.old ≡ with_receiver old
+            → link ≡ free_number old.links → self.new ≡ old }
+    {
+        drop_wanted_receiver(&mut self.links, link);
+    }
+
+    /// Receiving links that are wanted aren't any more.
+    pub fn drop_receivers(&mut self)
+        ensures { self.new ≡ without_receivers self.old }
+    {
+        drop_wanted_receivers(&mut self.links);
+    }
+
     /// The first attach that is due was sent, under this name. Nothing changes where none is.
     pub fn ask(&mut self, name: u64)
         ensures { self.new ≡ link_asked name self.old }
@@ -173,22 +203,21 @@ impl PathLinks {
         put_link(&mut self.links, asked(l, own, name));
     }
 
-    /// The container's attach came, under this name and with this handle. Nothing changes where it
-    /// is at fault.
-    pub fn attach(&mut self, name: u64, peer: u32, target: bool) -> Option<AttachFault>
-        ensures fault { result ≡ attach_fault name peer self.old }
-        ensures links { self.new ≡ attached name peer target self.old }
+    /// The container's attach came: the link that it answers. Nothing changes where it is at fault.
+    pub fn attach(&mut self, a: AttachHeard) -> Option<PathLink>
+        ensures link { result ≡ asked_by a self.old }
+        ensures links { self.new ≡ attached a self.old }
     {
-        let Some(l) = first_asked_as(self.links.as_slice(), name) else {
-            return Some(AttachFault::NotAsked);
+        let Some(l) = first_asked_as(self.links.as_slice(), a.name, a.role) else {
+            return None;
         };
         let l = *l;
-        if !self.handles.attached(handle(l.stage), peer) {
-            return Some(AttachFault::HandleInUse);
+        if !self.handles.attached(handle(l.stage), a.peer) {
+            return None;
         }
-        attach_if(&mut self.sending, l.link, target);
-        put_link(&mut self.links, answered(l, target));
-        None
+        attach_if(&mut self.sending, l.link, a.there);
+        put_link(&mut self.links, answered(l, a.there));
+        Some(l)
     }
 
     /// The link that this handle of the container names: both ends attached it.
@@ -200,6 +229,13 @@ impl PathLinks {
             Some(l) => Some(*l),
             None => None,
         }
+    }
+
+    /// The link with this number.
+    pub fn numbered(&self, link: u32) -> Option<PathLink>
+        ensures { result ≡ find (has_number link) self.now.links }
+    {
+        first_numbered(self.links.as_slice(), link).copied()
     }
 
     /// A flow came on the link that this handle of the container names; nothing changes where it
@@ -239,6 +275,23 @@ impl PathLinks {
         detach_link(&mut self.links, l);
     }
 
+    /// A transfer passed a limit of the receiving link that this handle of the container names.
+    /// Nothing changes where it names no such link that both ends attached.
+    pub fn fail(&mut self, peer: u32, fault: TransferFault)
+        ensures { self.new ≡ link_failed peer fault self.old }
+    {
+        let Some(own) = self.handles.of_peer(peer) else {
+            return;
+        };
+        let Some(l) = first_at(self.links.as_slice(), own) else {
+            return;
+        };
+        let l = *l;
+        if is_link_taking(&l) {
+            put_link(&mut self.links, failed(l, fault));
+        }
+    }
+
     /// The address of this link's target; empty where there is no such link, or it is lost.
     pub fn address(&self, link: u32) -> &[u8]
         ensures { result.now ≡ address_of self.now.sending link }
@@ -246,11 +299,11 @@ impl PathLinks {
         self.sending.address(link)
     }
 
-    /// Why an attach under this name and handle of the container can't be taken.
-    pub fn attach_fault(&self, name: u64, peer: u32) -> Option<AttachFault>
-        ensures { result ≡ attach_fault name peer self.now }
+    /// Why an attach under this name, for this role and handle of the container can't be taken.
+    pub fn attach_fault(&self, name: u64, role: bool, peer: u32) -> Option<AttachFault>
+        ensures { result ≡ attach_fault name role peer self.now }
     {
-        if first_asked_as(self.links.as_slice(), name).is_none() {
+        if first_asked_as(self.links.as_slice(), name, role).is_none() {
             Some(AttachFault::NotAsked)
         } else if self.handles.of_peer(peer).is_some() {
             Some(AttachFault::HandleInUse)
@@ -276,9 +329,13 @@ impl PathLinks {
         let Some(l) = first_wanted(self.links.as_slice()) else {
             return None;
         };
-        let link = l.link;
+        let l = *l;
         match self.handles.free() {
-            Some(handle) => Some(AttachDue { link, handle }),
+            Some(handle) => Some(AttachDue {
+                link: l.link,
+                handle,
+                receives: l.receives,
+            }),
             None => None,
         }
     }
@@ -293,7 +350,9 @@ impl PathLinks {
 
     /// The link that is given up for its handle: on it no publish is under way.
     fn given_up(&self, publishes: &Publishes) -> Option<PathLink>
-        ensures { result ≡ given_of publishes.now.list self.now }
+        ensures link { result ≡ given_of publishes.now.list self.now }
+        ensures there { IfSome result (λ l. find (has_number l.link) self.now.links ≡ Some l) }
+        ensures stage { IfSome result (λ l. is_stage_open l.stage ≡ true) }
     {
         if self.is_wanting() {
             lowest_idle(self.links.as_slice(), publishes)
@@ -302,12 +361,20 @@ impl PathLinks {
         }
     }
 
+    /// The first link that the container detached or that failed: its detach is due.
+    pub fn first_to_part(&self) -> Option<PathLink>
+        ensures link { result ≡ find is_to_part self.now.links }
+        ensures there { IfSome result (λ l. find (has_number l.link) self.now.links ≡ Some l) }
+    {
+        first_to_part(self.links.as_slice()).copied()
+    }
+
     /// The link whose detach is due.
     pub fn next_detach(&self, publishes: &Publishes) -> Option<PathLink>
         ensures { result
-            ≡ option_or (find is_left self.now.links) (given_of publishes.now.list self.now) }
+            ≡ option_or (find is_to_part self.now.links) (given_of publishes.now.list self.now) }
     {
-        match first_left(self.links.as_slice()) {
+        match first_to_part(self.links.as_slice()) {
             Some(l) => Some(*l),
             None => self.given_up(publishes),
         }
@@ -315,27 +382,55 @@ impl PathLinks {
 
     /// The detach that is due was sent. Nothing changes where none is.
     pub fn part(&mut self, publishes: &Publishes)
-        ensures { self.new ≡ parted (find is_left self.old.links)
+        ensures { self.new ≡ parted (find is_to_part self.old.links)
             (given_of publishes.now.list self.old) self.old }
     {
-        let Some(l) = first_left(self.links.as_slice()) else {
+        let Some(l) = self.first_to_part() else {
             self.give_up(publishes);
             return;
         };
+        if is_link_left(&l) {
+            self.forget(l);
+        } else {
+            self.give(l);
+        }
+    }
+
+    /// The detach of a link that the container detached was sent.
+    fn forget(&mut self, l: PathLink)
+        requires left { is_left l ≡ true }
+        requires there { find (has_number l.link) self.old.links ≡ Some l }
+        ensures { self.new ≡ gone_on (Some l) self.old }
+    {
         let own = handle(l.stage);
         self.handles.detach_sent(own);
         drop_left(&mut self.links, own);
     }
 
-    fn give_up(&mut self, publishes: &Publishes)
-        ensures { self.new ≡ given_on (given_of publishes.now.list self.old) self.old }
+    /// The detach of a link that both ends attached was sent, and the container's is awaited.
+    fn give(&mut self, l: PathLink)
+        requires stage { (is_stage_open l.stage || is_stage_failed l.stage) ≡ true }
+        requires there { find (has_number l.link) self.old.links ≡ Some l }
+        ensures { self.new ≡ given_on (Some l) self.old }
     {
-        let Some(l) = self.given_up(publishes) else {
-            return;
-        };
         self.handles.detach_sent(handle(l.stage));
         remove_one(&mut self.sending, l.link);
         put_link(&mut self.links, given(l));
+    }
+
+    fn give_up(&mut self, publishes: &Publishes)
+        ensures { self.new ≡ given_on (given_of publishes.now.list self.old) self.old }
+    {
+        if let Some(l) = self.given_up(publishes) {
+            self.give(l);
+        }
+    }
+
+    /// The sending link whose flow is due.
+    pub fn owing(&self, publishes: &Publishes) -> Option<PathLink>
+        ensures { result ≡ flow_of publishes.now.list self.now }
+    {
+        first_owing(self.links.as_slice(), publishes, &self.sending).copied()
     }
 
     /// The flow that is due.
@@ -435,7 +530,7 @@ fn first_owing<'a>(
 fn is_idle(l: &PathLink, publishes: &Publishes) -> bool
     ensures { result ≡ is_idle publishes.now.list l.now }
 {
-    is_link_open(l) && publishes.unanswered(Some(l.link)) == 0
+    is_link_open(l) && !l.receives && publishes.unanswered(Some(l.link)) == 0
 }
 
 /// The link with the lowest handle among those on which no publish is under way.
@@ -452,10 +547,10 @@ fn lowest_idle(links: &[PathLink], publishes: &Publishes) -> Option<PathLink>
 }
 
 #[tactic(auto, using(crate::proofs::Credit::attach_none))]
-fn attach_if(sending: &mut SendLinks, link: u32, target: bool)
-    ensures { sending.new ≡ attached_if target link sending.old }
+fn attach_if(sending: &mut SendLinks, link: u32, there: bool)
+    ensures { sending.new ≡ attached_if there link sending.old }
 {
-    if target && sending.get(link).is_some() {
+    if there && sending.get(link).is_some() {
         sending.attached(link);
     }
 }
@@ -487,6 +582,23 @@ fn drain_if(sending: &mut SendLinks, link: u32, drain: bool)
     }
 }
 
+/// A link is wanted: its number.
+fn insert_wanted(links: &mut Vec<PathLink>, receives: bool) -> Result<u32, Memory>
+    ensures number { IfOk result (λ n. n ≡ free_number links.old.items) }
+    ensures within { OnOk result (free_number links.old.items ≤ length links.old.items) }
+    ensures links { OnOk result (links.new.items
+        ≡ with_wanted (free_number links.old.items) receives links.old.items) }
+    ensures links_kept { OnErr result (links.new.items ≡ links.old.items) }
+{
+    let n = lowest_free(links.as_slice());
+    if n >= MOST_LINKS {
+        return Err(Memory);
+    }
+    let link = n as u32;
+    links.insert(n, wanted(link, receives))?;
+    Ok(link)
+}
+
 /// A link to an address that has none is wanted.
 #[tactic(auto, using(crate::proofs::Wanted::remove_insert))]
 fn add_link(
@@ -499,20 +611,15 @@ fn add_link(
     ensures number { IfOk result (λ n. n ≡ free_number links.old.items) }
     ensures within { OnOk result (free_number links.old.items ≤ length links.old.items) }
     ensures links { OnOk result (links.new.items
-        ≡ with_wanted (free_number links.old.items) links.old.items) }
+        ≡ with_wanted (free_number links.old.items) false links.old.items) }
     ensures sending { OnOk result (sending.new
         ≡ sending.old ++ asked_link (free_number links.old.items) address ∷ []) }
     ensures links_kept { OnErr result (links.new.items ≡ links.old.items) }
     ensures sending_kept { OnErr result (sending.new ≡ sending.old) }
 {
-    let n = lowest_free(links.as_slice());
-    if n >= MOST_LINKS {
-        return Err(Memory);
-    }
-    let link = n as u32;
-    links.insert(n, wanted(link))?;
+    let link = insert_wanted(links, false)?;
     if let Err(memory) = sending.add(link, address) {
-        links.remove(n);
+        links.remove(link as usize);
         return Err(memory);
     }
     Ok(link)

@@ -1,23 +1,33 @@
-//! The publishing side of a session: each call is one event, or a question on what is due.
+//! A session with what it carries: each call is one event, or a question on what is due.
 
-ghost use Rattle.std.specs.Prelude.{◌≡◌, ◌≤◌, ◌+◌, ◌<◌, ◌↔◌, [], length, filter, Some, None};
+ghost use Rattle.std.specs.Prelude.{◌≡◌, ◌≤◌, ◌+◌, ◌<◌, ◌↔◌, [], length, filter, find, Some, None};
 ghost use Rattle.std.specs.Prelude.{IsSome, IsNone, IfSome, OnOk, OnErr, IfOk, option_copied};
-ghost use Rattle.publish_path.specs.Links.{address_of};
+ghost use Rattle.consume_path.specs.Links.{is_ask};
 ghost use Rattle.publish_path.specs.Offers.{next_frame_of, rest_of};
 ghost use Rattle.publish_path.specs.Publishes.{is_open};
 ghost use Rattle.session_path.specs.Links.{handle_at, attach_fault, named};
-ghost use Rattle.session_path.specs.Path.{PathState, opened, began, lost, owed, published};
-ghost use Rattle.session_path.specs.Path.{selected, attach_came, flow_came, detach_came};
+ghost use Rattle.session_path.specs.Path.{PathState, opened, began, closed, lost, end_lost, owed};
+ghost use Rattle.session_path.specs.Path.{published, selected, attach_came, flow_came, detach_came};
 ghost use Rattle.session_path.specs.Path.{outcome_came, last_or, attach_sent, link_flow_sent};
 ghost use Rattle.session_path.specs.Path.{transfer_sent, settle_sent, detach_sent, confirm_sent};
-ghost use Rattle.session_path.specs.Path.{ok_sent, lines_told, return_sent};
+ghost use Rattle.session_path.specs.Path.{ok_sent, lines_told, return_sent, receiver_in};
+ghost use Rattle.session_path.specs.Path.{receiver_flowed, grant_in, granting, is_grant_next};
+ghost use Rattle.session_path.specs.Path.{is_answered, still_awaited, without_source};
+ghost use Rattle.session_path.specs.Path.{is_source_of};
 ghost use Rattle.session_path.specs.Due.{first_of, next_attach, next_flow, next_frame, next_settle};
-ghost use Rattle.session_path.specs.Due.{next_detach, next_confirm, next_ok, is_done};
-ghost use Rattle.session_path.specs.Due.{next_return, return_frame};
-ghost use Rattle.session_path.specs.Due.{held, held_size_of};
+ghost use Rattle.session_path.specs.Due.{next_detach, next_confirm, next_ok, is_done, grant_due};
+ghost use Rattle.session_path.specs.Due.{next_return, return_frame, source_of};
+ghost use Rattle.session_path.specs.Due.{address_at, held, held_size_of};
 
-use crate::path::{AttachDue, AttachFault, FlowDue, PathLink, PathOk, Settling};
+mod consuming;
+
+use crate::links::handle;
+use crate::path::{
+    AttachDue, AttachFault, AttachHeard, Awaited, FlowDue, PathLink, PathOk, Settling, Source,
+    Writing,
+};
 use crate::path_links::{LinkFlow, PathLinks};
+use consume_path::{Cause, Deliveries};
 use open_items::Frames;
 use publish_path::{Confirm, NextFrame, NextReturn, Outcome, Publish, Publishes};
 use std::alloc::Global;
@@ -28,11 +38,19 @@ use wire_base::{ByteText, Memory};
 /// So many publishes are taken up in a life.
 const MOST_PUBLISHES: u64 = 4_611_686_018_427_387_904;
 
-/// The publishing side of one session and of the channel that it carries. Contracts see its state.
+/// One session and the channel that it carries: publishes, deliveries, and the links of both.
+/// Contracts see its state.
 #[derive(Drop)]
 pub struct SessionPath {
     publishes: Publishes,
+    deliveries: Deliveries,
     links: PathLinks,
+    /// The addresses of the receiving links.
+    sources: Vec<Source>,
+    /// The basic.consume that waits for the container.
+    awaited: Option<Awaited>,
+    /// The content of a delivery of which frames are to go.
+    writing: Option<Writing>,
     settles: VecDeque<Settling>,
     confirms: bool,
     oks: VecDeque<PathOk>,
@@ -48,7 +66,11 @@ impl Model for SessionPath {
 
     ghost view = { λ a. record {
       publishes = a.publishes;
+      deliveries = a.deliveries;
       links = a.links;
+      sources = a.sources.items;
+      awaited = a.awaited;
+      writing = a.writing;
       settles = a.settles.items;
       confirms = a.confirms;
       oks = a.oks.items;
@@ -72,6 +94,50 @@ fn first_in<T: Copy>(items: &VecDeque<T>) -> Option<T>
     items.front().copied()
 }
 
+/// The basic.consume that waits for this link is to be answered.
+fn is_answered(awaited: Option<Awaited>, link: u32) -> bool
+    ensures { result ≡ is_answered link awaited }
+{
+    match awaited {
+        Some(awaited) => awaited.link == link && !awaited.no_wait,
+        None => false,
+    }
+}
+
+/// What waits once this link is attached.
+fn still_awaited(awaited: Option<Awaited>, link: u32) -> Option<Awaited>
+    ensures { result ≡ still_awaited link awaited }
+{
+    match awaited {
+        Some(awaited) if awaited.link != link => Some(awaited),
+        _ => None,
+    }
+}
+
+fn is_ask(cause: Cause) -> bool
+    ensures { result ≡ is_ask cause }
+{
+    matches!(cause, Cause::Get)
+}
+
+fn is_source_of(x: &Source, link: u32) -> bool
+    ensures { result ≡ is_source_of link x.now }
+{
+    x.link == link
+}
+
+fn first_source(sources: &[Source], link: u32) -> Option<&Source>
+    ensures { option_copied result ≡ find (is_source_of link) sources.now }
+{
+    sources.iter().find(|x| is_source_of(x, link))
+}
+
+fn drop_source(sources: &mut Vec<Source>, link: u32)
+    ensures { sources.new.items ≡ without_source link sources.old.items }
+{
+    sources.retain(|x| !is_source_of(x, link));
+}
+
 impl SessionPath {
     /// The state of a life with this number, before any event. It takes the memory of the handles.
     pub fn new(alloc: Global, life: u64) -> Result<SessionPath, Memory>
@@ -80,7 +146,11 @@ impl SessionPath {
         let links = PathLinks::new(alloc)?;
         Ok(SessionPath {
             publishes: Publishes::new(alloc, life),
+            deliveries: Deliveries::new(alloc, life),
             links,
+            sources: Vec::new(alloc),
+            awaited: None,
+            writing: None,
             settles: VecDeque::new(alloc),
             confirms: false,
             oks: VecDeque::new(alloc),
@@ -95,13 +165,33 @@ impl SessionPath {
         self.links.limit(handle_max);
     }
 
-    /// The session, or the connection, is lost.
+    /// The closing event of the life: what no client settled goes back, no basic.consume waits any
+    /// more, and a content that is begun is cut.
+    pub fn closed(&mut self)
+        ensures { self.new ≡ closed self.old }
+    {
+        self.deliveries.release_all();
+        self.links.drop_receivers();
+        self.awaited = None;
+        self.writing = None;
+    }
+
+    /// The session, or the connection, is lost. That closes the life, where it isn't yet.
     pub fn lost(&mut self)
         ensures { self.new ≡ lost self.old }
     {
+        self.closed();
         self.publishes.lost_all();
         self.links.lose_all();
         self.settles.clear();
+    }
+
+    /// The upstream end is lost or was shut: no disposition goes any more.
+    pub fn end_lost(&mut self)
+        ensures { self.new ≡ end_lost self.old }
+    {
+        self.lost();
+        self.deliveries.lost_all();
     }
 
     /// confirm.select was taken up.
@@ -143,13 +233,25 @@ impl SessionPath {
         Ok(())
     }
 
-    /// The container's attach came, under the name with this number, with its handle, and with a
-    /// target or none. Nothing changes where it is at fault.
-    pub fn attach_came(&mut self, name: u64, peer: u32, target: bool) -> Option<AttachFault>
-        ensures fault { result ≡ attach_fault name peer self.old.links }
-        ensures path { self.new ≡ attach_came name peer target self.old }
+    /// The container's attach came. One at fault changes nothing. That of a receiving link with a
+    /// source begins its deliveries, and an answer to the basic.consume that waits for it is due.
+    pub fn attach_came(&mut self, attach: AttachHeard) -> Result<(), Memory>
+        ensures ok { OnOk result (self.new ≡ attach_came attach self.old) }
+        ensures err { OnErr result (self.new ≡ self.old) }
     {
-        self.links.attach(name, peer, target)
+        self.oks.try_reserve(1)?;
+        let Some(l) = self.links.attach(attach) else {
+            return Ok(());
+        };
+        if !l.receives || !attach.there {
+            return Ok(());
+        }
+        self.deliveries.link_attached(l.link, attach.count);
+        if is_answered(self.awaited, l.link) {
+            self.oks.push_back(PathOk::Consume(l.link))?;
+        }
+        self.awaited = still_awaited(self.awaited, l.link);
+        Ok(())
     }
 
     /// The link that this handle of the container names: both ends attached it. A flow, a transfer
@@ -160,11 +262,12 @@ impl SessionPath {
         self.links.named(peer)
     }
 
-    /// Why an attach under this name and handle of the container can't be taken.
-    pub fn attach_fault(&self, name: u64, peer: u32) -> Option<AttachFault>
-        ensures { result ≡ attach_fault name peer self.now.links }
+    /// Why an attach under this name and handle of the container, with this role of it, can't be
+    /// taken.
+    pub fn attach_fault(&self, name: u64, role: bool, peer: u32) -> Option<AttachFault>
+        ensures { result ≡ attach_fault name role peer self.now.links }
     {
-        self.links.attach_fault(name, peer)
+        self.links.attach_fault(name, role, peer)
     }
 
     /// The handle of a link, by its number; 0 where it has none.
@@ -174,6 +277,26 @@ impl SessionPath {
         self.links.handle_of(link)
     }
 
+    /// The receiving link that this handle of the container names.
+    fn receiver(&self, peer: u32) -> Option<PathLink>
+        ensures { result ≡ receiver_in (named peer self.now.links) }
+    {
+        let l = self.links.named(peer)?;
+        if l.receives { Some(l) } else { None }
+    }
+
+    /// A flow came on this receiving link.
+    fn receiver_flow(&mut self, l: PathLink, count: Option<u32>, echo: bool)
+        ensures { self.new ≡ receiver_flowed l count echo self.old }
+    {
+        if let Some(count) = count {
+            self.deliveries.link_flow(l.link, count);
+        }
+        if echo {
+            self.deliveries.link_echo(l.link);
+        }
+    }
+
     /// A flow came under this handle of the container. Nothing changes where it names no link.
     /// `Memory` if a count of the link is full.
     pub fn flow_came(&mut self, peer: u32, flow: LinkFlow) -> Result<(), Memory>
@@ -181,7 +304,13 @@ impl SessionPath {
             ≡ flow_came peer flow.count flow.credit flow.drain flow.echo self.old) }
         ensures err { OnErr result (self.new ≡ self.old) }
     {
-        self.links.flow(peer, flow)
+        match self.receiver(peer) {
+            Some(l) => {
+                self.receiver_flow(l, flow.count, flow.echo);
+                Ok(())
+            }
+            None => self.links.flow(peer, flow),
+        }
     }
 
     /// A detach came under this handle of the container; its error says that there is no such node,
@@ -190,7 +319,9 @@ impl SessionPath {
         ensures { self.new ≡ detach_came peer not_found self.old }
     {
         if let Some(l) = self.links.named(peer) {
-            self.publishes.lost_link(l.link, not_found);
+            if !l.receives {
+                self.publishes.lost_link(l.link, not_found);
+            }
             self.links.detach(peer);
         }
     }
@@ -228,7 +359,11 @@ impl SessionPath {
     pub fn link_flow_sent(&mut self)
         ensures { self.new ≡ link_flow_sent self.old }
     {
-        self.links.flow_sent(&self.publishes);
+        if !self.is_grant_next() {
+            self.links.flow_sent(&self.publishes);
+        } else if self.deliveries.next_grant().is_some() {
+            self.deliveries.granted();
+        }
     }
 
     /// This frame of a transfer was sent, with so many bytes of its publish's payload.
@@ -247,11 +382,18 @@ impl SessionPath {
         self.settles.pop_front();
     }
 
-    /// The detach that is due was sent.
+    /// The detach that is due was sent. A receiving link has no deliveries any more.
     pub fn detach_sent(&mut self)
         ensures { self.new ≡ detach_sent self.old }
     {
+        let parting = self.links.first_to_part();
         self.links.part(&self.publishes);
+        if let Some(l) = parting
+            && l.receives
+        {
+            self.deliveries.drop_link(l.link);
+            drop_source(&mut self.sources, l.link);
+        }
     }
 
     /// The confirm that is due was sent.
@@ -299,6 +441,7 @@ impl SessionPath {
         ensures { self.new ≡ lines_told self.old }
     {
         self.publishes.lines_told();
+        self.deliveries.lines_told();
     }
 
     /// The attach that is due.
@@ -308,19 +451,73 @@ impl SessionPath {
         self.links.next_attach()
     }
 
-    /// The address of this link's target, which its attach states (AMQP 1.0 3.5.4); empty where
-    /// there is no such link, or one end detached it.
-    pub fn address(&self, link: u32) -> &[u8]
-        ensures { result.now ≡ address_of self.now.links.sending link }
+    /// The address of this receiving link's source; empty where there is none.
+    fn source(&self, link: u32) -> &[u8]
+        ensures { result.now ≡ source_of link self.now }
     {
-        self.links.address(link)
+        match first_source(self.sources.as_slice(), link) {
+            Some(x) => x.address.as_slice(),
+            None => &[],
+        }
+    }
+
+    /// The address of the source or target that this attach states (AMQP 1.0 3.5.3, 3.5.4); empty
+    /// where there is no such link, or one end detached it.
+    pub fn address(&self, attach: AttachDue) -> &[u8]
+        ensures { result.now ≡ address_at attach self.now }
+    {
+        if attach.receives {
+            self.source(attach.link)
+        } else {
+            self.links.address(attach.link)
+        }
+    }
+
+    /// The receiving link whose flow is due.
+    fn granting(&self) -> Option<PathLink>
+        ensures { result ≡ granting self.now }
+    {
+        let grant = self.deliveries.next_grant()?;
+        self.links.numbered(grant.link)
+    }
+
+    /// The flow that is due is of a receiving link: no sending link of a lower number owes one.
+    fn is_grant_next(&self) -> bool
+        ensures { result ≡ is_grant_next self.now }
+    {
+        let Some(l) = self.granting() else {
+            return false;
+        };
+        match self.links.owing(&self.publishes) {
+            Some(sending) => l.link < sending.link,
+            None => true,
+        }
+    }
+
+    fn grant_due(&self) -> Option<FlowDue>
+        ensures { result ≡ grant_due (granting self.now) (grant_in self.now) self.now.deliveries }
+    {
+        let l = self.granting()?;
+        let grant = self.deliveries.next_grant()?;
+        Some(FlowDue {
+            link: l.link,
+            handle: handle(l.stage),
+            count: self.deliveries.count_of(grant.link),
+            credit: grant.credit,
+            drains: false,
+            draining: is_ask(grant.cause),
+        })
     }
 
     /// The flow on a link that is due.
     pub fn next_flow(&self) -> Option<FlowDue>
         ensures { result ≡ next_flow self.now }
     {
-        self.links.next_flow(&self.publishes)
+        if self.is_grant_next() {
+            self.grant_due()
+        } else {
+            self.links.next_flow(&self.publishes)
+        }
     }
 
     /// The frame of a transfer that is due, where the container takes so many more frames.

@@ -1,16 +1,9 @@
-use Rattle.std.proofs.Common.{◌≡◌, ◌∙◌, Some, sym, ap}
-use Rattle.std.specs.Prelude.{find, option_copied}
-use Rattle.session_path.specs.Links.{is_left}
-use Rattle.session_path.proofs.Ties.{is_unsent_at, gone_tied}
+use Rattle.std.proofs.Common.{◌∙◌, sym}
+use Rattle.session_path.specs.Links.{is_to_part}
+use Rattle.session_path.proofs.Tied.{failed_else}
+use Rattle.session_path.proofs.Ties.{found_passes}
 use Rattle.session_path.proofs.path_links.PathLinks.part.Goals as goal
 
-pub detach_sent-requires : goal.detach_sent-requires
-detach_sent-requires c =
-    let e : find (is_left) c.self.inside.links.items ≡ Some c.in-Some.l.now = sym (ap (find (is_left)) c.as_slice.ensures.value) ∙ sym c.first_left.ensures ∙ ap option_copied c.in-Some.is in
-    rw c.handle-own.ensures (is_unsent_at _ _ _ c.in-Some.l.now c.self.invariant e)
-
-pub invariant_of-self : goal.invariant_of-self
-invariant_of-self c =
-    let e : find (is_left) c.self.inside.links.items ≡ Some c.in-Some.l.now = sym (ap (find (is_left)) c.as_slice.ensures.value) ∙ sym c.first_left.ensures ∙ ap option_copied c.in-Some.is in
-    rw (c.drop_left.ensures, c.detach_sent.ensures, c.handle-own.ensures)
-    (gone_tied _ _ _ c.in-Some.l.now c.self.invariant e)
+pub give-requires-clause-stage : goal.give-requires-clause-stage
+give-requires-clause-stage c =
+    failed_else c.in-Some.l (found_passes is_to_part c.args.self.now.links c.in-Some.l (sym c.first_to_part.ensures.link ∙ c.in-Some.is)) (sym c.is_link_left.ensures ∙ c.if-is_link_left.false)

@@ -1,4 +1,4 @@
-use Rattle.std.proofs.Common.{◌≡◌, ◌∙◌, List, [], ◌∷◌, ◌++◌, ap}
+use Rattle.std.proofs.Common.{◌≡◌, ◌∙◌, List, [], ◌∷◌, ◌++◌, ap, false}
 use Rattle.std.specs.Prelude.{remove}
 use Rattle.link_table.specs.Table.{HandleTable}
 use Rattle.publish_path.specs.Links.{asked_link, without}
@@ -12,7 +12,7 @@ links_back : (c : goal.After-remove) → c.remove.new.self.items ≡ c.self.insi
 links_back c =
     c.remove.ensures.items
     ∙ (ap (λ xs. remove xs c.in_ok-link.link) c.in_ok-link.ensures.links
-    ∙ (ap (λ n. remove (with_wanted (free_number c.self.inside.links.items) c.self.inside.links.items) n) c.in_ok-link.ensures.number
+    ∙ (ap (λ n. remove (with_wanted (free_number c.self.inside.links.items) false c.self.inside.links.items) n) c.in_ok-link.ensures.number
     ∙ remove_insert c.self.inside.links.items (free_number c.self.inside.links.items) _ c.in_ok-link.ensures.within))
 
 sending_back : (c : goal.After-remove) → c.remove_one.new.sending ≡ c.self.inside.sending

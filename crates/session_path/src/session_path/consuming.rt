@@ -1,0 +1,366 @@
+//! The consumers of the channel: requests, transfers, delivers and dispositions.
+
+ghost use Rattle.std.specs.Prelude.{◌≡◌, ℕ, Bool, List, true, false, length, filter, is_some, Some};
+ghost use Rattle.std.specs.Prelude.{Option, OnOk, OnErr, IfOk, option_copied};
+ghost use Rattle.consume_path.specs.declared.delivery.Content.{Content};
+ghost use Rattle.consume_path.specs.Items.{is_open};
+ghost use Rattle.consume_path.specs.Links.{is_tag_used};
+ghost use Rattle.consume_path.specs.Offers.{content_of, is_known};
+ghost use Rattle.session_path.specs.Links.{is_stage_whole, named};
+ghost use Rattle.session_path.specs.Path.{numbered_tag, free_from, tag_for, consumed, answer_came};
+ghost use Rattle.session_path.specs.Path.{receiver_in, taking, transfer_fault, is_last};
+ghost use Rattle.session_path.specs.Path.{transfer_came, failed, dispose_sent, deliver_sent};
+ghost use Rattle.session_path.specs.Path.{frames_of, content_sent, content_whole};
+ghost use Rattle.session_path.specs.Due.{next_dispose, next_deliver, next_content, content_frame};
+ghost use Rattle.session_path.specs.Due.{content_due, tag_of, queue_at, partial_on, is_waiting};
+
+use super::SessionPath;
+use crate::path::{Awaited, ContentDue, DeliverDue, PathLink, Source, Stage, Writing};
+use consume_path::{
+    Content, Deliveries, Delivery, NextSettle, Part, RecvKind, Settle, TransferFault,
+};
+use itoa::Buffer;
+use std::alloc::Global;
+use wire_base::{ByteText, Memory};
+
+/// So many delivery tags are given in a life.
+const MOST_TAGS: u64 = 4_611_686_018_427_387_904;
+
+/// The consumer tag with this number.
+fn numbered_tag(alloc: Global, number: u64) -> Result<ByteText, Memory>
+    ensures { IfOk result (λ tag. tag ≡ numbered_tag number) }
+{
+    let mut tag = ByteText::copy_of(alloc, b"ctag-")?;
+    let mut digits = Buffer::new();
+    tag.append(digits.format(number).as_bytes())?;
+    Ok(tag)
+}
+
+/// A consumer tag that isn't in use on the channel: that with the least number from 1.
+fn free_tag(alloc: Global, deliveries: &Deliveries) -> Result<ByteText, Memory>
+    ensures { IfOk result (λ tag. tag
+        ≡ numbered_tag (free_from (length deliveries.now.links) 1 deliveries.now.links)) }
+{
+    let mut number = 1;
+    for _ in 0..deliveries.links().len() {
+        let tag = numbered_tag(alloc, number)?;
+        if !deliveries.has_tag(tag.as_slice()) {
+            return Ok(tag);
+        }
+        number += 1;
+    }
+    numbered_tag(alloc, number)
+}
+
+/// The consumer tag that was asked for, or one that is free where that is empty.
+fn tag_for(alloc: Global, tag: ByteText, deliveries: &Deliveries) -> Result<ByteText, Memory>
+    ensures { IfOk result (λ own. own ≡ tag_for tag deliveries.now.links) }
+{
+    if tag.as_slice().is_empty() {
+        free_tag(alloc, deliveries)
+    } else {
+        Ok(tag)
+    }
+}
+
+/// Both ends attached it, and none detached or is to.
+fn is_stage_whole(stage: Stage) -> bool
+    ensures { result ≡ is_stage_whole stage }
+{
+    matches!(stage, Stage::Open(_) | Stage::Refused(_))
+}
+
+/// The frame that is due of so many.
+fn content_due(count: usize, content: Writing) -> Option<ContentDue>
+    ensures { result ≡ content_due count content }
+{
+    if content.gone < count {
+        Some(ContentDue {
+            tag: content.tag,
+            last: content.gone + 1 == count,
+        })
+    } else {
+        None
+    }
+}
+
+impl SessionPath {
+    // ---- requests of the client
+
+    /// basic.consume of this queue was taken up; it waits for the container's attach. An empty tag
+    /// stands for one that isn't in use.
+    pub fn consume(
+        &mut self,
+        address: ByteText,
+        tag: ByteText,
+        no_ack: bool,
+        no_wait: bool,
+    ) -> Result<(), Memory>
+        ensures ok { OnOk result (self.new ≡ consumed address tag no_ack no_wait self.old) }
+        ensures err { OnErr result (self.new ≡ self.old) }
+    {
+        let tag = tag_for(*self.sources.allocator(), tag, &self.deliveries)?;
+        self.sources.try_reserve(1)?;
+        let link = self.links.want_receiver()?;
+        let kind = RecvKind::Consumer { tag, no_ack };
+        if let Err(memory) = self.deliveries.add_link(link, kind) {
+            self.links.unwant(link);
+            return Err(memory);
+        }
+        self.sources.push(Source { link, address })?;
+        self.awaited = Some(Awaited { link, no_wait });
+        Ok(())
+    }
+
+    /// A consumer of the channel has this tag (AMQP 0-9-1 1.8.3.3).
+    pub fn has_tag(&self, tag: &[u8]) -> bool
+        ensures { result ≡ is_tag_used tag.now self.now.deliveries.links }
+    {
+        self.deliveries.has_tag(tag)
+    }
+
+    /// A basic.consume waits for the container.
+    pub fn waits(&self) -> bool
+        ensures { result ≡ is_waiting self.now }
+    {
+        self.awaited.is_some()
+    }
+
+    /// A basic.ack, nack or reject may name this tag: it is outstanding, or all are meant.
+    pub fn knows(&self, tag: u64, multiple: bool) -> bool
+        ensures { result ≡ is_known tag multiple self.now.deliveries.list }
+    {
+        self.deliveries.knows(tag, multiple)
+    }
+
+    /// A basic.ack, nack or reject was taken up. `knows` says before whether it may name the tag.
+    pub fn answer_came(&mut self, tag: u64, multiple: bool, settle: Settle)
+        ensures { self.new ≡ answer_came tag multiple settle self.old }
+    {
+        self.deliveries.answered(tag, multiple, settle);
+    }
+
+    // ---- transfers of the container
+
+    /// This handle of the container names a receiving link.
+    pub fn is_receiver(&self, peer: u32) -> bool
+        ensures { result ≡ is_some (receiver_in (named peer self.now.links)) }
+    {
+        self.receiver(peer).is_some()
+    }
+
+    /// The link on which a transfer under this handle counts.
+    fn taking(&self, peer: u32) -> Option<PathLink>
+        ensures { result ≡ taking peer self.now }
+    {
+        let l = self.links.named(peer)?;
+        if l.receives && is_stage_whole(l.stage) {
+            Some(l)
+        } else {
+            None
+        }
+    }
+
+    /// What is wrong with a transfer under this handle of the container, with so many bytes of
+    /// payload.
+    pub fn transfer_fault(&self, peer: u32, part: Part, size: usize) -> Option<TransferFault>
+        ensures { result ≡ transfer_fault peer part size self.now }
+    {
+        match self.taking(peer) {
+            Some(l) => self.deliveries.fault(l.link, part, size),
+            None => None,
+        }
+    }
+
+    /// A transfer came that doesn't end its delivery, with this part of the payload.
+    /// `transfer_fault` says before whether it is at fault.
+    pub fn transfer(&mut self, peer: u32, part: Part, payload: &[u8]) -> Result<(), Memory>
+        requires { is_last part ≡ false }
+        ensures ok { (image : Option Content) (again : Bool) → OnOk result
+            (self.new ≡ transfer_came peer part payload.now image again self.old) }
+        ensures err { OnErr result (self.new ≡ self.old) }
+    {
+        match self.taking(peer) {
+            Some(l) => self.deliveries.join(l.link, part, payload),
+            None => Ok(()),
+        }
+    }
+
+    /// A transfer came that ends its delivery, with what goes to the client of that. It has none
+    /// where it has no image. `again` says whether it was delivered before.
+    pub fn arrive(
+        &mut self,
+        peer: u32,
+        part: Part,
+        image: Option<Content>,
+        again: bool,
+    ) -> Result<(), Memory>
+        requires { is_last part ≡ true }
+        ensures ok { (payload : List ℕ) → OnOk result
+            (self.new ≡ transfer_came peer part payload image again self.old) }
+        ensures err { OnErr result (self.new ≡ self.old) }
+    {
+        match self.taking(peer) {
+            Some(l) => self.deliveries.last_transfer(l.link, part, image, again),
+            None => Ok(()),
+        }
+    }
+
+    /// The payload, up to now, of the delivery that goes on under this handle of the container.
+    pub fn partial(&self, peer: u32) -> &[u8]
+        ensures { result.now ≡ partial_on (taking peer self.now) self.now.deliveries }
+    {
+        match self.taking(peer) {
+            Some(l) => self.deliveries.payload(l.link),
+            None => &[],
+        }
+    }
+
+    /// The queue that it comes from.
+    pub fn queue(&self, peer: u32) -> &[u8]
+        ensures { result.now ≡ queue_at peer self.now }
+    {
+        match self.taking(peer) {
+            Some(l) => self.source(l.link),
+            None => &[],
+        }
+    }
+
+    /// A transfer under this handle of the container passed a limit of its link.
+    pub fn failed(&mut self, peer: u32, fault: TransferFault)
+        ensures { self.new ≡ failed peer fault self.old }
+    {
+        self.links.fail(peer, fault);
+    }
+
+    // ---- dispositions of role receiver
+
+    /// The disposition of role receiver that is due (AMQP 1.0 2.7.6).
+    pub fn next_dispose(&self) -> Option<NextSettle>
+        ensures { result ≡ next_dispose self.now }
+    {
+        self.deliveries.next_settle()
+    }
+
+    /// It was sent. Nothing changes where none is due.
+    pub fn dispose_sent(&mut self)
+        ensures { self.new ≡ dispose_sent self.old }
+    {
+        if self.deliveries.next_settle().is_some() {
+            self.deliveries.settled();
+        }
+    }
+
+    // ---- delivers
+
+    /// The deliver that is due.
+    pub fn next_deliver(&self) -> Option<DeliverDue>
+        ensures { result ≡ next_deliver self.now }
+    {
+        let tags = self.deliveries.tags();
+        if tags >= MOST_TAGS {
+            return None;
+        }
+        let next = self.deliveries.next_deliver()?;
+        Some(DeliverDue {
+            next,
+            tag: tags + 1,
+        })
+    }
+
+    /// This deliver was sent. Its content goes behind it.
+    pub fn deliver_sent(&mut self, due: DeliverDue)
+        requires { next_deliver self.old ≡ Some due }
+        ensures { self.new ≡ deliver_sent due self.old }
+    {
+        self.deliveries.commit_deliver(due.next);
+        self.writing = Some(Writing {
+            id: due.next.id,
+            tag: due.tag,
+            gone: 0,
+        });
+    }
+
+    /// How many frames the content of this delivery has.
+    fn frame_count(&self, id: u32) -> usize
+        ensures { result ≡ length (frames_of id self.now) }
+    {
+        match self.deliveries.message(id) {
+            Some(content) => content.frames.len(),
+            None => 0,
+        }
+    }
+
+    /// The frame of a content that is due.
+    pub fn next_content(&self) -> Option<ContentDue>
+        ensures { result ≡ next_content self.now }
+    {
+        let content = self.writing?;
+        content_due(self.frame_count(content.id), content)
+    }
+
+    /// Its bytes.
+    pub fn content_frame(&self) -> Option<&ByteText>
+        ensures { option_copied result ≡ content_frame self.now }
+    {
+        let content = self.writing?;
+        match self.deliveries.message(content.id) {
+            Some(whole) => whole.frames.get(content.gone),
+            None => None,
+        }
+    }
+
+    /// It was sent. Nothing changes where none is due.
+    pub fn content_sent(&mut self)
+        ensures { self.new ≡ content_sent self.old }
+    {
+        let Some(content) = self.writing else {
+            return;
+        };
+        let count = self.frame_count(content.id);
+        self.writing = if content.gone < count && content.gone + 1 < count {
+            Some(Writing {
+                gone: content.gone + 1,
+                ..content
+            })
+        } else {
+            None
+        };
+    }
+
+    /// The last byte of the content with this delivery tag was taken.
+    pub fn content_whole(&mut self, tag: u64)
+        ensures { self.new ≡ content_whole tag self.old }
+    {
+        self.deliveries.written(tag);
+    }
+
+    /// The tag of the consumer of this link; empty where there is none.
+    pub fn consumer_tag(&self, link: u32) -> &[u8]
+        ensures { result.now ≡ tag_of link self.now }
+    {
+        self.deliveries.tag_of(link)
+    }
+
+    /// What goes to the client of the delivery with this delivery-id.
+    pub fn content(&self, id: u32) -> Option<&Content>
+        ensures { option_copied result ≡ content_of id self.now.deliveries.list }
+    {
+        self.deliveries.message(id)
+    }
+
+    /// The number of the life, as its deliveries have it.
+    pub fn delivery_life(&self) -> u64
+        ensures { result ≡ self.now.deliveries.life }
+    {
+        self.deliveries.life()
+    }
+
+    /// The deliveries, of which some have a line that the report is owed; and among them such for
+    /// which nothing is to come any more.
+    pub fn deliveries(&self) -> &[Delivery]
+        ensures { filter is_open result.now ≡ self.now.deliveries.list }
+    {
+        self.deliveries.items()
+    }
+}
