@@ -18,7 +18,7 @@ use Rattle.publish_path.specs.Journal.{Fate, IsTaken, confirms_of, fate_of, is_t
 use Rattle.publish_path.specs.Journal.{numbers_of}
 use Rattle.publish_path.specs.Laws.{is_returning, is_to_begin, return_at, return_by, return_frame_by}
 use Rattle.publish_path.specs.Offers.{next_return_of, return_frame_of}
-use Rattle.publish_path.specs.Publishes.{ConfirmSent, FrameSent, LinesTold, LinkGone, OutcomeCame}
+use Rattle.publish_path.specs.Publishes.{ConfirmSent, LinesTold, LinkGone, OutcomeCame}
 use Rattle.publish_path.specs.Publishes.{PublishEvent, PublishState, ReturnSent, TakenUp, next_number}
 use Rattle.publish_path.specs.Publishes.{after_events as publishes_after, open_after}
 use Rattle.publish_path.specs.declared.publish.NextReturn.{NextReturn}
@@ -26,9 +26,8 @@ use Rattle.session_path.specs.Due.{next_return, return_frame}
 use Rattle.session_path.specs.Events as event
 use Rattle.session_path.specs.Events.{PathEvent, after_events, losses, publishes_of}
 use Rattle.session_path.specs.Links.{named}
-use Rattle.session_path.specs.Path.{PathState}
+use Rattle.session_path.specs.Path.{PathState, sender_in}
 use Rattle.session_path.specs.declared.path.PathLink.{PathLink}
-use Rattle.session_path.specs.declared.path.PathOk.TheVariants as ok
 use Rattle.gate_model.specs.declared.channel.ChannelUnit.{ChannelUnit}
 use Rattle.gate_model.specs.declared.channel.ChannelUnit.TheVariants as to_client
 use Rattle.gate_model.specs.declared.channel.SessionUnit.TheVariants as unit
@@ -39,12 +38,13 @@ use Rattle.gate_model.specs.declared.reply.Reply.{Reply}
 use Rattle.gate_model.specs.declared.reply.Reply.TheVariants as reply
 use Rattle.gate_model.specs.declared.setup.Route.{Route}
 use Rattle.gate_model.specs.Due.{carries_back, or_no_bytes}
-use Rattle.gate_model.specs.Folds.{connection, peers, ran_out_in, routes_in}
+use Rattle.gate_model.specs.Folds.{connection, going_in, paths_in, peers, ran_out_in, routes_in}
 use Rattle.gate_model.specs.Once.{is_channel_open, is_method_on}
 use Rattle.gate_model.specs.Paths.{or_no_path, path_at, slot_at}
 use Rattle.gate_model.specs.Picks.{ArePicks}
 use Rattle.gate_model.specs.Publishing.{MayGoBack, MayReturn, Returns, back_by, back_in, back_wanted}
-use Rattle.gate_model.specs.Publishing.{losing, method_events, one_more, owed_unless, path_events}
+use Rattle.gate_model.specs.Publishing.{losing, losing_up, method_events, one_more, path_events, refusal_events}
+use Rattle.gate_model.specs.Publishing.{told_event}
 use Rattle.gate_model.specs.Publishing.{path_life, publishes_in, reply_events, returned_by}
 use Rattle.gate_model.specs.Publishing.{returned_in, text_wanted, up_events, want_events}
 use Rattle.gate_model.specs.Requests.{address_of, message_of}
@@ -53,8 +53,9 @@ use Rattle.gate_model.specs.State.{Began, Came, Fed, Gave, Heard, Joined, Lost, 
 use Rattle.gate_model.specs.State.{Queued, Silent, Step, TakenUp, Whole, before, conn_step, want_in}
 use Rattle.gate_model.proofs.Fates.{IsLived, IsNext, PublishesAre, is_next, least_passes, lived}
 use Rattle.gate_model.proofs.Firsts.{OfChannel, goes_as}
-use Rattle.gate_model.proofs.Wholes.{ArePlain, both_plain, fallen_plain, heard_plain_in, if_plain}
-use Rattle.gate_model.proofs.Wholes.{is_plain, lost_plain, owed_plain}
+use Rattle.gate_model.proofs.Wholes.{ArePlain, both_plain, closed_plain, fallen_plain, heard_plain_in, if_plain}
+use Rattle.gate_model.proofs.Wholes.{is_plain, is_return, lost_plain, method_plain, refusal_plain, told_plain}
+use Rattle.gate_model.proofs.Wholes.{whole_plain}
 
 -- ---- the laws of the publishes
 
@@ -160,20 +161,30 @@ plain life es (event.Began handle_max) e t = t
 plain life es (event.Published address payload back) e t = absurd cc
 plain life es event.Selected e t = t
 plain life es (event.Owed ok) e t = t
-plain life es (event.AttachCame name peer target) e t = t
+plain life es (event.Consumed address tag no_ack no_wait) e t = t
+plain life es (event.AnswerCame tag multiple settle) e t = t
+plain life es (event.AttachCame attach) e t = t
 plain life es (event.FlowCame peer count credit drain echo) e t = t
-plain life es (event.DetachCame peer not_found) e t = loses not_found (named peer (after_events life es).links) t
+plain life es (event.DetachCame peer not_found) e t = loses not_found (sender_in (named peer (after_events life es).links)) t
+plain life es (event.TransferCame peer part payload image again) e t = t
+plain life es (event.LinkFailed peer fault) e t = t
 plain life es (event.DispositionCame first last outcome settled) e t = quiet (OutcomeCame first _ outcome) refl refl refl t
 plain life es (event.AttachSent name) e t = t
 plain life es event.LinkFlowSent e t = t
 plain life es (event.TransferSent frame count) e t = absurd cc
 plain life es (event.SettleSent settling) e t = t
+plain life es event.DisposeSent e t = t
 plain life es event.DetachSent e t = t
 plain life es (event.ConfirmWent confirm) e t = quiet (ConfirmSent confirm) refl refl refl t
 plain life es (event.ReturnWent number) e t = absurd cc
+plain life es (event.DeliverSent due) e t = t
+plain life es event.ContentSent e t = t
+plain life es (event.ContentWhole tag) e t = t
 plain life es (event.OkSent ok) e t = t
 plain life es event.LinesWent e t = quiet LinesTold refl refl refl t
+plain life es event.LifeClosed e t = t
 plain life es event.SessionLost e t = quiet (LinkGone None false) refl refl refl t
+plain life es event.UpLost e t = quiet (LinkGone None false) refl refl refl t
 
 takes : {h : List PublishEvent} {number count gone : ℕ} {old : List (List ℕ)} (k : ℕ) (confirm : Bool) (text : List ℕ) (back : List (List ℕ)) → Returned h number count old gone
     → Returned (TakenUp k confirm text back ∷ h) number (count + 1) (if number == count + 1 then back else old) gone
@@ -245,16 +256,25 @@ BacksBy opens life xs text new o es number count back gone =
     Backs (if opens then Some life else o) (if opens then [] else xs ++ es) number (if opens then 0 else one_more text count)
     (if opens then [] else back_by new (number == count + 1) back) (if opens then 0 else gone)
 
+-- a method that opens no channel
+calls : (m : Method91) (o : Option ℕ) (es : List PathEvent) (number count gone : ℕ) (back : List (List ℕ)) → Backs o es number count back gone
+    → Backs o (method_events m ++ es) number count back gone
+calls m o es number count gone back t = plain_backs o (method_events m) es number count gone back (method_plain m) t
+
 method_backs : (b : Bool) (m : Method91) (life : ℕ) (o : Option ℕ) (es : List PathEvent) (number count gone : ℕ) (back : List (List ℕ)) → Backs o es number count back gone
     → BacksBy (b && is_channel_open m) life (if b then method_events m else []) None None o es number count back gone
 method_backs false m life o es number count gone back t = t
 method_backs true method.ChannelOpen life o es number count gone back t = fresh number
-method_backs true (method.ChannelFlow active) life o es number count gone back t = plain_backs o (event.Owed ok.Flow ∷ []) es number count gone back (refl, tt) t
+method_backs true (method.ChannelFlow active) life o es number count gone back t = calls (method.ChannelFlow active) o es number count gone back t
 method_backs true (method.ExchangeDeclare name kind passive durable deletes internal no_wait arguments) life o es number count gone back t =
-    plain_backs o (owed_unless no_wait (event.Owed ok.Declare)) es number count gone back (owed_plain no_wait ok.Declare) t
-method_backs true (method.ConfirmSelect no_wait) life o es number count gone back t =
-    plain_backs o (owed_unless no_wait (event.Owed ok.Select) ++ event.Selected ∷ []) es number count gone back
-    (both_plain _ _ (owed_plain no_wait ok.Select) (refl, tt)) t
+    calls (method.ExchangeDeclare name kind passive durable deletes internal no_wait arguments) o es number count gone back t
+method_backs true (method.ConfirmSelect no_wait) life o es number count gone back t = calls (method.ConfirmSelect no_wait) o es number count gone back t
+method_backs true (method.BasicConsume queue tag no_local no_ack exclusive no_wait arguments) life o es number count gone back t =
+    calls (method.BasicConsume queue tag no_local no_ack exclusive no_wait arguments) o es number count gone back t
+method_backs true (method.BasicAck tag multiple) life o es number count gone back t = calls (method.BasicAck tag multiple) o es number count gone back t
+method_backs true (method.BasicReject tag requeue) life o es number count gone back t = calls (method.BasicReject tag requeue) o es number count gone back t
+method_backs true (method.BasicNack tag multiple requeue) life o es number count gone back t = calls (method.BasicNack tag multiple requeue) o es number count gone back t
+method_backs true (method.ChannelClose code text class id) life o es number count gone back t = calls (method.ChannelClose code text class id) o es number count gone back t
 method_backs true m life o es number count gone back t = t
 
 want_backs : (rs : List Route) (limit n life : ℕ) (x : Want91) (o : Option ℕ) (es : List PathEvent) (number count gone : ℕ) (back : List (List ℕ)) → Backs o es number count back gone
@@ -278,9 +298,9 @@ want_backs rs limit n life (want.Publish k m c) o es number count gone back t = 
     by true = taken_backs o es number count gone back (address_of rs (message_of m c)) text new t
     by false = t
 want_backs rs limit n life (want.ChannelCloseOk k) o es number count gone back t = t
-want_backs rs limit n life want.Close o es number count gone back t = t
+want_backs rs limit n life want.Close o es number count gone back t = plain_backs o (event.LifeClosed ∷ []) es number count gone back (refl, tt) t
 want_backs rs limit n life want.CloseOk o es number count gone back t = t
-want_backs rs limit n life (want.Refuse r) o es number count gone back t = t
+want_backs rs limit n life (want.Refuse r) o es number count gone back t = plain_backs o (refusal_events n r) es number count gone back (refusal_plain n r) t
 
 -- ---- steps
 
@@ -291,10 +311,10 @@ came_backs : (h : List Step) (n number : ℕ) (u : Unit91) → BacksIn h n numbe
 came_backs h n number u t = by (ran_out_in h)
   where
     x : Want91
-    x = want_in (routes_in h) (connection h) u
+    x = want_in (routes_in h) (paths_in h) (connection h) u
 
     limit : ℕ
-    limit = (conn_step (routes_in h) (connection h) u).limits.frame_max
+    limit = (conn_step (routes_in h) (paths_in h) (connection h) u).limits.frame_max
 
     by : (b : Bool) → BacksBy (not b && is_method_on is_channel_open n x) ((peers h).opened + 1) (if b then [] else want_events (routes_in h) limit n x) (if b then None else text_wanted n x)
         (if b then None else back_wanted limit n x) (path_life h n) (path_events h n) number (publishes_in n h) (back_in n number h) (returned_in n number h)
@@ -316,14 +336,17 @@ up_backs h n number (up.OnSession k (unit.Transfer t)) joins = by (path_life h n
     by (Some life) false x = x
 up_backs h n number (up.OnSession k (unit.Attach a)) joins = quietly h n number _ (if_plain (k == n) (event.AttachSent a.name ∷ []) [] (refl, tt) tt) joins
 up_backs h n number (up.OnSession k (unit.Flow f)) joins = quietly h n number _ (if_plain (k == n) (event.LinkFlowSent ∷ []) [] (refl, tt) tt) joins
+up_backs h n number (up.OnSession k (unit.Dispose x)) joins = quietly h n number _ (if_plain (k == n) (event.DisposeSent ∷ []) [] (refl, tt) tt) joins
 up_backs h n number (up.OnSession k (unit.Settle x)) joins = quietly h n number _ (if_plain (k == n) (event.SettleSent x ∷ []) [] (refl, tt) tt) joins
-up_backs h n number (up.OnSession k (unit.Detach l handle)) joins = quietly h n number _ (if_plain (k == n) (event.DetachSent ∷ []) [] (refl, tt) tt) joins
+up_backs h n number (up.OnSession k (unit.Detach l handle why)) joins = quietly h n number _ (if_plain (k == n) (event.DetachSent ∷ []) [] (refl, tt) tt) joins
 up_backs h n number (up.End k why) joins = quietly h n number _ (if_plain (k == n) losing (event.LinesWent ∷ []) (refl, (refl, tt)) (refl, tt)) joins
 up_backs h n number u joins = joins
 
 -- a unit to the client
 AreDue : List Step → ChannelUnit → ℕ → List ℕ → Type 0
 AreDue h (to_client.Ok x) n text = Unit {0}
+AreDue h (to_client.Deliver d) n text = Unit {0}
+AreDue h (to_client.Content c) n text = Unit {0}
 AreDue h (to_client.Confirm c) n text = Unit {0}
 AreDue h (to_client.Return r) n text = IsBack h n r text
 
@@ -335,6 +358,8 @@ goes_back : PublishesAre → ReturnsAre → BacksAre → (h : List Step) (u : Re
     → GoesBack h u text
 unfolding AreDue
 goes_back publishes returns backs h (reply.OnChannel n (to_client.Ok x)) text p d e = tt
+goes_back publishes returns backs h (reply.OnChannel n (to_client.Deliver x)) text p d e = tt
+goes_back publishes returns backs h (reply.OnChannel n (to_client.Content c)) text p d e = tt
 goes_back publishes returns backs h (reply.OnChannel n (to_client.Confirm c)) text p d e = tt
 goes_back publishes returns backs h (reply.OnChannel n (to_client.Return r)) text p d e = may_return publishes returns backs h n r text p d e
 goes_back publishes returns backs h u text p d e = tt
@@ -344,11 +369,17 @@ lives_in : (o : Option ℕ) (life : ℕ) (es : List PathEvent) (number count gon
     → Returned (publishes_of life es) number count back gone
 lives_in o life es number count gone back e t = subst (λ (x : Option ℕ). Backs x es number count back gone) e t
 
+told_backs : (h : List Step) (n number k : ℕ) (u : ChannelUnit) → is_return u ≡ false → BacksIn h n number
+    → Backs (path_life h n) (reply_events n (reply.OnChannel k u) ++ path_events h n) number (publishes_in n h) (back_in n number h) (returned_in n number h)
+told_backs h n number k u e t = quietly h n number _ (if_plain (k == n) (told_event u ∷ []) [] (told_plain u e, tt) tt) t
+
 reply_backs : (h : List Step) (n number : ℕ) (u : Reply) (text : List ℕ) → GoesBack h u text → BacksIn h n number
     → Backs (path_life h n) (reply_events n u ++ path_events h n) number (publishes_in n h) (back_in n number h) (returned_by n number (Gave (ToClient u) text) (returned_in n number h))
 unfolding AreDue
-reply_backs h n number (reply.OnChannel k (to_client.Ok x)) text m t = quietly h n number _ (if_plain (k == n) (event.OkSent x ∷ []) [] (refl, tt) tt) t
-reply_backs h n number (reply.OnChannel k (to_client.Confirm c)) text m t = quietly h n number _ (if_plain (k == n) (event.ConfirmWent c ∷ []) [] (refl, tt) tt) t
+reply_backs h n number (reply.OnChannel k (to_client.Ok x)) text m t = told_backs h n number k (to_client.Ok x) refl t
+reply_backs h n number (reply.OnChannel k (to_client.Deliver d)) text m t = told_backs h n number k (to_client.Deliver d) refl t
+reply_backs h n number (reply.OnChannel k (to_client.Content c)) text m t = told_backs h n number k (to_client.Content c) refl t
+reply_backs h n number (reply.OnChannel k (to_client.Confirm c)) text m t = told_backs h n number k (to_client.Confirm c) refl t
 reply_backs h n number (reply.OnChannel k (to_client.Return r)) text m t = by (k == n) refl
   where
     by : (b : Bool) → (k == n) ≡ b
@@ -385,22 +416,23 @@ module _ (publishes : PublishesAre) (returns : ReturnsAre) (frames : BacksAre) w
   backs n number (Moment ms ∷ h) p = quietly h n number (event.LinesWent ∷ []) (refl, tt) (backs n number h p.1)
   backs n number (Fed Client ∷ h) p = backs n number h p.1
   backs n number (Fed Up ∷ h) p = quietly h n number (event.LinesWent ∷ []) (refl, tt) (backs n number h p.1)
-  backs n number (Silent Client ∷ h) p = backs n number h p.1
+  backs n number (Silent Client ∷ h) p = quietly h n number (event.LifeClosed ∷ []) (refl, tt) (backs n number h p.1)
   backs n number (Silent Up ∷ h) p = quietly h n number _ (lost_plain _) (backs n number h p.1)
   backs n number (Queued u ∷ h) p = backs n number h p.1
   backs n number (Came u ∷ h) p = came_backs h n number u (backs n number h p.1)
-  backs n number (TakenUp ∷ h) p = backs n number h p.1
+  backs n number (TakenUp ∷ h) p = quietly h n number _ (closed_plain _) (backs n number h p.1)
   backs n number (Heard u ∷ h) p = quietly h n number _ (heard_plain_in h n u) (backs n number h p.1)
   backs n number (Joined link.Ok ∷ h) p = quietly h n number (event.LinesWent ∷ []) (refl, tt) (backs n number h p.1)
   backs n number (Joined link.Failed ∷ h) p = quietly h n number _ (both_plain _ (event.LinesWent ∷ []) (lost_plain _) (refl, tt)) (backs n number h p.1)
   backs n number (Lost Client how ∷ h) p = backs n number h p.1
   backs n number (Lost Up loss.Ended ∷ h) p = quietly h n number _ (fallen_plain _) (backs n number h p.1)
   backs n number (Lost Up loss.Failed ∷ h) p = quietly h n number _ (fallen_plain _) (backs n number h p.1)
-  backs n number (Lost Up loss.Shut ∷ h) p = quietly h n number losing (refl, (refl, tt)) (backs n number h p.1)
+  backs n number (Lost Up loss.Shut ∷ h) p = quietly h n number losing_up (refl, (refl, tt)) (backs n number h p.1)
   backs n number (Gave (ToClient u) text ∷ h) p = reply_backs h n number u text (went h u text p) (backs n number h p.1)
   backs n number (Gave (ToUp u) text ∷ h) p = up_backs h n number u (backs n number h p.1)
-  backs n number (Whole end ∷ h) p = backs n number h p.1
-  backs n number (OutOfMemory ∷ h) p = backs n number h p.1
+  backs n number (Whole Client ∷ h) p = quietly h n number _ (whole_plain n (going_in h)) (backs n number h p.1)
+  backs n number (Whole Up ∷ h) p = backs n number h p.1
+  backs n number (OutOfMemory ∷ h) p = quietly h n number (event.LifeClosed ∷ []) (refl, tt) (backs n number h p.1)
 
   -- ---- the frames that go
 
@@ -420,6 +452,8 @@ module _ (publishes : PublishesAre) (returns : ReturnsAre) (frames : BacksAre) w
   unfolding AreDue
   may_go_back h (reply.OnChannel n (to_client.Return r)) text p d = one_back h n r text p d
   may_go_back h (reply.OnChannel n (to_client.Ok x)) text p d = tt
+  may_go_back h (reply.OnChannel n (to_client.Deliver x)) text p d = tt
+  may_go_back h (reply.OnChannel n (to_client.Content c)) text p d = tt
   may_go_back h (reply.OnChannel n (to_client.Confirm c)) text p d = tt
   may_go_back h u text p d = tt
 

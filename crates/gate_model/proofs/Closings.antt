@@ -9,7 +9,7 @@ use Rattle.gate_outside.specs.declared.ports.Linked.TheVariants as link
 use Rattle.close_translate.specs.declared.codes.TheConstants.{CONNECTION_FORCED}
 use Rattle.gate_relay.specs.declared.loss.Loss.TheVariants as loss
 use Rattle.gate_relay.specs.declared.sides.Side.TheVariants as side
-use Rattle.machine_091.specs.Calls.{after_ended, after_opened}
+use Rattle.machine_091.specs.Calls.{after_opened}
 use Rattle.machine_091.specs.State.{is_closing, is_open, is_opening}
 use Rattle.machine_091.specs.Transitions as machine
 use Rattle.machine_091.specs.declared.state.Connection.{Connection}
@@ -23,23 +23,22 @@ use Rattle.performatives_10.specs.declared.condition.Condition.TheVariants.{Reso
 use Rattle.machine_091.specs.declared.unit.Refusal.{Refusal}
 use Rattle.session_path.specs.Path.{PathState}
 use Rattle.close_translate.specs.declared.conditions.Scope.{Scope}
-use Rattle.close_translate.specs.Conditions.{code_by}
-use Rattle.gate_model.specs.Upstream.{condition_in}
-use Rattle.machine_10.specs.Reading.{field}
-use Rattle.gate_model.specs.Paths.{path_at, told_paths}
+use Rattle.gate_model.specs.Paths.{closed_path, lost_path, path_at, told_paths}
+use Rattle.gate_model.specs.declared.life.SessionState.{SessionState}
 use Rattle.gate_model.specs.declared.outgoing.Outgoing.TheVariants.{ToClient, ToUp}
 use Rattle.gate_model.specs.declared.outgoing.UpUnit.{UpUnit}
 use Rattle.gate_model.specs.Asked.{closing_condition, condition_at, condition_told, is_up_close}
 use Rattle.gate_model.specs.Folds.{Peers, accepted_in, closes_connection, connection, container}
 use Rattle.gate_model.specs.Folds.{leaving_in, paths_in, peers, peers_by, peers_came, peers_heard}
-use Rattle.gate_model.specs.Folds.{peers_scoped, ran_out_in, sent_up, routes_in}
+use Rattle.gate_model.specs.Folds.{carried_on, peers_left, peers_scoped, ran_out_in, routes_in, scope_in}
+use Rattle.gate_model.specs.Folds.{sent_up}
 use Rattle.gate_model.specs.Picks.{ArePicks}
 use Rattle.gate_model.specs.Requests.{client_step}
 use Rattle.gate_model.specs.State.{Began, Came, Fed, Gave, Heard, Joined, Lost, Moment, OutOfMemory}
 use Rattle.gate_model.specs.State.{Queued, Silent, State, Step, TakenUp, Whole, before, paths_lost}
-use Rattle.gate_model.specs.State.{begun_session, came, carried, close_if, closing_error}
+use Rattle.gate_model.specs.State.{begun_session, came, carried, close_if, closed_for, closing_code}
 use Rattle.gate_model.specs.State.{closing_error, condition_by, conn_step, dequeued, fail}
-use Rattle.gate_model.specs.State.{fail_life, failed, heard, is_limit_reached, left, life_failed}
+use Rattle.gate_model.specs.State.{failed, heard, is_limit_reached, left, life_failed}
 use Rattle.gate_model.specs.State.{runs, with_meaning, link_scope, scoped, windowed}
 use Rattle.gate_model.specs.Upstream.{UpState, channel_max_in, container_by, heard_up, lost_by}
 use Rattle.gate_model.specs.Upstream.{meaning_by, shut_by}
@@ -47,9 +46,9 @@ use Rattle.close_translate.specs.declared.conditions.Scope.TheVariants as scope
 use Rattle.gate_model.proofs.Connections.{clash, close_closes, closing_only, only_given}
 use Rattle.gate_model.proofs.Connections.{opening_early, step_closes}
 use Rattle.gate_model.proofs.Outcomes.{only_closing}
-use Rattle.gate_model.proofs.Sessions.{conn_cases}
+use Rattle.gate_model.proofs.Sessions.{conn_cases, peers_at, session_on}
 use Rattle.gate_model.proofs.Known.{Known, closing_is, conn_is, container_is, keep_is, known}
-use Rattle.gate_model.proofs.Known.{memory_is, paths_are, routes_are}
+use Rattle.gate_model.proofs.Known.{Knows, knows, memory_is, paths_are, routes_are}
 use Rattle.gate_model.proofs.Outcomes.{Outcome, Greets, Parts, LogsIn, Tunes, Asks, Passes, Refuses}
 use Rattle.gate_model.proofs.Outcomes.{Declines, Drops, Parting, Calls, Asking, Publishes, Fills}
 use Rattle.gate_model.proofs.Outcomes.{Frees, Closes, Answers, Ignores, outcome}
@@ -69,7 +68,7 @@ meaning_closes ten.Opened x e = by (is_opening x.client) refl
     by true f = absurd (opening_early x.client f e)
     by false f = e
 meaning_closes (ten.OfSession g q payload) x e =
-    conn_cases (λ (d : Connection). is_closing d ≡ true) g q x e (close_closes x.client.phase) (closing_only (only_closing g x.client) ∙ e)
+    conn_cases (λ (d : Connection). is_closing d ≡ true) g q payload x e (close_closes x.client.phase) (closing_only (only_closing g x.client) ∙ e)
 meaning_closes (ten.Closed t) x e = close_closes x.client.phase
 meaning_closes ten.Refused x e = close_closes x.client.phase
 meaning_closes (ten.Violation why) x e = close_closes x.client.phase
@@ -90,9 +89,9 @@ closes_on (Fed Up) h p e = e
 closes_on (Silent Client) h p e = refl
 closes_on (Silent Up) h p e = close_closes (connection h).phase
 closes_on (Queued u) h p e = e
-closes_on (Came u) h p e = closes_if (ran_out_in h) (peers h) (peers_came (peers h) u) e (step_closes (routes_in h) (connection h) u e)
+closes_on (Came u) h p e = closes_if (ran_out_in h) (peers h) (peers_came (peers h) u) e (step_closes (routes_in h) (paths_in h) (connection h) u e)
 closes_on TakenUp h p e =
-    closes_if (not (ran_out_in h) && leaving_in h) (record (peers h) { client = after_ended (connection h) }) (peers h) refl e
+    closes_if (not (ran_out_in h) && leaving_in h) (peers_left (peers h)) (peers h) refl e
 closes_on (Heard u) h p e = closes_if (ran_out_in h) (peers h) (peers_heard (peers h) u) e (meaning_closes (meaning_by (container h) u) (record (peers h) { container = container_by (container h) u }) e)
 closes_on (Joined link.Ok) h p e = e
 closes_on (Joined link.Failed) h p e = close_closes (connection h).phase
@@ -102,7 +101,8 @@ closes_on (Lost Up loss.Failed) h p e = close_closes (connection h).phase
 closes_on (Lost Up loss.Shut) h p e = e
 closes_on (Gave (ToClient u) text) h p e = closing_only (only_given u (connection h)) ∙ e
 closes_on (Gave (ToUp u) text) h p e = e
-closes_on (Whole end) h p e = e
+closes_on (Whole Client) h p e = e
+closes_on (Whole Up) h p e = e
 closes_on OutOfMemory h p e = close_closes (connection h).phase
 
 -- ---- before the closing event nothing is told
@@ -121,8 +121,9 @@ remembers h p e = by (ran_out_in h) refl
     by true f = absurd (clash _ (shuts_in (known h p) f) e)
     by false f = refl
 
-unit_told : (rs : List Route) (c : Connection) (u : Unit91) → is_closing (conn_step rs c u) ≡ false → condition_by (client_step rs c u).1 ≡ None
-unit_told rs c u = by (client_step rs c u) (outcome rs c u)
+unit_told : (rs : List Route) (ps : List (Option PathState)) (c : Connection) (u : Unit91) → is_closing (conn_step rs ps c u) ≡ false
+    → condition_by (client_step rs ps c u).1 ≡ None
+unit_told rs ps c u = by (client_step rs ps c u) (outcome rs ps c u)
   where
     by : (x : machine.Step) → Outcome c u x → is_closing (x.0) ≡ false → condition_by x.1 ≡ None
     by _ (Greets e) k = refl
@@ -144,17 +145,20 @@ unit_told rs c u = by (client_step rs c u) (outcome rs c u)
     by _ (Answers e) k = refl
     by _ (Ignores e) k = refl
 
-meaning_told : (m : Meaning) (x : Peers) → is_closing (peers_by m x).client ≡ false → condition_told x.paths m ≡ None
+meaning_told : (m : Meaning) (x : Peers) → is_closing (peers_by m x).client ≡ false → condition_told x m ≡ None
 meaning_told ten.Nothing x e = refl
 meaning_told ten.Init x e = refl
 meaning_told ten.AmqpHeader x e = refl
 meaning_told ten.Opened x e = refl
-meaning_told (ten.OfSession g q payload) x e = by (link_scope q (path_at x.paths g)) e
+meaning_told (ten.OfSession g q payload) x e = by (scope_in x g q payload) e
   where
     why : Condition
     why = closing_error q (path_at x.paths g)
 
-    by : (o : Option Scope) → is_closing (peers_scoped o g q x).client ≡ false → (if closes_connection o then Some why else None) ≡ None
+    y : Peers
+    y = record x { carried = carried_on g q x.carried }
+
+    by : (o : Option Scope) → is_closing (peers_scoped o g q payload y).client ≡ false → (if closes_connection o then Some why else None) ≡ None
     by None e = refl
     by (Some scope.Connection) e = absurd (clash _ (close_closes x.client.phase) e)
     by (Some scope.Channel) e = refl
@@ -171,7 +175,7 @@ step_told (Silent Client) h m e = refl
 step_told (Silent Up) h m e = absurd (clash _ (close_closes (connection h).phase) e)
 step_told (Queued u) h m e = refl
 step_told (Came u) h m e =
-    unit_told (routes_in h) (connection h) u (subst (λ (b : Bool). is_closing (if b then peers h else peers_came (peers h) u).client ≡ false) m e)
+    unit_told (routes_in h) (paths_in h) (connection h) u (subst (λ (b : Bool). is_closing (if b then peers h else peers_came (peers h) u).client ≡ false) m e)
 step_told TakenUp h m e = refl
 step_told (Heard u) h m e =
     meaning_told (meaning_by (container h) u) (record (peers h) { container = container_by (container h) u })
@@ -213,66 +217,88 @@ fail_condition code why w = by (is_closing w.conn)
     by true = refl
     by false = refl
 
-meaning_condition : (m : Meaning) (w : State) (c : Connection) (b : Option Condition) → w.conn ≡ c → w.up.condition ≡ b → (is_closing c ≡ false → b ≡ None)
-    → (with_meaning m w).up.condition ≡ (if is_closing c then b else condition_told w.paths m)
-meaning_condition ten.Nothing w c b e f n = quiet (is_closing c) w.up.condition b f n
-meaning_condition ten.Init w c b e f n = quiet (is_closing c) w.up.condition b f n
-meaning_condition ten.AmqpHeader w c b e f n = quiet (is_closing c) w.up.condition b f n
-meaning_condition ten.Opened w c b e f n = by (is_opening w.conn)
+meaning_condition : (m : Meaning) (w : State) (f : ℕ → SessionState) (c : Connection) (b : Option Condition) → Knows f m w.lives w.paths → w.conn ≡ c → w.up.condition ≡ b
+    → (is_closing c ≡ false → b ≡ None) → (with_meaning m w).up.condition ≡ (if is_closing c then b else condition_told (peers_at f w) m)
+meaning_condition ten.Nothing w s c b k e f n = quiet (is_closing c) w.up.condition b f n
+meaning_condition ten.Init w s c b k e f n = quiet (is_closing c) w.up.condition b f n
+meaning_condition ten.AmqpHeader w s c b k e f n = quiet (is_closing c) w.up.condition b f n
+meaning_condition ten.Opened w s c b k e f n = by (is_opening w.conn)
   where
     by : (x : Bool) → (if x then runs w else w).up.condition ≡ (if is_closing c then b else None)
     by true = quiet (is_closing c) w.up.condition b f n
     by false = quiet (is_closing c) w.up.condition b f n
-meaning_condition (ten.OfSession g p payload) w c b e f n =
-    by (link_scope p (path_at w.paths g))
+meaning_condition (ten.OfSession g p payload) w s c b k e f n =
+    by (link_scope p payload (session_on w g) (path_at w.paths g))
+    ∙ ap (λ (o : Option Scope). if is_closing c then b else (if closes_connection o then Some (closing_error p (path_at w.paths g)) else None)) (sym k)
   where
     none : w.up.condition ≡ (if is_closing c then b else None)
     none = quiet (is_closing c) w.up.condition b f n
 
-    either : (x : Bool) (v : State) (r : Refusal) (why : Option Condition) → v.up.condition ≡ w.up.condition
-        → (if x then life_failed g r why v else v).up.condition ≡ w.up.condition
-    either true v r why same = same
-    either false v r why same = same
+    either : (x : Bool) (v : State) (r : Refusal) (why : Option Condition) (h : PathState → PathState) → v.up.condition ≡ w.up.condition
+        → (if x then life_failed g r why h v else v).up.condition ≡ w.up.condition
+    either true v r why h same = same
+    either false v r why h same = same
 
-    met : (x y : Bool) → (if x then begun_session g (carried g p w) else if y then fail_life g (code_by (condition_in (field p.1 0)) scope.Channel) None (carried g p w) else carried g p w).up.condition
-        ≡ w.up.condition
-    met true y = refl
-    met false true = either (is_open w.conn g) (carried g p w) _ None refl
-    met false false = refl
+    closed : (k : Option ℕ) → (closed_for g k (carried g p payload w)).up.condition ≡ w.up.condition
+    closed None = refl
+    closed (Some code) = either (is_open w.conn g) (carried g p payload w) _ None closed_path refl
+
+    met : (x : Bool) (k : Option ℕ) → (if x then begun_session g (carried g p payload w) else closed_for g k (carried g p payload w)).up.condition ≡ w.up.condition
+    met true k = refl
+    met false k = closed k
 
     why : Condition
     why = closing_error p (path_at w.paths g)
 
-    by : (o : Option Scope) → (scoped o g p w).up.condition ≡ (if is_closing c then b else (if closes_connection o then Some why else None))
-    by None = met (p.0 == 17) (p.0 == 23) ∙ none
+    by : (o : Option Scope) → (scoped o g p payload w).up.condition ≡ (if is_closing c then b else (if closes_connection o then Some why else None))
+    by None = met (p.0 == 17) (closing_code p payload (path_at w.paths g)) ∙ none
     by (Some scope.Connection) = fail_condition _ (Some why) (windowed g p w) ∙ told w c b (Some why) e f
-    by (Some scope.Channel) = either (is_open w.conn g) (windowed g p w) _ _ refl ∙ none
-meaning_condition (ten.Closed x) w c b e f n = fail_condition _ None w ∙ told w c b None e f
-meaning_condition ten.Refused w c b e f n = fail_condition _ None w ∙ told w c b None e f
-meaning_condition (ten.Violation why) w c b e f n = fail_condition _ (Some why) w ∙ told w c b (Some why) e f
+    by (Some scope.Channel) = either (is_open w.conn g) (windowed g p w) _ _ lost_path refl ∙ none
+meaning_condition (ten.Closed x) w s c b k e f n = fail_condition _ None w ∙ told w c b None e f
+meaning_condition ten.Refused w s c b k e f n = fail_condition _ None w ∙ told w c b None e f
+meaning_condition (ten.Violation why) w s c b k e f n = fail_condition _ (Some why) w ∙ told w c b (Some why) e f
 
-came_condition : (w : State) (u : Unit91) → (came (dequeued w) u).up.condition ≡ (if is_closing w.conn then w.up.condition else condition_by (client_step w.routes w.conn u).1)
+came_condition : (w : State) (u : Unit91) → (came (dequeued w) u).up.condition ≡ (if is_closing w.conn then w.up.condition else condition_by (client_step w.routes w.paths w.conn u).1)
 came_condition w u =
-    ap (λ (s : UpState). s.condition) (closing_is (is_closing w.conn) (condition_by (client_step w.routes w.conn u).1) _)
-    ∙ ap (λ (s : UpState). if is_closing w.conn then s.condition else condition_by (client_step w.routes w.conn u).1) (keep_is (client_step w.routes w.conn u).1 w.up)
+    ap (λ (s : UpState). s.condition) (closing_is (is_closing w.conn) (condition_by (client_step w.routes w.paths w.conn u).1) _)
+    ∙ ap (λ (s : UpState). if is_closing w.conn then s.condition else condition_by (client_step w.routes w.paths w.conn u).1) (keep_is (client_step w.routes w.paths w.conn u).1 w.up)
 
-conditions_came : (w : State) (u : Unit91) (m : Bool) (rs : List Route) (c : Connection) (b : Option Condition) → w.routes ≡ rs → w.conn ≡ c → w.up.condition ≡ b → (m ≡ true → is_closing c ≡ true)
-    → (if m then w else came (dequeued w) u).up.condition ≡ (if is_closing c then b else condition_by (client_step rs c u).1)
-conditions_came w u true rs c b r e f n = passed (is_closing c) w.up.condition b _ f (n refl)
-conditions_came w u false rs c b r e f n =
-    came_condition w u ∙ told w c b (condition_by (client_step w.routes w.conn u).1) e f
-    ∙ ap (λ (x : Connection). if is_closing c then b else condition_by (client_step w.routes x u).1) e
-    ∙ ap (λ (x : List Route). if is_closing c then b else condition_by (client_step x c u).1) r
+conditions_came : (w : State) (u : Unit91) (m : Bool) (rs : List Route) (ps : List (Option PathState)) (c : Connection) (b : Option Condition)
+    → w.routes ≡ rs → w.paths ≡ ps → w.conn ≡ c → w.up.condition ≡ b → (m ≡ true → is_closing c ≡ true)
+    → (if m then w else came (dequeued w) u).up.condition ≡ (if is_closing c then b else condition_by (client_step rs ps c u).1)
+conditions_came w u true rs ps c b r g e f n = passed (is_closing c) w.up.condition b _ f (n refl)
+conditions_came w u false rs ps c b r g e f n =
+    came_condition w u ∙ told w c b (condition_by (client_step w.routes w.paths w.conn u).1) e f
+    ∙ ap (λ (x : Connection). if is_closing c then b else condition_by (client_step w.routes w.paths x u).1) e
+    ∙ ap (λ (x : List (Option PathState)). if is_closing c then b else condition_by (client_step w.routes x c u).1) g
+    ∙ ap (λ (x : List Route). if is_closing c then b else condition_by (client_step x ps c u).1) r
 
-conditions_heard : (w : State) (u : Unit10) (m : Bool) (c : Connection) (o : Option Upstream) (ps : List (Option PathState)) (b : Option Condition)
-    → w.conn ≡ c → w.up.container ≡ o → w.paths ≡ ps → w.up.condition ≡ b
-    → (is_closing c ≡ false → b ≡ None) → (m ≡ true → is_closing c ≡ true)
-    → (if m then w else heard w u).up.condition ≡ (if is_closing c then b else condition_told ps (meaning_by o u))
-conditions_heard w u true c o ps b e g q f n s = passed (is_closing c) w.up.condition b _ f (s refl)
-conditions_heard w u false c o ps b e g q f n s =
-    meaning_condition (meaning_by w.up.container u) (record w { up = heard_up u w.up }) c b e f n
-    ∙ ap (λ (x : Option Upstream). if is_closing c then b else condition_told w.paths (meaning_by x u)) g
-    ∙ ap (λ (x : List (Option PathState)). if is_closing c then b else condition_told x (meaning_by o u)) q
+-- the paths and sessions of both, and nothing else of them, say what a meaning closes the connection for
+same_told : (m : Meaning) (p q : Peers) → p.paths ≡ q.paths → p.carried ≡ q.carried → condition_told p m ≡ condition_told q m
+same_told m p q e f =
+    ap (λ (x : List (Option PathState)). condition_told (record p { paths = x }) m) e
+    ∙ ap (λ (x : ℕ → SessionState). condition_told (record p { paths = q.paths; carried = x }) m) f ∙ by m
+  where
+    by : (m : Meaning) → condition_told (record p { paths = q.paths; carried = q.carried }) m ≡ condition_told q m
+    by ten.Nothing = refl
+    by ten.Init = refl
+    by ten.AmqpHeader = refl
+    by ten.Opened = refl
+    by (ten.OfSession g r payload) = refl
+    by (ten.Closed x) = refl
+    by ten.Refused = refl
+    by (ten.Violation why) = refl
+
+conditions_heard : (w : State) (u : Unit10) (m : Bool) (p : Peers) (b : Option Condition) → Knows p.carried (meaning_by w.up.container u) w.lives w.paths
+    → w.conn ≡ p.client → w.up.container ≡ p.container → w.paths ≡ p.paths → w.up.condition ≡ b
+    → (is_closing p.client ≡ false → b ≡ None) → (m ≡ true → is_closing p.client ≡ true)
+    → (if m then w else heard w u).up.condition ≡ (if is_closing p.client then b else condition_told p (meaning_by p.container u))
+conditions_heard w u true p b k e g q f n s = passed (is_closing p.client) w.up.condition b _ f (s refl)
+conditions_heard w u false p b k e g q f n s =
+    let v : State = record w { up = heard_up u w.up } in
+    meaning_condition (meaning_by w.up.container u) v p.carried p.client b k e f n
+    ∙ ap (λ (x : Option Condition). if is_closing p.client then b else x)
+    (same_told (meaning_by w.up.container u) (peers_at p.carried v) p q refl ∙ ap (λ (x : Option Upstream). condition_told p (meaning_by x u)) g)
 
 conditions_taken : (w : State) (x : Bool) (c : Connection) (b : Option Condition) → w.conn ≡ c → w.up.condition ≡ b → (is_closing c ≡ false → b ≡ None)
     → (if x then left w else w).up.condition ≡ (if is_closing c then b else None)
@@ -312,14 +338,16 @@ condition_is (Queued u ∷ h) p = queued_condition h u (condition_is h p.1) (non
 condition_is (Came u ∷ h) p =
     let k : Known h = known h p.1 in
     ap (λ (m : Bool). (if m then before h else came (dequeued (before h)) u).up.condition) (memory_is k)
-    ∙ conditions_came (before h) u (ran_out_in h) (routes_in h) (connection h) (closing_condition h) (routes_are k) (conn_is k) (condition_is h p.1) (shuts_in k)
+    ∙ conditions_came (before h) u (ran_out_in h) (routes_in h) (paths_in h) (connection h) (closing_condition h) (routes_are k) (paths_are k) (conn_is k)
+    (condition_is h p.1) (shuts_in k)
 condition_is (TakenUp ∷ h) p =
     let k : Known h = known h p.1 in
     conditions_taken (before h) _ (connection h) (closing_condition h) (conn_is k) (condition_is h p.1) (none_told h p.1)
 condition_is (Heard u ∷ h) p =
     let k : Known h = known h p.1 in
     ap (λ (m : Bool). (if m then before h else heard (before h) u).up.condition) (memory_is k)
-    ∙ conditions_heard (before h) u (ran_out_in h) (connection h) (container h) (paths_in h) (closing_condition h) (conn_is k) (container_is k) (paths_are k) (condition_is h p.1) (none_told h p.1) (shuts_in k)
+    ∙ conditions_heard (before h) u (ran_out_in h) (peers h) (closing_condition h) (knows h u k) (conn_is k) (container_is k) (paths_are k) (condition_is h p.1)
+    (none_told h p.1) (shuts_in k)
 condition_is (Joined link.Ok ∷ h) p = quiet _ _ _ (condition_is h p.1) (none_told h p.1)
 condition_is (Joined link.Failed ∷ h) p =
     conditions_failed (record (before h) { paths = told_paths (before h).paths }) (shut_by (before h).up) (connection h) (closing_condition h) (conn_is (known h p.1)) (condition_is h p.1)

@@ -26,6 +26,7 @@ use Rattle.gate_model.specs.Picks.{MayComeAs}
 use Rattle.gate_model.specs.Requests.{client_step}
 use Rattle.gate_model.specs.State.{close, close_if, closes_at, conn_given, conn_step, has_left}
 use Rattle.gate_model.specs.State.{is_limit_reached}
+use Rattle.session_path.specs.Path.{PathState}
 use Rattle.gate_model.specs.declared.setup.Route.{Route}
 use Rattle.gate_model.proofs.Outcomes.{OnlyChannels, none_differ, one_differs}
 use Rattle.gate_model.proofs.Outcomes.{Outcome, Greets, Parts, LogsIn, Tunes, Asks, Passes, Refuses}
@@ -149,8 +150,8 @@ closing_only o = ap is_closing_phase (phase_only o)
 abbrev Next : machine.Step → Connection
 Next x = x.0
 
-pub step_closes : (rs : List Route) (c : Connection) (u : Unit91) → is_closing c ≡ true → is_closing (conn_step rs c u) ≡ true
-step_closes rs c u k = by (client_step rs c u) (outcome rs c u)
+pub step_closes : (rs : List Route) (ps : List (Option PathState)) (c : Connection) (u : Unit91) → is_closing c ≡ true → is_closing (conn_step rs ps c u) ≡ true
+step_closes rs ps c u k = by (client_step rs ps c u) (outcome rs ps c u)
   where
     by : (x : machine.Step) → Outcome c u x → is_closing (Next x) ≡ true
     by _ (Greets e) = absurd (other_phase c.phase phase.Header e refl k)
@@ -173,8 +174,8 @@ step_closes rs c u k = by (client_step rs c u) (outcome rs c u)
     by _ (Ignores e) = k
 
 -- a closing connection isn't asked to open any more
-pub step_asked : (rs : List Route) (c : Connection) (u : Unit91) → is_closing c ≡ true → (conn_step rs c u).asked ≡ c.asked
-step_asked rs c u k = by (client_step rs c u) (outcome rs c u)
+pub step_asked : (rs : List Route) (ps : List (Option PathState)) (c : Connection) (u : Unit91) → is_closing c ≡ true → (conn_step rs ps c u).asked ≡ c.asked
+step_asked rs ps c u k = by (client_step rs ps c u) (outcome rs ps c u)
   where
     by : (x : machine.Step) → Outcome c u x → (Next x).asked ≡ c.asked
     by _ (Greets e) = refl
@@ -196,8 +197,8 @@ step_asked rs c u k = by (client_step rs c u) (outcome rs c u)
     by _ (Answers e) = refl
     by _ (Ignores e) = refl
 
-pub step_stays_asked : (rs : List Route) (c : Connection) (u : Unit91) → c.asked ≡ true → (conn_step rs c u).asked ≡ true
-step_stays_asked rs c u k = by (client_step rs c u) (outcome rs c u)
+pub step_stays_asked : (rs : List Route) (ps : List (Option PathState)) (c : Connection) (u : Unit91) → c.asked ≡ true → (conn_step rs ps c u).asked ≡ true
+step_stays_asked rs ps c u k = by (client_step rs ps c u) (outcome rs ps c u)
   where
     by : (x : machine.Step) → Outcome c u x → (Next x).asked ≡ true
     by _ (Greets e) = k
@@ -230,8 +231,8 @@ stays_here (unit.Frame f) s e = e
 stays_here (unit.Bad code) s e = absurd cc
 
 -- no unit ends the client's end
-pub step_here : (rs : List Route) (c : Connection) (u : Unit91) → has_left (conn_step rs c u).stream ≡ true → has_left c.stream ≡ true
-step_here rs c u = by (client_step rs c u) (outcome rs c u)
+pub step_here : (rs : List Route) (ps : List (Option PathState)) (c : Connection) (u : Unit91) → has_left (conn_step rs ps c u).stream ≡ true → has_left c.stream ≡ true
+step_here rs ps c u = by (client_step rs ps c u) (outcome rs ps c u)
   where
     by : (x : machine.Step) → Outcome c u x → has_left (Next x).stream ≡ true → has_left c.stream ≡ true
     by _ (Greets e) k = absurd cc
@@ -312,16 +313,16 @@ late_later c a m ms le = by c.asked
     by false e = le_later HANDSHAKE_LIMIT a m ms le e
 
 -- a unit neither reaches the limit nor takes it back
-pub late_step : (rs : List Route) (c : Connection) (u : Unit91) (a ms : ℕ) → (is_limit_reached c a ms ≡ true → is_closing c ≡ true)
-    → is_limit_reached (conn_step rs c u) a ms ≡ is_limit_reached c a ms
-late_step rs c u a ms k = by c.asked (nat_le HANDSHAKE_LIMIT (ms - a)) refl refl
+pub late_step : (rs : List Route) (ps : List (Option PathState)) (c : Connection) (u : Unit91) (a ms : ℕ) → (is_limit_reached c a ms ≡ true → is_closing c ≡ true)
+    → is_limit_reached (conn_step rs ps c u) a ms ≡ is_limit_reached c a ms
+late_step rs ps c u a ms k = by c.asked (nat_le HANDSHAKE_LIMIT (ms - a)) refl refl
   where
-    by : (b le : Bool) → c.asked ≡ b → nat_le HANDSHAKE_LIMIT (ms - a) ≡ le → is_limit_reached (conn_step rs c u) a ms ≡ is_limit_reached c a ms
-    by true le e f = ap (λ x. not x && nat_le HANDSHAKE_LIMIT (ms - a)) (step_stays_asked rs c u e) ∙ sym (ap (λ x. not x && nat_le HANDSHAKE_LIMIT (ms - a)) e)
+    by : (b le : Bool) → c.asked ≡ b → nat_le HANDSHAKE_LIMIT (ms - a) ≡ le → is_limit_reached (conn_step rs ps c u) a ms ≡ is_limit_reached c a ms
+    by true le e f = ap (λ x. not x && nat_le HANDSHAKE_LIMIT (ms - a)) (step_stays_asked rs ps c u e) ∙ sym (ap (λ x. not x && nat_le HANDSHAKE_LIMIT (ms - a)) e)
     by false true e f =
         let closing : is_closing c ≡ true = k (ap (λ x. not x && nat_le HANDSHAKE_LIMIT (ms - a)) e ∙ f) in
-        ap (λ x. not x && nat_le HANDSHAKE_LIMIT (ms - a)) (step_asked rs c u closing)
-    by false false e f = none (conn_step rs c u).asked ∙ sym (none c.asked)
+        ap (λ x. not x && nat_le HANDSHAKE_LIMIT (ms - a)) (step_asked rs ps c u closing)
+    by false false e f = none (conn_step rs ps c u).asked ∙ sym (none c.asked)
       where
         none : (x : Bool) → (not x && nat_le HANDSHAKE_LIMIT (ms - a)) ≡ false
         none true = refl

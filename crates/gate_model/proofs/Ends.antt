@@ -1,17 +1,13 @@
 -- What ends a channel waits for its session.
 use Rattle.gate_model.specs.declared.reply.Reason.{Reason}
-use Rattle.std.proofs.Common.{not, ◌≡◌, ℕ, Bool, true, false, ◌&&◌, if◌then◌else◌, List, [], ◌∷◌, ◌++◌}
+use Rattle.std.proofs.Common.{◌≡◌, ℕ, Bool, true, false, ◌&&◌, List, [], ◌∷◌, ◌++◌}
 use Rattle.std.proofs.Common.{Option, None, Some, refl, sym, ap, ◌∙◌, subst}
-use Rattle.machine_091.specs.declared.unit.Refusal.{Refusal}
 use Rattle.machine_10.specs.declared.state.Upstream.{Upstream}
-use Rattle.session_path.specs.declared.path.PathOk.{PathOk}
-use Rattle.publish_path.specs.declared.publish.Confirm.{Confirm}
-use Rattle.gate_model.specs.declared.channel.ChannelUnit.TheVariants as unit
 use Rattle.gate_model.specs.declared.life.Life.{Life}
 use Rattle.gate_model.specs.declared.outgoing.Outgoing.TheVariants.{ToClient, ToUp}
 use Rattle.gate_model.specs.declared.reply.Reply.{Reply}
 use Rattle.gate_model.specs.declared.reply.Reply.TheVariants as reply
-use Rattle.gate_model.specs.Due.{confirm_on, ok_on, path_oks, open_oks, refused_on, when}
+use Rattle.gate_model.specs.Due.{refused_on, when}
 use Rattle.gate_model.specs.Folds.{is_answer}
 use Rattle.gate_model.specs.Lives.{is_done, session_in}
 use Rattle.gate_model.specs.Picks.{ArePicks}
@@ -21,10 +17,9 @@ use Rattle.gate_model.specs.State.{is_settled, Fed, Silent}
 use Rattle.gate_model.specs.Upstream.{first}
 use Rattle.gate_model.specs.Waiting.{ChannelsEndWhenSettled, NoneThere, OfAll, SettledOn, ended_by}
 use Rattle.gate_model.proofs.Known.{container_is, known}
-use Rattle.gate_model.proofs.Rows.{Has, HasFirst, HasNone, first_each, first_none, first_some, has}
-use Rattle.gate_model.proofs.Rows.{same_first}
-use Rattle.gate_model.proofs.Said.{Beats, InAnswers, InConfirms, InCloses, InOks, IsDue, InContents, a_content, an_outcome}
-use Rattle.gate_model.proofs.Said.{IsOfChannel, OnChannel, Picked, calm_now, first_due, picked}
+use Rattle.gate_model.proofs.Rows.{first_each}
+use Rattle.gate_model.proofs.Said.{Beats, InCloses, InOks, InOpen, InOpenOks, IsDue, IsOfChannel}
+use Rattle.gate_model.proofs.Said.{OnChannel, OnOpen, Picked, calm_now, first_due, picked}
 use Rattle.gate_model.proofs.Times.{Either, OnLeft, OnRight, and_right, either}
 use Rattle.gate_model.proofs.Waits.{settled_in}
 
@@ -67,23 +62,10 @@ ends_refused w false k (Some x) v f e = absurd cc
 ends_refused w true k None v f e = absurd cc
 ends_refused w false k None v f e = absurd cc
 
-an_ok : (w : State) (k : ℕ) (over : Bool) (o : Option PathOk) (v : Reply) → first (if over then [] else ok_on k o) ≡ Some v → EndsIn w v
-an_ok w k true o v e = absurd cc
-an_ok w k false None v e = absurd cc
-an_ok w k false (Some x) v e = let here : reply.OnChannel k (unit.Ok x) ≡ v = cc in subst (EndsIn w) here (ends_none w (reply.OnChannel k (unit.Ok x)) refl)
-
 ends_on : (w : State) (r : Reply) → IsOfChannel w r → EndsIn w r
-ends_on w r (InAnswers e) = by (has (open_oks w))
-  where
-    opens : (k : ℕ) (l : Life) (v : Reply) → first (when l.open_ok (reply.ChannelOpenOk k)) ≡ Some v → EndsIn w v
-    opens k l v e = ends_when w l.open_ok (reply.ChannelOpenOk k) v (λ x. ends_none w (reply.ChannelOpenOk k) refl) e
-
-    by : Has (open_oks w) → EndsIn w r
-    by (HasFirst u g) = subst (EndsIn w) (same_first (first (open_oks w ++ path_oks w)) u r (first_some (open_oks w) (path_oks w) u g) e) (first_each (EndsIn w) _ 0 w.lives u opens g)
-    by (HasNone g) = first_each (EndsIn w) _ 0 w.lives r (λ k l v f. an_ok w k l.over _ v f) (sym (first_none (open_oks w) (path_oks w) g) ∙ e)
-ends_on w r (InContents e) = first_each (EndsIn w) _ 0 w.lives r (λ k l v f. a_content (EndsIn w) w.paths k l v (λ u x. ends_none w (reply.OnChannel k u) refl) f) e
-ends_on w r (InConfirms e) =
-    first_each (EndsIn w) _ 0 w.lives r (λ k l v f. an_outcome (EndsIn w) (not w.out_of_memory) w.paths k l v (λ u x. ends_none w (reply.OnChannel k u) refl) f) e
+ends_on w r (InOpen (OnOpen k u e)) = subst (EndsIn w) e (ends_none w (reply.OnChannel k u) refl)
+ends_on w r (InOpenOks e) =
+    first_each (EndsIn w) _ 0 w.lives r (λ k l v f. ends_when w l.open_ok (reply.ChannelOpenOk k) v (λ x. ends_none w (reply.ChannelOpenOk k) refl) f) e
 ends_on w r (InOks e) = first_each (EndsIn w) _ 0 w.lives r (λ k l v. one k l v l.crossed_ok) e
   where
     one : (k : ℕ) (l : Life) (v : Reply) (b : Bool) → first (when b (reply.CrossedOk k) ++ when (l.close_ok && is_channel_settled w k) (reply.ChannelCloseOk k)) ≡ Some v → EndsIn w v

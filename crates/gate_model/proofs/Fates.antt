@@ -19,7 +19,7 @@ use Rattle.publish_path.specs.Publishes.{ConfirmSent, FrameSent, LinesTold, Link
 use Rattle.publish_path.specs.Publishes.{PublishEvent, PublishState, TakenUp}
 use Rattle.publish_path.specs.Publishes.{after_events as publishes_after, open_after}
 use Rattle.publish_path.specs.declared.publish.Confirm.{Confirm}
-use Rattle.session_path.specs.Due.{next_confirm, next_frame, next_return}
+use Rattle.session_path.specs.Due.{next_confirm, next_content, next_deliver, next_frame, next_ok, next_return}
 use Rattle.session_path.specs.Events.{PathEvent, after_events, publishes_of}
 use Rattle.session_path.specs.Links.{handle_at}
 use Rattle.session_path.specs.Path.{PathState}
@@ -88,7 +88,9 @@ lived h n s p e = by (path_life h n) refl (sym e ∙ path_is h n p least)
 -- ---- confirms
 
 abbrev pub IsNext : State → ℕ → ChannelUnit → Type 0
-IsNext w n (to_client.Ok x) = Unit {0}
+IsNext w n (to_client.Ok x) = next_ok (path_at w.paths n) ≡ Some x
+IsNext w n (to_client.Deliver d) = next_deliver (path_at w.paths n) ≡ Some d
+IsNext w n (to_client.Content c) = next_content (path_at w.paths n) ≡ Some c
 IsNext w n (to_client.Confirm c) = next_confirm (path_at w.paths n) ≡ Some c
 IsNext w n (to_client.Return r) = next_return (path_at w.paths n) ≡ Some r
 
@@ -108,13 +110,15 @@ may_confirm publishes confirms h n c p e = by (slot_at (before h).paths n) refl 
 
 may_tell : PublishesAre → ConfirmsAre → (h : List Step) (u : Reply) → ArePicks h → OfChannel (IsNext (before h)) u → MayTell h u
 may_tell publishes confirms h (reply.OnChannel n (to_client.Ok x)) p e = tt
+may_tell publishes confirms h (reply.OnChannel n (to_client.Deliver d)) p e = tt
+may_tell publishes confirms h (reply.OnChannel n (to_client.Content c)) p e = tt
 may_tell publishes confirms h (reply.OnChannel n (to_client.Confirm c)) p e = may_confirm publishes confirms h n c p e
 may_tell publishes confirms h (reply.OnChannel n (to_client.Return r)) p e = tt
 may_tell publishes confirms h u p e = tt
 
 -- what goes to the client on a channel is what is due there
 pub is_next : {w : State} → ChannelUnits (IsNext w) w
-is_next {w} = record { answer = λ n x e. tt; confirm = λ n c e. e; back = λ n r e. e }
+is_next {w} = record { answer = λ n x e. e; deliver = λ n d e. e; content = λ n c e. e; confirm = λ n c e. e; back = λ n r e. e }
 
 pub confirms_are : PublishesAre → ConfirmsAre → (h : List Step) → ArePicks h → Confirms h
 confirms_are publishes confirms [] p = tt
@@ -135,8 +139,9 @@ abbrev IsNextFrame : State → ℕ → SessionUnit → Type 0
 IsNextFrame w n (unit.Attach a) = Unit {0}
 IsNextFrame w n (unit.Flow f) = Unit {0}
 IsNextFrame w n (unit.Transfer t) = IsDue w n t
+IsNextFrame w n (unit.Dispose x) = Unit {0}
 IsNextFrame w n (unit.Settle x) = Unit {0}
-IsNextFrame w n (unit.Detach k handle) = Unit {0}
+IsNextFrame w n (unit.Detach k handle why) = Unit {0}
 
 -- a frame that is due has room in the window
 record HasRoom (window : ℕ) (s : PathState) (f : NextFrame) : Type 0 where
@@ -286,6 +291,7 @@ carry_is publishes frames rests h u text p e same =
       attach = λ n a f. tt;
       flow = λ n x f. tt;
       transfer = λ n x f. record { frame = x; due = f; is = refl };
+      dispose = λ n x f. tt;
       settle = λ n x f. tt;
       detach = λ n x f. tt;
     }) e) same

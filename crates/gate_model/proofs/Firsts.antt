@@ -12,10 +12,12 @@ use Rattle.machine_091.specs.declared.unit.Refusal.{Refusal}
 use Rattle.publish_path.specs.declared.publish.Confirm.{Confirm}
 use Rattle.publish_path.specs.declared.publish.NextReturn.{NextReturn}
 use Rattle.publish_path.specs.declared.publish.NextFrame.{NextFrame}
-use Rattle.session_path.specs.Due.{next_attach, next_confirm, next_detach, next_flow, next_frame, next_return}
-use Rattle.session_path.specs.Due.{next_ok, next_settle}
-use Rattle.session_path.specs.Links.{handle_of}
+use Rattle.consume_path.specs.declared.delivery.NextSettle.{NextSettle}
+use Rattle.session_path.specs.Due.{next_attach, next_confirm, next_content, next_deliver, next_detach, next_dispose}
+use Rattle.session_path.specs.Due.{next_flow, next_frame, next_ok, next_return, next_settle}
 use Rattle.session_path.specs.declared.path.AttachDue.{AttachDue}
+use Rattle.session_path.specs.declared.path.ContentDue.{ContentDue}
+use Rattle.session_path.specs.declared.path.DeliverDue.{DeliverDue}
 use Rattle.session_path.specs.declared.path.FlowDue.{FlowDue}
 use Rattle.session_path.specs.declared.path.PathLink.{PathLink}
 use Rattle.session_path.specs.declared.path.PathOk.{PathOk}
@@ -31,7 +33,9 @@ use Rattle.gate_model.specs.declared.outgoing.UpUnit.TheVariants as up
 use Rattle.gate_model.specs.declared.reply.Pending.{Pending}
 use Rattle.gate_model.specs.declared.reply.Reply.{Reply}
 use Rattle.gate_model.specs.declared.reply.Reply.TheVariants as reply
-use Rattle.gate_model.specs.Due.{attaches, begins, carried_rows, channel_closes, channel_oks, contents, content_on, return_on, may_return}
+use Rattle.gate_model.specs.Due.{answers, attaches, begins, carried_rows, channel_closes, channel_oks, contents, content_on}
+use Rattle.gate_model.specs.Due.{consume_ok_on, consume_oks, deliver_on, delivers, detach_out, disposals, is_consume_ok}
+use Rattle.gate_model.specs.Due.{may_return, return_on, writing_on, writings}
 use Rattle.gate_model.specs.Due.{client_rows, client_units, close_behind, close_oks, close_oks_on}
 use Rattle.gate_model.specs.Due.{closes, confirm_on, confirms, detaches, ends, frame_max_in, if_so}
 use Rattle.gate_model.specs.Due.{is_beat_due, is_end_due, last_closes, link_flows, may_answer}
@@ -90,8 +94,9 @@ pub record SessionUnits (Q : ℕ → SessionUnit → Type 0) (w : State) : Type 
   pub flow : (n : ℕ) (f : FlowDue) → next_flow (path_at w.paths n) ≡ Some f → Q n (unit.Flow (flow_out (life_at w.lives n).session f))
   pub transfer : (n : ℕ) (f : NextFrame) → next_frame (life_at w.lives n).session.windows.window (path_at w.paths n) ≡ Some f
       → Q n (unit.Transfer (transfer_of (frame_max_in w.up.container) (path_at w.paths n) f))
+  pub dispose : (n : ℕ) (x : NextSettle) → next_dispose (path_at w.paths n) ≡ Some x → Q n (unit.Dispose x)
   pub settle : (n : ℕ) (x : Settling) → next_settle (path_at w.paths n) ≡ Some x → Q n (unit.Settle x)
-  pub detach : (n : ℕ) (x : PathLink) → next_detach (path_at w.paths n) ≡ Some x → Q n (unit.Detach x.link (handle_of x.stage))
+  pub detach : (n : ℕ) (x : PathLink) → next_detach (path_at w.paths n) ≡ Some x → Q n (detach_out x)
 
 row_is : {A : Type 0} (Q : ℕ → SessionUnit → Type 0) (w : State) (n : ℕ) (o : Option A) (f : A → SessionUnit) → ((x : A) → o ≡ Some x → Q n (f x))
     → FirstIs (OfSession Q) (row_on w.up.container n o f)
@@ -101,8 +106,9 @@ row_is Q w n (Some x) f is = when_up_is (OfSession Q) (is_carried (session_in w.
 session_is : (Q : ℕ → SessionUnit → Type 0) (w : State) → SessionUnits Q w → FirstIs (OfSession Q) (session_rows w)
 session_is Q w us =
     both_are P (unless_out w.out_of_memory (carried_rows w)) _ (by w.out_of_memory)
+    (both_are P (disposals w) _ (each_is P _ w.lives (λ n. row_is Q w n _ _ (us.dispose n)))
     (both_are P (settlings w) (detaches w) (each_is P _ w.lives (λ n. row_is Q w n _ _ (us.settle n)))
-    (each_is P _ w.lives (λ n. row_is Q w n _ _ (us.detach n))))
+    (each_is P _ w.lives (λ n. row_is Q w n _ _ (us.detach n)))))
   where
     P : UpUnit → Type 0
     P = OfSession Q
@@ -157,13 +163,16 @@ OfChannel Q u = Unit {0}
 
 pub record ChannelUnits (Q : ℕ → ChannelUnit → Type 0) (w : State) : Type 0 where
   pub answer : (n : ℕ) (x : PathOk) → next_ok (path_at w.paths n) ≡ Some x → Q n (to_client.Ok x)
+  pub deliver : (n : ℕ) (d : DeliverDue) → next_deliver (path_at w.paths n) ≡ Some d → Q n (to_client.Deliver d)
+  pub content : (n : ℕ) (c : ContentDue) → next_content (path_at w.paths n) ≡ Some c → Q n (to_client.Content c)
   pub confirm : (n : ℕ) (c : Confirm) → next_confirm (path_at w.paths n) ≡ Some c → Q n (to_client.Confirm c)
   pub back : (n : ℕ) (r : NextReturn) → next_return (path_at w.paths n) ≡ Some r → Q n (to_client.Return r)
 
 client_rows_are : (Q : ℕ → ChannelUnit → Type 0) (w : State) → ChannelUnits Q w → FirstIs (OfChannel Q) (client_rows w)
 client_rows_are Q w us =
     both_are P (client_units w) _ (both_are P (if_so (may_return w) (contents w)) _ (if_so_is P (may_return w) (contents w) going_on)
-    (both_are P (openings p) _ opening (both_are P _ _ (if_so_is P (may_answer w) _ answering) confirming)))
+    (both_are P (if_so (may_answer w) (writings w)) _ (if_so_is P (may_answer w) (writings w) writing)
+    (both_are P (openings p) _ opening (both_are P _ _ (if_so_is P (may_answer w) _ answering) confirming))))
     (when_is P (is_beat_due w) reply.Heartbeat tt)
   where
     P : Reply → Type 0
@@ -177,18 +186,35 @@ client_rows_are Q w us =
         both_are P _ _ (when_is P p.protocol reply.Protocol tt)
         (both_are P _ _ (when_is P p.start reply.Start tt) (both_are P _ _ (when_is P p.tune reply.Tune tt) (when_is P p.open_ok reply.OpenOk tt)))
 
+    unless : (over : Bool) (rs : List Reply) → FirstIs P rs → FirstIs P (if over then [] else rs)
+    unless true rs x = tt
+    unless false rs x = x
+
     answer_is : (n : ℕ) (o : Option PathOk) → next_ok (path_at w.paths n) ≡ o → FirstIs P (ok_on n o)
     answer_is n None e = tt
-    answer_is n (Some x) e = us.answer n x e
+    answer_is n (Some x) e = when_is P (not (is_consume_ok x)) (reply.OnChannel n (to_client.Ok x)) (us.answer n x e)
 
-    answers_are : (n : ℕ) (over : Bool) → FirstIs P (if over then [] else ok_on n (next_ok (path_at w.paths n)))
-    answers_are n true = tt
-    answers_are n false = answer_is n (next_ok (path_at w.paths n)) refl
+    consume_is : (n : ℕ) (o : Option PathOk) → next_ok (path_at w.paths n) ≡ o → FirstIs P (consume_ok_on n o)
+    consume_is n None e = tt
+    consume_is n (Some x) e = when_is P (is_consume_ok x) (reply.OnChannel n (to_client.Ok x)) (us.answer n x e)
 
-    answering : FirstIs P (open_oks w ++ path_oks w)
+    deliver_is : (n : ℕ) (o : Option DeliverDue) → next_deliver (path_at w.paths n) ≡ o → FirstIs P (deliver_on n o)
+    deliver_is n None e = tt
+    deliver_is n (Some d) e = us.deliver n d e
+
+    writing_is : (n : ℕ) (o : Option ContentDue) → next_content (path_at w.paths n) ≡ o → FirstIs P (writing_on n o)
+    writing_is n None e = tt
+    writing_is n (Some c) e = us.content n c e
+
+    writing : FirstIs P (writings w)
+    writing = each_is P _ w.lives (λ n. unless (life_at w.lives n).over _ (writing_is n (next_content (path_at w.paths n)) refl))
+
+    answering : FirstIs P (answers w)
     answering =
-        both_are P (open_oks w) (path_oks w) (each_is P _ w.lives (λ n. when_is P (life_at w.lives n).open_ok (reply.ChannelOpenOk n) tt))
-        (each_is P _ w.lives (λ n. answers_are n (life_at w.lives n).over))
+        both_are P (open_oks w) _ (each_is P _ w.lives (λ n. when_is P (life_at w.lives n).open_ok (reply.ChannelOpenOk n) tt))
+        (both_are P (path_oks w) _ (each_is P _ w.lives (λ n. unless (life_at w.lives n).over _ (answer_is n (next_ok (path_at w.paths n)) refl)))
+        (both_are P (consume_oks w) (delivers w) (each_is P _ w.lives (λ n. unless (life_at w.lives n).over _ (consume_is n (next_ok (path_at w.paths n)) refl)))
+        (each_is P _ w.lives (λ n. unless (life_at w.lives n).over _ (deliver_is n (next_deliver (path_at w.paths n)) refl)))))
 
     confirm_is : (n : ℕ) (may : Bool) (o : Option Confirm) → next_confirm (path_at w.paths n) ≡ o → FirstIs P (confirm_on may n o)
     confirm_is n may None e = tt

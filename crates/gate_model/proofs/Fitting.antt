@@ -1,6 +1,6 @@
 -- The frames of returns fit their clients: a frame-max is agreed to once, before anything is published, and the frames are cut by it.
-use Rattle.std.proofs.Common.{◌≡◌, ℕ, zero, suc, ◌+◌, ◌-◌, ◌==◌, ◌≤◌, nat_le, ◌&&◌, Bool, true, false}
-use Rattle.std.proofs.Common.{if◌then◌else◌, List, [], ◌∷◌, take, drop, length, map, min, Option, None}
+use Rattle.std.proofs.Common.{◌≡◌, ℕ, zero, suc, ◌+◌, ◌-◌, ◌==◌, ◌≤◌, ◌&&◌, Bool, true, false}
+use Rattle.std.proofs.Common.{if◌then◌else◌, List, [], ◌∷◌, take, drop, length, map, Option, None}
 use Rattle.std.proofs.Common.{Some, refl, sym, ap, ◌∙◌, subst, arith}
 use Rattle.std.proofs.lemmas.Bool.Decides.{nat_tests}
 use Rattle.std.proofs.lemmas.List.{length-append, length-take}
@@ -20,8 +20,6 @@ use Rattle.machine_091.specs.declared.state.Connection.{Connection}
 use Rattle.machine_091.specs.declared.state.Phase91.{Phase91}
 use Rattle.machine_091.specs.declared.state.Phase91.TheVariants as phase
 use Rattle.machine_091.specs.declared.unit.Unit91.{Unit91}
-use Rattle.machine_091.specs.declared.unit.Want91.{Want91}
-use Rattle.machine_091.specs.declared.unit.Want91.TheVariants as want
 use Rattle.machine_10.specs.Transitions as ten
 use Rattle.machine_10.specs.Transitions.{Meaning}
 use Rattle.methods_091.specs.declared.method.Method91.{Method91}
@@ -29,18 +27,17 @@ use Rattle.open_items.specs.Numbers.{first}
 use Rattle.property_map.specs.declared.message.Message091.{Message091}
 use Rattle.gate_model.specs.declared.outgoing.Outgoing.TheVariants.{ToClient, ToUp}
 use Rattle.gate_model.specs.Folds.{Peers, accepted_in, connection, peers, peers_by, peers_came}
-use Rattle.gate_model.specs.Folds.{peers_heard, ran_out_in, routes_in}
+use Rattle.gate_model.specs.Folds.{paths_in, peers_heard, ran_out_in, routes_in}
 use Rattle.gate_model.specs.Frames.{limit_after, limit_in}
 use Rattle.gate_model.specs.Picks.{ArePicks}
 use Rattle.gate_model.specs.Publishing.{back_by, back_in, back_wanted, opens_channel, publishes_in}
-use Rattle.gate_model.specs.Requests.{client_step, is_mandatory, message_of}
-use Rattle.gate_model.specs.Returns.{back_of, body_parts, cut_in, frame_with, header_part, is_within}
-use Rattle.gate_model.specs.Returns.{method_part, pieces, return_parts}
+use Rattle.gate_model.specs.Requests.{client_step, message_of}
+use Rattle.gate_model.specs.Returns.{back_of, body_parts, cut_in, frame_with, header_part, is_mandatory, is_within}
+use Rattle.gate_model.specs.Returns.{method_part, return_parts}
 use Rattle.gate_model.specs.State.{Began, Came, Fed, Gave, Heard, Joined, Lost, Moment, OutOfMemory}
 use Rattle.gate_model.specs.State.{Queued, Silent, Step, TakenUp, Whole, close, close_if}
 use Rattle.gate_model.specs.State.{is_limit_reached}
 use Rattle.gate_model.specs.Upstream.{channel_max_in, meaning_by}
-use Rattle.gate_model.specs.declared.setup.Route.{Route}
 use Rattle.gate_model.proofs.Connections.{limits_only, only_given, opened_runs, opening_phase, phase_only}
 use Rattle.gate_model.proofs.Outcomes.{OnlyChannels, only_closing}
 use Rattle.gate_model.proofs.Outcomes.{Outcome, Greets, Parts, LogsIn, Tunes, Asks, Passes, Refuses}
@@ -54,7 +51,7 @@ abbrev pub AreFit : ℕ → List (List ℕ) → Type 0
 AreFit l [] = Unit {0}
 AreFit l (x ∷ xs) = (length x ≤ l) × AreFit l xs
 
-fit_more : (l m : ℕ) (xs : List (List ℕ)) → l ≤ m → AreFit l xs → AreFit m xs
+pub fit_more : (l m : ℕ) (xs : List (List ℕ)) → l ≤ m → AreFit l xs → AreFit m xs
 fit_more l m [] le f = tt
 fit_more l m (x ∷ xs) le f = (omega (arith, le, f.0), fit_more l m xs le f.1)
 
@@ -64,11 +61,11 @@ fit_first l (suc k) [] text f e = absurd cc
 fit_first l zero (x ∷ xs) text f e = let same : x ≡ text = cc in subst (λ (y : List ℕ). length y ≤ l) same f.0
 fit_first l (suc k) (x ∷ xs) text f e = fit_first l k xs text f.1 e
 
-frame_long : (kind : Kind91) (n : ℕ) (payload : List ℕ) → length (frame_with kind n payload) ≡ length payload + 8
+pub frame_long : (kind : Kind91) (n : ℕ) (payload : List ℕ) → length (frame_with kind n payload) ≡ length payload + 8
 unfolding frame_text
 frame_long kind n payload = grind (arith, length-append)
 
-cut_fits : (k l n : ℕ) (body : List ℕ) → 8 ≤ l → AreFit l (map (frame_with Body n) (cut_in k (l - 8) body))
+pub cut_fits : (k l n : ℕ) (body : List ℕ) → 8 ≤ l → AreFit l (map (frame_with Body n) (cut_in k (l - 8) body))
 cut_fits zero l n body le = tt
 cut_fits (suc k) l n [] le = tt
 cut_fits (suc k) l n (b ∷ body) le =
@@ -94,7 +91,7 @@ back_fits l n method m le = by (is_mandatory method)
 
 -- ---- the limit that is agreed to
 
-is_early : Phase91 → Bool
+pub is_early : Phase91 → Bool
 is_early phase.Header = true
 is_early phase.Start = true
 is_early phase.Tune = true
@@ -103,7 +100,7 @@ is_early phase.Running = false
 is_early phase.Closing = false
 is_early phase.Closed = false
 
-is_tuned : Phase91 → Bool
+pub is_tuned : Phase91 → Bool
 is_tuned phase.Header = false
 is_tuned phase.Start = false
 is_tuned phase.Tune = false
@@ -113,9 +110,9 @@ is_tuned phase.Closing = false
 is_tuned phase.Closed = false
 
 -- none was yet, or it is that of the connection
-record Agrees (limit : ℕ) (c : Connection) : Type 0 where
-  early : is_early c.phase ≡ true → limit ≡ FRAME_MIN_SIZE
-  tuned : is_tuned c.phase ≡ true → limit ≡ c.limits.frame_max
+pub record Agrees (limit : ℕ) (c : Connection) : Type 0 where
+  pub early : is_early c.phase ≡ true → limit ≡ FRAME_MIN_SIZE
+  pub tuned : is_tuned c.phase ≡ true → limit ≡ c.limits.frame_max
 
 -- a connection that closes, or has begun to
 done : (limit : ℕ) (d : Connection) → is_early d.phase ≡ false → is_tuned d.phase ≡ false → Agrees limit d
@@ -146,7 +143,7 @@ closes limit c a = by c.phase refl
     by phase.Closing e = done limit _ refl refl
     by phase.Closed e = done limit _ refl refl
 
-running_tuned : (p : Phase91) → is_running p ≡ true → is_tuned p ≡ true
+pub running_tuned : (p : Phase91) → is_running p ≡ true → is_tuned p ≡ true
 unfolding is_tuned
 running_tuned phase.Header e = absurd cc
 running_tuned phase.Start e = absurd cc
@@ -180,7 +177,7 @@ unit_agrees limit c u x (Answers e) a = done limit _ refl refl
 unit_agrees limit c u x (Ignores e) a = record { early = a.early; tuned = a.tuned }
 
 -- the limit falls by none
-limit_grows : (limit : ℕ) (c : Connection) (u : Unit91) (x : machine.Step) → Outcome c u x → Agrees limit c → AreWithin x.0.limits → limit ≤ limit_after limit x.0 x.1
+pub limit_grows : (limit : ℕ) (c : Connection) (u : Unit91) (x : machine.Step) → Outcome c u x → Agrees limit c → AreWithin x.0.limits → limit ≤ limit_after limit x.0 x.1
 unfolding is_early is_tuned
 limit_grows limit c u x (Greets e) a w = omega arith
 limit_grows limit c u x (Parts e) a w = omega arith
@@ -271,24 +268,24 @@ meaning_agrees limit ten.Opened x a = by (is_opening x.client) refl
     by true e = opened_agrees limit (channel_max_in x.container) x.client e a
     by false e = a
 meaning_agrees limit (ten.OfSession g q payload) x a =
-    conn_cases (λ (d : Connection). Agrees limit d) g q x a (closes limit x.client a) (only_same limit x.client _ (only_closing g x.client) a)
+    conn_cases (λ (d : Connection). Agrees limit d) g q payload x a (closes limit x.client a) (only_same limit x.client _ (only_closing g x.client) a)
 meaning_agrees limit (ten.Closed e) x a = closes limit x.client a
 meaning_agrees limit ten.Refused x a = closes limit x.client a
 meaning_agrees limit (ten.Violation why) x a = closes limit x.client a
 
 -- what a unit of the client makes of the limit
-abbrev Within : Type 0
+abbrev pub Within : Type 0
 Within = (h : List Step) → AreWithin (connection h).limits
 
 came_agrees : (h : List Step) (u : Unit91) → Agrees (limit_in h) (connection h) → Agrees (limit_in (Came u ∷ h)) (connection (Came u ∷ h))
 came_agrees h u a = by (ran_out_in h)
   where
-    by : (b : Bool) → Agrees (if b then limit_in h else limit_after (limit_in h) (client_step (routes_in h) (connection h) u).0 (client_step (routes_in h) (connection h) u).1)
+    by : (b : Bool) → Agrees (if b then limit_in h else limit_after (limit_in h) (client_step (routes_in h) (paths_in h) (connection h) u).0 (client_step (routes_in h) (paths_in h) (connection h) u).1)
         (if b then peers h else peers_came (peers h) u).client
     by true = a
-    by false = unit_agrees (limit_in h) (connection h) u (client_step (routes_in h) (connection h) u) (outcome (routes_in h) (connection h) u) a
+    by false = unit_agrees (limit_in h) (connection h) u (client_step (routes_in h) (paths_in h) (connection h) u) (outcome (routes_in h) (paths_in h) (connection h) u) a
 
-agrees : (h : List Step) → ArePicks h → Agrees (limit_in h) (connection h)
+pub agrees : (h : List Step) → ArePicks h → Agrees (limit_in h) (connection h)
 unfolding is_early is_tuned
 agrees [] p = record { early = λ e. refl; tuned = λ e. absurd cc }
 agrees (Began site n ms ∷ h) p = record { early = λ e. ap limit_in p.0; tuned = λ e. absurd cc }
@@ -310,7 +307,8 @@ agrees (Lost Up loss.Failed ∷ h) p = closes (limit_in h) (connection h) (agree
 agrees (Lost Up loss.Shut ∷ h) p = agrees h p.1
 agrees (Gave (ToClient u) text ∷ h) p = only_same (limit_in h) (connection h) _ (only_given u (connection h)) (agrees h p.1)
 agrees (Gave (ToUp u) text ∷ h) p = agrees h p.1
-agrees (Whole end ∷ h) p = agrees h p.1
+agrees (Whole Client ∷ h) p = agrees h p.1
+agrees (Whole Up ∷ h) p = agrees h p.1
 agrees (OutOfMemory ∷ h) p = closes (limit_in h) (connection h) (agrees h p.1)
 
 -- ---- so are all that were taken up
@@ -320,10 +318,10 @@ came_fits : Within → (h : List Step) (u : Unit91) (n number : ℕ) → ArePick
 came_fits within h u n number p old = by (ran_out_in h) (opens_channel n h (Came u)) (within (Came u ∷ h))
   where
     x : machine.Step
-    x = client_step (routes_in h) (connection h) u
+    x = client_step (routes_in h) (paths_in h) (connection h) u
 
     o : Outcome (connection h) u x
-    o = outcome (routes_in h) (connection h) u
+    o = outcome (routes_in h) (paths_in h) (connection h) u
 
     limit : ℕ
     limit = limit_after (limit_in h) x.0 x.1

@@ -2,8 +2,8 @@
 use Rattle.gate_model.specs.Returns.{back_of}
 use Rattle.std.proofs.Common.{◌≡◌, ℕ, zero, suc, ◌+◌, ◌==◌, ◌≤◌, Bool, true, false, ◌&&◌}
 use Rattle.std.proofs.Common.{if◌then◌else◌, List, [], ◌∷◌, ◌++◌, Option, None, Some, arith, refl}
-use Rattle.std.proofs.Common.{sym, ap, ◌∙◌, subst}
-use Rattle.std.specs.Prelude.{drop, map, slice_set}
+use Rattle.std.proofs.Common.{sym, ap, subst, append-nil, not}
+use Rattle.std.specs.Prelude.{drop, find, map, slice_set}
 use Rattle.std.specs.Option.{option_map}
 use Rattle.std.proofs.lemmas.Bool.Decides.{nat_tests}
 use Rattle.gate_outside.specs.declared.ports.End.TheVariants.{Client, Up}
@@ -11,11 +11,12 @@ use Rattle.gate_outside.specs.declared.ports.Linked.TheVariants as link
 use Rattle.gate_relay.specs.declared.loss.Loss.TheVariants as loss
 use Rattle.machine_091.specs.State.{is_closing, is_opening}
 use Rattle.machine_091.specs.declared.state.Connection.{Connection}
+use Rattle.machine_091.specs.declared.unit.Refusal.{Refusal}
 use Rattle.machine_091.specs.declared.unit.Unit91.{Unit91}
 use Rattle.machine_091.specs.declared.unit.Want91.{Want91}
 use Rattle.machine_091.specs.declared.unit.Want91.TheVariants as want
 use Rattle.machine_10.specs.Parts.{Parts}
-use Rattle.machine_10.specs.Reading.{field, number_at, act_of}
+use Rattle.machine_10.specs.Reading.{field, number_at, number_in}
 use Rattle.machine_10.specs.Transitions as ten
 use Rattle.machine_10.specs.Transitions.{Meaning}
 use Rattle.machine_10.specs.declared.unit.Unit10.{Unit10}
@@ -23,7 +24,21 @@ use Rattle.methods_091.specs.declared.method.Method91.{Method91}
 use Rattle.methods_091.specs.declared.method.Method91.TheVariants as method
 use Rattle.performatives_10.specs.declared.condition.Condition.{Condition}
 use Rattle.session_path.specs.Path as session
-use Rattle.session_path.specs.Path.{PathState, ok_sent, owed, published, selected, lines_told}
+use Rattle.consume_path.specs.Deliveries.{LinkAttached}
+use Rattle.consume_path.specs.Offers.{next_settle_of}
+use Rattle.consume_path.specs.declared.delivery.Content.{Content}
+use Rattle.consume_path.specs.declared.delivery.NextSettle.{NextSettle}
+use Rattle.consume_path.specs.declared.receiving.NextGrant.{NextGrant}
+use Rattle.consume_path.specs.declared.receiving.Part.{Part}
+use Rattle.consume_path.specs.declared.receiving.TransferFault.{TransferFault}
+use Rattle.session_path.specs.Links.{asked_by, attached, is_to_part, named, parted}
+use Rattle.session_path.specs.Path.{PathState, begun_if, content_whole, detach_came, disposed_by, dropped_by, end_lost}
+use Rattle.session_path.specs.Path.{dropped, flowed_by, given_of, grant_in, outcome_came}
+use Rattle.session_path.specs.Path.{granted_by, is_answered, is_grant_next, lines_told, ok_sent, owed, published, receiver_in}
+use Rattle.session_path.specs.Path.{selected, still_awaited, taking, transferred_on, with_deliveries}
+use Rattle.session_path.specs.declared.path.AttachHeard.{AttachHeard}
+use Rattle.session_path.specs.declared.path.PathLink.{PathLink}
+use Rattle.types_10.specs.Tree.{Tree}
 use Rattle.session_path.specs.Due.{first_of, next_ok}
 use Rattle.close_translate.specs.declared.codes.TheConstants.{CONNECTION_FORCED}
 use Rattle.gate_relay.specs.declared.sides.Side.{Side}
@@ -32,9 +47,9 @@ use Rattle.gate_model.specs.Requests.{message_of, address_of}
 use Rattle.property_map.specs.Spelling.{image_text}
 use Rattle.gate_model.specs.Picks.{ArePicks}
 use Rattle.gate_model.proofs.Firsts.{OfChannel, goes_as}
-use Rattle.gate_model.proofs.Known.{conn_is, known, memory_is, routes_are}
+use Rattle.gate_model.proofs.Known.{conn_is, known, memory_is, paths_are, routes_are}
 use Rattle.gate_model.proofs.Slots.{map_slot, none_there, set_elsewhere}
-use Rattle.gate_model.specs.Upstream.{heard_up, lost_by, meaning_by}
+use Rattle.gate_model.specs.Upstream.{condition_in, heard_up, lost_by, meaning_by}
 use Rattle.gate_model.proofs.Sessions.{session_cases}
 use Rattle.session_path.specs.declared.path.PathOk.{PathOk}
 use Rattle.session_path.specs.declared.path.PathOk.TheVariants as ok
@@ -47,16 +62,21 @@ use Rattle.gate_model.specs.declared.outgoing.UpUnit.{UpUnit}
 use Rattle.gate_model.specs.declared.outgoing.UpUnit.TheVariants as up
 use Rattle.gate_model.specs.declared.reply.Reply.{Reply}
 use Rattle.gate_model.specs.declared.reply.Reply.TheVariants as reply
-use Rattle.gate_model.specs.Folds.{ran_out_in, connection}
+use Rattle.gate_model.specs.Folds.{connection, paths_in, ran_out_in}
+use Rattle.gate_model.specs.Lives.{is_of_channel}
+use Rattle.gate_model.specs.Session.{is_of_session, is_true}
 use Rattle.gate_model.specs.Once.{is_channel_flow, is_flow_ok, is_flow_ok_on, is_method_on, one_if}
 use Rattle.gate_model.specs.Once.{wanted_in, went_in}
-use Rattle.gate_model.specs.Paths.{attach_by, lost_path, name_in, no_paths, or_no_path, path_at}
-use Rattle.gate_model.specs.Paths.{slot_at, text_of, is_there, with_path, told_paths}
+use Rattle.gate_model.specs.Paths.{attached_as, closed_path, closed_paths, credit_of, fault_in, heard_as, is_not_found}
+use Rattle.gate_model.specs.Paths.{is_outcome, outcome_by, outcome_in}
+use Rattle.gate_model.specs.Paths.{link_flowed, transferred}
+use Rattle.gate_model.specs.Paths.{lost_path, name_in, no_paths, or_no_path, part_in, path_at, slot_at, text_of}
+use Rattle.gate_model.specs.Paths.{told_paths, transferred_by, with_path}
 use Rattle.gate_model.specs.State.{Began, Came, Fed, Gave, Heard, Joined, Lost, Moment, OutOfMemory, conn_step}
 use Rattle.gate_model.specs.State.{Queued, Silent, State, Step, TakenUp, Whole, answered_if, before}
 use Rattle.gate_model.specs.State.{came, carried, left, lost_up, runs, windowed, dequeued, fail}
-use Rattle.gate_model.specs.State.{failed, heard, path_by, path_given, path_heard, path_told}
-use Rattle.gate_model.specs.State.{paths_by, paths_given, paths_given_up, paths_with, with_meaning}
+use Rattle.gate_model.specs.State.{failed, heard, path_by, path_given, path_heard, path_told, path_wrote}
+use Rattle.gate_model.specs.State.{paths_by, paths_given, paths_given_up, paths_with, paths_wrote, refused_paths, with_meaning}
 use Rattle.gate_model.specs.State.{want_in, paths_lost}
 use Rattle.gate_model.specs.declared.setup.Route.{Route}
 
@@ -67,12 +87,14 @@ flows_in [] = 0
 flows_in (ok.Flow ∷ os) = flows_in os + 1
 flows_in (ok.Declare ∷ os) = flows_in os
 flows_in (ok.Select ∷ os) = flows_in os
+flows_in (ok.Consume l ∷ os) = flows_in os
 
 flows_more : (os : List PathOk) (x : PathOk) → flows_in (os ++ x ∷ []) ≡ flows_in os + flows_in (x ∷ [])
 flows_more [] x = omega arith
 flows_more (ok.Flow ∷ os) x = let more = flows_more os x in omega (arith, more)
 flows_more (ok.Declare ∷ os) x = flows_more os x
 flows_more (ok.Select ∷ os) x = flows_more os x
+flows_more (ok.Consume l ∷ os) x = flows_more os x
 
 abbrev owed_in : Option PathState → ℕ
 owed_in o = flows_in (or_no_path o).oks
@@ -118,34 +140,59 @@ keeps_all : (b : Bool) (x y : ℕ) → x ≤ y + (if b then 0 else 0) → x ≤ 
 keeps_all true x y e = omega (arith, e)
 keeps_all false x y e = omega (arith, e)
 
-with_less : (n k : ℕ) (ps : List (Option PathState)) (f : PathState → PathState) → ((s : PathState) → (f s).oks ≡ s.oks)
-    → flows_due n (with_path k f ps) ≤ flows_due n ps
-with_less n k ps f same =
-    keeps_all (k == n) _ _ (with_more n k ps f 0 (λ s. let here : flows_in (f s).oks ≡ flows_in s.oks = ap flows_in (same s) in omega (arith, here)))
+-- a change of a path that adds no flow-ok
+AddsNone : (PathState → PathState) → Type 0
+AddsNone f = (s : PathState) → flows_in (f s).oks ≤ flows_in s.oks
+
+no_more : (f : PathState → PathState) → AddsNone f → (s : PathState) → flows_in (f s).oks ≤ flows_in s.oks + 0
+unfolding AddsNone
+no_more f less s = let here : flows_in (f s).oks ≤ flows_in s.oks = less s in omega (arith, here)
+
+with_less : (n k : ℕ) (ps : List (Option PathState)) (f : PathState → PathState) → AddsNone f → flows_due n (with_path k f ps) ≤ flows_due n ps
+with_less n k ps f less = keeps_all (k == n) _ _ (with_more n k ps f 0 (no_more f less))
+
+lost_adds : AddsNone lost_path
+unfolding AddsNone
+lost_adds s = omega arith
+
+closed_adds : AddsNone closed_path
+unfolding AddsNone
+closed_adds s = omega arith
+
+ended_adds : AddsNone end_lost
+unfolding AddsNone
+ended_adds s = omega arith
+
+lines_add : AddsNone lines_told
+unfolding AddsNone
+lines_add s = omega arith
 
 less_both : (a b c : ℕ) → a ≤ b → b ≤ c → a ≤ c
 less_both a b c e f = omega (arith, e, f)
 
 -- all change
-each_less : (n : ℕ) (ps : List (Option PathState)) (f : PathState → PathState) → ((s : PathState) → (f s).oks ≡ s.oks)
-    → flows_due n (map (option_map f) ps) ≤ flows_due n ps
-each_less n ps f same =
-    let all : flows_due n (map (option_map f) ps) ≡ flows_due n ps = ap owed_in (map_slot ps n f) ∙ by (slot_at ps n) in omega (arith, all)
+each_less : (n : ℕ) (ps : List (Option PathState)) (f : PathState → PathState) → AddsNone f → flows_due n (map (option_map f) ps) ≤ flows_due n ps
+unfolding AddsNone
+each_less n ps f less = let all : flows_due n (map (option_map f) ps) ≡ owed_in (option_map f (slot_at ps n)) = ap owed_in (map_slot ps n f) in omega (arith, all, by (slot_at ps n))
   where
-    by : (o : Option PathState) → owed_in (option_map f o) ≡ owed_in o
-    by None = refl
-    by (Some s) = ap flows_in (same s)
+    by : (o : Option PathState) → owed_in (option_map f o) ≤ owed_in o
+    by None = omega arith
+    by (Some s) = less s
 
 -- all are lost
 lost_less : (n : ℕ) (ps : List (Option PathState)) → flows_due n (map (option_map lost_path) ps) ≤ flows_due n ps
-lost_less n ps = each_less n ps lost_path (λ s. refl)
+lost_less n ps = each_less n ps lost_path lost_adds
+
+-- all close
+closed_less : (n : ℕ) (ps : List (Option PathState)) → flows_due n (closed_paths ps) ≤ flows_due n ps
+closed_less n ps = each_less n ps closed_path closed_adds
 
 -- the lines of all were reported
 reported_less : (n : ℕ) (ps : List (Option PathState)) → flows_due n (told_paths ps) ≤ flows_due n ps
-reported_less n ps = each_less n ps lines_told (λ s. refl)
+reported_less n ps = each_less n ps lines_told lines_add
 
 all_lost_less : (n : ℕ) (ps : List (Option PathState)) → flows_due n (paths_lost ps) ≤ flows_due n ps
-all_lost_less n ps = less_both _ _ _ (lost_less n (told_paths ps)) (reported_less n ps)
+all_lost_less n ps = less_both _ _ _ (each_less n (told_paths ps) end_lost ended_adds) (reported_less n ps)
 
 fail_less : (n code : ℕ) (why : Option Condition) (w : State) → flows_due n (fail code why w).paths ≤ flows_due n w.paths
 fail_less n code why w = by (is_closing w.conn)
@@ -156,22 +203,65 @@ fail_less n code why w = by (is_closing w.conn)
 
 -- ---- what the container sends
 
-oks_if : (b : Bool) (s x y : PathState) → x.oks ≡ s.oks → y.oks ≡ s.oks → (if b then x else y).oks ≡ s.oks
+oks_if : (b : Bool) (s x y : PathState) → flows_in x.oks ≤ flows_in s.oks → flows_in y.oks ≤ flows_in s.oks → flows_in (if b then x else y).oks ≤ flows_in s.oks
 oks_if true s x y e f = e
 oks_if false s x y e f = f
 
-attach_keeps : (o : Option ℕ) (peer : ℕ) (target : Bool) (s : PathState) → (attach_by o peer target s).oks ≡ s.oks
-attach_keeps None peer target s = refl
-attach_keeps (Some name) peer target s = refl
+same_oks : (x s : PathState) → x.oks ≡ s.oks → flows_in x.oks ≤ flows_in s.oks
+same_oks x s e = let same : flows_in x.oks ≡ flows_in s.oks = ap flows_in e in omega (arith, same)
 
-heard_keeps : (q : Parts) (s : PathState) → (path_heard q s).oks ≡ s.oks
-heard_keeps q s =
-    oks_if (q.0 == 17) s _ _ refl
-    (oks_if (q.0 == 18) s _ _ (attach_keeps (name_in (text_of (field q.1 0))) (number_at q.1 1) (is_there (field q.1 6)) s)
-    (oks_if _ s _ _ refl
-    (oks_if (q.0 == 21) s _ _ (oks_if _ s _ _ refl refl)
-    (oks_if (q.0 == 22) s _ _ refl
-    (oks_if (q.0 == 23) s _ _ refl refl)))))
+-- a basic.consume-ok may be due, which is no flow-ok
+begun_adds : (o : Option PathLink) (a : AttachHeard) (s : PathState) → flows_in (begun_if o a s).oks ≤ flows_in s.oks
+begun_adds None a s = omega arith
+begun_adds (Some l) a s = by (l.receives && a.there) (is_answered l.link s.awaited)
+  where
+    by : (b c : Bool) → flows_in (if b then with_deliveries (LinkAttached l.link a.count) (record s {
+      oks = s.oks ++ (if c then ok.Consume l.link ∷ [] else []);
+      awaited = still_awaited l.link s.awaited;
+    }) else s).oks ≤ flows_in s.oks
+    by true true = let more = flows_more s.oks (ok.Consume l.link) in omega (arith, more)
+    by true false = let same : flows_in (s.oks ++ []) ≡ flows_in s.oks = ap flows_in (append-nil s.oks) in omega (arith, same)
+    by false c = omega arith
+
+attach_adds : (o : Option ℕ) (ts : List Tree) (s : PathState) → flows_in (attached_as o ts s).oks ≤ flows_in s.oks
+attach_adds None ts s = omega arith
+attach_adds (Some name) ts s = begun_adds (asked_by (heard_as ts name) s.links) (heard_as ts name) (record s { links = attached (heard_as ts name) s.links })
+
+flow_keeps : (o : Option PathLink) (peer : ℕ) (count : Option ℕ) (credit : ℕ) (drain echo : Bool) (s : PathState) → (flowed_by o peer count credit drain echo s).oks ≡ s.oks
+flow_keeps None peer count credit drain echo s = refl
+flow_keeps (Some l) peer None credit drain true s = refl
+flow_keeps (Some l) peer None credit drain false s = refl
+flow_keeps (Some l) peer (Some count) credit drain true s = refl
+flow_keeps (Some l) peer (Some count) credit drain false s = refl
+
+taken_keeps : (o : Option PathLink) (part : Part) (payload : List ℕ) (image : Option Content) (again : Bool) (s : PathState)
+    → (transferred_on o part payload image again s).oks ≡ s.oks
+taken_keeps None part payload image again s = refl
+taken_keeps (Some l) part payload image again s = refl
+
+transfer_keeps : (o : Option TransferFault) (limit n peer : ℕ) (part : Part) (payload : List ℕ) (s : PathState)
+    → (transferred_by o limit n peer part payload s).oks ≡ s.oks
+transfer_keeps None limit n peer part payload s = taken_keeps (taking peer s) part payload _ _ s
+transfer_keeps (Some fault) limit n peer part payload s = refl
+
+outcome_keeps : (ts : List Tree) (s : PathState) → (outcome_by ts s).oks ≡ s.oks
+outcome_keeps ts s = by (is_outcome ts)
+  where
+    by : (b : Bool) → (if b then outcome_came (number_at ts 1) (number_in (field ts 2)) (outcome_in (field ts 4)) (is_true (field ts 3)) s else s).oks ≡ s.oks
+    by true = refl
+    by false = refl
+
+heard_adds : (limit n : ℕ) (q : Parts) (payload : List ℕ) → AddsNone (path_heard limit n q payload)
+unfolding AddsNone
+heard_adds limit n q payload s =
+    oks_if (q.0 == 17) s (session.began (number_at q.1 4) s) _ (omega arith)
+    (oks_if (q.0 == 18) s _ _ (attach_adds (name_in (text_of (field q.1 0))) q.1 s)
+    (oks_if (q.0 == 19 && not (is_of_session q.1)) s _ _
+    (same_oks (link_flowed q.1 s) s (flow_keeps (receiver_in (named (number_at q.1 4) s.links)) (number_at q.1 4) (number_in (field q.1 5)) (credit_of (number_in (field q.1 6))) (is_true (field q.1 8)) (is_true (field q.1 9)) s))
+    (oks_if (q.0 == 20) s _ _ (same_oks (transferred limit n q.1 payload s) s (transfer_keeps (fault_in q.1 payload s) limit n (number_at q.1 0) (part_in q.1) payload s))
+    (oks_if (q.0 == 21) s _ _ (same_oks (outcome_by q.1 s) s (outcome_keeps q.1 s))
+    (oks_if (q.0 == 22) s (detach_came (number_at q.1 0) (is_not_found (condition_in (field q.1 2))) s) _ (omega arith)
+    (oks_if (q.0 == 23) s (lost_path s) s (omega arith) (omega arith)))))))
 
 meaning_less : (n : ℕ) (m : Meaning) (w : State) → flows_due n (with_meaning m w).paths ≤ flows_due n w.paths
 meaning_less n ten.Nothing w = omega arith
@@ -183,18 +273,21 @@ meaning_less n ten.Opened w = by (is_opening w.conn)
     by true = omega arith
     by false = omega arith
 meaning_less n (ten.OfSession g q payload) w =
-    session_cases (λ (y : State). flows_due n y.paths ≤ flows_due n w.paths) g q w
+    session_cases (λ (y : State). flows_due n y.paths ≤ flows_due n w.paths) g q payload w
     (record {
       begins = kept;
       stays = kept;
-      ends = λ code why. less_both _ _ _ (with_less n g (carried g q w).paths lost_path (λ s. refl)) kept;
+      ends = λ code why. less_both _ _ _ (with_less n g (carried g q payload w).paths closed_path closed_adds) kept;
       windows = omega arith;
-      drops = λ code why. with_less n g w.paths lost_path (λ s. refl);
+      drops = λ code why. with_less n g w.paths lost_path lost_adds;
       fails = λ why. fail_less n _ why (windowed g q w);
     })
   where
-    kept : flows_due n (with_path g (path_heard q) w.paths) ≤ flows_due n w.paths
-    kept = with_less n g w.paths (path_heard q) (heard_keeps q)
+    limit : ℕ
+    limit = w.conn.limits.frame_max
+
+    kept : flows_due n (with_path g (path_heard limit g q payload) w.paths) ≤ flows_due n w.paths
+    kept = with_less n g w.paths (path_heard limit g q payload) (heard_adds limit g q payload)
 meaning_less n (ten.Closed x) w = fail_less n _ _ w
 meaning_less n ten.Refused w = fail_less n _ _ w
 meaning_less n (ten.Violation x) w = fail_less n _ _ w
@@ -212,12 +305,35 @@ lost_up_less n x w =
 
 -- ---- what goes to the container
 
+granted_keeps : (b : Bool) (o : Option NextGrant) (s t : PathState) → t.oks ≡ s.oks → (if b then granted_by o s else t).oks ≡ s.oks
+granted_keeps true None s t e = refl
+granted_keeps true (Some g) s t e = refl
+granted_keeps false o s t e = e
+
+disposed_keeps : (o : Option NextSettle) (s : PathState) → (disposed_by o s).oks ≡ s.oks
+disposed_keeps None s = refl
+disposed_keeps (Some x) s = refl
+
+dropped_keeps : (o : Option PathLink) (s : PathState) → (dropped_by o s).oks ≡ s.oks
+dropped_keeps None s = refl
+dropped_keeps (Some l) s = by l.receives
+  where
+    by : (b : Bool) → (if b then dropped l.link s else s).oks ≡ s.oks
+    by true = refl
+    by false = refl
+
 given_keeps : (u : SessionUnit) (s : PathState) → (path_given u s).oks ≡ s.oks
 given_keeps (unit.Attach a) s = refl
-given_keeps (unit.Flow f) s = refl
+given_keeps (unit.Flow f) s = granted_keeps (is_grant_next s) (grant_in s) s _ refl
 given_keeps (unit.Transfer t) s = refl
+given_keeps (unit.Dispose x) s = disposed_keeps (next_settle_of s.deliveries.list) s
 given_keeps (unit.Settle x) s = refl
-given_keeps (unit.Detach k handle) s = refl
+given_keeps (unit.Detach k handle why) s = dropped_keeps (find is_to_part s.links.links)
+    (record s { links = parted (find is_to_part s.links.links) (given_of s.publishes.list s.links) s.links })
+
+given_adds : (u : SessionUnit) → AddsNone (path_given u)
+unfolding AddsNone
+given_adds u s = same_oks (path_given u s) s (given_keeps u s)
 
 up_less : (n : ℕ) (u : UpUnit) (ps : List (Option PathState)) → flows_due n (paths_given_up u ps) ≤ flows_due n ps
 up_less n up.SaslHeader ps = omega arith
@@ -226,10 +342,10 @@ up_less n up.AmqpHeader ps = omega arith
 up_less n up.Open ps = omega arith
 up_less n (up.Close why) ps = omega arith
 up_less n up.Empty ps = omega arith
-up_less n (up.OnSession k u) ps = with_less n k ps (path_given u) (given_keeps u)
+up_less n (up.OnSession k u) ps = with_less n k ps (path_given u) (given_adds u)
 up_less n (up.Flow k i o) ps = omega arith
 up_less n (up.Begin k) ps = omega arith
-up_less n (up.End k why) ps = less_both _ _ _ (with_less n k (told_paths ps) lost_path (λ s. refl)) (reported_less n ps)
+up_less n (up.End k why) ps = less_both _ _ _ (with_less n k (told_paths ps) lost_path lost_adds) (reported_less n ps)
 
 -- ---- a request
 
@@ -253,6 +369,17 @@ method_more n k life (method.ConfirmSelect no_wait) ps =
     with_more n k ps (λ s. answered_if no_wait ok.Select (selected s)) 0 (λ s. ok_more ok.Select no_wait (selected s) refl)
 method_more n k life m ps = with_more n k ps (path_by m) 0 (λ s. omega arith)
 
+published_adds : (address text : List ℕ) (back : List (List ℕ)) → AddsNone (published address text back)
+unfolding AddsNone
+published_adds address text back s = omega arith
+
+refused_less : (n : ℕ) (r : Refusal) (ps : List (Option PathState)) → flows_due n (refused_paths r ps) ≤ flows_due n ps
+refused_less n r ps = by (is_of_channel r)
+  where
+    by : (b : Bool) → flows_due n (if b then with_path r.channel closed_path ps else closed_paths ps) ≤ flows_due n ps
+    by true = with_less n r.channel ps closed_path closed_adds
+    by false = closed_less n ps
+
 wanted_more : (rs : List Route) (limit n life : ℕ) (x : Want91) (ps : List (Option PathState)) → flows_due n (paths_by rs limit life x ps) ≤ flows_due n ps + one_if (is_method_on is_channel_flow n x)
 wanted_more rs limit n life want.Nothing ps = omega arith
 wanted_more rs limit n life want.Start ps = omega arith
@@ -261,17 +388,17 @@ wanted_more rs limit n life want.Tuned ps = omega arith
 wanted_more rs limit n life want.OpenUp ps = omega arith
 wanted_more rs limit n life (want.Method k m) ps = one_or (k == n) (is_channel_flow m) _ _ (method_more n k (life + 1) m ps)
 wanted_more rs limit n life (want.Publish k m c) ps =
-    let less = with_less n k ps (published (address_of rs (message_of m c)) (image_text (message_of m c)) (back_of limit k m (message_of m c))) (λ s. refl) in omega (arith, less)
+    let less = with_less n k ps (published (address_of rs (message_of m c)) (image_text (message_of m c)) (back_of limit k m (message_of m c))) (published_adds _ _ _) in omega (arith, less)
 wanted_more rs limit n life (want.ChannelCloseOk k) ps = omega arith
-wanted_more rs limit n life want.Close ps = omega arith
+wanted_more rs limit n life want.Close ps = let less = closed_less n ps in omega (arith, less)
 wanted_more rs limit n life want.CloseOk ps = omega arith
-wanted_more rs limit n life (want.Refuse r) ps = omega arith
+wanted_more rs limit n life (want.Refuse r) ps = let less = refused_less n r ps in omega (arith, less)
 
 came_more : (n : ℕ) (w : State) (u : Unit91) (b : Bool) (total went : ℕ) → went + flows_due n w.paths ≤ total
-    → went + flows_due n (if b then w else came (dequeued w) u).paths ≤ (if b then total else total + one_if (is_method_on is_channel_flow n (want_in w.routes w.conn u)))
+    → went + flows_due n (if b then w else came (dequeued w) u).paths ≤ (if b then total else total + one_if (is_method_on is_channel_flow n (want_in w.routes w.paths w.conn u)))
 came_more n w u true total went e = e
 came_more n w u false total went e =
-    let more = wanted_more w.routes (conn_step w.routes w.conn u).limits.frame_max n w.opened (want_in w.routes w.conn u) w.paths in
+    let more = wanted_more w.routes (conn_step w.routes w.paths w.conn u).limits.frame_max n w.opened (want_in w.routes w.paths w.conn u) w.paths in
     omega (arith, e, more)
 
 -- ---- an answer
@@ -279,6 +406,8 @@ came_more n w u false total went e =
 -- the one that goes to a client on a channel is the first that its path owes
 abbrev IsFirstOk : PathState → ChannelUnit → Type 0
 IsFirstOk s (to_client.Ok x) = next_ok s ≡ Some x
+IsFirstOk s (to_client.Deliver d) = Unit {0}
+IsFirstOk s (to_client.Content c) = Unit {0}
 IsFirstOk s (to_client.Confirm c) = Unit {0}
 IsFirstOk s (to_client.Return r) = Unit {0}
 
@@ -294,18 +423,29 @@ sent_less s x e = by s.oks x e
     by (ok.Flow ∷ os) ok.Flow f = omega arith
     by (ok.Flow ∷ os) ok.Declare f = absurd cc
     by (ok.Flow ∷ os) ok.Select f = absurd cc
+    by (ok.Flow ∷ os) (ok.Consume m) f = absurd cc
     by (ok.Declare ∷ os) ok.Flow f = absurd cc
     by (ok.Declare ∷ os) ok.Declare f = omega arith
     by (ok.Declare ∷ os) ok.Select f = absurd cc
+    by (ok.Declare ∷ os) (ok.Consume m) f = absurd cc
     by (ok.Select ∷ os) ok.Flow f = absurd cc
     by (ok.Select ∷ os) ok.Declare f = absurd cc
     by (ok.Select ∷ os) ok.Select f = omega arith
+    by (ok.Select ∷ os) (ok.Consume m) f = absurd cc
+    by (ok.Consume l ∷ os) ok.Flow f = absurd cc
+    by (ok.Consume l ∷ os) ok.Declare f = absurd cc
+    by (ok.Consume l ∷ os) ok.Select f = absurd cc
+    by (ok.Consume l ∷ os) (ok.Consume m) f = omega arith
 
 told_less : (o : Option PathState) (u : ChannelUnit) → IsFirstOk (or_no_path o) u → owed_in (option_map (path_told u) o) + one_if (is_flow_ok u) ≤ owed_in o
 told_less None (to_client.Ok x) f = absurd cc
+told_less None (to_client.Deliver d) f = omega arith
+told_less None (to_client.Content c) f = omega arith
 told_less None (to_client.Confirm c) f = omega arith
 told_less None (to_client.Return r) f = omega arith
 told_less (Some s) (to_client.Ok x) f = sent_less s x f
+told_less (Some s) (to_client.Deliver d) f = omega arith
+told_less (Some s) (to_client.Content c) f = omega arith
 told_less (Some s) (to_client.Confirm c) f = omega arith
 told_less (Some s) (to_client.Return r) f = omega arith
 
@@ -335,6 +475,19 @@ given_less n (reply.ChannelCloseOk k) ps o = omega arith
 given_less n (reply.CrossedOk k) ps o = omega arith
 given_less n (reply.ChannelClose k r) ps o = omega arith
 
+-- the last byte of a unit to the client went
+wrote_adds : (u : ChannelUnit) → AddsNone (path_wrote u)
+unfolding AddsNone
+wrote_adds (to_client.Ok x) s = omega arith
+wrote_adds (to_client.Deliver d) s = omega arith
+wrote_adds (to_client.Content c) s = oks_if c.last s (content_whole c.tag s) s (omega arith) (omega arith)
+wrote_adds (to_client.Confirm c) s = omega arith
+wrote_adds (to_client.Return r) s = omega arith
+
+wrote_less : (n : ℕ) (o : Option Reply) (ps : List (Option PathState)) → flows_due n (paths_wrote o ps) ≤ flows_due n ps
+wrote_less n (Some (reply.OnChannel k u)) ps = with_less n k ps (path_wrote u) (wrote_adds u)
+wrote_less n o ps = omega arith
+
 -- ---- all steps
 
 keeps : (went a b total : ℕ) → b ≤ a → went + a ≤ total → went + b ≤ total
@@ -348,7 +501,7 @@ queued_less n w us = by w.out_of_memory
     by false = omega arith
 
 left_less : (n : ℕ) (w : State) (b : Bool) → flows_due n (if b then left w else w).paths ≤ flows_due n w.paths
-left_less n w true = omega arith
+left_less n w true = closed_less n w.paths
 left_less n w false = omega arith
 
 -- how many flow-oks went, and how many channel.flow were taken up
@@ -362,14 +515,17 @@ came_counts : (n : ℕ) (u : Unit91) (h : List Step) → ArePicks h → flows_we
     → flows_went n h + flows_due n (before (Came u ∷ h)).paths ≤ flows_asked n (Came u ∷ h)
 came_counts n u h p e =
     subst (λ (rs : List Route). flows_went n h + flows_due n (before (Came u ∷ h)).paths
-    ≤ (if ran_out_in h then flows_asked n h else flows_asked n h + one_if (is_method_on is_channel_flow n (want_in rs (connection h) u))))
+    ≤ (if ran_out_in h then flows_asked n h else flows_asked n h + one_if (is_method_on is_channel_flow n (want_in rs (paths_in h) (connection h) u))))
     (routes_are (known h p))
+    (subst (λ (ps : List (Option PathState)). flows_went n h + flows_due n (before (Came u ∷ h)).paths
+    ≤ (if ran_out_in h then flows_asked n h else flows_asked n h + one_if (is_method_on is_channel_flow n (want_in (before h).routes ps (connection h) u))))
+    (paths_are (known h p))
     (subst (λ (d : Connection). flows_went n h + flows_due n (before (Came u ∷ h)).paths
-    ≤ (if ran_out_in h then flows_asked n h else flows_asked n h + one_if (is_method_on is_channel_flow n (want_in (before h).routes d u))))
+    ≤ (if ran_out_in h then flows_asked n h else flows_asked n h + one_if (is_method_on is_channel_flow n (want_in (before h).routes (before h).paths d u))))
     (conn_is (known h p))
     (subst (λ (b : Bool). flows_went n h + flows_due n (before (Came u ∷ h)).paths
-    ≤ (if b then flows_asked n h else flows_asked n h + one_if (is_method_on is_channel_flow n (want_in (before h).routes (before h).conn u))))
-    (memory_is (known h p)) (came_more n (before h) u (before h).out_of_memory (flows_asked n h) (flows_went n h) e)))
+    ≤ (if b then flows_asked n h else flows_asked n h + one_if (is_method_on is_channel_flow n (want_in (before h).routes (before h).paths (before h).conn u))))
+    (memory_is (known h p)) (came_more n (before h) u (before h).out_of_memory (flows_asked n h) (flows_went n h) e))))
 
 counts : (n : ℕ) (h : List Step) → ArePicks h → flows_went n h + flows_due n (before h).paths ≤ flows_asked n h
 counts n [] p = none_due n
@@ -377,7 +533,7 @@ counts n (Began site i ms ∷ h) p = counts n h p.1
 counts n (Moment ms ∷ h) p = keeps _ _ _ _ (reported_less n (before h).paths) (counts n h p.1)
 counts n (Fed Client ∷ h) p = counts n h p.1
 counts n (Fed Up ∷ h) p = keeps _ _ _ _ (reported_less n (before h).paths) (counts n h p.1)
-counts n (Silent Client ∷ h) p = counts n h p.1
+counts n (Silent Client ∷ h) p = keeps _ _ _ _ (closed_less n (before h).paths) (counts n h p.1)
 counts n (Silent Up ∷ h) p = keeps _ _ _ _ (fail_less n _ _ _) (counts n h p.1)
 counts n (Queued u ∷ h) p = keeps _ _ _ _ (queued_less n (before h) _) (counts n h p.1)
 counts n (Came u ∷ h) p = came_counts n u h p.1 (counts n h p.1)
@@ -392,13 +548,19 @@ counts n (Lost Up loss.Ended ∷ h) p = keeps _ _ _ _ (lost_up_less n side.Ended
 counts n (Lost Up loss.Failed ∷ h) p = keeps _ _ _ _ (lost_up_less n side.Failed (before h)) (counts n h p.1)
 counts n (Lost Up loss.Shut ∷ h) p = keeps _ _ _ _ (all_lost_less n (before h).paths) (counts n h p.1)
 counts n (Gave (ToClient u) text ∷ h) p =
-    let less = given_less n u (before h).paths (goes_as (IsFirstOn (before h).paths) (before h) u (record { answer = λ k x e. e; confirm = λ k c e. tt; back = λ k r e. tt }) p.0.1) in
+    let less = given_less n u (before h).paths (goes_as (IsFirstOn (before h).paths) (before h) u (record {
+      answer = λ k x e. e;
+      deliver = λ k d e. tt;
+      content = λ k c e. tt;
+      confirm = λ k c e. tt;
+      back = λ k r e. tt;
+    }) p.0.1) in
     let old = counts n h p.1 in
     omega (arith, less, old)
 counts n (Gave (ToUp u) text ∷ h) p = keeps _ _ _ _ (up_less n u (before h).paths) (counts n h p.1)
-counts n (Whole Client ∷ h) p = counts n h p.1
+counts n (Whole Client ∷ h) p = keeps _ _ _ _ (wrote_less n (before h).in_progress (before h).paths) (counts n h p.1)
 counts n (Whole Up ∷ h) p = counts n h p.1
-counts n (OutOfMemory ∷ h) p = counts n h p.1
+counts n (OutOfMemory ∷ h) p = keeps _ _ _ _ (closed_less n (before h).paths) (counts n h p.1)
 
 pub flows_once : (n : ℕ) (h : List Step) → ArePicks h → went_in (is_flow_ok_on n) h ≤ wanted_in (is_method_on is_channel_flow n) h
 flows_once n h p = let all = counts n h p in omega (arith, all)

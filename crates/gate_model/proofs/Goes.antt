@@ -26,7 +26,7 @@ use Rattle.gate_model.specs.Asked.{is_opening_unit, is_up_close, openings_of, se
 use Rattle.gate_model.specs.Due.{begins, ends, flows_on, has_ended, has_failed, is_end_due}
 use Rattle.gate_model.specs.Due.{is_lingered, is_overdue, is_shut_due, none_left, pick, rows_in}
 use Rattle.gate_model.specs.Due.{session_flows, session_rows, carried_rows, row_on, attaches}
-use Rattle.gate_model.specs.Due.{unless_out, link_flows, settlings}
+use Rattle.gate_model.specs.Due.{disposals, unless_out, link_flows, settlings}
 use Rattle.gate_model.specs.Lives.{any_life, each, is_begun, is_carried, is_ended, is_free, life_at}
 use Rattle.gate_model.specs.Lives.{session_in}
 use Rattle.gate_model.specs.declared.life.Life.{Life}
@@ -112,6 +112,7 @@ carried_none w =
 rows_none : (w : State) → openings_of (session_rows w) ≡ []
 rows_none w =
     none_more (unless_out w.out_of_memory (carried_rows w)) _ (by w.out_of_memory)
+    ∙ none_more (disposals w) _ (no_opening _ 0 w.lives (λ k l. row_none w.up.container k _ _))
     ∙ none_more (settlings w) _ (no_opening _ 0 w.lives (λ k l. row_none w.up.container k _ _))
     ∙ no_opening _ 0 w.lives (λ k l. row_none w.up.container k _ _)
   where

@@ -1,7 +1,10 @@
 pub mod Backs
+pub mod Carried
 pub mod Carrying
 pub mod Closings
 pub mod Connections
+pub mod Consumers
+pub mod Delivering
 pub mod Ends
 pub mod Fates
 pub mod Firsts
@@ -11,10 +14,12 @@ pub mod Frames
 pub mod Goes
 pub mod Known
 pub mod Lives
+pub mod Numbers
 pub mod Once
 pub mod Openings
 pub mod Orders
 pub mod Outcomes
+pub mod Places
 pub mod Publishing
 pub mod Queues
 pub mod Reports

@@ -80,8 +80,8 @@ meaning_all ten.Opened w e = by (is_opening w.conn)
     by true = e
     by false = e
 meaning_all (ten.OfSession g p payload) w e =
-    let kept : All (carried g p w).lives = after_set w.lives g _ e in
-    session_cases (λ (v : State). All v.lives) g p w (record {
+    let kept : All (carried g p payload w).lives = after_set w.lives g _ e in
+    session_cases (λ (v : State). All v.lives) g p payload w (record {
       begins = after_set _ g _ kept;
       stays = kept;
       ends = λ code why. after_set _ g _ kept;
@@ -125,7 +125,7 @@ came_all w u e = by w.out_of_memory
   where
     by : (b : Bool) → All (if b then w else came (dequeued w) u).lives
     by true = e
-    by false = want_all w.moment (client_told w.routes w.conn u) (client_step w.routes w.conn u).1 w.lives e
+    by false = want_all w.moment (client_told w.routes w.conn u) (client_step w.routes w.paths w.conn u).1 w.lives e
 
 heard_all : (w : State) (u : Unit10) → All w.lives → All (if w.out_of_memory then w else heard w u).lives
 heard_all w u e = by w.out_of_memory

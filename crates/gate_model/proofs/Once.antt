@@ -1,17 +1,14 @@
 -- What is due on a channel and what went there answers what was asked there.
 use Rattle.gate_model.specs.declared.reply.Reason.{Reason}
 use Rattle.property_map.specs.declared.told.Told.{Told}
-use Rattle.std.proofs.Common.{not, ◌≡◌, ◌≢◌, ◌⊎◌, ℕ, zero, suc, ◌+◌, ◌==◌, ◌≤◌, Bool, true, false, ◌&&◌}
+use Rattle.std.proofs.Common.{◌≡◌, ◌≢◌, ℕ, ◌+◌, ◌==◌, ◌≤◌, Bool, true, false, ◌&&◌}
 use Rattle.std.proofs.Common.{◌||◌, if◌then◌else◌, List, [], ◌∷◌, ◌++◌, Option, None, Some}
-use Rattle.std.proofs.Common.{replicate, arith, inl, inr, refl, sym, ap, ◌∙◌, subst}
-use Rattle.std.specs.Prelude.{slice_get}
-use Rattle.std.proofs.lemmas.Bool.Decides.{nat_tests}
+use Rattle.std.proofs.Common.{arith, refl, sym, ap, ◌∙◌, subst}
 use Rattle.gate_outside.specs.declared.ports.End.TheVariants.{Client, Up}
 use Rattle.gate_outside.specs.declared.ports.Linked.TheVariants as link
 use Rattle.gate_relay.specs.declared.loss.Loss.TheVariants as loss
 use Rattle.machine_091.specs.State.{is_closing, is_opening}
 use Rattle.machine_091.specs.declared.state.Connection.{Connection}
-use Rattle.machine_091.specs.declared.unit.Refusal.{Refusal}
 use Rattle.machine_091.specs.declared.unit.Unit91.{Unit91}
 use Rattle.machine_091.specs.declared.unit.Want91.{Want91}
 use Rattle.machine_091.specs.declared.unit.Want91.TheVariants as want
@@ -29,19 +26,15 @@ use Rattle.gate_model.specs.declared.outgoing.Outgoing.TheVariants.{ToClient, To
 use Rattle.gate_model.specs.declared.outgoing.UpUnit.{UpUnit}
 use Rattle.gate_model.specs.declared.outgoing.UpUnit.TheVariants as up
 use Rattle.gate_model.specs.declared.channel.ChannelUnit.{ChannelUnit}
-use Rattle.gate_model.specs.declared.channel.ChannelUnit.TheVariants as to_client
-use Rattle.gate_model.specs.Paths.{path_at}
-use Rattle.publish_path.specs.declared.publish.Confirm.{Confirm}
-use Rattle.session_path.specs.Due.{next_ok}
-use Rattle.session_path.specs.declared.path.PathOk.{PathOk}
+use Rattle.gate_model.specs.Paths.{closed_path}
 use Rattle.gate_model.proofs.Flows.{flows_once}
 use Rattle.gate_model.specs.declared.reply.Reply.{Reply}
 use Rattle.gate_model.specs.declared.reply.Reply.TheVariants as reply
-use Rattle.gate_model.specs.Due.{close_oks_on, confirm_on, confirms_on, ok_on, oks_on, open_oks, contents_on}
-use Rattle.gate_model.specs.Due.{path_oks, refused_on, when}
-use Rattle.gate_model.specs.Folds.{is_answer, ran_out_in, connection}
+use Rattle.gate_model.specs.Due.{close_oks_on}
+use Rattle.gate_model.specs.Due.{refused_on, when}
+use Rattle.gate_model.specs.Folds.{is_answer, ran_out_in, connection, paths_in}
 use Rattle.gate_model.specs.Lives.{refusal_on, begun_life, failed_life, freed_life, life_at, reason_of}
-use Rattle.gate_model.specs.Lives.{lives_by, method_life, no_life, no_lives, or_none, with_life}
+use Rattle.gate_model.specs.Lives.{lives_by, method_life, no_life, no_lives, with_life}
 use Rattle.gate_model.specs.Lives.{is_of_channel}
 use Rattle.gate_model.specs.Once.{AnswersOnce, is_channel_close, is_channel_open, is_close_ok_on}
 use Rattle.gate_model.specs.Once.{is_method_on, is_open_ok_on, one_if, wanted_in, went_in}
@@ -54,49 +47,15 @@ use Rattle.gate_model.specs.State.{dequeued, fail, failed, heard, is_channel_set
 use Rattle.gate_model.specs.State.{left, life_failed, runs, windowed, with_meaning}
 use Rattle.gate_model.specs.State.{without_begin, without_life, Fed, Silent}
 use Rattle.gate_model.specs.Upstream.{first, heard_up, meaning_by}
-use Rattle.gate_model.proofs.Known.{conn_is, known, memory_is, routes_are}
-use Rattle.gate_model.proofs.Rows.{Has, HasFirst, HasNone, first_at, first_none, first_some, has}
-use Rattle.gate_model.proofs.Rows.{same_first}
-use Rattle.gate_model.proofs.Said.{Beats, InAnswers, InConfirms, InCloses, InOks, IsDue, InContents, a_content, an_outcome}
-use Rattle.gate_model.proofs.Said.{IsOfChannel, OnChannel, Picked, calm_now, first_due, picked}
+use Rattle.session_path.specs.Path.{PathState}
+use Rattle.gate_model.proofs.Known.{conn_is, known, memory_is, paths_are, routes_are}
+use Rattle.gate_model.proofs.Places.{Beyond, Elsewhere, Here, SetAt, isnt, itself, new_at, set_at}
+use Rattle.gate_model.proofs.Rows.{first_at}
+use Rattle.gate_model.proofs.Said.{Beats, InCloses, InOks, InOpen, InOpenOks, IsDue, IsOfChannel}
+use Rattle.gate_model.proofs.Said.{OnChannel, OnOpen, Picked, calm_now, first_due, picked}
 use Rattle.gate_model.proofs.Sessions.{session_cases}
 use Rattle.gate_model.proofs.Times.{and_left}
 use Rattle.gate_model.specs.declared.setup.Route.{Route}
-
--- ---- lives by their numbers
-
-pub same_or_not : (k n : ℕ) → (k ≡ n) ⊎ (k ≢ n)
-same_or_not zero zero = inl refl
-same_or_not zero (suc n) = inr (λ e. cc)
-same_or_not (suc k) zero = inr (λ e. cc)
-same_or_not (suc k) (suc n) = elim (same_or_not k n) [ inl e ↦ inl (ap suc e) | inr d ↦ inr (λ e. d (let less : k ≡ n = omega (arith, e) in less)) ]
-
--- a life that is set is found under its number alone, which may be of none
-pub data SetAt (ls : List Life) (k n : ℕ) (l : Life) : Type 0 where
-  Here : k ≡ n → life_at (with_life k l ls) n ≡ l → SetAt ls k n l
-  Elsewhere : k ≢ n → life_at (with_life k l ls) n ≡ life_at ls n → SetAt ls k n l
-  Beyond : k ≡ n → life_at ls n ≡ no_life → life_at (with_life k l ls) n ≡ no_life → SetAt ls k n l
-
-set_more : (x : Life) (ls : List Life) (k n : ℕ) (l : Life) → SetAt ls k n l → SetAt (x ∷ ls) (suc k) (suc n) l
-set_more x ls k n l (Here e f) = Here (ap suc e) f
-set_more x ls k n l (Elsewhere d f) = Elsewhere (λ e. d (let less : k ≡ n = omega (arith, e) in less)) f
-set_more x ls k n l (Beyond e f g) = Beyond (ap suc e) f g
-
-pub set_at : (ls : List Life) (k n : ℕ) (l : Life) → SetAt ls k n l
-set_at [] k n l = elim (same_or_not k n) [ inl e ↦ Beyond e refl refl | inr d ↦ Elsewhere d refl ]
-set_at (x ∷ ls) zero zero l = Here refl refl
-set_at (x ∷ ls) zero (suc n) l = Elsewhere (λ e. cc) refl
-set_at (x ∷ ls) (suc k) zero l = Elsewhere (λ e. cc) refl
-set_at (x ∷ ls) (suc k) (suc n) l = set_more x ls k n l (set_at ls k n l)
-
-none_at : (k n : ℕ) → or_none (slice_get (replicate k no_life) n) ≡ no_life
-none_at zero n = refl
-none_at (suc k) zero = refl
-none_at (suc k) (suc n) = none_at k n
-
-pub new_at : (n : ℕ) → life_at no_lives n ≡ no_life
-unfolding no_lives
-new_at n = none_at 256 n
 
 -- ---- what goes is due
 
@@ -144,30 +103,11 @@ owed_refused ls true k (Some x) v e = let here : reply.ChannelClose k x ≡ v = 
 owed_refused ls false k (Some x) v e = absurd cc
 owed_refused ls b k None v e = absurd cc
 
-owed_oks : (ls : List Life) (b : Bool) (k : ℕ) (o : Option PathOk) (v : Reply) → first (if b then [] else ok_on k o) ≡ Some v → IsOwed ls v
-owed_oks ls true k o v e = absurd cc
-owed_oks ls false k None v e = absurd cc
-owed_oks ls false k (Some x) v e = let here : reply.OnChannel k (to_client.Ok x) ≡ v = cc in subst (IsOwed ls) here tt
-
 owed_on : (w : State) (r : Reply) → IsOfChannel w r → IsOwed w.lives r
-owed_on w r (InAnswers e) = by (has (open_oks w))
-  where
-    opens : (k : ℕ) (v : Reply) → first (when (life_at w.lives k).open_ok (reply.ChannelOpenOk k)) ≡ Some v → IsOwed w.lives v
-    opens k v e = owed_when w.lives (life_at w.lives k).open_ok (reply.ChannelOpenOk k) v (λ x. x) e
-
-    oks : (k : ℕ) (v : Reply) → first (oks_on w.paths k (life_at w.lives k)) ≡ Some v → IsOwed w.lives v
-    oks k v e = owed_oks w.lives (life_at w.lives k).over k (next_ok (path_at w.paths k)) v e
-
-    by : Has (open_oks w) → IsOwed w.lives r
-    by (HasFirst u g) =
-        subst (IsOwed w.lives) (same_first (first (open_oks w ++ path_oks w)) u r (first_some (open_oks w) (path_oks w) u g) e)
-        (first_at (IsOwed w.lives) _ w.lives u opens g)
-    by (HasNone g) = first_at (IsOwed w.lives) (oks_on w.paths) w.lives r oks (sym (first_none (open_oks w) (path_oks w) g) ∙ e)
-owed_on w r (InContents e) =
-    first_at (IsOwed w.lives) (contents_on w.paths) w.lives r (λ k v f. a_content (IsOwed w.lives) w.paths k (life_at w.lives k) v (λ u x. tt) f) e
-owed_on w r (InConfirms e) =
-    first_at (IsOwed w.lives) (confirms_on (not w.out_of_memory) w.paths) w.lives r
-    (λ k v f. an_outcome (IsOwed w.lives) (not w.out_of_memory) w.paths k (life_at w.lives k) v (λ u x. tt) f) e
+owed_on w r (InOpen (OnOpen k u e)) = subst (IsOwed w.lives) e tt
+owed_on w r (InOpenOks e) =
+    first_at (IsOwed w.lives) (λ (n : ℕ) (l : Life). when l.open_ok (reply.ChannelOpenOk n)) w.lives r
+    (λ k v f. owed_when w.lives (life_at w.lives k).open_ok (reply.ChannelOpenOk k) v (λ x. x) f) e
 owed_on w r (InOks e) =
     first_at (IsOwed w.lives) (λ (n : ℕ) (l : Life). close_oks_on n (l.close_ok && is_channel_settled w n) l) w.lives r
     (λ k v f. owed_ok w.lives k (life_at w.lives k).crossed_ok _ v (λ x. x) (λ x. and_left (life_at w.lives k).close_ok _ x) f) e
@@ -249,7 +189,7 @@ meaning_less {n} {v} c ten.Opened w = by (is_opening w.conn)
     by true = omega arith
     by false = omega arith
 meaning_less {n} {v} c (ten.OfSession g p payload) w =
-    session_cases (λ (y : State). Value v n y ≤ Value v n w) g p w
+    session_cases (λ (y : State). Value v n y ≤ Value v n w) g p payload w
     (record {
       begins = less_both _ _ _ (rule_less v n g x.lives begun_life c.begun) kept;
       stays = kept;
@@ -260,7 +200,7 @@ meaning_less {n} {v} c (ten.OfSession g p payload) w =
     })
   where
     x : State
-    x = carried g p w
+    x = carried g p payload w
 
     s : SessionState
     s = carried_by p (life_at w.lives g).session
@@ -268,7 +208,7 @@ meaning_less {n} {v} c (ten.OfSession g p payload) w =
     kept : Value v n x ≤ Value v n w
     kept = rule_less v n g w.lives (λ (l : Life). record l { session = s }) (c.carries s)
 
-    ends : (code : ℕ) (why : Option Condition) → Value v n (life_failed g (refusal_on g code) why x) ≤ Value v n w
+    ends : (code : ℕ) (why : Option Condition) → Value v n (life_failed g (refusal_on g code) why closed_path x) ≤ Value v n w
     ends code why = less_both _ _ _ (rule_less v n g x.lives (failed_life true w.moment _ why) (c.failed true w.moment _ why)) kept
 meaning_less {n} {v} c (ten.Closed x) w = fail_less v n _ _ w
 meaning_less {n} {v} c ten.Refused w = fail_less v n _ _ w
@@ -329,10 +269,10 @@ wanted_less {n} {v} {asks} c ms told (want.Refuse r) ls = by (is_of_channel r)
 
 came_less : {n : ℕ} {v : Life → ℕ} {asks : Want91 → Bool} {answers : Reply → Bool} → Counts n v asks answers → (w : State) (u : Unit91) (b : Bool) (total : ℕ)
     → (went : ℕ) → went + Value v n w ≤ total
-    → went + Value v n (if b then w else came (dequeued w) u) ≤ (if b then total else total + one_if (asks (client_step w.routes w.conn u).1))
+    → went + Value v n (if b then w else came (dequeued w) u) ≤ (if b then total else total + one_if (asks (client_step w.routes w.paths w.conn u).1))
 came_less c w u true total went e = e
 came_less {n} {v} {asks} c w u false total went e =
-    let less : v (life_at (lives_by w.moment (client_told w.routes w.conn u) (client_step w.routes w.conn u).1 w.lives) n) ≤ v (life_at w.lives n) + one_if (asks (client_step w.routes w.conn u).1) = wanted_less c w.moment (client_told w.routes w.conn u) (client_step w.routes w.conn u).1 w.lives in
+    let less : v (life_at (lives_by w.moment (client_told w.routes w.conn u) (client_step w.routes w.paths w.conn u).1 w.lives) n) ≤ v (life_at w.lives n) + one_if (asks (client_step w.routes w.paths w.conn u).1) = wanted_less c w.moment (client_told w.routes w.conn u) (client_step w.routes w.paths w.conn u).1 w.lives in
     omega (arith, e, less)
 
 -- ---- an answer
@@ -407,12 +347,16 @@ left_less v n w false = omega arith
 came_counts : {n : ℕ} {v : Life → ℕ} {asks : Want91 → Bool} {answers : Reply → Bool} → Counts n v asks answers → (u : Unit91) (h : List Step) → ArePicks h
     → went_in answers h + Value v n (before h) ≤ wanted_in asks h → went_in answers h + Value v n (before (Came u ∷ h)) ≤ wanted_in asks (Came u ∷ h)
 came_counts {n} {v} {asks} {answers} c u h p e =
-    subst (λ (rs : List Route). went_in answers h + Value v n (before (Came u ∷ h)) ≤ (if ran_out_in h then wanted_in asks h else wanted_in asks h + one_if (asks (client_step rs (connection h) u).1)))
-    (routes_are (known h p))
-    (subst (λ (d : Connection). went_in answers h + Value v n (before (Came u ∷ h)) ≤ (if ran_out_in h then wanted_in asks h else wanted_in asks h + one_if (asks (client_step (before h).routes d u).1)))
-    (conn_is (known h p))
-    (subst (λ (b : Bool). went_in answers h + Value v n (before (Came u ∷ h)) ≤ (if b then wanted_in asks h else wanted_in asks h + one_if (asks (client_step (before h).routes (before h).conn u).1)))
-    (memory_is (known h p)) (came_less c (before h) u (before h).out_of_memory (wanted_in asks h) (went_in answers h) e)))
+    subst (λ (rs : List Route). Goal (ran_out_in h) rs (paths_in h) (connection h)) (routes_are (known h p))
+    (subst (λ (ps : List (Option PathState)). Goal (ran_out_in h) (before h).routes ps (connection h)) (paths_are (known h p))
+    (subst (λ (d : Connection). Goal (ran_out_in h) (before h).routes (before h).paths d) (conn_is (known h p))
+    (subst (λ (b : Bool). Goal b (before h).routes (before h).paths (before h).conn) (memory_is (known h p))
+    (came_less c (before h) u (before h).out_of_memory (wanted_in asks h) (went_in answers h) e))))
+  where
+    Goal : Bool → List Route → List (Option PathState) → Connection → Type 0
+    Goal b rs ps d =
+        went_in answers h + Value v n (before (Came u ∷ h))
+        ≤ (if b then wanted_in asks h else wanted_in asks h + one_if (asks (client_step rs ps d u).1))
 
 counts : {n : ℕ} {v : Life → ℕ} {asks : Want91 → Bool} {answers : Reply → Bool} → Counts n v asks answers → (h : List Step) → ArePicks h
     → went_in answers h + Value v n (before h) ≤ wanted_in asks h
@@ -450,16 +394,6 @@ answered_at_most : {n : ℕ} {v : Life → ℕ} {asks : Want91 → Bool} {answer
 answered_at_most c h p = let all = counts c h p in omega (arith, all)
 
 -- ---- the three kinds
-
-pub itself : (n : ℕ) → (n == n) ≡ true
-itself n = grind (arith, nat_tests)
-
-pub isnt : (k n : ℕ) → k ≢ n → (k == n) ≡ false
-isnt k n d = by (k == n) refl
-  where
-    by : (b : Bool) → (k == n) ≡ b → b ≡ false
-    by true e = let same : k ≡ n = grind (arith, nat_tests, e) in absurd (d same)
-    by false e = refl
 
 no_answer_open : (n : ℕ) (u : Reply) → is_answer u ≡ true → is_open_ok_on n u ≡ false
 no_answer_open n reply.Protocol e = refl

@@ -2,7 +2,7 @@
 use Rattle.std.proofs.Common.{◌≡◌, ℕ, zero, suc, ◌∙◌, replicate, ◌∷◌, ◌==◌, Bool, true, false, ◌&&◌}
 use Rattle.std.proofs.Common.{◌||◌, List, Option, None, Some, ap, refl}
 use Rattle.std.specs.Prelude.{slice_set, if◌then◌else◌}
-use Rattle.close_translate.specs.declared.codes.TheConstants.{NOT_ALLOWED, NOT_IMPLEMENTED}
+use Rattle.close_translate.specs.declared.codes.TheConstants.{NOT_ALLOWED}
 use Rattle.close_translate.specs.declared.conditions.Scope.TheVariants as scope
 use Rattle.machine_091.specs.Calls.{after_closing, closing_channel}
 use Rattle.frames_091.specs.declared.frame.Kind91.{Kind91}
@@ -31,7 +31,9 @@ use Rattle.content_091.specs.declared.assembly.Content.{Content}
 use Rattle.machine_091.specs.declared.unit.Want91.{Want91}
 use Rattle.methods_091.specs.Rows.{class_of, id_of}
 use Rattle.methods_091.specs.View.{kind_of}
-use Rattle.gate_model.specs.Requests.{client_step, is_mandatory, message_of, method_fault}
+use Rattle.session_path.specs.Path.{PathState}
+use Rattle.gate_model.specs.Paths.{path_at}
+use Rattle.gate_model.specs.Requests.{client_step, message_of, method_fault}
 use Rattle.gate_model.specs.Requests.{publish_fault, refusal_of_want, refused_by, refused_for}
 use Rattle.gate_model.specs.declared.setup.Route.{Route}
 use Rattle.gate_model.specs.State.{close}
@@ -127,14 +129,14 @@ of_unit code (unit.Frame f) = by f.kind
     by frame.Heartbeat = refl
 
 -- so is what its refusals of requests make of it
-abbrev Told : (rs : List Route) (c : Connection) (u : Unit91) → machine.Step → Type 0
-Told rs c u x = Outcome c u (refused_by (refusal_of_want rs x.1) x)
+abbrev Told : (rs : List Route) (ps : List (Option PathState)) (c : Connection) (u : Unit91) → machine.Step → Type 0
+Told rs ps c u x = Outcome c u (refused_by (refusal_of_want rs ps x.1) x)
 
 -- a request of a channel, which is met or refused
 met_or_refused : (c d : Connection) (u : Unit91) (n : ℕ) (m : Method91) (x : Want91) (o : Option ℕ) → OnlyChannels c d → is_running c.phase ≡ true
     → Outcome c u (d, x) → Outcome c u (refused_by (refused_for n m o) (d, x))
 met_or_refused c d u n m x None only e met = met
-met_or_refused c d u n m x (Some code) only e met = by (code == NOT_IMPLEMENTED)
+met_or_refused c d u n m x (Some code) only e met = by (code == NOT_ALLOWED)
   where
     refusal : Bool → Refusal
     refusal b = if b then refusal_with code (class_of (kind_of m)) (id_of (kind_of m)) else record {
@@ -149,12 +151,12 @@ met_or_refused c d u n m x (Some code) only e met = by (code == NOT_IMPLEMENTED)
     by true = Declines (refusal true) d only e refl
     by false = Drops (refusal false) (after_closing scope.Channel n d) (only_both only (only_closing n d)) e refl
 
-called : (rs : List Route) (c d : Connection) (u : Unit91) (n : ℕ) (m : Method91) → OnlyChannels c d → is_running c.phase ≡ true
-    → Outcome c u (d, want.Method n m) → Told rs c u (d, want.Method n m)
-called rs c d u n m only e calls = met_or_refused c d u n m (want.Method n m) (method_fault rs m) only e calls
+called : (rs : List Route) (ps : List (Option PathState)) (c d : Connection) (u : Unit91) (n : ℕ) (m : Method91) → OnlyChannels c d → is_running c.phase ≡ true
+    → Outcome c u (d, want.Method n m) → Told rs ps c u (d, want.Method n m)
+called rs ps c d u n m only e calls = met_or_refused c d u n m (want.Method n m) (method_fault rs (path_at ps n) m) only e calls
 
-pub outcome : (rs : List Route) (c : Connection) (u : Unit91) → Outcome c u (client_step rs c u)
-outcome rs c u = step_rows (Told rs c u) c u (record {
+pub outcome : (rs : List Route) (ps : List (Option PathState)) (c : Connection) (u : Unit91) → Outcome c u (client_step rs ps c u)
+outcome rs ps c u = step_rows (Told rs ps c u) c u (record {
   greeted = λ e. Greets e;
   foreign = λ e. Parts e;
   refused = λ code e ruled. Refuses _ (asked_by c code) (λ k. ap (λ (b : Bool). b || (is_open_phase c.phase && code == NOT_ALLOWED)) k) e (of_unit code u);
@@ -165,9 +167,9 @@ outcome rs c u = step_rows (Told rs c u) c u (record {
   tuned = λ channels size heartbeat e l. Tunes _ e;
   asked = λ e. Asks e;
   closed = λ e. Parting e;
-  opened = λ n m of. called rs c _ u n m (one_differs c n _) of.runs (Calls n _ m of.runs);
-  ended = λ n m of. called rs c _ u n m (one_differs c n _) of.runs (Calls n _ m of.runs);
-  passed_on = λ n m of. called rs c _ u n m (none_differ c) of.runs (Asking n m of.runs);
+  opened = λ n m of. called rs ps c _ u n m (one_differs c n _) of.runs (Calls n _ m of.runs);
+  ended = λ n m of. called rs ps c _ u n m (one_differs c n _) of.runs (Calls n _ m of.runs);
+  passed_on = λ n m of. called rs ps c _ u n m (none_differ c) of.runs (Asking n m of.runs);
   begun = λ f k args is. Fills _ _ is.on.runs;
   grown = λ f i a is. Fills _ _ is.on.runs;
   published = λ f i a d is at_once. met_or_refused c _ u f.channel i.method (want.Publish f.channel i.method d)

@@ -42,9 +42,9 @@ rests_fail code why w = by (is_closing w.conn)
     by true = rests w
     by false = record { stream = refl; queue = refl }
 
-rests_session : (n : ℕ) (p : Parts) (w : State) → Rests w (with_session n p w)
-rests_session n p w =
-    session_cases (Rests w) n p w (record {
+rests_session : (n : ℕ) (p : Parts) (payload : List ℕ) (w : State) → Rests w (with_session n p payload w)
+rests_session n p payload w =
+    session_cases (Rests w) n p payload w (record {
       begins = record { stream = refl; queue = refl };
       stays = record { stream = refl; queue = refl };
       ends = λ code why. record { stream = stream_only (only_closing n w.conn); queue = refl };
@@ -63,7 +63,7 @@ rests_meaning ten.Opened w = by (is_opening w.conn)
     by : (b : Bool) → Rests w (if b then runs w else w)
     by true = record { stream = refl; queue = refl }
     by false = rests w
-rests_meaning (ten.OfSession g p payload) w = rests_session g p w
+rests_meaning (ten.OfSession g p payload) w = rests_session g p payload w
 rests_meaning (ten.Closed e) w = rests_fail _ None w
 rests_meaning ten.Refused w = rests_fail _ None w
 rests_meaning (ten.Violation c) w = rests_fail _ (Some c) w
@@ -118,7 +118,7 @@ none_came w u may f = by w.out_of_memory
   where
     by : (b : Bool) → NoneLeft (if b then w else came (dequeued w) u)
     by true = f
-    by false = λ e. absurd (none_next w u (f (step_here w.routes w.conn u e)) may)
+    by false = λ e. absurd (none_next w u (f (step_here w.routes w.paths w.conn u e)) may)
 
 none_taken : (w : State) → w.queue ≡ [] → NoneLeft (if not w.out_of_memory && w.leaving then left w else w)
 none_taken w e = by (not w.out_of_memory && w.leaving)

@@ -1,7 +1,13 @@
 -- What was sent to a client without heartbeats, and then what is due to it, are the replies to its units; after the pair ran
 -- out of memory they are the last units.
 use Rattle.gate_model.specs.declared.reply.Reason.{Reason}
-use Rattle.session_path.specs.Due.{next_return, next_confirm}
+use Rattle.session_path.specs.Due.{next_confirm, next_content, next_deliver, next_ok, next_return}
+use Rattle.session_path.specs.declared.path.ContentDue.{ContentDue}
+use Rattle.session_path.specs.declared.path.DeliverDue.{DeliverDue}
+use Rattle.gate_model.specs.Due.{answers, consume_ok_on, consume_oks, deliver_on, delivers, is_consume_ok}
+use Rattle.gate_model.specs.Due.{writing_on, writings}
+use Rattle.gate_model.specs.declared.life.SessionState.{SessionState}
+use Rattle.gate_model.proofs.Firsts.{FirstIs, both_are, each_is, when_is}
 use Rattle.std.proofs.Common.{◌⊎◌, inl, inr, Bool, List, None, Option, Some, [], ap, append-nil}
 use Rattle.std.proofs.Common.{append_assoc, false, if◌then◌else◌, not, refl, subst, sym, true, ℕ}
 use Rattle.std.proofs.Common.{◌&&◌, ◌++◌, ◌||◌, ◌∙◌, ◌∷◌, ◌≡◌, ◌==◌}
@@ -27,22 +33,19 @@ use Rattle.machine_091.specs.declared.unit.Unit91.TheVariants as unit
 use Rattle.machine_091.specs.declared.unit.Want91.{Want91}
 use Rattle.machine_091.specs.declared.unit.Want91.TheVariants as want
 use Rattle.performatives_10.specs.declared.condition.Condition.TheVariants.{ResourceLimitExceeded}
-use Rattle.close_translate.specs.Conditions.{code_by}
-use Rattle.machine_10.specs.Reading.{field}
 use Rattle.close_translate.specs.declared.conditions.Scope.{Scope}
 use Rattle.machine_10.specs.Parts as container
 use Rattle.publish_path.specs.declared.publish.NextReturn.{NextReturn}
-use Rattle.gate_model.specs.Once.{is_flow_ok}
-use Rattle.gate_model.specs.Paths.{path_at, with_path}
+use Rattle.gate_model.specs.Paths.{closed_path, lost_path, path_at, with_path}
 use Rattle.gate_model.specs.declared.life.Life.{Life}
-use Rattle.gate_model.specs.Lives.{is_of_channel}
+use Rattle.gate_model.specs.Lives.{is_of_channel, life_at}
 use Rattle.close_translate.specs.declared.conditions.Scope.TheVariants as scope
 use Rattle.gate_model.specs.declared.reply.Pending.{Pending}
 use Rattle.gate_model.specs.declared.reply.Reply.{Reply}
 use Rattle.gate_model.specs.declared.reply.Reply.TheVariants as reply
 use Rattle.gate_model.specs.Answers.{AreAnswered, AreReplies, All, Overtaken, TakenBack, is_close}
 use Rattle.gate_model.specs.Answers.{is_close_ok, last_units}
-use Rattle.gate_model.specs.Due.{channel_closes, channel_oks, client_units, close_oks, close_oks_on, contents, may_return, contents_on, content_on, return_on, confirms_on, may_confirm}
+use Rattle.gate_model.specs.Due.{channel_closes, channel_oks, client_units, close_oks, close_oks_on, contents, may_return, content_on, return_on, may_confirm}
 use Rattle.gate_model.specs.Due.{closes, confirm_on, confirms, if_so, ok_on, path_oks, is_beat_due}
 use Rattle.gate_model.specs.Due.{last_closes, may_answer, may_end, may_go, may_tell, open_oks}
 use Rattle.gate_model.specs.Due.{openings, pick, refused_on, rows, when, is_awaiting, is_silent}
@@ -50,7 +53,7 @@ use Rattle.gate_model.specs.Folds.{Peers, answers_of, closes_connection, connect
 use Rattle.gate_model.specs.Folds.{failure_to, is_answer, leaving_in, opened_by, peers, peers_by}
 use Rattle.gate_model.specs.Folds.{peers_came, peers_heard, peers_scoped, peers_session, ran_out_in}
 use Rattle.gate_model.specs.Folds.{replies, replies_to, reply_by, reply_to, sent, sent_since}
-use Rattle.gate_model.specs.Folds.{until_memory}
+use Rattle.gate_model.specs.Folds.{carried_on, peers_closed, peers_left, scope_in, until_memory}
 use Rattle.gate_model.specs.Picks.{ArePicks}
 use Rattle.gate_model.specs.Requests.{client_step}
 use Rattle.gate_model.specs.State.{Began, Came, Fed, Gave, Heard, Joined, Lost, Moment, OutOfMemory}
@@ -60,10 +63,10 @@ use Rattle.gate_model.specs.State.{dequeued, fail, failed, failure, has_left, he
 use Rattle.gate_model.specs.State.{is_channel_settled, is_foreign, is_limit_reached, is_settled}
 use Rattle.gate_model.specs.State.{last_pending, left, life_failed, link_scope, none_pending}
 use Rattle.gate_model.specs.State.{path_heard, runs, turns_foreign, with_header, with_meaning}
-use Rattle.gate_model.specs.State.{with_session, with_want, without, fail_life, scoped, windowed}
-use Rattle.gate_model.specs.State.{closing_error}
+use Rattle.gate_model.specs.State.{with_session, with_want, without, scoped, windowed}
+use Rattle.gate_model.specs.State.{closed_for, closing_code, closing_error}
 use Rattle.gate_relay.specs.Sides.{is_readable}
-use Rattle.gate_model.specs.Upstream.{channel_max_in, condition_in, container_by, first, has_closed}
+use Rattle.gate_model.specs.Upstream.{channel_max_in, container_by, first, has_closed}
 use Rattle.gate_model.specs.Upstream.{heard_up, meaning_by}
 use Rattle.gate_model.specs.declared.outgoing.Outgoing.TheVariants.{ToClient, ToUp}
 use Rattle.machine_10.specs.Transitions as ten
@@ -76,13 +79,14 @@ use Rattle.gate_model.proofs.Outcomes.{OnlyChannels, only_closing}
 use Rattle.gate_model.proofs.Queues.{none_left, none_next}
 use Rattle.gate_model.proofs.Rows.{Has, HasNone, HasFirst, first_each, first_none, first_some, has}
 use Rattle.gate_model.proofs.Rows.{same_first}
-use Rattle.gate_model.proofs.Sessions.{peers_like}
+use Rattle.gate_model.proofs.Sessions.{peers_like, session_on}
 use Rattle.session_path.specs.Path.{PathState}
 use Rattle.session_path.specs.declared.path.PathOk.{PathOk}
 use Rattle.publish_path.specs.declared.publish.Confirm.{Confirm}
 use Rattle.gate_model.specs.declared.channel.ChannelUnit.{ChannelUnit}
 use Rattle.gate_model.specs.declared.channel.ChannelUnit.TheVariants as told_unit
-use Rattle.gate_model.proofs.Known.{Known, conn_is, container_is, known, memory_is, paths_are}
+use Rattle.gate_model.proofs.Known.{Known, Knows, conn_is, container_is, known, knows, memory_is}
+use Rattle.gate_model.proofs.Known.{paths_are}
 use Rattle.gate_model.proofs.Outcomes.{Outcome, Greets, Parts, LogsIn, Tunes, Asks, Passes, Refuses}
 use Rattle.gate_model.proofs.Outcomes.{Declines, Drops, Parting, Calls, Asking, Publishes, Fills}
 use Rattle.gate_model.proofs.Outcomes.{Frees, Closes, Answers, Ignores, outcome}
@@ -275,9 +279,9 @@ said_in : {p q : Phase91} (d : Pending) (said all : List Reply) (gone : Bool) �
 said_in {p} {q} d said all gone e s = subst (λ (x : Phase91). IsSaid x d said all gone) e s
 
 -- a unit was taken up
-said_next : (rs : List Route) (c : Connection) (u : Unit91) (d : Pending) (said all : List Reply) (gone : Bool) → IsSaid c.phase d said all gone
-    → IsSaid (conn_step rs c u).phase (with_header (turns_foreign rs c u) (with_want (client_step rs c u).1 d)) said (all ++ replies_to rs c u) gone
-said_next rs c u d said all gone s = by (client_step rs c u) (outcome rs c u)
+said_next : (rs : List Route) (ps : List (Option PathState)) (c : Connection) (u : Unit91) (d : Pending) (said all : List Reply) (gone : Bool) → IsSaid c.phase d said all gone
+    → IsSaid (conn_step rs ps c u).phase (with_header (turns_foreign rs ps c u) (with_want (client_step rs ps c u).1 d)) said (all ++ replies_to rs ps c u) gone
+said_next rs ps c u d said all gone s = by (client_step rs ps c u) (outcome rs ps c u)
   where
     same_stream : {x : Connection} → OnlyChannels c x → (is_foreign x.stream && not (is_foreign c.stream)) ≡ false
     same_stream o = ap (λ (t : Stream91). is_foreign t && not (is_foreign c.stream)) (stream_only o) ∙ never c.stream
@@ -545,11 +549,14 @@ said_went p d r said all gone l s = by p s
     by phase.Closing s = shuts s
     by phase.Closed s = over s
 
--- the first of a row of channels
+-- a unit of an open channel, but for channel.open-ok
+pub data IsOpen (r : Reply) : Type 0 where
+  OnOpen : (k : ℕ) (u : ChannelUnit) → reply.OnChannel k u ≡ r → IsOpen r
+
+-- a unit of a channel
 pub data IsOfChannel (w : State) (r : Reply) : Type 0 where
-  InContents : first (contents w) ≡ Some r → IsOfChannel w r
-  InAnswers : first (open_oks w ++ path_oks w) ≡ Some r → IsOfChannel w r
-  InConfirms : first (confirms w) ≡ Some r → IsOfChannel w r
+  InOpen : IsOpen r → IsOfChannel w r
+  InOpenOks : first (open_oks w) ≡ Some r → IsOfChannel w r
   InOks : first (channel_oks w) ≡ Some r → IsOfChannel w r
   InCloses : first (channel_closes w) ≡ Some r → IsOfChannel w r
 
@@ -589,6 +596,81 @@ rows_are p = by p.protocol p.start p.tune p.open_ok
     by false false false true = refl
     by false false false false = refl
 
+-- the first of these rows is one
+on_open : (k : ℕ) (u : ChannelUnit) → IsOpen (reply.OnChannel k u)
+on_open k u = OnOpen k u refl
+
+unless_over : (over : Bool) (rs : List Reply) → FirstIs IsOpen rs → FirstIs IsOpen (if over then [] else rs)
+unless_over true rs x = tt
+unless_over false rs x = x
+
+contents_open : (w : State) → FirstIs IsOpen (contents w)
+contents_open w = each_is IsOpen _ w.lives (λ n. by n (next_return (path_at w.paths n)))
+  where
+    by : (n : ℕ) (o : Option NextReturn) → FirstIs IsOpen (content_on n o)
+    by n None = tt
+    by n (Some r) = when_is IsOpen (not r.first) (reply.OnChannel n (told_unit.Return r)) (on_open n (told_unit.Return r))
+
+writings_open : (w : State) → FirstIs IsOpen (writings w)
+writings_open w = each_is IsOpen _ w.lives (λ n. unless_over (life_at w.lives n).over _ (by n (next_content (path_at w.paths n))))
+  where
+    by : (n : ℕ) (o : Option ContentDue) → FirstIs IsOpen (writing_on n o)
+    by n None = tt
+    by n (Some c) = on_open n (told_unit.Content c)
+
+path_oks_open : (w : State) → FirstIs IsOpen (path_oks w)
+path_oks_open w = each_is IsOpen _ w.lives (λ n. unless_over (life_at w.lives n).over _ (by n (next_ok (path_at w.paths n))))
+  where
+    by : (n : ℕ) (o : Option PathOk) → FirstIs IsOpen (ok_on n o)
+    by n None = tt
+    by n (Some x) = when_is IsOpen (not (is_consume_ok x)) (reply.OnChannel n (told_unit.Ok x)) (on_open n (told_unit.Ok x))
+
+consume_oks_open : (w : State) → FirstIs IsOpen (consume_oks w)
+consume_oks_open w = each_is IsOpen _ w.lives (λ n. unless_over (life_at w.lives n).over _ (by n (next_ok (path_at w.paths n))))
+  where
+    by : (n : ℕ) (o : Option PathOk) → FirstIs IsOpen (consume_ok_on n o)
+    by n None = tt
+    by n (Some x) = when_is IsOpen (is_consume_ok x) (reply.OnChannel n (told_unit.Ok x)) (on_open n (told_unit.Ok x))
+
+delivers_open : (w : State) → FirstIs IsOpen (delivers w)
+delivers_open w = each_is IsOpen _ w.lives (λ n. unless_over (life_at w.lives n).over _ (by n (next_deliver (path_at w.paths n))))
+  where
+    by : (n : ℕ) (o : Option DeliverDue) → FirstIs IsOpen (deliver_on n o)
+    by n None = tt
+    by n (Some d) = on_open n (told_unit.Deliver d)
+
+confirms_open : (w : State) → FirstIs IsOpen (confirms w)
+confirms_open w =
+    each_is IsOpen _ w.lives (λ n. both_are IsOpen _ _ (back n (not w.out_of_memory && may_confirm (life_at w.lives n)) (next_return (path_at w.paths n)))
+    (by n (may_confirm (life_at w.lives n)) (next_confirm (path_at w.paths n))))
+  where
+    back : (n : ℕ) (may : Bool) (o : Option NextReturn) → FirstIs IsOpen (return_on may n o)
+    back n may None = tt
+    back n may (Some r) = when_is IsOpen (may && r.first) (reply.OnChannel n (told_unit.Return r)) (on_open n (told_unit.Return r))
+
+    by : (n : ℕ) (may : Bool) (o : Option Confirm) → FirstIs IsOpen (confirm_on may n o)
+    by n may None = tt
+    by n may (Some c) = when_is IsOpen may (reply.OnChannel n (told_unit.Confirm c)) (on_open n (told_unit.Confirm c))
+
+-- the first of a list is what its first is
+is_first : (P : Reply → Type 0) (us : List Reply) (r : Reply) → FirstIs P us → first us ≡ Some r → P r
+is_first P [] r p e = absurd cc
+is_first P (x ∷ us) r p e = let same : x ≡ r = cc in subst P same p
+
+first_itself : (us : List Reply) → FirstIs (λ (u : Reply). first us ≡ Some u) us
+first_itself [] = tt
+first_itself (x ∷ us) = refl
+
+each_first : (P Q : Reply → Type 0) (us : List Reply) → ((u : Reply) → P u → Q u) → FirstIs P us → FirstIs Q us
+each_first P Q [] f p = tt
+each_first P Q (x ∷ us) f p = f x p
+
+answers_are : (w : State) → FirstIs (IsOfChannel w) (answers w)
+answers_are w =
+    both_are (IsOfChannel w) (open_oks w) _ (each_first _ (IsOfChannel w) (open_oks w) (λ u e. InOpenOks e) (first_itself (open_oks w)))
+    (each_first IsOpen (IsOfChannel w) _ (λ u o. InOpen o)
+    (both_are IsOpen (path_oks w) _ (path_oks_open w) (both_are IsOpen (consume_oks w) (delivers w) (consume_oks_open w) (delivers_open w))))
+
 -- the first of what is due is the first of the rows of the connection, or of those of channels
 units_first : (w : State) (r : Reply) → first (client_units w) ≡ Some r
     → (first (rows (may_go (is_settled w) w.pending)) ≡ Some r) ⊎ IsOfChannel w r
@@ -600,8 +682,11 @@ units_first w r e = zero_ (has contents_)
     contents_ : List Reply
     contents_ = if_so (may_return w) (contents w)
 
-    answers : List Reply
-    answers = if_so (may_answer w) (open_oks w ++ path_oks w)
+    writings_ : List Reply
+    writings_ = if_so (may_answer w) (writings w)
+
+    answers_ : List Reply
+    answers_ = if_so (may_answer w) (answers w)
 
     confirms_ : List Reply
     confirms_ = if_so (may_answer w || w.by_peer) (confirms w)
@@ -612,9 +697,12 @@ units_first w r e = zero_ (has contents_)
     closes_ : List Reply
     closes_ = if_so (may_tell w) (channel_closes w)
 
-    -- behind the openings
+    -- behind the openings, and before them
     rest : List Reply
-    rest = answers ++ (confirms_ ++ (close_oks p ++ (ends ++ (last_closes p ++ closes_))))
+    rest = answers_ ++ (confirms_ ++ (close_oks p ++ (ends ++ (last_closes p ++ closes_))))
+
+    more : List Reply
+    more = writings_ ++ (openings p ++ rest)
 
     due_by : (o : Option Reply) → first (openings p ++ (close_oks p ++ last_closes p)) ≡ o → first (rows p) ≡ o
     due_by o f = ap first (rows_are p) ∙ f
@@ -641,26 +729,32 @@ units_first w r e = zero_ (has contents_)
         → (first (rows p) ≡ Some r) ⊎ IsOfChannel w r
     confirming a f (HasFirst u g) =
         let is : u ≡ r = same_first (first (confirms_ ++ (close_oks p ++ (ends ++ (last_closes p ++ closes_))))) u r (first_some confirms_ _ u g) f in
-        inr (InConfirms (in_if (may_answer w || w.by_peer) (confirms w) r (g ∙ ap Some is)))
+        inr (InOpen (is_first IsOpen (confirms w) r (confirms_open w) (in_if (may_answer w || w.by_peer) (confirms w) r (g ∙ ap Some is))))
     confirming a f (HasNone g) = two a (sym (first_none confirms_ _ g) ∙ f) (has (close_oks p))
 
-    behind : openings p ≡ [] → first rest ≡ Some r → Has answers → (first (rows p) ≡ Some r) ⊎ IsOfChannel w r
+    behind : openings p ≡ [] → first rest ≡ Some r → Has answers_ → (first (rows p) ≡ Some r) ⊎ IsOfChannel w r
     behind a f (HasFirst u g) =
-        let is : u ≡ r = same_first (first rest) u r (first_some answers _ u g) f in
-        inr (InAnswers (in_if (may_answer w) (open_oks w ++ path_oks w) r (g ∙ ap Some is)))
-    behind a f (HasNone g) = confirming a (sym (first_none answers _ g) ∙ f) (has confirms_)
+        let is : u ≡ r = same_first (first rest) u r (first_some answers_ _ u g) f in
+        inr (is_first (IsOfChannel w) (answers w) r (answers_are w) (in_if (may_answer w) (answers w) r (g ∙ ap Some is)))
+    behind a f (HasNone g) = confirming a (sym (first_none answers_ _ g) ∙ f) (has confirms_)
 
     one : first (openings p ++ rest) ≡ Some r → Has (openings p) → (first (rows p) ≡ Some r) ⊎ IsOfChannel w r
     one f (HasFirst u g) =
         let is : u ≡ r = same_first (first (openings p ++ rest)) u r (first_some (openings p) rest u g) f in
         inl (due_by (Some r) (first_some (openings p) _ r (g ∙ ap Some is)))
-    one f (HasNone g) = behind g (sym (first_none (openings p) rest g) ∙ f) (has answers)
+    one f (HasNone g) = behind g (sym (first_none (openings p) rest g) ∙ f) (has answers_)
+
+    writing : first more ≡ Some r → Has writings_ → (first (rows p) ≡ Some r) ⊎ IsOfChannel w r
+    writing f (HasFirst u g) =
+        let is : u ≡ r = same_first (first more) u r (first_some writings_ (openings p ++ rest) u g) f in
+        inr (InOpen (is_first IsOpen (writings w) r (writings_open w) (in_if (may_answer w) (writings w) r (g ∙ ap Some is))))
+    writing f (HasNone g) = one (sym (first_none writings_ (openings p ++ rest) g) ∙ f) (has (openings p))
 
     zero_ : Has contents_ → (first (rows p) ≡ Some r) ⊎ IsOfChannel w r
     zero_ (HasFirst u g) =
-        let is : u ≡ r = same_first (first (client_units w)) u r (first_some contents_ (openings p ++ rest) u g) e in
-        inr (InContents (in_if (may_return w) (contents w) r (g ∙ ap Some is)))
-    zero_ (HasNone g) = one (sym (first_none contents_ (openings p ++ rest) g) ∙ e) (has (openings p))
+        let is : u ≡ r = same_first (first (client_units w)) u r (first_some contents_ more u g) e in
+        inr (InOpen (is_first IsOpen (contents w) r (contents_open w) (in_if (may_return w) (contents w) r (g ∙ ap Some is))))
+    zero_ (HasNone g) = writing (sym (first_none contents_ more g) ∙ e) (has writings_)
 
 picked_by : (w : State) (r : Reply) (rs : List Reply) (beats : Bool) → client_units w ≡ rs → is_beat_due w ≡ beats
     → first (map ToClient (rs ++ when beats reply.Heartbeat)) ≡ Some (ToClient r) → Picked w r
@@ -687,65 +781,13 @@ pub record IsOther (r : Reply) : Type 0 where
 on_channel_other : (k : ℕ) (u : ChannelUnit) → IsOther (reply.OnChannel k u)
 on_channel_other k u = record { answers = refl; beats = λ e. cc; leaves = λ d. refl }
 
-an_ok : (k : ℕ) (over : Bool) (o : Option PathOk) (v : Reply) → first (if over then [] else ok_on k o) ≡ Some v → IsOther v
-an_ok k true o v e = absurd cc
-an_ok k false None v e = absurd cc
-an_ok k false (Some x) v e = let here : reply.OnChannel k (told_unit.Ok x) ≡ v = cc in subst IsOther here (on_channel_other k (told_unit.Ok x))
-
--- the first of the returns and confirms of a channel is one of these, and so is a frame that goes on with a return
-a_confirm : (P : Reply → Type 0) (k : ℕ) (may : Bool) (o : Option Confirm) (v : Reply) → ((u : ChannelUnit) → is_flow_ok u ≡ false → P (reply.OnChannel k u))
-    → first (confirm_on may k o) ≡ Some v → P v
-a_confirm P k may None v each e = absurd cc
-a_confirm P k false (Some c) v each e = absurd cc
-a_confirm P k true (Some c) v each e = let here : reply.OnChannel k (told_unit.Confirm c) ≡ v = cc in subst P here (each (told_unit.Confirm c) refl)
-
-a_return : (P : Reply → Type 0) (k : ℕ) (may : Bool) (r : NextReturn) (v : Reply) → ((u : ChannelUnit) → is_flow_ok u ≡ false → P (reply.OnChannel k u))
-    → first (when may (reply.OnChannel k (told_unit.Return r))) ≡ Some v → P v
-a_return P k false r v each e = absurd cc
-a_return P k true r v each e = let here : reply.OnChannel k (told_unit.Return r) ≡ v = cc in subst P here (each (told_unit.Return r) refl)
-
-pub an_outcome : (P : Reply → Type 0) (calm : Bool) (ps : List (Option PathState)) (k : ℕ) (l : Life) (v : Reply) → ((u : ChannelUnit) → is_flow_ok u ≡ false → P (reply.OnChannel k u))
-    → first (confirms_on calm ps k l) ≡ Some v → P v
-an_outcome P calm ps k l v each e = by (next_return (path_at ps k)) e
-  where
-    confirms_ : List Reply
-    confirms_ = confirm_on (may_confirm l) k (next_confirm (path_at ps k))
-
-    begun : (r : NextReturn) → first (when (calm && may_confirm l && r.first) (reply.OnChannel k (told_unit.Return r)) ++ confirms_) ≡ Some v
-        → Has (when (calm && may_confirm l && r.first) (reply.OnChannel k (told_unit.Return r))) → P v
-    begun r f (HasFirst u g) =
-        a_return P k (calm && may_confirm l && r.first) r v each
-        (g ∙ ap Some (same_first (first (when (calm && may_confirm l && r.first) (reply.OnChannel k (told_unit.Return r)) ++ confirms_)) u v (first_some (when (calm && may_confirm l && r.first) (reply.OnChannel k (told_unit.Return r))) confirms_ u g) f))
-    begun r f (HasNone g) =
-        a_confirm P k (may_confirm l) (next_confirm (path_at ps k)) v each (sym (first_none (when (calm && may_confirm l && r.first) (reply.OnChannel k (told_unit.Return r))) confirms_ g) ∙ f)
-
-    by : (o : Option NextReturn) → first (return_on (calm && may_confirm l) k o ++ confirms_) ≡ Some v → P v
-    by None f = a_confirm P k (may_confirm l) (next_confirm (path_at ps k)) v each f
-    by (Some r) f = begun r f (has (when (calm && may_confirm l && r.first) (reply.OnChannel k (told_unit.Return r))))
-
-pub a_content : (P : Reply → Type 0) (ps : List (Option PathState)) (k : ℕ) (l : Life) (v : Reply) → ((u : ChannelUnit) → is_flow_ok u ≡ false → P (reply.OnChannel k u))
-    → first (contents_on ps k l) ≡ Some v → P v
-a_content P ps k l v each e = by (next_return (path_at ps k)) e
-  where
-    by : (o : Option NextReturn) → first (content_on k o) ≡ Some v → P v
-    by None f = absurd cc
-    by (Some r) f = a_return P k (not r.first) r v each f
-
 pub of_channel : (w : State) (r : Reply) → IsOfChannel w r → IsOther r
-of_channel w r (InAnswers e) = by (has (open_oks w))
+of_channel w r (InOpen (OnOpen k u e)) = subst IsOther e (on_channel_other k u)
+of_channel w r (InOpenOks e) = first_each IsOther _ 0 w.lives r (λ k l v f. one k l.open_ok v f) e
   where
-    opens : (k : ℕ) (l : Life) (v : Reply) → first (when l.open_ok (reply.ChannelOpenOk k)) ≡ Some v → IsOther v
-    opens k l v e = in_case l.open_ok e
-      where
-        in_case : (b : Bool) → first (when b (reply.ChannelOpenOk k)) ≡ Some v → IsOther v
-        in_case true e = let here : reply.ChannelOpenOk k ≡ v = cc in subst IsOther here (record { answers = refl; beats = λ e. cc; leaves = λ d. refl })
-        in_case false e = absurd cc
-
-    by : Has (open_oks w) → IsOther r
-    by (HasFirst u g) = subst IsOther (same_first (first (open_oks w ++ path_oks w)) u r (first_some (open_oks w) (path_oks w) u g) e) (first_each IsOther _ 0 w.lives u opens g)
-    by (HasNone g) = first_each IsOther _ 0 w.lives r (λ k l v f. an_ok k l.over _ v f) (sym (first_none (open_oks w) (path_oks w) g) ∙ e)
-of_channel w r (InContents e) = first_each IsOther _ 0 w.lives r (λ k l v f. a_content IsOther w.paths k l v (λ u x. on_channel_other k u) f) e
-of_channel w r (InConfirms e) = first_each IsOther _ 0 w.lives r (λ k l v f. an_outcome IsOther (not w.out_of_memory) w.paths k l v (λ u x. on_channel_other k u) f) e
+    one : (k : ℕ) (b : Bool) (v : Reply) → first (when b (reply.ChannelOpenOk k)) ≡ Some v → IsOther v
+    one k true v e = let here : reply.ChannelOpenOk k ≡ v = cc in subst IsOther here (record { answers = refl; beats = λ e. cc; leaves = λ d. refl })
+    one k false v e = absurd cc
 of_channel w r (InOks e) = first_each IsOther _ 0 w.lives r one e
   where
     one : (k : ℕ) (l : Life) (v : Reply) → first (close_oks_on k (l.close_ok && is_channel_settled w k) l) ≡ Some v → IsOther v
@@ -855,26 +897,30 @@ isnt_left true b f g = absurd (f refl)
 isnt_left false true f g = absurd (f (g refl))
 isnt_left false false f g = refl
 
-says_came : (w : State) (u : Unit91) (b : Bool) (c : Peers) (went since all last : List Reply) → (has_left c.client.stream ≡ true → ⊥) → w.routes ≡ c.routes → w.conn ≡ c.client
-    → SaysIn b c.client.phase w.pending went since all (has_left c.client.stream) last
+says_came : (w : State) (u : Unit91) (b : Bool) (c : Peers) (went since all last : List Reply) → (has_left c.client.stream ≡ true → ⊥) → w.routes ≡ c.routes → w.paths ≡ c.paths
+    → w.conn ≡ c.client → SaysIn b c.client.phase w.pending went since all (has_left c.client.stream) last
     → let d : Peers = if b then c else peers_came c u in
-    SaysIn b d.client.phase (if b then w else came (dequeued w) u).pending went since (if b then all else all ++ replies_to c.routes c.client u) (has_left d.client.stream) last
-says_came w u true c went since all last may r e s = s
-says_came w u false p went since all last may r e s =
+    SaysIn b d.client.phase (if b then w else came (dequeued w) u).pending went since (if b then all else all ++ replies_to c.routes c.paths c.client u) (has_left d.client.stream) last
+says_came w u true c went since all last may r g e s = s
+says_came w u false p went since all last may r g e s =
     let c : Connection = p.client in
     let rs : List Route = p.routes in
-    let here : has_left c.stream ≡ has_left (conn_step rs c u).stream = isnt_left (has_left c.stream) (has_left (conn_step rs c u).stream) may (step_here rs c u) in
+    let ps : List (Option PathState) = p.paths in
+    let next : Connection = conn_step rs ps c u in
+    let more : List Reply = all ++ replies_to rs ps c u in
+    let here : has_left c.stream ≡ has_left next.stream = isnt_left (has_left c.stream) (has_left next.stream) may (step_here rs ps c u) in
     record {
-      said = λ m. subst (λ (g : Bool). IsSaid (conn_step rs c u).phase (came (dequeued w) u).pending (answers_of went) (all ++ replies_to rs c u) g) here
-          (subst (λ (x : Connection). IsSaid (conn_step rs c u).phase (with_header (turns_foreign w.routes x u) (with_want (client_step w.routes x u).1 w.pending)) (answers_of went) (all ++ replies_to rs c u) (has_left c.stream)) (sym e)
-          (subst (λ (x : List Route). IsSaid (conn_step rs c u).phase (with_header (turns_foreign x c u) (with_want (client_step x c u).1 w.pending)) (answers_of went) (all ++ replies_to rs c u) (has_left c.stream)) (sym r)
-          (said_next rs c u w.pending (answers_of went) all (has_left c.stream) (s.said m))));
+      said = λ m. subst (λ (g : Bool). IsSaid next.phase (came (dequeued w) u).pending (answers_of went) more g) here
+          (subst (λ (x : Connection). IsSaid next.phase (with_header (turns_foreign w.routes w.paths x u) (with_want (client_step w.routes w.paths x u).1 w.pending)) (answers_of went) more (has_left c.stream)) (sym e)
+          (subst (λ (x : List Route). IsSaid next.phase (with_header (turns_foreign x w.paths c u) (with_want (client_step x w.paths c u).1 w.pending)) (answers_of went) more (has_left c.stream)) (sym r)
+          (subst (λ (x : List (Option PathState)). IsSaid next.phase (with_header (turns_foreign rs x c u) (with_want (client_step rs x c u).1 w.pending)) (answers_of went) more (has_left c.stream)) (sym g)
+          (said_next rs ps c u w.pending (answers_of went) all (has_left c.stream) (s.said m)))));
       ending = λ m. absurd (clash false m refl);
     }
 
 says_taken : (w : State) (b d l : Bool) (p : Peers) (went since all last : List Reply) → (d ≡ true → l ≡ true)
     → (d ≡ false → b ≡ false → l ≡ true → after_ended p.client ≡ p.client) → SaysIn b p.client.phase w.pending went since all (has_left p.client.stream) last
-    → let q : Peers = if not b && l then record p { client = after_ended p.client } else p in
+    → let q : Peers = if not b && l then peers_left p else p in
     SaysIn b q.client.phase (if not b && d then left w else w).pending went since all (has_left q.client.stream) last
 says_taken w true d l p went since all last f g s = s
 says_taken w false true true p went since all last f g s = record {
@@ -907,52 +953,65 @@ says_fail w code why b c went since all last e shuts s =
       ending = λ m. absurd (clash _ (shuts m) k);
     }
 
-says_session : (g : ℕ) (q : container.Parts) (w : State) (b : Bool) (o : Option Upstream) (n : ℕ) (went since all last : List Reply) → (b ≡ true → is_closing w.conn ≡ true)
+says_session : (g : ℕ) (q : container.Parts) (payload : List ℕ) (w : State) (b : Bool) (o : Option Upstream) (n : ℕ) (f : ℕ → SessionState) (went since all last : List Reply)
+    → link_scope q payload (f g) (path_at w.paths g) ≡ link_scope q payload (session_on w g) (path_at w.paths g) → (b ≡ true → is_closing w.conn ≡ true)
     → SaysIn b w.conn.phase w.pending went since all (has_left w.conn.stream) last
-    → let x : Peers = peers_session g q (peers_like o n w) in
-    SaysIn b x.client.phase (with_session g q w).pending went since (all ++ (if closes_connection (link_scope q (path_at w.paths g)) then failure_to w.conn INTERNAL_ERROR else []))
-    (has_left x.client.stream) last
-says_session g q w b o n went since all last shuts s = by (link_scope q (path_at w.paths g))
+    → let x : Peers = peers_session g q payload (peers_like o n f w) in
+    SaysIn b x.client.phase (with_session g q payload w).pending went since
+    (all ++ (if closes_connection (link_scope q payload (f g) (path_at w.paths g)) then failure_to w.conn INTERNAL_ERROR else [])) (has_left x.client.stream) last
+says_session g q payload w b o n f went since all last known_ shuts s =
+    subst (λ (k : Option Scope). Goal k (with_session g q payload w)) (sym known_) (by (link_scope q payload (session_on w g) (path_at w.paths g)))
   where
+    x : Peers
+    x = peers_like o n (carried_on g q f) w
+
+    Goal : Option Scope → State → Type 0
+    Goal k v = SaysIn b (peers_scoped k g q payload x).client.phase v.pending went since
+        (all ++ (if closes_connection k then failure_to w.conn INTERNAL_ERROR else [])) (has_left (peers_scoped k g q payload x).client.stream) last
+
     same : SaysIn b w.conn.phase w.pending went since (all ++ []) (has_left w.conn.stream) last
     same = says_nothing b w.conn w.pending went since all last s
 
     moved : (d : Connection) → OnlyChannels w.conn d → SaysIn b d.phase w.pending went since (all ++ []) (has_left d.stream) last
     moved d x = subst (λ (y : Connection). SaysIn b y.phase w.pending went since (all ++ []) (has_left y.stream) last) (sym x.same) same
 
-    ended : (y : Bool) (ps : List (Option PathState)) (v : State) (r : Refusal) (why : Option Condition) → v.pending ≡ w.pending → v.conn ≡ w.conn
-        → let x : Peers = ended_on y g (record (peers_like o n w) { paths = ps }) in
-        SaysIn b x.client.phase (if y then life_failed g r why v else v).pending went since (all ++ []) (has_left x.client.stream) last
-    ended true ps v r why f k = subst (λ (d : Pending). SaysIn b (after_closing scope.Channel g w.conn).phase d went since (all ++ []) (has_left (after_closing scope.Channel g w.conn).stream) last)
-        (sym f) (moved (after_closing scope.Channel g w.conn) (only_closing g w.conn))
-    ended false ps v r why f k = subst (λ (d : Pending). SaysIn b w.conn.phase d went since (all ++ []) (has_left w.conn.stream) last) (sym f) same
+    ended : (y : Bool) (h : PathState → PathState) (ps : List (Option PathState)) (v : State) (r : Refusal) (why : Option Condition) → v.pending ≡ w.pending
+        → let z : Peers = ended_on y g h (record x { paths = ps }) in
+        SaysIn b z.client.phase (if y then life_failed g r why h v else v).pending went since (all ++ []) (has_left z.client.stream) last
+    ended true h ps v r why e = subst (λ (d : Pending). SaysIn b (after_closing scope.Channel g w.conn).phase d went since (all ++ []) (has_left (after_closing scope.Channel g w.conn).stream) last)
+        (sym e) (moved (after_closing scope.Channel g w.conn) (only_closing g w.conn))
+    ended false h ps v r why e = subst (λ (d : Pending). SaysIn b w.conn.phase d went since (all ++ []) (has_left w.conn.stream) last) (sym e) same
 
     heard : List (Option PathState)
-    heard = with_path g (path_heard q) w.paths
+    heard = with_path g (path_heard w.conn.limits.frame_max g q payload) w.paths
 
-    met : (a y : Bool)
-        → let p : Peers = record (peers_like o n w) { paths = heard } in
-        let x : Peers = if a then p else if y then ended_on (is_open w.conn g) g p else p in
-        SaysIn b x.client.phase (if a then begun_session g (carried g q w) else if y then fail_life g (code_by (condition_in (field q.1 0)) scope.Channel) None (carried g q w) else carried g q w).pending
-        went since (all ++ []) (has_left x.client.stream) last
-    met true y = same
-    met false true = ended (is_open w.conn g) heard (carried g q w) _ None refl refl
-    met false false = same
+    v : State
+    v = carried g q payload w
 
-    by : (k : Option Scope)
-        → let x : Peers = peers_scoped k g q (peers_like o n w) in
-        SaysIn b x.client.phase (scoped k g q w).pending went since (all ++ (if closes_connection k then failure_to w.conn INTERNAL_ERROR else [])) (has_left x.client.stream) last
-    by None = met (q.0 == 17) (q.0 == 23)
+    closed : (k : Option ℕ)
+        → let z : Peers = peers_closed g k (record x { paths = heard }) in
+        SaysIn b z.client.phase (closed_for g k v).pending went since (all ++ []) (has_left z.client.stream) last
+    closed None = same
+    closed (Some code) = ended (is_open w.conn g) closed_path heard v _ None refl
+
+    met : (a : Bool) (k : Option ℕ)
+        → let z : Peers = if a then record x { paths = heard } else peers_closed g k (record x { paths = heard }) in
+        SaysIn b z.client.phase (if a then begun_session g v else closed_for g k v).pending went since (all ++ []) (has_left z.client.stream) last
+    met true k = same
+    met false k = closed k
+
+    by : (k : Option Scope) → Goal k (scoped k g q payload w)
+    by None = met (q.0 == 17) (closing_code q payload (path_at w.paths g))
     by (Some scope.Connection) = says_fail (windowed g q w) INTERNAL_ERROR (Some (closing_error q (path_at w.paths g))) b w.conn went since all last refl shuts s
-    by (Some scope.Channel) = ended (is_open w.conn g) w.paths (windowed g q w) _ _ refl refl
+    by (Some scope.Channel) = ended (is_open w.conn g) lost_path w.paths (windowed g q w) _ _ refl
 
-says_meaning : (m : Meaning) (w : State) (b : Bool) (p : Peers) (went since all last : List Reply) → w.routes ≡ p.routes → w.conn ≡ p.client → w.paths ≡ p.paths → (b ≡ true → is_closing p.client ≡ true)
-    → SaysIn b p.client.phase w.pending went since all (has_left p.client.stream) last
-    → SaysIn b (peers_by m p).client.phase (with_meaning m w).pending went since (all ++ reply_by p.client p.paths m) (has_left (peers_by m p).client.stream) last
-says_meaning ten.Nothing w b p went since all last r e f shuts s = says_nothing b p.client w.pending went since all last s
-says_meaning ten.Init w b p went since all last r e f shuts s = says_nothing b p.client w.pending went since all last s
-says_meaning ten.AmqpHeader w b p went since all last r e f shuts s = says_nothing b p.client w.pending went since all last s
-says_meaning ten.Opened w b p went since all last r e f shuts s =
+says_meaning : (m : Meaning) (w : State) (b : Bool) (p : Peers) (went since all last : List Reply) → Knows p.carried m w.lives w.paths → w.routes ≡ p.routes → w.conn ≡ p.client
+    → w.paths ≡ p.paths → (b ≡ true → is_closing p.client ≡ true) → SaysIn b p.client.phase w.pending went since all (has_left p.client.stream) last
+    → SaysIn b (peers_by m p).client.phase (with_meaning m w).pending went since (all ++ reply_by p m) (has_left (peers_by m p).client.stream) last
+says_meaning ten.Nothing w b p went since all last k r e f shuts s = says_nothing b p.client w.pending went since all last s
+says_meaning ten.Init w b p went since all last k r e f shuts s = says_nothing b p.client w.pending went since all last s
+says_meaning ten.AmqpHeader w b p went since all last k r e f shuts s = says_nothing b p.client w.pending went since all last s
+says_meaning ten.Opened w b p went since all last k r e f shuts s =
     subst (λ (x : Connection). SaysIn b (opened_by p.container c).phase (if is_opening x then runs w else w).pending went since (all ++ when (is_opening c) reply.OpenOk) (has_left (opened_by p.container c).stream) last) (sym e)
     (by (is_opening c) refl)
   where
@@ -969,30 +1028,47 @@ says_meaning ten.Opened w b p went since all last r e f shuts s =
       ending = λ m. absurd (opening_early c k (shuts m));
     }
     by false k = says_nothing b c w.pending went since all last s
-says_meaning (ten.OfSession g q payload) w b p went since all last r e f shuts s =
+says_meaning (ten.OfSession g q payload) w b p went since all last k r e f shuts s =
     subst (λ (rs : List Route). Goal rs p.client p.paths) r (subst (λ (c : Connection). Goal w.routes c p.paths) e
     (subst (λ (ps : List (Option PathState)). Goal w.routes w.conn ps) f
-    (says_session g q w b p.container p.opened went since all last (λ m. ap is_closing e ∙ shuts m)
+    (says_session g q payload w b p.container p.opened p.carried went since all last k (λ m. ap is_closing e ∙ shuts m)
     (subst (λ (c : Connection). SaysIn b c.phase w.pending went since all (has_left c.stream) last) (sym e) s))))
   where
     Goal : List Route → Connection → List (Option PathState) → Type 0
-    Goal rs c ps = SaysIn b (peers_session g q (record p { routes = rs; client = c; paths = ps })).client.phase (with_session g q w).pending went since
-        (all ++ (if closes_connection (link_scope q (path_at ps g)) then failure_to c INTERNAL_ERROR else []))
-        (has_left (peers_session g q (record p { routes = rs; client = c; paths = ps })).client.stream) last
-says_meaning (ten.Closed x) w b p went since all last r e f shuts s = says_fail w _ None b p.client went since all last e shuts s
-says_meaning ten.Refused w b p went since all last r e f shuts s = says_fail w _ None b p.client went since all last e shuts s
-says_meaning (ten.Violation x) w b p went since all last r e f shuts s = says_fail w _ (Some x) b p.client went since all last e shuts s
+    Goal rs c ps =
+        let x : Peers = record p { routes = rs; client = c; paths = ps } in
+        SaysIn b (peers_session g q payload x).client.phase (with_session g q payload w).pending went since
+        (all ++ (if closes_connection (scope_in x g q payload) then failure_to c INTERNAL_ERROR else []))
+        (has_left (peers_session g q payload x).client.stream) last
+says_meaning (ten.Closed x) w b p went since all last k r e f shuts s = says_fail w _ None b p.client went since all last e shuts s
+says_meaning ten.Refused w b p went since all last k r e f shuts s = says_fail w _ None b p.client went since all last e shuts s
+says_meaning (ten.Violation x) w b p went since all last k r e f shuts s = says_fail w _ (Some x) b p.client went since all last e shuts s
 
-says_heard : (w : State) (u : Unit10) (b : Bool) (p : Peers) (went since all last : List Reply) → w.routes ≡ p.routes → w.conn ≡ p.client → w.up.container ≡ p.container → w.paths ≡ p.paths
+-- the container's connection says nothing of the reply
+same_reply : (m : Meaning) (p : Peers) (o : Option Upstream) → reply_by (record p { container = o }) m ≡ reply_by p m
+same_reply ten.Nothing p o = refl
+same_reply ten.Init p o = refl
+same_reply ten.AmqpHeader p o = refl
+same_reply ten.Opened p o = refl
+same_reply (ten.OfSession g q payload) p o = refl
+same_reply (ten.Closed e) p o = refl
+same_reply ten.Refused p o = refl
+same_reply (ten.Violation why) p o = refl
+
+says_heard : (w : State) (u : Unit10) (b : Bool) (p : Peers) (went since all last : List Reply) → Knows p.carried (meaning_by w.up.container u) w.lives w.paths
+    → w.routes ≡ p.routes → w.conn ≡ p.client → w.up.container ≡ p.container → w.paths ≡ p.paths
     → (b ≡ true → is_closing p.client ≡ true) → SaysIn b p.client.phase w.pending went since all (has_left p.client.stream) last
     → let q : Peers = if b then p else peers_heard p u in
-    SaysIn b q.client.phase (if b then w else heard w u).pending went since (if b then all else all ++ reply_by p.client p.paths (meaning_by p.container u)) (has_left q.client.stream) last
-says_heard w u true p went since all last r e f g shuts s = s
-says_heard w u false p went since all last r e f g shuts s =
+    SaysIn b q.client.phase (if b then w else heard w u).pending went since (if b then all else all ++ reply_by p (meaning_by p.container u)) (has_left q.client.stream) last
+says_heard w u true p went since all last k r e f g shuts s = s
+says_heard w u false p went since all last k r e f g shuts s =
     let m : Meaning = meaning_by p.container u in
     let x : Peers = record p { container = container_by p.container u } in
-    subst (λ (o : Option Upstream). SaysIn false (peers_by m x).client.phase (with_meaning (meaning_by o u) (record w { up = heard_up u w.up })).pending went since (all ++ reply_by p.client p.paths m) (has_left (peers_by m x).client.stream) last) (sym f)
-    (says_meaning m (record w { up = heard_up u w.up }) false x went since all last r e g shuts s)
+    subst (λ (y : List Reply). SaysIn false (peers_by m x).client.phase (heard w u).pending went since (all ++ y) (has_left (peers_by m x).client.stream) last) (same_reply m p x.container)
+    (subst (λ (y : Meaning). SaysIn false (peers_by m x).client.phase (with_meaning y (record w { up = heard_up u w.up })).pending went since (all ++ reply_by x m) (has_left (peers_by m x).client.stream) last)
+    (ap (λ (o : Option Upstream). meaning_by o u) (sym f))
+    (says_meaning m (record w { up = heard_up u w.up }) false x went since all last
+    (subst (λ (o : Option Upstream). Knows p.carried (meaning_by o u) w.lives w.paths) f k) r e g shuts s))
 
 -- the connection is closing once the pair ran out of memory
 pub shuts_in : {h : List Step} → Known h → ran_out_in h ≡ true → is_closing (connection h) ≡ true
@@ -1038,7 +1114,7 @@ says (Came u ∷ h) p =
     subst (λ (x : Bool). SaysIn (ran_out_in h) (connection (Came u ∷ h)).phase (if x then before h else came (dequeued (before h)) u).pending (sent h) (sent_since h) (replies (Came u ∷ h)) (has_left (connection (Came u ∷ h)).stream) (last_of (until_memory h)))
     (sym (memory_is k))
     (says_came (before h) u (ran_out_in h) (peers h) (sent h) (sent_since h) (replies h) (last_of (until_memory h))
-    (λ x. none_next (before h) u (none_left h p.1 (ap (λ (c : Connection). has_left c.stream) (conn_is k) ∙ x)) p.0) (routes_are k) (conn_is k) (says h p.1))
+    (λ x. none_next (before h) u (none_left h p.1 (ap (λ (c : Connection). has_left c.stream) (conn_is k) ∙ x)) p.0) (routes_are k) (paths_are k) (conn_is k) (says h p.1))
 says (TakenUp ∷ h) p =
     let k : Known h = known h p.1 in
     subst (λ (x : Bool). SaysIn (ran_out_in h) (connection (TakenUp ∷ h)).phase (if not x && (before h).leaving then left (before h) else before h).pending (sent h) (sent_since h) (replies h) (has_left (connection (TakenUp ∷ h)).stream) (last_of (until_memory h)))
@@ -1049,7 +1125,7 @@ says (Heard u ∷ h) p =
     let k : Known h = known h p.1 in
     subst (λ (x : Bool). SaysIn (ran_out_in h) (connection (Heard u ∷ h)).phase (if x then before h else heard (before h) u).pending (sent h) (sent_since h) (replies (Heard u ∷ h)) (has_left (connection (Heard u ∷ h)).stream) (last_of (until_memory h)))
     (sym (memory_is k))
-    (says_heard (before h) u (ran_out_in h) (peers h) (sent h) (sent_since h) (replies h) (last_of (until_memory h)) (routes_are k) (conn_is k) (container_is k) (paths_are k) (shuts_in k) (says h p.1))
+    (says_heard (before h) u (ran_out_in h) (peers h) (sent h) (sent_since h) (replies h) (last_of (until_memory h)) (knows h u k) (routes_are k) (conn_is k) (container_is k) (paths_are k) (shuts_in k) (says h p.1))
 says (Joined link.Ok ∷ h) p = says h p.1
 says (Joined link.Failed ∷ h) p =
     let k : Known h = known h p.1 in

@@ -60,7 +60,7 @@ end_meaning ten.Opened w = by (is_opening w.conn)
     by : (b : Bool) → end_of (if b then runs w else w) ≡ end_of w
     by true = refl
     by false = refl
-end_meaning (ten.OfSession g p payload) w = session_cases (λ (v : State). end_of v ≡ end_of w) g p w (record {
+end_meaning (ten.OfSession g p payload) w = session_cases (λ (v : State). end_of v ≡ end_of w) g p payload w (record {
   begins = refl;
   stays = refl;
   ends = λ code why. refl;

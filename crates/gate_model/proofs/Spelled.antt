@@ -22,7 +22,6 @@ use Rattle.property_map.specs.declared.told.FaultName.TheVariants as name
 use Rattle.gate_model.specs.declared.reply.Reply.{Reply}
 use Rattle.gate_model.specs.declared.reply.Reply.TheVariants as reply
 use Rattle.gate_model.specs.Spelling.{close_on, open_ok_frame, spell_reply, start_frame, tune_frame}
-use Rattle.machine_091.specs.declared.unit.Refusal.{Refusal}
 
 frame_some : (f : Frame91) → 0 < length (frame_text f)
 unfolding frame_text
@@ -40,7 +39,7 @@ open_ok_some : 0 < length open_ok_frame
 unfolding open_ok_frame
 open_ok_some = frame_some _
 
--- all but the frames of returns, which are spelled before
+-- all but the frames of returns and contents, which are spelled before, and what carries a name
 pub spelled_some : (r : Reply) (text : List ℕ) → takes_memory_back r ≡ false → 0 < length (spell_reply r text)
 spelled_some reply.Protocol text e = omega arith
 spelled_some reply.Start text e = start_some
@@ -52,6 +51,8 @@ spelled_some reply.NoMemory text e = frame_some _
 spelled_some reply.Heartbeat text e = frame_some _
 spelled_some (reply.ChannelOpenOk n) text e = frame_some _
 spelled_some (reply.OnChannel n (unit.Ok x)) text e = frame_some _
+spelled_some (reply.OnChannel n (unit.Deliver d)) text e = absurd cc
+spelled_some (reply.OnChannel n (unit.Content c)) text e = absurd cc
 spelled_some (reply.OnChannel n (unit.Confirm c)) text e = frame_some _
 spelled_some (reply.OnChannel n (unit.Return r)) text e = absurd cc
 spelled_some (reply.ChannelCloseOk n) text e = frame_some _
@@ -118,6 +119,9 @@ unfolding frame_text
 on_channel_small n (unit.Ok ok.Flow) text e = omega arith
 on_channel_small n (unit.Ok ok.Declare) text e = omega arith
 on_channel_small n (unit.Ok ok.Select) text e = omega arith
+on_channel_small n (unit.Ok (ok.Consume link)) text e = absurd cc
+on_channel_small n (unit.Deliver d) text e = absurd cc
+on_channel_small n (unit.Content c) text e = absurd cc
 on_channel_small n (unit.Return r) text e = absurd cc
 on_channel_small n (unit.Confirm c) text e = by c.ack
   where

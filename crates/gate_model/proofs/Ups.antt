@@ -1,7 +1,7 @@
 -- What the state knows of the units to a container, by the folds.
 use Rattle.std.proofs.Common.{◌≡◌, ℕ, ◌⊎◌, inl, inr, Bool, true, false, not, ◌&&◌, ◌||◌}
 use Rattle.std.proofs.Common.{if◌then◌else◌, List, [], ◌∷◌, ◌++◌, Option, None, Some, append-nil}
-use Rattle.std.proofs.Common.{refl, sym, ap, ◌∙◌, subst, ◌==◌}
+use Rattle.std.proofs.Common.{refl, sym, ap, ◌∙◌, subst}
 use Rattle.std.specs.Prelude.{is_some, map}
 use Rattle.std.specs.List.{list_any}
 use Rattle.std.specs.Option.{option_map, option_to_list}
@@ -12,8 +12,8 @@ use Rattle.gate_relay.specs.Sides.{is_absent, is_readable}
 use Rattle.gate_relay.specs.declared.loss.Loss.TheVariants as loss
 use Rattle.gate_relay.specs.declared.sides.Side.{Side}
 use Rattle.gate_relay.specs.declared.sides.Side.TheVariants as side
-use Rattle.machine_091.specs.Calls.{after_ended, after_opened, closing_phase, opened_phase}
-use Rattle.machine_091.specs.State.{is_closing, is_open, is_opening}
+use Rattle.machine_091.specs.Calls.{after_opened, closing_phase, opened_phase}
+use Rattle.machine_091.specs.State.{is_closing, is_opening}
 use Rattle.machine_091.specs.Transitions as machine
 use Rattle.machine_091.specs.declared.state.Connection.{Connection}
 use Rattle.machine_091.specs.declared.state.Phase91.{Phase91}
@@ -25,9 +25,7 @@ use Rattle.machine_10.specs.declared.state.Phase10.{Phase10}
 use Rattle.machine_10.specs.declared.state.Upstream.{Upstream}
 use Rattle.machine_10.specs.declared.unit.Unit10.{Unit10}
 use Rattle.performatives_10.specs.declared.condition.Condition.{Condition}
-use Rattle.close_translate.specs.declared.conditions.Scope.{Scope}
-use Rattle.close_translate.specs.declared.conditions.Scope.TheVariants as scope
-use Rattle.gate_model.specs.Paths.{path_at, with_path}
+use Rattle.session_path.specs.Path.{PathState}
 use Rattle.gate_model.specs.declared.channel.SessionUnit.{SessionUnit}
 use Rattle.gate_model.specs.declared.outgoing.Outgoing.TheVariants.{ToClient, ToUp}
 use Rattle.gate_model.specs.declared.outgoing.UpPending.{UpPending}
@@ -36,20 +34,21 @@ use Rattle.gate_model.specs.declared.outgoing.UpUnit.{UpUnit}
 use Rattle.gate_model.specs.declared.outgoing.UpUnit.TheVariants as up
 use Rattle.gate_model.specs.Asked.{called, called_by, called_from, is_opening_unit, is_up_close}
 use Rattle.gate_model.specs.Asked.{is_up_open, sent_up_whole}
-use Rattle.gate_model.specs.Due.{attaches, begins, carried_rows, close_behind, detaches, ends}
+use Rattle.gate_model.specs.Due.{attaches, begins, carried_rows, close_behind, detaches, disposals}
+use Rattle.gate_model.specs.Due.{ends}
 use Rattle.gate_model.specs.Due.{flows_on, is_end_due, link_flows, none_left, pick, row_on, rows_in}
 use Rattle.gate_model.specs.Due.{session_flows, session_rows, settlings, transfers, unless_out}
 use Rattle.gate_model.specs.Due.{up_rows}
 use Rattle.gate_model.specs.Session.{is_flow_owed}
 use Rattle.gate_model.specs.Folds.{Peers, accepted_in, connection, container, container_kept}
-use Rattle.gate_model.specs.Folds.{ended_on, leaving_in, moment_in, peers, peers_by, peers_came}
-use Rattle.gate_model.specs.Folds.{peers_heard, peers_scoped, ran_out_in, sent_up, sent_up_at}
+use Rattle.gate_model.specs.Folds.{carried_on, leaving_in, moment_in, peers, peers_by, peers_came}
+use Rattle.gate_model.specs.Folds.{peers_heard, peers_left, ran_out_in, scope_in, sent_up, sent_up_at}
 use Rattle.gate_model.specs.Picks.{ArePicks}
 use Rattle.gate_model.specs.Requests.{client_step}
 use Rattle.gate_model.specs.State.{Began, Came, Fed, Gave, Heard, Joined, Lost, Moment, OutOfMemory}
 use Rattle.gate_model.specs.State.{Queued, Silent, State, Step, TakenUp, Whole, before, came}
 use Rattle.gate_model.specs.State.{close_if, dequeued, fail, failed, heard, is_limit_reached, left}
-use Rattle.gate_model.specs.State.{runs, windowed, with_meaning, path_heard, link_scope, paths_lost}
+use Rattle.gate_model.specs.State.{runs, windowed, with_meaning, paths_lost}
 use Rattle.gate_model.specs.Lives.{is_carried, is_free, session_in}
 use Rattle.gate_model.specs.declared.life.Life.{Life}
 use Rattle.machine_10.specs.Calls.{asked, left as left_session, may_begin}
@@ -63,7 +62,7 @@ use Rattle.gate_model.specs.Upstream.{with_begun, with_whole, without_up}
 use Rattle.gate_model.proofs.Connections.{clash, only_given, phase_only}
 use Rattle.gate_model.proofs.Outcomes.{only_closing}
 use Rattle.gate_model.proofs.Rows.{first_each}
-use Rattle.gate_model.proofs.Sessions.{conn_cases, session_cases}
+use Rattle.gate_model.proofs.Sessions.{conn_cases, only_scoped, session_cases}
 use Rattle.gate_model.proofs.Known.{Known, conn_is, container_is, keep_is, known, memory_is}
 use Rattle.gate_model.proofs.Known.{moment_is}
 use Rattle.gate_model.proofs.Openings.{UpTo, Ups, is_opening_first, phase_in, up_to_closed}
@@ -97,7 +96,7 @@ closing_late phase.Closing = refl
 closing_late phase.Closed = refl
 
 early_came : (p : Peers) (u : Unit91) → Early p → Early (peers_came p u)
-early_came p u f = by (client_step p.routes p.client u) (outcome p.routes p.client u)
+early_came p u f = by (client_step p.routes p.paths p.client u) (outcome p.routes p.paths p.client u)
   where
     c : Connection
     c = p.client
@@ -142,7 +141,7 @@ early_meaning ten.Opened x e = by (is_opening x.client) e
     by true e = early_opened x.client.asked x.client.phase e
     by false e = e
 early_meaning (ten.OfSession g q payload) x e =
-    conn_cases (λ (d : Connection). is_early d.phase ≡ true → is_early x.client.phase ≡ true) g q x (λ y. y) (λ y. absurd (clash _ y (closing_late x.client.phase)))
+    conn_cases (λ (d : Connection). is_early d.phase ≡ true → is_early x.client.phase ≡ true) g q payload x (λ y. y) (λ y. absurd (clash _ y (closing_late x.client.phase)))
     (λ y. sym (ap is_early (phase_only (only_closing g x.client))) ∙ y) e
 early_meaning (ten.Closed t) x e = absurd (clash _ e (closing_late x.client.phase))
 early_meaning ten.Refused x e = absurd (clash _ e (closing_late x.client.phase))
@@ -154,21 +153,8 @@ kept_container ten.Nothing x = refl
 kept_container ten.Init x = refl
 kept_container ten.AmqpHeader x = refl
 kept_container ten.Opened x = refl
-kept_container (ten.OfSession g q payload) x = by (link_scope q (path_at x.paths g))
-  where
-    ended : (o : Bool) (y : Peers) → y.container ≡ x.container → (ended_on o g y).container ≡ x.container
-    ended true y e = e
-    ended false y e = e
-
-    met : (a b : Bool) (y : Peers) → y.container ≡ x.container → (if a then y else if b then ended_on (is_open y.client g) g y else y).container ≡ x.container
-    met true b y e = e
-    met false true y e = ended (is_open y.client g) y e
-    met false false y e = e
-
-    by : (o : Option Scope) → (peers_scoped o g q x).container ≡ x.container
-    by None = met (q.0 == 17) (q.0 == 23) (record x { paths = with_path g (path_heard q) x.paths }) refl
-    by (Some scope.Connection) = refl
-    by (Some scope.Channel) = ended (is_open x.client g) x refl
+kept_container (ten.OfSession g q payload) x =
+    ap (λ (y : Peers). y.container) (only_scoped (scope_in x g q payload) g q payload (record x { carried = carried_on g q x.carried }))
 kept_container (ten.Closed t) x = refl
 kept_container ten.Refused x = refl
 kept_container (ten.Violation why) x = refl
@@ -191,7 +177,7 @@ early (Silent Client ∷ h) e = absurd cc
 early (Silent Up ∷ h) e = absurd (clash _ e (closing_late (connection h).phase))
 early (Queued u ∷ h) e = early h e
 early (Came u ∷ h) e = early_if (ran_out_in h) (peers h) (peers_came (peers h) u) (early h) (early_came (peers h) u (early h)) e
-early (TakenUp ∷ h) e = early_if (not (ran_out_in h) && leaving_in h) (record (peers h) { client = after_ended (connection h) }) (peers h) (λ x. absurd cc) (early h) e
+early (TakenUp ∷ h) e = early_if (not (ran_out_in h) && leaving_in h) (peers_left (peers h)) (peers h) (λ x. absurd cc) (early h) e
 early (Heard u ∷ h) e =
     early_if (ran_out_in h) (peers h) (peers_heard (peers h) u) (early h)
     (λ x. kept_container (meaning_by (container h) u) (record (peers h) { container = container_by (container h) u })
@@ -204,7 +190,8 @@ early (Lost Up loss.Failed ∷ h) e = absurd (clash _ e (closing_late (connectio
 early (Lost Up loss.Shut ∷ h) e = early h e
 early (Gave (ToClient u) text ∷ h) e = early h (sym (ap is_early (phase_only (only_given u (connection h)))) ∙ e)
 early (Gave (ToUp u) text ∷ h) e = ap (container_given u) (early h e)
-early (Whole end ∷ h) e = early h e
+early (Whole Client ∷ h) e = early h e
+early (Whole Up ∷ h) e = early h e
 early (OutOfMemory ∷ h) e = absurd (clash _ e (closing_late (connection h).phase))
 
 -- ---- what counts of the state
@@ -241,9 +228,9 @@ UpSays h = UpSaysIn (part (before h).up) (sent_up h) (sent_up_whole h) (sent_up_
 
 -- ---- steps that change none of that, or little
 
-kept_phase : (rs : List Route) (c : Connection) (u : Unit91) (o : Option Upstream) → (is_early c.phase ≡ true → o ≡ None)
-    → phase_in (container_kept o (client_step rs c u).1) ≡ phase_in o
-kept_phase rs c u o f = by (client_step rs c u) (outcome rs c u)
+kept_phase : (rs : List Route) (ps : List (Option PathState)) (c : Connection) (u : Unit91) (o : Option Upstream) → (is_early c.phase ≡ true → o ≡ None)
+    → phase_in (container_kept o (client_step rs ps c u).1) ≡ phase_in o
+kept_phase rs ps c u o f = by (client_step rs ps c u) (outcome rs ps c u)
   where
     by : (x : machine.Step) → Outcome c u x → phase_in (container_kept o x.1) ≡ phase_in o
     by _ (Greets e) = refl
@@ -282,8 +269,8 @@ part_came w u f = by w.out_of_memory
     by : (b : Bool) → part (if b then w else came (dequeued w) u).up ≡ part w.up
     by true = refl
     by false =
-        part_closing (is_closing w.conn) _ _ ∙ ap part (keep_is (client_step w.routes w.conn u).1 w.up)
-        ∙ ap (λ (x : Phase10). record (part w.up) { at = x }) (kept_phase w.routes w.conn u w.up.container f)
+        part_closing (is_closing w.conn) _ _ ∙ ap part (keep_is (client_step w.routes w.paths w.conn u).1 w.up)
+        ∙ ap (λ (x : Phase10). record (part w.up) { at = x }) (kept_phase w.routes w.paths w.conn u w.up.container f)
 
 part_taken : (w : State) (b : Bool) → part (if b then left w else w).up ≡ part w.up
 part_taken w true = part_closing (is_closing w.conn) None w.up
@@ -308,7 +295,7 @@ part_meaning ten.Opened w = by (is_opening w.conn)
     by : (b : Bool) → part (if b then runs w else w).up ≡ part w.up
     by true = refl
     by false = refl
-part_meaning (ten.OfSession g p payload) w = session_cases (λ (v : State). part v.up ≡ part w.up) g p w (record {
+part_meaning (ten.OfSession g p payload) w = session_cases (λ (v : State). part v.up ≡ part w.up) g p payload w (record {
   begins = refl;
   stays = refl;
   ends = λ code why. refl;
@@ -418,6 +405,9 @@ link_flow_is w u e = first_each (IsLinked w) _ 0 w.lives u (λ k l v f. row_is w
 transfer_is : (w : State) (u : UpUnit) → first (transfers w) ≡ Some u → IsLinked w u
 transfer_is w u e = first_each (IsLinked w) _ 0 w.lives u (λ k l v f. row_is w k _ _ v f) e
 
+disposal_is : (w : State) (u : UpUnit) → first (disposals w) ≡ Some u → IsLinked w u
+disposal_is w u e = first_each (IsLinked w) _ 0 w.lives u (λ k l v f. row_is w k _ _ v f) e
+
 settling_is : (w : State) (u : UpUnit) → first (settlings w) ≡ Some u → IsLinked w u
 settling_is w u e = first_each (IsLinked w) _ 0 w.lives u (λ k l v f. row_is w k _ _ v f) e
 
@@ -442,23 +432,31 @@ carried_picked closing w u e = first_row (either (attaches w) _ u e)
     first_row (inl f) = Linked (attach_is w u f)
     first_row (inr f) = second_row (either (link_flows w) _ u f.1)
 
-settled_picked : (closing : Bool) (w : State) (u : UpUnit) → first (settlings w ++ detaches w) ≡ Some u → Picked closing w u
-settled_picked closing w u e = by (either (settlings w) (detaches w) u e)
+-- what goes still after the pair ran out of memory
+abbrev last_rows : State → List UpUnit
+last_rows w = disposals w ++ (settlings w ++ detaches w)
+
+settled_picked : (closing : Bool) (w : State) (u : UpUnit) → first (last_rows w) ≡ Some u → Picked closing w u
+settled_picked closing w u e = first_row (either (disposals w) (settlings w ++ detaches w) u e)
   where
-    by : Found (settlings w) (detaches w) u → Picked closing w u
-    by (inl f) = Linked (settling_is w u f)
-    by (inr f) = Linked (detach_is w u f.1)
+    second_row : Found (settlings w) (detaches w) u → Picked closing w u
+    second_row (inl f) = Linked (settling_is w u f)
+    second_row (inr f) = Linked (detach_is w u f.1)
+
+    first_row : Found (disposals w) (settlings w ++ detaches w) u → Picked closing w u
+    first_row (inl f) = Linked (disposal_is w u f)
+    first_row (inr f) = second_row (either (settlings w) (detaches w) u f.1)
 
 on_session : (closing : Bool) (w : State) (u : UpUnit) → first (session_rows w) ≡ Some u → Picked closing w u
 on_session closing w u e = by w.out_of_memory e
   where
-    some : Found (carried_rows w) (settlings w ++ detaches w) u → Picked closing w u
+    some : Found (carried_rows w) (last_rows w) u → Picked closing w u
     some (inl f) = carried_picked closing w u f
     some (inr f) = settled_picked closing w u f.1
 
-    by : (b : Bool) → first (unless_out b (carried_rows w) ++ (settlings w ++ detaches w)) ≡ Some u → Picked closing w u
+    by : (b : Bool) → first (unless_out b (carried_rows w) ++ last_rows w) ≡ Some u → Picked closing w u
     by true f = settled_picked closing w u f
-    by false f = some (either (carried_rows w) (settlings w ++ detaches w) u f)
+    by false f = some (either (carried_rows w) (last_rows w) u f)
 
 last_is : (b : Bool) (x u : UpUnit) → first (when_up b x) ≡ Some u → (b ≡ true) × (u ≡ x)
 last_is true x u e = (refl, (let here : x ≡ u = cc in sym here))

@@ -143,7 +143,7 @@ open_ok_came w u = by w.out_of_memory
   where
     by : (b : Bool) → (if b then w else came (dequeued w) u).pending.open_ok ≡ w.pending.open_ok
     by true = refl
-    by false = open_ok_after (turns_foreign w.routes w.conn u) (client_step w.routes w.conn u).1 w.pending
+    by false = open_ok_after (turns_foreign w.routes w.paths w.conn u) (client_step w.routes w.paths w.conn u).1 w.pending
 
 open_ok_taken : (w : State) (b : Bool) → (if b then left w else w).pending.open_ok ≡ w.pending.open_ok
 open_ok_taken w true = refl
@@ -156,8 +156,8 @@ open_ok_fail code why w = by (is_closing w.conn)
     by true = refl
     by false = refl
 
-open_ok_session : (g : ℕ) (p : Parts) (w : State) → (with_session g p w).pending.open_ok ≡ w.pending.open_ok
-open_ok_session g p w = session_cases (λ (v : State). v.pending.open_ok ≡ w.pending.open_ok) g p w (record {
+open_ok_session : (g : ℕ) (p : Parts) (payload : List ℕ) (w : State) → (with_session g p payload w).pending.open_ok ≡ w.pending.open_ok
+open_ok_session g p payload w = session_cases (λ (v : State). v.pending.open_ok ≡ w.pending.open_ok) g p payload w (record {
   begins = refl;
   stays = refl;
   ends = λ code why. refl;
@@ -182,7 +182,7 @@ open_ok_meaning m w e = by m e
     by ten.Init e = or_left _ _ e
     by ten.AmqpHeader e = or_left _ _ e
     by ten.Opened e = or_true w.pending.open_ok
-    by (ten.OfSession g p payload) e = or_left _ _ (sym (open_ok_session g p w) ∙ e)
+    by (ten.OfSession g p payload) e = or_left _ _ (sym (open_ok_session g p payload w) ∙ e)
     by (ten.Closed x) e = or_left _ _ (sym (open_ok_fail _ None w) ∙ e)
     by ten.Refused e = or_left _ _ (sym (open_ok_fail _ None w) ∙ e)
     by (ten.Violation c) e = or_left _ _ (sym (open_ok_fail _ (Some c) w) ∙ e)

@@ -8,7 +8,11 @@ use Rattle.close_translate.specs.declared.conditions.Scope.TheVariants as scope
 use Rattle.gate_outside.specs.declared.ports.End.TheVariants.{Client, Up}
 use Rattle.gate_outside.specs.declared.ports.Linked.TheVariants as link
 use Rattle.gate_relay.specs.declared.loss.Loss.TheVariants as loss
+use Rattle.consume_path.specs.declared.receiving.Part.{Part}
+use Rattle.consume_path.specs.declared.receiving.TransferFault.{TransferFault}
+use Rattle.machine_091.specs.State.{is_open}
 use Rattle.machine_091.specs.declared.state.Connection.{Connection}
+use Rattle.machine_091.specs.declared.unit.Refusal.{Refusal}
 use Rattle.machine_091.specs.declared.unit.Unit91.{Unit91}
 use Rattle.machine_091.specs.declared.unit.Want91.{Want91}
 use Rattle.machine_091.specs.declared.unit.Want91.TheVariants as want
@@ -32,7 +36,9 @@ use Rattle.session_path.specs.Links.{named}
 use Rattle.session_path.specs.declared.path.PathLink.{PathLink}
 use Rattle.session_path.specs.declared.path.PathOk.{PathOk}
 use Rattle.session_path.specs.declared.path.PathOk.TheVariants as ok
-use Rattle.session_path.specs.Path.{PathState}
+use Rattle.session_path.specs.Path.{PathState, sender_in}
+use Rattle.types_10.specs.Tree.{Tree}
+use Rattle.gate_model.specs.declared.channel.ChannelUnit.{ChannelUnit}
 use Rattle.gate_model.specs.declared.channel.ChannelUnit.TheVariants as to_client
 use Rattle.gate_model.specs.declared.channel.SessionUnit.TheVariants as unit
 use Rattle.gate_model.specs.declared.channel.TransferOut.{TransferOut}
@@ -41,25 +47,35 @@ use Rattle.gate_model.specs.declared.outgoing.UpUnit.{UpUnit}
 use Rattle.gate_model.specs.declared.outgoing.UpUnit.TheVariants as up
 use Rattle.gate_model.specs.declared.reply.Reply.{Reply}
 use Rattle.gate_model.specs.declared.reply.Reply.TheVariants as reply
-use Rattle.gate_model.specs.Folds.{connection, container, paths_in, peers, ran_out_in, routes_in}
+use Rattle.gate_model.specs.Folds.{Peers, connection, container, going_in, paths_in, peers, ran_out_in, routes_in}
+use Rattle.gate_model.specs.Folds.{scope_in}
+use Rattle.gate_model.specs.Lives.{is_of_channel}
 use Rattle.gate_model.specs.Once.{is_channel_open, is_method_on}
-use Rattle.gate_model.specs.Paths.{is_outcome, is_there, name_in, path_at, text_of}
+use Rattle.gate_model.specs.Paths.{fault_in, is_outcome, name_in, part_in, path_at, text_of}
 use Rattle.gate_model.specs.Picks.{ArePicks}
 use Rattle.gate_model.specs.Publishing.{ArePieces, EndWhole, MayCarry, MayFinish, MayTransfer}
-use Rattle.gate_model.specs.Publishing.{attach_events, heard_events, image_by, image_in, joined_in}
+use Rattle.gate_model.specs.Publishing.{attach_events, closed_if, closing, heard_events, image_by, image_in, joined_in}
 use Rattle.gate_model.specs.Publishing.{joined_on, left_of, lost_if, meaning_events, method_events}
 use Rattle.gate_model.specs.Publishing.{one_more, owed_unless, path_events, path_life, publishes_in}
 use Rattle.gate_model.specs.Publishing.{reply_events, session_events, step_events, text_wanted}
-use Rattle.gate_model.specs.Publishing.{up_events, want_events, losing}
+use Rattle.gate_model.specs.Publishing.{losing, losing_up, refusal_events, told_event, transfer_event, up_events}
+use Rattle.gate_model.specs.Publishing.{want_events, wrote_event, wrote_events}
 use Rattle.gate_model.specs.Requests.{message_of, address_of}
 use Rattle.gate_model.specs.Returns.{back_of}
 use Rattle.gate_model.specs.Session.{is_of_session}
 use Rattle.gate_model.specs.State.{Began, Came, Fed, Gave, Heard, Joined, Lost, Moment, OutOfMemory}
-use Rattle.gate_model.specs.State.{Queued, Silent, Step, TakenUp, Whole, conn_step, link_scope}
+use Rattle.gate_model.specs.State.{Queued, Silent, Step, TakenUp, Whole, closing_code, conn_step}
 use Rattle.gate_model.specs.State.{want_in}
 use Rattle.gate_model.specs.Upstream.{meaning_by}
 use Rattle.gate_model.proofs.Fates.{FramesAre, IsToGo, PublishesAre, RestsAre, carry_is, to_go}
 use Rattle.gate_model.specs.declared.setup.Route.{Route}
+
+abbrev pub is_return : ChannelUnit → Bool
+is_return (to_client.Ok x) = false
+is_return (to_client.Deliver d) = false
+is_return (to_client.Content c) = false
+is_return (to_client.Confirm c) = false
+is_return (to_client.Return r) = true
 
 -- ---- events by which no publish is taken up and no frame goes
 
@@ -68,20 +84,30 @@ is_plain (event.Began handle_max) = true
 is_plain (event.Published address payload back) = false
 is_plain event.Selected = true
 is_plain (event.Owed ok) = true
-is_plain (event.AttachCame name peer target) = true
+is_plain (event.Consumed address tag no_ack no_wait) = true
+is_plain (event.AnswerCame tag multiple settle) = true
+is_plain (event.AttachCame attach) = true
 is_plain (event.FlowCame peer count credit drain echo) = true
 is_plain (event.DetachCame peer not_found) = true
+is_plain (event.TransferCame peer part payload image again) = true
+is_plain (event.LinkFailed peer fault) = true
 is_plain (event.DispositionCame first last outcome settled) = true
 is_plain (event.AttachSent name) = true
 is_plain event.LinkFlowSent = true
 is_plain (event.TransferSent frame count) = false
 is_plain (event.SettleSent settling) = true
+is_plain event.DisposeSent = true
 is_plain event.DetachSent = true
 is_plain (event.ConfirmWent confirm) = true
 is_plain (event.ReturnWent number) = false
+is_plain (event.DeliverSent due) = true
+is_plain event.ContentSent = true
+is_plain (event.ContentWhole tag) = true
 is_plain (event.OkSent ok) = true
 is_plain event.LinesWent = true
+is_plain event.LifeClosed = true
 is_plain event.SessionLost = true
+is_plain event.UpLost = true
 
 abbrev pub ArePlain : List PathEvent → Type 0
 ArePlain [] = Unit {0}
@@ -99,41 +125,91 @@ pub lost_plain : (b : Bool) → ArePlain (lost_if b)
 lost_plain true = (refl, tt)
 lost_plain false = tt
 
+pub closed_plain : (b : Bool) → ArePlain (closed_if b)
+closed_plain true = (refl, tt)
+closed_plain false = tt
+
 -- the upstream end is lost
-pub fallen_plain : (b : Bool) → ArePlain (lost_if b ++ losing)
-fallen_plain b = both_plain (lost_if b) losing (lost_plain b) (refl, (refl, tt))
+pub fallen_plain : (b : Bool) → ArePlain (lost_if b ++ losing_up)
+fallen_plain b = both_plain (lost_if b) losing_up (lost_plain b) (refl, (refl, tt))
 
 pub owed_plain : (no_wait : Bool) (x : PathOk) → ArePlain (owed_unless no_wait (event.Owed x))
 owed_plain true x = tt
 owed_plain false x = (refl, tt)
 
-attach_plain : (o : Option ℕ) (peer : ℕ) (target : Bool) → ArePlain (attach_events o peer target)
-attach_plain None peer target = tt
-attach_plain (Some name) peer target = (refl, tt)
+-- a method on a channel
+pub method_plain : (m : Method91) → ArePlain (method_events m)
+method_plain (method.ChannelFlow active) = (refl, tt)
+method_plain (method.ExchangeDeclare name kind passive durable deletes internal no_wait arguments) = owed_plain no_wait ok.Declare
+method_plain (method.ConfirmSelect no_wait) = both_plain (owed_unless no_wait (event.Owed ok.Select)) _ (owed_plain no_wait ok.Select) (refl, tt)
+method_plain (method.BasicConsume queue tag no_local no_ack exclusive no_wait arguments) = (refl, tt)
+method_plain (method.BasicAck tag multiple) = (refl, tt)
+method_plain (method.BasicReject tag requeue) = (refl, tt)
+method_plain (method.BasicNack tag multiple requeue) = (refl, tt)
+method_plain (method.ChannelClose code text class id) = (refl, tt)
+method_plain m = tt
 
-heard_plain : (q : Parts) → ArePlain (heard_events q)
-heard_plain q =
+pub refusal_plain : (n : ℕ) (r : Refusal) → ArePlain (refusal_events n r)
+refusal_plain n r = if_plain (is_of_channel r) _ _ (if_plain (r.channel == n) _ _ (refl, tt) tt) (refl, tt)
+
+attach_plain : (o : Option ℕ) (ts : List Tree) → ArePlain (attach_events o ts)
+attach_plain None ts = tt
+attach_plain (Some name) ts = (refl, tt)
+
+transfer_plain : (o : Option TransferFault) (limit n peer : ℕ) (part : Part) (payload : List ℕ) (s : PathState)
+    → is_plain (transfer_event o limit n peer part payload s) ≡ true
+transfer_plain None limit n peer part payload s = refl
+transfer_plain (Some fault) limit n peer part payload s = refl
+
+heard_plain : (limit n : ℕ) (q : Parts) (payload : List ℕ) (s : PathState) → ArePlain (heard_events limit n q payload s)
+heard_plain limit n q payload s =
     if_plain (q.0 == 17) _ _ (refl, tt)
-    (if_plain (q.0 == 18) _ _ (attach_plain (name_in (text_of (field q.1 0))) (number_at q.1 1) (is_there (field q.1 6)))
+    (if_plain (q.0 == 18) _ _ (attach_plain (name_in (text_of (field q.1 0))) q.1)
     (if_plain (q.0 == 19 && not (is_of_session q.1)) _ _ (refl, tt)
+    (if_plain (q.0 == 20) _ _ (transfer_plain (fault_in q.1 payload s) limit n (number_at q.1 0) (part_in q.1) payload s, tt)
     (if_plain (q.0 == 21) _ _ (if_plain (is_outcome q.1) _ _ (refl, tt) tt)
-    (if_plain (q.0 == 22) _ _ (refl, tt) (if_plain (q.0 == 23) _ _ (refl, tt) tt)))))
+    (if_plain (q.0 == 22) _ _ (refl, tt) (if_plain (q.0 == 23) _ _ (refl, tt) tt))))))
 
-session_plain : (c : Connection) (o : Option Scope) (n k : ℕ) (q : Parts) → ArePlain (session_events c o n k q)
-session_plain c None n k q =
-    if_plain (k == n) _ _ (both_plain _ _ (if_plain (q.0 == 17) _ _ tt (if_plain (q.0 == 23) _ _ (lost_plain _) tt)) (heard_plain q)) tt
-session_plain c (Some scope.Connection) n k q = lost_plain _
-session_plain c (Some scope.Channel) n k q = if_plain (k == n) _ _ (lost_plain _) tt
+closing_plain : (o : Option ℕ) (c : Connection) (k : ℕ) → ArePlain (closing o c k)
+closing_plain None c k = tt
+closing_plain (Some code) c k = closed_plain (is_open c k)
 
-meaning_plain : (c : Connection) (ps : List (Option PathState)) (n : ℕ) (m : Meaning) → ArePlain (meaning_events c ps n m)
-meaning_plain c ps n ten.Nothing = tt
-meaning_plain c ps n ten.Init = tt
-meaning_plain c ps n ten.AmqpHeader = tt
-meaning_plain c ps n ten.Opened = tt
-meaning_plain c ps n (ten.OfSession k q payload) = session_plain c (link_scope q (path_at ps k)) n k q
-meaning_plain c ps n (ten.Closed e) = lost_plain _
-meaning_plain c ps n ten.Refused = lost_plain _
-meaning_plain c ps n (ten.Violation why) = lost_plain _
+session_plain : (c : Connection) (o : Option Scope) (n k : ℕ) (q : Parts) (payload : List ℕ) (s : PathState) → ArePlain (session_events c o n k q payload s)
+session_plain c None n k q payload s =
+    if_plain (k == n) _ _
+    (both_plain _ _ (if_plain (q.0 == 17) _ _ tt (closing_plain (closing_code q payload s) c k)) (heard_plain c.limits.frame_max k q payload s)) tt
+session_plain c (Some scope.Connection) n k q payload s = lost_plain _
+session_plain c (Some scope.Channel) n k q payload s = if_plain (k == n) _ _ (lost_plain _) tt
+
+meaning_plain : (o : Peers) (n : ℕ) (m : Meaning) → ArePlain (meaning_events o n m)
+meaning_plain o n ten.Nothing = tt
+meaning_plain o n ten.Init = tt
+meaning_plain o n ten.AmqpHeader = tt
+meaning_plain o n ten.Opened = tt
+meaning_plain o n (ten.OfSession k q payload) = session_plain o.client (scope_in o k q payload) n k q payload (path_at o.paths k)
+meaning_plain o n (ten.Closed e) = lost_plain _
+meaning_plain o n ten.Refused = lost_plain _
+meaning_plain o n (ten.Violation why) = lost_plain _
+
+-- what is sent whole
+wrote_plain : (u : ChannelUnit) → ArePlain (wrote_event u)
+wrote_plain (to_client.Ok x) = tt
+wrote_plain (to_client.Deliver d) = tt
+wrote_plain (to_client.Content c) = if_plain c.last _ _ (refl, tt) tt
+wrote_plain (to_client.Confirm c) = tt
+wrote_plain (to_client.Return r) = tt
+
+pub whole_plain : (n : ℕ) (o : Option Reply) → ArePlain (wrote_events n o)
+whole_plain n (Some (reply.OnChannel k u)) = if_plain (k == n) _ _ (wrote_plain u) tt
+whole_plain n o = tt
+
+-- a unit to the client, but a frame of a return
+pub told_plain : (u : ChannelUnit) → is_return u ≡ false → is_plain (told_event u) ≡ true
+told_plain (to_client.Ok x) e = refl
+told_plain (to_client.Deliver d) e = refl
+told_plain (to_client.Content c) e = refl
+told_plain (to_client.Confirm c) e = refl
+told_plain (to_client.Return r) e = absurd cc
 
 -- ---- the fate of one publish
 
@@ -175,20 +251,30 @@ plain life es (event.Began handle_max) e t = t
 plain life es (event.Published address payload back) e t = absurd cc
 plain life es event.Selected e t = t
 plain life es (event.Owed ok) e t = t
-plain life es (event.AttachCame name peer target) e t = t
+plain life es (event.Consumed address tag no_ack no_wait) e t = t
+plain life es (event.AnswerCame tag multiple settle) e t = t
+plain life es (event.AttachCame attach) e t = t
 plain life es (event.FlowCame peer count credit drain echo) e t = t
-plain life es (event.DetachCame peer not_found) e t = loses not_found (named peer (after_events life es).links) t
+plain life es (event.DetachCame peer not_found) e t = loses not_found (sender_in (named peer (after_events life es).links)) t
+plain life es (event.TransferCame peer part payload image again) e t = t
+plain life es (event.LinkFailed peer fault) e t = t
 plain life es (event.DispositionCame first last outcome settled) e t = quiet (OutcomeCame first _ outcome) refl t
 plain life es (event.AttachSent name) e t = t
 plain life es event.LinkFlowSent e t = t
 plain life es (event.TransferSent frame count) e t = absurd cc
 plain life es (event.SettleSent settling) e t = t
+plain life es event.DisposeSent e t = t
 plain life es event.DetachSent e t = t
 plain life es (event.ConfirmWent confirm) e t = quiet (ConfirmSent confirm) refl t
 plain life es (event.ReturnWent number) e t = absurd cc
+plain life es (event.DeliverSent due) e t = t
+plain life es event.ContentSent e t = t
+plain life es (event.ContentWhole tag) e t = t
 plain life es (event.OkSent ok) e t = t
 plain life es event.LinesWent e t = quiet LinesTold refl t
+plain life es event.LifeClosed e t = t
 plain life es event.SessionLost e t = quiet (LinkGone None false) refl t
+plain life es event.UpLost e t = quiet (LinkGone None false) refl t
 
 takes : {h : List PublishEvent} {number count : ℕ} {image joined : List ℕ} (k : ℕ) (confirm : Bool) (text : List ℕ) (back : List (List ℕ)) → Carried h number count image joined
     → Carried (TakenUp k confirm text back ∷ h) number (count + 1) (if number == count + 1 then text else image) joined
@@ -236,16 +322,25 @@ JoinsBy opens life xs text o es number count image joined =
     Joins (if opens then Some life else o) (if opens then [] else xs ++ es) number (if opens then 0 else one_more text count)
     (if opens then [] else image_by text (number == count + 1) image) (if opens then [] else joined)
 
+-- a method that opens no channel
+calls : (m : Method91) (o : Option ℕ) (es : List PathEvent) (number count : ℕ) (image joined : List ℕ) → Joins o es number count image joined
+    → Joins o (method_events m ++ es) number count image joined
+calls m o es number count image joined t = plain_joins o (method_events m) es number count image joined (method_plain m) t
+
 method_joins : (b : Bool) (m : Method91) (life : ℕ) (o : Option ℕ) (es : List PathEvent) (number count : ℕ) (image joined : List ℕ) → Joins o es number count image joined
     → JoinsBy (b && is_channel_open m) life (if b then method_events m else []) None o es number count image joined
 method_joins false m life o es number count image joined t = t
 method_joins true method.ChannelOpen life o es number count image joined t = fresh number
-method_joins true (method.ChannelFlow active) life o es number count image joined t = plain_joins o (event.Owed ok.Flow ∷ []) es number count image joined (refl, tt) t
+method_joins true (method.ChannelFlow active) life o es number count image joined t = calls (method.ChannelFlow active) o es number count image joined t
 method_joins true (method.ExchangeDeclare name kind passive durable deletes internal no_wait arguments) life o es number count image joined t =
-    plain_joins o (owed_unless no_wait (event.Owed ok.Declare)) es number count image joined (owed_plain no_wait ok.Declare) t
-method_joins true (method.ConfirmSelect no_wait) life o es number count image joined t =
-    plain_joins o (owed_unless no_wait (event.Owed ok.Select) ++ event.Selected ∷ []) es number count image joined
-    (both_plain _ _ (owed_plain no_wait ok.Select) (refl, tt)) t
+    calls (method.ExchangeDeclare name kind passive durable deletes internal no_wait arguments) o es number count image joined t
+method_joins true (method.ConfirmSelect no_wait) life o es number count image joined t = calls (method.ConfirmSelect no_wait) o es number count image joined t
+method_joins true (method.BasicConsume queue tag no_local no_ack exclusive no_wait arguments) life o es number count image joined t =
+    calls (method.BasicConsume queue tag no_local no_ack exclusive no_wait arguments) o es number count image joined t
+method_joins true (method.BasicAck tag multiple) life o es number count image joined t = calls (method.BasicAck tag multiple) o es number count image joined t
+method_joins true (method.BasicReject tag requeue) life o es number count image joined t = calls (method.BasicReject tag requeue) o es number count image joined t
+method_joins true (method.BasicNack tag multiple requeue) life o es number count image joined t = calls (method.BasicNack tag multiple requeue) o es number count image joined t
+method_joins true (method.ChannelClose code text class id) life o es number count image joined t = calls (method.ChannelClose code text class id) o es number count image joined t
 method_joins true m life o es number count image joined t = t
 
 want_joins : (rs : List Route) (limit n life : ℕ) (x : Want91) (o : Option ℕ) (es : List PathEvent) (number count : ℕ) (image joined : List ℕ) → Joins o es number count image joined
@@ -268,9 +363,9 @@ want_joins rs limit n life (want.Publish k m c) o es number count image joined t
     by true = taken_joins o es number count image joined (address_of rs (message_of m c)) text back t
     by false = t
 want_joins rs limit n life (want.ChannelCloseOk k) o es number count image joined t = t
-want_joins rs limit n life want.Close o es number count image joined t = t
+want_joins rs limit n life want.Close o es number count image joined t = plain_joins o (event.LifeClosed ∷ []) es number count image joined (refl, tt) t
 want_joins rs limit n life want.CloseOk o es number count image joined t = t
-want_joins rs limit n life (want.Refuse r) o es number count image joined t = t
+want_joins rs limit n life (want.Refuse r) o es number count image joined t = plain_joins o (refusal_events n r) es number count image joined (refusal_plain n r) t
 
 -- ---- a frame
 
@@ -350,19 +445,27 @@ up_joins publishes rests h n number (up.OnSession k (unit.Attach a)) text m join
     plain_joins (path_life h n) _ (path_events h n) number _ _ _ (if_plain (k == n) (event.AttachSent a.name ∷ []) [] (refl, tt) tt) joins
 up_joins publishes rests h n number (up.OnSession k (unit.Flow f)) text m joins =
     plain_joins (path_life h n) _ (path_events h n) number _ _ _ (if_plain (k == n) (event.LinkFlowSent ∷ []) [] (refl, tt) tt) joins
+up_joins publishes rests h n number (up.OnSession k (unit.Dispose x)) text m joins =
+    plain_joins (path_life h n) _ (path_events h n) number _ _ _ (if_plain (k == n) (event.DisposeSent ∷ []) [] (refl, tt) tt) joins
 up_joins publishes rests h n number (up.OnSession k (unit.Settle x)) text m joins =
     plain_joins (path_life h n) _ (path_events h n) number _ _ _ (if_plain (k == n) (event.SettleSent x ∷ []) [] (refl, tt) tt) joins
-up_joins publishes rests h n number (up.OnSession k (unit.Detach l handle)) text m joins =
+up_joins publishes rests h n number (up.OnSession k (unit.Detach l handle why)) text m joins =
     plain_joins (path_life h n) _ (path_events h n) number _ _ _ (if_plain (k == n) (event.DetachSent ∷ []) [] (refl, tt) tt) joins
 up_joins publishes rests h n number (up.End k why) text m joins =
     plain_joins (path_life h n) _ (path_events h n) number _ _ _ (if_plain (k == n) losing (event.LinesWent ∷ []) (refl, (refl, tt)) (refl, tt)) joins
 up_joins publishes rests h n number u text m joins = joins
 
+told_joins : (h : List Step) (n number k : ℕ) (u : ChannelUnit) → is_return u ≡ false → JoinsIn h n number
+    → Joins (path_life h n) (reply_events n (reply.OnChannel k u) ++ path_events h n) number (publishes_in n h) (image_in n number h) (joined_in n number h)
+told_joins h n number k u e t = plain_joins (path_life h n) _ (path_events h n) number _ _ _ (if_plain (k == n) (told_event u ∷ []) [] (told_plain u e, tt) tt) t
+
 -- a unit to the client; a frame of a return changes nothing of this
 reply_joins : (h : List Step) (n number : ℕ) (u : Reply) → JoinsIn h n number
     → Joins (path_life h n) (reply_events n u ++ path_events h n) number (publishes_in n h) (image_in n number h) (joined_in n number h)
-reply_joins h n number (reply.OnChannel k (to_client.Ok x)) t = plain_joins (path_life h n) _ (path_events h n) number _ _ _ (if_plain (k == n) (event.OkSent x ∷ []) [] (refl, tt) tt) t
-reply_joins h n number (reply.OnChannel k (to_client.Confirm c)) t = plain_joins (path_life h n) _ (path_events h n) number _ _ _ (if_plain (k == n) (event.ConfirmWent c ∷ []) [] (refl, tt) tt) t
+reply_joins h n number (reply.OnChannel k (to_client.Ok x)) t = told_joins h n number k (to_client.Ok x) refl t
+reply_joins h n number (reply.OnChannel k (to_client.Deliver d)) t = told_joins h n number k (to_client.Deliver d) refl t
+reply_joins h n number (reply.OnChannel k (to_client.Content c)) t = told_joins h n number k (to_client.Content c) refl t
+reply_joins h n number (reply.OnChannel k (to_client.Confirm c)) t = told_joins h n number k (to_client.Confirm c) refl t
 reply_joins h n number (reply.OnChannel k (to_client.Return r)) t = by (path_life h n) (k == n) t
   where
     by : (o : Option ℕ) (b : Bool) → Joins o (path_events h n) number (publishes_in n h) (image_in n number h) (joined_in n number h)
@@ -378,10 +481,10 @@ came_joins : (h : List Step) (n number : ℕ) (u : Unit91) → JoinsIn h n numbe
 came_joins h n number u t = by (ran_out_in h)
   where
     x : Want91
-    x = want_in (routes_in h) (connection h) u
+    x = want_in (routes_in h) (paths_in h) (connection h) u
 
     limit : ℕ
-    limit = (conn_step (routes_in h) (connection h) u).limits.frame_max
+    limit = (conn_step (routes_in h) (paths_in h) (connection h) u).limits.frame_max
 
     by : (b : Bool) → JoinsBy (not b && is_method_on is_channel_open n x) ((peers h).opened + 1) (if b then [] else want_events (routes_in h) limit n x) (if b then None else text_wanted n x)
         (path_life h n) (path_events h n) number (publishes_in n h) (image_in n number h) (joined_in n number h)
@@ -389,7 +492,7 @@ came_joins h n number u t = by (ran_out_in h)
     by false = want_joins (routes_in h) limit n ((peers h).opened + 1) x (path_life h n) (path_events h n) number _ _ _ t
 
 pub heard_plain_in : (h : List Step) (n : ℕ) (u : Unit10) → ArePlain (step_events n h (Heard u))
-heard_plain_in h n u = if_plain (ran_out_in h) _ _ tt (meaning_plain (connection h) (paths_in h) n (meaning_by (container h) u))
+heard_plain_in h n u = if_plain (ran_out_in h) _ _ tt (meaning_plain (peers h) n (meaning_by (container h) u))
 
 quietly : (h : List Step) (n number : ℕ) (xs : List PathEvent) → ArePlain xs → JoinsIn h n number
     → Joins (path_life h n) (xs ++ path_events h n) number (publishes_in n h) (image_in n number h) (joined_in n number h)
@@ -401,22 +504,23 @@ joins a b c n number (Began site i ms ∷ h) p = joins a b c n number h p.1
 joins a b c n number (Moment ms ∷ h) p = quietly h n number (event.LinesWent ∷ []) (refl, tt) (joins a b c n number h p.1)
 joins a b c n number (Fed Client ∷ h) p = joins a b c n number h p.1
 joins a b c n number (Fed Up ∷ h) p = quietly h n number (event.LinesWent ∷ []) (refl, tt) (joins a b c n number h p.1)
-joins a b c n number (Silent Client ∷ h) p = joins a b c n number h p.1
+joins a b c n number (Silent Client ∷ h) p = quietly h n number (event.LifeClosed ∷ []) (refl, tt) (joins a b c n number h p.1)
 joins a b c n number (Silent Up ∷ h) p = quietly h n number _ (lost_plain _) (joins a b c n number h p.1)
 joins a b c n number (Queued u ∷ h) p = joins a b c n number h p.1
 joins a b c n number (Came u ∷ h) p = came_joins h n number u (joins a b c n number h p.1)
-joins a b c n number (TakenUp ∷ h) p = joins a b c n number h p.1
+joins a b c n number (TakenUp ∷ h) p = quietly h n number _ (closed_plain _) (joins a b c n number h p.1)
 joins a b c n number (Heard u ∷ h) p = quietly h n number _ (heard_plain_in h n u) (joins a b c n number h p.1)
 joins a b c n number (Joined link.Ok ∷ h) p = quietly h n number (event.LinesWent ∷ []) (refl, tt) (joins a b c n number h p.1)
 joins a b c n number (Joined link.Failed ∷ h) p = quietly h n number _ (both_plain _ (event.LinesWent ∷ []) (lost_plain _) (refl, tt)) (joins a b c n number h p.1)
 joins a b c n number (Lost Client how ∷ h) p = joins a b c n number h p.1
 joins a b c n number (Lost Up loss.Ended ∷ h) p = quietly h n number _ (fallen_plain _) (joins a b c n number h p.1)
 joins a b c n number (Lost Up loss.Failed ∷ h) p = quietly h n number _ (fallen_plain _) (joins a b c n number h p.1)
-joins a b c n number (Lost Up loss.Shut ∷ h) p = quietly h n number losing (refl, (refl, tt)) (joins a b c n number h p.1)
+joins a b c n number (Lost Up loss.Shut ∷ h) p = quietly h n number losing_up (refl, (refl, tt)) (joins a b c n number h p.1)
 joins a b c n number (Gave (ToClient u) text ∷ h) p = reply_joins h n number u (joins a b c n number h p.1)
 joins a b c n number (Gave (ToUp u) text ∷ h) p = up_joins a c h n number u text (carry_is a b c h u text p.1 p.0.1 p.0.2) (joins a b c n number h p.1)
-joins a b c n number (Whole end ∷ h) p = joins a b c n number h p.1
-joins a b c n number (OutOfMemory ∷ h) p = joins a b c n number h p.1
+joins a b c n number (Whole Client ∷ h) p = quietly h n number _ (whole_plain n (going_in h)) (joins a b c n number h p.1)
+joins a b c n number (Whole Up ∷ h) p = joins a b c n number h p.1
+joins a b c n number (OutOfMemory ∷ h) p = quietly h n number (event.LifeClosed ∷ []) (refl, tt) (joins a b c n number h p.1)
 
 -- ---- whole payloads
 

@@ -25,15 +25,15 @@ use Rattle.gate_model.specs.Folds.{routes_in}
 use Rattle.gate_model.specs.Folds.{carrying, closed_in, connection, container, moment_in}
 use Rattle.gate_model.specs.Folds.{ran_out_in}
 use Rattle.performatives_10.specs.declared.condition.Condition.TheVariants.{ResourceLimitExceeded}
-use Rattle.session_path.specs.Path.{PathState}
 use Rattle.gate_model.specs.Paths.{path_at}
-use Rattle.gate_model.specs.Folds.{closes_connection, paths_in, sent_up, sent_up_at, side_in}
+use Rattle.gate_model.specs.Folds.{Peers, closes_connection, paths_in, peers, scope_in, sent_up}
+use Rattle.gate_model.specs.Folds.{sent_up_at, side_in}
 use Rattle.gate_model.specs.Lives.{is_begun, is_carried, is_ended, is_free, session_in}
 use Rattle.gate_model.specs.Session.{is_flow_owed}
 use Rattle.gate_model.specs.State.{Came, Gave, Heard, Joined, OutOfMemory, Silent, State, Step}
 use Rattle.gate_model.specs.State.{want_in}
 use Rattle.gate_model.specs.State.{Whole}
-use Rattle.gate_model.specs.State.{before, condition_by, closing_error, link_scope}
+use Rattle.gate_model.specs.State.{before, condition_by, closing_error}
 use Rattle.gate_model.specs.Upstream.{idle_in, is_bad_stream, is_closed_stream, meaning_by}
 use Rattle.gate_model.specs.Upstream.{nothing_due, opening_rows, opens_by, stream_in}
 
@@ -119,22 +119,22 @@ is_up_close (up.Begin n) = false
 is_up_close (up.End n why) = false
 
 -- a unit of the container that is out of order has its condition, and no other has one
-abbrev pub condition_told : List (Option PathState) → Meaning → Option Condition
-condition_told ps ten.Nothing = None
-condition_told ps ten.Init = None
-condition_told ps ten.AmqpHeader = None
-condition_told ps ten.Opened = None
-condition_told ps (ten.OfSession g p payload) =
-    if closes_connection (link_scope p (path_at ps g))
-    then Some (closing_error p (path_at ps g)) else None
-condition_told ps (ten.Closed e) = None
-condition_told ps ten.Refused = None
-condition_told ps (ten.Violation why) = Some why
+abbrev pub condition_told : Peers → Meaning → Option Condition
+condition_told p ten.Nothing = None
+condition_told p ten.Init = None
+condition_told p ten.AmqpHeader = None
+condition_told p ten.Opened = None
+condition_told p (ten.OfSession g q payload) =
+    if closes_connection (scope_in p g q payload)
+    then Some (closing_error q (path_at p.paths g)) else None
+condition_told p (ten.Closed e) = None
+condition_told p ten.Refused = None
+condition_told p (ten.Violation why) = Some why
 
 -- what a step says of the error of the gateway's close, if it is the closing event
 abbrev pub condition_at : Step → List Step → Option Condition
-condition_at (Came u) h = condition_by (want_in (routes_in h) (connection h) u)
-condition_at (Heard u) h = condition_told (paths_in h) (meaning_by (container h) u)
+condition_at (Came u) h = condition_by (want_in (routes_in h) (paths_in h) (connection h) u)
+condition_at (Heard u) h = condition_told (peers h) (meaning_by (container h) u)
 condition_at (Silent Up) h = Some ResourceLimitExceeded
 condition_at OutOfMemory h = Some (condition_of RESOURCE_ERROR)
 condition_at s h = None

@@ -32,20 +32,31 @@ use Rattle.gate_model.specs.declared.outgoing.UpUnit.{UpUnit}
 use Rattle.gate_model.specs.declared.outgoing.UpUnit.TheVariants as up
 use Rattle.std.specs.Prelude.{min}
 use Rattle.machine_10.specs.declared.limits.TheConstants.{FRAME_MAX}
-use Rattle.publish_path.specs.Links.{address_of}
+use Rattle.consume_path.specs.Offers.{content_of}
+use Rattle.consume_path.specs.declared.delivery.Content.{Content}
+use Rattle.methods_091.specs.Writing.{method_text}
+use Rattle.methods_091.specs.declared.method.Method91.{Method91}
+use Rattle.methods_091.specs.declared.method.Method91.TheVariants.{BasicDeliver}
 use Rattle.publish_path.specs.declared.publish.Confirm.{Confirm}
 use Rattle.publish_path.specs.declared.publish.NextReturn.{NextReturn}
 use Rattle.session_path.specs.Due.{next_attach, next_confirm, next_detach, next_flow}
-use Rattle.session_path.specs.Due.{next_frame, next_ok, next_return, next_settle, return_frame}
+use Rattle.session_path.specs.Due.{address_at, content_frame, next_content, next_deliver}
+use Rattle.session_path.specs.Due.{next_dispose, next_frame, next_ok, next_return, next_settle}
+use Rattle.session_path.specs.Due.{return_frame, tag_of}
 use Rattle.session_path.specs.Due as path_due
-use Rattle.session_path.specs.Links.{handle_of}
+use Rattle.session_path.specs.Links.{error_of, handle_of}
+use Rattle.session_path.specs.declared.path.ContentDue.{ContentDue}
+use Rattle.session_path.specs.declared.path.DeliverDue.{DeliverDue}
+use Rattle.session_path.specs.declared.path.PathLink.{PathLink}
+use Rattle.session_path.specs.declared.path.PathOk.TheVariants as ok
 use Rattle.session_path.specs.Path.{PathState}
 use Rattle.session_path.specs.declared.path.PathOk.{PathOk}
 use Rattle.gate_model.specs.declared.channel.ChannelUnit.{ChannelUnit}
 use Rattle.gate_model.specs.declared.channel.ChannelUnit.TheVariants as unit
 use Rattle.gate_model.specs.declared.channel.SessionUnit.{SessionUnit}
 use Rattle.gate_model.specs.declared.channel.SessionUnit.TheVariants as session_unit
-use Rattle.gate_model.specs.Paths.{attach_out, flow_out, is_laden, part_of, path_at, transfer_of}
+use Rattle.gate_model.specs.Paths.{attach_out, error_for, flow_out, is_laden, part_of, path_at}
+use Rattle.gate_model.specs.Paths.{transfer_of}
 use Rattle.gate_model.specs.Lives.{any_life, each, is_begun, is_carried, is_ended, is_free, life_at}
 use Rattle.gate_model.specs.Lives.{session_in}
 use Rattle.gate_model.specs.Session.{is_flow_owed}
@@ -106,15 +117,56 @@ open_oks w = each (λ n l. when l.open_ok (reply.ChannelOpenOk n)) 0 w.lives
 
 -- ---- answers on open channels, and confirms
 
+-- a basic.consume-ok goes behind the answers of all channels to requests that need nothing of the
+-- container
+abbrev pub is_consume_ok : PathOk → Bool
+is_consume_ok ok.Flow = false
+is_consume_ok ok.Declare = false
+is_consume_ok ok.Select = false
+is_consume_ok (ok.Consume link) = true
+
 abbrev pub ok_on : ℕ → Option PathOk → List Reply
 ok_on n None = []
-ok_on n (Some x) = reply.OnChannel n (unit.Ok x) ∷ []
+ok_on n (Some x) = when (not (is_consume_ok x)) (reply.OnChannel n (unit.Ok x))
+
+abbrev pub consume_ok_on : ℕ → Option PathOk → List Reply
+consume_ok_on n None = []
+consume_ok_on n (Some x) = when (is_consume_ok x) (reply.OnChannel n (unit.Ok x))
 
 abbrev pub oks_on : List (Option PathState) → ℕ → Life → List Reply
 oks_on ps n l = if l.over then [] else ok_on n (next_ok (path_at ps n))
 
+abbrev pub consume_oks_on : List (Option PathState) → ℕ → Life → List Reply
+consume_oks_on ps n l = if l.over then [] else consume_ok_on n (next_ok (path_at ps n))
+
 abbrev pub path_oks : State → List Reply
 path_oks w = each (oks_on w.paths) 0 w.lives
+
+abbrev pub consume_oks : State → List Reply
+consume_oks w = each (consume_oks_on w.paths) 0 w.lives
+
+-- delivers on open channels
+
+abbrev pub deliver_on : ℕ → Option DeliverDue → List Reply
+deliver_on n None = []
+deliver_on n (Some d) = reply.OnChannel n (unit.Deliver d) ∷ []
+
+abbrev pub delivers_on : List (Option PathState) → ℕ → Life → List Reply
+delivers_on ps n l = if l.over then [] else deliver_on n (next_deliver (path_at ps n))
+
+abbrev pub delivers : State → List Reply
+delivers w = each (delivers_on w.paths) 0 w.lives
+
+-- the frames of a content that is begun, before all else, while its channel is open
+abbrev pub writing_on : ℕ → Option ContentDue → List Reply
+writing_on n None = []
+writing_on n (Some c) = reply.OnChannel n (unit.Content c) ∷ []
+
+abbrev pub writings_on : List (Option PathState) → ℕ → Life → List Reply
+writings_on ps n l = if l.over then [] else writing_on n (next_content (path_at ps n))
+
+abbrev pub writings : State → List Reply
+writings w = each (writings_on w.paths) 0 w.lives
 
 -- a confirm goes while the channel is open, or where the container was the cause of its closing
 -- event
@@ -196,16 +248,21 @@ abbrev pub if_so : Bool → List Reply → List Reply
 if_so true us = us
 if_so false us = []
 
+-- what goes on open channels
+abbrev pub answers : State → List Reply
+answers w = open_oks w ++ (path_oks w ++ (consume_oks w ++ delivers w))
+
 -- the units that are due to a client, but for a heartbeat: each row by rising numbers of channels,
 -- of which the connection is 0
 abbrev pub client_units : State → List Reply
 client_units w =
     let p = may_go (is_settled w) w.pending in
     if_so (may_return w) (contents w)
-    ++ (openings p ++ (if_so (may_answer w) (open_oks w ++ path_oks w)
+    ++ (if_so (may_answer w) (writings w)
+    ++ (openings p ++ (if_so (may_answer w) (answers w)
     ++ (if_so (may_answer w || w.by_peer) (confirms w)
     ++ (close_oks p ++ (if_so (may_end w) (channel_oks w)
-    ++ (last_closes p ++ if_so (may_tell w) (channel_closes w)))))))
+    ++ (last_closes p ++ if_so (may_tell w) (channel_closes w))))))))
 
 abbrev pub client_rows : State → List Reply
 client_rows w = client_units w ++ when (is_beat_due w) reply.Heartbeat
@@ -250,12 +307,18 @@ transfer_row c ps n l =
     row_on c n (next_frame l.session.windows.window (path_at ps n))
     (λ f. session_unit.Transfer (transfer_of (frame_max_in c) (path_at ps n) f))
 
+abbrev pub dispose_row : Option Upstream → List (Option PathState) → ℕ → Life → List UpUnit
+dispose_row c ps n l = row_on c n (next_dispose (path_at ps n)) (λ x. session_unit.Dispose x)
+
 abbrev pub settle_row : Option Upstream → List (Option PathState) → ℕ → Life → List UpUnit
 settle_row c ps n l = row_on c n (next_settle (path_at ps n)) (λ x. session_unit.Settle x)
 
+abbrev pub detach_out : PathLink → SessionUnit
+detach_out l = session_unit.Detach l.link (handle_of l.stage) (error_for (error_of l.stage))
+
 abbrev pub detach_row : Option Upstream → List (Option PathState) → ℕ → Life → List UpUnit
 detach_row c ps n l =
-    row_on c n (next_detach (path_at ps n)) (λ x. session_unit.Detach x.link (handle_of x.stage))
+    row_on c n (next_detach (path_at ps n)) (λ x. detach_out x)
 
 abbrev pub attaches : State → List UpUnit
 attaches w = each (attach_row w.up.container w.paths w.attached) 0 w.lives
@@ -265,6 +328,9 @@ link_flows w = each (link_flow_row w.up.container w.paths) 0 w.lives
 
 abbrev pub transfers : State → List UpUnit
 transfers w = each (transfer_row w.up.container w.paths) 0 w.lives
+
+abbrev pub disposals : State → List UpUnit
+disposals w = each (dispose_row w.up.container w.paths) 0 w.lives
 
 abbrev pub settlings : State → List UpUnit
 settlings w = each (settle_row w.up.container w.paths) 0 w.lives
@@ -312,7 +378,8 @@ abbrev pub carried_rows : State → List UpUnit
 carried_rows w = attaches w ++ (link_flows w ++ (session_flows w ++ transfers w))
 
 abbrev pub session_rows : State → List UpUnit
-session_rows w = unless_out w.out_of_memory (carried_rows w) ++ (settlings w ++ detaches w)
+session_rows w =
+    unless_out w.out_of_memory (carried_rows w) ++ (disposals w ++ (settlings w ++ detaches w))
 
 abbrev pub rows_in : Bool → State → List UpUnit
 rows_in true w =
@@ -338,8 +405,9 @@ abbrev pub takes_memory_on : SessionUnit → Bool
 takes_memory_on (session_unit.Attach a) = true
 takes_memory_on (session_unit.Flow f) = true
 takes_memory_on (session_unit.Transfer t) = true
+takes_memory_on (session_unit.Dispose x) = false
 takes_memory_on (session_unit.Settle x) = false
-takes_memory_on (session_unit.Detach link handle) = false
+takes_memory_on (session_unit.Detach link handle why) = false
 
 abbrev pub takes_memory_up : UpUnit → Bool
 takes_memory_up up.SaslHeader = false
@@ -354,7 +422,9 @@ takes_memory_up (up.Begin n) = true
 takes_memory_up (up.End n why) = false
 
 abbrev pub takes_memory_told : ChannelUnit → Bool
-takes_memory_told (unit.Ok x) = false
+takes_memory_told (unit.Ok x) = is_consume_ok x
+takes_memory_told (unit.Deliver d) = true
+takes_memory_told (unit.Content c) = true
 takes_memory_told (unit.Confirm c) = false
 takes_memory_told (unit.Return r) = true
 
@@ -378,14 +448,16 @@ takes_memory None = false
 takes_memory (Some (ToClient u)) = takes_memory_back u
 takes_memory (Some (ToUp u)) = takes_memory_up u
 
--- what a unit carries of the client's: the address of an attach, the part of a payload, and a frame
--- of a return
+-- what a unit carries: the address of an attach, the part of a payload, a frame of a return or of a
+-- content, the method of a deliver, and a consumer tag
 abbrev pub carries_of : PathState → SessionUnit → List ℕ
-carries_of s (session_unit.Attach a) = address_of s.links.sending a.link
+carries_of s (session_unit.Attach a) =
+    address_at (record { link = a.link; handle = a.handle; receives = a.receives }) s
 carries_of s (session_unit.Flow f) = []
 carries_of s (session_unit.Transfer t) = part_of s t
+carries_of s (session_unit.Dispose x) = []
 carries_of s (session_unit.Settle x) = []
-carries_of s (session_unit.Detach link handle) = []
+carries_of s (session_unit.Detach link handle why) = []
 
 abbrev pub carries_up : State → UpUnit → List ℕ
 carries_up w (up.OnSession n u) = carries_of (path_at w.paths n) u
@@ -395,8 +467,25 @@ abbrev pub or_no_bytes : Option (List ℕ) → List ℕ
 or_no_bytes None = []
 or_no_bytes (Some text) = text
 
+abbrev pub carries_ok : PathState → PathOk → List ℕ
+carries_ok s ok.Flow = []
+carries_ok s ok.Declare = []
+carries_ok s ok.Select = []
+carries_ok s (ok.Consume link) = tag_of link s
+
+-- the method of a deliver: the tag of its consumer, its delivery tag, whether it was delivered
+-- before, and where its message was published (AMQP 0-9-1 1.8.3.9)
+abbrev pub deliver_as : List ℕ → DeliverDue → Option Content → Method91
+deliver_as tag d None = BasicDeliver tag d.tag d.next.again [] []
+deliver_as tag d (Some c) = BasicDeliver tag d.tag d.next.again c.exchange c.key
+
+abbrev pub deliver_method : PathState → DeliverDue → Method91
+deliver_method s d = deliver_as (tag_of d.next.link s) d (content_of d.next.id s.deliveries.list)
+
 abbrev pub carries_told : PathState → ChannelUnit → List ℕ
-carries_told s (unit.Ok x) = []
+carries_told s (unit.Ok x) = carries_ok s x
+carries_told s (unit.Deliver d) = method_text (deliver_method s d)
+carries_told s (unit.Content c) = or_no_bytes (content_frame s)
 carries_told s (unit.Confirm c) = []
 carries_told s (unit.Return r) = or_no_bytes (return_frame r.publish s)
 

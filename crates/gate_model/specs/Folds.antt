@@ -15,7 +15,8 @@ use Rattle.close_translate.specs.declared.codes.TheConstants.{NOT_ALLOWED}
 use Rattle.close_translate.specs.declared.conditions.Scope.{Scope}
 use Rattle.close_translate.specs.declared.conditions.Scope.TheVariants as scope
 use Rattle.session_path.specs.Path.{PathState}
-use Rattle.gate_model.specs.Paths.{lost_path, no_paths, path_at, told_paths, with_path}
+use Rattle.gate_model.specs.Paths.{closed_path, closed_paths, lost_path, no_paths, path_at}
+use Rattle.gate_model.specs.Paths.{told_paths, with_path}
 use Rattle.machine_091.specs.Calls.{after_closing, after_ended, after_opened}
 use Rattle.machine_091.specs.State.{new_connection, is_closing, is_open, is_opening}
 use Rattle.machine_091.specs.declared.state.Connection.{Connection}
@@ -35,8 +36,8 @@ use Rattle.gate_model.specs.declared.reply.Reply.TheVariants as reply
 use Rattle.gate_model.specs.State.{Began, Came, Fed, Gave, Heard, Joined, Lost, Moment, Queued}
 use Rattle.gate_model.specs.State.{Silent, Step, TakenUp, want_in}
 use Rattle.gate_model.specs.State.{Whole, OutOfMemory, close, close_if, closes_at, conn_step}
-use Rattle.gate_model.specs.State.{conn_given, failure, is_limit_reached, link_scope, lives_opened}
-use Rattle.gate_model.specs.State.{path_heard, paths_lost}
+use Rattle.gate_model.specs.State.{closing_code, conn_given, failure, is_limit_reached, link_scope}
+use Rattle.gate_model.specs.State.{lives_opened, path_heard, paths_lost, paths_wrote}
 use Rattle.gate_model.specs.Setup.{SiteText}
 use Rattle.gate_model.specs.declared.setup.Route.{Route}
 use Rattle.gate_model.specs.State.{paths_by, paths_given, paths_given_up, session_by, turns_foreign}
@@ -128,16 +129,18 @@ silent_in [] = false
 silent_in (Silent Up ∷ h) = true
 silent_in (s ∷ h) = silent_in h
 
--- the exchanges that the client may publish to; both connections and the paths of the channels: of
--- the client, by its units, by the handshake limit, by its end and by what happens upstream; of the
--- container, by the client's login and the container's units; and how many channels were opened.
--- After the pair ran out of memory no unit counts
+-- the exchanges that the client may publish to; both connections, the paths of the channels and
+-- their sessions: of the client, by its units, by the handshake limit, by its end and by what
+-- happens upstream; of the container, by the client's login and the container's units; and how many
+-- channels were opened. After the pair ran out of memory no unit counts
 pub record Peers : Type 0 where
   pub routes : List Route
   pub client : Connection
   pub container : Option Upstream
   pub paths : List (Option PathState)
   pub opened : ℕ
+  -- the session that carries each channel
+  pub carried : ℕ → SessionState
 
 -- the client's connection closes by the container's doing: the paths are lost then
 abbrev pub paths_failed : Bool → List (Option PathState) → List (Option PathState)
@@ -149,27 +152,44 @@ peers_failed p =
     record p { client = close p.client; paths = paths_failed (is_closing p.client) p.paths }
 
 -- a channel does, if it is open
-abbrev pub ended_on : Bool → ℕ → Peers → Peers
-ended_on true n p = record p {
+abbrev pub ended_on : Bool → ℕ → (PathState → PathState) → Peers → Peers
+ended_on true n f p = record p {
   client = after_closing scope.Channel n p.client;
-  paths = with_path n lost_path p.paths;
+  paths = with_path n f p.paths;
 }
-ended_on false n p = p
+ended_on false n f p = p
 
-abbrev pub peers_ended : ℕ → Peers → Peers
-peers_ended n p = ended_on (is_open p.client n) n p
+abbrev pub peers_ended : ℕ → (PathState → PathState) → Peers → Peers
+peers_ended n f p = ended_on (is_open p.client n) n f p
 
--- after a unit of a session: an end closes the channel, and what is wrong what it says
-abbrev pub peers_met : ℕ → Parts → Peers → Peers
-peers_met n q p = if q.0 == 17 then p else if q.0 == 23 then peers_ended n p else p
+-- after a unit of a session: what closes the channel, and what is wrong what it says
+abbrev pub peers_closed : ℕ → Option ℕ → Peers → Peers
+peers_closed n None p = p
+peers_closed n (Some code) p = peers_ended n closed_path p
 
-abbrev pub peers_scoped : Option Scope → ℕ → Parts → Peers → Peers
-peers_scoped None n q p = peers_met n q (record p { paths = with_path n (path_heard q) p.paths })
-peers_scoped (Some scope.Connection) n q p = peers_failed p
-peers_scoped (Some scope.Channel) n q p = peers_ended n p
+abbrev pub peers_met : ℕ → Parts → Option ℕ → Peers → Peers
+peers_met n q code p = if q.0 == 17 then p else peers_closed n code p
 
-abbrev pub peers_session : ℕ → Parts → Peers → Peers
-peers_session n q p = peers_scoped (link_scope q (path_at p.paths n)) n q p
+abbrev pub peers_scoped : Option Scope → ℕ → Parts → List ℕ → Peers → Peers
+peers_scoped None n q payload p =
+    peers_met n q (closing_code q payload (path_at p.paths n)) (record p {
+      paths = with_path n (path_heard p.client.limits.frame_max n q payload) p.paths;
+    })
+peers_scoped (Some scope.Connection) n q payload p = peers_failed p
+peers_scoped (Some scope.Channel) n q payload p = peers_ended n lost_path p
+
+-- the sessions after a performative, by the container's begin, flows and transfers (AMQP 1.0 2.7)
+abbrev pub carried_on : ℕ → Parts → (ℕ → SessionState) → ℕ → SessionState
+carried_on g q f n = if g == n then carried_by q (f n) else f n
+
+-- what a performative of channel n closes that is wrong
+abbrev pub scope_in : Peers → ℕ → Parts → List ℕ → Option Scope
+scope_in p n q payload = link_scope q payload (p.carried n) (path_at p.paths n)
+
+abbrev pub peers_session : ℕ → Parts → List ℕ → Peers → Peers
+peers_session n q payload p =
+    peers_scoped (scope_in p n q payload) n q payload
+    (record p { carried = carried_on n q p.carried })
 
 -- the client's connection after that: the container's open makes it run, and its close, a refused
 -- login and a unit out of order close it
@@ -181,7 +201,7 @@ peers_by ten.Nothing p = p
 peers_by ten.Init p = p
 peers_by ten.AmqpHeader p = p
 peers_by ten.Opened p = record p { client = opened_by p.container p.client }
-peers_by (ten.OfSession g q payload) p = peers_session g q p
+peers_by (ten.OfSession g q payload) p = peers_session g q payload p
 peers_by (ten.Closed e) p = peers_failed p
 peers_by ten.Refused p = peers_failed p
 peers_by (ten.Violation why) p = peers_failed p
@@ -201,8 +221,8 @@ container_kept o (want.Refuse r) = o
 
 abbrev pub peers_came : Peers → Unit91 → Peers
 peers_came p u =
-    let c = conn_step p.routes p.client u in
-    let x = want_in p.routes p.client u in
+    let c = conn_step p.routes p.paths p.client u in
+    let x = want_in p.routes p.paths p.client u in
     record p {
       client = c;
       container = container_kept p.container x;
@@ -227,7 +247,26 @@ new_peers site = record {
   container = None;
   paths = no_paths;
   opened = 0;
+  carried = λ n. no_session;
 }
+
+-- the client's end was taken up as its close
+abbrev pub peers_left : Peers → Peers
+peers_left p =
+    record p { client = after_ended p.client; paths = closed_paths p.paths }
+
+-- the sessions after a unit of the gateway: its flows and transfers
+abbrev pub carried_sent : UpUnit → (ℕ → SessionState) → ℕ → SessionState
+carried_sent (up.Flow m i o) f n = if m == n then flow_sent (f n) else f n
+carried_sent (up.OnSession m u) f n = if m == n then session_by u (f n) else f n
+carried_sent u f n = f n
+
+-- the unit to the client that is between its first byte and its last
+abbrev pub going_in : List Step → Option Reply
+going_in [] = None
+going_in (Gave (ToClient u) text ∷ h) = Some u
+going_in (Whole Client ∷ h) = None
+going_in (s ∷ h) = going_in h
 
 -- what the report was owed of the paths was reported
 abbrev pub peers_told : Peers → Peers
@@ -235,20 +274,18 @@ peers_told p = record p { paths = told_paths p.paths }
 
 abbrev pub peers : List Step → Peers
 peers [] = new_peers (record { vhost = []; routes = [] })
-peers (Began site n ms ∷ h) = new_peers site
+peers (Began site n ms ∷ h) = record (new_peers site) { carried = (peers h).carried }
 peers (Moment ms ∷ h) = record (peers_told (peers h)) {
   client = close_if (is_limit_reached (peers h).client (accepted_in h) ms) (peers h).client;
 }
 peers (Fed Client ∷ h) = peers h
 peers (Fed Up ∷ h) = peers_told (peers h)
-peers (Silent Client ∷ h) = record (peers h) { client = after_ended (peers h).client }
+peers (Silent Client ∷ h) = peers_left (peers h)
 peers (Silent Up ∷ h) = peers_failed (peers h)
 peers (Queued u ∷ h) = peers h
 peers (Came u ∷ h) = if ran_out_in h then peers h else peers_came (peers h) u
 peers (TakenUp ∷ h) =
-    if not (ran_out_in h) && leaving_in h then
-    record (peers h) { client = after_ended (peers h).client }
-    else peers h
+    if not (ran_out_in h) && leaving_in h then peers_left (peers h) else peers h
 peers (Heard u ∷ h) = if ran_out_in h then peers h else peers_heard (peers h) u
 peers (Joined link.Ok ∷ h) = peers_told (peers h)
 peers (Joined link.Failed ∷ h) = peers_failed (peers_told (peers h))
@@ -263,9 +300,15 @@ peers (Gave (ToClient u) text ∷ h) = record (peers h) {
 peers (Gave (ToUp u) text ∷ h) = record (peers h) {
   container = container_given u (peers h).container;
   paths = paths_given_up u (peers h).paths;
+  carried = carried_sent u (peers h).carried;
 }
-peers (Whole end ∷ h) = peers h
-peers (OutOfMemory ∷ h) = record (peers h) { client = close (peers h).client }
+peers (Whole Client ∷ h) =
+    record (peers h) { paths = paths_wrote (going_in h) (peers h).paths }
+peers (Whole Up ∷ h) = peers h
+peers (OutOfMemory ∷ h) = record (peers h) {
+  client = close (peers h).client;
+  paths = closed_paths (peers h).paths;
+}
 
 -- the paths of the channels
 abbrev pub paths_in : List Step → List (Option PathState)
@@ -285,32 +328,9 @@ abbrev pub closed_in : List Step → Option ℕ
 closed_in [] = None
 closed_in (s ∷ h) = closes_at (closed_in h) (is_closing (connection (s ∷ h))) (moment_in (s ∷ h))
 
--- ---- sessions
-
--- the session of a channel, by the container's begin, flows and transfers, and by the gateway's
--- flows (AMQP 1.0 2.7); it stays until the next begin
-abbrev pub carried_heard : ℕ → Meaning → SessionState → SessionState
-carried_heard n ten.Nothing s = s
-carried_heard n ten.Init s = s
-carried_heard n ten.AmqpHeader s = s
-carried_heard n ten.Opened s = s
-carried_heard n (ten.OfSession g p payload) s = if g == n then carried_by p s else s
-carried_heard n (ten.Closed e) s = s
-carried_heard n ten.Refused s = s
-carried_heard n (ten.Violation why) s = s
-
-abbrev pub carried_sent : ℕ → UpUnit → SessionState → SessionState
-carried_sent n (up.Flow m i o) s = if m == n then flow_sent s else s
-carried_sent n (up.OnSession m u) s = if m == n then session_by u s else s
-carried_sent n u s = s
-
+-- the session of a channel; it stays until the next begin
 abbrev pub carrying : ℕ → List Step → SessionState
-carrying n [] = no_session
-carrying n (Heard u ∷ h) =
-    if ran_out_in h then carrying n h
-    else carried_heard n (meaning_by (container h) u) (carrying n h)
-carrying n (Gave (ToUp u) text ∷ h) = carried_sent n u (carrying n h)
-carrying n (s ∷ h) = carrying n h
+carrying n h = (peers h).carried n
 
 -- ---- replies
 
@@ -330,9 +350,9 @@ reply_to want.CloseOk = []
 reply_to (want.Refuse r) = if is_of_channel r then [] else reply.Close r ∷ []
 
 -- bytes that begin no protocol header get the gateway's own
-abbrev pub replies_to : List Route → Connection → Unit91 → List Reply
-replies_to routes c u =
-    when (turns_foreign routes c u) reply.Protocol ++ reply_to (want_in routes c u)
+abbrev pub replies_to : List Route → List (Option PathState) → Connection → Unit91 → List Reply
+replies_to routes ps c u =
+    when (turns_foreign routes ps c u) reply.Protocol ++ reply_to (want_in routes ps c u)
 
 -- a client whose connection isn't closing yet is told of a failure upstream
 abbrev pub failure_to : Connection → ℕ → List Reply
@@ -346,16 +366,16 @@ closes_connection (Some scope.Channel) = false
 
 -- the reply to what a unit of the container means: to its open connection.open-ok, where that is
 -- awaited
-abbrev pub reply_by : Connection → List (Option PathState) → Meaning → List Reply
-reply_by c ps ten.Nothing = []
-reply_by c ps ten.Init = []
-reply_by c ps ten.AmqpHeader = []
-reply_by c ps ten.Opened = when (is_opening c) reply.OpenOk
-reply_by c ps (ten.OfSession g p payload) =
-    if closes_connection (link_scope p (path_at ps g)) then failure_to c INTERNAL_ERROR else []
-reply_by c ps (ten.Closed e) = failure_to c (code_by (condition_in e) scope.Connection)
-reply_by c ps ten.Refused = failure_to c NOT_ALLOWED
-reply_by c ps (ten.Violation why) = failure_to c INTERNAL_ERROR
+abbrev pub reply_by : Peers → Meaning → List Reply
+reply_by p ten.Nothing = []
+reply_by p ten.Init = []
+reply_by p ten.AmqpHeader = []
+reply_by p ten.Opened = when (is_opening p.client) reply.OpenOk
+reply_by p (ten.OfSession g q payload) =
+    if closes_connection (scope_in p g q payload) then failure_to p.client INTERNAL_ERROR else []
+reply_by p (ten.Closed e) = failure_to p.client (code_by (condition_in e) scope.Connection)
+reply_by p ten.Refused = failure_to p.client NOT_ALLOWED
+reply_by p (ten.Violation why) = failure_to p.client INTERNAL_ERROR
 
 -- the replies to what the client sent and to what happened upstream, in their order; after the pair
 -- ran out of memory units are passed over
@@ -363,10 +383,10 @@ abbrev pub replies : List Step → List Reply
 replies [] = []
 replies (Came u ∷ h) =
     if ran_out_in h then replies h
-    else replies h ++ replies_to (routes_in h) (connection h) u
+    else replies h ++ replies_to (routes_in h) (paths_in h) (connection h) u
 replies (Heard u ∷ h) =
     if ran_out_in h then replies h
-    else replies h ++ reply_by (connection h) (paths_in h) (meaning_by (container h) u)
+    else replies h ++ reply_by (peers h) (meaning_by (container h) u)
 replies (Silent Up ∷ h) = replies h ++ failure_to (connection h) CONNECTION_FORCED
 replies (Joined link.Failed ∷ h) = replies h ++ failure_to (connection h) CONNECTION_FORCED
 replies (Lost Up loss.Ended ∷ h) = replies h ++ failure_to (connection h) CONNECTION_FORCED

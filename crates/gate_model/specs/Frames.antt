@@ -6,7 +6,7 @@ use Rattle.machine_091.specs.declared.state.Connection.{Connection}
 use Rattle.machine_091.specs.declared.unit.Want91.{Want91}
 use Rattle.machine_091.specs.declared.unit.Want91.TheVariants as want
 use Rattle.gate_model.specs.Folds.{routes_in}
-use Rattle.gate_model.specs.Folds.{connection, ran_out_in}
+use Rattle.gate_model.specs.Folds.{connection, paths_in, ran_out_in}
 use Rattle.gate_model.specs.Spelling.{spell_reply}
 use Rattle.gate_model.specs.State as state
 use Rattle.gate_model.specs.State.{Came, Gave, conn_step, want_in}
@@ -22,8 +22,8 @@ abbrev pub limit_in : List state.Step → ℕ
 limit_in [] = FRAME_MIN_SIZE
 limit_in (Came u ∷ h) =
     if ran_out_in h then limit_in h
-    else limit_after (limit_in h) (conn_step (routes_in h) (connection h) u)
-    (want_in (routes_in h) (connection h) u)
+    else limit_after (limit_in h) (conn_step (routes_in h) (paths_in h) (connection h) u)
+    (want_in (routes_in h) (paths_in h) (connection h) u)
 limit_in (s ∷ h) = limit_in h
 
 -- no unit that was sent passes the limit of its moment

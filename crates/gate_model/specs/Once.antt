@@ -12,7 +12,7 @@ use Rattle.session_path.specs.declared.path.PathOk.TheVariants as ok
 use Rattle.gate_model.specs.declared.reply.Reply.{Reply}
 use Rattle.gate_model.specs.declared.reply.Reply.TheVariants as reply
 use Rattle.gate_model.specs.Folds.{routes_in}
-use Rattle.gate_model.specs.Folds.{connection, ran_out_in}
+use Rattle.gate_model.specs.Folds.{connection, paths_in, ran_out_in}
 use Rattle.gate_model.specs.State.{Came, Gave, Step, want_in}
 
 abbrev pub one_if : Bool → ℕ
@@ -24,7 +24,7 @@ abbrev pub wanted_in : (Want91 → Bool) → List Step → ℕ
 wanted_in t [] = 0
 wanted_in t (Came u ∷ h) =
     if ran_out_in h then wanted_in t h
-    else wanted_in t h + one_if (t (want_in (routes_in h) (connection h) u))
+    else wanted_in t h + one_if (t (want_in (routes_in h) (paths_in h) (connection h) u))
 wanted_in t (s ∷ h) = wanted_in t h
 
 -- how many units to it, of which the first byte was sent, pass one
@@ -82,6 +82,9 @@ abbrev pub is_flow_ok : ChannelUnit → Bool
 is_flow_ok (unit.Ok ok.Flow) = true
 is_flow_ok (unit.Ok ok.Declare) = false
 is_flow_ok (unit.Ok ok.Select) = false
+is_flow_ok (unit.Ok (ok.Consume link)) = false
+is_flow_ok (unit.Deliver d) = false
+is_flow_ok (unit.Content c) = false
 is_flow_ok (unit.Confirm c) = false
 is_flow_ok (unit.Return r) = false
 

@@ -3,7 +3,7 @@ use Rattle.std.specs.Prelude.{ℕ, zero, suc, eqb, ◌+◌, ◌-◌, ◌==◌, �
 use Rattle.std.specs.Prelude.{false, not, ◌&&◌, ◌||◌, bytes_eq, codes}
 use Rattle.std.specs.Prelude.{if◌then◌else◌, List, [], ◌∷◌, replicate, slice_get}
 use Rattle.std.specs.Prelude.{slice_set}
-use Rattle.std.specs.Prelude.{take, length, map, sum_by, nat_le, ◌++◌, Option, Some, None}
+use Rattle.std.specs.Prelude.{take, length, map, sum_by, nat_le, ◌++◌, Option, Some, None, is_some}
 use Rattle.std.specs.Int.{to_be_bytes, w64}
 use Rattle.std.specs.Option.{option_map}
 use Rattle.machine_10.specs.Reading.{field, number_at, number_in}
@@ -17,7 +17,21 @@ use Rattle.publish_path.specs.declared.publish.NextFrame.{NextFrame}
 use Rattle.publish_path.specs.declared.publish.Outcome.{Outcome}
 use Rattle.publish_path.specs.declared.publish.Outcome.TheVariants.{Accepted, Released, Refused}
 use Rattle.session_path.specs.Links.{handle_at}
+use Rattle.consume_path.specs.declared.delivery.Content.{Content}
+use Rattle.consume_path.specs.declared.receiving.Part.{Part}
+use Rattle.consume_path.specs.declared.receiving.TransferFault.{TransferFault}
+use Rattle.consume_path.specs.declared.receiving.TransferFault.TheVariants.{InvalidField}
+use Rattle.consume_path.specs.declared.receiving.TransferFault.TheVariants.{LimitExceeded}
+use Rattle.consume_path.specs.declared.receiving.TransferFault.TheVariants.{SizeExceeded}
+use Rattle.performatives_10.specs.declared.condition.Condition.{Condition}
+use Rattle.performatives_10.specs.declared.condition.Condition.TheVariants as condition
+use Rattle.property_map.specs.Received.{received_in}
+use Rattle.property_map.specs.declared.received.Received.{Received}
+use Rattle.session_path.specs.Due.{joined_at, queue_at}
+use Rattle.session_path.specs.Links.{named}
+use Rattle.session_path.specs.Path.{closed, failed, receiver_in, transfer_came, transfer_fault}
 use Rattle.session_path.specs.Path.{PathState, attach_came, flow_came, lost, opened}
+use Rattle.session_path.specs.declared.path.AttachHeard.{AttachHeard}
 use Rattle.session_path.specs.Due.{held, held_size_of, lines}
 use Rattle.session_path.specs.Path.{lines_told, outcome_came}
 use Rattle.open_items.specs.declared.lost.LostItem.{LostItem}
@@ -27,12 +41,13 @@ use Rattle.session_path.specs.declared.path.AttachDue.{AttachDue}
 use Rattle.session_path.specs.declared.path.AttachFault.{AttachFault}
 use Rattle.session_path.specs.declared.path.AttachFault.TheVariants.{NotAsked}
 use Rattle.session_path.specs.declared.path.FlowDue.{FlowDue}
-use Rattle.types_10.specs.Tree.{Tree, string, described, scalar, ulong}
+use Rattle.types_10.specs.Tree.{Tree, binary, string, described, scalar, ulong}
 use Rattle.gate_model.specs.declared.channel.AttachOut.{AttachOut}
 use Rattle.gate_model.specs.declared.channel.LinkFlow.{LinkFlow}
 use Rattle.gate_model.specs.declared.channel.TransferOut.{TransferOut}
 use Rattle.gate_model.specs.declared.life.SessionState.{SessionState}
-use Rattle.gate_model.specs.Session.{is_true}
+use Rattle.gate_model.specs.Returns.{body_parts, header_part}
+use Rattle.gate_model.specs.Session.{has_room, is_true}
 
 -- ---- by the numbers of channels
 
@@ -148,6 +163,16 @@ link_flowed ts s =
     flow_came (number_at ts 4) (number_in (field ts 5)) (credit_of (number_in (field ts 6)))
     (is_true (field ts 8)) (is_true (field ts 9)) s
 
+-- ---- fields
+
+-- a text, and whether a field is there
+abbrev pub text_of : Tree → List ℕ
+text_of (scalar (string s)) = s
+text_of t = []
+
+abbrev pub is_there : Tree → Bool
+is_there t = not (is_absent t)
+
 -- ---- names of links
 
 -- the number in the name of a link; None of other names
@@ -156,14 +181,98 @@ name_in [] = None
 name_in (b ∷ []) = None
 name_in (b ∷ c ∷ s) = if eqb b 108 && eqb c 45 then decimal_in s else None
 
--- an attach of the container, under the name of a link of the gateway or another
-abbrev pub attach_by : Option ℕ → ℕ → Bool → PathState → PathState
-attach_by None peer target s = s
-attach_by (Some name) peer target s = attach_came name peer target s
+-- an attach of the container, under the name of a link of the gateway or another: its handle, its
+-- role, its source or target, and its initial delivery-count (AMQP 1.0 2.7.3)
+abbrev pub heard_as : List Tree → ℕ → AttachHeard
+heard_as ts name = record {
+  name = name;
+  peer = number_at ts 1;
+  role = is_true (field ts 2);
+  there = if is_true (field ts 2) then is_there (field ts 6) else is_there (field ts 5);
+  count = number_at ts 9;
+}
 
-abbrev pub fault_by : Option ℕ → ℕ → PathState → Option AttachFault
-fault_by None peer s = Some NotAsked
-fault_by (Some name) peer s = attach_fault name peer s.links
+abbrev pub attached_as : Option ℕ → List Tree → PathState → PathState
+attached_as None ts s = s
+attached_as (Some name) ts s = attach_came (heard_as ts name) s
+
+abbrev pub attach_by : List Tree → PathState → PathState
+attach_by ts s = attached_as (name_in (text_of (field ts 0))) ts s
+
+abbrev pub fault_by : Option ℕ → List Tree → PathState → Option AttachFault
+fault_by None ts s = Some NotAsked
+fault_by (Some name) ts s = attach_fault name (is_true (field ts 2)) (number_at ts 1) s.links
+
+abbrev pub attach_fault_by : List Tree → PathState → Option AttachFault
+attach_fault_by ts s = fault_by (name_in (text_of (field ts 0))) ts s
+
+-- ---- transfers of the container
+
+abbrev pub binary_in : Tree → Option (List ℕ)
+binary_in (scalar (binary b)) = Some b
+binary_in t = None
+
+-- what a transfer says of its delivery (AMQP 1.0 2.7.5)
+abbrev pub part_in : List Tree → Part
+part_in ts = record {
+  id = number_in (field ts 1);
+  tag_length = option_map length (binary_in (field ts 2));
+  settled = is_true (field ts 4);
+  more = is_true (field ts 5);
+  aborted = is_true (field ts 9);
+  resume = is_true (field ts 8);
+}
+
+-- the handle names a receiving link, and what is wrong with the transfer on that
+abbrev pub is_receiver : ℕ → PathState → Bool
+is_receiver peer s = is_some (receiver_in (named peer s.links))
+
+abbrev pub fault_in : List Tree → List ℕ → PathState → Option TransferFault
+fault_in ts payload s = transfer_fault (number_at ts 0) (part_in ts) (length payload) s
+
+abbrev pub field_error : Option TransferFault → Option Condition
+field_error None = None
+field_error (Some InvalidField) = Some condition.InvalidField
+field_error (Some LimitExceeded) = None
+field_error (Some SizeExceeded) = None
+
+-- why it ends its session: it is past the window, of no receiving link, or has a wrong field
+abbrev pub transfer_error : List Tree → List ℕ → SessionState → PathState → Option Condition
+transfer_error ts payload x s =
+    if not (has_room x) then Some condition.WindowViolation
+    else if not (is_receiver (number_at ts 0) s) then Some condition.UnattachedHandle
+    else field_error (fault_in ts payload s)
+
+-- what goes to the client of a message, where the client takes frames of so many bytes
+abbrev pub content_of : ℕ → ℕ → Received → Content
+content_of limit n r = record {
+  exchange = r.message.exchange;
+  key = r.message.key;
+  frames = header_part n r.message ∷ body_parts limit n r.message.body;
+}
+
+abbrev pub is_again : Option Received → Bool
+is_again None = false
+is_again (Some r) = r.again
+
+-- the message that ends with a transfer
+abbrev pub received_at : ℕ → ℕ → List ℕ → PathState → Option Received
+received_at limit peer payload s =
+    received_in (queue_at peer s) (limit - 8) (joined_at peer payload s)
+
+abbrev pub arrived_at : ℕ → ℕ → ℕ → Part → List ℕ → PathState → PathState
+arrived_at limit n peer part payload s =
+    let r = received_at limit peer payload s in
+    transfer_came peer part payload (option_map (content_of limit n) r) (is_again r) s
+
+abbrev pub transferred_by : Option TransferFault → ℕ → ℕ → ℕ → Part → List ℕ → PathState → PathState
+transferred_by None limit n peer part payload s = arrived_at limit n peer part payload s
+transferred_by (Some fault) limit n peer part payload s = failed peer fault s
+
+-- one that passes a limit of its link is no part of a delivery
+abbrev pub transferred : ℕ → ℕ → List Tree → List ℕ → PathState → PathState
+transferred limit n ts payload s =
+    transferred_by (fault_in ts payload s) limit n (number_at ts 0) (part_in ts) payload s
 
 -- ---- units to the container
 
@@ -221,18 +330,22 @@ abbrev pub part_of : PathState → TransferOut → List ℕ
 part_of s t = take t.bytes (rest_of t.frame.publish s.publishes.list)
 
 abbrev pub attach_out : ℕ → AttachDue → AttachOut
-attach_out name a = record { link = a.link; handle = a.handle; name = name }
+attach_out name a =
+    record { link = a.link; handle = a.handle; name = name; receives = a.receives }
 
--- ---- fields
-
--- a text, and whether a field is there
-abbrev pub text_of : Tree → List ℕ
-text_of (scalar (string s)) = s
-text_of t = []
-
-abbrev pub is_there : Tree → Bool
-is_there t = not (is_absent t)
-
--- the session of a channel is lost
+-- the session of a channel is lost; the life of one closes
 abbrev pub lost_path : PathState → PathState
 lost_path s = lost s
+
+abbrev pub closed_path : PathState → PathState
+closed_path s = closed s
+
+abbrev pub closed_paths : List (Option PathState) → List (Option PathState)
+closed_paths ps = map (option_map closed_path) ps
+
+-- the error of a detach
+abbrev pub error_for : Option TransferFault → Option Condition
+error_for None = None
+error_for (Some InvalidField) = Some condition.InvalidField
+error_for (Some LimitExceeded) = Some condition.TransferLimitExceeded
+error_for (Some SizeExceeded) = Some condition.MessageSizeExceeded

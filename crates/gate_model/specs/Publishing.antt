@@ -1,5 +1,5 @@
--- The publishing side of each channel, by the steps: the events of its life in progress, newest
--- first; the confirms and the transfers that go, by these; and the payloads that these carry.
+-- What each channel carries, by the steps: the events of its life in progress, newest first; the
+-- confirms and the transfers that go, by these; and the payloads that these carry.
 use Rattle.std.specs.Prelude.{◌≡◌, ℕ, ◌+◌, ◌==◌, ◌≤◌, nat_lt, length, take}
 use Rattle.std.specs.Prelude.{Bool, true, false, not, ◌&&◌, if◌then◌else◌, List}
 use Rattle.std.specs.Prelude.{[], ◌∷◌, ◌++◌, Option, None, Some, drop}
@@ -40,17 +40,27 @@ use Rattle.gate_model.specs.declared.outgoing.UpUnit.TheVariants as up
 use Rattle.gate_model.specs.declared.reply.Reply.{Reply}
 use Rattle.gate_model.specs.declared.reply.Reply.TheVariants as reply
 use Rattle.gate_model.specs.Folds.{routes_in}
-use Rattle.gate_model.specs.Folds.{carrying, connection, container, paths_in, peers, ran_out_in}
+use Rattle.gate_model.specs.Folds.{Peers, carrying, connection, container, going_in, leaving_in}
+use Rattle.gate_model.specs.Folds.{paths_in, peers, ran_out_in, scope_in}
 use Rattle.gate_model.specs.Once.{is_channel_open, is_method_on}
-use Rattle.gate_model.specs.Paths.{credit_of, is_not_found, is_outcome, is_there, name_in}
-use Rattle.gate_model.specs.Paths.{outcome_in, path_at, text_of}
+use Rattle.gate_model.specs.Paths.{content_of, credit_of, fault_in, heard_as, is_again}
+use Rattle.gate_model.specs.Paths.{is_not_found, is_outcome, name_in, outcome_in, part_in, path_at}
+use Rattle.gate_model.specs.Paths.{received_at}
+use Rattle.gate_model.specs.Paths.{text_of}
+use Rattle.consume_path.specs.declared.delivery.Settle.TheVariants.{Accepted}
+use Rattle.consume_path.specs.declared.receiving.Part.{Part}
+use Rattle.consume_path.specs.declared.receiving.TransferFault.{TransferFault}
+use Rattle.machine_091.specs.declared.unit.Refusal.{Refusal}
+use Rattle.std.specs.Option.{option_map}
+use Rattle.types_10.specs.Tree.{Tree}
+use Rattle.gate_model.specs.Lives.{is_of_channel}
 use Rattle.gate_model.specs.Requests.{address_of, message_of}
 use Rattle.gate_model.specs.Returns.{back_of}
 use Rattle.gate_model.specs.declared.setup.Route.{Route}
 use Rattle.gate_model.specs.Session.{is_of_session, is_true}
 use Rattle.gate_model.specs.State.{Began, Came, Fed, Gave, Heard, Joined, Lost, Moment, Queued}
 use Rattle.gate_model.specs.State.{OutOfMemory, Silent, Step, TakenUp, Whole, conn_step}
-use Rattle.gate_model.specs.State.{link_scope, want_in}
+use Rattle.gate_model.specs.State.{closing_code, settle_by, want_in}
 use Rattle.gate_model.specs.Upstream.{condition_in, meaning_by}
 
 -- ---- the client's requests
@@ -60,7 +70,8 @@ abbrev pub owed_unless : Bool → PathEvent → List PathEvent
 owed_unless true x = []
 owed_unless false x = x ∷ []
 
--- channel.flow, exchange.declare and confirm.select
+-- channel.flow, exchange.declare, confirm.select, basic.consume and the answers to deliveries; and
+-- channel.close
 abbrev pub method_events : Method91 → List PathEvent
 method_events (method.ChannelFlow active) = event.Owed ok.Flow ∷ []
 method_events
@@ -68,7 +79,22 @@ method_events
     owed_unless no_wait (event.Owed ok.Declare)
 method_events (method.ConfirmSelect no_wait) =
     owed_unless no_wait (event.Owed ok.Select) ++ event.Selected ∷ []
+method_events
+    (method.BasicConsume queue tag no_local no_ack exclusive no_wait arguments) =
+    event.Consumed queue tag no_ack no_wait ∷ []
+method_events (method.BasicAck tag multiple) = event.AnswerCame tag multiple Accepted ∷ []
+method_events (method.BasicReject tag requeue) =
+    event.AnswerCame tag false (settle_by requeue) ∷ []
+method_events (method.BasicNack tag multiple requeue) =
+    event.AnswerCame tag multiple (settle_by requeue) ∷ []
+method_events (method.ChannelClose code text class id) = event.LifeClosed ∷ []
 method_events m = []
+
+-- a refusal is the closing event of its channel, or of all
+abbrev pub refusal_events : ℕ → Refusal → List PathEvent
+refusal_events n r =
+    if is_of_channel r then (if r.channel == n then event.LifeClosed ∷ [] else [])
+    else event.LifeClosed ∷ []
 
 -- of channel n, by what a unit of a client wants that takes frames of so many bytes; a whole
 -- publish is taken up with the text of its image and the frames of its return
@@ -84,27 +110,40 @@ want_events routes limit n (want.Publish k m c) =
     event.Published (address_of routes (message_of m c)) (image_text (message_of m c))
     (back_of limit k m (message_of m c)) ∷ [] else []
 want_events routes limit n (want.ChannelCloseOk k) = []
-want_events routes limit n want.Close = []
+want_events routes limit n want.Close = event.LifeClosed ∷ []
 want_events routes limit n want.CloseOk = []
-want_events routes limit n (want.Refuse r) = []
+want_events routes limit n (want.Refuse r) = refusal_events n r
 
 -- ---- the container
 
 -- an attach under a name that is no link's is no event (AMQP 1.0 2.6.1)
-abbrev pub attach_events : Option ℕ → ℕ → Bool → List PathEvent
-attach_events None peer target = []
-attach_events (Some name) peer target = event.AttachCame name peer target ∷ []
+abbrev pub attach_events : Option ℕ → List Tree → List PathEvent
+attach_events None ts = []
+attach_events (Some name) ts = event.AttachCame (heard_as ts name) ∷ []
 
--- a performative of a session, by the code of its descriptor (AMQP 1.0 2.7): begin, attach, the
--- flow of a link, a disposition with an outcome, detach, end
-abbrev pub heard_events : Parts → List PathEvent
-heard_events p =
+-- a transfer, and what goes to the client of the message that it ends; one that passes a limit of
+-- its link is no part of a delivery
+abbrev pub arrival_event : ℕ → ℕ → ℕ → Part → List ℕ → PathState → PathEvent
+arrival_event limit n peer part payload s =
+    let r = received_at limit peer payload s in
+    event.TransferCame peer part payload (option_map (content_of limit n) r) (is_again r)
+
+abbrev pub transfer_event : Option TransferFault → ℕ → ℕ → ℕ → Part → List ℕ → PathState → PathEvent
+transfer_event None limit n peer part payload s = arrival_event limit n peer part payload s
+transfer_event (Some fault) limit n peer part payload s = event.LinkFailed peer fault
+
+-- a performative of a session, by the code of its descriptor (AMQP 1.0 2.7), on channel n of a
+-- client that takes frames of so many bytes: begin, attach, the flow of a link, transfer, a
+-- disposition with an outcome, detach, end
+abbrev pub heard_events : ℕ → ℕ → Parts → List ℕ → PathState → List PathEvent
+heard_events limit n p payload s =
     if p.0 == 17 then event.Began (number_at p.1 4) ∷ []
-    else if p.0 == 18 then attach_events (name_in (text_of (field p.1 0))) (number_at p.1 1)
-    (is_there (field p.1 6))
+    else if p.0 == 18 then attach_events (name_in (text_of (field p.1 0))) p.1
     else if p.0 == 19 && not (is_of_session p.1) then
     event.FlowCame (number_at p.1 4) (number_in (field p.1 5)) (credit_of (number_in (field p.1 6)))
     (is_true (field p.1 8)) (is_true (field p.1 9)) ∷ []
+    else if p.0 == 20 then
+    transfer_event (fault_in p.1 payload s) limit n (number_at p.1 0) (part_in p.1) payload s ∷ []
     else if p.0 == 21 then
     (if is_outcome p.1 then event.DispositionCame (number_at p.1 1) (number_in (field p.1 2))
     (outcome_in (field p.1 4)) (is_true (field p.1 3)) ∷ [] else [])
@@ -121,6 +160,10 @@ lost_if false = []
 abbrev pub losing : List PathEvent
 losing = event.SessionLost ∷ event.LinesWent ∷ []
 
+-- and so is the upstream end
+abbrev pub losing_up : List PathEvent
+losing_up = event.UpLost ∷ event.LinesWent ∷ []
+
 -- where the container is the cause, a connection that isn't closing yet closes, and the sessions
 -- are lost
 abbrev pub failing : Connection → List PathEvent
@@ -130,31 +173,45 @@ failing c = lost_if (not (is_closing c))
 abbrev pub ending : Connection → ℕ → List PathEvent
 ending c k = lost_if (is_open c k)
 
--- a performative of channel k, for channel n: an end closes its channel; one that is at fault
--- closes what it says, and is no other event (2.6.2, 2.6.3, 2.6.7)
-abbrev pub session_events : Connection → Option Scope → ℕ → ℕ → Parts → List PathEvent
-session_events c None n k p =
-    if k == n then
-    (if p.0 == 17 then [] else if p.0 == 23 then ending c k else []) ++ heard_events p
-    else []
-session_events c (Some scope.Connection) n k p = failing c
-session_events c (Some scope.Channel) n k p = if k == n then ending c k else []
+-- a channel that is open closes
+abbrev pub closed_if : Bool → List PathEvent
+closed_if true = event.LifeClosed ∷ []
+closed_if false = []
 
-abbrev pub meaning_events : Connection → List (Option PathState) → ℕ → Meaning → List PathEvent
-meaning_events c ps n ten.Nothing = []
-meaning_events c ps n ten.Init = []
-meaning_events c ps n ten.AmqpHeader = []
-meaning_events c ps n ten.Opened = []
-meaning_events c ps n (ten.OfSession k p payload) =
-    session_events c (link_scope p (path_at ps k)) n k p
-meaning_events c ps n (ten.Closed e) = failing c
-meaning_events c ps n ten.Refused = failing c
-meaning_events c ps n (ten.Violation why) = failing c
+abbrev pub closing : Option ℕ → Connection → ℕ → List PathEvent
+closing None c k = []
+closing (Some code) c k = closed_if (is_open c k)
+
+-- a performative of channel k, for channel n: some close their channel; one that is at fault closes
+-- what it says, and is no other event (2.6.2, 2.6.3, 2.6.7)
+abbrev pub fine_events : Connection → ℕ → Parts → List ℕ → PathState → List PathEvent
+fine_events c k p payload s =
+    (if p.0 == 17 then [] else closing (closing_code p payload s) c k)
+    ++ heard_events c.limits.frame_max k p payload s
+
+abbrev pub session_events : Connection → Option Scope → ℕ → ℕ → Parts → List ℕ → PathState
+    → List PathEvent
+session_events c None n k p payload s = if k == n then fine_events c k p payload s else []
+session_events c (Some scope.Connection) n k p payload s = failing c
+session_events c (Some scope.Channel) n k p payload s = if k == n then ending c k else []
+
+abbrev pub meaning_events : Peers → ℕ → Meaning → List PathEvent
+meaning_events o n ten.Nothing = []
+meaning_events o n ten.Init = []
+meaning_events o n ten.AmqpHeader = []
+meaning_events o n ten.Opened = []
+meaning_events o n (ten.OfSession k p payload) =
+    session_events o.client (scope_in o k p payload) n k p payload (path_at o.paths k)
+meaning_events o n (ten.Closed e) = failing o.client
+meaning_events o n ten.Refused = failing o.client
+meaning_events o n (ten.Violation why) = failing o.client
 
 -- ---- units that went
 
 abbrev pub told_event : ChannelUnit → PathEvent
 told_event (to_client.Ok x) = event.OkSent x
+told_event (to_client.Deliver d) = event.DeliverSent d
+told_event (to_client.Content c) = event.ContentSent
 told_event (to_client.Confirm c) = event.ConfirmWent c
 told_event (to_client.Return r) = event.ReturnWent r.publish
 
@@ -177,8 +234,9 @@ abbrev pub given_event : SessionUnit → PathEvent
 given_event (unit.Attach a) = event.AttachSent a.name
 given_event (unit.Flow f) = event.LinkFlowSent
 given_event (unit.Transfer t) = event.TransferSent t.frame t.bytes
+given_event (unit.Dispose x) = event.DisposeSent
 given_event (unit.Settle x) = event.SettleSent x
-given_event (unit.Detach link handle) = event.DetachSent
+given_event (unit.Detach link handle why) = event.DetachSent
 
 -- the gateway's end loses the session, and what the report was owed before was reported
 abbrev pub up_events : ℕ → UpUnit → List PathEvent
@@ -193,6 +251,18 @@ up_events n (up.Flow k i o) = []
 up_events n (up.Begin k) = []
 up_events n (up.End k why) = if k == n then losing else event.LinesWent ∷ []
 
+-- the last frame of a content was sent whole
+abbrev pub wrote_event : ChannelUnit → List PathEvent
+wrote_event (to_client.Ok x) = []
+wrote_event (to_client.Deliver d) = []
+wrote_event (to_client.Content c) = if c.last then event.ContentWhole c.tag ∷ [] else []
+wrote_event (to_client.Confirm c) = []
+wrote_event (to_client.Return r) = []
+
+abbrev pub wrote_events : ℕ → Option Reply → List PathEvent
+wrote_events n (Some (reply.OnChannel k u)) = if k == n then wrote_event u else []
+wrote_events n u = []
+
 -- ---- all steps
 
 -- what a step behind h is on channel n. Nothing that comes counts after the pair ran out of memory.
@@ -202,33 +272,36 @@ step_events n h (Began site number ms) = []
 step_events n h (Moment ms) = event.LinesWent ∷ []
 step_events n h (Fed Client) = []
 step_events n h (Fed Up) = event.LinesWent ∷ []
-step_events n h (Silent Client) = []
+step_events n h (Silent Client) = event.LifeClosed ∷ []
 step_events n h (Silent Up) = failing (connection h)
 step_events n h (Queued u) = []
 step_events n h (Came u) =
     if ran_out_in h then []
-    else want_events (routes_in h) (conn_step (routes_in h) (connection h) u).limits.frame_max n
-    (want_in (routes_in h) (connection h) u)
-step_events n h TakenUp = []
+    else want_events (routes_in h)
+    (conn_step (routes_in h) (paths_in h) (connection h) u).limits.frame_max n
+    (want_in (routes_in h) (paths_in h) (connection h) u)
+step_events n h TakenUp =
+    closed_if (not (ran_out_in h) && leaving_in h)
 step_events n h (Heard u) =
     if ran_out_in h then []
-    else meaning_events (connection h) (paths_in h) n (meaning_by (container h) u)
+    else meaning_events (peers h) n (meaning_by (container h) u)
 step_events n h (Joined link.Ok) = event.LinesWent ∷ []
 step_events n h (Joined link.Failed) = failing (connection h) ++ event.LinesWent ∷ []
 step_events n h (Lost Client how) = []
-step_events n h (Lost Up loss.Ended) = failing (connection h) ++ losing
-step_events n h (Lost Up loss.Failed) = failing (connection h) ++ losing
-step_events n h (Lost Up loss.Shut) = losing
+step_events n h (Lost Up loss.Ended) = failing (connection h) ++ losing_up
+step_events n h (Lost Up loss.Failed) = failing (connection h) ++ losing_up
+step_events n h (Lost Up loss.Shut) = losing_up
 step_events n h (Gave (ToClient u) text) = reply_events n u
 step_events n h (Gave (ToUp u) text) = up_events n u
-step_events n h (Whole end) = []
-step_events n h OutOfMemory = []
+step_events n h (Whole Client) = wrote_events n (going_in h)
+step_events n h (Whole Up) = []
+step_events n h OutOfMemory = event.LifeClosed ∷ []
 
 -- it is a channel.open of channel n, which begins a life
 abbrev pub opens_channel : ℕ → List Step → Step → Bool
 opens_channel n h (Came u) =
     not (ran_out_in h)
-    && is_method_on is_channel_open n (want_in (routes_in h) (connection h) u)
+    && is_method_on is_channel_open n (want_in (routes_in h) (paths_in h) (connection h) u)
 opens_channel n h s = false
 
 -- the events of the life in progress
@@ -316,7 +389,8 @@ text_wanted n (want.Refuse r) = None
 
 abbrev pub text_taken : ℕ → List Step → Step → Option (List ℕ)
 text_taken n h (Came u) =
-    if ran_out_in h then None else text_wanted n (want_in (routes_in h) (connection h) u)
+    if ran_out_in h then None
+    else text_wanted n (want_in (routes_in h) (paths_in h) (connection h) u)
 text_taken n h s = None
 
 -- how many publishes of the life in progress were taken up
@@ -392,8 +466,8 @@ back_wanted limit n (want.Refuse r) = None
 abbrev pub back_taken : ℕ → List Step → Step → Option (List (List ℕ))
 back_taken n h (Came u) =
     if ran_out_in h then None
-    else back_wanted (conn_step (routes_in h) (connection h) u).limits.frame_max n
-    (want_in (routes_in h) (connection h) u)
+    else back_wanted (conn_step (routes_in h) (paths_in h) (connection h) u).limits.frame_max n
+    (want_in (routes_in h) (paths_in h) (connection h) u)
 back_taken n h s = None
 
 -- those of the publish with this number; none where there is none
@@ -410,6 +484,8 @@ back_in n number (s ∷ h) =
 -- how many of them went
 abbrev pub returned_on : ℕ → ℕ → ℕ → ChannelUnit → ℕ → ℕ
 returned_on n number k (to_client.Ok x) count = count
+returned_on n number k (to_client.Deliver d) count = count
+returned_on n number k (to_client.Content c) count = count
 returned_on n number k (to_client.Confirm c) count = count
 returned_on n number k (to_client.Return r) count =
     if k == n && number == r.publish then count + 1 else count

@@ -1,10 +1,15 @@
 -- What a unit of the client makes of its connection, and what it wants of the gateway: of the
 -- requests that the connection passes on, those that the gateway can't meet are refused.
 use Rattle.std.specs.Prelude.{ℕ, ◌==◌, Bool, false, not, ◌||◌, if◌then◌else◌, List, []}
-use Rattle.std.specs.Prelude.{length, Option, None, Some, is_some, unwrap_or}
+use Rattle.std.specs.Prelude.{◌&&◌, length, nat_le, Option, None, Some, is_some, unwrap_or}
+use Rattle.std.specs.Str.{is_utf8}
+use Rattle.consume_path.specs.Links.{is_tag_used}
+use Rattle.consume_path.specs.Offers.{is_known as is_tag_known}
+use Rattle.session_path.specs.Path.{PathState}
+use Rattle.gate_model.specs.Paths.{path_at}
 use Rattle.gate_model.specs.declared.setup.Route.{Route}
 use Rattle.gate_model.specs.Setup.{route_to}
-use Rattle.close_translate.specs.declared.codes.TheConstants.{NOT_FOUND, NOT_IMPLEMENTED}
+use Rattle.close_translate.specs.declared.codes.TheConstants.{NOT_ALLOWED, NOT_FOUND}
 use Rattle.close_translate.specs.declared.codes.TheConstants.{PRECONDITION_FAILED}
 use Rattle.close_translate.specs.declared.conditions.Scope.TheVariants as scope
 use Rattle.content_091.specs.declared.assembly.Content.{Content}
@@ -35,11 +40,6 @@ message_of (method.BasicPublish exchange key mandatory immediate) c =
     record { exchange = exchange; key = key; props = c.props; body = c.body }
 message_of m c = record { exchange = []; key = []; props = c.props; body = c.body }
 
--- whether it goes back to its client where no queue takes it (AMQP 0-9-1 1.8.3.7)
-abbrev pub is_mandatory : Method91 → Bool
-is_mandatory (method.BasicPublish exchange key mandatory immediate) = mandatory
-is_mandatory m = false
-
 -- where it goes: on the default exchange to the address that its routing key names (AMQP 0-9-1
 -- 3.1.3.1), on another one to the address that this stands for
 abbrev pub key_address : List ℕ → Option (List ℕ)
@@ -66,16 +66,43 @@ publish_fault routes m =
 abbrev pub is_known : List Route → List ℕ → Bool
 is_known routes name = length name == 0 || is_some (route_to routes name)
 
-abbrev pub method_fault : List Route → Method91 → Option ℕ
-method_fault routes
-    (method.ExchangeDeclare name kind passive durable auto_delete internal no_wait arguments) =
-    if is_known routes name then None else Some NOT_FOUND
-method_fault routes m = None
+abbrev pub exchange_fault : List Route → List ℕ → Option ℕ
+exchange_fault routes name = if is_known routes name then None else Some NOT_FOUND
 
--- what isn't built closes the connection, all else the channel; with the ids of the method
+-- a consumer tag that is in use on its channel, or is no short string (AMQP 0-9-1 1.8.3.3 and
+-- 4.2.5.3), and a name that is no queue's: none is declared here, and names of queues are UTF-8
+abbrev pub is_tag_taken : List ℕ → PathState → Bool
+is_tag_taken tag s = not (nat_le (length tag) 255) || is_tag_used tag s.deliveries.links
+
+abbrev pub is_queue_name : List ℕ → Bool
+is_queue_name queue = not (length queue == 0) && is_utf8 queue
+
+abbrev pub consume_fault : List ℕ → List ℕ → PathState → Option ℕ
+consume_fault queue tag s =
+    if is_tag_taken tag s then Some NOT_ALLOWED
+    else if is_queue_name queue then None
+    else Some NOT_FOUND
+
+-- a delivery tag that isn't outstanding (AMQP 0-9-1 1.8.3.13)
+abbrev pub answer_fault : ℕ → Bool → PathState → Option ℕ
+answer_fault tag multiple s =
+    if is_tag_known tag multiple s.deliveries.list then None else Some PRECONDITION_FAILED
+
+abbrev pub method_fault : List Route → PathState → Method91 → Option ℕ
+method_fault routes s
+    (method.ExchangeDeclare name kind passive durable auto_delete internal no_wait arguments) =
+    exchange_fault routes name
+method_fault routes s (method.BasicConsume queue tag no_local no_ack exclusive no_wait arguments) =
+    consume_fault queue tag s
+method_fault routes s (method.BasicAck tag multiple) = answer_fault tag multiple s
+method_fault routes s (method.BasicReject tag requeue) = answer_fault tag false s
+method_fault routes s (method.BasicNack tag multiple requeue) = answer_fault tag multiple s
+method_fault routes s m = None
+
+-- 530 closes the connection, all else the channel; with the ids of the method
 abbrev pub refusal_for : ℕ → Method91 → ℕ → Refusal
 refusal_for n m code =
-    if code == NOT_IMPLEMENTED then refusal_with code (class_of (kind_of m)) (id_of (kind_of m))
+    if code == NOT_ALLOWED then refusal_with code (class_of (kind_of m)) (id_of (kind_of m))
     else record {
       code = code;
       scope = scope.Channel;
@@ -88,19 +115,19 @@ abbrev pub refused_for : ℕ → Method91 → Option ℕ → Option Refusal
 refused_for n m None = None
 refused_for n m (Some code) = Some (refusal_for n m code)
 
-abbrev pub refusal_of_want : List Route → Want91 → Option Refusal
-refusal_of_want routes want.Nothing = None
-refusal_of_want routes want.Start = None
-refusal_of_want routes (want.Login mechanism response) = None
-refusal_of_want routes want.Tuned = None
-refusal_of_want routes want.OpenUp = None
-refusal_of_want routes (want.Method n m) = refused_for n m (method_fault routes m)
-refusal_of_want routes (want.Publish n m c) =
+abbrev pub refusal_of_want : List Route → List (Option PathState) → Want91 → Option Refusal
+refusal_of_want routes ps want.Nothing = None
+refusal_of_want routes ps want.Start = None
+refusal_of_want routes ps (want.Login mechanism response) = None
+refusal_of_want routes ps want.Tuned = None
+refusal_of_want routes ps want.OpenUp = None
+refusal_of_want routes ps (want.Method n m) = refused_for n m (method_fault routes (path_at ps n) m)
+refusal_of_want routes ps (want.Publish n m c) =
     refused_for n m (publish_fault routes (message_of m c))
-refusal_of_want routes (want.ChannelCloseOk n) = None
-refusal_of_want routes want.Close = None
-refusal_of_want routes want.CloseOk = None
-refusal_of_want routes (want.Refuse r) = None
+refusal_of_want routes ps (want.ChannelCloseOk n) = None
+refusal_of_want routes ps want.Close = None
+refusal_of_want routes ps want.CloseOk = None
+refusal_of_want routes ps (want.Refuse r) = None
 
 -- what is refused here is as what the connection refused
 abbrev pub refused_by : Option Refusal → machine.Step → machine.Step
@@ -130,5 +157,6 @@ told_in routes (want.Refuse r) = None
 abbrev pub client_told : List Route → Connection → Unit91 → Option Told
 client_told routes c u = told_in routes (unit_step c u).1
 
-abbrev pub client_step : List Route → Connection → Unit91 → machine.Step
-client_step routes c u = refused_by (refusal_of_want routes (unit_step c u).1) (unit_step c u)
+abbrev pub client_step : List Route → List (Option PathState) → Connection → Unit91 → machine.Step
+client_step routes ps c u =
+    refused_by (refusal_of_want routes ps (unit_step c u).1) (unit_step c u)

@@ -1,6 +1,7 @@
 -- The frames of a basic.return, by which a mandatory publish goes back to its client (AMQP 0-9-1
 -- 1.8.3.8): its method, the header of its content, and the body (4.2.6).
-use Rattle.std.specs.Prelude.{ℕ, zero, suc, ◌-◌, ◌&&◌, nat_le, Bool, if◌then◌else◌, List, [], ◌∷◌}
+use Rattle.std.specs.Prelude.{ℕ, zero, suc, ◌-◌, ◌&&◌, nat_le, Bool, false, if◌then◌else◌, List, []}
+use Rattle.std.specs.Prelude.{◌∷◌}
 use Rattle.std.specs.Prelude.{take, drop, length, map}
 use Rattle.close_translate.specs.Codes.{name_of}
 use Rattle.close_translate.specs.declared.codes.TheConstants.{NO_ROUTE}
@@ -11,9 +12,13 @@ use Rattle.frames_091.specs.declared.frame.Kind91.{Kind91}
 use Rattle.frames_091.specs.declared.frame.Kind91.TheVariants.{Method, Header, Body}
 use Rattle.methods_091.specs.Writing.{method_text}
 use Rattle.methods_091.specs.declared.method.Method91.{Method91}
-use Rattle.methods_091.specs.declared.method.Method91.TheVariants.{BasicReturn}
+use Rattle.methods_091.specs.declared.method.Method91.TheVariants.{BasicPublish, BasicReturn}
 use Rattle.property_map.specs.declared.message.Message091.{Message091}
-use Rattle.gate_model.specs.Requests.{is_mandatory}
+
+-- whether it goes back to its client where no queue takes it (AMQP 0-9-1 1.8.3.7)
+abbrev pub is_mandatory : Method91 → Bool
+is_mandatory (BasicPublish exchange key mandatory immediate) = mandatory
+is_mandatory m = false
 
 -- a frame of this kind on channel n
 abbrev pub frame_with : Kind91 → ℕ → List ℕ → List ℕ

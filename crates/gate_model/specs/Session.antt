@@ -1,6 +1,6 @@
 -- The session that carries a channel: its windows and ids, and how often its state is asked for
 -- (AMQP 1.0 2.5.6, 2.7.4).
-use Rattle.std.specs.Prelude.{◌+◌, ◌-◌, ◌==◌, nat_le, nat_lt, Bool, true, false, not, ◌&&◌, ◌||◌}
+use Rattle.std.specs.Prelude.{◌+◌, ◌-◌, ◌==◌, nat_le, nat_lt, Bool, true, false, ◌&&◌, ◌||◌}
 use Rattle.std.specs.Prelude.{if◌then◌else◌, List}
 use Rattle.machine_10.specs.Parts.{Parts}
 use Rattle.machine_10.specs.Reading.{field, number_at, number_in}
@@ -8,9 +8,6 @@ use Rattle.machine_10.specs.Session.{after_began, after_flow_sent, after_flowed,
 use Rattle.machine_10.specs.Session.{new_session}
 use Rattle.machine_10.specs.declared.session.TheConstants.{REFILL_AT}
 use Rattle.performatives_10.specs.Fields.{is_absent}
-use Rattle.performatives_10.specs.declared.condition.Condition.{Condition}
-use Rattle.performatives_10.specs.declared.condition.Condition.TheVariants.{UnattachedHandle}
-use Rattle.performatives_10.specs.declared.condition.Condition.TheVariants.{WindowViolation}
 use Rattle.types_10.specs.Tree.{Tree, boolean, scalar}
 use Rattle.gate_model.specs.declared.life.SessionState.{SessionState}
 
@@ -64,11 +61,9 @@ carried_by p s =
     else if p.0 == 20 then transfer_came s
     else s
 
--- why one that names a link ends it: a transfer past the window that the gateway stated, and a
--- handle that isn't attached
-abbrev pub fault_of : Parts → SessionState → Condition
-fault_of p s =
-    if p.0 == 20 && not (nat_le 1 s.windows.stated) then WindowViolation else UnattachedHandle
+-- the window that the gateway stated has room for a transfer frame (2.5.6)
+abbrev pub has_room : SessionState → Bool
+has_room s = nat_le 1 s.windows.stated
 
 -- a flow of the gateway is owed: the container asked, or little is left
 abbrev pub is_flow_owed : SessionState → Bool

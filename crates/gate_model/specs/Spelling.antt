@@ -9,7 +9,6 @@ use Rattle.frames_091.specs.Frames.{frame_text}
 use Rattle.frames_091.specs.Headers.{header_bytes}
 use Rattle.machine_091.specs.declared.limits.TheConstants.{CHANNEL_MAX, FRAME_MAX, HEARTBEAT}
 use Rattle.methods_091.specs.Closing.{control_text, close_text, close_ok_text}
-use Rattle.machine_091.specs.declared.unit.Refusal.{Refusal}
 use Rattle.methods_091.specs.Writing.{method_text}
 use Rattle.methods_091.specs.declared.method.Method91.{Method91}
 use Rattle.methods_091.specs.declared.method.Method91.TheVariants.{ChannelClose, ChannelCloseOk}
@@ -20,7 +19,13 @@ use Rattle.frames_10.specs.Headers as headers_10
 use Rattle.frames_10.specs.declared.frame.Kind10.{Kind10}
 use Rattle.frames_10.specs.declared.frame.Kind10.TheVariants.{Amqp, Sasl}
 use Rattle.machine_10.specs.declared.limits.TheConstants as limits_10
-use Rattle.performatives_10.specs.Closing.{end_text}
+use Rattle.consume_path.specs.Offers.{most_bytes}
+use Rattle.consume_path.specs.declared.delivery.Settle as consume
+use Rattle.consume_path.specs.declared.delivery.Settle.TheVariants as consumes
+use Rattle.performatives_10.specs.Closing.{end_text, settle_text}
+use Rattle.performatives_10.specs.declared.closing.Settle.{Settle}
+use Rattle.performatives_10.specs.declared.closing.Settle.TheVariants as settle
+use Rattle.gate_model.specs.Returns.{frame_with}
 use Rattle.performatives_10.specs.Writing.{perf_text}
 use Rattle.performatives_10.specs.declared.closing.Ending.TheVariants.{Close, End}
 use Rattle.performatives_10.specs.declared.performative.Perf.{Perf}
@@ -35,7 +40,8 @@ use Rattle.gate_model.specs.declared.reply.Reply.{Reply}
 use Rattle.property_map.specs.Told.{told_text}
 use Rattle.property_map.specs.declared.told.Told.{Told}
 use Rattle.std.specs.Prelude.{if◌then◌else◌}
-use Rattle.methods_091.specs.declared.method.Method91.TheVariants.{BasicAck, BasicNack}
+use Rattle.methods_091.specs.declared.method.Method91.TheVariants.{BasicAck, BasicConsumeOk}
+use Rattle.methods_091.specs.declared.method.Method91.TheVariants.{BasicNack}
 use Rattle.methods_091.specs.declared.method.Method91.TheVariants.{ConfirmSelectOk}
 use Rattle.methods_091.specs.declared.method.Method91.TheVariants.{ExchangeDeclareOk}
 use Rattle.performatives_10.specs.declared.closing.Ending.TheVariants.{Detach}
@@ -127,18 +133,21 @@ open_ok_on n = channel_text n ChannelOpenOk
 
 -- answers to requests, and confirms (AMQP 0-9-1 1.5.2.4 and 1.6.2.2; basic.ack 1.8.3.13; RabbitMQ's
 -- confirm.select and basic.nack)
-abbrev pub ok_method : PathOk → Method91
-ok_method ok.Flow = ChannelFlowOk true
-ok_method ok.Declare = ExchangeDeclareOk
-ok_method ok.Select = ConfirmSelectOk
+abbrev pub ok_method : PathOk → List ℕ → Method91
+ok_method ok.Flow tag = ChannelFlowOk true
+ok_method ok.Declare tag = ExchangeDeclareOk
+ok_method ok.Select tag = ConfirmSelectOk
+ok_method (ok.Consume link) tag = BasicConsumeOk tag
 
 abbrev pub confirm_method : Confirm → Method91
 confirm_method c =
     if c.ack then BasicAck c.number c.multiple else BasicNack c.number c.multiple false
 
--- a frame of a return stands as it goes
+-- the method of a deliver is carried, and a frame of a return or of a content stands as it goes
 abbrev pub spell_told : ℕ → ChannelUnit → List ℕ → List ℕ
-spell_told n (channel_unit.Ok x) text = channel_text n (ok_method x)
+spell_told n (channel_unit.Ok x) text = channel_text n (ok_method x text)
+spell_told n (channel_unit.Deliver d) text = frame_with Method n text
+spell_told n (channel_unit.Content c) text = text
 spell_told n (channel_unit.Confirm c) text = channel_text n (confirm_method c)
 spell_told n (channel_unit.Return r) text = text
 
@@ -296,21 +305,27 @@ target_of address = record {
   capabilities = None;
 }
 
--- the attach of a sending link, whose target is the address; settlements are told (AMQP 1.0 2.7.3,
--- 3.5)
+abbrev pub source_of : List ℕ → Source10
+source_of address = record empty_source { address = Some address }
+
+abbrev pub empty_target : Target10
+empty_target = record (target_of []) { address = None }
+
+-- the attach of a link, whose target, or where the gateway receives its source, is the address;
+-- settlements are told, and a receiver states the greatest size of a message (AMQP 1.0 2.7.3, 3.5)
 abbrev pub attach_perf : AttachOut → List ℕ → Perf
 attach_perf a address = perf.Attach (record {
   name = link_name a.name;
   handle = a.handle;
-  role = false;
+  role = a.receives;
   snd_settle_mode = 0;
   rcv_settle_mode = 0;
-  source = Some empty_source;
-  target = Some (target_of address);
+  source = Some (if a.receives then source_of address else empty_source);
+  target = Some (if a.receives then empty_target else target_of address);
   unsettled = None;
   incomplete_unsettled = false;
-  initial_delivery_count = Some 0;
-  max_message_size = None;
+  initial_delivery_count = if a.receives then None else Some 0;
+  max_message_size = if a.receives then Some most_bytes else None;
   offered_capabilities = None;
   desired_capabilities = None;
   properties = None;
@@ -342,6 +357,12 @@ settle_perf x = perf.Disposition (record {
   batchable = false;
 })
 
+-- the outcome that a settled disposition of a receiver tells (AMQP 1.0 3.4)
+abbrev pub settle_of : consume.Settle → Settle
+settle_of consumes.Accepted = settle.Accepted
+settle_of consumes.Rejected = settle.Rejected
+settle_of consumes.Released = settle.Released
+
 abbrev pub frame_on : ℕ → List ℕ → List ℕ
 frame_on n body = frames_10.frame_text (record { kind = Amqp; channel = n; body = body })
 
@@ -353,8 +374,9 @@ abbrev pub spell_on : ℕ → SessionUnit → List ℕ → List ℕ
 spell_on n (session_unit.Attach a) text = frame_on n (perf_text (attach_perf a text))
 spell_on n (session_unit.Flow f) text = frame_on n (perf_text (link_flow_perf f))
 spell_on n (session_unit.Transfer t) text = frame_on n (perf_text (transfer_perf t t.more) ++ text)
+spell_on n (session_unit.Dispose x) text = settle_text n x.first x.last (settle_of x.settle)
 spell_on n (session_unit.Settle x) text = frame_on n (perf_text (settle_perf x))
-spell_on n (session_unit.Detach link handle) text = end_text n (Detach handle) None
+spell_on n (session_unit.Detach link handle why) text = end_text n (Detach handle) why
 
 -- the bytes of a unit to the container that carries this
 abbrev pub spell_up : Context → UpUnit → List ℕ → List ℕ

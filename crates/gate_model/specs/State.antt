@@ -85,13 +85,19 @@ use Rattle.gate_model.specs.declared.channel.SessionUnit.{SessionUnit}
 use Rattle.gate_model.specs.declared.channel.SessionUnit.TheVariants as unit
 use Rattle.gate_model.specs.declared.life.SessionState.{SessionState}
 use Rattle.gate_model.specs.Lives.{is_of_channel}
-use Rattle.gate_model.specs.Paths.{attach_by, fault_by, is_laden, is_there, lines_in, link_flowed}
-use Rattle.gate_model.specs.Paths.{is_not_found, lost_path, name_in, told_paths}
+use Rattle.gate_model.specs.Paths.{attach_by, attach_fault_by, closed_path, closed_paths, fault_in}
+use Rattle.gate_model.specs.Paths.{is_laden, is_receiver, lines_in, link_flowed}
+use Rattle.gate_model.specs.Paths.{is_not_found, lost_path, told_paths}
 use Rattle.gate_model.specs.Paths.{no_paths, outcome_by, path_at, set_path}
-use Rattle.gate_model.specs.Paths.{text_of, with_path}
+use Rattle.gate_model.specs.Paths.{transfer_error, transferred, with_path}
+use Rattle.consume_path.specs.declared.delivery.Settle.{Settle}
+use Rattle.consume_path.specs.declared.delivery.Settle.TheVariants.{Accepted, Rejected, Released}
+use Rattle.session_path.specs.Due.{is_waiting}
+use Rattle.session_path.specs.Path.{answer_came, consumed, content_sent, content_whole}
+use Rattle.session_path.specs.Path.{deliver_sent, dispose_sent, end_lost}
 use Rattle.property_map.specs.Spelling.{image_text}
 use Rattle.property_map.specs.declared.told.Told.{Told}
-use Rattle.gate_model.specs.Session.{carried_by, fault_of, flow_sent, is_of_session, is_true}
+use Rattle.gate_model.specs.Session.{carried_by, flow_sent, is_of_session}
 use Rattle.gate_model.specs.Queue.{Waits, is_bad_unit, is_full, place_in, unit_at, without_at}
 use Rattle.performatives_10.specs.declared.condition.Condition.{Condition}
 
@@ -117,8 +123,9 @@ pub data Step : Type 0 where
   Joined : Linked → Step
   -- an end ended or failed, or was shut
   Lost : End → Loss → Step
-  -- the first byte of a unit was sent, which carries these bytes of the client's: the address of an
-  -- attach, the part of a payload of a transfer, a frame of a return; others carry none
+  -- the first byte of a unit was sent, which carries these bytes: the address of an attach, the
+  -- part of a payload of a transfer, a frame of a return or of a content, the method of a deliver,
+  -- a consumer tag; others carry none
   Gave : Outgoing → List ℕ → Step
   -- the last byte of the unit to an end was
   Whole : End → Step
@@ -274,11 +281,11 @@ fed_by false ms at = at
 -- ---- a unit of the client
 
 -- the connection after a unit, and what that wants
-abbrev pub conn_step : List Route → Connection → Unit91 → Connection
-conn_step routes c u = (client_step routes c u).0
+abbrev pub conn_step : List Route → List (Option PathState) → Connection → Unit91 → Connection
+conn_step routes ps c u = (client_step routes ps c u).0
 
-abbrev pub want_in : List Route → Connection → Unit91 → Want91
-want_in routes c u = (client_step routes c u).1
+abbrev pub want_in : List Route → List (Option PathState) → Connection → Unit91 → Want91
+want_in routes ps c u = (client_step routes ps c u).1
 
 -- what becomes due by what a unit wants: the gateway's close is due no more once the client closed
 abbrev pub with_want : Want91 → Pending → Pending
@@ -346,30 +353,45 @@ is_foreign stream.Answered = false
 is_foreign stream.Ended = false
 
 -- they just turned out to be none: the gateway's own header is due
-abbrev pub turns_foreign : List Route → Connection → Unit91 → Bool
-turns_foreign routes c u =
-    is_foreign (conn_step routes c u).stream && not (is_foreign c.stream)
+abbrev pub turns_foreign : List Route → List (Option PathState) → Connection → Unit91 → Bool
+turns_foreign routes ps c u =
+    is_foreign (conn_step routes ps c u).stream && not (is_foreign c.stream)
 
 abbrev pub with_header : Bool → Pending → Pending
 with_header foreign p = record p { protocol = p.protocol || foreign }
 
 -- ---- channels
 
--- the requests of a channel that need nothing of the container
+-- the requests of a channel
 abbrev pub answered_if : Bool → PathOk → PathState → PathState
 answered_if no_wait ok s = if no_wait then s else owed ok s
+
+-- what a reject or a nack makes of deliveries (AMQP 0-9-1 1.8.3.14)
+abbrev pub settle_by : Bool → Settle
+settle_by requeue = if requeue then Released else Rejected
 
 abbrev pub path_by : Method91 → PathState → PathState
 path_by (method.ChannelFlow active) s = owed ok.Flow s
 path_by (method.ExchangeDeclare name kind passive durable deletes internal no_wait arguments) s =
     answered_if no_wait ok.Declare s
 path_by (method.ConfirmSelect no_wait) s = answered_if no_wait ok.Select (selected s)
+path_by (method.BasicConsume queue tag no_local no_ack exclusive no_wait arguments) s =
+    consumed queue tag no_ack no_wait s
+path_by (method.BasicAck tag multiple) s = answer_came tag multiple Accepted s
+path_by (method.BasicReject tag requeue) s = answer_came tag false (settle_by requeue) s
+path_by (method.BasicNack tag multiple requeue) s = answer_came tag multiple (settle_by requeue) s
+path_by (method.ChannelClose code text class id) s = closed_path s
 path_by m s = s
 
 -- a channel that is opened begins anew, as this life of the connection
 abbrev pub paths_with : ℕ → ℕ → Method91 → List (Option PathState) → List (Option PathState)
 paths_with life n method.ChannelOpen ps = set_path n (session.opened life) ps
 paths_with life n m ps = with_path n (path_by m) ps
+
+-- a refusal is the closing event of what it closes
+abbrev pub refused_paths : Refusal → List (Option PathState) → List (Option PathState)
+refused_paths r ps =
+    if is_of_channel r then with_path r.channel closed_path ps else closed_paths ps
 
 -- the paths of channels after what a unit of a client wants that takes frames of so many bytes
 abbrev pub paths_by : List Route → ℕ → ℕ → Want91 → List (Option PathState)
@@ -385,9 +407,9 @@ paths_by routes limit life (want.Publish n m c) ps =
     (published (address_of routes (message_of m c)) (image_text (message_of m c))
     (back_of limit n m (message_of m c))) ps
 paths_by routes limit life (want.ChannelCloseOk n) ps = ps
-paths_by routes limit life want.Close ps = ps
+paths_by routes limit life want.Close ps = closed_paths ps
 paths_by routes limit life want.CloseOk ps = ps
-paths_by routes limit life (want.Refuse r) ps = ps
+paths_by routes limit life (want.Refuse r) ps = refused_paths r ps
 
 abbrev pub opens_by_method : Method91 → ℕ
 opens_by_method method.ChannelOpen = 1
@@ -412,14 +434,14 @@ met closing told x w = record w {
 -- the connection after a unit, what is due by that, and the moment of the first closing event
 abbrev pub stepped : State → Unit91 → State
 stepped w u =
-    met (is_closing w.conn) (client_told w.routes w.conn u) (want_in w.routes w.conn u)
-    (record w { conn = conn_step w.routes w.conn u })
+    met (is_closing w.conn) (client_told w.routes w.conn u) (want_in w.routes w.paths w.conn u)
+    (record w { conn = conn_step w.routes w.paths w.conn u })
 
 abbrev pub came : State → Unit91 → State
 came w u =
     let v = stepped w u in
     record v {
-      pending = with_header (turns_foreign w.routes w.conn u) v.pending;
+      pending = with_header (turns_foreign w.routes w.paths w.conn u) v.pending;
       fed_at = fed_by (is_held v) w.moment w.fed_at;
       closed_at = closes_at w.closed_at (is_closing v.conn) w.moment;
     }
@@ -444,43 +466,46 @@ opened w = if is_opening w.conn then runs w else w
 
 -- ---- sessions
 
--- the container is at fault on a session: its channel closes, unless that is closing already
-abbrev pub life_failed : ℕ → Refusal → Option Condition → State → State
-life_failed n r why w = record w {
+-- the container is the cause that a channel closes, unless that is closing already
+abbrev pub life_failed : ℕ → Refusal → Option Condition → (PathState → PathState) → State → State
+life_failed n r why f w = record w {
   conn = after_closing scope.Channel n w.conn;
-  lives = with_life n (failed_life true w.moment (reason_of None r) why (life_at w.lives n)) w.lives;
-  paths = with_path n lost_path w.paths;
+  lives = with_life n
+      (failed_life true w.moment (reason_of None r) why (life_at w.lives n)) w.lives;
+  paths = with_path n f w.paths;
 }
 
-abbrev pub fail_life : ℕ → ℕ → Option Condition → State → State
-fail_life n code why w =
-    if is_open w.conn n then life_failed n (refusal_on n code) why w else w
+abbrev pub fail_life : ℕ → ℕ → Option Condition → (PathState → PathState) → State → State
+fail_life n code why f w =
+    if is_open w.conn n then life_failed n (refusal_on n code) why f w else w
 
 -- the session and its links after a performative of the container, by the code of its descriptor
--- (AMQP 1.0 2.7)
-abbrev pub path_heard : Parts → PathState → PathState
-path_heard p s =
+-- (AMQP 1.0 2.7), on channel n of a client that takes frames of so many bytes
+abbrev pub path_heard : ℕ → ℕ → Parts → List ℕ → PathState → PathState
+path_heard limit n p payload s =
     if p.0 == 17 then session.began (number_at p.1 4) s
-    else if p.0 == 18 then attach_by (name_in (text_of (field p.1 0))) (number_at p.1 1)
-    (is_there (field p.1 6)) s
+    else if p.0 == 18 then attach_by p.1 s
     else if p.0 == 19 && not (is_of_session p.1) then link_flowed p.1 s
+    else if p.0 == 20 then transferred limit n p.1 payload s
     else if p.0 == 21 then outcome_by p.1 s
-    else if p.0 == 22 then detach_came (number_at p.1 0) (is_not_found (condition_in (field p.1 2))) s
+    else if p.0 == 22 then
+    detach_came (number_at p.1 0) (is_not_found (condition_in (field p.1 2))) s
     else if p.0 == 23 then lost_path s
     else s
 
-abbrev pub carried : ℕ → Parts → State → State
-carried n p w = record w {
+abbrev pub carried : ℕ → Parts → List ℕ → State → State
+carried n p payload w = record w {
   lives = with_state n (carried_by p (life_at w.lives n).session) w.lives;
-  paths = with_path n (path_heard p) w.paths;
+  paths = with_path n (path_heard w.conn.limits.frame_max n p payload) w.paths;
 }
 
 abbrev pub begun_session : ℕ → State → State
 begun_session n w = record w { lives = with_life n (begun_life (life_at w.lives n)) w.lives }
 
--- what one closes that is wrong (AMQP 1.0 2.6.2, 2.6.3, 2.6.7): an attach of a sender, under a name
--- that isn't asked for, or with a handle in use, the connection; a flow or a detach of no link, and
--- a transfer, the channel
+-- what one closes that is wrong (AMQP 1.0 2.5.6, 2.6.2, 2.6.3, 2.6.7, 2.7.5): an attach under a
+-- name that isn't asked for with the other role, or with a handle in use, the connection; a flow or
+-- a detach of no link, and a transfer past the window, of no receiving link, or with a wrong field,
+-- the channel
 abbrev pub unattached : Bool → Option Scope
 unattached true = None
 unattached false = Some scope.Channel
@@ -489,15 +514,16 @@ abbrev pub attach_scope : Option AttachFault → Option Scope
 attach_scope None = None
 attach_scope (Some f) = Some scope.Connection
 
-abbrev pub link_scope : Parts → PathState → Option Scope
-link_scope p s =
-    if p.0 == 18 then
-    (if is_true (field p.1 2) then
-    attach_scope (fault_by (name_in (text_of (field p.1 0))) (number_at p.1 1) s)
-    else Some scope.Connection)
+abbrev pub transfer_scope : Option Condition → Option Scope
+transfer_scope None = None
+transfer_scope (Some c) = Some scope.Channel
+
+abbrev pub link_scope : Parts → List ℕ → SessionState → PathState → Option Scope
+link_scope p payload x s =
+    if p.0 == 18 then attach_scope (attach_fault_by p.1 s)
     else if p.0 == 19 && not (is_of_session p.1) then
     unattached (is_some (named (number_at p.1 4) s.links))
-    else if p.0 == 20 then Some scope.Channel
+    else if p.0 == 20 then transfer_scope (transfer_error p.1 payload x s)
     else if p.0 == 22 then unattached (is_some (named (number_at p.1 0) s.links))
     else None
 
@@ -508,19 +534,32 @@ attach_condition (Some NotAsked) = NotAllowed
 attach_condition (Some HandleInUse) = condition.HandleInUse
 
 abbrev pub closing_error : Parts → PathState → Condition
-closing_error p s =
-    if is_true (field p.1 2) then
-    attach_condition (fault_by (name_in (text_of (field p.1 0))) (number_at p.1 1) s)
-    else NotAllowed
+closing_error p s = attach_condition (attach_fault_by p.1 s)
 
-abbrev pub ending_error : Parts → SessionState → Condition
-ending_error p x = if p.0 == 20 then fault_of p x else UnattachedHandle
+abbrev pub or_unattached : Option Condition → Condition
+or_unattached None = UnattachedHandle
+or_unattached (Some c) = c
 
-abbrev pub met_session : ℕ → Parts → State → State
-met_session n p w =
-    if p.0 == 17 then begun_session n w
-    else if p.0 == 23 then fail_life n (code_by (condition_in (field p.1 0)) scope.Channel) None w
-    else w
+abbrev pub ending_error : Parts → List ℕ → SessionState → PathState → Condition
+ending_error p payload x s =
+    if p.0 == 20 then or_unattached (transfer_error p.1 payload x s) else UnattachedHandle
+
+-- one that isn't at fault closes the channel with this code: an end, a detach of a receiving link,
+-- and a transfer that passes a limit of its link (AMQP 1.0 2.6.5, 2.7.3, 2.7.9)
+abbrev pub closing_code : Parts → List ℕ → PathState → Option ℕ
+closing_code p payload s =
+    if p.0 == 23 then Some (code_by (condition_in (field p.1 0)) scope.Channel)
+    else if (p.0 == 22) && is_receiver (number_at p.1 0) s then
+    Some (code_by (condition_in (field p.1 2)) scope.Channel)
+    else if (p.0 == 20) && is_some (fault_in p.1 payload s) then Some PRECONDITION_FAILED
+    else None
+
+abbrev pub closed_for : ℕ → Option ℕ → State → State
+closed_for n None w = w
+closed_for n (Some code) w = fail_life n code None closed_path w
+
+abbrev pub met_session : ℕ → Parts → Option ℕ → State → State
+met_session n p code w = if p.0 == 17 then begun_session n w else closed_for n code w
 
 -- the windows of the session alone
 abbrev pub windowed : ℕ → Parts → State → State
@@ -528,16 +567,19 @@ windowed n p w =
     record w { lives = with_state n (carried_by p (life_at w.lives n).session) w.lives }
 
 -- where it is at fault, that alone counts, but for the windows
-abbrev pub scoped : Option Scope → ℕ → Parts → State → State
-scoped None n p w = met_session n p (carried n p w)
-scoped (Some scope.Connection) n p w =
+abbrev pub scoped : Option Scope → ℕ → Parts → List ℕ → State → State
+scoped None n p payload w =
+    met_session n p (closing_code p payload (path_at w.paths n)) (carried n p payload w)
+scoped (Some scope.Connection) n p payload w =
     fail INTERNAL_ERROR (Some (closing_error p (path_at w.paths n))) (windowed n p w)
-scoped (Some scope.Channel) n p w =
-    fail_life n PRECONDITION_FAILED (Some (ending_error p (life_at w.lives n).session))
+scoped (Some scope.Channel) n p payload w =
+    fail_life n PRECONDITION_FAILED
+    (Some (ending_error p payload (life_at w.lives n).session (path_at w.paths n))) lost_path
     (windowed n p w)
 
-abbrev pub with_session : ℕ → Parts → State → State
-with_session n p w = scoped (link_scope p (path_at w.paths n)) n p w
+abbrev pub with_session : ℕ → Parts → List ℕ → State → State
+with_session n p payload w =
+    scoped (link_scope p payload (life_at w.lives n).session (path_at w.paths n)) n p payload w
 
 -- what a unit of the container means: a refused login isn't allowed, a close has the code of its
 -- condition, and a unit out of order is an error of the container
@@ -546,7 +588,7 @@ with_meaning ten.Nothing w = w
 with_meaning ten.Init w = record w { up = with_init w.up }
 with_meaning ten.AmqpHeader w = record w { up = with_amqp_header w.up }
 with_meaning ten.Opened w = opened w
-with_meaning (ten.OfSession g p payload) w = with_session g p w
+with_meaning (ten.OfSession g p payload) w = with_session g p payload w
 with_meaning (ten.Closed e) w = fail (code_by (condition_in e) scope.Connection) None w
 with_meaning ten.Refused w = fail NOT_ALLOWED None w
 with_meaning (ten.Violation c) w = fail INTERNAL_ERROR (Some c) w
@@ -559,11 +601,13 @@ heard w u = with_meaning (meaning_by w.up.container u) (record w { up = heard_up
 abbrev pub is_channel_settled : State → ℕ → Bool
 is_channel_settled w n = is_settled w || is_done (session_in w.up.container n)
 
--- channel.open waits for the container's begin, and channel.close of an open channel for its end;
--- the closing event of the connection decides both
+-- channel.open waits for the container's begin, basic.consume for its attach, and channel.close of
+-- an open channel for its end; the closing event of the connection decides all
 abbrev pub life_waits : State → ℕ → Life → Bool
 life_waits w n l =
-    not (is_closing w.conn) && (l.waits || (l.awaits_end && not (is_channel_settled w n)))
+    not (is_closing w.conn)
+    && (l.waits || (is_waiting (path_at w.paths n)
+    || (l.awaits_end && not (is_channel_settled w n))))
 
 abbrev pub waits : State → Waits
 waits w = record {
@@ -633,7 +677,7 @@ has_left stream.Ended = true
 
 -- what was reported before isn't again
 abbrev pub paths_lost : List (Option PathState) → List (Option PathState)
-paths_lost ps = map (option_map lost_path) (told_paths ps)
+paths_lost ps = map (option_map end_lost) (told_paths ps)
 
 -- the upstream end is lost: the client is told so
 abbrev pub lost_up : Side → State → State
@@ -655,6 +699,7 @@ lost w Up loss.Shut = record w { up = shut_by w.up; paths = paths_lost w.paths }
 abbrev pub left : State → State
 left w = record w {
   conn = after_ended w.conn;
+  paths = closed_paths w.paths;
   pending = record w.pending { close = None };
   up = closing_with (is_closing w.conn) None w.up;
   closed_at = closes_at w.closed_at true w.moment;
@@ -687,6 +732,7 @@ last_pending phase.Closed p = record none_pending { close_ok = p.close_ok }
 abbrev pub ran_out : State → State
 ran_out w = record w {
   conn = close w.conn;
+  paths = closed_paths w.paths;
   pending = last_pending w.conn.phase w.pending;
   up = closing_with (is_closing w.conn) (Some (condition_of RESOURCE_ERROR)) w.up;
   queue = [];
@@ -751,8 +797,9 @@ abbrev pub session_by : SessionUnit → SessionState → SessionState
 session_by (unit.Attach a) s = s
 session_by (unit.Flow f) s = record s { windows = after_flow_sent s.windows }
 session_by (unit.Transfer t) s = record s { windows = after_sent s.windows }
+session_by (unit.Dispose x) s = s
 session_by (unit.Settle x) s = s
-session_by (unit.Detach link handle) s = s
+session_by (unit.Detach link handle why) s = s
 
 abbrev pub sessions_by : ℕ → SessionUnit → List Life → List Life
 sessions_by n u ls = with_state n (session_by u (life_at ls n).session) ls
@@ -762,8 +809,9 @@ abbrev pub path_given : SessionUnit → PathState → PathState
 path_given (unit.Attach a) s = attach_sent a.name s
 path_given (unit.Flow f) s = link_flow_sent s
 path_given (unit.Transfer t) s = transfer_sent t.frame t.bytes s
+path_given (unit.Dispose x) s = dispose_sent s
 path_given (unit.Settle x) s = settle_sent s
-path_given (unit.Detach link handle) s = detach_sent s
+path_given (unit.Detach link handle why) s = detach_sent s
 
 abbrev pub paths_given_up : UpUnit → List (Option PathState) → List (Option PathState)
 paths_given_up (up.OnSession n u) ps = with_path n (path_given u) ps
@@ -782,6 +830,8 @@ attached_by u k = k
 -- what a unit to the client makes of a channel's answers
 abbrev pub path_told : ChannelUnit → PathState → PathState
 path_told (to_client.Ok x) s = ok_sent s
+path_told (to_client.Deliver d) s = deliver_sent d s
+path_told (to_client.Content c) s = content_sent s
 path_told (to_client.Confirm c) s = confirm_sent c s
 path_told (to_client.Return r) s = return_sent r.publish s
 
@@ -833,9 +883,22 @@ with_last (Some (reply.ChannelCloseOk n)) s = s
 with_last (Some (reply.CrossedOk n)) s = s
 with_last (Some (reply.ChannelClose n r)) s = s
 
+-- the last frame of a content was sent whole
+abbrev pub path_wrote : ChannelUnit → PathState → PathState
+path_wrote (to_client.Ok x) s = s
+path_wrote (to_client.Deliver d) s = s
+path_wrote (to_client.Content c) s = if c.last then content_whole c.tag s else s
+path_wrote (to_client.Confirm c) s = s
+path_wrote (to_client.Return r) s = s
+
+abbrev pub paths_wrote : Option Reply → List (Option PathState) → List (Option PathState)
+paths_wrote (Some (reply.OnChannel n u)) ps = with_path n (path_wrote u) ps
+paths_wrote u ps = ps
+
 abbrev pub wrote : State → End → State
 wrote w Client = record w {
   in_progress = None;
+  paths = paths_wrote w.in_progress w.paths;
   sent_last = with_last w.in_progress w.sent_last;
   last_sent_at = w.moment;
 }

@@ -27,9 +27,11 @@ ghost use Rattle.gate_model.specs.Times.{BeatsAtOnce, BeatsWhenDue, LateCloses, 
 ghost use Rattle.gate_model.specs.Waiting.{ChannelsEndWhenSettled, EndsWhenSettled};
 ghost use Rattle.gate_model.specs.Waiting.{OpensWhenOpened};
 
+use consume_path::delivery_lines_lawfully;
 use machine_091::connection_laws;
+use property_map::received_lawfully;
 use publish_path::{confirms_lawfully, lines_lawfully, payloads_lawfully, returns_lawfully};
-use session_path::publishes_lawfully;
+use session_path::{deliveries_lawfully, publishes_lawfully};
 
 /// The state knows both connections, how far the upstream end is, the last moment, whether the pair
 /// ran out of memory and its number, as the folds tell them.
@@ -93,14 +95,17 @@ pub fn payloads_are_whole()
     payloads_lawfully();
 }
 
-/// What the report is owed of publishes: of each life in progress, by rising number, the publishes
-/// that were lost before they had an outcome and of which no line was reported, by rising number,
-/// and what became of each. By `publish_path::lines_lawfully` each of them has one line.
+/// What the report is owed: of each life in progress, by rising number, the publishes that were
+/// lost before they had an outcome, and then the deliveries that were lost or left. Of both those
+/// of which no line was reported, by rising number, and what became of each. By
+/// `publish_path::lines_lawfully` and `consume_path::delivery_lines_lawfully` each has one line.
 pub fn lines_are_lawful()
     ensures { (h : List Step) → ArePicks h → owed_lines (before h) ≡ lines_owed h }
 {
     publishes_lawfully();
     lines_lawfully();
+    deliveries_lawfully();
+    delivery_lines_lawfully();
 }
 
 /// What was sent to a client, without heartbeats, and what is due to it are the replies to its
@@ -186,10 +191,12 @@ pub fn frames_fit_clients()
     connection_laws();
     publishes_lawfully();
     returns_lawfully();
+    deliveries_lawfully();
+    received_lawfully();
 }
 
-/// No unit to a client but the frames of returns has over 512 bytes, an eighth of the least
-/// frame-max, and each has some.
+/// No unit to a client has over 512 bytes, an eighth of the least frame-max, and each has some; but
+/// for basic.deliver, basic.consume-ok, and the frames of returns and contents.
 #[tactic(auto, using(crate::proofs::Spelled::spelled_small, crate::proofs::Spelled::spelled_some))]
 pub fn units_are_short()
     ensures small { (unit : Reply) (text : List ℕ) → takes_memory_back unit ≡ false
