@@ -16,18 +16,20 @@ use Rattle.gate_model.specs.declared.channel.SessionUnit.{SessionUnit}
 use Rattle.gate_model.specs.declared.outgoing.Outgoing.TheVariants.{ToClient, ToUp}
 use Rattle.gate_model.specs.declared.outgoing.UpUnit.{UpUnit}
 use Rattle.gate_model.specs.declared.outgoing.UpUnit.TheVariants as up
-use Rattle.gate_model.specs.Due.{carried_rows, close_behind, detaches, ends, is_end_due, none_left}
+use Rattle.gate_model.specs.Due.{answers, carried_rows, close_behind, detaches, disposals, ends}
+use Rattle.gate_model.specs.Due.{is_end_due, none_left, writings}
 use Rattle.gate_model.specs.Due.{pick, row_on, rows_in, session_rows, settlings, takes_memory}
 use Rattle.gate_model.specs.Due.{takes_memory_on, takes_memory_up, unless_out, up_rows}
 use Rattle.gate_model.specs.Due.{channel_closes, channel_oks, client_rows, client_units, close_oks}
 use Rattle.gate_model.specs.Due.{closes, confirm_on, confirms, contents, if_so, is_beat_due}
 use Rattle.gate_model.specs.Due.{last_closes, may_answer, may_confirm, may_end, may_go, may_return}
-use Rattle.gate_model.specs.Due.{may_tell, ok_on, open_oks, openings, path_oks, refused_on}
+use Rattle.gate_model.specs.Due.{may_tell, openings, refused_on}
 use Rattle.gate_model.specs.Due.{return_on, takes_memory_back, when}
 use Rattle.gate_model.specs.Lives.{is_carried, life_at, session_in}
-use Rattle.gate_model.specs.Paths.{path_at}
+use Rattle.gate_model.specs.Paths.{closed_path, path_at}
 use Rattle.gate_model.specs.State.{is_channel_settled, is_settled}
-use Rattle.gate_model.specs.State.{State, Heard, begun_session, carried, fail, fail_life, heard}
+use Rattle.gate_model.specs.State.{State, Heard, begun_session, carried, closed_for, fail}
+use Rattle.gate_model.specs.State.{fail_life, heard}
 use Rattle.gate_model.specs.State.{link_scope, met_session, scoped, step, windowed, with_meaning}
 use Rattle.gate_model.specs.State.{with_session}
 use Rattle.gate_model.specs.Upstream.{first, heard_up, meaning_by}
@@ -37,8 +39,8 @@ use Rattle.gate_model.specs.declared.reply.Reply.TheVariants as reply
 use Rattle.machine_091.specs.declared.unit.Refusal.{Refusal}
 use Rattle.publish_path.specs.declared.publish.Confirm.{Confirm}
 use Rattle.publish_path.specs.declared.publish.NextReturn.{NextReturn}
-use Rattle.session_path.specs.Due.{next_confirm, next_ok, next_return}
-use Rattle.session_path.specs.declared.path.PathOk.{PathOk}
+use Rattle.session_path.specs.Due.{next_confirm, next_return}
+use Rattle.session_path.specs.Path.{PathState}
 use Rattle.bridge_core.proofs.FirstOf.{FirstIs, both_are, each_is, when_is, when_up_is}
 
 either : (b : Bool) (v w : State) → v.out_of_memory ≡ false → w.out_of_memory ≡ false → (if b then v else w).out_of_memory ≡ false
@@ -48,26 +50,30 @@ either false v w d e = e
 fail_calm : (code : ℕ) (why : Option Condition) (w : State) → w.out_of_memory ≡ false → (fail code why w).out_of_memory ≡ false
 fail_calm code why w e = either (is_closing w.conn) w _ e e
 
-life_calm : (n code : ℕ) (why : Option Condition) (w : State) → w.out_of_memory ≡ false → (fail_life n code why w).out_of_memory ≡ false
-life_calm n code why w e = either (is_open w.conn n) _ w e e
+life_calm : (n code : ℕ) (why : Option Condition) (f : PathState → PathState) (w : State) → w.out_of_memory ≡ false → (fail_life n code why f w).out_of_memory ≡ false
+life_calm n code why f w e = either (is_open w.conn n) _ w e e
 
-met_calm : (n : ℕ) (p : Parts) (w : State) → w.out_of_memory ≡ false → (met_session n p w).out_of_memory ≡ false
-met_calm n p w e = either (p.0 == 17) (begun_session n w) _ e (either (p.0 == 23) _ w (life_calm n _ _ w e) e)
+closed_calm : (n : ℕ) (code : Option ℕ) (w : State) → w.out_of_memory ≡ false → (closed_for n code w).out_of_memory ≡ false
+closed_calm n None w e = e
+closed_calm n (Some code) w e = life_calm n code None closed_path w e
 
-scoped_calm : (o : Option Scope) (n : ℕ) (p : Parts) (w : State) → w.out_of_memory ≡ false → (scoped o n p w).out_of_memory ≡ false
-scoped_calm None n p w e = met_calm n p (carried n p w) e
-scoped_calm (Some scope.Connection) n p w e = fail_calm _ _ (windowed n p w) e
-scoped_calm (Some scope.Channel) n p w e = life_calm n _ _ (windowed n p w) e
+met_calm : (n : ℕ) (p : Parts) (code : Option ℕ) (w : State) → w.out_of_memory ≡ false → (met_session n p code w).out_of_memory ≡ false
+met_calm n p code w e = either (p.0 == 17) (begun_session n w) _ e (closed_calm n code w e)
 
-session_calm : (n : ℕ) (p : Parts) (w : State) → w.out_of_memory ≡ false → (with_session n p w).out_of_memory ≡ false
-session_calm n p w e = scoped_calm (link_scope p (path_at w.paths n)) n p w e
+scoped_calm : (o : Option Scope) (n : ℕ) (p : Parts) (payload : List ℕ) (w : State) → w.out_of_memory ≡ false → (scoped o n p payload w).out_of_memory ≡ false
+scoped_calm None n p payload w e = met_calm n p _ (carried n p payload w) e
+scoped_calm (Some scope.Connection) n p payload w e = fail_calm _ _ (windowed n p w) e
+scoped_calm (Some scope.Channel) n p payload w e = life_calm n _ _ _ (windowed n p w) e
+
+session_calm : (n : ℕ) (p : Parts) (payload : List ℕ) (w : State) → w.out_of_memory ≡ false → (with_session n p payload w).out_of_memory ≡ false
+session_calm n p payload w e = scoped_calm (link_scope p payload (life_at w.lives n).session (path_at w.paths n)) n p payload w e
 
 meaning_calm : (m : Meaning) (w : State) → w.out_of_memory ≡ false → (with_meaning m w).out_of_memory ≡ false
 meaning_calm means.Nothing w e = e
 meaning_calm means.Init w e = e
 meaning_calm means.AmqpHeader w e = e
 meaning_calm means.Opened w e = either (is_opening w.conn) _ w e e
-meaning_calm (means.OfSession g p payload) w e = session_calm g p w e
+meaning_calm (means.OfSession g p payload) w e = session_calm g p payload w e
 meaning_calm (means.Closed t) w e = either (is_closing w.conn) w _ e e
 meaning_calm means.Refused w e = either (is_closing w.conn) w _ e e
 meaning_calm (means.Violation c) w e = either (is_closing w.conn) w _ e e
@@ -88,8 +94,9 @@ row_free w n (Some x) f free = when_up_is IsFree (is_carried (session_in w.up.co
 sessions_free : (w : State) → w.out_of_memory ≡ true → FirstIs IsFree (session_rows w)
 sessions_free w m =
     both_are IsFree (unless_out w.out_of_memory (carried_rows w)) _ (by w.out_of_memory m)
+    (both_are IsFree (disposals w) _ (each_is IsFree _ w.lives (λ n. row_free w n _ _ (λ x. refl)))
     (both_are IsFree (settlings w) (detaches w) (each_is IsFree _ w.lives (λ n. row_free w n _ _ (λ x. refl)))
-    (each_is IsFree _ w.lives (λ n. row_free w n _ _ (λ x. refl))))
+    (each_is IsFree _ w.lives (λ n. row_free w n _ _ (λ x. refl)))))
   where
     by : (b : Bool) → b ≡ true → FirstIs IsFree (unless_out b (carried_rows w))
     by true e = tt
@@ -129,17 +136,13 @@ calm_pick w e = by w.out_of_memory refl
 abbrev IsLight : Reply → Type 0
 IsLight u = takes_memory_back u ≡ false
 
+none_so : (b : Bool) (us : List Reply) → b ≡ false → FirstIs IsLight (if_so b us)
+none_so true us e = absurd cc
+none_so false us e = tt
+
 if_light : (b : Bool) (us : List Reply) → (b ≡ true → FirstIs IsLight us) → FirstIs IsLight (if_so b us)
 if_light true us light = light refl
 if_light false us light = tt
-
-ok_light : (n : ℕ) (o : Option PathOk) → FirstIs IsLight (ok_on n o)
-ok_light n None = tt
-ok_light n (Some x) = refl
-
-oks_light : (n : ℕ) (over : Bool) (o : Option PathOk) → FirstIs IsLight (if over then [] else ok_on n o)
-oks_light n true o = tt
-oks_light n false o = ok_light n o
 
 confirm_light : (n : ℕ) (may : Bool) (o : Option Confirm) → FirstIs IsLight (confirm_on may n o)
 confirm_light n may None = tt
@@ -169,26 +172,26 @@ none_out : (b c : Bool) → b ≡ true → (not b && c) ≡ false
 none_out true c e = refl
 none_out false c e = absurd cc
 
+none_answers : (b c : Bool) → b ≡ true → not (b || c) ≡ false
+none_answers true c e = refl
+none_answers false c e = absurd cc
+
 client_light : (w : State) → w.out_of_memory ≡ true → FirstIs IsLight (client_rows w)
 client_light w m =
     both_are IsLight (client_units w) _
-    (both_are IsLight (if_so (may_return w) (contents w)) _ (if_light (may_return w) (contents w) (λ e. let wrong : true ≡ false = sym e ∙ none_out w.out_of_memory _ m in absurd cc))
+    (both_are IsLight (if_so (may_return w) (contents w)) _ (none_so (may_return w) (contents w) (none_out w.out_of_memory _ m))
+    (both_are IsLight (if_so (may_answer w) (writings w)) _ (none_so (may_answer w) (writings w) (none_answers w.out_of_memory (is_closing w.conn) m))
     (both_are IsLight (openings p) _ (opening_light p)
-    (both_are IsLight (if_so (may_answer w) (open_oks w ++ path_oks w)) _ (if_light (may_answer w) _ (λ e. answering))
+    (both_are IsLight (if_so (may_answer w) (answers w)) _ (none_so (may_answer w) (answers w) (none_answers w.out_of_memory (is_closing w.conn) m))
     (both_are IsLight (if_so (may_answer w || w.by_peer) (confirms w)) _ (if_light (may_answer w || w.by_peer) (confirms w) (λ e. confirming))
     (both_are IsLight (close_oks p) _ (when_is IsLight p.close_ok reply.CloseOk refl)
     (both_are IsLight (if_so (may_end w) (channel_oks w)) _ (if_light (may_end w) (channel_oks w) (λ e. ended))
     (both_are IsLight (last_closes p) _ (both_are IsLight (closes p.close) _ (close_light p.close) (when_is IsLight p.no_memory reply.NoMemory refl))
-    (if_light (may_tell w) (channel_closes w) (λ e. each_is IsLight _ w.lives (λ n. refused_light n (is_channel_settled w n) (life_at w.lives n).close))))))))))
+    (if_light (may_tell w) (channel_closes w) (λ e. each_is IsLight _ w.lives (λ n. refused_light n (is_channel_settled w n) (life_at w.lives n).close)))))))))))
     (when_is IsLight (is_beat_due w) reply.Heartbeat refl)
   where
     p : Pending
     p = may_go (is_settled w) w.pending
-
-    answering : FirstIs IsLight (open_oks w ++ path_oks w)
-    answering =
-        both_are IsLight (open_oks w) (path_oks w) (each_is IsLight _ w.lives (λ n. when_is IsLight (life_at w.lives n).open_ok (reply.ChannelOpenOk n) refl))
-        (each_is IsLight _ w.lives (λ n. oks_light n (life_at w.lives n).over (next_ok (path_at w.paths n))))
 
     confirming : FirstIs IsLight (confirms w)
     confirming = each_is IsLight _ w.lives (λ n. both_are IsLight (return_on (not w.out_of_memory && may_confirm (life_at w.lives n)) n (next_return (path_at w.paths n))) _

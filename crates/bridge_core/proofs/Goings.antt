@@ -1,6 +1,6 @@
 -- What goes next may go: a frame of a transfer is the one that is due, and so is a confirm.
 use Rattle.std.proofs.Common.{◌≡◌, ◌≤◌, ℕ, ◌==◌, not, ◌&&◌, ◌||◌, Bool, true, false, if◌then◌else◌}
-use Rattle.std.proofs.Common.{List, [], ◌∷◌, ◌++◌, Option, None, Some, arith, refl, subst, sym, map}
+use Rattle.std.proofs.Common.{List, [], ◌∷◌, Option, None, Some, arith, refl, subst, sym, map}
 use Rattle.std.specs.Prelude.{IfSome}
 use Rattle.std.proofs.lemmas.Bool.Decides.{nat_tests}
 use Rattle.gate_outside.specs.declared.ports.End.TheVariants.{Client, Up}
@@ -11,7 +11,10 @@ use Rattle.publish_path.specs.Offers.{next_frame_of}
 use Rattle.publish_path.specs.declared.publish.Confirm.{Confirm}
 use Rattle.publish_path.specs.declared.publish.NextFrame.{NextFrame}
 use Rattle.publish_path.specs.declared.publish.NextReturn.{NextReturn}
-use Rattle.session_path.specs.Due.{next_confirm, next_frame, next_ok, next_return}
+use Rattle.session_path.specs.Due.{next_confirm, next_content, next_deliver, next_frame}
+use Rattle.session_path.specs.Due.{next_ok, next_return}
+use Rattle.session_path.specs.declared.path.ContentDue.{ContentDue}
+use Rattle.session_path.specs.declared.path.DeliverDue.{DeliverDue}
 use Rattle.session_path.specs.Path.{PathState}
 use Rattle.session_path.specs.declared.path.PathOk.{PathOk}
 use Rattle.gate_model.specs.declared.reply.Reason.{Reason}
@@ -25,12 +28,14 @@ use Rattle.gate_model.specs.declared.outgoing.UpUnit.TheVariants as up
 use Rattle.gate_model.specs.declared.reply.Pending.{Pending}
 use Rattle.gate_model.specs.declared.reply.Reply.{Reply}
 use Rattle.gate_model.specs.declared.reply.Reply.TheVariants as reply
+use Rattle.gate_model.specs.Due.{answers, consume_ok_on, consume_oks, deliver_on, delivers}
+use Rattle.gate_model.specs.Due.{disposals, is_consume_ok, writing_on, writings}
 use Rattle.gate_model.specs.Due.{attaches, begins, carried_rows, carries_back, channel_closes}
 use Rattle.gate_model.specs.Due.{channel_oks, content_on, contents, may_return, return_on}
 use Rattle.gate_model.specs.Due.{client_rows, client_units, close_behind, close_oks, close_oks_on}
 use Rattle.gate_model.specs.Due.{closes, confirm_on, confirms, detaches, ends, frame_max_in, if_so}
 use Rattle.gate_model.specs.Due.{is_beat_due, is_end_due, last_closes, link_flows, may_answer}
-use Rattle.gate_model.specs.Due.{may_confirm, may_end, may_go, may_tell, none_left, ok_on, oks_on}
+use Rattle.gate_model.specs.Due.{may_confirm, may_end, may_go, may_tell, none_left, ok_on}
 use Rattle.gate_model.specs.Due.{open_oks, openings, path_oks, pick, refused_on, row_on, rows_in}
 use Rattle.gate_model.specs.Due.{session_flows, session_rows, settlings, transfers, unless_out}
 use Rattle.gate_model.specs.Due.{up_rows, when}
@@ -80,8 +85,9 @@ carried_are w =
 sessions_are : (w : State) → FirstIs (MayGoUp w) (session_rows w)
 sessions_are w =
     both_are (MayGoUp w) (unless_out w.out_of_memory (carried_rows w)) _ (by w.out_of_memory)
+    (both_are (MayGoUp w) (disposals w) _ (each_is (MayGoUp w) _ w.lives (λ n. row_is w n _ _ (λ x e. (tt, tt))))
     (both_are (MayGoUp w) (settlings w) (detaches w) (each_is (MayGoUp w) _ w.lives (λ n. row_is w n _ _ (λ x e. (tt, tt))))
-    (each_is (MayGoUp w) _ w.lives (λ n. row_is w n _ _ (λ x e. (tt, tt)))))
+    (each_is (MayGoUp w) _ w.lives (λ n. row_is w n _ _ (λ x e. (tt, tt))))))
   where
     by : (b : Bool) → FirstIs (MayGoUp w) (unless_out b (carried_rows w))
     by true = tt
@@ -116,16 +122,39 @@ up_are w = by (is_readable w.up.side && not w.up.sent.close)
 
 -- ---- to the client
 
-oks_are : (w : State) (n : ℕ) (o : Option PathOk) → FirstIs (MayReply w) (ok_on n o)
-oks_are w n None = tt
-oks_are w n (Some x) = tt
+open_is : (P : Reply → Type 0) (over : Bool) (us : List Reply) → FirstIs P us → FirstIs P (if over then [] else us)
+open_is P true us p = tt
+open_is P false us p = p
 
-answers_are : (w : State) (n : ℕ) (l : Life) → FirstIs (MayReply w) (oks_on w.paths n l)
-answers_are w n l = by l.over
-  where
-    by : (b : Bool) → FirstIs (MayReply w) (if b then [] else ok_on n (next_ok (path_at w.paths n)))
-    by true = tt
-    by false = oks_are w n (next_ok (path_at w.paths n))
+ok_is : (w : State) (n : ℕ) (o : Option PathOk) → FirstIs (MayReply w) (ok_on n o)
+ok_is w n None = tt
+ok_is w n (Some x) = when_is (MayReply w) (not (is_consume_ok x)) (reply.OnChannel n (to_client.Ok x)) tt
+
+consume_ok_is : (w : State) (n : ℕ) (o : Option PathOk) → FirstIs (MayReply w) (consume_ok_on n o)
+consume_ok_is w n None = tt
+consume_ok_is w n (Some x) = when_is (MayReply w) (is_consume_ok x) (reply.OnChannel n (to_client.Ok x)) tt
+
+deliver_is : (w : State) (n : ℕ) (o : Option DeliverDue) → next_deliver (path_at w.paths n) ≡ o → FirstIs (MayReply w) (deliver_on n o)
+deliver_is w n None e = tt
+deliver_is w n (Some d) e = e
+
+writing_is : (w : State) (n : ℕ) (o : Option ContentDue) → FirstIs (MayReply w) (writing_on n o)
+writing_is w n None = tt
+writing_is w n (Some c) = tt
+
+writings_are : (w : State) → FirstIs (MayReply w) (writings w)
+writings_are w = each_is (MayReply w) _ w.lives
+    (λ n. open_is (MayReply w) (life_at w.lives n).over _ (writing_is w n (next_content (path_at w.paths n))))
+
+answers_are : (w : State) → FirstIs (MayReply w) (answers w)
+answers_are w =
+    both_are (MayReply w) (open_oks w) _
+    (each_is (MayReply w) _ w.lives (λ n. when_is (MayReply w) (life_at w.lives n).open_ok (reply.ChannelOpenOk n) tt))
+    (both_are (MayReply w) (path_oks w) _
+    (each_is (MayReply w) _ w.lives (λ n. open_is (MayReply w) (life_at w.lives n).over _ (ok_is w n (next_ok (path_at w.paths n)))))
+    (both_are (MayReply w) (consume_oks w) (delivers w)
+    (each_is (MayReply w) _ w.lives (λ n. open_is (MayReply w) (life_at w.lives n).over _ (consume_ok_is w n (next_ok (path_at w.paths n)))))
+    (each_is (MayReply w) _ w.lives (λ n. open_is (MayReply w) (life_at w.lives n).over _ (deliver_is w n (next_deliver (path_at w.paths n)) refl)))))
 
 return_is : (w : State) (n : ℕ) (may : Bool) (o : Option NextReturn) → next_return (path_at w.paths n) ≡ o → FirstIs (MayReply w) (return_on may n o)
 return_is w n may None e = tt
@@ -190,11 +219,8 @@ confirming_are w =
 
 answering_are : (w : State) → FirstIs (MayReply w) (answering_units w)
 answering_are w =
-    both_are (MayReply w) (if_so (may_answer w) (open_oks w ++ path_oks w)) _
-    (if_so_is (MayReply w) (may_answer w) (open_oks w ++ path_oks w)
-    (both_are (MayReply w) (open_oks w) (path_oks w)
-    (each_is (MayReply w) _ w.lives (λ n. when_is (MayReply w) (life_at w.lives n).open_ok (reply.ChannelOpenOk n) tt))
-    (each_is (MayReply w) _ w.lives (λ n. answers_are w n (life_at w.lives n)))))
+    both_are (MayReply w) (if_so (may_answer w) (answers w)) _
+    (if_so_is (MayReply w) (may_answer w) (answers w) (answers_are w))
     (confirming_are w)
 
 client_are : (w : State) → FirstIs (MayReply w) (client_rows w)
@@ -203,7 +229,8 @@ client_are w =
     (both_are (MayReply w) (if_so (may_return w) (contents w)) _
     (if_so_is (MayReply w) (may_return w) (contents w)
     (each_is (MayReply w) _ w.lives (λ n. content_is w n (next_return (path_at w.paths n)) refl)))
-    (both_are (MayReply w) (openings (may_go (is_settled w) w.pending)) _ (first_are w (may_go (is_settled w) w.pending)) (answering_are w)))
+    (both_are (MayReply w) (if_so (may_answer w) (writings w)) _ (if_so_is (MayReply w) (may_answer w) (writings w) (writings_are w))
+    (both_are (MayReply w) (openings (may_go (is_settled w) w.pending)) _ (first_are w (may_go (is_settled w) w.pending)) (answering_are w))))
     (when_is (MayReply w) (is_beat_due w) reply.Heartbeat tt)
 
 -- ---- what is offered

@@ -1,4 +1,4 @@
--- A flow and a disposition of the container leave the upstream end as it is.
+-- What may run out of memory of the container leaves the upstream end as it is.
 use Rattle.std.proofs.Common.{◌≡◌, ◌∙◌, ℕ, ◌==◌, ◌&&◌, ◌||◌, not, Bool, true, false, Option, None}
 use Rattle.std.proofs.Common.{Some, refl, sym, ap, subst}
 use Rattle.std.specs.Prelude.{OnErr, Result, Ok, Err}
@@ -16,12 +16,18 @@ use Rattle.bridge_core.specs.LinkFaults.{takes_memory_by, takes_memory_of}
 
 -- they neither begin nor end a session
 inside : (p : Parts) → takes_memory_of p ≡ true → is_inside p ≡ true
-inside p e = by (p.0 == 19) (p.0 == 21) refl refl e
+inside p e = by (p.0 == 18) (p.0 == 19) (p.0 == 20) (p.0 == 21) refl refl refl refl e
   where
-    by : (a b : Bool) → (p.0 == 19) ≡ a → (p.0 == 21) ≡ b → (a || b) ≡ true → is_inside p ≡ true
-    by true b f g h = subst (λ (n : ℕ). (not (n == 17) && not (n == 23)) ≡ true) (sym (eqb-true p.0 19 f)) refl
-    by false true f g h = subst (λ (n : ℕ). (not (n == 17) && not (n == 23)) ≡ true) (sym (eqb-true p.0 21 g)) refl
-    by false false f g h = absurd cc
+    is : (k : ℕ) → (not (k == 17) && not (k == 23)) ≡ true → (p.0 == k) ≡ true → is_inside p ≡ true
+    is k i f = subst (λ (n : ℕ). (not (n == 17) && not (n == 23)) ≡ true) (sym (eqb-true p.0 k f)) i
+
+    by : (a b c d : Bool) → (p.0 == 18) ≡ a → (p.0 == 19) ≡ b → (p.0 == 20) ≡ c → (p.0 == 21) ≡ d → (a || (b || (c || d))) ≡ true
+        → is_inside p ≡ true
+    by true b c d f g h i e = is 18 refl f
+    by false true c d f g h i e = is 19 refl g
+    by false false true d f g h i e = is 20 refl h
+    by false false false true f g h i e = is 21 refl i
+    by false false false false f g h i e = absurd cc
 
 within : (m : Meaning) → takes_memory_by m ≡ true → is_within m ≡ true
 within means.Nothing e = absurd cc

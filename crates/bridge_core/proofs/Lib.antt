@@ -1,5 +1,6 @@
 pub mod Backs
 pub mod Calm
+pub mod Changes
 pub mod Errors
 pub mod FirstOf
 pub mod Firsts
@@ -16,7 +17,6 @@ pub mod NextOwing
 pub mod OwedLines
 pub mod PathChanges
 pub mod PathSlots
-pub mod PathStays
 pub mod Payloads
 pub mod Places
 pub mod Rooms

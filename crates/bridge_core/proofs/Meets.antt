@@ -19,11 +19,11 @@ use Rattle.machine_091.specs.declared.unit.Refusal.{Refusal}
 use Rattle.machine_091.specs.declared.unit.Unit91.{Unit91}
 use Rattle.machine_091.specs.declared.unit.Want91.{Want91}
 use Rattle.machine_091.specs.declared.unit.Want91.TheVariants as want
-use Rattle.session_path.specs.Path.{published}
+use Rattle.session_path.specs.Path.{PathState, published}
 use Rattle.gate_model.specs.Paths.{with_path}
-use Rattle.gate_model.specs.Requests.{address_for, address_of, is_mandatory, message_of, refusal_for}
+use Rattle.gate_model.specs.Requests.{address_for, address_of, message_of, refusal_for}
 use Rattle.gate_model.specs.Requests.{refusal_of_want, refused_by, refused_for, told_by, told_in}
-use Rattle.gate_model.specs.Returns.{back_of}
+use Rattle.gate_model.specs.Returns.{back_of, is_mandatory}
 use Rattle.gate_model.specs.declared.setup.Route.{Route}
 use Rattle.gate_model.specs.State.{State, came, condition_by, is_foreign, keep_login, want_in}
 use Rattle.gate_model.specs.State as state
@@ -93,21 +93,21 @@ own_publish routes l n m b mandatory x p q is flag of h =
     subst (λ (y : Bool). IsPublish routes l n y (message_of m b) q) flag
     (subst (λ (y : Message091). IsPublish routes l n mandatory y q) is (subst (IsPublish routes l n mandatory x) of h))
 
-pub sent_met : (routes : List Route) (n : ℕ) (m : Method91) (b : Content) (c : Connection) (l : ℕ) (mandatory : Bool) (x : Message091) (p : Published) (address payload : List ℕ) (back : List (List ℕ))
+pub sent_met : (routes : List Route) (ps : List (Option PathState)) (n : ℕ) (m : Method91) (b : Content) (c : Connection) (l : ℕ) (mandatory : Bool) (x : Message091) (p : Published) (address payload : List ℕ) (back : List (List ℕ))
     → l ≡ c.limits.frame_max → x ≡ message_of m b → mandatory ≡ is_mandatory m → p ≡ outcome.Sent address payload back → IsPublish routes l n mandatory x p
-    → IsMet routes (want.Publish n m b) c c (met.Publish n address payload back)
-sent_met routes n m b c l mandatory x p address payload back fits is flag of h =
+    → IsMet routes ps (want.Publish n m b) c c (met.Publish n address payload back)
+sent_met routes ps n m b c l mandatory x p address payload back fits is flag of h =
     let own : IsPublish routes c.limits.frame_max n (is_mandatory m) (message_of m b) (outcome.Sent address payload back) =
     own_publish routes c.limits.frame_max n m b mandatory x p (outcome.Sent address payload back) is flag of (subst (λ (k : ℕ). IsPublish routes k n mandatory x p) fits h) in
     (refl, ap (refused_for n m) own.0, (refl, own.1, own.2, own.3))
 
-pub refused_met : (routes : List Route) (n : ℕ) (m : Method91) (b : Content) (c d : Connection) (r : Refusal) (t : Met) (l : ℕ) (mandatory : Bool) (x : Message091) (p : Published) (code : ℕ) (told : Option Told)
+pub refused_met : (routes : List Route) (ps : List (Option PathState)) (n : ℕ) (m : Method91) (b : Content) (c d : Connection) (r : Refusal) (t : Met) (l : ℕ) (mandatory : Bool) (x : Message091) (p : Published) (code : ℕ) (told : Option Told)
     → l ≡ c.limits.frame_max → x ≡ message_of m b → mandatory ≡ is_mandatory m → p ≡ outcome.Refused code told → IsPublish routes l n mandatory x p
-    → r ≡ refusal_for n m code → d ≡ after_closing r.scope r.channel c → t ≡ met.Want (want.Refuse r) told → IsMet routes (want.Publish n m b) c d t
-refused_met routes n m b c d r t l mandatory x p code told fits is flag of h refuses closes tells =
+    → r ≡ refusal_for n m code → d ≡ after_closing r.scope r.channel c → t ≡ met.Want (want.Refuse r) told → IsMet routes ps (want.Publish n m b) c d t
+refused_met routes ps n m b c d r t l mandatory x p code told fits is flag of h refuses closes tells =
     let own : IsPublish routes c.limits.frame_max n (is_mandatory m) (message_of m b) (outcome.Refused code told) =
     own_publish routes c.limits.frame_max n m b mandatory x p (outcome.Refused code told) is flag of (subst (λ (k : ℕ). IsPublish routes k n mandatory x p) fits h) in
-    subst (IsMet routes (want.Publish n m b) c d) (sym tells) (
+    subst (IsMet routes ps (want.Publish n m b) c d) (sym tells) (
       ap (λ (e : Connection). (e, want.Refuse r)) closes
           ∙ ap (λ (q : Option Refusal). refused_by q (c, want.Publish n m b)) (ap Some refuses ∙ ap (refused_for n m) (sym own.0)),
       refl,
@@ -144,13 +144,13 @@ of_publish routes l want.CloseOk n address payload back of = of
 of_publish routes l (want.Refuse r) n address payload back of = of
 
 -- what may run out of memory is no refusal
-pub met_takes : (routes : List Route) (x : Want91) (c d : Connection) (m : Met) → IsMet routes x c d m → takes_memory_met m ≡ true → (d ≡ c) × (takes_memory_for x ≡ true)
-met_takes routes x c d (met.Want y told) i e = by (refusal_of_want routes x) i.0
+pub met_takes : (routes : List Route) (ps : List (Option PathState)) (x : Want91) (c d : Connection) (m : Met) → IsMet routes ps x c d m → takes_memory_met m ≡ true → (d ≡ c) × (takes_memory_for x ≡ true)
+met_takes routes ps x c d (met.Want y told) i e = by (refusal_of_want routes ps x) i.0
   where
     by : (r : Option Refusal) → (d, y) ≡ refused_by r (c, x) → (d ≡ c) × (takes_memory_for x ≡ true)
     by None k = (ap (λ (s : Step). s.0) k, sym (ap (λ (s : Step). takes_memory_for s.1) k) ∙ e)
     by (Some r) k = let none : takes_memory_for y ≡ false = ap (λ (s : Step). takes_memory_for s.1) k in absurd cc
-met_takes routes x c d (met.Publish n address payload back) i e = (i.0, publish_takes x (of_publish routes c.limits.frame_max x n address payload back i.2))
+met_takes routes ps x c d (met.Publish n address payload back) i e = (i.0, publish_takes x (of_publish routes c.limits.frame_max x n address payload back i.2))
 
 -- ---- logins
 
@@ -172,13 +172,13 @@ login_want law c u want.CloseOk is = tt
 login_want law c u (want.Refuse r) is = tt
 
 -- a login that is met is one that a client may tell
-pub login_met : LoginsNamed → (routes : List Route) (k : Connection) (u : Unit91) (x : Want91) (c d : Connection) (m : Met) → x ≡ (unit_step k u).1 → IsMet routes x c d m → IsLoginMet m
-login_met law routes k u x c d (met.Want y told) is i = by (refusal_of_want routes x) i.0
+pub login_met : LoginsNamed → (routes : List Route) (ps : List (Option PathState)) (k : Connection) (u : Unit91) (x : Want91) (c d : Connection) (m : Met) → x ≡ (unit_step k u).1 → IsMet routes ps x c d m → IsLoginMet m
+login_met law routes ps k u x c d (met.Want y told) is i = by (refusal_of_want routes ps x) i.0
   where
     by : (r : Option Refusal) → (d, y) ≡ refused_by r (c, x) → IsLoginWant y
     by None e = subst (λ (s : Step). IsLoginWant s.1) (sym e) (login_want law k u x is)
     by (Some r) e = subst (λ (s : Step). IsLoginWant s.1) (sym e) tt
-login_met law routes k u x c d (met.Publish n address payload back) is i = tt
+login_met law routes ps k u x c d (met.Publish n address payload back) is i = tt
 
 -- ---- the state
 
@@ -212,8 +212,8 @@ published_met closing told w c n m b =
       client_closed = closed;
     }
 
-applied_met : (closing : Bool) (w : State) (x : Want91) (c d : Connection) (m : Met) → IsMet w.routes x c d m
-    → applied closing m (record w { conn = d }) ≡ met_by closing (told_in w.routes x) w (refused_by (refusal_of_want w.routes x) (c, x))
+applied_met : (closing : Bool) (w : State) (x : Want91) (c d : Connection) (m : Met) → IsMet w.routes w.paths x c d m
+    → applied closing m (record w { conn = d }) ≡ met_by closing (told_in w.routes x) w (refused_by (refusal_of_want w.routes w.paths x) (c, x))
 applied_met closing w x c d (met.Want y told) i = ap (λ (t : Option Told). met_by closing t w (d, y)) i.2 ∙ ap (met_by closing (told_in w.routes x) w) i.0
 applied_met closing w x c d (met.Publish n address payload back) i =
     by x i.2 ∙ ap (λ (r : Option Refusal). met_by closing (told_in w.routes x) w (refused_by r (c, x))) (sym i.1)
@@ -245,14 +245,14 @@ applied_met closing w x c d (met.Publish n address payload back) i =
 
 -- the whole step, where the connection took the unit, and that is its want
 pub came_is : (v w z new : State) (u : Unit91) (x : Want91) (c d : Connection) (m : Met) (foreign closing : Bool) → v ≡ w
-    → foreign ≡ is_foreign v.conn.stream → closing ≡ is_closing v.conn → c ≡ (unit_step v.conn u).0 → x ≡ (unit_step v.conn u).1 → IsMet v.routes x c d m
+    → foreign ≡ is_foreign v.conn.stream → closing ≡ is_closing v.conn → c ≡ (unit_step v.conn u).0 → x ≡ (unit_step v.conn u).1 → IsMet v.routes v.paths x c d m
     → z ≡ applied closing m (record v { conn = d }) → new ≡ counted foreign z → new ≡ came w u
 came_is v w z new u x c d m foreign closing same turns closes at is i met counts =
     counts
     ∙ ap (λ (b : Bool). counted b z) turns
     ∙ ap (counted (is_foreign v.conn.stream))
     (met ∙ ap (λ (b : Bool). applied b m (record v { conn = d })) closes ∙ applied_met (is_closing v.conn) v x c d m i
-    ∙ ap (λ (s : Step). met_by (is_closing v.conn) (told_in v.routes s.1) v (refused_by (refusal_of_want v.routes s.1) s))
+    ∙ ap (λ (s : Step). met_by (is_closing v.conn) (told_in v.routes s.1) v (refused_by (refusal_of_want v.routes v.paths s.1) s))
     (ap (λ (e : Connection). (e, x)) at ∙ ap (λ (y : Want91). ((unit_step v.conn u).0, y)) is))
     ∙ ap (λ (t : State). came t u) same
 
@@ -278,6 +278,6 @@ pub came_keeps : (w new : State) (u : Unit91) → new ≡ came w u → KeepsGoin
 came_keeps w new u e = subst (KeepsGoing w) (sym e) (record {
   client = refl;
   up =
-      closing_keeps (is_closing w.conn) (condition_by (want_in w.routes w.conn u)) (keep_login (want_in w.routes w.conn u) w.up)
-      ∙ login_keeps (want_in w.routes w.conn u) w.up;
+      closing_keeps (is_closing w.conn) (condition_by (want_in w.routes w.paths w.conn u)) (keep_login (want_in w.routes w.paths w.conn u) w.up)
+      ∙ login_keeps (want_in w.routes w.paths w.conn u) w.up;
 })

@@ -11,6 +11,10 @@ use Rattle.std.proofs.Math.Seq.{drop-cons}
 use Rattle.gate_relay.specs.Entries.{is_empty}
 use Rattle.open_items.specs.declared.lost.LostItem.{LostItem}
 use Rattle.open_items.specs.declared.lost.LostKind.{LostKind}
+use Rattle.consume_path.specs.Items.{is_held, is_open as is_open_delivery, is_out, owes}
+use Rattle.consume_path.specs.Offers.{line_of as delivery_line, lines_of as delivery_lines}
+use Rattle.consume_path.specs.Offers.{with_line as with_delivery_line}
+use Rattle.consume_path.specs.declared.delivery.Delivery.{Delivery}
 use Rattle.publish_path.specs.Offers.{line_of, lines_of, with_line}
 use Rattle.publish_path.specs.Publishes.{is_open, is_sending, is_settled}
 use Rattle.publish_path.specs.declared.publish.Publish.{Publish}
@@ -18,7 +22,8 @@ use Rattle.session_path.specs.Due.{lines}
 use Rattle.session_path.specs.Path.{PathState}
 use Rattle.gate_model.specs.Paths.{lines_in, lines_of_life, lines_on}
 use Rattle.gate_model.specs.Spelling.{fate_name, line_text, lines_text, what_name}
-use Rattle.bridge_core.specs.Reports.{IsNext, IsNextOwing, has_line, owing_on, text_of_line}
+use Rattle.bridge_core.specs.Reports.{IsNext, IsNextOwing, has_delivery_line, has_line, owing_on}
+use Rattle.bridge_core.specs.Reports.{text_of_line}
 
 -- ---- texts
 
@@ -36,6 +41,11 @@ text_with_line : (pair : ℕ) (o : Option LostItem) (items : List LostItem) → 
 text_with_line pair None items = refl
 text_with_line pair (Some item) items = refl
 
+text_with_delivery_line : (pair : ℕ) (o : Option LostItem) (items : List LostItem)
+    → lines_text pair (with_delivery_line o items) ≡ text_of_line pair o ++ lines_text pair items
+text_with_delivery_line pair None items = refl
+text_with_delivery_line pair (Some item) items = refl
+
 pub text_of_both : (pair : ℕ) (xs ys : List LostItem) → lines_text pair (xs ++ ys) ≡ lines_text pair xs ++ lines_text pair ys
 text_of_both pair [] ys = refl
 text_of_both pair (x ∷ xs) ys =
@@ -48,6 +58,13 @@ publishes_from pair life ps i p lt is =
     let e : drop i ps ≡ get_or ps i p ∷ drop (i + 1) ps = rw (add-one, drop-cons ps i p) in
     ap (λ (qs : List Publish). lines_text pair (lines_of life qs)) (e ∙ ap (λ (q : Publish). q ∷ drop (i + 1) ps) (sym is))
     ∙ text_with_line pair (line_of life p) (lines_of life (drop (i + 1) ps))
+
+pub deliveries_from : (pair life : ℕ) (ds : List Delivery) (i : ℕ) (d : Delivery) → i < length ds → d ≡ get_or ds i d
+    → lines_text pair (delivery_lines life (drop i ds)) ≡ text_of_line pair (delivery_line life d) ++ lines_text pair (delivery_lines life (drop (i + 1) ds))
+deliveries_from pair life ds i d lt is =
+    let e : drop i ds ≡ get_or ds i d ∷ drop (i + 1) ds = rw (add-one, drop-cons ds i d) in
+    ap (λ (xs : List Delivery). lines_text pair (delivery_lines life xs)) (e ∙ ap (λ (x : Delivery). x ∷ drop (i + 1) ds) (sym is))
+    ∙ text_with_delivery_line pair (delivery_line life d) (delivery_lines life (drop (i + 1) ds))
 
 pub slots_from : (pair life : ℕ) (ps : List (Option PathState)) (i : ℕ) (o : Option PathState) → i < length ps → o ≡ get_or ps i o
     → lines_text pair (lines_of_life life (drop i ps)) ≡ lines_text pair (lines_on life o) ++ lines_text pair (lines_of_life life (drop (i + 1) ps))
@@ -84,18 +101,80 @@ owes_lines life (p ∷ ps) = by p.line (owes_lines life ps)
     by None more = more
     by (Some kind) more = refl
 
--- those of a path, by its publishes and others for which nothing is to come
-pub path_lines : (s : PathState) (life : ℕ) (ps : List Publish) → life ≡ s.publishes.life → filter is_open ps ≡ s.publishes.list → lines_of life ps ≡ lines s
-path_lines s life ps is seen = sym (lines_seen life ps) ∙ ap (lines_of life) seen ∙ ap (λ (n : ℕ). lines_of n s.publishes.list) is
+-- ---- of deliveries
+
+no_line : (b : Bool) (o : Option LostKind) → (b || is_some o) ≡ false → o ≡ None
+no_line b None e = refl
+no_line true (Some kind) e = absurd cc
+no_line false (Some kind) e = absurd cc
+
+pub deliveries_seen : (life : ℕ) (ds : List Delivery) → delivery_lines life (filter is_open_delivery ds) ≡ delivery_lines life ds
+deliveries_seen life [] = refl
+deliveries_seen life (d ∷ ds) = by (is_open_delivery d) refl (deliveries_seen life ds)
+  where
+    by : (b : Bool) → is_open_delivery d ≡ b → delivery_lines life (filter is_open_delivery ds) ≡ delivery_lines life ds
+        → delivery_lines life (cond b (d ∷ filter is_open_delivery ds) (filter is_open_delivery ds)) ≡ with_delivery_line (delivery_line life d) (delivery_lines life ds)
+    by true e more = ap (with_delivery_line (delivery_line life d)) more
+    by false e more =
+        more ∙ sym (ap (λ (o : Option LostKind). with_delivery_line (delivery_line life (record d { line = o })) (delivery_lines life ds)) (no_line (is_held d.place || is_out d.place || owes d.place || d.writing || d.at_risk) d.line e))
+
+pub owes_deliveries : (life : ℕ) (ds : List Delivery) → list_any has_delivery_line ds ≡ not (is_empty (delivery_lines life ds))
+owes_deliveries life [] = refl
+owes_deliveries life (d ∷ ds) = by d.line (owes_deliveries life ds)
+  where
+    by : (o : Option LostKind) → list_any has_delivery_line ds ≡ not (is_empty (delivery_lines life ds))
+        → (is_some o || list_any has_delivery_line ds) ≡ not (is_empty (with_delivery_line (delivery_line life (record d { line = o })) (delivery_lines life ds)))
+    by None more = more
+    by (Some kind) more = refl
+
+-- ---- of a path
+
+-- its publishes, its deliveries and others of both for which nothing is to come
+pub record AreOf (s : PathState) (ps : List Publish) (ds : List Delivery) : Type 0 where
+  pub publishes : filter is_open ps ≡ s.publishes.list
+  pub deliveries : filter is_open_delivery ds ≡ s.deliveries.list
+
+pub path_lines : (s : PathState) (ps : List Publish) (ds : List Delivery) → AreOf s ps ds
+    → lines_of s.publishes.life ps ++ delivery_lines s.deliveries.life ds ≡ lines s
+path_lines s ps ds of =
+    ap (λ (xs : List LostItem). xs ++ delivery_lines s.deliveries.life ds)
+    (sym (lines_seen s.publishes.life ps) ∙ ap (lines_of s.publishes.life) of.publishes)
+    ∙ ap (λ (ys : List LostItem). lines_of s.publishes.life s.publishes.list ++ ys)
+    (sym (deliveries_seen s.deliveries.life ds) ∙ ap (delivery_lines s.deliveries.life) of.deliveries)
+
+pub path_text : (pair : ℕ) (s : PathState) (life own : ℕ) (ps : List Publish) (ds : List Delivery) → life ≡ s.publishes.life
+    → own ≡ s.deliveries.life → filter is_open ps ≡ s.publishes.list → filter is_open_delivery ds ≡ s.deliveries.list
+    → lines_text pair (lines_of life ps) ++ lines_text pair (delivery_lines own ds) ≡ lines_text pair (lines s)
+path_text pair s life own ps ds is same seen got =
+    ap (λ (n : ℕ). lines_text pair (lines_of n ps) ++ lines_text pair (delivery_lines own ds)) is
+    ∙ ap (λ (n : ℕ). lines_text pair (lines_of s.publishes.life ps) ++ lines_text pair (delivery_lines n ds)) same
+    ∙ sym (text_of_both pair (lines_of s.publishes.life ps) (delivery_lines s.deliveries.life ds))
+    ∙ ap (lines_text pair) (path_lines s ps ds (record { publishes = seen; deliveries = got }))
+
+-- where what its publishes owe is told, the text of its deliveries is behind
+pub path_front : (pair : ℕ) (s : PathState) (life : ℕ) (ps : List Publish) → life ≡ s.publishes.life → filter is_open ps ≡ s.publishes.list
+    → lines_text pair (lines_of life ps) ++ lines_text pair (delivery_lines s.deliveries.life s.deliveries.list) ≡ lines_text pair (lines s)
+path_front pair s life ps is seen =
+    ap (λ (n : ℕ). lines_text pair (lines_of n ps) ++ lines_text pair (delivery_lines s.deliveries.life s.deliveries.list)) is
+    ∙ ap (λ (ls : List LostItem). lines_text pair ls ++ lines_text pair (delivery_lines s.deliveries.life s.deliveries.list))
+    (sym (lines_seen s.publishes.life ps) ∙ ap (lines_of s.publishes.life) seen)
+    ∙ sym (text_of_both pair (lines_of s.publishes.life s.publishes.list) (delivery_lines s.deliveries.life s.deliveries.list))
+
+-- one or the other is there
+some_of : (xs ys : List LostItem) → (not (is_empty xs) || not (is_empty ys)) ≡ not (is_empty (xs ++ ys))
+some_of [] ys = refl
+some_of (x ∷ xs) ys = refl
 
 -- and its life, where it owes some
-pub life_owing : (o : Option PathState) (s : PathState) (owes : Bool) (life : ℕ) (ps : List Publish) → Some s ≡ o → filter is_open ps ≡ s.publishes.list
-    → owes ≡ list_any has_line ps → life ≡ s.publishes.life → (if owes then Some life else None) ≡ owing_on o
-life_owing o s owes life ps is seen owed of =
-    ap (λ (n : ℕ). if owes then Some n else None) of
-    ∙ ap (λ (b : Bool). if b then Some s.publishes.life else None) (owed ∙ owes_lines s.publishes.life ps)
-    ∙ turned (is_empty (lines_of s.publishes.life ps))
-    ∙ ap (λ (ls : List LostItem). if is_empty ls then None else Some s.publishes.life) (path_lines s s.publishes.life ps refl seen)
+pub life_owing : (o : Option PathState) (s : PathState) (life : ℕ) (ps : List Publish) (ds : List Delivery) → Some s ≡ o → AreOf s ps ds
+    → life ≡ s.publishes.life → (if list_any has_line ps || list_any has_delivery_line ds then Some life else None) ≡ owing_on o
+life_owing o s life ps ds is of own =
+    ap (λ (n : ℕ). if list_any has_line ps || list_any has_delivery_line ds then Some n else None) own
+    ∙ ap (λ (b : Bool). if b || list_any has_delivery_line ds then Some s.publishes.life else None) (owes_lines s.publishes.life ps)
+    ∙ ap (λ (b : Bool). if not (is_empty (lines_of s.publishes.life ps)) || b then Some s.publishes.life else None) (owes_deliveries s.deliveries.life ds)
+    ∙ ap (λ (b : Bool). if b then Some s.publishes.life else None) (some_of (lines_of s.publishes.life ps) (delivery_lines s.deliveries.life ds))
+    ∙ turned (is_empty (lines_of s.publishes.life ps ++ delivery_lines s.deliveries.life ds))
+    ∙ ap (λ (ls : List LostItem). if is_empty ls then None else Some s.publishes.life) (path_lines s ps ds of)
     ∙ ap owing_on is
   where
     turned : (b : Bool) → (if not b then Some s.publishes.life else None) ≡ (if b then None else Some s.publishes.life)

@@ -1,8 +1,13 @@
 -- The paths of channels, where one is changed.
-use Rattle.std.proofs.Common.{◌≡◌, ℕ, zero, suc, ◌≤◌, List, [], ◌∷◌, Option, None, length, refl, ap}
+use Rattle.std.proofs.Common.{◌≡◌, ℕ, zero, suc, ◌≤◌, List, [], ◌∷◌, Option, None, Some, length, refl, ap, sym}
 use Rattle.std.proofs.Common.{arith, ◌∙◌, ◌<◌, get_or, replicate}
 use Rattle.std.specs.Prelude.{slice_set}
-use Rattle.session_path.specs.Path.{PathState}
+use Rattle.std.specs.Option.{option_map}
+use Rattle.session_path.specs.Path.{PathState, deliver_sent}
+use Rattle.session_path.specs.declared.path.DeliverDue.{DeliverDue}
+use Rattle.gate_model.specs.declared.channel.ChannelUnit.{ChannelUnit}
+use Rattle.gate_model.specs.declared.channel.ChannelUnit.TheVariants as to_client
+use Rattle.gate_model.specs.State.{path_told}
 use Rattle.gate_model.specs.Paths.{with_path}
 
 set_beyond : (n : ℕ) (o : Option PathState) (ps : List (Option PathState)) → length ps ≤ n → slice_set ps n o ≡ ps
@@ -23,3 +28,9 @@ each_none (x ∷ ps) all =
 
 pub all_none : (ps : List (Option PathState)) (n : ℕ) → length ps ≡ n → ((i : ℕ) (d : Option PathState) → i < n → get_or ps i d ≡ None) → ps ≡ replicate n None
 all_none ps n long all = each_none ps (λ i d lt. all i d (omega (arith, lt, long))) ∙ ap (λ (k : ℕ). replicate k None) long
+
+-- a deliver was sent on one
+pub told_to : (o n : Option PathState) (old new : PathState) (d : DeliverDue) (u : ChannelUnit) → o ≡ Some old → u ≡ to_client.Deliver d
+    → new ≡ deliver_sent d old → n ≡ Some new → n ≡ option_map (path_told u) o
+told_to o n old new d u is of e f =
+    f ∙ ap Some e ∙ sym (ap (λ (x : ChannelUnit). option_map (path_told x) (Some old)) of) ∙ sym (ap (option_map (path_told u)) is)

@@ -1,7 +1,7 @@
 -- Rows of channels: one more, and none from a number on that is above all that were ever used.
 use Rattle.std.proofs.Common.{◌≡◌, ◌∙◌, ℕ, zero, suc, ◌+◌, ◌-◌, ◌<◌, ◌≤◌, ◌||◌, ◌&&◌, List, [], ◌∷◌}
 use Rattle.std.proofs.Common.{◌++◌, Option}
-use Rattle.std.proofs.Common.{None, Some, Bool, true, false, refl, sym, ap, arith, drop, length}
+use Rattle.std.proofs.Common.{None, Some, Bool, true, false, refl, sym, ap, arith, drop, length, subst}
 use Rattle.std.proofs.Common.{replicate}
 use Rattle.std.proofs.lemmas.List.{drop-replicate}
 use Rattle.std.specs.Option.{option_or}
@@ -19,13 +19,13 @@ use Rattle.gate_model.specs.Lives.{session_in}
 use Rattle.gate_model.specs.Paths.{no_paths, or_no_path, path_at, slot_at}
 use Rattle.gate_model.specs.Upstream.{first, when_up}
 use Rattle.gate_model.specs.Due.{attach_row, confirms_on, contents_on, detach_row, flows_on}
-use Rattle.gate_model.specs.Due.{link_flow_row}
+use Rattle.gate_model.specs.Due.{consume_oks_on, delivers_on, dispose_row, link_flow_row}
 use Rattle.gate_model.specs.Due.{oks_on, row_on}
-use Rattle.gate_model.specs.Due.{settle_row, transfer_row}
+use Rattle.gate_model.specs.Due.{settle_row, transfer_row, writings_on}
 use Rattle.bridge_core.specs.ChannelRows.{begin_row, close_ok_row, close_row, end_row, is_left_on}
 use Rattle.bridge_core.specs.ChannelRows.{is_waiting_on, open_ok_row}
 use Rattle.bridge_core.specs.declared.channel_rows.Parting.{Parting}
-use Rattle.bridge_core.proofs.Tops.{no_path}
+use Rattle.bridge_core.proofs.Tops.{from_higher, no_path}
 
 each_more : {A : Type 0} (f : ℕ → Life → List A) (d : Life) (k i : ℕ) (ls : List Life) → i < length ls
     → each f k (drop i ls) ≡ f k (slice_index_or ls i d) ++ each f (k + 1) (drop (i + 1) ls)
@@ -73,6 +73,29 @@ any_more t k (suc i) (l ∷ ls) lt =
     let e : suc (i + 1) ≡ suc i + 1 = omega arith in
     any_more t k i ls (omega (arith, lt)) ∙ ap (λ (j : ℕ). t k (life_at ls i) || any_life t (k + 1) (drop j (l ∷ ls))) e
 
+-- of an element of all lives
+read_any : (i : ℕ) (ls : List Life) (d : Life) → i < length ls → slice_index_or ls i d ≡ life_at ls i
+read_any i [] d lt = absurd (omega (arith, lt))
+read_any zero (l ∷ ls) d lt = refl
+read_any (suc i) (l ∷ ls) d lt = read_any i ls d (omega (arith, lt))
+
+any_by : (t : ℕ → Life → Bool) (i : ℕ) (all ls : List Life) (d : Life) (b whole : Bool) → i < length all → all ≡ ls → b ≡ t i (slice_index_or all i d)
+    → any_life t i (drop i ls) ≡ whole → (b || any_life t (i + 1) (drop (i + 1) ls)) ≡ whole
+any_by t i all ls d b whole lt same e known =
+    let inside : i < length ls = subst (λ (x : List Life). i < length x) same lt in
+    ap (λ x. x || any_life t (i + 1) (drop (i + 1) ls)) (e ∙ ap (t i) (read_any i all d lt ∙ ap (λ (x : List Life). life_at x i) same))
+    ∙ sym (any_more t i i ls inside) ∙ known
+
+pub any_found : (t : ℕ → Life → Bool) (i : ℕ) (all ls : List Life) (d : Life) (b whole : Bool) → i < length all → all ≡ ls → b ≡ t i (slice_index_or all i d) → b ≡ true
+    → any_life t i (drop i ls) ≡ whole → true ≡ whole
+any_found t i all ls d b whole lt same e found known =
+    ap (λ x. x || any_life t (i + 1) (drop (i + 1) ls)) (sym found) ∙ any_by t i all ls d b whole lt same e known
+
+pub any_passed : (t : ℕ → Life → Bool) (i : ℕ) (all ls : List Life) (d : Life) (b whole : Bool) → i < length all → all ≡ ls → b ≡ t i (slice_index_or all i d) → b ≡ false
+    → any_life t i (drop i ls) ≡ whole → any_life t (i + 1) (drop (i + 1) ls) ≡ whole
+any_passed t i all ls d b whole lt same e none known =
+    ap (λ x. x || any_life t (i + 1) (drop (i + 1) ls)) (sym none) ∙ any_by t i all ls d b whole lt same e known
+
 -- from the number on that is above all channels that were ever used none has a unit
 each_quiet : {A : Type 0} (f : ℕ → Life → List A) (k m : ℕ) → ((n : ℕ) → f n no_life ≡ []) → each f k (replicate m no_life) ≡ []
 each_quiet f k zero quiet = refl
@@ -85,10 +108,10 @@ unfolding Rattle.gate_model.specs.Lives.no_lives
 quiet_end f i ls quiet e =
     ap (λ (xs : List Life). first (each f i xs)) (e ∙ drop-replicate i 256 no_life) ∙ ap first (each_quiet f i (256 - i) quiet)
 
-any_quiet : (t : ℕ → Life → Bool) (k m : ℕ) → ((n : ℕ) → t n no_life ≡ false) → any_life t k (replicate m no_life) ≡ false
+any_quiet : (t : ℕ → Life → Bool) (k m : ℕ) → ((n : ℕ) → k ≤ n → t n no_life ≡ false) → any_life t k (replicate m no_life) ≡ false
 any_quiet t k zero quiet = refl
 any_quiet t k (suc m) quiet =
-    ap (λ b. b || any_life t (k + 1) (replicate m no_life)) (quiet k) ∙ any_quiet t (k + 1) m quiet
+    ap (λ b. b || any_life t (k + 1) (replicate m no_life)) (quiet k (omega arith)) ∙ any_quiet t (k + 1) m (λ n le. quiet n (omega (arith, le)))
 
 -- nor does one whose path is none
 each_unused : {A : Type 0} (f : ℕ → Life → List A) (k : ℕ) (ls : List Life) → ((n : ℕ) (l : Life) → k ≤ n → f n l ≡ []) → each f k ls ≡ []
@@ -123,6 +146,27 @@ oks_more ps k i ls lt = first_more (oks_on ps) no_life k i ls lt
 
 pub oks_end : (ps : List (Option PathState)) (i : ℕ) (ls : List Life) → drop i ps ≡ drop i no_paths → first (each (oks_on ps) i (drop i ls)) ≡ None
 oks_end ps i ls e = unused_end (oks_on ps) ps i ls e (λ n l none. rw none (either_same l.over []))
+
+pub consume_oks_more : (ps : List (Option PathState)) (k i : ℕ) (ls : List Life) → i < length ls
+    → first (each (consume_oks_on ps) k (drop i ls)) ≡ option_or (first (consume_oks_on ps k (slice_index_or ls i no_life))) (first (each (consume_oks_on ps) (k + 1) (drop (i + 1) ls)))
+consume_oks_more ps k i ls lt = first_more (consume_oks_on ps) no_life k i ls lt
+
+pub consume_oks_end : (ps : List (Option PathState)) (i : ℕ) (ls : List Life) → drop i ps ≡ drop i no_paths → first (each (consume_oks_on ps) i (drop i ls)) ≡ None
+consume_oks_end ps i ls e = unused_end (consume_oks_on ps) ps i ls e (λ n l none. rw none (either_same l.over []))
+
+pub delivers_more : (ps : List (Option PathState)) (k i : ℕ) (ls : List Life) → i < length ls
+    → first (each (delivers_on ps) k (drop i ls)) ≡ option_or (first (delivers_on ps k (slice_index_or ls i no_life))) (first (each (delivers_on ps) (k + 1) (drop (i + 1) ls)))
+delivers_more ps k i ls lt = first_more (delivers_on ps) no_life k i ls lt
+
+pub delivers_end : (ps : List (Option PathState)) (i : ℕ) (ls : List Life) → drop i ps ≡ drop i no_paths → first (each (delivers_on ps) i (drop i ls)) ≡ None
+delivers_end ps i ls e = unused_end (delivers_on ps) ps i ls e (λ n l none. rw none (either_same l.over []))
+
+pub writings_more : (ps : List (Option PathState)) (k i : ℕ) (ls : List Life) → i < length ls
+    → first (each (writings_on ps) k (drop i ls)) ≡ option_or (first (writings_on ps k (slice_index_or ls i no_life))) (first (each (writings_on ps) (k + 1) (drop (i + 1) ls)))
+writings_more ps k i ls lt = first_more (writings_on ps) no_life k i ls lt
+
+pub writings_end : (ps : List (Option PathState)) (i : ℕ) (ls : List Life) → drop i ps ≡ drop i no_paths → first (each (writings_on ps) i (drop i ls)) ≡ None
+writings_end ps i ls e = unused_end (writings_on ps) ps i ls e (λ n l none. rw none (either_same l.over []))
 
 pub confirms_end : (calm : Bool) (ps : List (Option PathState)) (i : ℕ) (ls : List Life) → drop i ps ≡ drop i no_paths → first (each (confirms_on calm ps) i (drop i ls)) ≡ None
 confirms_end calm ps i ls e = unused_end (confirms_on calm ps) ps i ls e (λ n l none. rw none refl)
@@ -183,6 +227,13 @@ transfers_more c ps k i ls lt = first_more (transfer_row c ps) no_life k i ls lt
 pub transfers_end : (c : Option Upstream) (ps : List (Option PathState)) (i : ℕ) (ls : List Life) → drop i ps ≡ drop i no_paths → first (each (transfer_row c ps) i (drop i ls)) ≡ None
 transfers_end c ps i ls e = unused_end (transfer_row c ps) ps i ls e (λ n l none. unsent c n l.session.windows.window (path_at ps n) _ (ap or_no_path none))
 
+pub disposals_more : (c : Option Upstream) (ps : List (Option PathState)) (k i : ℕ) (ls : List Life) → i < length ls
+    → first (each (dispose_row c ps) k (drop i ls)) ≡ option_or (first (dispose_row c ps k (slice_index_or ls i no_life))) (first (each (dispose_row c ps) (k + 1) (drop (i + 1) ls)))
+disposals_more c ps k i ls lt = first_more (dispose_row c ps) no_life k i ls lt
+
+pub disposals_end : (c : Option Upstream) (ps : List (Option PathState)) (i : ℕ) (ls : List Life) → drop i ps ≡ drop i no_paths → first (each (dispose_row c ps) i (drop i ls)) ≡ None
+disposals_end c ps i ls e = unused_end (dispose_row c ps) ps i ls e (λ n l none. rw none refl)
+
 pub settlings_more : (c : Option Upstream) (ps : List (Option PathState)) (k i : ℕ) (ls : List Life) → i < length ls
     → first (each (settle_row c ps) k (drop i ls)) ≡ option_or (first (settle_row c ps k (slice_index_or ls i no_life))) (first (each (settle_row c ps) (k + 1) (drop (i + 1) ls)))
 settlings_more c ps k i ls lt = first_more (settle_row c ps) no_life k i ls lt
@@ -201,16 +252,13 @@ pub ends_more : (p : Parting) (c : Option Upstream) (d : Connection) (ps : List 
     → first (each (end_row p c d ps) k (drop i ls)) ≡ option_or (first (end_row p c d ps k (slice_index_or ls i no_life))) (first (each (end_row p c d ps) (k + 1) (drop (i + 1) ls)))
 ends_more p c d ps k i ls lt = first_more (end_row p c d ps) no_life k i ls lt
 
-pub waits_more : (closing settled : Bool) (c : Option Upstream) (k i : ℕ) (ls : List Life) → i < length ls
-    → any_life (is_waiting_on closing settled c) k (drop i ls) ≡ (is_waiting_on closing settled c k (life_at ls i) || any_life (is_waiting_on closing settled c) (k + 1) (drop (i + 1) ls))
-waits_more closing settled c k i ls lt = any_more (is_waiting_on closing settled c) k i ls lt
-
-pub waits_end : (closing settled : Bool) (c : Option Upstream) (i : ℕ) (ls : List Life) → drop i ls ≡ drop i no_lives
-    → any_life (is_waiting_on closing settled c) i (drop i ls) ≡ false
+pub waits_end : (closing settled : Bool) (c : Option Upstream) (ps : List (Option PathState)) (t m i : ℕ) (ls : List Life) → t ≤ i → m ≤ i
+    → drop t ls ≡ drop t no_lives → drop m ps ≡ drop m no_paths → any_life (is_waiting_on closing settled c ps) i (drop i ls) ≡ false
 unfolding Rattle.gate_model.specs.Lives.no_lives
-waits_end closing settled c i ls e =
-    ap (any_life (is_waiting_on closing settled c) i) (e ∙ drop-replicate i 256 no_life)
-    ∙ any_quiet (is_waiting_on closing settled c) i (256 - i) (λ n. and_false (not closing))
+waits_end closing settled c ps t m i ls above over e none =
+    ap (any_life (is_waiting_on closing settled c ps) i) (from_higher t i ls (replicate 256 no_life) above e ∙ drop-replicate i 256 no_life)
+    ∙ any_quiet (is_waiting_on closing settled c ps) i (256 - i)
+    (λ n le. let unused : slot_at ps n ≡ None = no_path i n ps le (from_higher m i ps no_paths over none) in rw unused (and_false (not closing)))
 
 pub left_more : (c : Option Upstream) (k i : ℕ) (ls : List Life) → i < length ls
     → any_life (is_left_on c) k (drop i ls) ≡ (is_left_on c k (life_at ls i) || any_life (is_left_on c) (k + 1) (drop (i + 1) ls))

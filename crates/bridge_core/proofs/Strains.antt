@@ -14,7 +14,8 @@ use Rattle.methods_091.specs.Rows.{Kind}
 use Rattle.methods_091.specs.declared.method.Method91.TheVariants as method
 use Rattle.machine_091.specs.Calls.{closing_contents, closing_phase}
 use Rattle.machine_091.specs.Contents.{Taking, begun, no_contents, taken}
-use Rattle.machine_091.specs.Methods.{close_of, declare_of, flow_of, publish_of, select_of}
+use Rattle.machine_091.specs.Methods.{ack_of, close_of, consume_of, declare_of, flow_of, nack_of}
+use Rattle.machine_091.specs.Methods.{publish_of, reject_of, select_of}
 use Rattle.machine_091.specs.Refusals.{unit_ruling}
 use Rattle.machine_091.specs.State.{channel_at, content_at, is_closing_phase, is_running}
 use Rattle.machine_091.specs.State.{with_channel, with_content}
@@ -34,6 +35,7 @@ use Rattle.machine_091.specs.declared.unit.Unit91.{Unit91}
 use Rattle.machine_091.specs.declared.unit.Unit91.TheVariants as unit
 use Rattle.machine_091.specs.declared.unit.Want91.{Want91}
 use Rattle.machine_091.specs.declared.unit.Want91.TheVariants as want
+use Rattle.gate_model.specs.Paths.{closed_paths}
 use Rattle.gate_model.specs.State.{State, close, closes_at, last_pending, ran_out}
 use Rattle.gate_model.specs.Upstream.{closing_with}
 use Rattle.bridge_core.specs.Met.{takes_memory_for}
@@ -68,23 +70,31 @@ dropped c n e = record {
 
 channel_light : (c : Connection) (n : ℕ) (k : Kind) (args : List Arg) → IsLight c (channel_effect c n k args)
 channel_light c n k args =
-    by _ _ _ _ _ _
+    by _ _ _ _ _ _ _ _ _ _
   where
-    by : (opens shuts stops declares selects publishes : Bool)
+    by : (opens shuts stops declares selects consumes acks rejects nacks publishes : Bool)
         → IsLight c (cond {A = Step} opens (with_channel c n channel.Open, want.Method n method.ChannelOpen)
         (cond {A = Step} shuts (with_channel c n (closed_by (channel_at c n)), want.Method n (close_of args))
         (cond {A = Step} stops (c, want.Method n (flow_of args))
         (cond {A = Step} declares (c, want.Method n (declare_of args))
         (cond {A = Step} selects (c, want.Method n (select_of args))
+        (cond {A = Step} consumes (c, want.Method n (consume_of args))
+        (cond {A = Step} acks (c, want.Method n (ack_of args))
+        (cond {A = Step} rejects (c, want.Method n (reject_of args))
+        (cond {A = Step} nacks (c, want.Method n (nack_of args))
         (cond {A = Step} publishes (with_content c n (Some (begun (publish_of args))), want.Nothing)
-        (with_channel c n channel.Free, want.ChannelCloseOk n)))))))
-    by true shuts stops declares selects publishes = λ e. absurd cc
-    by false true stops declares selects publishes = λ e. absurd cc
-    by false false true declares selects publishes = λ e. record { phase = refl; close = refl }
-    by false false false true selects publishes = λ e. record { phase = refl; close = refl }
-    by false false false false true publishes = λ e. record { phase = refl; close = refl }
-    by false false false false false true = λ e. absurd cc
-    by false false false false false false = λ e. absurd cc
+        (with_channel c n channel.Free, want.ChannelCloseOk n)))))))))))
+    by true shuts stops declares selects consumes acks rejects nacks publishes = λ e. absurd cc
+    by false true stops declares selects consumes acks rejects nacks publishes = λ e. absurd cc
+    by false false true declares selects consumes acks rejects nacks publishes = λ e. record { phase = refl; close = refl }
+    by false false false true selects consumes acks rejects nacks publishes = λ e. record { phase = refl; close = refl }
+    by false false false false true consumes acks rejects nacks publishes = λ e. record { phase = refl; close = refl }
+    by false false false false false true acks rejects nacks publishes = λ e. record { phase = refl; close = refl }
+    by false false false false false false true rejects nacks publishes = λ e. absurd cc
+    by false false false false false false false true nacks publishes = λ e. absurd cc
+    by false false false false false false false false true publishes = λ e. absurd cc
+    by false false false false false false false false false true = λ e. absurd cc
+    by false false false false false false false false false false = λ e. absurd cc
 
 running_light : (c : Connection) (n : ℕ) (k : Kind) (args : List Arg) → IsLight c (running_effect c n k args)
 running_light c n k args = by (eqb n 0)
@@ -173,6 +183,7 @@ strained w d s = ap (ended (close d)) s.phase ∙ ap (λ (e : Connection). ended
     ended : Connection → Phase91 → State
     ended d p = record w {
       conn = d;
+      paths = closed_paths w.paths;
       pending = last_pending p w.pending;
       up = closing_with (is_closing_phase p) (Some (condition_of RESOURCE_ERROR)) w.up;
       queue = [];

@@ -13,7 +13,7 @@ use Rattle.gate_model.specs.Paths.{bytes_in, bytes_on, held_in, held_on, no_path
 use Rattle.gate_model.specs.Paths.{with_path}
 
 -- then they are from each higher place on
-from_higher : {A : Type 0} (t m : ℕ) (xs ys : List A) → t ≤ m → drop t xs ≡ drop t ys → drop m xs ≡ drop m ys
+pub from_higher : {A : Type 0} (t m : ℕ) (xs ys : List A) → t ≤ m → drop t xs ≡ drop t ys → drop m xs ≡ drop m ys
 from_higher t m xs ys le e =
     let to : t + (m - t) ≡ m = omega (arith, le) in
     ap (λ (k : ℕ). drop k xs) (sym to) ∙ sym (drop-drop (m - t) t xs) ∙ ap (drop (m - t)) e ∙ drop-drop (m - t) t ys ∙ ap (λ (k : ℕ). drop k ys) to

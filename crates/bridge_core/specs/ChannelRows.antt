@@ -56,6 +56,8 @@ abbrev pub is_left_on : Option Upstream → ℕ → Life → Bool
 is_left_on c n l = is_ended (session_in c n) || is_begun (session_in c n)
 
 -- requests that wait
-abbrev pub is_waiting_on : Bool → Bool → Option Upstream → ℕ → Life → Bool
-is_waiting_on closing settled c n l =
-    not closing && (l.waits || (l.awaits_end && not (is_settled_on settled c n)))
+abbrev pub is_waiting_on : Bool → Bool → Option Upstream → List (Option PathState) → ℕ → Life → Bool
+is_waiting_on closing settled c ps n l =
+    not closing
+    && (l.waits || (path_due.is_waiting (path_at ps n)
+    || (l.awaits_end && not (is_settled_on settled c n))))

@@ -23,6 +23,7 @@ use Rattle.gate_model.specs.State.{State, closes_at, fed_by, is_foreign, is_held
 use Rattle.gate_model.specs.State as state
 use Rattle.gate_model.specs.Upstream.{closing_with}
 use Rattle.session_path.specs.Path as session
+use Rattle.session_path.specs.Path.{PathState}
 use Rattle.bridge_core.specs.Logins.{IsLoginWant}
 use Rattle.bridge_core.specs.declared.requests.Met.{Met}
 use Rattle.bridge_core.specs.declared.requests.Met.TheVariants as met
@@ -69,21 +70,27 @@ IsOf routes limit (want.Publish n m c) k address payload back =
     × (payload ≡ image_text (message_of m c)) × (back ≡ back_of limit n m (message_of m c))
 IsOf routes limit x k address payload back = is_publish x ≡ true
 
-abbrev pub IsMet : List Route → Want91 → Connection → Connection → Met → Type 0
-IsMet routes x old new (met.Want y told) =
-    ((new, y) ≡ refused_by (refusal_of_want routes x) (old, x)) × (is_publish y ≡ false)
+abbrev pub IsMet : List Route → List (Option PathState) → Want91 → Connection → Connection → Met
+    → Type 0
+IsMet routes ps x old new (met.Want y told) =
+    ((new, y) ≡ refused_by (refusal_of_want routes ps x) (old, x)) × (is_publish y ≡ false)
     × (told ≡ told_in routes x)
-IsMet routes x old new (met.Publish k address payload back) =
-    (new ≡ old) × (refusal_of_want routes x ≡ None)
+IsMet routes ps x old new (met.Publish k address payload back) =
+    (new ≡ old) × (refusal_of_want routes ps x ≡ None)
     × IsOf routes old.limits.frame_max x k address payload back
 
 -- ---- which may run out of memory
+
+abbrev pub is_consume : Method91 → Bool
+is_consume (method.BasicConsume queue tag no_local no_ack exclusive no_wait args) = true
+is_consume m = false
 
 abbrev pub is_answered : Method91 → Bool
 is_answered (method.ChannelFlow active) = true
 is_answered (method.ExchangeDeclare e kind passive durable auto_delete internal no_wait args) =
     true
 is_answered (method.ConfirmSelect no_wait) = true
+is_answered (method.BasicConsume queue tag no_local no_ack exclusive no_wait args) = true
 is_answered m = false
 
 abbrev pub takes_memory_for : Want91 → Bool

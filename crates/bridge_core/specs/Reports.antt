@@ -7,6 +7,7 @@ use Rattle.gate_outside.specs.Counts.{Rose}
 use Rattle.gate_outside.specs.Streams.{Appends, AppendsFront}
 use Rattle.gate_relay.specs.Entries.{is_empty}
 use Rattle.open_items.specs.declared.lost.LostItem.{LostItem}
+use Rattle.consume_path.specs.declared.delivery.Delivery.{Delivery}
 use Rattle.publish_path.specs.declared.publish.Publish.{Publish}
 use Rattle.session_path.specs.Due.{lines}
 use Rattle.session_path.specs.Path.{PathState}
@@ -30,7 +31,10 @@ text_of_line pair (Some item) = line_text pair item
 abbrev pub has_line : Publish → Bool
 has_line p = is_some p.line
 
--- the life of a channel whose publishes owe lines
+abbrev pub has_delivery_line : Delivery → Bool
+has_delivery_line d = is_some d.line
+
+-- the life of a channel whose publishes or deliveries owe lines
 abbrev pub owing_on : Option PathState → Option ℕ
 owing_on None = None
 owing_on (Some s) = if is_empty (lines s) then None else Some s.publishes.life

@@ -8,8 +8,9 @@ ghost use Rattle.gate_model.specs.State.{Lost, Gave};
 ghost use Rattle.gate_model.specs.State.{Whole, OutOfMemory, new_state, next_unit, waits};
 ghost use Rattle.gate_model.specs.Due.{can_leave, can_take_up, is_awaiting, is_busy};
 ghost use Rattle.gate_model.specs.Due.{is_connect_due, is_end_out, is_shut_due, is_silent, pick};
-ghost use Rattle.gate_model.specs.Due.{carries, carries_up, takes_memory, takes_memory_up};
-ghost use Rattle.gate_model.specs.Spelling.{context_of, lines_text, spell_up};
+ghost use Rattle.gate_model.specs.Due.{carries, carries_back, carries_up, takes_memory};
+ghost use Rattle.gate_model.specs.Due.{takes_memory_back, takes_memory_up};
+ghost use Rattle.gate_model.specs.Spelling.{context_of, lines_text, spell_reply, spell_up};
 ghost use Rattle.gate_model.specs.State.{owed_lines};
 ghost use Rattle.gate_outside.specs.Counts.{Rose};
 ghost use Rattle.gate_outside.specs.Streams.{Appends, AppendsFront};
@@ -27,7 +28,7 @@ ghost use Rattle.bridge_core.specs.PathChanges.{MayGo};
 use crate::core_state::Core;
 use crate::slot::Slot;
 use crate::up_slot::UpSlot;
-use gate_model::{Outgoing, Setup, Site, UpUnit};
+use gate_model::{ChannelUnit, Outgoing, Reply, Setup, Site, UpUnit};
 use gate_outside::{End, Linked, Sink};
 use gate_relay::Loss;
 use machine_10::{Awaited10, Unit10};
@@ -83,9 +84,28 @@ fn look(state: &Core, slot: &mut Slot, alloc: Global) -> Result<bool, Memory>
             Ok(false)
         }
         Some(unit) => {
-            slot.choose(alloc, unit, state.carried_back(unit))?;
+            choose(state, slot, alloc, unit)?;
             Ok(true)
         }
+    }
+}
+
+/// Offers a unit to the client; without memory all is as it was.
+fn choose(state: &Core, slot: &mut Slot, alloc: Global, unit: Reply) -> Result<(), Memory>
+    ensures ok { OnOk result (slot.new ≡ record {
+      chosen = Some unit;
+      bytes = spell_reply unit (carries_back state.now unit);
+    }) }
+    ensures long { OnOk result (0 < length slot.new.bytes) }
+    ensures err { OnErr result (slot.new ≡ slot.old) }
+    ensures takes { OnErr result (takes_memory_back unit ≡ true) }
+{
+    match unit {
+        Reply::OnChannel(channel, ChannelUnit::Deliver(due)) => {
+            let method = state.deliver(alloc, channel, due)?;
+            slot.say(alloc, channel, ChannelUnit::Deliver(due), method)
+        }
+        unit => slot.choose(alloc, unit, state.carried_back(unit)),
     }
 }
 

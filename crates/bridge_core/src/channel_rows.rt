@@ -2,7 +2,8 @@
 
 ghost use Rattle.std.specs.Prelude.{◌≡◌, ◌&&◌};
 ghost use Rattle.gate_model.specs.Due.{attach_row, confirm_on, confirms_on, content_on};
-ghost use Rattle.gate_model.specs.Due.{contents_on};
+ghost use Rattle.gate_model.specs.Due.{consume_oks_on, contents_on, delivers_on, dispose_row};
+ghost use Rattle.gate_model.specs.Due.{is_consume_ok, writings_on};
 ghost use Rattle.gate_model.specs.Due.{detach_row};
 ghost use Rattle.gate_model.specs.Due.{flows_on};
 ghost use Rattle.gate_model.specs.Due.{frame_max_in, is_long_ago, link_flow_row, may_confirm};
@@ -25,7 +26,7 @@ use gate_model::{
 };
 use machine_10::{Conn10, FRAME_MAX, Session};
 use machine_091::Conn91;
-use session_path::FlowDue;
+use session_path::{FlowDue, PathOk};
 
 /// The session of a channel; there is none without a container.
 fn session_of(container: &Option<Conn10>, channel: u16) -> Session
@@ -61,21 +62,33 @@ pub fn is_waiting_on(
     closing: bool,
     settled: bool,
     container: &Option<Conn10>,
+    paths: &Paths,
     channel: u16,
     life: Life,
 ) -> bool
-    ensures { result ≡ is_waiting_on closing settled container.now channel life }
+    ensures { result ≡ is_waiting_on closing settled container.now paths.now channel life }
 {
-    !closing && (life.waits || (life.awaits_end && !is_settled_on(settled, container, channel)))
+    !closing
+        && (life.waits
+            || paths.waits(channel)
+            || (life.awaits_end && !is_settled_on(settled, container, channel)))
 }
 
 /// A request of some channel waits for the container.
-#[tactic(auto, using(crate::proofs::Rows::waits_more, crate::proofs::Rows::waits_end))]
-pub fn any_waits(lives: &Lives, closing: bool, settled: bool, container: &Option<Conn10>) -> bool
-    ensures { result ≡ any_life (is_waiting_on closing settled container.now) 0 lives.now }
+pub fn any_waits(
+    lives: &Lives,
+    paths: &Paths,
+    closing: bool,
+    settled: bool,
+    container: &Option<Conn10>,
+) -> bool
+    ensures { result ≡ any_life (is_waiting_on closing settled container.now paths.now) 0
+        lives.now }
 {
-    for i in 0..lives.top() {
-        if is_waiting_on(closing, settled, container, i, lives.at(i)) {
+    let all = lives.all();
+    let top = lives.top().max(paths.top());
+    for i in 0..top {
+        if is_waiting_on(closing, settled, container, paths, i, all[i as usize]) {
             return true;
         }
     }
@@ -95,7 +108,14 @@ pub fn first_open_ok(lives: &Lives) -> Option<Reply>
     None
 }
 
-/// The answer that goes on a channel, while it is open.
+/// The answer to a basic.consume.
+fn is_consume_ok(ok: PathOk) -> bool
+    ensures { result ≡ is_consume_ok ok }
+{
+    matches!(ok, PathOk::Consume(_))
+}
+
+/// The answer that goes on a channel, while it is open, but for a basic.consume-ok.
 fn ok_on(life: Life, paths: &Paths, channel: u16) -> Option<Reply>
     ensures { result ≡ first (oks_on paths.now channel life) }
 {
@@ -103,7 +123,87 @@ fn ok_on(life: Life, paths: &Paths, channel: u16) -> Option<Reply>
         return None;
     }
     let ok = paths.next_ok(channel)?;
-    Some(Reply::OnChannel(channel, ChannelUnit::Ok(ok)))
+    if is_consume_ok(ok) {
+        None
+    } else {
+        Some(Reply::OnChannel(channel, ChannelUnit::Ok(ok)))
+    }
+}
+
+/// The basic.consume-ok that goes on a channel, while it is open.
+fn consume_ok_on(life: Life, paths: &Paths, channel: u16) -> Option<Reply>
+    ensures { result ≡ first (consume_oks_on paths.now channel life) }
+{
+    if life.over {
+        return None;
+    }
+    let ok = paths.next_ok(channel)?;
+    if is_consume_ok(ok) {
+        Some(Reply::OnChannel(channel, ChannelUnit::Ok(ok)))
+    } else {
+        None
+    }
+}
+
+/// The deliver that goes on a channel, while it is open.
+fn deliver_on(life: Life, paths: &Paths, channel: u16) -> Option<Reply>
+    ensures { result ≡ first (delivers_on paths.now channel life) }
+{
+    if life.over {
+        return None;
+    }
+    let due = paths.next_deliver(channel)?;
+    Some(Reply::OnChannel(channel, ChannelUnit::Deliver(due)))
+}
+
+/// The frame of a content that goes on a channel, while it is open.
+fn writing_on(life: Life, paths: &Paths, channel: u16) -> Option<Reply>
+    ensures { result ≡ first (writings_on paths.now channel life) }
+{
+    if life.over {
+        return None;
+    }
+    let due = paths.next_content(channel)?;
+    Some(Reply::OnChannel(channel, ChannelUnit::Content(due)))
+}
+
+/// The first basic.consume-ok on a channel that is open.
+#[tactic(auto, using(crate::proofs::Rows::consume_oks_more, crate::proofs::Rows::consume_oks_end))]
+pub fn first_consume_ok(lives: &[Life; CHANNELS], paths: &Paths) -> Option<Reply>
+    ensures { result ≡ first (each (consume_oks_on paths.now) 0 lives.now) }
+{
+    for i in 0..paths.top() {
+        if let Some(unit) = consume_ok_on(lives[i as usize], paths, i) {
+            return Some(unit);
+        }
+    }
+    None
+}
+
+/// The first deliver on a channel that is open.
+#[tactic(auto, using(crate::proofs::Rows::delivers_more, crate::proofs::Rows::delivers_end))]
+pub fn first_deliver(lives: &[Life; CHANNELS], paths: &Paths) -> Option<Reply>
+    ensures { result ≡ first (each (delivers_on paths.now) 0 lives.now) }
+{
+    for i in 0..paths.top() {
+        if let Some(unit) = deliver_on(lives[i as usize], paths, i) {
+            return Some(unit);
+        }
+    }
+    None
+}
+
+/// The first frame that goes on with a content on a channel that is open.
+#[tactic(auto, using(crate::proofs::Rows::writings_more, crate::proofs::Rows::writings_end))]
+pub fn first_writing(lives: &[Life; CHANNELS], paths: &Paths) -> Option<Reply>
+    ensures { result ≡ first (each (writings_on paths.now) 0 lives.now) }
+{
+    for i in 0..paths.top() {
+        if let Some(unit) = writing_on(lives[i as usize], paths, i) {
+            return Some(unit);
+        }
+    }
+    None
 }
 
 /// The first answer on a channel that is open.
@@ -289,6 +389,7 @@ fn attach_on(container: &Option<Conn10>, paths: &Paths, name: u64, channel: u16)
         link: due.link,
         handle: due.handle,
         name,
+        receives: due.receives,
     };
     Some(UpUnit::OnSession(channel, SessionUnit::Attach(attach)))
 }
@@ -409,6 +510,34 @@ pub fn first_transfer(
     None
 }
 
+/// The disposition of deliveries that goes on a channel.
+fn disposal_on(container: &Option<Conn10>, paths: &Paths, channel: u16) -> Option<UpUnit>
+    ensures { result ≡ first (dispose_row container.now paths.now channel no_life) }
+{
+    if !is_carried(container, channel) {
+        return None;
+    }
+    let next = paths.next_dispose(channel)?;
+    Some(UpUnit::OnSession(channel, SessionUnit::Dispose(next)))
+}
+
+/// The first disposition of deliveries.
+#[tactic(auto, using(crate::proofs::Rows::disposals_more, crate::proofs::Rows::disposals_end))]
+pub fn first_disposal(
+    lives: &[Life; CHANNELS],
+    container: &Option<Conn10>,
+    paths: &Paths,
+) -> Option<UpUnit>
+    ensures { result ≡ first (each (dispose_row container.now paths.now) 0 lives.now) }
+{
+    for i in 0..paths.top() {
+        if let Some(unit) = disposal_on(container, paths, i) {
+            return Some(unit);
+        }
+    }
+    None
+}
+
 /// The disposition that answers one of the container's on a channel.
 fn settling_on(container: &Option<Conn10>, paths: &Paths, channel: u16) -> Option<UpUnit>
     ensures { result ≡ first (settle_row container.now paths.now channel no_life) }
@@ -437,18 +566,18 @@ pub fn first_settling(
     None
 }
 
-/// The detach that answers one of the container's on a channel.
+/// The detach that goes on a channel.
 fn detach_on(container: &Option<Conn10>, paths: &Paths, channel: u16) -> Option<UpUnit>
     ensures { result ≡ first (detach_row container.now paths.now channel no_life) }
 {
     if !is_carried(container, channel) {
         return None;
     }
-    let (link, handle) = paths.next_detach(channel)?;
-    Some(UpUnit::OnSession(channel, SessionUnit::Detach(link, handle)))
+    let unit = paths.next_detach(channel)?;
+    Some(UpUnit::OnSession(channel, unit))
 }
 
-/// The first detach that answers one of the container's.
+/// The first detach.
 #[tactic(auto, using(crate::proofs::Rows::detaches_more, crate::proofs::Rows::detaches_end))]
 pub fn first_detach(
     lives: &[Life; CHANNELS],

@@ -343,6 +343,7 @@ impl Core {
     {
         self.up.set_condition(self.conn.is_closing(), None);
         self.conn.ended();
+        self.paths.close_all();
         self.pending.close = None;
         self.closed_at = closes_at(self.closed_at, true, self.moment);
         self.leaving = false;
@@ -432,7 +433,7 @@ impl Core {
         ensures { self.new ≡ record self.old { paths = paths_lost self.old.paths } }
     {
         self.paths.lines_told();
-        self.paths.lose_all();
+        self.paths.lose_end();
     }
 
     /// The pair ran out of memory.
@@ -445,6 +446,7 @@ impl Core {
         self.up
             .set_condition(self.conn.is_closing(), Some(condition));
         self.conn.closing(Scope::Connection, 0);
+        self.paths.close_all();
         self.queue.clear();
         self.closed_at = closes_at(self.closed_at, true, self.moment);
         self.out_of_memory = true;
@@ -457,6 +459,9 @@ impl Core {
         match end {
             End::Client => {
                 self.sent_last = with_last(self.sent_last, self.in_progress);
+                if let Some(Reply::OnChannel(channel, unit)) = self.in_progress {
+                    self.paths.wrote(channel, unit);
+                }
                 self.in_progress = None;
                 self.last_sent_at = self.moment;
             }
@@ -501,6 +506,7 @@ impl Core {
             || self.close_waits()
             || any_waits(
                 &self.lives,
+                &self.paths,
                 self.conn.is_closing(),
                 self.is_settled(),
                 self.up.container(),
@@ -515,6 +521,7 @@ impl Core {
             self.conn.is_closing(),
             self.is_settled(),
             self.up.container(),
+            &self.paths,
             channel,
             self.lives.at(channel),
         )

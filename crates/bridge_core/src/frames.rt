@@ -171,12 +171,15 @@ fn write_on_channel(room: &mut [u8; ROOM], channel: u16, unit: ChannelUnit) -> u
         ChannelUnit::Ok(PathOk::Declare) => put_declare_ok(room, channel),
         ChannelUnit::Ok(PathOk::Select) => put_select_ok(room, channel),
         ChannelUnit::Confirm(confirm) => write_confirm(room, channel, confirm),
-        ChannelUnit::Return(_) => unreachable!(),
+        ChannelUnit::Ok(PathOk::Consume(_))
+        | ChannelUnit::Deliver(_)
+        | ChannelUnit::Content(_)
+        | ChannelUnit::Return(_) => unreachable!(),
     }
 }
 
-/// Writes the bytes of a unit to the client that is no frame of a return over the first ones of a
-/// room, and answers their count.
+/// Writes the bytes of a unit to the client that takes no memory over the first ones of a room, and
+/// answers their count.
 pub fn spell_reply(room: &mut [u8; ROOM], reply: Reply) -> usize
     requires { takes_memory_back reply ≡ false }
     ensures written { IsWrittenOver (spell_reply reply []) room.old room.new result }

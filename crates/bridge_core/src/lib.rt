@@ -4,6 +4,7 @@
 
 mod bridge;
 mod channel_rows;
+mod contents;
 mod core_state;
 mod frames;
 mod link_frames;

@@ -2,8 +2,9 @@
 
 ghost use Rattle.std.specs.Prelude.{◌≡◌, ◌≤◌, ◌++◌, [], length, IfOk, IsTrue};
 ghost use Rattle.gate_model.specs.Paths.{transfer_perf};
-ghost use Rattle.gate_model.specs.Spelling.{attach_perf, empty_source, frame_on, link_flow_perf};
-ghost use Rattle.gate_model.specs.Spelling.{spell_on, target_of};
+ghost use Rattle.std.specs.Prelude.{false, true};
+ghost use Rattle.gate_model.specs.Spelling.{attach_perf, empty_source, empty_target, frame_on};
+ghost use Rattle.gate_model.specs.Spelling.{link_flow_perf, source_of, spell_on, target_of};
 ghost use Rattle.gate_model.specs.declared.channel.SessionUnit.TheVariants as unit;
 ghost use Rattle.performatives_10.specs.Writing.{perf_text, perf_tree};
 ghost use Rattle.session_path.specs.Links.{link_name};
@@ -24,6 +25,9 @@ const BODY_MAX: usize = FRAME_MAX as usize - 8;
 /// The bytes of an address, at most: that of a short string (AMQP 0-9-1 4.2.5.3).
 const ADDRESS_MAX: usize = 255;
 
+/// The bytes of a message that the gateway takes, at most.
+const MESSAGE_MAX: u64 = 16_842_752;
+
 /// Lets go of a performative, once it is written.
 fn release(perf: Perf) {
     match perf {
@@ -35,7 +39,7 @@ fn release(perf: Perf) {
 }
 
 /// Whether a text is UTF-8.
-fn is_utf8(text: &[u8]) -> bool
+pub fn is_utf8(text: &[u8]) -> bool
     ensures { result ≡ is_utf8 text.now }
 {
     match std::str::from_utf8(text) {
@@ -76,12 +80,32 @@ fn empty_source() -> Source10
     }
 }
 
+/// A source with this address (AMQP 1.0 3.5.3).
+fn source_of(address: ByteText) -> Source10
+    ensures { result ≡ source_of address }
+{
+    Source10 {
+        address: Some(address),
+        ..empty_source()
+    }
+}
+
 /// A target with this address (AMQP 1.0 3.5.4).
 fn target_of(address: ByteText) -> Target10
     ensures { result ≡ target_of address }
 {
     Target10 {
         address: Some(address),
+        ..empty_target()
+    }
+}
+
+/// A target without an address: of deliveries that the gateway takes.
+fn empty_target() -> Target10
+    ensures { result ≡ empty_target }
+{
+    Target10 {
+        address: None,
         durable: None,
         expiry_policy: None,
         timeout: None,
@@ -92,9 +116,10 @@ fn target_of(address: ByteText) -> Target10
 }
 
 /// The attach of a sending link to an address.
-fn attach_of(alloc: Global, attach: AttachOut, address: &[u8]) -> Result<Perf, Memory>
+fn attach_to(alloc: Global, attach: AttachOut, address: &[u8]) -> Result<Perf, Memory>
     requires utf8 { IsTrue (is_utf8 address.now) }
     requires short { length address.now ≤ 255 }
+    requires sends { attach.receives ≡ false }
     ensures perf { IfOk result (λ perf. perf ≡ attach_perf attach address.now) }
     ensures spelled { IfOk result (λ perf. HasSpelling (perf_tree perf)) }
 {
@@ -116,7 +141,47 @@ fn attach_of(alloc: Global, attach: AttachOut, address: &[u8]) -> Result<Perf, M
     }))
 }
 
-/// The flow of a sending link.
+/// The attach of a receiving link from an address.
+fn attach_from(alloc: Global, attach: AttachOut, address: &[u8]) -> Result<Perf, Memory>
+    requires utf8 { IsTrue (is_utf8 address.now) }
+    requires short { length address.now ≤ 255 }
+    requires receives { attach.receives ≡ true }
+    ensures perf { IfOk result (λ perf. perf ≡ attach_perf attach address.now) }
+    ensures spelled { IfOk result (λ perf. HasSpelling (perf_tree perf)) }
+{
+    Ok(Perf::Attach(Attach {
+        name: link_name(alloc, attach.name)?,
+        handle: attach.handle,
+        role: true,
+        snd_settle_mode: 0,
+        rcv_settle_mode: 0,
+        source: Some(source_of(ByteText::copy_of(alloc, address)?)),
+        target: Some(empty_target()),
+        unsettled: None,
+        incomplete_unsettled: false,
+        initial_delivery_count: None,
+        max_message_size: Some(MESSAGE_MAX),
+        offered_capabilities: None,
+        desired_capabilities: None,
+        properties: None,
+    }))
+}
+
+/// The attach of a link.
+fn attach_of(alloc: Global, attach: AttachOut, address: &[u8]) -> Result<Perf, Memory>
+    requires utf8 { IsTrue (is_utf8 address.now) }
+    requires short { length address.now ≤ 255 }
+    ensures perf { IfOk result (λ perf. perf ≡ attach_perf attach address.now) }
+    ensures spelled { IfOk result (λ perf. HasSpelling (perf_tree perf)) }
+{
+    if attach.receives {
+        attach_from(alloc, attach, address)
+    } else {
+        attach_to(alloc, attach, address)
+    }
+}
+
+/// The flow of a link.
 fn flow_of(flow: LinkFlow) -> Perf
     ensures perf { result ≡ link_flow_perf flow }
     ensures spelled { HasSpelling (perf_tree result) }
@@ -189,7 +254,7 @@ fn frame_of(alloc: Global, channel: u16, perf: &Perf, payload: &[u8]) -> Result<
 }
 
 /// The frame of an attach to this address. `Memory` also if that is longer than a short string or
-/// isn't UTF-8: no publish to such an address is taken up.
+/// isn't UTF-8: no publish or consume of such an address is taken up.
 pub fn attach_frame(
     alloc: Global,
     channel: u16,

@@ -1,7 +1,9 @@
 //! What a performative of the container changes of the path of its channel.
 
 ghost use Rattle.std.specs.Prelude.{◌≡◌, IfSome, true};
-ghost use Rattle.gate_model.specs.Paths.{credit_of, is_not_found, name_in, outcome_by};
+ghost use Rattle.std.specs.Prelude.{ℕ, List, ◌==◌, false};
+ghost use Rattle.gate_model.specs.Paths.{credit_of, heard_as, is_not_found, name_in, outcome_by};
+ghost use Rattle.gate_model.specs.Paths.{part_in};
 ghost use Rattle.gate_model.specs.Upstream.{condition_in};
 ghost use Rattle.performatives_10.specs.Fields.{maybe};
 ghost use Rattle.performatives_10.specs.View.{error_tree};
@@ -13,10 +15,11 @@ ghost use Rattle.bridge_core.specs.LinkFaults.{takes_memory_of};
 ghost use Rattle.bridge_core.specs.PathChanges.{takes_memory_to, with_change};
 
 use crate::paths::PathChange;
-use performatives_10::{Condition, Disposition, Error10, Flow, Perf, State};
+use consume_path::Part;
+use performatives_10::{Attach, Condition, Disposition, Error10, Flow, Perf, State, Transfer};
 use property_map::decimal_of;
 use publish_path::Outcome;
-use session_path::{LinkFlow, Settling};
+use session_path::{AttachHeard, LinkFlow, Settling};
 
 /// What is wrong with a performative that names a link.
 #[derive(Clone, Copy, Debug)]
@@ -93,17 +96,55 @@ fn link_flow(flow: &Flow) -> LinkFlow
     }
 }
 
-/// What a performative changes of the path of its channel.
-#[tactic(auto, using(crate::proofs::PathChanges::detach_heard, crate::proofs::PathChanges::attach_heard, crate::proofs::PathChanges::flow_heard), unfolding(machine_10::specs::Parts::parts_of))]
+/// What an attach says, under the name with this number.
+fn attach_heard(attach: &Attach, name: u64) -> AttachHeard
+    ensures { result ≡ heard_as (parts_of (perf.Attach attach.now)).1 name }
+{
+    let there = if attach.role {
+        attach.target.is_some()
+    } else {
+        attach.source.is_some()
+    };
+    AttachHeard {
+        name,
+        peer: attach.handle,
+        role: attach.role,
+        there,
+        count: attach.initial_delivery_count.unwrap_or(0),
+    }
+}
+
+/// What a transfer says of its delivery (AMQP 1.0 2.7.5).
+pub fn part_of(transfer: &Transfer) -> Part
+    ensures { result ≡ part_in (parts_of (perf.Transfer transfer.now)).1 }
+{
+    let tag_length = match &transfer.delivery_tag {
+        None => None,
+        Some(tag) => Some(tag.as_slice().len()),
+    };
+    Part {
+        id: transfer.delivery_id,
+        tag_length,
+        settled: transfer.settled.unwrap_or(false),
+        more: transfer.more,
+        aborted: transfer.aborted,
+        resume: transfer.resume,
+    }
+}
+
+/// What a performative that is no transfer changes of the path of its channel.
+#[tactic(auto, unfolding(machine_10::specs::Parts::parts_of))]
 pub fn path_change(perf: &Perf) -> Option<PathChange>
-    ensures path { (s : PathState) → with_change result s ≡ path_heard (parts_of perf.now) s }
+    requires { ((parts_of perf.now).0 == 20) ≡ false }
+    ensures path { (limit n : ℕ) (payload : List ℕ) (s : PathState) → with_change result s
+        ≡ path_heard limit n (parts_of perf.now) payload s }
     ensures takes { IfSome result (λ c. takes_memory_to c ≡ takes_memory_of (parts_of perf.now)) }
 {
     match perf {
         Perf::Begin(begin) => Some(PathChange::Began(begin.handle_max)),
         Perf::Attach(attach) => {
             let name = link_number(attach.name.as_slice())?;
-            Some(PathChange::Attached(name, attach.handle, attach.target.is_some()))
+            Some(PathChange::Attached(attach_heard(attach, name)))
         }
         Perf::Flow(flow) => {
             let handle = flow.handle?;

@@ -3,11 +3,24 @@
 ghost use Rattle.std.specs.Prelude.{◌≡◌, ◌-◌, ◌^◌, IfSome, OnErr, OnOk, Some, None};
 ghost use Rattle.std.specs.Prelude.{is_some, box_value, map, min, option_copied, true};
 ghost use Rattle.std.specs.List.{list_any};
-ghost use Rattle.std.specs.Prelude.{◌≤◌, drop};
+ghost use Rattle.std.specs.Prelude.{◌≤◌, ◌||◌, drop};
 ghost use Rattle.std.specs.Option.{option_map};
 ghost use Rattle.session_path.specs.Due.{is_done, next_attach, next_confirm, next_detach};
 ghost use Rattle.session_path.specs.Due.{next_flow};
-ghost use Rattle.session_path.specs.Due.{next_frame, next_ok, next_return, next_settle};
+ghost use Rattle.session_path.specs.Due.{is_waiting, next_content, next_deliver, next_dispose};
+ghost use Rattle.session_path.specs.Due.{next_frame, next_ok, next_return, next_settle, queue_at};
+ghost use Rattle.session_path.specs.Path.{end_lost, is_last, transfer_came, transfer_fault};
+ghost use Rattle.session_path.specs.Links.{error_of};
+ghost use Rattle.std.specs.Prelude.{ℕ, Bool, List, Option, IfOk, false, length, nat_le};
+ghost use Rattle.consume_path.specs.Links.{is_tag_used};
+ghost use Rattle.methods_091.specs.Writing.{CanPut};
+ghost use Rattle.consume_path.specs.declared.delivery.Content.{Content};
+ghost use Rattle.gate_model.specs.Due.{deliver_as, deliver_method, detach_out, or_no_bytes};
+ghost use Rattle.gate_model.specs.Paths.{closed_path, closed_paths, error_for, is_receiver};
+ghost use Rattle.gate_model.specs.Requests.{answer_fault, consume_fault, is_queue_name};
+ghost use Rattle.gate_model.specs.State.{path_wrote};
+ghost use Rattle.bridge_core.specs.PathChanges.{consumed_by, is_deliver, partial_in};
+ghost use Rattle.bridge_core.specs.Reports.{has_delivery_line};
 ghost use Rattle.session_path.specs.Links.{attach_fault, handle_of, named};
 ghost use Rattle.session_path.specs.Path.{published};
 ghost use Rattle.session_path.specs.declared.path.AttachFault.TheVariants.{NotAsked};
@@ -18,20 +31,29 @@ ghost use Rattle.gate_model.specs.Paths.{told_paths, transfer_of, with_path};
 ghost use Rattle.session_path.specs.Path.{lines_told};
 ghost use Rattle.gate_model.specs.State.{path_given, path_told};
 ghost use Rattle.bridge_core.specs.PathChanges.{MayGive, MayTell, path_changed, takes_memory_to};
-ghost use Rattle.bridge_core.specs.PathChanges.{detach_of};
 ghost use Rattle.bridge_core.specs.declared.lives.TheConstants.{CHANNELS};
 ghost use Rattle.bridge_core.specs.Reports.{IsNextOwing, has_line, is_before, owing_on, sooner};
 
+use crate::link_frames::is_utf8;
 use crate::lives::CHANNELS;
 use crate::transfers::transfer_of;
+use close_translate::{NOT_ALLOWED, NOT_FOUND, PRECONDITION_FAILED};
+use consume_path::{Content, Delivery, NextSettle, Part, Settle, TransferFault};
 use gate_model::{ChannelUnit, HELD_BYTES, HELD_PUBLISHES, SessionUnit, TransferOut};
+use methods_091::Method91;
 use open_items::Frames;
+use performatives_10::Condition;
 use publish_path::{Confirm, NextReturn, Outcome, Publish};
 use session_path::{
-    AttachDue, AttachFault, FlowDue, LinkFlow, PathOk, SessionPath, Settling, Stage,
+    AttachDue, AttachFault, AttachHeard, ContentDue, DeliverDue, FlowDue, LinkFlow, PathOk,
+    SessionPath, Settling, Stage,
 };
+use std::alloc::Global;
 use std::marker::Model;
 use wire_base::{ByteText, Memory};
+
+/// The bytes of a short string, at most.
+const SHORT_MAX: usize = 255;
 
 /// The path of one channel, or none where the channel wasn't opened.
 #[derive(Drop)]
@@ -56,6 +78,15 @@ impl Default for PathSlot {
     }
 }
 
+/// What a basic.consume asks for.
+#[derive(Drop)]
+pub struct Consume {
+    pub queue: ByteText,
+    pub tag: ByteText,
+    pub no_ack: bool,
+    pub no_wait: bool,
+}
+
 /// What a unit of the client or of the container changes of a path.
 #[derive(Clone, Copy, Debug)]
 pub enum PathChange {
@@ -65,8 +96,10 @@ pub enum PathChange {
     Selected(bool),
     /// The container's begin came, with the greatest handle that it takes.
     Began(u32),
-    /// Its attach came: the number in its name, its handle, and that it has a target.
-    Attached(u64, u32, bool),
+    /// A client answered deliveries: their tag, that it covers those before it, and what they get.
+    Answered(u64, bool, Settle),
+    /// The container's attach came.
+    Attached(AttachHeard),
     /// Its flow on the link of this handle came.
     Flowed(u32, LinkFlow),
     /// Its detach of the link of this handle did, whose error says that there is no such node, or
@@ -74,6 +107,10 @@ pub enum PathChange {
     Detached(u32, bool),
     /// An outcome did: which, and that it came settled.
     Outcome(Settling, Outcome, bool),
+    /// A transfer on the link of this handle passed a limit.
+    Failed(u32, TransferFault),
+    /// The life closes.
+    Closed,
     /// The session is lost.
     Lost,
 }
@@ -85,6 +122,24 @@ impl PathSlot {
     {
         if let Some(path) = &mut self.path {
             path.lost();
+        }
+    }
+
+    /// Its life closes.
+    fn close(&mut self)
+        ensures { self.new ≡ option_map closed_path self.old }
+    {
+        if let Some(path) = &mut self.path {
+            path.closed();
+        }
+    }
+
+    /// The upstream end is lost.
+    fn lose_end(&mut self)
+        ensures { self.new ≡ option_map end_lost self.old }
+    {
+        if let Some(path) = &mut self.path {
+            path.end_lost();
         }
     }
 
@@ -107,12 +162,12 @@ impl PathSlot {
         }
     }
 
-    /// The life whose publishes owe lines to the report, if some do.
+    /// The life whose publishes or deliveries owe lines to the report, if some do.
     fn owing(&self) -> Option<u64>
         ensures { result ≡ owing_on self.now }
     {
         let path = self.path()?;
-        if owes(path.publishes()) {
+        if owes_line(path.publishes(), path.deliveries()) {
             Some(path.life())
         } else {
             None
@@ -152,16 +207,25 @@ impl PathSlot {
                 path.began(handle_max);
                 Ok(())
             }
-            PathChange::Attached(name, peer, target) => {
-                let _ = path.attach_came(name, peer, target);
+            PathChange::Answered(tag, multiple, settle) => {
+                path.answer_came(tag, multiple, settle);
                 Ok(())
             }
+            PathChange::Attached(attach) => path.attach_came(attach),
             PathChange::Flowed(peer, flow) => path.flow_came(peer, flow),
             PathChange::Detached(peer, not_found) => {
                 path.detach_came(peer, not_found);
                 Ok(())
             }
             PathChange::Outcome(ids, outcome, settled) => path.outcome_came(ids, outcome, settled),
+            PathChange::Failed(peer, fault) => {
+                path.failed(peer, fault);
+                Ok(())
+            }
+            PathChange::Closed => {
+                path.closed();
+                Ok(())
+            }
             PathChange::Lost => {
                 path.lost();
                 Ok(())
@@ -181,6 +245,66 @@ impl PathSlot {
         }
     }
 
+    /// A basic.consume of this queue was taken up. Without memory for it all is as it was.
+    fn consume(&mut self, consume: Consume) -> Result<(), Memory>
+        ensures ok { OnOk result (self.new ≡ option_map (consumed_by consume) self.old) }
+        ensures err { OnErr result (self.new ≡ self.old) }
+    {
+        match &mut self.path {
+            None => Ok(()),
+            Some(path) => {
+                path.consume(consume.queue, consume.tag, consume.no_ack, consume.no_wait)
+            }
+        }
+    }
+
+    /// A transfer under this handle came, behind which its delivery goes on, or is none any more.
+    /// Without memory for it all is as it was.
+    fn transfer(&mut self, peer: u32, part: Part, payload: &[u8]) -> Result<(), Memory>
+        requires { is_last part ≡ false }
+        ensures ok { (image : Option Content) (again : Bool) → OnOk result (self.new
+            ≡ option_map (transfer_came peer part payload.now image again) self.old) }
+        ensures err { OnErr result (self.new ≡ self.old) }
+    {
+        match &mut self.path {
+            None => Ok(()),
+            Some(path) => path.transfer(peer, part, payload),
+        }
+    }
+
+    /// A transfer came that ends its delivery, of which this goes to the client. Without memory for
+    /// it all is as it was.
+    fn arrive(
+        &mut self,
+        peer: u32,
+        part: Part,
+        image: Option<Content>,
+        again: bool,
+    ) -> Result<(), Memory>
+        requires { is_last part ≡ true }
+        ensures ok { (payload : List ℕ) → OnOk result (self.new
+            ≡ option_map (transfer_came peer part payload image again) self.old) }
+        ensures err { OnErr result (self.new ≡ self.old) }
+    {
+        match &mut self.path {
+            None => Ok(()),
+            Some(path) => path.arrive(peer, part, image, again),
+        }
+    }
+
+    /// The last byte of a unit on the channel was sent.
+    fn wrote(&mut self, unit: ChannelUnit)
+        ensures { self.new ≡ option_map (path_wrote unit) self.old }
+    {
+        let Some(path) = &mut self.path else {
+            return;
+        };
+        match unit {
+            ChannelUnit::Content(due) if due.last => path.content_whole(due.tag),
+            _ => {}
+        }
+    }
+
     /// The first byte of a unit of the session's links was sent.
     fn give(&mut self, unit: SessionUnit)
         requires { IfSome self.old (MayGive unit) }
@@ -193,12 +317,13 @@ impl PathSlot {
             SessionUnit::Attach(attach) => path.attach_sent(attach.name),
             SessionUnit::Flow(_) => path.link_flow_sent(),
             SessionUnit::Transfer(transfer) => path.transfer_sent(transfer.frame, transfer.bytes),
+            SessionUnit::Dispose(_) => path.dispose_sent(),
             SessionUnit::Settle(_) => path.settle_sent(),
-            SessionUnit::Detach(_, _) => path.detach_sent(),
+            SessionUnit::Detach(_, _, _) => path.detach_sent(),
         }
     }
 
-    /// The first byte of an answer, of a confirm or of a frame of a return was sent.
+    /// The first byte of a unit on the channel was sent.
     fn tell(&mut self, unit: ChannelUnit)
         requires { IfSome self.old (MayTell unit) }
         ensures { self.new ≡ option_map (path_told unit) self.old }
@@ -208,6 +333,8 @@ impl PathSlot {
         };
         match unit {
             ChannelUnit::Ok(_) => path.ok_sent(),
+            ChannelUnit::Deliver(due) => path.deliver_sent(due),
+            ChannelUnit::Content(_) => path.content_sent(),
             ChannelUnit::Confirm(_) => path.confirm_sent(),
             ChannelUnit::Return(_) => path.return_sent(),
         }
@@ -219,6 +346,21 @@ fn owes(publishes: &[Publish]) -> bool
     ensures { result ≡ list_any has_line publishes.now }
 {
     publishes.iter().any(|publish| publish.line.is_some())
+}
+
+/// Some delivery does.
+fn owes_of(deliveries: &[Delivery]) -> bool
+    ensures { result ≡ list_any has_delivery_line deliveries.now }
+{
+    deliveries.iter().any(|delivery| delivery.line.is_some())
+}
+
+/// A publish or a delivery of a path does.
+fn owes_line(publishes: &[Publish], deliveries: &[Delivery]) -> bool
+    ensures { result ≡ (list_any has_line publishes.now
+        || list_any has_delivery_line deliveries.now) }
+{
+    owes(publishes) || owes_of(deliveries)
 }
 
 /// A life comes before the next one, if there is one.
@@ -276,12 +418,30 @@ fn tell_each(paths: &mut [PathSlot; CHANNELS])
     }
 }
 
-/// All are.
+/// All sessions are lost.
 fn lose_each(paths: &mut [PathSlot; CHANNELS])
     ensures { paths.new ≡ map (option_map lost_path) paths.old }
 {
     for slot in paths.iter_mut() {
         slot.lose();
+    }
+}
+
+/// The upstream end is lost.
+fn lose_ends(paths: &mut [PathSlot; CHANNELS])
+    ensures { paths.new ≡ map (option_map end_lost) paths.old }
+{
+    for slot in paths.iter_mut() {
+        slot.lose_end();
+    }
+}
+
+/// All lives close.
+fn close_each(paths: &mut [PathSlot; CHANNELS])
+    ensures { paths.new ≡ closed_paths paths.old }
+{
+    for slot in paths.iter_mut() {
+        slot.close();
     }
 }
 
@@ -359,6 +519,24 @@ impl Paths {
         &self.paths[..usize::from(self.top)]
     }
 
+    /// The life of a channel closes.
+    #[tactic(auto, using(crate::proofs::PathSlots::none_beyond))]
+    pub fn close(&mut self, channel: u16)
+        ensures { self.new ≡ with_path channel closed_path self.old }
+    {
+        let at = usize::from(channel);
+        if at < self.paths.len() {
+            self.paths[at].close();
+        }
+    }
+
+    /// All lives close.
+    pub fn close_all(&mut self)
+        ensures { self.new ≡ closed_paths self.old }
+    {
+        close_each(&mut self.paths);
+    }
+
     /// The session of a channel is lost.
     #[tactic(auto, using(crate::proofs::PathSlots::none_beyond))]
     pub fn lose(&mut self, channel: u16)
@@ -399,7 +577,14 @@ impl Paths {
         publishes >= HELD_PUBLISHES || bytes >= HELD_BYTES
     }
 
-    /// The connection is.
+    /// The upstream end is lost.
+    pub fn lose_end(&mut self)
+        ensures { self.new ≡ map (option_map end_lost) self.old }
+    {
+        lose_ends(&mut self.paths);
+    }
+
+    /// All sessions are lost.
     pub fn lose_all(&mut self)
         ensures { self.new ≡ map (option_map lost_path) self.old }
     {
@@ -444,6 +629,78 @@ impl Paths {
         }
     }
 
+    /// A basic.consume was taken up on a channel. Without memory for it all is as it was.
+    #[tactic(auto, using(crate::proofs::PathSlots::none_beyond))]
+    pub fn consume(&mut self, channel: u16, consume: Consume) -> Result<(), Memory>
+        ensures ok { OnOk result (self.new ≡ with_path channel (consumed_by consume) self.old) }
+        ensures err { OnErr result (self.new ≡ self.old) }
+    {
+        let at = usize::from(channel);
+        if at < self.paths.len() {
+            self.paths[at].consume(consume)
+        } else {
+            Ok(())
+        }
+    }
+
+    /// A transfer came on a channel, under this handle, behind which its delivery goes on, or is
+    /// none any more. Without memory for it all is as it was.
+    #[tactic(auto, using(crate::proofs::PathSlots::none_beyond))]
+    pub fn transfer(
+        &mut self,
+        channel: u16,
+        peer: u32,
+        part: Part,
+        payload: &[u8],
+    ) -> Result<(), Memory>
+        requires { is_last part ≡ false }
+        ensures ok { (image : Option Content) (again : Bool) → OnOk result (self.new
+            ≡ with_path channel (transfer_came peer part payload.now image again) self.old) }
+        ensures err { OnErr result (self.new ≡ self.old) }
+    {
+        let at = usize::from(channel);
+        if at < self.paths.len() {
+            self.paths[at].transfer(peer, part, payload)
+        } else {
+            Ok(())
+        }
+    }
+
+    /// A transfer came on a channel that ends its delivery, of which this goes to the client.
+    /// Without memory for it all is as it was.
+    #[tactic(auto, using(crate::proofs::PathSlots::none_beyond))]
+    pub fn arrive(
+        &mut self,
+        channel: u16,
+        peer: u32,
+        part: Part,
+        image: Option<Content>,
+        again: bool,
+    ) -> Result<(), Memory>
+        requires { is_last part ≡ true }
+        ensures ok { (payload : List ℕ) → OnOk result (self.new
+            ≡ with_path channel (transfer_came peer part payload image again) self.old) }
+        ensures err { OnErr result (self.new ≡ self.old) }
+    {
+        let at = usize::from(channel);
+        if at < self.paths.len() {
+            self.paths[at].arrive(peer, part, image, again)
+        } else {
+            Ok(())
+        }
+    }
+
+    /// The last byte of a unit on a channel was sent.
+    #[tactic(auto, using(crate::proofs::PathSlots::none_beyond))]
+    pub fn wrote(&mut self, channel: u16, unit: ChannelUnit)
+        ensures { self.new ≡ with_path channel (path_wrote unit) self.old }
+    {
+        let at = usize::from(channel);
+        if at < self.paths.len() {
+            self.paths[at].wrote(unit);
+        }
+    }
+
     /// The first byte of a unit of the links of a channel's session was sent.
     #[tactic(auto, using(crate::proofs::PathSlots::none_beyond))]
     pub fn give(&mut self, channel: u16, unit: SessionUnit)
@@ -456,7 +713,7 @@ impl Paths {
         }
     }
 
-    /// The first byte of an answer, of a confirm or of a frame of a return on a channel was sent.
+    /// The first byte of a unit on a channel was sent.
     #[tactic(auto, using(crate::proofs::PathSlots::none_beyond))]
     pub fn tell(&mut self, channel: u16, unit: ChannelUnit)
         requires { IfSome (slot_at self.old channel) (MayTell unit) }
@@ -484,19 +741,99 @@ impl Paths {
         self.at(channel)?.next_return()
     }
 
-    /// What a unit to the client on a channel carries of the client's: a frame of a return.
+    /// What a unit to the client on a channel carries, but for a deliver: a consumer tag, or a
+    /// frame.
     pub fn carried_back(&self, channel: u16, unit: ChannelUnit) -> &[u8]
+        requires { is_deliver unit ≡ false }
         ensures { result.now ≡ carries_told (path_at self.now channel) unit }
     {
-        let ChannelUnit::Return(due) = unit else {
-            return &[];
-        };
         let Some(path) = self.at(channel) else {
             return &[];
         };
-        match path.return_frame(due.publish) {
-            None => &[],
-            Some(frame) => frame.as_slice(),
+        match unit {
+            ChannelUnit::Ok(PathOk::Consume(link)) => path.consumer_tag(link),
+            ChannelUnit::Content(_) => bytes_of(path.content_frame()),
+            ChannelUnit::Return(due) => bytes_of(path.return_frame(due.publish)),
+            _ => &[],
+        }
+    }
+
+    /// The method of a deliver on a channel. `Memory` also if a name in it is longer than a short
+    /// string, as none is.
+    pub fn deliver(&self, alloc: Global, channel: u16, due: DeliverDue) -> Result<Method91, Memory>
+        ensures method { IfOk result (λ m. m ≡ deliver_method (path_at self.now channel) due) }
+        ensures short { IfOk result CanPut }
+    {
+        match self.at(channel) {
+            None => deliver_with(alloc, due, &[], None),
+            Some(path) => deliver_with(
+                alloc,
+                due,
+                path.consumer_tag(due.next.link),
+                path.content(due.next.id),
+            ),
+        }
+    }
+
+    /// The deliver that is due.
+    pub fn next_deliver(&self, channel: u16) -> Option<DeliverDue>
+        ensures { result ≡ next_deliver (path_at self.now channel) }
+    {
+        self.at(channel)?.next_deliver()
+    }
+
+    /// The frame of a content that is due.
+    pub fn next_content(&self, channel: u16) -> Option<ContentDue>
+        ensures { result ≡ next_content (path_at self.now channel) }
+    {
+        self.at(channel)?.next_content()
+    }
+
+    /// A basic.consume waits for the container.
+    pub fn waits(&self, channel: u16) -> bool
+        ensures { result ≡ is_waiting (path_at self.now channel) }
+    {
+        match self.at(channel) {
+            None => false,
+            Some(path) => path.waits(),
+        }
+    }
+
+    /// A consumer of a channel has this tag.
+    fn has_tag(&self, channel: u16, tag: &[u8]) -> bool
+        ensures { result ≡ is_tag_used tag.now (path_at self.now channel).deliveries.links }
+    {
+        match self.at(channel) {
+            None => false,
+            Some(path) => path.has_tag(tag),
+        }
+    }
+
+    /// Why a basic.consume is refused on a channel.
+    pub fn consume_fault(&self, channel: u16, queue: &[u8], tag: &[u8]) -> Option<u16>
+        ensures { result ≡ consume_fault queue.now tag.now (path_at self.now channel) }
+    {
+        if tag.len() > SHORT_MAX || self.has_tag(channel, tag) {
+            Some(NOT_ALLOWED)
+        } else if is_queue_name(queue) {
+            None
+        } else {
+            Some(NOT_FOUND)
+        }
+    }
+
+    /// Why an answer to deliveries is.
+    pub fn answer_fault(&self, channel: u16, tag: u64, multiple: bool) -> Option<u16>
+        ensures { result ≡ answer_fault tag multiple (path_at self.now channel) }
+    {
+        let is_known = match self.at(channel) {
+            None => multiple && tag == 0,
+            Some(path) => path.knows(tag, multiple),
+        };
+        if is_known {
+            None
+        } else {
+            Some(PRECONDITION_FAILED)
         }
     }
 
@@ -528,12 +865,19 @@ impl Paths {
         self.at(channel)?.next_settle()
     }
 
-    /// The link whose detach is due, and its handle.
-    pub fn next_detach(&self, channel: u16) -> Option<(u32, u32)>
-        ensures { result ≡ option_map detach_of (next_detach (path_at self.now channel)) }
+    /// The disposition of deliveries that is due.
+    pub fn next_dispose(&self, channel: u16) -> Option<NextSettle>
+        ensures { result ≡ next_dispose (path_at self.now channel) }
+    {
+        self.at(channel)?.next_dispose()
+    }
+
+    /// The detach that is due.
+    pub fn next_detach(&self, channel: u16) -> Option<SessionUnit>
+        ensures { result ≡ option_map detach_out (next_detach (path_at self.now channel)) }
     {
         let link = self.at(channel)?.next_detach()?;
-        Some((link.link, handle_of(link.stage)))
+        Some(SessionUnit::Detach(link.link, handle_of(link.stage), error_of(link.stage)))
     }
 
     /// The frame of a transfer that is due, where the container takes so many more frames, of so
@@ -548,12 +892,61 @@ impl Paths {
     }
 
     /// Why an attach of the container can't be taken.
-    pub fn attach_fault(&self, channel: u16, name: u64, peer: u32) -> Option<AttachFault>
-        ensures { result ≡ attach_fault name peer (path_at self.now channel).links }
+    pub fn attach_fault(
+        &self,
+        channel: u16,
+        name: u64,
+        role: bool,
+        peer: u32,
+    ) -> Option<AttachFault>
+        ensures { result ≡ attach_fault name role peer (path_at self.now channel).links }
     {
         match self.at(channel) {
             None => Some(AttachFault::NotAsked),
-            Some(path) => path.attach_fault(name, peer),
+            Some(path) => path.attach_fault(name, role, peer),
+        }
+    }
+
+    /// Whether this handle of the container names a receiving link.
+    pub fn is_receiver(&self, channel: u16, peer: u32) -> bool
+        ensures { result ≡ is_receiver peer (path_at self.now channel) }
+    {
+        match self.at(channel) {
+            None => false,
+            Some(path) => path.is_receiver(peer),
+        }
+    }
+
+    /// What is wrong with a transfer of so many bytes under this handle.
+    pub fn transfer_fault(
+        &self,
+        channel: u16,
+        peer: u32,
+        part: Part,
+        size: usize,
+    ) -> Option<TransferFault>
+        ensures { result ≡ transfer_fault peer part size (path_at self.now channel) }
+    {
+        self.at(channel)?.transfer_fault(peer, part, size)
+    }
+
+    /// The queue of the delivery that ends with a transfer under this handle.
+    pub fn queue(&self, channel: u16, peer: u32) -> &[u8]
+        ensures { result.now ≡ queue_at peer (path_at self.now channel) }
+    {
+        match self.at(channel) {
+            None => &[],
+            Some(path) => path.queue(peer),
+        }
+    }
+
+    /// The payload of a delivery under this handle, so far.
+    pub fn partial(&self, channel: u16, peer: u32) -> &[u8]
+        ensures { result.now ≡ partial_in peer (path_at self.now channel) }
+    {
+        match self.at(channel) {
+            None => &[],
+            Some(path) => path.partial(peer),
         }
     }
 
@@ -575,7 +968,11 @@ impl Paths {
             return &[];
         };
         match unit {
-            SessionUnit::Attach(attach) => path.address(attach.link),
+            SessionUnit::Attach(attach) => path.address(AttachDue {
+                link: attach.link,
+                handle: attach.handle,
+                receives: attach.receives,
+            }),
             SessionUnit::Transfer(transfer) => match path.rest(transfer.frame.publish) {
                 None => &[],
                 Some(rest) => {
@@ -609,6 +1006,71 @@ fn handle_of(stage: Stage) -> u32
         | Stage::Open(handle)
         | Stage::Refused(handle)
         | Stage::Left(handle)
-        | Stage::Given(handle) => handle,
+        | Stage::Given(handle)
+        | Stage::Failed(handle, _) => handle,
     }
+}
+
+/// The error of the detach of a link.
+fn error_of(stage: Stage) -> Option<Condition>
+    ensures { result ≡ error_for (error_of stage) }
+{
+    match stage {
+        Stage::Failed(_, TransferFault::InvalidField) => Some(Condition::InvalidField),
+        Stage::Failed(_, TransferFault::LimitExceeded) => Some(Condition::TransferLimitExceeded),
+        Stage::Failed(_, TransferFault::SizeExceeded) => Some(Condition::MessageSizeExceeded),
+        _ => None,
+    }
+}
+
+/// The bytes of a frame, if there is one.
+fn bytes_of(frame: Option<&ByteText>) -> &[u8]
+    ensures { result.now ≡ or_no_bytes (option_copied frame.entry) }
+{
+    match frame {
+        None => &[],
+        Some(frame) => frame.as_slice(),
+    }
+}
+
+/// A name that may be a queue's.
+fn is_queue_name(queue: &[u8]) -> bool
+    ensures { result ≡ is_queue_name queue.now }
+{
+    !queue.is_empty() && is_utf8(queue)
+}
+
+/// A name is a short string (AMQP 0-9-1 4.2.5.3).
+fn is_short(name: &[u8]) -> bool
+    ensures { result ≡ nat_le (length name.now) 255 }
+{
+    name.len() <= SHORT_MAX
+}
+
+/// The deliver of a content to the consumer with this tag. `Memory` also if a name in it is longer
+/// than a short string.
+fn deliver_with(
+    alloc: Global,
+    due: DeliverDue,
+    tag: &[u8],
+    content: Option<&Content>,
+) -> Result<Method91, Memory>
+    ensures method { IfOk result (λ m. m ≡ deliver_as tag.now due (option_copied content.entry)) }
+    ensures short { IfOk result CanPut }
+{
+    let consumer_tag = ByteText::copy_of(alloc, tag)?;
+    let (exchange, routing_key) = match content {
+        None => (ByteText::empty(alloc), ByteText::empty(alloc)),
+        Some(content) => (content.exchange.copy(alloc)?, content.key.copy(alloc)?),
+    };
+    if !is_short(tag) || !is_short(exchange.as_slice()) || !is_short(routing_key.as_slice()) {
+        return Err(Memory);
+    }
+    Ok(Method91::BasicDeliver {
+        consumer_tag,
+        delivery_tag: due.tag,
+        redelivered: due.next.again,
+        exchange,
+        routing_key,
+    })
 }

@@ -1,15 +1,18 @@
-//! The lines of the report: what became of publishes that were given up.
+//! The lines of the report: what became of publishes and deliveries that were given up.
 
 ghost use Rattle.std.specs.Prelude.{◌≡◌, ◌++◌, false, codes, decimal};
 ghost use Rattle.std.specs.Bool.{OnFalse};
 ghost use Rattle.gate_model.specs.Paths.{lines_in, lines_of_life, lines_on};
 ghost use Rattle.gate_model.specs.Spelling.{fate_name, line_text, lines_text, what_name};
 ghost use Rattle.gate_relay.specs.Entries.{is_empty};
+ghost use Rattle.consume_path.specs.Offers.{line_of as delivery_line};
+ghost use Rattle.consume_path.specs.Offers.{lines_of as delivery_lines};
 ghost use Rattle.publish_path.specs.Offers.{line_of, lines_of};
 ghost use Rattle.session_path.specs.Due.{lines};
 ghost use Rattle.bridge_core.specs.Reports.{Writes, text_of_line};
 
 use crate::paths::{PathSlot, Paths};
+use consume_path::Delivery;
 use gate_outside::{Sink, write_all};
 use itoa::Buffer;
 use open_items::{LostItem, LostKind};
@@ -106,12 +109,47 @@ fn tell_publishes<K: Sink>(report: &mut K, pair: u32, life: u64, publishes: &[Pu
     true
 }
 
+/// Writes the line of a delivery, if it owes one.
+fn tell_delivery<K: Sink>(report: &mut K, pair: u32, life: u64, delivery: &Delivery) -> bool
+    ensures { Writes result (K.faults report.old) (K.faults report.new) (K.held report.old)
+        (K.held report.new) (text_of_line pair (delivery_line life delivery.now)) }
+{
+    match delivery.line {
+        None => true,
+        Some(kind) => {
+            let item = LostItem {
+                life,
+                number: u64::from(delivery.id),
+                kind,
+            };
+            tell_line(report, pair, item)
+        }
+    }
+}
+
+/// Writes the lines of deliveries of one life.
+fn tell_deliveries<K: Sink>(report: &mut K, pair: u32, life: u64, deliveries: &[Delivery]) -> bool
+    ensures { Writes result (K.faults report.old) (K.faults report.new) (K.held report.old)
+        (K.held report.new) (lines_text pair (delivery_lines life deliveries.now)) }
+{
+    for delivery in deliveries {
+        if !tell_delivery(report, pair, life, delivery) {
+            return false;
+        }
+    }
+    true
+}
+
 /// Writes the lines that a channel owes.
 fn tell_path<K: Sink>(report: &mut K, pair: u32, path: &SessionPath) -> bool
     ensures { Writes result (K.faults report.old) (K.faults report.new) (K.held report.old)
         (K.held report.new) (lines_text pair (lines path.now)) }
 {
-    tell_publishes(report, pair, path.life(), path.publishes())
+    let life = path.life();
+    if !tell_publishes(report, pair, life, path.publishes()) {
+        return false;
+    }
+    tell_deliveries(report, pair, path.delivery_life(), path.deliveries())
 }
 
 /// Writes those that it owes if this life is in progress there.

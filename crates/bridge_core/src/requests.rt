@@ -2,8 +2,12 @@
 //! refused, and a publish becomes a message of AMQP 1.0.
 
 ghost use Rattle.std.specs.Prelude.{◌≡◌, ◌<◌, true, IfOk, OnErr, option_copied};
-ghost use Rattle.gate_model.specs.Requests.{address_for, is_known, is_mandatory, message_of};
+ghost use Rattle.gate_model.specs.Paths.{path_at};
+ghost use Rattle.gate_model.specs.Requests.{address_for, exchange_fault, is_known, message_of};
 ghost use Rattle.gate_model.specs.Requests.{method_fault, refusal_for};
+ghost use Rattle.gate_model.specs.Returns.{is_mandatory};
+ghost use Rattle.session_path.specs.Path.{PathState};
+ghost use Rattle.std.specs.Prelude.{List, Option};
 ghost use Rattle.bridge_core.specs.Backs.{IsWritable};
 ghost use Rattle.bridge_core.specs.Met.{IsMet, IsPublish, back_if, is_publish};
 ghost use Rattle.machine_091.specs.Writable.{CanPutBack};
@@ -14,8 +18,9 @@ ghost use Rattle.methods_091.specs.View.{kind_of};
 ghost use Rattle.methods_091.specs.declared.method.Method91.{Method91};
 ghost use Rattle.machine_091.specs.declared.unit.Want91.TheVariants as want;
 
+use crate::paths::Paths;
 use crate::returns::return_frames;
-use close_translate::{NOT_FOUND, NOT_IMPLEMENTED, PRECONDITION_FAILED, Scope};
+use close_translate::{NOT_ALLOWED, NOT_FOUND, PRECONDITION_FAILED, Scope};
 use content_091::Content;
 use gate_model::Routes;
 use machine_091::{Conn91, Refusal, Want91};
@@ -50,29 +55,51 @@ fn is_known(routes: &Routes, exchange: &[u8]) -> bool
     exchange.is_empty() || routes.address(exchange).is_some()
 }
 
-/// The reply code that a method is refused with, if it is.
-fn method_fault(routes: &Routes, method: &Method91) -> Option<u16>
-    ensures { result ≡ method_fault routes.now method.now }
+/// Why the declare of an exchange is refused, if it is.
+fn exchange_fault(routes: &Routes, exchange: &[u8]) -> Option<u16>
+    ensures { result ≡ exchange_fault routes.now exchange.now }
+{
+    if is_known(routes, exchange) {
+        None
+    } else {
+        Some(NOT_FOUND)
+    }
+}
+
+/// The reply code that a method on a channel is refused with, if it is.
+fn method_fault(routes: &Routes, paths: &Paths, channel: u16, method: &Method91) -> Option<u16>
+    ensures { result ≡ method_fault routes.now (path_at paths.now channel) method.now }
 {
     match method {
-        Method91::ExchangeDeclare { exchange, .. } => {
-            if is_known(routes, exchange.as_slice()) {
-                None
-            } else {
-                Some(NOT_FOUND)
-            }
+        Method91::ExchangeDeclare { exchange, .. } => exchange_fault(routes, exchange.as_slice()),
+        Method91::BasicConsume {
+            queue,
+            consumer_tag,
+            ..
+        } => paths.consume_fault(channel, queue.as_slice(), consumer_tag.as_slice()),
+        Method91::BasicAck {
+            delivery_tag,
+            multiple,
+        } => paths.answer_fault(channel, *delivery_tag, *multiple),
+        Method91::BasicReject { delivery_tag, .. } => {
+            paths.answer_fault(channel, *delivery_tag, false)
         }
+        Method91::BasicNack {
+            delivery_tag,
+            multiple,
+            ..
+        } => paths.answer_fault(channel, *delivery_tag, *multiple),
         _ => None,
     }
 }
 
-/// The refusal of a method on a channel with a reply code: what isn't built closes the connection.
+/// The refusal of a method on a channel with a reply code: 530 closes the connection.
 fn refusal_for(channel: u16, ids: (u16, u16), code: u16) -> Refusal
     ensures { (m : Method91) → class_of (kind_of m) ≡ ids.0 → id_of (kind_of m) ≡ ids.1
         → result ≡ refusal_for channel m code }
 {
     let (class, method) = ids;
-    let (scope, channel) = if code == NOT_IMPLEMENTED {
+    let (scope, channel) = if code == NOT_ALLOWED {
         (Scope::Connection, 0)
     } else {
         (Scope::Channel, channel)
@@ -194,8 +221,8 @@ fn meet_publish(
     content: Content,
 ) -> Result<Met, Memory>
     requires put { CanPutBack (want.Publish channel method content) }
-    ensures ok { IfOk result (IsMet routes.now (want.Publish channel method content) conn.old
-        conn.new) }
+    ensures ok { (ps : List (Option PathState)) → IfOk result (IsMet routes.now ps
+        (want.Publish channel method content) conn.old conn.new) }
     ensures err { OnErr result (conn.new ≡ conn.old) }
 {
     let ids = ids(&method);
@@ -212,14 +239,20 @@ fn meet_publish(
 }
 
 /// What becomes of what a unit wants. Without memory for it the connection stays.
-pub fn meet(alloc: Global, routes: &Routes, conn: &mut Conn91, want: Want91) -> Result<Met, Memory>
+pub fn meet(
+    alloc: Global,
+    routes: &Routes,
+    paths: &Paths,
+    conn: &mut Conn91,
+    want: Want91,
+) -> Result<Met, Memory>
     requires put { CanPutBack want }
-    ensures ok { IfOk result (IsMet routes.now want conn.old conn.new) }
+    ensures ok { IfOk result (IsMet routes.now paths.now want conn.old conn.new) }
     ensures err { OnErr result (conn.new ≡ conn.old) }
     ensures publish { OnErr result (is_publish want ≡ true) }
 {
     match want {
-        Want91::Method(channel, method) => match method_fault(routes, &method) {
+        Want91::Method(channel, method) => match method_fault(routes, paths, channel, &method) {
             None => Ok(Met::Want(Want91::Method(channel, method), None)),
             Some(code) => {
                 let refusal = refusal_for(channel, ids(&method), code);

@@ -20,10 +20,10 @@ use std::alloc::Global;
 use wire_base::{ByteText, Memory};
 
 /// The bytes of a frame around its payload.
-const FRAME_LEN: usize = 8;
+pub const FRAME_LEN: usize = 8;
 
 /// A frame on a channel.
-fn frame_with(
+pub fn frame_with(
     alloc: Global,
     kind: Kind91,
     channel: u16,

@@ -2,14 +2,14 @@
 //! 2.5.6, 2.7.4).
 
 ghost use Rattle.std.specs.Prelude.{◌≡◌, ◌<◌, ◌^◌, ◌-◌};
-ghost use Rattle.gate_model.specs.Session.{begun_with, carried_by, fault_of, flow_came, flow_sent};
+ghost use Rattle.gate_model.specs.Session.{begun_with, carried_by, flow_came, flow_sent, has_room};
 ghost use Rattle.gate_model.specs.Session.{is_flow_owed, is_low, no_session, transfer_came};
 ghost use Rattle.machine_10.specs.Parts.{parts_of};
 ghost use Rattle.performatives_10.specs.declared.performative.Perf.TheVariants as perf;
 
 use gate_model::SessionState;
 use machine_10::Session10;
-use performatives_10::{Begin, Condition, Flow, Perf};
+use performatives_10::{Begin, Flow, Perf};
 
 /// The container's begin didn't come.
 pub fn no_session() -> SessionState
@@ -95,16 +95,12 @@ pub fn carried_by(session: SessionState, perf: &Perf) -> SessionState
     }
 }
 
-/// Why one that names a link ends the session.
-#[tactic(auto, unfolding(machine_10::specs::Parts::parts_of))]
-pub fn fault_of(session: SessionState, perf: &Perf) -> Condition
-    ensures { result ≡ fault_of (parts_of perf.now) session }
+/// The window that the gateway stated has room for a transfer frame.
+pub fn has_room(session: SessionState) -> bool
+    ensures { result ≡ has_room session }
 {
     let mut windows = session.windows;
-    match perf {
-        Perf::Transfer(_) if !windows.got_frame() => Condition::WindowViolation,
-        _ => Condition::UnattachedHandle,
-    }
+    windows.got_frame()
 }
 
 /// A flow of the gateway is owed.

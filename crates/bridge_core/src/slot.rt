@@ -6,18 +6,31 @@ ghost use Rattle.gate_model.specs.Due.{takes_memory_back};
 ghost use Rattle.gate_model.specs.Spelling.{spell_reply};
 ghost use Rattle.gate_model.specs.declared.channel.ChannelUnit.TheVariants as unit;
 ghost use Rattle.gate_model.specs.declared.reply.Reply.TheVariants as reply;
+ghost use Rattle.frames_091.specs.declared.frame.Kind91.TheVariants.{Method};
+ghost use Rattle.gate_model.specs.Returns.{frame_with};
+ghost use Rattle.methods_091.specs.Writing.{CanPut, method_text};
+ghost use Rattle.methods_091.specs.declared.method.Method91.TheVariants.{BasicConsumeOk};
+ghost use Rattle.session_path.specs.declared.path.PathOk.TheVariants as ok;
+ghost use Rattle.bridge_core.specs.PathChanges.{is_deliver_reply};
 ghost use Rattle.bridge_core.specs.Offers.{SlotState};
 
 use crate::frames::{self, ROOM};
+use crate::returns::frame_with;
+use frames_091::Kind91;
 use gate_model::{ChannelUnit, Reply, units_are_short};
 use machine_091::FRAME_MAX;
-use publish_path::NextReturn;
+use methods_091::{Method91, put_method};
+use session_path::PathOk;
 use std::alloc::Global;
 use std::marker::Model;
 use wire_base::{ByteText, Memory};
 
+/// The bytes of a short string, at most (AMQP 0-9-1 4.2.5.3).
+const SHORT_MAX: usize = 255;
+
 /// What is offered to the client, and the bytes of it or of the unit in progress. Those of a frame
-/// of a return stand in `long`, all others in `room`.
+/// of a return or of a content, of a deliver and of a basic.consume-ok stand in `long`, all others
+/// in `room`.
 #[derive(Drop)]
 pub struct Slot {
     chosen: Option<Reply>,
@@ -84,7 +97,7 @@ impl Slot {
         self.chosen = None;
     }
 
-    /// A unit is offered that is no frame of a return.
+    /// A unit is offered that takes no memory.
     #[tactic(auto, using(crate::proofs::Rooms::written))]
     fn write(&mut self, unit: Reply)
         requires { takes_memory_back unit ≡ false }
@@ -97,33 +110,79 @@ impl Slot {
         self.chosen = Some(unit);
     }
 
-    /// A frame of a return is offered. `Memory` also if it is empty, or longer than any client's
-    /// frames are, as none of the gateway's is.
-    fn hold(
+    /// A unit is offered whose bytes are these. `Memory` if they are none, or longer than any
+    /// client's frames are, as none of the gateway's is.
+    fn hold(&mut self, unit: Reply, text: ByteText) -> Result<(), Memory>
+        ensures ok { OnOk result (self.new ≡ record { chosen = Some unit; bytes = text }) }
+        ensures long { OnOk result (0 < length self.new.bytes) }
+        ensures err { OnErr result (self.new ≡ self.old) }
+    {
+        let len = text.as_slice().len();
+        if len == 0 || len > FRAME_MAX as usize {
+            return Err(Memory);
+        }
+        self.long = Some(text);
+        self.chosen = Some(unit);
+        Ok(())
+    }
+
+    /// A method on a channel is offered as this unit. `Memory` also if it is longer than any
+    /// client's frames are, as none of the gateway's is; then all is as it was.
+    pub fn say(
         &mut self,
         alloc: Global,
         channel: u16,
-        due: NextReturn,
-        frame: &[u8],
+        unit: ChannelUnit,
+        method: Method91,
     ) -> Result<(), Memory>
+        requires { CanPut method }
         ensures ok { OnOk result (self.new ≡ record {
-          chosen = Some (reply.OnChannel channel (unit.Return due));
-          bytes = frame.now;
+          chosen = Some (reply.OnChannel channel unit);
+          bytes = frame_with Method channel (method_text method);
         }) }
         ensures long { OnOk result (0 < length self.new.bytes) }
         ensures err { OnErr result (self.new ≡ self.old) }
     {
-        if frame.is_empty() || frame.len() > FRAME_MAX as usize {
+        let mut payload = ByteText::empty(alloc);
+        put_method(&mut payload, &method)?;
+        drop(method);
+        if payload.as_slice().len() > FRAME_MAX as usize {
             return Err(Memory);
         }
-        self.long = Some(ByteText::copy_of(alloc, frame)?);
-        self.chosen = Some(Reply::OnChannel(channel, ChannelUnit::Return(due)));
-        Ok(())
+        let frame = frame_with(alloc, Kind91::Method, channel, payload)?;
+        self.hold(Reply::OnChannel(channel, unit), frame)
     }
 
-    /// A unit is offered, which carries this of the client's. Only frames of returns take memory;
-    /// without it all is as it was.
+    /// A basic.consume-ok is offered, with this consumer tag. `Memory` also if that is longer than a
+    /// short string, as none of a client's is.
+    fn say_consumed(
+        &mut self,
+        alloc: Global,
+        channel: u16,
+        link: u32,
+        tag: &[u8],
+    ) -> Result<(), Memory>
+        ensures ok { OnOk result (self.new ≡ record {
+          chosen = Some (reply.OnChannel channel (unit.Ok (ok.Consume link)));
+          bytes = frame_with Method channel (method_text (BasicConsumeOk tag.now));
+        }) }
+        ensures long { OnOk result (0 < length self.new.bytes) }
+        ensures err { OnErr result (self.new ≡ self.old) }
+    {
+        if tag.len() > SHORT_MAX {
+            return Err(Memory);
+        }
+        let method = Method91::BasicConsumeOk {
+            consumer_tag: ByteText::copy_of(alloc, tag)?,
+        };
+        let unit = ChannelUnit::Ok(PathOk::Consume(link));
+        self.say(alloc, channel, unit, method)
+    }
+
+    /// A unit is offered that is no deliver, which carries this. Only frames of returns and of
+    /// contents and basic.consume-oks take memory; without it all is as it was.
     pub fn choose(&mut self, alloc: Global, unit: Reply, carried: &[u8]) -> Result<(), Memory>
+        requires { is_deliver_reply unit ≡ false }
         ensures ok { OnOk result (self.new ≡ record {
           chosen = Some unit;
           bytes = spell_reply unit carried.now;
@@ -133,8 +192,12 @@ impl Slot {
         ensures takes { OnErr result (takes_memory_back unit ≡ true) }
     {
         match unit {
-            Reply::OnChannel(channel, ChannelUnit::Return(due)) => {
-                self.hold(alloc, channel, due, carried)
+            Reply::OnChannel(_, ChannelUnit::Return(_))
+            | Reply::OnChannel(_, ChannelUnit::Content(_)) => {
+                self.hold(unit, ByteText::copy_of(alloc, carried)?)
+            }
+            Reply::OnChannel(channel, ChannelUnit::Ok(PathOk::Consume(link))) => {
+                self.say_consumed(alloc, channel, link, carried)
             }
             unit => {
                 self.write(unit);

@@ -2,7 +2,7 @@
 
 ghost use Rattle.std.specs.Prelude.{◌≡◌, ◌≤◌, length, [], None, Some, OnOk, OnErr, true, false};
 ghost use Rattle.gate_model.specs.Due.{takes_memory_on, takes_memory_up};
-ghost use Rattle.gate_model.specs.Spelling.{spell_on, spell_up};
+ghost use Rattle.gate_model.specs.Spelling.{settle_of, spell_on, spell_up};
 ghost use Rattle.gate_model.specs.declared.outgoing.UpUnit.TheVariants as up;
 ghost use Rattle.gate_model.specs.declared.channel.SessionUnit.TheVariants as on_session;
 ghost use Rattle.bridge_core.specs.Logins.{IsLoginOf};
@@ -11,9 +11,10 @@ ghost use Rattle.bridge_core.specs.Offers.{UpSlotState, is_on_session};
 use crate::frames::ROOM;
 use crate::link_frames::{attach_frame, flow_frame, transfer_frame};
 use crate::up_frames;
+use consume_path::NextSettle;
 use gate_model::{SessionUnit, Setup, UpUnit};
 use machine_10::{Conn10, FRAME_MAX};
-use performatives_10::{Ending, put_end, put_settled};
+use performatives_10::{Condition, Ending, Settle, put_end, put_settle, put_settled};
 use session_path::Settling;
 use std::alloc::Global;
 use std::marker::Model;
@@ -45,6 +46,17 @@ impl Model for UpSlot {
     // the room's length is said here, since a slot that is only read doesn't show it
     ghost invariant = { λ a. (a.used ≤ ROOM) × (length a.room ≡ ROOM)
         × IfSome a.long (λ text. length text ≤ FRAME_MAX) };
+}
+
+/// The outcome that a settled disposition tells.
+fn settle_of(settle: consume_path::Settle) -> Settle
+    ensures { result ≡ settle_of settle }
+{
+    match settle {
+        consume_path::Settle::Accepted => Settle::Accepted,
+        consume_path::Settle::Rejected => Settle::Rejected,
+        consume_path::Settle::Released => Settle::Released,
+    }
 }
 
 impl UpSlot {
@@ -124,6 +136,25 @@ impl UpSlot {
         self.chosen = Some(unit);
     }
 
+    /// A disposition of deliveries is offered.
+    #[tactic(auto, using(crate::proofs::Rooms::written))]
+    fn dispose(&mut self, channel: u16, next: NextSettle)
+        ensures { self.new ≡ record {
+          chosen = Some (up.OnSession channel (on_session.Dispose next));
+          bytes = spell_on channel (on_session.Dispose next) [];
+        } }
+    {
+        self.used = put_settle(
+            &mut self.room,
+            channel,
+            next.first,
+            next.last,
+            settle_of(next.settle),
+        );
+        self.long = None;
+        self.chosen = Some(UpUnit::OnSession(channel, SessionUnit::Dispose(next)));
+    }
+
     /// A disposition is offered.
     #[tactic(auto, using(crate::proofs::Rooms::written))]
     fn settle(&mut self, channel: u16, settling: Settling)
@@ -139,15 +170,16 @@ impl UpSlot {
 
     /// A detach is offered.
     #[tactic(auto, using(crate::proofs::Rooms::written))]
-    fn detach(&mut self, channel: u16, link: u32, handle: u32)
+    fn detach(&mut self, channel: u16, link: u32, handle: u32, why: Option<Condition>)
         ensures { self.new ≡ record {
-          chosen = Some (up.OnSession channel (on_session.Detach link handle));
-          bytes = spell_on channel (on_session.Detach link handle) [];
+          chosen = Some (up.OnSession channel (on_session.Detach link handle why));
+          bytes = spell_on channel (on_session.Detach link handle why) [];
         } }
     {
-        self.used = put_end(&mut self.room, channel, Ending::Detach(handle), None);
+        self.used = put_end(&mut self.room, channel, Ending::Detach(handle), why);
         self.long = None;
-        self.chosen = Some(UpUnit::OnSession(channel, SessionUnit::Detach(link, handle)));
+        let unit = SessionUnit::Detach(link, handle, why);
+        self.chosen = Some(UpUnit::OnSession(channel, unit));
     }
 
     /// A unit of a session's links is offered, which carries this of the client's. Settled
@@ -175,8 +207,9 @@ impl UpSlot {
             SessionUnit::Transfer(transfer) => {
                 self.hold(chosen, transfer_frame(alloc, channel, transfer, carried)?);
             }
+            SessionUnit::Dispose(next) => self.dispose(channel, next),
             SessionUnit::Settle(settling) => self.settle(channel, settling),
-            SessionUnit::Detach(link, handle) => self.detach(channel, link, handle),
+            SessionUnit::Detach(link, handle, why) => self.detach(channel, link, handle, why),
         }
         Ok(())
     }

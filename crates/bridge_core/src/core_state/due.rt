@@ -10,7 +10,13 @@ ghost use Rattle.gate_model.specs.Due.{settlings, transfers, unless_out, up_rows
 ghost use Rattle.gate_model.specs.Paths.{path_at};
 ghost use Rattle.gate_model.specs.State.{is_settled};
 ghost use Rattle.gate_model.specs.Upstream.{first};
-ghost use Rattle.bridge_core.specs.Behind.{answer_units, answering_units, carrying_units};
+ghost use Rattle.gate_model.specs.Due.{answers, deliver_method, disposals};
+ghost use Rattle.std.specs.Prelude.{IfOk};
+ghost use Rattle.methods_091.specs.Writing.{CanPut};
+ghost use Rattle.bridge_core.specs.Behind.{answer_units, answering_dispositions, answering_units};
+ghost use Rattle.bridge_core.specs.Behind.{carrying_units, consuming_units, oks_units};
+ghost use Rattle.bridge_core.specs.Behind.{writing_units, written_units};
+ghost use Rattle.bridge_core.specs.PathChanges.{is_deliver_reply};
 ghost use Rattle.bridge_core.specs.Behind.{closing_units, confirm_units, confirming_units};
 ghost use Rattle.bridge_core.specs.Behind.{content_units, opening_units};
 ghost use Rattle.bridge_core.specs.Behind.{end_units, ended_units, flowing_units, last_units};
@@ -20,11 +26,16 @@ ghost use Rattle.bridge_core.specs.Behind.{settling_units};
 use super::Core;
 use crate::channel_rows::{
     Parting, any_left, first_attach, first_begin, first_close, first_close_ok, first_confirm,
-    first_content, first_detach, first_end, first_flow, first_link_flow, first_ok, first_open_ok,
-    first_settling, first_transfer,
+    first_consume_ok, first_content, first_deliver, first_detach, first_disposal, first_end,
+    first_flow, first_link_flow, first_ok, first_open_ok, first_settling, first_transfer,
+    first_writing,
 };
 use gate_model::{BEAT_PER_SECOND, Reply, SessionUnit, UpUnit};
 use machine_091::Phase91;
+use methods_091::Method91;
+use session_path::DeliverDue;
+use std::alloc::Global;
+use wire_base::Memory;
 
 impl Core {
     /// A heartbeat is due.
@@ -54,16 +65,67 @@ impl Core {
         }
     }
 
-    /// The first answer on a channel.
+    /// The first of the answers to basic.consume, and of the delivers.
+    #[tactic(auto, using(crate::proofs::Firsts::first_some, crate::proofs::Firsts::first_none))]
+    fn next_consuming(&self) -> Option<Reply>
+        ensures { result ≡ first (consuming_units self.now) }
+    {
+        match first_consume_ok(self.lives.all(), &self.paths) {
+            Some(unit) => Some(unit),
+            None => first_deliver(self.lives.all(), &self.paths),
+        }
+    }
+
+    /// The first of the other answers but channel.open-ok, and of these.
+    #[tactic(auto, using(crate::proofs::Firsts::first_some, crate::proofs::Firsts::first_none))]
+    fn next_ok(&self) -> Option<Reply>
+        ensures { result ≡ first (oks_units self.now) }
+    {
+        match first_ok(self.lives.all(), &self.paths) {
+            Some(unit) => Some(unit),
+            None => self.next_consuming(),
+        }
+    }
+
+    /// The first of what goes on open channels.
+    #[tactic(auto, using(crate::proofs::Firsts::first_some, crate::proofs::Firsts::first_none))]
+    fn next_on_channel(&self) -> Option<Reply>
+        ensures { result ≡ first (answers self.now) }
+    {
+        match first_open_ok(&self.lives) {
+            Some(unit) => Some(unit),
+            None => self.next_ok(),
+        }
+    }
+
+    /// The first of that, where it may go.
     fn next_answer(&self) -> Option<Reply>
         ensures { result ≡ first (answer_units self.now) }
     {
         if self.out_of_memory || self.conn.is_closing() {
             return None;
         }
-        match first_open_ok(&self.lives) {
+        self.next_on_channel()
+    }
+
+    /// The frame that goes on with a content, where it may go.
+    fn next_writing(&self) -> Option<Reply>
+        ensures { result ≡ first (writing_units self.now) }
+    {
+        if self.out_of_memory || self.conn.is_closing() {
+            return None;
+        }
+        first_writing(self.lives.all(), &self.paths)
+    }
+
+    /// The first of that, and of what opens the connection and of what is behind it.
+    #[tactic(auto, using(crate::proofs::Firsts::first_some, crate::proofs::Firsts::first_none))]
+    fn next_written(&self) -> Option<Reply>
+        ensures { result ≡ first (written_units self.now) }
+    {
+        match self.next_writing() {
             Some(unit) => Some(unit),
-            None => first_ok(self.lives.all(), &self.paths),
+            None => self.next_opening_unit(),
         }
     }
 
@@ -219,7 +281,7 @@ impl Core {
     {
         match self.next_content() {
             Some(unit) => Some(unit),
-            None => self.next_opening_unit(),
+            None => self.next_written(),
         }
     }
 
@@ -392,14 +454,32 @@ impl Core {
         }
     }
 
+    /// The first of the dispositions that answer the container's, and of the detaches.
+    #[tactic(auto, using(crate::proofs::Firsts::first_some, crate::proofs::Firsts::first_none))]
+    fn next_answering_disposition(&self) -> Option<UpUnit>
+        ensures { result ≡ first (answering_dispositions self.now) }
+    {
+        match self.next_settling() {
+            Some(unit) => Some(unit),
+            None => self.next_detach(),
+        }
+    }
+
+    /// The first disposition of deliveries.
+    fn next_disposal(&self) -> Option<UpUnit>
+        ensures { result ≡ first (disposals self.now) }
+    {
+        first_disposal(self.lives.all(), self.up.container(), &self.paths)
+    }
+
     /// The first of the units of links whose spelling takes none.
     #[tactic(auto, using(crate::proofs::Firsts::first_some, crate::proofs::Firsts::first_none))]
     fn next_settled(&self) -> Option<UpUnit>
         ensures { result ≡ first (settling_units self.now) }
     {
-        match self.next_settling() {
+        match self.next_disposal() {
             Some(unit) => Some(unit),
-            None => self.next_detach(),
+            None => self.next_answering_disposition(),
         }
     }
 
@@ -464,8 +544,18 @@ impl Core {
         }
     }
 
-    /// What a unit to the client carries of the client's: a frame of a return.
+    /// The method of a deliver on a channel.
+    pub fn deliver(&self, alloc: Global, channel: u16, due: DeliverDue) -> Result<Method91, Memory>
+        ensures method { IfOk result (λ m. m
+            ≡ deliver_method (path_at self.now.paths channel) due) }
+        ensures short { IfOk result CanPut }
+    {
+        self.paths.deliver(alloc, channel, due)
+    }
+
+    /// What a unit to the client carries that is no deliver: a consumer tag, or a frame.
     pub fn carried_back(&self, unit: Reply) -> &[u8]
+        requires { is_deliver_reply unit ≡ false }
         ensures { result.now ≡ carries_back self.now unit }
     {
         match unit {

@@ -29,7 +29,10 @@ fn session_given(session: SessionState, unit: SessionUnit) -> SessionState
             windows.sent_frame();
             SessionState { windows, ..session }
         }
-        SessionUnit::Attach(_) | SessionUnit::Settle(_) | SessionUnit::Detach(_, _) => session,
+        SessionUnit::Attach(_)
+        | SessionUnit::Dispose(_)
+        | SessionUnit::Settle(_)
+        | SessionUnit::Detach(_, _, _) => session,
     }
 }
 

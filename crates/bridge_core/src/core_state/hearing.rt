@@ -19,22 +19,27 @@ ghost use Rattle.bridge_core.specs.Flows.{FlowsFit};
 ghost use Rattle.bridge_core.specs.Going.{KeepsGoing};
 ghost use Rattle.std.specs.Prelude.{is_some};
 ghost use Rattle.session_path.specs.Links.{named};
-ghost use Rattle.gate_model.specs.Paths.{fault_by, name_in, path_at, with_path};
-ghost use Rattle.gate_model.specs.State.{path_heard, windowed};
+ghost use Rattle.std.specs.Prelude.{ℕ, List, length, if◌then◌else◌};
+ghost use Rattle.gate_model.specs.Paths.{attach_fault_by, closed_path, lost_path, path_at};
+ghost use Rattle.gate_model.specs.Paths.{transfer_error, transferred, with_path};
+ghost use Rattle.gate_model.specs.State.{closing_code, path_heard, windowed};
 ghost use Rattle.performatives_10.specs.declared.performative.Perf.TheVariants as perf;
 ghost use Rattle.bridge_core.specs.LinkFaults.{link_fault, takes_memory_by, takes_memory_of};
-ghost use Rattle.bridge_core.specs.LinkFaults.{unnamed};
+ghost use Rattle.bridge_core.specs.LinkFaults.{ended_by, unnamed};
 
 use super::Core;
+use crate::contents::image_of;
 use crate::lives::old_life;
-use crate::path_changes::{LinkFault, link_number, path_change};
+use crate::path_changes::{LinkFault, link_number, part_of, path_change};
+use crate::paths::PathChange;
 use crate::replies::{reason_of, refusal_on};
-use crate::sessions::{carried_by, fault_of};
+use crate::sessions::{carried_by, has_room};
 use close_translate::{INTERNAL_ERROR, NOT_ALLOWED, PRECONDITION_FAILED, Scope, code_of};
+use consume_path::TransferFault;
 use gate_model::Life;
 use gate_outside::End;
 use machine_10::{Unit10, Want10, connection_laws};
-use performatives_10::{Attach, Condition, Error10, Perf};
+use performatives_10::{Attach, Condition, Error10, Perf, Transfer};
 use session_path::AttachFault;
 use std::alloc::Global;
 use wire_base::Memory;
@@ -53,7 +58,7 @@ fn release(want: Want10) {
 
 /// The reply code for the error of a container's close, or of its end.
 #[tactic(auto, using(crate::proofs::Errors::condition_is))]
-fn closing_code(error: &Option<Error10>, scope: Scope) -> u16
+fn code_by(error: &Option<Error10>, scope: Scope) -> u16
     ensures { result ≡ code_by (condition_in (maybe error_tree error.now)) scope }
 {
     let condition = match error {
@@ -75,9 +80,11 @@ impl Core {
         }
     }
 
-    /// The session of a channel is at fault: the channel closes, unless that is closing already.
-    fn fail_life(&mut self, channel: u16, code: u16, why: Option<Condition>)
-        ensures step { self.new ≡ fail_life channel code why self.old }
+    /// The container is the cause that a channel closes, unless that is closing already: its
+    /// session is lost, or its life alone closes.
+    fn fail_life(&mut self, channel: u16, code: u16, why: Option<Condition>, lost: bool)
+        ensures step { self.new ≡ fail_life channel code why
+            (if lost then lost_path else closed_path) self.old }
         ensures kept { KeepsGoing self.old self.new }
     {
         if self.conn.is_open(channel) {
@@ -94,7 +101,11 @@ impl Core {
                     ..old_life(life)
                 },
             );
-            self.paths.lose(channel);
+            if lost {
+                self.paths.lose(channel);
+            } else {
+                self.paths.close(channel);
+            }
         }
     }
 
@@ -127,9 +138,9 @@ impl Core {
     }
 
     /// What is wrong with a performative that names a link, if something is.
-    #[tactic(auto, using(crate::proofs::LinkFaults::attach_link, crate::proofs::LinkFaults::flow_link, crate::proofs::LinkFaults::detach_link), unfolding(machine_10::specs::Parts::parts_of))]
-    fn link_fault(&self, channel: u16, perf: &Perf) -> Option<LinkFault>
-        ensures { result ≡ link_fault (parts_of perf.now)
+    #[tactic(auto, using(crate::proofs::LinkFaults::attach_link, crate::proofs::LinkFaults::flow_link, crate::proofs::LinkFaults::detach_link, crate::proofs::LinkFaults::transfer_link), unfolding(machine_10::specs::Parts::parts_of))]
+    fn link_fault(&self, channel: u16, perf: &Perf, payload: &[u8]) -> Option<LinkFault>
+        ensures { result ≡ link_fault (parts_of perf.now) payload.now
             (life_at self.now.lives channel).session (path_at self.now.paths channel) }
     {
         match perf {
@@ -138,11 +149,31 @@ impl Core {
                 None => None,
                 Some(handle) => self.unattached(channel, handle),
             },
-            Perf::Transfer(_) => Some(LinkFault::Ends(fault_of(
-                self.lives.at(channel).session,
-                perf,
-            ))),
+            Perf::Transfer(transfer) => self.transfer_fault(channel, transfer, payload.len()),
             Perf::Detach(detach) => self.unattached(channel, detach.handle),
+            _ => None,
+        }
+    }
+
+    /// Why a transfer of so many bytes ends its session, if it does.
+    #[tactic(auto, unfolding(machine_10::specs::Parts::parts_of))]
+    fn transfer_fault(&self, channel: u16, transfer: &Transfer, size: usize) -> Option<LinkFault>
+        ensures { (payload : List ℕ) → length payload ≡ size → result
+            ≡ ended_by (transfer_error (parts_of (perf.Transfer transfer.now)).1 payload
+            (life_at self.now.lives channel).session (path_at self.now.paths channel)) }
+    {
+        if !has_room(self.lives.at(channel).session) {
+            return Some(LinkFault::Ends(Condition::WindowViolation));
+        }
+        let handle = transfer.handle;
+        if !self.paths.is_receiver(channel, handle) {
+            return Some(LinkFault::Ends(Condition::UnattachedHandle));
+        }
+        match self
+            .paths
+            .transfer_fault(channel, handle, part_of(transfer), size)
+        {
+            Some(TransferFault::InvalidField) => Some(LinkFault::Ends(Condition::InvalidField)),
             _ => None,
         }
     }
@@ -158,27 +189,29 @@ impl Core {
         }
     }
 
-    /// Why an attach under this name and handle answers none of the gateway's.
-    fn answer_fault(&self, channel: u16, name: &[u8], peer: u32) -> Option<AttachFault>
-        ensures { result ≡ fault_by (name_in name.now) peer (path_at self.now.paths channel) }
+    /// Why an attach answers none of the gateway's.
+    #[tactic(auto, unfolding(machine_10::specs::Parts::parts_of))]
+    fn answer_fault(&self, channel: u16, attach: &Attach) -> Option<AttachFault>
+        ensures { result ≡ attach_fault_by (parts_of (perf.Attach attach.now)).1
+            (path_at self.now.paths channel) }
     {
-        match link_number(name) {
+        match link_number(attach.name.as_slice()) {
             None => Some(AttachFault::NotAsked),
-            Some(name) => self.paths.attach_fault(channel, name, peer),
+            Some(name) => self
+                .paths
+                .attach_fault(channel, name, attach.role, attach.handle),
         }
     }
 
-    /// What is wrong with an attach: one of a sender, or under a name that isn't asked for, isn't
-    /// allowed.
+    /// What is wrong with an attach: one under a name that isn't asked for with the other role
+    /// isn't allowed.
     #[tactic(auto, unfolding(machine_10::specs::Parts::parts_of))]
     fn attach_fault(&self, channel: u16, attach: &Attach) -> Option<LinkFault>
-        ensures { result ≡ link_fault (parts_of (perf.Attach attach.now))
+        ensures { (payload : List ℕ) → result
+            ≡ link_fault (parts_of (perf.Attach attach.now)) payload
             (life_at self.now.lives channel).session (path_at self.now.paths channel) }
     {
-        if !attach.role {
-            return Some(LinkFault::Closes(Condition::NotAllowed));
-        }
-        match self.answer_fault(channel, attach.name.as_slice(), attach.handle) {
+        match self.answer_fault(channel, attach) {
             None => None,
             Some(AttachFault::NotAsked) => Some(LinkFault::Closes(Condition::NotAllowed)),
             Some(AttachFault::HandleInUse) => Some(LinkFault::Closes(Condition::HandleInUse)),
@@ -187,66 +220,145 @@ impl Core {
 
     /// A performative of a session came. Without memory for it all is as it was.
     #[tactic(auto, using(crate::proofs::LinkFaults::closes_all, crate::proofs::LinkFaults::ends_session, crate::proofs::LinkFaults::ends_none))]
-    fn hear_session(&mut self, channel: u16, perf: &Perf) -> Result<(), Memory>
+    fn hear_session(
+        &mut self,
+        alloc: Global,
+        channel: u16,
+        perf: &Perf,
+        payload: &[u8],
+    ) -> Result<(), Memory>
         requires { FlowsFit self.old.lives }
-        ensures ok { OnOk result (self.new ≡ with_session channel (parts_of perf.now) self.old) }
+        ensures ok { OnOk result (self.new
+            ≡ with_session channel (parts_of perf.now) payload.now self.old) }
         ensures err { OnErr result (self.new ≡ self.old) }
         ensures takes { OnErr result (takes_memory_of (parts_of perf.now) ≡ true) }
         ensures kept { KeepsGoing self.old self.new }
     {
-        match self.link_fault(channel, perf) {
+        match self.link_fault(channel, perf, payload) {
             Some(LinkFault::Closes(condition)) => {
                 self.carry(channel, perf);
                 self.fail(INTERNAL_ERROR, Some(condition));
             }
             Some(LinkFault::Ends(condition)) => {
                 self.carry(channel, perf);
-                self.fail_life(channel, PRECONDITION_FAILED, Some(condition));
+                self.fail_life(channel, PRECONDITION_FAILED, Some(condition), true);
             }
             None => {
-                self.hear_path(channel, perf)?;
+                let code = self.closing_code(channel, perf, payload.len());
+                self.hear_path(alloc, channel, perf, payload)?;
                 self.carry(channel, perf);
-                self.meet_session(channel, perf);
+                self.meet_session(channel, perf, code);
             }
         }
         Ok(())
     }
 
     /// What a performative makes of the path of a channel. Without memory for it all is as it was.
-    #[tactic(auto, using(crate::proofs::LinkFaults::heard_none, crate::proofs::LinkFaults::heard_change))]
-    fn hear_path(&mut self, channel: u16, perf: &Perf) -> Result<(), Memory>
+    #[tactic(auto, using(crate::proofs::LinkFaults::heard_none, crate::proofs::LinkFaults::heard_change), unfolding(machine_10::specs::Parts::parts_of))]
+    fn hear_path(
+        &mut self,
+        alloc: Global,
+        channel: u16,
+        perf: &Perf,
+        payload: &[u8],
+    ) -> Result<(), Memory>
         ensures ok { OnOk result (self.new ≡ record self.old {
-          paths = with_path channel
-              (path_heard (parts_of perf.now)) self.old.paths;
+          paths = with_path channel (path_heard self.old.conn.limits.frame_max channel
+              (parts_of perf.now) payload.now) self.old.paths;
         }) }
         ensures err { OnErr result (self.new ≡ self.old) }
         ensures takes { OnErr result (takes_memory_of (parts_of perf.now) ≡ true) }
     {
+        if let Perf::Transfer(transfer) = perf {
+            return self.hear_transfer(alloc, channel, transfer, payload);
+        }
         match path_change(perf) {
             None => Ok(()),
             Some(change) => self.paths.change(channel, change),
         }
     }
 
-    /// What a performative of a session asks for, but for its windows and its links.
+    /// A transfer came: it passes a limit of its link, or it is a part of a delivery, which it may
+    /// end. Without memory for it all is as it was.
     #[tactic(auto, unfolding(machine_10::specs::Parts::parts_of))]
-    fn meet_session(&mut self, channel: u16, perf: &Perf)
-        ensures step { self.new ≡ met_session channel (parts_of perf.now) self.old }
-        ensures kept { KeepsGoing self.old self.new }
+    fn hear_transfer(
+        &mut self,
+        alloc: Global,
+        channel: u16,
+        transfer: &Transfer,
+        payload: &[u8],
+    ) -> Result<(), Memory>
+        ensures ok { OnOk result (self.new ≡ record self.old {
+          paths = with_path channel (transferred self.old.conn.limits.frame_max channel
+              (parts_of (perf.Transfer transfer.now)).1 payload.now) self.old.paths;
+        }) }
+        ensures err { OnErr result (self.new ≡ self.old) }
+    {
+        let part = part_of(transfer);
+        let handle = transfer.handle;
+        let fault = self
+            .paths
+            .transfer_fault(channel, handle, part, payload.len());
+        if let Some(fault) = fault {
+            return self
+                .paths
+                .change(channel, PathChange::Failed(handle, fault));
+        }
+        if part.more || part.aborted {
+            return self.paths.transfer(channel, handle, part, payload);
+        }
+        let limit = self.conn.frame_max();
+        let queue = self.paths.queue(channel, handle);
+        let before = self.paths.partial(channel, handle);
+        let (image, again) = image_of(alloc, limit, channel, queue, before, payload)?;
+        self.paths.arrive(channel, handle, part, image, again)
+    }
+
+    /// The code that closes the channel of a performative that isn't at fault, if it does.
+    #[tactic(auto, unfolding(machine_10::specs::Parts::parts_of))]
+    fn closing_code(&self, channel: u16, perf: &Perf, size: usize) -> Option<u16>
+        ensures { (payload : List ℕ) → length payload ≡ size → result
+            ≡ closing_code (parts_of perf.now) payload (path_at self.now.paths channel) }
     {
         match perf {
-            Perf::Begin(_) => self.begin_session(channel),
-            Perf::End(end) => {
-                let code = closing_code(&end.error, Scope::Channel);
-                self.fail_life(channel, code, None);
+            Perf::End(end) => Some(code_by(&end.error, Scope::Channel)),
+            Perf::Detach(detach) => {
+                if self.paths.is_receiver(channel, detach.handle) {
+                    Some(code_by(&detach.error, Scope::Channel))
+                } else {
+                    None
+                }
             }
-            _ => {}
+            Perf::Transfer(transfer) => {
+                let part = part_of(transfer);
+                match self
+                    .paths
+                    .transfer_fault(channel, transfer.handle, part, size)
+                {
+                    None => None,
+                    Some(_) => Some(PRECONDITION_FAILED),
+                }
+            }
+            _ => None,
+        }
+    }
+
+    /// What a performative of a session asks for, but for its windows and its links.
+    #[tactic(auto, unfolding(machine_10::specs::Parts::parts_of))]
+    fn meet_session(&mut self, channel: u16, perf: &Perf, code: Option<u16>)
+        ensures step { self.new ≡ met_session channel (parts_of perf.now) code self.old }
+        ensures kept { KeepsGoing self.old self.new }
+    {
+        match (perf, code) {
+            (Perf::Begin(_), _) => self.begin_session(channel),
+            (_, Some(code)) => self.fail_life(channel, code, None, false),
+            (_, None) => {}
         }
     }
 
     /// What a unit of the container means.
     #[tactic(auto, unfolding(machine_10::specs::Transitions::meaning_of))]
-    fn mean(&mut self, want: &Want10) -> Result<(), Memory>
+    fn mean(&mut self, alloc: Global, want: &Want10) -> Result<(), Memory>
         requires { FlowsFit self.old.lives }
         ensures ok { OnOk result (self.new ≡ with_meaning (meaning_of want.now) self.old) }
         ensures err { OnErr result (self.new ≡ self.old) }
@@ -255,7 +367,9 @@ impl Core {
     {
         match want {
             Want10::Nothing => Ok(()),
-            Want10::Session(channel, perf, _) => self.hear_session(*channel, perf),
+            Want10::Session(channel, perf, payload) => {
+                self.hear_session(alloc, *channel, perf, payload.as_slice())
+            }
             Want10::Init => {
                 self.up.ask_init();
                 Ok(())
@@ -269,7 +383,7 @@ impl Core {
                 Ok(())
             }
             Want10::Closed(error) => {
-                self.fail(closing_code(error, Scope::Connection), None);
+                self.fail(code_by(error, Scope::Connection), None);
                 Ok(())
             }
             Want10::Refused => {
@@ -296,7 +410,7 @@ impl Core {
         }
         match self.up.hear(alloc, unit) {
             Ok(want) => {
-                let met = self.mean(&want);
+                let met = self.mean(alloc, &want);
                 release(want);
                 met
             }

@@ -14,15 +14,21 @@ ghost use Rattle.bridge_core.specs.Going.{KeepsGoing};
 ghost use Rattle.bridge_core.specs.Logins.{IsLoginWant};
 ghost use Rattle.bridge_core.specs.Met.{IsLoginMet, applied, counted, is_answered, is_publish};
 ghost use Rattle.bridge_core.specs.Met.{is_unmet, takes_memory_for, takes_memory_met};
+ghost use Rattle.bridge_core.specs.Met.{is_consume};
 ghost use Rattle.bridge_core.specs.Offers.{with_next};
+ghost use Rattle.bridge_core.specs.PathChanges.{takes_memory_to, with_change};
+ghost use Rattle.gate_model.specs.State.{refused_paths, settle_by};
+ghost use Rattle.session_path.specs.Path.{PathState};
+ghost use Rattle.std.specs.Prelude.{IfSome};
 
 use super::{Core, is_foreign};
 use crate::lives::old_life;
 use crate::moments::{closes_at, fed_by};
-use crate::paths::PathChange;
+use crate::paths::{Consume, PathChange};
 use crate::replies::reason_of;
 use crate::requests::{Met, meet};
 use close_translate::{Scope, condition_of};
+use consume_path::Settle;
 use gate_model::Life;
 use machine_091::{Refusal, Unit91, Want91, connection_laws};
 use methods_091::Method91;
@@ -65,6 +71,51 @@ fn freed_life(life: Life) -> Life
     }
 }
 
+/// What a reject or a nack makes of deliveries.
+fn settle_by(requeue: bool) -> Settle
+    ensures { result ≡ settle_by requeue }
+{
+    if requeue {
+        Settle::Released
+    } else {
+        Settle::Rejected
+    }
+}
+
+/// What a method of a channel changes of its path, but for a basic.consume.
+fn change_by(method: &Method91) -> Option<PathChange>
+    requires { is_consume method.now ≡ false }
+    ensures path { (s : PathState) → with_change result s ≡ path_by method.now s }
+    ensures takes { IfSome result (λ c. takes_memory_to c ≡ is_answered method.now) }
+{
+    match method {
+        Method91::ChannelFlow { .. } => Some(PathChange::Owed(PathOk::Flow)),
+        Method91::ExchangeDeclare { no_wait, .. } => {
+            if *no_wait {
+                None
+            } else {
+                Some(PathChange::Owed(PathOk::Declare))
+            }
+        }
+        Method91::ConfirmSelect { no_wait } => Some(PathChange::Selected(*no_wait)),
+        Method91::BasicAck {
+            delivery_tag,
+            multiple,
+        } => Some(PathChange::Answered(*delivery_tag, *multiple, Settle::Accepted)),
+        Method91::BasicReject {
+            delivery_tag,
+            requeue,
+        } => Some(PathChange::Answered(*delivery_tag, false, settle_by(*requeue))),
+        Method91::BasicNack {
+            delivery_tag,
+            multiple,
+            requeue,
+        } => Some(PathChange::Answered(*delivery_tag, *multiple, settle_by(*requeue))),
+        Method91::ChannelClose { .. } => Some(PathChange::Closed),
+        _ => None,
+    }
+}
+
 impl Core {
     /// A channel is opened, with this path.
     fn open_path(&mut self, channel: u16, path: Box<SessionPath>)
@@ -82,30 +133,68 @@ impl Core {
 
     /// What a method of a channel makes of its path, which is no channel.open. Without memory for
     /// it all is as it was.
-    fn change_path(&mut self, channel: u16, method: &Method91) -> Result<(), Memory>
+    fn change_path(&mut self, alloc: Global, channel: u16, method: &Method91) -> Result<(), Memory>
         ensures ok { OnOk result (self.new ≡ record self.old {
           paths = with_path channel (path_by method.now) self.old.paths;
         }) }
         ensures err { OnErr result (self.new ≡ self.old) }
         ensures takes { OnErr result (is_answered method.now ≡ true) }
     {
-        let change = match method {
-            Method91::ChannelFlow { .. } => PathChange::Owed(PathOk::Flow),
-            Method91::ExchangeDeclare { no_wait, .. } => {
-                if *no_wait {
-                    return Ok(());
-                }
-                PathChange::Owed(PathOk::Declare)
-            }
-            Method91::ConfirmSelect { no_wait } => PathChange::Selected(*no_wait),
-            _ => return Ok(()),
+        if let Method91::BasicConsume { .. } = method {
+            return self.consume(alloc, channel, method);
+        }
+        match change_by(method) {
+            None => Ok(()),
+            Some(change) => self.paths.change(channel, change),
+        }
+    }
+
+    /// What a basic.consume makes of the path of its channel; nothing by another method. Without
+    /// memory for it all is as it was.
+    fn consume(&mut self, alloc: Global, channel: u16, method: &Method91) -> Result<(), Memory>
+        requires { is_consume method.now ≡ true }
+        ensures ok { OnOk result (self.new ≡ record self.old {
+          paths = with_path channel (path_by method.now) self.old.paths;
+        }) }
+        ensures err { OnErr result (self.new ≡ self.old) }
+    {
+        let Method91::BasicConsume {
+            queue,
+            consumer_tag,
+            no_ack,
+            no_wait,
+            ..
+        } = method
+        else {
+            return Ok(());
         };
-        self.paths.change(channel, change)
+        let consume = Consume {
+            queue: queue.copy(alloc)?,
+            tag: consumer_tag.copy(alloc)?,
+            no_ack: *no_ack,
+            no_wait: *no_wait,
+        };
+        self.paths.consume(channel, consume)
+    }
+
+    /// A refusal is the closing event of its channel, or of all.
+    fn close_refused(&mut self, refusal: Refusal)
+        ensures { self.new ≡ record self.old { paths = refused_paths refusal self.old.paths } }
+    {
+        match refusal.scope {
+            Scope::Channel => self.paths.close(refusal.channel),
+            Scope::Connection => self.paths.close_all(),
+        }
     }
 
     /// What a unit that is no publish makes of the paths of channels. Without memory for it all is
     /// as it was.
-    fn meet_path(&mut self, want: &Want91, spare: Box<SessionPath>) -> Result<(), Memory>
+    fn meet_path(
+        &mut self,
+        alloc: Global,
+        want: &Want91,
+        spare: Box<SessionPath>,
+    ) -> Result<(), Memory>
         requires spare { box_value spare ≡ session.opened (self.old.opened + 1) }
         requires room { self.old.opened < 2 ^ 64 - 1 }
         requires want { is_publish want.now ≡ false }
@@ -123,7 +212,17 @@ impl Core {
                 Ok(())
             }
             Want91::Method(channel, method) => {
-                self.change_path(*channel, method)?;
+                self.change_path(alloc, *channel, method)?;
+                self.spare = Some(spare);
+                Ok(())
+            }
+            Want91::Close => {
+                self.paths.close_all();
+                self.spare = Some(spare);
+                Ok(())
+            }
+            Want91::Refuse(refusal) => {
+                self.close_refused(*refusal);
                 self.spare = Some(spare);
                 Ok(())
             }
@@ -169,7 +268,10 @@ impl Core {
 
     /// A refusal closes the connection or a channel, and that is told, of a publish with this.
     fn meet_refusal(&mut self, closing: bool, told: Option<Told>, refusal: Refusal)
-        ensures { self.new ≡ met closing told (want.Refuse refusal) self.old }
+        ensures { self.new ≡ record (met closing told (want.Refuse refusal) self.old) {
+          paths = self.old.paths;
+          opened = self.old.opened;
+        } }
     {
         let condition = condition_of(refusal.code);
         match refusal.scope {
@@ -285,7 +387,7 @@ impl Core {
                 Ok(())
             }
             Met::Want(want, told) => {
-                self.meet_path(&want, spare)?;
+                self.meet_path(alloc, &want, spare)?;
                 self.meet(alloc, closing, told, want);
                 Ok(())
             }
@@ -317,7 +419,7 @@ impl Core {
         let foreign = is_foreign(&self.conn);
         let closing = self.conn.is_closing();
         let want = self.conn.take(alloc, unit)?;
-        let met = meet(alloc, &self.routes, &mut self.conn, want)?;
+        let met = meet(alloc, &self.routes, &self.paths, &mut self.conn, want)?;
         self.apply(alloc, closing, met, spare)?;
         self.count(foreign);
         Ok(())

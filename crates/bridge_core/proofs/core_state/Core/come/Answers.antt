@@ -12,12 +12,12 @@ returns-in_err-met-clause-err c =
 
 pub apply-requires-clause-login : goal.apply-requires-clause-login
 apply-requires-clause-login c =
-    login_met c.connection_laws.ensures.logins _ _ c.args.unit c.in_ok-want.want c.take.new.self c.meet.new.conn c.in_ok-met.met c.in_ok-want.ensures.want c.in_ok-met.ensures.ok
+    login_met c.connection_laws.ensures.logins _ _ _ c.args.unit c.in_ok-want.want c.take.new.self c.meet.new.conn c.in_ok-met.met c.in_ok-want.ensures.want c.in_ok-met.ensures.ok
 
 pub returns-in_err-apply-clause-err : goal.returns-in_err-apply-clause-err
 returns-in_err-apply-clause-err c =
     let x = c.in_ok-want.want in
-    let takes = met_takes _ x c.take.new.self c.meet.new.conn c.in_ok-met.met c.in_ok-met.ensures.ok c.in_err-apply.ensures.takes in
+    let takes = met_takes _ _ x c.take.new.self c.meet.new.conn c.in_ok-met.met c.in_ok-met.ensures.ok c.in_err-apply.ensures.takes in
     on_err _ (ap ran_out c.in_err-apply.ensures.err
     ∙ runs_out _ _ c.args.unit x c.take.new.self c.meet.new.conn c.self.view_is c.in_ok-want.ensures.state c.in_ok-want.ensures.want takes.0 takes.1)
 

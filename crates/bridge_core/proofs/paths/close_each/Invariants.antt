@@ -1,0 +1,7 @@
+use Rattle.std.proofs.Common.{◌≡◌, ◌++◌, map, take, drop}
+use Rattle.std.specs.Option.{option_map}
+use Rattle.gate_model.specs.Paths.{closed_path}
+use Rattle.bridge_core.proofs.paths.close_each.Given as goal
+
+abbrev pub invariant-loop-slot : goal.invariant-loop-slot
+invariant-loop-slot l = l.paths ≡ map (option_map closed_path) (take l.slot-index l.fn.paths) ++ drop l.slot-index l.fn.paths
