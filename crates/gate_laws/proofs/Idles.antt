@@ -20,7 +20,11 @@ use Rattle.gate_model.specs.declared.life.Life.{Life}
 use Rattle.gate_model.specs.Due.{can_leave, can_take_unit, can_take_up, is_awaited, is_awaiting}
 use Rattle.gate_model.specs.Folds.{connection, container_kept}
 use Rattle.gate_model.specs.Lives.{any_life, is_done, life_at, session_in}
-use Rattle.gate_model.specs.Paths.{is_laden}
+use Rattle.gate_model.specs.Paths.{is_laden, or_no_path, path_at, slot_at, told_paths}
+use Rattle.gate_model.proofs.Slots.{map_slot}
+use Rattle.session_path.specs.Due.{is_waiting}
+use Rattle.session_path.specs.Path.{PathState, lines_told}
+use Rattle.std.specs.Option.{option_map}
 use Rattle.gate_model.specs.Picks.{ArePicks}
 use Rattle.gate_model.specs.Queue.{Waits, can_take, channel_of, holds, is_bad_unit, is_empty}
 use Rattle.gate_model.specs.Queue.{is_full, place_from, place_in, waits_for_all}
@@ -77,7 +81,7 @@ none_left w none true can = by (not w.out_of_memory && w.leaving) (is_there w ca
     by true e =
         both_none (can_take_unit (left w)) (can_leave (left w))
         (and_none (not w.out_of_memory)
-        (ap (λ (us : List Unit91). is_some (if is_laden w.paths then None else place_in (waits (left w)) us)) (leaves_none w can) ∙ none_placed (is_laden w.paths) (waits (left w)))) refl
+        (ap (λ (us : List Unit91). is_some (if is_laden (left w).paths then None else place_in (waits (left w)) us)) (leaves_none w can) ∙ none_placed (is_laden (left w).paths) (waits (left w)))) refl
     by false e = absurd cc
 
 pub settled_rest : (t : Told) → (before (steps t)).out_of_memory ≡ false → can_take_up (before (steps (settled t))) ≡ false
@@ -133,11 +137,11 @@ came_kept w v u k = by v.out_of_memory
     by : (b : Bool) → Kept w (if b then v else came (dequeued v) u)
     by true = k
     by false = record {
-      side = ap (λ (s : UpState). s.side) (wanted_up (is_closing v.conn) (client_step v.routes v.conn u).1 v.up) ∙ k.side;
+      side = ap (λ (s : UpState). s.side) (wanted_up (is_closing v.conn) (client_step v.routes v.paths v.conn u).1 v.up) ∙ k.side;
       container = λ late.
-          ap (λ (s : UpState). s.container) (wanted_up (is_closing v.conn) (client_step v.routes v.conn u).1 v.up)
-          ∙ login_late v.routes v.conn u v.up.container (k.late late) ∙ k.container late;
-      late = λ late. unit_late v.routes v.conn u (k.late late);
+          ap (λ (s : UpState). s.container) (wanted_up (is_closing v.conn) (client_step v.routes v.paths v.conn u).1 v.up)
+          ∙ login_late v.routes v.paths v.conn u v.up.container (k.late late) ∙ k.container late;
+      late = λ late. unit_late v.routes v.paths v.conn u (k.late late);
     }
 
 takes_kept : (w : State) (f : ℕ) (g : List Step) → Kept w (after g w) → Kept w (after (cutting.settled w f g) w)
@@ -233,11 +237,22 @@ channel_before : (w : State) (n : ℕ) → is_channel_settled (joined w) n ≡ t
 channel_before w n e =
     let done : Bool = is_done (session_in w.up.container n) in either_of (is_settled (joined w)) done (is_settled w) done (settled_before w) (λ x. x) e
 
+-- a basic.consume that waits goes on
+told_waits : (ps : List (Option PathState)) (n : ℕ) → is_waiting (path_at (told_paths ps) n) ≡ is_waiting (path_at ps n)
+told_waits ps n = ap (λ (o : Option PathState). is_waiting (or_no_path o)) (map_slot ps n lines_told) ∙ by (slot_at ps n)
+  where
+    by : (o : Option PathState) → is_waiting (or_no_path (option_map lines_told o)) ≡ is_waiting (or_no_path o)
+    by None = refl
+    by (Some s) = refl
+
 life_more : (w : State) (n : ℕ) (l : Life) → life_waits w n l ≡ true → life_waits (joined w) n l ≡ true
 life_more w n l =
-    both (not (is_closing w.conn)) (l.waits || (l.awaits_end && not (is_channel_settled w n))) (l.waits || (l.awaits_end && not (is_channel_settled (joined w) n)))
-    (either_of l.waits (l.awaits_end && not (is_channel_settled w n)) l.waits _ (λ x. x)
-    (both l.awaits_end (not (is_channel_settled w n)) (not (is_channel_settled (joined w) n)) (neither (is_channel_settled (joined w) n) (is_channel_settled w n) (channel_before w n))))
+    let waiting : Bool = is_waiting (path_at w.paths n) in
+    let ending : Bool = l.awaits_end && not (is_channel_settled w n) in
+    both (not (is_closing w.conn)) (l.waits || (waiting || ending)) _
+    (either_of l.waits (waiting || ending) l.waits _ (λ x. x)
+    (either_of waiting ending (is_waiting (path_at (joined w).paths n)) _ (λ e. told_waits w.paths n ∙ e)
+    (both l.awaits_end (not (is_channel_settled w n)) (not (is_channel_settled (joined w) n)) (neither (is_channel_settled (joined w) n) (is_channel_settled w n) (channel_before w n)))))
 
 any_more : (t u : ℕ → Life → Bool) (n : ℕ) (ls : List Life) → ((k : ℕ) (l : Life) → t k l ≡ true → u k l ≡ true) → any_life t n ls ≡ true → any_life u n ls ≡ true
 any_more t u n [] f e = e

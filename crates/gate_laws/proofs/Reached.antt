@@ -7,7 +7,7 @@ use Rattle.gate_outside.specs.declared.ports.Linked.TheVariants as link
 use Rattle.gate_relay.specs.declared.loss.Loss.TheVariants as loss
 use Rattle.gate_relay.specs.Sides.{is_absent, is_readable}
 use Rattle.close_translate.specs.declared.conditions.Scope.TheVariants as scope
-use Rattle.machine_091.specs.Calls.{after_closing, after_ended, after_opened, closing_phase}
+use Rattle.machine_091.specs.Calls.{after_closing, after_opened, closing_phase}
 use Rattle.machine_091.specs.Calls.{opened_phase}
 use Rattle.machine_091.specs.State.{is_open_phase, is_opening}
 use Rattle.machine_091.specs.Transitions as machine
@@ -20,8 +20,9 @@ use Rattle.machine_10.specs.Transitions.{Meaning}
 use Rattle.machine_10.specs.declared.state.Upstream.{Upstream}
 use Rattle.gate_model.specs.declared.outgoing.Outgoing.TheVariants.{ToClient, ToUp}
 use Rattle.gate_model.specs.Folds.{Peers, accepted_in, connection, container, container_kept}
-use Rattle.gate_model.specs.Folds.{leaving_in, peers, peers_by, peers_came, peers_heard, ran_out_in}
-use Rattle.gate_model.specs.Folds.{side_in}
+use Rattle.gate_model.specs.Folds.{leaving_in, peers, peers_by, peers_came, peers_heard, peers_left}
+use Rattle.gate_model.specs.Folds.{ran_out_in, side_in}
+use Rattle.session_path.specs.Path.{PathState}
 use Rattle.gate_model.specs.Picks.{ArePicks}
 use Rattle.gate_model.specs.declared.setup.Route.{Route}
 use Rattle.gate_model.specs.Requests.{client_step}
@@ -50,8 +51,8 @@ closing_late phase.Running = refl
 closing_late phase.Closing = refl
 closing_late phase.Closed = refl
 
-pub unit_late : (rs : List Route) (c : Connection) (u : Unit91) → is_early c.phase ≡ false → is_early (conn_step rs c u).phase ≡ false
-unit_late rs c u late = by (client_step rs c u) (outcome rs c u)
+pub unit_late : (rs : List Route) (ps : List (Option PathState)) (c : Connection) (u : Unit91) → is_early c.phase ≡ false → is_early (conn_step rs ps c u).phase ≡ false
+unit_late rs ps c u late = by (client_step rs ps c u) (outcome rs ps c u)
   where
     by : (x : machine.Step) → Outcome c u x → is_early x.0.phase ≡ false
     by _ (Greets e) = absurd (clash _ (ap is_early e) late)
@@ -74,8 +75,9 @@ unit_late rs c u late = by (client_step rs c u) (outcome rs c u)
     by _ (Ignores e) = late
 
 -- the login is the one unit that tells a container
-pub login_late : (rs : List Route) (c : Connection) (u : Unit91) (o : Option Upstream) → is_early c.phase ≡ false → container_kept o (client_step rs c u).1 ≡ o
-login_late rs c u o late = by (client_step rs c u) (outcome rs c u)
+pub login_late : (rs : List Route) (ps : List (Option PathState)) (c : Connection) (u : Unit91) (o : Option Upstream) → is_early c.phase ≡ false
+    → container_kept o (client_step rs ps c u).1 ≡ o
+login_late rs ps c u o late = by (client_step rs ps c u) (outcome rs ps c u)
   where
     by : (x : machine.Step) → Outcome c u x → container_kept o x.1 ≡ o
     by _ (Greets e) = refl
@@ -120,7 +122,7 @@ meaning_late ten.Opened x late = by (is_opening x.client)
     by true = opened_late x.client.asked x.client.phase late
     by false = late
 meaning_late (ten.OfSession n q payload) x late =
-    conn_cases (λ (c : Connection). is_early c.phase ≡ false) n q x late (closing_late x.client.phase) (channel_late n x.client late)
+    conn_cases (λ (c : Connection). is_early c.phase ≡ false) n q payload x late (closing_late x.client.phase) (channel_late n x.client late)
 meaning_late (ten.Closed e) x late = closing_late x.client.phase
 meaning_late ten.Refused x late = closing_late x.client.phase
 meaning_late (ten.Violation why) x late = closing_late x.client.phase
@@ -162,10 +164,10 @@ unreached (Fed Up ∷ h) p e = unreached h p.1 e
 unreached (Silent Client ∷ h) p e = absurd cc
 unreached (Silent Up ∷ h) p e = absurd (clash _ e (closing_late (connection h).phase))
 unreached (Queued u ∷ h) p e = unreached h p.1 e
-unreached (Came u ∷ h) p e = unreached h p.1 (either_early (ran_out_in h) (peers h) (peers_came (peers h) u) (unit_late (peers h).routes (connection h) u) e)
+unreached (Came u ∷ h) p e = unreached h p.1 (either_early (ran_out_in h) (peers h) (peers_came (peers h) u) (unit_late (peers h).routes (peers h).paths (connection h) u) e)
 unreached (TakenUp ∷ h) p e = unreached h p.1 (by (not (ran_out_in h) && leaving_in h) e)
   where
-    by : (b : Bool) → is_early (if b then record (peers h) { client = after_ended (connection h) } else peers h).client.phase ≡ true
+    by : (b : Bool) → is_early (if b then peers_left (peers h) else peers h).client.phase ≡ true
         → is_early (connection h).phase ≡ true
     by true e = absurd cc
     by false e = e
@@ -184,5 +186,6 @@ unreached (Lost Up loss.Failed ∷ h) p e = refl
 unreached (Lost Up loss.Shut ∷ h) p e = refl
 unreached (Gave (ToClient u) text ∷ h) p e = unreached h p.1 (sym (ap is_early (phase_only (only_given u (connection h)))) ∙ e)
 unreached (Gave (ToUp u) text ∷ h) p e = unreached h p.1 e
-unreached (Whole end ∷ h) p e = unreached h p.1 e
+unreached (Whole Client ∷ h) p e = unreached h p.1 e
+unreached (Whole Up ∷ h) p e = unreached h p.1 e
 unreached (OutOfMemory ∷ h) p e = absurd (clash _ e (closing_late (connection h).phase))

@@ -45,7 +45,8 @@ pub record IsLawfulPair (s : SetupText) (h : List Entry) : Type 0 where
   pub transfers : Transfers (steps_of s h)
   pub pieces : ArePieces (steps_of s h)
   pub wholes : EndWhole (steps_of s h)
-  -- the report is owed the lines of the publishes that were lost before they had an outcome
+  -- the report is owed the lines of the publishes that were lost before they had an outcome, and of
+  -- the deliveries that were lost or left
   pub lines : owed_lines (state_of s h) ≡ lines_owed (steps_of s h)
   -- a client is told of the end of its connection or a channel, and of the connection's begin, once
   -- the container is through

@@ -109,9 +109,9 @@ pub fn publishes_are_lawful()
     gate_model::payloads_are_whole();
 }
 
-/// What the report is owed of the publishes of a pair: of each life in progress, by rising number,
-/// the publishes that were lost before they had an outcome and of which no line was reported, by
-/// rising number, and what became of each.
+/// What the report is owed of a pair: of each life in progress, by rising number, the publishes
+/// that were lost before they had an outcome, and then the deliveries that were lost or left. Of
+/// both those of which no line was reported, by rising number, and what became of each.
 pub fn lines_are_lawful()
     ensures { (s : SetupText) (c : Limits) (m : History) → Follows (pair_words s) c m → (p : ℕ)
         → owed_lines (state_of s (journal p m)) ≡ lines_owed (steps_of s (journal p m)) }

@@ -6,9 +6,9 @@ use Rattle.gate_model.specs.declared.life.Life.{Life}
 use Rattle.gate_model.specs.declared.outgoing.Outgoing.TheVariants.{ToUp}
 use Rattle.gate_model.specs.declared.outgoing.UpUnit.{UpUnit}
 use Rattle.gate_model.specs.declared.outgoing.UpUnit.TheVariants as up
-use Rattle.gate_model.specs.Due.{attaches, begins, carried_rows, detaches, ends, is_end_due}
-use Rattle.gate_model.specs.Due.{link_flows, row_on, session_flows, session_rows, settlings}
-use Rattle.gate_model.specs.Due.{transfers, unless_out}
+use Rattle.gate_model.specs.Due.{attaches, begins, carried_rows, detaches, disposals, ends}
+use Rattle.gate_model.specs.Due.{is_end_due, link_flows, row_on, session_flows, session_rows}
+use Rattle.gate_model.specs.Due.{settlings, transfers, unless_out}
 use Rattle.gate_model.specs.Lives.{each, is_carried, is_free, session_in}
 use Rattle.gate_model.specs.Session.{is_flow_owed}
 use Rattle.gate_model.specs.State.{State}
@@ -66,8 +66,9 @@ carried_lack v w off =
 pub rows_lack : (v : UpUnit) (w : State) → is_on_channel v ≡ false → Lacks v (session_rows w)
 rows_lack v w off =
     both_lack v (unless_out w.out_of_memory (carried_rows w)) _ (by w.out_of_memory)
+    (both_lack v (disposals w) _ (each_lacks v _ w.lives (λ k l. row_lacks v w.up.container k _ _ off))
     (both_lack v (settlings w) (detaches w) (each_lacks v _ w.lives (λ k l. row_lacks v w.up.container k _ _ off))
-    (each_lacks v _ w.lives (λ k l. row_lacks v w.up.container k _ _ off)))
+    (each_lacks v _ w.lives (λ k l. row_lacks v w.up.container k _ _ off))))
   where
     by : (b : Bool) → Lacks v (unless_out b (carried_rows w))
     by true e = absurd cc

@@ -23,6 +23,7 @@ use Rattle.gate_model.specs.declared.outgoing.Outgoing.TheVariants.{ToClient, To
 use Rattle.gate_model.specs.declared.outgoing.UpUnit.{UpUnit}
 use Rattle.gate_model.specs.declared.outgoing.UpUnit.TheVariants as up
 use Rattle.gate_model.specs.declared.channel.ChannelUnit.TheVariants as to_client
+use Rattle.session_path.specs.declared.path.PathOk.TheVariants as ok
 use Rattle.gate_model.specs.declared.reply.Reply.{Reply}
 use Rattle.gate_model.specs.declared.reply.Reply.TheVariants as reply
 use Rattle.gate_model.specs.Due.{can_leave, can_take_unit, carries, client_rows, is_awaited}
@@ -36,7 +37,8 @@ use Rattle.gate_model.specs.Upstream.{awaited_of, first, is_awaited_up}
 use Rattle.gate_model.proofs.Known.{Known, conn_is, container_is, known, number_is}
 use Rattle.gate_model.proofs.Silences.{given_is}
 use Rattle.gate_model.proofs.Times.{Either, OnLeft, OnRight, and_left, and_right, either}
-use Rattle.gate_pair.specs.Lawful.{AreLawful, AtRefusal, AtTheEnd, Attaching, Beginning, Crediting, InReturning}
+use Rattle.gate_pair.specs.Lawful.{AreLawful, AtRefusal, AtTheEnd, Attaching, Beginning, Consuming}
+use Rattle.gate_pair.specs.Lawful.{Crediting, Delivering, InSpellingBack, Returning, Writing}
 use Rattle.gate_pair.specs.Lawful.{Flowing, InRead, InSpelling, InTakeUp, IsAskedFor, IsAwaited}
 use Rattle.gate_pair.specs.Lawful.{IsHeard, IsOfferOf, IsOffered, IsTakenUp, Keeps, Login, Opening}
 use Rattle.gate_pair.specs.Lawful.{RunsOutIn, Shuts, TakesMemory, Transferring, WhereDue}
@@ -140,15 +142,20 @@ shuts_by t s _ _ r (relayed.AtRefusal h) = AtRefusal h refl refl
 
 -- ---- out of memory
 
--- of the units to the client frames of returns alone take memory
-in_returning : (s : SetupText) (h : List Entry) (us : List Reply) → is_writable (side_of Client (sides h)) ≡ true → is_busy (state_of s h) Client ≡ false
+-- of the units to the client those that carry something take memory
+in_spelling_back : (s : SetupText) (h : List Entry) (us : List Reply) → is_writable (side_of Client (sides h)) ≡ true → is_busy (state_of s h) Client ≡ false
     → pick (state_of s h) Client ≡ first (map ToClient us) → takes_memory (first (map ToClient us)) ≡ true → RunsOutIn s 0 h
-in_returning s h [] w free e f = absurd cc
-in_returning s h (u ∷ us) w free e f = by u e f
+in_spelling_back s h [] w free e f = absurd cc
+in_spelling_back s h (u ∷ us) w free e f = by u e f
   where
     by : (u : Reply) → pick (state_of s h) Client ≡ Some (ToClient u) → takes_memory_back u ≡ true → RunsOutIn s 0 h
-    by (reply.OnChannel n (to_client.Return r)) e f = InReturning n r h w free e
-    by (reply.OnChannel n (to_client.Ok x)) e f = absurd cc
+    by (reply.OnChannel n (to_client.Ok (ok.Consume link))) e f = InSpellingBack _ h w free e (Consuming n link refl)
+    by (reply.OnChannel n (to_client.Ok ok.Flow)) e f = absurd cc
+    by (reply.OnChannel n (to_client.Ok ok.Declare)) e f = absurd cc
+    by (reply.OnChannel n (to_client.Ok ok.Select)) e f = absurd cc
+    by (reply.OnChannel n (to_client.Deliver d)) e f = InSpellingBack _ h w free e (Delivering n d refl)
+    by (reply.OnChannel n (to_client.Content c)) e f = InSpellingBack _ h w free e (Writing n c refl)
+    by (reply.OnChannel n (to_client.Return r)) e f = InSpellingBack _ h w free e (Returning n r refl)
     by (reply.OnChannel n (to_client.Confirm c)) e f = absurd cc
     by reply.Protocol e f = absurd cc
     by reply.Start e f = absurd cc
@@ -173,8 +180,9 @@ takes_some up.Empty e = absurd cc
 takes_some (up.OnSession n (unit.Attach a)) e = Attaching n a refl
 takes_some (up.OnSession n (unit.Flow f)) e = Crediting n f refl
 takes_some (up.OnSession n (unit.Transfer t)) e = Transferring n t refl
+takes_some (up.OnSession n (unit.Dispose x)) e = absurd cc
 takes_some (up.OnSession n (unit.Settle x)) e = absurd cc
-takes_some (up.OnSession n (unit.Detach link handle)) e = absurd cc
+takes_some (up.OnSession n (unit.Detach link handle why)) e = absurd cc
 takes_some (up.Flow n i o) e = Flowing n i o refl
 takes_some (up.Begin n) e = Beginning n refl
 takes_some (up.End n why) e = absurd cc
@@ -191,7 +199,7 @@ in_spelling s h (u ∷ us) w free e f = InSpelling u h w free e (takes_some u f)
 at_write : (s : SetupText) (end : End) (h : List Entry) → is_some (offers (pair_words s) end h) ≡ true → needs_memory (state_of s h) end ≡ true → RunsOutIn s 0 h
 at_write s Client h e f =
     let w : State = state_of s h in
-    in_returning s h (client_rows w) (writable_by (is_writable (side_of Client (sides h))) _ e)
+    in_spelling_back s h (client_rows w) (writable_by (is_writable (side_of Client (sides h))) _ e)
     (isnt (is_busy w Client) (and_left (not (is_busy w Client)) _ f)) refl (and_right (not (is_busy w Client)) _ f)
 at_write s Up h e f =
     let w : State = state_of s h in

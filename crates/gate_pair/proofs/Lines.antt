@@ -1,6 +1,6 @@
 -- Lines that were reported aren't owed again, and what is held stays so.
 use Rattle.std.proofs.Common.{◌≡◌, ℕ, zero, suc, ◌+◌, ◌==◌, nat_le, Bool, true, false, not, ◌||◌, ◌&&◌}
-use Rattle.std.proofs.Common.{if◌then◌else◌, cond, List, [], ◌∷◌, ◌++◌, length, map, filter, sum_by}
+use Rattle.std.proofs.Common.{if◌then◌else◌, cond, List, [], ◌∷◌, ◌++◌, map, filter, sum_by}
 use Rattle.std.proofs.Common.{Option, None, Some, refl, sym, ap, ◌∙◌, arith}
 use Rattle.std.specs.Option.{option_map}
 use Rattle.std.proofs.lemmas.List.Sums.{sum_by-cons}
@@ -10,6 +10,10 @@ use Rattle.publish_path.specs.declared.publish.Publish.{Publish}
 use Rattle.publish_path.specs.Offers.{held_size, is_held, lines_of}
 use Rattle.publish_path.specs.Publishes.{has_no_outcome, is_open, is_sending, is_settled, reported}
 use Rattle.session_path.specs.Path.{PathState, lines_told}
+use Rattle.consume_path.specs.Items as consume
+use Rattle.consume_path.specs.Items.{trimmed}
+use Rattle.consume_path.specs.Offers as deliveries
+use Rattle.consume_path.specs.declared.delivery.Delivery.{Delivery}
 use Rattle.gate_model.specs.declared.limits.TheConstants.{HELD_BYTES, HELD_PUBLISHES}
 use Rattle.gate_model.specs.Paths.{bytes_in, bytes_on, held_in, held_on, is_laden, lines_in}
 use Rattle.gate_model.specs.Paths.{lines_of_life, lines_on, told_paths}
@@ -25,12 +29,31 @@ reported_none life (p ∷ ps) = by (is_open (reported p)) (reported_none life ps
     by true e = e
     by false e = e
 
+deliveries_none : (life : ℕ) (ds : List Delivery)
+    → deliveries.lines_of life (filter consume.is_open (map (λ d. trimmed (consume.reported d)) ds)) ≡ []
+deliveries_none life [] = refl
+deliveries_none life (d ∷ ds) = by (consume.is_open (trimmed (consume.reported d))) (deliveries_none life ds)
+  where
+    rest : List Delivery
+    rest = filter consume.is_open (map (λ d. trimmed (consume.reported d)) ds)
+
+    by : (b : Bool) → deliveries.lines_of life rest ≡ []
+        → deliveries.lines_of life (cond b (trimmed (consume.reported d) ∷ rest) rest) ≡ []
+    by true e = e
+    by false e = e
+
 path_none : (life : ℕ) (o : Option PathState) → lines_on life (option_map lines_told o) ≡ []
 path_none life None = refl
 path_none life (Some s) = by (s.publishes.life == life)
   where
-    by : (b : Bool) → (if b then lines_of s.publishes.life (filter is_open (map reported s.publishes.list)) else []) ≡ []
-    by true = reported_none s.publishes.life s.publishes.list
+    told : List Delivery
+    told = filter consume.is_open (map (λ d. trimmed (consume.reported d)) s.deliveries.list)
+
+    by : (b : Bool)
+        → (if b then lines_of s.publishes.life (filter is_open (map reported s.publishes.list)) ++ deliveries.lines_of s.deliveries.life told else []) ≡ []
+    by true =
+        ap (λ (items : List LostItem). items ++ deliveries.lines_of s.deliveries.life told) (reported_none s.publishes.life s.publishes.list)
+        ∙ deliveries_none s.deliveries.life s.deliveries.list
     by false = refl
 
 life_none : (life : ℕ) (ps : List (Option PathState)) → lines_of_life life (told_paths ps) ≡ []

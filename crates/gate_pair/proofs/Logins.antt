@@ -9,7 +9,6 @@ use Rattle.gate_outside.specs.declared.ports.End.{End}
 use Rattle.gate_outside.specs.declared.ports.End.TheVariants.{Client, Up}
 use Rattle.gate_outside.specs.declared.ports.Linked.TheVariants as link
 use Rattle.gate_relay.specs.declared.loss.Loss.TheVariants as loss
-use Rattle.machine_091.specs.Calls.{after_ended}
 use Rattle.machine_091.specs.Transitions as machine
 use Rattle.machine_091.specs.declared.unit.Unit91.{Unit91}
 use Rattle.machine_10.specs.Calls.{after_begin_sent, after_end_sent, asked, left, may_begin}
@@ -28,22 +27,23 @@ use Rattle.gate_model.specs.declared.outgoing.UpUnit.{UpUnit}
 use Rattle.gate_model.specs.declared.outgoing.UpUnit.TheVariants as up
 use Rattle.gate_model.specs.declared.reply.Reply.{Reply}
 use Rattle.gate_model.specs.Asked.{AreCalledFor, called, called_from, openings_of}
-use Rattle.gate_model.specs.Folds.{Peers, connection, container, container_kept, leaving_in}
+use Rattle.gate_model.specs.Folds.{Peers, container, container_kept, leaving_in}
 use Rattle.gate_model.specs.Folds.{number_in, peers, peers_by, peers_came, peers_heard}
-use Rattle.gate_model.specs.Folds.{peers_session, ran_out_in, sent_up}
+use Rattle.gate_model.specs.Folds.{carried_on, peers_left, peers_session, ran_out_in, scope_in}
+use Rattle.gate_model.specs.Folds.{sent_up}
 use Rattle.gate_model.specs.Picks.{ArePicks}
 use Rattle.gate_model.specs.Setup.{SetupText}
 use Rattle.gate_model.specs.Spelling.{Context, context_of, init_text, spell}
 use Rattle.gate_model.specs.Requests.{client_step}
-use Rattle.gate_model.specs.State.{State, Step, Began, Moment, Fed, Silent, Queued, Came, TakenUp}
-use Rattle.gate_model.specs.State.{Heard, Joined, Lost, Gave, Whole, OutOfMemory, before, new_state}
+use Rattle.gate_model.specs.State.{Step, Began, Moment, Fed, Silent, Queued, Came, TakenUp}
+use Rattle.gate_model.specs.State.{Heard, Joined, Lost, Gave, Whole, OutOfMemory, before}
 use Rattle.gate_model.specs.Upstream.{container_by, container_given, ended_in, meaning_by}
 use Rattle.gate_model.specs.Upstream.{opening_rows, sessions_given, when_up}
 use Rattle.gate_model.proofs.Known.{container_is, known, number_is}
 use Rattle.gate_model.proofs.Outcomes.{Outcome, Greets, Parts, LogsIn, Tunes, Asks, Passes, Refuses}
 use Rattle.gate_model.proofs.Outcomes.{Declines, Drops, Parting, Calls, Asking, Publishes, Fills}
 use Rattle.gate_model.proofs.Outcomes.{Frees, Closes, Answers, Ignores, outcome}
-use Rattle.gate_model.proofs.Sessions.{session_by}
+use Rattle.gate_model.proofs.Sessions.{only_scoped}
 use Rattle.gate_model.proofs.Ups.{Early, early, is_early}
 use Rattle.gate_pair.specs.Answers.{context_in, sent_to, sent_up_with, sent_with, spelled, to_client}
 use Rattle.gate_pair.specs.Answers.{to_up}
@@ -66,8 +66,8 @@ abbrev pub IsUnheard : Step → Type 0
 IsUnheard (Heard u) = ⊥
 IsUnheard x = Unit {0}
 
-moves_came : (p : Peers) (u : Unit91) → Early p → Moves p.container (container_kept p.container (client_step p.routes p.client u).1)
-moves_came p u f = by (client_step p.routes p.client u) (outcome p.routes p.client u)
+moves_came : (p : Peers) (u : Unit91) → Early p → Moves p.container (container_kept p.container (client_step p.routes p.paths p.client u).1)
+moves_came p u f = by (client_step p.routes p.paths p.client u) (outcome p.routes p.paths p.client u)
   where
     by : (x : machine.Step) → Outcome p.client u x → Moves p.container (container_kept p.container x.1)
     by _ (Greets e) = Stays
@@ -102,7 +102,7 @@ moves (Silent Client) g i p = Stays
 moves (Silent Up) g i p = Stays
 moves (Queued u) g i p = Stays
 moves (Came u) g i p = moves_if (container g) (ran_out_in g) (peers g) (peers_came (peers g) u) Stays (moves_came (peers g) u (early g))
-moves TakenUp g i p = moves_if (container g) (not (ran_out_in g) && leaving_in g) (record (peers g) { client = after_ended (connection g) }) (peers g) Stays Stays
+moves TakenUp g i p = moves_if (container g) (not (ran_out_in g) && leaving_in g) (peers_left (peers g)) (peers g) Stays Stays
 moves (Heard u) g i p = absurd i
 moves (Joined link.Ok) g i p = Stays
 moves (Joined link.Failed) g i p = Stays
@@ -112,7 +112,8 @@ moves (Lost Up loss.Failed) g i p = Ends
 moves (Lost Up loss.Shut) g i p = Stays
 moves (Gave (ToClient u) text) g i p = Stays
 moves (Gave (ToUp u) text) g i p = Sends u
-moves (Whole end) g i p = Stays
+moves (Whole Client) g i p = Stays
+moves (Whole Up) g i p = Stays
 moves OutOfMemory g i p = Stays
 
 -- once there is a container its login stays
@@ -191,17 +192,16 @@ follows_by l None u = tt
 follows_by l (Some c) u = let f : GoesOn c (ten.unit_step c u).0 = l.forward c u in (f.mechanism, f.response)
 
 -- what a unit of the container means leaves it
-kept_session : (n : ℕ) (q : Read) (x : Peers) → (peers_session n q x).container ≡ x.container
-kept_session n q x =
-    session_by (λ (y : Peers) (w : State). y.container ≡ x.container) n q (record (new_state (record { vhost = []; routes = [] }) 0 0) { routes = x.routes; conn = x.client; paths = x.paths }) x.container x.opened
-    (record { begins = refl; stays = refl; ends = λ code why. refl; windows = refl; drops = λ code why. refl; fails = λ why. refl })
+kept_session : (n : ℕ) (q : Read) (payload : List ℕ) (x : Peers) → (peers_session n q payload x).container ≡ x.container
+kept_session n q payload x =
+    ap (λ (y : Peers). y.container) (only_scoped (scope_in x n q payload) n q payload (record x { carried = carried_on n q x.carried }))
 
 kept : (m : Meaning) (x : Peers) → (peers_by m x).container ≡ x.container
 kept ten.Nothing x = refl
 kept ten.Init x = refl
 kept ten.AmqpHeader x = refl
 kept ten.Opened x = refl
-kept (ten.OfSession n q payload) x = kept_session n q x
+kept (ten.OfSession n q payload) x = kept_session n q payload x
 kept (ten.Closed e) x = refl
 kept ten.Refused x = refl
 kept (ten.Violation why) x = refl

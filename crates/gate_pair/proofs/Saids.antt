@@ -24,9 +24,8 @@ use Rattle.gate_model.specs.State.{State, Step, Fed, OutOfMemory, before, owed_l
 use Rattle.bridge_core.specs.Offers.{BridgeState, Keeps, moved, offer_of}
 use Rattle.gate_pair.specs.Cutting.{Cut, after, cut_all, settle}
 use Rattle.gate_pair.specs.Meaning.{Stream, Told, came, leaves, made, nothing, pair_words, ran_out}
-use Rattle.gate_pair.specs.Meaning.{read_in, settled, state_of, steps, tells, told}
+use Rattle.gate_pair.specs.Meaning.{read_in, settled, steps, tells, told}
 use Rattle.gate_pair.proofs.Cuts.{drop_list, none_cut}
-use Rattle.gate_pair.proofs.Lines.{none_told}
 use Rattle.gate_pair.specs.PairStates.{FailedAt, FailedIn, FailedUpIn, Half, IsCut, PairState, Reads}
 use Rattle.gate_pair.specs.PairStates.{ReadsInPart, ReadsUpInPart, Represents, Said, Says, Settles}
 use Rattle.gate_pair.specs.PairStates.{rest_at, said, said_of, stream_at, unlined}
@@ -193,6 +192,9 @@ heard_at all bytes b d x y i j c k is =
 some_cut : (n : ℕ) → 1 ≤ n → nat_le 1 (0 + n) ≡ true
 some_cut n e = grind (arith, nat_tests)
 
+more_cut : (n : ℕ) → nat_le 1 (1 + n) ≡ true
+more_cut n = grind (arith, nat_tests)
+
 -- what counts of it may make lines due
 pub heard_failed : (all bytes : List ℕ) (b d : BridgeState) (x y z : Half) (i : Bool) (old new : PairState) → pair_of b x y i ≡ old → all ≡ y.unread ++ bytes → z.at ≡ y.at
     → new ≡ lost_of d x z true → ReadsUpInPart all b.state d.state → Keeps b d → FailedUpIn (read_in Up bytes) old new
@@ -201,24 +203,23 @@ heard_failed all bytes b d x y z i old new was is at now c k =
     (now ∙ ap (λ (h : Half). pair_of d (dropped x) h true) (same_half [] [] z.at y.at refl at)) (
       0 + length c.0.newer,
       heard_at all bytes b d x y i true c.0 k is,
-      λ none. sym (ap (λ (some : Bool). if some then owed_lines d.state else []) (some_cut (length c.0.newer) c.1)),
+      sym (ap (λ (some : Bool). if some then owed_lines d.state else []) (some_cut (length c.0.newer) c.1)),
     )
 
-if_none : (b : Bool) (items : List LostItem) → items ≡ [] → [] ≡ (if b then items else [])
-if_none true items e = sym e
-if_none false items e = refl
-
--- where none counts, none is
+-- where none counts, the closing of the pair may
 pub heard_lost : (bytes : List ℕ) (b d : BridgeState) (x y z : Half) (i : Bool) (old new : PairState) → pair_of b x y i ≡ old → z ≡ y
-    → new ≡ lost_of d x z false → d ≡ moved OutOfMemory b → Keeps b d → FailedUpIn (read_in Up bytes) old new
+    → new ≡ lost_of d x z true → d ≡ moved OutOfMemory b → Keeps b d → FailedUpIn (read_in Up bytes) old new
 heard_lost bytes b d x y z i old new was half now is k =
-    let all : List ℕ = y.unread ++ bytes in
-    let c : ReadsInPart Up all b.state d.state = none_cut Up b.state d.state all (ap (λ (v : BridgeState). v.state) is) in
-    between (FailedUpIn (read_in Up bytes)) (pair_of b x y i) (lost_of d x y false) old new was
-    (now ∙ ap (λ (h : Half). pair_of d (dropped x) h false) (same_half [] [] z.at y.at refl (ap (λ (h : Half). h.at) half))) (
-      0 + length c.newer,
-      heard_at all bytes b d x y i false c k refl,
-      λ none. if_none (nat_le 1 (0 + length c.newer)) (owed_lines d.state) (ap (λ (v : BridgeState). owed_lines v.state) is ∙ none),
+    let all : List Step = drop 1 (cut_all Up b.state (y.unread ++ bytes)).fresh in
+    let c : IsCut b.state d.state all =
+    record { newer = all; older = []; parts = sym (append-nil all); now = ap (λ (v : BridgeState). v.state) is } in
+    between (FailedUpIn (read_in Up bytes)) (pair_of b x y i) (lost_of d x y true) old new was
+    (now ∙ ap (λ (h : Half). pair_of d (dropped x) h true) (same_half [] [] z.at y.at refl (ap (λ (h : Half). h.at) half))) (
+      1 + length all,
+      failed_at (read_in Up bytes) b d x y i true 1 all c k
+          (λ t e. ap (λ (z : Said). drop 1 (cut_all Up z.state (z.up.unread ++ bytes)).fresh) (sym e))
+          (λ t. refl) (λ t. refl) (λ t. refl),
+      sym (ap (λ (some : Bool). if some then owed_lines d.state else []) (more_cut (length all))),
     )
 
 -- ---- what can be taken up
@@ -333,15 +334,13 @@ fed_up_failed s x bytes old mid new r is fed err =
     here = subst (λ (y : End). IsFed y old mid) is fed
 
     by : (cut : ℕ) → FailedAt cut (read_in Up bytes) mid new
-        → (owed_lines mid.bridge.state ≡ [] → (said new).lines ≡ (if nat_le 1 cut then owed_lines new.bridge.state else []))
+        → (said new).lines ≡ (if nat_le 1 cut then owed_lines new.bridge.state else [])
         → (h : List Entry) → Says old (told s h) → Represents s new (entry.OutOfMemory cut ∷ entry.Came Up bytes ∷ h)
     by cut failed lines h e =
         let fed : Says mid (made (Fed Up ∷ []) (told s h)) = here (told s h) e in
         let now : Says new (ran_out cut (told s (entry.Came Up bytes ∷ h))) = failed (made (Fed Up ∷ []) (told s h)) fed in
-        let none : owed_lines mid.bridge.state ≡ [] =
-        ap (λ (z : Said). owed_lines z.state) fed ∙ none_told (state_of s h).paths (state_of s h).opened in
         with_lines (said new) (said_of (told s (entry.OutOfMemory cut ∷ entry.Came Up bytes ∷ h))) now
-        (lines none ∙ ap (λ (z : Said). if nat_le 1 cut then owed_lines z.state else []) now)
+        (lines ∙ ap (λ (z : Said). if nat_le 1 cut then owed_lines z.state else []) now)
 
 -- ---- lines that are told
 

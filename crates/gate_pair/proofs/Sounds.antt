@@ -95,7 +95,7 @@ meaning_container ten.Opened w = by (is_opening w.conn)
     by : (b : Bool) → (if b then runs w else w).up.container ≡ w.up.container
     by true = refl
     by false = refl
-meaning_container (ten.OfSession g p payload) w = session_cases (λ (v : State). v.up.container ≡ w.up.container) g p w (record {
+meaning_container (ten.OfSession g p payload) w = session_cases (λ (v : State). v.up.container ≡ w.up.container) g p payload w (record {
   begins = refl;
   stays = refl;
   ends = λ code why. refl;
@@ -167,8 +167,8 @@ step_knows (state.Came u) w k = by w.out_of_memory
     by : (b : Bool) → KnowsLogin (if b then w else state.came (state.dequeued w) u).up
     by true = k
     by false =
-        closing_knows (is_closing w.conn) (condition_by (client_step w.routes w.conn u).1) (keep_login (client_step w.routes w.conn u).1 w.up)
-        (keeping_knows (client_step w.routes w.conn u).1 w.up k)
+        closing_knows (is_closing w.conn) (condition_by (client_step w.routes w.paths w.conn u).1) (keep_login (client_step w.routes w.paths w.conn u).1 w.up)
+        (keeping_knows (client_step w.routes w.paths w.conn u).1 w.up k)
 step_knows state.TakenUp w k = by (not w.out_of_memory && w.leaving)
   where
     by : (b : Bool) → KnowsLogin (if b then state.left w else w).up
@@ -238,8 +238,9 @@ session_some : (n : ℕ) (u : SessionUnit) (text : List ℕ) → 0 < length (spe
 session_some n (session.Attach a) text = frame_some _
 session_some n (session.Flow f) text = frame_some _
 session_some n (session.Transfer t) text = frame_some _
+session_some n (session.Dispose x) text = frame_some _
 session_some n (session.Settle x) text = frame_some _
-session_some n (session.Detach link handle) text = frame_some _
+session_some n (session.Detach link handle why) text = frame_some _
 
 picked_some : (s : SetupText) (w : State) (u : UpUnit) → KnowsLogin w.up → pick w Up ≡ Some (ToUp u) → 0 < length (spelled_in s w (ToUp u))
 picked_some s w unit.SaslHeader k e = omega arith

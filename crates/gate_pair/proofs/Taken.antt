@@ -180,7 +180,7 @@ meaning_leaves ten.Init w = record { memory_is = refl; going_is = refl; going_up
 meaning_leaves ten.AmqpHeader w = record { memory_is = refl; going_is = refl; going_up_is = refl; number_is = refl }
 meaning_leaves ten.Opened w = if_second (is_opening w.conn) w _ (record { memory_is = refl; going_is = refl; going_up_is = refl; number_is = refl })
 meaning_leaves (ten.OfSession g p payload) w =
-    session_cases (Leaves w) g p w (record {
+    session_cases (Leaves w) g p payload w (record {
       begins = record { memory_is = refl; going_is = refl; going_up_is = refl; number_is = refl };
       stays = record { memory_is = refl; going_is = refl; going_up_is = refl; number_is = refl };
       ends = λ code why. record { memory_is = refl; going_is = refl; going_up_is = refl; number_is = refl };
@@ -215,8 +215,8 @@ came_leaves : (w : State) (u : Unit91) → Leaves w (came w u)
 came_leaves w u = record {
   memory_is = refl;
   going_is = refl;
-  going_up_is = closing_keeps (is_closing w.conn) (condition_by (client_step w.routes w.conn u).1) (keep_login (client_step w.routes w.conn u).1 w.up)
-      ∙ keeping (client_step w.routes w.conn u).1 w.up;
+  going_up_is = closing_keeps (is_closing w.conn) (condition_by (client_step w.routes w.paths w.conn u).1) (keep_login (client_step w.routes w.paths w.conn u).1 w.up)
+      ∙ keeping (client_step w.routes w.paths w.conn u).1 w.up;
   number_is = refl;
 }
 

@@ -18,7 +18,7 @@ use Rattle.gate_model.specs.declared.outgoing.UpUnit.{UpUnit}
 use Rattle.gate_model.specs.declared.reply.Reply.{Reply}
 use Rattle.gate_model.specs.Answers.{AreAnswered}
 use Rattle.gate_model.specs.Due.{due}
-use Rattle.gate_model.specs.Folds.{connection, container, number_in, sent}
+use Rattle.gate_model.specs.Folds.{connection, container, number_in}
 use Rattle.gate_model.specs.Setup.{SetupText}
 use Rattle.gate_model.specs.Spelling.{Context, spell}
 use Rattle.gate_model.specs.State as state

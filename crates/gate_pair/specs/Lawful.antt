@@ -20,6 +20,10 @@ use Rattle.gate_model.specs.declared.outgoing.Outgoing.TheVariants.{ToClient, To
 use Rattle.gate_model.specs.declared.channel.ChannelUnit.TheVariants as to_client
 use Rattle.gate_model.specs.declared.reply.Reply.TheVariants as reply
 use Rattle.publish_path.specs.declared.publish.NextReturn.{NextReturn}
+use Rattle.session_path.specs.declared.path.ContentDue.{ContentDue}
+use Rattle.session_path.specs.declared.path.DeliverDue.{DeliverDue}
+use Rattle.session_path.specs.declared.path.PathOk.TheVariants as ok
+use Rattle.gate_model.specs.declared.reply.Reply.{Reply}
 use Rattle.gate_model.specs.declared.outgoing.UpUnit.{UpUnit}
 use Rattle.gate_model.specs.declared.outgoing.UpUnit.TheVariants as up
 use Rattle.gate_model.specs.Due.{can_leave, carries, is_awaited, is_busy, pick}
@@ -104,8 +108,20 @@ pub data TakesMemory (u : UpUnit) : Type 0 where
   Crediting : (n : ℕ) (f : LinkFlow) → u ≡ up.OnSession n (unit.Flow f) → TakesMemory u
   Transferring : (n : ℕ) (t : TransferOut) → u ≡ up.OnSession n (unit.Transfer t) → TakesMemory u
 
+-- the same of the units to the client: one that tells it a consumer tag or where a message was
+-- published, and a frame of a content (AMQP 0-9-1 1.8.3.4, 1.8.3.9 and 4.2.6)
+pub data TakesMemoryBack (u : Reply) : Type 0 where
+  Consuming : (n link : ℕ) → u ≡ reply.OnChannel n (to_client.Ok (ok.Consume link))
+      → TakesMemoryBack u
+  Delivering : (n : ℕ) (d : DeliverDue) → u ≡ reply.OnChannel n (to_client.Deliver d)
+      → TakesMemoryBack u
+  Writing : (n : ℕ) (c : ContentDue) → u ≡ reply.OnChannel n (to_client.Content c)
+      → TakesMemoryBack u
+  Returning : (n : ℕ) (r : NextReturn) → u ≡ reply.OnChannel n (to_client.Return r)
+      → TakesMemoryBack u
+
 -- after its accept the pair runs out of memory in a read or in a take-up, of which the newest steps
--- then don't count, or where such a unit or a frame of a return goes next; and nowhere else
+-- then don't count, or where such a unit goes next; and nowhere else
 pub data RunsOutIn (s : SetupText) : ℕ → List Entry → Type 0 where
   InRead : (cut : ℕ) (end : End) (bytes : List ℕ) (g : List Entry)
       → RunsOutIn s cut (Came end bytes ∷ g)
@@ -113,10 +129,9 @@ pub data RunsOutIn (s : SetupText) : ℕ → List Entry → Type 0 where
   InSpelling : (u : UpUnit) (h : List Entry) → is_writable (side_of Up (sides h)) ≡ true
       → is_busy (state_of s h) Up ≡ false → pick (state_of s h) Up ≡ Some (ToUp u) → TakesMemory u
       → RunsOutIn s 0 h
-  InReturning : (n : ℕ) (r : NextReturn) (h : List Entry)
-      → is_writable (side_of Client (sides h)) ≡ true → is_busy (state_of s h) Client ≡ false
-      → pick (state_of s h) Client ≡ Some (ToClient (reply.OnChannel n (to_client.Return r)))
-      → RunsOutIn s 0 h
+  InSpellingBack : (u : Reply) (h : List Entry) → is_writable (side_of Client (sides h)) ≡ true
+      → is_busy (state_of s h) Client ≡ false → pick (state_of s h) Client ≡ Some (ToClient u)
+      → TakesMemoryBack u → RunsOutIn s 0 h
 
 -- ---- all entries
 

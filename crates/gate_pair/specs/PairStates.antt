@@ -172,13 +172,12 @@ FailedAt cut newest old new = (t : Told) → Says old t → Says new (ran_out cu
 abbrev pub FailedIn : (Told → Told) → PairState → PairState → Type 0
 FailedIn newest old new = (cut : ℕ) × FailedAt cut newest old new
 
--- the same of a read of the container. Where the report was owed no line before, what counts of the
--- read makes those due that it is owed then, and there are none if nothing of it doesn't count
+-- the same of a read of the container: the lines that the report is owed then are due, and none if
+-- all of the read counts
 abbrev pub FailedUpIn : (Told → Told) → PairState → PairState → Type 0
 FailedUpIn newest old new =
     (cut : ℕ) × FailedAt cut newest old new
-    × (owed_lines old.bridge.state ≡ [] → (said new).lines
-    ≡ (if nat_le 1 cut then owed_lines new.bridge.state else []))
+    × ((said new).lines ≡ (if nat_le 1 cut then owed_lines new.bridge.state else []))
 
 -- ---- a write
 

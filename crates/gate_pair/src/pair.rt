@@ -170,7 +170,7 @@ impl Pair {
     }
 
     /// Bytes came from the container. They are cut into units, and what is no unit yet stays.
-    /// Where there is no memory for the bytes no unit of them counts, so that no line is due.
+    /// Where there is no memory for the bytes no unit of them counts.
     fn came_up(&mut self, alloc: Global, bytes: &[u8]) -> Result<(), Memory>
         requires { self.old.bridge.state.out_of_memory ≡ false }
         ensures ok { OnOk result ((t : Told) → Says self.old t
@@ -194,7 +194,6 @@ impl Pair {
             },
             Err(error) => {
                 self.bridge.run_out();
-                self.telling = false;
                 self.forget();
                 Err(error)
             }
