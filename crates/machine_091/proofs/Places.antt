@@ -18,7 +18,6 @@ use Rattle.methods_091.specs.Arguments.{Arg}
 use Rattle.methods_091.specs.Reading.{Read, method_in}
 use Rattle.machine_091.specs.Contents.{Taking, is_immediate}
 use Rattle.machine_091.specs.Ids.{class_in, id_in, has_ids, is_in, is_of_kind}
-use Rattle.machine_091.specs.Methods.{flag, flags_at}
 use Rattle.machine_091.specs.Refusals.{places, order_place, channel_place, closing_place}
 use Rattle.machine_091.specs.Refusals.{content_place, reading_place, state_place, own_place}
 use Rattle.machine_091.specs.Refusals.{taken_by}
@@ -32,7 +31,7 @@ use Rattle.machine_091.specs.RefusalsRunning.{class_order, is_servers, answer_or
 use Rattle.machine_091.specs.RefusalsRunning.{carried_order, is_done, running_refusal}
 use Rattle.machine_091.specs.State.{is_running, is_open_channel, is_open, channel_at, content_at}
 use Rattle.machine_091.specs.declared.contents.Incoming.{Incoming}
-use Rattle.machine_091.specs.declared.ids.TheConstants.{BASIC_PUBLISH, CHANNEL_OPEN, CHANNEL_FLOW}
+use Rattle.machine_091.specs.declared.ids.TheConstants.{BASIC_PUBLISH, CHANNEL_OPEN}
 use Rattle.machine_091.specs.declared.ids.TheConstants.{CHANNEL_CLOSE, CHANNEL_CLOSE_OK, CONNECTION}
 use Rattle.machine_091.specs.declared.ids.TheConstants.{CONNECTION_CLOSE}
 use Rattle.machine_091.specs.declared.state.Channel91.{Channel91}
@@ -250,15 +249,11 @@ own_plain c f (Ok m) =
     (either (eqb f.channel 0) None on_channel refl
     (either (is_of_kind CHANNEL_OPEN m.0) (carried_order c.carried_max f.channel) not_open
     (either (nat_lt c.carried_max f.channel) (refused RESOURCE_ERROR) None refl refl)
-    (either (is_of_kind CHANNEL_FLOW m.0) (cond (flag 0 (flags_at 0 m.1)) None (refused NOT_IMPLEMENTED)) not_flow
-    (either (flag 0 (flags_at 0 m.1)) None (refused NOT_IMPLEMENTED) refl refl) (either (is_done m.0) None (refused NOT_IMPLEMENTED) refl refl))))
+    (either (is_done m.0 m.1) None (refused NOT_IMPLEMENTED) refl refl)))
     (by_phase c.phase c.vhost m.1)
   where
-    not_flow : Option Ruling
-    not_flow = cond (is_done m.0) None (refused NOT_IMPLEMENTED)
-
     not_open : Option Ruling
-    not_open = cond (is_of_kind CHANNEL_FLOW m.0) (cond (flag 0 (flags_at 0 m.1)) None (refused NOT_IMPLEMENTED)) not_flow
+    not_open = cond (is_done m.0 m.1) None (refused NOT_IMPLEMENTED)
 
     on_channel : Option Ruling
     on_channel = cond (is_of_kind CHANNEL_OPEN m.0) (carried_order c.carried_max f.channel) not_open

@@ -1,5 +1,5 @@
 -- A content header and a basic.publish that were read are spelled in their frames, and the names in
--- a basic.consume are short strings.
+-- a queue.declare, a basic.consume and a basic.cancel are short strings.
 use Rattle.std.proofs.Common.{◌≡◌, ℕ, Bool, true, false, eqb, ◌&&◌, List, [], ◌∷◌, Option, None}
 use Rattle.std.proofs.Common.{Some, Result, Ok, Err, refl, sym, ap, subst, ◌∙◌, ◌≤◌, length, arith}
 use Rattle.std.proofs.lemmas.Bool.{eqb-true}
@@ -28,9 +28,10 @@ use Rattle.content_091.specs.declared.reading.HeaderFault.{HeaderFault}
 use Rattle.content_091.proofs.HeaderLaws as header_laws
 use Rattle.machine_091.specs.Headers.{octet_of, longlong_of, shortstr_of, fields_of, header_of}
 use Rattle.machine_091.specs.Ids.{is_of_kind}
-use Rattle.machine_091.specs.Methods.{consume_of, publish_of, text_at}
+use Rattle.machine_091.specs.Methods.{cancel_of, consume_of, publish_of, queue_declare_of, text_at}
 use Rattle.machine_091.specs.Writable.{HasShortNames}
-use Rattle.machine_091.specs.declared.ids.TheConstants.{BASIC_CONSUME, BASIC_PUBLISH}
+use Rattle.machine_091.specs.declared.ids.TheConstants.{BASIC_CANCEL, BASIC_CONSUME, BASIC_PUBLISH}
+use Rattle.machine_091.specs.declared.ids.TheConstants.{QUEUE_DECLARE}
 use Rattle.machine_091.proofs.IdLaws.{told_is}
 
 -- ---- a content header
@@ -142,6 +143,25 @@ publish_spelled bytes k args fits e publish =
     let spelled : IsPayload (publishes, args) bytes = read_spelled publishes bytes k args fits e publish in
     subst (λ (xs : List Arg). IsPayload (publishes, xs) bytes) (sym (publish_args args spelled.0 spelled.1)) spelled
 
+-- ---- a queue.declare
+
+-- its kind
+abbrev declares : Kind
+declares = kind_of (queue_declare_of [])
+
+-- the name among its arguments
+declare_name : (args : List Arg) (text : List ℕ) → IsArgs (shape declares) args text → HasShortNames (queue_declare_of args)
+declare_name args text (x, e, (f, b, (y, r, s), (x2, e2, (f2, b2, (y2, r2, s2), others, t2)), t)) =
+    let is : args ≡ arg.reserved rows_of.short ∷ arg.shortstr y2 ∷ x2.1 =
+    e ∙ ap (λ (a : Arg). a ∷ x.1) r ∙ ap (λ (xs : List Arg). arg.reserved rows_of.short ∷ xs) (e2 ∙ ap (λ (a : Arg). a ∷ x2.1) r2) in
+    subst (λ (xs : List Arg). length (text_at 1 xs) ≤ 255) (sym is) (omega (arith, s2.0))
+
+pub declare_short : (bytes : List ℕ) (k : Kind) (args : List Arg) → IsBytes bytes → method_in bytes ≡ Ok (k, args) → is_of_kind QUEUE_DECLARE k ≡ true
+    → HasShortNames (queue_declare_of args)
+declare_short bytes k args fits e declare =
+    let spelled : IsPayload (declares, args) bytes = read_spelled declares bytes k args fits e declare in
+    declare_name args spelled.0 spelled.1
+
 -- ---- a basic.consume
 
 -- its kind
@@ -162,3 +182,21 @@ pub consume_short : (bytes : List ℕ) (k : Kind) (args : List Arg) → IsBytes 
 consume_short bytes k args fits e consume =
     let spelled : IsPayload (consumes, args) bytes = read_spelled consumes bytes k args fits e consume in
     consume_names args spelled.0 spelled.1
+
+-- ---- a basic.cancel
+
+-- its kind
+abbrev cancels : Kind
+cancels = kind_of (cancel_of [])
+
+-- the tag among its arguments
+cancel_tag : (args : List Arg) (text : List ℕ) → IsArgs (shape cancels) args text → HasShortNames (cancel_of args)
+cancel_tag args text (x, e, (f, b, (y, r, s), others, t)) =
+    let is : args ≡ arg.shortstr y ∷ x.1 = e ∙ ap (λ (a : Arg). a ∷ x.1) r in
+    subst (λ (xs : List Arg). length (text_at 0 xs) ≤ 255) (sym is) (omega (arith, s.0))
+
+pub cancel_short : (bytes : List ℕ) (k : Kind) (args : List Arg) → IsBytes bytes → method_in bytes ≡ Ok (k, args) → is_of_kind BASIC_CANCEL k ≡ true
+    → HasShortNames (cancel_of args)
+cancel_short bytes k args fits e cancel =
+    let spelled : IsPayload (cancels, args) bytes = read_spelled cancels bytes k args fits e cancel in
+    cancel_tag args spelled.0 spelled.1

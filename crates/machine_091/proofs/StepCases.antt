@@ -25,7 +25,8 @@ use Rattle.machine_091.specs.Contents as contents
 use Rattle.machine_091.specs.Ids.{is_of_kind}
 use Rattle.machine_091.specs.Limits.{is_agreed, agreed_limits}
 use Rattle.machine_091.specs.Methods.{text_at, number_at, close_of, flow_of, declare_of, publish_of}
-use Rattle.machine_091.specs.Methods.{select_of, consume_of, ack_of, reject_of, nack_of}
+use Rattle.machine_091.specs.Methods.{select_of, consume_of, ack_of, reject_of, nack_of, qos_of}
+use Rattle.machine_091.specs.Methods.{cancel_of, recover_of, recover_async_of, queue_declare_of}
 use Rattle.machine_091.specs.Refusals.{places, channel_place, closing_place, reading_place}
 use Rattle.machine_091.specs.Refusals.{taken_by, unit_ruling, refusal_of, publish_refusal}
 use Rattle.machine_091.specs.Refusals.{channel_refusal, channel_of}
@@ -47,7 +48,9 @@ use Rattle.machine_091.specs.declared.ids.TheConstants.{CONNECTION_CLOSE, CONNEC
 use Rattle.machine_091.specs.declared.ids.TheConstants.{CHANNEL_OPEN, CHANNEL_CLOSE, CHANNEL_FLOW}
 use Rattle.machine_091.specs.declared.ids.TheConstants.{EXCHANGE_DECLARE, BASIC_PUBLISH}
 use Rattle.machine_091.specs.declared.ids.TheConstants.{CONFIRM_SELECT, BASIC_CONSUME, BASIC_ACK}
-use Rattle.machine_091.specs.declared.ids.TheConstants.{BASIC_REJECT, BASIC_NACK}
+use Rattle.machine_091.specs.declared.ids.TheConstants.{BASIC_REJECT, BASIC_NACK, BASIC_QOS}
+use Rattle.machine_091.specs.declared.ids.TheConstants.{BASIC_CANCEL, BASIC_RECOVER}
+use Rattle.machine_091.specs.declared.ids.TheConstants.{BASIC_RECOVER_ASYNC, QUEUE_DECLARE}
 use Rattle.machine_091.specs.declared.state.Channel91.TheVariants as channel
 use Rattle.machine_091.specs.declared.state.Connection.{Connection}
 use Rattle.machine_091.specs.declared.state.Phase91.{Phase91}
@@ -62,7 +65,7 @@ use Rattle.machine_091.proofs.ContentSteps.{content_places, taking_places, order
 use Rattle.machine_091.proofs.Places.{IsOnOpen, NoneOfMethod, none_of_method, none_within}
 use Rattle.machine_091.proofs.Places.{rest_none, first_none, within, not_zero, content_open}
 use Rattle.machine_091.proofs.Places.{method_apart, content_apart, over_closed, publish_open}
-use Rattle.machine_091.proofs.Spelled.{consume_short}
+use Rattle.machine_091.proofs.Spelled.{cancel_short, consume_short, declare_short}
 
 -- ---- what is known where a frame counts
 
@@ -178,8 +181,21 @@ channel_rows : (P : Step → Type 0) (c : Connection) (u : Unit91) (f : Frame91)
     → f.kind ≡ frame.Method → method_in f.payload ≡ Ok (k, args) → is_running c.phase ≡ true → eqb f.channel 0 ≡ false → channel_place c f frame.Method ≡ None
     → closing_place c f frame.Method ≡ None → content_at c f.channel ≡ None → P (channel_effect c f.channel k args)
 channel_rows P c u f k args rows is kind read runs z uses closes none =
-    by (is_of_kind CHANNEL_OPEN k) (is_of_kind CHANNEL_CLOSE k) (is_of_kind CHANNEL_FLOW k) (is_of_kind EXCHANGE_DECLARE k) (is_of_kind CONFIRM_SELECT k)
-    (is_of_kind BASIC_CONSUME k) (is_of_kind BASIC_ACK k) (is_of_kind BASIC_REJECT k) (is_of_kind BASIC_NACK k) (is_of_kind BASIC_PUBLISH k) refl refl
+    pick (is_of_kind CHANNEL_OPEN k) (λ e. rows.opened f.channel method.ChannelOpen (passes method.ChannelOpen (λ b. tt)))
+    (pick (is_of_kind CHANNEL_CLOSE k) (λ e. rows.ended f.channel (close_of args) (passes (close_of args) (λ b. tt)))
+    (pick (is_of_kind CHANNEL_FLOW k) (λ e. rows.passed_on f.channel (flow_of args) (passes (flow_of args) (λ b. tt)))
+    (pick (is_of_kind EXCHANGE_DECLARE k) (λ e. rows.passed_on f.channel (declare_of args) (passes (declare_of args) (λ b. tt)))
+    (pick (is_of_kind QUEUE_DECLARE k) (λ e. rows.passed_on f.channel (queue_declare_of args) (passes (queue_declare_of args) (λ b. declare_short f.payload k args (subst AreBytes is b) read e)))
+    (pick (is_of_kind CONFIRM_SELECT k) (λ e. rows.passed_on f.channel (select_of args) (passes (select_of args) (λ b. tt)))
+    (pick (is_of_kind BASIC_CONSUME k) (λ e. rows.passed_on f.channel (consume_of args) (passes (consume_of args) (λ b. consume_short f.payload k args (subst AreBytes is b) read e)))
+    (pick (is_of_kind BASIC_ACK k) (λ e. rows.passed_on f.channel (ack_of args) (passes (ack_of args) (λ b. tt)))
+    (pick (is_of_kind BASIC_REJECT k) (λ e. rows.passed_on f.channel (reject_of args) (passes (reject_of args) (λ b. tt)))
+    (pick (is_of_kind BASIC_NACK k) (λ e. rows.passed_on f.channel (nack_of args) (passes (nack_of args) (λ b. tt)))
+    (pick (is_of_kind BASIC_QOS k) (λ e. rows.passed_on f.channel (qos_of args) (passes (qos_of args) (λ b. tt)))
+    (pick (is_of_kind BASIC_CANCEL k) (λ e. rows.passed_on f.channel (cancel_of args) (passes (cancel_of args) (λ b. cancel_short f.payload k args (subst AreBytes is b) read e)))
+    (pick (is_of_kind BASIC_RECOVER k) (λ e. rows.passed_on f.channel (recover_of args) (passes (recover_of args) (λ b. tt)))
+    (pick (is_of_kind BASIC_RECOVER_ASYNC k) (λ e. rows.passed_on f.channel (recover_async_of args) (passes (recover_async_of args) (λ b. tt)))
+    (pick (is_of_kind BASIC_PUBLISH k) begins (rows.freed f.channel of)))))))))))))))
   where
     of : IsOfChannel c u f.channel
     of = record { of = ap channel_of is; runs = runs; min = not_zero f.channel z; max = within c f.channel (is_opening f.payload) z uses; none = none }
@@ -187,29 +203,8 @@ channel_rows P c u f k args rows is kind read runs z uses closes none =
     passes : (m : Method91) → (AreBytes u → HasShortNames m) → IsPassedOn c u f.channel m
     passes m short = record { of = of.of; runs = of.runs; min = of.min; max = of.max; none = of.none; short = short }
 
-    by : (opens shuts stops declares selects consumes acks rejects nacks publishes : Bool) → is_of_kind BASIC_CONSUME k ≡ consumes → is_of_kind BASIC_PUBLISH k ≡ publishes
-        → P (cond {A = Step} opens (with_channel c f.channel channel.Open, want.Method f.channel method.ChannelOpen)
-        (cond {A = Step} shuts (with_channel c f.channel (closed_by (channel_at c f.channel)), want.Method f.channel (close_of args))
-        (cond {A = Step} stops (c, want.Method f.channel (flow_of args))
-        (cond {A = Step} declares (c, want.Method f.channel (declare_of args))
-        (cond {A = Step} selects (c, want.Method f.channel (select_of args))
-        (cond {A = Step} consumes (c, want.Method f.channel (consume_of args))
-        (cond {A = Step} acks (c, want.Method f.channel (ack_of args))
-        (cond {A = Step} rejects (c, want.Method f.channel (reject_of args))
-        (cond {A = Step} nacks (c, want.Method f.channel (nack_of args))
-        (cond {A = Step} publishes (with_content c f.channel (Some (contents.begun (publish_of args))), want.Nothing)
-        (with_channel c f.channel channel.Free, want.ChannelCloseOk f.channel)))))))))))
-    by true shuts stops declares selects consumes acks rejects nacks publishes d e = rows.opened f.channel method.ChannelOpen (passes method.ChannelOpen (λ b. tt))
-    by false true stops declares selects consumes acks rejects nacks publishes d e = rows.ended f.channel (close_of args) (passes (close_of args) (λ b. tt))
-    by false false true declares selects consumes acks rejects nacks publishes d e = rows.passed_on f.channel (flow_of args) (passes (flow_of args) (λ b. tt))
-    by false false false true selects consumes acks rejects nacks publishes d e = rows.passed_on f.channel (declare_of args) (passes (declare_of args) (λ b. tt))
-    by false false false false true consumes acks rejects nacks publishes d e = rows.passed_on f.channel (select_of args) (passes (select_of args) (λ b. tt))
-    by false false false false false true acks rejects nacks publishes d e =
-        rows.passed_on f.channel (consume_of args) (passes (consume_of args) (λ b. consume_short f.payload k args (subst AreBytes is b) read d))
-    by false false false false false false true rejects nacks publishes d e = rows.passed_on f.channel (ack_of args) (passes (ack_of args) (λ b. tt))
-    by false false false false false false false true nacks publishes d e = rows.passed_on f.channel (reject_of args) (passes (reject_of args) (λ b. tt))
-    by false false false false false false false false true publishes d e = rows.passed_on f.channel (nack_of args) (passes (nack_of args) (λ b. tt))
-    by false false false false false false false false false true d e =
+    begins : is_of_kind BASIC_PUBLISH k ≡ true → P (with_content c f.channel (Some (contents.begun (publish_of args))), want.Nothing)
+    begins e =
         rows.begun f k args (record {
           unit = is;
           on = publish_open c f k args runs z read e uses closes;
@@ -218,7 +213,11 @@ channel_rows P c u f k args rows is kind read runs z uses closes none =
           read = read;
           publish = e;
         })
-    by false false false false false false false false false false d e = rows.freed f.channel of
+
+    -- the first row that applies
+    pick : (b : Bool) {x y : Step} → (b ≡ true → P x) → P y → P (cond {A = Step} b x y)
+    pick true this other = this refl
+    pick false this other = other
 
 running_rows : (P : Step → Type 0) (c : Connection) (u : Unit91) (f : Frame91) (k : Kind) (args : List Arg) → HoldsByRow P c u → u ≡ unit.Frame f
     → f.kind ≡ frame.Method → method_in f.payload ≡ Ok (k, args) → is_running c.phase ≡ true → channel_place c f frame.Method ≡ None

@@ -1,5 +1,5 @@
--- The methods of a channel that are passed on, from their arguments (AMQP 0-9-1 1.5, 1.6 and 1.8,
--- and RabbitMQ's basic.nack and confirms).
+-- The methods of a channel that are passed on, from their arguments (AMQP 0-9-1 1.5 to 1.8, and
+-- RabbitMQ's basic.nack and confirms).
 use Rattle.std.specs.Prelude.{ℕ, zero, suc, Bool, false, List, [], ◌∷◌}
 use Rattle.tables_091.specs.Tree.{Tree}
 use Rattle.methods_091.specs.Arguments.{Arg}
@@ -59,6 +59,12 @@ declare_of args =
     method.ExchangeDeclare (text_at 1 args) (text_at 2 args) (flag 0 flags) (flag 1 flags)
     (flag 2 flags) (flag 3 flags) (flag 4 flags) (fields_at 4 args)
 
+abbrev pub queue_declare_of : List Arg → Method91
+queue_declare_of args =
+    let flags = flags_at 2 args in
+    method.QueueDeclare (text_at 1 args) (flag 0 flags) (flag 1 flags) (flag 2 flags)
+    (flag 3 flags) (flag 4 flags) (fields_at 3 args)
+
 abbrev pub publish_of : List Arg → Method91
 publish_of args =
     let flags = flags_at 3 args in
@@ -70,6 +76,12 @@ consume_of args =
     method.BasicConsume (text_at 1 args) (text_at 2 args) (flag 0 flags) (flag 1 flags)
     (flag 2 flags) (flag 3 flags) (fields_at 4 args)
 
+abbrev pub qos_of : List Arg → Method91
+qos_of args = method.BasicQos (number_at 0 args) (number_at 1 args) (flag 0 (flags_at 2 args))
+
+abbrev pub cancel_of : List Arg → Method91
+cancel_of args = method.BasicCancel (text_at 0 args) (flag 0 (flags_at 1 args))
+
 abbrev pub ack_of : List Arg → Method91
 ack_of args = method.BasicAck (number_at 0 args) (flag 0 (flags_at 1 args))
 
@@ -80,6 +92,12 @@ abbrev pub nack_of : List Arg → Method91
 nack_of args =
     let flags = flags_at 1 args in
     method.BasicNack (number_at 0 args) (flag 0 flags) (flag 1 flags)
+
+abbrev pub recover_of : List Arg → Method91
+recover_of args = method.BasicRecover (flag 0 (flags_at 0 args))
+
+abbrev pub recover_async_of : List Arg → Method91
+recover_async_of args = method.BasicRecoverAsync (flag 0 (flags_at 0 args))
 
 abbrev pub select_of : List Arg → Method91
 select_of args = method.ConfirmSelect (flag 0 (flags_at 0 args))

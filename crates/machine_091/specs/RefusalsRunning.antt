@@ -7,14 +7,16 @@ use Rattle.close_translate.specs.declared.codes.TheConstants.{RESOURCE_ERROR}
 use Rattle.methods_091.specs.Arguments.{Arg}
 use Rattle.methods_091.specs.Rows.{Kind, class_of, id_of}
 use Rattle.machine_091.specs.Ids.{class_in, is_of_kind}
-use Rattle.machine_091.specs.Methods.{flag, flags_at}
+use Rattle.machine_091.specs.Methods.{flag, flags_at, number_at, text_at}
 use Rattle.machine_091.specs.RefusalsFrames.{refused}
 use Rattle.machine_091.specs.declared.ids.TheConstants.{CONNECTION, CONNECTION_CLOSE, CHANNEL_OPEN}
 use Rattle.machine_091.specs.declared.ids.TheConstants.{CHANNEL_FLOW, CHANNEL_CLOSE}
 use Rattle.machine_091.specs.declared.ids.TheConstants.{CHANNEL_CLOSE_OK}
-use Rattle.machine_091.specs.declared.ids.TheConstants.{EXCHANGE_DECLARE, BASIC_CONSUME}
+use Rattle.machine_091.specs.declared.ids.TheConstants.{EXCHANGE_DECLARE, QUEUE_DECLARE}
+use Rattle.machine_091.specs.declared.ids.TheConstants.{BASIC_CONSUME}
 use Rattle.machine_091.specs.declared.ids.TheConstants.{BASIC_PUBLISH, BASIC_ACK, BASIC_REJECT}
-use Rattle.machine_091.specs.declared.ids.TheConstants.{BASIC_NACK}
+use Rattle.machine_091.specs.declared.ids.TheConstants.{BASIC_NACK, BASIC_QOS, BASIC_CANCEL}
+use Rattle.machine_091.specs.declared.ids.TheConstants.{BASIC_RECOVER, BASIC_RECOVER_ASYNC}
 use Rattle.machine_091.specs.declared.ids.TheConstants.{BASIC_RETURN, BASIC_DELIVER}
 use Rattle.machine_091.specs.declared.ids.TheConstants.{BASIC_GET_EMPTY, CONFIRM_SELECT}
 use Rattle.machine_091.specs.declared.state.Channel91.{Channel91}
@@ -59,27 +61,35 @@ running_state s n k =
 abbrev pub carried_order : ℕ → ℕ → Option Ruling
 carried_order max n = if nat_lt max n then refused RESOURCE_ERROR else None
 
--- the methods that are done on a channel that the container carries: those that close it,
--- exchange.declare, basic.consume, basic.publish, basic.ack, basic.reject, basic.nack and
--- confirm.select
-abbrev pub is_done : Kind → Bool
-is_done k =
-    if is_of_kind CHANNEL_CLOSE k then true
+-- the methods that are done on a channel that the container carries: those that close it, a
+-- channel.flow that lets flow, exchange.declare, basic.consume, cancel, publish, ack, reject and
+-- nack, and confirm.select. queue.declare is done where its queue has a name; without one the
+-- server would choose it (AMQP 0-9-1 1.7.2.1). basic.qos is done where its prefetch-size is 0,
+-- which is no limit in octets (1.8.3.1). basic.recover and basic.recover-async are done where
+-- `requeue` is set; without it the messages are for the original recipient again (1.8.3.16,
+-- 1.8.3.15).
+abbrev pub is_done : Kind → List Arg → Bool
+is_done k args =
+    if is_of_kind CHANNEL_FLOW k then flag 0 (flags_at 0 args)
+    else if is_of_kind QUEUE_DECLARE k then nat_lt 0 (length (text_at 1 args))
+    else if is_of_kind BASIC_QOS k then number_at 0 args == 0
+    else if is_of_kind BASIC_RECOVER k then flag 0 (flags_at 0 args)
+    else if is_of_kind BASIC_RECOVER_ASYNC k then flag 0 (flags_at 0 args)
+    else if is_of_kind CHANNEL_CLOSE k then true
     else if is_of_kind CHANNEL_CLOSE_OK k then true
     else if is_of_kind EXCHANGE_DECLARE k then true
     else if is_of_kind BASIC_CONSUME k then true
+    else if is_of_kind BASIC_CANCEL k then true
     else if is_of_kind BASIC_PUBLISH k then true
     else if is_of_kind BASIC_ACK k then true
     else if is_of_kind BASIC_REJECT k then true
     else if is_of_kind BASIC_NACK k then true
     else is_of_kind CONFIRM_SELECT k
 
--- such a channel, a channel.flow that stops the flow, and all that this gateway doesn't do
+-- a channel that the container can't carry, and all that this gateway doesn't do
 abbrev pub running_refusal : ℕ → ℕ → Kind → List Arg → Option Ruling
 running_refusal max n k args =
     if n == 0 then None
     else if is_of_kind CHANNEL_OPEN k then carried_order max n
-    else if is_of_kind CHANNEL_FLOW k then (if flag 0 (flags_at 0 args) then None
-    else refused NOT_IMPLEMENTED)
-    else if is_done k then None
+    else if is_done k args then None
     else refused NOT_IMPLEMENTED

@@ -15,7 +15,8 @@ use Rattle.machine_091.specs.Limits.{agreed_limits}
 use Rattle.machine_091.specs.Refusals.{unit_ruling, refusal_of, publish_refusal, channel_refusal}
 use Rattle.machine_091.specs.Refusals.{channel_of}
 use Rattle.machine_091.specs.Methods.{text_at, number_at, close_of, flow_of, declare_of, publish_of}
-use Rattle.machine_091.specs.Methods.{select_of, consume_of, ack_of, reject_of, nack_of}
+use Rattle.machine_091.specs.Methods.{select_of, consume_of, ack_of, reject_of, nack_of, qos_of}
+use Rattle.machine_091.specs.Methods.{cancel_of, recover_of, recover_async_of, queue_declare_of}
 use Rattle.close_translate.specs.declared.codes.TheConstants.{NOT_ALLOWED}
 use Rattle.close_translate.specs.declared.conditions.Scope.TheVariants as scope
 use Rattle.content_091.specs.declared.assembly.Step.TheVariants as step
@@ -26,7 +27,9 @@ use Rattle.machine_091.specs.declared.ids.TheConstants.{CONNECTION_CLOSE, CONNEC
 use Rattle.machine_091.specs.declared.ids.TheConstants.{CHANNEL_OPEN, CHANNEL_FLOW, CHANNEL_CLOSE}
 use Rattle.machine_091.specs.declared.ids.TheConstants.{EXCHANGE_DECLARE, BASIC_PUBLISH}
 use Rattle.machine_091.specs.declared.ids.TheConstants.{CONFIRM_SELECT, BASIC_CONSUME, BASIC_ACK}
-use Rattle.machine_091.specs.declared.ids.TheConstants.{BASIC_REJECT, BASIC_NACK}
+use Rattle.machine_091.specs.declared.ids.TheConstants.{BASIC_REJECT, BASIC_NACK, BASIC_QOS}
+use Rattle.machine_091.specs.declared.ids.TheConstants.{BASIC_CANCEL, BASIC_RECOVER}
+use Rattle.machine_091.specs.declared.ids.TheConstants.{BASIC_RECOVER_ASYNC, QUEUE_DECLARE}
 use Rattle.machine_091.specs.declared.state.Channel91.{Channel91}
 use Rattle.machine_091.specs.declared.state.Channel91.TheVariants as channel
 use Rattle.machine_091.specs.declared.state.Connection.{Connection}
@@ -102,8 +105,9 @@ closed_by channel.Open = channel.Closing
 closed_by channel.Closing = channel.Closing
 closed_by channel.Told = channel.Told
 
--- a method of a channel: channel.open, close and flow, exchange.declare, confirm.select,
--- basic.consume, ack, reject and nack, basic.publish, which begins a content, and channel.close-ok
+-- a method of a channel: channel.open, close and flow, exchange.declare, queue.declare,
+-- confirm.select, basic.consume, cancel, qos, ack, reject, nack, recover and recover-async,
+-- basic.publish, which begins a content, and channel.close-ok
 abbrev pub channel_effect : Connection → ℕ → Kind → List Arg → Step
 channel_effect c n k args =
     if is_of_kind CHANNEL_OPEN k then
@@ -112,11 +116,16 @@ channel_effect c n k args =
     (with_channel c n (closed_by (channel_at c n)), want.Method n (close_of args))
     else if is_of_kind CHANNEL_FLOW k then (c, want.Method n (flow_of args))
     else if is_of_kind EXCHANGE_DECLARE k then (c, want.Method n (declare_of args))
+    else if is_of_kind QUEUE_DECLARE k then (c, want.Method n (queue_declare_of args))
     else if is_of_kind CONFIRM_SELECT k then (c, want.Method n (select_of args))
     else if is_of_kind BASIC_CONSUME k then (c, want.Method n (consume_of args))
     else if is_of_kind BASIC_ACK k then (c, want.Method n (ack_of args))
     else if is_of_kind BASIC_REJECT k then (c, want.Method n (reject_of args))
     else if is_of_kind BASIC_NACK k then (c, want.Method n (nack_of args))
+    else if is_of_kind BASIC_QOS k then (c, want.Method n (qos_of args))
+    else if is_of_kind BASIC_CANCEL k then (c, want.Method n (cancel_of args))
+    else if is_of_kind BASIC_RECOVER k then (c, want.Method n (recover_of args))
+    else if is_of_kind BASIC_RECOVER_ASYNC k then (c, want.Method n (recover_async_of args))
     else if is_of_kind BASIC_PUBLISH k then
     (with_content c n (Some (begun (publish_of args))), want.Nothing)
     else (with_channel c n channel.Free, want.ChannelCloseOk n)

@@ -1,6 +1,7 @@
 -- What a client sends can be written again: a basic.return gives the exchange, the routing key and
--- the properties of a publish back, and a basic.consume-ok and each basic.deliver the tag of their
--- consumer (AMQP 0-9-1 1.8.3.4, 1.8.3.7 to 1.8.3.9 and 4.2.6).
+-- the properties of a publish back, a queue.declare-ok the name of its queue, and
+-- a basic.consume-ok, a basic.cancel-ok and each basic.deliver the tag of their consumer
+-- (AMQP 0-9-1 1.7.2.2, 1.8.3.4, 1.8.3.6 to 1.8.3.9 and 4.2.6).
 use Rattle.std.specs.Prelude.{◌≡◌, ℕ, ◌≤◌, length, Some}
 use Rattle.wire_base.specs.Bytes.{IsBytes}
 use Rattle.methods_091.specs.Writing.{CanPut}
@@ -22,10 +23,14 @@ use Rattle.machine_091.specs.declared.unit.Want91.TheVariants as want
 
 -- ---- what is handed out
 
--- the names in a method that is passed on are short strings: the queue and the tag of a consumer
+-- the names in a method that is passed on are short strings: the queue in a queue.declare, the
+-- queue and the tag of a consumer, and the tag in a basic.cancel
 abbrev pub HasShortNames : Method91 → Type 0
+HasShortNames (method.QueueDeclare queue passive durable exclusive auto_delete no_wait arguments) =
+    length queue ≤ 255
 HasShortNames (method.BasicConsume queue tag no_local no_ack exclusive no_wait arguments) =
     (length queue ≤ 255) × (length tag ≤ 255)
+HasShortNames (method.BasicCancel tag no_wait) = length tag ≤ 255
 HasShortNames m = Unit {0}
 
 -- the properties of a published content have a spelling, and so have the arguments of its method:

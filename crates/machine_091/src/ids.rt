@@ -34,7 +34,13 @@ pub(crate) const CHANNEL_CLOSE_OK: (u16, u16) = (20, 41);
 
 pub(crate) const EXCHANGE_DECLARE: (u16, u16) = (40, 10);
 
+pub(crate) const QUEUE_DECLARE: (u16, u16) = (50, 10);
+
+pub(crate) const BASIC_QOS: (u16, u16) = (60, 10);
+
 pub(crate) const BASIC_CONSUME: (u16, u16) = (60, 20);
+
+pub(crate) const BASIC_CANCEL: (u16, u16) = (60, 30);
 
 pub(crate) const BASIC_PUBLISH: (u16, u16) = (60, 40);
 
@@ -47,6 +53,10 @@ pub(crate) const BASIC_GET_EMPTY: (u16, u16) = (60, 72);
 pub(crate) const BASIC_ACK: (u16, u16) = (60, 80);
 
 pub(crate) const BASIC_REJECT: (u16, u16) = (60, 90);
+
+pub(crate) const BASIC_RECOVER_ASYNC: (u16, u16) = (60, 100);
+
+pub(crate) const BASIC_RECOVER: (u16, u16) = (60, 110);
 
 pub(crate) const BASIC_NACK: (u16, u16) = (60, 120);
 

@@ -1,7 +1,8 @@
 //! The connection of an AMQP 0-9-1 client and its channels: what each unit of the client means, or
 //! why it is refused. The contents of basic.publish are put together. Of the other methods of a
-//! channel those that open, close and stop it, exchange.declare, confirm.select, basic.consume,
-//! basic.ack, basic.reject and basic.nack are passed on, and all others are refused.
+//! channel those that open, close and stop it, exchange.declare, queue.declare, confirm.select,
+//! basic.consume, basic.cancel, basic.qos, basic.ack, basic.reject, basic.nack, basic.recover and
+//! basic.recover-async are passed on, and all others are refused.
 #![tactic(auto)]
 
 mod connection;

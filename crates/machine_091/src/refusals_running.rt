@@ -8,9 +8,8 @@ ghost use Rattle.machine_091.specs.RefusalsRunning.{answer_order, running_state,
 ghost use Rattle.machine_091.specs.RefusalsRunning.{running_refusal};
 
 use crate::ids::{
-    BASIC_ACK, BASIC_CONSUME, BASIC_DELIVER, BASIC_GET_EMPTY, BASIC_NACK, BASIC_PUBLISH,
-    BASIC_REJECT, BASIC_RETURN, CHANNEL_CLOSE, CHANNEL_CLOSE_OK, CHANNEL_OPEN, CONFIRM_SELECT,
-    CONNECTION, CONNECTION_CLOSE, EXCHANGE_DECLARE, ids_in, is_method,
+    BASIC_DELIVER, BASIC_GET_EMPTY, BASIC_RETURN, CHANNEL_CLOSE_OK, CHANNEL_OPEN, CONNECTION,
+    CONNECTION_CLOSE, ids_in, is_method,
 };
 use crate::state::Channel91;
 use crate::unit::Ruling;
@@ -82,19 +81,30 @@ fn carried_order(carried_max: u16, channel: u16) -> Option<Ruling>
     }
 }
 
-/// The methods that are done on a channel that the container carries.
+/// Whether a method is done on a channel that the container carries. channel.flow isn't where it
+/// stops the flow, queue.declare where the server is to name the queue, basic.qos where it limits
+/// the prefetch in octets, and basic.recover and basic.recover-async where the messages aren't to
+/// be requeued.
 fn is_done(method: &Method91) -> bool
-    ensures { result ≡ is_done (kind_of method.now) }
+    ensures { result ≡ is_done (kind_of method.now) (args_of method.now) }
 {
-    is_method(method, CHANNEL_CLOSE)
-        || is_method(method, CHANNEL_CLOSE_OK)
-        || is_method(method, EXCHANGE_DECLARE)
-        || is_method(method, BASIC_CONSUME)
-        || is_method(method, BASIC_PUBLISH)
-        || is_method(method, BASIC_ACK)
-        || is_method(method, BASIC_REJECT)
-        || is_method(method, BASIC_NACK)
-        || is_method(method, CONFIRM_SELECT)
+    match method {
+        Method91::ChannelFlow { active } => *active,
+        Method91::QueueDeclare { queue, .. } => !queue.as_slice().is_empty(),
+        Method91::BasicQos { prefetch_size, .. } => *prefetch_size == 0,
+        Method91::BasicRecover { requeue } | Method91::BasicRecoverAsync { requeue } => *requeue,
+        Method91::ChannelClose { .. }
+        | Method91::ChannelCloseOk
+        | Method91::ExchangeDeclare { .. }
+        | Method91::BasicConsume { .. }
+        | Method91::BasicCancel { .. }
+        | Method91::BasicPublish { .. }
+        | Method91::BasicAck { .. }
+        | Method91::BasicReject { .. }
+        | Method91::BasicNack { .. }
+        | Method91::ConfirmSelect { .. } => true,
+        _ => false,
+    }
 }
 
 /// A channel that the container upstream can't carry, and a method that this gateway doesn't do.
@@ -103,16 +113,10 @@ pub(crate) fn running_refusal(carried_max: u16, channel: u16, method: &Method91)
         (args_of method.now) }
 {
     if channel == 0 {
-        return None;
-    }
-    if is_method(method, CHANNEL_OPEN) {
-        return carried_order(carried_max, channel);
-    }
-    let done = match method {
-        Method91::ChannelFlow { active } => *active,
-        _ => is_done(method),
-    };
-    if done {
+        None
+    } else if is_method(method, CHANNEL_OPEN) {
+        carried_order(carried_max, channel)
+    } else if is_done(method) {
         None
     } else {
         Some(Ruling::Refused(NOT_IMPLEMENTED))

@@ -359,18 +359,12 @@ impl Connection {
         match method {
             Method91::ChannelOpen => self.set_channel(channel, Channel91::Open),
             Method91::ChannelClose { .. } => self.close_channel(channel),
-            Method91::ChannelFlow { .. }
-            | Method91::ExchangeDeclare { .. }
-            | Method91::ConfirmSelect { .. }
-            | Method91::BasicConsume { .. }
-            | Method91::BasicAck { .. }
-            | Method91::BasicReject { .. }
-            | Method91::BasicNack { .. } => {}
+            Method91::ChannelCloseOk => return Ok(self.end_channel(channel)),
             Method91::BasicPublish { .. } => {
                 self.begin_content(alloc, channel, method)?;
                 return Ok(Want91::Nothing);
             }
-            _ => return Ok(self.end_channel(channel)),
+            _ => {}
         }
         Ok(Want91::Method(channel, method))
     }
