@@ -2,6 +2,7 @@
 use Rattle.std.specs.Prelude.{ℕ, Bool, true, false, ◌+◌, ◌-◌, ◌^◌, ◌==◌, ◌&&◌, ◌||◌, not, nat_lt}
 use Rattle.std.specs.Prelude.{if◌then◌else◌, List, [], ◌∷◌, ◌++◌, find, filter, count_by, Option}
 use Rattle.std.specs.Prelude.{Some, None, is_some, bytes_eq}
+use Rattle.std.specs.Option.{option_map}
 use Rattle.std.specs.List.{list_any}
 use Rattle.links_10.specs.Recv.{new_recv, asked_recv, after_attach, after_peer_flow, after_grant}
 use Rattle.links_10.specs.Recv.{after_arrival, recounted, after_cancel}
@@ -63,6 +64,13 @@ has_tag tag l = is_tagged tag l.kind && not l.cancelled
 
 abbrev pub is_tag_used : List ℕ → List ReceivingLink → Bool
 is_tag_used tag links = list_any (has_tag tag) links
+
+-- its link
+abbrev pub consumer_with : List ℕ → List ReceivingLink → Option ReceivingLink
+consumer_with tag links = find (has_tag tag) links
+
+abbrev pub consumer_link : List ℕ → List ReceivingLink → Option ℕ
+consumer_link tag links = option_map (λ l. l.link) (consumer_with tag links)
 
 -- a link that was asked for, and isn't attached yet
 

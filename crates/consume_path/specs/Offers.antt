@@ -291,6 +291,18 @@ is_uncovered link d = is_on link d.link && is_left d
 abbrev pub is_all_covered : ℕ → List Delivery → Bool
 is_all_covered link list = not (list_any (is_uncovered link) list)
 
+-- nothing is to come of a link any more: its consumer is cancelled, or it has none and serves no
+-- gets, and each delivery had its disposition
+abbrev pub is_probe : RecvKind → Bool
+is_probe (Consumes tag no_ack) = false
+is_probe Get = false
+is_probe Probe = true
+
+abbrev pub is_over : ℕ → DeliveryState → Bool
+is_over link s =
+    in_link (λ l. l.cancelled || is_probe l.kind) (link_of s.links link)
+    && is_all_covered link s.list
+
 -- flows
 
 abbrev pub is_for_gets : RecvKind → Bool

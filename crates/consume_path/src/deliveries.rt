@@ -11,6 +11,7 @@ ghost use Rattle.consume_path.specs.declared.receiving.ReceivingLink.{ReceivingL
 ghost use Rattle.consume_path.specs.Items.{is_open, is_covered, changed, first_place, new_delivery};
 ghost use Rattle.consume_path.specs.Links.{link_of, in_link, is_whole, is_empty, recount};
 ghost use Rattle.consume_path.specs.Links.{link_changed, tag_in, count_in, is_tag_used};
+ghost use Rattle.consume_path.specs.Links.{consumer_link};
 ghost use Rattle.consume_path.specs.Deliveries.{DeliveryState, LinkAdded, LinkAttached, LinkFlowed};
 ghost use Rattle.consume_path.specs.Deliveries.{LinkEchoed, GetCame, TransferCame, Arrived};
 ghost use Rattle.consume_path.specs.Deliveries.{LinkDropped, Delivered, Written, Answered};
@@ -21,6 +22,7 @@ ghost use Rattle.consume_path.specs.Offers.{is_open_id, fault_in, fault_at, arri
 ghost use Rattle.consume_path.specs.Offers.{arriving_in, payload_in, next_deliver_of, content_of};
 ghost use Rattle.consume_path.specs.Offers.{ending_in, added, arrived_whole, ended_on};
 ghost use Rattle.consume_path.specs.Offers.{is_known, next_settle_of, is_all_covered};
+ghost use Rattle.consume_path.specs.Offers.{is_over};
 ghost use Rattle.consume_path.specs.Offers.{next_grant_of, is_drained, is_for_gets};
 
 use crate::changes::{Change, change_all, compact, place_of_arrival, trim};
@@ -32,7 +34,8 @@ use crate::link_changes::{
 use crate::receiving::{Arrival, NextGrant, Part, ReceivingLink, RecvKind, TransferFault};
 use crate::searches::{
     any_covered, any_tagged, any_uncovered, arrival_by, bytes_of, first_deliver, first_grant,
-    first_owing, first_with_content, is_id_open, is_partial_whole, run_of, tag_by, transfer_fault,
+    first_owing, first_tagged, first_with_content, is_id_open, is_partial_whole, is_probe, run_of,
+    tag_by, transfer_fault,
 };
 use open_items::LostKind;
 use std::alloc::Global;
@@ -205,6 +208,14 @@ impl Deliveries {
         any_tagged(self.links.as_slice(), tag)
     }
 
+    /// The link of the consumer with this tag that isn't cancelled.
+    pub fn consumer(&self, tag: &[u8]) -> Option<u32>
+        ensures { result ≡ consumer_link tag.now self.now.links }
+    {
+        let l = first_tagged(self.links.as_slice(), tag)?;
+        Some(l.link)
+    }
+
     /// The tag of this link's consumer; it is empty where there is none.
     pub fn tag_of(&self, link: u32) -> &[u8]
         ensures { result.now ≡ tag_in (link_of self.now.links link) }
@@ -266,6 +277,17 @@ impl Deliveries {
         ensures { result ≡ is_all_covered link self.now.list }
     {
         !any_uncovered(self.items.as_slice(), link)
+    }
+
+    /// Nothing is to come of this link any more: its consumer was cancelled, or it is a probe, and
+    /// each whole delivery that didn't come settled had its disposition.
+    pub fn is_over(&self, link: u32) -> bool
+        ensures { result ≡ is_over link self.now }
+    {
+        match link_with(self.links.as_slice(), link) {
+            Some(l) => (l.cancelled || is_probe(&l.kind)) && self.covered(link),
+            None => false,
+        }
     }
 
     /// Counts anew what counts on each link.

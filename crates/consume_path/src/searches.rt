@@ -6,7 +6,7 @@ ghost use Rattle.std.specs.List.{list_any};
 ghost use Rattle.std.specs.Option.{option_map, option_or};
 ghost use Rattle.consume_path.specs.Items.{owes, is_held, needs_content, is_covered};
 ghost use Rattle.consume_path.specs.Links.{is_to_ask, bytes_in, is_whole, tag_by, is_tagged};
-ghost use Rattle.consume_path.specs.Links.{has_tag, is_tag_used};
+ghost use Rattle.consume_path.specs.Links.{has_tag, is_tag_used, consumer_with};
 ghost use Rattle.consume_path.specs.Offers.{sooner, soonest, has_open_id, has_begun_id, is_open_id};
 ghost use Rattle.consume_path.specs.Offers.{is_longer, most_tag, lacks_field, is_other};
 ghost use Rattle.consume_path.specs.Offers.{names_wrongly, fault_of, arrival_of, consumes};
@@ -15,7 +15,7 @@ ghost use Rattle.consume_path.specs.Offers.{is_within, deliver_of, getting, cons
 ghost use Rattle.consume_path.specs.Offers.{consumer_offer, rank_of, has_content, owes_of, owes_id};
 ghost use Rattle.consume_path.specs.Offers.{next_deliver_of, run_to, run_from, settle_in};
 ghost use Rattle.consume_path.specs.Offers.{is_uncovered, is_for_gets, echo_credit, grant_as};
-ghost use Rattle.consume_path.specs.Offers.{flow_if, flow_of, grant_link, is_partial};
+ghost use Rattle.consume_path.specs.Offers.{flow_if, flow_of, grant_link, is_partial, is_probe};
 
 use crate::changes::{
     is_delivery_covered, is_delivery_left, is_on_link, is_owed_as, is_place_held, is_place_owed,
@@ -453,6 +453,20 @@ pub fn any_tagged(links: &[ReceivingLink], tag: &[u8]) -> bool
     ensures { result ≡ is_tag_used tag.now links.now }
 {
     links.iter().any(|l| has_tag(l, tag))
+}
+
+/// The first consumer with this tag that isn't cancelled.
+pub fn first_tagged<'a>(links: &'a [ReceivingLink], tag: &[u8]) -> Option<&'a ReceivingLink>
+    ensures { option_copied result ≡ consumer_with tag.now links.now }
+{
+    links.iter().find(|l| has_tag(l, tag))
+}
+
+/// A link of a probe.
+pub fn is_probe(kind: &RecvKind) -> bool
+    ensures { result ≡ is_probe kind.now }
+{
+    matches!(kind, RecvKind::Probe)
 }
 
 fn is_kind_for_gets(kind: &RecvKind) -> bool

@@ -18,14 +18,15 @@ use Rattle.session_path.specs.Links.{LinksState, answered, asked_as, asked_by, a
 use Rattle.session_path.specs.Links.{attach_fault, attached, attached_as, detached_on, failed_by}
 use Rattle.session_path.specs.Links.{failed_on, flowed_on, free_number, given_by, given_on, gone_on}
 use Rattle.session_path.specs.Links.{is_asked_as, is_at, is_given, is_left, is_stage_at}
-use Rattle.session_path.specs.Links.{is_stage_wanted, is_stage_whole, is_to_part, is_wanted, left_by}
+use Rattle.session_path.specs.Links.{is_stage_wanted, is_stage_whole, is_wanted, left_by}
 use Rattle.session_path.specs.Links.{link_asked, link_detached, link_failed, link_flowed, linked_to}
 use Rattle.session_path.specs.Links.{named, parted, put, put_for, told_by, told_on, told_once}
 use Rattle.session_path.specs.Links.{wanted_link, with_link_to, with_receiver}
 use Rattle.session_path.specs.Path.{PathState, flow_of, given_of, is_grant_next, owes_flow}
-use Rattle.session_path.specs.Path.{receiver_in, taking}
+use Rattle.session_path.specs.Path.{parting_of, receiver_in, taking}
 use Rattle.session_path.specs.Events.{PathEvent, Began, Published, Selected, Owed, Consumed}
-use Rattle.session_path.specs.Events.{AnswerCame, AttachCame, FlowCame, DetachCame, TransferCame}
+use Rattle.session_path.specs.Events.{AnswerCame, CancelCame, Declared, AttachCame, FlowCame, DetachCame}
+use Rattle.session_path.specs.Events.{TransferCame}
 use Rattle.session_path.specs.Events.{LinkFailed, DispositionCame, AttachSent, LinkFlowSent}
 use Rattle.session_path.specs.Events.{TransferSent, SettleSent, DisposeSent, DetachSent}
 use Rattle.session_path.specs.Events.{ConfirmWent, ReturnWent, DeliverSent, ContentSent}
@@ -169,6 +170,8 @@ fresh_step (Published address payload back) s a = fresh_linked address s.links a
 fresh_step Selected s a = a
 fresh_step (Owed ok) s a = a
 fresh_step (Consumed address tag no_ack no_wait) s a = fresh_received s.links a
+fresh_step (CancelCame tag no_wait) s a = a
+fresh_step (Declared queue no_wait) s a = fresh_received s.links a
 fresh_step (AnswerCame tag multiple settle) s a = a
 fresh_step (AttachCame attach) s a = subst AreFresh (sym (attach_same (asked_by attach s.links) attach (record s { links = attached attach s.links }))) (fresh_attached attach s.links a)
 fresh_step (FlowCame peer count credit drain echo) s a = fresh_flow_came peer count credit drain echo s a
@@ -182,8 +185,8 @@ fresh_step (TransferSent frame count) s a = a
 fresh_step (SettleSent settling) s a = a
 fresh_step DisposeSent s a = subst AreFresh (sym (disposed_same (next_settle_of s.deliveries.list) s)) a
 fresh_step DetachSent s a =
-    subst AreFresh (sym (dropped_same (find is_to_part s.links.links) (record s { links = parted (find is_to_part s.links.links) (given_of s.publishes.list s.links) s.links })))
-    (fresh_parted s.links (find is_to_part s.links.links) (given_of s.publishes.list s.links) a)
+    subst AreFresh (sym (dropped_same (parting_of s) (record s { links = parted (parting_of s) (given_of s.publishes.list s.links) s.links })))
+    (fresh_parted s.links (parting_of s) (given_of s.publishes.list s.links) a)
 fresh_step (ConfirmWent confirm) s a = a
 fresh_step (ReturnWent number) s a = a
 fresh_step (DeliverSent due) s a = a

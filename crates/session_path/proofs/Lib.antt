@@ -4,6 +4,7 @@ pub mod Gaps
 pub mod Credit
 pub mod Wanted
 pub mod Kept
+pub mod Names
 pub mod Consuming
 pub mod PathLaws
 pub mod SameLinks

@@ -7,6 +7,7 @@ use Rattle.open_items.proofs.Filtered.{all_find}
 use Rattle.link_table.specs.Table.{free_of, named_by}
 use Rattle.publish_path.specs.Links.{link_to}
 use Rattle.publish_path.specs.declared.publish.Publish.{Publish}
+use Rattle.consume_path.specs.Deliveries.{DeliveryState}
 use Rattle.consume_path.specs.Offers.{next_settle_of}
 use Rattle.consume_path.specs.declared.receiving.TransferFault.{TransferFault}
 use Rattle.session_path.specs.declared.path.AttachFault.TheVariants.{NotAsked, HandleInUse}
@@ -16,14 +17,15 @@ use Rattle.session_path.specs.Links.{LinksState, Rises, answered, asked_as, aske
 use Rattle.session_path.specs.Links.{at_handle, attached, attached_as, attach_fault, detached_on}
 use Rattle.session_path.specs.Links.{failed_by, failed_on, flowed_on, free_number, given_by, given_on}
 use Rattle.session_path.specs.Links.{gone_on, has_number, is_asked_as, is_at, is_given, is_left}
-use Rattle.session_path.specs.Links.{is_other_end, is_stage_asked, is_stage_whole, is_to_part}
+use Rattle.session_path.specs.Links.{is_other_end, is_stage_asked, is_stage_whole}
 use Rattle.session_path.specs.Links.{is_wanted, left_by, link_asked, link_detached, link_failed}
 use Rattle.session_path.specs.Links.{link_flowed, linked_to, named, parted, put, told_by, told_on}
 use Rattle.session_path.specs.Links.{told_once, wanted_link, with_link_to, with_receiver}
 use Rattle.session_path.specs.Path.{PathState, flow_of, given_of, is_grant_next, owes_flow}
-use Rattle.session_path.specs.Path.{receiver_in, taking}
+use Rattle.session_path.specs.Path.{parting_of, parts, receiver_in, taking}
 use Rattle.session_path.specs.Events.{PathEvent, Began, Published, Selected, Owed, Consumed}
-use Rattle.session_path.specs.Events.{AnswerCame, AttachCame, FlowCame, DetachCame, TransferCame}
+use Rattle.session_path.specs.Events.{AnswerCame, CancelCame, Declared, AttachCame, FlowCame, DetachCame}
+use Rattle.session_path.specs.Events.{TransferCame}
 use Rattle.session_path.specs.Events.{LinkFailed, DispositionCame, AttachSent, LinkFlowSent}
 use Rattle.session_path.specs.Events.{TransferSent, SettleSent, DisposeSent, DetachSent}
 use Rattle.session_path.specs.Events.{ConfirmWent, ReturnWent, DeliverSent, ContentSent}
@@ -158,14 +160,14 @@ waiting_given : (name : ℕ) (list : List Publish) (s : LinksState) (o : Option 
 waiting_given name list s None t e = omega arith
 waiting_given name list s (Some l) t e = let a = waiting_put name 0 (has_number l.link) s.links l (given_by l) t.rising (given_found list s l t.rising e).0 refl in omega arith
 
-waiting_parted : (name : ℕ) (list : List Publish) (s : LinksState) → Tied s → waiting name (parted (find is_to_part s.links) (given_of list s) s).links ≤ waiting name s.links
-waiting_parted name list s t = by (find is_to_part s.links) refl
+waiting_parted : (d : DeliveryState) (name : ℕ) (list : List Publish) (s : LinksState) → Tied s → waiting name (parted (find (parts d) s.links) (given_of list s) s).links ≤ waiting name s.links
+waiting_parted d name list s t = by (find (parts d) s.links) refl
   where
-    either : (l : PathLink) → find is_to_part s.links ≡ Some l → (b : Bool) → waiting name (cond b (gone_on (Some l) s) (given_on (Some l) s)).links ≤ waiting name s.links
+    either : (l : PathLink) → find (parts d) s.links ≡ Some l → (b : Bool) → waiting name (cond b (gone_on (Some l) s) (given_on (Some l) s)).links ≤ waiting name s.links
     either l e true = waiting_filter name _ s.links
-    either l e false = let a = waiting_put name 0 is_to_part s.links l (given_by l) t.rising e refl in omega arith
+    either l e false = let a = waiting_put name 0 (parts d) s.links l (given_by l) t.rising e refl in omega arith
 
-    by : (o : Option PathLink) → find is_to_part s.links ≡ o → waiting name (parted o (given_of list s) s).links ≤ waiting name s.links
+    by : (o : Option PathLink) → find (parts d) s.links ≡ o → waiting name (parted o (given_of list s) s).links ≤ waiting name s.links
     by None e = waiting_given name list s (given_of list s) t refl
     by (Some l) e = either l e (is_left l)
 
@@ -255,8 +257,8 @@ waiting_attach_came name a s t =
 waiting_detach_sent : (name : ℕ) (s : PathState) → Tied s.links → waiting name (after_event DetachSent s).links.links ≤ waiting name s.links.links
 waiting_detach_sent name s t =
     subst (λ (z : LinksState). waiting name z.links ≤ waiting name s.links.links)
-    (sym (dropped_same (find is_to_part s.links.links) (record s { links = parted (find is_to_part s.links.links) (given_of s.publishes.list s.links) s.links })))
-    (waiting_parted name s.publishes.list s.links t)
+    (sym (dropped_same (parting_of s) (record s { links = parted (parting_of s) (given_of s.publishes.list s.links) s.links })))
+    (waiting_parted s.deliveries name s.publishes.list s.links t)
 
 step : (name times asked : ℕ) (x : PathEvent) (s : PathState) → Tied s.links → times + waiting name s.links.links ≤ asked
     → (times + attaches_as name s x) + waiting name (after_event x s).links.links ≤ asked + asks_as name x
@@ -265,6 +267,8 @@ step name times asked (Published address payload back) s t e = stays times asked
 step name times asked Selected s t e = stays times asked (waiting name s.links.links) _ e (same (waiting name s.links.links))
 step name times asked (Owed ok) s t e = stays times asked (waiting name s.links.links) _ e (same (waiting name s.links.links))
 step name times asked (Consumed address tag no_ack no_wait) s t e = stays times asked (waiting name s.links.links) _ e (waiting_received name s.links)
+step name times asked (CancelCame tag no_wait) s t e = stays times asked (waiting name s.links.links) _ e (same (waiting name s.links.links))
+step name times asked (Declared queue no_wait) s t e = stays times asked (waiting name s.links.links) _ e (waiting_received name s.links)
 step name times asked (AnswerCame tag multiple settle) s t e = stays times asked (waiting name s.links.links) _ e (same (waiting name s.links.links))
 step name times asked (AttachCame attach) s t e = comes times asked (waiting name s.links.links) _ _ e (waiting_attach_came name attach s t)
 step name times asked (FlowCame peer count credit drain echo) s t e = stays times asked (waiting name s.links.links) _ e (waiting_flow_came name peer count credit drain echo s t)

@@ -8,6 +8,7 @@ use Rattle.link_table.specs.Table.{free_of, named_by}
 use Rattle.publish_path.specs.Links.{link_to}
 use Rattle.publish_path.specs.declared.publish.Publish.{Publish}
 use Rattle.publish_path.specs.declared.send_links.SendingLink.{SendingLink}
+use Rattle.consume_path.specs.Deliveries.{DeliveryState}
 use Rattle.consume_path.specs.Offers.{next_settle_of}
 use Rattle.consume_path.specs.declared.receiving.TransferFault.{TransferFault}
 use Rattle.session_path.specs.declared.path.AttachHeard.{AttachHeard}
@@ -16,15 +17,16 @@ use Rattle.session_path.specs.Links.{LinksState, Rises, answered, asked_as, aske
 use Rattle.session_path.specs.Links.{at_handle, attach_fault, attached, attached_as, detached_on}
 use Rattle.session_path.specs.Links.{failed_by, failed_on, flowed_on, free_number, given_by, given_on}
 use Rattle.session_path.specs.Links.{gone_on, has_number, is_asked_as, is_at, is_given, is_left}
-use Rattle.session_path.specs.Links.{is_parting, is_stage_whole, is_to_part, is_wanted}
+use Rattle.session_path.specs.Links.{is_parting, is_stage_whole, is_wanted}
 use Rattle.session_path.specs.Links.{is_wanted_receiver, left_by, link_asked, link_detached}
 use Rattle.session_path.specs.Links.{link_failed, link_flowed, linked_to, named, one_if, parted, put}
 use Rattle.session_path.specs.Links.{told_by, told_on, told_once, wanted_link, with_link_to}
 use Rattle.session_path.specs.Links.{with_receiver}
 use Rattle.session_path.specs.Path.{PathState, flow_of, given_of, is_grant_next, may_drain}
-use Rattle.session_path.specs.Path.{owes_flow, receiver_in, sender_in, taking}
+use Rattle.session_path.specs.Path.{owes_flow, parting_of, parts, receiver_in, sender_in, taking}
 use Rattle.session_path.specs.Events.{PathEvent, Began, Published, Selected, Owed, Consumed}
-use Rattle.session_path.specs.Events.{AnswerCame, AttachCame, FlowCame, DetachCame, TransferCame}
+use Rattle.session_path.specs.Events.{AnswerCame, CancelCame, Declared, AttachCame, FlowCame, DetachCame}
+use Rattle.session_path.specs.Events.{TransferCame}
 use Rattle.session_path.specs.Events.{LinkFailed, DispositionCame, AttachSent, LinkFlowSent}
 use Rattle.session_path.specs.Events.{TransferSent, SettleSent, DisposeSent, DetachSent}
 use Rattle.session_path.specs.Events.{ConfirmWent, ReturnWent, DeliverSent, ContentSent}
@@ -246,16 +248,16 @@ given_step : (n : ℕ) (list : List Publish) (s : LinksState) (o : Option PathLi
 given_step n list s None t e = refl
 given_step n list s (Some l) t e = owed_same n (has_number l.link) s.links l (given_by l) t.rising (given_found list s l t.rising e).0 refl refl
 
-parted_step : (n flows causes : ℕ) (list : List Publish) (s : LinksState) → Tied s → flows + owed_on n s.links ≡ causes
-    → (flows + 0) + owed_on n (parted (find is_to_part s.links) (given_of list s) s).links ≡ cond (is_link n (left_in (find is_to_part s.links))) flows causes
-parted_step n flows causes list s t is = by (find is_to_part s.links) refl
+parted_step : (d : DeliveryState) (n flows causes : ℕ) (list : List Publish) (s : LinksState) → Tied s → flows + owed_on n s.links ≡ causes
+    → (flows + 0) + owed_on n (parted (find (parts d) s.links) (given_of list s) s).links ≡ cond (is_link n (left_in (find (parts d) s.links))) flows causes
+parted_step d n flows causes list s t is = by (find (parts d) s.links) refl
   where
-    either : (l : PathLink) → find is_to_part s.links ≡ Some l → (b : Bool) → is_left l ≡ b
+    either : (l : PathLink) → find (parts d) s.links ≡ Some l → (b : Bool) → is_left l ≡ b
         → (flows + 0) + owed_on n (cond b (gone_on (Some l) s) (given_on (Some l) s)).links ≡ cond (is_link n (cond b (Some l) None)) flows causes
-    either l e true left = ap (λ ks. (flows + 0) + owed_on n ks) (gone_is is_to_part s.sending s.links s.handles l t e left) ∙ owed_none n l.link flows causes s.links is
-    either l e false left = kept flows (owed_on n s.links) _ causes is (owed_same n is_to_part s.links l (given_by l) t.rising e refl refl)
+    either l e true left = ap (λ ks. (flows + 0) + owed_on n ks) (gone_is (parts d) s.sending s.links s.handles l t e left) ∙ owed_none n l.link flows causes s.links is
+    either l e false left = kept flows (owed_on n s.links) _ causes is (owed_same n (parts d) s.links l (given_by l) t.rising e refl refl)
 
-    by : (o : Option PathLink) → find is_to_part s.links ≡ o → (flows + 0) + owed_on n (parted o (given_of list s) s).links ≡ cond (is_link n (left_in o)) flows causes
+    by : (o : Option PathLink) → find (parts d) s.links ≡ o → (flows + 0) + owed_on n (parted o (given_of list s) s).links ≡ cond (is_link n (left_in o)) flows causes
     by None e = kept flows (owed_on n s.links) _ causes is (given_step n list s (given_of list s) t refl)
     by (Some l) e = either l e (is_left l) refl
 
@@ -339,8 +341,8 @@ detach_sent_step : (n flows causes : ℕ) (s : PathState) → Tied s.links → f
     → (flows + 0) + owed_on n (after_event DetachSent s).links.links ≡ causes_by n s flows causes DetachSent
 detach_sent_step n flows causes s t e =
     ap (λ (z : LinksState). (flows + 0) + owed_on n z.links)
-    (dropped_same (find is_to_part s.links.links) (record s { links = parted (find is_to_part s.links.links) (given_of s.publishes.list s.links) s.links }))
-    ∙ parted_step n flows causes s.publishes.list s.links t e
+    (dropped_same (parting_of s) (record s { links = parted (parting_of s) (given_of s.publishes.list s.links) s.links }))
+    ∙ parted_step s.deliveries n flows causes s.publishes.list s.links t e
 
 -- the links stay as they were
 as_before : (n : ℕ) (new old : LinksState) → new ≡ old → owed_on n new.links ≡ owed_on n old.links
@@ -353,6 +355,8 @@ step n flows causes (Published address payload back) s t fresh e = kept flows (o
 step n flows causes Selected s t fresh e = kept flows (owed_on n s.links.links) _ causes e refl
 step n flows causes (Owed ok) s t fresh e = kept flows (owed_on n s.links.links) _ causes e refl
 step n flows causes (Consumed address tag no_ack no_wait) s t fresh e = kept flows (owed_on n s.links.links) _ causes e (owed_received n s.links t)
+step n flows causes (CancelCame tag no_wait) s t fresh e = kept flows (owed_on n s.links.links) _ causes e refl
+step n flows causes (Declared queue no_wait) s t fresh e = kept flows (owed_on n s.links.links) _ causes e (owed_received n s.links t)
 step n flows causes (AnswerCame tag multiple settle) s t fresh e = kept flows (owed_on n s.links.links) _ causes e refl
 step n flows causes (AttachCame attach) s t fresh e =
     kept flows (owed_on n s.links.links) _ causes e (as_before n _ (attached attach s.links) (attach_same (asked_by attach s.links) attach (record s { links = attached attach s.links })) ∙ attached_step n attach s.links t)

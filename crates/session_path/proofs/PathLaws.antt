@@ -4,41 +4,45 @@ use Rattle.std.proofs.Common.{None, drop, refl, sym, ap, cond}
 use Rattle.std.specs.Prelude.{not, ◌&&◌, find}
 use Rattle.std.specs.List.{list_any}
 use Rattle.consume_path.specs.Deliveries as on
-use Rattle.consume_path.specs.Deliveries.{DeliveryEvent, after_event as delivery_event}
+use Rattle.consume_path.specs.Deliveries.{DeliveryEvent, DeliveryState, after_event as delivery_event}
 use Rattle.consume_path.specs.Deliveries.{after_events as deliveries_after}
+use Rattle.consume_path.specs.Links.{consumer_link}
 use Rattle.consume_path.specs.Offers.{next_settle_of}
 use Rattle.consume_path.specs.declared.delivery.Content.{Content}
 use Rattle.consume_path.specs.declared.delivery.NextSettle.{NextSettle}
 use Rattle.consume_path.specs.declared.receiving.NextGrant.{NextGrant}
 use Rattle.consume_path.specs.declared.receiving.Part.{Part}
-use Rattle.consume_path.specs.declared.receiving.RecvKind.TheVariants.{Consumer}
+use Rattle.consume_path.specs.declared.receiving.RecvKind.TheVariants.{Consumer, Probe}
 use Rattle.publish_path.specs.Links.{link_to}
 use Rattle.publish_path.specs.Offers.{frame_sent}
 use Rattle.publish_path.specs.Publishes.{PublishEvent, PublishState, TakenUp, OutcomeCame, LinkGone}
 use Rattle.publish_path.specs.Publishes.{ConfirmSent, LinesTold, ReturnSent, is_told}
 use Rattle.publish_path.specs.Publishes.{after_event as publish_event}
 use Rattle.publish_path.specs.Publishes.{after_events as publishes_after}
-use Rattle.session_path.specs.Links.{asked_by, attached, free_number, is_to_part, linked_to, named}
+use Rattle.session_path.specs.Links.{asked_by, attached, free_number, linked_to, named}
 use Rattle.session_path.specs.Links.{parted, told_on}
 use Rattle.session_path.specs.Path.{PathState, arrival_on, arrived_on, begun_if, begun_on}
 use Rattle.session_path.specs.Path.{disposed_by, dropped, dropped_by, flow_of, flowed_by, given_of}
 use Rattle.session_path.specs.Path.{grant_in, granted_by, is_grant_next, is_last, last_or, lost_on}
 use Rattle.session_path.specs.Path.{number_of, receiver_in, sender_in, settle_if, tag_for, taking}
+use Rattle.session_path.specs.Path.{cancelled_on, first_of, global_by, parting_of, prefetch_by}
 use Rattle.session_path.specs.Path.{transferred_on}
 use Rattle.session_path.specs.Events.{PathEvent, Began, Published, Selected, Owed, Consumed}
-use Rattle.session_path.specs.Events.{AnswerCame, AttachCame, FlowCame, DetachCame, TransferCame}
+use Rattle.session_path.specs.Events.{AnswerCame, CancelCame, Declared, AttachCame, FlowCame, DetachCame}
+use Rattle.session_path.specs.Events.{TransferCame}
 use Rattle.session_path.specs.Events.{LinkFailed, DispositionCame, AttachSent, LinkFlowSent}
 use Rattle.session_path.specs.Events.{TransferSent, SettleSent, DisposeSent, DetachSent}
 use Rattle.session_path.specs.Events.{ConfirmWent, ReturnWent, DeliverSent, ContentSent}
 use Rattle.session_path.specs.Events.{ContentWhole, OkSent, LinesWent, LifeClosed, SessionLost}
 use Rattle.session_path.specs.Events.{UpLost, after_event, after_events, arrivals, begins}
 use Rattle.session_path.specs.Events.{deliveries_of, delivery_events, disposes, drops, flows, grants}
-use Rattle.session_path.specs.Events.{losses, publish_events, publishes_of, transfers}
+use Rattle.session_path.specs.Events.{cancels, globals, losses, prefetches, publish_events, publishes_of, transfers}
 use Rattle.session_path.specs.Laws.{IsFrontOf, AreAnswers, AreSettles, answers, oks_owed, oks_sent}
 use Rattle.session_path.specs.Laws.{owed_by, owes, settles, settles_owed, settles_sent}
 use Rattle.session_path.specs.declared.path.AttachHeard.{AttachHeard}
 use Rattle.session_path.specs.declared.path.PathLink.{PathLink}
 use Rattle.session_path.specs.declared.path.PathOk.{PathOk}
+use Rattle.session_path.specs.declared.path.PathOk.TheVariants as ok
 use Rattle.session_path.specs.declared.path.Settling.{Settling}
 use Rattle.session_path.proofs.Kept.{begun, disposed, flowed, granted, parted_keeps, transferred}
 
@@ -52,6 +56,8 @@ publish_step life (Published address payload back) s h e = ap (publish_event (Ta
 publish_step life Selected s h e = e
 publish_step life (Owed ok) s h e = e
 publish_step life (Consumed address tag no_ack no_wait) s h e = e
+publish_step life (CancelCame tag no_wait) s h e = e
+publish_step life (Declared queue no_wait) s h e = e
 publish_step life (AnswerCame tag multiple settle) s h e = e
 publish_step life (AttachCame attach) s h e = (begun (asked_by attach s.links) attach (record s { links = attached attach s.links })).publishes ∙ e
 publish_step life (FlowCame peer count credit drain echo) s h e = (flowed (receiver_in (named peer s.links)) peer count credit drain echo s).publishes ∙ e
@@ -64,7 +70,7 @@ publish_step life LinkFlowSent s h e = (granted (is_grant_next s) (grant_in s) s
 publish_step life (TransferSent frame count) s h e = ap (publish_event (frame_sent frame count s.publishes.list)) e
 publish_step life (SettleSent settling) s h e = e
 publish_step life DisposeSent s h e = (disposed (next_settle_of s.deliveries.list) s).publishes ∙ e
-publish_step life DetachSent s h e = (parted_keeps (find is_to_part s.links.links) (record s { links = parted (find is_to_part s.links.links) (given_of s.publishes.list s.links) s.links })).publishes ∙ e
+publish_step life DetachSent s h e = (parted_keeps (parting_of s) (record s { links = parted (parting_of s) (given_of s.publishes.list s.links) s.links })).publishes ∙ e
 publish_step life (ConfirmWent confirm) s h e = ap (publish_event (ConfirmSent confirm)) e
 publish_step life (ReturnWent number) s h e = ap (publish_event (ReturnSent number)) e
 publish_step life (DeliverSent due) s h e = e
@@ -104,6 +110,10 @@ one_owed {A} sent due all new e = ap (λ (xs : List A). xs ++ (due ++ new)) (nil
 none : {A : Type 0} (sent due all : List A) → sent ++ due ≡ all → (sent ++ []) ++ due ≡ all ++ []
 none {A} sent due all e = ap (λ (xs : List A). xs ++ due) (nil sent) ∙ (e ∙ sym (nil all))
 
+one_unless : {A : Type 0} (b : Bool) (sent due all : List A) (a : A) → sent ++ due ≡ all → (sent ++ []) ++ cond b due (due ++ a ∷ []) ≡ all ++ cond b [] (a ∷ [])
+one_unless true sent due all a e = none sent due all e
+one_unless false sent due all a e = one_owed sent due all (a ∷ []) e
+
 same_all : {A : Type 0} (sent due all : List A) → sent ++ due ≡ all → (sent ++ []) ++ due ≡ all
 same_all {A} sent due all e = ap (λ (xs : List A). xs ++ due) (nil sent) ∙ e
 
@@ -118,6 +128,8 @@ oks_are life (x ∷ h) a = by x (oks_are life h a.1) a.0
     by Selected e f = none (oks_sent h) (after_events life h).oks (oks_owed life h) e
     by (Owed ok) e f = one_owed (oks_sent h) (after_events life h).oks (oks_owed life h) (ok ∷ []) e
     by (Consumed address tag no_ack no_wait) e f = none (oks_sent h) (after_events life h).oks (oks_owed life h) e
+    by (CancelCame tag no_wait) e f = one_unless no_wait (oks_sent h) (after_events life h).oks (oks_owed life h) ok.Cancel e
+    by (Declared queue no_wait) e f = none (oks_sent h) (after_events life h).oks (oks_owed life h) e
     by (AnswerCame tag multiple settle) e f = none (oks_sent h) (after_events life h).oks (oks_owed life h) e
     by (AttachCame attach) e f = let s = after_events life h in ap (λ (xs : List PathOk). (oks_sent h ++ []) ++ xs) (begun (asked_by attach s.links) attach (record s { links = attached attach s.links })).oks ∙ one_owed (oks_sent h) s.oks (oks_owed life h) (owes s (AttachCame attach)) e
     by (FlowCame peer count credit drain echo) e f = let s = after_events life h in ap (λ (xs : List PathOk). (oks_sent h ++ []) ++ xs) (flowed (receiver_in (named peer s.links)) peer count credit drain echo s).oks ∙ none (oks_sent h) s.oks (oks_owed life h) e
@@ -130,7 +142,7 @@ oks_are life (x ∷ h) a = by x (oks_are life h a.1) a.0
     by (TransferSent frame count) e f = none (oks_sent h) (after_events life h).oks (oks_owed life h) e
     by (SettleSent settling) e f = none (oks_sent h) (after_events life h).oks (oks_owed life h) e
     by DisposeSent e f = let s = after_events life h in ap (λ (xs : List PathOk). (oks_sent h ++ []) ++ xs) (disposed (next_settle_of s.deliveries.list) s).oks ∙ none (oks_sent h) s.oks (oks_owed life h) e
-    by DetachSent e f = let s = after_events life h in ap (λ (xs : List PathOk). (oks_sent h ++ []) ++ xs) (parted_keeps (find is_to_part s.links.links) (record s { links = parted (find is_to_part s.links.links) (given_of s.publishes.list s.links) s.links })).oks ∙ none (oks_sent h) s.oks (oks_owed life h) e
+    by DetachSent e f = let s = after_events life h in ap (λ (xs : List PathOk). (oks_sent h ++ []) ++ xs) (parted_keeps (parting_of s) (record s { links = parted (parting_of s) (given_of s.publishes.list s.links) s.links })).oks ∙ none (oks_sent h) s.oks (oks_owed life h) e
     by (ConfirmWent confirm) e f = none (oks_sent h) (after_events life h).oks (oks_owed life h) e
     by (ReturnWent number) e f = none (oks_sent h) (after_events life h).oks (oks_owed life h) e
     by (DeliverSent due) e f = none (oks_sent h) (after_events life h).oks (oks_owed life h) e
@@ -162,6 +174,8 @@ settles_are life (x ∷ h) a = by x (settles_are life h a.1) a.0
     by Selected e f = same_all (settles_sent h) (after_events life h).settles (settles_owed life h) e
     by (Owed ok) e f = same_all (settles_sent h) (after_events life h).settles (settles_owed life h) e
     by (Consumed address tag no_ack no_wait) e f = same_all (settles_sent h) (after_events life h).settles (settles_owed life h) e
+    by (CancelCame tag no_wait) e f = same_all (settles_sent h) (after_events life h).settles (settles_owed life h) e
+    by (Declared queue no_wait) e f = same_all (settles_sent h) (after_events life h).settles (settles_owed life h) e
     by (AnswerCame tag multiple settle) e f = same_all (settles_sent h) (after_events life h).settles (settles_owed life h) e
     by (AttachCame attach) e f = let s = after_events life h in ap (λ (xs : List Settling). (settles_sent h ++ []) ++ xs) (begun (asked_by attach s.links) attach (record s { links = attached attach s.links })).settles ∙ same_all (settles_sent h) s.settles (settles_owed life h) e
     by (FlowCame peer count credit drain echo) e f = let s = after_events life h in ap (λ (xs : List Settling). (settles_sent h ++ []) ++ xs) (flowed (receiver_in (named peer s.links)) peer count credit drain echo s).settles ∙ same_all (settles_sent h) s.settles (settles_owed life h) e
@@ -174,7 +188,7 @@ settles_are life (x ∷ h) a = by x (settles_are life h a.1) a.0
     by (TransferSent frame count) e f = same_all (settles_sent h) (after_events life h).settles (settles_owed life h) e
     by (SettleSent settling) e f = one_gone (settles_sent h) settling (after_events life h).settles (settles_owed life h) f.0 e f.1
     by DisposeSent e f = let s = after_events life h in ap (λ (xs : List Settling). (settles_sent h ++ []) ++ xs) (disposed (next_settle_of s.deliveries.list) s).settles ∙ same_all (settles_sent h) s.settles (settles_owed life h) e
-    by DetachSent e f = let s = after_events life h in ap (λ (xs : List Settling). (settles_sent h ++ []) ++ xs) (parted_keeps (find is_to_part s.links.links) (record s { links = parted (find is_to_part s.links.links) (given_of s.publishes.list s.links) s.links })).settles ∙ same_all (settles_sent h) s.settles (settles_owed life h) e
+    by DetachSent e f = let s = after_events life h in ap (λ (xs : List Settling). (settles_sent h ++ []) ++ xs) (parted_keeps (parting_of s) (record s { links = parted (parting_of s) (given_of s.publishes.list s.links) s.links })).settles ∙ same_all (settles_sent h) s.settles (settles_owed life h) e
     by (ConfirmWent confirm) e f = same_all (settles_sent h) (after_events life h).settles (settles_owed life h) e
     by (ReturnWent number) e f = same_all (settles_sent h) (after_events life h).settles (settles_owed life h) e
     by (DeliverSent due) e f = same_all (settles_sent h) (after_events life h).settles (settles_owed life h) e
@@ -189,6 +203,33 @@ settles_are life (x ∷ h) a = by x (settles_are life h a.1) a.0
 -- the deliveries
 
 module _ (life : ℕ) where
+  prefetch_step : (x : PathOk) (d : DeliveryState) (h : List DeliveryEvent) → d ≡ deliveries_after life h → prefetch_by x d ≡ deliveries_after life (prefetches x ++ h)
+  prefetch_step ok.Flow d h e = e
+  prefetch_step ok.Declare d h e = e
+  prefetch_step ok.Select d h e = e
+  prefetch_step (ok.Consume link) d h e = e
+  prefetch_step (ok.Qos count true) d h e = e
+  prefetch_step (ok.Qos count false) d h e = ap (delivery_event (on.PrefetchSet count)) e
+  prefetch_step ok.Cancel d h e = e
+  prefetch_step ok.Queue d h e = e
+  prefetch_step ok.Recover d h e = e
+
+  global_step : (o : Option PathOk) (d : DeliveryState) (h : List DeliveryEvent) → d ≡ deliveries_after life h → global_by o d ≡ deliveries_after life (globals o ++ h)
+  global_step None d h e = e
+  global_step (Some ok.Flow) d h e = e
+  global_step (Some ok.Declare) d h e = e
+  global_step (Some ok.Select) d h e = e
+  global_step (Some (ok.Consume link)) d h e = e
+  global_step (Some (ok.Qos count true)) d h e = ap (delivery_event (on.GlobalSet count)) e
+  global_step (Some (ok.Qos count false)) d h e = e
+  global_step (Some ok.Cancel) d h e = e
+  global_step (Some ok.Queue) d h e = e
+  global_step (Some ok.Recover) d h e = e
+
+  cancelled_step : (o : Option ℕ) (d : DeliveryState) (h : List DeliveryEvent) → d ≡ deliveries_after life h → cancelled_on o d ≡ deliveries_after life (cancels o ++ h)
+  cancelled_step None d h e = e
+  cancelled_step (Some link) d h e = ap (delivery_event (on.Cancelled link)) e
+
   begun_step : (o : Option PathLink) (a : AttachHeard) (s : PathState) (h : List DeliveryEvent) → s.deliveries ≡ deliveries_after life h → (begun_if o a s).deliveries ≡ deliveries_after life (begins o a ++ h)
   begun_step None a s h e = e
   begun_step (Some l) a s h e = by (l.receives && a.there)
@@ -239,8 +280,10 @@ delivery_step : (life : ℕ) (x : PathEvent) (s : PathState) (h : List DeliveryE
 delivery_step life (Began handle_max) s h e = e
 delivery_step life (Published address payload back) s h e = e
 delivery_step life Selected s h e = e
-delivery_step life (Owed ok) s h e = e
+delivery_step life (Owed ok) s h e = prefetch_step life ok s.deliveries h e
 delivery_step life (Consumed address tag no_ack no_wait) s h e = ap (delivery_event (on.LinkAdded (free_number s.links.links) (Consumer (tag_for tag s.deliveries.links) no_ack))) e
+delivery_step life (CancelCame tag no_wait) s h e = cancelled_step life (consumer_link tag s.deliveries.links) s.deliveries h e
+delivery_step life (Declared queue no_wait) s h e = ap (delivery_event (on.LinkAdded (free_number s.links.links) Probe)) e
 delivery_step life (AnswerCame tag multiple settle) s h e = ap (delivery_event (on.Answered tag multiple settle)) e
 delivery_step life (AttachCame attach) s h e = begun_step life (asked_by attach s.links) attach (record s { links = attached attach s.links }) h e
 delivery_step life (FlowCame peer count credit drain echo) s h e = flowed_step life (receiver_in (named peer s.links)) peer count credit drain echo s h e
@@ -253,13 +296,13 @@ delivery_step life LinkFlowSent s h e = granted_step life (is_grant_next s) (gra
 delivery_step life (TransferSent frame count) s h e = e
 delivery_step life (SettleSent settling) s h e = e
 delivery_step life DisposeSent s h e = disposed_step life (next_settle_of s.deliveries.list) s h e
-delivery_step life DetachSent s h e = dropped_step life (find is_to_part s.links.links) (record s { links = parted (find is_to_part s.links.links) (given_of s.publishes.list s.links) s.links }) h e
+delivery_step life DetachSent s h e = dropped_step life (parting_of s) (record s { links = parted (parting_of s) (given_of s.publishes.list s.links) s.links }) h e
 delivery_step life (ConfirmWent confirm) s h e = e
 delivery_step life (ReturnWent number) s h e = e
 delivery_step life (DeliverSent due) s h e = ap (delivery_event (on.Delivered due.next.number)) e
 delivery_step life ContentSent s h e = e
 delivery_step life (ContentWhole tag) s h e = ap (delivery_event (on.Written tag)) e
-delivery_step life (OkSent ok) s h e = e
+delivery_step life (OkSent ok) s h e = global_step life (first_of s.oks) s.deliveries h e
 delivery_step life LinesWent s h e = ap (delivery_event on.LinesTold) e
 delivery_step life LifeClosed s h e = ap (delivery_event on.Closed) e
 delivery_step life SessionLost s h e = ap (delivery_event on.Closed) e

@@ -5,7 +5,8 @@ use Rattle.std.specs.Prelude.{◌==◌, ◌&&◌, ◌||◌, find, is_some}
 use Rattle.link_table.specs.Table.{free_of, named_by}
 use Rattle.publish_path.specs.Links.{link_to}
 use Rattle.publish_path.specs.declared.publish.Publish.{Publish}
-use Rattle.consume_path.specs.Offers.{next_settle_of}
+use Rattle.consume_path.specs.Deliveries.{DeliveryState}
+use Rattle.consume_path.specs.Offers.{is_over, next_settle_of}
 use Rattle.consume_path.specs.declared.receiving.TransferFault.{TransferFault}
 use Rattle.session_path.specs.declared.path.AttachHeard.{AttachHeard}
 use Rattle.session_path.specs.declared.path.PathLink.{PathLink}
@@ -13,14 +14,15 @@ use Rattle.session_path.specs.Links.{LinksState, AreTied, all_lost, asked_by, as
 use Rattle.session_path.specs.Links.{attach_fault, attached, attached_as, detached_on, failed_by}
 use Rattle.session_path.specs.Links.{failed_on, flowed_on, given_on, gone_on, has_number}
 use Rattle.session_path.specs.Links.{is_asked_as, is_at, is_failed, is_left, is_stage_failed}
-use Rattle.session_path.specs.Links.{is_stage_open, is_stage_whole, is_to_part, is_wanted}
+use Rattle.session_path.specs.Links.{is_stage_open, is_stage_whole, is_wanted}
 use Rattle.session_path.specs.Links.{is_wanted_receiver, link_asked, link_detached, link_failed}
 use Rattle.session_path.specs.Links.{link_flowed, linked_to, named, parted, put, told_on}
 use Rattle.session_path.specs.Links.{with_link_to, with_receiver, without_receivers}
 use Rattle.session_path.specs.Path.{PathState, flow_of, given_of, is_grant_next, owes_flow}
-use Rattle.session_path.specs.Path.{receiver_in, taking}
+use Rattle.session_path.specs.Path.{parting_of, parts, receiver_in, taking}
 use Rattle.session_path.specs.Events.{PathEvent, Began, Published, Selected, Owed, Consumed}
-use Rattle.session_path.specs.Events.{AnswerCame, AttachCame, FlowCame, DetachCame, TransferCame}
+use Rattle.session_path.specs.Events.{AnswerCame, CancelCame, Declared, AttachCame, FlowCame, DetachCame}
+use Rattle.session_path.specs.Events.{TransferCame}
 use Rattle.session_path.specs.Events.{LinkFailed, DispositionCame, AttachSent, LinkFlowSent}
 use Rattle.session_path.specs.Events.{TransferSent, SettleSent, DisposeSent, DetachSent}
 use Rattle.session_path.specs.Events.{ConfirmWent, ReturnWent, DeliverSent, ContentSent}
@@ -121,18 +123,25 @@ tied_given : (list : List Publish) (s : LinksState) (o : Option PathLink) → Ti
 tied_given list s None t e = t
 tied_given list s (Some l) t e = let found = given_found list s l t.rising e in tied_given_up (has_number l.link) s l t found.0 (or_left _ _ found.1)
 
--- what is to part, and the container didn't detach, failed
-pub failed_else : (l : PathLink) → is_to_part l ≡ true → is_left l ≡ false → (is_stage_open l.stage || is_stage_failed l.stage) ≡ true
-failed_else l e off = or_right (is_stage_open l.stage) (is_failed l) (ap (λ b. b || is_failed l) (sym off) ∙ e)
+-- what is to part, and the container didn't detach, is open or failed
+parts_open : (left failed receives up over : Bool) → left ≡ false → ((left || failed) || ((receives && up) && over)) ≡ true → (up || failed) ≡ true
+parts_open true failed receives up over off e = absurd cc
+parts_open false true receives up over off e = or_right up true refl
+parts_open false false true true over off e = refl
+parts_open false false true false over off e = absurd cc
+parts_open false false false up over off e = absurd cc
 
-tied_parted : (list : List Publish) (s : LinksState) → Tied s → Tied (parted (find is_to_part s.links) (given_of list s) s)
-tied_parted list s t = by (find is_to_part s.links) refl
+pub open_else : (d : DeliveryState) (l : PathLink) → parts d l ≡ true → is_left l ≡ false → (is_stage_open l.stage || is_stage_failed l.stage) ≡ true
+open_else d l e off = parts_open (is_left l) (is_failed l) l.receives (is_stage_open l.stage) (is_over l.link d) off e
+
+tied_parted : (d : DeliveryState) (list : List Publish) (s : LinksState) → Tied s → Tied (parted (find (parts d) s.links) (given_of list s) s)
+tied_parted d list s t = by (find (parts d) s.links) refl
   where
-    one : (l : PathLink) → find is_to_part s.links ≡ Some l → (b : Bool) → is_left l ≡ b → Tied (cond b (gone_on (Some l) s) (given_on (Some l) s))
-    one l e true is = tied_gone is_to_part s l t e is
-    one l e false is = tied_given_up is_to_part s l t e (failed_else l (found_passes is_to_part s.links l e) is)
+    one : (l : PathLink) → find (parts d) s.links ≡ Some l → (b : Bool) → is_left l ≡ b → Tied (cond b (gone_on (Some l) s) (given_on (Some l) s))
+    one l e true is = tied_gone (parts d) s l t e is
+    one l e false is = tied_given_up (parts d) s l t e (open_else d l (found_passes (parts d) s.links l e) is)
 
-    by : (o : Option PathLink) → find is_to_part s.links ≡ o → Tied (parted o (given_of list s) s)
+    by : (o : Option PathLink) → find (parts d) s.links ≡ o → Tied (parted o (given_of list s) s)
     by None e = tied_given list s (given_of list s) t refl
     by (Some l) e = one l e (is_left l) refl
 
@@ -160,6 +169,8 @@ tied_step (Published address payload back) s t = tied_linked address s.links t
 tied_step Selected s t = t
 tied_step (Owed ok) s t = t
 tied_step (Consumed address tag no_ack no_wait) s t = tied_received s.links t
+tied_step (CancelCame tag no_wait) s t = t
+tied_step (Declared queue no_wait) s t = tied_received s.links t
 tied_step (AnswerCame tag multiple settle) s t = t
 tied_step (AttachCame attach) s t = subst Tied (sym (attach_same (asked_by attach s.links) attach (record s { links = attached attach s.links }))) (tied_attached attach s.links t)
 tied_step (FlowCame peer count credit drain echo) s t = tied_flow_came peer count credit drain echo s t
@@ -173,8 +184,8 @@ tied_step (TransferSent frame count) s t = framed_tied frame s.links.sending s.l
 tied_step (SettleSent settling) s t = t
 tied_step DisposeSent s t = subst Tied (sym (disposed_same (next_settle_of s.deliveries.list) s)) t
 tied_step DetachSent s t =
-    subst Tied (sym (dropped_same (find is_to_part s.links.links) (record s { links = parted (find is_to_part s.links.links) (given_of s.publishes.list s.links) s.links })))
-    (tied_parted s.publishes.list s.links t)
+    subst Tied (sym (dropped_same (parting_of s) (record s { links = parted (parting_of s) (given_of s.publishes.list s.links) s.links })))
+    (tied_parted s.deliveries s.publishes.list s.links t)
 tied_step (ConfirmWent confirm) s t = t
 tied_step (ReturnWent number) s t = t
 tied_step (DeliverSent due) s t = t

@@ -28,13 +28,9 @@ use Rattle.session_path.specs.declared.path.ContentDue.{ContentDue}
 use Rattle.session_path.specs.declared.path.DeliverDue.{DeliverDue}
 use Rattle.session_path.specs.declared.path.Source.{Source}
 use Rattle.session_path.specs.declared.path.Writing.{Writing}
-use Rattle.session_path.specs.Links.{handle_of, is_to_part, is_wanted}
+use Rattle.session_path.specs.Links.{handle_of, is_wanted}
 use Rattle.session_path.specs.Path.{PathState, credit_in, flow_of, frames_of, given_of, grant_in}
-use Rattle.session_path.specs.Path.{granting, is_grant_next, is_source_of, taking}
-
-abbrev pub first_of : {A : Type 0} → List A → Option A
-first_of [] = None
-first_of (x ∷ xs) = Some x
+use Rattle.session_path.specs.Path.{first_of, granting, is_grant_next, is_source_of, parting_of, taking}
 
 -- ---- to the container
 
@@ -96,11 +92,9 @@ next_settle s = first_of s.settles
 abbrev pub next_dispose : PathState → Option NextSettle
 next_dispose s = next_settle_of s.deliveries.list
 
--- the detach of the first link that the container detached or that failed, or else of one that is
--- given up
+-- the detach of the first link that is to part, or else of one that is given up
 abbrev pub next_detach : PathState → Option PathLink
-next_detach s =
-    option_or (find is_to_part s.links.links) (given_of s.publishes.list s.links)
+next_detach s = option_or (parting_of s) (given_of s.publishes.list s.links)
 
 -- ---- to the client
 
@@ -117,6 +111,14 @@ return_frame number s = return_frame_of number s.publishes.list
 
 abbrev pub next_ok : PathState → Option PathOk
 next_ok s = first_of s.oks
+
+-- the name that the next answer gives back that gives one
+abbrev pub or_no_name : Option (List ℕ) → List ℕ
+or_no_name None = []
+or_no_name (Some name) = name
+
+abbrev pub next_name : PathState → List ℕ
+next_name s = or_no_name (first_of s.names)
 
 -- a deliver; delivery tags count up to 2^62
 abbrev pub most_tags : ℕ
@@ -189,7 +191,7 @@ lines s =
 
 -- ---- what is waited for
 
--- a basic.consume waits for the container
+-- a request waits for the container
 abbrev pub is_waiting : PathState → Bool
 is_waiting s = is_some s.awaited
 

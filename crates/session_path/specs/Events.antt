@@ -1,5 +1,5 @@
 -- The events of a session's path, and its state after them, newest first.
-use Rattle.std.specs.Prelude.{ℕ, Bool, false, ◌&&◌, if◌then◌else◌, List, [], ◌∷◌, ◌++◌, find}
+use Rattle.std.specs.Prelude.{ℕ, Bool, false, ◌&&◌, if◌then◌else◌, List, [], ◌∷◌, ◌++◌}
 use Rattle.std.specs.Prelude.{Option, Some, None}
 use Rattle.publish_path.specs.Links.{link_to}
 use Rattle.publish_path.specs.Offers.{frame_sent}
@@ -10,27 +10,30 @@ use Rattle.publish_path.specs.declared.publish.NextFrame.{NextFrame}
 use Rattle.publish_path.specs.declared.publish.Outcome.{Outcome}
 use Rattle.consume_path.specs.Deliveries.{DeliveryEvent, DeliveryState}
 use Rattle.consume_path.specs.Deliveries as on
+use Rattle.consume_path.specs.Links.{consumer_link}
 use Rattle.consume_path.specs.Offers.{next_settle_of}
 use Rattle.consume_path.specs.declared.delivery.Content.{Content}
 use Rattle.consume_path.specs.declared.delivery.NextSettle.{NextSettle}
 use Rattle.consume_path.specs.declared.delivery.Settle.{Settle}
 use Rattle.consume_path.specs.declared.receiving.NextGrant.{NextGrant}
 use Rattle.consume_path.specs.declared.receiving.Part.{Part}
-use Rattle.consume_path.specs.declared.receiving.RecvKind.TheVariants.{Consumer}
+use Rattle.consume_path.specs.declared.receiving.RecvKind.TheVariants.{Consumer, Probe}
 use Rattle.consume_path.specs.declared.receiving.TransferFault.{TransferFault}
-use Rattle.session_path.specs.Links.{asked_by, free_number, is_to_part, linked_to, named}
+use Rattle.session_path.specs.Links.{asked_by, free_number, linked_to, named}
 use Rattle.session_path.specs.Path.{PathState, answer_came, attach_came, attach_sent, began, closed}
 use Rattle.session_path.specs.Path.{confirm_sent, consumed, content_sent, content_whole}
 use Rattle.session_path.specs.Path.{deliver_sent, dispose_sent, end_lost, failed, sender_in}
 use Rattle.session_path.specs.Path.{detach_came, detach_sent, flow_came, last_or, lines_told}
 use Rattle.session_path.specs.Path.{link_flow_sent, lost, number_of, ok_sent, opened, outcome_came}
 use Rattle.session_path.specs.Path.{return_sent, transfer_came, tag_for, receiver_in, taking}
-use Rattle.session_path.specs.Path.{arrival_on, grant_in, is_grant_next, is_last}
+use Rattle.session_path.specs.Path.{arrival_on, cancelled, declare_came, first_of, grant_in, is_grant_next, is_last}
+use Rattle.session_path.specs.Path.{parting_of}
 use Rattle.session_path.specs.Path.{owed, published, selected, settle_sent, transfer_sent}
 use Rattle.session_path.specs.declared.path.AttachHeard.{AttachHeard}
 use Rattle.session_path.specs.declared.path.DeliverDue.{DeliverDue}
 use Rattle.session_path.specs.declared.path.PathLink.{PathLink}
 use Rattle.session_path.specs.declared.path.PathOk.{PathOk}
+use Rattle.session_path.specs.declared.path.PathOk.TheVariants as ok
 use Rattle.session_path.specs.declared.path.Settling.{Settling}
 
 pub data PathEvent : Type 0 where
@@ -42,8 +45,12 @@ pub data PathEvent : Type 0 where
   Selected : PathEvent
   -- an answer is due to the client
   Owed : (ok : PathOk) → PathEvent
-  -- basic.consume of a queue was taken up; basic.ack, nack or reject
+  -- basic.consume of a queue was taken up; basic.cancel of a consumer; basic.ack, nack, reject or
+  -- recover
   Consumed : (address tag : List ℕ) (no_ack no_wait : Bool) → PathEvent
+  CancelCame : (tag : List ℕ) (no_wait : Bool) → PathEvent
+  -- queue.declare was
+  Declared : (queue : List ℕ) (no_wait : Bool) → PathEvent
   AnswerCame : (tag : ℕ) (multiple : Bool) (settle : Settle) → PathEvent
   -- an attach of the container
   AttachCame : (attach : AttachHeard) → PathEvent
@@ -96,6 +103,8 @@ after_event (Published address payload back) s = published address payload back 
 after_event Selected s = selected s
 after_event (Owed ok) s = owed ok s
 after_event (Consumed address tag no_ack no_wait) s = consumed address tag no_ack no_wait s
+after_event (CancelCame tag no_wait) s = cancelled tag no_wait s
+after_event (Declared queue no_wait) s = declare_came queue no_wait s
 after_event (AnswerCame tag multiple settle) s = answer_came tag multiple settle s
 after_event (AttachCame attach) s = attach_came attach s
 after_event (FlowCame peer count credit drain echo) s = flow_came peer count credit drain echo s
@@ -141,6 +150,8 @@ publish_events s (Published address payload back) =
 publish_events s Selected = []
 publish_events s (Owed ok) = []
 publish_events s (Consumed address tag no_ack no_wait) = []
+publish_events s (CancelCame tag no_wait) = []
+publish_events s (Declared queue no_wait) = []
 publish_events s (AnswerCame tag multiple settle) = []
 publish_events s (AttachCame attach) = []
 publish_events s (FlowCame peer count credit drain echo) = []
@@ -171,6 +182,33 @@ publishes_of life [] = []
 publishes_of life (x ∷ h) = publish_events (after_events life h) x ++ publishes_of life h
 
 -- ---- what the deliveries see
+
+-- a basic.qos for each consumer, and for all together
+abbrev pub prefetches : PathOk → List DeliveryEvent
+prefetches ok.Flow = []
+prefetches ok.Declare = []
+prefetches ok.Select = []
+prefetches (ok.Consume link) = []
+prefetches (ok.Qos count global) = if global then [] else on.PrefetchSet count ∷ []
+prefetches ok.Cancel = []
+prefetches ok.Queue = []
+prefetches ok.Recover = []
+
+abbrev pub globals : Option PathOk → List DeliveryEvent
+globals None = []
+globals (Some ok.Flow) = []
+globals (Some ok.Declare) = []
+globals (Some ok.Select) = []
+globals (Some (ok.Consume link)) = []
+globals (Some (ok.Qos count global)) = if global then on.GlobalSet count ∷ [] else []
+globals (Some ok.Cancel) = []
+globals (Some ok.Queue) = []
+globals (Some ok.Recover) = []
+
+-- a basic.cancel
+abbrev pub cancels : Option ℕ → List DeliveryEvent
+cancels None = []
+cancels (Some link) = on.Cancelled link ∷ []
 
 -- an attach of a receiving link with a source
 abbrev pub begins : Option PathLink → AttachHeard → List DeliveryEvent
@@ -218,10 +256,14 @@ abbrev pub delivery_events : PathState → PathEvent → List DeliveryEvent
 delivery_events s (Began handle_max) = []
 delivery_events s (Published address payload back) = []
 delivery_events s Selected = []
-delivery_events s (Owed ok) = []
+delivery_events s (Owed ok) = prefetches ok
 delivery_events s (Consumed address tag no_ack no_wait) =
     on.LinkAdded (free_number s.links.links)
     (Consumer (tag_for tag s.deliveries.links) no_ack) ∷ []
+delivery_events s (CancelCame tag no_wait) =
+    cancels (consumer_link tag s.deliveries.links)
+delivery_events s (Declared queue no_wait) =
+    on.LinkAdded (free_number s.links.links) Probe ∷ []
 delivery_events s (AnswerCame tag multiple settle) = on.Answered tag multiple settle ∷ []
 delivery_events s (AttachCame attach) = begins (asked_by attach s.links) attach
 delivery_events s (FlowCame peer count credit drain echo) =
@@ -236,13 +278,13 @@ delivery_events s LinkFlowSent = if is_grant_next s then grants (grant_in s) els
 delivery_events s (TransferSent frame count) = []
 delivery_events s (SettleSent settling) = []
 delivery_events s DisposeSent = disposes (next_settle_of s.deliveries.list)
-delivery_events s DetachSent = drops (find is_to_part s.links.links)
+delivery_events s DetachSent = drops (parting_of s)
 delivery_events s (ConfirmWent confirm) = []
 delivery_events s (ReturnWent number) = []
 delivery_events s (DeliverSent due) = on.Delivered due.next.number ∷ []
 delivery_events s ContentSent = []
 delivery_events s (ContentWhole tag) = on.Written tag ∷ []
-delivery_events s (OkSent ok) = []
+delivery_events s (OkSent ok) = globals (first_of s.oks)
 delivery_events s LinesWent = on.LinesTold ∷ []
 delivery_events s LifeClosed = on.Closed ∷ []
 delivery_events s SessionLost = on.Closed ∷ []

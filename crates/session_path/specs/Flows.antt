@@ -3,11 +3,12 @@
 use Rattle.std.specs.Prelude.{ℕ, Bool, false, not, ◌+◌, ◌==◌, ◌&&◌, if◌then◌else◌, List, [], ◌∷◌}
 use Rattle.std.specs.Prelude.{find, Option, Some, None}
 use Rattle.session_path.specs.declared.path.PathLink.{PathLink}
-use Rattle.session_path.specs.Links.{LinksState, has_number, is_given, is_left, is_to_part, named}
+use Rattle.session_path.specs.Links.{LinksState, has_number, is_given, is_left, named}
 use Rattle.session_path.specs.Links.{one_if}
-use Rattle.session_path.specs.Path.{PathState, flow_of, is_grant_next, sender_in}
+use Rattle.session_path.specs.Path.{PathState, flow_of, is_grant_next, parting_of, sender_in}
 use Rattle.session_path.specs.Events.{PathEvent, Began, Published, Selected, Owed, Consumed}
-use Rattle.session_path.specs.Events.{AnswerCame, AttachCame, FlowCame, DetachCame, TransferCame}
+use Rattle.session_path.specs.Events.{AnswerCame, CancelCame, Declared, AttachCame, FlowCame, DetachCame}
+use Rattle.session_path.specs.Events.{TransferCame}
 use Rattle.session_path.specs.Events.{LinkFailed, DispositionCame, AttachSent, LinkFlowSent}
 use Rattle.session_path.specs.Events.{TransferSent, SettleSent, DisposeSent, DetachSent}
 use Rattle.session_path.specs.Events.{ConfirmWent, ReturnWent, DeliverSent, ContentSent}
@@ -26,6 +27,8 @@ flows_by n s (Published address payload back) = 0
 flows_by n s Selected = 0
 flows_by n s (Owed ok) = 0
 flows_by n s (Consumed address tag no_ack no_wait) = 0
+flows_by n s (CancelCame tag no_wait) = 0
+flows_by n s (Declared queue no_wait) = 0
 flows_by n s (AnswerCame tag multiple settle) = 0
 flows_by n s (AttachCame attach) = 0
 flows_by n s (FlowCame peer count credit drain echo) = 0
@@ -77,6 +80,8 @@ causes_by n s flows causes (Published address payload back) = causes
 causes_by n s flows causes Selected = causes
 causes_by n s flows causes (Owed ok) = causes
 causes_by n s flows causes (Consumed address tag no_ack no_wait) = causes
+causes_by n s flows causes (CancelCame tag no_wait) = causes
+causes_by n s flows causes (Declared queue no_wait) = causes
 causes_by n s flows causes (AnswerCame tag multiple settle) = causes
 causes_by n s flows causes (AttachCame attach) = causes
 causes_by n s flows causes (FlowCame peer count credit drain echo) =
@@ -93,7 +98,7 @@ causes_by n s flows causes (TransferSent frame count) = causes
 causes_by n s flows causes (SettleSent settling) = causes
 causes_by n s flows causes DisposeSent = causes
 causes_by n s flows causes DetachSent =
-    if is_link n (left_in (find is_to_part s.links.links)) then flows else causes
+    if is_link n (left_in (parting_of s)) then flows else causes
 causes_by n s flows causes (ConfirmWent confirm) = causes
 causes_by n s flows causes (ReturnWent number) = causes
 causes_by n s flows causes (DeliverSent due) = causes

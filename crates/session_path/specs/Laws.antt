@@ -4,9 +4,10 @@ use Rattle.std.specs.Prelude.{None, if◌then◌else◌}
 use Rattle.std.specs.List.{list_any}
 use Rattle.publish_path.specs.Publishes.{is_told, open_after}
 use Rattle.session_path.specs.Links.{asked_by}
-use Rattle.session_path.specs.Path.{PathState, last_or, oks_by, settle_if}
+use Rattle.session_path.specs.Path.{PathState, last_or, names_by, oks_by, settle_if}
 use Rattle.session_path.specs.Events.{PathEvent, Began, Published, Selected, Owed, Consumed}
-use Rattle.session_path.specs.Events.{AnswerCame, AttachCame, FlowCame, DetachCame, TransferCame}
+use Rattle.session_path.specs.Events.{AnswerCame, CancelCame, Declared, AttachCame, FlowCame, DetachCame}
+use Rattle.session_path.specs.Events.{TransferCame}
 use Rattle.session_path.specs.Events.{LinkFailed, DispositionCame, AttachSent, LinkFlowSent}
 use Rattle.session_path.specs.Events.{TransferSent, SettleSent, DisposeSent, DetachSent}
 use Rattle.session_path.specs.Events.{ConfirmWent, ReturnWent, DeliverSent, ContentSent}
@@ -16,6 +17,7 @@ use Rattle.session_path.specs.declared.path.AttachHeard.{AttachHeard}
 use Rattle.session_path.specs.declared.path.Awaited.{Awaited}
 use Rattle.session_path.specs.declared.path.PathLink.{PathLink}
 use Rattle.session_path.specs.declared.path.PathOk.{PathOk}
+use Rattle.session_path.specs.declared.path.PathOk.TheVariants as ok
 use Rattle.session_path.specs.declared.path.Settling.{Settling}
 
 abbrev pub IsFrontOf : {A : Type 0} → List A → List A → Type 0
@@ -35,6 +37,8 @@ owes s (Published address payload back) = []
 owes s Selected = []
 owes s (Owed ok) = ok ∷ []
 owes s (Consumed address tag no_ack no_wait) = []
+owes s (CancelCame tag no_wait) = if no_wait then [] else ok.Cancel ∷ []
+owes s (Declared queue no_wait) = []
 owes s (AnswerCame tag multiple settle) = []
 owes s (AttachCame attach) = begun_oks (asked_by attach s.links) attach s.awaited
 owes s (FlowCame peer count credit drain echo) = []
@@ -65,6 +69,8 @@ answers (Published address payload back) = []
 answers Selected = []
 answers (Owed ok) = []
 answers (Consumed address tag no_ack no_wait) = []
+answers (CancelCame tag no_wait) = []
+answers (Declared queue no_wait) = []
 answers (AnswerCame tag multiple settle) = []
 answers (AttachCame attach) = []
 answers (FlowCame peer count credit drain echo) = []
@@ -103,6 +109,31 @@ AreAnswers life [] = Unit {0}
 AreAnswers life (x ∷ h) =
     IsFrontOf (oks_sent h ++ answers x) (oks_owed life h) × AreAnswers life h
 
+-- the queue that was declared last, and the names that answers give back, in order: of consumers
+-- that are cancelled, and of queues that are there
+abbrev pub queue_in : List PathEvent → List ℕ
+queue_in [] = []
+queue_in (Declared queue no_wait ∷ h) = queue
+queue_in (x ∷ h) = queue_in h
+
+abbrev pub begun_names : Option PathLink → AttachHeard → Option Awaited → List ℕ → List (List ℕ)
+begun_names None a awaited queue = []
+begun_names (Some l) a awaited queue =
+    if l.receives && a.there then names_by l.link awaited queue else []
+
+abbrev pub named_by : PathState → List ℕ → PathEvent → List (List ℕ)
+named_by s queue (CancelCame tag no_wait) = if no_wait then [] else tag ∷ []
+named_by s queue (AttachCame a) = begun_names (asked_by a s.links) a s.awaited queue
+named_by s queue x = []
+
+abbrev pub names_owed : ℕ → List PathEvent → List (List ℕ)
+names_owed life [] = []
+names_owed life (x ∷ h) =
+    names_owed life h ++ named_by (after_events life h) (queue_in h) x
+
+abbrev pub IsBackOf : {A : Type 0} → List A → List A → Type 0
+IsBackOf {A} back all = (front : List A) × (front ++ back ≡ all)
+
 -- ---- dispositions of role sender
 
 abbrev pub settles : PathEvent → List Settling
@@ -111,6 +142,8 @@ settles (Published address payload back) = []
 settles Selected = []
 settles (Owed ok) = []
 settles (Consumed address tag no_ack no_wait) = []
+settles (CancelCame tag no_wait) = []
+settles (Declared queue no_wait) = []
 settles (AnswerCame tag multiple settle) = []
 settles (AttachCame attach) = []
 settles (FlowCame peer count credit drain echo) = []
@@ -153,6 +186,8 @@ owed_by life h list (Published address payload back) = list
 owed_by life h list Selected = list
 owed_by life h list (Owed ok) = list
 owed_by life h list (Consumed address tag no_ack no_wait) = list
+owed_by life h list (CancelCame tag no_wait) = list
+owed_by life h list (Declared queue no_wait) = list
 owed_by life h list (AnswerCame tag multiple settle) = list
 owed_by life h list (AttachCame attach) = list
 owed_by life h list (FlowCame peer count credit drain echo) = list

@@ -16,20 +16,22 @@ use Rattle.consume_path.specs.Deliveries.{DeliveryState, Answered, Arrived, Clos
 use Rattle.consume_path.specs.Deliveries.{EndLost, GrantSent, LinkAdded, LinkAttached, LinkDropped}
 use Rattle.consume_path.specs.Deliveries.{LinkEchoed, LinkFlowed, SettleSent, TransferCame, Written}
 use Rattle.consume_path.specs.Deliveries.{LinesTold as DeliveriesTold, no_deliveries}
+use Rattle.consume_path.specs.Deliveries.{Cancelled, GlobalSet, PrefetchSet}
 use Rattle.consume_path.specs.Deliveries as deliveries
-use Rattle.consume_path.specs.Links.{is_tag_used, link_of as receiving_link}
+use Rattle.consume_path.specs.Links.{consumer_link, is_tag_used, link_of as receiving_link}
 use Rattle.consume_path.specs.Offers.{arriving_in, content_of, fault_at, next_grant_of}
-use Rattle.consume_path.specs.Offers.{next_settle_of}
+use Rattle.consume_path.specs.Offers.{is_over, next_settle_of}
 use Rattle.consume_path.specs.declared.delivery.Content.{Content}
 use Rattle.consume_path.specs.declared.delivery.NextSettle.{NextSettle}
 use Rattle.consume_path.specs.declared.delivery.Settle.{Settle}
 use Rattle.consume_path.specs.declared.receiving.NextGrant.{NextGrant}
 use Rattle.consume_path.specs.declared.receiving.Part.{Part}
 use Rattle.consume_path.specs.declared.receiving.ReceivingLink.{ReceivingLink}
-use Rattle.consume_path.specs.declared.receiving.RecvKind.TheVariants.{Consumer}
+use Rattle.consume_path.specs.declared.receiving.RecvKind.{RecvKind}
+use Rattle.consume_path.specs.declared.receiving.RecvKind.TheVariants.{Consumer, Probe}
 use Rattle.consume_path.specs.declared.receiving.TransferFault.{TransferFault}
 use Rattle.session_path.specs.Links.{LinksState, all_lost, asked_by, attached, has_number}
-use Rattle.session_path.specs.Links.{free_number, is_parting, is_stage_whole, is_to_part}
+use Rattle.session_path.specs.Links.{free_number, is_given, is_parting, is_stage_whole, is_to_part}
 use Rattle.session_path.specs.Links.{is_stage_open, is_wanting, limited, link_asked, link_detached}
 use Rattle.session_path.specs.Links.{link_failed, link_flowed, linked_to, lowest, named, no_links}
 use Rattle.session_path.specs.Links.{parted, told_on, with_receiver, without_receivers}
@@ -60,8 +62,12 @@ pub record PathState : Type 0 where
   pub settles : List Settling
   -- confirm.select was taken up
   pub confirms : Bool
-  -- the answers that are due to the client, in the order of its requests
+  -- the answers that are due to the client, in the order of its requests, and the names that some
+  -- of them give back: a consumer tag, a queue
   pub oks : List PathOk
+  pub names : List (List ℕ)
+  -- the queue that was declared last; empty where none was
+  pub queue : List ℕ
 
 abbrev pub with_deliveries : deliveries.DeliveryEvent → PathState → PathState
 with_deliveries x s = record s { deliveries = deliveries.after_event x s.deliveries }
@@ -80,6 +86,8 @@ opened life = record {
   settles = [];
   confirms = false;
   oks = [];
+  names = [];
+  queue = [];
 }
 
 -- the container's begin came, with the greatest handle that it takes (AMQP 1.0 2.7.2)
@@ -114,8 +122,24 @@ end_lost s = with_deliveries EndLost (lost s)
 
 -- ---- requests of the client
 
+-- an answer is owed. A basic.qos for each consumer counts for those to come from then on
+-- (RabbitMQ's meaning of `global`; AMQP 0-9-1 1.8.3.1)
+abbrev pub prefetch_by : PathOk → DeliveryState → DeliveryState
+prefetch_by ok.Flow d = d
+prefetch_by ok.Declare d = d
+prefetch_by ok.Select d = d
+prefetch_by (ok.Consume link) d = d
+prefetch_by (ok.Qos count global) d =
+    if global then d else deliveries.after_event (PrefetchSet count) d
+prefetch_by ok.Cancel d = d
+prefetch_by ok.Queue d = d
+prefetch_by ok.Recover d = d
+
 abbrev pub owed : PathOk → PathState → PathState
-owed ok s = record s { oks = s.oks ++ ok ∷ [] }
+owed ok s = record s {
+  deliveries = prefetch_by ok s.deliveries;
+  oks = s.oks ++ ok ∷ [];
+}
 
 -- confirm.select: publishes that are taken up from now on are confirmed
 abbrev pub selected : PathState → PathState
@@ -156,25 +180,57 @@ tag_for (c ∷ tag) links = c ∷ tag
 abbrev pub is_source_of : ℕ → Source → Bool
 is_source_of link x = x.link == link
 
--- basic.consume of this queue, which waits for the container's attach
-abbrev pub consumed : List ℕ → List ℕ → Bool → Bool → PathState → PathState
-consumed address tag no_ack no_wait s =
-    with_deliveries
-    (LinkAdded (free_number s.links.links) (Consumer (tag_for tag s.deliveries.links) no_ack))
+-- an empty name of a queue stands for the one that was declared last (AMQP 0-9-1 1.7.2.1)
+abbrev pub queue_or : List ℕ → List ℕ → List ℕ
+queue_or last [] = last
+queue_or last (c ∷ queue) = c ∷ queue
+
+-- a receiving link is wanted, of this kind and from this address: a request waits for the
+-- container's attach
+abbrev pub asked_from : List ℕ → RecvKind → Bool → Bool → PathState → PathState
+asked_from address kind declares no_wait s =
+    with_deliveries (LinkAdded (free_number s.links.links) kind)
     (record s {
       links = with_receiver s.links;
       sources = s.sources ++ record { link = free_number s.links.links; address = address } ∷ [];
-      awaited = Some (record { link = free_number s.links.links; no_wait = no_wait });
+      awaited = Some (record {
+        link = free_number s.links.links;
+        declares = declares;
+        no_wait = no_wait;
+      });
     })
 
--- basic.ack, nack or reject
+-- basic.consume of this queue
+abbrev pub consumed : List ℕ → List ℕ → Bool → Bool → PathState → PathState
+consumed queue tag no_ack no_wait s =
+    asked_from (queue_or s.queue queue) (Consumer (tag_for tag s.deliveries.links) no_ack) false
+    no_wait s
+
+-- queue.declare of this queue: a link to it is attached without credit, which shows that it is there
+abbrev pub declare_came : List ℕ → Bool → PathState → PathState
+declare_came queue no_wait s = asked_from queue Probe true no_wait (record s { queue = queue })
+
+-- basic.cancel: the consumer with this tag takes no more, where there is one. The answer gives the
+-- tag back (AMQP 0-9-1 1.8.3.5)
+abbrev pub cancelled_on : Option ℕ → DeliveryState → DeliveryState
+cancelled_on None d = d
+cancelled_on (Some link) d = deliveries.after_event (Cancelled link) d
+
+abbrev pub cancelled : List ℕ → Bool → PathState → PathState
+cancelled tag no_wait s = record s {
+  deliveries = cancelled_on (consumer_link tag s.deliveries.links) s.deliveries;
+  oks = if no_wait then s.oks else s.oks ++ ok.Cancel ∷ [];
+  names = if no_wait then s.names else s.names ++ tag ∷ [];
+}
+
+-- basic.ack, nack, reject or recover
 abbrev pub answer_came : ℕ → Bool → Settle → PathState → PathState
 answer_came tag multiple settle s = with_deliveries (Answered tag multiple settle) s
 
 -- ---- what the container sends
 
--- an attach. That of a receiving link with a source begins its deliveries, and decides the
--- basic.consume that waits for it
+-- an attach. That of a receiving link with a source begins its deliveries, and decides the request
+-- that waits for it
 abbrev pub is_awaited_on : ℕ → Option Awaited → Bool
 is_awaited_on link None = false
 is_awaited_on link (Some a) = a.link == link
@@ -184,8 +240,20 @@ abbrev pub is_answered : ℕ → Option Awaited → Bool
 is_answered link None = false
 is_answered link (Some a) = a.link == link && not a.no_wait
 
+abbrev pub declares_in : Option Awaited → Bool
+declares_in None = false
+declares_in (Some a) = a.declares
+
+abbrev pub answer_on : ℕ → Bool → PathOk
+answer_on link declares = if declares then ok.Queue else ok.Consume link
+
 abbrev pub oks_by : ℕ → Option Awaited → List PathOk
-oks_by link awaited = if is_answered link awaited then ok.Consume link ∷ [] else []
+oks_by link awaited =
+    if is_answered link awaited then answer_on link (declares_in awaited) ∷ [] else []
+
+abbrev pub names_by : ℕ → Option Awaited → List ℕ → List (List ℕ)
+names_by link awaited queue =
+    if is_answered link awaited && declares_in awaited then queue ∷ [] else []
 
 -- what waits once this link is attached
 abbrev pub still_awaited : ℕ → Option Awaited → Option Awaited
@@ -195,6 +263,7 @@ abbrev pub begun_on : ℕ → ℕ → PathState → PathState
 begun_on link count s =
     with_deliveries (LinkAttached link count) (record s {
       oks = s.oks ++ oks_by link s.awaited;
+      names = s.names ++ names_by link s.awaited s.queue;
       awaited = still_awaited link s.awaited;
     })
 
@@ -411,12 +480,33 @@ abbrev pub dropped_by : Option PathLink → PathState → PathState
 dropped_by None s = s
 dropped_by (Some l) s = if l.receives then dropped l.link s else s
 
+-- the gateway's detach is due of a link that the container detached or that failed, and of one that
+-- both ends attached whose deliveries are over
+abbrev pub is_done_with : DeliveryState → PathLink → Bool
+is_done_with d l = l.receives && is_stage_open l.stage && is_over l.link d
+
+abbrev pub parts : DeliveryState → PathLink → Bool
+parts d l = is_to_part l || is_done_with d l
+
+abbrev pub parting_of : PathState → Option PathLink
+parting_of s = find (parts s.deliveries) s.links.links
+
 -- the detach that is due went
 abbrev pub detach_sent : PathState → PathState
 detach_sent s =
-    dropped_by (find is_to_part s.links.links) (record s {
-      links = parted (find is_to_part s.links.links) (given_of s.publishes.list s.links) s.links;
+    dropped_by (parting_of s) (record s {
+      links = parted (parting_of s) (given_of s.publishes.list s.links) s.links;
     })
+
+-- a detach of the container closes the channel where a consumer has the link, a request waits for
+-- it, or deliveries of it aren't settled
+abbrev pub closes_on : Option PathLink → PathState → Bool
+closes_on None s = false
+closes_on (Some l) s =
+    not (is_given l) && (is_awaited_on l.link s.awaited || not (is_over l.link s.deliveries))
+
+abbrev pub closes_at : ℕ → PathState → Bool
+closes_at peer s = closes_on (receiver_in (named peer s.links)) s
 
 -- ---- what goes to the client
 
@@ -456,8 +546,41 @@ content_sent s = record s { writing = written_on s.writing s }
 abbrev pub content_whole : ℕ → PathState → PathState
 content_whole tag s = with_deliveries (Written tag) s
 
+-- the answer that is due went. A basic.qos for all consumers together counts from its answer on
+abbrev pub first_of : {A : Type 0} → List A → Option A
+first_of [] = None
+first_of (x ∷ xs) = Some x
+
+abbrev pub global_by : Option PathOk → DeliveryState → DeliveryState
+global_by None d = d
+global_by (Some ok.Flow) d = d
+global_by (Some ok.Declare) d = d
+global_by (Some ok.Select) d = d
+global_by (Some (ok.Consume link)) d = d
+global_by (Some (ok.Qos count global)) d =
+    if global then deliveries.after_event (GlobalSet count) d else d
+global_by (Some ok.Cancel) d = d
+global_by (Some ok.Queue) d = d
+global_by (Some ok.Recover) d = d
+
+-- it gives a name back
+abbrev pub gives_name : Option PathOk → Bool
+gives_name None = false
+gives_name (Some ok.Flow) = false
+gives_name (Some ok.Declare) = false
+gives_name (Some ok.Select) = false
+gives_name (Some (ok.Consume link)) = false
+gives_name (Some (ok.Qos count global)) = false
+gives_name (Some ok.Cancel) = true
+gives_name (Some ok.Queue) = true
+gives_name (Some ok.Recover) = false
+
 abbrev pub ok_sent : PathState → PathState
-ok_sent s = record s { oks = drop 1 s.oks }
+ok_sent s = record s {
+  deliveries = global_by (first_of s.oks) s.deliveries;
+  oks = drop 1 s.oks;
+  names = if gives_name (first_of s.oks) then drop 1 s.names else s.names;
+}
 
 abbrev pub lines_told : PathState → PathState
 lines_told s =

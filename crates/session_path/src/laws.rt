@@ -8,7 +8,7 @@ ghost use Rattle.session_path.specs.Links.{AreTied};
 ghost use Rattle.session_path.specs.Attaches.{times_asked, times_attached};
 ghost use Rattle.session_path.specs.Flows.{causes_on, flows_on, owed_on};
 ghost use Rattle.session_path.specs.Laws.{AreAnswers, AreSettles, oks_owed, oks_sent, settles_owed};
-ghost use Rattle.session_path.specs.Laws.{settles_sent};
+ghost use Rattle.session_path.specs.Laws.{settles_sent, IsBackOf, names_owed, queue_in};
 
 /// The answers to a client's requests.
 pub fn answers_lawfully()
@@ -16,6 +16,15 @@ pub fn answers_lawfully()
     // in the order of the requests.
     ensures { (life : ℕ) (h : List PathEvent) → AreAnswers life h → oks_sent h
         ++ (after_events life h).oks ≡ oks_owed life h }
+{}
+
+/// The names that answers give back.
+pub fn names_lawfully()
+    // Those that are still to go back are the last of those that requests named, in their order. An
+    // empty name of a queue stands for the one that was declared last.
+    ensures names { (life : ℕ) (h : List PathEvent)
+        → IsBackOf (after_events life h).names (names_owed life h) }
+    ensures queue { (life : ℕ) (h : List PathEvent) → (after_events life h).queue ≡ queue_in h }
 {}
 
 /// The dispositions of role sender.

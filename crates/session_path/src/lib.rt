@@ -10,7 +10,7 @@ mod session_path;
 
 pub use laws::{
     answers_lawfully, attaches_lawfully, deliveries_lawfully, flows_lawfully, links_lawfully,
-    publishes_lawfully, settles_lawfully,
+    names_lawfully, publishes_lawfully, settles_lawfully,
 };
 pub use path::{
     AttachDue, AttachFault, AttachHeard, ContentDue, DeliverDue, FlowDue, PathLink, PathOk,

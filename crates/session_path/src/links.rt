@@ -10,9 +10,10 @@ ghost use Rattle.session_path.specs.Links.{is_asked_as, put_for, put, free_numbe
 ghost use Rattle.session_path.specs.Links.{wanted_link, answered, left_by, given_by, failed_by};
 ghost use Rattle.session_path.specs.Links.{asked_as, told_once, is_left_at, gone_from};
 ghost use Rattle.session_path.specs.Links.{detached_from};
+ghost use Rattle.session_path.specs.Path.{is_done_with, parts};
 
 use crate::path::{PathLink, Stage};
-use consume_path::TransferFault;
+use consume_path::{Deliveries, TransferFault};
 use wire_base::Memory;
 
 /// The handle of a link; 0 where it has none.
@@ -56,7 +57,8 @@ fn is_link_to_part(l: &PathLink) -> bool
     is_link_left(l) || is_link_failed(l)
 }
 
-fn is_link_given(l: &PathLink) -> bool
+/// The gateway detached it, and the container didn't.
+pub fn is_link_given(l: &PathLink) -> bool
     ensures { result ≡ is_given l.now }
 {
     matches!(l.stage, Stage::Given(_))
@@ -160,11 +162,24 @@ pub fn count_parting(links: &[PathLink]) -> usize
     links.iter().filter(|l| is_link_parting(l)).count()
 }
 
-/// The first link whose detach is due.
-pub fn first_to_part(links: &[PathLink]) -> Option<&PathLink>
-    ensures { option_copied result ≡ find is_to_part links.now }
+/// Its deliveries are over: nothing is to come of the link any more.
+fn is_link_done_with(l: &PathLink, deliveries: &Deliveries) -> bool
+    ensures { result ≡ is_done_with deliveries.now l.now }
 {
-    links.iter().find(|l| is_link_to_part(l))
+    l.receives && is_link_open(l) && deliveries.is_over(l.link)
+}
+
+fn is_link_going(l: &PathLink, deliveries: &Deliveries) -> bool
+    ensures { result ≡ parts deliveries.now l.now }
+{
+    is_link_to_part(l) || is_link_done_with(l, deliveries)
+}
+
+/// The first link whose detach is due.
+pub fn first_to_part<'a>(links: &'a [PathLink], deliveries: &Deliveries) -> Option<&'a PathLink>
+    ensures { option_copied result ≡ find (parts deliveries.now) links.now }
+{
+    links.iter().find(|l| is_link_going(l, deliveries))
 }
 
 /// The link that both attached with this handle of the gateway, and the container didn't detach.

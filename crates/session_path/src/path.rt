@@ -51,11 +51,13 @@ pub struct Source {
     pub address: ByteText,
 }
 
-/// A basic.consume that waits for the container's attach.
+/// A basic.consume or queue.declare that waits for the container's attach.
 #[derive(Clone, Copy, Debug, PartialEq, Eq)]
 pub struct Awaited {
     /// The number of its link.
     pub link: u32,
+    /// It is a queue.declare.
+    pub declares: bool,
     /// It wants no answer.
     pub no_wait: bool,
 }
@@ -121,6 +123,15 @@ pub enum PathOk {
     Select,
     /// basic.consume-ok, for the consumer of the link with this number
     Consume(u32),
+    /// basic.qos-ok, for so many unsettled deliveries: of each consumer to come, or with `global`
+    /// of all consumers together
+    Qos { count: u16, global: bool },
+    /// basic.cancel-ok
+    Cancel,
+    /// queue.declare-ok
+    Queue,
+    /// basic.recover-ok
+    Recover,
 }
 
 /// Why an attach of the container can't be taken.

@@ -10,14 +10,14 @@ ghost use Rattle.publish_path.specs.Offers.{held_bytes, held_count, next_frame_o
 ghost use Rattle.publish_path.specs.Offers.{frame_sent, links_after};
 ghost use Rattle.publish_path.specs.Publishes.{TakenUp, after_event};
 ghost use Rattle.session_path.specs.Path.{credit_in, flow_of, given_of, is_idle, number_of};
-ghost use Rattle.session_path.specs.Path.{owes_flow};
+ghost use Rattle.session_path.specs.Path.{owes_flow, parts};
 ghost use Rattle.link_table.specs.Table.{free_of};
 ghost use Rattle.session_path.specs.Due.{attach_of, count_in, due_in, flow_due};
 ghost use Rattle.session_path.specs.Links.{handle_at, attached_if, drained_if, free_number};
 ghost use Rattle.session_path.specs.Links.{linked_to, with_link_to, with_wanted, told_on, no_links};
 ghost use Rattle.session_path.specs.Links.{with_receiver, without_receivers, limited, all_lost};
 ghost use Rattle.session_path.specs.Links.{link_asked, attach_fault, asked_by, attached, is_wanted};
-ghost use Rattle.session_path.specs.Links.{has_number, is_left, is_to_part, is_stage_open, gone_on};
+ghost use Rattle.session_path.specs.Links.{has_number, is_left, is_stage_open, gone_on};
 ghost use Rattle.session_path.specs.Links.{is_stage_failed};
 ghost use Rattle.session_path.specs.Links.{named, link_flowed, link_detached, link_failed};
 ghost use Rattle.session_path.specs.Links.{is_wanting, lowest, given_on, parted, LinksState};
@@ -29,7 +29,7 @@ use crate::links::{
     is_link_taking, lowest_free, put_link, told, told_once, wanted,
 };
 use crate::path::{AttachDue, AttachFault, AttachHeard, FlowDue, PathLink};
-use consume_path::TransferFault;
+use consume_path::{Deliveries, TransferFault};
 use link_table::Handles;
 use open_items::Frames;
 use publish_path::{NextFrame, Publishes, SendLinks};
@@ -361,31 +361,31 @@ impl PathLinks {
         }
     }
 
-    /// The first link that the container detached or that failed: its detach is due.
-    pub fn first_to_part(&self) -> Option<PathLink>
-        ensures link { result ≡ find is_to_part self.now.links }
+    /// The first link that is to part: its detach is due.
+    pub fn first_to_part(&self, deliveries: &Deliveries) -> Option<PathLink>
+        ensures link { result ≡ find (parts deliveries.now) self.now.links }
         ensures there { IfSome result (λ l. find (has_number l.link) self.now.links ≡ Some l) }
     {
-        first_to_part(self.links.as_slice()).copied()
+        first_to_part(self.links.as_slice(), deliveries).copied()
     }
 
     /// The link whose detach is due.
-    pub fn next_detach(&self, publishes: &Publishes) -> Option<PathLink>
-        ensures { result
-            ≡ option_or (find is_to_part self.now.links) (given_of publishes.now.list self.now) }
+    pub fn next_detach(&self, publishes: &Publishes, deliveries: &Deliveries) -> Option<PathLink>
+        ensures { result ≡ option_or (find (parts deliveries.now) self.now.links)
+            (given_of publishes.now.list self.now) }
     {
-        match first_to_part(self.links.as_slice()) {
+        match first_to_part(self.links.as_slice(), deliveries) {
             Some(l) => Some(*l),
             None => self.given_up(publishes),
         }
     }
 
     /// The detach that is due was sent. Nothing changes where none is.
-    pub fn part(&mut self, publishes: &Publishes)
-        ensures { self.new ≡ parted (find is_to_part self.old.links)
+    pub fn part(&mut self, publishes: &Publishes, deliveries: &Deliveries)
+        ensures { self.new ≡ parted (find (parts deliveries.now) self.old.links)
             (given_of publishes.now.list self.old) self.old }
     {
-        let Some(l) = self.first_to_part() else {
+        let Some(l) = self.first_to_part(deliveries) else {
             self.give_up(publishes);
             return;
         };

@@ -1,7 +1,7 @@
 //! A session with what it carries: each call is one event, or a question on what is due.
 
 ghost use Rattle.std.specs.Prelude.{◌≡◌, ◌≤◌, ◌+◌, ◌<◌, ◌↔◌, [], length, filter, find, Some, None};
-ghost use Rattle.std.specs.Prelude.{IsSome, IsNone, IfSome, OnOk, OnErr, IfOk, option_copied};
+ghost use Rattle.std.specs.Prelude.{IsSome, IsNone, IfSome, OnOk, OnErr, IfOk, option_copied, true};
 ghost use Rattle.consume_path.specs.Links.{is_ask};
 ghost use Rattle.publish_path.specs.Offers.{next_frame_of, rest_of};
 ghost use Rattle.publish_path.specs.Publishes.{is_open};
@@ -12,9 +12,11 @@ ghost use Rattle.session_path.specs.Path.{outcome_came, last_or, attach_sent, li
 ghost use Rattle.session_path.specs.Path.{transfer_sent, settle_sent, detach_sent, confirm_sent};
 ghost use Rattle.session_path.specs.Path.{ok_sent, lines_told, return_sent, receiver_in};
 ghost use Rattle.session_path.specs.Path.{receiver_flowed, grant_in, granting, is_grant_next};
-ghost use Rattle.session_path.specs.Path.{is_answered, still_awaited, without_source};
+ghost use Rattle.session_path.specs.Path.{answer_on, declares_in, is_answered, still_awaited, without_source};
 ghost use Rattle.session_path.specs.Path.{is_source_of};
-ghost use Rattle.session_path.specs.Due.{first_of, next_attach, next_flow, next_frame, next_settle};
+ghost use Rattle.session_path.specs.Due.{next_attach, next_name, next_flow, next_frame};
+ghost use Rattle.session_path.specs.Due.{next_settle};
+ghost use Rattle.session_path.specs.Path.{first_of};
 ghost use Rattle.session_path.specs.Due.{next_detach, next_confirm, next_ok, is_done, grant_due};
 ghost use Rattle.session_path.specs.Due.{next_return, return_frame, source_of};
 ghost use Rattle.session_path.specs.Due.{address_at, held, held_size_of};
@@ -47,13 +49,17 @@ pub struct SessionPath {
     links: PathLinks,
     /// The addresses of the receiving links.
     sources: Vec<Source>,
-    /// The basic.consume that waits for the container.
+    /// The request that waits for the container.
     awaited: Option<Awaited>,
     /// The content of a delivery of which frames are to go.
     writing: Option<Writing>,
     settles: VecDeque<Settling>,
     confirms: bool,
     oks: VecDeque<PathOk>,
+    /// The names that some of them give back.
+    names: VecDeque<ByteText>,
+    /// The queue that was declared last; empty where none was.
+    queue: ByteText,
     /// How many publishes were taken up.
     taken: u64,
 }
@@ -74,6 +80,8 @@ impl Model for SessionPath {
       settles = a.settles.items;
       confirms = a.confirms;
       oks = a.oks.items;
+      names = a.names.items;
+      queue = a.queue;
     } };
 
     ghost invariant = { λ a. a.taken ≡ a.publishes.numbers };
@@ -94,13 +102,34 @@ fn first_in<T: Copy>(items: &VecDeque<T>) -> Option<T>
     items.front().copied()
 }
 
-/// The basic.consume that waits for this link is to be answered.
+/// The request that waits for this link is to be answered.
 fn is_answered(awaited: Option<Awaited>, link: u32) -> bool
     ensures { result ≡ is_answered link awaited }
 {
     match awaited {
         Some(awaited) => awaited.link == link && !awaited.no_wait,
         None => false,
+    }
+}
+
+/// It is a queue.declare.
+fn declares_in(awaited: Option<Awaited>) -> bool
+    ensures { result ≡ declares_in awaited }
+{
+    match awaited {
+        Some(awaited) => awaited.declares,
+        None => false,
+    }
+}
+
+/// The answer to the request that waits for this link.
+fn answer_on(awaited: Option<Awaited>, link: u32) -> PathOk
+    ensures { result ≡ answer_on link (declares_in awaited) }
+{
+    if declares_in(awaited) {
+        PathOk::Queue
+    } else {
+        PathOk::Consume(link)
     }
 }
 
@@ -154,6 +183,8 @@ impl SessionPath {
             settles: VecDeque::new(alloc),
             confirms: false,
             oks: VecDeque::new(alloc),
+            names: VecDeque::new(alloc),
+            queue: ByteText::empty(alloc),
             taken: 0,
         })
     }
@@ -201,12 +232,19 @@ impl SessionPath {
         self.confirms = true;
     }
 
-    /// An answer is due to the client.
+    /// An answer is due to the client. A basic.qos without `global` counts from now on.
     pub fn owed(&mut self, ok: PathOk) -> Result<(), Memory>
         ensures ok { OnOk result (self.new ≡ owed ok self.old) }
         ensures err { OnErr result (self.new ≡ self.old) }
     {
         self.oks.push_back(ok)?;
+        if let PathOk::Qos {
+            count,
+            global: false,
+        } = ok
+        {
+            self.deliveries.set_prefetch(count);
+        }
         Ok(())
     }
 
@@ -233,13 +271,29 @@ impl SessionPath {
         Ok(())
     }
 
+    /// The queue that was declared last, for the answer to the queue.declare that waits; empty where
+    /// none does.
+    fn awaited_queue(&self) -> Result<ByteText, Memory>
+        ensures { declares_in self.now.awaited ≡ true → IfOk result (λ name. name
+            ≡ self.now.queue) }
+    {
+        let alloc = *self.sources.allocator();
+        if declares_in(self.awaited) {
+            self.queue.copy(alloc)
+        } else {
+            Ok(ByteText::empty(alloc))
+        }
+    }
+
     /// The container's attach came. One at fault changes nothing. That of a receiving link with a
-    /// source begins its deliveries, and an answer to the basic.consume that waits for it is due.
+    /// source begins its deliveries, and an answer to the request that waits for it is due.
     pub fn attach_came(&mut self, attach: AttachHeard) -> Result<(), Memory>
         ensures ok { OnOk result (self.new ≡ attach_came attach self.old) }
         ensures err { OnErr result (self.new ≡ self.old) }
     {
+        let queue = self.awaited_queue()?;
         self.oks.try_reserve(1)?;
+        self.names.try_reserve(1)?;
         let Some(l) = self.links.attach(attach) else {
             return Ok(());
         };
@@ -248,7 +302,10 @@ impl SessionPath {
         }
         self.deliveries.link_attached(l.link, attach.count);
         if is_answered(self.awaited, l.link) {
-            self.oks.push_back(PathOk::Consume(l.link))?;
+            self.oks.push_back(answer_on(self.awaited, l.link))?;
+            if declares_in(self.awaited) {
+                self.names.push_back(queue)?;
+            }
         }
         self.awaited = still_awaited(self.awaited, l.link);
         Ok(())
@@ -386,8 +443,8 @@ impl SessionPath {
     pub fn detach_sent(&mut self)
         ensures { self.new ≡ detach_sent self.old }
     {
-        let parting = self.links.first_to_part();
-        self.links.part(&self.publishes);
+        let parting = self.links.first_to_part(&self.deliveries);
+        self.links.part(&self.publishes, &self.deliveries);
         if let Some(l) = parting
             && l.receives
         {
@@ -414,10 +471,22 @@ impl SessionPath {
         self.publishes.returned();
     }
 
-    /// The answer that is due was sent.
+    /// The answer that is due was sent. A basic.qos with `global` counts from now on.
     pub fn ok_sent(&mut self)
         ensures { self.new ≡ ok_sent self.old }
     {
+        match self.next_ok() {
+            Some(
+                PathOk::Qos {
+                    count,
+                    global: true,
+                },
+            ) => self.deliveries.set_global(count),
+            Some(PathOk::Cancel | PathOk::Queue) => {
+                self.names.pop_front();
+            }
+            _ => {}
+        }
         self.oks.pop_front();
     }
 
@@ -538,7 +607,7 @@ impl SessionPath {
     pub fn next_detach(&self) -> Option<PathLink>
         ensures { result ≡ next_detach self.now }
     {
-        self.links.next_detach(&self.publishes)
+        self.links.next_detach(&self.publishes, &self.deliveries)
     }
 
     /// The confirm that is due.
@@ -567,6 +636,16 @@ impl SessionPath {
         ensures { result ≡ next_ok self.now }
     {
         first_in(&self.oks)
+    }
+
+    /// The name that the next answer gives back that gives one; empty where none is due.
+    pub fn next_name(&self) -> &[u8]
+        ensures { result.now ≡ next_name self.now }
+    {
+        match self.names.front() {
+            Some(name) => name.as_slice(),
+            None => &[],
+        }
     }
 
     /// No publish waits, is begun, or lacks an outcome.

@@ -8,6 +8,8 @@ ghost use Rattle.consume_path.specs.Links.{is_tag_used};
 ghost use Rattle.consume_path.specs.Offers.{content_of, is_known};
 ghost use Rattle.session_path.specs.Links.{is_stage_whole, named};
 ghost use Rattle.session_path.specs.Path.{numbered_tag, free_from, tag_for, consumed, answer_came};
+ghost use Rattle.session_path.specs.Path.{asked_from, cancelled, closes_at, declare_came};
+ghost use Rattle.session_path.specs.Path.{is_awaited_on, queue_or};
 ghost use Rattle.session_path.specs.Path.{receiver_in, taking, transfer_fault, is_last};
 ghost use Rattle.session_path.specs.Path.{transfer_came, failed, dispose_sent, deliver_sent};
 ghost use Rattle.session_path.specs.Path.{frames_of, content_sent, content_whole};
@@ -15,7 +17,8 @@ ghost use Rattle.session_path.specs.Due.{next_dispose, next_deliver, next_conten
 ghost use Rattle.session_path.specs.Due.{content_due, tag_of, queue_at, partial_on, is_waiting};
 
 use super::SessionPath;
-use crate::path::{Awaited, ContentDue, DeliverDue, PathLink, Source, Stage, Writing};
+use crate::links::is_link_given;
+use crate::path::{Awaited, ContentDue, DeliverDue, PathLink, PathOk, Source, Stage, Writing};
 use consume_path::{
     Content, Deliveries, Delivery, NextSettle, Part, RecvKind, Settle, TransferFault,
 };
@@ -84,32 +87,90 @@ fn content_due(count: usize, content: Writing) -> Option<ContentDue>
     }
 }
 
+/// A request waits for this link.
+fn is_awaited_on(awaited: Option<Awaited>, link: u32) -> bool
+    ensures { result ≡ is_awaited_on link awaited }
+{
+    match awaited {
+        Some(awaited) => awaited.link == link,
+        None => false,
+    }
+}
+
 impl SessionPath {
     // ---- requests of the client
 
-    /// basic.consume of this queue was taken up; it waits for the container's attach. An empty tag
-    /// stands for one that isn't in use.
-    pub fn consume(
+    /// A receiving link is wanted, of this kind and from this address, for a request that waits for
+    /// the container's attach.
+    fn ask_from(
         &mut self,
         address: ByteText,
-        tag: ByteText,
-        no_ack: bool,
+        kind: RecvKind,
+        declares: bool,
         no_wait: bool,
     ) -> Result<(), Memory>
-        ensures ok { OnOk result (self.new ≡ consumed address tag no_ack no_wait self.old) }
+        ensures ok { OnOk result (self.new ≡ asked_from address kind declares no_wait self.old) }
         ensures err { OnErr result (self.new ≡ self.old) }
     {
-        let tag = tag_for(*self.sources.allocator(), tag, &self.deliveries)?;
         self.sources.try_reserve(1)?;
         let link = self.links.want_receiver()?;
-        let kind = RecvKind::Consumer { tag, no_ack };
         if let Err(memory) = self.deliveries.add_link(link, kind) {
             self.links.unwant(link);
             return Err(memory);
         }
         self.sources.push(Source { link, address })?;
-        self.awaited = Some(Awaited { link, no_wait });
+        self.awaited = Some(Awaited {
+            link,
+            declares,
+            no_wait,
+        });
         Ok(())
+    }
+
+    /// The queue of this name; an empty one stands for the queue that was declared last.
+    fn queue_or(&self, queue: ByteText) -> Result<ByteText, Memory>
+        ensures { IfOk result (λ own. own ≡ queue_or self.now.queue queue) }
+    {
+        if queue.as_slice().is_empty() {
+            self.queue.copy(*self.sources.allocator())
+        } else {
+            Ok(queue)
+        }
+    }
+
+    /// basic.consume of this queue was taken up; it waits for the container's attach. An empty tag
+    /// stands for one that isn't in use, and an empty name for the queue that was declared last.
+    pub fn consume(
+        &mut self,
+        queue: ByteText,
+        tag: ByteText,
+        no_ack: bool,
+        no_wait: bool,
+    ) -> Result<(), Memory>
+        ensures ok { OnOk result (self.new ≡ consumed queue tag no_ack no_wait self.old) }
+        ensures err { OnErr result (self.new ≡ self.old) }
+    {
+        let address = self.queue_or(queue)?;
+        let tag = tag_for(*self.sources.allocator(), tag, &self.deliveries)?;
+        self.ask_from(address, RecvKind::Consumer { tag, no_ack }, false, no_wait)
+    }
+
+    /// queue.declare of this queue was taken up; it waits for the container's attach.
+    pub fn declare(&mut self, queue: ByteText, no_wait: bool) -> Result<(), Memory>
+        ensures ok { OnOk result (self.new ≡ declare_came queue no_wait self.old) }
+        ensures err { OnErr result (self.new ≡ self.old) }
+    {
+        let address = queue.copy(*self.sources.allocator())?;
+        self.ask_from(address, RecvKind::Probe, true, no_wait)?;
+        self.queue = queue;
+        Ok(())
+    }
+
+    /// The queue that was declared last, for which an empty name stands; empty where none was.
+    pub fn last_queue(&self) -> &[u8]
+        ensures { result.now ≡ self.now.queue }
+    {
+        self.queue.as_slice()
     }
 
     /// A consumer of the channel has this tag (AMQP 0-9-1 1.8.3.3).
@@ -119,7 +180,39 @@ impl SessionPath {
         self.deliveries.has_tag(tag)
     }
 
-    /// A basic.consume waits for the container.
+    /// basic.cancel of the consumer with this tag was taken up: no more comes to it, where there is
+    /// such a consumer. Its answer gives the tag back.
+    pub fn cancel(&mut self, tag: ByteText, no_wait: bool) -> Result<(), Memory>
+        ensures ok { OnOk result (self.new ≡ cancelled tag no_wait self.old) }
+        ensures err { OnErr result (self.new ≡ self.old) }
+    {
+        self.oks.try_reserve(1)?;
+        self.names.try_reserve(1)?;
+        if let Some(link) = self.deliveries.consumer(tag.as_slice()) {
+            self.deliveries.cancel(link);
+        }
+        if !no_wait {
+            self.oks.push_back(PathOk::Cancel)?;
+            self.names.push_back(tag)?;
+        }
+        Ok(())
+    }
+
+    /// A detach under this handle of the container closes the channel: a consumer has the link, a
+    /// request waits for it, or deliveries of it aren't settled.
+    pub fn closes_at(&self, peer: u32) -> bool
+        ensures { result ≡ closes_at peer self.now }
+    {
+        match self.receiver(peer) {
+            Some(l) => {
+                !is_link_given(&l)
+                    && (is_awaited_on(self.awaited, l.link) || !self.deliveries.is_over(l.link))
+            }
+            None => false,
+        }
+    }
+
+    /// A request waits for the container.
     pub fn waits(&self) -> bool
         ensures { result ≡ is_waiting self.now }
     {
@@ -133,7 +226,7 @@ impl SessionPath {
         self.deliveries.knows(tag, multiple)
     }
 
-    /// A basic.ack, nack or reject was taken up. `knows` says before whether it may name the tag.
+    /// A basic.ack, nack, reject or recover was taken up. `knows` says before whether it may name the tag.
     pub fn answer_came(&mut self, tag: u64, multiple: bool, settle: Settle)
         ensures { self.new ≡ answer_came tag multiple settle self.old }
     {
