@@ -49,7 +49,8 @@ use Rattle.gate_model.specs.Publishing.{path_life, publishes_in, reply_events, r
 use Rattle.gate_model.specs.Publishing.{returned_in, text_wanted, up_events, want_events}
 use Rattle.gate_model.specs.Requests.{address_of, message_of}
 use Rattle.gate_model.specs.Returns.{back_of}
-use Rattle.gate_model.specs.State.{Began, Came, Fed, Gave, Heard, Joined, Lost, Moment, OutOfMemory}
+use Rattle.gate_model.specs.State.{Began, Came, Fed, Gave, Heard, Joined, LinesTold, Lost, Moment}
+use Rattle.gate_model.specs.State.{OutOfMemory}
 use Rattle.gate_model.specs.State.{Queued, Silent, Step, TakenUp, Whole, before, conn_step, want_in}
 use Rattle.gate_model.proofs.Fates.{IsLived, IsNext, PublishesAre, is_next, least_passes, lived}
 use Rattle.gate_model.proofs.Firsts.{OfChannel, goes_as}
@@ -162,6 +163,8 @@ plain life es (event.Published address payload back) e t = absurd cc
 plain life es event.Selected e t = t
 plain life es (event.Owed ok) e t = t
 plain life es (event.Consumed address tag no_ack no_wait) e t = t
+plain life es (event.CancelCame tag no_wait) e t = t
+plain life es (event.Declared queue no_wait) e t = t
 plain life es (event.AnswerCame tag multiple settle) e t = t
 plain life es (event.AttachCame attach) e t = t
 plain life es (event.FlowCame peer count credit drain echo) e t = t
@@ -271,9 +274,15 @@ method_backs true (method.ExchangeDeclare name kind passive durable deletes inte
 method_backs true (method.ConfirmSelect no_wait) life o es number count gone back t = calls (method.ConfirmSelect no_wait) o es number count gone back t
 method_backs true (method.BasicConsume queue tag no_local no_ack exclusive no_wait arguments) life o es number count gone back t =
     calls (method.BasicConsume queue tag no_local no_ack exclusive no_wait arguments) o es number count gone back t
+method_backs true (method.BasicCancel tag no_wait) life o es number count gone back t = calls (method.BasicCancel tag no_wait) o es number count gone back t
+method_backs true (method.QueueDeclare queue passive durable exclusive deletes no_wait arguments) life o es number count gone back t =
+    calls (method.QueueDeclare queue passive durable exclusive deletes no_wait arguments) o es number count gone back t
+method_backs true (method.BasicQos size most global) life o es number count gone back t = calls (method.BasicQos size most global) o es number count gone back t
 method_backs true (method.BasicAck tag multiple) life o es number count gone back t = calls (method.BasicAck tag multiple) o es number count gone back t
 method_backs true (method.BasicReject tag requeue) life o es number count gone back t = calls (method.BasicReject tag requeue) o es number count gone back t
 method_backs true (method.BasicNack tag multiple requeue) life o es number count gone back t = calls (method.BasicNack tag multiple requeue) o es number count gone back t
+method_backs true (method.BasicRecover requeue) life o es number count gone back t = calls (method.BasicRecover requeue) o es number count gone back t
+method_backs true (method.BasicRecoverAsync requeue) life o es number count gone back t = calls (method.BasicRecoverAsync requeue) o es number count gone back t
 method_backs true (method.ChannelClose code text class id) life o es number count gone back t = calls (method.ChannelClose code text class id) o es number count gone back t
 method_backs true m life o es number count gone back t = t
 
@@ -414,7 +423,7 @@ module _ (publishes : PublishesAre) (returns : ReturnsAre) (frames : BacksAre) w
   backs n number [] p = tt
   backs n number (Began site i ms ∷ h) p = backs n number h p.1
   backs n number (Moment ms ∷ h) p = quietly h n number (event.LinesWent ∷ []) (refl, tt) (backs n number h p.1)
-  backs n number (Fed Client ∷ h) p = backs n number h p.1
+  backs n number (Fed Client ∷ h) p = quietly h n number (event.LinesWent ∷ []) (refl, tt) (backs n number h p.1)
   backs n number (Fed Up ∷ h) p = quietly h n number (event.LinesWent ∷ []) (refl, tt) (backs n number h p.1)
   backs n number (Silent Client ∷ h) p = quietly h n number (event.LifeClosed ∷ []) (refl, tt) (backs n number h p.1)
   backs n number (Silent Up ∷ h) p = quietly h n number _ (lost_plain _) (backs n number h p.1)
@@ -432,6 +441,7 @@ module _ (publishes : PublishesAre) (returns : ReturnsAre) (frames : BacksAre) w
   backs n number (Gave (ToUp u) text ∷ h) p = up_backs h n number u (backs n number h p.1)
   backs n number (Whole Client ∷ h) p = quietly h n number _ (whole_plain n (going_in h)) (backs n number h p.1)
   backs n number (Whole Up ∷ h) p = backs n number h p.1
+  backs n number (LinesTold ∷ h) p = quietly h n number (event.LinesWent ∷ []) (refl, tt) (backs n number h p.1)
   backs n number (OutOfMemory ∷ h) p = quietly h n number (event.LifeClosed ∷ []) (refl, tt) (backs n number h p.1)
 
   -- ---- the frames that go

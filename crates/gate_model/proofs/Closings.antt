@@ -34,7 +34,8 @@ use Rattle.gate_model.specs.Folds.{carried_on, peers_left, peers_scoped, ran_out
 use Rattle.gate_model.specs.Folds.{sent_up}
 use Rattle.gate_model.specs.Picks.{ArePicks}
 use Rattle.gate_model.specs.Requests.{client_step}
-use Rattle.gate_model.specs.State.{Began, Came, Fed, Gave, Heard, Joined, Lost, Moment, OutOfMemory}
+use Rattle.gate_model.specs.State.{Began, Came, Fed, Gave, Heard, Joined, LinesTold, Lost, Moment}
+use Rattle.gate_model.specs.State.{OutOfMemory}
 use Rattle.gate_model.specs.State.{Queued, Silent, State, Step, TakenUp, Whole, before, paths_lost}
 use Rattle.gate_model.specs.State.{begun_session, came, carried, close_if, closed_for, closing_code}
 use Rattle.gate_model.specs.State.{closing_error, condition_by, conn_step, dequeued, fail}
@@ -103,6 +104,7 @@ closes_on (Gave (ToClient u) text) h p e = closing_only (only_given u (connectio
 closes_on (Gave (ToUp u) text) h p e = e
 closes_on (Whole Client) h p e = e
 closes_on (Whole Up) h p e = e
+closes_on LinesTold h p e = e
 closes_on OutOfMemory h p e = close_closes (connection h).phase
 
 -- ---- before the closing event nothing is told
@@ -184,6 +186,7 @@ step_told (Joined answer) h m e = refl
 step_told (Lost end how) h m e = refl
 step_told (Gave u text) h m e = refl
 step_told (Whole end) h m e = refl
+step_told LinesTold h m e = refl
 step_told OutOfMemory h m e = absurd (clash _ (close_closes (connection h).phase) e)
 
 none_told : (h : List Step) → ArePicks h → is_closing (connection h) ≡ false → closing_condition h ≡ None
@@ -363,6 +366,7 @@ condition_is (Gave (ToClient u) text ∷ h) p = quiet _ _ _ (condition_is h p.1)
 condition_is (Gave (ToUp u) text ∷ h) p = quiet _ _ _ (condition_is h p.1) (none_told h p.1)
 condition_is (Whole Client ∷ h) p = quiet _ _ _ (condition_is h p.1) (none_told h p.1)
 condition_is (Whole Up ∷ h) p = quiet _ _ _ (condition_is h p.1) (none_told h p.1)
+condition_is (LinesTold ∷ h) p = quiet _ _ _ (condition_is h p.1) (none_told h p.1)
 condition_is (OutOfMemory ∷ h) p =
     ap (λ (s : UpState). s.condition) (closing_is (is_closing (before h).conn) _ (before h).up)
     ∙ told (before h) (connection h) (closing_condition h) _ (conn_is (known h p.1)) (condition_is h p.1)
@@ -413,4 +417,5 @@ closes_sent (Gave (ToUp u) text ∷ h) p e =
     closes_by h u p.1 (goes_up (before h) u p.0.1).why (closes_sent h p.1)
     (sym (list_any-append is_up_close (sent_up h) (u ∷ []) ∙ ap (λ (b : Bool). list_any is_up_close (sent_up h) || b) (or_one (is_up_close u))) ∙ e)
 closes_sent (Whole end ∷ h) p e = closes_on (Whole end) h p (closes_sent h p.1 e)
+closes_sent (LinesTold ∷ h) p e = closes_on LinesTold h p (closes_sent h p.1 e)
 closes_sent (OutOfMemory ∷ h) p e = closes_on OutOfMemory h p (closes_sent h p.1 e)

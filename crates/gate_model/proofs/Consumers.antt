@@ -12,7 +12,7 @@ use Rattle.consume_path.specs.Deliveries.{DeliveryEvent, DeliveryState}
 use Rattle.consume_path.specs.Items as items
 use Rattle.consume_path.specs.Items.{needs_content, new_delivery, trimmed}
 use Rattle.consume_path.specs.Links as links
-use Rattle.consume_path.specs.Links.{has_number, link_of, new_link, recount, tag_in}
+use Rattle.consume_path.specs.Links.{consumer_link, has_number, link_of, new_link, recount, tag_in}
 use Rattle.consume_path.specs.Offers.{content_in, content_of as content_at, has_content}
 use Rattle.consume_path.specs.declared.delivery.Arriving.{Arriving}
 use Rattle.consume_path.specs.declared.delivery.Content.{Content}
@@ -23,14 +23,21 @@ use Rattle.consume_path.specs.declared.receiving.Part.{Part}
 use Rattle.consume_path.specs.declared.receiving.ReceivingLink.{ReceivingLink}
 use Rattle.consume_path.specs.declared.receiving.RecvKind.{RecvKind}
 use Rattle.consume_path.specs.declared.receiving.RecvKind.TheVariants as kind
+use Rattle.session_path.specs.Due.{next_name, or_no_name}
 use Rattle.session_path.specs.Events as event
-use Rattle.session_path.specs.Events.{PathEvent, after_events, arrivals, begins, deliveries_of, delivery_events}
-use Rattle.session_path.specs.Events.{disposes, drops, flows, grants, transfers}
-use Rattle.session_path.specs.Path.{PathState, free_from, grant_in, is_grant_next, is_last, numbered_tag, receiver_in}
+use Rattle.session_path.specs.Events.{PathEvent, after_events, arrivals, begins, cancels, deliveries_of, delivery_events}
+use Rattle.session_path.specs.Events.{disposes, drops, flows, globals, grants, prefetches, transfers}
+use Rattle.session_path.specs.Laws.{IsBackOf, begun_names, named_by, names_owed, queue_in}
+use Rattle.session_path.specs.Path.{declares_in, is_answered}
+use Rattle.session_path.specs.declared.path.Awaited.{Awaited}
+use Rattle.session_path.specs.Path.{PathState, first_of, free_from, grant_in, is_grant_next, is_last, numbered_tag}
+use Rattle.session_path.specs.Path.{parting_of, receiver_in}
 use Rattle.session_path.specs.Path.{tag_for, taking}
-use Rattle.session_path.specs.Links.{asked_by, is_to_part, named}
+use Rattle.session_path.specs.Links.{asked_by, named}
 use Rattle.session_path.specs.declared.path.AttachHeard.{AttachHeard}
 use Rattle.session_path.specs.declared.path.PathLink.{PathLink}
+use Rattle.session_path.specs.declared.path.PathOk.{PathOk}
+use Rattle.session_path.specs.declared.path.PathOk.TheVariants as ok
 use Rattle.consume_path.specs.Offers.{next_settle_of}
 use Rattle.gate_model.proofs.Fitting.{AreFit, fit_more}
 use Rattle.gate_model.proofs.Reports.{DeliveriesAre}
@@ -234,6 +241,8 @@ IsGood l (event.Published address payload back) = Unit {0}
 IsGood l event.Selected = Unit {0}
 IsGood l (event.Owed ok) = Unit {0}
 IsGood l (event.Consumed address tag no_ack no_wait) = length tag ≤ 255
+IsGood l (event.CancelCame tag no_wait) = length tag ≤ 255
+IsGood l (event.Declared queue no_wait) = length queue ≤ 255
 IsGood l (event.AnswerCame tag multiple settle) = Unit {0}
 IsGood l (event.AttachCame attach) = Unit {0}
 IsGood l (event.FlowCame peer count credit drain echo) = Unit {0}
@@ -264,6 +273,8 @@ fit_still l m (Some c) le f = record { exchange = f.exchange; key = f.key; frame
 
 good_still : (l m : ℕ) (x : PathEvent) → l ≤ m → IsGood l x → IsGood m x
 good_still l m (event.Consumed address tag no_ack no_wait) le g = g
+good_still l m (event.CancelCame tag no_wait) le g = g
+good_still l m (event.Declared queue no_wait) le g = g
 good_still l m (event.TransferCame peer part payload image again) le g = fit_still l m image le g
 good_still l m x le g = tt
 
@@ -336,12 +347,28 @@ drops_good l (Some k) = by k.receives
     by true = (tt, tt)
     by false = tt
 
+prefetches_good : (l : ℕ) (x : PathOk) → AllByRecursion (IsGoodOn l) (prefetches x)
+prefetches_good l (ok.Qos count true) = tt
+prefetches_good l (ok.Qos count false) = (tt, tt)
+prefetches_good l x = tt
+
+globals_good : (l : ℕ) (o : Option PathOk) → AllByRecursion (IsGoodOn l) (globals o)
+globals_good l (Some (ok.Qos count true)) = (tt, tt)
+globals_good l (Some (ok.Qos count false)) = tt
+globals_good l o = tt
+
+cancels_good : (l : ℕ) (o : Option ℕ) → AllByRecursion (IsGoodOn l) (cancels o)
+cancels_good l None = tt
+cancels_good l (Some link) = (tt, tt)
+
 event_good : (l : ℕ) (s : PathState) (x : PathEvent) → IsGood l x → AllByRecursion (IsGoodOn l) (delivery_events s x)
 event_good l s (event.Began handle_max) g = tt
 event_good l s (event.Published address payload back) g = tt
 event_good l s event.Selected g = tt
-event_good l s (event.Owed ok) g = tt
+event_good l s (event.Owed x) g = prefetches_good l x
 event_good l s (event.Consumed address tag no_ack no_wait) g = (tag_short tag s.deliveries.links g, tt)
+event_good l s (event.CancelCame tag no_wait) g = cancels_good l (consumer_link tag s.deliveries.links)
+event_good l s (event.Declared queue no_wait) g = (tt, tt)
 event_good l s (event.AnswerCame tag multiple settle) g = (tt, tt)
 event_good l s (event.AttachCame attach) g = begins_good l (asked_by attach s.links) attach
 event_good l s (event.FlowCame peer count credit drain echo) g = flows_good l (receiver_in (named peer s.links)) count echo
@@ -354,13 +381,13 @@ event_good l s event.LinkFlowSent g = grants_good l (is_grant_next s) (grant_in 
 event_good l s (event.TransferSent frame count) g = tt
 event_good l s (event.SettleSent settling) g = tt
 event_good l s event.DisposeSent g = disposes_good l (next_settle_of s.deliveries.list)
-event_good l s event.DetachSent g = drops_good l (find is_to_part s.links.links)
+event_good l s event.DetachSent g = drops_good l (parting_of s)
 event_good l s (event.ConfirmWent confirm) g = tt
 event_good l s (event.ReturnWent number) g = tt
 event_good l s (event.DeliverSent due) g = (tt, tt)
 event_good l s event.ContentSent g = tt
 event_good l s (event.ContentWhole tag) g = (tt, tt)
-event_good l s (event.OkSent ok) g = tt
+event_good l s (event.OkSent x) g = globals_good l (first_of s.oks)
 event_good l s event.LinesWent g = (tt, tt)
 event_good l s event.LifeClosed g = (tt, tt)
 event_good l s event.SessionLost g = (tt, tt)
@@ -374,6 +401,55 @@ events_good l life (x ∷ es) a =
 -- so what a path has of deliveries can go
 pub deliverable : DeliveriesAre → (l life : ℕ) (es : List PathEvent) → AllByRecursion (IsGood l) es → AreDeliverable l (after_events life es).deliveries
 deliverable arrives l life es a = subst (AreDeliverable l) (sym (arrives life es)) (good_after l life (deliveries_of life es) (events_good l life es a))
+
+-- ---- the names that go back
+
+-- with answers that wait to go
+abbrev pub NamesGoBack : Type 0
+NamesGoBack = (life : ℕ) (h : List PathEvent) → IsBackOf (after_events life h).names (names_owed life h)
+
+abbrev IsName : List ℕ → Type 0
+IsName name = length name ≤ 255
+
+queue_short : (l : ℕ) (es : List PathEvent) → AllByRecursion (IsGood l) es → IsName (queue_in es)
+queue_short l [] a = omega arith
+queue_short l (event.Declared queue no_wait ∷ es) a = a.0
+queue_short l (x ∷ es) a = queue_short l es a.1
+
+begun_short : (o : Option PathLink) (a : AttachHeard) (w : Option Awaited) (queue : List ℕ) → IsName queue → AllByRecursion IsName (begun_names o a w queue)
+begun_short None a w queue g = tt
+begun_short (Some k) a w queue g = by (k.receives && a.there) (is_answered k.link w && declares_in w)
+  where
+    by : (b c : Bool) → AllByRecursion IsName (if b then (if c then queue ∷ [] else []) else [])
+    by true true = (g, tt)
+    by true false = tt
+    by false c = tt
+
+event_names : (l : ℕ) (s : PathState) (queue : List ℕ) (x : PathEvent) → IsName queue → IsGood l x → AllByRecursion IsName (named_by s queue x)
+event_names l s queue (event.CancelCame tag true) q g = tt
+event_names l s queue (event.CancelCame tag false) q g = (g, tt)
+event_names l s queue (event.AttachCame a) q g = begun_short (asked_by a s.links) a s.awaited queue q
+event_names l s queue x q g = tt
+
+names_short : (l life : ℕ) (es : List PathEvent) → AllByRecursion (IsGood l) es → AllByRecursion IsName (names_owed life es)
+names_short l life [] a = tt
+names_short l life (x ∷ es) a =
+    all_both IsName (names_owed life es) (named_by (after_events life es) (queue_in es) x) (names_short l life es a.1)
+    (event_names l (after_events life es) (queue_in es) x (queue_short l es a.1) a.0)
+
+all_behind : {A : Type 0} (P : A → Type 0) (xs ys : List A) → AllByRecursion P (xs ++ ys) → AllByRecursion P ys
+all_behind P [] ys a = a
+all_behind P (x ∷ xs) ys a = all_behind P xs ys a.1
+
+first_short : (names : List (List ℕ)) → AllByRecursion IsName names → length (or_no_name (first_of names)) ≤ 255
+first_short [] a = omega arith
+first_short (name ∷ names) a = a.0
+
+pub name_short : NamesGoBack → (l life : ℕ) (es : List PathEvent) → AllByRecursion (IsGood l) es → length (next_name (after_events life es)) ≤ 255
+name_short names l life es a =
+    let back : IsBackOf (after_events life es).names (names_owed life es) = names life es in
+    first_short (after_events life es).names
+    (all_behind IsName back.0 (after_events life es).names (subst (AllByRecursion IsName) (sym back.1) (names_short l life es a)))
 
 -- ---- what goes
 

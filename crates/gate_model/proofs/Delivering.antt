@@ -35,9 +35,10 @@ use Rattle.methods_091.specs.declared.method.Method91.{Method91}
 use Rattle.methods_091.specs.declared.method.Method91.TheVariants as method
 use Rattle.property_map.specs.Received.{header_of, received_in}
 use Rattle.property_map.specs.declared.received.Received.{Received}
-use Rattle.session_path.specs.Due.{joined_at, queue_at}
+use Rattle.session_path.specs.Due.{next_name, joined_at, queue_at}
 use Rattle.session_path.specs.Events as event
-use Rattle.session_path.specs.Events.{PathEvent}
+use Rattle.session_path.specs.Events.{PathEvent, after_events}
+use Rattle.session_path.specs.Path.{queue_or}
 use Rattle.session_path.specs.Path.{PathState}
 use Rattle.session_path.specs.declared.path.PathOk.{PathOk}
 use Rattle.session_path.specs.declared.path.PathOk.TheVariants as ok
@@ -55,7 +56,8 @@ use Rattle.gate_model.specs.Publishing.{session_events, told_event, transfer_eve
 use Rattle.gate_model.specs.Requests.{client_step, is_queue_name, method_fault, refused_by, refused_for, refusal_of_want}
 use Rattle.gate_model.specs.Returns.{header_part}
 use Rattle.gate_model.specs.Session.{is_of_session}
-use Rattle.gate_model.specs.State.{Began, Came, Fed, Gave, Heard, Joined, Lost, Moment, OutOfMemory, Queued, Silent, Step}
+use Rattle.gate_model.specs.State.{Began, Came, Fed, Gave, Heard, Joined, LinesTold, Lost, Moment}
+use Rattle.gate_model.specs.State.{OutOfMemory, Queued, Silent, Step}
 use Rattle.gate_model.specs.State.{TakenUp, Whole, before, close_if, closing_code, is_limit_reached}
 use Rattle.gate_model.specs.Upstream.{channel_max_in, meaning_by}
 use Rattle.gate_model.specs.declared.channel.ChannelUnit.{ChannelUnit}
@@ -69,7 +71,7 @@ use Rattle.gate_model.specs.declared.reply.Reply.{Reply}
 use Rattle.gate_model.specs.declared.reply.Reply.TheVariants as reply
 use Rattle.gate_model.specs.declared.setup.Route.{Route}
 use Rattle.gate_model.proofs.Connections.{limits_only, only_given}
-use Rattle.gate_model.proofs.Consumers.{AreDeliverable, IfFit, IsGood, all_both, all_still, deliverable}
+use Rattle.gate_model.proofs.Consumers.{AreDeliverable, NamesGoBack, IfFit, IsGood, all_both, all_still, name_short, deliverable}
 use Rattle.gate_model.proofs.Fates.{IsLived, lived}
 use Rattle.gate_model.proofs.Fitting.{Agrees, Within, agrees, cut_fits, frame_long, limit_grows, running_tuned}
 use Rattle.gate_model.proofs.Outcomes.{Answers, Asking, Asks, Calls, Closes, Declines, Drops, Fills, Frees, Greets, Ignores}
@@ -158,9 +160,11 @@ meaning_good r p n (ten.Violation why) le = lost_good _ (not (is_closing p.clien
 
 -- ---- what a client asks for
 
--- the tag of a consumer is a short string
+-- the tag of a consumer that comes or is cancelled is a short string
 abbrev IsNamed : Method91 → Type 0
 IsNamed (method.BasicConsume queue tag no_local no_ack exclusive no_wait arguments) = length tag ≤ 255
+IsNamed (method.BasicCancel tag no_wait) = length tag ≤ 255
+IsNamed (method.QueueDeclare queue passive durable exclusive deletes no_wait arguments) = length queue ≤ 255
 IsNamed m = Unit {0}
 
 abbrev NamesAre : Want91 → Type 0
@@ -184,7 +188,17 @@ method_named : (rs : List Route) (s : PathState) (m : Method91) → method_fault
 method_named rs s (method.BasicConsume queue tag no_local no_ack exclusive no_wait arguments) e = by (nat_le (length tag) 255) refl e
   where
     by : (b : Bool) → nat_le (length tag) 255 ≡ b
-        → (if not b || is_tag_used tag s.deliveries.links then Some NOT_ALLOWED else if is_queue_name queue then None else Some NOT_FOUND) ≡ None → length tag ≤ 255
+        → (if not b || is_tag_used tag s.deliveries.links then Some NOT_ALLOWED else if is_queue_name (queue_or s.queue queue) then None else Some NOT_FOUND) ≡ None → length tag ≤ 255
+    by true g f = grind (arith, nat_tests, g)
+    by false g f = absurd cc
+method_named rs s (method.QueueDeclare queue passive durable exclusive deletes no_wait arguments) e = by (nat_le (length queue) 255) refl e
+  where
+    by : (b : Bool) → nat_le (length queue) 255 ≡ b → (if not b then Some NOT_ALLOWED else if is_queue_name queue then None else Some NOT_FOUND) ≡ None → length queue ≤ 255
+    by true g f = grind (arith, nat_tests, g)
+    by false g f = absurd cc
+method_named rs s (method.BasicCancel tag no_wait) e = by (nat_le (length tag) 255) refl e
+  where
+    by : (b : Bool) → nat_le (length tag) 255 ≡ b → (if b then None else Some NOT_ALLOWED) ≡ None → length tag ≤ 255
     by true g f = grind (arith, nat_tests, g)
     by false g f = absurd cc
 method_named rs s m e = tt
@@ -215,9 +229,14 @@ method_good l (method.ChannelFlow active) e = (tt, tt)
 method_good l (method.ExchangeDeclare name kind passive durable deletes internal no_wait arguments) e = owed_good l no_wait ok.Declare
 method_good l (method.ConfirmSelect no_wait) e = all_both (IsGood l) (owed_unless no_wait (event.Owed ok.Select)) _ (owed_good l no_wait ok.Select) (tt, tt)
 method_good l (method.BasicConsume queue tag no_local no_ack exclusive no_wait arguments) e = (e, tt)
+method_good l (method.BasicCancel tag no_wait) e = (e, tt)
+method_good l (method.QueueDeclare queue passive durable exclusive deletes no_wait arguments) e = (e, tt)
+method_good l (method.BasicQos size count global) e = (tt, tt)
 method_good l (method.BasicAck tag multiple) e = (tt, tt)
 method_good l (method.BasicReject tag requeue) e = (tt, tt)
 method_good l (method.BasicNack tag multiple requeue) e = (tt, tt)
+method_good l (method.BasicRecover requeue) e = (tt, (tt, tt))
+method_good l (method.BasicRecoverAsync requeue) e = (tt, tt)
 method_good l (method.ChannelClose code text class id) e = (tt, tt)
 method_good l m e = tt
 
@@ -420,7 +439,7 @@ module _ (within : Within) (received : ReceivedAre) where
   fits n [] p = tt
   fits n (Began site i ms ∷ h) p = subst (λ (x : List Step). FitsIn (Began site i ms ∷ x) n) (sym p.0) tt
   fits n (Moment ms ∷ h) p = quietly h n _ (event.LinesWent ∷ []) (close_max (is_limit_reached (connection h) (accepted_in h) ms) (connection h)) (tt, tt) (fits n h p.1)
-  fits n (Fed Client ∷ h) p = fits n h p.1
+  fits n (Fed Client ∷ h) p = quietly h n _ (event.LinesWent ∷ []) refl (tt, tt) (fits n h p.1)
   fits n (Fed Up ∷ h) p = quietly h n _ (event.LinesWent ∷ []) refl (tt, tt) (fits n h p.1)
   fits n (Silent Client ∷ h) p = quietly h n _ (event.LifeClosed ∷ []) refl (tt, tt) (fits n h p.1)
   fits n (Silent Up ∷ h) p = quietly h n _ _ refl (lost_good _ (not (is_closing (connection h)))) (fits n h p.1)
@@ -444,6 +463,7 @@ module _ (within : Within) (received : ReceivedAre) where
   fits n (Gave (ToUp u) text ∷ h) p = quietly h n _ (up_events n u) refl (up_good _ n u) (fits n h p.1)
   fits n (Whole Client ∷ h) p = quietly h n _ (wrote_events n (going_in h)) refl (whole_good _ n (going_in h)) (fits n h p.1)
   fits n (Whole Up ∷ h) p = fits n h p.1
+  fits n (LinesTold ∷ h) p = quietly h n _ (event.LinesWent ∷ []) refl (tt, tt) (fits n h p.1)
   fits n (OutOfMemory ∷ h) p = quietly h n _ (event.LifeClosed ∷ []) refl (tt, tt) (fits n h p.1)
 
   -- ---- what is due on a channel
@@ -451,14 +471,24 @@ module _ (within : Within) (received : ReceivedAre) where
   in_life : (h : List Step) (n life : ℕ) → path_life h n ≡ Some life → FitsIn h n → AreGood (limit_in h) (path_events h n)
   in_life h n life e t = (subst (λ (o : Option ℕ). FitsAt o (limit_in h) (max_of (peers h)) (path_events h n)) e t).1
 
-  pub deliverable_at : DeliveriesAre → (h : List Step) (n : ℕ) → ArePicks h → AreDeliverable (limit_in h) (path_at (before h).paths n).deliveries
-  deliverable_at arrives h n p = by (slot_at (before h).paths n) refl
+  -- what holds of a new path, and of each after good events
+  of_path : (P : PathState → Type 0) (h : List Step) (n : ℕ) → ArePicks h → P (or_no_path None)
+      → ((life : ℕ) → AreGood (limit_in h) (path_events h n) → P (after_events life (path_events h n))) → P (path_at (before h).paths n)
+  of_path P h n p new lives = by (slot_at (before h).paths n) refl
     where
-      living : (s : PathState) → IsLived h n s → AreDeliverable (limit_in h) s.deliveries
-      living s l =
-          subst (λ (x : PathState). AreDeliverable (limit_in h) x.deliveries) (sym l.is)
-          (deliverable arrives (limit_in h) l.life (path_events h n) (in_life h n l.life l.lives (fits n h p)))
+      living : (s : PathState) → IsLived h n s → P s
+      living s l = subst P (sym l.is) (lives l.life (in_life h n l.life l.lives (fits n h p)))
 
-      by : (o : Option PathState) → slot_at (before h).paths n ≡ o → AreDeliverable (limit_in h) (or_no_path o).deliveries
-      by None e = record { links = tt; list = tt }
+      by : (o : Option PathState) → slot_at (before h).paths n ≡ o → P (or_no_path o)
+      by None e = new
       by (Some s) e = living s (lived h n s p e)
+
+  pub deliverable_at : DeliveriesAre → (h : List Step) (n : ℕ) → ArePicks h → AreDeliverable (limit_in h) (path_at (before h).paths n).deliveries
+  deliverable_at arrives h n p =
+      of_path (λ s. AreDeliverable (limit_in h) s.deliveries) h n p (record { links = tt; list = tt })
+      (λ life good. deliverable arrives (limit_in h) life (path_events h n) good)
+
+  -- the name that an answer gives back
+  pub name_at : NamesGoBack → (h : List Step) (n : ℕ) → ArePicks h → length (next_name (path_at (before h).paths n)) ≤ 255
+  name_at names h n p =
+      of_path (λ s. length (next_name s) ≤ 255) h n p (omega arith) (λ life good. name_short names (limit_in h) life (path_events h n) good)

@@ -11,7 +11,8 @@ use Rattle.gate_model.specs.Due.{refused_on, when}
 use Rattle.gate_model.specs.Folds.{is_answer}
 use Rattle.gate_model.specs.Lives.{is_done, session_in}
 use Rattle.gate_model.specs.Picks.{ArePicks}
-use Rattle.gate_model.specs.State.{Began, Came, Gave, Heard, Joined, Lost, Moment, OutOfMemory}
+use Rattle.gate_model.specs.State.{Began, Came, Gave, Heard, Joined, LinesTold, Lost, Moment}
+use Rattle.gate_model.specs.State.{OutOfMemory}
 use Rattle.gate_model.specs.State.{Queued, State, Step, TakenUp, Whole, before, is_channel_settled}
 use Rattle.gate_model.specs.State.{is_settled, Fed, Silent}
 use Rattle.gate_model.specs.Upstream.{first}
@@ -102,4 +103,5 @@ channels_end_when_settled (Heard u ∷ h) p = channels_end_when_settled h p.1
 channels_end_when_settled (Joined answer ∷ h) p = channels_end_when_settled h p.1
 channels_end_when_settled (Lost end how ∷ h) p = channels_end_when_settled h p.1
 channels_end_when_settled (Whole end ∷ h) p = channels_end_when_settled h p.1
+channels_end_when_settled (LinesTold ∷ h) p = channels_end_when_settled h p.1
 channels_end_when_settled (OutOfMemory ∷ h) p = channels_end_when_settled h p.1

@@ -34,7 +34,8 @@ use Rattle.gate_model.specs.Publishing.{back_by, back_in, back_wanted, opens_cha
 use Rattle.gate_model.specs.Requests.{client_step, message_of}
 use Rattle.gate_model.specs.Returns.{back_of, body_parts, cut_in, frame_with, header_part, is_mandatory, is_within}
 use Rattle.gate_model.specs.Returns.{method_part, return_parts}
-use Rattle.gate_model.specs.State.{Began, Came, Fed, Gave, Heard, Joined, Lost, Moment, OutOfMemory}
+use Rattle.gate_model.specs.State.{Began, Came, Fed, Gave, Heard, Joined, LinesTold, Lost, Moment}
+use Rattle.gate_model.specs.State.{OutOfMemory}
 use Rattle.gate_model.specs.State.{Queued, Silent, Step, TakenUp, Whole, close, close_if}
 use Rattle.gate_model.specs.State.{is_limit_reached}
 use Rattle.gate_model.specs.Upstream.{channel_max_in, meaning_by}
@@ -309,6 +310,7 @@ agrees (Gave (ToClient u) text ∷ h) p = only_same (limit_in h) (connection h) 
 agrees (Gave (ToUp u) text ∷ h) p = agrees h p.1
 agrees (Whole Client ∷ h) p = agrees h p.1
 agrees (Whole Up ∷ h) p = agrees h p.1
+agrees (LinesTold ∷ h) p = agrees h p.1
 agrees (OutOfMemory ∷ h) p = closes (limit_in h) (connection h) (agrees h p.1)
 
 -- ---- so are all that were taken up
@@ -355,4 +357,5 @@ backs_fit within n number (Lost end how ∷ h) p = backs_fit within n number h p
 backs_fit within n number (Gave (ToClient u) text ∷ h) p = backs_fit within n number h p.1
 backs_fit within n number (Gave (ToUp u) text ∷ h) p = backs_fit within n number h p.1
 backs_fit within n number (Whole end ∷ h) p = backs_fit within n number h p.1
+backs_fit within n number (LinesTold ∷ h) p = backs_fit within n number h p.1
 backs_fit within n number (OutOfMemory ∷ h) p = backs_fit within n number h p.1

@@ -3,7 +3,7 @@ use Rattle.gate_model.specs.Returns.{back_of}
 use Rattle.std.proofs.Common.{◌≡◌, ℕ, zero, suc, ◌+◌, ◌==◌, ◌≤◌, Bool, true, false, ◌&&◌}
 use Rattle.std.proofs.Common.{if◌then◌else◌, List, [], ◌∷◌, ◌++◌, Option, None, Some, arith, refl}
 use Rattle.std.proofs.Common.{sym, ap, subst, append-nil, not}
-use Rattle.std.specs.Prelude.{drop, find, map, slice_set}
+use Rattle.std.specs.Prelude.{drop, map, slice_set}
 use Rattle.std.specs.Option.{option_map}
 use Rattle.std.proofs.lemmas.Bool.Decides.{nat_tests}
 use Rattle.gate_outside.specs.declared.ports.End.TheVariants.{Client, Up}
@@ -31,15 +31,16 @@ use Rattle.consume_path.specs.declared.delivery.NextSettle.{NextSettle}
 use Rattle.consume_path.specs.declared.receiving.NextGrant.{NextGrant}
 use Rattle.consume_path.specs.declared.receiving.Part.{Part}
 use Rattle.consume_path.specs.declared.receiving.TransferFault.{TransferFault}
-use Rattle.session_path.specs.Links.{asked_by, attached, is_to_part, named, parted}
+use Rattle.session_path.specs.Links.{asked_by, attached, named, parted}
 use Rattle.session_path.specs.Path.{PathState, begun_if, content_whole, detach_came, disposed_by, dropped_by, end_lost}
 use Rattle.session_path.specs.Path.{dropped, flowed_by, given_of, grant_in, outcome_came}
 use Rattle.session_path.specs.Path.{granted_by, is_answered, is_grant_next, lines_told, ok_sent, owed, published, receiver_in}
-use Rattle.session_path.specs.Path.{selected, still_awaited, taking, transferred_on, with_deliveries}
+use Rattle.session_path.specs.Path.{answer_on, declares_in, names_by}
+use Rattle.session_path.specs.Path.{cancelled, first_of, parting_of, selected, still_awaited, taking, transferred_on, with_deliveries}
 use Rattle.session_path.specs.declared.path.AttachHeard.{AttachHeard}
 use Rattle.session_path.specs.declared.path.PathLink.{PathLink}
 use Rattle.types_10.specs.Tree.{Tree}
-use Rattle.session_path.specs.Due.{first_of, next_ok}
+use Rattle.session_path.specs.Due.{next_ok}
 use Rattle.close_translate.specs.declared.codes.TheConstants.{CONNECTION_FORCED}
 use Rattle.gate_relay.specs.declared.sides.Side.{Side}
 use Rattle.gate_relay.specs.declared.sides.Side.TheVariants as side
@@ -72,12 +73,13 @@ use Rattle.gate_model.specs.Paths.{is_outcome, outcome_by, outcome_in}
 use Rattle.gate_model.specs.Paths.{link_flowed, transferred}
 use Rattle.gate_model.specs.Paths.{lost_path, name_in, no_paths, or_no_path, part_in, path_at, slot_at, text_of}
 use Rattle.gate_model.specs.Paths.{told_paths, transferred_by, with_path}
-use Rattle.gate_model.specs.State.{Began, Came, Fed, Gave, Heard, Joined, Lost, Moment, OutOfMemory, conn_step}
+use Rattle.gate_model.specs.State.{Began, Came, Fed, Gave, Heard, Joined, LinesTold, Lost, Moment}
+use Rattle.gate_model.specs.State.{OutOfMemory, conn_step}
 use Rattle.gate_model.specs.State.{Queued, Silent, State, Step, TakenUp, Whole, answered_if, before}
 use Rattle.gate_model.specs.State.{came, carried, left, lost_up, runs, windowed, dequeued, fail}
 use Rattle.gate_model.specs.State.{failed, heard, path_by, path_given, path_heard, path_told, path_wrote}
 use Rattle.gate_model.specs.State.{paths_by, paths_given, paths_given_up, paths_with, paths_wrote, refused_paths, with_meaning}
-use Rattle.gate_model.specs.State.{want_in, paths_lost}
+use Rattle.gate_model.specs.State.{recovered, want_in, paths_lost}
 use Rattle.gate_model.specs.declared.setup.Route.{Route}
 
 -- ---- the flow-oks that a path owes
@@ -88,13 +90,26 @@ flows_in (ok.Flow ∷ os) = flows_in os + 1
 flows_in (ok.Declare ∷ os) = flows_in os
 flows_in (ok.Select ∷ os) = flows_in os
 flows_in (ok.Consume l ∷ os) = flows_in os
+flows_in (ok.Qos count global ∷ os) = flows_in os
+flows_in (ok.Cancel ∷ os) = flows_in os
+flows_in (ok.Queue ∷ os) = flows_in os
+flows_in (ok.Recover ∷ os) = flows_in os
+
+-- each is a flow-ok, or none
+flows_first : (x : PathOk) (os : List PathOk) → flows_in (x ∷ os) ≡ flows_in os + one_if (is_flow_ok (to_client.Ok x))
+flows_first ok.Flow os = refl
+flows_first ok.Declare os = omega arith
+flows_first ok.Select os = omega arith
+flows_first (ok.Consume l) os = omega arith
+flows_first (ok.Qos count global) os = omega arith
+flows_first ok.Cancel os = omega arith
+flows_first ok.Queue os = omega arith
+flows_first ok.Recover os = omega arith
 
 flows_more : (os : List PathOk) (x : PathOk) → flows_in (os ++ x ∷ []) ≡ flows_in os + flows_in (x ∷ [])
 flows_more [] x = omega arith
-flows_more (ok.Flow ∷ os) x = let more = flows_more os x in omega (arith, more)
-flows_more (ok.Declare ∷ os) x = flows_more os x
-flows_more (ok.Select ∷ os) x = flows_more os x
-flows_more (ok.Consume l ∷ os) x = flows_more os x
+flows_more (y ∷ os) x =
+    let all = flows_first y (os ++ x ∷ []) in let old = flows_first y os in let more = flows_more os x in omega (arith, all, old, more)
 
 abbrev owed_in : Option PathState → ℕ
 owed_in o = flows_in (or_no_path o).oks
@@ -210,16 +225,23 @@ oks_if false s x y e f = f
 same_oks : (x s : PathState) → x.oks ≡ s.oks → flows_in x.oks ≤ flows_in s.oks
 same_oks x s e = let same : flows_in x.oks ≡ flows_in s.oks = ap flows_in e in omega (arith, same)
 
--- a basic.consume-ok may be due, which is no flow-ok
+-- an answer to a request may be due that waited, which is no flow-ok
+asked_none : (link : ℕ) (declares : Bool) → flows_in (answer_on link declares ∷ []) ≡ 0
+asked_none link true = refl
+asked_none link false = refl
+
 begun_adds : (o : Option PathLink) (a : AttachHeard) (s : PathState) → flows_in (begun_if o a s).oks ≤ flows_in s.oks
 begun_adds None a s = omega arith
 begun_adds (Some l) a s = by (l.receives && a.there) (is_answered l.link s.awaited)
   where
     by : (b c : Bool) → flows_in (if b then with_deliveries (LinkAttached l.link a.count) (record s {
-      oks = s.oks ++ (if c then ok.Consume l.link ∷ [] else []);
+      oks = s.oks ++ (if c then answer_on l.link (declares_in s.awaited) ∷ [] else []);
+      names = s.names ++ names_by l.link s.awaited s.queue;
       awaited = still_awaited l.link s.awaited;
     }) else s).oks ≤ flows_in s.oks
-    by true true = let more = flows_more s.oks (ok.Consume l.link) in omega (arith, more)
+    by true true =
+        let more = flows_more s.oks (answer_on l.link (declares_in s.awaited)) in
+        let none = asked_none l.link (declares_in s.awaited) in omega (arith, more, none)
     by true false = let same : flows_in (s.oks ++ []) ≡ flows_in s.oks = ap flows_in (append-nil s.oks) in omega (arith, same)
     by false c = omega arith
 
@@ -328,8 +350,8 @@ given_keeps (unit.Flow f) s = granted_keeps (is_grant_next s) (grant_in s) s _ r
 given_keeps (unit.Transfer t) s = refl
 given_keeps (unit.Dispose x) s = disposed_keeps (next_settle_of s.deliveries.list) s
 given_keeps (unit.Settle x) s = refl
-given_keeps (unit.Detach k handle why) s = dropped_keeps (find is_to_part s.links.links)
-    (record s { links = parted (find is_to_part s.links.links) (given_of s.publishes.list s.links) s.links })
+given_keeps (unit.Detach k handle why) s = dropped_keeps (parting_of s)
+    (record s { links = parted (parting_of s) (given_of s.publishes.list s.links) s.links })
 
 given_adds : (u : SessionUnit) → AddsNone (path_given u)
 unfolding AddsNone
@@ -357,6 +379,13 @@ ok_more : (x : PathOk) (no_wait : Bool) (s : PathState) → flows_in (x ∷ []) 
 ok_more x true s e = omega arith
 ok_more x false s e = let more = flows_more s.oks x in omega (arith, e, more)
 
+owed_more : (x : PathOk) (s : PathState) → flows_in (x ∷ []) ≡ 0 → flows_in (owed x s).oks ≤ flows_in s.oks + 0
+owed_more x s e = ok_more x false s e
+
+cancel_more : (tag : List ℕ) (no_wait : Bool) (s : PathState) → flows_in (cancelled tag no_wait s).oks ≤ flows_in s.oks + 0
+cancel_more tag true s = omega arith
+cancel_more tag false s = owed_more ok.Cancel s refl
+
 flow_more : (s : PathState) → flows_in (s.oks ++ ok.Flow ∷ []) ≤ flows_in s.oks + 1
 flow_more s = let more = flows_more s.oks ok.Flow in omega (arith, more)
 
@@ -367,6 +396,10 @@ method_more n k life (method.ExchangeDeclare name kind passive durable auto_dele
     with_more n k ps (answered_if no_wait ok.Declare) 0 (λ s. ok_more ok.Declare no_wait s refl)
 method_more n k life (method.ConfirmSelect no_wait) ps =
     with_more n k ps (λ s. answered_if no_wait ok.Select (selected s)) 0 (λ s. ok_more ok.Select no_wait (selected s) refl)
+method_more n k life (method.BasicCancel tag no_wait) ps = with_more n k ps (cancelled tag no_wait) 0 (cancel_more tag no_wait)
+method_more n k life (method.BasicQos size count global) ps = with_more n k ps (owed (ok.Qos count global)) 0 (λ s. owed_more (ok.Qos count global) s refl)
+method_more n k life (method.BasicRecover requeue) ps =
+    with_more n k ps (path_by (method.BasicRecover requeue)) 0 (λ s. owed_more ok.Recover (recovered s) refl)
 method_more n k life m ps = with_more n k ps (path_by m) 0 (λ s. omega arith)
 
 published_adds : (address text : List ℕ) (back : List (List ℕ)) → AddsNone (published address text back)
@@ -420,22 +453,10 @@ sent_less s x e = by s.oks x e
   where
     by : (os : List PathOk) (y : PathOk) → first_of os ≡ Some y → flows_in (drop 1 os) + one_if (is_flow_ok (to_client.Ok y)) ≤ flows_in os
     by [] y f = absurd cc
-    by (ok.Flow ∷ os) ok.Flow f = omega arith
-    by (ok.Flow ∷ os) ok.Declare f = absurd cc
-    by (ok.Flow ∷ os) ok.Select f = absurd cc
-    by (ok.Flow ∷ os) (ok.Consume m) f = absurd cc
-    by (ok.Declare ∷ os) ok.Flow f = absurd cc
-    by (ok.Declare ∷ os) ok.Declare f = omega arith
-    by (ok.Declare ∷ os) ok.Select f = absurd cc
-    by (ok.Declare ∷ os) (ok.Consume m) f = absurd cc
-    by (ok.Select ∷ os) ok.Flow f = absurd cc
-    by (ok.Select ∷ os) ok.Declare f = absurd cc
-    by (ok.Select ∷ os) ok.Select f = omega arith
-    by (ok.Select ∷ os) (ok.Consume m) f = absurd cc
-    by (ok.Consume l ∷ os) ok.Flow f = absurd cc
-    by (ok.Consume l ∷ os) ok.Declare f = absurd cc
-    by (ok.Consume l ∷ os) ok.Select f = absurd cc
-    by (ok.Consume l ∷ os) (ok.Consume m) f = omega arith
+    by (z ∷ os) y f =
+        let same : z ≡ y = cc in
+        let all : flows_in (y ∷ os) ≡ flows_in os + one_if (is_flow_ok (to_client.Ok y)) = flows_first y os in
+        subst (λ (x : PathOk). flows_in os + one_if (is_flow_ok (to_client.Ok y)) ≤ flows_in (x ∷ os)) (sym same) (omega (arith, all))
 
 told_less : (o : Option PathState) (u : ChannelUnit) → IsFirstOk (or_no_path o) u → owed_in (option_map (path_told u) o) + one_if (is_flow_ok u) ≤ owed_in o
 told_less None (to_client.Ok x) f = absurd cc
@@ -531,7 +552,7 @@ counts : (n : ℕ) (h : List Step) → ArePicks h → flows_went n h + flows_due
 counts n [] p = none_due n
 counts n (Began site i ms ∷ h) p = counts n h p.1
 counts n (Moment ms ∷ h) p = keeps _ _ _ _ (reported_less n (before h).paths) (counts n h p.1)
-counts n (Fed Client ∷ h) p = counts n h p.1
+counts n (Fed Client ∷ h) p = keeps _ _ _ _ (reported_less n (before h).paths) (counts n h p.1)
 counts n (Fed Up ∷ h) p = keeps _ _ _ _ (reported_less n (before h).paths) (counts n h p.1)
 counts n (Silent Client ∷ h) p = keeps _ _ _ _ (closed_less n (before h).paths) (counts n h p.1)
 counts n (Silent Up ∷ h) p = keeps _ _ _ _ (fail_less n _ _ _) (counts n h p.1)
@@ -560,6 +581,7 @@ counts n (Gave (ToClient u) text ∷ h) p =
 counts n (Gave (ToUp u) text ∷ h) p = keeps _ _ _ _ (up_less n u (before h).paths) (counts n h p.1)
 counts n (Whole Client ∷ h) p = keeps _ _ _ _ (wrote_less n (before h).in_progress (before h).paths) (counts n h p.1)
 counts n (Whole Up ∷ h) p = counts n h p.1
+counts n (LinesTold ∷ h) p = keeps _ _ _ _ (reported_less n (before h).paths) (counts n h p.1)
 counts n (OutOfMemory ∷ h) p = keeps _ _ _ _ (closed_less n (before h).paths) (counts n h p.1)
 
 pub flows_once : (n : ℕ) (h : List Step) → ArePicks h → went_in (is_flow_ok_on n) h ≤ wanted_in (is_method_on is_channel_flow n) h

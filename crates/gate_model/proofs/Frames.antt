@@ -8,8 +8,10 @@ use Rattle.consume_path.specs.declared.delivery.Content.{Content}
 use Rattle.frames_091.specs.Frames.{frame_text}
 use Rattle.frames_091.specs.declared.frame.Kind91.TheVariants.{Method}
 use Rattle.methods_091.specs.Writing.{method_text}
-use Rattle.methods_091.specs.declared.method.Method91.TheVariants.{BasicConsumeOk, BasicDeliver}
-use Rattle.session_path.specs.Due.{frame_on, tag_of}
+use Rattle.methods_091.specs.declared.method.Method91.TheVariants.{BasicCancelOk, BasicConsumeOk, BasicDeliver, BasicQosOk}
+use Rattle.methods_091.specs.declared.method.Method91.TheVariants.{QueueDeclareOk}
+use Rattle.methods_091.specs.declared.method.Method91.TheVariants.{BasicRecoverOk}
+use Rattle.session_path.specs.Due.{next_name, frame_on, tag_of}
 use Rattle.session_path.specs.declared.path.DeliverDue.{DeliverDue}
 use Rattle.session_path.specs.declared.path.PathOk.{PathOk}
 use Rattle.session_path.specs.declared.path.PathOk.TheVariants as ok
@@ -38,15 +40,16 @@ use Rattle.machine_091.specs.Transitions.{unit_step}
 use Rattle.machine_091.specs.Transitions as machine
 use Rattle.machine_091.specs.declared.unit.Refusal.{Refusal}
 use Rattle.gate_model.specs.Requests.{client_step, refusal_of_want, refused_by}
-use Rattle.gate_model.specs.State.{Began, Came, Gave, Heard, Joined, Lost, Moment, OutOfMemory}
+use Rattle.gate_model.specs.State.{Began, Came, Gave, Heard, Joined, LinesTold, Lost, Moment}
+use Rattle.gate_model.specs.State.{OutOfMemory}
 use Rattle.gate_model.specs.State.{Queued, Step, TakenUp, Whole, close_if, conn_step}
 use Rattle.gate_model.specs.State.{before, is_limit_reached, Fed, Silent}
 use Rattle.close_translate.specs.declared.conditions.Scope.TheVariants as scope
 use Rattle.gate_model.proofs.Connections.{limits_only, only_given}
 use Rattle.gate_model.proofs.Outcomes.{OnlyChannels, only_closing}
 use Rattle.gate_model.proofs.Sessions.{conn_cases}
-use Rattle.gate_model.proofs.Consumers.{AreDeliverable, IfFit, consumer_short, content_fits}
-use Rattle.gate_model.proofs.Delivering.{ReceivedAre, deliverable_at}
+use Rattle.gate_model.proofs.Consumers.{AreDeliverable, NamesGoBack, IfFit, consumer_short, content_fits}
+use Rattle.gate_model.proofs.Delivering.{ReceivedAre, name_at, deliverable_at}
 use Rattle.gate_model.proofs.Fitting.{AreFit, backs_fit, fit_first, frame_long}
 use Rattle.gate_model.proofs.Reports.{DeliveriesAre}
 use Rattle.gate_model.proofs.Spelled.{spelled_small}
@@ -129,6 +132,7 @@ within l (Gave (ToClient u) text ∷ h) = within_only (only_given u (connection 
 within l (Gave (ToUp u) text ∷ h) = within l h
 within l (Whole Client ∷ h) = within l h
 within l (Whole Up ∷ h) = within l h
+within l (LinesTold ∷ h) = within l h
 within l (OutOfMemory ∷ h) = within l h
 
 after_least : (limit : ℕ) (c : Connection) (w : Want91) → FRAME_MIN_SIZE ≤ limit → AreWithin c.limits → FRAME_MIN_SIZE ≤ limit_after limit c w
@@ -159,10 +163,26 @@ named_small : (tag : List ℕ) (d : DeliverDue) (l : ℕ) (o : Option Content) �
 named_small tag d l None e f = deliver_small tag [] [] d.tag d.next.again e (omega arith) (omega arith)
 named_small tag d l (Some c) e f = deliver_small tag c.exchange c.key d.tag d.next.again e f.exchange f.key
 
--- an answer to a basic.consume
+-- an answer to a basic.consume, cancel, qos or recover
 consume_ok_small : (n : ℕ) (tag : List ℕ) → length tag ≤ 255 → length (channel_text n (BasicConsumeOk tag)) ≤ 512
 unfolding frame_text
 consume_ok_small n tag short = grind (arith, length-append, short)
+
+cancel_ok_small : (n : ℕ) (tag : List ℕ) → length tag ≤ 255 → length (channel_text n (BasicCancelOk tag)) ≤ 512
+unfolding frame_text
+cancel_ok_small n tag short = grind (arith, length-append, short)
+
+queue_ok_small : (n : ℕ) (queue : List ℕ) → length queue ≤ 255 → length (channel_text n (QueueDeclareOk queue 0 0)) ≤ 512
+unfolding frame_text
+queue_ok_small n queue short = grind (arith, length-append, short)
+
+qos_ok_small : (n : ℕ) → length (channel_text n BasicQosOk) ≤ 512
+unfolding frame_text
+qos_ok_small n = omega arith
+
+recover_ok_small : (n : ℕ) → length (channel_text n BasicRecoverOk) ≤ 512
+unfolding frame_text
+recover_ok_small n = omega arith
 
 -- the frames of a content
 slice_fits : (l k : ℕ) (xs : List (List ℕ)) → AreFit l xs → length (or_no_bytes (slice_get xs k)) ≤ l
@@ -178,23 +198,32 @@ written_fits : (l : ℕ) (o : Option Writing) (s : PathState) → AreDeliverable
 written_fits l None s a = omega arith
 written_fits l (Some w) s a = slice_fits l w.gone (frames_of w.id s) (frames_fit l (content_at w.id s.deliveries.list) (content_fits l w.id s.deliveries a))
 
-ok_fits : (l n : ℕ) (x : PathOk) (s : PathState) (text : List ℕ) → FRAME_MIN_SIZE ≤ l → AreDeliverable l s.deliveries → text ≡ carries_ok s x
-    → length (spell_reply (reply.OnChannel n (to_client.Ok x)) text) ≤ l
-ok_fits l n ok.Flow s text le a e = omega (arith, spelled_small (reply.OnChannel n (to_client.Ok ok.Flow)) text refl, le)
-ok_fits l n ok.Declare s text le a e = omega (arith, spelled_small (reply.OnChannel n (to_client.Ok ok.Declare)) text refl, le)
-ok_fits l n ok.Select s text le a e = omega (arith, spelled_small (reply.OnChannel n (to_client.Ok ok.Select)) text refl, le)
-ok_fits l n (ok.Consume k) s text le a e =
+ok_fits : (l n : ℕ) (x : PathOk) (s : PathState) (text : List ℕ) → FRAME_MIN_SIZE ≤ l → AreDeliverable l s.deliveries → length (next_name s) ≤ 255
+    → text ≡ carries_ok s x → length (spell_reply (reply.OnChannel n (to_client.Ok x)) text) ≤ l
+ok_fits l n ok.Flow s text le a c e = omega (arith, spelled_small (reply.OnChannel n (to_client.Ok ok.Flow)) text refl, le)
+ok_fits l n ok.Declare s text le a c e = omega (arith, spelled_small (reply.OnChannel n (to_client.Ok ok.Declare)) text refl, le)
+ok_fits l n ok.Select s text le a c e = omega (arith, spelled_small (reply.OnChannel n (to_client.Ok ok.Select)) text refl, le)
+ok_fits l n (ok.Consume k) s text le a c e =
     let short : length text ≤ 255 = subst (λ (x : List ℕ). length x ≤ 255) (sym e) (consumer_short l k s.deliveries a) in
     omega (arith, consume_ok_small n text short, le)
+ok_fits l n (ok.Qos count global) s text le a c e = omega (arith, qos_ok_small n, le)
+ok_fits l n ok.Cancel s text le a c e =
+    let short : length text ≤ 255 = subst (λ (x : List ℕ). length x ≤ 255) (sym e) c in
+    omega (arith, cancel_ok_small n text short, le)
+ok_fits l n ok.Queue s text le a c e =
+    let short : length text ≤ 255 = subst (λ (x : List ℕ). length x ≤ 255) (sym e) c in
+    omega (arith, queue_ok_small n text short, le)
+ok_fits l n ok.Recover s text le a c e = omega (arith, recover_ok_small n, le)
 
 -- ---- all that goes
 
 -- a frame of a return is one of those that its publish was taken up with
-module _ (stay : LimitsStay) (received : ReceivedAre) (arrives : DeliveriesAre) where
+module _ (stay : LimitsStay) (received : ReceivedAre) (arrives : DeliveriesAre) (names : NamesGoBack) where
   told_fits : (h : List Step) (n : ℕ) (u : ChannelUnit) (text : List ℕ) → ArePicks h → MayGoBack h (reply.OnChannel n u) text
       → text ≡ carries_told (path_at (before h).paths n) u → length (spell_reply (reply.OnChannel n u) text) ≤ limit_in h
   told_fits h n (to_client.Ok x) text p m e =
-      ok_fits (limit_in h) n x (path_at (before h).paths n) text (limit_least stay h) (deliverable_at (within stay) received arrives h n p) e
+      ok_fits (limit_in h) n x (path_at (before h).paths n) text (limit_least stay h) (deliverable_at (within stay) received arrives h n p)
+      (name_at (within stay) received names h n p) e
   told_fits h n (to_client.Deliver d) text p m e =
       let s : PathState = path_at (before h).paths n in
       let a : AreDeliverable (limit_in h) s.deliveries = deliverable_at (within stay) received arrives h n p in

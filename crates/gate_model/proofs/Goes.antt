@@ -34,7 +34,8 @@ use Rattle.machine_091.specs.declared.state.Connection.{Connection}
 use Rattle.gate_model.specs.Folds.{carrying, closed_in, connection, container, moment_in, sent_up}
 use Rattle.gate_model.specs.Folds.{sent_up_at, side_in}
 use Rattle.gate_model.specs.Picks.{ArePicks}
-use Rattle.gate_model.specs.State.{Began, Came, Gave, Heard, Joined, Lost, Moment, OutOfMemory}
+use Rattle.gate_model.specs.State.{Began, Came, Gave, Heard, Joined, LinesTold, Lost, Moment}
+use Rattle.gate_model.specs.State.{OutOfMemory}
 use Rattle.gate_model.specs.State.{Queued, State, Step, TakenUp, Whole, before, Fed, Silent}
 use Rattle.gate_model.specs.Upstream.{first, has_closed, has_gone_bad, idle_in, is_bad_stream}
 use Rattle.gate_model.specs.Upstream.{is_closed_stream, is_idle_by, is_idle_due, opening_rows}
@@ -327,6 +328,7 @@ goes_when_due (Heard u ∷ h) p = goes_when_due h p.1
 goes_when_due (Joined answer ∷ h) p = goes_when_due h p.1
 goes_when_due (Lost end how ∷ h) p = goes_when_due h p.1
 goes_when_due (Whole end ∷ h) p = goes_when_due h p.1
+goes_when_due (LinesTold ∷ h) p = goes_when_due h p.1
 goes_when_due (OutOfMemory ∷ h) p = goes_when_due h p.1
 
 -- ---- shutting

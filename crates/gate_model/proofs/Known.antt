@@ -33,7 +33,8 @@ use Rattle.gate_model.specs.Picks.{ArePicks}
 use Rattle.close_translate.specs.declared.conditions.Scope.TheVariants as scope
 use Rattle.machine_10.specs.Parts.{Parts}
 use Rattle.gate_model.specs.Requests.{client_step}
-use Rattle.gate_model.specs.State.{Began, Came, Fed, Gave, Heard, Joined, Lost, Moment, OutOfMemory}
+use Rattle.gate_model.specs.State.{Began, Came, Fed, Gave, Heard, Joined, LinesTold, Lost, Moment}
+use Rattle.gate_model.specs.State.{OutOfMemory}
 use Rattle.gate_model.specs.State.{Queued, Silent, State, Step, TakenUp, Whole, before, came, close}
 use Rattle.gate_model.specs.State.{close_if, closes_at, conn_given, conn_step, dequeued, fail}
 use Rattle.gate_model.specs.State.{failed, has_left, heard, is_limit_reached, keep_login, left}
@@ -639,7 +640,9 @@ known (Moment ms ∷ h) p =
       sound = sound_told (before h) ms _ (subst (λ (n : ℕ). n ≤ ms) (sym (moment_is k)) p.0) k.sound;
       carries = k.carries;
     }
-known (Fed Client ∷ h) p = let k : Known h = known h p.1 in record { same = still k; sound = k.sound; carries = k.carries }
+known (Fed Client ∷ h) p =
+    let k : Known h = known h p.1 in
+    record { same = ap (λ (x : Seen). record x { paths = told_paths x.paths }) (still k); sound = k.sound; carries = k.carries }
 known (Fed Up ∷ h) p =
     let k : Known h = known h p.1 in
     record { same = ap (λ (x : Seen). record x { paths = told_paths x.paths; up_fed = x.moment }) (still k); sound = k.sound; carries = k.carries }
@@ -739,6 +742,9 @@ known (Whole Client ∷ h) p =
     let k : Known h = known h p.1 in
     record { same = ap (λ (x : Seen). record x { paths = paths_wrote x.going x.paths; going = None }) (still k); sound = k.sound; carries = k.carries }
 known (Whole Up ∷ h) p = let k : Known h = known h p.1 in record { same = still k; sound = k.sound; carries = k.carries }
+known (LinesTold ∷ h) p =
+    let k : Known h = known h p.1 in
+    record { same = ap (λ (x : Seen). record x { paths = told_paths x.paths }) (still k); sound = k.sound; carries = k.carries }
 known (OutOfMemory ∷ h) p =
     let k : Known h = known h p.1 in
     record { same = memory_is_out (before h) ∙ ap seen_memory k.same; sound = sound_memory (before h) _ k.sound; carries = k.carries }

@@ -5,6 +5,7 @@ pub mod Closings
 pub mod Connections
 pub mod Consumers
 pub mod Delivering
+pub mod Delivers
 pub mod Ends
 pub mod Fates
 pub mod Firsts

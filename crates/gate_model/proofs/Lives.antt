@@ -24,7 +24,8 @@ use Rattle.gate_model.specs.Lives.{failed_life, lives_by, no_lives, with_life, l
 use Rattle.gate_model.specs.Lives.{is_of_channel}
 use Rattle.gate_model.specs.Picks.{ArePicks}
 use Rattle.gate_model.specs.Requests.{client_step, client_told}
-use Rattle.gate_model.specs.State.{Began, Came, Fed, Gave, Heard, Joined, Lost, Moment, OutOfMemory}
+use Rattle.gate_model.specs.State.{Began, Came, Fed, Gave, Heard, Joined, LinesTold, Lost, Moment}
+use Rattle.gate_model.specs.State.{OutOfMemory}
 use Rattle.gate_model.specs.State.{Queued, Silent, State, Step, TakenUp, Whole, before, came}
 use Rattle.gate_model.specs.State.{carried, dequeued, fail, failed, heard, left, runs, windowed}
 use Rattle.gate_model.specs.State.{with_meaning, without_begin, without_life}
@@ -169,4 +170,5 @@ lives_all (Gave (ToClient u) text ∷ h) p = given_all u (before h).lives (lives
 lives_all (Gave (ToUp u) text ∷ h) p = begun_all u (before h).lives (lives_all h p.1)
 lives_all (Whole Client ∷ h) p = lives_all h p.1
 lives_all (Whole Up ∷ h) p = lives_all h p.1
+lives_all (LinesTold ∷ h) p = lives_all h p.1
 lives_all (OutOfMemory ∷ h) p = lives_all h p.1

@@ -36,7 +36,8 @@ use Rattle.gate_model.specs.Paths.{attach_fault_by, closed_path, closed_paths, f
 use Rattle.gate_model.specs.Paths.{lost_path, or_no_path, path_at, slot_at}
 use Rattle.gate_model.specs.Paths.{with_path}
 use Rattle.gate_model.specs.Session.{has_room, is_of_session}
-use Rattle.gate_model.specs.State.{Began, Came, Fed, Gave, Heard, Joined, Lost, Moment, OutOfMemory}
+use Rattle.gate_model.specs.State.{Began, Came, Fed, Gave, Heard, Joined, LinesTold, Lost, Moment}
+use Rattle.gate_model.specs.State.{OutOfMemory}
 use Rattle.gate_model.specs.State.{Queued, Silent, Step, TakenUp, Whole, attach_scope, closing_code}
 use Rattle.gate_model.specs.State.{link_scope, path_heard, paths_by, paths_given, paths_given_up}
 use Rattle.gate_model.specs.State.{paths_with, paths_wrote, transfer_scope, unattached}
@@ -131,7 +132,7 @@ pub many_paths : (h : List Step) → length (paths_in h) ≡ 256
 many_paths [] = none_long
 many_paths (Began site n ms ∷ h) = none_long
 many_paths (Moment ms ∷ h) = each_many _ (paths_in h) (many_paths h)
-many_paths (Fed Client ∷ h) = many_paths h
+many_paths (Fed Client ∷ h) = each_many _ (paths_in h) (many_paths h)
 many_paths (Fed Up ∷ h) = each_many _ (paths_in h) (many_paths h)
 many_paths (Silent Client ∷ h) = each_many closed_path (paths_in h) (many_paths h)
 many_paths (Silent Up ∷ h) = failed_many _ (paths_in h) (many_paths h)
@@ -152,6 +153,7 @@ many_paths (Gave (ToClient u) text ∷ h) = reply_many u (paths_in h) (many_path
 many_paths (Gave (ToUp u) text ∷ h) = up_many u (paths_in h) (many_paths h)
 many_paths (Whole Client ∷ h) = wrote_many _ (paths_in h) (many_paths h)
 many_paths (Whole Up ∷ h) = many_paths h
+many_paths (LinesTold ∷ h) = each_many _ (paths_in h) (many_paths h)
 many_paths (OutOfMemory ∷ h) = each_many closed_path (paths_in h) (many_paths h)
 
 -- ---- what a performative closes, where its channel has no path

@@ -41,7 +41,8 @@ use Rattle.gate_model.specs.Once.{is_method_on, is_open_ok_on, one_if, wanted_in
 use Rattle.gate_model.specs.Picks.{ArePicks}
 use Rattle.gate_model.specs.Requests.{client_step, client_told}
 use Rattle.gate_model.specs.State as sent
-use Rattle.gate_model.specs.State.{Began, Came, Gave, Heard, Joined, Lost, Moment, OutOfMemory}
+use Rattle.gate_model.specs.State.{Began, Came, Gave, Heard, Joined, LinesTold, Lost, Moment}
+use Rattle.gate_model.specs.State.{OutOfMemory}
 use Rattle.gate_model.specs.State.{Queued, State, Step, TakenUp, Whole, before, came, carried}
 use Rattle.gate_model.specs.State.{dequeued, fail, failed, heard, is_channel_settled, is_settled}
 use Rattle.gate_model.specs.State.{left, life_failed, runs, windowed, with_meaning}
@@ -387,6 +388,7 @@ counts {n} {v} {asks} {answers} c (Gave (ToClient u) text ∷ h) p =
 counts {n} {v} c (Gave (ToUp u) text ∷ h) p = keeps _ _ _ _ (begun_less c u (before h).lives) (counts c h p.1)
 counts c (Whole Client ∷ h) p = counts c h p.1
 counts c (Whole Up ∷ h) p = counts c h p.1
+counts c (LinesTold ∷ h) p = counts c h p.1
 counts c (OutOfMemory ∷ h) p = counts c h p.1
 
 answered_at_most : {n : ℕ} {v : Life → ℕ} {asks : Want91 → Bool} {answers : Reply → Bool} → Counts n v asks answers → (h : List Step) → ArePicks h

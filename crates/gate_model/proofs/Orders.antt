@@ -18,7 +18,8 @@ use Rattle.gate_model.specs.Picks.{ArePicks}
 use Rattle.gate_model.specs.Queue.{Waits, can_take, channel_of, holds, is_empty, place_from}
 use Rattle.gate_model.specs.Queue.{removed, unit_at, waits_for_all, without_at, place_in}
 use Rattle.gate_model.specs.State.{State, Step, Began, Moment, Queued, Came, TakenUp, Heard, Joined}
-use Rattle.gate_model.specs.State.{Lost, Gave, Whole, OutOfMemory, before, came, dequeued, left}
+use Rattle.gate_model.specs.State.{LinesTold, Lost, Gave, Whole, OutOfMemory, before, came}
+use Rattle.gate_model.specs.State.{dequeued, left}
 use Rattle.gate_model.specs.State.{next_unit, place, waits, Fed, Silent}
 use Rattle.gate_model.proofs.Known.{known, memory_is}
 use Rattle.gate_model.proofs.Queues.{empty_is, rests_fail, rests_heard}
@@ -193,4 +194,5 @@ takes_in_order (Gave (ToClient u) text ∷ h) p n e = takes_in_order h p.1 n e
 takes_in_order (Gave (ToUp u) text ∷ h) p n e = takes_in_order h p.1 n e
 takes_in_order (Whole Client ∷ h) p n e = takes_in_order h p.1 n e
 takes_in_order (Whole Up ∷ h) p n e = takes_in_order h p.1 n e
+takes_in_order (LinesTold ∷ h) p n e = takes_in_order h p.1 n e
 takes_in_order (OutOfMemory ∷ h) p n e = absurd cc

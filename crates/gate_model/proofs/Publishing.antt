@@ -57,7 +57,8 @@ use Rattle.gate_model.specs.Requests.{message_of, address_of}
 use Rattle.gate_model.specs.Returns.{back_of}
 use Rattle.gate_model.specs.Lives.{is_of_channel}
 use Rattle.gate_model.specs.Session.{is_of_session}
-use Rattle.gate_model.specs.State.{Began, Came, Fed, Gave, Heard, Joined, Lost, Moment, OutOfMemory}
+use Rattle.gate_model.specs.State.{Began, Came, Fed, Gave, Heard, Joined, LinesTold, Lost, Moment}
+use Rattle.gate_model.specs.State.{OutOfMemory}
 use Rattle.gate_model.specs.State.{Queued, Silent, Step, TakenUp, Whole, answered_if, before}
 use Rattle.gate_model.specs.State.{closing_code, conn_step}
 use Rattle.gate_model.specs.State.{path_by, path_given, path_heard, path_told, path_wrote, paths_by}
@@ -374,12 +375,22 @@ method_tells n k life (method.ExchangeDeclare name kind passive durable deletes 
 method_tells n k life (method.ConfirmSelect no_wait) ps o es t = not_opened (k == n) life _ es (goes_on t (changes n k ps _ _ (selected_is no_wait)))
 method_tells n k life (method.BasicConsume queue tag no_local no_ack exclusive no_wait arguments) ps o es t =
     not_opened (k == n) life _ es (goes_on t (changes n k ps _ (event.Consumed queue tag no_ack no_wait ∷ []) (λ s. refl)))
+method_tells n k life (method.QueueDeclare queue passive durable exclusive deletes no_wait arguments) ps o es t =
+    not_opened (k == n) life _ es (goes_on t (changes n k ps _ (event.Declared queue no_wait ∷ []) (λ s. refl)))
+method_tells n k life (method.BasicCancel tag no_wait) ps o es t =
+    not_opened (k == n) life _ es (goes_on t (changes n k ps (path_by (method.BasicCancel tag no_wait)) (method_events (method.BasicCancel tag no_wait)) (λ s. refl)))
+method_tells n k life (method.BasicQos size count global) ps o es t =
+    not_opened (k == n) life _ es (goes_on t (changes n k ps (path_by (method.BasicQos size count global)) (method_events (method.BasicQos size count global)) (λ s. refl)))
 method_tells n k life (method.BasicAck tag multiple) ps o es t =
     not_opened (k == n) life _ es (goes_on t (changes n k ps (path_by (method.BasicAck tag multiple)) (method_events (method.BasicAck tag multiple)) (λ s. refl)))
 method_tells n k life (method.BasicReject tag requeue) ps o es t =
     not_opened (k == n) life _ es (goes_on t (changes n k ps (path_by (method.BasicReject tag requeue)) (method_events (method.BasicReject tag requeue)) (λ s. refl)))
 method_tells n k life (method.BasicNack tag multiple requeue) ps o es t =
     not_opened (k == n) life _ es (goes_on t (changes n k ps (path_by (method.BasicNack tag multiple requeue)) (method_events (method.BasicNack tag multiple requeue)) (λ s. refl)))
+method_tells n k life (method.BasicRecover requeue) ps o es t =
+    not_opened (k == n) life _ es (goes_on t (changes n k ps (path_by (method.BasicRecover requeue)) (method_events (method.BasicRecover requeue)) (λ s. refl)))
+method_tells n k life (method.BasicRecoverAsync requeue) ps o es t =
+    not_opened (k == n) life _ es (goes_on t (changes n k ps (path_by (method.BasicRecoverAsync requeue)) (method_events (method.BasicRecoverAsync requeue)) (λ s. refl)))
 method_tells n k life (method.ChannelClose code text class id) ps o es t =
     not_opened (k == n) life _ es (goes_on t (changes n k ps closed_path (event.LifeClosed ∷ []) (λ s. refl)))
 method_tells n k life m ps o es t = not_opened (k == n) life _ es (goes_on t (changes n k ps (λ s. s) [] (λ s. refl)))
@@ -440,7 +451,7 @@ tells n [] p = tells_new n
 tells n (Began site number ms ∷ h) p =
     subst (λ (x : List Step). TellsIn (Began site number ms ∷ x) n) (sym p.0) (tells_new n)
 tells n (Moment ms ∷ h) p = goes_on (tells n h p.1) (each_told n (paths_in h))
-tells n (Fed Client ∷ h) p = tells n h p.1
+tells n (Fed Client ∷ h) p = goes_on (tells n h p.1) (each_told n (paths_in h))
 tells n (Fed Up ∷ h) p = goes_on (tells n h p.1) (each_told n (paths_in h))
 tells n (Silent Client ∷ h) p = goes_on (tells n h p.1) (each_closed n (paths_in h))
 tells n (Silent Up ∷ h) p = goes_on (tells n h p.1) (fails n (peers h))
@@ -458,6 +469,7 @@ tells n (Gave (ToClient u) text ∷ h) p = goes_on (tells n h p.1) (reply_is n u
 tells n (Gave (ToUp u) text ∷ h) p = goes_on (tells n h p.1) (up_is n u (paths_in h))
 tells n (Whole Client ∷ h) p = goes_on (tells n h p.1) (wrote_goes n (going_in h) (paths_in h))
 tells n (Whole Up ∷ h) p = tells n h p.1
+tells n (LinesTold ∷ h) p = goes_on (tells n h p.1) (each_told n (paths_in h))
 tells n (OutOfMemory ∷ h) p = goes_on (tells n h p.1) (each_closed n (paths_in h))
 
 pub path_is : (h : List Step) (n : ℕ) → ArePicks h → n ≤ CHANNEL_MAX

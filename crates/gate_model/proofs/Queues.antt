@@ -16,7 +16,8 @@ use Rattle.gate_model.specs.declared.outgoing.Outgoing.TheVariants.{ToClient, To
 use Rattle.gate_model.specs.Due.{can_leave}
 use Rattle.gate_model.specs.Picks.{ArePicks, MayComeAs}
 use Rattle.gate_model.specs.Queue.{is_empty, place_in, unit_at}
-use Rattle.gate_model.specs.State.{Began, Came, Fed, Gave, Heard, Joined, Lost, Moment, OutOfMemory}
+use Rattle.gate_model.specs.State.{Began, Came, Fed, Gave, Heard, Joined, LinesTold, Lost, Moment}
+use Rattle.gate_model.specs.State.{OutOfMemory}
 use Rattle.gate_model.specs.State.{Queued, Silent, State, Step, TakenUp, Whole, before, came}
 use Rattle.gate_model.specs.State.{dequeued, fail, failed, has_left, heard, left, next_unit, runs}
 use Rattle.gate_model.specs.State.{waits, windowed, with_meaning, with_session}
@@ -156,4 +157,5 @@ none_left (Gave (ToClient u) text ∷ h) p =
 none_left (Gave (ToUp u) text ∷ h) p = none_left h p.1
 none_left (Whole Client ∷ h) p = none_left h p.1
 none_left (Whole Up ∷ h) p = none_left h p.1
+none_left (LinesTold ∷ h) p = none_left h p.1
 none_left (OutOfMemory ∷ h) p = λ e. refl

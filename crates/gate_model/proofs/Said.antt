@@ -56,7 +56,8 @@ use Rattle.gate_model.specs.Folds.{replies, replies_to, reply_by, reply_to, sent
 use Rattle.gate_model.specs.Folds.{carried_on, peers_closed, peers_left, scope_in, until_memory}
 use Rattle.gate_model.specs.Picks.{ArePicks}
 use Rattle.gate_model.specs.Requests.{client_step}
-use Rattle.gate_model.specs.State.{Began, Came, Fed, Gave, Heard, Joined, Lost, Moment, OutOfMemory}
+use Rattle.gate_model.specs.State.{Began, Came, Fed, Gave, Heard, Joined, LinesTold, Lost, Moment}
+use Rattle.gate_model.specs.State.{OutOfMemory}
 use Rattle.gate_model.specs.State.{Queued, Silent, State, Step, TakenUp, Whole, before}
 use Rattle.gate_model.specs.State.{begun_session, came, carried, close, close_if, conn_step}
 use Rattle.gate_model.specs.State.{dequeued, fail, failed, failure, has_left, heard}
@@ -1151,6 +1152,7 @@ says (Gave (ToClient u) text ∷ h) p =
 says (Gave (ToUp u) text ∷ h) p = says h p.1
 says (Whole Client ∷ h) p = says h p.1
 says (Whole Up ∷ h) p = says h p.1
+says (LinesTold ∷ h) p = says h p.1
 says (OutOfMemory ∷ h) p =
     let k : Known h = known h p.1 in
     record { said = λ m. absurd (clash true refl m); ending = λ m. last_due (before h).conn.phase (before h).pending ∙ ap (λ (c : Connection). last_units c.phase (rows (before h).pending)) (conn_is k) }

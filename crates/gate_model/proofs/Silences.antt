@@ -20,7 +20,8 @@ use Rattle.gate_model.specs.Folds.{connection, given_up_in, gone_in, moment_in, 
 use Rattle.gate_model.specs.Folds.{up_fed_at}
 use Rattle.gate_model.specs.Picks.{ArePicks}
 use Rattle.gate_model.specs.Silence.{fed_in, MayGiveUp, MayGiveUpUp, SilentAtOnce, SilentWhenDue}
-use Rattle.gate_model.specs.State.{Began, Came, Fed, Gave, Heard, Joined, Lost, Moment, OutOfMemory}
+use Rattle.gate_model.specs.State.{Began, Came, Fed, Gave, Heard, Joined, LinesTold, Lost, Moment}
+use Rattle.gate_model.specs.State.{OutOfMemory}
 use Rattle.gate_model.specs.State.{Queued, Silent, State, Step, TakenUp, Whole, before, came}
 use Rattle.gate_model.specs.State.{dequeued, fail, failed, fed_by, heard, is_held, left, runs, told}
 use Rattle.gate_model.specs.State.{windowed, with_meaning}
@@ -134,6 +135,7 @@ end_is (Gave (ToClient u) text ∷ h) p = end_is h p.1
 end_is (Gave (ToUp u) text ∷ h) p = end_is h p.1
 end_is (Whole Client ∷ h) p = end_is h p.1
 end_is (Whole Up ∷ h) p = end_is h p.1
+end_is (LinesTold ∷ h) p = end_is h p.1
 end_is (OutOfMemory ∷ h) p = end_is h p.1
 
 pub fed_is : (h : List Step) → ArePicks h → (before h).fed_at ≡ fed_in h
@@ -283,4 +285,5 @@ silent_when_due (Joined answer ∷ h) p = silent_when_due h p.1
 silent_when_due (Lost end how ∷ h) p = silent_when_due h p.1
 silent_when_due (Gave u text ∷ h) p = silent_when_due h p.1
 silent_when_due (Whole end ∷ h) p = silent_when_due h p.1
+silent_when_due (LinesTold ∷ h) p = silent_when_due h p.1
 silent_when_due (OutOfMemory ∷ h) p = silent_when_due h p.1

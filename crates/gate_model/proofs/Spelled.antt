@@ -39,7 +39,7 @@ open_ok_some : 0 < length open_ok_frame
 unfolding open_ok_frame
 open_ok_some = frame_some _
 
--- all but the frames of returns and contents, which are spelled before, and what carries a name
+-- all but the frames of returns and contents, which are spelled before, delivers, and answers of the class basic
 pub spelled_some : (r : Reply) (text : List ℕ) → takes_memory_back r ≡ false → 0 < length (spell_reply r text)
 spelled_some reply.Protocol text e = omega arith
 spelled_some reply.Start text e = start_some
@@ -120,6 +120,10 @@ on_channel_small n (unit.Ok ok.Flow) text e = omega arith
 on_channel_small n (unit.Ok ok.Declare) text e = omega arith
 on_channel_small n (unit.Ok ok.Select) text e = omega arith
 on_channel_small n (unit.Ok (ok.Consume link)) text e = absurd cc
+on_channel_small n (unit.Ok (ok.Qos count global)) text e = absurd cc
+on_channel_small n (unit.Ok ok.Cancel) text e = absurd cc
+on_channel_small n (unit.Ok ok.Queue) text e = absurd cc
+on_channel_small n (unit.Ok ok.Recover) text e = absurd cc
 on_channel_small n (unit.Deliver d) text e = absurd cc
 on_channel_small n (unit.Content c) text e = absurd cc
 on_channel_small n (unit.Return r) text e = absurd cc

@@ -30,7 +30,8 @@ use Rattle.gate_model.specs.declared.outgoing.Outgoing.TheVariants.{ToClient, To
 use Rattle.gate_model.specs.Folds.{accepted_in, closed_in, connection, failed_in, moment_in, sent}
 use Rattle.gate_model.specs.Folds.{sent_at}
 use Rattle.gate_model.specs.Picks.{ArePicks}
-use Rattle.gate_model.specs.State.{Began, Came, Fed, Gave, Heard, Joined, Lost, Moment, OutOfMemory}
+use Rattle.gate_model.specs.State.{Began, Came, Fed, Gave, Heard, Joined, LinesTold, Lost, Moment}
+use Rattle.gate_model.specs.State.{OutOfMemory}
 use Rattle.gate_model.specs.State.{Queued, Silent, State, Step, TakenUp, Whole, before, came}
 use Rattle.gate_model.specs.State.{dequeued, fail, failed, has_left, heard, is_limit_reached}
 use Rattle.gate_model.specs.State.{is_settled, left, new_state, opened, runs, windowed, with_last}
@@ -239,6 +240,7 @@ sends (Whole Client ∷ h) p =
     sends_whole (before h).in_progress (before h).sent_last (before h).last_sent_at (before h).moment (before h).failed (sent h) (sent_whole h) (sent_at h) (moment_in h) (failed_in h)
     p.0 (moment_is (known h p.1)) (sends h p.1)
 sends (Whole Up ∷ h) p = sends h p.1
+sends (LinesTold ∷ h) p = sends h p.1
 sends (OutOfMemory ∷ h) p = sends h p.1
 
 -- ---- heartbeats
@@ -349,6 +351,7 @@ beats_when_due (Heard u ∷ h) p = beats_when_due h p.1
 beats_when_due (Joined answer ∷ h) p = beats_when_due h p.1
 beats_when_due (Lost end how ∷ h) p = beats_when_due h p.1
 beats_when_due (Whole end ∷ h) p = beats_when_due h p.1
+beats_when_due (LinesTold ∷ h) p = beats_when_due h p.1
 beats_when_due (OutOfMemory ∷ h) p = beats_when_due h p.1
 
 -- ---- the limits of a connection

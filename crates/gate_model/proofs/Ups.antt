@@ -45,7 +45,8 @@ use Rattle.gate_model.specs.Folds.{carried_on, leaving_in, moment_in, peers, pee
 use Rattle.gate_model.specs.Folds.{peers_heard, peers_left, ran_out_in, scope_in, sent_up, sent_up_at}
 use Rattle.gate_model.specs.Picks.{ArePicks}
 use Rattle.gate_model.specs.Requests.{client_step}
-use Rattle.gate_model.specs.State.{Began, Came, Fed, Gave, Heard, Joined, Lost, Moment, OutOfMemory}
+use Rattle.gate_model.specs.State.{Began, Came, Fed, Gave, Heard, Joined, LinesTold, Lost, Moment}
+use Rattle.gate_model.specs.State.{OutOfMemory}
 use Rattle.gate_model.specs.State.{Queued, Silent, State, Step, TakenUp, Whole, before, came}
 use Rattle.gate_model.specs.State.{close_if, dequeued, fail, failed, heard, is_limit_reached, left}
 use Rattle.gate_model.specs.State.{runs, windowed, with_meaning, paths_lost}
@@ -192,6 +193,7 @@ early (Gave (ToClient u) text ∷ h) e = early h (sym (ap is_early (phase_only (
 early (Gave (ToUp u) text ∷ h) e = ap (container_given u) (early h e)
 early (Whole Client ∷ h) e = early h e
 early (Whole Up ∷ h) e = early h e
+early (LinesTold ∷ h) e = early h e
 early (OutOfMemory ∷ h) e = absurd (clash _ e (closing_late (connection h).phase))
 
 -- ---- what counts of the state
@@ -845,5 +847,6 @@ up_says (Whole Client ∷ h) p = up_says h p.1
 up_says (Whole Up ∷ h) p =
     up_whole (part (before h).up) (before h).up.in_progress (sent_up h) (sent_up_whole h) (sent_up_at h) (before h).moment (moment_in h) (called h) refl p.0
     (moment_is (known h p.1)) (up_says h p.1)
+up_says (LinesTold ∷ h) p = up_says h p.1
 up_says (OutOfMemory ∷ h) p =
     subst (λ (x : Part). UpSaysIn x (sent_up h) (sent_up_whole h) (sent_up_at h) (called h)) (sym (part_closing (is_closing (before h).conn) _ (before h).up)) (up_says h p.1)

@@ -27,7 +27,8 @@ use Rattle.gate_model.specs.Due.{may_go, rows}
 use Rattle.gate_model.specs.Folds.{container, is_answer, ran_out_in}
 use Rattle.gate_model.specs.Picks.{ArePicks}
 use Rattle.gate_model.specs.Requests.{client_step}
-use Rattle.gate_model.specs.State.{Began, Came, Fed, Gave, Heard, Joined, Lost, Moment, OutOfMemory}
+use Rattle.gate_model.specs.State.{Began, Came, Fed, Gave, Heard, Joined, LinesTold, Lost, Moment}
+use Rattle.gate_model.specs.State.{OutOfMemory}
 use Rattle.gate_model.specs.State.{Queued, Silent, State, Step, TakenUp, Whole, before, came}
 use Rattle.gate_model.specs.State.{dequeued, fail, failed, heard, is_settled, last_pending, left}
 use Rattle.gate_model.specs.State.{turns_foreign, windowed, with_header, with_meaning, with_session}
@@ -110,6 +111,7 @@ ends_when_settled (Heard u ∷ h) p = ends_when_settled h p.1
 ends_when_settled (Joined answer ∷ h) p = ends_when_settled h p.1
 ends_when_settled (Lost end how ∷ h) p = ends_when_settled h p.1
 ends_when_settled (Whole end ∷ h) p = ends_when_settled h p.1
+ends_when_settled (LinesTold ∷ h) p = ends_when_settled h p.1
 ends_when_settled (OutOfMemory ∷ h) p = ends_when_settled h p.1
 
 -- ---- connection.open-ok
@@ -258,6 +260,7 @@ open_ok_opened (Gave (ToClient u) text ∷ h) p e = open_ok_opened h p.1 (open_o
 open_ok_opened (Gave (ToUp u) text ∷ h) p e = open_ok_opened h p.1 e
 open_ok_opened (Whole Client ∷ h) p e = open_ok_opened h p.1 e
 open_ok_opened (Whole Up ∷ h) p e = open_ok_opened h p.1 e
+open_ok_opened (LinesTold ∷ h) p e = open_ok_opened h p.1 e
 open_ok_opened (OutOfMemory ∷ h) p e = absurd (clash _ e (open_ok_last (before h).conn.phase (before h).pending))
 
 abbrev is_open_ok : Reply → Bool
@@ -332,4 +335,5 @@ opens_when_opened (Heard u ∷ h) p = opens_when_opened h p.1
 opens_when_opened (Joined answer ∷ h) p = opens_when_opened h p.1
 opens_when_opened (Lost end how ∷ h) p = opens_when_opened h p.1
 opens_when_opened (Whole end ∷ h) p = opens_when_opened h p.1
+opens_when_opened (LinesTold ∷ h) p = opens_when_opened h p.1
 opens_when_opened (OutOfMemory ∷ h) p = opens_when_opened h p.1

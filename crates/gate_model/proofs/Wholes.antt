@@ -63,7 +63,8 @@ use Rattle.gate_model.specs.Publishing.{want_events, wrote_event, wrote_events}
 use Rattle.gate_model.specs.Requests.{message_of, address_of}
 use Rattle.gate_model.specs.Returns.{back_of}
 use Rattle.gate_model.specs.Session.{is_of_session}
-use Rattle.gate_model.specs.State.{Began, Came, Fed, Gave, Heard, Joined, Lost, Moment, OutOfMemory}
+use Rattle.gate_model.specs.State.{Began, Came, Fed, Gave, Heard, Joined, LinesTold, Lost, Moment}
+use Rattle.gate_model.specs.State.{OutOfMemory}
 use Rattle.gate_model.specs.State.{Queued, Silent, Step, TakenUp, Whole, closing_code, conn_step}
 use Rattle.gate_model.specs.State.{want_in}
 use Rattle.gate_model.specs.Upstream.{meaning_by}
@@ -85,6 +86,8 @@ is_plain (event.Published address payload back) = false
 is_plain event.Selected = true
 is_plain (event.Owed ok) = true
 is_plain (event.Consumed address tag no_ack no_wait) = true
+is_plain (event.CancelCame tag no_wait) = true
+is_plain (event.Declared queue no_wait) = true
 is_plain (event.AnswerCame tag multiple settle) = true
 is_plain (event.AttachCame attach) = true
 is_plain (event.FlowCame peer count credit drain echo) = true
@@ -143,9 +146,14 @@ method_plain (method.ChannelFlow active) = (refl, tt)
 method_plain (method.ExchangeDeclare name kind passive durable deletes internal no_wait arguments) = owed_plain no_wait ok.Declare
 method_plain (method.ConfirmSelect no_wait) = both_plain (owed_unless no_wait (event.Owed ok.Select)) _ (owed_plain no_wait ok.Select) (refl, tt)
 method_plain (method.BasicConsume queue tag no_local no_ack exclusive no_wait arguments) = (refl, tt)
+method_plain (method.BasicCancel tag no_wait) = (refl, tt)
+method_plain (method.QueueDeclare queue passive durable exclusive deletes no_wait arguments) = (refl, tt)
+method_plain (method.BasicQos size count global) = (refl, tt)
 method_plain (method.BasicAck tag multiple) = (refl, tt)
 method_plain (method.BasicReject tag requeue) = (refl, tt)
 method_plain (method.BasicNack tag multiple requeue) = (refl, tt)
+method_plain (method.BasicRecover requeue) = (refl, (refl, tt))
+method_plain (method.BasicRecoverAsync requeue) = (refl, tt)
 method_plain (method.ChannelClose code text class id) = (refl, tt)
 method_plain m = tt
 
@@ -252,6 +260,8 @@ plain life es (event.Published address payload back) e t = absurd cc
 plain life es event.Selected e t = t
 plain life es (event.Owed ok) e t = t
 plain life es (event.Consumed address tag no_ack no_wait) e t = t
+plain life es (event.CancelCame tag no_wait) e t = t
+plain life es (event.Declared queue no_wait) e t = t
 plain life es (event.AnswerCame tag multiple settle) e t = t
 plain life es (event.AttachCame attach) e t = t
 plain life es (event.FlowCame peer count credit drain echo) e t = t
@@ -337,9 +347,15 @@ method_joins true (method.ExchangeDeclare name kind passive durable deletes inte
 method_joins true (method.ConfirmSelect no_wait) life o es number count image joined t = calls (method.ConfirmSelect no_wait) o es number count image joined t
 method_joins true (method.BasicConsume queue tag no_local no_ack exclusive no_wait arguments) life o es number count image joined t =
     calls (method.BasicConsume queue tag no_local no_ack exclusive no_wait arguments) o es number count image joined t
+method_joins true (method.BasicCancel tag no_wait) life o es number count image joined t = calls (method.BasicCancel tag no_wait) o es number count image joined t
+method_joins true (method.QueueDeclare queue passive durable exclusive deletes no_wait arguments) life o es number count image joined t =
+    calls (method.QueueDeclare queue passive durable exclusive deletes no_wait arguments) o es number count image joined t
+method_joins true (method.BasicQos size most global) life o es number count image joined t = calls (method.BasicQos size most global) o es number count image joined t
 method_joins true (method.BasicAck tag multiple) life o es number count image joined t = calls (method.BasicAck tag multiple) o es number count image joined t
 method_joins true (method.BasicReject tag requeue) life o es number count image joined t = calls (method.BasicReject tag requeue) o es number count image joined t
 method_joins true (method.BasicNack tag multiple requeue) life o es number count image joined t = calls (method.BasicNack tag multiple requeue) o es number count image joined t
+method_joins true (method.BasicRecover requeue) life o es number count image joined t = calls (method.BasicRecover requeue) o es number count image joined t
+method_joins true (method.BasicRecoverAsync requeue) life o es number count image joined t = calls (method.BasicRecoverAsync requeue) o es number count image joined t
 method_joins true (method.ChannelClose code text class id) life o es number count image joined t = calls (method.ChannelClose code text class id) o es number count image joined t
 method_joins true m life o es number count image joined t = t
 
@@ -502,7 +518,7 @@ joins : PublishesAre → FramesAre → RestsAre → (n number : ℕ) (h : List S
 joins a b c n number [] p = refl
 joins a b c n number (Began site i ms ∷ h) p = joins a b c n number h p.1
 joins a b c n number (Moment ms ∷ h) p = quietly h n number (event.LinesWent ∷ []) (refl, tt) (joins a b c n number h p.1)
-joins a b c n number (Fed Client ∷ h) p = joins a b c n number h p.1
+joins a b c n number (Fed Client ∷ h) p = quietly h n number (event.LinesWent ∷ []) (refl, tt) (joins a b c n number h p.1)
 joins a b c n number (Fed Up ∷ h) p = quietly h n number (event.LinesWent ∷ []) (refl, tt) (joins a b c n number h p.1)
 joins a b c n number (Silent Client ∷ h) p = quietly h n number (event.LifeClosed ∷ []) (refl, tt) (joins a b c n number h p.1)
 joins a b c n number (Silent Up ∷ h) p = quietly h n number _ (lost_plain _) (joins a b c n number h p.1)
@@ -520,6 +536,7 @@ joins a b c n number (Gave (ToClient u) text ∷ h) p = reply_joins h n number u
 joins a b c n number (Gave (ToUp u) text ∷ h) p = up_joins a c h n number u text (carry_is a b c h u text p.1 p.0.1 p.0.2) (joins a b c n number h p.1)
 joins a b c n number (Whole Client ∷ h) p = quietly h n number _ (whole_plain n (going_in h)) (joins a b c n number h p.1)
 joins a b c n number (Whole Up ∷ h) p = joins a b c n number h p.1
+joins a b c n number (LinesTold ∷ h) p = quietly h n number (event.LinesWent ∷ []) (refl, tt) (joins a b c n number h p.1)
 joins a b c n number (OutOfMemory ∷ h) p = quietly h n number (event.LifeClosed ∷ []) (refl, tt) (joins a b c n number h p.1)
 
 -- ---- whole payloads

@@ -40,7 +40,8 @@ use Rattle.methods_091.specs.declared.method.Method91.TheVariants.{BasicDeliver}
 use Rattle.publish_path.specs.declared.publish.Confirm.{Confirm}
 use Rattle.publish_path.specs.declared.publish.NextReturn.{NextReturn}
 use Rattle.session_path.specs.Due.{next_attach, next_confirm, next_detach, next_flow}
-use Rattle.session_path.specs.Due.{address_at, content_frame, next_content, next_deliver}
+use Rattle.session_path.specs.Due.{address_at, content_frame, next_content, next_name}
+use Rattle.session_path.specs.Due.{next_deliver}
 use Rattle.session_path.specs.Due.{next_dispose, next_frame, next_ok, next_return, next_settle}
 use Rattle.session_path.specs.Due.{return_frame, tag_of}
 use Rattle.session_path.specs.Due as path_due
@@ -117,13 +118,28 @@ open_oks w = each (λ n l. when l.open_ok (reply.ChannelOpenOk n)) 0 w.lives
 
 -- ---- answers on open channels, and confirms
 
--- a basic.consume-ok goes behind the answers of all channels to requests that need nothing of the
--- container
+-- a queue.declare-ok and a basic.consume-ok go behind the answers of all channels to requests that
+-- need nothing of the container
 abbrev pub is_consume_ok : PathOk → Bool
 is_consume_ok ok.Flow = false
 is_consume_ok ok.Declare = false
 is_consume_ok ok.Select = false
 is_consume_ok (ok.Consume link) = true
+is_consume_ok (ok.Qos count global) = false
+is_consume_ok ok.Cancel = false
+is_consume_ok ok.Queue = true
+is_consume_ok ok.Recover = false
+
+-- an answer that takes memory: those of the classes basic and queue
+abbrev pub is_long_ok : PathOk → Bool
+is_long_ok ok.Flow = false
+is_long_ok ok.Declare = false
+is_long_ok ok.Select = false
+is_long_ok (ok.Consume link) = true
+is_long_ok (ok.Qos count global) = true
+is_long_ok ok.Cancel = true
+is_long_ok ok.Queue = true
+is_long_ok ok.Recover = true
 
 abbrev pub ok_on : ℕ → Option PathOk → List Reply
 ok_on n None = []
@@ -422,7 +438,7 @@ takes_memory_up (up.Begin n) = true
 takes_memory_up (up.End n why) = false
 
 abbrev pub takes_memory_told : ChannelUnit → Bool
-takes_memory_told (unit.Ok x) = is_consume_ok x
+takes_memory_told (unit.Ok x) = is_long_ok x
 takes_memory_told (unit.Deliver d) = true
 takes_memory_told (unit.Content c) = true
 takes_memory_told (unit.Confirm c) = false
@@ -472,6 +488,10 @@ carries_ok s ok.Flow = []
 carries_ok s ok.Declare = []
 carries_ok s ok.Select = []
 carries_ok s (ok.Consume link) = tag_of link s
+carries_ok s (ok.Qos count global) = []
+carries_ok s ok.Cancel = next_name s
+carries_ok s ok.Queue = next_name s
+carries_ok s ok.Recover = []
 
 -- the method of a deliver: the tag of its consumer, its delivery tag, whether it was delivered
 -- before, and where its message was published (AMQP 0-9-1 1.8.3.9)

@@ -33,8 +33,8 @@ use Rattle.gate_model.specs.declared.outgoing.Outgoing.TheVariants.{ToClient, To
 use Rattle.gate_model.specs.declared.outgoing.UpUnit.{UpUnit}
 use Rattle.gate_model.specs.declared.reply.Reply.{Reply}
 use Rattle.gate_model.specs.declared.reply.Reply.TheVariants as reply
-use Rattle.gate_model.specs.State.{Began, Came, Fed, Gave, Heard, Joined, Lost, Moment, Queued}
-use Rattle.gate_model.specs.State.{Silent, Step, TakenUp, want_in}
+use Rattle.gate_model.specs.State.{Began, Came, Fed, Gave, Heard, Joined, LinesTold, Lost, Moment}
+use Rattle.gate_model.specs.State.{Queued, Silent, Step, TakenUp, want_in}
 use Rattle.gate_model.specs.State.{Whole, OutOfMemory, close, close_if, closes_at, conn_step}
 use Rattle.gate_model.specs.State.{closing_code, conn_given, failure, is_limit_reached, link_scope}
 use Rattle.gate_model.specs.State.{lives_opened, path_heard, paths_lost, paths_wrote}
@@ -278,8 +278,7 @@ peers (Began site n ms ∷ h) = record (new_peers site) { carried = (peers h).ca
 peers (Moment ms ∷ h) = record (peers_told (peers h)) {
   client = close_if (is_limit_reached (peers h).client (accepted_in h) ms) (peers h).client;
 }
-peers (Fed Client ∷ h) = peers h
-peers (Fed Up ∷ h) = peers_told (peers h)
+peers (Fed end ∷ h) = peers_told (peers h)
 peers (Silent Client ∷ h) = peers_left (peers h)
 peers (Silent Up ∷ h) = peers_failed (peers h)
 peers (Queued u ∷ h) = peers h
@@ -305,6 +304,7 @@ peers (Gave (ToUp u) text ∷ h) = record (peers h) {
 peers (Whole Client ∷ h) =
     record (peers h) { paths = paths_wrote (going_in h) (peers h).paths }
 peers (Whole Up ∷ h) = peers h
+peers (LinesTold ∷ h) = peers_told (peers h)
 peers (OutOfMemory ∷ h) = record (peers h) {
   client = close (peers h).client;
   paths = closed_paths (peers h).paths;

@@ -1,5 +1,6 @@
 pub mod Answers
 pub mod Asked
+pub mod Delivers
 pub mod Due
 pub mod Folds
 pub mod Frames

@@ -18,7 +18,8 @@ use Rattle.gate_model.specs.declared.outgoing.Outgoing.TheVariants.{ToClient, To
 use Rattle.gate_model.specs.Queue.{is_bad_unit}
 use Rattle.gate_model.specs.State.{State, Step, Began, Moment, Fed, Silent, Queued, Came, TakenUp}
 use Rattle.gate_model.specs.State.{Heard, Joined}
-use Rattle.gate_model.specs.State.{Lost, Gave, Whole, OutOfMemory, before, next_unit, place}
+use Rattle.gate_model.specs.State.{LinesTold, Lost, Gave, Whole, OutOfMemory, before, next_unit}
+use Rattle.gate_model.specs.State.{place}
 use Rattle.gate_model.specs.Due.{can_leave, carries_back, carries_up, is_busy, is_connect_due}
 use Rattle.gate_model.specs.Due.{is_silent, pick}
 use Rattle.gate_model.specs.Folds.{container, moment_in, ran_out_in}
@@ -70,6 +71,7 @@ MayStep h (Gave (ToUp u) text) =
     (is_busy (before h) Up ≡ false) × (pick (before h) Up ≡ Some (ToUp u))
     × (text ≡ carries_up (before h) u)
 MayStep h (Whole end) = is_busy (before h) end ≡ true
+MayStep h LinesTold = Unit {0}
 MayStep h OutOfMemory = ran_out_in h ≡ false
 
 abbrev pub ArePicks : List Step → Type 0

@@ -47,7 +47,7 @@ use Rattle.gate_model.specs.Paths.{content_of, credit_of, fault_in, heard_as, is
 use Rattle.gate_model.specs.Paths.{is_not_found, is_outcome, name_in, outcome_in, part_in, path_at}
 use Rattle.gate_model.specs.Paths.{received_at}
 use Rattle.gate_model.specs.Paths.{text_of}
-use Rattle.consume_path.specs.declared.delivery.Settle.TheVariants.{Accepted}
+use Rattle.consume_path.specs.declared.delivery.Settle.TheVariants.{Accepted, Released}
 use Rattle.consume_path.specs.declared.receiving.Part.{Part}
 use Rattle.consume_path.specs.declared.receiving.TransferFault.{TransferFault}
 use Rattle.machine_091.specs.declared.unit.Refusal.{Refusal}
@@ -58,8 +58,8 @@ use Rattle.gate_model.specs.Requests.{address_of, message_of}
 use Rattle.gate_model.specs.Returns.{back_of}
 use Rattle.gate_model.specs.declared.setup.Route.{Route}
 use Rattle.gate_model.specs.Session.{is_of_session, is_true}
-use Rattle.gate_model.specs.State.{Began, Came, Fed, Gave, Heard, Joined, Lost, Moment, Queued}
-use Rattle.gate_model.specs.State.{OutOfMemory, Silent, Step, TakenUp, Whole, conn_step}
+use Rattle.gate_model.specs.State.{Began, Came, Fed, Gave, Heard, Joined, LinesTold, Lost, Moment}
+use Rattle.gate_model.specs.State.{OutOfMemory, Queued, Silent, Step, TakenUp, Whole, conn_step}
 use Rattle.gate_model.specs.State.{closing_code, settle_by, want_in}
 use Rattle.gate_model.specs.Upstream.{condition_in, meaning_by}
 
@@ -70,8 +70,8 @@ abbrev pub owed_unless : Bool → PathEvent → List PathEvent
 owed_unless true x = []
 owed_unless false x = x ∷ []
 
--- channel.flow, exchange.declare, confirm.select, basic.consume and the answers to deliveries; and
--- channel.close
+-- channel.flow, exchange.declare, queue.declare, confirm.select, basic.consume, cancel and qos, and
+-- the answers to deliveries; and channel.close
 abbrev pub method_events : Method91 → List PathEvent
 method_events (method.ChannelFlow active) = event.Owed ok.Flow ∷ []
 method_events
@@ -82,11 +82,18 @@ method_events (method.ConfirmSelect no_wait) =
 method_events
     (method.BasicConsume queue tag no_local no_ack exclusive no_wait arguments) =
     event.Consumed queue tag no_ack no_wait ∷ []
+method_events (method.QueueDeclare queue passive durable exclusive deletes no_wait arguments) =
+    event.Declared queue no_wait ∷ []
+method_events (method.BasicCancel tag no_wait) = event.CancelCame tag no_wait ∷ []
+method_events (method.BasicQos size count global) = event.Owed (ok.Qos count global) ∷ []
 method_events (method.BasicAck tag multiple) = event.AnswerCame tag multiple Accepted ∷ []
 method_events (method.BasicReject tag requeue) =
     event.AnswerCame tag false (settle_by requeue) ∷ []
 method_events (method.BasicNack tag multiple requeue) =
     event.AnswerCame tag multiple (settle_by requeue) ∷ []
+method_events (method.BasicRecover requeue) =
+    event.Owed ok.Recover ∷ event.AnswerCame 0 true Released ∷ []
+method_events (method.BasicRecoverAsync requeue) = event.AnswerCame 0 true Released ∷ []
 method_events (method.ChannelClose code text class id) = event.LifeClosed ∷ []
 method_events m = []
 
@@ -270,8 +277,7 @@ wrote_events n u = []
 abbrev pub step_events : ℕ → List Step → Step → List PathEvent
 step_events n h (Began site number ms) = []
 step_events n h (Moment ms) = event.LinesWent ∷ []
-step_events n h (Fed Client) = []
-step_events n h (Fed Up) = event.LinesWent ∷ []
+step_events n h (Fed end) = event.LinesWent ∷ []
 step_events n h (Silent Client) = event.LifeClosed ∷ []
 step_events n h (Silent Up) = failing (connection h)
 step_events n h (Queued u) = []
@@ -295,6 +301,7 @@ step_events n h (Gave (ToClient u) text) = reply_events n u
 step_events n h (Gave (ToUp u) text) = up_events n u
 step_events n h (Whole Client) = wrote_events n (going_in h)
 step_events n h (Whole Up) = []
+step_events n h LinesTold = event.LinesWent ∷ []
 step_events n h OutOfMemory = event.LifeClosed ∷ []
 
 -- it is a channel.open of channel n, which begins a life

@@ -5,7 +5,7 @@ use Rattle.std.specs.Prelude.{◌&&◌, length, nat_le, Option, None, Some, is_s
 use Rattle.std.specs.Str.{is_utf8}
 use Rattle.consume_path.specs.Links.{is_tag_used}
 use Rattle.consume_path.specs.Offers.{is_known as is_tag_known}
-use Rattle.session_path.specs.Path.{PathState}
+use Rattle.session_path.specs.Path.{PathState, queue_or}
 use Rattle.gate_model.specs.Paths.{path_at}
 use Rattle.gate_model.specs.declared.setup.Route.{Route}
 use Rattle.gate_model.specs.Setup.{route_to}
@@ -70,7 +70,8 @@ abbrev pub exchange_fault : List Route → List ℕ → Option ℕ
 exchange_fault routes name = if is_known routes name then None else Some NOT_FOUND
 
 -- a consumer tag that is in use on its channel, or is no short string (AMQP 0-9-1 1.8.3.3 and
--- 4.2.5.3), and a name that is no queue's: none is declared here, and names of queues are UTF-8
+-- 4.2.5.3), and a name that is no queue's: names of queues are UTF-8, and an empty one stands for
+-- the queue that was declared last
 abbrev pub is_tag_taken : List ℕ → PathState → Bool
 is_tag_taken tag s = not (nat_le (length tag) 255) || is_tag_used tag s.deliveries.links
 
@@ -80,8 +81,18 @@ is_queue_name queue = not (length queue == 0) && is_utf8 queue
 abbrev pub consume_fault : List ℕ → List ℕ → PathState → Option ℕ
 consume_fault queue tag s =
     if is_tag_taken tag s then Some NOT_ALLOWED
+    else if is_queue_name (queue_or s.queue queue) then None
+    else Some NOT_FOUND
+
+abbrev pub declare_fault : List ℕ → Option ℕ
+declare_fault queue =
+    if not (nat_le (length queue) 255) then Some NOT_ALLOWED
     else if is_queue_name queue then None
     else Some NOT_FOUND
+
+-- a consumer tag that is no short string; none that is one is unknown (AMQP 0-9-1 1.8.3.5)
+abbrev pub cancel_fault : List ℕ → Option ℕ
+cancel_fault tag = if nat_le (length tag) 255 then None else Some NOT_ALLOWED
 
 -- a delivery tag that isn't outstanding (AMQP 0-9-1 1.8.3.13)
 abbrev pub answer_fault : ℕ → Bool → PathState → Option ℕ
@@ -94,6 +105,10 @@ method_fault routes s
     exchange_fault routes name
 method_fault routes s (method.BasicConsume queue tag no_local no_ack exclusive no_wait arguments) =
     consume_fault queue tag s
+method_fault routes s
+    (method.QueueDeclare queue passive durable exclusive deletes no_wait arguments) =
+    declare_fault queue
+method_fault routes s (method.BasicCancel tag no_wait) = cancel_fault tag
 method_fault routes s (method.BasicAck tag multiple) = answer_fault tag multiple s
 method_fault routes s (method.BasicReject tag requeue) = answer_fault tag false s
 method_fault routes s (method.BasicNack tag multiple requeue) = answer_fault tag multiple s

@@ -86,14 +86,15 @@ use Rattle.gate_model.specs.declared.channel.SessionUnit.TheVariants as unit
 use Rattle.gate_model.specs.declared.life.SessionState.{SessionState}
 use Rattle.gate_model.specs.Lives.{is_of_channel}
 use Rattle.gate_model.specs.Paths.{attach_by, attach_fault_by, closed_path, closed_paths, fault_in}
-use Rattle.gate_model.specs.Paths.{is_laden, is_receiver, lines_in, link_flowed}
+use Rattle.gate_model.specs.Paths.{is_laden, lines_in, link_flowed}
 use Rattle.gate_model.specs.Paths.{is_not_found, lost_path, told_paths}
 use Rattle.gate_model.specs.Paths.{no_paths, outcome_by, path_at, set_path}
 use Rattle.gate_model.specs.Paths.{transfer_error, transferred, with_path}
 use Rattle.consume_path.specs.declared.delivery.Settle.{Settle}
 use Rattle.consume_path.specs.declared.delivery.Settle.TheVariants.{Accepted, Rejected, Released}
 use Rattle.session_path.specs.Due.{is_waiting}
-use Rattle.session_path.specs.Path.{answer_came, consumed, content_sent, content_whole}
+use Rattle.session_path.specs.Path.{answer_came, cancelled, closes_at as closes_channel, consumed}
+use Rattle.session_path.specs.Path.{content_sent, content_whole, declare_came}
 use Rattle.session_path.specs.Path.{deliver_sent, dispose_sent, end_lost}
 use Rattle.property_map.specs.Spelling.{image_text}
 use Rattle.property_map.specs.declared.told.Told.{Told}
@@ -129,6 +130,8 @@ pub data Step : Type 0 where
   Gave : Outgoing → List ℕ → Step
   -- the last byte of the unit to an end was
   Whole : End → Step
+  -- the lines that the report was owed were reported
+  LinesTold : Step
   -- the pair ran out of memory
   OutOfMemory : Step
 
@@ -370,6 +373,10 @@ answered_if no_wait ok s = if no_wait then s else owed ok s
 abbrev pub settle_by : Bool → Settle
 settle_by requeue = if requeue then Released else Rejected
 
+-- a recover is a nack with requeue of all that is outstanding (AMQP 0-9-1 1.8.3.16)
+abbrev pub recovered : PathState → PathState
+recovered s = answer_came 0 true Released s
+
 abbrev pub path_by : Method91 → PathState → PathState
 path_by (method.ChannelFlow active) s = owed ok.Flow s
 path_by (method.ExchangeDeclare name kind passive durable deletes internal no_wait arguments) s =
@@ -377,9 +384,15 @@ path_by (method.ExchangeDeclare name kind passive durable deletes internal no_wa
 path_by (method.ConfirmSelect no_wait) s = answered_if no_wait ok.Select (selected s)
 path_by (method.BasicConsume queue tag no_local no_ack exclusive no_wait arguments) s =
     consumed queue tag no_ack no_wait s
+path_by (method.QueueDeclare queue passive durable exclusive deletes no_wait arguments) s =
+    declare_came queue no_wait s
+path_by (method.BasicCancel tag no_wait) s = cancelled tag no_wait s
+path_by (method.BasicQos size count global) s = owed (ok.Qos count global) s
 path_by (method.BasicAck tag multiple) s = answer_came tag multiple Accepted s
 path_by (method.BasicReject tag requeue) s = answer_came tag false (settle_by requeue) s
 path_by (method.BasicNack tag multiple requeue) s = answer_came tag multiple (settle_by requeue) s
+path_by (method.BasicRecover requeue) s = owed ok.Recover (recovered s)
+path_by (method.BasicRecoverAsync requeue) s = recovered s
 path_by (method.ChannelClose code text class id) s = closed_path s
 path_by m s = s
 
@@ -544,12 +557,13 @@ abbrev pub ending_error : Parts → List ℕ → SessionState → PathState → 
 ending_error p payload x s =
     if p.0 == 20 then or_unattached (transfer_error p.1 payload x s) else UnattachedHandle
 
--- one that isn't at fault closes the channel with this code: an end, a detach of a receiving link,
--- and a transfer that passes a limit of its link (AMQP 1.0 2.6.5, 2.7.3, 2.7.9)
+-- one that isn't at fault closes the channel with this code: an end, a detach of a receiving link
+-- that the channel needs, and a transfer that passes a limit of its link (AMQP 1.0 2.6.5, 2.7.3,
+-- 2.7.9)
 abbrev pub closing_code : Parts → List ℕ → PathState → Option ℕ
 closing_code p payload s =
     if p.0 == 23 then Some (code_by (condition_in (field p.1 0)) scope.Channel)
-    else if (p.0 == 22) && is_receiver (number_at p.1 0) s then
+    else if (p.0 == 22) && closes_channel (number_at p.1 0) s then
     Some (code_by (condition_in (field p.1 2)) scope.Channel)
     else if (p.0 == 20) && is_some (fault_in p.1 payload s) then Some PRECONDITION_FAILED
     else None
@@ -630,15 +644,16 @@ dequeued w = record w { queue = without_at (place w) w.queue }
 
 -- ---- lines of the report
 
--- those that a moment, a read of the upstream end, a connect, the loss of that end or the end of a
--- session made owed are reported before the next of these: by rising number of the life
+-- those that a moment, a read, a take-up of what the client sent, a connect, the loss of the
+-- upstream end or the end of a session made owed are reported before the next of these, and before
+-- the pair runs out of memory outside of them: by rising number of the life
 abbrev pub owed_lines : State → List LostItem
 owed_lines w = lines_in w.paths w.opened
 
 -- ---- reads
 
 abbrev pub fed : State → End → State
-fed w Client = record w { fed_at = w.moment }
+fed w Client = record w { fed_at = w.moment; paths = told_paths w.paths }
 fed w Up = record w { up = record w.up { fed_at = w.moment }; paths = told_paths w.paths }
 
 -- ---- a moment
@@ -928,6 +943,7 @@ step w (Joined answer) = joined w answer
 step w (Lost end how) = lost w end how
 step w (Gave u text) = gave w u
 step w (Whole end) = wrote w end
+step w LinesTold = record w { paths = told_paths w.paths }
 step w OutOfMemory = ran_out w
 
 abbrev pub before : List Step → State

@@ -8,6 +8,7 @@ ghost use Rattle.machine_091.specs.declared.limits.TheConstants.{CHANNEL_MAX};
 ghost use Rattle.session_path.specs.Events.{after_events};
 ghost use Rattle.gate_model.specs.declared.reply.Reply.{Reply};
 ghost use Rattle.gate_model.specs.Answers.{AreAnswered};
+ghost use Rattle.gate_model.specs.Delivers.{Delivers};
 ghost use Rattle.gate_model.specs.Asked.{AreCalledFor, GoesWhenDue, ShutsUpAtOnce};
 ghost use Rattle.gate_model.specs.Frames.{FitsClients};
 ghost use Rattle.gate_model.specs.Folds.{connection, container, moment_in, number_in, ran_out_in};
@@ -27,11 +28,11 @@ ghost use Rattle.gate_model.specs.Times.{BeatsAtOnce, BeatsWhenDue, LateCloses, 
 ghost use Rattle.gate_model.specs.Waiting.{ChannelsEndWhenSettled, EndsWhenSettled};
 ghost use Rattle.gate_model.specs.Waiting.{OpensWhenOpened};
 
-use consume_path::delivery_lines_lawfully;
+use consume_path::{delivers_lawfully, delivery_lines_lawfully, numbers_lawfully};
 use machine_091::connection_laws;
 use property_map::received_lawfully;
 use publish_path::{confirms_lawfully, lines_lawfully, payloads_lawfully, returns_lawfully};
-use session_path::{deliveries_lawfully, publishes_lawfully};
+use session_path::{deliveries_lawfully, names_lawfully, publishes_lawfully};
 
 /// The state knows both connections, how far the upstream end is, the last moment, whether the pair
 /// ran out of memory and its number, as the folds tell them.
@@ -72,6 +73,17 @@ pub fn returns_are_lawful()
 {
     publishes_lawfully();
     returns_lawfully();
+}
+
+/// Each deliver that goes to a client is of a message of which none went and which nothing settled,
+/// in the order of its link. Where its consumer acknowledges, the unsettled deliveries are with it
+/// within the consumer's prefetch and within that of all consumers.
+pub fn delivers_are_lawful()
+    ensures { (h : List Step) → ArePicks h → Delivers h }
+{
+    deliveries_lawfully();
+    delivers_lawfully();
+    numbers_lawfully();
 }
 
 /// Each frame of a transfer that goes to a container is that of the publish that is begun, else of
@@ -192,11 +204,12 @@ pub fn frames_fit_clients()
     publishes_lawfully();
     returns_lawfully();
     deliveries_lawfully();
+    names_lawfully();
     received_lawfully();
 }
 
 /// No unit to a client has over 512 bytes, an eighth of the least frame-max, and each has some; but
-/// for basic.deliver, basic.consume-ok, and the frames of returns and contents.
+/// for basic.deliver, the answers of the class basic, and the frames of returns and contents.
 #[tactic(auto, using(crate::proofs::Spelled::spelled_small, crate::proofs::Spelled::spelled_some))]
 pub fn units_are_short()
     ensures small { (unit : Reply) (text : List ℕ) → takes_memory_back unit ≡ false
