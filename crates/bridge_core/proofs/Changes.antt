@@ -8,7 +8,7 @@ use Rattle.tables_091.specs.Tree.{Tree}
 use Rattle.session_path.specs.Path.{PathState}
 use Rattle.gate_model.specs.Paths.{with_path}
 use Rattle.gate_model.specs.State.{State, path_by}
-use Rattle.bridge_core.specs.Met.{is_consume}
+use Rattle.bridge_core.specs.Met.{is_naming}
 use Rattle.bridge_core.specs.PathChanges.{with_change}
 use Rattle.bridge_core.specs.declared.paths.PathChange.{PathChange}
 
@@ -39,17 +39,23 @@ pub unanswered : (m : Method91) (e k : List ℕ) (p d a i w : Bool) (t : List (L
 unanswered m e k p d a i w t s is waits =
     sym (ap (λ (x : Method91). path_by x s) is ∙ ap (λ (b : Bool). path_by (method.ExchangeDeclare e k p d a i b t) s) waits)
 
-pub unchanged : (m : Method91) → is_consume m ≡ false → ((a : Bool) → m ≢ method.ChannelFlow a)
+pub unchanged : (m : Method91) → is_naming m ≡ false → ((a : Bool) → m ≢ method.ChannelFlow a)
     → ((e k : List ℕ) (p d a i w : Bool) (t : List (List ℕ × Tree)) → m ≢ method.ExchangeDeclare e k p d a i w t)
-    → ((w : Bool) → m ≢ method.ConfirmSelect w) → ((t : ℕ) (b : Bool) → m ≢ method.BasicAck t b)
+    → ((w : Bool) → m ≢ method.ConfirmSelect w) → ((z t : ℕ) (g : Bool) → m ≢ method.BasicQos z t g) → ((t : ℕ) (b : Bool) → m ≢ method.BasicAck t b)
     → ((t : ℕ) (b : Bool) → m ≢ method.BasicReject t b) → ((t : ℕ) (b r : Bool) → m ≢ method.BasicNack t b r)
+    → ((r : Bool) → m ≢ method.BasicRecover r) → ((r : Bool) → m ≢ method.BasicRecoverAsync r)
     → ((c : ℕ) (t : List ℕ) (k i : ℕ) → m ≢ method.ChannelClose c t k i) → (s : PathState) → s ≡ path_by m s
-unchanged (method.BasicConsume q t l a e w g) none f d c k r n x s = absurd cc
-unchanged (method.ChannelFlow a) none f d c k r n x s = absurd (f a refl)
-unchanged (method.ExchangeDeclare e y p z a i w t) none f d c k r n x s = absurd (d e y p z a i w t refl)
-unchanged (method.ConfirmSelect w) none f d c k r n x s = absurd (c w refl)
-unchanged (method.BasicAck t b) none f d c k r n x s = absurd (k t b refl)
-unchanged (method.BasicReject t b) none f d c k r n x s = absurd (r t b refl)
-unchanged (method.BasicNack t b y) none f d c k r n x s = absurd (n t b y refl)
-unchanged (method.ChannelClose y t z i) none f d c k r n x s = absurd (x y t z i refl)
-unchanged m none f d c k r n x s = refl
+unchanged (method.BasicConsume z t l a e w g) none f d c q k r n v y x s = absurd cc
+unchanged (method.QueueDeclare name p u e a w g) none f d c q k r n v y x s = absurd cc
+unchanged (method.BasicCancel t w) none f d c q k r n v y x s = absurd cc
+unchanged (method.ChannelFlow a) none f d c q k r n v y x s = absurd (f a refl)
+unchanged (method.ExchangeDeclare e u p z a i w t) none f d c q k r n v y x s = absurd (d e u p z a i w t refl)
+unchanged (method.ConfirmSelect w) none f d c q k r n v y x s = absurd (c w refl)
+unchanged (method.BasicQos z t g) none f d c q k r n v y x s = absurd (q z t g refl)
+unchanged (method.BasicAck t b) none f d c q k r n v y x s = absurd (k t b refl)
+unchanged (method.BasicReject t b) none f d c q k r n v y x s = absurd (r t b refl)
+unchanged (method.BasicNack t b u) none f d c q k r n v y x s = absurd (n t b u refl)
+unchanged (method.BasicRecover b) none f d c q k r n v y x s = absurd (v b refl)
+unchanged (method.BasicRecoverAsync b) none f d c q k r n v y x s = absurd (y b refl)
+unchanged (method.ChannelClose u t z i) none f d c q k r n v y x s = absurd (x u t z i refl)
+unchanged m none f d c q k r n v y x s = refl

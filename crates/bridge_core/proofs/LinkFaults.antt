@@ -16,7 +16,7 @@ use Rattle.performatives_10.specs.declared.performative.Perf.TheVariants as perf
 use Rattle.performatives_10.specs.declared.performative.Transfer.{Transfer}
 use Rattle.session_path.specs.Links.{named}
 use Rattle.performatives_10.specs.declared.condition.Condition.{Condition}
-use Rattle.session_path.specs.Path.{PathState, failed, transfer_came, transfer_fault}
+use Rattle.session_path.specs.Path.{PathState, closes_at as closes_channel, failed, transfer_came, transfer_fault}
 use Rattle.consume_path.specs.declared.delivery.Content.{Content}
 use Rattle.consume_path.specs.declared.receiving.Part.{Part}
 use Rattle.consume_path.specs.declared.receiving.TransferFault.{TransferFault}
@@ -24,6 +24,10 @@ use Rattle.property_map.specs.Received.{received_in}
 use Rattle.property_map.specs.declared.received.Received.{Received}
 use Rattle.session_path.specs.Due.{queue_at}
 use Rattle.gate_model.specs.Lives.{life_at}
+use Rattle.close_translate.specs.Conditions.{code_by}
+use Rattle.gate_model.specs.Upstream.{condition_in}
+use Rattle.performatives_10.specs.Fields.{maybe}
+use Rattle.performatives_10.specs.View.{error_tree}
 use Rattle.gate_model.specs.Paths.{arrived_at, content_of, is_again}
 use Rattle.gate_model.specs.Paths.{lost_path, or_no_path, part_in, path_at}
 use Rattle.gate_model.specs.Paths.{received_at, slot_at, transfer_error, transferred}
@@ -203,6 +207,14 @@ unfolding parts_of
 transfer_code p t part size payload s x o e f g h i =
     ap (λ (y : Option TransferFault). if is_some y then Some PRECONDITION_FAILED else None)
     (h ∙ ap (λ (m : ℕ). transfer_fault t.handle part m s) (sym g) ∙ ap (λ (q : Part). transfer_fault t.handle q (length payload) s) f)
+    ∙ sym (ap (λ (q : Perf). closing_code (parts_of q) payload s) e)
+    ∙ ap (closing_code (parts_of p) payload) i
+
+pub detach_code : (p : Perf) (d : Detach) (payload : List ℕ) (s x : PathState) (b : Bool) → p ≡ perf.Detach d → b ≡ closes_channel d.handle s → s ≡ x
+    → (if b then Some (code_by (condition_in (maybe error_tree d.error)) scope.Channel) else None) ≡ closing_code (parts_of p) payload x
+unfolding parts_of
+detach_code p d payload s x b e f i =
+    ap (λ (c : Bool). if c then Some (code_by (condition_in (maybe error_tree d.error)) scope.Channel) else None) f
     ∙ sym (ap (λ (q : Perf). closing_code (parts_of q) payload s) e)
     ∙ ap (closing_code (parts_of p) payload) i
 

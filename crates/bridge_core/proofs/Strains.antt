@@ -14,8 +14,9 @@ use Rattle.methods_091.specs.Rows.{Kind}
 use Rattle.methods_091.specs.declared.method.Method91.TheVariants as method
 use Rattle.machine_091.specs.Calls.{closing_contents, closing_phase}
 use Rattle.machine_091.specs.Contents.{Taking, begun, no_contents, taken}
-use Rattle.machine_091.specs.Methods.{ack_of, close_of, consume_of, declare_of, flow_of, nack_of}
-use Rattle.machine_091.specs.Methods.{publish_of, reject_of, select_of}
+use Rattle.machine_091.specs.Methods.{ack_of, cancel_of, close_of, consume_of, declare_of, flow_of}
+use Rattle.machine_091.specs.Methods.{nack_of, publish_of, qos_of, queue_declare_of, recover_async_of, recover_of}
+use Rattle.machine_091.specs.Methods.{reject_of, select_of}
 use Rattle.machine_091.specs.Refusals.{unit_ruling}
 use Rattle.machine_091.specs.State.{channel_at, content_at, is_closing_phase, is_running}
 use Rattle.machine_091.specs.State.{with_channel, with_content}
@@ -68,33 +69,55 @@ dropped c n e = record {
 
 -- ---- methods
 
+-- one that changes nothing, one that takes no memory, and one of two
+same : (c : Connection) (x : Want91) → IsLight c (c, x)
+same c x = λ e. record { phase = refl; close = refl }
+
+never : (c : Connection) (x : Step) → takes_memory_for x.1 ≡ false → IsLight c x
+never c x is = λ e. absurd cc
+
+either : (c : Connection) (b : Bool) (x y : Step) → IsLight c x → IsLight c y → IsLight c (cond b x y)
+either c true x y e f = e
+either c false x y e f = f
+
 channel_light : (c : Connection) (n : ℕ) (k : Kind) (args : List Arg) → IsLight c (channel_effect c n k args)
 channel_light c n k args =
-    by _ _ _ _ _ _ _ _ _ _
+    by _ _ _ _ _ _ _ _ _ _ _ _ _ _ _
   where
-    by : (opens shuts stops declares selects consumes acks rejects nacks publishes : Bool)
+    by : (opens shuts stops declares probes selects consumes acks rejects nacks limits cancels recovers releases publishes : Bool)
         → IsLight c (cond {A = Step} opens (with_channel c n channel.Open, want.Method n method.ChannelOpen)
         (cond {A = Step} shuts (with_channel c n (closed_by (channel_at c n)), want.Method n (close_of args))
         (cond {A = Step} stops (c, want.Method n (flow_of args))
         (cond {A = Step} declares (c, want.Method n (declare_of args))
+        (cond {A = Step} probes (c, want.Method n (queue_declare_of args))
         (cond {A = Step} selects (c, want.Method n (select_of args))
         (cond {A = Step} consumes (c, want.Method n (consume_of args))
         (cond {A = Step} acks (c, want.Method n (ack_of args))
         (cond {A = Step} rejects (c, want.Method n (reject_of args))
         (cond {A = Step} nacks (c, want.Method n (nack_of args))
+        (cond {A = Step} limits (c, want.Method n (qos_of args))
+        (cond {A = Step} cancels (c, want.Method n (cancel_of args))
+        (cond {A = Step} recovers (c, want.Method n (recover_of args))
+        (cond {A = Step} releases (c, want.Method n (recover_async_of args))
         (cond {A = Step} publishes (with_content c n (Some (begun (publish_of args))), want.Nothing)
-        (with_channel c n channel.Free, want.ChannelCloseOk n)))))))))))
-    by true shuts stops declares selects consumes acks rejects nacks publishes = λ e. absurd cc
-    by false true stops declares selects consumes acks rejects nacks publishes = λ e. absurd cc
-    by false false true declares selects consumes acks rejects nacks publishes = λ e. record { phase = refl; close = refl }
-    by false false false true selects consumes acks rejects nacks publishes = λ e. record { phase = refl; close = refl }
-    by false false false false true consumes acks rejects nacks publishes = λ e. record { phase = refl; close = refl }
-    by false false false false false true acks rejects nacks publishes = λ e. record { phase = refl; close = refl }
-    by false false false false false false true rejects nacks publishes = λ e. absurd cc
-    by false false false false false false false true nacks publishes = λ e. absurd cc
-    by false false false false false false false false true publishes = λ e. absurd cc
-    by false false false false false false false false false true = λ e. absurd cc
-    by false false false false false false false false false false = λ e. absurd cc
+        (with_channel c n channel.Free, want.ChannelCloseOk n))))))))))))))))
+    by opens shuts stops declares probes selects consumes acks rejects nacks limits cancels recovers releases publishes =
+        either c opens _ _ (never c (with_channel c n channel.Open, want.Method n method.ChannelOpen) refl)
+        (either c shuts _ _ (never c (with_channel c n (closed_by (channel_at c n)), want.Method n (close_of args)) refl)
+        (either c stops _ _ (same c (want.Method n (flow_of args)))
+        (either c declares _ _ (same c (want.Method n (declare_of args)))
+        (either c probes _ _ (same c (want.Method n (queue_declare_of args)))
+        (either c selects _ _ (same c (want.Method n (select_of args)))
+        (either c consumes _ _ (same c (want.Method n (consume_of args)))
+        (either c acks _ _ (same c (want.Method n (ack_of args)))
+        (either c rejects _ _ (same c (want.Method n (reject_of args)))
+        (either c nacks _ _ (same c (want.Method n (nack_of args)))
+        (either c limits _ _ (same c (want.Method n (qos_of args)))
+        (either c cancels _ _ (same c (want.Method n (cancel_of args)))
+        (either c recovers _ _ (same c (want.Method n (recover_of args)))
+        (either c releases _ _ (same c (want.Method n (recover_async_of args)))
+        (either c publishes _ _ (never c (with_content c n (Some (begun (publish_of args))), want.Nothing) refl)
+        (never c (with_channel c n channel.Free, want.ChannelCloseOk n) refl)))))))))))))))
 
 running_light : (c : Connection) (n : ℕ) (k : Kind) (args : List Arg) → IsLight c (running_effect c n k args)
 running_light c n k args = by (eqb n 0)

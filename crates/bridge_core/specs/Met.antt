@@ -81,9 +81,12 @@ IsMet routes ps x old new (met.Publish k address payload back) =
 
 -- ---- which may run out of memory
 
-abbrev pub is_consume : Method91 → Bool
-is_consume (method.BasicConsume queue tag no_local no_ack exclusive no_wait args) = true
-is_consume m = false
+-- its names are kept
+abbrev pub is_naming : Method91 → Bool
+is_naming (method.QueueDeclare queue passive durable exclusive deletes no_wait arguments) = true
+is_naming (method.BasicConsume queue tag no_local no_ack exclusive no_wait args) = true
+is_naming (method.BasicCancel tag no_wait) = true
+is_naming m = false
 
 abbrev pub is_answered : Method91 → Bool
 is_answered (method.ChannelFlow active) = true
@@ -91,6 +94,10 @@ is_answered (method.ExchangeDeclare e kind passive durable auto_delete internal 
     true
 is_answered (method.ConfirmSelect no_wait) = true
 is_answered (method.BasicConsume queue tag no_local no_ack exclusive no_wait args) = true
+is_answered (method.QueueDeclare queue passive durable exclusive deletes no_wait args) = true
+is_answered (method.BasicCancel tag no_wait) = true
+is_answered (method.BasicQos size count global) = true
+is_answered (method.BasicRecover requeue) = true
 is_answered m = false
 
 abbrev pub takes_memory_for : Want91 → Bool

@@ -5,10 +5,10 @@ use Rattle.session_path.specs.Due.{next_confirm, next_deliver, next_return, part
 use Rattle.session_path.specs.Path.{PathState, answer_came, attach_came, began, closed, consumed}
 use Rattle.session_path.specs.Path.{detach_came, failed, flow_came, taking}
 use Rattle.session_path.specs.Path.{lost, outcome_came, owed, selected}
-use Rattle.session_path.specs.declared.path.PathOk.TheVariants.{Select}
+use Rattle.session_path.specs.declared.path.PathOk.TheVariants.{Recover, Select}
 use Rattle.gate_model.specs.Lives.{life_at}
 use Rattle.gate_model.specs.Paths.{path_at}
-use Rattle.gate_model.specs.State.{State, answered_if}
+use Rattle.gate_model.specs.State.{State, answered_if, recovered}
 use Rattle.gate_model.specs.declared.channel.ChannelUnit.{ChannelUnit}
 use Rattle.gate_model.specs.declared.channel.ChannelUnit.TheVariants as to_client
 use Rattle.gate_model.specs.declared.channel.SessionUnit.{SessionUnit}
@@ -29,6 +29,7 @@ path_changed (change.Owed ok) s = owed ok s
 path_changed (change.Selected no_wait) s = answered_if no_wait Select (selected s)
 path_changed (change.Began handle_max) s = began handle_max s
 path_changed (change.Answered tag multiple settle) s = answer_came tag multiple settle s
+path_changed change.Recovered s = owed Recover (recovered s)
 path_changed (change.Attached attach) s = attach_came attach s
 path_changed (change.Flowed peer flow) s =
     flow_came peer flow.count flow.credit flow.drain flow.echo s
@@ -50,6 +51,7 @@ takes_memory_to (change.Owed ok) = true
 takes_memory_to (change.Selected no_wait) = true
 takes_memory_to (change.Began handle_max) = false
 takes_memory_to (change.Answered tag multiple settle) = false
+takes_memory_to change.Recovered = true
 takes_memory_to (change.Attached attach) = true
 takes_memory_to (change.Flowed peer flow) = true
 takes_memory_to (change.Detached peer not_found) = false

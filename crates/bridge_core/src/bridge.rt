@@ -4,7 +4,7 @@ ghost use Rattle.std.specs.Prelude.{◌≡◌, ◌<◌, ◌≤◌, true, false, 
 ghost use Rattle.std.specs.Prelude.{IfSome, IsSome, Some, is_some};
 ghost use Rattle.gate_outside.specs.declared.ports.End.TheVariants.{Client, Up};
 ghost use Rattle.gate_model.specs.State.{Moment, Fed, Silent, Queued, TakenUp, Heard, Joined};
-ghost use Rattle.gate_model.specs.State.{Lost, Gave};
+ghost use Rattle.gate_model.specs.State.{LinesTold, Lost, Gave};
 ghost use Rattle.gate_model.specs.State.{Whole, OutOfMemory, new_state, next_unit, waits};
 ghost use Rattle.gate_model.specs.Due.{can_leave, can_take_up, is_awaiting, is_busy};
 ghost use Rattle.gate_model.specs.Due.{is_connect_due, is_end_out, is_shut_due, is_silent, pick};
@@ -309,6 +309,16 @@ impl Bridge {
         self.state.lose(end, how);
     }
 
+    /// The lines that the report was owed were reported.
+    pub fn lines_told(&mut self)
+        ensures step { self.new ≡ moved LinesTold self.old }
+        ensures memory { self.new.state.out_of_memory ≡ self.old.state.out_of_memory }
+        ensures kept { Keeps self.old self.new }
+    {
+        self.take_back();
+        self.state.lines_told();
+    }
+
     /// The pair ran out of memory.
     pub fn run_out(&mut self)
         ensures step { self.new ≡ moved OutOfMemory self.old }
@@ -424,15 +434,15 @@ impl Bridge {
     // ---- what goes
 
     /// Looks for what goes next to an end. What is found is offered, and its bytes are `bytes`.
-    /// Without memory for them the pair ran out of memory; after that, and for what ends a
-    /// connection, a look takes none.
+    /// Without memory for them the pair ran out of memory, after the lines that the report was owed
+    /// were reported. After that, and for what ends a connection, a look takes none.
     #[tactic(auto, using(crate::proofs::Calm::calm_pick, crate::proofs::Calm::calm_client))]
     pub fn peek(&mut self, alloc: Global, setup: &Setup, end: End) -> Result<bool, Memory>
         requires free { is_busy self.old.state end ≡ false }
         ensures some { IfOk result (λ yes. yes ≡ is_some (pick self.old.state end)) }
         ensures ok { OnOk result (self.new ≡ peeked setup.now end self.old) }
         ensures long { IfOk result (λ yes. FindsBytes end yes self.new) }
-        ensures err { OnErr result (self.new ≡ moved OutOfMemory self.old) }
+        ensures err { OnErr result (self.new ≡ moved OutOfMemory (moved LinesTold self.old)) }
         ensures calm { OnErr result (self.old.state.out_of_memory ≡ false) }
         ensures takes { OnErr result (takes_memory (pick self.old.state end) ≡ true) }
         ensures kept { OnErr result (Keeps self.old self.new) }
@@ -441,6 +451,7 @@ impl Bridge {
             End::Client => match look(&self.state, &mut self.client, alloc) {
                 Ok(yes) => Ok(yes),
                 Err(error) => {
+                    self.lines_told();
                     self.run_out();
                     Err(error)
                 }
@@ -448,6 +459,7 @@ impl Bridge {
             End::Up => match look_up(&self.state, &mut self.up, alloc, setup) {
                 Ok(yes) => Ok(yes),
                 Err(error) => {
+                    self.lines_told();
                     self.run_out();
                     Err(error)
                 }

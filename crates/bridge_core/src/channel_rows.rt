@@ -108,11 +108,11 @@ pub fn first_open_ok(lives: &Lives) -> Option<Reply>
     None
 }
 
-/// The answer to a basic.consume.
+/// The answer to a basic.consume or a queue.declare.
 fn is_consume_ok(ok: PathOk) -> bool
     ensures { result ≡ is_consume_ok ok }
 {
-    matches!(ok, PathOk::Consume(_))
+    matches!(ok, PathOk::Consume(_) | PathOk::Queue)
 }
 
 /// The answer that goes on a channel, while it is open, but for a basic.consume-ok.

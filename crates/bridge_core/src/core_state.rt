@@ -6,7 +6,7 @@ ghost use Rattle.std.specs.Bool.{OnFalse, OnTrue};
 ghost use Rattle.std.specs.Prelude.{IfSome, Some, None, is_some, length, slice_get, take};
 ghost use Rattle.gate_outside.specs.declared.ports.End.TheVariants.{Client, Up};
 ghost use Rattle.gate_model.specs.State.{Moment, Fed, Silent, Queued, TakenUp, Joined};
-ghost use Rattle.gate_model.specs.State.{Lost, Whole, OutOfMemory, new_state, step};
+ghost use Rattle.gate_model.specs.State.{LinesTold, Lost, Whole, OutOfMemory, new_state, step};
 ghost use Rattle.gate_model.specs.State.{none_pending, is_foreign, closes_at, close_if};
 ghost use Rattle.gate_model.specs.State.{is_limit_reached, has_left, last_pending};
 ghost use Rattle.gate_model.specs.State.{with_last, fail, is_settled, lost_up};
@@ -354,13 +354,19 @@ impl Core {
         ensures step { self.new ≡ step self.old (Fed end) }
         ensures kept { KeepsGoing self.old self.new }
     {
+        self.paths.lines_told();
         match end {
             End::Client => self.fed_at = self.moment,
-            End::Up => {
-                self.up.feed(self.moment);
-                self.paths.lines_told();
-            }
+            End::Up => self.up.feed(self.moment),
         }
+    }
+
+    /// The lines that the report was owed were reported.
+    pub fn lines_told(&mut self)
+        ensures step { self.new ≡ step self.old LinesTold }
+        ensures kept { KeepsGoing self.old self.new }
+    {
+        self.paths.lines_told();
     }
 
     /// An end is to be given up.

@@ -171,7 +171,13 @@ fn write_on_channel(room: &mut [u8; ROOM], channel: u16, unit: ChannelUnit) -> u
         ChannelUnit::Ok(PathOk::Declare) => put_declare_ok(room, channel),
         ChannelUnit::Ok(PathOk::Select) => put_select_ok(room, channel),
         ChannelUnit::Confirm(confirm) => write_confirm(room, channel, confirm),
-        ChannelUnit::Ok(PathOk::Consume(_))
+        ChannelUnit::Ok(
+            PathOk::Consume(_)
+            | PathOk::Qos { .. }
+            | PathOk::Cancel
+            | PathOk::Queue
+            | PathOk::Recover,
+        )
         | ChannelUnit::Deliver(_)
         | ChannelUnit::Content(_)
         | ChannelUnit::Return(_) => unreachable!(),

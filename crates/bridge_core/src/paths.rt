@@ -17,12 +17,13 @@ ghost use Rattle.methods_091.specs.Writing.{CanPut};
 ghost use Rattle.consume_path.specs.declared.delivery.Content.{Content};
 ghost use Rattle.gate_model.specs.Due.{deliver_as, deliver_method, detach_out, or_no_bytes};
 ghost use Rattle.gate_model.specs.Paths.{closed_path, closed_paths, error_for, is_receiver};
-ghost use Rattle.gate_model.specs.Requests.{answer_fault, consume_fault, is_queue_name};
+ghost use Rattle.gate_model.specs.Requests.{answer_fault, cancel_fault, consume_fault, declare_fault};
+ghost use Rattle.gate_model.specs.Requests.{is_queue_name};
 ghost use Rattle.gate_model.specs.State.{path_wrote};
 ghost use Rattle.bridge_core.specs.PathChanges.{consumed_by, is_deliver, partial_in};
 ghost use Rattle.bridge_core.specs.Reports.{has_delivery_line};
 ghost use Rattle.session_path.specs.Links.{attach_fault, handle_of, named};
-ghost use Rattle.session_path.specs.Path.{published};
+ghost use Rattle.session_path.specs.Path.{cancelled, closes_at, declare_came, published, queue_or};
 ghost use Rattle.session_path.specs.declared.path.AttachFault.TheVariants.{NotAsked};
 ghost use Rattle.gate_model.specs.Due.{carries_of, carries_told};
 ghost use Rattle.gate_model.specs.Paths.{bytes_in, bytes_on, held_in, held_on, is_laden};
@@ -78,6 +79,31 @@ impl Default for PathSlot {
     }
 }
 
+/// Why a queue.declare is refused: its name is longer than a short string, as none is, or is no
+/// queue's.
+pub fn declare_fault(queue: &[u8]) -> Option<u16>
+    ensures { result ≡ declare_fault queue.now }
+{
+    if queue.len() > SHORT_MAX {
+        Some(NOT_ALLOWED)
+    } else if is_queue_name(queue) {
+        None
+    } else {
+        Some(NOT_FOUND)
+    }
+}
+
+/// Why a basic.cancel is refused: its tag is longer than a short string, as none is.
+pub fn cancel_fault(tag: &[u8]) -> Option<u16>
+    ensures { result ≡ cancel_fault tag.now }
+{
+    if tag.len() > SHORT_MAX {
+        Some(NOT_ALLOWED)
+    } else {
+        None
+    }
+}
+
 /// What a basic.consume asks for.
 #[derive(Drop)]
 pub struct Consume {
@@ -98,6 +124,8 @@ pub enum PathChange {
     Began(u32),
     /// A client answered deliveries: their tag, that it covers those before it, and what they get.
     Answered(u64, bool, Settle),
+    /// basic.recover: all that is outstanding goes back, and an answer is due.
+    Recovered,
     /// The container's attach came.
     Attached(AttachHeard),
     /// Its flow on the link of this handle came.
@@ -211,6 +239,11 @@ impl PathSlot {
                 path.answer_came(tag, multiple, settle);
                 Ok(())
             }
+            PathChange::Recovered => {
+                path.owed(PathOk::Recover)?;
+                path.answer_came(0, true, Settle::Released);
+                Ok(())
+            }
             PathChange::Attached(attach) => path.attach_came(attach),
             PathChange::Flowed(peer, flow) => path.flow_came(peer, flow),
             PathChange::Detached(peer, not_found) => {
@@ -255,6 +288,29 @@ impl PathSlot {
             Some(path) => {
                 path.consume(consume.queue, consume.tag, consume.no_ack, consume.no_wait)
             }
+        }
+    }
+
+    /// A queue.declare of this queue was taken up. Without memory for it all is as it was.
+    fn declare(&mut self, queue: ByteText, no_wait: bool) -> Result<(), Memory>
+        ensures ok { OnOk result (self.new ≡ option_map (declare_came queue no_wait) self.old) }
+        ensures err { OnErr result (self.new ≡ self.old) }
+    {
+        match &mut self.path {
+            None => Ok(()),
+            Some(path) => path.declare(queue, no_wait),
+        }
+    }
+
+    /// A basic.cancel of the consumer with this tag was taken up. Without memory for it all is as
+    /// it was.
+    fn cancel(&mut self, tag: ByteText, no_wait: bool) -> Result<(), Memory>
+        ensures ok { OnOk result (self.new ≡ option_map (cancelled tag no_wait) self.old) }
+        ensures err { OnErr result (self.new ≡ self.old) }
+    {
+        match &mut self.path {
+            None => Ok(()),
+            Some(path) => path.cancel(tag, no_wait),
         }
     }
 
@@ -643,6 +699,36 @@ impl Paths {
         }
     }
 
+    /// A queue.declare was taken up on a channel. Without memory for it all is as it was.
+    #[tactic(auto, using(crate::proofs::PathSlots::none_beyond))]
+    pub fn declare(&mut self, channel: u16, queue: ByteText, no_wait: bool) -> Result<(), Memory>
+        ensures ok { OnOk result (self.new
+            ≡ with_path channel (declare_came queue no_wait) self.old) }
+        ensures err { OnErr result (self.new ≡ self.old) }
+    {
+        let at = usize::from(channel);
+        if at < self.paths.len() {
+            self.paths[at].declare(queue, no_wait)
+        } else {
+            Ok(())
+        }
+    }
+
+    /// A basic.cancel was taken up on a channel. Without memory for it all is as it was.
+    #[tactic(auto, using(crate::proofs::PathSlots::none_beyond))]
+    pub fn cancel(&mut self, channel: u16, tag: ByteText, no_wait: bool) -> Result<(), Memory>
+        ensures ok { OnOk result (self.new
+            ≡ with_path channel (cancelled tag no_wait) self.old) }
+        ensures err { OnErr result (self.new ≡ self.old) }
+    {
+        let at = usize::from(channel);
+        if at < self.paths.len() {
+            self.paths[at].cancel(tag, no_wait)
+        } else {
+            Ok(())
+        }
+    }
+
     /// A transfer came on a channel, under this handle, behind which its delivery goes on, or is
     /// none any more. Without memory for it all is as it was.
     #[tactic(auto, using(crate::proofs::PathSlots::none_beyond))]
@@ -752,6 +838,7 @@ impl Paths {
         };
         match unit {
             ChannelUnit::Ok(PathOk::Consume(link)) => path.consumer_tag(link),
+            ChannelUnit::Ok(PathOk::Cancel | PathOk::Queue) => path.next_name(),
             ChannelUnit::Content(_) => bytes_of(path.content_frame()),
             ChannelUnit::Return(due) => bytes_of(path.return_frame(due.publish)),
             _ => &[],
@@ -809,16 +896,39 @@ impl Paths {
         }
     }
 
+    /// The queue of this name; an empty one stands for the queue that was declared last.
+    fn queue_or<'a>(&'a self, channel: u16, queue: &'a [u8]) -> &'a [u8]
+        ensures { result.now ≡ queue_or (path_at self.now channel).queue queue.now }
+    {
+        if !queue.is_empty() {
+            return queue;
+        }
+        match self.at(channel) {
+            None => &[],
+            Some(path) => path.last_queue(),
+        }
+    }
+
     /// Why a basic.consume is refused on a channel.
     pub fn consume_fault(&self, channel: u16, queue: &[u8], tag: &[u8]) -> Option<u16>
         ensures { result ≡ consume_fault queue.now tag.now (path_at self.now channel) }
     {
         if tag.len() > SHORT_MAX || self.has_tag(channel, tag) {
             Some(NOT_ALLOWED)
-        } else if is_queue_name(queue) {
+        } else if is_queue_name(self.queue_or(channel, queue)) {
             None
         } else {
             Some(NOT_FOUND)
+        }
+    }
+
+    /// Whether a detach of the container under this handle closes its channel.
+    pub fn closes_at(&self, channel: u16, peer: u32) -> bool
+        ensures { result ≡ closes_at peer (path_at self.now channel) }
+    {
+        match self.at(channel) {
+            None => false,
+            Some(path) => path.closes_at(peer),
         }
     }
 

@@ -18,7 +18,7 @@ ghost use Rattle.methods_091.specs.View.{kind_of};
 ghost use Rattle.methods_091.specs.declared.method.Method91.{Method91};
 ghost use Rattle.machine_091.specs.declared.unit.Want91.TheVariants as want;
 
-use crate::paths::Paths;
+use crate::paths::{Paths, cancel_fault, declare_fault};
 use crate::returns::return_frames;
 use close_translate::{NOT_ALLOWED, NOT_FOUND, PRECONDITION_FAILED, Scope};
 use content_091::Content;
@@ -77,6 +77,8 @@ fn method_fault(routes: &Routes, paths: &Paths, channel: u16, method: &Method91)
             consumer_tag,
             ..
         } => paths.consume_fault(channel, queue.as_slice(), consumer_tag.as_slice()),
+        Method91::QueueDeclare { queue, .. } => declare_fault(queue.as_slice()),
+        Method91::BasicCancel { consumer_tag, .. } => cancel_fault(consumer_tag.as_slice()),
         Method91::BasicAck {
             delivery_tag,
             multiple,

@@ -1,16 +1,14 @@
 //! The bytes of a unit to the client, in a room that is kept for them.
 
 ghost use Rattle.std.specs.Prelude.{◌≡◌, ◌<◌, ◌≤◌, length, [], Some, None, OnOk, OnErr, true};
-ghost use Rattle.std.specs.Prelude.{false};
-ghost use Rattle.gate_model.specs.Due.{takes_memory_back};
-ghost use Rattle.gate_model.specs.Spelling.{spell_reply};
+ghost use Rattle.std.specs.Prelude.{false, IfOk};
+ghost use Rattle.gate_model.specs.Due.{is_long_ok, takes_memory_back};
+ghost use Rattle.gate_model.specs.Spelling.{ok_method, spell_reply};
 ghost use Rattle.gate_model.specs.declared.channel.ChannelUnit.TheVariants as unit;
 ghost use Rattle.gate_model.specs.declared.reply.Reply.TheVariants as reply;
 ghost use Rattle.frames_091.specs.declared.frame.Kind91.TheVariants.{Method};
 ghost use Rattle.gate_model.specs.Returns.{frame_with};
 ghost use Rattle.methods_091.specs.Writing.{CanPut, method_text};
-ghost use Rattle.methods_091.specs.declared.method.Method91.TheVariants.{BasicConsumeOk};
-ghost use Rattle.session_path.specs.declared.path.PathOk.TheVariants as ok;
 ghost use Rattle.bridge_core.specs.PathChanges.{is_deliver_reply};
 ghost use Rattle.bridge_core.specs.Offers.{SlotState};
 
@@ -28,9 +26,60 @@ use wire_base::{ByteText, Memory};
 /// The bytes of a short string, at most (AMQP 0-9-1 4.2.5.3).
 const SHORT_MAX: usize = 255;
 
+/// An answer that takes memory: one of the classes basic and queue.
+fn is_long_ok(ok: PathOk) -> bool
+    ensures { result ≡ is_long_ok ok }
+{
+    match ok {
+        PathOk::Flow | PathOk::Declare | PathOk::Select => false,
+        PathOk::Consume(_)
+        | PathOk::Qos { .. }
+        | PathOk::Cancel
+        | PathOk::Queue
+        | PathOk::Recover => true,
+    }
+}
+
+/// A name. `Memory` also if it is longer than a short string.
+fn short_name(alloc: Global, name: &[u8]) -> Result<ByteText, Memory>
+    ensures name { IfOk result (λ own. own ≡ name.now) }
+    ensures short { IfOk result (λ own. length own ≤ 255) }
+{
+    if name.len() > SHORT_MAX {
+        return Err(Memory);
+    }
+    ByteText::copy_of(alloc, name)
+}
+
+/// The method of such an answer, with the name that it gives, where it gives one. `Memory` also if
+/// that is longer than a short string.
+fn long_ok(alloc: Global, ok: PathOk, name: &[u8]) -> Result<Method91, Memory>
+    requires { is_long_ok ok ≡ true }
+    ensures method { IfOk result (λ method. method ≡ ok_method ok name.now) }
+    ensures short { IfOk result CanPut }
+{
+    Ok(match ok {
+        PathOk::Consume(_) => Method91::BasicConsumeOk {
+            consumer_tag: short_name(alloc, name)?,
+        },
+        PathOk::Cancel => Method91::BasicCancelOk {
+            consumer_tag: short_name(alloc, name)?,
+        },
+        PathOk::Queue => Method91::QueueDeclareOk {
+            queue: short_name(alloc, name)?,
+            message_count: 0,
+            consumer_count: 0,
+        },
+        PathOk::Qos { .. } => Method91::BasicQosOk,
+        PathOk::Recover => Method91::BasicRecoverOk,
+        PathOk::Flow | PathOk::Declare | PathOk::Select => unreachable!(),
+    })
+}
+
 /// What is offered to the client, and the bytes of it or of the unit in progress. Those of a frame
-/// of a return or of a content, of a deliver and of a basic.consume-ok stand in `long`, all others
-/// in `room`.
+/// of a return or of a content, of a deliver and of an answer of the classes basic and queue stand in
+/// `long`,
+/// all others in `room`.
 #[derive(Drop)]
 pub struct Slot {
     chosen: Option<Reply>,
@@ -153,34 +202,23 @@ impl Slot {
         self.hold(Reply::OnChannel(channel, unit), frame)
     }
 
-    /// A basic.consume-ok is offered, with this consumer tag. `Memory` also if that is longer than a
-    /// short string, as none of a client's is.
-    fn say_consumed(
-        &mut self,
-        alloc: Global,
-        channel: u16,
-        link: u32,
-        tag: &[u8],
-    ) -> Result<(), Memory>
+    /// An answer of the class basic or queue is offered, with this name, where it gives one. `Memory`
+    /// also if that is longer than a short string, as none of a client's is.
+    fn say_ok(&mut self, alloc: Global, channel: u16, ok: PathOk, name: &[u8]) -> Result<(), Memory>
+        requires { is_long_ok ok ≡ true }
         ensures ok { OnOk result (self.new ≡ record {
-          chosen = Some (reply.OnChannel channel (unit.Ok (ok.Consume link)));
-          bytes = frame_with Method channel (method_text (BasicConsumeOk tag.now));
+          chosen = Some (reply.OnChannel channel (unit.Ok ok));
+          bytes = frame_with Method channel (method_text (ok_method ok name.now));
         }) }
         ensures long { OnOk result (0 < length self.new.bytes) }
         ensures err { OnErr result (self.new ≡ self.old) }
     {
-        if tag.len() > SHORT_MAX {
-            return Err(Memory);
-        }
-        let method = Method91::BasicConsumeOk {
-            consumer_tag: ByteText::copy_of(alloc, tag)?,
-        };
-        let unit = ChannelUnit::Ok(PathOk::Consume(link));
-        self.say(alloc, channel, unit, method)
+        let method = long_ok(alloc, ok, name)?;
+        self.say(alloc, channel, ChannelUnit::Ok(ok), method)
     }
 
     /// A unit is offered that is no deliver, which carries this. Only frames of returns and of
-    /// contents and basic.consume-oks take memory; without it all is as it was.
+    /// contents and answers of the classes basic and queue take memory; without it all is as it was.
     pub fn choose(&mut self, alloc: Global, unit: Reply, carried: &[u8]) -> Result<(), Memory>
         requires { is_deliver_reply unit ≡ false }
         ensures ok { OnOk result (self.new ≡ record {
@@ -196,8 +234,8 @@ impl Slot {
             | Reply::OnChannel(_, ChannelUnit::Content(_)) => {
                 self.hold(unit, ByteText::copy_of(alloc, carried)?)
             }
-            Reply::OnChannel(channel, ChannelUnit::Ok(PathOk::Consume(link))) => {
-                self.say_consumed(alloc, channel, link, carried)
+            Reply::OnChannel(channel, ChannelUnit::Ok(ok)) if is_long_ok(ok) => {
+                self.say_ok(alloc, channel, ok, carried)
             }
             unit => {
                 self.write(unit);

@@ -323,7 +323,7 @@ impl Core {
         match perf {
             Perf::End(end) => Some(code_by(&end.error, Scope::Channel)),
             Perf::Detach(detach) => {
-                if self.paths.is_receiver(channel, detach.handle) {
+                if self.paths.closes_at(channel, detach.handle) {
                     Some(code_by(&detach.error, Scope::Channel))
                 } else {
                     None

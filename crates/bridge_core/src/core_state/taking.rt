@@ -13,8 +13,8 @@ ghost use Rattle.gate_model.specs.Upstream.{closing_with};
 ghost use Rattle.bridge_core.specs.Going.{KeepsGoing};
 ghost use Rattle.bridge_core.specs.Logins.{IsLoginWant};
 ghost use Rattle.bridge_core.specs.Met.{IsLoginMet, applied, counted, is_answered, is_publish};
+ghost use Rattle.bridge_core.specs.Met.{is_naming};
 ghost use Rattle.bridge_core.specs.Met.{is_unmet, takes_memory_for, takes_memory_met};
-ghost use Rattle.bridge_core.specs.Met.{is_consume};
 ghost use Rattle.bridge_core.specs.Offers.{with_next};
 ghost use Rattle.bridge_core.specs.PathChanges.{takes_memory_to, with_change};
 ghost use Rattle.gate_model.specs.State.{refused_paths, settle_by};
@@ -82,9 +82,19 @@ fn settle_by(requeue: bool) -> Settle
     }
 }
 
-/// What a method of a channel changes of its path, but for a basic.consume.
+/// A method whose names are kept.
+fn is_naming(method: &Method91) -> bool
+    ensures { result ≡ is_naming method.now }
+{
+    matches!(
+        method,
+        Method91::QueueDeclare { .. } | Method91::BasicConsume { .. } | Method91::BasicCancel { .. }
+    )
+}
+
+/// What a method of a channel changes of its path, of which no name is kept.
 fn change_by(method: &Method91) -> Option<PathChange>
-    requires { is_consume method.now ≡ false }
+    requires { is_naming method.now ≡ false }
     ensures path { (s : PathState) → with_change result s ≡ path_by method.now s }
     ensures takes { IfSome result (λ c. takes_memory_to c ≡ is_answered method.now) }
 {
@@ -98,6 +108,14 @@ fn change_by(method: &Method91) -> Option<PathChange>
             }
         }
         Method91::ConfirmSelect { no_wait } => Some(PathChange::Selected(*no_wait)),
+        Method91::BasicQos {
+            prefetch_count,
+            global,
+            ..
+        } => Some(PathChange::Owed(PathOk::Qos {
+            count: *prefetch_count,
+            global: *global,
+        })),
         Method91::BasicAck {
             delivery_tag,
             multiple,
@@ -111,6 +129,10 @@ fn change_by(method: &Method91) -> Option<PathChange>
             multiple,
             requeue,
         } => Some(PathChange::Answered(*delivery_tag, *multiple, settle_by(*requeue))),
+        Method91::BasicRecover { .. } => Some(PathChange::Recovered),
+        Method91::BasicRecoverAsync { .. } => {
+            Some(PathChange::Answered(0, true, Settle::Released))
+        }
         Method91::ChannelClose { .. } => Some(PathChange::Closed),
         _ => None,
     }
@@ -140,8 +162,8 @@ impl Core {
         ensures err { OnErr result (self.new ≡ self.old) }
         ensures takes { OnErr result (is_answered method.now ≡ true) }
     {
-        if let Method91::BasicConsume { .. } = method {
-            return self.consume(alloc, channel, method);
+        if is_naming(method) {
+            return self.name_path(alloc, channel, method);
         }
         match change_by(method) {
             None => Ok(()),
@@ -149,32 +171,44 @@ impl Core {
         }
     }
 
-    /// What a basic.consume makes of the path of its channel; nothing by another method. Without
-    /// memory for it all is as it was.
-    fn consume(&mut self, alloc: Global, channel: u16, method: &Method91) -> Result<(), Memory>
-        requires { is_consume method.now ≡ true }
+    /// What a method whose names are kept makes of the path of its channel. Without memory for it all
+    /// is as it was.
+    fn name_path(&mut self, alloc: Global, channel: u16, method: &Method91) -> Result<(), Memory>
+        requires { is_naming method.now ≡ true }
         ensures ok { OnOk result (self.new ≡ record self.old {
           paths = with_path channel (path_by method.now) self.old.paths;
         }) }
         ensures err { OnErr result (self.new ≡ self.old) }
     {
-        let Method91::BasicConsume {
-            queue,
-            consumer_tag,
-            no_ack,
-            no_wait,
-            ..
-        } = method
-        else {
-            return Ok(());
-        };
-        let consume = Consume {
-            queue: queue.copy(alloc)?,
-            tag: consumer_tag.copy(alloc)?,
-            no_ack: *no_ack,
-            no_wait: *no_wait,
-        };
-        self.paths.consume(channel, consume)
+        match method {
+            Method91::QueueDeclare { queue, no_wait, .. } => {
+                let queue = queue.copy(alloc)?;
+                self.paths.declare(channel, queue, *no_wait)
+            }
+            Method91::BasicConsume {
+                queue,
+                consumer_tag,
+                no_ack,
+                no_wait,
+                ..
+            } => {
+                let consume = Consume {
+                    queue: queue.copy(alloc)?,
+                    tag: consumer_tag.copy(alloc)?,
+                    no_ack: *no_ack,
+                    no_wait: *no_wait,
+                };
+                self.paths.consume(channel, consume)
+            }
+            Method91::BasicCancel {
+                consumer_tag,
+                no_wait,
+            } => {
+                let tag = consumer_tag.copy(alloc)?;
+                self.paths.cancel(channel, tag, *no_wait)
+            }
+            _ => Ok(()),
+        }
     }
 
     /// A refusal is the closing event of its channel, or of all.

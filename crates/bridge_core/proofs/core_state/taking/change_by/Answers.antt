@@ -7,5 +7,6 @@ returns-then-no_wait-clause-path c s = unanswered _ _ _ _ _ _ _ _ _ s c.in-Excha
 
 pub returns-in_default-clause-path : goal.returns-in_default-clause-path
 returns-in_default-clause-path c s =
-    unchanged c.args.method.now c.requires c.in_default.not-ChannelFlow c.in_default.not-ExchangeDeclare c.in_default.not-ConfirmSelect
-    c.in_default.not-BasicAck c.in_default.not-BasicReject c.in_default.not-BasicNack c.in_default.not-ChannelClose s
+    unchanged c.args.method.now c.requires c.in_default.not-ChannelFlow c.in_default.not-ExchangeDeclare
+    c.in_default.not-ConfirmSelect c.in_default.not-BasicQos c.in_default.not-BasicAck c.in_default.not-BasicReject c.in_default.not-BasicNack
+    c.in_default.not-BasicRecover c.in_default.not-BasicRecoverAsync c.in_default.not-ChannelClose s
