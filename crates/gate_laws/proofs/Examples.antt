@@ -366,13 +366,14 @@ then_late : next words two_pairs (silent 10000 mute) ≡ Do (AskShut 0 Client)
 unfolding all_open
 then_late = refl
 
--- want of memory at the accept, or at the read with which the header is whole: nothing was said, and nothing is
+-- want of memory at the accept, or at the read with which the header is whole: nothing was said, and nothing is. The
+-- first step of a read that doesn't count is that its lines were told
 
 refused_at_once : next words two_pairs (Refuse 0 ∷ joined) ≡ Do (AskShut 0 Client)
 unfolding all_open
 refused_at_once = refl
 
-silent_before_the_header : next words two_pairs (RunOut 0 Taking 1 ∷ second_piece) ≡ Do (AskShut 0 Client)
+silent_before_the_header : next words two_pairs (RunOut 0 Taking 2 ∷ second_piece) ≡ Do (AskShut 0 Client)
 unfolding all_open
 silent_before_the_header = refl
 
@@ -381,11 +382,11 @@ silent_before_the_header = refl
 abbrev no_memory : List ℕ
 no_memory = 1 ∷ 0 ∷ 0 ∷ 0 ∷ 0 ∷ 0 ∷ 20 ∷ 0 ∷ 10 ∷ 0 ∷ 50 ∷ 1 ∷ 250 ∷ 9 ∷ 78 ∷ 79 ∷ 95 ∷ 77 ∷ 69 ∷ 77 ∷ 79 ∷ 82 ∷ 89 ∷ 0 ∷ 0 ∷ 0 ∷ 0 ∷ 206 ∷ []
 
-then_no_memory : next words two_pairs (RunOut 0 Taking 3 ∷ crossed) ≡ Do (AskWrite 0 Client no_memory)
+then_no_memory : next words two_pairs (RunOut 0 Taking 4 ∷ crossed) ≡ Do (AskWrite 0 Client no_memory)
 unfolding all_open
 then_no_memory = refl
 
-then_the_strained_is_shut : next words two_pairs (Call (Write 0 Client no_memory (put.Took 28)) ∷ RunOut 0 Taking 3 ∷ crossed) ≡ Do (AskShut 0 Client)
+then_the_strained_is_shut : next words two_pairs (Call (Write 0 Client no_memory (put.Took 28)) ∷ RunOut 0 Taking 4 ∷ crossed) ≡ Do (AskShut 0 Client)
 unfolding all_open
 then_the_strained_is_shut = refl
 
@@ -399,6 +400,6 @@ then_the_agreed : limit_in (steps_of shared (journal 0 tuned)) ≡ 131072
 unfolding all_open
 then_the_agreed = refl
 
-still_the_least : limit_in (steps_of shared (journal 0 (RunOut 0 Taking 1 ∷ tuned))) ≡ 4096
+still_the_least : limit_in (steps_of shared (journal 0 (RunOut 0 Taking 2 ∷ tuned))) ≡ 4096
 unfolding all_open
 still_the_least = refl

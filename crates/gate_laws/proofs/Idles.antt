@@ -30,7 +30,8 @@ use Rattle.gate_model.specs.Queue.{Waits, can_take, channel_of, holds, is_bad_un
 use Rattle.gate_model.specs.Queue.{is_full, place_from, place_in, waits_for_all}
 use Rattle.gate_model.specs.Setup.{SetupText}
 use Rattle.gate_model.specs.Requests.{client_step}
-use Rattle.gate_model.specs.State.{State, Step, Came, Joined, TakenUp, before, came, close_waits}
+use Rattle.gate_model.specs.State.{State, Step, Came, Joined, LinesTold, TakenUp, before, came}
+use Rattle.gate_model.specs.State.{close_waits}
 use Rattle.gate_model.specs.State.{condition_by, dequeued, is_channel_settled, is_held, is_settled}
 use Rattle.gate_model.specs.State.{keep_login, left, life_waits, next_unit, place, step, waits}
 use Rattle.gate_model.specs.Upstream.{UpState, awaited_of, closing_with, has_closed, is_awaited_up}
@@ -41,7 +42,8 @@ use Rattle.gate_model.proofs.Times.{and_both, and_left, and_right}
 use Rattle.gate_model.proofs.Ups.{is_early}
 use Rattle.gate_pair.specs.Cutting as cutting
 use Rattle.gate_pair.specs.Cutting.{after, on_next, settle}
-use Rattle.gate_pair.specs.Meaning.{Told, pair_words, settled, state_of, steps, steps_of, told}
+use Rattle.gate_pair.specs.Meaning.{Told, made, pair_words, state_of, steps, steps_of, taken_up}
+use Rattle.gate_pair.specs.Meaning.{told}
 use Rattle.gate_pair.proofs.Lines.{laden_told}
 use Rattle.gate_pair.proofs.Memories.{memory_of}
 use Rattle.gate_pair.proofs.Queued.{none_placed, settle_done}
@@ -84,8 +86,8 @@ none_left w none true can = by (not w.out_of_memory && w.leaving) (is_there w ca
         (ap (λ (us : List Unit91). is_some (if is_laden (left w).paths then None else place_in (waits (left w)) us)) (leaves_none w can) ∙ none_placed (is_laden (left w).paths) (waits (left w)))) refl
     by false e = absurd cc
 
-pub settled_rest : (t : Told) → (before (steps t)).out_of_memory ≡ false → can_take_up (before (steps (settled t))) ≡ false
-settled_rest t calm = by (can_leave w) refl
+pub taken_rest : (t : Told) → (before (steps t)).out_of_memory ≡ false → can_take_up (before (steps (taken_up t))) ≡ false
+taken_rest t calm = by (can_leave w) refl
   where
     w : State
     w = before (fresh_of t ++ steps t)
@@ -105,7 +107,7 @@ steady s = record {
   takes = λ stuck bytes h. refl;
   connects = λ stuck bytes h. refl;
   offer = offer_same;
-  settled = λ h calm. settled_rest (told s h) (memory_of s h ∙ calm);
+  settled = λ h calm. taken_rest (made (LinesTold ∷ []) (told s h)) (memory_of s h ∙ calm);
 }
   where
     offer_same : (end stuck : End) (bytes : List ℕ) (h : List Entry) → (pair_words s).offer end (Stuck stuck bytes ∷ h) ≡ (pair_words s).offer end h
@@ -163,8 +165,8 @@ taken_kept w v k = by (not v.out_of_memory && v.leaving)
     }
     by false = k
 
-settled_kept : (t : Told) → Kept (before (steps t)) (before (steps (settled t)))
-settled_kept t = by (can_leave (before (fresh_of t ++ steps t)))
+taken_up_kept : (t : Told) → Kept (before (steps t)) (before (steps (taken_up t)))
+taken_up_kept t = by (can_leave (before (fresh_of t ++ steps t)))
   where
     cut : Kept (before (steps t)) (before (fresh_of t ++ steps t))
     cut = subst (Kept (before (steps t))) (sym (after_before (fresh_of t) (steps t)))
@@ -174,17 +176,17 @@ settled_kept t = by (can_leave (before (fresh_of t ++ steps t)))
     by true = taken_kept (before (steps t)) (before (fresh_of t ++ steps t)) cut
     by false = cut
 
-up_settled : (t : Told) → ArePicks (steps t) → is_awaiting (before (steps (settled t))) Up ≡ true → is_awaiting (before (steps t)) Up ≡ true
-up_settled t p e = by (is_early w.conn.phase) refl
+up_taken : (t : Told) → ArePicks (steps t) → is_awaiting (before (steps (taken_up t))) Up ≡ true → is_awaiting (before (steps t)) Up ≡ true
+up_taken t p e = by (is_early w.conn.phase) refl
   where
     w : State
     w = before (steps t)
 
     v : State
-    v = before (steps (settled t))
+    v = before (steps (taken_up t))
 
     k : Kept w v
-    k = settled_kept t
+    k = taken_up_kept t
 
     by : (b : Bool) → is_early w.conn.phase ≡ b → is_awaiting w Up ≡ true
     by true early =
@@ -331,7 +333,7 @@ takes_linked w =
 pub wakes_none : (s : SetupText) → ((h : List Entry) → IsRelayed (pair_words s) h → ArePicks (steps_of s h)) → WakesNone (pair_words s)
 unfolding pair_words
 wakes_none s picks = record {
-  settled = λ h r. up_settled (told s h) (picks h r);
+  settled = λ h r. up_taken (made (LinesTold ∷ []) (told s h)) (tt, picks h r);
   client = λ h e. client_linked (state_of s h) e;
   takes = λ h e. takes_linked (state_of s h) e;
 }

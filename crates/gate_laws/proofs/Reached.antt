@@ -27,7 +27,8 @@ use Rattle.gate_model.specs.Picks.{ArePicks}
 use Rattle.gate_model.specs.declared.setup.Route.{Route}
 use Rattle.gate_model.specs.Requests.{client_step}
 use Rattle.gate_model.specs.State.{Step, Began, Moment, Fed, Silent, Queued, Came, TakenUp, Heard}
-use Rattle.gate_model.specs.State.{Joined, Lost, Gave, Whole, OutOfMemory, before, close_if}
+use Rattle.gate_model.specs.State.{Joined, LinesTold, Lost, Gave, Whole, OutOfMemory, before}
+use Rattle.gate_model.specs.State.{close_if}
 use Rattle.gate_model.specs.State.{conn_step, is_limit_reached}
 use Rattle.gate_model.specs.Upstream.{channel_max_in, container_by, meaning_by}
 use Rattle.gate_model.proofs.Connections.{clash, only_given, phase_only}
@@ -188,4 +189,5 @@ unreached (Gave (ToClient u) text ∷ h) p e = unreached h p.1 (sym (ap is_early
 unreached (Gave (ToUp u) text ∷ h) p e = unreached h p.1 e
 unreached (Whole Client ∷ h) p e = unreached h p.1 e
 unreached (Whole Up ∷ h) p e = unreached h p.1 e
+unreached (LinesTold ∷ h) p e = unreached h p.1 e
 unreached (OutOfMemory ∷ h) p e = absurd (clash _ e (closing_late (connection h).phase))

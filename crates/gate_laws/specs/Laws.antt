@@ -15,6 +15,7 @@ use Rattle.gate_model.specs.Frames.{FitsClients}
 use Rattle.gate_model.specs.Once.{AnswersOnce}
 use Rattle.gate_model.specs.Order.{TakesInOrder}
 use Rattle.gate_model.specs.Picks.{ArePicks}
+use Rattle.gate_model.specs.Delivers.{Delivers}
 use Rattle.gate_model.specs.Publishing.{ArePieces, Confirms, EndWhole, Returns, Transfers}
 use Rattle.gate_model.specs.Reports.{lines_owed}
 use Rattle.gate_model.specs.Setup.{SetupText}
@@ -45,6 +46,8 @@ pub record IsLawfulPair (s : SetupText) (h : List Entry) : Type 0 where
   pub transfers : Transfers (steps_of s h)
   pub pieces : ArePieces (steps_of s h)
   pub wholes : EndWhole (steps_of s h)
+  -- each deliver is the next of its link, within the prefetch of its consumer and of all
+  pub delivers : Delivers (steps_of s h)
   -- the report is owed the lines of the publishes that were lost before they had an outcome, and of
   -- the deliveries that were lost or left
   pub lines : owed_lines (state_of s h) ≡ lines_owed (steps_of s h)

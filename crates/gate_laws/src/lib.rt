@@ -10,6 +10,7 @@ ghost use Rattle.gate_model.specs.Frames.{FitsClients};
 ghost use Rattle.gate_model.specs.Once.{AnswersOnce};
 ghost use Rattle.gate_model.specs.Order.{TakesInOrder};
 ghost use Rattle.gate_model.specs.Picks.{ArePicks};
+ghost use Rattle.gate_model.specs.Delivers.{Delivers};
 ghost use Rattle.gate_model.specs.Publishing.{ArePieces, Confirms, EndWhole, Returns, Transfers};
 ghost use Rattle.gate_model.specs.Reports.{lines_owed};
 ghost use Rattle.gate_model.specs.Setup.{SetupText};
@@ -107,6 +108,17 @@ pub fn publishes_are_lawful()
     gate_model::returns_are_lawful();
     gate_model::transfers_are_lawful();
     gate_model::payloads_are_whole();
+}
+
+/// Each deliver that goes to a client is of a message of which none went and which nothing settled,
+/// in the order of its link. Where its consumer acknowledges, the unsettled deliveries are with it
+/// within the consumer's prefetch and within that of all consumers.
+pub fn delivers_are_lawful()
+    ensures { (s : SetupText) (c : Limits) (m : History) → Follows (pair_words s) c m → (p : ℕ)
+        → Delivers (steps_of s (journal p m)) }
+{
+    entries_are_lawful();
+    gate_model::delivers_are_lawful();
 }
 
 /// What the report is owed of a pair: of each life in progress, by rising number, the publishes
@@ -214,6 +226,7 @@ pub fn runs_are_lawful()
     units_keep_their_order();
     channels_are_answered_once();
     publishes_are_lawful();
+    delivers_are_lawful();
     lines_are_lawful();
     replies_wait();
     containers_are_asked();

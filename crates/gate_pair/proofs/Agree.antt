@@ -33,7 +33,8 @@ use Rattle.gate_pair.specs.Meaning.{steps_of, told}
 use Rattle.gate_pair.specs.Times.{accepted_of, has_failed, last_taken_at, last_taken_up_at}
 use Rattle.gate_pair.proofs.Picks.{offered_is}
 use Rattle.gate_pair.proofs.Saids.{after_before}
-use Rattle.gate_pair.proofs.Taken.{AreTaken, Leaves, all_leave, drop_taken, fail_leaves}
+use Rattle.gate_pair.proofs.Taken.{AreTaken, Leaves, all_leave, drop_taken, ended_taken}
+use Rattle.gate_pair.proofs.Taken.{fail_leaves}
 use Rattle.gate_pair.proofs.Taken.{fresh_taken, leave_folds, lost_leaves, moment_is, silent_leaves}
 use Rattle.gate_pair.proofs.Ticks.{tick_all}
 
@@ -96,6 +97,7 @@ leave_up (Joined answer ∷ g) h a = absurd a.0
 leave_up (Lost end how ∷ g) h a = absurd a.0
 leave_up (Gave u text ∷ g) h a = absurd a.0
 leave_up (Whole end ∷ g) h a = absurd a.0
+leave_up (state.LinesTold ∷ g) h a = let x = leave_up g h a.1 in record { side_is = x.side_is; at_is = x.at_is }
 leave_up (state.OutOfMemory ∷ g) h a = absurd a.0
 
 leaves_of : (g h : List Step) → AreTaken g → Leaves (before h) (before (g ++ h))
@@ -268,7 +270,7 @@ agrees s (entry.Moment ms ∷ h) r = tick_all (λ (g : List Step). Agrees g (clo
 agrees s (entry.Came Client bytes ∷ h) r = agrees_fresh s (entry.Came Client bytes) h (state.Fed Client ∷ steps_of s h) refl (agrees s h r.2)
 agrees s (entry.Came Up bytes ∷ h) r = agrees_fresh s (entry.Came Up bytes) h (state.Fed Up ∷ steps_of s h) refl (agrees s h r.2)
 agrees s (entry.Dry end ∷ h) r = agrees s h r.2
-agrees s (entry.Settled ∷ h) r = agrees_fresh s entry.Settled h (steps_of s h) refl (agrees s h r.2)
+agrees s (entry.Settled ∷ h) r = agrees_fresh s entry.Settled h (state.LinesTold ∷ steps_of s h) refl (agrees s h r.2)
 agrees s (entry.Joined answer ∷ h) r = agrees_joined (steps_of s h) answer h (moment_is s h) (agrees s h r.2)
 agrees s (entry.Took Client bytes n ∷ h) r =
     took_client s (steps_of s h) n (moment_of h) (told s h).client.rest bytes (clock h)
@@ -280,7 +282,7 @@ agrees s (entry.Stuck end bytes ∷ h) r = agrees s h r.2
 agrees s (entry.Lost end how ∷ h) r = agrees_lost (steps_of s h) end how h (agrees s h r.2)
 agrees s (entry.OutOfMemory cut ∷ h) r =
     let t = told s h in
-    let k = drop cut t.fresh in
+    let k = drop cut (state.LinesTold ∷ t.fresh) in
     agrees_out (k ++ t.past) (clock h)
-    (agrees_left k t.past (clock h) (drop_taken cut t.fresh (fresh_taken s h)) (agrees_older t.fresh t.past (clock h) (fresh_taken s h) (agrees s h r.2)))
+    (agrees_left k t.past (clock h) (drop_taken cut (state.LinesTold ∷ t.fresh) (ended_taken s h)) (agrees_older t.fresh t.past (clock h) (fresh_taken s h) (agrees s h r.2)))
 agrees s (entry.Over ∷ h) r = agrees s h r.2

@@ -542,10 +542,11 @@ hears st l s (entry.Came Up bytes ∷ h) r =
     }
 hears st l s (entry.Dry end ∷ h) r = hears st l s h r.2
 hears st l s (entry.Settled ∷ h) r =
-    let g : List Step = steps_of s h in
+    let g : List Step = state.LinesTold ∷ steps_of s h in
     let k : List Step = settle (before g) [] in
     let t : List Step = leaves (before (k ++ g)) in
-    both_on (t ++ k) g (λ end. both_other end t k (leaves_other end (before (k ++ g))) (settle_other end (before g))) (picks s (entry.Settled ∷ h) r) (hears st l s h r.2)
+    both_on (t ++ k) g (λ end. both_other end t k (leaves_other end (before (k ++ g))) (settle_other end (before g))) (picks s (entry.Settled ∷ h) r)
+    (both_on (state.LinesTold ∷ []) (steps_of s h) (one_other state.LinesTold tt tt) (tt, picks s h r.2) (hears st l s h r.2))
 hears st l s (entry.Joined answer ∷ h) r =
     let x = state.Joined answer in both_on (x ∷ []) (steps_of s h) (one_other x tt tt) (picks s (entry.Joined answer ∷ h) r) (hears st l s h r.2)
 hears st l s (entry.Took Client bytes n ∷ h) r =
@@ -560,7 +561,8 @@ hears st l s (entry.Lost end how ∷ h) r =
 hears st l s (entry.OutOfMemory cut ∷ h) r =
     let x = hears st l s h r.2 in
     let t = told s h in
-    record { client = fails_cut Client cut t.fresh t.past tt x.client.cuts; up = fails_cut Up cut t.fresh t.past tt x.up.cuts }
+    let k : List Step = state.LinesTold ∷ t.fresh in
+    record { client = fails_cut Client cut k t.past tt x.client.cuts; up = fails_cut Up cut k t.past tt x.up.cuts }
 hears st l s (entry.Over ∷ h) r = hears st l s h r.2
 
 -- no further unit of the client was whole when it was read last

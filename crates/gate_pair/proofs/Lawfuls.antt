@@ -23,7 +23,6 @@ use Rattle.gate_model.specs.declared.outgoing.Outgoing.TheVariants.{ToClient, To
 use Rattle.gate_model.specs.declared.outgoing.UpUnit.{UpUnit}
 use Rattle.gate_model.specs.declared.outgoing.UpUnit.TheVariants as up
 use Rattle.gate_model.specs.declared.channel.ChannelUnit.TheVariants as to_client
-use Rattle.session_path.specs.declared.path.PathOk.TheVariants as ok
 use Rattle.gate_model.specs.declared.reply.Reply.{Reply}
 use Rattle.gate_model.specs.declared.reply.Reply.TheVariants as reply
 use Rattle.gate_model.specs.Due.{can_leave, can_take_unit, carries, client_rows, is_awaited}
@@ -37,7 +36,7 @@ use Rattle.gate_model.specs.Upstream.{awaited_of, first, is_awaited_up}
 use Rattle.gate_model.proofs.Known.{Known, conn_is, container_is, known, number_is}
 use Rattle.gate_model.proofs.Silences.{given_is}
 use Rattle.gate_model.proofs.Times.{Either, OnLeft, OnRight, and_left, and_right, either}
-use Rattle.gate_pair.specs.Lawful.{AreLawful, AtRefusal, AtTheEnd, Attaching, Beginning, Consuming}
+use Rattle.gate_pair.specs.Lawful.{AreLawful, AtRefusal, AtTheEnd, Attaching, Beginning, Answering}
 use Rattle.gate_pair.specs.Lawful.{Crediting, Delivering, InSpellingBack, Returning, Writing}
 use Rattle.gate_pair.specs.Lawful.{Flowing, InRead, InSpelling, InTakeUp, IsAskedFor, IsAwaited}
 use Rattle.gate_pair.specs.Lawful.{IsHeard, IsOfferOf, IsOffered, IsTakenUp, Keeps, Login, Opening}
@@ -149,10 +148,7 @@ in_spelling_back s h [] w free e f = absurd cc
 in_spelling_back s h (u ∷ us) w free e f = by u e f
   where
     by : (u : Reply) → pick (state_of s h) Client ≡ Some (ToClient u) → takes_memory_back u ≡ true → RunsOutIn s 0 h
-    by (reply.OnChannel n (to_client.Ok (ok.Consume link))) e f = InSpellingBack _ h w free e (Consuming n link refl)
-    by (reply.OnChannel n (to_client.Ok ok.Flow)) e f = absurd cc
-    by (reply.OnChannel n (to_client.Ok ok.Declare)) e f = absurd cc
-    by (reply.OnChannel n (to_client.Ok ok.Select)) e f = absurd cc
+    by (reply.OnChannel n (to_client.Ok x)) e f = InSpellingBack _ h w free e (Answering n x f refl)
     by (reply.OnChannel n (to_client.Deliver d)) e f = InSpellingBack _ h w free e (Delivering n d refl)
     by (reply.OnChannel n (to_client.Content c)) e f = InSpellingBack _ h w free e (Writing n c refl)
     by (reply.OnChannel n (to_client.Return r)) e f = InSpellingBack _ h w free e (Returning n r refl)

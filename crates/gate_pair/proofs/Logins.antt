@@ -36,7 +36,7 @@ use Rattle.gate_model.specs.Setup.{SetupText}
 use Rattle.gate_model.specs.Spelling.{Context, context_of, init_text, spell}
 use Rattle.gate_model.specs.Requests.{client_step}
 use Rattle.gate_model.specs.State.{Step, Began, Moment, Fed, Silent, Queued, Came, TakenUp}
-use Rattle.gate_model.specs.State.{Heard, Joined, Lost, Gave, Whole, OutOfMemory, before}
+use Rattle.gate_model.specs.State.{Heard, Joined, LinesTold, Lost, Gave, Whole, OutOfMemory, before}
 use Rattle.gate_model.specs.Upstream.{container_by, container_given, ended_in, meaning_by}
 use Rattle.gate_model.specs.Upstream.{opening_rows, sessions_given, when_up}
 use Rattle.gate_model.proofs.Known.{container_is, known, number_is}
@@ -114,6 +114,7 @@ moves (Gave (ToClient u) text) g i p = Stays
 moves (Gave (ToUp u) text) g i p = Sends u
 moves (Whole Client) g i p = Stays
 moves (Whole Up) g i p = Stays
+moves LinesTold g i p = Stays
 moves OutOfMemory g i p = Stays
 
 -- once there is a container its login stays

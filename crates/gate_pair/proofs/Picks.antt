@@ -289,9 +289,9 @@ picks s (entry.Came Up bytes ∷ h) r =
     (memory_of s h ∙ read_calm (is_readable (side_of Up (sides h))) (is_out_of_memory h) _ r.0.0) tt
 picks s (entry.Dry end ∷ h) r = picks s h r.2
 picks s (entry.Settled ∷ h) r =
-    let g : List Step = steps_of s h in
+    let g : List Step = state.LinesTold ∷ steps_of s h in
     let k : List Step = settle (before g) [] in
-    subst ArePicks (sym (append_assoc (leaves (before (k ++ g))) k g)) (leaves_picks (k ++ g) (settle_picks g [] (picks s h r.2)))
+    subst ArePicks (sym (append_assoc (leaves (before (k ++ g))) k g)) (leaves_picks (k ++ g) (settle_picks g [] (tt, picks s h r.2)))
 picks s (entry.Joined answer ∷ h) r = (connect_is (is_absent (side_of Up (sides h))) (is_out_of_memory h) (is_connect_due (state_of s h)) r.0, picks s h r.2)
 picks s (entry.Took Client bytes n ∷ h) r =
     took_picks Client s (steps_of s h) n (told s h).client.rest bytes
@@ -303,7 +303,7 @@ picks s (entry.Stuck end bytes ∷ h) r = picks s h r.2
 picks s (entry.Lost end how ∷ h) r = (tt, picks s h r.2)
 picks s (entry.OutOfMemory cut ∷ h) r =
     let p = picks s h r.2 in
-    ((cut_leaves s cut h).memory_is ∙ sym (fresh_leave s h).memory_is ∙ memory_in s h p ∙ r.0.0, drop_picks cut (told s h).fresh (told s h).past p)
+    ((cut_leaves s cut h).memory_is ∙ sym (fresh_leave s h).memory_is ∙ memory_in s h p ∙ r.0.0, drop_picks cut (state.LinesTold ∷ (told s h).fresh) (told s h).past (tt, p))
 picks s (entry.Over ∷ h) r = picks s h r.2
 
 -- before ends are given up at a moment

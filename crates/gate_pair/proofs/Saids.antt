@@ -1,13 +1,11 @@
 -- What a pair says after a read, also where it ran out of memory within it.
-use Rattle.std.proofs.Common.{◌≡◌, ◌∙◌, ℕ, ◌+◌, ◌≤◌, nat_le, Bool, true, false, ◌&&◌}
-use Rattle.std.proofs.Common.{if◌then◌else◌}
+use Rattle.std.proofs.Common.{◌≡◌, ◌∙◌, ℕ, suc, ◌+◌, Bool, true, false, if◌then◌else◌}
 use Rattle.std.proofs.Common.{List, [], ◌∷◌, ◌++◌, Option, None, Some, append-nil, append_assoc, refl}
-use Rattle.std.proofs.Common.{sym, ap, subst, drop, length, arith}
+use Rattle.std.proofs.Common.{sym, ap, subst, drop, length}
 use Rattle.std.specs.Bool.{OnFalse, OnTrue}
 use Rattle.std.specs.Prelude.{Result, Ok, Err, OnErr, OnOk, is_some}
 use Rattle.std.specs.Option.{option_map}
 use Rattle.std.proofs.Math.Seq.{drop-append_seam}
-use Rattle.std.proofs.lemmas.Bool.Decides.{nat_tests}
 use Rattle.gate_outside.specs.declared.ports.End.{End}
 use Rattle.gate_outside.specs.declared.ports.End.TheVariants.{Client, Up}
 use Rattle.gate_outside.specs.Streams.{Appends}
@@ -20,14 +18,15 @@ use Rattle.gate_relay.specs.Entries as entry
 use Rattle.gate_relay.specs.Entries.{Entry}
 use Rattle.gate_model.specs.Setup.{SetupText}
 use Rattle.gate_model.specs.Spelling.{lines_text}
-use Rattle.gate_model.specs.State.{State, Step, Fed, OutOfMemory, before, owed_lines, step}
+use Rattle.gate_model.specs.State.{State, Step, Fed, LinesTold, OutOfMemory, before, owed_lines}
+use Rattle.gate_model.specs.State.{step}
 use Rattle.bridge_core.specs.Offers.{BridgeState, Keeps, moved, offer_of}
 use Rattle.gate_pair.specs.Cutting.{Cut, after, cut_all, settle}
-use Rattle.gate_pair.specs.Meaning.{Stream, Told, came, leaves, made, nothing, pair_words, ran_out}
-use Rattle.gate_pair.specs.Meaning.{read_in, settled, steps, tells, told}
+use Rattle.gate_pair.specs.Meaning.{Stream, Told, came, leaves, made, pair_words, ran_out, read_in}
+use Rattle.gate_pair.specs.Meaning.{settled, steps, taken_up, told}
 use Rattle.gate_pair.proofs.Cuts.{drop_list, none_cut}
-use Rattle.gate_pair.specs.PairStates.{FailedAt, FailedIn, FailedUpIn, Half, IsCut, PairState, Reads}
-use Rattle.gate_pair.specs.PairStates.{ReadsInPart, ReadsUpInPart, Represents, Said, Says, Settles}
+use Rattle.gate_pair.specs.PairStates.{FailedAt, FailedIn, Half, IsCut, PairState, Reads}
+use Rattle.gate_pair.specs.PairStates.{ReadsInPart, Represents, Said, Says, Settles}
 use Rattle.gate_pair.specs.PairStates.{rest_at, said, said_of, stream_at, unlined}
 
 pub keeps_more : (a b c : BridgeState) → Keeps a b → Keeps b c → Keeps a c
@@ -143,7 +142,7 @@ lost_of d x y j = pair_of d (dropped x) (dropped y) j
 failed_at : (newest : Told → Told) (b d : BridgeState) (x y : Half) (i j : Bool) (more : ℕ) (all : List Step) (c : IsCut b.state d.state all) → Keeps b d
     → ((t : Told) → Says (pair_of b x y i) t → drop more (newest t).fresh ≡ all)
     → ((t : Told) → (newest t).past ≡ steps t) → ((t : Told) → (newest t).client.rest ≡ t.client.rest) → ((t : Told) → (newest t).up.rest ≡ t.up.rest)
-    → FailedAt (more + length c.newer) newest (pair_of b x y i) (lost_of d x y j)
+    → FailedAt (suc (more + length c.newer)) newest (pair_of b x y i) (lost_of d x y j)
 failed_at newest b d x y i j more all c k fresh past client up t e =
     let left : drop (more + length c.newer) (newest t).fresh ≡ c.older =
     sym (drop_list (length c.newer) more (newest t).fresh) ∙ ap (drop (length c.newer)) (fresh t e ∙ c.parts) ∙ drop-append_seam c.newer c.older in
@@ -169,7 +168,7 @@ pub taken_failed : (all bytes : List ℕ) (b d : BridgeState) (x y z : Half) (i 
 taken_failed all bytes b d x y z i j old new was is at now c k =
     between (FailedIn (read_in Client bytes)) (pair_of b x y i) (lost_of d x y j) old new was
     (now ∙ ap (λ (h : Half). pair_of d h (dropped y) j) (same_half [] [] z.at x.at refl at)) (
-      0 + length c.newer,
+      suc (0 + length c.newer),
       failed_at (read_in Client bytes) b d x y i j 0 _ c k
           (λ t e. ap (λ (z : Said). (cut_all Client z.state (z.client.unread ++ bytes)).fresh) (sym e) ∙ ap (λ (xs : List ℕ). (cut_all Client b.state xs).fresh) (sym is))
           (λ t. refl) (λ t. refl) (λ t. refl),
@@ -182,53 +181,29 @@ taken_lost bytes b d x y z i j old new was half now is k =
     (none_cut Client b.state d.state (x.unread ++ bytes) (ap (λ (v : BridgeState). v.state) is)) k
 
 -- of the container
-heard_at : (all bytes : List ℕ) (b d : BridgeState) (x y : Half) (i j : Bool) (c : ReadsInPart Up all b.state d.state) → Keeps b d → all ≡ y.unread ++ bytes
-    → FailedAt (0 + length c.newer) (read_in Up bytes) (pair_of b x y i) (lost_of d x y j)
-heard_at all bytes b d x y i j c k is =
-    failed_at (read_in Up bytes) b d x y i j 0 _ c k
-    (λ t e. ap (λ (z : Said). (cut_all Up z.state (z.up.unread ++ bytes)).fresh) (sym e) ∙ ap (λ (xs : List ℕ). (cut_all Up b.state xs).fresh) (sym is))
-    (λ t. refl) (λ t. refl) (λ t. refl)
-
-some_cut : (n : ℕ) → 1 ≤ n → nat_le 1 (0 + n) ≡ true
-some_cut n e = grind (arith, nat_tests)
-
-more_cut : (n : ℕ) → nat_le 1 (1 + n) ≡ true
-more_cut n = grind (arith, nat_tests)
-
--- what counts of it may make lines due
-pub heard_failed : (all bytes : List ℕ) (b d : BridgeState) (x y z : Half) (i : Bool) (old new : PairState) → pair_of b x y i ≡ old → all ≡ y.unread ++ bytes → z.at ≡ y.at
-    → new ≡ lost_of d x z true → ReadsUpInPart all b.state d.state → Keeps b d → FailedUpIn (read_in Up bytes) old new
-heard_failed all bytes b d x y z i old new was is at now c k =
-    between (FailedUpIn (read_in Up bytes)) (pair_of b x y i) (lost_of d x y true) old new was
-    (now ∙ ap (λ (h : Half). pair_of d (dropped x) h true) (same_half [] [] z.at y.at refl at)) (
-      0 + length c.0.newer,
-      heard_at all bytes b d x y i true c.0 k is,
-      sym (ap (λ (some : Bool). if some then owed_lines d.state else []) (some_cut (length c.0.newer) c.1)),
-    )
-
--- where none counts, the closing of the pair may
-pub heard_lost : (bytes : List ℕ) (b d : BridgeState) (x y z : Half) (i : Bool) (old new : PairState) → pair_of b x y i ≡ old → z ≡ y
-    → new ≡ lost_of d x z true → d ≡ moved OutOfMemory b → Keeps b d → FailedUpIn (read_in Up bytes) old new
-heard_lost bytes b d x y z i old new was half now is k =
-    let all : List Step = drop 1 (cut_all Up b.state (y.unread ++ bytes)).fresh in
-    let c : IsCut b.state d.state all =
-    record { newer = all; older = []; parts = sym (append-nil all); now = ap (λ (v : BridgeState). v.state) is } in
-    between (FailedUpIn (read_in Up bytes)) (pair_of b x y i) (lost_of d x y true) old new was
-    (now ∙ ap (λ (h : Half). pair_of d (dropped x) h true) (same_half [] [] z.at y.at refl (ap (λ (h : Half). h.at) half))) (
-      1 + length all,
-      failed_at (read_in Up bytes) b d x y i true 1 all c k
-          (λ t e. ap (λ (z : Said). drop 1 (cut_all Up z.state (z.up.unread ++ bytes)).fresh) (sym e))
+pub heard_failed : (all bytes : List ℕ) (b d : BridgeState) (x y z : Half) (i j : Bool) (old new : PairState) → pair_of b x y i ≡ old → all ≡ y.unread ++ bytes → z.at ≡ y.at
+    → new ≡ lost_of d x z j → ReadsInPart Up all b.state d.state → Keeps b d → FailedIn (read_in Up bytes) old new
+heard_failed all bytes b d x y z i j old new was is at now c k =
+    between (FailedIn (read_in Up bytes)) (pair_of b x y i) (lost_of d x y j) old new was
+    (now ∙ ap (λ (h : Half). pair_of d (dropped x) h j) (same_half [] [] z.at y.at refl at)) (
+      suc (0 + length c.newer),
+      failed_at (read_in Up bytes) b d x y i j 0 _ c k
+          (λ t e. ap (λ (z : Said). (cut_all Up z.state (z.up.unread ++ bytes)).fresh) (sym e) ∙ ap (λ (xs : List ℕ). (cut_all Up b.state xs).fresh) (sym is))
           (λ t. refl) (λ t. refl) (λ t. refl),
-      sym (ap (λ (some : Bool). if some then owed_lines d.state else []) (more_cut (length all))),
     )
+
+pub heard_lost : (bytes : List ℕ) (b d : BridgeState) (x y z : Half) (i j : Bool) (old new : PairState) → pair_of b x y i ≡ old → z ≡ y
+    → new ≡ lost_of d x z j → d ≡ moved OutOfMemory b → Keeps b d → FailedIn (read_in Up bytes) old new
+heard_lost bytes b d x y z i j old new was half now is k =
+    heard_failed (y.unread ++ bytes) bytes b d x y z i j old new was refl (ap (λ (h : Half). h.at) half) now
+    (none_cut Up b.state d.state (y.unread ++ bytes) (ap (λ (v : BridgeState). v.state) is)) k
 
 -- ---- what can be taken up
 
 -- the client's units were, and then that its end ended or failed
-pub settled_said : (b d e : BridgeState) (x y : Half) (i j : Bool) (old : PairState) → pair_of b x y i ≡ old → Settles b.state d.state → Keeps b d
-    → e.state ≡ after (leaves d.state) d.state → Keeps d e → (t : Told) → Says old t → Says (pair_of e x y j) (settled t)
-settled_said b d e x y i j old was r k left m t f =
-    let h : Says (pair_of b x y i) t = says_of b x y i old t was f in
+taken_up_said : (b d e : BridgeState) (x y : Half) (i : Bool) → Settles b.state d.state → Keeps b d
+    → e.state ≡ after (leaves d.state) d.state → Keeps d e → (t : Told) → Says (pair_of b x y i) t → Says (pair_of e x y i) (taken_up t)
+taken_up_said b d e x y i r k left m t h =
     let kept : Keeps b e = keeps_more b d e k m in
     let g : List Step = settle (before (steps t)) [] in
     let now : d.state ≡ before (g ++ steps t) = r (before (steps t)) [] (ap (λ (z : Said). z.state) h) ∙ sym (after_before g (steps t)) in
@@ -238,11 +213,9 @@ settled_said b d e x y i j old was r k left m t f =
     (stream_kept Client b e x kept ∙ ap (λ (z : Said). z.client) h)
     (stream_kept Up b e y kept ∙ ap (λ (z : Said). z.up) h)
 
-pub settled_failed : (b d : BridgeState) (x y : Half) (i j : Bool) (old new : PairState) → pair_of b x y i ≡ old → new ≡ lost_of d x y j
-    → IsCut b.state d.state (settle b.state []) → Keeps b d → FailedIn settled old new
-settled_failed b d x y i j old new was now c k =
-    between (FailedIn settled) (pair_of b x y i) (lost_of d x y j) old new was now
-    (length (leaves w) + length c.newer, failed_at settled b d x y i j (length (leaves w)) all c k behind (λ t. refl) (λ t. refl) (λ t. refl))
+taken_up_failed : (b d : BridgeState) (x y : Half) (i : Bool) → IsCut b.state d.state (settle b.state []) → Keeps b d → FailedIn taken_up (pair_of b x y i) (lost_of d x y i)
+taken_up_failed b d x y i c k =
+    (suc (length (leaves w) + length c.newer), failed_at taken_up b d x y i i (length (leaves w)) all c k behind (λ t. refl) (λ t. refl) (λ t. refl))
   where
     all : List Step
     all = settle b.state []
@@ -250,7 +223,7 @@ settled_failed b d x y i j old new was now c k =
     w : State
     w = after all b.state
 
-    behind : (t : Told) → Says (pair_of b x y i) t → drop (length (leaves w)) (settled t).fresh ≡ all
+    behind : (t : Told) → Says (pair_of b x y i) t → drop (length (leaves w)) (taken_up t).fresh ≡ all
     behind t e =
         let fresh : settle (before (steps t)) [] ≡ all = ap (λ (z : Said). settle z.state []) (sym e) in
         let now : before (settle (before (steps t)) [] ++ steps t) ≡ w =
@@ -258,6 +231,29 @@ settled_failed b d x y i j old new was now c k =
         ap (λ (v : State). drop (length (leaves w)) (leaves v ++ settle (before (steps t)) [])) now
         ∙ ap (λ (g : List Step). drop (length (leaves w)) (leaves w ++ g)) fresh
         ∙ drop-append_seam (leaves w) all
+
+-- behind the lines that were told before
+pub settled_said : (b c d e : BridgeState) (x y : Half) (i j : Bool) (old : PairState) → pair_of b x y i ≡ old → c ≡ moved LinesTold b → Keeps b c
+    → Settles c.state d.state → Keeps c d → e.state ≡ after (leaves d.state) d.state → Keeps d e → (t : Told) → Says old t → Says (pair_of e x y j) (settled t)
+settled_said b c d e x y i j old was told k r m left n t f =
+    taken_up_said c d e x y j r m left n (made (LinesTold ∷ []) t) (moved_says LinesTold b c x y i j old was told k t f)
+
+pub settled_failed : (b c d : BridgeState) (x y : Half) (i j : Bool) (old new : PairState) → pair_of b x y i ≡ old → c ≡ moved LinesTold b → Keeps b c → new ≡ lost_of d x y j
+    → IsCut c.state d.state (settle c.state []) → Keeps c d → FailedIn settled old new
+settled_failed b c d x y i j old new was told k now part m =
+    let f : FailedIn taken_up (pair_of c x y j) (lost_of d x y j) = taken_up_failed c d x y j part m in
+    subst (FailedIn settled old) (sym now) (f.0, λ t e. f.1 (made (LinesTold ∷ []) t) (moved_says LinesTold b c x y i j old was told k t e))
+
+-- a look found no memory, behind the lines that were told before
+pub looked_failed : (b d : BridgeState) (x y : Half) (i j : Bool) (old new : PairState) → pair_of b x y i ≡ old → new ≡ lost_of d x y j
+    → d ≡ moved OutOfMemory (moved LinesTold b) → Keeps b d → (t : Told) → Says old t → Says new (ran_out 0 t)
+looked_failed b d x y i j old new was now is k t e =
+    let f : Says (pair_of b x y i) t = says_of b x y i old t was e in
+    subst (λ (p : PairState). Says p (ran_out 0 t)) (sym now)
+    (same_said _ _ _ _ _ _
+    (ap (λ (v : BridgeState). v.state) is ∙ ap (λ (z : Said). step (step z.state LinesTold) OutOfMemory) f)
+    (same_stream _ _ _ _ refl (rest_kept Client b d x.at k ∙ ap (λ (z : Said). z.client.rest) f))
+    (same_stream _ _ _ _ refl (rest_kept Up b d y.at k ∙ ap (λ (z : Said). z.up.rest) f)))
 
 -- ---- answers
 
@@ -273,26 +269,21 @@ on_err : {A E P Q : Type 0} (r : Result A E) → (P → Q) → OnErr r P → OnE
 on_err (Ok x) f e = tt
 on_err (Err x) f e = f e
 
-pub settled_in : {A E : Type 0} (s : SetupText) (old new : PairState) (r : Result A E) → OnOk r ((t : Told) → Says old t → Says new (settled t)) → new.telling ≡ false
+pub settled_in : {A E : Type 0} (s : SetupText) (old new : PairState) (r : Result A E) → OnOk r ((t : Told) → Says old t → Says new (settled t)) → new.telling ≡ true
     → OnOk r ((h : List Entry) → Represents s old h → Represents s new (entry.Settled ∷ h))
-settled_in s old new r ok quiet =
-    on_ok r (λ f q h e. told_said new (settled (told s h)) false (f (told s h) (ap unlined e)) q) ok (all_ok r quiet)
+settled_in s old new r ok telling =
+    on_ok r (λ f q h e. told_said new (settled (told s h)) true (f (told s h) (ap unlined e)) q) ok (all_ok r telling)
 
-pub settle_failed : {A E : Type 0} (s : SetupText) (old new : PairState) (r : Result A E) → OnErr r (FailedIn settled old new) → new.telling ≡ false
+pub settle_failed : {A E : Type 0} (s : SetupText) (old new : PairState) (r : Result A E) → OnErr r (FailedIn settled old new) → new.telling ≡ true
     → OnErr r ((cut : ℕ) × ((h : List Entry) → Represents s old h → Represents s new (entry.OutOfMemory cut ∷ entry.Settled ∷ h)))
-settle_failed s old new r err quiet =
-    on_err r (λ f. (f.0, λ h e. told_said new (ran_out f.0 (told s (entry.Settled ∷ h))) false (f.1 (told s h) (ap unlined e)) quiet)) err
+settle_failed s old new r err telling =
+    on_err r (λ f. (f.0, λ h e. told_said new (ran_out f.0 (told s (entry.Settled ∷ h))) true (f.1 (told s h) (ap unlined e)) telling)) err
 
 -- a look that takes memory that isn't there
-pub look_failed : {A E : Type 0} (s : SetupText) (old new : PairState) (r : Result A E) → OnErr r ((t : Told) → Says old t → Says new (ran_out 0 t)) → OnErr r (new.telling ≡ false)
+pub look_failed : {A E : Type 0} (s : SetupText) (old new : PairState) (r : Result A E) → OnErr r ((t : Told) → Says old t → Says new (ran_out 0 t)) → OnErr r (new.telling ≡ true)
     → OnErr r ((h : List Entry) → Represents s old h → Represents s new (entry.OutOfMemory 0 ∷ h))
-look_failed s old new (Ok x) says quiet = tt
-look_failed s old new (Err x) says quiet = λ h e.
-    told_said new (ran_out 0 (told s h)) ((told s h).telling && nat_le 1 0) (says (told s h) (ap unlined e)) (quiet ∙ by (told s h).telling)
-  where
-    by : (b : Bool) → false ≡ (b && nat_le 1 0)
-    by true = refl
-    by false = refl
+look_failed s old new (Ok x) says telling = tt
+look_failed s old new (Err x) says telling = λ h e. told_said new (ran_out 0 (told s h)) true (says (told s h) (ap unlined e)) telling
 
 -- ---- bytes that came, and what was cut of them
 
@@ -300,47 +291,22 @@ look_failed s old new (Err x) says quiet = λ h e.
 abbrev pub IsFed : End → PairState → PairState → Type 0
 IsFed end old mid = (t : Told) → Says old t → Says mid (made (Fed end ∷ []) t)
 
-came_tells : (end : End) (bytes : List ℕ) (t u : Told) → tells (entry.Came end bytes) t ≡ tells (entry.Came end bytes) u
-came_tells Client bytes t u = refl
-came_tells Up bytes t u = refl
-
 pub fed_in : {A E : Type 0} (s : SetupText) (end x : End) (bytes : List ℕ) (old mid new : PairState) (r : Result A E) → x ≡ end → IsFed x old mid
-    → OnOk r ((t : Told) → Says mid t → Says new (read_in end bytes t)) → OnOk r (new.telling ≡ tells (entry.Came end bytes) nothing)
+    → OnOk r ((t : Told) → Says mid t → Says new (read_in end bytes t)) → new.telling ≡ true
     → OnOk r ((h : List Entry) → Represents s old h → Represents s new (entry.Came x bytes ∷ h))
 fed_in s end x bytes old mid new r is fed ok telling =
     let here : IsFed end old mid = subst (λ (y : End). IsFed y old mid) is fed in
     subst (λ (y : End). OnOk r ((h : List Entry) → Represents s old h → Represents s new (entry.Came y bytes ∷ h))) (sym is)
-    (on_ok r (λ f flag h e. told_said new (came end bytes (told s h)) (tells (entry.Came end bytes) (told s h)) (f (made (Fed end ∷ []) (told s h)) (here (told s h) (ap unlined e)))
-    (flag ∙ came_tells end bytes nothing (told s h))) ok telling)
+    (on_ok r (λ f flag h e. told_said new (came end bytes (told s h)) true (f (made (Fed end ∷ []) (told s h)) (here (told s h) (ap unlined e))) flag) ok (all_ok r telling))
 
--- of the client no line comes
-pub fed_failed : {A E : Type 0} (s : SetupText) (x : End) (bytes : List ℕ) (old mid new : PairState) (r : Result A E) → x ≡ Client → IsFed x old mid
-    → OnErr r (FailedIn (read_in Client bytes) mid new) → new.telling ≡ false
+-- within which the pair ran out of memory: what counts has its lines told then
+pub fed_failed : {A E : Type 0} (s : SetupText) (end x : End) (bytes : List ℕ) (old mid new : PairState) (r : Result A E) → x ≡ end → IsFed x old mid
+    → OnErr r (FailedIn (read_in end bytes) mid new) → new.telling ≡ true
     → OnErr r ((cut : ℕ) × ((h : List Entry) → Represents s old h → Represents s new (entry.OutOfMemory cut ∷ entry.Came x bytes ∷ h)))
-fed_failed s x bytes old mid new r is fed err quiet =
-    let here : IsFed Client old mid = subst (λ (y : End). IsFed y old mid) is fed in
+fed_failed s end x bytes old mid new r is fed err telling =
+    let here : IsFed end old mid = subst (λ (y : End). IsFed y old mid) is fed in
     subst (λ (y : End). OnErr r ((cut : ℕ) × ((h : List Entry) → Represents s old h → Represents s new (entry.OutOfMemory cut ∷ entry.Came y bytes ∷ h)))) (sym is)
-    (on_err r (λ f. (f.0, λ h e. told_said new (ran_out f.0 (told s (entry.Came Client bytes ∷ h))) false (f.1 (made (Fed Client ∷ []) (told s h)) (here (told s h) (ap unlined e))) quiet)) err)
-
--- of the container those do that what counts makes due: the read took back what was due before
-pub fed_up_failed : {A E : Type 0} (s : SetupText) (x : End) (bytes : List ℕ) (old mid new : PairState) (r : Result A E) → x ≡ Up → IsFed x old mid
-    → OnErr r (FailedUpIn (read_in Up bytes) mid new)
-    → OnErr r ((cut : ℕ) × ((h : List Entry) → Represents s old h → Represents s new (entry.OutOfMemory cut ∷ entry.Came x bytes ∷ h)))
-fed_up_failed s x bytes old mid new r is fed err =
-    subst (λ (y : End). OnErr r ((cut : ℕ) × ((h : List Entry) → Represents s old h → Represents s new (entry.OutOfMemory cut ∷ entry.Came y bytes ∷ h)))) (sym is)
-    (on_err r (λ f. (f.0, λ h e. by f.0 f.1 f.2 h (ap unlined e))) err)
-  where
-    here : IsFed Up old mid
-    here = subst (λ (y : End). IsFed y old mid) is fed
-
-    by : (cut : ℕ) → FailedAt cut (read_in Up bytes) mid new
-        → (said new).lines ≡ (if nat_le 1 cut then owed_lines new.bridge.state else [])
-        → (h : List Entry) → Says old (told s h) → Represents s new (entry.OutOfMemory cut ∷ entry.Came Up bytes ∷ h)
-    by cut failed lines h e =
-        let fed : Says mid (made (Fed Up ∷ []) (told s h)) = here (told s h) e in
-        let now : Says new (ran_out cut (told s (entry.Came Up bytes ∷ h))) = failed (made (Fed Up ∷ []) (told s h)) fed in
-        with_lines (said new) (said_of (told s (entry.OutOfMemory cut ∷ entry.Came Up bytes ∷ h))) now
-        (lines ∙ ap (λ (z : Said). if nat_le 1 cut then owed_lines z.state else []) now)
+    (on_err r (λ f. (f.0, λ h e. told_said new (ran_out f.0 (told s (entry.Came end bytes ∷ h))) true (f.1 (made (Fed end ∷ []) (told s h)) (here (told s h) (ap unlined e))) telling)) err)
 
 -- ---- lines that are told
 

@@ -34,7 +34,7 @@ use Rattle.gate_pair.proofs.Logins.{AreLoggedIn, bytes_stay, client_same, contex
 use Rattle.gate_pair.proofs.Picks.{moment_picks, offered_is, picks}
 use Rattle.gate_pair.proofs.Sounds.{client_picks, up_picks}
 use Rattle.gate_pair.proofs.Taken.{AreTaken, IsTaken, Leaves, closing_keeps, fail_leaves}
-use Rattle.gate_pair.proofs.Taken.{drop_taken, fresh_taken, lost_leaves, silent_leaves}
+use Rattle.gate_pair.proofs.Taken.{drop_taken, ended_taken, fresh_taken, lost_leaves, silent_leaves}
 use Rattle.gate_pair.proofs.Taken.{taken_leaves}
 use Rattle.gate_pair.proofs.Ticks.{tick_all}
 
@@ -80,6 +80,8 @@ quiet_going end (state.Lost Up loss.Failed) w q = leaves_going end (lost_leaves 
 quiet_going end (state.Lost Up loss.Shut) w q = gone_going end (shut_by w.up) w refl
 quiet_going end (Gave u text) w q = absurd q
 quiet_going end (Whole e) w q = absurd q
+quiet_going Client state.LinesTold w q = refl
+quiet_going Up state.LinesTold w q = refl
 quiet_going Client state.OutOfMemory w q = refl
 quiet_going Up state.OutOfMemory w q = ap (option_map ToUp) (closing_keeps (is_closing w.conn) _ w.up)
 
@@ -290,7 +292,9 @@ sends l s (entry.Came Client bytes ∷ h) r = read_sends l s Client bytes h (pic
 sends l s (entry.Came Up bytes ∷ h) r = read_sends l s Up bytes h (picks s h r.2) (fresh_taken s (entry.Came Up bytes ∷ h)) (picks s (entry.Came Up bytes ∷ h) r) (sends l s h r.2)
 sends l s (entry.Dry end ∷ h) r = sends l s h r.2
 sends l s (entry.Settled ∷ h) r =
-    let e = entry.Settled in both_taken l s (told s (e ∷ h)).fresh (steps_of s h) (fresh_taken s (e ∷ h)) (picks s (e ∷ h) r) (sends l s h r.2)
+    let e = entry.Settled in
+    both_taken l s (told s (e ∷ h)).fresh (state.LinesTold ∷ steps_of s h) (fresh_taken s (e ∷ h)) (picks s (e ∷ h) r)
+    (both_quiet l s state.LinesTold (steps_of s h) tt (tt, picks s h r.2) (sends l s h r.2))
 sends l s (entry.Joined answer ∷ h) r = both_quiet l s (state.Joined answer) (steps_of s h) tt (picks s (entry.Joined answer ∷ h) r) (sends l s h r.2)
 sends l s (entry.Took Client bytes n ∷ h) r =
     let x = sends l s h r.2 in
@@ -310,8 +314,10 @@ sends l s (entry.Stuck end bytes ∷ h) r = sends l s h r.2
 sends l s (entry.Lost end how ∷ h) r = both_quiet l s (state.Lost end how) (steps_of s h) tt (picks s (entry.Lost end how ∷ h) r) (sends l s h r.2)
 sends l s (entry.OutOfMemory cut ∷ h) r =
     let t = told s h in
-    both_same s (steps_of s h) (state.OutOfMemory ∷ drop cut t.fresh ++ t.past)
-    (λ end. cut_same l s end cut t.fresh t.past (fresh_taken s h) (picks s h r.2) (picks s (entry.OutOfMemory cut ∷ h) r)) (sends l s h r.2)
+    let k : List Step = state.LinesTold ∷ t.fresh in
+    let p : ArePicks (k ++ t.past) = (tt, picks s h r.2) in
+    both_same s (k ++ t.past) (state.OutOfMemory ∷ drop cut k ++ t.past)
+    (λ end. cut_same l s end cut k t.past (ended_taken s h) p (picks s (entry.OutOfMemory cut ∷ h) r)) (both_quiet l s state.LinesTold (steps_of s h) tt p (sends l s h r.2))
 sends l s (entry.Over ∷ h) r = sends l s h r.2
 
 pub are_sent : AreLoggedIn → (s : SetupText) (h : List Entry) → IsRelayed (pair_words s) h → (end : End) → AreSent s h end

@@ -185,6 +185,7 @@ step_knows (state.Gave (ToClient u) text) w k = k
 step_knows (state.Gave (ToUp u) text) w k = begun_knows u w.up k
 step_knows (state.Whole Client) w k = k
 step_knows (state.Whole Up) w k = k
+step_knows state.LinesTold w k = k
 step_knows state.OutOfMemory w k = closing_knows (is_closing w.conn) _ w.up k
 
 -- ---- what is offered

@@ -51,6 +51,7 @@ IsTaken (Joined answer) = ⊥
 IsTaken (state.Lost end how) = ⊥
 IsTaken (Gave u text) = ⊥
 IsTaken (state.Whole end) = ⊥
+IsTaken state.LinesTold = Unit {0}
 IsTaken state.OutOfMemory = ⊥
 
 abbrev pub AreTaken : List Step → Type 0
@@ -133,8 +134,9 @@ fresh_taken s (entry.Came Client bytes ∷ h) = cut_taken Client (before (state.
 fresh_taken s (entry.Came Up bytes ∷ h) = cut_taken Up (before (state.Fed Up ∷ steps_of s h)) ((told s h).up.unread ++ bytes)
 fresh_taken s (entry.Dry end ∷ h) = tt
 fresh_taken s (entry.Settled ∷ h) =
-    let g : List Step = settle (before (steps_of s h)) [] in
-    both_taken (leaves (before (g ++ steps_of s h))) g (leaves_taken (before (g ++ steps_of s h))) (settle_taken (before (steps_of s h)) [] tt)
+    let old : List Step = state.LinesTold ∷ steps_of s h in
+    let g : List Step = settle (before old) [] in
+    both_taken (leaves (before (g ++ old))) g (leaves_taken (before (g ++ old))) (settle_taken (before old) [] tt)
 fresh_taken s (entry.Joined answer ∷ h) = tt
 fresh_taken s (entry.Took Client bytes n ∷ h) = tt
 fresh_taken s (entry.Took Up bytes n ∷ h) = tt
@@ -266,6 +268,7 @@ taken_leaves (Joined answer) w t = absurd t
 taken_leaves (state.Lost end how) w t = absurd t
 taken_leaves (Gave u text) w t = absurd t
 taken_leaves (state.Whole end) w t = absurd t
+taken_leaves state.LinesTold w t = record { memory_is = refl; going_is = refl; going_up_is = refl; number_is = refl }
 taken_leaves state.OutOfMemory w t = absurd t
 
 pub all_leave : (g : List Step) (w : State) → AreTaken g → Leaves w (after g w)
@@ -305,11 +308,19 @@ leave_folds (Joined answer ∷ g) h a = absurd a.0
 leave_folds (state.Lost end how ∷ g) h a = absurd a.0
 leave_folds (Gave u text ∷ g) h a = absurd a.0
 leave_folds (state.Whole end ∷ g) h a = absurd a.0
+leave_folds (state.LinesTold ∷ g) h a =
+    let x = leave_folds g h a.1 in
+    record { sent_is = x.sent_is; sent_up_is = x.sent_up_is; sent_at_is = x.sent_at_is; moment_is = x.moment_is; accepted_is = x.accepted_is; memory_is = x.memory_is; failed_is = x.failed_is }
 leave_folds (state.OutOfMemory ∷ g) h a = absurd a.0
 
+-- with that its lines were told
+pub ended_taken : (s : SetupText) (h : List Entry) → AreTaken (state.LinesTold ∷ (told s h).fresh)
+ended_taken s h = (tt, fresh_taken s h)
+
 -- what out of memory left of the newest entry's steps, and all of them
-pub cut_leaves : (s : SetupText) (cut : ℕ) (h : List Entry) → LeavesFolds (drop cut (told s h).fresh) (told s h).past
-cut_leaves s cut h = leave_folds (drop cut (told s h).fresh) (told s h).past (drop_taken cut (told s h).fresh (fresh_taken s h))
+pub cut_leaves : (s : SetupText) (cut : ℕ) (h : List Entry) → LeavesFolds (drop cut (state.LinesTold ∷ (told s h).fresh)) (told s h).past
+cut_leaves s cut h =
+    let k : List Step = state.LinesTold ∷ (told s h).fresh in leave_folds (drop cut k) (told s h).past (drop_taken cut k (ended_taken s h))
 
 pub fresh_leave : (s : SetupText) (h : List Entry) → LeavesFolds (told s h).fresh (told s h).past
 fresh_leave s h = leave_folds (told s h).fresh (told s h).past (fresh_taken s h)
@@ -340,7 +351,7 @@ moment_is s (entry.Moment ms ∷ h) = tick_keeps moment_in (λ end g. refl) ms (
 moment_is s (entry.Came Client bytes ∷ h) = fresh_moment s (entry.Came Client bytes) h (state.Fed Client ∷ steps_of s h) refl ∙ moment_is s h
 moment_is s (entry.Came Up bytes ∷ h) = fresh_moment s (entry.Came Up bytes) h (state.Fed Up ∷ steps_of s h) refl ∙ moment_is s h
 moment_is s (entry.Dry end ∷ h) = moment_is s h
-moment_is s (entry.Settled ∷ h) = fresh_moment s entry.Settled h (steps_of s h) refl ∙ moment_is s h
+moment_is s (entry.Settled ∷ h) = fresh_moment s entry.Settled h (state.LinesTold ∷ steps_of s h) refl ∙ moment_is s h
 moment_is s (entry.Joined answer ∷ h) = moment_is s h
 moment_is s (entry.Took Client bytes n ∷ h) = took_moment Client n bytes (steps_of s h) ∙ moment_is s h
 moment_is s (entry.Took Up bytes n ∷ h) = took_moment Up n bytes (steps_of s h) ∙ moment_is s h

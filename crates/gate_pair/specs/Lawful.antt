@@ -22,11 +22,11 @@ use Rattle.gate_model.specs.declared.reply.Reply.TheVariants as reply
 use Rattle.publish_path.specs.declared.publish.NextReturn.{NextReturn}
 use Rattle.session_path.specs.declared.path.ContentDue.{ContentDue}
 use Rattle.session_path.specs.declared.path.DeliverDue.{DeliverDue}
-use Rattle.session_path.specs.declared.path.PathOk.TheVariants as ok
+use Rattle.session_path.specs.declared.path.PathOk.{PathOk}
 use Rattle.gate_model.specs.declared.reply.Reply.{Reply}
 use Rattle.gate_model.specs.declared.outgoing.UpUnit.{UpUnit}
 use Rattle.gate_model.specs.declared.outgoing.UpUnit.TheVariants as up
-use Rattle.gate_model.specs.Due.{can_leave, carries, is_awaited, is_busy, pick}
+use Rattle.gate_model.specs.Due.{can_leave, carries, is_awaited, is_long_ok, is_busy, pick}
 use Rattle.gate_model.specs.Folds.{connection, container, given_up_in}
 use Rattle.gate_model.specs.Setup.{SetupText}
 use Rattle.gate_model.specs.Spelling.{spell}
@@ -108,10 +108,10 @@ pub data TakesMemory (u : UpUnit) : Type 0 where
   Crediting : (n : ℕ) (f : LinkFlow) → u ≡ up.OnSession n (unit.Flow f) → TakesMemory u
   Transferring : (n : ℕ) (t : TransferOut) → u ≡ up.OnSession n (unit.Transfer t) → TakesMemory u
 
--- the same of the units to the client: one that tells it a consumer tag or where a message was
--- published, and a frame of a content (AMQP 0-9-1 1.8.3.4, 1.8.3.9 and 4.2.6)
+-- the same of the units to the client: an answer of the classes basic and queue, a deliver, and a
+-- frame of a content (AMQP 0-9-1 1.8.3.9 and 4.2.6)
 pub data TakesMemoryBack (u : Reply) : Type 0 where
-  Consuming : (n link : ℕ) → u ≡ reply.OnChannel n (to_client.Ok (ok.Consume link))
+  Answering : (n : ℕ) (x : PathOk) → is_long_ok x ≡ true → u ≡ reply.OnChannel n (to_client.Ok x)
       → TakesMemoryBack u
   Delivering : (n : ℕ) (d : DeliverDue) → u ≡ reply.OnChannel n (to_client.Deliver d)
       → TakesMemoryBack u

@@ -1,6 +1,6 @@
 -- What the entries of a pair say: its steps, the bytes of each end that are no unit yet, and
 -- the rest of each unit in progress.
-use Rattle.std.specs.Prelude.{ℕ, nat_le, nat_lt, Bool, true, false, not, ◌&&◌, if◌then◌else◌}
+use Rattle.std.specs.Prelude.{ℕ, nat_lt, Bool, true, false, not, ◌&&◌, if◌then◌else◌}
 use Rattle.std.specs.Prelude.{List, [], ◌∷◌}
 use Rattle.std.specs.Prelude.{◌++◌, length, drop, Option, Some, None}
 use Rattle.std.specs.Option.{option_map}
@@ -18,7 +18,7 @@ use Rattle.open_items.specs.declared.lost.LostItem.{LostItem}
 use Rattle.gate_model.specs.Spelling.{context_of, lines_text, spell}
 use Rattle.gate_model.specs.State.{State, Step, Began, Moment, Fed, Silent, TakenUp, Joined, Lost}
 use Rattle.gate_model.specs.State.{Gave, Whole}
-use Rattle.gate_model.specs.State.{OutOfMemory, before, owed_lines}
+use Rattle.gate_model.specs.State.{LinesTold, OutOfMemory, before, owed_lines}
 use Rattle.gate_pair.specs.Cutting.{Cut, cut_all, settle}
 
 pub record Stream : Type 0 where
@@ -105,13 +105,17 @@ ticked ms t = watched Up (watched Client (made (Moment ms ∷ []) t))
 abbrev pub leaves : State → List Step
 leaves w = if can_leave w then TakenUp ∷ [] else []
 
-abbrev pub settled : Told → Told
-settled t =
+abbrev pub taken_up : Told → Told
+taken_up t =
     let g = settle (before (steps t)) [] in record t {
       fresh = leaves (before (g ++ steps t))
           ++ g;
       past = steps t;
     }
+
+-- a take-up: what it makes due is reported behind what was due before
+abbrev pub settled : Told → Told
+settled t = taken_up (made (LinesTold ∷ []) t)
 
 abbrev pub took : End → ℕ → List ℕ → Told → Told
 took Client n bytes t =
@@ -127,11 +131,16 @@ took Up n bytes t =
 abbrev pub forgotten : Stream → Stream
 forgotten x = record x { unread = [] }
 
--- of the fresh steps the newest `cut` don't count
+-- of what the newest entry brought the newest `cut` don't count. The newest of all is that its
+-- lines were told: within a read or a take-up they aren't yet, so 1 is cut at least, and the steps
+-- that count have their lines told with those of running out
+abbrev pub counted : ℕ → Told → List Step
+counted cut t = drop cut (LinesTold ∷ t.fresh) ++ t.past
+
 abbrev pub ran_out : ℕ → Told → Told
 ran_out cut t = record {
   fresh = [];
-  past = OutOfMemory ∷ drop cut t.fresh ++ t.past;
+  past = OutOfMemory ∷ counted cut t;
   client = forgotten t.client;
   up = forgotten t.up;
   telling = t.telling;
@@ -154,23 +163,24 @@ tell_steps s entry.Over t = brought [] t
 -- ---- lines of the report
 
 -- sessions, links and the container's end are lost by a moment, by what the container sends, by a
--- connect, by the loss of its end and by an end of a session that goes. Of a read within which the
--- pair ran out of memory only what counts makes a line due
+-- connect, by the loss of its end and by an end of a session that goes. What the client sends is
+-- taken up in a read of it or later, and its closing events, as those of a moment and of want of
+-- memory, lose the deliveries that came settled and weren't written whole. A pair that is refused
+-- has no lines
 abbrev pub tells : Entry → Told → Bool
 tells (entry.Began p ms) t = false
 tells entry.Refused t = false
 tells (entry.Moment ms) t = true
-tells (entry.Came Client bytes) t = false
-tells (entry.Came Up bytes) t = true
+tells (entry.Came end bytes) t = true
 tells (entry.Dry end) t = false
-tells entry.Settled t = false
+tells entry.Settled t = true
 tells (entry.Joined answer) t = true
 tells (entry.Took Client bytes n) t = false
 tells (entry.Took Up bytes n) t = is_end_next (before (steps t))
 tells (entry.Stuck end bytes) t = false
 tells (entry.Lost Client how) t = false
 tells (entry.Lost Up how) t = true
-tells (entry.OutOfMemory cut) t = t.telling && nat_le 1 cut
+tells (entry.OutOfMemory cut) t = true
 tells entry.Over t = false
 
 -- those that the newest entry makes due

@@ -1,5 +1,5 @@
 -- A pair's state is what its entries say.
-use Rattle.std.specs.Prelude.{◌≡◌, ℕ, ◌<◌, ◌≤◌, nat_le, Bool, true, false, if◌then◌else◌, List}
+use Rattle.std.specs.Prelude.{◌≡◌, ℕ, ◌<◌, ◌≤◌, Bool, true, false, if◌then◌else◌, List}
 use Rattle.std.specs.Prelude.{[], ◌∷◌, ◌++◌, length, drop, Option, Some, None, IfSome, is_some}
 use Rattle.gate_outside.specs.declared.ports.End.{End}
 use Rattle.gate_outside.specs.declared.ports.End.TheVariants.{Client, Up}
@@ -171,13 +171,6 @@ FailedAt cut newest old new = (t : Told) → Says old t → Says new (ran_out cu
 
 abbrev pub FailedIn : (Told → Told) → PairState → PairState → Type 0
 FailedIn newest old new = (cut : ℕ) × FailedAt cut newest old new
-
--- the same of a read of the container: the lines that the report is owed then are due, and none if
--- all of the read counts
-abbrev pub FailedUpIn : (Told → Told) → PairState → PairState → Type 0
-FailedUpIn newest old new =
-    (cut : ℕ) × FailedAt cut newest old new
-    × ((said new).lines ≡ (if nat_le 1 cut then owed_lines new.bridge.state else []))
 
 -- ---- a write
 

@@ -10,7 +10,7 @@ ghost use Rattle.gate_model.specs.Due.{is_busy, is_end_next};
 ghost use Rattle.gate_model.specs.State.{Fed, Moment, before};
 ghost use Rattle.gate_pair.specs.Meaning.{Told, given_up, leaves, made, needs_memory, offered};
 ghost use Rattle.gate_pair.specs.Meaning.{ran_out, read_in, settled, steps, took};
-ghost use Rattle.gate_pair.specs.PairStates.{Advances, FailedIn, FailedUpIn, IsOffered, Says};
+ghost use Rattle.gate_pair.specs.PairStates.{Advances, FailedIn, IsOffered, Says};
 ghost use Rattle.gate_pair.specs.PairStates.{StaysSound, forgotten, half_of, is_ready, said};
 ghost use Rattle.gate_pair.specs.PairStates.{said_stream, tells_at};
 
@@ -145,11 +145,11 @@ impl Pair {
         ensures ok { OnOk result ((t : Told) → Says self.old t
             → Says self.new (read_in Client bytes.now t)) }
         ensures err { OnErr result (FailedIn (read_in Client bytes.now) self.old self.new) }
-        ensures quiet { self.new.telling ≡ false }
+        ensures telling { self.new.telling ≡ true }
         ensures calm { OnOk result (self.new.bridge.state.out_of_memory ≡ false) }
         ensures met { OnErr result (self.new.bridge.state.out_of_memory ≡ true) }
     {
-        self.telling = false;
+        self.telling = true;
         match self.client.append(bytes) {
             Ok(()) => match cut_client(&mut self.bridge, alloc, self.client.unread()) {
                 Ok(at) => {
@@ -175,8 +175,8 @@ impl Pair {
         requires { self.old.bridge.state.out_of_memory ≡ false }
         ensures ok { OnOk result ((t : Told) → Says self.old t
             → Says self.new (read_in Up bytes.now t)) }
-        ensures err { OnErr result (FailedUpIn (read_in Up bytes.now) self.old self.new) }
-        ensures telling { OnOk result (self.new.telling ≡ true) }
+        ensures err { OnErr result (FailedIn (read_in Up bytes.now) self.old self.new) }
+        ensures telling { self.new.telling ≡ true }
         ensures calm { OnOk result (self.new.bridge.state.out_of_memory ≡ false) }
         ensures met { OnErr result (self.new.bridge.state.out_of_memory ≡ true) }
     {
@@ -206,11 +206,12 @@ impl Pair {
         requires { self.old.bridge.state.out_of_memory ≡ false }
         ensures ok { OnOk result ((t : Told) → Says self.old t → Says self.new (settled t)) }
         ensures err { OnErr result (FailedIn settled self.old self.new) }
-        ensures quiet { self.new.telling ≡ false }
+        ensures telling { self.new.telling ≡ true }
         ensures calm { OnOk result (self.new.bridge.state.out_of_memory ≡ false) }
         ensures met { OnErr result (self.new.bridge.state.out_of_memory ≡ true) }
     {
-        self.telling = false;
+        self.telling = true;
+        self.bridge.lines_told();
         match settle_all(&mut self.bridge, alloc) {
             Ok(()) => {
                 leave(&mut self.bridge);
@@ -230,7 +231,7 @@ impl Pair {
             ≡ offered setup.now end self.old.bridge.state (said_stream end (said self.old)).rest) }
         ensures kept { OnOk result (said self.new ≡ said self.old) }
         ensures err { OnErr result ((t : Told) → Says self.old t → Says self.new (ran_out 0 t)) }
-        ensures quiet { OnErr result (self.new.telling ≡ false) }
+        ensures telling { OnErr result (self.new.telling ≡ true) }
         ensures takes { OnErr result (needs_memory self.old.bridge.state end ≡ true) }
         ensures calm { OnErr result (self.old.bridge.state.out_of_memory ≡ false) }
         ensures met { OnErr result (self.new.bridge.state.out_of_memory ≡ true) }
@@ -243,7 +244,7 @@ impl Pair {
         match self.bridge.peek(alloc, setup, end) {
             Ok(yes) => Ok(yes),
             Err(error) => {
-                self.telling = false;
+                self.telling = true;
                 self.forget();
                 Err(error)
             }

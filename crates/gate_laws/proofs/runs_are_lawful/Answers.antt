@@ -15,6 +15,7 @@ returns c = λ s l m f. record {
     transfers = c.publishes_are_lawful.ensures.transfers s l m f p;
     pieces = c.publishes_are_lawful.ensures.pieces s l m f p;
     wholes = c.publishes_are_lawful.ensures.end s l m f p;
+    delivers = c.delivers_are_lawful.ensures s l m f p;
     lines = c.lines_are_lawful.ensures s l m f p;
     ends = c.replies_wait.ensures.ends s l m f p;
     channels = c.replies_wait.ensures.channels s l m f p;

@@ -24,10 +24,10 @@ returns-in-Ok-cut_up-clause-ok c =
 pub returns-in-Err-cut_up-clause-err : goal.returns-in-Err-cut_up-clause-err
 returns-in-Err-cut_up-clause-err c =
     heard_failed c.unread.result.now c.args.bytes.now c.self.inside.bridge c.cut_up.new.bridge c.self.inside.client c.self.inside.up c.append.new.self
-    c.self.inside.telling c.args.self.now c.forget.new.self c.self.view_is (c.unread.ensures ∙ ap (λ (x : Half). x.unread) c.in-Ok.ensures.ok) (ap (λ (x : Half). x.at) c.in-Ok.ensures.ok)
-    c.forget.ensures c.in-Err-cut_up.ensures.err c.cut_up.ensures.kept
+    c.self.inside.telling true c.args.self.now c.forget.new.self c.self.view_is (c.unread.ensures ∙ ap (λ (x : Half). x.unread) c.in-Ok.ensures.ok) (ap (λ (x : Half). x.at) c.in-Ok.ensures.ok)
+    c.forget.ensures c.in-Err-cut_up.ensures.err.0 c.cut_up.ensures.kept
 
 pub returns-in-Err-clause-err : goal.returns-in-Err-clause-err
 returns-in-Err-clause-err c =
     heard_lost c.args.bytes.now c.self.inside.bridge c.run_out.new.self c.self.inside.client c.self.inside.up c.append.new.self
-    c.self.inside.telling c.args.self.now c.forget-in-Err.new.self c.self.view_is c.in-Err.ensures.err c.forget-in-Err.ensures c.run_out.ensures.step c.run_out.ensures.kept
+    c.self.inside.telling true c.args.self.now c.forget-in-Err.new.self c.self.view_is c.in-Err.ensures.err c.forget-in-Err.ensures c.run_out.ensures.step c.run_out.ensures.kept
