@@ -1,4 +1,6 @@
+pub mod Asking
 pub mod CallLaws
+pub mod ChannelSteps
 pub mod ContentLaws
 pub mod ContentSteps
 pub mod IdLaws

@@ -41,6 +41,7 @@ plain_effect max c n (method.ConfirmSelect w) p e = refl
 plain_effect max c n (method.BasicQos s k g) p e = refl
 plain_effect max c n (method.BasicConsume q g l a x w t) p e = refl
 plain_effect max c n (method.BasicCancel g w) p e = refl
+plain_effect max c n (method.BasicGet q a) p e = refl
 plain_effect max c n (method.BasicAck g a) p e = refl
 plain_effect max c n (method.BasicReject g r) p e = refl
 plain_effect max c n (method.BasicRecoverAsync r) p e = refl

@@ -27,6 +27,7 @@ use Rattle.machine_091.specs.Limits.{is_agreed, agreed_limits}
 use Rattle.machine_091.specs.Methods.{text_at, number_at, close_of, flow_of, declare_of, publish_of}
 use Rattle.machine_091.specs.Methods.{select_of, consume_of, ack_of, reject_of, nack_of, qos_of}
 use Rattle.machine_091.specs.Methods.{cancel_of, recover_of, recover_async_of, queue_declare_of}
+use Rattle.machine_091.specs.Methods.{get_of}
 use Rattle.machine_091.specs.Refusals.{places, channel_place, closing_place, reading_place}
 use Rattle.machine_091.specs.Refusals.{taken_by, unit_ruling, refusal_of, publish_refusal}
 use Rattle.machine_091.specs.Refusals.{channel_refusal, channel_of}
@@ -50,7 +51,8 @@ use Rattle.machine_091.specs.declared.ids.TheConstants.{EXCHANGE_DECLARE, BASIC_
 use Rattle.machine_091.specs.declared.ids.TheConstants.{CONFIRM_SELECT, BASIC_CONSUME, BASIC_ACK}
 use Rattle.machine_091.specs.declared.ids.TheConstants.{BASIC_REJECT, BASIC_NACK, BASIC_QOS}
 use Rattle.machine_091.specs.declared.ids.TheConstants.{BASIC_CANCEL, BASIC_RECOVER}
-use Rattle.machine_091.specs.declared.ids.TheConstants.{BASIC_RECOVER_ASYNC, QUEUE_DECLARE}
+use Rattle.machine_091.specs.declared.ids.TheConstants.{BASIC_GET, BASIC_RECOVER_ASYNC}
+use Rattle.machine_091.specs.declared.ids.TheConstants.{QUEUE_DECLARE}
 use Rattle.machine_091.specs.declared.state.Channel91.TheVariants as channel
 use Rattle.machine_091.specs.declared.state.Connection.{Connection}
 use Rattle.machine_091.specs.declared.state.Phase91.{Phase91}
@@ -188,6 +190,7 @@ channel_rows P c u f k args rows is kind read runs z uses closes none =
     (pick (is_of_kind QUEUE_DECLARE k) (λ e. rows.passed_on f.channel (queue_declare_of args) (passes (queue_declare_of args) (λ b. declare_short f.payload k args (subst AreBytes is b) read e)))
     (pick (is_of_kind CONFIRM_SELECT k) (λ e. rows.passed_on f.channel (select_of args) (passes (select_of args) (λ b. tt)))
     (pick (is_of_kind BASIC_CONSUME k) (λ e. rows.passed_on f.channel (consume_of args) (passes (consume_of args) (λ b. consume_short f.payload k args (subst AreBytes is b) read e)))
+    (pick (is_of_kind BASIC_GET k) (λ e. rows.passed_on f.channel (get_of args) (passes (get_of args) (λ b. tt)))
     (pick (is_of_kind BASIC_ACK k) (λ e. rows.passed_on f.channel (ack_of args) (passes (ack_of args) (λ b. tt)))
     (pick (is_of_kind BASIC_REJECT k) (λ e. rows.passed_on f.channel (reject_of args) (passes (reject_of args) (λ b. tt)))
     (pick (is_of_kind BASIC_NACK k) (λ e. rows.passed_on f.channel (nack_of args) (passes (nack_of args) (λ b. tt)))
@@ -195,7 +198,7 @@ channel_rows P c u f k args rows is kind read runs z uses closes none =
     (pick (is_of_kind BASIC_CANCEL k) (λ e. rows.passed_on f.channel (cancel_of args) (passes (cancel_of args) (λ b. cancel_short f.payload k args (subst AreBytes is b) read e)))
     (pick (is_of_kind BASIC_RECOVER k) (λ e. rows.passed_on f.channel (recover_of args) (passes (recover_of args) (λ b. tt)))
     (pick (is_of_kind BASIC_RECOVER_ASYNC k) (λ e. rows.passed_on f.channel (recover_async_of args) (passes (recover_async_of args) (λ b. tt)))
-    (pick (is_of_kind BASIC_PUBLISH k) begins (rows.freed f.channel of)))))))))))))))
+    (pick (is_of_kind BASIC_PUBLISH k) begins (rows.freed f.channel of))))))))))))))))
   where
     of : IsOfChannel c u f.channel
     of = record { of = ap channel_of is; runs = runs; min = not_zero f.channel z; max = within c f.channel (is_opening f.payload) z uses; none = none }

@@ -82,6 +82,9 @@ qos_of args = method.BasicQos (number_at 0 args) (number_at 1 args) (flag 0 (fla
 abbrev pub cancel_of : List Arg → Method91
 cancel_of args = method.BasicCancel (text_at 0 args) (flag 0 (flags_at 1 args))
 
+abbrev pub get_of : List Arg → Method91
+get_of args = method.BasicGet (text_at 1 args) (flag 0 (flags_at 2 args))
+
 abbrev pub ack_of : List Arg → Method91
 ack_of args = method.BasicAck (number_at 0 args) (flag 0 (flags_at 1 args))
 

@@ -13,7 +13,7 @@ use Rattle.machine_091.specs.declared.ids.TheConstants.{CONNECTION, CONNECTION_C
 use Rattle.machine_091.specs.declared.ids.TheConstants.{CHANNEL_FLOW, CHANNEL_CLOSE}
 use Rattle.machine_091.specs.declared.ids.TheConstants.{CHANNEL_CLOSE_OK}
 use Rattle.machine_091.specs.declared.ids.TheConstants.{EXCHANGE_DECLARE, QUEUE_DECLARE}
-use Rattle.machine_091.specs.declared.ids.TheConstants.{BASIC_CONSUME}
+use Rattle.machine_091.specs.declared.ids.TheConstants.{BASIC_CONSUME, BASIC_GET}
 use Rattle.machine_091.specs.declared.ids.TheConstants.{BASIC_PUBLISH, BASIC_ACK, BASIC_REJECT}
 use Rattle.machine_091.specs.declared.ids.TheConstants.{BASIC_NACK, BASIC_QOS, BASIC_CANCEL}
 use Rattle.machine_091.specs.declared.ids.TheConstants.{BASIC_RECOVER, BASIC_RECOVER_ASYNC}
@@ -62,8 +62,8 @@ abbrev pub carried_order : ℕ → ℕ → Option Ruling
 carried_order max n = if nat_lt max n then refused RESOURCE_ERROR else None
 
 -- the methods that are done on a channel that the container carries: those that close it, a
--- channel.flow that lets flow, exchange.declare, basic.consume, cancel, publish, ack, reject and
--- nack, and confirm.select. queue.declare is done where its queue has a name; without one the
+-- channel.flow that lets flow, exchange.declare, basic.consume, get, cancel, publish, ack, reject
+-- and nack, and confirm.select. queue.declare is done where its queue has a name; without one the
 -- server would choose it (AMQP 0-9-1 1.7.2.1). basic.qos is done where its prefetch-size is 0,
 -- which is no limit in octets (1.8.3.1). basic.recover and basic.recover-async are done where
 -- `requeue` is set; without it the messages are for the original recipient again (1.8.3.16,
@@ -79,6 +79,7 @@ is_done k args =
     else if is_of_kind CHANNEL_CLOSE_OK k then true
     else if is_of_kind EXCHANGE_DECLARE k then true
     else if is_of_kind BASIC_CONSUME k then true
+    else if is_of_kind BASIC_GET k then true
     else if is_of_kind BASIC_CANCEL k then true
     else if is_of_kind BASIC_PUBLISH k then true
     else if is_of_kind BASIC_ACK k then true

@@ -17,6 +17,7 @@ use Rattle.machine_091.specs.Refusals.{channel_of}
 use Rattle.machine_091.specs.Methods.{text_at, number_at, close_of, flow_of, declare_of, publish_of}
 use Rattle.machine_091.specs.Methods.{select_of, consume_of, ack_of, reject_of, nack_of, qos_of}
 use Rattle.machine_091.specs.Methods.{cancel_of, recover_of, recover_async_of, queue_declare_of}
+use Rattle.machine_091.specs.Methods.{get_of}
 use Rattle.close_translate.specs.declared.codes.TheConstants.{NOT_ALLOWED}
 use Rattle.close_translate.specs.declared.conditions.Scope.TheVariants as scope
 use Rattle.content_091.specs.declared.assembly.Step.TheVariants as step
@@ -29,7 +30,8 @@ use Rattle.machine_091.specs.declared.ids.TheConstants.{EXCHANGE_DECLARE, BASIC_
 use Rattle.machine_091.specs.declared.ids.TheConstants.{CONFIRM_SELECT, BASIC_CONSUME, BASIC_ACK}
 use Rattle.machine_091.specs.declared.ids.TheConstants.{BASIC_REJECT, BASIC_NACK, BASIC_QOS}
 use Rattle.machine_091.specs.declared.ids.TheConstants.{BASIC_CANCEL, BASIC_RECOVER}
-use Rattle.machine_091.specs.declared.ids.TheConstants.{BASIC_RECOVER_ASYNC, QUEUE_DECLARE}
+use Rattle.machine_091.specs.declared.ids.TheConstants.{BASIC_GET, BASIC_RECOVER_ASYNC}
+use Rattle.machine_091.specs.declared.ids.TheConstants.{QUEUE_DECLARE}
 use Rattle.machine_091.specs.declared.state.Channel91.{Channel91}
 use Rattle.machine_091.specs.declared.state.Channel91.TheVariants as channel
 use Rattle.machine_091.specs.declared.state.Connection.{Connection}
@@ -106,7 +108,7 @@ closed_by channel.Closing = channel.Closing
 closed_by channel.Told = channel.Told
 
 -- a method of a channel: channel.open, close and flow, exchange.declare, queue.declare,
--- confirm.select, basic.consume, cancel, qos, ack, reject, nack, recover and recover-async,
+-- confirm.select, basic.consume, get, cancel, qos, ack, reject, nack, recover and recover-async,
 -- basic.publish, which begins a content, and channel.close-ok
 abbrev pub channel_effect : Connection → ℕ → Kind → List Arg → Step
 channel_effect c n k args =
@@ -119,6 +121,7 @@ channel_effect c n k args =
     else if is_of_kind QUEUE_DECLARE k then (c, want.Method n (queue_declare_of args))
     else if is_of_kind CONFIRM_SELECT k then (c, want.Method n (select_of args))
     else if is_of_kind BASIC_CONSUME k then (c, want.Method n (consume_of args))
+    else if is_of_kind BASIC_GET k then (c, want.Method n (get_of args))
     else if is_of_kind BASIC_ACK k then (c, want.Method n (ack_of args))
     else if is_of_kind BASIC_REJECT k then (c, want.Method n (reject_of args))
     else if is_of_kind BASIC_NACK k then (c, want.Method n (nack_of args))

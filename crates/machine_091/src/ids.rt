@@ -48,6 +48,8 @@ pub(crate) const BASIC_RETURN: (u16, u16) = (60, 50);
 
 pub(crate) const BASIC_DELIVER: (u16, u16) = (60, 60);
 
+pub(crate) const BASIC_GET: (u16, u16) = (60, 70);
+
 pub(crate) const BASIC_GET_EMPTY: (u16, u16) = (60, 72);
 
 pub(crate) const BASIC_ACK: (u16, u16) = (60, 80);

@@ -97,6 +97,7 @@ fn is_done(method: &Method91) -> bool
         | Method91::ChannelCloseOk
         | Method91::ExchangeDeclare { .. }
         | Method91::BasicConsume { .. }
+        | Method91::BasicGet { .. }
         | Method91::BasicCancel { .. }
         | Method91::BasicPublish { .. }
         | Method91::BasicAck { .. }

@@ -66,9 +66,9 @@ pub enum Want91 {
     /// connection.open: the container upstream is to open, and `opened` tells that it did.
     OpenUp,
     /// A method of this channel: channel.open, channel.flow, channel.close, exchange.declare,
-    /// queue.declare, confirm.select, basic.consume, basic.cancel, basic.qos or basic.recover,
-    /// whose answer is due, unless its no-wait is set; or basic.ack, basic.reject, basic.nack or
-    /// basic.recover-async, which has none.
+    /// queue.declare, confirm.select, basic.consume, basic.get, basic.cancel, basic.qos or
+    /// basic.recover, whose answer is due, unless its no-wait is set; or basic.ack, basic.reject,
+    /// basic.nack or basic.recover-async, which has none.
     Method(u16, Method91),
     /// A basic.publish of this channel, whose content is whole.
     Publish(u16, Method91, Content),
