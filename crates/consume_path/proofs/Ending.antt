@@ -4,6 +4,7 @@ use Rattle.std.proofs.Common.{arith, Option, Some, None, cond, map}
 use Rattle.std.specs.Prelude.{◌==◌, is_some}
 use Rattle.std.specs.Option.{option_map}
 use Rattle.std.proofs.lemmas.Bool.Decides.{nat_tests}
+use Rattle.links_10.specs.Recv.{recounted, after_arrival}
 use Rattle.consume_path.specs.declared.delivery.Arriving.{Arriving}
 use Rattle.consume_path.specs.declared.delivery.Content.{Content}
 use Rattle.consume_path.specs.declared.delivery.Delivery.{Delivery}
@@ -11,9 +12,10 @@ use Rattle.consume_path.specs.declared.receiving.Part.{Part}
 use Rattle.consume_path.specs.declared.receiving.ReceivingLink.{ReceivingLink}
 use Rattle.consume_path.specs.Items.{new_delivery}
 use Rattle.consume_path.specs.Links.{link_of, has_number, change_first, transfer_came, taken_from}
-use Rattle.consume_path.specs.Links.{recount, begun}
+use Rattle.consume_path.specs.Links.{recount, begun, is_between, counted_on}
 use Rattle.consume_path.specs.Deliveries.{DeliveryState, TransferCame, Arrived, with_list, each_link}
 use Rattle.consume_path.specs.Deliveries.{after_event}
+use Rattle.consume_path.specs.Kept.{counted_anew}
 use Rattle.consume_path.specs.Offers.{arriving_in, ending_in, arrived_whole, added, ended_on}
 use Rattle.consume_path.proofs.Finding.{find_map, find_change}
 
@@ -73,3 +75,41 @@ ended link part payload content again s e =
     sym (ap (λ a. after_event (Arrived a content again) before) (arriving_ended link part payload s.list s.links e)
     ∙ ap (λ n. with_list list (each_link (taken_from n (is_some content)) (record before { arrived = s.arrived + 1 }))) (ending_link link part (link_of s.links link))
     ∙ ap (λ links. record s { list = list; arrived = s.arrived + 1; links = links }) (links_ended link part payload (is_some content) s.list list e s.links))
+
+-- each link is counted anew before, or only then
+
+begun_counted : (link : ℕ) (image : Bool) (list : List Delivery) (links : List ReceivingLink)
+    → map (recount list) (map (taken_from link image) (change_first (has_number link) begun (map (recount list) links))) ≡ map (recount list) (map (taken_from link image) (change_first (has_number link) begun links))
+begun_counted link image list [] = refl
+begun_counted link image list (l ∷ ls) = by (l.link == link) (begun_counted link image list ls)
+  where
+    state : (n m : ℕ) (b : Bool) → recounted n (cond b (after_arrival (recounted m l.state)) (recounted m l.state)) ≡ recounted n (cond b (after_arrival l.state) l.state)
+    state n m true = refl
+    state n m false = refl
+
+    one : recount list (taken_from link image (begun (recount list l))) ≡ recount list (taken_from link image (begun l))
+    one = ap (λ s. record (taken_from link image l) { state = s }) (state (counted_on list (taken_from link image l)) (counted_on list l) (is_between l))
+
+    by : (b : Bool) → map (recount list) (map (taken_from link image) (change_first (has_number link) begun (map (recount list) ls))) ≡ map (recount list) (map (taken_from link image) (change_first (has_number link) begun ls))
+        → map (recount list) (map (taken_from link image) (cond b (begun (recount list l) ∷ map (recount list) ls) (recount list l ∷ change_first (has_number link) begun (map (recount list) ls))))
+        ≡ map (recount list) (map (taken_from link image) (cond b (begun l ∷ ls) (l ∷ change_first (has_number link) begun ls)))
+    by true ih =
+        ap (λ x. x ∷ map (recount list) (map (taken_from link image) (map (recount list) ls))) one
+        ∙ ap (λ xs. recount list (taken_from link image (begun l)) ∷ xs) (links_counted link image list list ls)
+    by false ih = ap (λ xs. recount list (taken_from link image l) ∷ xs) ih
+
+pub ended_counted : (link : ℕ) (image : Bool) (s : DeliveryState) → ended_on link image (counted_anew s) ≡ ended_on link image s
+ended_counted link image s = ap (λ links. record s { links = links }) (begun_counted link image s.list s.links)
+
+arriving_link : (link : ℕ) (o : Option ReceivingLink) → (arriving_in link o).link ≡ link
+arriving_link link None = refl
+arriving_link link (Some l) = refl
+
+pub arrived_is : (link : ℕ) (content : Option Content) (again : Bool) (s : DeliveryState)
+    → counted_anew (each_link (taken_from link (is_some content)) (counted_anew (added (arriving_in link (link_of s.links link)) content again s)))
+    ≡ after_event (Arrived (arriving_in link (link_of s.links link)) content again) s
+arrived_is link content again s =
+    let arriving : Arriving = arriving_in link (link_of s.links link) in
+    let list : List Delivery = s.list ++ new_delivery s.closed (s.arrived + 1) arriving content again ∷ [] in
+    ap (λ links. record s { list = list; arrived = s.arrived + 1; links = links }) (links_counted link (is_some content) list list s.links)
+    ∙ ap (λ n. with_list list (each_link (taken_from n (is_some content)) (record s { arrived = s.arrived + 1 }))) (sym (arriving_link link (link_of s.links link)))

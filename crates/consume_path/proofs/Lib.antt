@@ -13,3 +13,6 @@ mod Granting
 mod Sanity
 mod Joining
 mod Freshness
+mod Visited
+mod Kept
+mod Passing

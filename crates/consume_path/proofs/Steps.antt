@@ -1,5 +1,6 @@
 -- What the open deliveries and the links offer and count is what all of them do.
-use Rattle.std.proofs.Common.{◌≡◌, ◌∙◌, ℕ, zero, suc, ◌+◌, ◌-◌, ◌<◌, List, [], ◌∷◌, ◌++◌, Bool, true}
+use Rattle.std.proofs.Common.{◌≡◌, ◌∙◌, ℕ, zero, suc, ◌+◌, ◌-◌, ◌<◌, List, [], ◌∷◌, ◌++◌, Bool}
+use Rattle.std.proofs.Common.{true}
 use Rattle.std.proofs.Common.{false, refl, sym, ap, arith, cond, map, length, take, drop, set}
 use Rattle.std.proofs.Common.{get_or, Option, Some, None}
 use Rattle.std.specs.Prelude.{not, ◌&&◌, ◌||◌, ◌==◌, nat_lt, filter, find, count_by, is_some}
@@ -35,12 +36,15 @@ use Rattle.consume_path.specs.Items.{is_on, is_open, is_covered, first_place, ne
 use Rattle.consume_path.specs.Items.{changed}
 use Rattle.consume_path.specs.Links.{change_first, is_between, id_or, bytes_in, counts, counts_on}
 use Rattle.consume_path.specs.Links.{one_if, recount}
-use Rattle.consume_path.specs.Offers.{has_open_id, has_begun_id, is_open_id, most_bytes, lacks_field}
+use Rattle.consume_path.specs.Offers.{has_open_id, has_begun_id, is_open_id, most_bytes}
+use Rattle.consume_path.specs.Offers.{lacks_field}
 use Rattle.consume_path.specs.Offers.{is_other, fault_of, is_unsettled, unsettled_on}
 use Rattle.consume_path.specs.Offers.{has_global_room, deliver_of, consuming, on_link}
-use Rattle.consume_path.specs.Offers.{get_offer, consumer_offer, rank_of, next_deliver_of, has_content}
+use Rattle.consume_path.specs.Offers.{get_offer, consumer_offer, rank_of, next_deliver_of}
+use Rattle.consume_path.specs.Offers.{has_content}
 use Rattle.consume_path.specs.Offers.{content_in, content_of, is_known, owes_of, owes_id, run_to}
 use Rattle.consume_path.specs.Offers.{settle_in, settle_from, next_settle_of, is_uncovered}
+use Rattle.consume_path.specs.Offers.{holds, is_held_on}
 use Rattle.consume_path.specs.Offers.{soonest}
 use Rattle.consume_path.proofs.Least.{soonest_filter}
 
@@ -66,6 +70,9 @@ open_open items = filter-filter is_open items
 
 pub uncovered_seen : (link : ℕ) (items : List Delivery) → list_any (is_uncovered link) (filter is_open items) ≡ list_any (is_uncovered link) items
 uncovered_seen link items = list_any-filter is_open (is_uncovered link) (λ d e. grind (arith, common_steps)) items
+
+pub holds_seen : (link : ℕ) (items : List Delivery) → holds link (filter is_open items) ≡ holds link items
+holds_seen link items = list_any-filter is_open (is_held_on link) (λ d e. grind (arith, common_steps)) items
 
 pub covered_seen : (tag : ℕ) (multiple : Bool) (items : List Delivery) → list_any (is_covered tag multiple) (filter is_open items) ≡ list_any (is_covered tag multiple) items
 covered_seen tag multiple items = list_any-filter is_open (is_covered tag multiple) (λ d e. grind (arith, common_steps)) items

@@ -4,3 +4,4 @@ pub mod Deliveries
 pub mod Offers
 pub mod Journal
 pub mod Laws
+pub mod Kept

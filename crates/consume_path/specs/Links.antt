@@ -13,7 +13,7 @@ use Rattle.consume_path.specs.declared.delivery.Taker.TheVariants.{Nobody, Gette
 use Rattle.consume_path.specs.declared.delivery.Taker.TheVariants.{Consumer as Consumes}
 use Rattle.consume_path.specs.declared.link_changes.LinkChange.{LinkChange}
 use Rattle.consume_path.specs.declared.link_changes.LinkChange.TheVariants.{Attached, Flowed}
-use Rattle.consume_path.specs.declared.link_changes.LinkChange.TheVariants.{Echoed, Waits, Taken}
+use Rattle.consume_path.specs.declared.link_changes.LinkChange.TheVariants.{Echoed, Waits}
 use Rattle.consume_path.specs.declared.link_changes.LinkChange.TheVariants.{Cancelled, FlowSent}
 use Rattle.consume_path.specs.declared.link_changes.LinkChange.TheVariants.{Emptied}
 use Rattle.consume_path.specs.declared.receiving.Cause.{Cause}
@@ -298,7 +298,6 @@ link_changed link (Attached count) l = link_attached link count l
 link_changed link (Flowed count) l = link_flowed link count l
 link_changed link Echoed l = link_echoed link l
 link_changed link (Waits number no_ack) l = link_waits link number no_ack l
-link_changed link (Taken image) l = taken_from link image l
 link_changed link Cancelled l = link_cancelled link l
 link_changed link (FlowSent credit cause) l = flow_sent link credit cause l
 link_changed link Emptied l = get_emptied link l

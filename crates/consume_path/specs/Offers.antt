@@ -310,6 +310,36 @@ is_for_gets (Consumes tag no_ack) = false
 is_for_gets Get = true
 is_for_gets Probe = false
 
+-- gets
+
+-- a link is for gets, and none waits there
+abbrev pub is_free_for_get : ReceivingLink → Bool
+is_free_for_get l = is_for_gets l.kind && not (is_some l.get)
+
+abbrev pub serves_gets : ℕ → List ReceivingLink → Bool
+serves_gets link links = in_link (λ l. is_for_gets l.kind) (link_of links link)
+
+abbrev pub takes_get : ℕ → List ReceivingLink → Bool
+takes_get link links = in_link is_free_for_get (link_of links link)
+
+-- one waits, and wasn't found empty
+abbrev pub is_getting : ReceivingLink → Bool
+is_getting l = is_some l.get && not (is_empty l.get)
+
+abbrev pub awaits_get : ℕ → List ReceivingLink → Bool
+awaits_get link links = in_link is_getting (link_of links link)
+
+-- a delivery of the link waits for its deliver or get-ok
+abbrev pub is_held_on : ℕ → Delivery → Bool
+is_held_on link d = is_on link d.link && is_held d.place
+
+abbrev pub holds : ℕ → List Delivery → Bool
+holds link list = list_any (is_held_on link) list
+
+-- no get waits on a link for gets, and each delivery had its disposition
+abbrev pub is_at_rest : ℕ → DeliveryState → Bool
+is_at_rest link s = takes_get link s.links && is_all_covered link s.list
+
 -- the credit that is left; none on a cancelled link, and on a get's in a closed life
 abbrev pub echo_credit : Bool → ReceivingLink → ℕ
 echo_credit closed l =

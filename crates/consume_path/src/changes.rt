@@ -1,6 +1,6 @@
 //! What an event does to each delivery of a life.
 
-ghost use Rattle.std.specs.Prelude.{◌≡◌, map, filter};
+ghost use Rattle.std.specs.Prelude.{◌≡◌, filter};
 ghost use Rattle.consume_path.specs.Items.{is_held, is_out, owes, owes_as, is_no_ack, is_nobody};
 ghost use Rattle.consume_path.specs.Items.{limit_of, is_on, is_outstanding, is_open, trimmed};
 ghost use Rattle.consume_path.specs.Items.{owed_place, first_place, delivered, written, in_tag};
@@ -297,20 +297,12 @@ fn move_one(d: &mut Delivery, change: Change)
     }
 }
 
-fn change_one(d: &mut Delivery, change: Change)
+/// What happens does to one delivery what its definition says.
+pub fn change_one(d: &mut Delivery, change: Change)
     ensures { d.new ≡ changed change d.old }
 {
     move_one(d, change);
     trim(d);
-}
-
-/// Changes each delivery.
-pub fn change_all(items: &mut Vec<Delivery>, change: Change)
-    ensures { items.new.items ≡ map (changed change) items.old.items }
-{
-    for d in items.iter_mut() {
-        change_one(d, change);
-    }
 }
 
 /// Leaves out what is closed.

@@ -3,13 +3,14 @@
 ghost use Rattle.std.specs.Prelude.{ℕ, List, ◌≡◌, ◌+◌, ◌<◌, ◌^◌, ◌==◌, ◌&&◌, [], filter, not, true};
 ghost use Rattle.std.specs.Prelude.{false, length, is_some, OnOk, OnErr, IfOk, IfSome};
 ghost use Rattle.std.specs.Prelude.{IsSome, IsNone, option_copied, None, Some, map};
+ghost use Rattle.std.specs.List.{list_any};
 ghost use Rattle.std.specs.Option.{option_map, option_or};
 ghost use Rattle.consume_path.specs.declared.delivery.Delivery.{Delivery};
 ghost use Rattle.consume_path.specs.declared.delivery.Settle.TheVariants.{Released};
 ghost use Rattle.consume_path.specs.declared.receiving.Arrival.TheVariants.{Violation};
 ghost use Rattle.consume_path.specs.declared.receiving.ReceivingLink.{ReceivingLink};
 ghost use Rattle.consume_path.specs.Items.{is_open, is_covered, changed, first_place, new_delivery};
-ghost use Rattle.consume_path.specs.Links.{link_of, in_link, is_whole, is_empty, recount};
+ghost use Rattle.consume_path.specs.Links.{link_of, in_link, is_whole, is_empty, taken_from};
 ghost use Rattle.consume_path.specs.Links.{link_changed, tag_in, count_in, is_tag_used};
 ghost use Rattle.consume_path.specs.Links.{consumer_link};
 ghost use Rattle.consume_path.specs.Deliveries.{DeliveryState, LinkAdded, LinkAttached, LinkFlowed};
@@ -18,25 +19,33 @@ ghost use Rattle.consume_path.specs.Deliveries.{LinkDropped, Delivered, Written,
 ghost use Rattle.consume_path.specs.Deliveries.{Cancelled, Closed, EndLost, PrefetchSet, GlobalSet};
 ghost use Rattle.consume_path.specs.Deliveries.{SettleSent, GrantSent, Emptied, LinesTold};
 ghost use Rattle.consume_path.specs.Deliveries.{no_deliveries, after_event, with_list, each_link};
+ghost use Rattle.consume_path.specs.Kept.{begins, counted_anew};
 ghost use Rattle.consume_path.specs.Offers.{is_open_id, fault_in, fault_at, arrival_of};
 ghost use Rattle.consume_path.specs.Offers.{arriving_in, payload_in, next_deliver_of, content_of};
 ghost use Rattle.consume_path.specs.Offers.{ending_in, added, arrived_whole, ended_on};
 ghost use Rattle.consume_path.specs.Offers.{is_known, next_settle_of, is_all_covered};
 ghost use Rattle.consume_path.specs.Offers.{is_over};
-ghost use Rattle.consume_path.specs.Offers.{next_grant_of, is_drained, is_for_gets};
+ghost use Rattle.consume_path.specs.Offers.{next_grant_of, is_drained, serves_gets, takes_get};
+ghost use Rattle.consume_path.specs.Offers.{awaits_get, is_getting, holds, is_at_rest};
 
-use crate::changes::{Change, change_all, compact, place_of_arrival, trim};
+use crate::changes::{Change, compact, place_of_arrival, trim};
 use crate::delivery::{Arriving, Content, Delivery, NextDeliver, NextSettle, Place, Settle, Taker};
 use crate::link_changes::{
     LinkChange, asked_link, begin_on, change_links, close_links, id_with, is_get_empty,
-    is_settled_with, leave_out, link_with, recount_links, taker_on, transfer_on,
+    is_settled_with, leave_out, link_with, recount_one, take_on, taker_on, transfer_on,
+};
+use crate::places::{
+    is_number_at, is_one_owed, is_one_tagged, is_one_written, place_by_number, place_by_tag,
+    place_owing, visit_at,
 };
 use crate::receiving::{Arrival, NextGrant, Part, ReceivingLink, RecvKind, TransferFault};
 use crate::searches::{
-    any_covered, any_tagged, any_uncovered, arrival_by, bytes_of, first_deliver, first_grant,
-    first_owing, first_tagged, first_with_content, is_id_open, is_partial_whole, is_probe, run_of,
-    tag_by, transfer_fault,
+    any_covered, any_held, any_tagged, any_uncovered, arrival_by, bytes_of, first_deliver,
+    first_grant, first_owing, first_tagged, first_with_content, is_free_for_get, is_getting,
+    is_id_open, is_kind_for_gets, is_partial_whole, is_probe, run_of, tag_by, transfer_fault,
 };
+use crate::tallies::{Counts, Tally, tally_links};
+use crate::visits::change_between;
 use open_items::LostKind;
 use std::alloc::Global;
 use std::marker::Model;
@@ -56,6 +65,11 @@ pub struct Deliveries {
     prefetch: u16,
     global: u16,
     closed: bool,
+    counts: Counts,
+    /// The deliver or get-ok of the delivery at this place was the last that was begun.
+    begun: usize,
+    /// The delivery at this place was the last that was answered.
+    answered: usize,
     /// With so many items, the closed ones are left out.
     room: usize,
 }
@@ -64,6 +78,7 @@ impl Model for Deliveries {
     ghost use Rattle.std.specs.Prelude.{filter};
     ghost use Rattle.consume_path.specs.Deliveries.{DeliveryState};
     ghost use Rattle.consume_path.specs.Items.{is_open};
+    ghost use Rattle.consume_path.specs.Kept.{IsKept};
 
     ghost Value = { DeliveryState };
 
@@ -78,6 +93,8 @@ impl Model for Deliveries {
       global = a.global;
       closed = a.closed;
     } };
+
+    ghost invariant = { λ a. IsKept a.links.items a.items.items a.counts a.arrived a.tags };
 }
 
 /// So many whole deliveries are taken in a life.
@@ -171,6 +188,9 @@ impl Deliveries {
             prefetch: 0,
             global: 0,
             closed: false,
+            counts: Counts::none(),
+            begun: 0,
+            answered: 0,
             room: LEAST_ROOM,
         }
     }
@@ -182,8 +202,9 @@ impl Deliveries {
         ensures ok { OnOk result (self.new ≡ after_event (LinkAdded link kind) self.old) }
         ensures err { OnErr result (self.new ≡ self.old) }
     {
-        self.links.push(asked_link(link, kind, self.prefetch))?;
-        self.recount();
+        let mut asked = asked_link(link, kind, self.prefetch);
+        recount_one(self.items.as_slice(), &mut asked);
+        self.links.push(asked)?;
         Ok(())
     }
 
@@ -236,19 +257,26 @@ impl Deliveries {
         }
     }
 
+    /// The link with this number is changed.
+    fn change_link(&mut self, link: u32, change: LinkChange)
+        ensures { self.new ≡ each_link (link_changed link change) self.old }
+    {
+        change_links(&mut self.links, link, change);
+    }
+
     /// The container's attach of this link was read, with this initial delivery-count (AMQP 1.0
     /// 2.7.3).
     pub fn link_attached(&mut self, link: u32, count: u32)
         ensures { self.new ≡ after_event (LinkAttached link count) self.old }
     {
-        change_links(&mut self.links, link, LinkChange::Attached { count });
+        self.change_link(link, LinkChange::Attached { count });
     }
 
     /// A flow of the container came for this link, with this delivery-count (AMQP 1.0 2.7.4).
     pub fn link_flow(&mut self, link: u32, count: u32)
         ensures { self.new ≡ after_event (LinkFlowed link count) self.old }
     {
-        change_links(&mut self.links, link, LinkChange::Flowed { count });
+        self.change_link(link, LinkChange::Flowed { count });
     }
 
     /// A flow of the container with echo came for this link; `next_grant` answers it (AMQP 1.0
@@ -256,19 +284,77 @@ impl Deliveries {
     pub fn link_echo(&mut self, link: u32)
         ensures { self.new ≡ after_event (LinkEchoed link) self.old }
     {
-        change_links(&mut self.links, link, LinkChange::Echoed);
+        self.change_link(link, LinkChange::Echoed);
     }
 
-    /// A basic.get waits on this link, which is for gets, and where none waits.
+    /// A basic.get waits on this link.
     pub fn get(&mut self, link: u32, no_ack: bool)
-        requires gets { self.old.gets < 2 ^ 62 }
-        requires kind { in_link (λ l. is_for_gets l.kind) (link_of self.old.links link) ≡ true }
-        requires waits { in_link (λ l. is_some l.get) (link_of self.old.links link) ≡ false }
+        requires { self.old.gets < 2 ^ 62 }
         ensures { self.new ≡ after_event (GetCame link no_ack) self.old }
     {
         let number = self.gets + 1;
         self.gets = number;
-        change_links(&mut self.links, link, LinkChange::Waits { number, no_ack });
+        self.change_link(link, LinkChange::Waits { number, no_ack });
+    }
+
+    /// How many gets there were.
+    pub fn gets(&self) -> u64
+        ensures { result ≡ self.now.gets }
+    {
+        self.gets
+    }
+
+    /// This link is for gets.
+    pub fn serves_gets(&self, link: u32) -> bool
+        ensures { result ≡ serves_gets link self.now.links }
+    {
+        match link_with(self.links.as_slice(), link) {
+            Some(l) => is_kind_for_gets(&l.kind),
+            None => false,
+        }
+    }
+
+    /// This link is for gets, and none waits there.
+    pub fn takes_get(&self, link: u32) -> bool
+        ensures { result ≡ takes_get link self.now.links }
+    {
+        match link_with(self.links.as_slice(), link) {
+            Some(l) => is_free_for_get(l),
+            None => false,
+        }
+    }
+
+    /// A get waits on this link that wasn't found empty.
+    pub fn awaits_get(&self, link: u32) -> bool
+        ensures { result ≡ awaits_get link self.now.links }
+    {
+        match link_with(self.links.as_slice(), link) {
+            Some(l) => is_getting(l),
+            None => false,
+        }
+    }
+
+    /// One waits on some link.
+    pub fn awaits_any(&self) -> bool
+        ensures { result ≡ list_any is_getting self.now.links }
+    {
+        self.links.as_slice().iter().any(|l| is_getting(l))
+    }
+
+    /// A delivery of this link waits for its deliver or get-ok.
+    #[tactic(auto, using(crate::proofs::Steps::holds_seen))]
+    pub fn holds(&self, link: u32) -> bool
+        ensures { result ≡ holds link self.now.list }
+    {
+        any_held(self.items.as_slice(), link)
+    }
+
+    /// No get waits on this link, which is for gets, and each whole delivery that didn't come
+    /// settled had its disposition.
+    pub fn is_at_rest(&self, link: u32) -> bool
+        ensures { result ≡ is_at_rest link self.now }
+    {
+        self.takes_get(link) && self.covered(link)
     }
 
     /// Each whole delivery of this link that didn't come settled had its disposition.
@@ -290,22 +376,22 @@ impl Deliveries {
         }
     }
 
-    /// Counts anew what counts on each link.
-    #[tactic(auto, using(crate::proofs::Steps::recounts_seen))]
-    fn recount(&mut self)
-        ensures { self.new ≡ with_list self.old.list self.old }
-    {
-        recount_links(&mut self.links, self.items.as_slice());
-    }
-
     /// Changes each delivery, and counts anew.
-    #[tactic(auto, using(crate::proofs::Steps::changed_seen))]
+    #[tactic(auto, using(crate::proofs::Steps::changed_seen, crate::proofs::Steps::recounts_seen))]
     fn change(&mut self, change: Change)
+        requires { begins change ≡ false }
         ensures { self.new ≡ with_list
             (filter is_open (map (changed change) self.old.list)) self.old }
     {
-        change_all(&mut self.items, change);
-        self.recount();
+        let end = self.items.len();
+        self.counts = change_between(
+            &mut self.links,
+            &mut self.items,
+            self.counts,
+            0,
+            end,
+            change,
+        );
     }
 
     /// This link is no more.
@@ -366,7 +452,6 @@ impl Deliveries {
         ensures err { OnErr result (self.new ≡ self.old) }
     {
         transfer_on(&mut self.links, link, part, payload)?;
-        self.recount();
         Ok(())
     }
 
@@ -402,16 +487,16 @@ impl Deliveries {
         }
     }
 
-    /// A whole delivery is added. It answers `Memory` also once so many came that their numbers are
-    /// used up.
-    #[tactic(auto, using(crate::proofs::Steps::add_seen))]
+    /// A whole delivery is added, and counts on its link. It answers `Memory` also once so many came
+    /// that their numbers are used up.
     fn add(
         &mut self,
         arriving: Arriving,
         content: Option<Content>,
         again: bool,
     ) -> Result<(), Memory>
-        ensures ok { OnOk result (self.new ≡ added arriving content again self.old) }
+        ensures ok { OnOk result (self.new
+            ≡ counted_anew (added arriving content again self.old)) }
         ensures err { OnErr result (self.new ≡ self.old) }
     {
         if self.arrived >= MOST_DELIVERIES {
@@ -420,9 +505,19 @@ impl Deliveries {
         self.make_room();
         let number = self.arrived + 1;
         let delivery = new_one(self.closed, number, arriving, content, again);
+        let tally = Tally::of(&delivery);
         self.items.push(delivery)?;
+        tally_links(&mut self.links, Tally::none(), tally);
+        self.counts = self.counts.exchange(Tally::none(), tally);
         self.arrived = number;
         Ok(())
+    }
+
+    /// The whole delivery of this link is taken of it.
+    fn take(&mut self, link: u32, image: bool)
+        ensures { self.new ≡ counted_anew (each_link (taken_from link image) self.old) }
+    {
+        take_on(&mut self.links, link, image);
     }
 
     /// The whole delivery of this link is taken, with what goes to the client of it; it has none
@@ -441,8 +536,7 @@ impl Deliveries {
         let arriving = arriving_on(link_with(self.links.as_slice(), link), link);
         let image = content.is_some();
         self.add(arriving, content, again)?;
-        change_links(&mut self.links, link, LinkChange::Taken { image });
-        self.recount();
+        self.take(link, image);
         Ok(())
     }
 
@@ -451,8 +545,7 @@ impl Deliveries {
         ensures { self.new ≡ ended_on link image self.old }
     {
         begin_on(&mut self.links, link);
-        change_links(&mut self.links, link, LinkChange::Taken { image });
-        self.recount();
+        self.take(link, image);
     }
 
     /// The transfer that ends its delivery came on this link, and the whole delivery is taken at
@@ -498,6 +591,7 @@ impl Deliveries {
     }
 
     /// The first byte of this deliver or get-ok was taken. The answer is its delivery tag.
+    #[tactic(auto, using(crate::proofs::Steps::changed_seen, crate::proofs::Steps::recounts_seen))]
     pub fn commit_deliver(&mut self, next: NextDeliver) -> u64
         requires tags { self.old.tags < 2 ^ 62 }
         requires next { next_deliver_of self.old.global self.old.list ≡ Some next }
@@ -506,18 +600,38 @@ impl Deliveries {
     {
         let tag = self.tags + 1;
         self.tags = tag;
-        self.change(Change::Delivered {
-            number: next.number,
-            tag,
-        });
+        let number = next.number;
+        let place = place_by_number(self.items.as_slice(), number);
+        let here = is_number_at(self.items.as_slice(), place, number);
+        let visit = visit_at(here, place, self.items.len());
+        self.counts = change_between(
+            &mut self.links,
+            &mut self.items,
+            self.counts,
+            visit.from,
+            visit.to,
+            Change::Delivered { number, tag },
+        );
+        self.begun = place;
         tag
     }
 
     /// The last byte of the content with this tag was taken.
+    #[tactic(auto, using(crate::proofs::Steps::changed_seen, crate::proofs::Steps::recounts_seen))]
     pub fn written(&mut self, tag: u64)
         ensures { self.new ≡ after_event (Written tag) self.old }
     {
-        self.change(Change::Written { tag });
+        let place = self.begun;
+        let here = is_one_written(self.counts.writing, self.items.as_slice(), place);
+        let visit = visit_at(here, place, self.items.len());
+        self.counts = change_between(
+            &mut self.links,
+            &mut self.items,
+            self.counts,
+            visit.from,
+            visit.to,
+            Change::Written { tag },
+        );
     }
 
     /// How many delivery tags were given.
@@ -542,11 +656,23 @@ impl Deliveries {
     pub fn answered(&mut self, tag: u64, multiple: bool, settle: Settle)
         ensures { self.new ≡ after_event (Answered tag multiple settle) self.old }
     {
-        self.change(Change::Answered {
+        let place = place_by_tag(self.items.as_slice(), self.answered, tag);
+        let here = is_one_tagged(multiple, tag, self.items.as_slice(), place);
+        let visit = visit_at(here, place, self.items.len());
+        let change = Change::Answered {
             tag,
             multiple,
             settle,
-        });
+        };
+        self.counts = change_between(
+            &mut self.links,
+            &mut self.items,
+            self.counts,
+            visit.from,
+            visit.to,
+            change,
+        );
+        self.answered = place;
     }
 
     /// The client had all outstanding deliveries go back (AMQP 0-9-1 1.8.3.16).
@@ -560,7 +686,7 @@ impl Deliveries {
     pub fn cancel(&mut self, link: u32)
         ensures { self.new ≡ after_event (Cancelled link) self.old }
     {
-        change_links(&mut self.links, link, LinkChange::Cancelled);
+        self.change_link(link, LinkChange::Cancelled);
         self.change(Change::Cancelled { link });
     }
 
@@ -610,6 +736,9 @@ impl Deliveries {
     pub fn next_settle(&self) -> Option<NextSettle>
         ensures { result ≡ next_settle_of self.now.list }
     {
+        if self.counts.owed == 0 {
+            return None;
+        }
         let items = self.items.as_slice();
         match first_owing(items) {
             Some(d) => match d.place {
@@ -620,6 +749,24 @@ impl Deliveries {
         }
     }
 
+    /// This disposition was sent.
+    #[tactic(auto, using(crate::proofs::Steps::changed_seen, crate::proofs::Steps::recounts_seen))]
+    fn settle(&mut self, settle: NextSettle)
+        ensures { self.new ≡ after_event (SettleSent settle) self.old }
+    {
+        let place = place_owing(self.items.as_slice(), self.answered, self.begun);
+        let here = is_one_owed(self.counts.owed, self.items.as_slice(), place);
+        let visit = visit_at(here, place, self.items.len());
+        self.counts = change_between(
+            &mut self.links,
+            &mut self.items,
+            self.counts,
+            visit.from,
+            visit.to,
+            Change::SettleSent { settle },
+        );
+    }
+
     /// The disposition that is due was sent.
     pub fn settled(&mut self)
         requires { IsSome (next_settle_of self.old.list) }
@@ -627,7 +774,7 @@ impl Deliveries {
             ≡ after_event (SettleSent settle) self.old) }
     {
         if let Some(settle) = self.next_settle() {
-            self.change(Change::SettleSent { settle });
+            self.settle(settle);
         }
     }
 
@@ -651,7 +798,7 @@ impl Deliveries {
                 credit: grant.credit,
                 cause: grant.cause,
             };
-            change_links(&mut self.links, grant.link, change);
+            self.change_link(grant.link, change);
         }
     }
 
@@ -670,7 +817,7 @@ impl Deliveries {
         requires { is_drained link self.old.links ≡ true }
         ensures { self.new ≡ after_event (Emptied link) self.old }
     {
-        change_links(&mut self.links, link, LinkChange::Emptied);
+        self.change_link(link, LinkChange::Emptied);
     }
 
     // ---- lines of the report
@@ -693,6 +840,9 @@ impl Deliveries {
     pub fn lines_told(&mut self)
         ensures { self.new ≡ after_event LinesTold self.old }
     {
+        if self.counts.lines == 0 {
+            return;
+        }
         self.change(Change::Reported);
     }
 }

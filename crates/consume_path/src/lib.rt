@@ -7,10 +7,13 @@ mod deliveries;
 mod delivery;
 mod laws;
 mod link_changes;
+mod places;
 mod receiving;
 mod searches;
+mod tallies;
 #[cfg(test)]
 mod tests;
+mod visits;
 
 pub use deliveries::Deliveries;
 pub use delivery::{

@@ -6,15 +6,17 @@ ghost use Rattle.consume_path.specs.Links.{has_number, link_of, or_free, first_s
 ghost use Rattle.consume_path.specs.Links.{new_link, without, is_between, joined, was_asked};
 ghost use Rattle.consume_path.specs.Links.{found_empty, is_asked, is_empty, taker_of};
 ghost use Rattle.consume_path.specs.Links.{link_attached, leaves_empty, link_flowed, link_echoed};
-ghost use Rattle.consume_path.specs.Links.{new_get, link_waits, transfer_came, change_first};
-ghost use Rattle.consume_path.specs.Links.{taken_from, link_cancelled, link_closed, flow_sent};
+ghost use Rattle.consume_path.specs.Links.{new_get, link_waits, change_first};
+ghost use Rattle.consume_path.specs.Links.{link_cancelled, link_closed, flow_sent};
 ghost use Rattle.consume_path.specs.Links.{get_emptied, link_changed, counts, counts_on};
 ghost use Rattle.consume_path.specs.Links.{counted_on, recount, getter_of, taker_by, one_more};
 ghost use Rattle.consume_path.specs.Links.{served, begun, id_in, settled_in};
+ghost use Rattle.consume_path.specs.Kept.{taken_counted, came_counted};
 
 use crate::changes::{is_on_link, is_place_held, is_place_out, taker_limit};
 use crate::delivery::{Delivery, Taker};
 use crate::receiving::{Cause, Part, Partial, ReceivingLink, RecvKind, WaitingGet};
+use crate::tallies::exchange;
 use links_10::RecvLink;
 use std::alloc::Global;
 use wire_base::{ByteText, Memory};
@@ -33,8 +35,6 @@ pub enum LinkChange {
     Echoed,
     /// A get waits.
     Waits { number: u64, no_ack: bool },
-    /// Its whole delivery was taken.
-    Taken { image: bool },
     /// Its consumer was cancelled.
     Cancelled,
     /// A flow of it was sent.
@@ -209,15 +209,26 @@ fn wait_one(l: &mut ReceivingLink, link: u32, number: u64, no_ack: bool)
 }
 
 fn take_one(l: &mut ReceivingLink, link: u32, image: bool)
-    ensures { l.new ≡ taken_from link image l.old }
+    ensures { l.new ≡ taken_counted link image l.old }
 {
     if has_link_number(l, link) {
+        let counted = l.state.counted().saturating_sub(l.partial.is_some() as u64);
+        l.state.recounted(counted);
         l.partial = None;
         l.get = if image {
             served_get(l.get)
         } else {
             empty_get(l.get)
         };
+    }
+}
+
+/// The whole delivery of the link with this number was taken, and isn't counted as begun.
+pub fn take_on(links: &mut Vec<ReceivingLink>, link: u32, image: bool)
+    ensures { links.new.items ≡ map (taken_counted link image) links.old.items }
+{
+    for l in links.iter_mut() {
+        take_one(l, link, image);
     }
 }
 
@@ -262,7 +273,6 @@ fn change_link(l: &mut ReceivingLink, link: u32, change: LinkChange)
         LinkChange::Flowed { count } => flow_one(l, link, count),
         LinkChange::Echoed => echo_one(l, link),
         LinkChange::Waits { number, no_ack } => wait_one(l, link, number, no_ack),
-        LinkChange::Taken { image } => take_one(l, link, image),
         LinkChange::Cancelled => cancel_one(l, link),
         LinkChange::FlowSent { credit, cause } => flow_sent_one(l, link, credit, cause),
         LinkChange::Emptied => empty_one(l, link),
@@ -328,23 +338,25 @@ fn transfer_one(
     part: Part,
     payload: &[u8],
 ) -> Result<(), Memory>
-    ensures ok { OnOk result (l.new ≡ transfer_came part payload.now l.old) }
+    ensures ok { OnOk result (l.new ≡ came_counted part payload.now l.old) }
     ensures err { OnErr result (l.new ≡ l.old) }
 {
-    let between = l.partial.is_none();
+    let begun = l.partial.is_some();
     if part.aborted {
         l.partial = None;
         l.get = empty_get(l.get);
     } else {
         join(alloc, &mut l.partial, part, payload)?;
     }
-    if between {
+    if !begun {
         l.state.arrived();
     }
+    let counted = exchange(begun, l.partial.is_some(), l.state.counted());
+    l.state.recounted(counted);
     Ok(())
 }
 
-/// A transfer came on the link with this number.
+/// A transfer came on the link with this number, which counts anew what is begun there.
 pub fn transfer_on(
     links: &mut Vec<ReceivingLink>,
     link: u32,
@@ -352,7 +364,7 @@ pub fn transfer_on(
     payload: &[u8],
 ) -> Result<(), Memory>
     ensures ok { OnOk result (links.new.items ≡ change_first (has_number link)
-        (transfer_came part payload.now) links.old.items) }
+        (came_counted part payload.now) links.old.items) }
     ensures err { OnErr result (links.new.items ≡ links.old.items) }
 {
     let alloc = *links.allocator();
@@ -404,7 +416,8 @@ pub fn begin_on(links: &mut Vec<ReceivingLink>, link: u32)
     }
 }
 
-fn is_delivery_counted(d: &Delivery) -> bool
+/// It counts in the quota of its link.
+pub fn is_delivery_counted(d: &Delivery) -> bool
     ensures { result ≡ counts d.now }
 {
     is_place_held(d.place) || is_place_out(d.place) && taker_limit(d.taker).is_some()
@@ -422,21 +435,13 @@ fn count_on(items: &[Delivery], link: u32) -> usize
     items.iter().filter(|d| is_counted_on(d, link)).count()
 }
 
-fn recount_one(items: &[Delivery], l: &mut ReceivingLink)
+/// Counts what counts on the link.
+pub fn recount_one(items: &[Delivery], l: &mut ReceivingLink)
     ensures { l.new ≡ recount items.now l.old }
 {
     let begun = if l.partial.is_some() { 1 } else { 0 };
     let counted = count_on(items, l.link) as u64 + begun;
     l.state.recounted(counted);
-}
-
-/// Counts anew what counts on each link.
-pub fn recount_links(links: &mut Vec<ReceivingLink>, items: &[Delivery])
-    ensures { links.new.items ≡ map (recount items.now) links.old.items }
-{
-    for l in links.iter_mut() {
-        recount_one(items, l);
-    }
 }
 
 /// Leaves out the link with this number.

@@ -15,6 +15,7 @@ ghost use Rattle.consume_path.specs.Offers.{is_within, deliver_of, getting, cons
 ghost use Rattle.consume_path.specs.Offers.{consumer_offer, rank_of, has_content, owes_of, owes_id};
 ghost use Rattle.consume_path.specs.Offers.{next_deliver_of, run_to, run_from, settle_in};
 ghost use Rattle.consume_path.specs.Offers.{is_uncovered, is_for_gets, echo_credit, grant_as};
+ghost use Rattle.consume_path.specs.Offers.{holds, is_free_for_get, is_getting, is_held_on};
 ghost use Rattle.consume_path.specs.Offers.{flow_if, flow_of, grant_link, is_partial, is_probe};
 
 use crate::changes::{
@@ -423,6 +424,36 @@ pub fn any_uncovered(items: &[Delivery], link: u32) -> bool
     items.iter().any(|d| is_uncovered_on(d, link))
 }
 
+fn is_held_on(d: &Delivery, link: u32) -> bool
+    ensures { result ≡ is_held_on link d.now }
+{
+    is_on_link(d.link, link) && is_place_held(d.place)
+}
+
+/// A delivery of this link is held.
+pub fn any_held(items: &[Delivery], link: u32) -> bool
+    ensures { result ≡ holds link items.now }
+{
+    items.iter().any(|d| is_held_on(d, link))
+}
+
+/// A link for gets on which none waits.
+pub fn is_free_for_get(l: &ReceivingLink) -> bool
+    ensures { result ≡ is_free_for_get l.now }
+{
+    is_kind_for_gets(&l.kind) && l.get.is_none()
+}
+
+/// A get waits there that wasn't found empty.
+pub fn is_getting(l: &ReceivingLink) -> bool
+    ensures { result ≡ is_getting l.now }
+{
+    match l.get {
+        Some(get) => !get.empty,
+        None => false,
+    }
+}
+
 /// The tag of a consumer.
 pub fn tag_by(kind: &RecvKind) -> &[u8]
     ensures { result.now ≡ tag_by kind.now }
@@ -469,7 +500,8 @@ pub fn is_probe(kind: &RecvKind) -> bool
     matches!(kind, RecvKind::Probe)
 }
 
-fn is_kind_for_gets(kind: &RecvKind) -> bool
+/// A link of gets.
+pub fn is_kind_for_gets(kind: &RecvKind) -> bool
     ensures { result ≡ is_for_gets kind.now }
 {
     matches!(kind, RecvKind::Get)

@@ -2,13 +2,14 @@ use Rattle.std.proofs.Common.{◌≡◌, ◌∙◌, ◌<◌, List, sym, ap, subs
 use Rattle.std.proofs.lemmas.List.{get_or_read}
 use Rattle.std.proofs.lemmas.Result.{on_ok_weaker}
 use Rattle.consume_path.specs.declared.receiving.ReceivingLink.{ReceivingLink}
-use Rattle.consume_path.specs.Links.{has_number, transfer_came, change_first}
+use Rattle.consume_path.specs.Links.{has_number, change_first}
+use Rattle.consume_path.specs.Kept.{came_counted}
 use Rattle.consume_path.proofs.Steps.{first_here}
 use Rattle.consume_path.proofs.link_changes.transfer_on.Goals as goal
 
 pub returns-then-has_link_number-clause-ok : goal.returns-then-has_link_number-clause-ok
 returns-then-has_link_number-clause-ok c =
-    let f = transfer_came c.args.part c.args.payload.now in
+    let f = came_counted c.args.part c.args.payload.now in
     let here = has_number c.args.link in
     let links = c.args.links.now.items in
     let k = c.loop-k.k in

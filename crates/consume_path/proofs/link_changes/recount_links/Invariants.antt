@@ -1,6 +1,0 @@
-use Rattle.std.proofs.Common.{◌≡◌, ◌++◌, map, take, drop}
-use Rattle.consume_path.specs.Links.{recount}
-use Rattle.consume_path.proofs.link_changes.recount_links.Given as goal
-
-abbrev pub invariant-loop-l : goal.invariant-loop-l
-invariant-loop-l l = l.l-items ≡ map (recount l.fn.items) (take l.l-index l.fn.links.items) ++ drop l.l-index l.fn.links.items
