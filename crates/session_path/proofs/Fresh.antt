@@ -1,5 +1,6 @@
 -- A link that is wanted is owed no flow: none came on it.
-use Rattle.std.proofs.Common.{◌≡◌, ℕ, ◌+◌, ◌-◌, List, [], ◌∷◌, Bool, true, false, Option, Some, None}
+use Rattle.std.proofs.Common.{◌≡◌, ℕ, ◌+◌, ◌-◌, List, [], ◌∷◌, Bool, true, false, Option, Some}
+use Rattle.std.proofs.Common.{None}
 use Rattle.std.proofs.Common.{refl, sym, subst, arith, cond}
 use Rattle.std.specs.Prelude.{◌==◌, ◌&&◌, find, is_some}
 use Rattle.std.specs.List.{AllByRecursion}
@@ -22,17 +23,18 @@ use Rattle.session_path.specs.Links.{is_stage_wanted, is_stage_whole, is_wanted,
 use Rattle.session_path.specs.Links.{link_asked, link_detached, link_failed, link_flowed, linked_to}
 use Rattle.session_path.specs.Links.{named, parted, put, put_for, told_by, told_on, told_once}
 use Rattle.session_path.specs.Links.{wanted_link, with_link_to, with_receiver}
-use Rattle.session_path.specs.Path.{PathState, flow_of, given_of, is_grant_next, owes_flow}
-use Rattle.session_path.specs.Path.{parting_of, receiver_in, taking}
+use Rattle.session_path.specs.Path.{PathState, detaching_of, flow_of, get_link, is_grant_next}
+use Rattle.session_path.specs.Path.{owes_flow, queue_or, receiver_in, taking}
 use Rattle.session_path.specs.Events.{PathEvent, Began, Published, Selected, Owed, Consumed}
-use Rattle.session_path.specs.Events.{AnswerCame, CancelCame, Declared, AttachCame, FlowCame, DetachCame}
-use Rattle.session_path.specs.Events.{TransferCame}
+use Rattle.session_path.specs.Events.{AnswerCame, CancelCame, Declared, GetAsked, AttachCame}
+use Rattle.session_path.specs.Events.{FlowCame, DetachCame, TransferCame}
 use Rattle.session_path.specs.Events.{LinkFailed, DispositionCame, AttachSent, LinkFlowSent}
 use Rattle.session_path.specs.Events.{TransferSent, SettleSent, DisposeSent, DetachSent}
 use Rattle.session_path.specs.Events.{ConfirmWent, ReturnWent, DeliverSent, ContentSent}
 use Rattle.session_path.specs.Events.{ContentWhole, OkSent, LinesWent, LifeClosed, SessionLost}
 use Rattle.session_path.specs.Events.{UpLost, after_event, after_events}
 use Rattle.session_path.proofs.SameLinks.{attach_same, disposed_same, dropped_same, flow_sent_same}
+use Rattle.session_path.proofs.SameLinks.{got_links, got_same}
 use Rattle.session_path.proofs.SameLinks.{flowed_if, flowed_same, transfer_same}
 use Rattle.session_path.proofs.Ties.{dropped, found_passes, no_clash}
 use Rattle.session_path.proofs.Wanted.{all_insert}
@@ -141,13 +143,17 @@ fresh_given : (s : LinksState) (o : Option PathLink) → AreFresh s → AreFresh
 fresh_given s None a = a
 fresh_given s (Some l) a = fresh_put (given_by l) s.links (stale (given_by l) refl) a
 
-fresh_parted : (s : LinksState) (o given : Option PathLink) → AreFresh s → AreFresh (parted o given s)
-fresh_parted s None given a = fresh_given s given a
-fresh_parted s (Some l) given a = by (is_left l)
+fresh_parted : (s : LinksState) (o : Option PathLink) → AreFresh s → AreFresh (parted o s)
+fresh_parted s None a = a
+fresh_parted s (Some l) a = by (is_left l)
   where
     by : (b : Bool) → AreFresh (cond b (gone_on (Some l) s) (given_on (Some l) s))
     by true = all_filter _ IsFresh s.links a
     by false = fresh_given s (Some l) a
+
+fresh_got : (o : Option PathLink) (s : LinksState) → AreFresh s → AreFresh (got_links o s)
+fresh_got None s a = fresh_received s a
+fresh_got (Some l) s a = a
 
 fresh_flow_came : (peer : ℕ) (count : Option ℕ) (credit : ℕ) (drain echo : Bool) (s : PathState) → AreFresh s.links → AreFresh (after_event (FlowCame peer count credit drain echo) s).links
 fresh_flow_came peer count credit drain echo s a =
@@ -172,6 +178,7 @@ fresh_step (Owed ok) s a = a
 fresh_step (Consumed address tag no_ack no_wait) s a = fresh_received s.links a
 fresh_step (CancelCame tag no_wait) s a = a
 fresh_step (Declared queue no_wait) s a = fresh_received s.links a
+fresh_step (GetAsked queue no_ack) s a = subst AreFresh (sym (got_same (get_link (queue_or s.queue queue) s) (queue_or s.queue queue) no_ack s)) (fresh_got (get_link (queue_or s.queue queue) s) s.links a)
 fresh_step (AnswerCame tag multiple settle) s a = a
 fresh_step (AttachCame attach) s a = subst AreFresh (sym (attach_same (asked_by attach s.links) attach (record s { links = attached attach s.links }))) (fresh_attached attach s.links a)
 fresh_step (FlowCame peer count credit drain echo) s a = fresh_flow_came peer count credit drain echo s a
@@ -185,8 +192,8 @@ fresh_step (TransferSent frame count) s a = a
 fresh_step (SettleSent settling) s a = a
 fresh_step DisposeSent s a = subst AreFresh (sym (disposed_same (next_settle_of s.deliveries.list) s)) a
 fresh_step DetachSent s a =
-    subst AreFresh (sym (dropped_same (parting_of s) (record s { links = parted (parting_of s) (given_of s.publishes.list s.links) s.links })))
-    (fresh_parted s.links (parting_of s) (given_of s.publishes.list s.links) a)
+    subst AreFresh (sym (dropped_same (detaching_of s) (record s { links = parted (detaching_of s) s.links })))
+    (fresh_parted s.links (detaching_of s) a)
 fresh_step (ConfirmWent confirm) s a = a
 fresh_step (ReturnWent number) s a = a
 fresh_step (DeliverSent due) s a = a

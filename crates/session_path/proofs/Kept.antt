@@ -8,10 +8,12 @@ use Rattle.consume_path.specs.declared.receiving.NextGrant.{NextGrant}
 use Rattle.consume_path.specs.declared.receiving.Part.{Part}
 use Rattle.session_path.specs.Links.{told_on}
 use Rattle.session_path.specs.Path.{PathState, begun_if, begun_on, disposed_by, dropped, dropped_by}
-use Rattle.session_path.specs.Path.{flow_of, flowed_by, granted_by, names_by, oks_by, transferred_on}
-use Rattle.session_path.specs.Laws.{begun_names, begun_oks}
+use Rattle.session_path.specs.Path.{flow_of, flowed_by, got_on, granted_by, names_by, oks_by}
+use Rattle.session_path.specs.Path.{transferred_on}
+use Rattle.session_path.specs.Laws.{arrival_oks, begun_names, begun_oks, flow_oks}
 use Rattle.session_path.specs.declared.path.AttachHeard.{AttachHeard}
 use Rattle.session_path.specs.declared.path.PathLink.{PathLink}
+use Rattle.session_path.specs.declared.path.PathOk.{PathOk}
 
 -- the publishes, and what is owed to the container and to the client
 pub record IsKept (s t : PathState) : Type 0 where
@@ -24,16 +26,9 @@ pub record IsKept (s t : PathState) : Type 0 where
 same : (s : PathState) → IsKept s s
 same s = record { publishes = refl; settles = refl; oks = refl; names = refl; queue = refl }
 
-pub flowed : (o : Option PathLink) (peer : ℕ) (count : Option ℕ) (credit : ℕ) (drain echo : Bool) (s : PathState) → IsKept s (flowed_by o peer count credit drain echo s)
-flowed None peer count credit drain echo s = record { publishes = refl; settles = refl; oks = refl; names = refl; queue = refl }
-flowed (Some l) peer None credit drain false s = same s
-flowed (Some l) peer None credit drain true s = record { publishes = refl; settles = refl; oks = refl; names = refl; queue = refl }
-flowed (Some l) peer (Some n) credit drain false s = record { publishes = refl; settles = refl; oks = refl; names = refl; queue = refl }
-flowed (Some l) peer (Some n) credit drain true s = record { publishes = refl; settles = refl; oks = refl; names = refl; queue = refl }
-
-pub transferred : (o : Option PathLink) (part : Part) (payload : List ℕ) (image : Option Content) (again : Bool) (s : PathState) → IsKept s (transferred_on o part payload image again s)
-transferred None part payload image again s = same s
-transferred (Some l) part payload image again s = record { publishes = refl; settles = refl; oks = refl; names = refl; queue = refl }
+pub got_keeps : (o : Option PathLink) (address : List ℕ) (no_ack : Bool) (s : PathState) → IsKept s (got_on o address no_ack s)
+got_keeps None address no_ack s = record { publishes = refl; settles = refl; oks = refl; names = refl; queue = refl }
+got_keeps (Some l) address no_ack s = record { publishes = refl; settles = refl; oks = refl; names = refl; queue = refl }
 
 pub granted : (b : Bool) (o : Option NextGrant) (s : PathState) → IsKept s (cond b (granted_by o s) (record s { links = told_on (flow_of s.publishes.list s.links) s.links }))
 granted true None s = same s
@@ -52,6 +47,28 @@ parted_keeps (Some l) s = by l.receives
     by true = record { publishes = refl; settles = refl; oks = refl; names = refl; queue = refl }
     by false = same s
 
+nil : {A : Type 0} (xs : List A) → xs ≡ xs ++ []
+nil [] = refl
+nil (x ∷ xs) = ap (λ ys. x ∷ ys) (nil xs)
+
+-- a flow and a transfer make the answers to gets due
+pub record IsTold (new : List PathOk) (s t : PathState) : Type 0 where
+  pub publishes : t.publishes ≡ s.publishes
+  pub settles : t.settles ≡ s.settles
+  pub oks : t.oks ≡ s.oks ++ new
+  pub names : t.names ≡ s.names
+  pub queue : t.queue ≡ s.queue
+
+pub flowed : (o : Option PathLink) (peer : ℕ) (count : Option ℕ) (credit : ℕ) (drain echo : Bool) (s : PathState)
+    → IsTold (flow_oks o count echo s.deliveries) s (flowed_by o peer count credit drain echo s)
+flowed None peer count credit drain echo s = record { publishes = refl; settles = refl; oks = nil s.oks; names = refl; queue = refl }
+flowed (Some l) peer count credit drain echo s = record { publishes = refl; settles = refl; oks = refl; names = refl; queue = refl }
+
+pub transferred : (o : Option PathLink) (part : Part) (payload : List ℕ) (image : Option Content) (again : Bool) (s : PathState)
+    → IsTold (arrival_oks o part payload image again s.deliveries) s (transferred_on o part payload image again s)
+transferred None part payload image again s = record { publishes = refl; settles = refl; oks = nil s.oks; names = refl; queue = refl }
+transferred (Some l) part payload image again s = record { publishes = refl; settles = refl; oks = refl; names = refl; queue = refl }
+
 -- an attach makes an answer due at most
 pub record IsBegun (o : Option PathLink) (a : AttachHeard) (s t : PathState) : Type 0 where
   pub publishes : t.publishes ≡ s.publishes
@@ -59,10 +76,6 @@ pub record IsBegun (o : Option PathLink) (a : AttachHeard) (s t : PathState) : T
   pub oks : t.oks ≡ s.oks ++ begun_oks o a s.awaited
   pub names : t.names ≡ s.names ++ begun_names o a s.awaited s.queue
   pub queue : t.queue ≡ s.queue
-
-nil : {A : Type 0} (xs : List A) → xs ≡ xs ++ []
-nil [] = refl
-nil (x ∷ xs) = ap (λ ys. x ∷ ys) (nil xs)
 
 pub begun : (o : Option PathLink) (a : AttachHeard) (s : PathState) → IsBegun o a s (begun_if o a s)
 begun None a s = record { publishes = refl; settles = refl; oks = nil s.oks; names = nil s.names; queue = refl }

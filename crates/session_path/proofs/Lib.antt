@@ -12,3 +12,6 @@ pub mod Tied
 pub mod Fresh
 pub mod LinkFlows
 pub mod LinkAttaches
+pub mod Numbers
+pub mod Takes
+pub mod Calls

@@ -1,7 +1,7 @@
 -- The container attaches a link no more often than the gateway asked under its name.
 use Rattle.std.proofs.Common.{◌≡◌, ◌∙◌, ℕ, zero, suc, ◌+◌, ◌≤◌, List, [], ◌∷◌, Bool, true, false}
 use Rattle.std.proofs.Common.{Option, Some, None, refl, sym, subst, ap, arith, cond}
-use Rattle.std.specs.Prelude.{filter, find, is_some, not, ◌==◌, ◌&&◌, insert}
+use Rattle.std.specs.Prelude.{filter, find, is_some, not, ◌==◌, ◌&&◌, insert, IfSome}
 use Rattle.std.specs.List.{AllByRecursion}
 use Rattle.open_items.proofs.Filtered.{all_find}
 use Rattle.link_table.specs.Table.{free_of, named_by}
@@ -15,27 +15,30 @@ use Rattle.session_path.specs.declared.path.AttachHeard.{AttachHeard}
 use Rattle.session_path.specs.declared.path.PathLink.{PathLink}
 use Rattle.session_path.specs.Links.{LinksState, Rises, answered, asked_as, asked_by, asked_on}
 use Rattle.session_path.specs.Links.{at_handle, attached, attached_as, attach_fault, detached_on}
-use Rattle.session_path.specs.Links.{failed_by, failed_on, flowed_on, free_number, given_by, given_on}
+use Rattle.session_path.specs.Links.{failed_by, failed_on, flowed_on, free_number, given_by}
+use Rattle.session_path.specs.Links.{given_on}
 use Rattle.session_path.specs.Links.{gone_on, has_number, is_asked_as, is_at, is_given, is_left}
 use Rattle.session_path.specs.Links.{is_other_end, is_stage_asked, is_stage_whole}
 use Rattle.session_path.specs.Links.{is_wanted, left_by, link_asked, link_detached, link_failed}
 use Rattle.session_path.specs.Links.{link_flowed, linked_to, named, parted, put, told_by, told_on}
 use Rattle.session_path.specs.Links.{told_once, wanted_link, with_link_to, with_receiver}
-use Rattle.session_path.specs.Path.{PathState, flow_of, given_of, is_grant_next, owes_flow}
-use Rattle.session_path.specs.Path.{parting_of, parts, receiver_in, taking}
+use Rattle.session_path.specs.Path.{IsThere, PathState, detaching_of, flow_of, get_link}
+use Rattle.session_path.specs.Path.{is_grant_next, owes_flow, queue_or, receiver_in, taking}
 use Rattle.session_path.specs.Events.{PathEvent, Began, Published, Selected, Owed, Consumed}
-use Rattle.session_path.specs.Events.{AnswerCame, CancelCame, Declared, AttachCame, FlowCame, DetachCame}
-use Rattle.session_path.specs.Events.{TransferCame}
+use Rattle.session_path.specs.Events.{AnswerCame, CancelCame, Declared, GetAsked, AttachCame}
+use Rattle.session_path.specs.Events.{FlowCame, DetachCame, TransferCame}
 use Rattle.session_path.specs.Events.{LinkFailed, DispositionCame, AttachSent, LinkFlowSent}
 use Rattle.session_path.specs.Events.{TransferSent, SettleSent, DisposeSent, DetachSent}
 use Rattle.session_path.specs.Events.{ConfirmWent, ReturnWent, DeliverSent, ContentSent}
 use Rattle.session_path.specs.Events.{ContentWhole, OkSent, LinesWent, LifeClosed, SessionLost}
 use Rattle.session_path.specs.Events.{UpLost, after_event, after_events}
 use Rattle.session_path.specs.Attaches.{asks_as, attaches_as, times_asked, times_attached}
-use Rattle.session_path.proofs.Idle.{given_found}
+use Rattle.session_path.proofs.Idle.{detaching_there}
 use Rattle.session_path.proofs.SameLinks.{attach_same, disposed_same, dropped_same, flow_sent_same}
-use Rattle.session_path.proofs.SameLinks.{flowed_if, flowed_same, transfer_same}
-use Rattle.session_path.proofs.Ties.{and_left, dropped, eq_of, eq_to, found_passes, ne_to, rises_above}
+use Rattle.session_path.proofs.SameLinks.{flowed_if, flowed_same, got_links, got_same}
+use Rattle.session_path.proofs.SameLinks.{transfer_same}
+use Rattle.session_path.proofs.Ties.{and_left, dropped, eq_of, eq_to, found_passes, ne_to}
+use Rattle.session_path.proofs.Ties.{rises_above}
 use Rattle.session_path.proofs.Tied.{Tied, tied_after}
 
 abbrev one : Bool → ℕ
@@ -156,20 +159,17 @@ waiting_told name list s t = by (flow_of list s) refl
     by None e = omega arith
     by (Some l) e = let a = waiting_put name 0 (owes_flow list s.sending) s.links l (told_once l) t.rising e refl in omega arith
 
-waiting_given : (name : ℕ) (list : List Publish) (s : LinksState) (o : Option PathLink) → Tied s → given_of list s ≡ o → waiting name (given_on o s).links ≤ waiting name s.links
-waiting_given name list s None t e = omega arith
-waiting_given name list s (Some l) t e = let a = waiting_put name 0 (has_number l.link) s.links l (given_by l) t.rising (given_found list s l t.rising e).0 refl in omega arith
-
-waiting_parted : (d : DeliveryState) (name : ℕ) (list : List Publish) (s : LinksState) → Tied s → waiting name (parted (find (parts d) s.links) (given_of list s) s).links ≤ waiting name s.links
-waiting_parted d name list s t = by (find (parts d) s.links) refl
+waiting_parted : (name : ℕ) (s : LinksState) (o : Option PathLink) → Tied s → IfSome o (IsThere s) → waiting name (parted o s).links ≤ waiting name s.links
+waiting_parted name s None t there = omega arith
+waiting_parted name s (Some l) t there = by (is_left l)
   where
-    either : (l : PathLink) → find (parts d) s.links ≡ Some l → (b : Bool) → waiting name (cond b (gone_on (Some l) s) (given_on (Some l) s)).links ≤ waiting name s.links
-    either l e true = waiting_filter name _ s.links
-    either l e false = let a = waiting_put name 0 (parts d) s.links l (given_by l) t.rising e refl in omega arith
+    by : (b : Bool) → waiting name (cond b (gone_on (Some l) s) (given_on (Some l) s)).links ≤ waiting name s.links
+    by true = waiting_filter name _ s.links
+    by false = let a = waiting_put name 0 (has_number l.link) s.links l (given_by l) t.rising there.0 refl in omega arith
 
-    by : (o : Option PathLink) → find (parts d) s.links ≡ o → waiting name (parted o (given_of list s) s).links ≤ waiting name s.links
-    by None e = waiting_given name list s (given_of list s) t refl
-    by (Some l) e = either l e (is_left l)
+waiting_got : (name : ℕ) (o : Option PathLink) (s : LinksState) → waiting name (got_links o s).links ≤ waiting name s.links
+waiting_got name None s = waiting_received name s
+waiting_got name (Some l) s = omega arith
 
 -- one more at most, under its own name
 waiting_asked : (name own : ℕ) (s : LinksState) → Tied s → waiting name (link_asked own s).links ≤ waiting name s.links + one (own == name)
@@ -257,8 +257,14 @@ waiting_attach_came name a s t =
 waiting_detach_sent : (name : ℕ) (s : PathState) → Tied s.links → waiting name (after_event DetachSent s).links.links ≤ waiting name s.links.links
 waiting_detach_sent name s t =
     subst (λ (z : LinksState). waiting name z.links ≤ waiting name s.links.links)
-    (sym (dropped_same (parting_of s) (record s { links = parted (parting_of s) (given_of s.publishes.list s.links) s.links })))
-    (waiting_parted s.deliveries name s.publishes.list s.links t)
+    (sym (dropped_same (detaching_of s) (record s { links = parted (detaching_of s) s.links })))
+    (waiting_parted name s.links (detaching_of s) t (detaching_there s.publishes.list s.deliveries s.oks s.links t.rising))
+
+waiting_get_asked : (name : ℕ) (queue : List ℕ) (no_ack : Bool) (s : PathState) → waiting name (after_event (GetAsked queue no_ack) s).links.links ≤ waiting name s.links.links
+waiting_get_asked name queue no_ack s =
+    subst (λ (z : LinksState). waiting name z.links ≤ waiting name s.links.links)
+    (sym (got_same (get_link (queue_or s.queue queue) s) (queue_or s.queue queue) no_ack s))
+    (waiting_got name (get_link (queue_or s.queue queue) s) s.links)
 
 step : (name times asked : ℕ) (x : PathEvent) (s : PathState) → Tied s.links → times + waiting name s.links.links ≤ asked
     → (times + attaches_as name s x) + waiting name (after_event x s).links.links ≤ asked + asks_as name x
@@ -269,6 +275,7 @@ step name times asked (Owed ok) s t e = stays times asked (waiting name s.links.
 step name times asked (Consumed address tag no_ack no_wait) s t e = stays times asked (waiting name s.links.links) _ e (waiting_received name s.links)
 step name times asked (CancelCame tag no_wait) s t e = stays times asked (waiting name s.links.links) _ e (same (waiting name s.links.links))
 step name times asked (Declared queue no_wait) s t e = stays times asked (waiting name s.links.links) _ e (waiting_received name s.links)
+step name times asked (GetAsked queue no_ack) s t e = stays times asked (waiting name s.links.links) _ e (waiting_get_asked name queue no_ack s)
 step name times asked (AnswerCame tag multiple settle) s t e = stays times asked (waiting name s.links.links) _ e (same (waiting name s.links.links))
 step name times asked (AttachCame attach) s t e = comes times asked (waiting name s.links.links) _ _ e (waiting_attach_came name attach s t)
 step name times asked (FlowCame peer count credit drain echo) s t e = stays times asked (waiting name s.links.links) _ e (waiting_flow_came name peer count credit drain echo s t)

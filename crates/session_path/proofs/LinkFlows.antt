@@ -2,6 +2,7 @@
 use Rattle.std.proofs.Common.{◌≡◌, ◌∙◌, ℕ, zero, suc, ◌+◌, ◌-◌, ◌≤◌, List, [], ◌∷◌, Bool, true}
 use Rattle.std.proofs.Common.{false, Option, Some, None, refl, sym, subst, ap, arith, cond}
 use Rattle.std.specs.Prelude.{filter, find, is_some, not, ◌==◌, ◌&&◌, ◌||◌, insert, nat_lt}
+use Rattle.std.specs.Prelude.{IfSome}
 use Rattle.std.specs.List.{AllByRecursion}
 use Rattle.open_items.proofs.Filtered.{all_filter, all_weaker}
 use Rattle.link_table.specs.Table.{free_of, named_by}
@@ -15,18 +16,21 @@ use Rattle.session_path.specs.declared.path.AttachHeard.{AttachHeard}
 use Rattle.session_path.specs.declared.path.PathLink.{PathLink}
 use Rattle.session_path.specs.Links.{LinksState, Rises, answered, asked_as, asked_by, asked_on}
 use Rattle.session_path.specs.Links.{at_handle, attach_fault, attached, attached_as, detached_on}
-use Rattle.session_path.specs.Links.{failed_by, failed_on, flowed_on, free_number, given_by, given_on}
+use Rattle.session_path.specs.Links.{failed_by, failed_on, flowed_on, free_number, given_by}
+use Rattle.session_path.specs.Links.{given_on}
 use Rattle.session_path.specs.Links.{gone_on, has_number, is_asked_as, is_at, is_given, is_left}
 use Rattle.session_path.specs.Links.{is_parting, is_stage_whole, is_wanted}
 use Rattle.session_path.specs.Links.{is_wanted_receiver, left_by, link_asked, link_detached}
-use Rattle.session_path.specs.Links.{link_failed, link_flowed, linked_to, named, one_if, parted, put}
+use Rattle.session_path.specs.Links.{link_failed, link_flowed, linked_to, named, one_if, parted}
+use Rattle.session_path.specs.Links.{put}
 use Rattle.session_path.specs.Links.{told_by, told_on, told_once, wanted_link, with_link_to}
 use Rattle.session_path.specs.Links.{with_receiver}
-use Rattle.session_path.specs.Path.{PathState, flow_of, given_of, is_grant_next, may_drain}
-use Rattle.session_path.specs.Path.{owes_flow, parting_of, parts, receiver_in, sender_in, taking}
+use Rattle.session_path.specs.Path.{IsThere, PathState, detaching_of, flow_of, get_link}
+use Rattle.session_path.specs.Path.{is_grant_next, may_drain, owes_flow, queue_or, receiver_in}
+use Rattle.session_path.specs.Path.{sender_in, taking}
 use Rattle.session_path.specs.Events.{PathEvent, Began, Published, Selected, Owed, Consumed}
-use Rattle.session_path.specs.Events.{AnswerCame, CancelCame, Declared, AttachCame, FlowCame, DetachCame}
-use Rattle.session_path.specs.Events.{TransferCame}
+use Rattle.session_path.specs.Events.{AnswerCame, CancelCame, Declared, GetAsked, AttachCame}
+use Rattle.session_path.specs.Events.{FlowCame, DetachCame, TransferCame}
 use Rattle.session_path.specs.Events.{LinkFailed, DispositionCame, AttachSent, LinkFlowSent}
 use Rattle.session_path.specs.Events.{TransferSent, SettleSent, DisposeSent, DetachSent}
 use Rattle.session_path.specs.Events.{ConfirmWent, ReturnWent, DeliverSent, ContentSent}
@@ -36,9 +40,10 @@ use Rattle.session_path.specs.Flows.{causes_by, causes_on, flows_by, flows_on, g
 use Rattle.session_path.specs.Flows.{given_named, is_link, left_in, owed_in}
 use Rattle.session_path.specs.Flows.{owed_on}
 use Rattle.session_path.proofs.Fresh.{AreFresh, IsFresh, fresh_after}
-use Rattle.session_path.proofs.Idle.{given_found}
+use Rattle.session_path.proofs.Idle.{detaching_there}
 use Rattle.session_path.proofs.SameLinks.{attach_same, disposed_same, dropped_same, flow_sent_same}
-use Rattle.session_path.proofs.SameLinks.{flowed_if, flowed_same, transfer_same}
+use Rattle.session_path.proofs.SameLinks.{flowed_if, flowed_same, got_links, got_same}
+use Rattle.session_path.proofs.SameLinks.{transfer_same}
 use Rattle.session_path.proofs.Ties.{and_left, dropped, eq_of, eq_to, found_number, found_passes}
 use Rattle.session_path.proofs.Ties.{gone_is, ne_to, no_clash, rises_above}
 use Rattle.session_path.proofs.Wanted.{absent}
@@ -244,22 +249,14 @@ asked_step n name s t = by (find is_wanted s.links) refl (free_of s.handles)
     by (Some l) e None = refl
     by (Some l) e (Some h) = owed_same n is_wanted s.links l (asked_as h name l) t.rising e refl refl
 
-given_step : (n : ℕ) (list : List Publish) (s : LinksState) (o : Option PathLink) → Tied s → given_of list s ≡ o → owed_on n (given_on o s).links ≡ owed_on n s.links
-given_step n list s None t e = refl
-given_step n list s (Some l) t e = owed_same n (has_number l.link) s.links l (given_by l) t.rising (given_found list s l t.rising e).0 refl refl
-
-parted_step : (d : DeliveryState) (n flows causes : ℕ) (list : List Publish) (s : LinksState) → Tied s → flows + owed_on n s.links ≡ causes
-    → (flows + 0) + owed_on n (parted (find (parts d) s.links) (given_of list s) s).links ≡ cond (is_link n (left_in (find (parts d) s.links))) flows causes
-parted_step d n flows causes list s t is = by (find (parts d) s.links) refl
+parted_step : (n flows causes : ℕ) (s : LinksState) (o : Option PathLink) → Tied s → IfSome o (IsThere s) → flows + owed_on n s.links ≡ causes
+    → (flows + 0) + owed_on n (parted o s).links ≡ cond (is_link n (left_in o)) flows causes
+parted_step n flows causes s None t there is = kept flows (owed_on n s.links) _ causes is refl
+parted_step n flows causes s (Some l) t there is = by (is_left l) refl
   where
-    either : (l : PathLink) → find (parts d) s.links ≡ Some l → (b : Bool) → is_left l ≡ b
-        → (flows + 0) + owed_on n (cond b (gone_on (Some l) s) (given_on (Some l) s)).links ≡ cond (is_link n (cond b (Some l) None)) flows causes
-    either l e true left = ap (λ ks. (flows + 0) + owed_on n ks) (gone_is (parts d) s.sending s.links s.handles l t e left) ∙ owed_none n l.link flows causes s.links is
-    either l e false left = kept flows (owed_on n s.links) _ causes is (owed_same n (parts d) s.links l (given_by l) t.rising e refl refl)
-
-    by : (o : Option PathLink) → find (parts d) s.links ≡ o → (flows + 0) + owed_on n (parted o (given_of list s) s).links ≡ cond (is_link n (left_in o)) flows causes
-    by None e = kept flows (owed_on n s.links) _ causes is (given_step n list s (given_of list s) t refl)
-    by (Some l) e = either l e (is_left l) refl
+    by : (b : Bool) → is_left l ≡ b → (flows + 0) + owed_on n (cond b (gone_on (Some l) s) (given_on (Some l) s)).links ≡ cond (is_link n (cond b (Some l) None)) flows causes
+    by true left = ap (λ ks. (flows + 0) + owed_on n ks) (gone_is (has_number l.link) s.sending s.links s.handles l t there.0 left) ∙ owed_none n l.link flows causes s.links is
+    by false left = kept flows (owed_on n s.links) _ causes is (owed_same n (has_number l.link) s.links l (given_by l) t.rising there.0 refl refl)
 
 failed_one : (n h : ℕ) (fault : TransferFault) (s : LinksState) (o : Option PathLink) → Tied s → find (is_at h) s.links ≡ o → owed_on n (failed_on o fault s).links ≡ owed_on n s.links
 failed_one n h fault s None t e = refl
@@ -341,8 +338,12 @@ detach_sent_step : (n flows causes : ℕ) (s : PathState) → Tied s.links → f
     → (flows + 0) + owed_on n (after_event DetachSent s).links.links ≡ causes_by n s flows causes DetachSent
 detach_sent_step n flows causes s t e =
     ap (λ (z : LinksState). (flows + 0) + owed_on n z.links)
-    (dropped_same (parting_of s) (record s { links = parted (parting_of s) (given_of s.publishes.list s.links) s.links }))
-    ∙ parted_step s.deliveries n flows causes s.publishes.list s.links t e
+    (dropped_same (detaching_of s) (record s { links = parted (detaching_of s) s.links }))
+    ∙ parted_step n flows causes s.links (detaching_of s) t (detaching_there s.publishes.list s.deliveries s.oks s.links t.rising) e
+
+owed_got : (n : ℕ) (o : Option PathLink) (s : LinksState) → Tied s → owed_on n (got_links o s).links ≡ owed_on n s.links
+owed_got n None s t = owed_received n s t
+owed_got n (Some l) s t = refl
 
 -- the links stay as they were
 as_before : (n : ℕ) (new old : LinksState) → new ≡ old → owed_on n new.links ≡ owed_on n old.links
@@ -357,6 +358,10 @@ step n flows causes (Owed ok) s t fresh e = kept flows (owed_on n s.links.links)
 step n flows causes (Consumed address tag no_ack no_wait) s t fresh e = kept flows (owed_on n s.links.links) _ causes e (owed_received n s.links t)
 step n flows causes (CancelCame tag no_wait) s t fresh e = kept flows (owed_on n s.links.links) _ causes e refl
 step n flows causes (Declared queue no_wait) s t fresh e = kept flows (owed_on n s.links.links) _ causes e (owed_received n s.links t)
+step n flows causes (GetAsked queue no_ack) s t fresh e =
+    kept flows (owed_on n s.links.links) _ causes e
+    (as_before n _ (got_links (get_link (queue_or s.queue queue) s) s.links) (got_same (get_link (queue_or s.queue queue) s) (queue_or s.queue queue) no_ack s)
+    ∙ owed_got n (get_link (queue_or s.queue queue) s) s.links t)
 step n flows causes (AnswerCame tag multiple settle) s t fresh e = kept flows (owed_on n s.links.links) _ causes e refl
 step n flows causes (AttachCame attach) s t fresh e =
     kept flows (owed_on n s.links.links) _ causes e (as_before n _ (attached attach s.links) (attach_same (asked_by attach s.links) attach (record s { links = attached attach s.links })) ∙ attached_step n attach s.links t)

@@ -6,9 +6,10 @@ use Rattle.consume_path.specs.declared.receiving.NextGrant.{NextGrant}
 use Rattle.consume_path.specs.declared.receiving.Part.{Part}
 use Rattle.session_path.specs.declared.path.AttachHeard.{AttachHeard}
 use Rattle.session_path.specs.declared.path.PathLink.{PathLink}
-use Rattle.session_path.specs.Links.{LinksState, link_flowed, told_on}
+use Rattle.session_path.specs.Links.{LinksState, link_flowed, told_on, with_receiver}
 use Rattle.session_path.specs.Path.{PathState, begun_if, disposed_by, dropped_by, flow_of}
-use Rattle.session_path.specs.Path.{flowed_by, granted_by, grant_in, is_grant_next, link_flow_sent}
+use Rattle.session_path.specs.Path.{flowed_by, got_on, granted_by, grant_in, is_grant_next}
+use Rattle.session_path.specs.Path.{link_flow_sent}
 use Rattle.session_path.specs.Path.{receiver_flowed, transferred_on}
 
 pub attach_same : (o : Option PathLink) (a : AttachHeard) (s : PathState) → (begun_if o a s).links ≡ s.links
@@ -22,10 +23,16 @@ attach_same (Some l) a s = by l.receives a.there
     by false false = refl
 
 receiver_same : (l : PathLink) (count : Option ℕ) (echo : Bool) (s : PathState) → (receiver_flowed l count echo s).links ≡ s.links
-receiver_same l None true s = refl
-receiver_same l None false s = refl
-receiver_same l (Some count) true s = refl
-receiver_same l (Some count) false s = refl
+receiver_same l count echo s = refl
+
+-- a get takes a link that is there, or one more
+abbrev pub got_links : Option PathLink → LinksState → LinksState
+got_links None s = with_receiver s
+got_links (Some l) s = s
+
+pub got_same : (o : Option PathLink) (address : List ℕ) (no_ack : Bool) (s : PathState) → (got_on o address no_ack s).links ≡ got_links o s.links
+got_same None address no_ack s = refl
+got_same (Some l) address no_ack s = refl
 
 -- a flow of the container on a sending link changes them, and none on a receiving link
 abbrev pub flowed_if : Option PathLink → ℕ → Option ℕ → ℕ → Bool → Bool → LinksState → LinksState

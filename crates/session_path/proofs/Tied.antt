@@ -1,39 +1,40 @@
 -- After any events of a path its links are tied.
-use Rattle.std.proofs.Common.{◌≡◌, ◌∙◌, ℕ, List, [], ◌∷◌, Bool, true, false, Option, Some, None}
-use Rattle.std.proofs.Common.{refl, sym, ap, cond, not, subst}
-use Rattle.std.specs.Prelude.{◌==◌, ◌&&◌, ◌||◌, find, is_some}
+use Rattle.std.proofs.Common.{◌≡◌, ℕ, List, [], ◌∷◌, Bool, true, false, Option, Some, None}
+use Rattle.std.proofs.Common.{refl, sym, cond, not, subst}
+use Rattle.std.specs.Prelude.{◌==◌, ◌&&◌, ◌||◌, find, is_some, IfSome}
 use Rattle.link_table.specs.Table.{free_of, named_by}
 use Rattle.publish_path.specs.Links.{link_to}
 use Rattle.publish_path.specs.declared.publish.Publish.{Publish}
-use Rattle.consume_path.specs.Deliveries.{DeliveryState}
-use Rattle.consume_path.specs.Offers.{is_over, next_settle_of}
+use Rattle.consume_path.specs.Offers.{next_settle_of}
 use Rattle.consume_path.specs.declared.receiving.TransferFault.{TransferFault}
 use Rattle.session_path.specs.declared.path.AttachHeard.{AttachHeard}
 use Rattle.session_path.specs.declared.path.PathLink.{PathLink}
 use Rattle.session_path.specs.Links.{LinksState, AreTied, all_lost, asked_by, asked_on, at_handle}
 use Rattle.session_path.specs.Links.{attach_fault, attached, attached_as, detached_on, failed_by}
 use Rattle.session_path.specs.Links.{failed_on, flowed_on, given_on, gone_on, has_number}
-use Rattle.session_path.specs.Links.{is_asked_as, is_at, is_failed, is_left, is_stage_failed}
+use Rattle.session_path.specs.Links.{is_asked_as, is_at, is_left, is_stage_failed}
 use Rattle.session_path.specs.Links.{is_stage_open, is_stage_whole, is_wanted}
 use Rattle.session_path.specs.Links.{is_wanted_receiver, link_asked, link_detached, link_failed}
 use Rattle.session_path.specs.Links.{link_flowed, linked_to, named, parted, put, told_on}
 use Rattle.session_path.specs.Links.{with_link_to, with_receiver, without_receivers}
-use Rattle.session_path.specs.Path.{PathState, flow_of, given_of, is_grant_next, owes_flow}
-use Rattle.session_path.specs.Path.{parting_of, parts, receiver_in, taking}
+use Rattle.session_path.specs.Path.{IsThere, PathState, detaching_of, flow_of, get_link}
+use Rattle.session_path.specs.Path.{is_grant_next, owes_flow, queue_or, receiver_in, taking}
 use Rattle.session_path.specs.Events.{PathEvent, Began, Published, Selected, Owed, Consumed}
-use Rattle.session_path.specs.Events.{AnswerCame, CancelCame, Declared, AttachCame, FlowCame, DetachCame}
-use Rattle.session_path.specs.Events.{TransferCame}
+use Rattle.session_path.specs.Events.{AnswerCame, CancelCame, Declared, GetAsked, AttachCame}
+use Rattle.session_path.specs.Events.{FlowCame, DetachCame, TransferCame}
 use Rattle.session_path.specs.Events.{LinkFailed, DispositionCame, AttachSent, LinkFlowSent}
 use Rattle.session_path.specs.Events.{TransferSent, SettleSent, DisposeSent, DetachSent}
 use Rattle.session_path.specs.Events.{ConfirmWent, ReturnWent, DeliverSent, ContentSent}
 use Rattle.session_path.specs.Events.{ContentWhole, OkSent, LinesWent, LifeClosed, SessionLost}
 use Rattle.session_path.specs.Events.{UpLost, after_event, after_events}
-use Rattle.session_path.proofs.Idle.{given_found}
+use Rattle.session_path.proofs.Idle.{detaching_there}
 use Rattle.session_path.proofs.SameLinks.{attach_same, disposed_same, dropped_same, flow_sent_same}
-use Rattle.session_path.proofs.SameLinks.{flowed_if, flowed_same, transfer_same}
+use Rattle.session_path.proofs.SameLinks.{flowed_if, flowed_same, got_links, got_same}
+use Rattle.session_path.proofs.SameLinks.{transfer_same}
 use Rattle.session_path.proofs.Ties.{answered_tied, asked_tied, detached_tied, failed_tied}
-use Rattle.session_path.proofs.Ties.{filtered_tied, flowed_tied, found_passes, framed_tied, given_tied, gone_tied}
-use Rattle.session_path.proofs.Ties.{or_left, or_right, told_once_tied}
+use Rattle.session_path.proofs.Ties.{filtered_tied, flowed_tied, framed_tied}
+use Rattle.session_path.proofs.Ties.{given_tied, gone_tied}
+use Rattle.session_path.proofs.Ties.{told_once_tied}
 use Rattle.session_path.proofs.Wanted.{inserted_tied, wanted_receives, wanted_tied}
 
 abbrev pub Tied : LinksState → Type 0
@@ -119,31 +120,17 @@ tied_given_up p s l t e up = given_tied p s.sending s.links s.handles l t e up
 pub tied_gone : (p : PathLink → Bool) (s : LinksState) (l : PathLink) → Tied s → find p s.links ≡ Some l → is_left l ≡ true → Tied (gone_on (Some l) s)
 tied_gone p s l t e left = gone_tied p s.sending s.links s.handles l t e left
 
-tied_given : (list : List Publish) (s : LinksState) (o : Option PathLink) → Tied s → given_of list s ≡ o → Tied (given_on o s)
-tied_given list s None t e = t
-tied_given list s (Some l) t e = let found = given_found list s l t.rising e in tied_given_up (has_number l.link) s l t found.0 (or_left _ _ found.1)
-
--- what is to part, and the container didn't detach, is open or failed
-parts_open : (left failed receives up over : Bool) → left ≡ false → ((left || failed) || ((receives && up) && over)) ≡ true → (up || failed) ≡ true
-parts_open true failed receives up over off e = absurd cc
-parts_open false true receives up over off e = or_right up true refl
-parts_open false false true true over off e = refl
-parts_open false false true false over off e = absurd cc
-parts_open false false false up over off e = absurd cc
-
-pub open_else : (d : DeliveryState) (l : PathLink) → parts d l ≡ true → is_left l ≡ false → (is_stage_open l.stage || is_stage_failed l.stage) ≡ true
-open_else d l e off = parts_open (is_left l) (is_failed l) l.receives (is_stage_open l.stage) (is_over l.link d) off e
-
-tied_parted : (d : DeliveryState) (list : List Publish) (s : LinksState) → Tied s → Tied (parted (find (parts d) s.links) (given_of list s) s)
-tied_parted d list s t = by (find (parts d) s.links) refl
+tied_parted : (s : LinksState) (o : Option PathLink) → Tied s → IfSome o (IsThere s) → Tied (parted o s)
+tied_parted s None t there = t
+tied_parted s (Some l) t there = by (is_left l) refl
   where
-    one : (l : PathLink) → find (parts d) s.links ≡ Some l → (b : Bool) → is_left l ≡ b → Tied (cond b (gone_on (Some l) s) (given_on (Some l) s))
-    one l e true is = tied_gone (parts d) s l t e is
-    one l e false is = tied_given_up (parts d) s l t e (open_else d l (found_passes (parts d) s.links l e) is)
+    by : (b : Bool) → is_left l ≡ b → Tied (cond b (gone_on (Some l) s) (given_on (Some l) s))
+    by true e = tied_gone (has_number l.link) s l t there.0 e
+    by false e = tied_given_up (has_number l.link) s l t there.0 (there.1 e)
 
-    by : (o : Option PathLink) → find (parts d) s.links ≡ o → Tied (parted o (given_of list s) s)
-    by None e = tied_given list s (given_of list s) t refl
-    by (Some l) e = one l e (is_left l) refl
+tied_got : (o : Option PathLink) (s : LinksState) → Tied s → Tied (got_links o s)
+tied_got None s t = tied_received s t
+tied_got (Some l) s t = t
 
 tied_flow_came : (peer : ℕ) (count : Option ℕ) (credit : ℕ) (drain echo : Bool) (s : PathState) → Tied s.links → Tied (after_event (FlowCame peer count credit drain echo) s).links
 tied_flow_came peer count credit drain echo s t =
@@ -171,6 +158,7 @@ tied_step (Owed ok) s t = t
 tied_step (Consumed address tag no_ack no_wait) s t = tied_received s.links t
 tied_step (CancelCame tag no_wait) s t = t
 tied_step (Declared queue no_wait) s t = tied_received s.links t
+tied_step (GetAsked queue no_ack) s t = subst Tied (sym (got_same (get_link (queue_or s.queue queue) s) (queue_or s.queue queue) no_ack s)) (tied_got (get_link (queue_or s.queue queue) s) s.links t)
 tied_step (AnswerCame tag multiple settle) s t = t
 tied_step (AttachCame attach) s t = subst Tied (sym (attach_same (asked_by attach s.links) attach (record s { links = attached attach s.links }))) (tied_attached attach s.links t)
 tied_step (FlowCame peer count credit drain echo) s t = tied_flow_came peer count credit drain echo s t
@@ -184,8 +172,8 @@ tied_step (TransferSent frame count) s t = framed_tied frame s.links.sending s.l
 tied_step (SettleSent settling) s t = t
 tied_step DisposeSent s t = subst Tied (sym (disposed_same (next_settle_of s.deliveries.list) s)) t
 tied_step DetachSent s t =
-    subst Tied (sym (dropped_same (parting_of s) (record s { links = parted (parting_of s) (given_of s.publishes.list s.links) s.links })))
-    (tied_parted s.deliveries s.publishes.list s.links t)
+    subst Tied (sym (dropped_same (detaching_of s) (record s { links = parted (detaching_of s) s.links })))
+    (tied_parted s.links (detaching_of s) t (detaching_there s.publishes.list s.deliveries s.oks s.links t.rising))
 tied_step (ConfirmWent confirm) s t = t
 tied_step (ReturnWent number) s t = t
 tied_step (DeliverSent due) s t = t

@@ -30,21 +30,22 @@ all_insert P [] (suc i) y a h = (h, tt)
 all_insert P (x ∷ xs) zero y a h = (h, a)
 all_insert P (x ∷ xs) (suc i) y a h = (a.0, all_insert P xs i y a.1 h)
 
-any_old : {X : Type 0} (p : X → Bool) (xs : List X) (i : ℕ) (y : X) → list_any p xs ≡ true → list_any p (insert xs i y) ≡ true
-any_old p [] zero y e = absurd (cc)
-any_old p [] (suc i) y e = absurd (cc)
-any_old p (x ∷ xs) zero y e = or_right (p y) _ e
-any_old p (x ∷ xs) (suc i) y e = by (any_old p xs i y) (or_true (p x) (list_any p xs) e)
+pub any_insert : {X : Type 0} (p : X → Bool) (xs : List X) (i : ℕ) (y : X) → list_any p (insert xs i y) ≡ (p y || list_any p xs)
+any_insert p [] zero y = refl
+any_insert p [] (suc i) y = refl
+any_insert p (x ∷ xs) zero y = refl
+any_insert p (x ∷ xs) (suc i) y = ap (λ b. p x || b) (any_insert p xs i y) ∙ by (p x) (p y)
   where
-    by : (list_any p xs ≡ true → list_any p (insert xs i y) ≡ true) → (p x ≡ true) ⊎ (list_any p xs ≡ true) → (p x || list_any p (insert xs i y)) ≡ true
-    by ih (inl h) = or_left _ _ h
-    by ih (inr h) = or_right (p x) _ (ih h)
+    by : (a b : Bool) → (a || (b || list_any p xs)) ≡ (b || (a || list_any p xs))
+    by true true = refl
+    by true false = refl
+    by false b = refl
+
+any_old : {X : Type 0} (p : X → Bool) (xs : List X) (i : ℕ) (y : X) → list_any p xs ≡ true → list_any p (insert xs i y) ≡ true
+any_old p xs i y e = any_insert p xs i y ∙ or_right (p y) _ e
 
 any_new : {X : Type 0} (p : X → Bool) (xs : List X) (i : ℕ) (y : X) → p y ≡ true → list_any p (insert xs i y) ≡ true
-any_new p [] zero y e = or_left _ _ e
-any_new p [] (suc i) y e = or_left _ _ e
-any_new p (x ∷ xs) zero y e = or_left _ _ e
-any_new p (x ∷ xs) (suc i) y e = or_right (p x) _ (any_new p xs i y e)
+any_new p xs i y e = any_insert p xs i y ∙ or_left _ _ e
 
 pub remove_insert : {X : Type 0} (xs : List X) (i : ℕ) (y : X) → i ≤ length xs → remove (insert xs i y) i ≡ xs
 remove_insert [] zero y le = refl
@@ -91,6 +92,12 @@ not_there m (l ∷ ls) r = by (l.link == m) refl (not_there (m + 1) ls)
         zero_more : (m : ℕ) → m + 0 ≡ m
         zero_more m = omega arith
 
+zero_plus : (g : ℕ) → 0 + g ≡ g
+zero_plus g = omega arith
+
+pub nowhere : (ls : List PathLink) → Rises 0 ls → AllByRecursion (λ k. (k.link == free_number ls) ≡ false) ls
+nowhere ls r = subst (λ n. AllByRecursion (λ k. (k.link == n) ≡ false) ls) (zero_plus (gap 0 ls)) (not_there 0 ls r)
+
 not_kept : (n : ℕ) (ls : List PathLink) (x : SendingLink) → AllByRecursion (λ k. (k.link == n) ≡ false) ls → is_kept ls x ≡ true → (x.link == n) ≡ false
 not_kept n [] x a e = absurd (cc)
 not_kept n (l ∷ ls) x a e = by (not_kept n ls x a.1) (or_true (keeps x l) (is_kept ls x) e)
@@ -103,15 +110,9 @@ find_none : (n : ℕ) (xs : List SendingLink) → AllByRecursion (λ x. (x.link 
 find_none n [] a = refl
 find_none n (x ∷ xs) a = ap (λ b. cond b (Some x) (link_of xs n)) a.0 ∙ find_none n xs a.1
 
-zero_plus : (g : ℕ) → 0 + g ≡ g
-zero_plus g = omega arith
-
 pub free_none : (sending : List SendingLink) (ls : List PathLink) (t : HandleTable) → AreTied sending ls t → link_of sending (free_number ls) ≡ None
 free_none sending ls t tied =
-    find_none (free_number ls) sending (all_weaker (λ x. is_kept ls x ≡ true) _ (λ x k. not_kept (free_number ls) ls x nowhere k) sending tied.kept)
-  where
-    nowhere : AllByRecursion (λ k. (k.link == gap 0 ls) ≡ false) ls
-    nowhere = subst (λ n. AllByRecursion (λ k. (k.link == n) ≡ false) ls) (zero_plus (gap 0 ls)) (not_there 0 ls tied.rising)
+    find_none (free_number ls) sending (all_weaker (λ x. is_kept ls x ≡ true) _ (λ x k. not_kept (free_number ls) ls x (nowhere ls tied.rising) k) sending tied.kept)
 
 -- its handle
 

@@ -3,8 +3,8 @@ use Rattle.std.specs.Prelude.{ℕ, not, ◌+◌, ◌==◌, ◌&&◌, if◌then�
 use Rattle.session_path.specs.Links.{attach_fault}
 use Rattle.session_path.specs.Path.{PathState}
 use Rattle.session_path.specs.Events.{PathEvent, Began, Published, Selected, Owed, Consumed}
-use Rattle.session_path.specs.Events.{AnswerCame, CancelCame, Declared, AttachCame, FlowCame, DetachCame}
-use Rattle.session_path.specs.Events.{TransferCame}
+use Rattle.session_path.specs.Events.{AnswerCame, CancelCame, Declared, GetAsked, AttachCame}
+use Rattle.session_path.specs.Events.{FlowCame, DetachCame, TransferCame}
 use Rattle.session_path.specs.Events.{LinkFailed, DispositionCame, AttachSent, LinkFlowSent}
 use Rattle.session_path.specs.Events.{TransferSent, SettleSent, DisposeSent, DetachSent}
 use Rattle.session_path.specs.Events.{ConfirmWent, ReturnWent, DeliverSent, ContentSent}
@@ -20,6 +20,7 @@ asks_as name (Owed ok) = 0
 asks_as name (Consumed address tag no_ack no_wait) = 0
 asks_as name (CancelCame tag no_wait) = 0
 asks_as name (Declared queue no_wait) = 0
+asks_as name (GetAsked queue no_ack) = 0
 asks_as name (AnswerCame tag multiple settle) = 0
 asks_as name (AttachCame attach) = 0
 asks_as name (FlowCame peer count credit drain echo) = 0
@@ -57,6 +58,7 @@ attaches_as name s (Owed ok) = 0
 attaches_as name s (Consumed address tag no_ack no_wait) = 0
 attaches_as name s (CancelCame tag no_wait) = 0
 attaches_as name s (Declared queue no_wait) = 0
+attaches_as name s (GetAsked queue no_ack) = 0
 attaches_as name s (AnswerCame tag multiple settle) = 0
 attaches_as name s (AttachCame a) =
     if a.name == name && not (is_some (attach_fault a.name a.role a.peer s.links)) then 1 else 0

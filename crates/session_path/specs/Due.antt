@@ -1,12 +1,13 @@
 -- What a session and what it carries make due, to the container and to the client.
-use Rattle.std.specs.Prelude.{ℕ, Bool, false, ◌==◌, ◌+◌, ◌^◌, ◌++◌, nat_lt, if◌then◌else◌, List, []}
+use Rattle.std.specs.Prelude.{ℕ, Bool, true, false, not, ◌==◌, ◌&&◌, ◌||◌, ◌+◌, ◌^◌, ◌++◌, nat_lt}
+use Rattle.std.specs.Prelude.{if◌then◌else◌, List, []}
 use Rattle.std.specs.Prelude.{◌∷◌, find, count_by, length, slice_get, Option, Some, None, is_some}
-use Rattle.std.specs.Option.{option_map, option_or}
+use Rattle.std.specs.List.{list_any}
 use Rattle.consume_path.specs.Deliveries.{DeliveryState}
-use Rattle.consume_path.specs.Links.{count_in as count_at, is_ask, link_of as receiving_link}
+use Rattle.consume_path.specs.Links.{count_in as count_at, link_of as receiving_link}
 use Rattle.consume_path.specs.Links.{tag_in}
 use Rattle.consume_path.specs.Offers.{lines_of as delivery_lines, next_deliver_of, next_settle_of}
-use Rattle.consume_path.specs.Offers.{payload_in}
+use Rattle.consume_path.specs.Offers.{is_getting, payload_in, serves_gets}
 use Rattle.consume_path.specs.declared.delivery.NextDeliver.{NextDeliver}
 use Rattle.consume_path.specs.declared.delivery.NextSettle.{NextSettle}
 use Rattle.consume_path.specs.declared.receiving.NextGrant.{NextGrant}
@@ -23,14 +24,15 @@ use Rattle.session_path.specs.declared.path.AttachDue.{AttachDue}
 use Rattle.session_path.specs.declared.path.FlowDue.{FlowDue}
 use Rattle.session_path.specs.declared.path.PathLink.{PathLink}
 use Rattle.session_path.specs.declared.path.PathOk.{PathOk}
+use Rattle.session_path.specs.declared.path.PathOk.TheVariants as ok
 use Rattle.session_path.specs.declared.path.Settling.{Settling}
 use Rattle.session_path.specs.declared.path.ContentDue.{ContentDue}
 use Rattle.session_path.specs.declared.path.DeliverDue.{DeliverDue}
-use Rattle.session_path.specs.declared.path.Source.{Source}
 use Rattle.session_path.specs.declared.path.Writing.{Writing}
 use Rattle.session_path.specs.Links.{handle_of, is_wanted}
-use Rattle.session_path.specs.Path.{PathState, credit_in, flow_of, frames_of, given_of, grant_in}
-use Rattle.session_path.specs.Path.{first_of, granting, is_grant_next, is_source_of, parting_of, taking}
+use Rattle.session_path.specs.Path.{PathState, credit_in, detaching_of, flow_of, frames_of}
+use Rattle.session_path.specs.Path.{grant_in}
+use Rattle.session_path.specs.Path.{first_of, granting, is_grant_next, source_of, taking}
 
 -- ---- to the container
 
@@ -63,7 +65,8 @@ abbrev pub due_in : List SendingLink → Option PathLink → Option FlowDue
 due_in sending None = None
 due_in sending (Some l) = Some (flow_due sending l)
 
--- that of a receiving link has its delivery-count, and the credit that is granted
+-- that of a receiving link has its delivery-count, and the credit that is granted; on a link for
+-- gets that is to be used up or given back at once
 abbrev pub grant_due : Option PathLink → Option NextGrant → DeliveryState → Option FlowDue
 grant_due None g d = None
 grant_due (Some l) None d = None
@@ -73,7 +76,7 @@ grant_due (Some l) (Some g) d = Some (record {
   count = count_at (receiving_link d.links g.link);
   credit = g.credit;
   drains = false;
-  draining = is_ask g.cause;
+  draining = serves_gets g.link d.links;
 })
 
 abbrev pub next_flow : PathState → Option FlowDue
@@ -94,7 +97,7 @@ next_dispose s = next_settle_of s.deliveries.list
 
 -- the detach of the first link that is to part, or else of one that is given up
 abbrev pub next_detach : PathState → Option PathLink
-next_detach s = option_or (parting_of s) (given_of s.publishes.list s.links)
+next_detach s = detaching_of s
 
 -- ---- to the client
 
@@ -120,17 +123,38 @@ or_no_name (Some name) = name
 abbrev pub next_name : PathState → List ℕ
 next_name s = or_no_name (first_of s.names)
 
--- a deliver; delivery tags count up to 2^62
+-- a deliver or a get-ok; delivery tags count up to 2^62
 abbrev pub most_tags : ℕ
 most_tags = 2 ^ 62
 
-abbrev pub deliver_with : ℕ → NextDeliver → DeliverDue
-deliver_with tags next = record { next = next; tag = tags + 1 }
+-- a get-ok goes where the answer to its get is next
+abbrev pub is_get_ok : Option PathOk → Bool
+is_get_ok None = false
+is_get_ok (Some ok.Flow) = false
+is_get_ok (Some ok.Declare) = false
+is_get_ok (Some ok.Select) = false
+is_get_ok (Some (ok.Consume link)) = false
+is_get_ok (Some (ok.Qos count global)) = false
+is_get_ok (Some ok.Cancel) = false
+is_get_ok (Some ok.Queue) = false
+is_get_ok (Some ok.Get) = true
+is_get_ok (Some (ok.Empty link)) = false
+is_get_ok (Some ok.Recover) = false
+
+abbrev pub deliver_if : Bool → Bool → ℕ → NextDeliver → Option DeliverDue
+deliver_if get may tags next =
+    if get && not may then None else Some (record { next = next; tag = tags + 1; get = get })
+
+abbrev pub deliver_in : Option NextDeliver → PathState → Option DeliverDue
+deliver_in None s = None
+deliver_in (Some next) s =
+    deliver_if (serves_gets next.link s.deliveries.links) (is_get_ok (first_of s.oks))
+    s.deliveries.tags next
 
 abbrev pub next_deliver : PathState → Option DeliverDue
 next_deliver s =
-    if nat_lt s.deliveries.tags most_tags then option_map (deliver_with s.deliveries.tags)
-    (next_deliver_of s.deliveries.global s.deliveries.list) else None
+    if nat_lt s.deliveries.tags most_tags
+    then deliver_in (next_deliver_of s.deliveries.global s.deliveries.list) s else None
 
 -- a frame of the content that is begun, and its bytes
 abbrev pub content_due : ℕ → Writing → Option ContentDue
@@ -151,14 +175,7 @@ frame_on (Some w) s = slice_get (frames_of w.id s) w.gone
 abbrev pub content_frame : PathState → Option (List ℕ)
 content_frame s = frame_on s.writing s
 
--- the address of a receiving link, and the tag of its consumer
-abbrev pub source_in : Option Source → List ℕ
-source_in None = []
-source_in (Some x) = x.address
-
-abbrev pub source_of : ℕ → PathState → List ℕ
-source_of link s = source_in (find (is_source_of link) s.sources)
-
+-- the tag of the consumer of a receiving link
 abbrev pub tag_of : ℕ → PathState → List ℕ
 tag_of link s = tag_in (receiving_link s.deliveries.links link)
 
@@ -191,9 +208,12 @@ lines s =
 
 -- ---- what is waited for
 
--- a request waits for the container
+-- a request waits for the container; no basic.get does any more after the closing event
+abbrev pub is_get_awaited : DeliveryState → Bool
+is_get_awaited d = not d.closed && list_any is_getting d.links
+
 abbrev pub is_waiting : PathState → Bool
-is_waiting s = is_some s.awaited
+is_waiting s = is_some s.awaited || is_get_awaited s.deliveries
 
 -- no publish waits, is begun, or lacks an outcome
 abbrev pub is_done : PathState → Bool

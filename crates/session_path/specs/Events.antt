@@ -11,13 +11,13 @@ use Rattle.publish_path.specs.declared.publish.Outcome.{Outcome}
 use Rattle.consume_path.specs.Deliveries.{DeliveryEvent, DeliveryState}
 use Rattle.consume_path.specs.Deliveries as on
 use Rattle.consume_path.specs.Links.{consumer_link}
-use Rattle.consume_path.specs.Offers.{next_settle_of}
+use Rattle.consume_path.specs.Offers.{is_drained, next_settle_of}
 use Rattle.consume_path.specs.declared.delivery.Content.{Content}
 use Rattle.consume_path.specs.declared.delivery.NextSettle.{NextSettle}
 use Rattle.consume_path.specs.declared.delivery.Settle.{Settle}
 use Rattle.consume_path.specs.declared.receiving.NextGrant.{NextGrant}
 use Rattle.consume_path.specs.declared.receiving.Part.{Part}
-use Rattle.consume_path.specs.declared.receiving.RecvKind.TheVariants.{Consumer, Probe}
+use Rattle.consume_path.specs.declared.receiving.RecvKind.TheVariants.{Consumer, Get, Probe}
 use Rattle.consume_path.specs.declared.receiving.TransferFault.{TransferFault}
 use Rattle.session_path.specs.Links.{asked_by, free_number, linked_to, named}
 use Rattle.session_path.specs.Path.{PathState, answer_came, attach_came, attach_sent, began, closed}
@@ -26,8 +26,9 @@ use Rattle.session_path.specs.Path.{deliver_sent, dispose_sent, end_lost, failed
 use Rattle.session_path.specs.Path.{detach_came, detach_sent, flow_came, last_or, lines_told}
 use Rattle.session_path.specs.Path.{link_flow_sent, lost, number_of, ok_sent, opened, outcome_came}
 use Rattle.session_path.specs.Path.{return_sent, transfer_came, tag_for, receiver_in, taking}
-use Rattle.session_path.specs.Path.{arrival_on, cancelled, declare_came, first_of, grant_in, is_grant_next, is_last}
-use Rattle.session_path.specs.Path.{parting_of}
+use Rattle.session_path.specs.Path.{arrival_on, cancelled, declare_came, first_of, grant_in}
+use Rattle.session_path.specs.Path.{is_grant_next, is_last}
+use Rattle.session_path.specs.Path.{detaching_of, flow_in, get_link, got, queue_or, transferred}
 use Rattle.session_path.specs.Path.{owed, published, selected, settle_sent, transfer_sent}
 use Rattle.session_path.specs.declared.path.AttachHeard.{AttachHeard}
 use Rattle.session_path.specs.declared.path.DeliverDue.{DeliverDue}
@@ -51,6 +52,8 @@ pub data PathEvent : Type 0 where
   CancelCame : (tag : List ℕ) (no_wait : Bool) → PathEvent
   -- queue.declare was
   Declared : (queue : List ℕ) (no_wait : Bool) → PathEvent
+  -- basic.get was
+  GetAsked : (queue : List ℕ) (no_ack : Bool) → PathEvent
   AnswerCame : (tag : ℕ) (multiple : Bool) (settle : Settle) → PathEvent
   -- an attach of the container
   AttachCame : (attach : AttachHeard) → PathEvent
@@ -105,6 +108,7 @@ after_event (Owed ok) s = owed ok s
 after_event (Consumed address tag no_ack no_wait) s = consumed address tag no_ack no_wait s
 after_event (CancelCame tag no_wait) s = cancelled tag no_wait s
 after_event (Declared queue no_wait) s = declare_came queue no_wait s
+after_event (GetAsked queue no_ack) s = got queue no_ack s
 after_event (AnswerCame tag multiple settle) s = answer_came tag multiple settle s
 after_event (AttachCame attach) s = attach_came attach s
 after_event (FlowCame peer count credit drain echo) s = flow_came peer count credit drain echo s
@@ -152,6 +156,7 @@ publish_events s (Owed ok) = []
 publish_events s (Consumed address tag no_ack no_wait) = []
 publish_events s (CancelCame tag no_wait) = []
 publish_events s (Declared queue no_wait) = []
+publish_events s (GetAsked queue no_ack) = []
 publish_events s (AnswerCame tag multiple settle) = []
 publish_events s (AttachCame attach) = []
 publish_events s (FlowCame peer count credit drain echo) = []
@@ -192,6 +197,8 @@ prefetches (ok.Consume link) = []
 prefetches (ok.Qos count global) = if global then [] else on.PrefetchSet count ∷ []
 prefetches ok.Cancel = []
 prefetches ok.Queue = []
+prefetches ok.Get = []
+prefetches (ok.Empty link) = []
 prefetches ok.Recover = []
 
 abbrev pub globals : Option PathOk → List DeliveryEvent
@@ -203,12 +210,21 @@ globals (Some (ok.Consume link)) = []
 globals (Some (ok.Qos count global)) = if global then on.GlobalSet count ∷ [] else []
 globals (Some ok.Cancel) = []
 globals (Some ok.Queue) = []
+globals (Some ok.Get) = []
+globals (Some (ok.Empty link)) = []
 globals (Some ok.Recover) = []
 
 -- a basic.cancel
 abbrev pub cancels : Option ℕ → List DeliveryEvent
 cancels None = []
 cancels (Some link) = on.Cancelled link ∷ []
+
+-- a basic.get
+abbrev pub gets : Option PathLink → Bool → PathState → List DeliveryEvent
+gets None no_ack s =
+    on.GetCame (free_number s.links.links) no_ack
+    ∷ on.LinkAdded (free_number s.links.links) Get ∷ []
+gets (Some l) no_ack s = on.GetCame l.link no_ack ∷ []
 
 -- an attach of a receiving link with a source
 abbrev pub begins : Option PathLink → AttachHeard → List DeliveryEvent
@@ -223,9 +239,14 @@ counts (Some count) link = on.LinkFlowed link count ∷ []
 abbrev pub echoes : Bool → ℕ → List DeliveryEvent
 echoes echo link = if echo then on.LinkEchoed link ∷ [] else []
 
-abbrev pub flows : Option PathLink → Option ℕ → Bool → List DeliveryEvent
-flows None count echo = []
-flows (Some l) count echo = echoes echo l.link ++ counts count l.link
+-- a get that is found empty
+abbrev pub empties : ℕ → DeliveryState → List DeliveryEvent
+empties link d = if is_drained link d.links then on.Emptied link ∷ [] else []
+
+abbrev pub flows : Option PathLink → Option ℕ → Bool → DeliveryState → List DeliveryEvent
+flows None count echo d = []
+flows (Some l) count echo d =
+    empties l.link (flow_in l.link count echo d) ++ (echoes echo l.link ++ counts count l.link)
 
 -- a transfer, and the whole delivery where it is the last one
 abbrev pub arrivals : Bool → ℕ → Option Content → Bool → DeliveryState → List DeliveryEvent
@@ -235,9 +256,10 @@ abbrev pub transfers : Option PathLink → Part → List ℕ → Option Content 
     → List DeliveryEvent
 transfers None part payload image again d = []
 transfers (Some l) part payload image again d =
-    arrivals (is_last part) l.link image again
+    empties l.link (transferred l.link part payload image again d)
+    ++ (arrivals (is_last part) l.link image again
     (on.after_event (on.TransferCame l.link part payload) d)
-    ++ on.TransferCame l.link part payload ∷ []
+    ++ on.TransferCame l.link part payload ∷ [])
 
 -- a flow, a disposition and a detach of the gateway
 abbrev pub grants : Option NextGrant → List DeliveryEvent
@@ -264,10 +286,11 @@ delivery_events s (CancelCame tag no_wait) =
     cancels (consumer_link tag s.deliveries.links)
 delivery_events s (Declared queue no_wait) =
     on.LinkAdded (free_number s.links.links) Probe ∷ []
+delivery_events s (GetAsked queue no_ack) = gets (get_link (queue_or s.queue queue) s) no_ack s
 delivery_events s (AnswerCame tag multiple settle) = on.Answered tag multiple settle ∷ []
 delivery_events s (AttachCame attach) = begins (asked_by attach s.links) attach
 delivery_events s (FlowCame peer count credit drain echo) =
-    flows (receiver_in (named peer s.links)) count echo
+    flows (receiver_in (named peer s.links)) count echo s.deliveries
 delivery_events s (DetachCame peer not_found) = []
 delivery_events s (TransferCame peer part payload image again) =
     transfers (taking peer s) part payload image again s.deliveries
@@ -278,7 +301,7 @@ delivery_events s LinkFlowSent = if is_grant_next s then grants (grant_in s) els
 delivery_events s (TransferSent frame count) = []
 delivery_events s (SettleSent settling) = []
 delivery_events s DisposeSent = disposes (next_settle_of s.deliveries.list)
-delivery_events s DetachSent = drops (parting_of s)
+delivery_events s DetachSent = drops (detaching_of s)
 delivery_events s (ConfirmWent confirm) = []
 delivery_events s (ReturnWent number) = []
 delivery_events s (DeliverSent due) = on.Delivered due.next.number ∷ []

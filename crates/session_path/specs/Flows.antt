@@ -1,14 +1,14 @@
--- The flows on a link, and what they answer, by the events. Those that the deliveries of a receiving
--- link ask for aren't counted.
+-- The flows on a link, and what they answer, by the events. Those that the deliveries of
+-- a receiving link ask for aren't counted.
 use Rattle.std.specs.Prelude.{ℕ, Bool, false, not, ◌+◌, ◌==◌, ◌&&◌, if◌then◌else◌, List, [], ◌∷◌}
 use Rattle.std.specs.Prelude.{find, Option, Some, None}
 use Rattle.session_path.specs.declared.path.PathLink.{PathLink}
 use Rattle.session_path.specs.Links.{LinksState, has_number, is_given, is_left, named}
 use Rattle.session_path.specs.Links.{one_if}
-use Rattle.session_path.specs.Path.{PathState, flow_of, is_grant_next, parting_of, sender_in}
+use Rattle.session_path.specs.Path.{PathState, detaching_of, flow_of, is_grant_next, sender_in}
 use Rattle.session_path.specs.Events.{PathEvent, Began, Published, Selected, Owed, Consumed}
-use Rattle.session_path.specs.Events.{AnswerCame, CancelCame, Declared, AttachCame, FlowCame, DetachCame}
-use Rattle.session_path.specs.Events.{TransferCame}
+use Rattle.session_path.specs.Events.{AnswerCame, CancelCame, Declared, GetAsked, AttachCame}
+use Rattle.session_path.specs.Events.{FlowCame, DetachCame, TransferCame}
 use Rattle.session_path.specs.Events.{LinkFailed, DispositionCame, AttachSent, LinkFlowSent}
 use Rattle.session_path.specs.Events.{TransferSent, SettleSent, DisposeSent, DetachSent}
 use Rattle.session_path.specs.Events.{ConfirmWent, ReturnWent, DeliverSent, ContentSent}
@@ -29,6 +29,7 @@ flows_by n s (Owed ok) = 0
 flows_by n s (Consumed address tag no_ack no_wait) = 0
 flows_by n s (CancelCame tag no_wait) = 0
 flows_by n s (Declared queue no_wait) = 0
+flows_by n s (GetAsked queue no_ack) = 0
 flows_by n s (AnswerCame tag multiple settle) = 0
 flows_by n s (AttachCame attach) = 0
 flows_by n s (FlowCame peer count credit drain echo) = 0
@@ -82,6 +83,7 @@ causes_by n s flows causes (Owed ok) = causes
 causes_by n s flows causes (Consumed address tag no_ack no_wait) = causes
 causes_by n s flows causes (CancelCame tag no_wait) = causes
 causes_by n s flows causes (Declared queue no_wait) = causes
+causes_by n s flows causes (GetAsked queue no_ack) = causes
 causes_by n s flows causes (AnswerCame tag multiple settle) = causes
 causes_by n s flows causes (AttachCame attach) = causes
 causes_by n s flows causes (FlowCame peer count credit drain echo) =
@@ -98,7 +100,7 @@ causes_by n s flows causes (TransferSent frame count) = causes
 causes_by n s flows causes (SettleSent settling) = causes
 causes_by n s flows causes DisposeSent = causes
 causes_by n s flows causes DetachSent =
-    if is_link n (left_in (parting_of s)) then flows else causes
+    if is_link n (left_in (detaching_of s)) then flows else causes
 causes_by n s flows causes (ConfirmWent confirm) = causes
 causes_by n s flows causes (ReturnWent number) = causes
 causes_by n s flows causes (DeliverSent due) = causes

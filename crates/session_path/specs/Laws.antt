@@ -1,18 +1,23 @@
 -- What holds after any events of a session's path, by the events alone.
-use Rattle.std.specs.Prelude.{◌≡◌, ℕ, Bool, not, ◌&&◌, List, [], ◌∷◌, ◌++◌, Option, Some}
-use Rattle.std.specs.Prelude.{None, if◌then◌else◌}
+use Rattle.std.specs.Prelude.{◌≡◌, ℕ, Bool, false, not, ◌&&◌, List, [], ◌∷◌, ◌++◌, Option, Some}
+use Rattle.std.specs.Prelude.{None, if◌then◌else◌, ◌<◌, ◌^◌, length}
 use Rattle.std.specs.List.{list_any}
 use Rattle.publish_path.specs.Publishes.{is_told, open_after}
-use Rattle.session_path.specs.Links.{asked_by}
-use Rattle.session_path.specs.Path.{PathState, last_or, names_by, oks_by, settle_if}
+use Rattle.session_path.specs.Links.{asked_by, named}
+use Rattle.session_path.specs.Path.{PathState, empty_oks, flow_in, last_or, names_by, oks_by}
+use Rattle.session_path.specs.Path.{receiver_in, settle_if, taking, transfer_fault, transfer_oks}
 use Rattle.session_path.specs.Events.{PathEvent, Began, Published, Selected, Owed, Consumed}
-use Rattle.session_path.specs.Events.{AnswerCame, CancelCame, Declared, AttachCame, FlowCame, DetachCame}
-use Rattle.session_path.specs.Events.{TransferCame}
+use Rattle.session_path.specs.Events.{AnswerCame, CancelCame, Declared, GetAsked, AttachCame}
+use Rattle.session_path.specs.Events.{FlowCame, DetachCame, TransferCame}
 use Rattle.session_path.specs.Events.{LinkFailed, DispositionCame, AttachSent, LinkFlowSent}
 use Rattle.session_path.specs.Events.{TransferSent, SettleSent, DisposeSent, DetachSent}
 use Rattle.session_path.specs.Events.{ConfirmWent, ReturnWent, DeliverSent, ContentSent}
 use Rattle.session_path.specs.Events.{ContentWhole, OkSent, LinesWent, LifeClosed, SessionLost}
 use Rattle.session_path.specs.Events.{UpLost, after_events, publishes_of}
+use Rattle.consume_path.specs.Deliveries.{DeliveryState}
+use Rattle.consume_path.specs.Links.{id_or}
+use Rattle.consume_path.specs.declared.delivery.Content.{Content}
+use Rattle.consume_path.specs.declared.receiving.Part.{Part}
 use Rattle.session_path.specs.declared.path.AttachHeard.{AttachHeard}
 use Rattle.session_path.specs.declared.path.Awaited.{Awaited}
 use Rattle.session_path.specs.declared.path.PathLink.{PathLink}
@@ -30,6 +35,17 @@ abbrev pub begun_oks : Option PathLink → AttachHeard → Option Awaited → Li
 begun_oks None a awaited = []
 begun_oks (Some l) a awaited = if l.receives && a.there then oks_by l.link awaited else []
 
+-- a flow that finds a get empty answers it
+abbrev pub flow_oks : Option PathLink → Option ℕ → Bool → DeliveryState → List PathOk
+flow_oks None count echo d = []
+flow_oks (Some l) count echo d = empty_oks l.link (flow_in l.link count echo d)
+
+-- and so does the delivery that it gets, one that is aborted, and one without an image
+abbrev pub arrival_oks : Option PathLink → Part → List ℕ → Option Content → Bool → DeliveryState
+    → List PathOk
+arrival_oks None part payload image again d = []
+arrival_oks (Some l) part payload image again d = transfer_oks l.link part payload image again d
+
 -- the answers that became due, and those that went, in order
 abbrev pub owes : PathState → PathEvent → List PathOk
 owes s (Began handle_max) = []
@@ -39,11 +55,14 @@ owes s (Owed ok) = ok ∷ []
 owes s (Consumed address tag no_ack no_wait) = []
 owes s (CancelCame tag no_wait) = if no_wait then [] else ok.Cancel ∷ []
 owes s (Declared queue no_wait) = []
+owes s (GetAsked queue no_ack) = []
 owes s (AnswerCame tag multiple settle) = []
 owes s (AttachCame attach) = begun_oks (asked_by attach s.links) attach s.awaited
-owes s (FlowCame peer count credit drain echo) = []
+owes s (FlowCame peer count credit drain echo) =
+    flow_oks (receiver_in (named peer s.links)) count echo s.deliveries
 owes s (DetachCame peer not_found) = []
-owes s (TransferCame peer part payload image again) = []
+owes s (TransferCame peer part payload image again) =
+    arrival_oks (taking peer s) part payload image again s.deliveries
 owes s (LinkFailed peer fault) = []
 owes s (DispositionCame first last outcome settled) = []
 owes s (AttachSent name) = []
@@ -71,6 +90,7 @@ answers (Owed ok) = []
 answers (Consumed address tag no_ack no_wait) = []
 answers (CancelCame tag no_wait) = []
 answers (Declared queue no_wait) = []
+answers (GetAsked queue no_ack) = []
 answers (AnswerCame tag multiple settle) = []
 answers (AttachCame attach) = []
 answers (FlowCame peer count credit drain echo) = []
@@ -86,7 +106,7 @@ answers DisposeSent = []
 answers DetachSent = []
 answers (ConfirmWent confirm) = []
 answers (ReturnWent number) = []
-answers (DeliverSent due) = []
+answers (DeliverSent due) = if due.get then ok.Get ∷ [] else []
 answers ContentSent = []
 answers (ContentWhole tag) = []
 answers (OkSent ok) = ok ∷ []
@@ -144,6 +164,7 @@ settles (Owed ok) = []
 settles (Consumed address tag no_ack no_wait) = []
 settles (CancelCame tag no_wait) = []
 settles (Declared queue no_wait) = []
+settles (GetAsked queue no_ack) = []
 settles (AnswerCame tag multiple settle) = []
 settles (AttachCame attach) = []
 settles (FlowCame peer count credit drain echo) = []
@@ -188,6 +209,7 @@ owed_by life h list (Owed ok) = list
 owed_by life h list (Consumed address tag no_ack no_wait) = list
 owed_by life h list (CancelCame tag no_wait) = list
 owed_by life h list (Declared queue no_wait) = list
+owed_by life h list (GetAsked queue no_ack) = list
 owed_by life h list (AnswerCame tag multiple settle) = list
 owed_by life h list (AttachCame attach) = list
 owed_by life h list (FlowCame peer count credit drain echo) = list
@@ -223,3 +245,19 @@ abbrev pub AreSettles : ℕ → List PathEvent → Type 0
 AreSettles life [] = Unit {0}
 AreSettles life (x ∷ h) =
     IsFrontOf (settles_sent h ++ settles x) (settles_owed life h) × AreSettles life h
+
+-- ---- what the deliveries see
+
+-- a link is asked for before the life's closing event alone; a transfer that is told of is at no
+-- fault, and its delivery-id has 32 bits (AMQP 1.0 2.8.4)
+abbrev pub IsHeard : PathState → PathEvent → Type 0
+IsHeard s (Consumed queue tag no_ack no_wait) = s.deliveries.closed ≡ false
+IsHeard s (Declared queue no_wait) = s.deliveries.closed ≡ false
+IsHeard s (GetAsked queue no_ack) = s.deliveries.closed ≡ false
+IsHeard s (TransferCame peer part payload image again) =
+    (id_or 0 part.id < 2 ^ 32) × (transfer_fault peer part (length payload) s ≡ None)
+IsHeard s x = Unit {0}
+
+abbrev pub AreHeard : ℕ → List PathEvent → Type 0
+AreHeard life [] = Unit {0}
+AreHeard life (x ∷ h) = IsHeard (after_events life h) x × AreHeard life h

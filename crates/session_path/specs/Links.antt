@@ -67,6 +67,15 @@ is_stage_asked (Left h) = false
 is_stage_asked (Given h) = false
 is_stage_asked (Failed h fault) = false
 
+abbrev pub is_stage_refused : Stage → Bool
+is_stage_refused Wanted = false
+is_stage_refused (Asked h) = false
+is_stage_refused (Open h) = false
+is_stage_refused (Refused h) = true
+is_stage_refused (Left h) = false
+is_stage_refused (Given h) = false
+is_stage_refused (Failed h fault) = false
+
 abbrev pub is_stage_left : Stage → Bool
 is_stage_left Wanted = false
 is_stage_left (Asked h) = false
@@ -416,6 +425,14 @@ abbrev pub lowest : List PathLink → Option PathLink
 lowest [] = None
 lowest (l ∷ ls) = Some (lower l (lowest ls))
 
+-- the lowest so far, once this one is looked at, which counts or not
+abbrev pub is_below : PathLink → Option PathLink → Bool
+is_below l None = true
+is_below l (Some k) = nat_lt (handle_of l.stage) (handle_of k.stage)
+
+abbrev pub lower_if : Bool → Option PathLink → PathLink → Option PathLink
+lower_if counts best l = if counts && is_below l best then Some l else best
+
 -- a link is detached for its handle, which is free once the container detached too
 abbrev pub given_by : PathLink → PathLink
 given_by l = record l { stage = Given (handle_of l.stage) }
@@ -428,14 +445,13 @@ given_on (Some l) s = record {
   handles = after_detach_sent (handle_of l.stage) s.handles;
 }
 
--- the detach that is due: of the first link that the container detached or that failed, or else of
--- one that is given up
+-- the detach that is due went: of a link that the container detached, or of another one
 abbrev pub parted_on : PathLink → LinksState → LinksState
 parted_on l s = if is_left l then gone_on (Some l) s else given_on (Some l) s
 
-abbrev pub parted : Option PathLink → Option PathLink → LinksState → LinksState
-parted None given s = given_on given s
-parted (Some l) given s = parted_on l s
+abbrev pub parted : Option PathLink → LinksState → LinksState
+parted None s = s
+parted (Some l) s = parted_on l s
 
 -- ---- what holds of them at all times
 

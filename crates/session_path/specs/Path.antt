@@ -1,6 +1,7 @@
 -- A session with what it carries, as contracts see it: before any event, and after each.
-use Rattle.std.specs.Prelude.{ℕ, zero, suc, Bool, true, false, not, ◌==◌, ◌&&◌, ◌||◌, ◌+◌, nat_lt}
-use Rattle.std.specs.Prelude.{if◌then◌else◌, codes, decimal, length, is_some}
+use Rattle.std.specs.Prelude.{◌≡◌, ℕ, zero, suc, Bool, true, false, not, ◌==◌, ◌&&◌, ◌||◌, ◌+◌}
+use Rattle.std.specs.Prelude.{nat_lt}
+use Rattle.std.specs.Prelude.{if◌then◌else◌, bytes_eq, codes, decimal, length, is_some}
 use Rattle.std.specs.Prelude.{List, [], ◌∷◌, ◌++◌, count_by, drop, filter, find, Option, Some, None}
 use Rattle.std.specs.List.{list_any}
 use Rattle.publish_path.specs.Links.{link_of, link_to}
@@ -13,14 +14,17 @@ use Rattle.publish_path.specs.declared.publish.Outcome.{Outcome}
 use Rattle.publish_path.specs.declared.publish.Publish.{Publish}
 use Rattle.publish_path.specs.declared.send_links.SendingLink.{SendingLink}
 use Rattle.consume_path.specs.Deliveries.{DeliveryState, Answered, Arrived, Closed, Delivered}
-use Rattle.consume_path.specs.Deliveries.{EndLost, GrantSent, LinkAdded, LinkAttached, LinkDropped}
+use Rattle.consume_path.specs.Deliveries.{Emptied, EndLost, GetCame, GrantSent, LinkAdded}
+use Rattle.consume_path.specs.Deliveries.{LinkAttached, LinkDropped}
 use Rattle.consume_path.specs.Deliveries.{LinkEchoed, LinkFlowed, SettleSent, TransferCame, Written}
 use Rattle.consume_path.specs.Deliveries.{LinesTold as DeliveriesTold, no_deliveries}
 use Rattle.consume_path.specs.Deliveries.{Cancelled, GlobalSet, PrefetchSet}
 use Rattle.consume_path.specs.Deliveries as deliveries
 use Rattle.consume_path.specs.Links.{consumer_link, is_tag_used, link_of as receiving_link}
 use Rattle.consume_path.specs.Offers.{arriving_in, content_of, fault_at, next_grant_of}
-use Rattle.consume_path.specs.Offers.{is_over, next_settle_of}
+use Rattle.consume_path.specs.Offers.{awaits_get, holds, is_at_rest, is_drained, is_over}
+use Rattle.consume_path.specs.Offers.{next_settle_of}
+use Rattle.consume_path.specs.Offers.{takes_get}
 use Rattle.consume_path.specs.declared.delivery.Content.{Content}
 use Rattle.consume_path.specs.declared.delivery.NextSettle.{NextSettle}
 use Rattle.consume_path.specs.declared.delivery.Settle.{Settle}
@@ -28,10 +32,11 @@ use Rattle.consume_path.specs.declared.receiving.NextGrant.{NextGrant}
 use Rattle.consume_path.specs.declared.receiving.Part.{Part}
 use Rattle.consume_path.specs.declared.receiving.ReceivingLink.{ReceivingLink}
 use Rattle.consume_path.specs.declared.receiving.RecvKind.{RecvKind}
-use Rattle.consume_path.specs.declared.receiving.RecvKind.TheVariants.{Consumer, Probe}
+use Rattle.consume_path.specs.declared.receiving.RecvKind.TheVariants.{Consumer, Get, Probe}
 use Rattle.consume_path.specs.declared.receiving.TransferFault.{TransferFault}
 use Rattle.session_path.specs.Links.{LinksState, all_lost, asked_by, attached, has_number}
-use Rattle.session_path.specs.Links.{free_number, is_given, is_parting, is_stage_whole, is_to_part}
+use Rattle.session_path.specs.Links.{free_number, is_given, is_parting, is_stage_refused}
+use Rattle.session_path.specs.Links.{is_left, is_stage_failed, is_stage_whole, is_to_part}
 use Rattle.session_path.specs.Links.{is_stage_open, is_wanting, limited, link_asked, link_detached}
 use Rattle.session_path.specs.Links.{link_failed, link_flowed, linked_to, lowest, named, no_links}
 use Rattle.session_path.specs.Links.{parted, told_on, with_receiver, without_receivers}
@@ -133,6 +138,8 @@ prefetch_by (ok.Qos count global) d =
     if global then d else deliveries.after_event (PrefetchSet count) d
 prefetch_by ok.Cancel d = d
 prefetch_by ok.Queue d = d
+prefetch_by ok.Get d = d
+prefetch_by (ok.Empty link) d = d
 prefetch_by ok.Recover d = d
 
 abbrev pub owed : PathOk → PathState → PathState
@@ -180,25 +187,39 @@ tag_for (c ∷ tag) links = c ∷ tag
 abbrev pub is_source_of : ℕ → Source → Bool
 is_source_of link x = x.link == link
 
+abbrev pub source_in : Option Source → List ℕ
+source_in None = []
+source_in (Some x) = x.address
+
+abbrev pub address_in : ℕ → List Source → List ℕ
+address_in link sources = source_in (find (is_source_of link) sources)
+
+abbrev pub source_of : ℕ → PathState → List ℕ
+source_of link s = address_in link s.sources
+
 -- an empty name of a queue stands for the one that was declared last (AMQP 0-9-1 1.7.2.1)
 abbrev pub queue_or : List ℕ → List ℕ → List ℕ
 queue_or last [] = last
 queue_or last (c ∷ queue) = c ∷ queue
 
--- a receiving link is wanted, of this kind and from this address: a request waits for the
--- container's attach
-abbrev pub asked_from : List ℕ → RecvKind → Bool → Bool → PathState → PathState
-asked_from address kind declares no_wait s =
+-- a receiving link is wanted, of this kind and from this address
+abbrev pub wanted_from : List ℕ → RecvKind → PathState → PathState
+wanted_from address kind s =
     with_deliveries (LinkAdded (free_number s.links.links) kind)
     (record s {
       links = with_receiver s.links;
       sources = s.sources ++ record { link = free_number s.links.links; address = address } ∷ [];
-      awaited = Some (record {
-        link = free_number s.links.links;
-        declares = declares;
-        no_wait = no_wait;
-      });
     })
+
+-- and a request waits for the container's attach
+abbrev pub asked_from : List ℕ → RecvKind → Bool → Bool → PathState → PathState
+asked_from address kind declares no_wait s = record (wanted_from address kind s) {
+  awaited = Some (record {
+    link = free_number s.links.links;
+    declares = declares;
+    no_wait = no_wait;
+  });
+}
 
 -- basic.consume of this queue
 abbrev pub consumed : List ℕ → List ℕ → Bool → Bool → PathState → PathState
@@ -206,9 +227,34 @@ consumed queue tag no_ack no_wait s =
     asked_from (queue_or s.queue queue) (Consumer (tag_for tag s.deliveries.links) no_ack) false
     no_wait s
 
--- queue.declare of this queue: a link to it is attached without credit, which shows that it is there
+-- queue.declare of this queue: a link to it is attached without credit, which shows that it is
+-- there
 abbrev pub declare_came : List ℕ → Bool → PathState → PathState
 declare_came queue no_wait s = asked_from queue Probe true no_wait (record s { queue = queue })
+
+-- basic.get of this queue waits on the link for gets from its address, or on a new one where there
+-- is none that neither end detached or refused
+abbrev pub is_serving : PathLink → Bool
+is_serving l = l.receives && not (is_parting l || is_stage_refused l.stage)
+
+abbrev pub is_get_link : List ℕ → DeliveryState → List Source → PathLink → Bool
+is_get_link address d sources l =
+    is_serving l
+    && (takes_get l.link d.links && bytes_eq (address_in l.link sources) address)
+
+abbrev pub get_link : List ℕ → PathState → Option PathLink
+get_link address s = find (is_get_link address s.deliveries s.sources) s.links.links
+
+abbrev pub got_on : Option PathLink → List ℕ → Bool → PathState → PathState
+got_on None address no_ack s =
+    with_deliveries (GetCame (free_number s.links.links) no_ack) (wanted_from address Get s)
+got_on (Some l) address no_ack s = with_deliveries (GetCame l.link no_ack) s
+
+abbrev pub got_from : List ℕ → Bool → PathState → PathState
+got_from address no_ack s = got_on (get_link address s) address no_ack s
+
+abbrev pub got : List ℕ → Bool → PathState → PathState
+got queue no_ack s = got_from (queue_or s.queue queue) no_ack s
 
 -- basic.cancel: the consumer with this tag takes no more, where there is one. The answer gives the
 -- tag back (AMQP 0-9-1 1.8.3.5)
@@ -275,21 +321,35 @@ abbrev pub attach_came : AttachHeard → PathState → PathState
 attach_came a s =
     begun_if (asked_by a s.links) a (record s { links = attached a s.links })
 
--- a flow on a receiving link: its delivery-count, and that it asks for the state (AMQP 1.0 2.6.7)
-abbrev pub counted_on : Option ℕ → ℕ → PathState → PathState
-counted_on None link s = s
-counted_on (Some count) link s = with_deliveries (LinkFlowed link count) s
+-- a get that is found empty is answered at once
+abbrev pub emptied_in : ℕ → DeliveryState → DeliveryState
+emptied_in link d =
+    if is_drained link d.links then deliveries.after_event (Emptied link) d else d
 
-abbrev pub echoed_on : Bool → ℕ → PathState → PathState
-echoed_on false link s = s
-echoed_on true link s = with_deliveries (LinkEchoed link) s
+abbrev pub empty_oks : ℕ → DeliveryState → List PathOk
+empty_oks link d = if is_drained link d.links then ok.Empty link ∷ [] else []
+
+-- a flow on a receiving link: its delivery-count, and that it asks for the state (AMQP 1.0 2.6.7)
+abbrev pub counted_on : Option ℕ → ℕ → DeliveryState → DeliveryState
+counted_on None link d = d
+counted_on (Some count) link d = deliveries.after_event (LinkFlowed link count) d
+
+abbrev pub echoed_on : Bool → ℕ → DeliveryState → DeliveryState
+echoed_on false link d = d
+echoed_on true link d = deliveries.after_event (LinkEchoed link) d
+
+abbrev pub flow_in : ℕ → Option ℕ → Bool → DeliveryState → DeliveryState
+flow_in link count echo d = echoed_on echo link (counted_on count link d)
 
 abbrev pub receiver_in : Option PathLink → Option PathLink
 receiver_in None = None
 receiver_in (Some l) = if l.receives then Some l else None
 
 abbrev pub receiver_flowed : PathLink → Option ℕ → Bool → PathState → PathState
-receiver_flowed l count echo s = echoed_on echo l.link (counted_on count l.link s)
+receiver_flowed l count echo s = record s {
+  deliveries = emptied_in l.link (flow_in l.link count echo s.deliveries);
+  oks = s.oks ++ empty_oks l.link (flow_in l.link count echo s.deliveries);
+}
 
 abbrev pub flowed_by : Option PathLink → ℕ → Option ℕ → ℕ → Bool → Bool → PathState → PathState
 flowed_by None peer count credit drain echo s =
@@ -334,11 +394,23 @@ transferred link part payload image again d =
     then arrived_on link image again (deliveries.after_event (TransferCame link part payload) d)
     else deliveries.after_event (TransferCame link part payload) d
 
+-- a whole delivery with an image is what the get on its link waits for: the place of its get-ok is
+-- among the answers to the channel's requests
+abbrev pub is_served : ℕ → Part → Option Content → DeliveryState → Bool
+is_served link part image d = is_last part && (is_some image && awaits_get link d.links)
+
+abbrev pub transfer_oks : ℕ → Part → List ℕ → Option Content → Bool → DeliveryState → List PathOk
+transfer_oks link part payload image again d =
+    if is_served link part image d then ok.Get ∷ []
+    else empty_oks link (transferred link part payload image again d)
+
 abbrev pub transferred_on : Option PathLink → Part → List ℕ → Option Content → Bool → PathState
     → PathState
 transferred_on None part payload image again s = s
-transferred_on (Some l) part payload image again s =
-    record s { deliveries = transferred l.link part payload image again s.deliveries }
+transferred_on (Some l) part payload image again s = record s {
+  deliveries = emptied_in l.link (transferred l.link part payload image again s.deliveries);
+  oks = s.oks ++ transfer_oks l.link part payload image again s.deliveries;
+}
 
 abbrev pub transfer_came : ℕ → Part → List ℕ → Option Content → Bool → PathState → PathState
 transfer_came peer part payload image again s =
@@ -449,15 +521,26 @@ transfer_sent frame count s = record s {
 abbrev pub settle_sent : PathState → PathState
 settle_sent s = record s { settles = drop 1 s.settles }
 
--- a link is given up where its handle is wanting: of those on which no publish waits, is begun or
--- lacks an outcome, that with the lowest handle
-abbrev pub is_idle : List Publish → PathLink → Bool
-is_idle list l =
-    is_stage_open l.stage && not l.receives
-    && (count_by (is_pending (Some l.link)) list == 0)
+-- a link is given up where its handle is wanting: that with the lowest handle of the sending ones
+-- on which no publish waits, is begun or lacks an outcome, and of those for gets on which none
+-- waits or has its answer still to go, and each delivery had its disposition
+abbrev pub is_empty_of : ℕ → PathOk → Bool
+is_empty_of link (ok.Empty k) = k == link
+is_empty_of link x = false
 
-abbrev pub given_of : List Publish → LinksState → Option PathLink
-given_of list s = if is_wanting s then lowest (filter (is_idle list) s.links) else None
+abbrev pub is_resting : DeliveryState → List PathOk → ℕ → Bool
+is_resting d oks link =
+    is_at_rest link d && not (holds link d.list || list_any (is_empty_of link) oks)
+
+abbrev pub is_idle : List Publish → DeliveryState → List PathOk → PathLink → Bool
+is_idle list d oks l =
+    is_stage_open l.stage
+    && (if l.receives then is_resting d oks l.link
+    else count_by (is_pending (Some l.link)) list == 0)
+
+abbrev pub given_of : List Publish → DeliveryState → List PathOk → LinksState → Option PathLink
+given_of list d oks s =
+    if is_wanting s then lowest (filter (is_idle list d oks) s.links) else None
 
 -- the disposition of role receiver that is due went (AMQP 1.0 2.7.6)
 abbrev pub disposed_by : Option NextSettle → PathState → PathState
@@ -480,30 +563,51 @@ abbrev pub dropped_by : Option PathLink → PathState → PathState
 dropped_by None s = s
 dropped_by (Some l) s = if l.receives then dropped l.link s else s
 
--- the gateway's detach is due of a link that the container detached or that failed, and of one that
--- both ends attached whose deliveries are over
+-- the gateway's detach is due of a link that the container detached or that failed, once no get-ok
+-- is to go of it, and of one that both ends attached whose deliveries are over
+abbrev pub is_left_by : DeliveryState → PathLink → Bool
+is_left_by d l = is_to_part l && not (l.receives && holds l.link d.list)
+
 abbrev pub is_done_with : DeliveryState → PathLink → Bool
 is_done_with d l = l.receives && is_stage_open l.stage && is_over l.link d
 
 abbrev pub parts : DeliveryState → PathLink → Bool
-parts d l = is_to_part l || is_done_with d l
+parts d l = is_left_by d l || is_done_with d l
 
-abbrev pub parting_of : PathState → Option PathLink
-parting_of s = find (parts s.deliveries) s.links.links
+-- of two links the one with the lower number
+abbrev pub lower_of : Option PathLink → Option PathLink → Option PathLink
+lower_of None k = k
+lower_of (Some l) None = Some l
+lower_of (Some l) (Some k) = if nat_lt k.link l.link then Some k else Some l
+
+-- the link whose detach is due: the first of those, and of one that is given up
+abbrev pub detaching_in : List Publish → DeliveryState → List PathOk → LinksState
+    → Option PathLink
+detaching_in list d oks s = lower_of (find (parts d) s.links) (given_of list d oks s)
+
+abbrev pub detaching_of : PathState → Option PathLink
+detaching_of s = detaching_in s.publishes.list s.deliveries s.oks s.links
+
+-- it is one of them; it is open or failed, where the container didn't detach it
+abbrev pub IsThere : LinksState → PathLink → Type 0
+IsThere s l =
+    (find (has_number l.link) s.links ≡ Some l)
+    × (is_left l ≡ false → (is_stage_open l.stage || is_stage_failed l.stage) ≡ true)
 
 -- the detach that is due went
 abbrev pub detach_sent : PathState → PathState
 detach_sent s =
-    dropped_by (parting_of s) (record s {
-      links = parted (parting_of s) (given_of s.publishes.list s.links) s.links;
-    })
+    dropped_by (detaching_of s) (record s { links = parted (detaching_of s) s.links })
 
 -- a detach of the container closes the channel where a consumer has the link, a request waits for
 -- it, or deliveries of it aren't settled
+abbrev pub is_needed : DeliveryState → ℕ → Bool
+is_needed d link = not (is_over link d || is_at_rest link d)
+
 abbrev pub closes_on : Option PathLink → PathState → Bool
 closes_on None s = false
 closes_on (Some l) s =
-    not (is_given l) && (is_awaited_on l.link s.awaited || not (is_over l.link s.deliveries))
+    not (is_given l) && (is_awaited_on l.link s.awaited || is_needed s.deliveries l.link)
 
 abbrev pub closes_at : ℕ → PathState → Bool
 closes_at peer s = closes_on (receiver_in (named peer s.links)) s
@@ -517,11 +621,12 @@ confirm_sent c s = record s { publishes = after_event (ConfirmSent c) s.publishe
 abbrev pub return_sent : ℕ → PathState → PathState
 return_sent number s = record s { publishes = after_event (ReturnSent number) s.publishes }
 
--- a deliver: its content goes behind it
+-- a deliver or a get-ok, which answers a request: its content goes behind it
 abbrev pub deliver_sent : DeliverDue → PathState → PathState
 deliver_sent d s =
     with_deliveries (Delivered d.next.number) (record s {
       writing = Some (record { id = d.next.id; tag = d.tag; gone = 0 });
+      oks = if d.get then drop 1 s.oks else s.oks;
     })
 
 -- the frames of the content of a delivery
@@ -561,6 +666,8 @@ global_by (Some (ok.Qos count global)) d =
     if global then deliveries.after_event (GlobalSet count) d else d
 global_by (Some ok.Cancel) d = d
 global_by (Some ok.Queue) d = d
+global_by (Some ok.Get) d = d
+global_by (Some (ok.Empty link)) d = d
 global_by (Some ok.Recover) d = d
 
 -- it gives a name back
@@ -573,6 +680,8 @@ gives_name (Some (ok.Consume link)) = false
 gives_name (Some (ok.Qos count global)) = false
 gives_name (Some ok.Cancel) = true
 gives_name (Some ok.Queue) = true
+gives_name (Some ok.Get) = false
+gives_name (Some (ok.Empty link)) = false
 gives_name (Some ok.Recover) = false
 
 abbrev pub ok_sent : PathState → PathState

@@ -7,8 +7,9 @@ ghost use Rattle.session_path.specs.Events.{PathEvent, after_events, deliveries_
 ghost use Rattle.session_path.specs.Links.{AreTied};
 ghost use Rattle.session_path.specs.Attaches.{times_asked, times_attached};
 ghost use Rattle.session_path.specs.Flows.{causes_on, flows_on, owed_on};
+ghost use Rattle.consume_path.specs.Laws.{AreCalls};
 ghost use Rattle.session_path.specs.Laws.{AreAnswers, AreSettles, oks_owed, oks_sent, settles_owed};
-ghost use Rattle.session_path.specs.Laws.{settles_sent, IsBackOf, names_owed, queue_in};
+ghost use Rattle.session_path.specs.Laws.{settles_sent, IsBackOf, names_owed, queue_in, AreHeard};
 
 /// The answers to a client's requests.
 pub fn answers_lawfully()
@@ -49,6 +50,14 @@ pub fn deliveries_lawfully()
     // laws speak.
     ensures { (life : ℕ) (h : List PathEvent) → (after_events life h).deliveries
         ≡ deliveries_after life (deliveries_of life h) }
+{}
+
+/// The calls of a life's deliveries.
+pub fn calls_lawfully()
+    // Where links are asked for before the closing event alone and each transfer is at no fault,
+    // the delivery events are those of calls whose conditions hold.
+    ensures { (life : ℕ) (h : List PathEvent) → AreHeard life h
+        → AreCalls life (deliveries_of life h) }
 {}
 
 /// The links of a session.

@@ -9,8 +9,8 @@ mod path_links;
 mod session_path;
 
 pub use laws::{
-    answers_lawfully, attaches_lawfully, deliveries_lawfully, flows_lawfully, links_lawfully,
-    names_lawfully, publishes_lawfully, settles_lawfully,
+    answers_lawfully, attaches_lawfully, calls_lawfully, deliveries_lawfully, flows_lawfully,
+    links_lawfully, names_lawfully, publishes_lawfully, settles_lawfully,
 };
 pub use path::{
     AttachDue, AttachFault, AttachHeard, ContentDue, DeliverDue, FlowDue, PathLink, PathOk,

@@ -1,8 +1,7 @@
 //! The links of a session in the order of their numbers: searches, and the change of one.
 
 ghost use Rattle.std.specs.Prelude.{◌≡◌, ◌+◌, ◌≤◌, length, find, IfSome, IfOk, option_copied};
-ghost use Rattle.std.specs.Prelude.{filter, count_by, nat_lt, not, true, ◌&&◌};
-ghost use Rattle.std.specs.Option.{option_map_or};
+ghost use Rattle.std.specs.Prelude.{filter, count_by, not, ◌&&◌};
 ghost use Rattle.session_path.specs.Links.{handle_of, has_number, is_wanted, is_left, is_given};
 ghost use Rattle.session_path.specs.Links.{is_failed, is_to_part, is_parting, is_stage_open};
 ghost use Rattle.session_path.specs.Links.{is_stage_whole, is_wanted_receiver, is_at, is_other_end};
@@ -10,7 +9,8 @@ ghost use Rattle.session_path.specs.Links.{is_asked_as, put_for, put, free_numbe
 ghost use Rattle.session_path.specs.Links.{wanted_link, answered, left_by, given_by, failed_by};
 ghost use Rattle.session_path.specs.Links.{asked_as, told_once, is_left_at, gone_from};
 ghost use Rattle.session_path.specs.Links.{detached_from};
-ghost use Rattle.session_path.specs.Path.{is_done_with, parts};
+ghost use Rattle.session_path.specs.Links.{is_below, is_stage_refused};
+ghost use Rattle.session_path.specs.Path.{is_done_with, is_left_by, parts};
 
 use crate::path::{PathLink, Stage};
 use consume_path::{Deliveries, TransferFault};
@@ -78,6 +78,13 @@ pub fn is_link_open(l: &PathLink) -> bool
     matches!(l.stage, Stage::Open(_))
 }
 
+/// The container refused it.
+pub fn is_link_refused(l: &PathLink) -> bool
+    ensures { result ≡ is_stage_refused l.now.stage }
+{
+    matches!(l.stage, Stage::Refused(_))
+}
+
 fn is_link_whole(l: &PathLink) -> bool
     ensures { result ≡ is_stage_whole l.now.stage }
 {
@@ -99,8 +106,7 @@ fn is_link_wanted_receiver(l: &PathLink) -> bool
 
 /// Its handle is below that of the other, if there is one.
 pub fn is_link_lower(l: &PathLink, other: Option<PathLink>) -> bool
-    ensures { result
-        ≡ option_map_or (λ k. nat_lt (handle_of l.now.stage) (handle_of k.stage)) other true }
+    ensures { result ≡ is_below l.now other }
 {
     match other {
         Some(other) => handle(l.stage) < handle(other.stage),
@@ -169,10 +175,17 @@ fn is_link_done_with(l: &PathLink, deliveries: &Deliveries) -> bool
     l.receives && is_link_open(l) && deliveries.is_over(l.link)
 }
 
+/// The gateway's detach is due, and no get-ok of it is to go.
+fn is_link_left_by(l: &PathLink, deliveries: &Deliveries) -> bool
+    ensures { result ≡ is_left_by deliveries.now l.now }
+{
+    is_link_to_part(l) && !(l.receives && deliveries.holds(l.link))
+}
+
 fn is_link_going(l: &PathLink, deliveries: &Deliveries) -> bool
     ensures { result ≡ parts deliveries.now l.now }
 {
-    is_link_to_part(l) || is_link_done_with(l, deliveries)
+    is_link_left_by(l, deliveries) || is_link_done_with(l, deliveries)
 }
 
 /// The first link whose detach is due.

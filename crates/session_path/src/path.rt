@@ -81,12 +81,14 @@ pub struct ContentDue {
     pub last: bool,
 }
 
-/// A deliver that is due.
+/// A deliver or a get-ok that is due.
 #[derive(Clone, Copy, Debug, PartialEq, Eq)]
 pub struct DeliverDue {
     pub next: NextDeliver,
     /// Its delivery tag.
     pub tag: u64,
+    /// It answers a basic.get.
+    pub get: bool,
 }
 
 /// What an attach of the container says (AMQP 1.0 2.7.3).
@@ -130,6 +132,10 @@ pub enum PathOk {
     Cancel,
     /// queue.declare-ok
     Queue,
+    /// basic.get-ok: the deliver of the next get goes in its place
+    Get,
+    /// basic.get-empty, for the get of the link with this number
+    Empty(u32),
     /// basic.recover-ok
     Recover,
 }

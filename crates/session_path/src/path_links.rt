@@ -3,14 +3,15 @@
 ghost use Rattle.std.specs.Prelude.{◌≡◌, ◌≤◌, ◌<◌, ◌+◌, ◌^◌, ◌++◌, ◌∷◌, [], ◌==◌, if◌then◌else◌};
 ghost use Rattle.std.specs.Prelude.{length, find, filter, map, option_copied, Some, None, OnOk};
 ghost use Rattle.std.specs.Prelude.{OnErr, IfOk, IfSome, true, false, ◌||◌};
-ghost use Rattle.std.specs.Option.{option_or};
 ghost use Rattle.publish_path.specs.Links.{address_of, asked_link, link_of, link_to, flowed};
 ghost use Rattle.publish_path.specs.Links.{without};
 ghost use Rattle.publish_path.specs.Offers.{held_bytes, held_count, next_frame_of, rest_of};
 ghost use Rattle.publish_path.specs.Offers.{frame_sent, links_after};
 ghost use Rattle.publish_path.specs.Publishes.{TakenUp, after_event};
 ghost use Rattle.session_path.specs.Path.{credit_in, flow_of, given_of, is_idle, number_of};
-ghost use Rattle.session_path.specs.Path.{owes_flow, parts};
+ghost use Rattle.std.specs.List.{list_any};
+ghost use Rattle.session_path.specs.Path.{IsThere, detaching_in, is_resting, lower_of, owes_flow};
+ghost use Rattle.session_path.specs.Path.{is_empty_of};
 ghost use Rattle.link_table.specs.Table.{free_of};
 ghost use Rattle.session_path.specs.Due.{attach_of, count_in, due_in, flow_due};
 ghost use Rattle.session_path.specs.Links.{handle_at, attached_if, drained_if, free_number};
@@ -20,7 +21,8 @@ ghost use Rattle.session_path.specs.Links.{link_asked, attach_fault, asked_by, a
 ghost use Rattle.session_path.specs.Links.{has_number, is_left, is_stage_open, gone_on};
 ghost use Rattle.session_path.specs.Links.{is_stage_failed};
 ghost use Rattle.session_path.specs.Links.{named, link_flowed, link_detached, link_failed};
-ghost use Rattle.session_path.specs.Links.{is_wanting, lowest, given_on, parted, LinksState};
+ghost use Rattle.session_path.specs.Links.{is_wanting, lower_if, lowest, given_on, parted};
+ghost use Rattle.session_path.specs.Links.{LinksState};
 
 use crate::links::{
     answered, asked, count_parting, count_wanted, detach_link, drop_left, drop_wanted_receiver,
@@ -28,12 +30,13 @@ use crate::links::{
     first_wanted, given, handle, is_link_left, is_link_lower, is_link_open, is_link_parting,
     is_link_taking, lowest_free, put_link, told, told_once, wanted,
 };
-use crate::path::{AttachDue, AttachFault, AttachHeard, FlowDue, PathLink};
+use crate::path::{AttachDue, AttachFault, AttachHeard, FlowDue, PathLink, PathOk};
 use consume_path::{Deliveries, TransferFault};
 use link_table::Handles;
 use open_items::Frames;
 use publish_path::{NextFrame, Publishes, SendLinks};
 use std::alloc::Global;
+use std::collections::VecDeque;
 use std::marker::Model;
 use wire_base::{ByteText, Memory};
 
@@ -231,6 +234,13 @@ impl PathLinks {
         }
     }
 
+    /// The links, in the order of their numbers.
+    pub fn all(&self) -> &[PathLink]
+        ensures { result.now ≡ self.now.links }
+    {
+        self.links.as_slice()
+    }
+
     /// The link with this number.
     pub fn numbered(&self, link: u32) -> Option<PathLink>
         ensures { result ≡ find (has_number link) self.now.links }
@@ -348,45 +358,45 @@ impl PathLinks {
         wanted > 0 && self.handles.free().is_none() && count_parting(self.links.as_slice()) < wanted
     }
 
-    /// The link that is given up for its handle: on it no publish is under way.
-    fn given_up(&self, publishes: &Publishes) -> Option<PathLink>
-        ensures link { result ≡ given_of publishes.now.list self.now }
-        ensures there { IfSome result (λ l. find (has_number l.link) self.now.links ≡ Some l) }
-        ensures stage { IfSome result (λ l. is_stage_open l.stage ≡ true) }
+    /// The link that is given up for its handle: on it no publish or get is under way.
+    fn given_up(
+        &self,
+        publishes: &Publishes,
+        deliveries: &Deliveries,
+        oks: &VecDeque<PathOk>,
+    ) -> Option<PathLink>
+        ensures { result ≡ given_of publishes.now.list deliveries.now oks.now.items self.now }
     {
         if self.is_wanting() {
-            lowest_idle(self.links.as_slice(), publishes)
+            lowest_idle(self.links.as_slice(), publishes, deliveries, oks)
         } else {
             None
         }
     }
 
-    /// The first link that is to part: its detach is due.
-    pub fn first_to_part(&self, deliveries: &Deliveries) -> Option<PathLink>
-        ensures link { result ≡ find (parts deliveries.now) self.now.links }
-        ensures there { IfSome result (λ l. find (has_number l.link) self.now.links ≡ Some l) }
-    {
-        first_to_part(self.links.as_slice(), deliveries).copied()
-    }
-
     /// The link whose detach is due.
-    pub fn next_detach(&self, publishes: &Publishes, deliveries: &Deliveries) -> Option<PathLink>
-        ensures { result ≡ option_or (find (parts deliveries.now) self.now.links)
-            (given_of publishes.now.list self.now) }
+    #[tactic(auto, using(crate::proofs::Idle::detaching_there))]
+    pub fn next_detach(
+        &self,
+        publishes: &Publishes,
+        deliveries: &Deliveries,
+        oks: &VecDeque<PathOk>,
+    ) -> Option<PathLink>
+        ensures link { result
+            ≡ detaching_in publishes.now.list deliveries.now oks.now.items self.now }
+        ensures there { IfSome result (IsThere self.now) }
     {
-        match first_to_part(self.links.as_slice(), deliveries) {
-            Some(l) => Some(*l),
-            None => self.given_up(publishes),
-        }
+        let parting = first_to_part(self.links.as_slice(), deliveries).copied();
+        lower_of(parting, self.given_up(publishes, deliveries, oks))
     }
 
     /// The detach that is due was sent. Nothing changes where none is.
-    pub fn part(&mut self, publishes: &Publishes, deliveries: &Deliveries)
-        ensures { self.new ≡ parted (find (parts deliveries.now) self.old.links)
-            (given_of publishes.now.list self.old) self.old }
+    pub fn part(&mut self, publishes: &Publishes, deliveries: &Deliveries, oks: &VecDeque<PathOk>)
+        ensures { self.new
+            ≡ parted (detaching_in publishes.now.list deliveries.now oks.now.items self.old)
+            self.old }
     {
-        let Some(l) = self.first_to_part(deliveries) else {
-            self.give_up(publishes);
+        let Some(l) = self.next_detach(publishes, deliveries, oks) else {
             return;
         };
         if is_link_left(&l) {
@@ -416,14 +426,6 @@ impl PathLinks {
         self.handles.detach_sent(handle(l.stage));
         remove_one(&mut self.sending, l.link);
         put_link(&mut self.links, given(l));
-    }
-
-    fn give_up(&mut self, publishes: &Publishes)
-        ensures { self.new ≡ given_on (given_of publishes.now.list self.old) self.old }
-    {
-        if let Some(l) = self.given_up(publishes) {
-            self.give(l);
-        }
     }
 
     /// The sending link whose flow is due.
@@ -526,22 +528,85 @@ fn first_owing<'a>(
     links.iter().find(|l| is_owing(l, publishes, sending))
 }
 
-/// No publish waits on it, is begun, or lacks an outcome.
-fn is_idle(l: &PathLink, publishes: &Publishes) -> bool
-    ensures { result ≡ is_idle publishes.now.list l.now }
+/// Of two links the one with the lower number.
+fn lower_of(l: Option<PathLink>, k: Option<PathLink>) -> Option<PathLink>
+    ensures { result ≡ lower_of l k }
 {
-    is_link_open(l) && !l.receives && publishes.unanswered(Some(l.link)) == 0
+    match (l, k) {
+        (None, k) => k,
+        (Some(l), None) => Some(l),
+        (Some(l), Some(k)) => Some(if k.link < l.link { k } else { l }),
+    }
 }
 
-/// The link with the lowest handle among those on which no publish is under way.
-fn lowest_idle(links: &[PathLink], publishes: &Publishes) -> Option<PathLink>
-    ensures { result ≡ lowest (filter (is_idle publishes.now.list) links.now) }
+/// It is the basic.get-empty of a get of this link.
+fn is_empty_of(ok: &PathOk, link: u32) -> bool
+    ensures { result ≡ is_empty_of link ok.now }
+{
+    match ok {
+        PathOk::Empty(own) => *own == link,
+        _ => false,
+    }
+}
+
+/// A basic.get-empty of it is still to go.
+fn owes_empty(oks: &VecDeque<PathOk>, link: u32) -> bool
+    ensures { result ≡ list_any (is_empty_of link) oks.now.items }
+{
+    oks.iter().any(|ok| is_empty_of(ok, link))
+}
+
+/// No get waits on it or is still to be answered, and each delivery had its disposition.
+fn is_resting(deliveries: &Deliveries, oks: &VecDeque<PathOk>, link: u32) -> bool
+    ensures { result ≡ is_resting deliveries.now oks.now.items link }
+{
+    deliveries.is_at_rest(link) && !(deliveries.holds(link) || owes_empty(oks, link))
+}
+
+/// No publish waits on it, is begun, or lacks an outcome, and no get is under way.
+fn is_idle(
+    l: &PathLink,
+    publishes: &Publishes,
+    deliveries: &Deliveries,
+    oks: &VecDeque<PathOk>,
+) -> bool
+    ensures { result ≡ is_idle publishes.now.list deliveries.now oks.now.items l.now }
+{
+    if !is_link_open(l) {
+        return false;
+    }
+    if l.receives {
+        is_resting(deliveries, oks, l.link)
+    } else {
+        publishes.unanswered(Some(l.link)) == 0
+    }
+}
+
+/// The link with the lower handle, of the lowest so far and of one that counts.
+fn lower_if(lowest: Option<PathLink>, l: PathLink, counts: bool) -> Option<PathLink>
+    ensures { result ≡ lower_if counts lowest l }
+{
+    if counts && is_link_lower(&l, lowest) {
+        Some(l)
+    } else {
+        lowest
+    }
+}
+
+/// The link with the lowest handle among those on which nothing is under way.
+#[tactic(auto, using(crate::proofs::Idle::lowest_none, crate::proofs::Idle::lowest_more))]
+fn lowest_idle(
+    links: &[PathLink],
+    publishes: &Publishes,
+    deliveries: &Deliveries,
+    oks: &VecDeque<PathOk>,
+) -> Option<PathLink>
+    ensures { result
+        ≡ lowest (filter (is_idle publishes.now.list deliveries.now oks.now.items) links.now) }
 {
     let mut lowest = None;
     for l in links {
-        if is_link_lower(l, lowest) && is_idle(l, publishes) {
-            lowest = Some(*l);
-        }
+        lowest = lower_if(lowest, *l, is_idle(l, publishes, deliveries, oks));
     }
     lowest
 }

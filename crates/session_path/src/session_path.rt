@@ -2,7 +2,7 @@
 
 ghost use Rattle.std.specs.Prelude.{◌≡◌, ◌≤◌, ◌+◌, ◌<◌, ◌↔◌, [], length, filter, find, Some, None};
 ghost use Rattle.std.specs.Prelude.{IsSome, IsNone, IfSome, OnOk, OnErr, IfOk, option_copied, true};
-ghost use Rattle.consume_path.specs.Links.{is_ask};
+ghost use Rattle.consume_path.specs.Offers.{is_drained};
 ghost use Rattle.publish_path.specs.Offers.{next_frame_of, rest_of};
 ghost use Rattle.publish_path.specs.Publishes.{is_open};
 ghost use Rattle.session_path.specs.Links.{handle_at, attach_fault, named};
@@ -12,13 +12,14 @@ ghost use Rattle.session_path.specs.Path.{outcome_came, last_or, attach_sent, li
 ghost use Rattle.session_path.specs.Path.{transfer_sent, settle_sent, detach_sent, confirm_sent};
 ghost use Rattle.session_path.specs.Path.{ok_sent, lines_told, return_sent, receiver_in};
 ghost use Rattle.session_path.specs.Path.{receiver_flowed, grant_in, granting, is_grant_next};
-ghost use Rattle.session_path.specs.Path.{answer_on, declares_in, is_answered, still_awaited, without_source};
-ghost use Rattle.session_path.specs.Path.{is_source_of};
+ghost use Rattle.session_path.specs.Path.{answer_on, declares_in, is_answered, still_awaited};
+ghost use Rattle.session_path.specs.Path.{without_source};
+ghost use Rattle.session_path.specs.Path.{address_in, emptied_in, flow_in, is_source_of, source_of};
 ghost use Rattle.session_path.specs.Due.{next_attach, next_name, next_flow, next_frame};
 ghost use Rattle.session_path.specs.Due.{next_settle};
 ghost use Rattle.session_path.specs.Path.{first_of};
 ghost use Rattle.session_path.specs.Due.{next_detach, next_confirm, next_ok, is_done, grant_due};
-ghost use Rattle.session_path.specs.Due.{next_return, return_frame, source_of};
+ghost use Rattle.session_path.specs.Due.{next_return, return_frame};
 ghost use Rattle.session_path.specs.Due.{address_at, held, held_size_of};
 
 mod consuming;
@@ -29,7 +30,7 @@ use crate::path::{
     Writing,
 };
 use crate::path_links::{LinkFlow, PathLinks};
-use consume_path::{Cause, Deliveries};
+use consume_path::Deliveries;
 use open_items::Frames;
 use publish_path::{Confirm, NextFrame, NextReturn, Outcome, Publish, Publishes};
 use std::alloc::Global;
@@ -143,12 +144,6 @@ fn still_awaited(awaited: Option<Awaited>, link: u32) -> Option<Awaited>
     }
 }
 
-fn is_ask(cause: Cause) -> bool
-    ensures { result ≡ is_ask cause }
-{
-    matches!(cause, Cause::Get)
-}
-
 fn is_source_of(x: &Source, link: u32) -> bool
     ensures { result ≡ is_source_of link x.now }
 {
@@ -161,10 +156,44 @@ fn first_source(sources: &[Source], link: u32) -> Option<&Source>
     sources.iter().find(|x| is_source_of(x, link))
 }
 
+/// The address of the receiving link with this number; empty where there is none.
+fn address_in(sources: &[Source], link: u32) -> &[u8]
+    ensures { result.now ≡ address_in link sources.now }
+{
+    match first_source(sources, link) {
+        Some(x) => x.address.as_slice(),
+        None => &[],
+    }
+}
+
 fn drop_source(sources: &mut Vec<Source>, link: u32)
     ensures { sources.new.items ≡ without_source link sources.old.items }
 {
     sources.retain(|x| !is_source_of(x, link));
+}
+
+/// A flow with this delivery-count and echo came for this receiving link.
+fn flow_in(deliveries: &mut Deliveries, link: u32, count: Option<u32>, echo: bool)
+    ensures { deliveries.new ≡ flow_in link count echo deliveries.old }
+{
+    if let Some(count) = count {
+        deliveries.link_flow(link, count);
+    }
+    if echo {
+        deliveries.link_echo(link);
+    }
+}
+
+/// The get that waits on this link was found empty: it waits no more.
+fn empty_out(deliveries: &mut Deliveries, link: u32) -> bool
+    ensures empty { result ≡ is_drained link deliveries.old.links }
+    ensures deliveries { deliveries.new ≡ emptied_in link deliveries.old }
+{
+    let empty = deliveries.drain_done(link);
+    if empty {
+        deliveries.emptied(link);
+    }
+    empty
 }
 
 impl SessionPath {
@@ -271,8 +300,8 @@ impl SessionPath {
         Ok(())
     }
 
-    /// The queue that was declared last, for the answer to the queue.declare that waits; empty where
-    /// none does.
+    /// The queue that was declared last, for the answer to the queue.declare that waits; empty
+    /// where none does.
     fn awaited_queue(&self) -> Result<ByteText, Memory>
         ensures { declares_in self.now.awaited ≡ true → IfOk result (λ name. name
             ≡ self.now.queue) }
@@ -342,30 +371,28 @@ impl SessionPath {
         if l.receives { Some(l) } else { None }
     }
 
-    /// A flow came on this receiving link.
-    fn receiver_flow(&mut self, l: PathLink, count: Option<u32>, echo: bool)
-        ensures { self.new ≡ receiver_flowed l count echo self.old }
+    /// A flow came on this receiving link. A get that it finds empty is answered.
+    fn receiver_flow(&mut self, l: PathLink, count: Option<u32>, echo: bool) -> Result<(), Memory>
+        ensures ok { OnOk result (self.new ≡ receiver_flowed l count echo self.old) }
+        ensures err { OnErr result (self.new ≡ self.old) }
     {
-        if let Some(count) = count {
-            self.deliveries.link_flow(l.link, count);
+        self.oks.try_reserve(1)?;
+        flow_in(&mut self.deliveries, l.link, count, echo);
+        if empty_out(&mut self.deliveries, l.link) {
+            self.oks.push_back(PathOk::Empty(l.link))?;
         }
-        if echo {
-            self.deliveries.link_echo(l.link);
-        }
+        Ok(())
     }
 
     /// A flow came under this handle of the container. Nothing changes where it names no link.
-    /// `Memory` if a count of the link is full.
+    /// `Memory` also if a count of the link is full.
     pub fn flow_came(&mut self, peer: u32, flow: LinkFlow) -> Result<(), Memory>
         ensures ok { OnOk result (self.new
             ≡ flow_came peer flow.count flow.credit flow.drain flow.echo self.old) }
         ensures err { OnErr result (self.new ≡ self.old) }
     {
         match self.receiver(peer) {
-            Some(l) => {
-                self.receiver_flow(l, flow.count, flow.echo);
-                Ok(())
-            }
+            Some(l) => self.receiver_flow(l, flow.count, flow.echo),
             None => self.links.flow(peer, flow),
         }
     }
@@ -443,9 +470,10 @@ impl SessionPath {
     pub fn detach_sent(&mut self)
         ensures { self.new ≡ detach_sent self.old }
     {
-        let parting = self.links.first_to_part(&self.deliveries);
-        self.links.part(&self.publishes, &self.deliveries);
-        if let Some(l) = parting
+        let detaching = self.next_detach();
+        self.links
+            .part(&self.publishes, &self.deliveries, &self.oks);
+        if let Some(l) = detaching
             && l.receives
         {
             self.deliveries.drop_link(l.link);
@@ -524,10 +552,7 @@ impl SessionPath {
     fn source(&self, link: u32) -> &[u8]
         ensures { result.now ≡ source_of link self.now }
     {
-        match first_source(self.sources.as_slice(), link) {
-            Some(x) => x.address.as_slice(),
-            None => &[],
-        }
+        address_in(self.sources.as_slice(), link)
     }
 
     /// The address of the source or target that this attach states (AMQP 1.0 3.5.3, 3.5.4); empty
@@ -574,7 +599,7 @@ impl SessionPath {
             count: self.deliveries.count_of(grant.link),
             credit: grant.credit,
             drains: false,
-            draining: is_ask(grant.cause),
+            draining: self.deliveries.serves_gets(grant.link),
         })
     }
 
@@ -607,7 +632,8 @@ impl SessionPath {
     pub fn next_detach(&self) -> Option<PathLink>
         ensures { result ≡ next_detach self.now }
     {
-        self.links.next_detach(&self.publishes, &self.deliveries)
+        self.links
+            .next_detach(&self.publishes, &self.deliveries, &self.oks)
     }
 
     /// The confirm that is due.

@@ -1,26 +1,32 @@
 //! The consumers of the channel: requests, transfers, delivers and dispositions.
 
 ghost use Rattle.std.specs.Prelude.{◌≡◌, ℕ, Bool, List, true, false, length, filter, is_some, Some};
-ghost use Rattle.std.specs.Prelude.{Option, OnOk, OnErr, IfOk, option_copied};
+ghost use Rattle.std.specs.Prelude.{Option, OnOk, OnErr, IfOk, None, option_copied, ◌<◌, ◌^◌};
+ghost use Rattle.std.specs.Prelude.{find, if◌then◌else◌};
 ghost use Rattle.consume_path.specs.declared.delivery.Content.{Content};
 ghost use Rattle.consume_path.specs.Items.{is_open};
 ghost use Rattle.consume_path.specs.Links.{is_tag_used};
 ghost use Rattle.consume_path.specs.Offers.{content_of, is_known};
-ghost use Rattle.session_path.specs.Links.{is_stage_whole, named};
+ghost use Rattle.session_path.specs.Links.{free_number, is_stage_whole, named};
 ghost use Rattle.session_path.specs.Path.{numbered_tag, free_from, tag_for, consumed, answer_came};
 ghost use Rattle.session_path.specs.Path.{asked_from, cancelled, closes_at, declare_came};
-ghost use Rattle.session_path.specs.Path.{is_awaited_on, queue_or};
+ghost use Rattle.session_path.specs.Path.{first_of, get_link, got, got_on, is_awaited_on};
+ghost use Rattle.session_path.specs.Path.{is_get_link, is_needed, is_serving, queue_or};
+ghost use Rattle.session_path.specs.Path.{transferred_on};
+ghost use Rattle.session_path.specs.Path.{wanted_from};
 ghost use Rattle.session_path.specs.Path.{receiver_in, taking, transfer_fault, is_last};
 ghost use Rattle.session_path.specs.Path.{transfer_came, failed, dispose_sent, deliver_sent};
 ghost use Rattle.session_path.specs.Path.{frames_of, content_sent, content_whole};
 ghost use Rattle.session_path.specs.Due.{next_dispose, next_deliver, next_content, content_frame};
 ghost use Rattle.session_path.specs.Due.{content_due, tag_of, queue_at, partial_on, is_waiting};
+ghost use Rattle.session_path.specs.Due.{deliver_if, is_get_awaited, is_get_ok};
+ghost use Rattle.session_path.specs.declared.path.PathOk.TheVariants as ok;
 
-use super::SessionPath;
-use crate::links::is_link_given;
+use super::{SessionPath, address_in, empty_out};
+use crate::links::{is_link_given, is_link_parting, is_link_refused};
 use crate::path::{Awaited, ContentDue, DeliverDue, PathLink, PathOk, Source, Stage, Writing};
 use consume_path::{
-    Content, Deliveries, Delivery, NextSettle, Part, RecvKind, Settle, TransferFault,
+    Content, Deliveries, Delivery, NextDeliver, NextSettle, Part, RecvKind, Settle, TransferFault,
 };
 use itoa::Buffer;
 use std::alloc::Global;
@@ -28,6 +34,9 @@ use wire_base::{ByteText, Memory};
 
 /// So many delivery tags are given in a life.
 const MOST_TAGS: u64 = 4_611_686_018_427_387_904;
+
+/// So many gets wait in a life, one after another.
+const MOST_GETS: u64 = 4_611_686_018_427_387_904;
 
 /// The consumer tag with this number.
 fn numbered_tag(alloc: Global, number: u64) -> Result<ByteText, Memory>
@@ -87,6 +96,61 @@ fn content_due(count: usize, content: Writing) -> Option<ContentDue>
     }
 }
 
+/// A receiving link that neither end detached or refused.
+fn is_serving(l: &PathLink) -> bool
+    ensures { result ≡ is_serving l.now }
+{
+    l.receives && !(is_link_parting(l) || is_link_refused(l))
+}
+
+/// It is the link for gets from this address, and serves.
+fn is_get_link(l: &PathLink, address: &[u8], deliveries: &Deliveries, sources: &[Source]) -> bool
+    ensures { result ≡ is_get_link address.now deliveries.now sources.now l.now }
+{
+    is_serving(l) && deliveries.takes_get(l.link) && address_in(sources, l.link) == address
+}
+
+/// The first such link.
+fn first_get_link<'a>(
+    links: &'a [PathLink],
+    address: &[u8],
+    deliveries: &Deliveries,
+    sources: &[Source],
+) -> Option<&'a PathLink>
+    ensures { option_copied result
+        ≡ find (is_get_link address.now deliveries.now sources.now) links.now }
+{
+    links
+        .iter()
+        .find(|l| is_get_link(l, address, deliveries, sources))
+}
+
+/// The answer to the get of this link: whether it has its delivery.
+fn get_answer(served: bool, link: u32) -> PathOk
+    ensures { result ≡ (if served then ok.Get else ok.Empty link) }
+{
+    if served {
+        PathOk::Get
+    } else {
+        PathOk::Empty(link)
+    }
+}
+
+/// A deliver with the tag behind so many; a get-ok only where it may go.
+fn deliver_if(get: bool, may: bool, tags: u64, next: NextDeliver) -> Option<DeliverDue>
+    requires { tags < 2 ^ 62 }
+    ensures { result ≡ deliver_if get may tags next }
+{
+    if get && !may {
+        return None;
+    }
+    Some(DeliverDue {
+        next,
+        tag: tags + 1,
+        get,
+    })
+}
+
 /// A request waits for this link.
 fn is_awaited_on(awaited: Option<Awaited>, link: u32) -> bool
     ensures { result ≡ is_awaited_on link awaited }
@@ -100,8 +164,23 @@ fn is_awaited_on(awaited: Option<Awaited>, link: u32) -> bool
 impl SessionPath {
     // ---- requests of the client
 
-    /// A receiving link is wanted, of this kind and from this address, for a request that waits for
-    /// the container's attach.
+    /// A receiving link is wanted, of this kind and from this address: its number.
+    fn want_from(&mut self, address: ByteText, kind: RecvKind) -> Result<u32, Memory>
+        ensures number { IfOk result (λ n. n ≡ free_number self.old.links.links) }
+        ensures ok { OnOk result (self.new ≡ wanted_from address kind self.old) }
+        ensures err { OnErr result (self.new ≡ self.old) }
+    {
+        self.sources.try_reserve(1)?;
+        let link = self.links.want_receiver()?;
+        if let Err(memory) = self.deliveries.add_link(link, kind) {
+            self.links.unwant(link);
+            return Err(memory);
+        }
+        self.sources.push(Source { link, address })?;
+        Ok(link)
+    }
+
+    /// The same, for a request that waits for the container's attach.
     fn ask_from(
         &mut self,
         address: ByteText,
@@ -112,13 +191,7 @@ impl SessionPath {
         ensures ok { OnOk result (self.new ≡ asked_from address kind declares no_wait self.old) }
         ensures err { OnErr result (self.new ≡ self.old) }
     {
-        self.sources.try_reserve(1)?;
-        let link = self.links.want_receiver()?;
-        if let Err(memory) = self.deliveries.add_link(link, kind) {
-            self.links.unwant(link);
-            return Err(memory);
-        }
-        self.sources.push(Source { link, address })?;
+        let link = self.want_from(address, kind)?;
         self.awaited = Some(Awaited {
             link,
             declares,
@@ -166,6 +239,45 @@ impl SessionPath {
         Ok(())
     }
 
+    /// The link on which a get from this address can wait.
+    fn get_link(&self, address: &[u8]) -> Option<PathLink>
+        ensures { result ≡ get_link address.now self.now }
+    {
+        let sources = self.sources.as_slice();
+        first_get_link(self.links.all(), address, &self.deliveries, sources).copied()
+    }
+
+    /// A get waits on a link from this address that is wanted from now on.
+    fn get_on_new(&mut self, address: ByteText, no_ack: bool) -> Result<(), Memory>
+        requires { self.old.deliveries.gets < 2 ^ 62 }
+        ensures ok { OnOk result (self.new ≡ got_on None address no_ack self.old) }
+        ensures err { OnErr result (self.new ≡ self.old) }
+    {
+        let link = self.want_from(address, RecvKind::Get)?;
+        self.deliveries.get(link, no_ack);
+        Ok(())
+    }
+
+    /// basic.get of this queue was taken up; it waits for a delivery, or for a flow that finds
+    /// none. An empty name stands for the queue that was declared last. `Memory` also once so many
+    /// gets came that their numbers are used up.
+    pub fn get(&mut self, queue: ByteText, no_ack: bool) -> Result<(), Memory>
+        ensures ok { OnOk result (self.new ≡ got queue no_ack self.old) }
+        ensures err { OnErr result (self.new ≡ self.old) }
+    {
+        if self.deliveries.gets() >= MOST_GETS {
+            return Err(Memory);
+        }
+        let address = self.queue_or(queue)?;
+        match self.get_link(address.as_slice()) {
+            Some(l) => {
+                self.deliveries.get(l.link, no_ack);
+                Ok(())
+            }
+            None => self.get_on_new(address, no_ack),
+        }
+    }
+
     /// The queue that was declared last, for which an empty name stands; empty where none was.
     pub fn last_queue(&self) -> &[u8]
         ensures { result.now ≡ self.now.queue }
@@ -198,6 +310,13 @@ impl SessionPath {
         Ok(())
     }
 
+    /// A consumer or a get has this link, or deliveries of it aren't settled.
+    fn needs(&self, link: u32) -> bool
+        ensures { result ≡ is_needed self.now.deliveries link }
+    {
+        !(self.deliveries.is_over(link) || self.deliveries.is_at_rest(link))
+    }
+
     /// A detach under this handle of the container closes the channel: a consumer has the link, a
     /// request waits for it, or deliveries of it aren't settled.
     pub fn closes_at(&self, peer: u32) -> bool
@@ -205,18 +324,24 @@ impl SessionPath {
     {
         match self.receiver(peer) {
             Some(l) => {
-                !is_link_given(&l)
-                    && (is_awaited_on(self.awaited, l.link) || !self.deliveries.is_over(l.link))
+                !is_link_given(&l) && (is_awaited_on(self.awaited, l.link) || self.needs(l.link))
             }
             None => false,
         }
+    }
+
+    /// A get waits, and the life isn't closed.
+    fn awaits_get(&self) -> bool
+        ensures { result ≡ is_get_awaited self.now.deliveries }
+    {
+        !self.deliveries.is_closed() && self.deliveries.awaits_any()
     }
 
     /// A request waits for the container.
     pub fn waits(&self) -> bool
         ensures { result ≡ is_waiting self.now }
     {
-        self.awaited.is_some()
+        self.awaited.is_some() || self.awaits_get()
     }
 
     /// A basic.ack, nack or reject may name this tag: it is outstanding, or all are meant.
@@ -226,7 +351,8 @@ impl SessionPath {
         self.deliveries.knows(tag, multiple)
     }
 
-    /// A basic.ack, nack, reject or recover was taken up. `knows` says before whether it may name the tag.
+    /// A basic.ack, nack, reject or recover was taken up. `knows` says before whether it may name
+    /// the tag.
     pub fn answer_came(&mut self, tag: u64, multiple: bool, settle: Settle)
         ensures { self.new ≡ answer_came tag multiple settle self.old }
     {
@@ -265,8 +391,23 @@ impl SessionPath {
         }
     }
 
-    /// A transfer came that doesn't end its delivery, with this part of the payload.
-    /// `transfer_fault` says before whether it is at fault.
+    /// A transfer came that doesn't end its delivery, on this link.
+    fn join_on(&mut self, l: PathLink, part: Part, payload: &[u8]) -> Result<(), Memory>
+        requires { is_last part ≡ false }
+        ensures ok { (image : Option Content) (again : Bool) → OnOk result
+            (self.new ≡ transferred_on (Some l) part payload.now image again self.old) }
+        ensures err { OnErr result (self.new ≡ self.old) }
+    {
+        self.oks.try_reserve(1)?;
+        self.deliveries.join(l.link, part, payload)?;
+        if empty_out(&mut self.deliveries, l.link) {
+            self.oks.push_back(PathOk::Empty(l.link))?;
+        }
+        Ok(())
+    }
+
+    /// A transfer came that doesn't end its delivery, with this part of the payload. A get whose
+    /// delivery is aborted is answered. `transfer_fault` says before whether it is at fault.
     pub fn transfer(&mut self, peer: u32, part: Part, payload: &[u8]) -> Result<(), Memory>
         requires { is_last part ≡ false }
         ensures ok { (image : Option Content) (again : Bool) → OnOk result
@@ -274,13 +415,37 @@ impl SessionPath {
         ensures err { OnErr result (self.new ≡ self.old) }
     {
         match self.taking(peer) {
-            Some(l) => self.deliveries.join(l.link, part, payload),
+            Some(l) => self.join_on(l, part, payload),
             None => Ok(()),
         }
     }
 
+    /// A transfer came that ends its delivery, on this link.
+    fn arrive_on(
+        &mut self,
+        l: PathLink,
+        part: Part,
+        image: Option<Content>,
+        again: bool,
+    ) -> Result<(), Memory>
+        requires { is_last part ≡ true }
+        ensures ok { (payload : List ℕ) → OnOk result
+            (self.new ≡ transferred_on (Some l) part payload image again self.old) }
+        ensures err { OnErr result (self.new ≡ self.old) }
+    {
+        self.oks.try_reserve(1)?;
+        let served = image.is_some() && self.deliveries.awaits_get(l.link);
+        self.deliveries.last_transfer(l.link, part, image, again)?;
+        let empty = empty_out(&mut self.deliveries, l.link);
+        if served || empty {
+            self.oks.push_back(get_answer(served, l.link))?;
+        }
+        Ok(())
+    }
+
     /// A transfer came that ends its delivery, with what goes to the client of that. It has none
-    /// where it has no image. `again` says whether it was delivered before.
+    /// where it has no image. `again` says whether it was delivered before. It answers the get that
+    /// waits on its link.
     pub fn arrive(
         &mut self,
         peer: u32,
@@ -294,7 +459,7 @@ impl SessionPath {
         ensures err { OnErr result (self.new ≡ self.old) }
     {
         match self.taking(peer) {
-            Some(l) => self.deliveries.last_transfer(l.link, part, image, again),
+            Some(l) => self.arrive_on(l, part, image, again),
             None => Ok(()),
         }
     }
@@ -346,7 +511,14 @@ impl SessionPath {
 
     // ---- delivers
 
-    /// The deliver that is due.
+    /// The next answer is a get-ok.
+    fn is_get_next(&self) -> bool
+        ensures { result ≡ is_get_ok (first_of self.now.oks) }
+    {
+        matches!(self.next_ok(), Some(PathOk::Get))
+    }
+
+    /// The deliver or get-ok that is due.
     pub fn next_deliver(&self) -> Option<DeliverDue>
         ensures { result ≡ next_deliver self.now }
     {
@@ -355,18 +527,23 @@ impl SessionPath {
             return None;
         }
         let next = self.deliveries.next_deliver()?;
-        Some(DeliverDue {
+        deliver_if(
+            self.deliveries.serves_gets(next.link),
+            self.is_get_next(),
+            tags,
             next,
-            tag: tags + 1,
-        })
+        )
     }
 
-    /// This deliver was sent. Its content goes behind it.
+    /// This deliver or get-ok was sent. Its content goes behind it.
     pub fn deliver_sent(&mut self, due: DeliverDue)
         requires { next_deliver self.old ≡ Some due }
         ensures { self.new ≡ deliver_sent due self.old }
     {
         self.deliveries.commit_deliver(due.next);
+        if due.get {
+            self.oks.pop_front();
+        }
         self.writing = Some(Writing {
             id: due.next.id,
             tag: due.tag,
