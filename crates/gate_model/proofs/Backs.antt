@@ -16,10 +16,12 @@ use Rattle.open_items.specs.Numbers.{first, least}
 use Rattle.property_map.specs.Spelling.{image_text}
 use Rattle.publish_path.specs.Journal.{Fate, IsTaken, confirms_of, fate_of, is_to_return, new_fate}
 use Rattle.publish_path.specs.Journal.{numbers_of}
-use Rattle.publish_path.specs.Laws.{is_returning, is_to_begin, return_at, return_by, return_frame_by}
+use Rattle.publish_path.specs.Laws.{is_returning, is_to_begin, return_at, return_by}
+use Rattle.publish_path.specs.Laws.{return_frame_by}
 use Rattle.publish_path.specs.Offers.{next_return_of, return_frame_of}
 use Rattle.publish_path.specs.Publishes.{ConfirmSent, LinesTold, LinkGone, OutcomeCame}
-use Rattle.publish_path.specs.Publishes.{PublishEvent, PublishState, ReturnSent, TakenUp, next_number}
+use Rattle.publish_path.specs.Publishes.{PublishEvent, PublishState, ReturnSent, TakenUp}
+use Rattle.publish_path.specs.Publishes.{next_number}
 use Rattle.publish_path.specs.Publishes.{after_events as publishes_after, open_after}
 use Rattle.publish_path.specs.declared.publish.NextReturn.{NextReturn}
 use Rattle.session_path.specs.Due.{next_return, return_frame}
@@ -42,20 +44,26 @@ use Rattle.gate_model.specs.Folds.{connection, going_in, paths_in, peers, ran_ou
 use Rattle.gate_model.specs.Once.{is_channel_open, is_method_on}
 use Rattle.gate_model.specs.Paths.{or_no_path, path_at, slot_at}
 use Rattle.gate_model.specs.Picks.{ArePicks}
-use Rattle.gate_model.specs.Publishing.{MayGoBack, MayReturn, Returns, back_by, back_in, back_wanted}
-use Rattle.gate_model.specs.Publishing.{losing, losing_up, method_events, one_more, path_events, refusal_events}
+use Rattle.gate_model.specs.Publishing.{MayGoBack, MayReturn, Returns, back_by, back_in}
+use Rattle.gate_model.specs.Publishing.{back_wanted}
+use Rattle.gate_model.specs.Publishing.{losing, losing_up, method_events, one_more, path_events}
+use Rattle.gate_model.specs.Publishing.{refusal_events}
 use Rattle.gate_model.specs.Publishing.{told_event}
 use Rattle.gate_model.specs.Publishing.{path_life, publishes_in, reply_events, returned_by}
 use Rattle.gate_model.specs.Publishing.{returned_in, text_wanted, up_events, want_events}
 use Rattle.gate_model.specs.Requests.{address_of, message_of}
 use Rattle.gate_model.specs.Returns.{back_of}
+use Rattle.machine_091.specs.State.{is_open}
+use Rattle.gate_model.specs.State.{is_later}
 use Rattle.gate_model.specs.State.{Began, Came, Fed, Gave, Heard, Joined, LinesTold, Lost, Moment}
 use Rattle.gate_model.specs.State.{OutOfMemory}
 use Rattle.gate_model.specs.State.{Queued, Silent, Step, TakenUp, Whole, before, conn_step, want_in}
 use Rattle.gate_model.proofs.Fates.{IsLived, IsNext, PublishesAre, is_next, least_passes, lived}
 use Rattle.gate_model.proofs.Firsts.{OfChannel, goes_as}
-use Rattle.gate_model.proofs.Wholes.{ArePlain, both_plain, closed_plain, fallen_plain, heard_plain_in, if_plain}
-use Rattle.gate_model.proofs.Wholes.{is_plain, is_return, lost_plain, method_plain, refusal_plain, told_plain}
+use Rattle.gate_model.proofs.Wholes.{ArePlain, both_plain, closed_plain, fallen_plain}
+use Rattle.gate_model.proofs.Wholes.{heard_plain_in, if_plain}
+use Rattle.gate_model.proofs.Wholes.{is_plain, is_return, lost_plain, method_plain, refusal_plain}
+use Rattle.gate_model.proofs.Wholes.{told_plain}
 use Rattle.gate_model.proofs.Wholes.{whole_plain}
 
 -- ---- the laws of the publishes
@@ -165,6 +173,7 @@ plain life es (event.Owed ok) e t = t
 plain life es (event.Consumed address tag no_ack no_wait) e t = t
 plain life es (event.CancelCame tag no_wait) e t = t
 plain life es (event.Declared queue no_wait) e t = t
+plain life es (event.GetAsked queue no_ack) e t = t
 plain life es (event.AnswerCame tag multiple settle) e t = t
 plain life es (event.AttachCame attach) e t = t
 plain life es (event.FlowCame peer count credit drain echo) e t = t
@@ -274,6 +283,7 @@ method_backs true (method.ExchangeDeclare name kind passive durable deletes inte
 method_backs true (method.ConfirmSelect no_wait) life o es number count gone back t = calls (method.ConfirmSelect no_wait) o es number count gone back t
 method_backs true (method.BasicConsume queue tag no_local no_ack exclusive no_wait arguments) life o es number count gone back t =
     calls (method.BasicConsume queue tag no_local no_ack exclusive no_wait arguments) o es number count gone back t
+method_backs true (method.BasicGet queue no_ack) life o es number count gone back t = calls (method.BasicGet queue no_ack) o es number count gone back t
 method_backs true (method.BasicCancel tag no_wait) life o es number count gone back t = calls (method.BasicCancel tag no_wait) o es number count gone back t
 method_backs true (method.QueueDeclare queue passive durable exclusive deletes no_wait arguments) life o es number count gone back t =
     calls (method.QueueDeclare queue passive durable exclusive deletes no_wait arguments) o es number count gone back t
@@ -335,7 +345,7 @@ quietly : (h : List Step) (n number : ℕ) (xs : List PathEvent) → ArePlain xs
 quietly h n number xs p t = plain_backs (path_life h n) xs (path_events h n) number _ _ _ p t
 
 up_backs : (h : List Step) (n number : ℕ) (u : UpUnit) → BacksIn h n number
-    → Backs (path_life h n) (up_events n u ++ path_events h n) number (publishes_in n h) (back_in n number h) (returned_in n number h)
+    → Backs (path_life h n) (up_events (is_later (connection h) u) n u ++ path_events h n) number (publishes_in n h) (back_in n number h) (returned_in n number h)
 up_backs h n number (up.OnSession k (unit.Transfer t)) joins = by (path_life h n) (k == n) joins
   where
     by : (o : Option ℕ) (b : Bool) → Backs o (path_events h n) number (publishes_in n h) (back_in n number h) (returned_in n number h)
@@ -348,7 +358,7 @@ up_backs h n number (up.OnSession k (unit.Flow f)) joins = quietly h n number _ 
 up_backs h n number (up.OnSession k (unit.Dispose x)) joins = quietly h n number _ (if_plain (k == n) (event.DisposeSent ∷ []) [] (refl, tt) tt) joins
 up_backs h n number (up.OnSession k (unit.Settle x)) joins = quietly h n number _ (if_plain (k == n) (event.SettleSent x ∷ []) [] (refl, tt) tt) joins
 up_backs h n number (up.OnSession k (unit.Detach l handle why)) joins = quietly h n number _ (if_plain (k == n) (event.DetachSent ∷ []) [] (refl, tt) tt) joins
-up_backs h n number (up.End k why) joins = quietly h n number _ (if_plain (k == n) losing (event.LinesWent ∷ []) (refl, (refl, tt)) (refl, tt)) joins
+up_backs h n number (up.End k why) joins = quietly h n number _ (if_plain (not (is_open (connection h) k) && k == n) losing (event.LinesWent ∷ []) (refl, (refl, tt)) (refl, tt)) joins
 up_backs h n number u joins = joins
 
 -- a unit to the client

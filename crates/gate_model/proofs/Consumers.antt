@@ -1,6 +1,7 @@
 -- The tags of consumers are short, and what goes to a client of deliveries fits it: of each channel whose life is in progress, by its events.
 use Rattle.std.proofs.Common.{◌≡◌, ℕ, zero, suc, ◌+◌, ◌==◌, ◌≤◌, ◌&&◌, not, Bool, true, false}
-use Rattle.std.proofs.Common.{if◌then◌else◌, cond, List, [], ◌∷◌, ◌++◌, filter, find, length, map, codes, decimal, Option, None}
+use Rattle.std.proofs.Common.{if◌then◌else◌, cond, List, [], ◌∷◌, ◌++◌, filter, find, length, map}
+use Rattle.std.proofs.Common.{codes, decimal, Option, None}
 use Rattle.std.proofs.Common.{Some, refl, sym, subst, arith}
 use Rattle.std.proofs.lemmas.List.{length-append}
 use Rattle.std.specs.Fmt.{digit_glyph, digits, digits_onto}
@@ -13,7 +14,7 @@ use Rattle.consume_path.specs.Items as items
 use Rattle.consume_path.specs.Items.{needs_content, new_delivery, trimmed}
 use Rattle.consume_path.specs.Links as links
 use Rattle.consume_path.specs.Links.{consumer_link, has_number, link_of, new_link, recount, tag_in}
-use Rattle.consume_path.specs.Offers.{content_in, content_of as content_at, has_content}
+use Rattle.consume_path.specs.Offers.{content_in, content_of as content_at, has_content, is_drained}
 use Rattle.consume_path.specs.declared.delivery.Arriving.{Arriving}
 use Rattle.consume_path.specs.declared.delivery.Content.{Content}
 use Rattle.consume_path.specs.declared.delivery.Delivery.{Delivery}
@@ -25,13 +26,17 @@ use Rattle.consume_path.specs.declared.receiving.RecvKind.{RecvKind}
 use Rattle.consume_path.specs.declared.receiving.RecvKind.TheVariants as kind
 use Rattle.session_path.specs.Due.{next_name, or_no_name}
 use Rattle.session_path.specs.Events as event
-use Rattle.session_path.specs.Events.{PathEvent, after_events, arrivals, begins, cancels, deliveries_of, delivery_events}
-use Rattle.session_path.specs.Events.{disposes, drops, flows, globals, grants, prefetches, transfers}
+use Rattle.session_path.specs.Events.{PathEvent, after_events, arrivals, begins, cancels}
+use Rattle.session_path.specs.Events.{deliveries_of, delivery_events}
+use Rattle.session_path.specs.Events.{counts, disposes, drops, echoes, empties, flows, gets}
+use Rattle.session_path.specs.Events.{globals, grants, prefetches, transfers}
 use Rattle.session_path.specs.Laws.{IsBackOf, begun_names, named_by, names_owed, queue_in}
 use Rattle.session_path.specs.Path.{declares_in, is_answered}
 use Rattle.session_path.specs.declared.path.Awaited.{Awaited}
-use Rattle.session_path.specs.Path.{PathState, first_of, free_from, grant_in, is_grant_next, is_last, numbered_tag}
-use Rattle.session_path.specs.Path.{parting_of, receiver_in}
+use Rattle.session_path.specs.Path.{PathState, first_of, free_from, grant_in, is_grant_next}
+use Rattle.session_path.specs.Path.{is_last, numbered_tag}
+use Rattle.session_path.specs.Path.{detaching_of, flow_in, get_link, queue_or, receiver_in}
+use Rattle.session_path.specs.Path.{transferred}
 use Rattle.session_path.specs.Path.{tag_for, taking}
 use Rattle.session_path.specs.Links.{asked_by, named}
 use Rattle.session_path.specs.declared.path.AttachHeard.{AttachHeard}
@@ -243,6 +248,7 @@ IsGood l (event.Owed ok) = Unit {0}
 IsGood l (event.Consumed address tag no_ack no_wait) = length tag ≤ 255
 IsGood l (event.CancelCame tag no_wait) = length tag ≤ 255
 IsGood l (event.Declared queue no_wait) = length queue ≤ 255
+IsGood l (event.GetAsked queue no_ack) = Unit {0}
 IsGood l (event.AnswerCame tag multiple settle) = Unit {0}
 IsGood l (event.AttachCame attach) = Unit {0}
 IsGood l (event.FlowCame peer count credit drain echo) = Unit {0}
@@ -313,17 +319,33 @@ begins_good l (Some k) a = by (k.receives && a.there)
     by true = (tt, tt)
     by false = tt
 
-flows_good : (l : ℕ) (o : Option PathLink) (count : Option ℕ) (echo : Bool) → AllByRecursion (IsGoodOn l) (flows o count echo)
-flows_good l None count echo = tt
-flows_good l (Some k) None true = (tt, tt)
-flows_good l (Some k) None false = tt
-flows_good l (Some k) (Some n) true = (tt, (tt, tt))
-flows_good l (Some k) (Some n) false = (tt, tt)
+gets_good : (l : ℕ) (o : Option PathLink) (no_ack : Bool) (s : PathState) → AllByRecursion (IsGoodOn l) (gets o no_ack s)
+gets_good l None no_ack s = (tt, (tt, tt))
+gets_good l (Some k) no_ack s = (tt, tt)
+
+empties_good : (l link : ℕ) (d : DeliveryState) (xs : List DeliveryEvent) → AllByRecursion (IsGoodOn l) xs → AllByRecursion (IsGoodOn l) (empties link d ++ xs)
+empties_good l link d xs a = by (is_drained link d.links)
+  where
+    by : (b : Bool) → AllByRecursion (IsGoodOn l) ((if b then on.Emptied link ∷ [] else []) ++ xs)
+    by true = (tt, a)
+    by false = a
+
+flows_good : (l : ℕ) (o : Option PathLink) (count : Option ℕ) (echo : Bool) (d : DeliveryState) → AllByRecursion (IsGoodOn l) (flows o count echo d)
+flows_good l None count echo d = tt
+flows_good l (Some k) count echo d = empties_good l k.link (flow_in k.link count echo d) (echoes echo k.link ++ counts count k.link) (by count echo)
+  where
+    by : (o : Option ℕ) (b : Bool) → AllByRecursion (IsGoodOn l) (echoes b k.link ++ counts o k.link)
+    by None true = (tt, tt)
+    by None false = tt
+    by (Some n) true = (tt, (tt, tt))
+    by (Some n) false = (tt, tt)
 
 transfers_good : (l : ℕ) (o : Option PathLink) (part : Part) (payload : List ℕ) (image : Option Content) (again : Bool) (d : DeliveryState) → IfFit l image
     → AllByRecursion (IsGoodOn l) (transfers o part payload image again d)
 transfers_good l None part payload image again d f = tt
-transfers_good l (Some k) part payload image again d f = by (is_last part)
+transfers_good l (Some k) part payload image again d f =
+    empties_good l k.link (transferred k.link part payload image again d)
+    (arrivals (is_last part) k.link image again (on.after_event (on.TransferCame k.link part payload) d) ++ on.TransferCame k.link part payload ∷ []) (by (is_last part))
   where
     by : (b : Bool) → AllByRecursion (IsGoodOn l)
         (arrivals b k.link image again (on.after_event (on.TransferCame k.link part payload) d) ++ on.TransferCame k.link part payload ∷ [])
@@ -369,9 +391,10 @@ event_good l s (event.Owed x) g = prefetches_good l x
 event_good l s (event.Consumed address tag no_ack no_wait) g = (tag_short tag s.deliveries.links g, tt)
 event_good l s (event.CancelCame tag no_wait) g = cancels_good l (consumer_link tag s.deliveries.links)
 event_good l s (event.Declared queue no_wait) g = (tt, tt)
+event_good l s (event.GetAsked queue no_ack) g = gets_good l (get_link (queue_or s.queue queue) s) no_ack s
 event_good l s (event.AnswerCame tag multiple settle) g = (tt, tt)
 event_good l s (event.AttachCame attach) g = begins_good l (asked_by attach s.links) attach
-event_good l s (event.FlowCame peer count credit drain echo) g = flows_good l (receiver_in (named peer s.links)) count echo
+event_good l s (event.FlowCame peer count credit drain echo) g = flows_good l (receiver_in (named peer s.links)) count echo s.deliveries
 event_good l s (event.DetachCame peer not_found) g = tt
 event_good l s (event.TransferCame peer part payload image again) g = transfers_good l (taking peer s) part payload image again s.deliveries g
 event_good l s (event.LinkFailed peer fault) g = tt
@@ -381,7 +404,7 @@ event_good l s event.LinkFlowSent g = grants_good l (is_grant_next s) (grant_in 
 event_good l s (event.TransferSent frame count) g = tt
 event_good l s (event.SettleSent settling) g = tt
 event_good l s event.DisposeSent g = disposes_good l (next_settle_of s.deliveries.list)
-event_good l s event.DetachSent g = drops_good l (parting_of s)
+event_good l s event.DetachSent g = drops_good l (detaching_of s)
 event_good l s (event.ConfirmWent confirm) g = tt
 event_good l s (event.ReturnWent number) g = tt
 event_good l s (event.DeliverSent due) g = (tt, tt)

@@ -1,6 +1,8 @@
 -- What arrives for a client fits it: on each channel whose life is in progress the tags of consumers are short, and contents are cut by the limit that is agreed to.
-use Rattle.std.proofs.Common.{◌≡◌, ℕ, ◌+◌, ◌-◌, ◌==◌, ◌≤◌, ◌||◌, ◌&&◌, nat_le, not, Bool, true, false, if◌then◌else◌, List, []}
-use Rattle.std.proofs.Common.{◌∷◌, ◌++◌, length, Option, None, Some, option_map, refl, sym, ap, ◌∙◌, subst, arith}
+use Rattle.std.proofs.Common.{◌≡◌, ℕ, ◌+◌, ◌-◌, ◌==◌, ◌≤◌, ◌||◌, ◌&&◌, nat_le, not, Bool, true}
+use Rattle.std.proofs.Common.{false, if◌then◌else◌, List, []}
+use Rattle.std.proofs.Common.{◌∷◌, ◌++◌, length, Option, None, Some, option_map, refl, sym, ap, ◌∙◌}
+use Rattle.std.proofs.Common.{subst, arith}
 use Rattle.std.proofs.lemmas.Bool.Decides.{nat_tests}
 use Rattle.std.specs.List.{AllByRecursion}
 use Rattle.std.specs.Prelude.{IfSome}
@@ -43,19 +45,27 @@ use Rattle.session_path.specs.Path.{PathState}
 use Rattle.session_path.specs.declared.path.PathOk.{PathOk}
 use Rattle.session_path.specs.declared.path.PathOk.TheVariants as ok
 use Rattle.types_10.specs.Tree.{Tree}
-use Rattle.gate_model.specs.Folds.{Peers, accepted_in, connection, container, going_in, leaving_in, paths_in, peers, peers_by}
-use Rattle.gate_model.specs.Folds.{peers_came, peers_heard, peers_left, ran_out_in, routes_in, scope_in}
+use Rattle.gate_model.specs.Folds.{Peers, accepted_in, connection, container, going_in, leaving_in}
+use Rattle.gate_model.specs.Folds.{paths_in, peers, peers_by}
+use Rattle.gate_model.specs.Folds.{peers_came, peers_heard, peers_left, ran_out_in, routes_in}
+use Rattle.gate_model.specs.Folds.{scope_in}
 use Rattle.gate_model.specs.Frames.{limit_after, limit_in}
 use Rattle.gate_model.specs.Lives.{is_of_channel}
 use Rattle.gate_model.specs.Once.{is_channel_open, is_method_on}
-use Rattle.gate_model.specs.Paths.{content_of, fault_in, is_outcome, name_in, or_no_path, part_in, path_at, received_at, slot_at, text_of}
+use Rattle.gate_model.specs.Paths.{content_of, fault_in, is_outcome, name_in, or_no_path, part_in}
+use Rattle.gate_model.specs.Paths.{path_at, received_at, slot_at, text_of}
 use Rattle.gate_model.specs.Picks.{ArePicks}
-use Rattle.gate_model.specs.Publishing.{attach_events, closed_if, closing, given_event, heard_events, lost_if, meaning_events}
-use Rattle.gate_model.specs.Publishing.{method_events, owed_unless, path_events, path_life, reply_events}
-use Rattle.gate_model.specs.Publishing.{session_events, told_event, transfer_event, up_events, want_events, wrote_event, wrote_events}
-use Rattle.gate_model.specs.Requests.{client_step, is_queue_name, method_fault, refused_by, refused_for, refusal_of_want}
+use Rattle.gate_model.specs.Publishing.{attach_events, closed_if, closing, given_event}
+use Rattle.gate_model.specs.Publishing.{heard_events, lost_if, meaning_events}
+use Rattle.gate_model.specs.Publishing.{method_events, owed_unless, path_events, path_life}
+use Rattle.gate_model.specs.Publishing.{reply_events}
+use Rattle.gate_model.specs.Publishing.{session_events, told_event, transfer_event, up_events}
+use Rattle.gate_model.specs.Publishing.{want_events, wrote_event, wrote_events}
+use Rattle.gate_model.specs.Requests.{client_step, is_queue_name, method_fault, refused_by}
+use Rattle.gate_model.specs.Requests.{refused_for, refusal_of_want}
 use Rattle.gate_model.specs.Returns.{header_part}
 use Rattle.gate_model.specs.Session.{is_of_session}
+use Rattle.gate_model.specs.State.{is_later}
 use Rattle.gate_model.specs.State.{Began, Came, Fed, Gave, Heard, Joined, LinesTold, Lost, Moment}
 use Rattle.gate_model.specs.State.{OutOfMemory, Queued, Silent, Step}
 use Rattle.gate_model.specs.State.{TakenUp, Whole, before, close_if, closing_code, is_limit_reached}
@@ -71,11 +81,15 @@ use Rattle.gate_model.specs.declared.reply.Reply.{Reply}
 use Rattle.gate_model.specs.declared.reply.Reply.TheVariants as reply
 use Rattle.gate_model.specs.declared.setup.Route.{Route}
 use Rattle.gate_model.proofs.Connections.{limits_only, only_given}
-use Rattle.gate_model.proofs.Consumers.{AreDeliverable, NamesGoBack, IfFit, IsGood, all_both, all_still, name_short, deliverable}
+use Rattle.gate_model.proofs.Consumers.{AreDeliverable, NamesGoBack, IfFit, IsGood, all_both}
+use Rattle.gate_model.proofs.Consumers.{all_still, name_short, deliverable}
 use Rattle.gate_model.proofs.Fates.{IsLived, lived}
-use Rattle.gate_model.proofs.Fitting.{Agrees, Within, agrees, cut_fits, frame_long, limit_grows, running_tuned}
-use Rattle.gate_model.proofs.Outcomes.{Answers, Asking, Asks, Calls, Closes, Declines, Drops, Fills, Frees, Greets, Ignores}
-use Rattle.gate_model.proofs.Outcomes.{LogsIn, OnlyChannels, Outcome, Parting, Parts, Passes, Publishes, Refuses, Tunes, only_closing}
+use Rattle.gate_model.proofs.Fitting.{Agrees, Within, agrees, cut_fits, frame_long, limit_grows}
+use Rattle.gate_model.proofs.Fitting.{running_tuned}
+use Rattle.gate_model.proofs.Outcomes.{Answers, Asking, Asks, Calls, Closes, Declines, Drops, Fills}
+use Rattle.gate_model.proofs.Outcomes.{Frees, Greets, Ignores}
+use Rattle.gate_model.proofs.Outcomes.{LogsIn, OnlyChannels, Outcome, Parting, Parts, Passes}
+use Rattle.gate_model.proofs.Outcomes.{Publishes, Refuses, Tunes, only_closing}
 use Rattle.gate_model.proofs.Outcomes.{outcome}
 use Rattle.gate_model.proofs.Reports.{DeliveriesAre}
 use Rattle.gate_model.proofs.Sessions.{conn_cases}
@@ -229,6 +243,7 @@ method_good l (method.ChannelFlow active) e = (tt, tt)
 method_good l (method.ExchangeDeclare name kind passive durable deletes internal no_wait arguments) e = owed_good l no_wait ok.Declare
 method_good l (method.ConfirmSelect no_wait) e = all_both (IsGood l) (owed_unless no_wait (event.Owed ok.Select)) _ (owed_good l no_wait ok.Select) (tt, tt)
 method_good l (method.BasicConsume queue tag no_local no_ack exclusive no_wait arguments) e = (e, tt)
+method_good l (method.BasicGet queue no_ack) e = (tt, tt)
 method_good l (method.BasicCancel tag no_wait) e = (e, tt)
 method_good l (method.QueueDeclare queue passive durable exclusive deletes no_wait arguments) e = (e, tt)
 method_good l (method.BasicQos size count global) e = (tt, tt)
@@ -274,10 +289,10 @@ given_good l (unit.Dispose x) = tt
 given_good l (unit.Settle x) = tt
 given_good l (unit.Detach k handle why) = tt
 
-up_good : (l n : ℕ) (u : UpUnit) → AreGood l (up_events n u)
-up_good l n (up.OnSession k u) = if_good l (k == n) _ _ (given_good l u, tt) tt
-up_good l n (up.End k why) = if_good l (k == n) _ _ (tt, (tt, tt)) (tt, tt)
-up_good l n u = tt
+up_good : (l : ℕ) (later : Bool) (n : ℕ) (u : UpUnit) → AreGood l (up_events later n u)
+up_good l later n (up.OnSession k u) = if_good l (k == n) _ _ (given_good l u, tt) tt
+up_good l later n (up.End k why) = if_good l (not later && k == n) _ _ (tt, (tt, tt)) (tt, tt)
+up_good l later n u = tt
 
 wrote_good : (l : ℕ) (u : ChannelUnit) → AreGood l (wrote_event u)
 wrote_good l (to_client.Ok x) = tt
@@ -460,7 +475,7 @@ module _ (within : Within) (received : ReceivedAre) where
       (all_both (IsGood (limit_in h)) (lost_if (not (is_closing (connection h)))) _ (lost_good _ (not (is_closing (connection h)))) (tt, (tt, tt))) (fits n h p.1)
   fits n (Lost Up loss.Shut ∷ h) p = quietly h n _ (event.UpLost ∷ event.LinesWent ∷ []) refl (tt, (tt, tt)) (fits n h p.1)
   fits n (Gave (ToClient u) text ∷ h) p = quietly h n _ (reply_events n u) (max_only (only_given u (connection h))) (reply_good _ n u) (fits n h p.1)
-  fits n (Gave (ToUp u) text ∷ h) p = quietly h n _ (up_events n u) refl (up_good _ n u) (fits n h p.1)
+  fits n (Gave (ToUp u) text ∷ h) p = quietly h n _ (up_events (is_later (connection h) u) n u) refl (up_good _ (is_later (connection h) u) n u) (fits n h p.1)
   fits n (Whole Client ∷ h) p = quietly h n _ (wrote_events n (going_in h)) refl (whole_good _ n (going_in h)) (fits n h p.1)
   fits n (Whole Up ∷ h) p = fits n h p.1
   fits n (LinesTold ∷ h) p = quietly h n _ (event.LinesWent ∷ []) refl (tt, tt) (fits n h p.1)

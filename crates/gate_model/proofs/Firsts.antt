@@ -13,7 +13,8 @@ use Rattle.publish_path.specs.declared.publish.Confirm.{Confirm}
 use Rattle.publish_path.specs.declared.publish.NextReturn.{NextReturn}
 use Rattle.publish_path.specs.declared.publish.NextFrame.{NextFrame}
 use Rattle.consume_path.specs.declared.delivery.NextSettle.{NextSettle}
-use Rattle.session_path.specs.Due.{next_attach, next_confirm, next_content, next_deliver, next_detach, next_dispose}
+use Rattle.session_path.specs.Due.{next_attach, next_confirm, next_content, next_deliver}
+use Rattle.session_path.specs.Due.{next_detach, next_dispose}
 use Rattle.session_path.specs.Due.{next_flow, next_frame, next_ok, next_return, next_settle}
 use Rattle.session_path.specs.declared.path.AttachDue.{AttachDue}
 use Rattle.session_path.specs.declared.path.ContentDue.{ContentDue}
@@ -33,8 +34,11 @@ use Rattle.gate_model.specs.declared.outgoing.UpUnit.TheVariants as up
 use Rattle.gate_model.specs.declared.reply.Pending.{Pending}
 use Rattle.gate_model.specs.declared.reply.Reply.{Reply}
 use Rattle.gate_model.specs.declared.reply.Reply.TheVariants as reply
-use Rattle.gate_model.specs.Due.{answers, attaches, begins, carried_rows, channel_closes, channel_oks, contents, content_on}
-use Rattle.gate_model.specs.Due.{consume_ok_on, consume_oks, deliver_on, delivers, detach_out, disposals, is_consume_ok}
+use Rattle.gate_model.specs.Due.{answers, attaches, begins, carried_rows, channel_closes}
+use Rattle.gate_model.specs.Due.{channel_oks, contents, content_on}
+use Rattle.gate_model.specs.Due.{consume_ok_on, consume_oks, deliver_on, delivers, detach_out}
+use Rattle.gate_model.specs.Due.{disposals, is_consume_ok}
+use Rattle.gate_model.specs.Due.{empty_on, get_ok_on, get_on, gets, is_empty_ok, is_plain_ok}
 use Rattle.gate_model.specs.Due.{may_return, return_on, writing_on, writings}
 use Rattle.gate_model.specs.Due.{client_rows, client_units, close_behind, close_oks, close_oks_on}
 use Rattle.gate_model.specs.Due.{closes, confirm_on, confirms, detaches, ends, frame_max_in, if_so}
@@ -42,11 +46,11 @@ use Rattle.gate_model.specs.Due.{is_beat_due, is_end_due, last_closes, link_flow
 use Rattle.gate_model.specs.Due.{may_confirm, may_end, may_go, may_tell, none_left, ok_on, open_oks}
 use Rattle.gate_model.specs.Due.{openings, path_oks, pick, refused_on, row_on, rows_in}
 use Rattle.gate_model.specs.Due.{session_flows, session_rows, settlings, transfers, unless_out}
-use Rattle.gate_model.specs.Due.{up_rows, when}
+use Rattle.gate_model.specs.Due.{may_idle, other_rows, up_rows, when}
 use Rattle.gate_model.specs.Lives.{each, is_carried, life_at, session_in}
 use Rattle.gate_model.specs.Paths.{attach_out, flow_out, path_at, transfer_of}
 use Rattle.gate_model.specs.State.{State, is_channel_settled, is_settled}
-use Rattle.gate_model.specs.Upstream.{first, is_idle_due, opening_rows, when_up}
+use Rattle.gate_model.specs.Upstream.{first, opening_rows, when_up}
 
 -- ---- of lists
 
@@ -140,15 +144,17 @@ up_rows_are Q w us = all (is_readable w.up.side && not w.up.sent.close)
         (both_are P _ _ (when_up_is P w.up.pending.amqp_header up.AmqpHeader tt)
         (when_up_is P w.up.pending.«open» up.Open tt)))
 
-    rows : (closing : Bool) → FirstIs P (rows_in closing w)
-    rows true =
+    others : (closing : Bool) → FirstIs P (other_rows closing w)
+    others true =
         both_are P (session_rows w) _ (session_is Q w us)
         (both_are P (ends true w) (close_behind w) (last true) (when_up_is P (none_left w && w.up.sent.«open») _ tt))
-    rows false =
+    others false =
         both_are P (opening_rows w.up.pending) _ opening
         (both_are P (begins w) _ (each_is P _ w.lives (λ n. when_up_is P _ _ tt))
-        (both_are P (session_rows w) _ (session_is Q w us)
-        (both_are P (ends false w) _ (last false) (when_up_is P (is_idle_due w.up w.moment) up.Empty tt))))
+        (both_are P (session_rows w) (ends false w) (session_is Q w us) (last false)))
+
+    rows : (closing : Bool) → FirstIs P (rows_in closing w)
+    rows closing = both_are P (other_rows closing w) _ (others closing) (when_up_is P (may_idle w) up.Empty tt)
 
     all : (b : Bool) → FirstIs P (if b then rows_in (w.out_of_memory || is_closing w.conn) w else [])
     all true = rows (w.out_of_memory || is_closing w.conn)
@@ -192,7 +198,7 @@ client_rows_are Q w us =
 
     answer_is : (n : ℕ) (o : Option PathOk) → next_ok (path_at w.paths n) ≡ o → FirstIs P (ok_on n o)
     answer_is n None e = tt
-    answer_is n (Some x) e = when_is P (not (is_consume_ok x)) (reply.OnChannel n (to_client.Ok x)) (us.answer n x e)
+    answer_is n (Some x) e = when_is P (is_plain_ok x) (reply.OnChannel n (to_client.Ok x)) (us.answer n x e)
 
     consume_is : (n : ℕ) (o : Option PathOk) → next_ok (path_at w.paths n) ≡ o → FirstIs P (consume_ok_on n o)
     consume_is n None e = tt
@@ -200,7 +206,18 @@ client_rows_are Q w us =
 
     deliver_is : (n : ℕ) (o : Option DeliverDue) → next_deliver (path_at w.paths n) ≡ o → FirstIs P (deliver_on n o)
     deliver_is n None e = tt
-    deliver_is n (Some d) e = us.deliver n d e
+    deliver_is n (Some d) e = when_is P (not d.get) (reply.OnChannel n (to_client.Deliver d)) (us.deliver n d e)
+
+    empty_is : (n : ℕ) (o : Option PathOk) → next_ok (path_at w.paths n) ≡ o → FirstIs P (empty_on n o)
+    empty_is n None e = tt
+    empty_is n (Some x) e = when_is P (is_empty_ok x) (reply.OnChannel n (to_client.Ok x)) (us.answer n x e)
+
+    get_ok_is : (n : ℕ) (o : Option DeliverDue) → next_deliver (path_at w.paths n) ≡ o → FirstIs P (get_ok_on n o)
+    get_ok_is n None e = tt
+    get_ok_is n (Some d) e = when_is P d.get (reply.OnChannel n (to_client.Deliver d)) (us.deliver n d e)
+
+    get_is : (n : ℕ) → FirstIs P (get_on n (path_at w.paths n))
+    get_is n = both_are P (empty_on n (next_ok (path_at w.paths n))) _ (empty_is n (next_ok (path_at w.paths n)) refl) (get_ok_is n (next_deliver (path_at w.paths n)) refl)
 
     writing_is : (n : ℕ) (o : Option ContentDue) → next_content (path_at w.paths n) ≡ o → FirstIs P (writing_on n o)
     writing_is n None e = tt
@@ -213,8 +230,9 @@ client_rows_are Q w us =
     answering =
         both_are P (open_oks w) _ (each_is P _ w.lives (λ n. when_is P (life_at w.lives n).open_ok (reply.ChannelOpenOk n) tt))
         (both_are P (path_oks w) _ (each_is P _ w.lives (λ n. unless (life_at w.lives n).over _ (answer_is n (next_ok (path_at w.paths n)) refl)))
-        (both_are P (consume_oks w) (delivers w) (each_is P _ w.lives (λ n. unless (life_at w.lives n).over _ (consume_is n (next_ok (path_at w.paths n)) refl)))
-        (each_is P _ w.lives (λ n. unless (life_at w.lives n).over _ (deliver_is n (next_deliver (path_at w.paths n)) refl)))))
+        (both_are P (consume_oks w) _ (each_is P _ w.lives (λ n. unless (life_at w.lives n).over _ (consume_is n (next_ok (path_at w.paths n)) refl)))
+        (both_are P (gets w) (delivers w) (each_is P _ w.lives (λ n. unless (life_at w.lives n).over _ (get_is n)))
+        (each_is P _ w.lives (λ n. unless (life_at w.lives n).over _ (deliver_is n (next_deliver (path_at w.paths n)) refl))))))
 
     confirm_is : (n : ℕ) (may : Bool) (o : Option Confirm) → next_confirm (path_at w.paths n) ≡ o → FirstIs P (confirm_on may n o)
     confirm_is n may None e = tt

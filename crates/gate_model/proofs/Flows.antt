@@ -25,18 +25,23 @@ use Rattle.methods_091.specs.declared.method.Method91.TheVariants as method
 use Rattle.performatives_10.specs.declared.condition.Condition.{Condition}
 use Rattle.session_path.specs.Path as session
 use Rattle.consume_path.specs.Deliveries.{LinkAttached}
-use Rattle.consume_path.specs.Offers.{next_settle_of}
+use Rattle.consume_path.specs.Offers.{next_settle_of, is_drained}
 use Rattle.consume_path.specs.declared.delivery.Content.{Content}
 use Rattle.consume_path.specs.declared.delivery.NextSettle.{NextSettle}
 use Rattle.consume_path.specs.declared.receiving.NextGrant.{NextGrant}
 use Rattle.consume_path.specs.declared.receiving.Part.{Part}
 use Rattle.consume_path.specs.declared.receiving.TransferFault.{TransferFault}
 use Rattle.session_path.specs.Links.{asked_by, attached, named, parted}
-use Rattle.session_path.specs.Path.{PathState, begun_if, content_whole, detach_came, disposed_by, dropped_by, end_lost}
-use Rattle.session_path.specs.Path.{dropped, flowed_by, given_of, grant_in, outcome_came}
-use Rattle.session_path.specs.Path.{granted_by, is_answered, is_grant_next, lines_told, ok_sent, owed, published, receiver_in}
+use Rattle.session_path.specs.Path.{PathState, begun_if, content_whole, detach_came, disposed_by}
+use Rattle.session_path.specs.Path.{dropped_by, end_lost}
+use Rattle.session_path.specs.Path.{detaching_of, dropped, flow_in, flowed_by, get_link, got}
+use Rattle.session_path.specs.Path.{got_on, grant_in, is_served, outcome_came}
+use Rattle.session_path.specs.Path.{queue_or, transferred as transferred_in}
+use Rattle.session_path.specs.Path.{granted_by, is_answered, is_grant_next, lines_told, ok_sent}
+use Rattle.session_path.specs.Path.{owed, published, receiver_in}
 use Rattle.session_path.specs.Path.{answer_on, declares_in, names_by}
-use Rattle.session_path.specs.Path.{cancelled, first_of, parting_of, selected, still_awaited, taking, transferred_on, with_deliveries}
+use Rattle.session_path.specs.Path.{cancelled, first_of, selected, still_awaited, taking}
+use Rattle.session_path.specs.Path.{transferred_on, with_deliveries}
 use Rattle.session_path.specs.declared.path.AttachHeard.{AttachHeard}
 use Rattle.session_path.specs.declared.path.PathLink.{PathLink}
 use Rattle.types_10.specs.Tree.{Tree}
@@ -68,17 +73,22 @@ use Rattle.gate_model.specs.Lives.{is_of_channel}
 use Rattle.gate_model.specs.Session.{is_of_session, is_true}
 use Rattle.gate_model.specs.Once.{is_channel_flow, is_flow_ok, is_flow_ok_on, is_method_on, one_if}
 use Rattle.gate_model.specs.Once.{wanted_in, went_in}
-use Rattle.gate_model.specs.Paths.{attached_as, closed_path, closed_paths, credit_of, fault_in, heard_as, is_not_found}
+use Rattle.gate_model.specs.Paths.{attached_as, closed_path, closed_paths, credit_of, fault_in}
+use Rattle.gate_model.specs.Paths.{heard_as, is_not_found}
 use Rattle.gate_model.specs.Paths.{is_outcome, outcome_by, outcome_in}
 use Rattle.gate_model.specs.Paths.{link_flowed, transferred}
-use Rattle.gate_model.specs.Paths.{lost_path, name_in, no_paths, or_no_path, part_in, path_at, slot_at, text_of}
+use Rattle.gate_model.specs.Paths.{lost_path, name_in, no_paths, or_no_path, part_in, path_at}
+use Rattle.gate_model.specs.Paths.{slot_at, text_of}
 use Rattle.gate_model.specs.Paths.{told_paths, transferred_by, with_path}
+use Rattle.gate_model.specs.State.{is_later}
 use Rattle.gate_model.specs.State.{Began, Came, Fed, Gave, Heard, Joined, LinesTold, Lost, Moment}
 use Rattle.gate_model.specs.State.{OutOfMemory, conn_step}
 use Rattle.gate_model.specs.State.{Queued, Silent, State, Step, TakenUp, Whole, answered_if, before}
 use Rattle.gate_model.specs.State.{came, carried, left, lost_up, runs, windowed, dequeued, fail}
-use Rattle.gate_model.specs.State.{failed, heard, path_by, path_given, path_heard, path_told, path_wrote}
-use Rattle.gate_model.specs.State.{paths_by, paths_given, paths_given_up, paths_with, paths_wrote, refused_paths, with_meaning}
+use Rattle.gate_model.specs.State.{failed, heard, path_by, path_given, path_heard, path_told}
+use Rattle.gate_model.specs.State.{path_wrote}
+use Rattle.gate_model.specs.State.{paths_by, paths_given, paths_given_up, paths_with, paths_wrote}
+use Rattle.gate_model.specs.State.{refused_paths, with_meaning}
 use Rattle.gate_model.specs.State.{recovered, want_in, paths_lost}
 use Rattle.gate_model.specs.declared.setup.Route.{Route}
 
@@ -93,6 +103,8 @@ flows_in (ok.Consume l ∷ os) = flows_in os
 flows_in (ok.Qos count global ∷ os) = flows_in os
 flows_in (ok.Cancel ∷ os) = flows_in os
 flows_in (ok.Queue ∷ os) = flows_in os
+flows_in (ok.Get ∷ os) = flows_in os
+flows_in (ok.Empty link ∷ os) = flows_in os
 flows_in (ok.Recover ∷ os) = flows_in os
 
 -- each is a flow-ok, or none
@@ -104,6 +116,8 @@ flows_first (ok.Consume l) os = omega arith
 flows_first (ok.Qos count global) os = omega arith
 flows_first ok.Cancel os = omega arith
 flows_first ok.Queue os = omega arith
+flows_first ok.Get os = omega arith
+flows_first (ok.Empty link) os = omega arith
 flows_first ok.Recover os = omega arith
 
 flows_more : (os : List PathOk) (x : PathOk) → flows_in (os ++ x ∷ []) ≡ flows_in os + flows_in (x ∷ [])
@@ -249,22 +263,28 @@ attach_adds : (o : Option ℕ) (ts : List Tree) (s : PathState) → flows_in (at
 attach_adds None ts s = omega arith
 attach_adds (Some name) ts s = begun_adds (asked_by (heard_as ts name) s.links) (heard_as ts name) (record s { links = attached (heard_as ts name) s.links })
 
-flow_keeps : (o : Option PathLink) (peer : ℕ) (count : Option ℕ) (credit : ℕ) (drain echo : Bool) (s : PathState) → (flowed_by o peer count credit drain echo s).oks ≡ s.oks
-flow_keeps None peer count credit drain echo s = refl
-flow_keeps (Some l) peer None credit drain true s = refl
-flow_keeps (Some l) peer None credit drain false s = refl
-flow_keeps (Some l) peer (Some count) credit drain true s = refl
-flow_keeps (Some l) peer (Some count) credit drain false s = refl
+-- an answer may be due to a get, which is no flow-ok either
+one_adds : (b : Bool) (x : PathOk) (os : List PathOk) → flows_in (x ∷ []) ≡ 0 → flows_in (os ++ (if b then x ∷ [] else [])) ≤ flows_in os
+one_adds true x os none = let more = flows_more os x in omega (arith, more, none)
+one_adds false x os none = let same : flows_in (os ++ []) ≡ flows_in os = ap flows_in (append-nil os) in omega (arith, same)
 
-taken_keeps : (o : Option PathLink) (part : Part) (payload : List ℕ) (image : Option Content) (again : Bool) (s : PathState)
-    → (transferred_on o part payload image again s).oks ≡ s.oks
-taken_keeps None part payload image again s = refl
-taken_keeps (Some l) part payload image again s = refl
+flow_adds : (o : Option PathLink) (peer : ℕ) (count : Option ℕ) (credit : ℕ) (drain echo : Bool) (s : PathState) → flows_in (flowed_by o peer count credit drain echo s).oks ≤ flows_in s.oks
+flow_adds None peer count credit drain echo s = omega arith
+flow_adds (Some l) peer count credit drain echo s = one_adds (is_drained l.link (flow_in l.link count echo s.deliveries).links) (ok.Empty l.link) s.oks refl
 
-transfer_keeps : (o : Option TransferFault) (limit n peer : ℕ) (part : Part) (payload : List ℕ) (s : PathState)
-    → (transferred_by o limit n peer part payload s).oks ≡ s.oks
-transfer_keeps None limit n peer part payload s = taken_keeps (taking peer s) part payload _ _ s
-transfer_keeps (Some fault) limit n peer part payload s = refl
+taken_adds : (o : Option PathLink) (part : Part) (payload : List ℕ) (image : Option Content) (again : Bool) (s : PathState)
+    → flows_in (transferred_on o part payload image again s).oks ≤ flows_in s.oks
+taken_adds None part payload image again s = omega arith
+taken_adds (Some l) part payload image again s = by (is_served l.link part image s.deliveries) (is_drained l.link (transferred_in l.link part payload image again s.deliveries).links)
+  where
+    by : (a b : Bool) → flows_in (s.oks ++ (if a then ok.Get ∷ [] else if b then ok.Empty l.link ∷ [] else [])) ≤ flows_in s.oks
+    by true b = one_adds true ok.Get s.oks refl
+    by false b = one_adds b (ok.Empty l.link) s.oks refl
+
+transfer_adds : (o : Option TransferFault) (limit n peer : ℕ) (part : Part) (payload : List ℕ) (s : PathState)
+    → flows_in (transferred_by o limit n peer part payload s).oks ≤ flows_in s.oks
+transfer_adds None limit n peer part payload s = taken_adds (taking peer s) part payload _ _ s
+transfer_adds (Some fault) limit n peer part payload s = omega arith
 
 outcome_keeps : (ts : List Tree) (s : PathState) → (outcome_by ts s).oks ≡ s.oks
 outcome_keeps ts s = by (is_outcome ts)
@@ -279,8 +299,8 @@ heard_adds limit n q payload s =
     oks_if (q.0 == 17) s (session.began (number_at q.1 4) s) _ (omega arith)
     (oks_if (q.0 == 18) s _ _ (attach_adds (name_in (text_of (field q.1 0))) q.1 s)
     (oks_if (q.0 == 19 && not (is_of_session q.1)) s _ _
-    (same_oks (link_flowed q.1 s) s (flow_keeps (receiver_in (named (number_at q.1 4) s.links)) (number_at q.1 4) (number_in (field q.1 5)) (credit_of (number_in (field q.1 6))) (is_true (field q.1 8)) (is_true (field q.1 9)) s))
-    (oks_if (q.0 == 20) s _ _ (same_oks (transferred limit n q.1 payload s) s (transfer_keeps (fault_in q.1 payload s) limit n (number_at q.1 0) (part_in q.1) payload s))
+    (flow_adds (receiver_in (named (number_at q.1 4) s.links)) (number_at q.1 4) (number_in (field q.1 5)) (credit_of (number_in (field q.1 6))) (is_true (field q.1 8)) (is_true (field q.1 9)) s)
+    (oks_if (q.0 == 20) s _ _ (transfer_adds (fault_in q.1 payload s) limit n (number_at q.1 0) (part_in q.1) payload s)
     (oks_if (q.0 == 21) s _ _ (same_oks (outcome_by q.1 s) s (outcome_keeps q.1 s))
     (oks_if (q.0 == 22) s (detach_came (number_at q.1 0) (is_not_found (condition_in (field q.1 2))) s) _ (omega arith)
     (oks_if (q.0 == 23) s (lost_path s) s (omega arith) (omega arith)))))))
@@ -350,24 +370,24 @@ given_keeps (unit.Flow f) s = granted_keeps (is_grant_next s) (grant_in s) s _ r
 given_keeps (unit.Transfer t) s = refl
 given_keeps (unit.Dispose x) s = disposed_keeps (next_settle_of s.deliveries.list) s
 given_keeps (unit.Settle x) s = refl
-given_keeps (unit.Detach k handle why) s = dropped_keeps (parting_of s)
-    (record s { links = parted (parting_of s) (given_of s.publishes.list s.links) s.links })
+given_keeps (unit.Detach k handle why) s = dropped_keeps (detaching_of s) (record s { links = parted (detaching_of s) s.links })
 
 given_adds : (u : SessionUnit) → AddsNone (path_given u)
 unfolding AddsNone
 given_adds u s = same_oks (path_given u s) s (given_keeps u s)
 
-up_less : (n : ℕ) (u : UpUnit) (ps : List (Option PathState)) → flows_due n (paths_given_up u ps) ≤ flows_due n ps
-up_less n up.SaslHeader ps = omega arith
-up_less n up.SaslInit ps = omega arith
-up_less n up.AmqpHeader ps = omega arith
-up_less n up.Open ps = omega arith
-up_less n (up.Close why) ps = omega arith
-up_less n up.Empty ps = omega arith
-up_less n (up.OnSession k u) ps = with_less n k ps (path_given u) (given_adds u)
-up_less n (up.Flow k i o) ps = omega arith
-up_less n (up.Begin k) ps = omega arith
-up_less n (up.End k why) ps = less_both _ _ _ (with_less n k (told_paths ps) lost_path lost_adds) (reported_less n ps)
+up_less : (later : Bool) (n : ℕ) (u : UpUnit) (ps : List (Option PathState)) → flows_due n (paths_given_up later u ps) ≤ flows_due n ps
+up_less later n up.SaslHeader ps = omega arith
+up_less later n up.SaslInit ps = omega arith
+up_less later n up.AmqpHeader ps = omega arith
+up_less later n up.Open ps = omega arith
+up_less later n (up.Close why) ps = omega arith
+up_less later n up.Empty ps = omega arith
+up_less later n (up.OnSession k u) ps = with_less n k ps (path_given u) (given_adds u)
+up_less later n (up.Flow k i o) ps = omega arith
+up_less later n (up.Begin k) ps = omega arith
+up_less true n (up.End k why) ps = reported_less n ps
+up_less false n (up.End k why) ps = less_both _ _ _ (with_less n k (told_paths ps) lost_path lost_adds) (reported_less n ps)
 
 -- ---- a request
 
@@ -386,6 +406,13 @@ cancel_more : (tag : List ℕ) (no_wait : Bool) (s : PathState) → flows_in (ca
 cancel_more tag true s = omega arith
 cancel_more tag false s = owed_more ok.Cancel s refl
 
+get_keeps : (o : Option PathLink) (address : List ℕ) (no_ack : Bool) (s : PathState) → (got_on o address no_ack s).oks ≡ s.oks
+get_keeps None address no_ack s = refl
+get_keeps (Some l) address no_ack s = refl
+
+get_more : (queue : List ℕ) (no_ack : Bool) (s : PathState) → flows_in (got queue no_ack s).oks ≤ flows_in s.oks + 0
+get_more queue no_ack s = let same : flows_in (got queue no_ack s).oks ≡ flows_in s.oks = ap flows_in (get_keeps (get_link (queue_or s.queue queue) s) (queue_or s.queue queue) no_ack s) in omega (arith, same)
+
 flow_more : (s : PathState) → flows_in (s.oks ++ ok.Flow ∷ []) ≤ flows_in s.oks + 1
 flow_more s = let more = flows_more s.oks ok.Flow in omega (arith, more)
 
@@ -396,6 +423,7 @@ method_more n k life (method.ExchangeDeclare name kind passive durable auto_dele
     with_more n k ps (answered_if no_wait ok.Declare) 0 (λ s. ok_more ok.Declare no_wait s refl)
 method_more n k life (method.ConfirmSelect no_wait) ps =
     with_more n k ps (λ s. answered_if no_wait ok.Select (selected s)) 0 (λ s. ok_more ok.Select no_wait (selected s) refl)
+method_more n k life (method.BasicGet queue no_ack) ps = with_more n k ps (got queue no_ack) 0 (get_more queue no_ack)
 method_more n k life (method.BasicCancel tag no_wait) ps = with_more n k ps (cancelled tag no_wait) 0 (cancel_more tag no_wait)
 method_more n k life (method.BasicQos size count global) ps = with_more n k ps (owed (ok.Qos count global)) 0 (λ s. owed_more (ok.Qos count global) s refl)
 method_more n k life (method.BasicRecover requeue) ps =
@@ -458,6 +486,15 @@ sent_less s x e = by s.oks x e
         let all : flows_in (y ∷ os) ≡ flows_in os + one_if (is_flow_ok (to_client.Ok y)) = flows_first y os in
         subst (λ (x : PathOk). flows_in os + one_if (is_flow_ok (to_client.Ok y)) ≤ flows_in (x ∷ os)) (sym same) (omega (arith, all))
 
+drop_less : (os : List PathOk) → flows_in (drop 1 os) ≤ flows_in os
+drop_less [] = omega arith
+drop_less (x ∷ os) = let all = flows_first x os in omega (arith, all)
+
+-- a get-ok is no flow-ok
+deliver_less : (b : Bool) (os : List PathOk) → flows_in (if b then drop 1 os else os) + 0 ≤ flows_in os
+deliver_less true os = let less = drop_less os in omega (arith, less)
+deliver_less false os = omega arith
+
 told_less : (o : Option PathState) (u : ChannelUnit) → IsFirstOk (or_no_path o) u → owed_in (option_map (path_told u) o) + one_if (is_flow_ok u) ≤ owed_in o
 told_less None (to_client.Ok x) f = absurd cc
 told_less None (to_client.Deliver d) f = omega arith
@@ -465,7 +502,7 @@ told_less None (to_client.Content c) f = omega arith
 told_less None (to_client.Confirm c) f = omega arith
 told_less None (to_client.Return r) f = omega arith
 told_less (Some s) (to_client.Ok x) f = sent_less s x f
-told_less (Some s) (to_client.Deliver d) f = omega arith
+told_less (Some s) (to_client.Deliver d) f = deliver_less d.get s.oks
 told_less (Some s) (to_client.Content c) f = omega arith
 told_less (Some s) (to_client.Confirm c) f = omega arith
 told_less (Some s) (to_client.Return r) f = omega arith
@@ -578,7 +615,7 @@ counts n (Gave (ToClient u) text ∷ h) p =
     }) p.0.1) in
     let old = counts n h p.1 in
     omega (arith, less, old)
-counts n (Gave (ToUp u) text ∷ h) p = keeps _ _ _ _ (up_less n u (before h).paths) (counts n h p.1)
+counts n (Gave (ToUp u) text ∷ h) p = keeps _ _ _ _ (up_less (is_later (before h).conn u) n u (before h).paths) (counts n h p.1)
 counts n (Whole Client ∷ h) p = keeps _ _ _ _ (wrote_less n (before h).in_progress (before h).paths) (counts n h p.1)
 counts n (Whole Up ∷ h) p = counts n h p.1
 counts n (LinesTold ∷ h) p = keeps _ _ _ _ (reported_less n (before h).paths) (counts n h p.1)

@@ -1,5 +1,6 @@
 -- What goes to a client fits it: each unit is short, and no frame-max that is agreed to is less than 4,096.
-use Rattle.std.proofs.Common.{Bool, List, Option, Some, [], arith, false, if◌then◌else◌, length, refl, subst, sym}
+use Rattle.std.proofs.Common.{Bool, List, Option, Some, [], arith, false, if◌then◌else◌, length}
+use Rattle.std.proofs.Common.{refl, subst, sym}
 use Rattle.std.proofs.Common.{true, ℕ, zero, suc, ◌∷◌, ◌≡◌, ◌≤◌, None}
 use Rattle.std.proofs.lemmas.List.{length-append}
 use Rattle.std.specs.Prelude.{slice_get}
@@ -8,7 +9,9 @@ use Rattle.consume_path.specs.declared.delivery.Content.{Content}
 use Rattle.frames_091.specs.Frames.{frame_text}
 use Rattle.frames_091.specs.declared.frame.Kind91.TheVariants.{Method}
 use Rattle.methods_091.specs.Writing.{method_text}
-use Rattle.methods_091.specs.declared.method.Method91.TheVariants.{BasicCancelOk, BasicConsumeOk, BasicDeliver, BasicQosOk}
+use Rattle.methods_091.specs.declared.method.Method91.TheVariants.{BasicCancelOk, BasicConsumeOk}
+use Rattle.methods_091.specs.declared.method.Method91.TheVariants.{BasicDeliver, BasicQosOk}
+use Rattle.methods_091.specs.declared.method.Method91.TheVariants.{BasicGetOk, BasicGetEmpty}
 use Rattle.methods_091.specs.declared.method.Method91.TheVariants.{QueueDeclareOk}
 use Rattle.methods_091.specs.declared.method.Method91.TheVariants.{BasicRecoverOk}
 use Rattle.session_path.specs.Due.{next_name, frame_on, tag_of}
@@ -48,14 +51,16 @@ use Rattle.close_translate.specs.declared.conditions.Scope.TheVariants as scope
 use Rattle.gate_model.proofs.Connections.{limits_only, only_given}
 use Rattle.gate_model.proofs.Outcomes.{OnlyChannels, only_closing}
 use Rattle.gate_model.proofs.Sessions.{conn_cases}
-use Rattle.gate_model.proofs.Consumers.{AreDeliverable, NamesGoBack, IfFit, consumer_short, content_fits}
+use Rattle.gate_model.proofs.Consumers.{AreDeliverable, NamesGoBack, IfFit, consumer_short}
+use Rattle.gate_model.proofs.Consumers.{content_fits}
 use Rattle.gate_model.proofs.Delivering.{ReceivedAre, name_at, deliverable_at}
 use Rattle.gate_model.proofs.Fitting.{AreFit, backs_fit, fit_first, frame_long}
 use Rattle.gate_model.proofs.Reports.{DeliveriesAre}
 use Rattle.gate_model.proofs.Spelled.{spelled_small}
 use Rattle.gate_model.specs.Picks.{ArePicks}
 use Rattle.gate_model.specs.Publishing.{MayGoBack, Returns, back_in, returned_in}
-use Rattle.gate_model.specs.Due.{carries_back, carries_ok, carries_told, deliver_as, deliver_method, or_no_bytes}
+use Rattle.gate_model.specs.Due.{carries_back, carries_ok, carries_told, deliver_as, deliver_method}
+use Rattle.gate_model.specs.Due.{or_no_bytes, deliver_from}
 use Rattle.gate_model.specs.Paths.{path_at}
 use Rattle.gate_model.specs.Spelling.{channel_text, spell_reply}
 use Rattle.gate_model.specs.declared.channel.ChannelUnit.{ChannelUnit}
@@ -159,11 +164,21 @@ deliver_small : (tag exchange key : List ℕ) (number : ℕ) (again : Bool) → 
 deliver_small tag exchange key number again a b c =
     grind (arith, length-append, a, b, c)
 
-named_small : (tag : List ℕ) (d : DeliverDue) (l : ℕ) (o : Option Content) → length tag ≤ 255 → IfFit l o → length (method_text (deliver_as tag d o)) ≤ 1024
-named_small tag d l None e f = deliver_small tag [] [] d.tag d.next.again e (omega arith) (omega arith)
-named_small tag d l (Some c) e f = deliver_small tag c.exchange c.key d.tag d.next.again e f.exchange f.key
+get_ok_small : (exchange key : List ℕ) (number : ℕ) (again : Bool) → length exchange ≤ 255 → length key ≤ 255 → length (method_text (BasicGetOk number again exchange key 0)) ≤ 1024
+get_ok_small exchange key number again b c = grind (arith, length-append, b, c)
 
--- an answer to a basic.consume, cancel, qos or recover
+goes_small : (tag exchange key : List ℕ) (d : DeliverDue) → length tag ≤ 255 → length exchange ≤ 255 → length key ≤ 255 → length (method_text (deliver_from tag d exchange key)) ≤ 1024
+goes_small tag exchange key d a b c = by d.get
+  where
+    by : (get : Bool) → length (method_text (if get then BasicGetOk d.tag d.next.again exchange key 0 else BasicDeliver tag d.tag d.next.again exchange key)) ≤ 1024
+    by true = get_ok_small exchange key d.tag d.next.again b c
+    by false = deliver_small tag exchange key d.tag d.next.again a b c
+
+named_small : (tag : List ℕ) (d : DeliverDue) (l : ℕ) (o : Option Content) → length tag ≤ 255 → IfFit l o → length (method_text (deliver_as tag d o)) ≤ 1024
+named_small tag d l None e f = goes_small tag [] [] d e (omega arith) (omega arith)
+named_small tag d l (Some c) e f = goes_small tag c.exchange c.key d e f.exchange f.key
+
+-- an answer to a basic.consume, get, cancel, qos or recover
 consume_ok_small : (n : ℕ) (tag : List ℕ) → length tag ≤ 255 → length (channel_text n (BasicConsumeOk tag)) ≤ 512
 unfolding frame_text
 consume_ok_small n tag short = grind (arith, length-append, short)
@@ -179,6 +194,14 @@ queue_ok_small n queue short = grind (arith, length-append, short)
 qos_ok_small : (n : ℕ) → length (channel_text n BasicQosOk) ≤ 512
 unfolding frame_text
 qos_ok_small n = omega arith
+
+none_ok_small : (n : ℕ) → length (channel_text n (BasicGetOk 0 false [] [] 0)) ≤ 512
+unfolding frame_text
+none_ok_small n = omega arith
+
+empty_ok_small : (n : ℕ) → length (channel_text n BasicGetEmpty) ≤ 512
+unfolding frame_text
+empty_ok_small n = omega arith
 
 recover_ok_small : (n : ℕ) → length (channel_text n BasicRecoverOk) ≤ 512
 unfolding frame_text
@@ -213,6 +236,8 @@ ok_fits l n ok.Cancel s text le a c e =
 ok_fits l n ok.Queue s text le a c e =
     let short : length text ≤ 255 = subst (λ (x : List ℕ). length x ≤ 255) (sym e) c in
     omega (arith, queue_ok_small n text short, le)
+ok_fits l n ok.Get s text le a c e = omega (arith, none_ok_small n, le)
+ok_fits l n (ok.Empty link) s text le a c e = omega (arith, empty_ok_small n, le)
 ok_fits l n ok.Recover s text le a c e = omega (arith, recover_ok_small n, le)
 
 -- ---- all that goes

@@ -1,5 +1,5 @@
 -- What goes to a container, and when its end is shut, is what the folds say.
-use Rattle.std.proofs.Common.{suc, zero, Bool, List, None, Option, Some, [], ap, arith, false}
+use Rattle.std.proofs.Common.{suc, zero, Bool, List, None, Option, Some, [], ap, append_assoc, arith, false}
 use Rattle.std.proofs.Common.{if◌then◌else◌, inl, inr, length, nat_le, not, refl, subst, suc, sym}
 use Rattle.std.proofs.Common.{true, ℕ, ◌&&◌, ◌++◌, ◌+◌, ◌-◌, ◌/◌, ◌<◌, ◌==◌, ◌||◌, ◌∙◌, ◌∷◌, ◌≡◌}
 use Rattle.std.proofs.Common.{◌≤◌}
@@ -26,7 +26,7 @@ use Rattle.gate_model.specs.Asked.{is_opening_unit, is_up_close, openings_of, se
 use Rattle.gate_model.specs.Due.{begins, ends, flows_on, has_ended, has_failed, is_end_due}
 use Rattle.gate_model.specs.Due.{is_lingered, is_overdue, is_shut_due, none_left, pick, rows_in}
 use Rattle.gate_model.specs.Due.{session_flows, session_rows, carried_rows, row_on, attaches}
-use Rattle.gate_model.specs.Due.{disposals, unless_out, link_flows, settlings}
+use Rattle.gate_model.specs.Due.{disposals, may_idle, unless_out, link_flows, settlings}
 use Rattle.gate_model.specs.Lives.{any_life, each, is_begun, is_carried, is_ended, is_free, life_at}
 use Rattle.gate_model.specs.Lives.{session_in}
 use Rattle.gate_model.specs.declared.life.Life.{Life}
@@ -73,11 +73,13 @@ no_close_sent h p e = by (before h).up.sent.close refl
 
 -- what is due but for the opening
 abbrev others : State → List UpUnit
-others w = begins w ++ (session_rows w ++ (ends false w ++ when_up (is_idle_due w.up w.moment) up.Empty))
+others w = (begins w ++ (session_rows w ++ ends false w)) ++ when_up (may_idle w) up.Empty
 
 rows_while : (h : List Step) → ArePicks h → is_closing (connection h) ≡ false → is_readable (side_in h) ≡ true
     → due_up (before h) ≡ opening_rows (before h).up.pending ++ others (before h)
-rows_while h p e f = by _ _ _ (ap is_readable (side_is (known h p)) ∙ f) (no_close_sent h p e) (unclosed_now h p e)
+rows_while h p e f =
+    by _ _ _ (ap is_readable (side_is (known h p)) ∙ f) (no_close_sent h p e) (unclosed_now h p e)
+    ∙ append_assoc (opening_rows (before h).up.pending) (begins (before h) ++ (session_rows (before h) ++ ends false (before h))) (when_up (may_idle (before h)) up.Empty)
   where
     by : (r c k : Bool) → r ≡ true → c ≡ false → k ≡ false → (if r && not c then rows_in k (before h) else []) ≡ rows_in false (before h)
     by true false false a b c = refl
@@ -123,10 +125,11 @@ rows_none w =
 
 others_none : (w : State) → openings_of (others w) ≡ []
 others_none w =
-    none_more (begins w) _ (no_opening _ 0 w.lives (λ k l. when_none (l.begin && is_free (session_in w.up.container k)) (up.Begin k) refl))
+    none_more (begins w ++ (session_rows w ++ ends false w)) _
+    (none_more (begins w) _ (no_opening _ 0 w.lives (λ k l. when_none (l.begin && is_free (session_in w.up.container k)) (up.Begin k) refl))
     ∙ none_more (session_rows w) _ (rows_none w)
-    ∙ none_more (ends false w) _ (no_opening _ 0 w.lives (λ k l. when_none (is_end_due false w k) (up.End k l.why) refl))
-    ∙ no_empty (is_idle_due w.up w.moment)
+    ∙ no_opening _ 0 w.lives (λ k l. when_none (is_end_due false w k) (up.End k l.why) refl))
+    ∙ no_empty (may_idle w)
 
 pub are_called_for : (h : List Step) → ArePicks h → AreCalledFor h
 are_called_for h p =
@@ -157,13 +160,18 @@ tells_by idle ms last e =
     let some : 0 < idle = some_idle idle (and_left (not (idle == 0)) _ e) in
     record { stated = some; quiet = long_quiet ((idle + 1) / 2) ms last (half_some idle some) (and_right (not (idle == 0)) _ e) }
 
-may_tell : (h : List Step) → ArePicks h → is_closing (connection h) ≡ false → is_idle_due (before h).up (before h).moment ≡ true → MayTell h
-may_tell h p k e =
+not_true : (b : Bool) → not b ≡ true → b ≡ false
+not_true true e = absurd cc
+not_true false e = refl
+
+may_tell : (h : List Step) → ArePicks h → may_idle (before h) ≡ true → MayTell h
+may_tell h p m =
     let x : Known h = known h p in
     let s : UpSays h = up_says h p in
+    let e : is_idle_due (before h).up (before h).moment ≡ true = and_right (not (before h).out_of_memory) _ m in
     let t : Tells (idle_in (before h).up.container) (before h).moment (before h).up.last_sent_at = tells_by _ _ _ (and_right (before h).up.sent.«open» _ e) in
     record {
-      unclosed = k;
+      calm = sym (memory_is x) ∙ not_true (before h).out_of_memory (and_left (not (before h).out_of_memory) _ m);
       stated = subst (λ (o : Option Upstream). 0 < idle_in o) (container_is x) t.stated;
       opened = sym s.open_is ∙ and_left (before h).up.sent.«open» _ e;
       quiet = subst (λ (n : ℕ). sent_up_at h + (idle_in (container h) + 1) / 2 ≤ n) (moment_is x)
@@ -225,10 +233,6 @@ may_flow h u p e = first_at (MayGo h) (flows_on (before h).up.container) (before
             let owed : is_flow_owed (life_at (before h).lives n).session ≡ true = and_right (is_carried (session_in (before h).up.container n)) _ f in
             subst (MayGo h) at (here n (carries h p n owed) (and_left _ _ f) owed)
         by false f e = absurd cc
-
-not_true : (b : Bool) → not b ≡ true → b ≡ false
-not_true true e = absurd cc
-not_true false e = refl
 
 or_left : (a b : Bool) → (a || b) ≡ false → a ≡ false
 or_left true b e = absurd cc
@@ -302,7 +306,7 @@ may_go_up h u p (Begins k e) = may_begin h u p (closing_now h false p k) e
 may_go_up h u p (Flows e) = may_flow h u p e
 may_go_up h u p (Linked l) = subst (MayGo h) (sym l.is) (ap (λ (c : Option Upstream). is_carried (session_in c l.number)) (sym (container_is (known h p))) ∙ l.carried)
 may_go_up h u p (Ends e) = may_ends h u _ p refl e
-may_go_up h u p (Telling k i e) = subst (λ (x : UpUnit). MayGo h x) (sym e) (may_tell h p (closing_now h false p k) i)
+may_go_up h u p (Telling i e) = subst (λ (x : UpUnit). MayGo h x) (sym e) (may_tell h p i)
 
 goes : (h : List Step) (u : UpUnit) → ArePicks h → pick (before h) Up ≡ Some (ToUp u) → Goes h u
 goes h u p e =

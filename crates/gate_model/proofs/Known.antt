@@ -33,6 +33,7 @@ use Rattle.gate_model.specs.Picks.{ArePicks}
 use Rattle.close_translate.specs.declared.conditions.Scope.TheVariants as scope
 use Rattle.machine_10.specs.Parts.{Parts}
 use Rattle.gate_model.specs.Requests.{client_step}
+use Rattle.gate_model.specs.State.{is_later}
 use Rattle.gate_model.specs.State.{Began, Came, Fed, Gave, Heard, Joined, LinesTold, Lost, Moment}
 use Rattle.gate_model.specs.State.{OutOfMemory}
 use Rattle.gate_model.specs.State.{Queued, Silent, State, Step, TakenUp, Whole, before, came, close}
@@ -734,7 +735,7 @@ known (Gave (ToClient u) text ∷ h) p =
 known (Gave (ToUp u) text ∷ h) p =
     let k : Known h = known h p.1 in
     record {
-      same = ap (λ (x : Seen). record x { container = container_given u x.container; paths = paths_given_up u x.paths }) (still k);
+      same = ap (λ (x : Seen). record x { container = container_given u x.container; paths = paths_given_up (is_later x.conn u) u x.paths }) (still k);
       sound = k.sound;
       carries = λ n lt. sent_makes n u (before h).lives (within h p.1 n lt) ∙ sent_same n u _ (fold h) (k.carries n lt);
     }

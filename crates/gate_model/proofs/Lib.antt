@@ -1,6 +1,9 @@
+pub mod Arrived
 pub mod Backs
 pub mod Carried
 pub mod Carrying
+pub mod Channels
+pub mod Closed
 pub mod Closings
 pub mod Connections
 pub mod Consumers
@@ -13,6 +16,8 @@ pub mod Fitting
 pub mod Flows
 pub mod Frames
 pub mod Goes
+pub mod Granting
+pub mod Heard
 pub mod Known
 pub mod Lives
 pub mod Numbers
@@ -23,10 +28,13 @@ pub mod Outcomes
 pub mod Places
 pub mod Publishing
 pub mod Queues
+pub mod Receivers
+pub mod Releases
 pub mod Reports
 pub mod Rows
 pub mod Said
 pub mod Sessions
+pub mod Settles
 pub mod Silences
 pub mod Slots
 pub mod Spelled

@@ -36,6 +36,8 @@ use Rattle.gate_model.specs.Paths.{attach_fault_by, closed_path, closed_paths, f
 use Rattle.gate_model.specs.Paths.{lost_path, or_no_path, path_at, slot_at}
 use Rattle.gate_model.specs.Paths.{with_path}
 use Rattle.gate_model.specs.Session.{has_room, is_of_session}
+use Rattle.gate_model.specs.Folds.{connection}
+use Rattle.gate_model.specs.State.{is_later}
 use Rattle.gate_model.specs.State.{Began, Came, Fed, Gave, Heard, Joined, LinesTold, Lost, Moment}
 use Rattle.gate_model.specs.State.{OutOfMemory}
 use Rattle.gate_model.specs.State.{Queued, Silent, Step, TakenUp, Whole, attach_scope, closing_code}
@@ -115,10 +117,11 @@ reply_many : (u : Reply) (ps : List (Option PathState)) → Long ps → Long (pa
 reply_many (reply.OnChannel n u) ps e = with_many n _ ps e
 reply_many u ps e = e
 
-up_many : (u : UpUnit) (ps : List (Option PathState)) → Long ps → Long (paths_given_up u ps)
-up_many (up.OnSession n u) ps e = with_many n _ ps e
-up_many (up.End n why) ps e = with_many n lost_path _ (each_many _ ps e)
-up_many u ps e = e
+up_many : (later : Bool) (u : UpUnit) (ps : List (Option PathState)) → Long ps → Long (paths_given_up later u ps)
+up_many later (up.OnSession n u) ps e = with_many n _ ps e
+up_many true (up.End n why) ps e = each_many _ ps e
+up_many false (up.End n why) ps e = with_many n lost_path _ (each_many _ ps e)
+up_many later u ps e = e
 
 wrote_many : (o : Option Reply) (ps : List (Option PathState)) → Long ps → Long (paths_wrote o ps)
 wrote_many (Some (reply.OnChannel n u)) ps e = with_many n _ ps e
@@ -150,7 +153,7 @@ many_paths (Lost Up loss.Ended ∷ h) = failed_many _ _ (each_many _ _ (each_man
 many_paths (Lost Up loss.Failed ∷ h) = failed_many _ _ (each_many _ _ (each_many _ (paths_in h) (many_paths h)))
 many_paths (Lost Up loss.Shut ∷ h) = each_many _ _ (each_many _ (paths_in h) (many_paths h))
 many_paths (Gave (ToClient u) text ∷ h) = reply_many u (paths_in h) (many_paths h)
-many_paths (Gave (ToUp u) text ∷ h) = up_many u (paths_in h) (many_paths h)
+many_paths (Gave (ToUp u) text ∷ h) = up_many (is_later (connection h) u) u (paths_in h) (many_paths h)
 many_paths (Whole Client ∷ h) = wrote_many _ (paths_in h) (many_paths h)
 many_paths (Whole Up ∷ h) = many_paths h
 many_paths (LinesTold ∷ h) = each_many _ (paths_in h) (many_paths h)

@@ -41,22 +41,30 @@ use Rattle.gate_model.specs.declared.reply.Reply.{Reply}
 use Rattle.gate_model.specs.declared.reply.Reply.TheVariants as reply
 use Rattle.gate_model.specs.Folds.{Peers, container, ended_on, leaving_in, paths_failed}
 use Rattle.gate_model.specs.Folds.{paths_in, peers, peers_by, peers_came, peers_failed, peers_heard}
-use Rattle.gate_model.specs.Folds.{carried_on, going_in, peers_closed, peers_left, peers_lost, peers_scoped}
+use Rattle.gate_model.specs.Folds.{carried_on, going_in, peers_closed, peers_left, peers_lost}
+use Rattle.gate_model.specs.Folds.{peers_scoped}
 use Rattle.gate_model.specs.Folds.{connection, peers_told, ran_out_in, routes_in, scope_in}
 use Rattle.gate_model.specs.Once.{is_channel_open, is_method_on}
-use Rattle.gate_model.specs.Paths.{attached_as, closed_path, closed_paths, fault_in, is_outcome, lost_path, name_in}
-use Rattle.gate_model.specs.Paths.{no_paths, or_no_path, part_in, path_at, set_path, slot_at, text_of, transferred_by}
+use Rattle.gate_model.specs.Paths.{attached_as, closed_path, closed_paths, fault_in, is_outcome}
+use Rattle.gate_model.specs.Paths.{lost_path, name_in}
+use Rattle.gate_model.specs.Paths.{no_paths, or_no_path, part_in, path_at, set_path, slot_at}
+use Rattle.gate_model.specs.Paths.{text_of, transferred_by}
 use Rattle.gate_model.specs.Paths.{told_paths, with_path}
 use Rattle.gate_model.specs.Picks.{ArePicks}
-use Rattle.gate_model.specs.Publishing.{attach_events, closed_if, closing, failing, given_event, heard_events}
-use Rattle.gate_model.specs.Publishing.{losing, losing_up, lost_if, meaning_events, method_events, owed_unless}
-use Rattle.gate_model.specs.Publishing.{path_events, path_life, refusal_events, reply_events, session_events}
-use Rattle.gate_model.specs.Publishing.{step_events, told_event, transfer_event, up_events, want_events}
+use Rattle.gate_model.specs.Publishing.{attach_events, closed_if, closing, failing, given_event}
+use Rattle.gate_model.specs.Publishing.{heard_events}
+use Rattle.gate_model.specs.Publishing.{losing, losing_up, lost_if, meaning_events, method_events}
+use Rattle.gate_model.specs.Publishing.{owed_unless}
+use Rattle.gate_model.specs.Publishing.{path_events, path_life, refusal_events, reply_events}
+use Rattle.gate_model.specs.Publishing.{session_events}
+use Rattle.gate_model.specs.Publishing.{step_events, told_event, transfer_event, up_events}
+use Rattle.gate_model.specs.Publishing.{want_events}
 use Rattle.gate_model.specs.Publishing.{wrote_event, wrote_events}
 use Rattle.gate_model.specs.Requests.{message_of, address_of}
 use Rattle.gate_model.specs.Returns.{back_of}
 use Rattle.gate_model.specs.Lives.{is_of_channel}
 use Rattle.gate_model.specs.Session.{is_of_session}
+use Rattle.gate_model.specs.State.{is_later}
 use Rattle.gate_model.specs.State.{Began, Came, Fed, Gave, Heard, Joined, LinesTold, Lost, Moment}
 use Rattle.gate_model.specs.State.{OutOfMemory}
 use Rattle.gate_model.specs.State.{Queued, Silent, Step, TakenUp, Whole, answered_if, before}
@@ -283,17 +291,18 @@ given_is (unit.Dispose x) s = refl
 given_is (unit.Settle x) s = refl
 given_is (unit.Detach k handle why) s = refl
 
-up_is : (n : ℕ) (u : UpUnit) (ps : List (Option PathState)) → Goes n ps (up_events n u) (paths_given_up u ps)
-up_is n up.SaslHeader ps = stays n ps
-up_is n up.SaslInit ps = stays n ps
-up_is n up.AmqpHeader ps = stays n ps
-up_is n up.Open ps = stays n ps
-up_is n (up.Close why) ps = stays n ps
-up_is n up.Empty ps = stays n ps
-up_is n (up.OnSession k u) ps = changes n k ps (path_given u) (given_event u ∷ []) (given_is u)
-up_is n (up.Flow k i o) ps = stays n ps
-up_is n (up.Begin k) ps = stays n ps
-up_is n (up.End k why) ps =
+up_is : (later : Bool) (n : ℕ) (u : UpUnit) (ps : List (Option PathState)) → Goes n ps (up_events later n u) (paths_given_up later u ps)
+up_is later n up.SaslHeader ps = stays n ps
+up_is later n up.SaslInit ps = stays n ps
+up_is later n up.AmqpHeader ps = stays n ps
+up_is later n up.Open ps = stays n ps
+up_is later n (up.Close why) ps = stays n ps
+up_is later n up.Empty ps = stays n ps
+up_is later n (up.OnSession k u) ps = changes n k ps (path_given u) (given_event u ∷ []) (given_is u)
+up_is later n (up.Flow k i o) ps = stays n ps
+up_is later n (up.Begin k) ps = stays n ps
+up_is true n (up.End k why) ps = each_told n ps
+up_is false n (up.End k why) ps =
     subst (λ (xs : List PathEvent). Goes n ps xs (with_path k lost_path (told_paths ps))) (by (k == n))
     (behind (each_told n ps) (changes n k (told_paths ps) lost_path (event.SessionLost ∷ []) (λ s. refl)))
   where
@@ -377,6 +386,8 @@ method_tells n k life (method.BasicConsume queue tag no_local no_ack exclusive n
     not_opened (k == n) life _ es (goes_on t (changes n k ps _ (event.Consumed queue tag no_ack no_wait ∷ []) (λ s. refl)))
 method_tells n k life (method.QueueDeclare queue passive durable exclusive deletes no_wait arguments) ps o es t =
     not_opened (k == n) life _ es (goes_on t (changes n k ps _ (event.Declared queue no_wait ∷ []) (λ s. refl)))
+method_tells n k life (method.BasicGet queue no_ack) ps o es t =
+    not_opened (k == n) life _ es (goes_on t (changes n k ps (path_by (method.BasicGet queue no_ack)) (method_events (method.BasicGet queue no_ack)) (λ s. refl)))
 method_tells n k life (method.BasicCancel tag no_wait) ps o es t =
     not_opened (k == n) life _ es (goes_on t (changes n k ps (path_by (method.BasicCancel tag no_wait)) (method_events (method.BasicCancel tag no_wait)) (λ s. refl)))
 method_tells n k life (method.BasicQos size count global) ps o es t =
@@ -466,7 +477,7 @@ tells n (Lost Up loss.Ended ∷ h) p = goes_on (tells n h p.1) (falls n (peers h
 tells n (Lost Up loss.Failed ∷ h) p = goes_on (tells n h p.1) (falls n (peers h))
 tells n (Lost Up loss.Shut ∷ h) p = goes_on (tells n h p.1) (all_lost n (paths_in h))
 tells n (Gave (ToClient u) text ∷ h) p = goes_on (tells n h p.1) (reply_is n u (paths_in h))
-tells n (Gave (ToUp u) text ∷ h) p = goes_on (tells n h p.1) (up_is n u (paths_in h))
+tells n (Gave (ToUp u) text ∷ h) p = goes_on (tells n h p.1) (up_is (is_later (connection h) u) n u (paths_in h))
 tells n (Whole Client ∷ h) p = goes_on (tells n h p.1) (wrote_goes n (going_in h) (paths_in h))
 tells n (Whole Up ∷ h) p = tells n h p.1
 tells n (LinesTold ∷ h) p = goes_on (tells n h p.1) (each_told n (paths_in h))

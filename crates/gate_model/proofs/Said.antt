@@ -4,7 +4,9 @@ use Rattle.gate_model.specs.declared.reply.Reason.{Reason}
 use Rattle.session_path.specs.Due.{next_confirm, next_content, next_deliver, next_ok, next_return}
 use Rattle.session_path.specs.declared.path.ContentDue.{ContentDue}
 use Rattle.session_path.specs.declared.path.DeliverDue.{DeliverDue}
-use Rattle.gate_model.specs.Due.{answers, consume_ok_on, consume_oks, deliver_on, delivers, is_consume_ok}
+use Rattle.gate_model.specs.Due.{answers, consume_ok_on, consume_oks, deliver_on, delivers}
+use Rattle.gate_model.specs.Due.{is_consume_ok}
+use Rattle.gate_model.specs.Due.{empty_on, get_ok_on, gets, is_empty_ok, is_plain_ok}
 use Rattle.gate_model.specs.Due.{writing_on, writings}
 use Rattle.gate_model.specs.declared.life.SessionState.{SessionState}
 use Rattle.gate_model.proofs.Firsts.{FirstIs, both_are, each_is, when_is}
@@ -45,7 +47,8 @@ use Rattle.gate_model.specs.declared.reply.Reply.{Reply}
 use Rattle.gate_model.specs.declared.reply.Reply.TheVariants as reply
 use Rattle.gate_model.specs.Answers.{AreAnswered, AreReplies, All, Overtaken, TakenBack, is_close}
 use Rattle.gate_model.specs.Answers.{is_close_ok, last_units}
-use Rattle.gate_model.specs.Due.{channel_closes, channel_oks, client_units, close_oks, close_oks_on, contents, may_return, content_on, return_on, may_confirm}
+use Rattle.gate_model.specs.Due.{channel_closes, channel_oks, client_units, close_oks, close_oks_on}
+use Rattle.gate_model.specs.Due.{contents, may_return, content_on, return_on, may_confirm}
 use Rattle.gate_model.specs.Due.{closes, confirm_on, confirms, if_so, ok_on, path_oks, is_beat_due}
 use Rattle.gate_model.specs.Due.{last_closes, may_answer, may_end, may_go, may_tell, open_oks}
 use Rattle.gate_model.specs.Due.{openings, pick, refused_on, rows, when, is_awaiting, is_silent}
@@ -624,7 +627,7 @@ path_oks_open w = each_is IsOpen _ w.lives (λ n. unless_over (life_at w.lives n
   where
     by : (n : ℕ) (o : Option PathOk) → FirstIs IsOpen (ok_on n o)
     by n None = tt
-    by n (Some x) = when_is IsOpen (not (is_consume_ok x)) (reply.OnChannel n (told_unit.Ok x)) (on_open n (told_unit.Ok x))
+    by n (Some x) = when_is IsOpen (is_plain_ok x) (reply.OnChannel n (told_unit.Ok x)) (on_open n (told_unit.Ok x))
 
 consume_oks_open : (w : State) → FirstIs IsOpen (consume_oks w)
 consume_oks_open w = each_is IsOpen _ w.lives (λ n. unless_over (life_at w.lives n).over _ (by n (next_ok (path_at w.paths n))))
@@ -638,7 +641,18 @@ delivers_open w = each_is IsOpen _ w.lives (λ n. unless_over (life_at w.lives n
   where
     by : (n : ℕ) (o : Option DeliverDue) → FirstIs IsOpen (deliver_on n o)
     by n None = tt
-    by n (Some d) = on_open n (told_unit.Deliver d)
+    by n (Some d) = when_is IsOpen (not d.get) (reply.OnChannel n (told_unit.Deliver d)) (on_open n (told_unit.Deliver d))
+
+gets_open : (w : State) → FirstIs IsOpen (gets w)
+gets_open w = each_is IsOpen _ w.lives (λ n. unless_over (life_at w.lives n).over _ (both_are IsOpen (empty_on n (next_ok (path_at w.paths n))) _ (empty n (next_ok (path_at w.paths n))) (by n (next_deliver (path_at w.paths n)))))
+  where
+    empty : (n : ℕ) (o : Option PathOk) → FirstIs IsOpen (empty_on n o)
+    empty n None = tt
+    empty n (Some x) = when_is IsOpen (is_empty_ok x) (reply.OnChannel n (told_unit.Ok x)) (on_open n (told_unit.Ok x))
+
+    by : (n : ℕ) (o : Option DeliverDue) → FirstIs IsOpen (get_ok_on n o)
+    by n None = tt
+    by n (Some d) = when_is IsOpen d.get (reply.OnChannel n (told_unit.Deliver d)) (on_open n (told_unit.Deliver d))
 
 confirms_open : (w : State) → FirstIs IsOpen (confirms w)
 confirms_open w =
@@ -670,7 +684,7 @@ answers_are : (w : State) → FirstIs (IsOfChannel w) (answers w)
 answers_are w =
     both_are (IsOfChannel w) (open_oks w) _ (each_first _ (IsOfChannel w) (open_oks w) (λ u e. InOpenOks e) (first_itself (open_oks w)))
     (each_first IsOpen (IsOfChannel w) _ (λ u o. InOpen o)
-    (both_are IsOpen (path_oks w) _ (path_oks_open w) (both_are IsOpen (consume_oks w) (delivers w) (consume_oks_open w) (delivers_open w))))
+    (both_are IsOpen (path_oks w) _ (path_oks_open w) (both_are IsOpen (consume_oks w) _ (consume_oks_open w) (both_are IsOpen (gets w) (delivers w) (gets_open w) (delivers_open w)))))
 
 -- the first of what is due is the first of the rows of the connection, or of those of channels
 units_first : (w : State) (r : Reply) → first (client_units w) ≡ Some r

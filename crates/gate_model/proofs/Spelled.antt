@@ -1,7 +1,8 @@
 -- The bytes of a unit to a client are some, and few.
 use Rattle.property_map.specs.declared.told.Told.{Told}
 use Rattle.gate_model.specs.declared.reply.Reason.{Reason}
-use Rattle.std.proofs.Common.{◌≡◌, Bool, List, arith, codes, false, if◌then◌else◌, length, ℕ, ◌<◌, ◌≤◌, Option, None, Some, ◌∷◌}
+use Rattle.std.proofs.Common.{◌≡◌, Bool, List, arith, codes, false, if◌then◌else◌, length, ℕ, ◌<◌}
+use Rattle.std.proofs.Common.{◌≤◌, Option, None, Some, ◌∷◌}
 use Rattle.std.proofs.Common.{true}
 use Rattle.std.proofs.lemmas.List.{length-append}
 use Rattle.close_translate.specs.Codes.{name_of}
@@ -123,6 +124,8 @@ on_channel_small n (unit.Ok (ok.Consume link)) text e = absurd cc
 on_channel_small n (unit.Ok (ok.Qos count global)) text e = absurd cc
 on_channel_small n (unit.Ok ok.Cancel) text e = absurd cc
 on_channel_small n (unit.Ok ok.Queue) text e = absurd cc
+on_channel_small n (unit.Ok ok.Get) text e = absurd cc
+on_channel_small n (unit.Ok (ok.Empty link)) text e = absurd cc
 on_channel_small n (unit.Ok ok.Recover) text e = absurd cc
 on_channel_small n (unit.Deliver d) text e = absurd cc
 on_channel_small n (unit.Content c) text e = absurd cc

@@ -35,7 +35,7 @@ use Rattle.gate_model.specs.declared.outgoing.UpUnit.TheVariants as up
 use Rattle.gate_model.specs.Asked.{called, called_by, called_from, is_opening_unit, is_up_close}
 use Rattle.gate_model.specs.Asked.{is_up_open, sent_up_whole}
 use Rattle.gate_model.specs.Due.{attaches, begins, carried_rows, close_behind, detaches, disposals}
-use Rattle.gate_model.specs.Due.{ends}
+use Rattle.gate_model.specs.Due.{ends, may_idle, other_rows}
 use Rattle.gate_model.specs.Due.{flows_on, is_end_due, link_flows, none_left, pick, row_on, rows_in}
 use Rattle.gate_model.specs.Due.{session_flows, session_rows, settlings, transfers, unless_out}
 use Rattle.gate_model.specs.Due.{up_rows}
@@ -378,7 +378,7 @@ pub data Picked (closing : Bool) (w : State) (u : UpUnit) : Type 0 where
   Flows : first (session_flows w) ≡ Some u → Picked closing w u
   Linked : IsLinked w u → Picked closing w u
   Ends : first (ends closing w) ≡ Some u → Picked closing w u
-  Telling : closing ≡ false → is_idle_due w.up w.moment ≡ true → u ≡ up.Empty → Picked closing w u
+  Telling : may_idle w ≡ true → u ≡ up.Empty → Picked closing w u
 
 pub record GoesUp (closing : Bool) (w : State) (u : UpUnit) : Type 0 where
   pub readable : is_readable w.up.side ≡ true
@@ -469,8 +469,8 @@ both_true true true e = (refl, refl)
 both_true true false e = absurd cc
 both_true false b e = absurd cc
 
-picked_in : (closing : Bool) (w : State) (u : UpUnit) → first (rows_in closing w) ≡ Some u → Picked closing w u
-picked_in true w u e = by (either (session_rows w) (ends true w ++ close_behind w) u e)
+picked_other : (closing : Bool) (w : State) (u : UpUnit) → first (other_rows closing w) ≡ Some u → Picked closing w u
+picked_other true w u e = by (either (session_rows w) (ends true w ++ close_behind w) u e)
   where
     parting : (first (ends true w) ≡ Some u) ⊎ ((ends true w ≡ []) × (first (close_behind w) ≡ Some u)) → Picked true w u
     parting (inl f) = Ends f
@@ -482,29 +482,29 @@ picked_in true w u e = by (either (session_rows w) (ends true w ++ close_behind 
     by : (first (session_rows w) ≡ Some u) ⊎ ((session_rows w ≡ []) × (first (ends true w ++ close_behind w) ≡ Some u)) → Picked true w u
     by (inl f) = on_session true w u f
     by (inr f) = parting (either (ends true w) (close_behind w) u f.1)
-picked_in false w u e = opening (either (opening_rows w.up.pending) (begins w ++ rest) u e)
+picked_other false w u e = opening (either (opening_rows w.up.pending) (begins w ++ rest) u e)
   where
-    last : List UpUnit
-    last = when_up (is_idle_due w.up w.moment) up.Empty
-
     rest : List UpUnit
-    rest = session_rows w ++ (ends false w ++ last)
+    rest = session_rows w ++ ends false w
 
-    ending : (first (ends false w) ≡ Some u) ⊎ ((ends false w ≡ []) × (first last ≡ Some u)) → Picked false w u
-    ending (inl f) = Ends f
-    ending (inr f) = let l = last_is (is_idle_due w.up w.moment) up.Empty u f.1 in Telling refl l.0 l.1
-
-    session : (first (session_rows w) ≡ Some u) ⊎ ((session_rows w ≡ []) × (first (ends false w ++ last) ≡ Some u)) → Picked false w u
+    session : (first (session_rows w) ≡ Some u) ⊎ ((session_rows w ≡ []) × (first (ends false w) ≡ Some u)) → Picked false w u
     session (inl f) = on_session false w u f
-    session (inr f) = ending (either (ends false w) last u f.1)
+    session (inr f) = Ends f.1
 
     beginning : (first (begins w) ≡ Some u) ⊎ ((begins w ≡ []) × (first rest ≡ Some u)) → Picked false w u
     beginning (inl f) = Begins refl f
-    beginning (inr f) = session (either (session_rows w) (ends false w ++ last) u f.1)
+    beginning (inr f) = session (either (session_rows w) (ends false w) u f.1)
 
     opening : (first (opening_rows w.up.pending) ≡ Some u) ⊎ ((opening_rows w.up.pending ≡ []) × (first (begins w ++ rest) ≡ Some u)) → Picked false w u
     opening (inl f) = Opening refl f
     opening (inr f) = beginning (either (begins w) rest u f.1)
+
+picked_in : (closing : Bool) (w : State) (u : UpUnit) → first (rows_in closing w) ≡ Some u → Picked closing w u
+picked_in closing w u e = by (either (other_rows closing w) (when_up (may_idle w) up.Empty) u e)
+  where
+    by : Found (other_rows closing w) (when_up (may_idle w) up.Empty) u → Picked closing w u
+    by (inl f) = picked_other closing w u f
+    by (inr f) = let l = last_is (may_idle w) up.Empty u f.1 in Telling l.0 l.1
 
 goes_by : (w : State) (u : UpUnit) → first (up_rows w) ≡ Some u → GoesUp (w.out_of_memory || is_closing w.conn) w u
 goes_by w u e = by (is_readable w.up.side) w.up.sent.close refl refl e
@@ -575,7 +575,7 @@ isnt_opening w closing u (Begins k e) = inl (ap is_opening_unit (begin_is w u e)
 isnt_opening w closing u (Flows e) = inl (ap is_opening_unit (flow_is w u e).is)
 isnt_opening w closing u (Linked l) = inl (ap is_opening_unit l.is)
 isnt_opening w closing u (Ends e) = inl (ap is_opening_unit (end_is closing w u e).is)
-isnt_opening w closing u (Telling k i e) = inl (ap is_opening_unit e)
+isnt_opening w closing u (Telling i e) = inl (ap is_opening_unit e)
 
 opening_closes : (u : UpUnit) → is_opening_unit u ≡ true → is_up_close u ≡ false
 opening_closes up.SaslHeader e = refl
@@ -597,7 +597,7 @@ is_a_close {closing} {w} {u} (Begins k e) = inl (ap is_up_close (begin_is w u e)
 is_a_close {closing} {w} {u} (Flows e) = inl (ap is_up_close (flow_is w u e).is)
 is_a_close {closing} {w} {u} (Linked l) = inl (ap is_up_close l.is)
 is_a_close {closing} {w} {u} (Ends e) = inl (ap is_up_close (end_is closing w u e).is)
-is_a_close (Telling k i e) = inl (ap is_up_close e)
+is_a_close (Telling i e) = inl (ap is_up_close e)
 
 ups_begun : (w : State) (closing : Bool) (u : UpUnit) (q : UpPending) (at : Phase10) (went : List UpUnit) → Picked closing w u → Ups w.up.pending q at went
     → Ups (without_up u w.up.pending) q at (went ++ u ∷ [])

@@ -47,22 +47,26 @@ use Rattle.gate_model.specs.declared.outgoing.UpUnit.{UpUnit}
 use Rattle.gate_model.specs.declared.outgoing.UpUnit.TheVariants as up
 use Rattle.gate_model.specs.declared.reply.Reply.{Reply}
 use Rattle.gate_model.specs.declared.reply.Reply.TheVariants as reply
-use Rattle.gate_model.specs.Folds.{Peers, connection, container, going_in, paths_in, peers, ran_out_in, routes_in}
+use Rattle.gate_model.specs.Folds.{Peers, connection, container, going_in, paths_in, peers}
+use Rattle.gate_model.specs.Folds.{ran_out_in, routes_in}
 use Rattle.gate_model.specs.Folds.{scope_in}
 use Rattle.gate_model.specs.Lives.{is_of_channel}
 use Rattle.gate_model.specs.Once.{is_channel_open, is_method_on}
 use Rattle.gate_model.specs.Paths.{fault_in, is_outcome, name_in, part_in, path_at, text_of}
 use Rattle.gate_model.specs.Picks.{ArePicks}
 use Rattle.gate_model.specs.Publishing.{ArePieces, EndWhole, MayCarry, MayFinish, MayTransfer}
-use Rattle.gate_model.specs.Publishing.{attach_events, closed_if, closing, heard_events, image_by, image_in, joined_in}
+use Rattle.gate_model.specs.Publishing.{attach_events, closed_if, closing, heard_events, image_by}
+use Rattle.gate_model.specs.Publishing.{image_in, joined_in}
 use Rattle.gate_model.specs.Publishing.{joined_on, left_of, lost_if, meaning_events, method_events}
 use Rattle.gate_model.specs.Publishing.{one_more, owed_unless, path_events, path_life, publishes_in}
 use Rattle.gate_model.specs.Publishing.{reply_events, session_events, step_events, text_wanted}
-use Rattle.gate_model.specs.Publishing.{losing, losing_up, refusal_events, told_event, transfer_event, up_events}
+use Rattle.gate_model.specs.Publishing.{losing, losing_up, refusal_events, told_event}
+use Rattle.gate_model.specs.Publishing.{transfer_event, up_events}
 use Rattle.gate_model.specs.Publishing.{want_events, wrote_event, wrote_events}
 use Rattle.gate_model.specs.Requests.{message_of, address_of}
 use Rattle.gate_model.specs.Returns.{back_of}
 use Rattle.gate_model.specs.Session.{is_of_session}
+use Rattle.gate_model.specs.State.{is_later}
 use Rattle.gate_model.specs.State.{Began, Came, Fed, Gave, Heard, Joined, LinesTold, Lost, Moment}
 use Rattle.gate_model.specs.State.{OutOfMemory}
 use Rattle.gate_model.specs.State.{Queued, Silent, Step, TakenUp, Whole, closing_code, conn_step}
@@ -88,6 +92,7 @@ is_plain (event.Owed ok) = true
 is_plain (event.Consumed address tag no_ack no_wait) = true
 is_plain (event.CancelCame tag no_wait) = true
 is_plain (event.Declared queue no_wait) = true
+is_plain (event.GetAsked queue no_ack) = true
 is_plain (event.AnswerCame tag multiple settle) = true
 is_plain (event.AttachCame attach) = true
 is_plain (event.FlowCame peer count credit drain echo) = true
@@ -146,6 +151,7 @@ method_plain (method.ChannelFlow active) = (refl, tt)
 method_plain (method.ExchangeDeclare name kind passive durable deletes internal no_wait arguments) = owed_plain no_wait ok.Declare
 method_plain (method.ConfirmSelect no_wait) = both_plain (owed_unless no_wait (event.Owed ok.Select)) _ (owed_plain no_wait ok.Select) (refl, tt)
 method_plain (method.BasicConsume queue tag no_local no_ack exclusive no_wait arguments) = (refl, tt)
+method_plain (method.BasicGet queue no_ack) = (refl, tt)
 method_plain (method.BasicCancel tag no_wait) = (refl, tt)
 method_plain (method.QueueDeclare queue passive durable exclusive deletes no_wait arguments) = (refl, tt)
 method_plain (method.BasicQos size count global) = (refl, tt)
@@ -262,6 +268,7 @@ plain life es (event.Owed ok) e t = t
 plain life es (event.Consumed address tag no_ack no_wait) e t = t
 plain life es (event.CancelCame tag no_wait) e t = t
 plain life es (event.Declared queue no_wait) e t = t
+plain life es (event.GetAsked queue no_ack) e t = t
 plain life es (event.AnswerCame tag multiple settle) e t = t
 plain life es (event.AttachCame attach) e t = t
 plain life es (event.FlowCame peer count credit drain echo) e t = t
@@ -347,6 +354,7 @@ method_joins true (method.ExchangeDeclare name kind passive durable deletes inte
 method_joins true (method.ConfirmSelect no_wait) life o es number count image joined t = calls (method.ConfirmSelect no_wait) o es number count image joined t
 method_joins true (method.BasicConsume queue tag no_local no_ack exclusive no_wait arguments) life o es number count image joined t =
     calls (method.BasicConsume queue tag no_local no_ack exclusive no_wait arguments) o es number count image joined t
+method_joins true (method.BasicGet queue no_ack) life o es number count image joined t = calls (method.BasicGet queue no_ack) o es number count image joined t
 method_joins true (method.BasicCancel tag no_wait) life o es number count image joined t = calls (method.BasicCancel tag no_wait) o es number count image joined t
 method_joins true (method.QueueDeclare queue passive durable exclusive deletes no_wait arguments) life o es number count image joined t =
     calls (method.QueueDeclare queue passive durable exclusive deletes no_wait arguments) o es number count image joined t
@@ -447,7 +455,7 @@ frame_joins publishes rests h n number t text m joins =
     none_by e false g = old.none e
 
 up_joins : PublishesAre → RestsAre → (h : List Step) (n number : ℕ) (u : UpUnit) (text : List ℕ) → MayCarry h u text → JoinsIn h n number
-    → Joins (path_life h n) (up_events n u ++ path_events h n) number (publishes_in n h) (image_in n number h) (joined_on n number u text (joined_in n number h))
+    → Joins (path_life h n) (up_events (is_later (connection h) u) n u ++ path_events h n) number (publishes_in n h) (image_in n number h) (joined_on n number u text (joined_in n number h))
 up_joins publishes rests h n number (up.OnSession k (unit.Transfer t)) text m joins = by (k == n) refl
   where
     by : (b : Bool) → (k == n) ≡ b
@@ -468,7 +476,7 @@ up_joins publishes rests h n number (up.OnSession k (unit.Settle x)) text m join
 up_joins publishes rests h n number (up.OnSession k (unit.Detach l handle why)) text m joins =
     plain_joins (path_life h n) _ (path_events h n) number _ _ _ (if_plain (k == n) (event.DetachSent ∷ []) [] (refl, tt) tt) joins
 up_joins publishes rests h n number (up.End k why) text m joins =
-    plain_joins (path_life h n) _ (path_events h n) number _ _ _ (if_plain (k == n) losing (event.LinesWent ∷ []) (refl, (refl, tt)) (refl, tt)) joins
+    plain_joins (path_life h n) _ (path_events h n) number _ _ _ (if_plain (not (is_open (connection h) k) && k == n) losing (event.LinesWent ∷ []) (refl, (refl, tt)) (refl, tt)) joins
 up_joins publishes rests h n number u text m joins = joins
 
 told_joins : (h : List Step) (n number k : ℕ) (u : ChannelUnit) → is_return u ≡ false → JoinsIn h n number

@@ -158,9 +158,10 @@ pub record MayClose (h : List Step) (why : Option Condition) : Type 0 where
 -- ---- frames that tell that the gateway is alive
 
 -- an empty frame goes where the container stated an idle time-out, the open was sent, and half of
--- the time-out, rounded up, passed since the last unit was sent (AMQP 1.0 2.4.5)
+-- the time-out, rounded up, passed since the last unit was sent (AMQP 1.0 2.4.5); none goes once the
+-- pair ran out of memory
 pub record MayTell (h : List Step) : Type 0 where
-  pub unclosed : is_closing (connection h) ≡ false
+  pub calm : ran_out_in h ≡ false
   pub stated : 0 < idle_in (container h)
   pub opened : list_any is_up_open (sent_up h) ≡ true
   pub quiet : sent_up_at h + (idle_in (container h) + 1) / 2 ≤ moment_in h

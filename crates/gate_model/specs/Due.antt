@@ -36,7 +36,7 @@ use Rattle.consume_path.specs.Offers.{content_of}
 use Rattle.consume_path.specs.declared.delivery.Content.{Content}
 use Rattle.methods_091.specs.Writing.{method_text}
 use Rattle.methods_091.specs.declared.method.Method91.{Method91}
-use Rattle.methods_091.specs.declared.method.Method91.TheVariants.{BasicDeliver}
+use Rattle.methods_091.specs.declared.method.Method91.TheVariants.{BasicDeliver, BasicGetOk}
 use Rattle.publish_path.specs.declared.publish.Confirm.{Confirm}
 use Rattle.publish_path.specs.declared.publish.NextReturn.{NextReturn}
 use Rattle.session_path.specs.Due.{next_attach, next_confirm, next_detach, next_flow}
@@ -118,8 +118,20 @@ open_oks w = each (λ n l. when l.open_ok (reply.ChannelOpenOk n)) 0 w.lives
 
 -- ---- answers on open channels, and confirms
 
--- a queue.declare-ok and a basic.consume-ok go behind the answers of all channels to requests that
--- need nothing of the container
+-- the answers of all channels to requests that need nothing of the container go before those to
+-- queue.declare and basic.consume, and these before those to basic.get
+abbrev pub is_plain_ok : PathOk → Bool
+is_plain_ok ok.Flow = true
+is_plain_ok ok.Declare = true
+is_plain_ok ok.Select = true
+is_plain_ok (ok.Consume link) = false
+is_plain_ok (ok.Qos count global) = true
+is_plain_ok ok.Cancel = true
+is_plain_ok ok.Queue = false
+is_plain_ok ok.Get = false
+is_plain_ok (ok.Empty link) = false
+is_plain_ok ok.Recover = true
+
 abbrev pub is_consume_ok : PathOk → Bool
 is_consume_ok ok.Flow = false
 is_consume_ok ok.Declare = false
@@ -128,7 +140,21 @@ is_consume_ok (ok.Consume link) = true
 is_consume_ok (ok.Qos count global) = false
 is_consume_ok ok.Cancel = false
 is_consume_ok ok.Queue = true
+is_consume_ok ok.Get = false
+is_consume_ok (ok.Empty link) = false
 is_consume_ok ok.Recover = false
+
+abbrev pub is_empty_ok : PathOk → Bool
+is_empty_ok ok.Flow = false
+is_empty_ok ok.Declare = false
+is_empty_ok ok.Select = false
+is_empty_ok (ok.Consume link) = false
+is_empty_ok (ok.Qos count global) = false
+is_empty_ok ok.Cancel = false
+is_empty_ok ok.Queue = false
+is_empty_ok ok.Get = false
+is_empty_ok (ok.Empty link) = true
+is_empty_ok ok.Recover = false
 
 -- an answer that takes memory: those of the classes basic and queue
 abbrev pub is_long_ok : PathOk → Bool
@@ -139,11 +165,13 @@ is_long_ok (ok.Consume link) = true
 is_long_ok (ok.Qos count global) = true
 is_long_ok ok.Cancel = true
 is_long_ok ok.Queue = true
+is_long_ok ok.Get = true
+is_long_ok (ok.Empty link) = true
 is_long_ok ok.Recover = true
 
 abbrev pub ok_on : ℕ → Option PathOk → List Reply
 ok_on n None = []
-ok_on n (Some x) = when (not (is_consume_ok x)) (reply.OnChannel n (unit.Ok x))
+ok_on n (Some x) = when (is_plain_ok x) (reply.OnChannel n (unit.Ok x))
 
 abbrev pub consume_ok_on : ℕ → Option PathOk → List Reply
 consume_ok_on n None = []
@@ -161,11 +189,30 @@ path_oks w = each (oks_on w.paths) 0 w.lives
 abbrev pub consume_oks : State → List Reply
 consume_oks w = each (consume_oks_on w.paths) 0 w.lives
 
+-- answers to basic.get on open channels: a basic.get-empty, or else a get-ok
+
+abbrev pub empty_on : ℕ → Option PathOk → List Reply
+empty_on n None = []
+empty_on n (Some x) = when (is_empty_ok x) (reply.OnChannel n (unit.Ok x))
+
+abbrev pub get_ok_on : ℕ → Option DeliverDue → List Reply
+get_ok_on n None = []
+get_ok_on n (Some d) = when d.get (reply.OnChannel n (unit.Deliver d))
+
+abbrev pub get_on : ℕ → PathState → List Reply
+get_on n s = empty_on n (next_ok s) ++ get_ok_on n (next_deliver s)
+
+abbrev pub gets_on : List (Option PathState) → ℕ → Life → List Reply
+gets_on ps n l = if l.over then [] else get_on n (path_at ps n)
+
+abbrev pub gets : State → List Reply
+gets w = each (gets_on w.paths) 0 w.lives
+
 -- delivers on open channels
 
 abbrev pub deliver_on : ℕ → Option DeliverDue → List Reply
 deliver_on n None = []
-deliver_on n (Some d) = reply.OnChannel n (unit.Deliver d) ∷ []
+deliver_on n (Some d) = when (not d.get) (reply.OnChannel n (unit.Deliver d))
 
 abbrev pub delivers_on : List (Option PathState) → ℕ → Life → List Reply
 delivers_on ps n l = if l.over then [] else deliver_on n (next_deliver (path_at ps n))
@@ -266,7 +313,7 @@ if_so false us = []
 
 -- what goes on open channels
 abbrev pub answers : State → List Reply
-answers w = open_oks w ++ (path_oks w ++ (consume_oks w ++ delivers w))
+answers w = open_oks w ++ (path_oks w ++ (consume_oks w ++ (gets w ++ delivers w)))
 
 -- the units that are due to a client, but for a heartbeat: each row by rising numbers of channels,
 -- of which the connection is 0
@@ -397,13 +444,17 @@ abbrev pub session_rows : State → List UpUnit
 session_rows w =
     unless_out w.out_of_memory (carried_rows w) ++ (disposals w ++ (settlings w ++ detaches w))
 
+abbrev pub other_rows : Bool → State → List UpUnit
+other_rows true w = session_rows w ++ (ends true w ++ close_behind w)
+other_rows false w =
+    opening_rows w.up.pending ++ (begins w ++ (session_rows w ++ ends false w))
+
+-- and behind them an empty frame; none goes once the pair ran out of memory
+abbrev pub may_idle : State → Bool
+may_idle w = not w.out_of_memory && is_idle_due w.up w.moment
+
 abbrev pub rows_in : Bool → State → List UpUnit
-rows_in true w =
-    session_rows w
-    ++ (ends true w ++ close_behind w)
-rows_in false w =
-    opening_rows w.up.pending ++ (begins w ++ (session_rows w
-    ++ (ends false w ++ when_up (is_idle_due w.up w.moment) up.Empty)))
+rows_in closing w = other_rows closing w ++ when_up (may_idle w) up.Empty
 
 -- through an end that is open, and none after the close
 abbrev pub up_rows : State → List UpUnit
@@ -491,13 +542,21 @@ carries_ok s (ok.Consume link) = tag_of link s
 carries_ok s (ok.Qos count global) = []
 carries_ok s ok.Cancel = next_name s
 carries_ok s ok.Queue = next_name s
+carries_ok s ok.Get = []
+carries_ok s (ok.Empty link) = []
 carries_ok s ok.Recover = []
 
 -- the method of a deliver: the tag of its consumer, its delivery tag, whether it was delivered
--- before, and where its message was published (AMQP 0-9-1 1.8.3.9)
+-- before, and where its message was published (AMQP 0-9-1 1.8.3.9). That of a get-ok has no tag of
+-- a consumer, and says that no message is left (1.8.3.11)
+abbrev pub deliver_from : List ℕ → DeliverDue → List ℕ → List ℕ → Method91
+deliver_from tag d exchange key =
+    if d.get then BasicGetOk d.tag d.next.again exchange key 0
+    else BasicDeliver tag d.tag d.next.again exchange key
+
 abbrev pub deliver_as : List ℕ → DeliverDue → Option Content → Method91
-deliver_as tag d None = BasicDeliver tag d.tag d.next.again [] []
-deliver_as tag d (Some c) = BasicDeliver tag d.tag d.next.again c.exchange c.key
+deliver_as tag d None = deliver_from tag d [] []
+deliver_as tag d (Some c) = deliver_from tag d c.exchange c.key
 
 abbrev pub deliver_method : PathState → DeliverDue → Method91
 deliver_method s d = deliver_as (tag_of d.next.link s) d (content_of d.next.id s.deliveries.list)

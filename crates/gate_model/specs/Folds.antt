@@ -40,7 +40,8 @@ use Rattle.gate_model.specs.State.{closing_code, conn_given, failure, is_limit_r
 use Rattle.gate_model.specs.State.{lives_opened, path_heard, paths_lost, paths_wrote}
 use Rattle.gate_model.specs.Setup.{SiteText}
 use Rattle.gate_model.specs.declared.setup.Route.{Route}
-use Rattle.gate_model.specs.State.{paths_by, paths_given, paths_given_up, session_by, turns_foreign}
+use Rattle.gate_model.specs.State.{is_later, paths_by, paths_given, paths_given_up, session_by}
+use Rattle.gate_model.specs.State.{turns_foreign}
 use Rattle.gate_model.specs.Upstream.{channel_max_in, condition_in, container_by, container_for}
 use Rattle.gate_model.specs.Upstream.{container_given, ended_in}
 use Rattle.gate_model.specs.Upstream.{meaning_by}
@@ -298,7 +299,7 @@ peers (Gave (ToClient u) text ∷ h) = record (peers h) {
 }
 peers (Gave (ToUp u) text ∷ h) = record (peers h) {
   container = container_given u (peers h).container;
-  paths = paths_given_up u (peers h).paths;
+  paths = paths_given_up (is_later (peers h).client u) u (peers h).paths;
   carried = carried_sent u (peers h).carried;
 }
 peers (Whole Client ∷ h) =

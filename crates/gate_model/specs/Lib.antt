@@ -11,10 +11,12 @@ pub mod Paths
 pub mod Picks
 pub mod Publishing
 pub mod Queue
+pub mod Releases
 pub mod Reports
 pub mod Requests
 pub mod Returns
 pub mod Session
+pub mod Settles
 pub mod Setup
 pub mod Silence
 pub mod Spelling

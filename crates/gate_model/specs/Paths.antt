@@ -212,10 +212,10 @@ abbrev pub binary_in : Tree → Option (List ℕ)
 binary_in (scalar (binary b)) = Some b
 binary_in t = None
 
--- what a transfer says of its delivery (AMQP 1.0 2.7.5)
+-- what a transfer says of its delivery (AMQP 1.0 2.7.5); a delivery-id has 32 bits (2.8.8, 2.8.10)
 abbrev pub part_in : List Tree → Part
 part_in ts = record {
-  id = number_in (field ts 1);
+  id = option_map (λ id. id % 2 ^ 32) (number_in (field ts 1));
   tag_length = option_map length (binary_in (field ts 2));
   settled = is_true (field ts 4);
   more = is_true (field ts 5);

@@ -60,7 +60,7 @@ use Rattle.gate_model.specs.declared.setup.Route.{Route}
 use Rattle.gate_model.specs.Session.{is_of_session, is_true}
 use Rattle.gate_model.specs.State.{Began, Came, Fed, Gave, Heard, Joined, LinesTold, Lost, Moment}
 use Rattle.gate_model.specs.State.{OutOfMemory, Queued, Silent, Step, TakenUp, Whole, conn_step}
-use Rattle.gate_model.specs.State.{closing_code, settle_by, want_in}
+use Rattle.gate_model.specs.State.{closing_code, is_later, settle_by, want_in}
 use Rattle.gate_model.specs.Upstream.{condition_in, meaning_by}
 
 -- ---- the client's requests
@@ -70,8 +70,8 @@ abbrev pub owed_unless : Bool → PathEvent → List PathEvent
 owed_unless true x = []
 owed_unless false x = x ∷ []
 
--- channel.flow, exchange.declare, queue.declare, confirm.select, basic.consume, cancel and qos, and
--- the answers to deliveries; and channel.close
+-- channel.flow, exchange.declare, queue.declare, confirm.select, basic.consume, get, cancel and
+-- qos, and the answers to deliveries; and channel.close
 abbrev pub method_events : Method91 → List PathEvent
 method_events (method.ChannelFlow active) = event.Owed ok.Flow ∷ []
 method_events
@@ -84,6 +84,7 @@ method_events
     event.Consumed queue tag no_ack no_wait ∷ []
 method_events (method.QueueDeclare queue passive durable exclusive deletes no_wait arguments) =
     event.Declared queue no_wait ∷ []
+method_events (method.BasicGet queue no_ack) = event.GetAsked queue no_ack ∷ []
 method_events (method.BasicCancel tag no_wait) = event.CancelCame tag no_wait ∷ []
 method_events (method.BasicQos size count global) = event.Owed (ok.Qos count global) ∷ []
 method_events (method.BasicAck tag multiple) = event.AnswerCame tag multiple Accepted ∷ []
@@ -245,18 +246,19 @@ given_event (unit.Dispose x) = event.DisposeSent
 given_event (unit.Settle x) = event.SettleSent x
 given_event (unit.Detach link handle why) = event.DetachSent
 
--- the gateway's end loses the session, and what the report was owed before was reported
-abbrev pub up_events : ℕ → UpUnit → List PathEvent
-up_events n up.SaslHeader = []
-up_events n up.SaslInit = []
-up_events n up.AmqpHeader = []
-up_events n up.Open = []
-up_events n (up.Close why) = []
-up_events n up.Empty = []
-up_events n (up.OnSession k u) = if k == n then given_event u ∷ [] else []
-up_events n (up.Flow k i o) = []
-up_events n (up.Begin k) = []
-up_events n (up.End k why) = if k == n then losing else event.LinesWent ∷ []
+-- the gateway's end loses the session, unless a later life of its channel is open; and what the
+-- report was owed before was reported
+abbrev pub up_events : Bool → ℕ → UpUnit → List PathEvent
+up_events later n up.SaslHeader = []
+up_events later n up.SaslInit = []
+up_events later n up.AmqpHeader = []
+up_events later n up.Open = []
+up_events later n (up.Close why) = []
+up_events later n up.Empty = []
+up_events later n (up.OnSession k u) = if k == n then given_event u ∷ [] else []
+up_events later n (up.Flow k i o) = []
+up_events later n (up.Begin k) = []
+up_events later n (up.End k why) = if not later && k == n then losing else event.LinesWent ∷ []
 
 -- the last frame of a content was sent whole
 abbrev pub wrote_event : ChannelUnit → List PathEvent
@@ -298,7 +300,7 @@ step_events n h (Lost Up loss.Ended) = failing (connection h) ++ losing_up
 step_events n h (Lost Up loss.Failed) = failing (connection h) ++ losing_up
 step_events n h (Lost Up loss.Shut) = losing_up
 step_events n h (Gave (ToClient u) text) = reply_events n u
-step_events n h (Gave (ToUp u) text) = up_events n u
+step_events n h (Gave (ToUp u) text) = up_events (is_later (connection h) u) n u
 step_events n h (Whole Client) = wrote_events n (going_in h)
 step_events n h (Whole Up) = []
 step_events n h LinesTold = event.LinesWent ∷ []

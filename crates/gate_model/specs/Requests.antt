@@ -84,6 +84,9 @@ consume_fault queue tag s =
     else if is_queue_name (queue_or s.queue queue) then None
     else Some NOT_FOUND
 
+abbrev pub get_fault : List ℕ → PathState → Option ℕ
+get_fault queue s = if is_queue_name (queue_or s.queue queue) then None else Some NOT_FOUND
+
 abbrev pub declare_fault : List ℕ → Option ℕ
 declare_fault queue =
     if not (nat_le (length queue) 255) then Some NOT_ALLOWED
@@ -108,6 +111,7 @@ method_fault routes s (method.BasicConsume queue tag no_local no_ack exclusive n
 method_fault routes s
     (method.QueueDeclare queue passive durable exclusive deletes no_wait arguments) =
     declare_fault queue
+method_fault routes s (method.BasicGet queue no_ack) = get_fault queue s
 method_fault routes s (method.BasicCancel tag no_wait) = cancel_fault tag
 method_fault routes s (method.BasicAck tag multiple) = answer_fault tag multiple s
 method_fault routes s (method.BasicReject tag requeue) = answer_fault tag false s

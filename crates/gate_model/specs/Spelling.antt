@@ -41,7 +41,9 @@ use Rattle.property_map.specs.Told.{told_text}
 use Rattle.property_map.specs.declared.told.Told.{Told}
 use Rattle.std.specs.Prelude.{if◌then◌else◌}
 use Rattle.methods_091.specs.declared.method.Method91.TheVariants.{BasicAck, BasicConsumeOk}
-use Rattle.methods_091.specs.declared.method.Method91.TheVariants.{BasicCancelOk, BasicNack}
+use Rattle.methods_091.specs.declared.method.Method91.TheVariants.{BasicCancelOk, BasicGetEmpty}
+use Rattle.methods_091.specs.declared.method.Method91.TheVariants.{BasicGetOk}
+use Rattle.methods_091.specs.declared.method.Method91.TheVariants.{BasicNack}
 use Rattle.methods_091.specs.declared.method.Method91.TheVariants.{BasicQosOk, BasicRecoverOk}
 use Rattle.methods_091.specs.declared.method.Method91.TheVariants.{QueueDeclareOk}
 use Rattle.methods_091.specs.declared.method.Method91.TheVariants.{ConfirmSelectOk}
@@ -143,6 +145,9 @@ ok_method (ok.Consume link) tag = BasicConsumeOk tag
 ok_method (ok.Qos count global) tag = BasicQosOk
 ok_method ok.Cancel tag = BasicCancelOk tag
 ok_method ok.Queue queue = QueueDeclareOk queue 0 0
+-- which goes as a deliver does
+ok_method ok.Get tag = BasicGetOk 0 false [] [] 0
+ok_method (ok.Empty link) tag = BasicGetEmpty
 ok_method ok.Recover tag = BasicRecoverOk
 
 abbrev pub confirm_method : Confirm → Method91

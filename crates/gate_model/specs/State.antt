@@ -95,7 +95,7 @@ use Rattle.consume_path.specs.declared.delivery.Settle.TheVariants.{Accepted, Re
 use Rattle.session_path.specs.Due.{is_waiting}
 use Rattle.session_path.specs.Path.{answer_came, cancelled, closes_at as closes_channel, consumed}
 use Rattle.session_path.specs.Path.{content_sent, content_whole, declare_came}
-use Rattle.session_path.specs.Path.{deliver_sent, dispose_sent, end_lost}
+use Rattle.session_path.specs.Path.{deliver_sent, dispose_sent, end_lost, got}
 use Rattle.property_map.specs.Spelling.{image_text}
 use Rattle.property_map.specs.declared.told.Told.{Told}
 use Rattle.gate_model.specs.Session.{carried_by, flow_sent, is_of_session}
@@ -386,6 +386,7 @@ path_by (method.BasicConsume queue tag no_local no_ack exclusive no_wait argumen
     consumed queue tag no_ack no_wait s
 path_by (method.QueueDeclare queue passive durable exclusive deletes no_wait arguments) s =
     declare_came queue no_wait s
+path_by (method.BasicGet queue no_ack) s = got queue no_ack s
 path_by (method.BasicCancel tag no_wait) s = cancelled tag no_wait s
 path_by (method.BasicQos size count global) s = owed (ok.Qos count global) s
 path_by (method.BasicAck tag multiple) s = answer_came tag multiple Accepted s
@@ -615,8 +616,9 @@ heard w u = with_meaning (meaning_by w.up.container u) (record w { up = heard_up
 abbrev pub is_channel_settled : State → ℕ → Bool
 is_channel_settled w n = is_settled w || is_done (session_in w.up.container n)
 
--- channel.open waits for the container's begin, basic.consume for its attach, and channel.close of
--- an open channel for its end; the closing event of the connection decides all
+-- channel.open waits for the container's begin, basic.consume for its attach, basic.get for
+-- a delivery or a flow, and channel.close of an open channel for its end; the closing event of the
+-- connection decides all
 abbrev pub life_waits : State → ℕ → Life → Bool
 life_waits w n l =
     not (is_closing w.conn)
@@ -828,10 +830,17 @@ path_given (unit.Dispose x) s = dispose_sent s
 path_given (unit.Settle x) s = settle_sent s
 path_given (unit.Detach link handle why) s = detach_sent s
 
-abbrev pub paths_given_up : UpUnit → List (Option PathState) → List (Option PathState)
-paths_given_up (up.OnSession n u) ps = with_path n (path_given u) ps
-paths_given_up (up.End n why) ps = with_path n lost_path (told_paths ps)
-paths_given_up u ps = ps
+-- an end that goes once its channel is open again is that of the life before, whose path was lost
+-- with the container's end
+abbrev pub is_later : Connection → UpUnit → Bool
+is_later c (up.End n why) = is_open c n
+is_later c u = false
+
+abbrev pub paths_given_up : Bool → UpUnit → List (Option PathState) → List (Option PathState)
+paths_given_up later (up.OnSession n u) ps = with_path n (path_given u) ps
+paths_given_up later (up.End n why) ps =
+    if later then told_paths ps else with_path n lost_path (told_paths ps)
+paths_given_up later u ps = ps
 
 abbrev pub is_attach : SessionUnit → Bool
 is_attach (unit.Attach a) = true
@@ -877,7 +886,7 @@ gave w (ToClient u) = record w {
 }
 gave w (ToUp u) = record w {
   lives = without_begin u w.lives;
-  paths = paths_given_up u w.paths;
+  paths = paths_given_up (is_later w.conn u) u w.paths;
   attached = attached_by u w.attached;
   up = begun u w.up;
 }

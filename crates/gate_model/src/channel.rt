@@ -11,7 +11,7 @@ use session_path::{ContentDue, DeliverDue, PathOk, Settling};
 pub enum ChannelUnit {
     /// An answer to a request that opens or closes nothing.
     Ok(PathOk),
-    /// basic.deliver
+    /// basic.deliver or basic.get-ok
     Deliver(DeliverDue),
     /// A frame of the content of a delivery.
     Content(ContentDue),

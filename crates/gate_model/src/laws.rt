@@ -22,17 +22,24 @@ ghost use Rattle.gate_model.specs.Publishing.{ArePieces, Confirms, EndWhole, Ret
 ghost use Rattle.gate_model.specs.Publishing.{path_events, path_life};
 ghost use Rattle.gate_model.specs.Silence.{SilentAtOnce, SilentWhenDue};
 ghost use Rattle.gate_model.specs.Spelling.{spell_reply};
+ghost use Rattle.gate_model.specs.Releases.{Releases};
 ghost use Rattle.gate_model.specs.Reports.{lines_owed};
+ghost use Rattle.gate_model.specs.Settles.{Grants, Settles};
 ghost use Rattle.gate_model.specs.State.{Step, before, owed_lines};
 ghost use Rattle.gate_model.specs.Times.{BeatsAtOnce, BeatsWhenDue, LateCloses, ShutsAtOnce};
 ghost use Rattle.gate_model.specs.Waiting.{ChannelsEndWhenSettled, EndsWhenSettled};
 ghost use Rattle.gate_model.specs.Waiting.{OpensWhenOpened};
 
-use consume_path::{delivers_lawfully, delivery_lines_lawfully, numbers_lawfully};
+use consume_path::{
+    counts_lawfully, delivers_lawfully, delivery_lines_lawfully, ids_lawfully,
+    links_lawfully as receivers_lawfully, numbers_lawfully, settles_lawfully,
+};
 use machine_091::connection_laws;
 use property_map::received_lawfully;
 use publish_path::{confirms_lawfully, lines_lawfully, payloads_lawfully, returns_lawfully};
-use session_path::{deliveries_lawfully, names_lawfully, publishes_lawfully};
+use session_path::{
+    calls_lawfully, deliveries_lawfully, links_lawfully, names_lawfully, publishes_lawfully,
+};
 
 /// The state knows both connections, how far the upstream end is, the last moment, whether the pair
 /// ran out of memory and its number, as the folds tell them.
@@ -84,6 +91,45 @@ pub fn delivers_are_lawful()
     deliveries_lawfully();
     delivers_lawfully();
     numbers_lawfully();
+}
+
+/// Each disposition of role receiver that goes to a container covers deliveries of the channel's
+/// life that are owed its state, and no other that lacks one. `accepted` are those that the client
+/// acknowledged, and those that need no acknowledgement and were written whole. By its fate a
+/// delivery is covered once, and none that came settled.
+pub fn settles_are_lawful()
+    ensures { (h : List Step) → ArePicks h → Settles h }
+{
+    deliveries_lawfully();
+    calls_lawfully();
+    ids_lawfully();
+    numbers_lawfully();
+    settles_lawfully();
+}
+
+/// Each flow of a receiving link that goes to a container states a credit that is, with what counts
+/// on the link, within a consumer's quota; none on a cancelled consumer's link and on a
+/// declaration's; 1 at most on one for gets.
+pub fn grants_are_lawful()
+    ensures { (h : List Step) → ArePicks h → Grants h }
+{
+    links_lawfully();
+    deliveries_lawfully();
+    calls_lawfully();
+    receivers_lawfully();
+    counts_lawfully();
+    numbers_lawfully();
+}
+
+/// Before an end of the gateway goes each whole delivery of the channel's life that didn't come
+/// settled had its disposition; and before its detach of a receiving link that both ends attached,
+/// that the container didn't detach and that isn't at fault, each one of that link.
+pub fn releases_are_lawful()
+    ensures { (h : List Step) → ArePicks h → Releases h }
+{
+    deliveries_lawfully();
+    settles_lawfully();
+    links_lawfully();
 }
 
 /// Each frame of a transfer that goes to a container is that of the publish that is begun, else of
@@ -209,7 +255,8 @@ pub fn frames_fit_clients()
 }
 
 /// No unit to a client has over 512 bytes, an eighth of the least frame-max, and each has some; but
-/// for basic.deliver, the answers of the class basic, and the frames of returns and contents.
+/// for basic.deliver and get-ok, the answers of the classes basic and queue, and the frames of
+/// returns and contents.
 #[tactic(auto, using(crate::proofs::Spelled::spelled_small, crate::proofs::Spelled::spelled_some))]
 pub fn units_are_short()
     ensures small { (unit : Reply) (text : List ℕ) → takes_memory_back unit ≡ false
