@@ -24,7 +24,7 @@ use Rattle.gate_model.specs.Due.{channel_closes, channel_oks, client_rows, clien
 use Rattle.gate_model.specs.Due.{closes, confirm_on, confirms, contents, if_so, is_beat_due}
 use Rattle.gate_model.specs.Due.{last_closes, may_answer, may_confirm, may_end, may_go, may_return}
 use Rattle.gate_model.specs.Due.{may_tell, openings, refused_on}
-use Rattle.gate_model.specs.Due.{return_on, takes_memory_back, when}
+use Rattle.gate_model.specs.Due.{may_idle, other_rows, return_on, takes_memory_back, when}
 use Rattle.gate_model.specs.Lives.{is_carried, life_at, session_in}
 use Rattle.gate_model.specs.Paths.{closed_path, path_at}
 use Rattle.gate_model.specs.State.{is_channel_settled, is_settled}
@@ -102,12 +102,15 @@ sessions_free w m =
     by true e = tt
     by false e = absurd cc
 
-rows_free : (k : Bool) (w : State) → k ≡ true → w.out_of_memory ≡ true → FirstIs IsFree (rows_in k w)
-rows_free true w e m =
+others_free : (k : Bool) (w : State) → k ≡ true → w.out_of_memory ≡ true → FirstIs IsFree (other_rows k w)
+others_free true w e m =
     both_are IsFree (session_rows w) _ (sessions_free w m)
     (both_are IsFree (ends true w) (close_behind w) (each_is IsFree _ w.lives (λ n. when_up_is IsFree (is_end_due true w n) _ refl))
     (when_up_is IsFree (none_left w && w.up.sent.«open») _ refl))
-rows_free false w e m = absurd cc
+others_free false w e m = absurd cc
+
+rows_free : (k : Bool) (w : State) → k ≡ true → w.out_of_memory ≡ true → FirstIs IsFree (rows_in k w)
+rows_free k w e m = both_are IsFree (other_rows k w) _ (others_free k w e m) (when_up_is IsFree (may_idle w) up.Empty refl)
 
 up_free : (w : State) → w.out_of_memory ≡ true → FirstIs IsFree (up_rows w)
 up_free w m = by (is_readable w.up.side && not w.up.sent.close)

@@ -1,5 +1,6 @@
 -- What a method of a channel makes of its path: one that is no change leaves it as it is.
-use Rattle.std.proofs.Common.{◌≡◌, ◌≢◌, ◌∙◌, ℕ, zero, suc, Bool, true, false, List, [], ◌∷◌, Option, None}
+use Rattle.std.proofs.Common.{◌≡◌, ◌≢◌, ◌∙◌, ℕ, zero, suc, Bool, true, false, List, [], ◌∷◌, Option}
+use Rattle.std.proofs.Common.{None}
 use Rattle.std.proofs.Common.{Some, refl, sym, ap}
 use Rattle.std.specs.Option.{option_map}
 use Rattle.methods_091.specs.declared.method.Method91.{Method91}
@@ -47,6 +48,7 @@ pub unchanged : (m : Method91) → is_naming m ≡ false → ((a : Bool) → m �
     → ((c : ℕ) (t : List ℕ) (k i : ℕ) → m ≢ method.ChannelClose c t k i) → (s : PathState) → s ≡ path_by m s
 unchanged (method.BasicConsume z t l a e w g) none f d c q k r n v y x s = absurd cc
 unchanged (method.QueueDeclare name p u e a w g) none f d c q k r n v y x s = absurd cc
+unchanged (method.BasicGet z a) none f d c q k r n v y x s = absurd cc
 unchanged (method.BasicCancel t w) none f d c q k r n v y x s = absurd cc
 unchanged (method.ChannelFlow a) none f d c q k r n v y x s = absurd (f a refl)
 unchanged (method.ExchangeDeclare e u p z a i w t) none f d c q k r n v y x s = absurd (d e u p z a i w t refl)

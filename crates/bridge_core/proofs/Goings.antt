@@ -29,7 +29,8 @@ use Rattle.gate_model.specs.declared.reply.Pending.{Pending}
 use Rattle.gate_model.specs.declared.reply.Reply.{Reply}
 use Rattle.gate_model.specs.declared.reply.Reply.TheVariants as reply
 use Rattle.gate_model.specs.Due.{answers, consume_ok_on, consume_oks, deliver_on, delivers}
-use Rattle.gate_model.specs.Due.{disposals, is_consume_ok, writing_on, writings}
+use Rattle.gate_model.specs.Due.{disposals, empty_on, get_ok_on, get_on, gets, is_consume_ok}
+use Rattle.gate_model.specs.Due.{is_empty_ok, is_plain_ok, writing_on, writings}
 use Rattle.gate_model.specs.Due.{attaches, begins, carried_rows, carries_back, channel_closes}
 use Rattle.gate_model.specs.Due.{channel_oks, content_on, contents, may_return, return_on}
 use Rattle.gate_model.specs.Due.{client_rows, client_units, close_behind, close_oks, close_oks_on}
@@ -38,12 +39,12 @@ use Rattle.gate_model.specs.Due.{is_beat_due, is_end_due, last_closes, link_flow
 use Rattle.gate_model.specs.Due.{may_confirm, may_end, may_go, may_tell, none_left, ok_on}
 use Rattle.gate_model.specs.Due.{open_oks, openings, path_oks, pick, refused_on, row_on, rows_in}
 use Rattle.gate_model.specs.Due.{session_flows, session_rows, settlings, transfers, unless_out}
-use Rattle.gate_model.specs.Due.{up_rows, when}
+use Rattle.gate_model.specs.Due.{may_idle, other_rows, up_rows, when}
 use Rattle.gate_model.specs.Lives.{is_carried, life_at, session_in}
 use Rattle.gate_model.specs.Paths.{path_at, transfer_of}
 use Rattle.gate_model.specs.Spelling.{spell_reply}
 use Rattle.gate_model.specs.State.{State, is_channel_settled, is_settled}
-use Rattle.gate_model.specs.Upstream.{first, is_idle_due, opening_rows}
+use Rattle.gate_model.specs.Upstream.{first, opening_rows}
 use Rattle.bridge_core.specs.Behind.{answering_units, closing_units, confirming_units, last_units}
 use Rattle.bridge_core.specs.Offers.{IsOffer, IsUpOffer, SlotState, UpSlotState}
 use Rattle.bridge_core.specs.PathChanges.{MayGoUp, MayReply}
@@ -103,15 +104,17 @@ openings_are w =
     (both_are (MayGoUp w) _ _ (when_up_is (MayGoUp w) w.up.pending.amqp_header up.AmqpHeader tt)
     (when_up_is (MayGoUp w) w.up.pending.«open» up.Open tt)))
 
-rows_are : (closing : Bool) (w : State) → FirstIs (MayGoUp w) (rows_in closing w)
-rows_are true w =
+others_are : (closing : Bool) (w : State) → FirstIs (MayGoUp w) (other_rows closing w)
+others_are true w =
     both_are (MayGoUp w) (session_rows w) _ (sessions_are w)
     (both_are (MayGoUp w) (ends true w) (close_behind w) (ends_are true w) (when_up_is (MayGoUp w) (none_left w && w.up.sent.«open») _ tt))
-rows_are false w =
+others_are false w =
     both_are (MayGoUp w) (opening_rows w.up.pending) _ (openings_are w)
     (both_are (MayGoUp w) (begins w) _ (each_is (MayGoUp w) _ w.lives (λ n. when_up_is (MayGoUp w) _ _ tt))
-    (both_are (MayGoUp w) (session_rows w) _ (sessions_are w)
-    (both_are (MayGoUp w) (ends false w) _ (ends_are false w) (when_up_is (MayGoUp w) (is_idle_due w.up w.moment) up.Empty tt))))
+    (both_are (MayGoUp w) (session_rows w) (ends false w) (sessions_are w) (ends_are false w)))
+
+rows_are : (closing : Bool) (w : State) → FirstIs (MayGoUp w) (rows_in closing w)
+rows_are closing w = both_are (MayGoUp w) (other_rows closing w) _ (others_are closing w) (when_up_is (MayGoUp w) (may_idle w) up.Empty tt)
 
 up_are : (w : State) → FirstIs (MayGoUp w) (up_rows w)
 up_are w = by (is_readable w.up.side && not w.up.sent.close)
@@ -128,7 +131,7 @@ open_is P false us p = p
 
 ok_is : (w : State) (n : ℕ) (o : Option PathOk) → FirstIs (MayReply w) (ok_on n o)
 ok_is w n None = tt
-ok_is w n (Some x) = when_is (MayReply w) (not (is_consume_ok x)) (reply.OnChannel n (to_client.Ok x)) tt
+ok_is w n (Some x) = when_is (MayReply w) (is_plain_ok x) (reply.OnChannel n (to_client.Ok x)) tt
 
 consume_ok_is : (w : State) (n : ℕ) (o : Option PathOk) → FirstIs (MayReply w) (consume_ok_on n o)
 consume_ok_is w n None = tt
@@ -136,7 +139,18 @@ consume_ok_is w n (Some x) = when_is (MayReply w) (is_consume_ok x) (reply.OnCha
 
 deliver_is : (w : State) (n : ℕ) (o : Option DeliverDue) → next_deliver (path_at w.paths n) ≡ o → FirstIs (MayReply w) (deliver_on n o)
 deliver_is w n None e = tt
-deliver_is w n (Some d) e = e
+deliver_is w n (Some d) e = when_is (MayReply w) (not d.get) (reply.OnChannel n (to_client.Deliver d)) e
+
+empty_is : (w : State) (n : ℕ) (o : Option PathOk) → FirstIs (MayReply w) (empty_on n o)
+empty_is w n None = tt
+empty_is w n (Some x) = when_is (MayReply w) (is_empty_ok x) (reply.OnChannel n (to_client.Ok x)) tt
+
+get_ok_is : (w : State) (n : ℕ) (o : Option DeliverDue) → next_deliver (path_at w.paths n) ≡ o → FirstIs (MayReply w) (get_ok_on n o)
+get_ok_is w n None e = tt
+get_ok_is w n (Some d) e = when_is (MayReply w) d.get (reply.OnChannel n (to_client.Deliver d)) e
+
+get_is : (w : State) (n : ℕ) → FirstIs (MayReply w) (get_on n (path_at w.paths n))
+get_is w n = both_are (MayReply w) (empty_on n (next_ok (path_at w.paths n))) _ (empty_is w n (next_ok (path_at w.paths n))) (get_ok_is w n (next_deliver (path_at w.paths n)) refl)
 
 writing_is : (w : State) (n : ℕ) (o : Option ContentDue) → FirstIs (MayReply w) (writing_on n o)
 writing_is w n None = tt
@@ -152,9 +166,11 @@ answers_are w =
     (each_is (MayReply w) _ w.lives (λ n. when_is (MayReply w) (life_at w.lives n).open_ok (reply.ChannelOpenOk n) tt))
     (both_are (MayReply w) (path_oks w) _
     (each_is (MayReply w) _ w.lives (λ n. open_is (MayReply w) (life_at w.lives n).over _ (ok_is w n (next_ok (path_at w.paths n)))))
-    (both_are (MayReply w) (consume_oks w) (delivers w)
+    (both_are (MayReply w) (consume_oks w) _
     (each_is (MayReply w) _ w.lives (λ n. open_is (MayReply w) (life_at w.lives n).over _ (consume_ok_is w n (next_ok (path_at w.paths n)))))
-    (each_is (MayReply w) _ w.lives (λ n. open_is (MayReply w) (life_at w.lives n).over _ (deliver_is w n (next_deliver (path_at w.paths n)) refl)))))
+    (both_are (MayReply w) (gets w) (delivers w)
+    (each_is (MayReply w) _ w.lives (λ n. open_is (MayReply w) (life_at w.lives n).over _ (get_is w n)))
+    (each_is (MayReply w) _ w.lives (λ n. open_is (MayReply w) (life_at w.lives n).over _ (deliver_is w n (next_deliver (path_at w.paths n)) refl))))))
 
 return_is : (w : State) (n : ℕ) (may : Bool) (o : Option NextReturn) → next_return (path_at w.paths n) ≡ o → FirstIs (MayReply w) (return_on may n o)
 return_is w n may None e = tt

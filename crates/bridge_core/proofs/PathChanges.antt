@@ -1,6 +1,6 @@
 -- What a performative that names a link makes of a path.
 use Rattle.std.proofs.Common.{◌≡◌, ◌∙◌, ℕ, Bool, true, false, List, Option, None, Some, refl, sym, ap}
-use Rattle.std.proofs.Common.{length}
+use Rattle.std.proofs.Common.{length, ◌%◌, ◌^◌}
 use Rattle.std.specs.Prelude.{if◌then◌else◌, is_some}
 use Rattle.std.specs.Option.{option_map, unwrap_or}
 use Rattle.consume_path.specs.declared.receiving.Part.{Part}
@@ -110,13 +110,13 @@ flag_there : (o : Option Bool) → is_true (maybe a_boolean o) ≡ unwrap_or o f
 flag_there None = refl
 flag_there (Some b) = refl
 
-pub part_is : (t : Transfer) (p : Part) → p.id ≡ t.delivery_id → p.tag_length ≡ option_map length t.delivery_tag
+pub part_is : (t : Transfer) (p : Part) → p.id ≡ option_map (λ (id : ℕ). id % 2 ^ 32) t.delivery_id → p.tag_length ≡ option_map length t.delivery_tag
     → p.settled ≡ unwrap_or t.settled false → p.more ≡ t.more → p.aborted ≡ t.aborted → p.resume ≡ t.resume
     → p ≡ part_in (parts_of (perf.Transfer t)).1
 unfolding parts_of
 part_is t p id long settled more aborted resume =
-    ap (λ (o : Option ℕ). record p { id = o }) (id ∙ sym (number_there t.delivery_id))
-    ∙ ap (λ (o : Option ℕ). record p { id = number_in (maybe a_uint t.delivery_id); tag_length = o }) (long ∙ sym (length_there t.delivery_tag))
+    ap (λ (o : Option ℕ). record p { id = o }) (id ∙ ap (option_map (λ (i : ℕ). i % 2 ^ 32)) (sym (number_there t.delivery_id)))
+    ∙ ap (λ (o : Option ℕ). record p { id = option_map (λ (i : ℕ). i % 2 ^ 32) (number_in (maybe a_uint t.delivery_id)); tag_length = o }) (long ∙ sym (length_there t.delivery_tag))
     ∙ ap (λ (b : Bool). record (part_in (transfer_fields t)) { settled = b; more = p.more; aborted = p.aborted; resume = p.resume }) (settled ∙ sym (flag_there t.settled))
     ∙ ap (λ (b : Bool). record (part_in (transfer_fields t)) { more = b; aborted = p.aborted; resume = p.resume }) more
     ∙ ap (λ (b : Bool). record (part_in (transfer_fields t)) { aborted = b; resume = p.resume }) aborted

@@ -1,7 +1,8 @@
 -- Rows of channels: one more, and none from a number on that is above all that were ever used.
 use Rattle.std.proofs.Common.{◌≡◌, ◌∙◌, ℕ, zero, suc, ◌+◌, ◌-◌, ◌<◌, ◌≤◌, ◌||◌, ◌&&◌, List, [], ◌∷◌}
 use Rattle.std.proofs.Common.{◌++◌, Option}
-use Rattle.std.proofs.Common.{None, Some, Bool, true, false, refl, sym, ap, arith, drop, length, subst}
+use Rattle.std.proofs.Common.{None, Some, Bool, true, false, refl, sym, ap, arith, drop, length}
+use Rattle.std.proofs.Common.{subst}
 use Rattle.std.proofs.Common.{replicate}
 use Rattle.std.proofs.lemmas.List.{drop-replicate}
 use Rattle.std.specs.Option.{option_or}
@@ -20,7 +21,7 @@ use Rattle.gate_model.specs.Paths.{no_paths, or_no_path, path_at, slot_at}
 use Rattle.gate_model.specs.Upstream.{first, when_up}
 use Rattle.gate_model.specs.Due.{attach_row, confirms_on, contents_on, detach_row, flows_on}
 use Rattle.gate_model.specs.Due.{consume_oks_on, delivers_on, dispose_row, link_flow_row}
-use Rattle.gate_model.specs.Due.{oks_on, row_on}
+use Rattle.gate_model.specs.Due.{gets_on, oks_on, row_on}
 use Rattle.gate_model.specs.Due.{settle_row, transfer_row, writings_on}
 use Rattle.bridge_core.specs.ChannelRows.{begin_row, close_ok_row, close_row, end_row, is_left_on}
 use Rattle.bridge_core.specs.ChannelRows.{is_waiting_on, open_ok_row}
@@ -153,6 +154,13 @@ consume_oks_more ps k i ls lt = first_more (consume_oks_on ps) no_life k i ls lt
 
 pub consume_oks_end : (ps : List (Option PathState)) (i : ℕ) (ls : List Life) → drop i ps ≡ drop i no_paths → first (each (consume_oks_on ps) i (drop i ls)) ≡ None
 consume_oks_end ps i ls e = unused_end (consume_oks_on ps) ps i ls e (λ n l none. rw none (either_same l.over []))
+
+pub gets_more : (ps : List (Option PathState)) (k i : ℕ) (ls : List Life) → i < length ls
+    → first (each (gets_on ps) k (drop i ls)) ≡ option_or (first (gets_on ps k (slice_index_or ls i no_life))) (first (each (gets_on ps) (k + 1) (drop (i + 1) ls)))
+gets_more ps k i ls lt = first_more (gets_on ps) no_life k i ls lt
+
+pub gets_end : (ps : List (Option PathState)) (i : ℕ) (ls : List Life) → drop i ps ≡ drop i no_paths → first (each (gets_on ps) i (drop i ls)) ≡ None
+gets_end ps i ls e = unused_end (gets_on ps) ps i ls e (λ n l none. rw none (either_same l.over []))
 
 pub delivers_more : (ps : List (Option PathState)) (k i : ℕ) (ls : List Life) → i < length ls
     → first (each (delivers_on ps) k (drop i ls)) ≡ option_or (first (delivers_on ps k (slice_index_or ls i no_life))) (first (each (delivers_on ps) (k + 1) (drop (i + 1) ls)))

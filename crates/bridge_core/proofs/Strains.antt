@@ -15,6 +15,7 @@ use Rattle.methods_091.specs.declared.method.Method91.TheVariants as method
 use Rattle.machine_091.specs.Calls.{closing_contents, closing_phase}
 use Rattle.machine_091.specs.Contents.{Taking, begun, no_contents, taken}
 use Rattle.machine_091.specs.Methods.{ack_of, cancel_of, close_of, consume_of, declare_of, flow_of}
+use Rattle.machine_091.specs.Methods.{get_of}
 use Rattle.machine_091.specs.Methods.{nack_of, publish_of, qos_of, queue_declare_of, recover_async_of, recover_of}
 use Rattle.machine_091.specs.Methods.{reject_of, select_of}
 use Rattle.machine_091.specs.Refusals.{unit_ruling}
@@ -82,9 +83,9 @@ either c false x y e f = f
 
 channel_light : (c : Connection) (n : ℕ) (k : Kind) (args : List Arg) → IsLight c (channel_effect c n k args)
 channel_light c n k args =
-    by _ _ _ _ _ _ _ _ _ _ _ _ _ _ _
+    by _ _ _ _ _ _ _ _ _ _ _ _ _ _ _ _
   where
-    by : (opens shuts stops declares probes selects consumes acks rejects nacks limits cancels recovers releases publishes : Bool)
+    by : (opens shuts stops declares probes selects consumes gets acks rejects nacks limits cancels recovers releases publishes : Bool)
         → IsLight c (cond {A = Step} opens (with_channel c n channel.Open, want.Method n method.ChannelOpen)
         (cond {A = Step} shuts (with_channel c n (closed_by (channel_at c n)), want.Method n (close_of args))
         (cond {A = Step} stops (c, want.Method n (flow_of args))
@@ -92,6 +93,7 @@ channel_light c n k args =
         (cond {A = Step} probes (c, want.Method n (queue_declare_of args))
         (cond {A = Step} selects (c, want.Method n (select_of args))
         (cond {A = Step} consumes (c, want.Method n (consume_of args))
+        (cond {A = Step} gets (c, want.Method n (get_of args))
         (cond {A = Step} acks (c, want.Method n (ack_of args))
         (cond {A = Step} rejects (c, want.Method n (reject_of args))
         (cond {A = Step} nacks (c, want.Method n (nack_of args))
@@ -100,8 +102,8 @@ channel_light c n k args =
         (cond {A = Step} recovers (c, want.Method n (recover_of args))
         (cond {A = Step} releases (c, want.Method n (recover_async_of args))
         (cond {A = Step} publishes (with_content c n (Some (begun (publish_of args))), want.Nothing)
-        (with_channel c n channel.Free, want.ChannelCloseOk n))))))))))))))))
-    by opens shuts stops declares probes selects consumes acks rejects nacks limits cancels recovers releases publishes =
+        (with_channel c n channel.Free, want.ChannelCloseOk n)))))))))))))))))
+    by opens shuts stops declares probes selects consumes gets acks rejects nacks limits cancels recovers releases publishes =
         either c opens _ _ (never c (with_channel c n channel.Open, want.Method n method.ChannelOpen) refl)
         (either c shuts _ _ (never c (with_channel c n (closed_by (channel_at c n)), want.Method n (close_of args)) refl)
         (either c stops _ _ (same c (want.Method n (flow_of args)))
@@ -109,6 +111,7 @@ channel_light c n k args =
         (either c probes _ _ (same c (want.Method n (queue_declare_of args)))
         (either c selects _ _ (same c (want.Method n (select_of args)))
         (either c consumes _ _ (same c (want.Method n (consume_of args)))
+        (either c gets _ _ (same c (want.Method n (get_of args)))
         (either c acks _ _ (same c (want.Method n (ack_of args)))
         (either c rejects _ _ (same c (want.Method n (reject_of args)))
         (either c nacks _ _ (same c (want.Method n (nack_of args)))
@@ -117,7 +120,7 @@ channel_light c n k args =
         (either c recovers _ _ (same c (want.Method n (recover_of args)))
         (either c releases _ _ (same c (want.Method n (recover_async_of args)))
         (either c publishes _ _ (never c (with_content c n (Some (begun (publish_of args))), want.Nothing) refl)
-        (never c (with_channel c n channel.Free, want.ChannelCloseOk n) refl)))))))))))))))
+        (never c (with_channel c n channel.Free, want.ChannelCloseOk n) refl))))))))))))))))
 
 running_light : (c : Connection) (n : ℕ) (k : Kind) (args : List Arg) → IsLight c (running_effect c n k args)
 running_light c n k args = by (eqb n 0)

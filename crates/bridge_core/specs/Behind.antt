@@ -1,17 +1,16 @@
 -- The rows of what is due to an end, from each on.
 use Rattle.std.specs.Prelude.{false, true, List, ◌++◌, ◌||◌}
 use Rattle.gate_model.specs.declared.outgoing.UpUnit.{UpUnit}
-use Rattle.gate_model.specs.declared.outgoing.UpUnit.TheVariants as up
 use Rattle.gate_model.specs.declared.reply.Reply.{Reply}
 use Rattle.gate_model.specs.Due.{begins, channel_closes, channel_oks, close_behind, close_oks}
 use Rattle.gate_model.specs.Due.{answers, confirms, consume_oks, contents, delivers, detaches}
+use Rattle.gate_model.specs.Due.{gets}
 use Rattle.gate_model.specs.Due.{disposals, writings}
 use Rattle.gate_model.specs.Due.{ends, if_so, last_closes, link_flows, may_answer, may_end, may_go}
 use Rattle.gate_model.specs.Due.{may_return, may_tell, openings}
 use Rattle.gate_model.specs.Due.{path_oks, session_flows, session_rows, settlings}
 use Rattle.gate_model.specs.Due.{transfers}
 use Rattle.gate_model.specs.State.{State, is_settled}
-use Rattle.gate_model.specs.Upstream.{is_idle_due, when_up}
 
 -- to the client
 abbrev pub last_units : State → List Reply
@@ -30,8 +29,11 @@ confirm_units w = if_so (may_answer w || w.by_peer) (confirms w)
 abbrev pub confirming_units : State → List Reply
 confirming_units w = confirm_units w ++ closing_units w
 
+abbrev pub getting_units : State → List Reply
+getting_units w = gets w ++ delivers w
+
 abbrev pub consuming_units : State → List Reply
-consuming_units w = consume_oks w ++ delivers w
+consuming_units w = consume_oks w ++ getting_units w
 
 abbrev pub oks_units : State → List Reply
 oks_units w = path_oks w ++ consuming_units w
@@ -68,11 +70,8 @@ abbrev pub settling_units : State → List UpUnit
 settling_units w = disposals w ++ answering_dispositions w
 
 -- while the connection doesn't close
-abbrev pub end_units : State → List UpUnit
-end_units w = ends false w ++ when_up (is_idle_due w.up w.moment) up.Empty
-
 abbrev pub carrying_units : State → List UpUnit
-carrying_units w = session_rows w ++ end_units w
+carrying_units w = session_rows w ++ ends false w
 
 abbrev pub session_units : State → List UpUnit
 session_units w = begins w ++ carrying_units w

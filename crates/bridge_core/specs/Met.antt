@@ -85,6 +85,7 @@ IsMet routes ps x old new (met.Publish k address payload back) =
 abbrev pub is_naming : Method91 → Bool
 is_naming (method.QueueDeclare queue passive durable exclusive deletes no_wait arguments) = true
 is_naming (method.BasicConsume queue tag no_local no_ack exclusive no_wait args) = true
+is_naming (method.BasicGet queue no_ack) = true
 is_naming (method.BasicCancel tag no_wait) = true
 is_naming m = false
 
@@ -95,6 +96,7 @@ is_answered (method.ExchangeDeclare e kind passive durable auto_delete internal 
 is_answered (method.ConfirmSelect no_wait) = true
 is_answered (method.BasicConsume queue tag no_local no_ack exclusive no_wait args) = true
 is_answered (method.QueueDeclare queue passive durable exclusive deletes no_wait args) = true
+is_answered (method.BasicGet queue no_ack) = true
 is_answered (method.BasicCancel tag no_wait) = true
 is_answered (method.BasicQos size count global) = true
 is_answered (method.BasicRecover requeue) = true

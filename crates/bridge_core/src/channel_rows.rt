@@ -3,7 +3,8 @@
 ghost use Rattle.std.specs.Prelude.{◌≡◌, ◌&&◌};
 ghost use Rattle.gate_model.specs.Due.{attach_row, confirm_on, confirms_on, content_on};
 ghost use Rattle.gate_model.specs.Due.{consume_oks_on, contents_on, delivers_on, dispose_row};
-ghost use Rattle.gate_model.specs.Due.{is_consume_ok, writings_on};
+ghost use Rattle.gate_model.specs.Due.{empty_on, get_ok_on, gets_on, is_consume_ok, is_plain_ok};
+ghost use Rattle.gate_model.specs.Due.{writings_on};
 ghost use Rattle.gate_model.specs.Due.{detach_row};
 ghost use Rattle.gate_model.specs.Due.{flows_on};
 ghost use Rattle.gate_model.specs.Due.{frame_max_in, is_long_ago, link_flow_row, may_confirm};
@@ -16,7 +17,7 @@ ghost use Rattle.gate_model.specs.Upstream.{first};
 ghost use Rattle.bridge_core.specs.ChannelRows.{begin_row, close_ok_row, close_row, end_row};
 ghost use Rattle.bridge_core.specs.ChannelRows.{is_end_due_by, is_left_on, is_lingered_by};
 ghost use Rattle.bridge_core.specs.ChannelRows.{is_settled_on, is_waiting_on, open_ok_row};
-ghost use Rattle.session_path.specs.Due.{next_confirm, next_return};
+ghost use Rattle.session_path.specs.Due.{next_confirm, next_deliver, next_ok, next_return};
 
 use crate::lives::{CHANNELS, Lives};
 use crate::paths::Paths;
@@ -115,7 +116,23 @@ fn is_consume_ok(ok: PathOk) -> bool
     matches!(ok, PathOk::Consume(_) | PathOk::Queue)
 }
 
-/// The answer that goes on a channel, while it is open, but for a basic.consume-ok.
+/// The answer to a request that needs nothing of the container.
+fn is_plain_ok(ok: PathOk) -> bool
+    ensures { result ≡ is_plain_ok ok }
+{
+    match ok {
+        PathOk::Flow
+        | PathOk::Declare
+        | PathOk::Select
+        | PathOk::Qos { .. }
+        | PathOk::Cancel
+        | PathOk::Recover => true,
+        PathOk::Consume(_) | PathOk::Queue | PathOk::Get | PathOk::Empty(_) => false,
+    }
+}
+
+/// The answer that goes on a channel, while it is open, to a request that needs nothing of the
+/// container.
 fn ok_on(life: Life, paths: &Paths, channel: u16) -> Option<Reply>
     ensures { result ≡ first (oks_on paths.now channel life) }
 {
@@ -123,10 +140,10 @@ fn ok_on(life: Life, paths: &Paths, channel: u16) -> Option<Reply>
         return None;
     }
     let ok = paths.next_ok(channel)?;
-    if is_consume_ok(ok) {
-        None
-    } else {
+    if is_plain_ok(ok) {
         Some(Reply::OnChannel(channel, ChannelUnit::Ok(ok)))
+    } else {
+        None
     }
 }
 
@@ -145,6 +162,44 @@ fn consume_ok_on(life: Life, paths: &Paths, channel: u16) -> Option<Reply>
     }
 }
 
+/// A basic.get-empty that goes on a channel.
+fn empty_on(paths: &Paths, channel: u16) -> Option<Reply>
+    ensures { result ≡ first (empty_on channel (next_ok (path_at paths.now channel))) }
+{
+    let ok = paths.next_ok(channel)?;
+    if matches!(ok, PathOk::Empty(_)) {
+        Some(Reply::OnChannel(channel, ChannelUnit::Ok(ok)))
+    } else {
+        None
+    }
+}
+
+/// A basic.get-ok that does.
+fn get_ok_on(paths: &Paths, channel: u16) -> Option<Reply>
+    ensures { result ≡ first (get_ok_on channel (next_deliver (path_at paths.now channel))) }
+{
+    let due = paths.next_deliver(channel)?;
+    if due.get {
+        Some(Reply::OnChannel(channel, ChannelUnit::Deliver(due)))
+    } else {
+        None
+    }
+}
+
+/// The answer to a basic.get that goes on a channel, while it is open.
+#[tactic(auto, using(crate::proofs::Firsts::first_some, crate::proofs::Firsts::first_none))]
+fn get_on(life: Life, paths: &Paths, channel: u16) -> Option<Reply>
+    ensures { result ≡ first (gets_on paths.now channel life) }
+{
+    if life.over {
+        return None;
+    }
+    match empty_on(paths, channel) {
+        Some(unit) => Some(unit),
+        None => get_ok_on(paths, channel),
+    }
+}
+
 /// The deliver that goes on a channel, while it is open.
 fn deliver_on(life: Life, paths: &Paths, channel: u16) -> Option<Reply>
     ensures { result ≡ first (delivers_on paths.now channel life) }
@@ -153,6 +208,9 @@ fn deliver_on(life: Life, paths: &Paths, channel: u16) -> Option<Reply>
         return None;
     }
     let due = paths.next_deliver(channel)?;
+    if due.get {
+        return None;
+    }
     Some(Reply::OnChannel(channel, ChannelUnit::Deliver(due)))
 }
 
@@ -174,6 +232,19 @@ pub fn first_consume_ok(lives: &[Life; CHANNELS], paths: &Paths) -> Option<Reply
 {
     for i in 0..paths.top() {
         if let Some(unit) = consume_ok_on(lives[i as usize], paths, i) {
+            return Some(unit);
+        }
+    }
+    None
+}
+
+/// The first answer to a basic.get on a channel that is open.
+#[tactic(auto, using(crate::proofs::Rows::gets_more, crate::proofs::Rows::gets_end))]
+pub fn first_get(lives: &[Life; CHANNELS], paths: &Paths) -> Option<Reply>
+    ensures { result ≡ first (each (gets_on paths.now) 0 lives.now) }
+{
+    for i in 0..paths.top() {
+        if let Some(unit) = get_on(lives[i as usize], paths, i) {
             return Some(unit);
         }
     }

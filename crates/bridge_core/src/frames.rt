@@ -176,6 +176,8 @@ fn write_on_channel(room: &mut [u8; ROOM], channel: u16, unit: ChannelUnit) -> u
             | PathOk::Qos { .. }
             | PathOk::Cancel
             | PathOk::Queue
+            | PathOk::Get
+            | PathOk::Empty(_)
             | PathOk::Recover,
         )
         | ChannelUnit::Deliver(_)

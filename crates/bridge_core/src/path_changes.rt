@@ -1,7 +1,8 @@
 //! What a performative of the container changes of the path of its channel.
 
 ghost use Rattle.std.specs.Prelude.{◌≡◌, IfSome, true};
-ghost use Rattle.std.specs.Prelude.{ℕ, List, ◌==◌, false};
+ghost use Rattle.std.specs.Prelude.{ℕ, List, ◌==◌, ◌%◌, ◌^◌, false};
+ghost use Rattle.std.specs.Option.{option_map};
 ghost use Rattle.gate_model.specs.Paths.{credit_of, heard_as, is_not_found, name_in, outcome_by};
 ghost use Rattle.gate_model.specs.Paths.{part_in};
 ghost use Rattle.gate_model.specs.Upstream.{condition_in};
@@ -114,6 +115,23 @@ fn attach_heard(attach: &Attach, name: u64) -> AttachHeard
     }
 }
 
+/// A number of 32 bits, as it is.
+fn in_32_bits(number: u32) -> u32
+    ensures { result ≡ number % 2 ^ 32 }
+{
+    number
+}
+
+/// The delivery-id of a transfer, which has 32 bits (AMQP 1.0 2.8.8, 2.8.10).
+fn id_of(transfer: &Transfer) -> Option<u32>
+    ensures { result ≡ option_map (λ id. id % 2 ^ 32) transfer.now.delivery_id }
+{
+    match transfer.delivery_id {
+        None => None,
+        Some(id) => Some(in_32_bits(id)),
+    }
+}
+
 /// What a transfer says of its delivery (AMQP 1.0 2.7.5).
 pub fn part_of(transfer: &Transfer) -> Part
     ensures { result ≡ part_in (parts_of (perf.Transfer transfer.now)).1 }
@@ -123,7 +141,7 @@ pub fn part_of(transfer: &Transfer) -> Part
         Some(tag) => Some(tag.as_slice().len()),
     };
     Part {
-        id: transfer.delivery_id,
+        id: id_of(transfer),
         tag_length,
         settled: transfer.settled.unwrap_or(false),
         more: transfer.more,

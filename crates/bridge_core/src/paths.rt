@@ -17,13 +17,15 @@ ghost use Rattle.methods_091.specs.Writing.{CanPut};
 ghost use Rattle.consume_path.specs.declared.delivery.Content.{Content};
 ghost use Rattle.gate_model.specs.Due.{deliver_as, deliver_method, detach_out, or_no_bytes};
 ghost use Rattle.gate_model.specs.Paths.{closed_path, closed_paths, error_for, is_receiver};
-ghost use Rattle.gate_model.specs.Requests.{answer_fault, cancel_fault, consume_fault, declare_fault};
-ghost use Rattle.gate_model.specs.Requests.{is_queue_name};
+ghost use Rattle.gate_model.specs.Requests.{answer_fault, cancel_fault, consume_fault};
+ghost use Rattle.gate_model.specs.Requests.{declare_fault};
+ghost use Rattle.gate_model.specs.Requests.{get_fault, is_queue_name};
 ghost use Rattle.gate_model.specs.State.{path_wrote};
 ghost use Rattle.bridge_core.specs.PathChanges.{consumed_by, is_deliver, partial_in};
 ghost use Rattle.bridge_core.specs.Reports.{has_delivery_line};
 ghost use Rattle.session_path.specs.Links.{attach_fault, handle_of, named};
-ghost use Rattle.session_path.specs.Path.{cancelled, closes_at, declare_came, published, queue_or};
+ghost use Rattle.session_path.specs.Path.{cancelled, closes_at, declare_came, got, published};
+ghost use Rattle.session_path.specs.Path.{queue_or};
 ghost use Rattle.session_path.specs.declared.path.AttachFault.TheVariants.{NotAsked};
 ghost use Rattle.gate_model.specs.Due.{carries_of, carries_told};
 ghost use Rattle.gate_model.specs.Paths.{bytes_in, bytes_on, held_in, held_on, is_laden};
@@ -299,6 +301,17 @@ impl PathSlot {
         match &mut self.path {
             None => Ok(()),
             Some(path) => path.declare(queue, no_wait),
+        }
+    }
+
+    /// A basic.get of this queue was taken up. Without memory for it all is as it was.
+    fn get(&mut self, queue: ByteText, no_ack: bool) -> Result<(), Memory>
+        ensures ok { OnOk result (self.new ≡ option_map (got queue no_ack) self.old) }
+        ensures err { OnErr result (self.new ≡ self.old) }
+    {
+        match &mut self.path {
+            None => Ok(()),
+            Some(path) => path.get(queue, no_ack),
         }
     }
 
@@ -714,6 +727,20 @@ impl Paths {
         }
     }
 
+    /// A basic.get was taken up on a channel. Without memory for it all is as it was.
+    #[tactic(auto, using(crate::proofs::PathSlots::none_beyond))]
+    pub fn get(&mut self, channel: u16, queue: ByteText, no_ack: bool) -> Result<(), Memory>
+        ensures ok { OnOk result (self.new ≡ with_path channel (got queue no_ack) self.old) }
+        ensures err { OnErr result (self.new ≡ self.old) }
+    {
+        let at = usize::from(channel);
+        if at < self.paths.len() {
+            self.paths[at].get(queue, no_ack)
+        } else {
+            Ok(())
+        }
+    }
+
     /// A basic.cancel was taken up on a channel. Without memory for it all is as it was.
     #[tactic(auto, using(crate::proofs::PathSlots::none_beyond))]
     pub fn cancel(&mut self, channel: u16, tag: ByteText, no_wait: bool) -> Result<(), Memory>
@@ -845,8 +872,8 @@ impl Paths {
         }
     }
 
-    /// The method of a deliver on a channel. `Memory` also if a name in it is longer than a short
-    /// string, as none is.
+    /// The method of a deliver or get-ok on a channel. `Memory` also if a name in it is longer than
+    /// a short string, as none is.
     pub fn deliver(&self, alloc: Global, channel: u16, due: DeliverDue) -> Result<Method91, Memory>
         ensures method { IfOk result (λ m. m ≡ deliver_method (path_at self.now channel) due) }
         ensures short { IfOk result CanPut }
@@ -876,7 +903,7 @@ impl Paths {
         self.at(channel)?.next_content()
     }
 
-    /// A basic.consume waits for the container.
+    /// A basic.consume, a queue.declare or a basic.get waits for the container.
     pub fn waits(&self, channel: u16) -> bool
         ensures { result ≡ is_waiting (path_at self.now channel) }
     {
@@ -916,6 +943,17 @@ impl Paths {
         if tag.len() > SHORT_MAX || self.has_tag(channel, tag) {
             Some(NOT_ALLOWED)
         } else if is_queue_name(self.queue_or(channel, queue)) {
+            None
+        } else {
+            Some(NOT_FOUND)
+        }
+    }
+
+    /// Why a basic.get is.
+    pub fn get_fault(&self, channel: u16, queue: &[u8]) -> Option<u16>
+        ensures { result ≡ get_fault queue.now (path_at self.now channel) }
+    {
+        if is_queue_name(self.queue_or(channel, queue)) {
             None
         } else {
             Some(NOT_FOUND)
@@ -1157,8 +1195,8 @@ fn is_short(name: &[u8]) -> bool
     name.len() <= SHORT_MAX
 }
 
-/// The deliver of a content to the consumer with this tag. `Memory` also if a name in it is longer
-/// than a short string.
+/// The deliver of a content to the consumer with this tag, or its get-ok. `Memory` also if a name
+/// in it is longer than a short string.
 fn deliver_with(
     alloc: Global,
     due: DeliverDue,
@@ -1175,6 +1213,15 @@ fn deliver_with(
     };
     if !is_short(tag) || !is_short(exchange.as_slice()) || !is_short(routing_key.as_slice()) {
         return Err(Memory);
+    }
+    if due.get {
+        return Ok(Method91::BasicGetOk {
+            delivery_tag: due.tag,
+            redelivered: due.next.again,
+            exchange,
+            routing_key,
+            message_count: 0,
+        });
     }
     Ok(Method91::BasicDeliver {
         consumer_tag,

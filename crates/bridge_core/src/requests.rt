@@ -78,6 +78,7 @@ fn method_fault(routes: &Routes, paths: &Paths, channel: u16, method: &Method91)
             ..
         } => paths.consume_fault(channel, queue.as_slice(), consumer_tag.as_slice()),
         Method91::QueueDeclare { queue, .. } => declare_fault(queue.as_slice()),
+        Method91::BasicGet { queue, .. } => paths.get_fault(channel, queue.as_slice()),
         Method91::BasicCancel { consumer_tag, .. } => cancel_fault(consumer_tag.as_slice()),
         Method91::BasicAck {
             delivery_tag,

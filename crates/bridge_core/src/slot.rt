@@ -36,6 +36,8 @@ fn is_long_ok(ok: PathOk) -> bool
         | PathOk::Qos { .. }
         | PathOk::Cancel
         | PathOk::Queue
+        | PathOk::Get
+        | PathOk::Empty(_)
         | PathOk::Recover => true,
     }
 }
@@ -70,6 +72,14 @@ fn long_ok(alloc: Global, ok: PathOk, name: &[u8]) -> Result<Method91, Memory>
             message_count: 0,
             consumer_count: 0,
         },
+        PathOk::Get => Method91::BasicGetOk {
+            delivery_tag: 0,
+            redelivered: false,
+            exchange: ByteText::empty(alloc),
+            routing_key: ByteText::empty(alloc),
+            message_count: 0,
+        },
+        PathOk::Empty(_) => Method91::BasicGetEmpty,
         PathOk::Qos { .. } => Method91::BasicQosOk,
         PathOk::Recover => Method91::BasicRecoverOk,
         PathOk::Flow | PathOk::Declare | PathOk::Select => unreachable!(),
@@ -77,9 +87,8 @@ fn long_ok(alloc: Global, ok: PathOk, name: &[u8]) -> Result<Method91, Memory>
 }
 
 /// What is offered to the client, and the bytes of it or of the unit in progress. Those of a frame
-/// of a return or of a content, of a deliver and of an answer of the classes basic and queue stand in
-/// `long`,
-/// all others in `room`.
+/// of a return or of a content, of a deliver and of an answer of the classes basic and queue stand
+/// in `long`, all others in `room`.
 #[derive(Drop)]
 pub struct Slot {
     chosen: Option<Reply>,
@@ -202,8 +211,8 @@ impl Slot {
         self.hold(Reply::OnChannel(channel, unit), frame)
     }
 
-    /// An answer of the class basic or queue is offered, with this name, where it gives one. `Memory`
-    /// also if that is longer than a short string, as none of a client's is.
+    /// An answer of the class basic or queue is offered, with this name, where it gives one.
+    /// `Memory` also if that is longer than a short string, as none of a client's is.
     fn say_ok(&mut self, alloc: Global, channel: u16, ok: PathOk, name: &[u8]) -> Result<(), Memory>
         requires { is_long_ok ok ≡ true }
         ensures ok { OnOk result (self.new ≡ record {
@@ -218,7 +227,8 @@ impl Slot {
     }
 
     /// A unit is offered that is no deliver, which carries this. Only frames of returns and of
-    /// contents and answers of the classes basic and queue take memory; without it all is as it was.
+    /// contents and answers of the classes basic and queue take memory; without it all is as it
+    /// was.
     pub fn choose(&mut self, alloc: Global, unit: Reply, carried: &[u8]) -> Result<(), Memory>
         requires { is_deliver_reply unit ≡ false }
         ensures ok { OnOk result (self.new ≡ record {

@@ -1,15 +1,18 @@
 //! What goes next to each end.
 
-ghost use Rattle.std.specs.Prelude.{◌≡◌, true, false};
+ghost use Rattle.std.specs.Prelude.{◌≡◌, ◌||◌, true, false};
 ghost use Rattle.gate_model.specs.Due.{attaches, begins, carried_rows, carries_back, carries_of};
 ghost use Rattle.gate_model.specs.Due.{channel_closes, channel_oks, client_rows, client_units};
 ghost use Rattle.gate_model.specs.Due.{detaches, ends, if_so, is_beat_due, last_closes};
 ghost use Rattle.gate_model.specs.Due.{link_flows, may_end, may_go, may_tell, none_left};
-ghost use Rattle.gate_model.specs.Due.{openings, rows_in, session_flows, session_rows};
+ghost use Rattle.gate_model.specs.Due.{may_idle, openings, other_rows, rows_in, session_flows};
+ghost use Rattle.gate_model.specs.Due.{session_rows};
 ghost use Rattle.gate_model.specs.Due.{settlings, transfers, unless_out, up_rows};
 ghost use Rattle.gate_model.specs.Paths.{path_at};
 ghost use Rattle.gate_model.specs.State.{is_settled};
-ghost use Rattle.gate_model.specs.Upstream.{first};
+ghost use Rattle.gate_model.specs.Upstream.{first, when_up};
+ghost use Rattle.gate_model.specs.declared.outgoing.UpUnit.TheVariants as up;
+ghost use Rattle.machine_091.specs.State.{is_closing};
 ghost use Rattle.gate_model.specs.Due.{answers, deliver_method, disposals};
 ghost use Rattle.std.specs.Prelude.{IfOk};
 ghost use Rattle.methods_091.specs.Writing.{CanPut};
@@ -18,8 +21,8 @@ ghost use Rattle.bridge_core.specs.Behind.{carrying_units, consuming_units, oks_
 ghost use Rattle.bridge_core.specs.Behind.{writing_units, written_units};
 ghost use Rattle.bridge_core.specs.PathChanges.{is_deliver_reply};
 ghost use Rattle.bridge_core.specs.Behind.{closing_units, confirm_units, confirming_units};
-ghost use Rattle.bridge_core.specs.Behind.{content_units, opening_units};
-ghost use Rattle.bridge_core.specs.Behind.{end_units, ended_units, flowing_units, last_units};
+ghost use Rattle.bridge_core.specs.Behind.{content_units, getting_units, opening_units};
+ghost use Rattle.bridge_core.specs.Behind.{ended_units, flowing_units, last_units};
 ghost use Rattle.bridge_core.specs.Behind.{linked_units, parting_units, session_units};
 ghost use Rattle.bridge_core.specs.Behind.{settling_units};
 
@@ -27,8 +30,8 @@ use super::Core;
 use crate::channel_rows::{
     Parting, any_left, first_attach, first_begin, first_close, first_close_ok, first_confirm,
     first_consume_ok, first_content, first_deliver, first_detach, first_disposal, first_end,
-    first_flow, first_link_flow, first_ok, first_open_ok, first_settling, first_transfer,
-    first_writing,
+    first_flow, first_get, first_link_flow, first_ok, first_open_ok, first_settling,
+    first_transfer, first_writing,
 };
 use gate_model::{BEAT_PER_SECOND, Reply, SessionUnit, UpUnit};
 use machine_091::Phase91;
@@ -65,14 +68,25 @@ impl Core {
         }
     }
 
-    /// The first of the answers to basic.consume, and of the delivers.
+    /// The first of the answers to basic.get, and of the delivers.
+    #[tactic(auto, using(crate::proofs::Firsts::first_some, crate::proofs::Firsts::first_none))]
+    fn next_getting(&self) -> Option<Reply>
+        ensures { result ≡ first (getting_units self.now) }
+    {
+        match first_get(self.lives.all(), &self.paths) {
+            Some(unit) => Some(unit),
+            None => first_deliver(self.lives.all(), &self.paths),
+        }
+    }
+
+    /// The first of the answers to basic.consume, and of those to basic.get and the delivers.
     #[tactic(auto, using(crate::proofs::Firsts::first_some, crate::proofs::Firsts::first_none))]
     fn next_consuming(&self) -> Option<Reply>
         ensures { result ≡ first (consuming_units self.now) }
     {
         match first_consume_ok(self.lives.all(), &self.paths) {
             Some(unit) => Some(unit),
-            None => first_deliver(self.lives.all(), &self.paths),
+            None => self.next_getting(),
         }
     }
 
@@ -494,31 +508,14 @@ impl Core {
         }
     }
 
-    /// The unit to the container that goes next while the connection closes.
+    /// The unit to the container that goes next while the connection closes, but for an empty frame.
     #[tactic(auto, using(crate::proofs::Firsts::first_some, crate::proofs::Firsts::first_none))]
     fn next_ending(&self) -> Option<UpUnit>
-        ensures { result ≡ first (rows_in true self.now) }
+        ensures { result ≡ first (other_rows true self.now) }
     {
         match self.next_on_session() {
             Some(unit) => Some(unit),
             None => self.next_parting(),
-        }
-    }
-
-    /// The first of the ends, and of an empty frame, while the connection doesn't close.
-    #[tactic(auto, using(crate::proofs::Firsts::first_some, crate::proofs::Firsts::first_none))]
-    fn next_end(&self) -> Option<UpUnit>
-        ensures { result ≡ first (end_units self.now) }
-    {
-        match self.first_end(false) {
-            Some(unit) => Some(unit),
-            None => {
-                if self.up.is_idle_due(self.moment) {
-                    Some(UpUnit::Empty)
-                } else {
-                    None
-                }
-            }
         }
     }
 
@@ -529,7 +526,7 @@ impl Core {
     {
         match self.next_on_session() {
             Some(unit) => Some(unit),
-            None => self.next_end(),
+            None => self.first_end(false),
         }
     }
 
@@ -572,14 +569,49 @@ impl Core {
         self.paths.carried(channel, unit)
     }
 
-    /// The unit to the container that goes next while the connection doesn't close.
+    /// The unit to the container that goes next while the connection doesn't close, likewise.
     #[tactic(auto, using(crate::proofs::Firsts::first_some, crate::proofs::Firsts::first_none))]
     fn next_running(&self) -> Option<UpUnit>
-        ensures { result ≡ first (rows_in false self.now) }
+        ensures { result ≡ first (other_rows false self.now) }
     {
         match self.up.next_opening() {
             Some(unit) => Some(unit),
             None => self.next_session(),
+        }
+    }
+
+    /// That, while it closes or not.
+    fn next_other(&self) -> Option<UpUnit>
+        ensures { result
+            ≡ first (other_rows (self.now.out_of_memory || is_closing self.now.conn) self.now) }
+    {
+        if self.out_of_memory || self.conn.is_closing() {
+            self.next_ending()
+        } else {
+            self.next_running()
+        }
+    }
+
+    /// An empty frame that is due.
+    fn next_empty(&self) -> Option<UpUnit>
+        ensures { result ≡ first (when_up (may_idle self.now) up.Empty) }
+    {
+        if !self.out_of_memory && self.up.is_idle_due(self.moment) {
+            Some(UpUnit::Empty)
+        } else {
+            None
+        }
+    }
+
+    /// That, or else an empty frame.
+    #[tactic(auto, using(crate::proofs::Firsts::first_some, crate::proofs::Firsts::first_none))]
+    fn next_row(&self) -> Option<UpUnit>
+        ensures { result
+            ≡ first (rows_in (self.now.out_of_memory || is_closing self.now.conn) self.now) }
+    {
+        match self.next_other() {
+            Some(unit) => Some(unit),
+            None => self.next_empty(),
         }
     }
 
@@ -589,10 +621,8 @@ impl Core {
     {
         if !self.up.is_live() || self.up.sent().close {
             None
-        } else if self.out_of_memory || self.conn.is_closing() {
-            self.next_ending()
         } else {
-            self.next_running()
+            self.next_row()
         }
     }
 }

@@ -4,7 +4,8 @@ ghost use Rattle.std.specs.Prelude.{◌≡◌, ◌+◌, ◌%◌, ◌^◌, if◌t
 ghost use Rattle.gate_model.specs.Lives.{life_at};
 ghost use Rattle.gate_model.specs.Paths.{path_at, with_path};
 ghost use Rattle.gate_model.specs.State.{attached_by, conn_given, gave, is_attach, path_given};
-ghost use Rattle.gate_model.specs.State.{paths_given, paths_given_up, session_by, sessions_by};
+ghost use Rattle.gate_model.specs.State.{is_later, paths_given, paths_given_up, session_by};
+ghost use Rattle.gate_model.specs.State.{sessions_by};
 ghost use Rattle.gate_model.specs.State.{without_begin, without_life};
 ghost use Rattle.gate_model.specs.declared.outgoing.UpUnit.TheVariants as up;
 ghost use Rattle.bridge_core.specs.PathChanges.{HasWindow, MayGive, MayGo, MayGoUp, MayReply};
@@ -112,7 +113,7 @@ impl Core {
         ensures { self.new
             ≡ record self.old {
               lives = without_begin unit self.old.lives;
-              paths = paths_given_up unit self.old.paths;
+              paths = paths_given_up (is_later self.old.conn unit) unit self.old.paths;
               attached = attached_by unit self.old.attached;
             } }
     {
@@ -136,7 +137,9 @@ impl Core {
                 let life = self.lives.at(channel);
                 self.lives.set(channel, Life { why: None, ..life });
                 self.paths.lines_told();
-                self.paths.lose(channel);
+                if !self.conn.is_open(channel) {
+                    self.paths.lose(channel);
+                }
             }
             UpUnit::OnSession(channel, unit) => self.give_link(channel, unit),
             _ => {}

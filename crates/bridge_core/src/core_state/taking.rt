@@ -88,7 +88,10 @@ fn is_naming(method: &Method91) -> bool
 {
     matches!(
         method,
-        Method91::QueueDeclare { .. } | Method91::BasicConsume { .. } | Method91::BasicCancel { .. }
+        Method91::QueueDeclare { .. }
+            | Method91::BasicConsume { .. }
+            | Method91::BasicGet { .. }
+            | Method91::BasicCancel { .. }
     )
 }
 
@@ -171,8 +174,8 @@ impl Core {
         }
     }
 
-    /// What a method whose names are kept makes of the path of its channel. Without memory for it all
-    /// is as it was.
+    /// What a method whose names are kept makes of the path of its channel. Without memory for it
+    /// all is as it was.
     fn name_path(&mut self, alloc: Global, channel: u16, method: &Method91) -> Result<(), Memory>
         requires { is_naming method.now ≡ true }
         ensures ok { OnOk result (self.new ≡ record self.old {
@@ -199,6 +202,10 @@ impl Core {
                     no_wait: *no_wait,
                 };
                 self.paths.consume(channel, consume)
+            }
+            Method91::BasicGet { queue, no_ack } => {
+                let queue = queue.copy(alloc)?;
+                self.paths.get(channel, queue, *no_ack)
             }
             Method91::BasicCancel {
                 consumer_tag,

@@ -11,4 +11,4 @@ returns c =
       | goal.in-None w ↦ search rules
       | goal.in-Some w ↦ search rules
     ] in
-    part_is t _ refl long c.unwrap_or.ensures refl refl refl
+    part_is t _ c.id_of.ensures long c.unwrap_or.ensures refl refl refl
