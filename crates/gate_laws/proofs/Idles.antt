@@ -1,7 +1,7 @@
 -- A pair's words are steady, and the upstream end wakes by a connect alone; so all is at rest at each idle.
 use Rattle.std.proofs.Common.{◌≡◌, ◌∙◌, Bool, true, false, not, ◌&&◌, ◌||◌, if◌then◌else◌, ℕ, zero}
 use Rattle.std.proofs.Common.{suc, ◌+◌, List, [], ◌∷◌, ◌++◌, length, take, Option, None, Some, refl}
-use Rattle.std.proofs.Common.{ap, sym, subst}
+use Rattle.std.proofs.Common.{ap, map, sym, subst}
 use Rattle.std.specs.Prelude.{is_some}
 use Rattle.std.specs.List.{list_any}
 use Rattle.gate_outside.specs.declared.ports.End.{End}
@@ -22,7 +22,13 @@ use Rattle.gate_model.specs.Folds.{connection, container_kept}
 use Rattle.gate_model.specs.Lives.{any_life, is_done, life_at, session_in}
 use Rattle.gate_model.specs.Paths.{is_laden, or_no_path, path_at, slot_at, told_paths}
 use Rattle.gate_model.proofs.Slots.{map_slot}
-use Rattle.session_path.specs.Due.{is_waiting}
+use Rattle.consume_path.specs.Deliveries.{DeliveryState, after_event}
+use Rattle.consume_path.specs.Deliveries.{LinesTold as DeliveriesTold}
+use Rattle.consume_path.specs.Links.{recount}
+use Rattle.consume_path.specs.Offers.{is_getting}
+use Rattle.consume_path.specs.declared.delivery.Delivery.{Delivery}
+use Rattle.consume_path.specs.declared.receiving.ReceivingLink.{ReceivingLink}
+use Rattle.session_path.specs.Due.{is_get_awaited, is_waiting}
 use Rattle.session_path.specs.Path.{PathState, lines_told}
 use Rattle.std.specs.Option.{option_map}
 use Rattle.gate_model.specs.Picks.{ArePicks}
@@ -239,13 +245,20 @@ channel_before : (w : State) (n : ℕ) → is_channel_settled (joined w) n ≡ t
 channel_before w n e =
     let done : Bool = is_done (session_in w.up.container n) in either_of (is_settled (joined w)) done (is_settled w) done (settled_before w) (λ x. x) e
 
--- a basic.consume that waits goes on
+-- a request that waits goes on, also a basic.get
+getting_recounted : (list : List Delivery) (ls : List ReceivingLink) → list_any is_getting (map (recount list) ls) ≡ list_any is_getting ls
+getting_recounted list [] = refl
+getting_recounted list (l ∷ ls) = ap (λ (b : Bool). is_getting l || b) (getting_recounted list ls)
+
+told_get : (d : DeliveryState) → is_get_awaited (after_event DeliveriesTold d) ≡ is_get_awaited d
+told_get d = ap (λ (b : Bool). not d.closed && b) (getting_recounted (after_event DeliveriesTold d).list d.links)
+
 told_waits : (ps : List (Option PathState)) (n : ℕ) → is_waiting (path_at (told_paths ps) n) ≡ is_waiting (path_at ps n)
 told_waits ps n = ap (λ (o : Option PathState). is_waiting (or_no_path o)) (map_slot ps n lines_told) ∙ by (slot_at ps n)
   where
     by : (o : Option PathState) → is_waiting (or_no_path (option_map lines_told o)) ≡ is_waiting (or_no_path o)
     by None = refl
-    by (Some s) = refl
+    by (Some s) = ap (λ (b : Bool). is_some s.awaited || b) (told_get s.deliveries)
 
 life_more : (w : State) (n : ℕ) (l : Life) → life_waits w n l ≡ true → life_waits (joined w) n l ≡ true
 life_more w n l =

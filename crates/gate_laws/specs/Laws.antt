@@ -17,7 +17,9 @@ use Rattle.gate_model.specs.Order.{TakesInOrder}
 use Rattle.gate_model.specs.Picks.{ArePicks}
 use Rattle.gate_model.specs.Delivers.{Delivers}
 use Rattle.gate_model.specs.Publishing.{ArePieces, Confirms, EndWhole, Returns, Transfers}
+use Rattle.gate_model.specs.Releases.{Releases}
 use Rattle.gate_model.specs.Reports.{lines_owed}
+use Rattle.gate_model.specs.Settles.{Grants, Settles}
 use Rattle.gate_model.specs.Setup.{SetupText}
 use Rattle.gate_model.specs.State.{owed_lines}
 use Rattle.gate_model.specs.Waiting.{ChannelsEndWhenSettled, EndsWhenSettled, OpensWhenOpened}
@@ -48,6 +50,11 @@ pub record IsLawfulPair (s : SetupText) (h : List Entry) : Type 0 where
   pub wholes : EndWhole (steps_of s h)
   -- each deliver is the next of its link, within the prefetch of its consumer and of all
   pub delivers : Delivers (steps_of s h)
+  -- each disposition covers deliveries that are owed its state; each credit is within a quota; and
+  -- none is left that lacks a disposition where a session or a link of it is given up
+  pub settles : Settles (steps_of s h)
+  pub grants : Grants (steps_of s h)
+  pub releases : Releases (steps_of s h)
   -- the report is owed the lines of the publishes that were lost before they had an outcome, and of
   -- the deliveries that were lost or left
   pub lines : owed_lines (state_of s h) ≡ lines_owed (steps_of s h)

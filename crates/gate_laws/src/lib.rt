@@ -12,7 +12,9 @@ ghost use Rattle.gate_model.specs.Order.{TakesInOrder};
 ghost use Rattle.gate_model.specs.Picks.{ArePicks};
 ghost use Rattle.gate_model.specs.Delivers.{Delivers};
 ghost use Rattle.gate_model.specs.Publishing.{ArePieces, Confirms, EndWhole, Returns, Transfers};
+ghost use Rattle.gate_model.specs.Releases.{Releases};
 ghost use Rattle.gate_model.specs.Reports.{lines_owed};
+ghost use Rattle.gate_model.specs.Settles.{Grants, Settles};
 ghost use Rattle.gate_model.specs.Setup.{SetupText};
 ghost use Rattle.gate_model.specs.State.{owed_lines};
 ghost use Rattle.gate_model.specs.Waiting.{ChannelsEndWhenSettled, EndsWhenSettled};
@@ -121,6 +123,28 @@ pub fn delivers_are_lawful()
     gate_model::delivers_are_lawful();
 }
 
+/// Each disposition of role receiver that goes to a container covers deliveries that are owed its
+/// state, and no other that lacks one. Each flow of a receiving link states a credit that is, with
+/// what counts on the link, within a consumer's quota. Before an end of the gateway goes each whole
+/// delivery of the channel's life that didn't come settled had its disposition; before its detach
+/// of a receiving link that is open at both ends, each one of that link.
+pub fn deliveries_are_settled()
+    ensures settles { (s : SetupText) (c : Limits) (m : History) → Follows (pair_words s) c m
+        → (p : ℕ)
+        → Settles (steps_of s (journal p m)) }
+    ensures grants { (s : SetupText) (c : Limits) (m : History) → Follows (pair_words s) c m
+        → (p : ℕ)
+        → Grants (steps_of s (journal p m)) }
+    ensures releases { (s : SetupText) (c : Limits) (m : History) → Follows (pair_words s) c m
+        → (p : ℕ)
+        → Releases (steps_of s (journal p m)) }
+{
+    entries_are_lawful();
+    gate_model::settles_are_lawful();
+    gate_model::grants_are_lawful();
+    gate_model::releases_are_lawful();
+}
+
 /// What the report is owed of a pair: of each life in progress, by rising number, the publishes
 /// that were lost before they had an outcome, and then the deliveries that were lost or left. Of
 /// both those of which no line was reported, by rising number, and what became of each.
@@ -227,6 +251,7 @@ pub fn runs_are_lawful()
     channels_are_answered_once();
     publishes_are_lawful();
     delivers_are_lawful();
+    deliveries_are_settled();
     lines_are_lawful();
     replies_wait();
     containers_are_asked();

@@ -224,7 +224,7 @@ login_due w e = by (goes_up w unit.SaslInit e).why
     by (Flows f) = absurd (flows_lack unit.SaslInit w refl f)
     by (ups.Linked l) = let wrong = l.is in absurd cc
     by (Ends f) = absurd (ends_lack unit.SaslInit (w.out_of_memory || is_closing w.conn) w refl f)
-    by (Telling k i f) = absurd cc
+    by (Telling i f) = absurd cc
 
 frame_some : (f : Frame10) → 0 < length (frames_10.frame_text f)
 unfolding text_behind

@@ -99,10 +99,8 @@ tell_in s h r free m = record {
       (subst (λ (n : ℕ). sent_up_at (steps_of s h) + (idle_in (container (steps_of s h)) + 1) / 2 ≤ n) (moment_is s h) m.quiet);
   readable = ap is_readable (sym (agrees s h r).side_is) ∙ m.readable;
   unclosed = m.unclosed;
+  calm = m.calm;
   alone = m.alone;
-  begun = m.begun;
-  carried = m.carried;
-  ended = m.ended;
   free = free;
 }
 
@@ -114,10 +112,8 @@ tell_of s h r m = record {
       (subst (λ (n : ℕ). last_taken_up_at h + (idle_in (container (steps_of s h)) + 1) / 2 ≤ n) (sym (moment_is s h)) m.quiet);
   readable = ap is_readable (agrees s h r).side_is ∙ m.readable;
   unclosed = m.unclosed;
+  calm = m.calm;
   alone = m.alone;
-  begun = m.begun;
-  carried = m.carried;
-  ended = m.ended;
 }
 
 abbrev Tells : SetupText → List Entry → Type 0

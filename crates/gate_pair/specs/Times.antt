@@ -20,13 +20,12 @@ use Rattle.gate_model.specs.declared.timers.TheConstants.{BEAT_PER_SECOND, CLOSI
 use Rattle.gate_model.specs.declared.timers.TheConstants.{HANDSHAKE_LIMIT}
 use Rattle.gate_model.specs.Answers.{is_close_ok}
 use Rattle.gate_model.specs.Asked.{is_up_close, is_up_open, sent_up_whole}
-use Rattle.gate_model.specs.Due.{begins, client_units, ends, is_busy, is_unheard, pick}
-use Rattle.gate_model.specs.Due.{session_rows}
-use Rattle.gate_model.specs.Folds.{closed_in, connection, container, sent, sent_up}
+use Rattle.gate_model.specs.Due.{client_units, is_busy, is_unheard, other_rows, pick}
+use Rattle.gate_model.specs.Folds.{closed_in, connection, container, ran_out_in, sent, sent_up}
 use Rattle.gate_model.specs.Setup.{SetupText}
 use Rattle.gate_model.specs.State.{has_left}
 use Rattle.gate_model.specs.Times.{is_any_close, is_protocol, sent_whole}
-use Rattle.gate_model.specs.Upstream.{idle_in, is_bad_stream, is_closed_stream, opening_rows}
+use Rattle.gate_model.specs.Upstream.{idle_in, is_bad_stream, is_closed_stream}
 use Rattle.gate_model.specs.Upstream.{stream_in}
 use Rattle.gate_pair.specs.Meaning.{pair_words, state_of, steps_of}
 
@@ -83,17 +82,16 @@ SendsBeats s (e ∷ h) = SendsBeats s h
 
 -- an empty frame may go: the container's open stated an idle time-out, the gateway's open was sent,
 -- and for half of the time-out, rounded up, the container took no byte (AMQP 1.0 2.4.5); its end is
--- open, the client's connection isn't closing, no other unit is due, and none is in progress
+-- open, the gateway's close wasn't sent, the pair didn't run out of memory, no other unit is due,
+-- and none is in progress
 pub record MayTellAt (s : SetupText) (h : List Entry) : Type 0 where
   pub stated : 0 < idle_in (container (steps_of s h))
   pub opened : list_any is_up_open (sent_up (steps_of s h)) ≡ true
   pub quiet : last_taken_up_at h + (idle_in (container (steps_of s h)) + 1) / 2 ≤ moment_of h
   pub readable : is_readable (side_of Up (sides h)) ≡ true
-  pub unclosed : is_closing (connection (steps_of s h)) ≡ false
-  pub alone : opening_rows (state_of s h).up.pending ≡ []
-  pub begun : begins (state_of s h) ≡ []
-  pub carried : session_rows (state_of s h) ≡ []
-  pub ended : ends false (state_of s h) ≡ []
+  pub unclosed : list_any is_up_close (sent_up (steps_of s h)) ≡ false
+  pub calm : ran_out_in (steps_of s h) ≡ false
+  pub alone : other_rows (is_closing (connection (steps_of s h))) (state_of s h) ≡ []
   pub free : is_busy (state_of s h) Up ≡ false
 
 -- each empty frame that the container took a first byte of went where it might
