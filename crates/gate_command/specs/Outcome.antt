@@ -247,7 +247,7 @@ pub record IsShowingUnits (words : List (List ℕ)) (answer : Status) (old new :
   pub unrecorded : new.kept ≡ old.kept
   pub silent : new.log ≡ old.log
 
-abbrev pub Outcome : List (List ℕ) → Status → Around → Around → Option (List ℕ)
+unfoldable pub Outcome : List (List ℕ) → Status → Around → Around → Option (List ℕ)
     → Option (List ℕ) → Type 0
 Outcome words answer old new left left' =
     ((left' ≡ left)

@@ -123,7 +123,7 @@ fn serve_as_asked<P: Ports, K: Sink, C: Sink>(
 }
 
 /// Does what is asked for.
-#[tactic(auto, using(crate::proofs::RunLaws::none_accepted))]
+#[tactic(auto, using(crate::proofs::RunLaws::none_accepted), unfolding(crate::specs::Outcome::Outcome))]
 fn run_as_asked<P: Ports, S: Source, K: Sink, C: Sink>(
     alloc: Global,
     words: &Vec<String>,
@@ -176,6 +176,7 @@ fn run_as_asked<P: Ports, S: Source, K: Sink, C: Sink>(
 /// the input, makes its run again or lists it, or lists the units of a byte stream, and writes to
 /// out what it found. Where the words
 /// aren't a command line, it writes the place instead.
+#[tactic(auto, unfolding(crate::specs::Outcome::Outcome))]
 pub fn gateway<P: Ports, S: Source, K: Sink, C: Sink>(
     alloc: Global,
     words: &Vec<String>,

@@ -9,6 +9,7 @@ returns-in-Serve-clause-limit g c =
     (c.in-Serve.listen, c.in-Serve.upstream, rw c.in-Serve.is at c.requires.asks) c.serve_as_asked.ensures.limit
 
 pub returns-in-Show10-clause-outcome : goal.returns-in-Show10-clause-outcome
+unfolding Rattle.gate_command.specs.Outcome.Outcome
 returns-in-Show10-clause-outcome g c = inr (inr (inr (record {
   dialect = Amqp10;
   asks = rw c.in-Show10.is at c.requires.asks;
