@@ -1,0 +1,146 @@
+#!/usr/bin/env python3
+"""Kills consumers behind the gateway, and counts what their container keeps, over loopback.
+
+    python3 tools/try_consume.py --container 'COMMAND' [--gateway 'COMMAND'] [--kills COUNT] [--messages COUNT]
+                                 [--prefetch COUNT] [--workers COUNT] [--seed SEED]
+
+It starts the container as `COMMAND --port P` and the gateway as `COMMAND serve ..` on a free port; the gateway is
+crates/amqp_gate/out/amqp_gate if no command names another. It publishes MESSAGES with confirms, each with its number as its
+body, and lets WORKERS consumers take them with a prefetch. A consumer is killed at a random moment, and another takes its
+place, until KILLS were. Then one more takes what is left.
+
+Every message must be settled once: by a consumer that told so, or by the last one. One whose consumer told that the
+gateway had read its ack must not come again; one that was got and not told of may come again or not. What doesn't
+hold is printed, and the status is 1. pika is needed. No part of the build runs this.
+"""
+
+import argparse
+import os
+import random
+import shlex
+import subprocess
+import sys
+import tempfile
+import time
+
+import pika
+
+from try_container import BUILT, CLIENTS, end, free_port, wait_for
+
+QUEUE = "kills"
+
+
+def opened(port):
+    connection = pika.BlockingConnection(pika.ConnectionParameters("127.0.0.1", port, heartbeat=0))
+    return connection, connection.channel()
+
+
+def publish(port, count):
+    connection, channel = opened(port)
+    channel.confirm_delivery()
+    for number in range(count):
+        channel.basic_publish("", QUEUE, str(number).encode())
+    connection.close()
+
+
+def worker(port, prefetch, folder, number):
+    """A consumer, with a log of its own."""
+    command = [sys.executable, os.path.join(CLIENTS, "consume_pika.py"), str(port), QUEUE, str(prefetch)]
+    with open(os.path.join(folder, f"log{number}"), "w") as log:
+        return subprocess.Popen(command, stdout=log, stderr=subprocess.DEVNULL)
+
+
+def kill_workers(port, options, folder):
+    """Kills workers one after another, each at a random moment."""
+    workers = [worker(port, options.prefetch, folder, number) for number in range(options.workers)]
+    for kill in range(options.kills):
+        time.sleep(random.uniform(0.0, options.pause))
+        place = random.randrange(len(workers))
+        workers[place].kill()
+        workers[place].wait()
+        workers[place] = worker(port, options.prefetch, folder, options.workers + kill)
+    for one in workers:
+        one.kill()
+        one.wait()
+
+
+def told(folder):
+    """The whole lines of all logs, as words and numbers. A worker that is killed may leave a part of a line."""
+    for name in sorted(os.listdir(folder)):
+        if name.startswith("log"):
+            with open(os.path.join(folder, name)) as log:
+                for line in log.read().split("\n")[:-1]:
+                    word, number = line.split()
+                    yield word, int(number)
+
+
+def drain(port, quiet):
+    """What is left in the queue, each as often as it came."""
+    connection, channel = opened(port)
+    left = []
+    for method, _, body in channel.consume(QUEUE, inactivity_timeout=quiet):
+        if method is None:
+            break
+        left.append(int(body))
+        channel.basic_ack(method.delivery_tag)
+    connection.close()
+    return left
+
+
+def judged(count, got, settled, left):
+    """What is wrong with a run."""
+    faults = []
+    for number in range(count):
+        times = settled.count(number) + left.count(number)
+        if number not in got and number not in left:
+            faults.append(f"{number} is lost")
+        if number in settled and number in left:
+            faults.append(f"{number} was acknowledged and is still there")
+        if times > 1:
+            faults.append(f"{number} was settled {times} times")
+        if times == 0 and number in got:
+            continue  # its ack was on its way when its consumer was killed
+    return faults
+
+
+def main():
+    parser = argparse.ArgumentParser(description=__doc__, formatter_class=argparse.RawDescriptionHelpFormatter)
+    parser.add_argument("--container", required=True)
+    parser.add_argument("--gateway", default=BUILT)
+    parser.add_argument("--kills", type=int, default=100)
+    parser.add_argument("--messages", type=int, default=10000)
+    parser.add_argument("--prefetch", type=int, default=10)
+    parser.add_argument("--workers", type=int, default=4)
+    parser.add_argument("--pause", type=float, default=0.5)
+    parser.add_argument("--seed", type=int, default=1)
+    parser.add_argument("--wait", type=int, default=60)
+    options = parser.parse_args()
+    random.seed(options.seed)
+    with tempfile.TemporaryDirectory() as folder:
+        port = free_port()
+        container = subprocess.Popen([*shlex.split(options.container), "--port", str(port)], stdout=subprocess.DEVNULL)
+        wait_for(port, container)
+        upstream, port = f"127.0.0.1:{port}", free_port()
+        words = ["serve", "--listen", f"127.0.0.1:{port}", "--upstream", upstream]
+        gateway = subprocess.Popen([*shlex.split(options.gateway), *words], stdout=subprocess.DEVNULL)
+        try:
+            wait_for(port, gateway, options.wait)
+            publish(port, options.messages)
+            kill_workers(port, options, folder)
+            left = drain(port, 2.0)
+            lines = list(told(folder))
+        finally:
+            end(gateway)
+            end(container)
+    got = {number for word, number in lines if word == "got"}
+    settled = [number for word, number in lines if word == "settled"]
+    faults = judged(options.messages, got, settled, left)
+    unsure = len(got - set(settled) - set(left))
+    print(f"{options.kills} kills: {len(settled)} settled by workers, {len(left)} left, {unsure} acks under way at a kill")
+    for fault in faults:
+        print(fault)
+    sys.exit(1 if faults else 0)
+
+
+if __name__ == "__main__":
+    main()
