@@ -174,8 +174,7 @@ fn run_as_asked<P: Ports, S: Source, K: Sink, C: Sink>(
 /// Does what the words ask for: serves over the ports, and writes the report to out. Where a
 /// capture is asked for, it writes its start and each call to the capture. Or reads a capture from
 /// the input, makes its run again or lists it, or lists the units of a byte stream, and writes to
-/// out what it found. Where the words
-/// aren't a command line, it writes the place instead.
+/// out what it found. Where the words aren't a command line, it writes the place instead.
 #[tactic(auto, unfolding(crate::specs::Outcome::Outcome))]
 pub fn gateway<P: Ports, S: Source, K: Sink, C: Sink>(
     alloc: Global,

@@ -58,11 +58,11 @@ pub fn frames_fit_clients()
 /// byte for half of it, no close-ok was sent, no other unit may go and none is in progress. An
 /// empty frame goes next to the container exactly where its open stated an idle time-out, the
 /// gateway's open was sent, and the container took no byte for half of that. Its end is open then,
-/// the client's connection isn't closing, no other unit is due and none is in progress. The
-/// client's end is to be shut exactly for one of the causes of `ShutAt`, among them that no
-/// connection.open came within 10,000 ms of the accept. The upstream end is to be shut exactly for
-/// one of those of `ShutUpAt`. Among both is that the closing event is 10,000 ms old. Once the
-/// handshake limit was reached the connection is closing, whatever comes.
+/// the gateway's close wasn't sent, the pair didn't run out of memory, no other unit is due and
+/// none is in progress. The client's end is to be shut exactly for one of the causes of `ShutAt`,
+/// among them that no connection.open came within 10,000 ms of the accept. The upstream end is to
+/// be shut exactly for one of those of `ShutUpAt`. Among both is that the closing event is 10,000
+/// ms old. Once the handshake limit was reached the connection is closing, whatever comes.
 pub fn times_are_kept()
     ensures { (s : SetupText) (h : List Entry) → IsRelayed (pair_words s) h → KeepsTimes s h }
 {
