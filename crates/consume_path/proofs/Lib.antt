@@ -16,3 +16,6 @@ mod Freshness
 mod Visited
 mod Kept
 mod Passing
+mod Ahead
+mod Alone
+mod Limits

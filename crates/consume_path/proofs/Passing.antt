@@ -1,17 +1,25 @@
 -- Places in a list, and the elements that pass a test.
-use Rattle.std.proofs.Common.{◌≡◌, ◌∙◌, ℕ, zero, suc, ◌+◌, ◌≤◌, ◌<◌, List, [], ◌∷◌, Bool, true, false}
+use Rattle.std.proofs.Common.{◌≡◌, ◌∙◌, ℕ, zero, suc, ◌+◌, ◌-◌, ◌≤◌, ◌++◌, ◌<◌, List, [], ◌∷◌, Bool, true, false}
 use Rattle.std.proofs.Common.{refl, sym, ap, subst, arith, cond, map, take, drop, length, get_or}
-use Rattle.std.specs.Prelude.{filter, count_by, nat_lt, ◌&&◌, ◌==◌, Option, None, Some}
-use Rattle.std.specs.List.{AllByRecursion, slice_get}
+use Rattle.std.specs.Prelude.{filter, find, count_by, nat_lt, ◌&&◌, ◌==◌, Option, None, Some}
+use Rattle.std.specs.Prelude.{IfSome, not}
+use Rattle.std.specs.List.{AllByRecursion, list_any, position, position_or_len, slice_get}
 use Rattle.std.proofs.lemmas.Bool.Decides.{nat_tests}
-use Rattle.std.proofs.lemmas.List.{nil_from_length, map-id}
+use Rattle.std.proofs.lemmas.List.{nil_from_length, map-id, length-append, length-map}
+use Rattle.std.proofs.lemmas.List.{length-drop, drop-map, drop-drop, drop-append-le}
+use Rattle.std.proofs.lemmas.List.Elements.{filter-append}
 use Rattle.std.proofs.Math.Seq.{drop-length}
 use Rattle.std.proofs.lemmas.List.Sums.{length-filter, sum_by-cons, get_or-le-sum_by}
+use Rattle.std.proofs.lemmas.List.Sums.{prefix_len-le-length}
+use Rattle.open_items.proofs.Filtered.{filter-map-filter, find-filter, filter-only, list_any-filter}
 use Rattle.std.proofs.lemmas.Option.{get_or_from_slice_get}
 use Rattle.open_items.proofs.Numbered.{Rising, rising_each}
 use Rattle.consume_path.specs.declared.delivery.Delivery.{Delivery}
 use Rattle.consume_path.specs.declared.places.Visit.{Visit}
-use Rattle.consume_path.specs.Kept.{number_of, is_numbered, is_there, visit_at}
+use Rattle.consume_path.specs.Kept.{number_of, is_numbered, is_there, visit_at, AllFrom, place_at}
+use Rattle.consume_path.specs.Kept.{place_from}
+use Rattle.consume_path.specs.Offers.{soonest}
+use Rattle.consume_path.proofs.Least.{soonest_filter}
 
 module _ {X : Type 0} (t : X → Bool) where
   pub none_pass : (xs : List X) → filter t xs ≡ [] → AllByRecursion (λ x. t x ≡ false) xs
@@ -169,3 +177,102 @@ count_open {X} p o (x ∷ xs) =
     by : (b : Bool) → count_by p (filter o xs) ≤ count_by p xs → count_by p (cond b (x ∷ filter o xs) (filter o xs)) ≤ cond (p x) 1 0 + count_by p xs
     by true ih = let kept : count_by p (x ∷ filter o xs) ≡ cond (p x) 1 0 + count_by p (filter o xs) = one_counted p x (filter o xs) in omega arith
     by false ih = omega arith
+
+-- the place that is found
+
+pub found_within : (t : Delivery → Bool) (from : ℕ) (items : List Delivery) → from ≤ length items → IfSome (position t (drop from items)) (λ ahead. from + ahead < length items)
+found_within t from items le = by (nat_lt n (length (drop from items))) refl
+  where
+    n : ℕ
+    n = position_or_len t (drop from items)
+
+    by : (b : Bool) → nat_lt n (length (drop from items)) ≡ b → IfSome (cond b (Some n) None) (λ ahead. from + ahead < length items)
+    by true e = let long : length (drop from items) ≡ length items - from = length-drop from items in let lt : n < length (drop from items) = grind (arith, nat_tests) in omega arith
+    by false e = tt
+
+pub place_is : (t : Delivery → Bool) (from : ℕ) (items : List Delivery) → from ≤ length items → place_from t from items ≡ from + position_or_len t (drop from items)
+place_is t from items le = by (nat_lt n (length (drop from items))) refl
+  where
+    n : ℕ
+    n = position_or_len t (drop from items)
+
+    by : (b : Bool) → nat_lt n (length (drop from items)) ≡ b → place_at from (length items) (cond b (Some n) None) ≡ from + n
+    by true e = refl
+    by false e =
+        let long : length (drop from items) ≡ length items - from = length-drop from items in
+        let most : n ≤ length (drop from items) = prefix_len-le-length (λ p. not (t p)) (drop from items) in
+        let least : length (drop from items) ≤ n = grind (arith, nat_tests) in
+        omega arith
+
+one_more : (n : ℕ) → 1 + n ≡ suc n
+one_more n = omega arith
+
+-- none before the first passes
+first_behind : (t : Delivery → Bool) (xs : List Delivery) → filter t (drop (position_or_len t xs) xs) ≡ filter t xs
+first_behind t [] = refl
+first_behind t (x ∷ xs) = by (t x) refl (first_behind t xs)
+  where
+    n : ℕ
+    n = position_or_len t xs
+
+    by : (b : Bool) → t x ≡ b → filter t (drop n xs) ≡ filter t xs → filter t (drop (cond (not b) (1 + n) 0) (x ∷ xs)) ≡ cond b (x ∷ filter t xs) (filter t xs)
+    by true e ih = ap (λ b. cond b (x ∷ filter t xs) (filter t xs)) e
+    by false e ih = ap (λ k. filter t (drop k (x ∷ xs))) (one_more n) ∙ ih
+
+-- all that pass
+
+pub from_start : (t : Delivery → Bool) (items : List Delivery) → AllFrom t 0 items
+from_start t items = record { within = omega arith; behind = refl }
+
+pub from_on : (t : Delivery → Bool) (place : ℕ) (items : List Delivery) → AllFrom t place items → AllFrom t (place_from t place items) items
+from_on t place items a =
+    let within : place ≤ length items = a.within in
+    let n = position_or_len t (drop place items) in
+    let long : length (drop place items) ≡ length items - place = length-drop place items in
+    let most : n ≤ length (drop place items) = prefix_len-le-length (λ p. not (t p)) (drop place items) in
+    subst (λ k. AllFrom t k items) (sym (place_is t place items within)) (record {
+      within = omega arith;
+      behind = ap (filter t) (sym (drop-drop n place items)) ∙ first_behind t (drop place items) ∙ a.behind;
+    })
+
+-- a test that only some of those pass
+pub from_fewer : (t u : Delivery → Bool) (place : ℕ) (items : List Delivery) → ((p : Delivery) → t p ≡ false → u p ≡ false) → AllFrom t place items → AllFrom u place items
+from_fewer t u place items only a = record {
+  within = a.within;
+  behind = sym (filter-only t u only (drop place items)) ∙ ap (filter u) a.behind ∙ filter-only t u only items;
+}
+
+-- where none begins to pass
+pub from_map : (t : Delivery → Bool) (f : Delivery → Delivery) (place : ℕ) (items : List Delivery) → ((p : Delivery) → t p ≡ false → t (f p) ≡ false) → AllFrom t place items → AllFrom t place (map f items)
+from_map t f place items stays a = record {
+  within = let within = a.within in let long : length (map f items) ≡ length items = length-map items f in omega arith;
+  behind =
+      ap (filter t) (drop-map f place items) ∙ filter-map-filter t f stays (drop place items) ∙ ap (λ ps. filter t (map f ps)) a.behind
+      ∙ sym (filter-map-filter t f stays items);
+}
+
+pub from_push : (t : Delivery → Bool) (place : ℕ) (items : List Delivery) (p : Delivery) → AllFrom t place items → AllFrom t place (items ++ p ∷ [])
+from_push t place items p a =
+    let within : place ≤ length items = a.within in
+    let long : length (items ++ p ∷ []) ≡ length items + 1 = length-append items (p ∷ []) in
+    record {
+      within = omega arith;
+      behind =
+          ap (filter t) (drop-append-le place items (p ∷ []) within) ∙ filter-append t (drop place items) (p ∷ []) ∙ ap (λ ps. ps ++ filter t (p ∷ [])) a.behind
+          ∙ sym (filter-append t items (p ∷ []));
+    }
+
+-- what is found there is what is found in all
+
+pub from_find : (t u : Delivery → Bool) (place : ℕ) (items : List Delivery) → ((p : Delivery) → t p ≡ false → u p ≡ false) → AllFrom t place items → find u (drop place items) ≡ find u items
+from_find t u place items only a = sym (find-filter t u only (drop place items)) ∙ ap (find u) a.behind ∙ find-filter t u only items
+
+pub from_any : (t u : Delivery → Bool) (place : ℕ) (items : List Delivery) → ((p : Delivery) → t p ≡ false → u p ≡ false) → AllFrom t place items → list_any u (drop place items) ≡ list_any u items
+from_any t u place items only a = sym (list_any-filter t u only (drop place items)) ∙ ap (list_any u) a.behind ∙ list_any-filter t u only items
+
+pub from_filter : (t u : Delivery → Bool) (place : ℕ) (items : List Delivery) → ((p : Delivery) → t p ≡ false → u p ≡ false) → AllFrom t place items → filter u (drop place items) ≡ filter u items
+from_filter t u place items only a = (from_fewer t u place items only a).behind
+
+pub from_soonest : {R : Type 0} (key : R → ℕ) (t : Delivery → Bool) (offer : Delivery → Option R) (place : ℕ) (items : List Delivery) → ((d : Delivery) → t d ≡ false → offer d ≡ None) → AllFrom t place items → soonest key offer (drop place items) ≡ soonest key offer items
+from_soonest key t offer place items only a =
+    sym (soonest_filter key t offer offer (λ d. refl) only (drop place items)) ∙ ap (soonest key offer) a.behind ∙ soonest_filter key t offer offer (λ d. refl) only items

@@ -7,7 +7,8 @@ use Rattle.std.specs.Prelude.{not, ◌&&◌, ◌||◌, ◌==◌, nat_lt, filter,
 use Rattle.std.specs.List.{list_any}
 use Rattle.std.specs.Option.{option_map, option_or}
 use Rattle.std.proofs.lemmas.Grind.{common_steps}
-use Rattle.std.proofs.lemmas.List.{drop_more, take-append-drop, take-set, drop-set}
+use Rattle.std.proofs.lemmas.List.{drop_more, take-append-drop, take-set, drop-set, length-drop}
+use Rattle.std.proofs.Math.Seq.{take-length}
 use Rattle.links_10.specs.Recv.{recounted}
 use Rattle.links_10.specs.Send.{advanced}
 use Rattle.open_items.specs.declared.lost.LostKind.TheVariants.{DeliveryLost}
@@ -63,6 +64,9 @@ run_more n k s list last lt is =
     let less : suc (n - (k + 1)) ≡ n - k = omega arith in
     sym (ap (λ b. cond b (run_to (n - (k + 1)) s list (advanced last 1)) last) is) ∙ ap (λ m. run_to m s list last) less
 
+pub take_rest : {A : Type 0} (n : ℕ) (items : List A) → take (length items - n) (drop n items) ≡ drop n items
+take_rest n items = ap (λ k. take k (drop n items)) (sym (length-drop n items)) ∙ take-length (drop n items)
+
 -- what is closed has nothing to offer
 
 pub open_open : (items : List Delivery) → filter is_open (filter is_open items) ≡ filter is_open items
@@ -99,7 +103,7 @@ content_seen id items = ap content_in (find-filter is_open (has_content id) (λ 
 
 -- delivers
 
-unsettled_closed : (d : Delivery) → is_open d ≡ false → is_unsettled d ≡ false
+pub unsettled_closed : (d : Delivery) → is_open d ≡ false → is_unsettled d ≡ false
 unsettled_closed d e = grind (arith, common_steps)
 
 unsettled_on_closed : (link : ℕ) (d : Delivery) → is_open d ≡ false → unsettled_on link d ≡ false

@@ -5,7 +5,7 @@ use Rattle.std.proofs.Common.{set}
 use Rattle.std.specs.Prelude.{count_by, is_some, nat_lt}
 use Rattle.std.proofs.lemmas.Bool.Decides.{nat_tests}
 use Rattle.std.proofs.lemmas.List.{map-append, take-append-drop, length-map, length-take-le}
-use Rattle.std.proofs.lemmas.List.{length-append, length-drop}
+use Rattle.std.proofs.lemmas.List.{length-append, length-drop, set-get_or}
 use Rattle.std.proofs.lemmas.List.Sums.{sum_by-set, sum_by_push, get_or-le-sum_by}
 use Rattle.std.proofs.lemmas.List.Sums.{count_by-le-length}
 use Rattle.open_items.proofs.Filtered.{changed_more}
@@ -14,8 +14,9 @@ use Rattle.consume_path.specs.declared.delivery.Delivery.{Delivery}
 use Rattle.consume_path.specs.declared.receiving.ReceivingLink.{ReceivingLink}
 use Rattle.consume_path.specs.declared.tallies.Counts.{Counts}
 use Rattle.consume_path.specs.Links.{counts_on, one_if, one_more, recount}
-use Rattle.consume_path.specs.Kept.{has_line, is_writing, is_owing, tally_of, no_tally, exchanged}
+use Rattle.consume_path.specs.Kept.{has_line, is_writing, is_owing, is_waiting, tally_of, no_tally, exchanged}
 use Rattle.consume_path.specs.Kept.{counts_of, counts_after, tallied}
+use Rattle.consume_path.specs.Offers.{is_unsettled}
 
 -- one more is changed
 
@@ -31,6 +32,10 @@ module _ {X : Type 0} (f : X → X) (items now : List X) (i : ℕ) where
   change_next x y lt so_far here is =
       let long : length now ≡ length items = same_long (omega arith) so_far in
       changed_more f items now i x y (omega arith) so_far (is ∙ ap f here)
+
+  -- one more stays as it is
+  pub stays_next : (x : X) → i < length items → now ≡ map f (take i items) ++ drop i items → x ≡ get_or now i x → f x ≡ x → now ≡ map f (take (i + 1) items) ++ drop (i + 1) items
+  stays_next x lt so_far here same = sym (ap (set now i) here ∙ set-get_or now i x) ∙ change_next x x lt so_far here (sym same)
 
   -- the rest is left as it is
   pub ends_early : now ≡ map f (take i items) ++ drop i items → map f (drop i items) ≡ drop i items → now ≡ map f items
@@ -54,6 +59,17 @@ pub at_most_one : (b : Bool) → one_if b ≤ 1
 at_most_one true = omega arith
 at_most_one false = omega arith
 
+-- all counts
+abbrev pub counts_as : ℕ → ℕ → ℕ → ℕ → ℕ → Counts
+counts_as lines writing owed unsettled waiting =
+    record { lines = lines; writing = writing; owed = owed; unsettled = unsettled; waiting = waiting }
+
+-- they are the same where each is
+pub all_same : {a b c d e k l m n o : ℕ} → a ≡ k → b ≡ l → c ≡ m → d ≡ n → e ≡ o → counts_as a b c d e ≡ counts_as k l m n o
+all_same {a} {b} {c} {d} {e} {k} {l} {m} {n} {o} lines writing owed unsettled waiting =
+    ap (λ i. counts_as i b c d e) lines ∙ ap (λ i. counts_as k i c d e) writing ∙ ap (λ i. counts_as k l i d e) owed ∙ ap (λ i. counts_as k l m i e) unsettled
+    ∙ ap (λ i. counts_as k l m n i) waiting
+
 module _ (items : List Delivery) (i : ℕ) (x y : Delivery) (within : i < length items) (long : length items < 2 ^ 63) (here : x ≡ get_or items i x) where
   -- as many pass a test, once one delivery changed, beside p more
   count_is : (t : Delivery → Bool) (p : ℕ) → p ≤ 1 → exchanged (t x) (t y) (count_by t items + p) ≡ count_by t (set items i y) + p
@@ -65,10 +81,7 @@ module _ (items : List Delivery) (i : ℕ) (x y : Delivery) (within : i < length
 
   pub counts_is : (counts : Counts) → counts ≡ counts_of items → counts_after (tally_of x) (tally_of y) counts ≡ counts_of (set items i y)
   counts_is counts e =
-      ap (counts_after (tally_of x) (tally_of y)) e
-      ∙ ap (λ n. record { lines = n; writing = exchanged x.writing y.writing (count_by is_writing items); owed = exchanged (is_owing x) (is_owing y) (count_by is_owing items) }) (alone has_line)
-      ∙ ap (λ n. record { lines = count_by has_line (set items i y); writing = n; owed = exchanged (is_owing x) (is_owing y) (count_by is_owing items) }) (alone is_writing)
-      ∙ ap (λ n. record { lines = count_by has_line (set items i y); writing = count_by is_writing (set items i y); owed = n }) (alone is_owing)
+      ap (counts_after (tally_of x) (tally_of y)) e ∙ all_same (alone has_line) (alone is_writing) (alone is_owing) (alone is_unsettled) (alone is_waiting)
     where
       alone : (t : Delivery → Bool) → exchanged (t x) (t y) (count_by t items) ≡ count_by t (set items i y)
       alone t = ap (exchanged (t x) (t y)) (none_more (count_by t items)) ∙ count_is t 0 (omega arith) ∙ sym (none_more (count_by t (set items i y)))
@@ -89,10 +102,7 @@ module _ (items : List Delivery) (d : Delivery) (long : length items < 2 ^ 63) w
 
   pub counts_push : (counts : Counts) → counts ≡ counts_of items → counts_after no_tally (tally_of d) counts ≡ counts_of (items ++ d ∷ [])
   counts_push counts e =
-      ap (counts_after no_tally (tally_of d)) e
-      ∙ ap (λ n. record { lines = n; writing = exchanged false d.writing (count_by is_writing items); owed = exchanged false (is_owing d) (count_by is_owing items) }) (alone has_line)
-      ∙ ap (λ n. record { lines = count_by has_line (items ++ d ∷ []); writing = n; owed = exchanged false (is_owing d) (count_by is_owing items) }) (alone is_writing)
-      ∙ ap (λ n. record { lines = count_by has_line (items ++ d ∷ []); writing = count_by is_writing (items ++ d ∷ []); owed = n }) (alone is_owing)
+      ap (counts_after no_tally (tally_of d)) e ∙ all_same (alone has_line) (alone is_writing) (alone is_owing) (alone is_unsettled) (alone is_waiting)
     where
       alone : (t : Delivery → Bool) → exchanged false (t d) (count_by t items) ≡ count_by t (items ++ d ∷ [])
       alone t = ap (exchanged false (t d)) (none_more (count_by t items)) ∙ one_added t 0 (omega arith) ∙ sym (none_more (count_by t (items ++ d ∷ [])))

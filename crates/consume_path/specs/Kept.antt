@@ -1,7 +1,9 @@
 -- What is kept beside the deliveries of a life, so that a call visits few of them.
 use Rattle.std.specs.Prelude.{◌≡◌, ℕ, Bool, ◌+◌, ◌-◌, ◌≤◌, ◌==◌, ◌&&◌, true, false, if◌then◌else◌}
-use Rattle.std.specs.Prelude.{List, count_by, Option, None, Some, is_some, nat_lt}
-use Rattle.std.specs.List.{AllByRecursion}
+use Rattle.std.specs.Prelude.{List, length, drop, filter, count_by}
+use Rattle.std.specs.Prelude.{Option, None, Some, IfSome, is_some, nat_lt, nat_le}
+use Rattle.std.specs.List.{AllByRecursion, position}
+use Rattle.std.specs.Option.{option_map}
 use Rattle.links_10.specs.Recv.{recounted}
 use Rattle.open_items.proofs.Numbered.{Rising}
 use Rattle.consume_path.specs.declared.changes.Change.{Change}
@@ -10,15 +12,21 @@ use Rattle.consume_path.specs.declared.changes.Change.TheVariants.{Cancelled, Cl
 use Rattle.consume_path.specs.declared.changes.Change.TheVariants.{SettleSent, LinkDropped}
 use Rattle.consume_path.specs.declared.changes.Change.TheVariants.{Reported}
 use Rattle.consume_path.specs.declared.delivery.Delivery.{Delivery}
+use Rattle.consume_path.specs.declared.delivery.NextSettle.{NextSettle}
+use Rattle.consume_path.specs.declared.delivery.Settle.{Settle}
 use Rattle.consume_path.specs.declared.receiving.Part.{Part}
 use Rattle.consume_path.specs.declared.receiving.ReceivingLink.{ReceivingLink}
+use Rattle.consume_path.specs.declared.searches.Ranked.{Ranked}
 use Rattle.consume_path.specs.declared.tallies.Tally.{Tally}
 use Rattle.consume_path.specs.declared.tallies.Counts.{Counts}
 use Rattle.consume_path.specs.declared.places.Visit.{Visit}
-use Rattle.consume_path.specs.Items.{owes, is_on, trimmed}
+use Rattle.consume_path.specs.declared.delivery.Taker.{Taker}
+use Rattle.consume_path.specs.declared.delivery.Taker.TheVariants.{Nobody, Getter, Consumer}
+use Rattle.consume_path.specs.Items.{owes, owed_settle, is_held, is_on, needs_content, trimmed}
 use Rattle.consume_path.specs.Links.{one_if, one_more, counts, counted_on, on, taken_from}
 use Rattle.consume_path.specs.Links.{transfer_came}
 use Rattle.consume_path.specs.Deliveries.{DeliveryState, with_list}
+use Rattle.consume_path.specs.Offers.{is_unsettled}
 
 abbrev pub has_line : Delivery → Bool
 has_line d = is_some d.line
@@ -28,6 +36,15 @@ is_writing d = d.writing
 
 abbrev pub is_owing : Delivery → Bool
 is_owing d = owes d.place
+
+abbrev pub is_getter : Taker → Bool
+is_getter Nobody = false
+is_getter (Getter number no_ack) = true
+is_getter (Consumer no_ack limit) = false
+
+-- it waits for its get-ok
+abbrev pub is_waiting : Delivery → Bool
+is_waiting d = is_held d.place && is_getter d.taker
 
 abbrev pub number_of : Delivery → ℕ
 number_of d = d.number
@@ -61,6 +78,31 @@ visit_at here place end =
     if here && nat_lt place end then record { from = place; to = place + 1 }
     else record { from = 0; to = end }
 
+-- all that pass stand from this place on
+pub record AllFrom (passes : Delivery → Bool) (place : ℕ) (items : List Delivery) : Type 0 where
+  pub within : place ≤ length items
+  pub behind : filter passes (drop place items) ≡ filter passes items
+
+abbrev pub place_at : ℕ → ℕ → Option ℕ → ℕ
+place_at from end None = end
+place_at from end (Some ahead) = from + ahead
+
+-- the place of the first that passes, from a place on; else the end
+abbrev pub place_from : (Delivery → Bool) → ℕ → List Delivery → ℕ
+place_from passes from items = place_at from (length items) (position passes (drop from items))
+
+-- the disposition of one delivery by itself
+abbrev pub settle_alone : ℕ → Settle → NextSettle
+settle_alone id settle = record { first = id; last = id; settle = settle }
+
+abbrev pub alone_of : Delivery → Option NextSettle
+alone_of d = option_map (settle_alone d.id) (owed_settle d.place)
+
+-- the disposition of the one that is owed one, where it is found
+abbrev pub only_settle : ℕ → Option Delivery → Option NextSettle
+only_settle owed None = None
+only_settle owed (Some d) = if owed == 1 then alone_of d else None
+
 -- what one delivery adds to the counts
 abbrev pub tally_of : Delivery → Tally
 tally_of d = record {
@@ -69,11 +111,20 @@ tally_of d = record {
   line = is_some d.line;
   writing = d.writing;
   owed = owes d.place;
+  unsettled = is_unsettled d;
+  waiting = is_waiting d;
 }
 
 abbrev pub no_tally : Tally
-no_tally =
-    record { link = None; counts = false; line = false; writing = false; owed = false }
+no_tally = record {
+  link = None;
+  counts = false;
+  line = false;
+  writing = false;
+  owed = false;
+  unsettled = false;
+  waiting = false;
+}
 
 -- it counts on this link
 abbrev pub tally_on : ℕ → Tally → Bool
@@ -88,6 +139,8 @@ counts_of items = record {
   lines = count_by has_line items;
   writing = count_by is_writing items;
   owed = count_by is_owing items;
+  unsettled = count_by is_unsettled items;
+  waiting = count_by is_waiting items;
 }
 
 abbrev pub counts_after : Tally → Tally → Counts → Counts
@@ -95,6 +148,8 @@ counts_after before after c = record {
   lines = exchanged before.line after.line c.lines;
   writing = exchanged before.writing after.writing c.writing;
   owed = exchanged before.owed after.owed c.owed;
+  unsettled = exchanged before.unsettled after.unsettled c.unsettled;
+  waiting = exchanged before.waiting after.waiting c.waiting;
 }
 
 -- what counts on a link, once one delivery changed
@@ -130,9 +185,22 @@ IsCounted items l = l.state.counted ≡ counted_on items l
 abbrev pub IsTrim : Delivery → Type 0
 IsTrim d = trimmed d ≡ d
 
+-- its delivery-id isn't above this one
+abbrev pub IsUpTo : ℕ → Delivery → Type 0
+IsUpTo top d = d.id ≤ top
+
+-- the number of its link isn't below this one
+abbrev pub IsLinkFrom : ℕ → Delivery → Type 0
+IsLinkFrom low d = IfSome d.link (λ link. low ≤ link)
+
+-- the offer of the link with this number, or of one below it
+abbrev pub is_least : ℕ → Option Ranked → Bool
+is_least low None = false
+is_least low (Some r) = nat_le r.rank low
+
 -- all of it
 pub record IsKept (links : List ReceivingLink) (items : List Delivery) (counts : Counts)
-    (arrived tags : ℕ) : Type 0 where
+    (arrived tags front top low : ℕ) : Type 0 where
   pub counted : AllByRecursion (IsCounted items) links
   pub counts_are : counts ≡ counts_of items
   pub trim : AllByRecursion IsTrim items
@@ -142,3 +210,9 @@ pub record IsKept (links : List ReceivingLink) (items : List Delivery) (counts :
   -- so many tags were given, each to one delivery
   pub tagged : AllByRecursion (λ d. d.tag ≤ tags) items
   pub once : (tag : ℕ) → count_by (is_tagged (tag + 1)) items ≤ 1
+  -- no delivery-id is above top
+  pub topped : AllByRecursion (IsUpTo top) items
+  -- no number of a link is below low
+  pub linked : AllByRecursion (IsLinkFrom low) items
+  -- no content of one before front is needed
+  pub ahead : AllFrom needs_content front items

@@ -1,12 +1,14 @@
 //! What an event does to each delivery of a life.
 
-ghost use Rattle.std.specs.Prelude.{◌≡◌, filter};
+ghost use Rattle.std.specs.Prelude.{◌≡◌, filter, true};
 ghost use Rattle.consume_path.specs.Items.{is_held, is_out, owes, owes_as, is_no_ack, is_nobody};
 ghost use Rattle.consume_path.specs.Items.{limit_of, is_on, is_outstanding, is_open, trimmed};
 ghost use Rattle.consume_path.specs.Items.{owed_place, first_place, delivered, written, in_tag};
 ghost use Rattle.consume_path.specs.Items.{is_covered, answered, cancelled, closed, is_left};
 ghost use Rattle.consume_path.specs.Items.{end_lost, in_range, settles, settle_sent, without_link};
 ghost use Rattle.consume_path.specs.Items.{link_dropped, reported, moved, changed, is_same};
+ghost use Rattle.consume_path.specs.Offers.{consumes, is_unsettled};
+ghost use Rattle.consume_path.specs.Kept.{is_getter, is_waiting};
 
 use crate::delivery::{Delivery, NextSettle, Place, Settle, Taker};
 use open_items::LostKind;
@@ -124,6 +126,32 @@ pub fn is_unsettled(d: &Delivery) -> bool
     ensures { result ≡ is_outstanding d.now }
 {
     is_place_out(d.place) && !is_taker_no_ack(d.taker)
+}
+
+pub fn is_consumer(taker: Taker) -> bool
+    ensures { result ≡ consumes taker }
+{
+    matches!(taker, Taker::Consumer { .. })
+}
+
+/// A consumer has it, and hasn't settled it.
+pub fn is_unsettled_one(d: &Delivery) -> bool
+    ensures { result ≡ is_unsettled d.now }
+{
+    is_consumer(d.taker) && is_unsettled(d)
+}
+
+fn is_getter(taker: Taker) -> bool
+    ensures { result ≡ is_getter taker }
+{
+    matches!(taker, Taker::Getter { .. })
+}
+
+/// It waits for its get-ok.
+pub fn is_waiting(d: &Delivery) -> bool
+    ensures { result ≡ is_waiting d.now }
+{
+    is_place_held(d.place) && is_getter(d.taker)
 }
 
 pub fn is_delivery_open(d: &Delivery) -> bool
@@ -303,6 +331,29 @@ pub fn change_one(d: &mut Delivery, change: Change)
 {
     move_one(d, change);
     trim(d);
+}
+
+fn is_trim(d: &Delivery) -> bool
+    ensures { result ≡ true → trimmed d.now ≡ d.now }
+{
+    d.content.is_none() || is_place_held(d.place) || d.writing
+}
+
+fn stays_moved(d: &Delivery, change: Change) -> bool
+    ensures { result ≡ true → moved change d.now ≡ d.now }
+{
+    match change {
+        Change::Answered { tag, multiple, .. } => !is_delivery_covered(d, tag, multiple),
+        Change::SettleSent { settle } => !is_settled_by(d, settle),
+        _ => false,
+    }
+}
+
+/// What happens leaves this delivery as it is. It may do so too where this says no.
+pub fn stays(d: &Delivery, change: Change) -> bool
+    ensures { result ≡ true → changed change d.now ≡ d.now }
+{
+    stays_moved(d, change) && is_trim(d)
 }
 
 /// Leaves out what is closed.

@@ -40,9 +40,10 @@ use crate::places::{
 };
 use crate::receiving::{Arrival, NextGrant, Part, ReceivingLink, RecvKind, TransferFault};
 use crate::searches::{
-    any_covered, any_held, any_tagged, any_uncovered, arrival_by, bytes_of, first_deliver,
-    first_grant, first_owing, first_tagged, first_with_content, is_free_for_get, is_getting,
-    is_id_open, is_kind_for_gets, is_partial_whole, is_probe, run_of, tag_by, transfer_fault,
+    any_tagged, any_uncovered, arrival_by, bytes_of, first_deliver, first_grant, first_owing,
+    first_tagged, first_with_content, greater, has_covered, held_from, is_free_for_get, is_getting,
+    is_id_open, is_kind_for_gets, is_partial_whole, is_probe, lesser, low_link, needing_from,
+    only_settle, run_of, tag_by, top_id, transfer_fault,
 };
 use crate::tallies::{Counts, Tally, tally_links};
 use crate::visits::change_between;
@@ -66,6 +67,12 @@ pub struct Deliveries {
     global: u16,
     closed: bool,
     counts: Counts,
+    /// No content of a delivery before this place is needed any more.
+    front: usize,
+    /// No delivery has a delivery-id above this one.
+    top: u32,
+    /// No delivery's link has a number below this one.
+    low: u32,
     /// The deliver or get-ok of the delivery at this place was the last that was begun.
     begun: usize,
     /// The delivery at this place was the last that was answered.
@@ -94,7 +101,8 @@ impl Model for Deliveries {
       closed = a.closed;
     } };
 
-    ghost invariant = { λ a. IsKept a.links.items a.items.items a.counts a.arrived a.tags };
+    ghost invariant = { λ a. IsKept a.links.items a.items.items a.counts a.arrived a.tags
+        a.front a.top a.low };
 }
 
 /// So many whole deliveries are taken in a life.
@@ -189,6 +197,9 @@ impl Deliveries {
             global: 0,
             closed: false,
             counts: Counts::none(),
+            front: 0,
+            top: 0,
+            low: u32::MAX,
             begun: 0,
             answered: 0,
             room: LEAST_ROOM,
@@ -346,7 +357,7 @@ impl Deliveries {
     pub fn holds(&self, link: u32) -> bool
         ensures { result ≡ holds link self.now.list }
     {
-        any_held(self.items.as_slice(), link)
+        held_from(self.items.as_slice(), self.front, link)
     }
 
     /// No get waits on this link, which is for gets, and each whole delivery that didn't come
@@ -392,6 +403,7 @@ impl Deliveries {
             end,
             change,
         );
+        self.front = needing_from(self.items.as_slice(), self.front);
     }
 
     /// This link is no more.
@@ -409,7 +421,7 @@ impl Deliveries {
     pub fn open_id(&self, id: u32) -> bool
         ensures { result ≡ is_open_id id self.now.links self.now.list }
     {
-        is_id_open(self.links.as_slice(), self.items.as_slice(), id)
+        is_id_open(self.links.as_slice(), self.items.as_slice(), self.top, id)
     }
 
     /// What is wrong with a transfer on this link, with so many bytes of payload.
@@ -419,7 +431,7 @@ impl Deliveries {
     {
         let links = self.links.as_slice();
         match link_with(links, link) {
-            Some(l) => transfer_fault(part, size, l, links, self.items.as_slice()),
+            Some(l) => transfer_fault(part, size, l, links, self.items.as_slice(), self.top),
             None => None,
         }
     }
@@ -483,6 +495,9 @@ impl Deliveries {
     {
         if self.items.len() >= self.room {
             compact(&mut self.items);
+            self.front = needing_from(self.items.as_slice(), 0);
+            self.top = top_id(self.items.as_slice());
+            self.low = low_link(self.items.as_slice());
             self.room = self.items.len().saturating_mul(2).max(LEAST_ROOM);
         }
     }
@@ -506,10 +521,14 @@ impl Deliveries {
         let number = self.arrived + 1;
         let delivery = new_one(self.closed, number, arriving, content, again);
         let tally = Tally::of(&delivery);
+        let top = greater(self.top, arriving.id);
+        let low = lesser(self.low, arriving.link);
         self.items.push(delivery)?;
         tally_links(&mut self.links, Tally::none(), tally);
         self.counts = self.counts.exchange(Tally::none(), tally);
         self.arrived = number;
+        self.top = top;
+        self.low = low;
         Ok(())
     }
 
@@ -574,7 +593,7 @@ impl Deliveries {
     pub fn message(&self, id: u32) -> Option<&Content>
         ensures { option_copied result ≡ content_of id self.now.list }
     {
-        match first_with_content(self.items.as_slice(), id) {
+        match first_with_content(self.items.as_slice(), self.front, id) {
             Some(d) => d.content.as_ref(),
             None => None,
         }
@@ -587,7 +606,13 @@ impl Deliveries {
     pub fn next_deliver(&self) -> Option<NextDeliver>
         ensures { result ≡ next_deliver_of self.now.global self.now.list }
     {
-        first_deliver(self.global, self.items.as_slice())
+        first_deliver(
+            self.global,
+            self.counts,
+            self.items.as_slice(),
+            self.front,
+            self.low,
+        )
     }
 
     /// The first byte of this deliver or get-ok was taken. The answer is its delivery tag.
@@ -632,6 +657,7 @@ impl Deliveries {
             visit.to,
             Change::Written { tag },
         );
+        self.front = needing_from(self.items.as_slice(), self.front);
     }
 
     /// How many delivery tags were given.
@@ -648,7 +674,11 @@ impl Deliveries {
     pub fn knows(&self, tag: u64, multiple: bool) -> bool
         ensures { result ≡ is_known tag multiple self.now.list }
     {
-        multiple && tag == 0 || any_covered(self.items.as_slice(), tag, false)
+        if multiple && tag == 0 {
+            return true;
+        }
+        let items = self.items.as_slice();
+        has_covered(items, place_by_tag(items, self.answered, tag), tag)
     }
 
     /// The client acknowledged or rejected the deliveries with this tag, or had them go back (AMQP
@@ -740,9 +770,16 @@ impl Deliveries {
             return None;
         }
         let items = self.items.as_slice();
+        let place = place_owing(items, self.answered, self.begun);
+        if let Some(only) = only_settle(self.counts.owed, items, place) {
+            return Some(only);
+        }
         match first_owing(items) {
             Some(d) => match d.place {
-                Place::Owed(settle) => Some(run_of(items, settle, d.id)),
+                Place::Owed(settle) => {
+                    let place = place_by_number(items, d.number);
+                    Some(run_of(items, settle, d.id, place))
+                }
                 _ => None,
             },
             None => None,

@@ -112,9 +112,33 @@ fn place_from(items: &[Delivery], from: usize, tag: u64) -> Option<usize> {
     None
 }
 
-/// Where a delivery with this tag is, if there is one: tags are mostly answered in order, so it is
-/// looked for from the last one on first.
+/// Where a delivery with this tag is, if the tags rise as those of one consumer do; what has no tag
+/// yet stands behind them then.
+fn place_in_order(items: &[Delivery], tag: u64) -> usize {
+    let mut from = 0;
+    let mut to = items.len();
+    for _ in 0..64 {
+        if from >= to {
+            return from;
+        }
+        let middle = from + (to - from) / 2;
+        let own = items[middle].tag;
+        if 0 < own && own < tag {
+            from = middle + 1;
+        } else {
+            to = middle;
+        }
+    }
+    from
+}
+
+/// Where a delivery with this tag is, if there is one. Tags mostly rise, or are answered in order:
+/// it is looked for there first.
 pub fn place_by_tag(items: &[Delivery], last: usize, tag: u64) -> usize {
+    let place = place_in_order(items, tag);
+    if is_tag_at(items, place, tag) {
+        return place;
+    }
     match place_from(items, last, tag) {
         Some(place) => place,
         None => place_from(items, 0, tag).unwrap_or(0),

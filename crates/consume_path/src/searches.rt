@@ -1,8 +1,12 @@
 //! Searches and counts over the deliveries and the links of a life.
 
 ghost use Rattle.std.specs.Prelude.{◌≡◌, ◌&&◌, ◌+◌, ◌^◌, ◌<◌, ◌==◌, find, count_by, option_copied};
-ghost use Rattle.std.specs.Prelude.{if◌then◌else◌, Some, None, length};
-ghost use Rattle.std.specs.List.{list_any};
+ghost use Rattle.std.specs.Prelude.{if◌then◌else◌, Some, None, length, ◌≤◌, IfSome, false, ◌||◌};
+ghost use Rattle.std.specs.Prelude.{nat_lt};
+ghost use Rattle.std.specs.List.{AllByRecursion, list_any, position, slice_get};
+ghost use Rattle.consume_path.specs.Kept.{AllFrom, place_at, place_from, is_there, settle_alone};
+ghost use Rattle.consume_path.specs.Kept.{alone_of, only_settle, IsUpTo, is_waiting, counts_of};
+ghost use Rattle.consume_path.specs.Kept.{IsLinkFrom, is_least};
 ghost use Rattle.std.specs.Option.{option_map, option_or};
 ghost use Rattle.consume_path.specs.Items.{owes, is_held, needs_content, is_covered};
 ghost use Rattle.consume_path.specs.Links.{is_to_ask, bytes_in, is_whole, tag_by, is_tagged};
@@ -19,13 +23,14 @@ ghost use Rattle.consume_path.specs.Offers.{holds, is_free_for_get, is_getting, 
 ghost use Rattle.consume_path.specs.Offers.{flow_if, flow_of, grant_link, is_partial, is_probe};
 
 use crate::changes::{
-    is_delivery_covered, is_delivery_left, is_on_link, is_owed_as, is_place_held, is_place_owed,
-    is_taker_no_ack, is_unsettled as is_out_unsettled, taker_limit,
+    is_consumer, is_delivery_covered, is_delivery_left, is_on_link, is_owed_as, is_place_held,
+    is_place_owed, is_taker_no_ack, is_unsettled_one, taker_limit,
 };
-use crate::delivery::{Delivery, NextDeliver, NextSettle, Settle, Taker};
+use crate::delivery::{Delivery, NextDeliver, NextSettle, Place, Settle, Taker};
 use crate::receiving::{
     Arrival, Cause, NextGrant, Part, Partial, ReceivingLink, RecvKind, TransferFault, WaitingGet,
 };
+use crate::tallies::Counts;
 
 /// A delivery-tag has at most so many bytes (AMQP 1.0 2.8.7).
 const MOST_TAG: usize = 32;
@@ -73,11 +78,68 @@ fn any_open_id(items: &[Delivery], id: u32) -> bool
     items.iter().any(|d| is_open_id_of(d, id))
 }
 
-/// A delivery that is open has this delivery-id.
-pub fn is_id_open(links: &[ReceivingLink], items: &[Delivery], id: u32) -> bool
+/// The greater of two delivery-ids.
+pub fn greater(a: u32, b: u32) -> u32
+    ensures first { a ≤ result }
+    ensures second { b ≤ result }
+{
+    if a < b { b } else { a }
+}
+
+/// The greatest delivery-id.
+pub fn top_id(items: &[Delivery]) -> u32
+    ensures { AllByRecursion (IsUpTo result) items.now }
+{
+    let mut top = 0;
+    for d in items {
+        top = greater(top, d.id);
+    }
+    top
+}
+
+/// The lesser of two numbers of links.
+pub fn lesser(a: u32, b: u32) -> u32
+    ensures first { result ≤ a }
+    ensures second { result ≤ b }
+{
+    if b < a { b } else { a }
+}
+
+fn lesser_of(low: u32, link: Option<u32>) -> u32
+    ensures first { result ≤ low }
+    ensures second { IfSome link (λ link. result ≤ link) }
+{
+    match link {
+        Some(link) => lesser(low, link),
+        None => low,
+    }
+}
+
+/// The least number of a link.
+pub fn low_link(items: &[Delivery]) -> u32
+    ensures { AllByRecursion (IsLinkFrom result) items.now }
+{
+    let mut low = u32::MAX;
+    for d in items {
+        low = lesser_of(low, d.link);
+    }
+    low
+}
+
+/// A container's delivery-ids mostly rise: none above `top` is looked for.
+fn any_open_id_up_to(items: &[Delivery], top: u32, id: u32) -> bool
+    requires { AllByRecursion (IsUpTo top) items.now }
+    ensures { result ≡ list_any (has_open_id id) items.now }
+{
+    id <= top && any_open_id(items, id)
+}
+
+/// A delivery that is open has this delivery-id; none has one above `top`.
+pub fn is_id_open(links: &[ReceivingLink], items: &[Delivery], top: u32, id: u32) -> bool
+    requires { AllByRecursion (IsUpTo top) items.now }
     ensures { result ≡ is_open_id id links.now items.now }
 {
-    any_begun_id(links, id) || any_open_id(items, id)
+    any_begun_id(links, id) || any_open_id_up_to(items, top, id)
 }
 
 fn is_tag_long(tag_length: Option<usize>) -> bool
@@ -111,12 +173,14 @@ fn is_wrongly_named(
     l: &ReceivingLink,
     links: &[ReceivingLink],
     items: &[Delivery],
+    top: u32,
 ) -> bool
+    requires { AllByRecursion (IsUpTo top) items.now }
     ensures { result ≡ names_wrongly part l.now links.now items.now }
 {
     let first = l.partial.is_none();
     is_field_lacking(first, part)
-        || first && is_id_open(links, items, part.id.unwrap_or(0))
+        || first && is_id_open(links, items, top, part.id.unwrap_or(0))
         || is_of_another(&l.partial, part.id)
 }
 
@@ -140,17 +204,19 @@ pub fn is_partial_whole(partial: &Option<Partial>) -> bool
     }
 }
 
-/// What is wrong with a transfer of so many bytes.
+/// What is wrong with a transfer of so many bytes. No delivery-id is above `top`.
 pub fn transfer_fault(
     part: Part,
     size: usize,
     l: &ReceivingLink,
     links: &[ReceivingLink],
     items: &[Delivery],
+    top: u32,
 ) -> Option<TransferFault>
+    requires { AllByRecursion (IsUpTo top) items.now }
     ensures { result ≡ fault_of part size l.now links.now items.now }
 {
-    if is_wrongly_named(part, l, links, items) {
+    if is_wrongly_named(part, l, links, items, top) {
         return Some(TransferFault::InvalidField);
     }
     if l.partial.is_none() && l.state.limit_left() == 0 {
@@ -175,38 +241,26 @@ pub fn arrival_by(part: Part) -> Arrival
     }
 }
 
-fn is_consumer(taker: Taker) -> bool
-    ensures { result ≡ consumes taker }
-{
-    matches!(taker, Taker::Consumer { .. })
-}
-
-fn is_unsettled_one(d: &Delivery) -> bool
-    ensures { result ≡ is_unsettled d.now }
-{
-    is_consumer(d.taker) && is_out_unsettled(d)
-}
-
 fn is_unsettled_on(d: &Delivery, link: u32) -> bool
     ensures { result ≡ unsettled_on link d.now }
 {
     is_on_link(d.link, link) && is_unsettled_one(d)
 }
 
-fn has_room_for(limit: Option<u32>, count: usize) -> bool
+fn has_room_for(limit: Option<u32>, count: u64) -> bool
     ensures { result ≡ has_room limit count }
 {
     match limit {
-        Some(limit) => (count as u64) < limit as u64,
+        Some(limit) => count < limit as u64,
         None => true,
     }
 }
 
-/// One more unsettled delivery of a consumer is within the limit of all.
-fn has_room_of_all(global: u16, items: &[Delivery]) -> bool
-    ensures { result ≡ has_global_room global items.now }
+/// One more unsettled delivery of a consumer is within the limit of all. So many are unsettled.
+fn has_room_of_all(global: u16, unsettled: u64) -> bool
+    ensures { result ≡ (global == 0 || nat_lt unsettled global) }
 {
-    global == 0 || items.iter().filter(|d| is_unsettled_one(d)).count() < global as usize
+    global == 0 || unsettled < global as u64
 }
 
 fn count_unsettled_on(items: &[Delivery], link: u32) -> usize
@@ -215,11 +269,21 @@ fn count_unsettled_on(items: &[Delivery], link: u32) -> usize
     items.iter().filter(|d| is_unsettled_on(d, link)).count()
 }
 
-fn is_within_limits(free: bool, items: &[Delivery], link: u32, taker: Taker) -> bool
+/// One more is within the limit of its link. Of all links so many are unsettled: where that is
+/// within the limit, those of one link aren't counted.
+fn has_room_on(limit: Option<u32>, unsettled: u64, items: &[Delivery], link: u32) -> bool
+    requires { unsettled ≡ count_by is_unsettled items.now }
+    ensures { result ≡ has_room limit (count_by (unsettled_on link) items.now) }
+{
+    has_room_for(limit, unsettled) || has_room_for(limit, count_unsettled_on(items, link) as u64)
+}
+
+/// So many of all links are unsettled.
+fn is_within_limits(free: bool, unsettled: u64, items: &[Delivery], link: u32, taker: Taker) -> bool
+    requires { unsettled ≡ count_by is_unsettled items.now }
     ensures { result ≡ is_within free (count_by (unsettled_on link) items.now) taker }
 {
-    is_taker_no_ack(taker)
-        || free && has_room_for(taker_limit(taker), count_unsettled_on(items, link))
+    is_taker_no_ack(taker) || free && has_room_on(taker_limit(taker), unsettled, items, link)
 }
 
 fn deliver_of(link: u32, d: &Delivery) -> NextDeliver
@@ -248,14 +312,16 @@ fn offer_to_get(d: &Delivery) -> Option<Ranked>
     }
 }
 
-fn offer_to_consumer(free: bool, items: &[Delivery], d: &Delivery) -> Option<Ranked>
+fn offer_to_consumer(free: bool, unsettled: u64, items: &[Delivery], d: &Delivery) -> Option<Ranked>
+    requires { unsettled ≡ count_by is_unsettled items.now }
     ensures { result ≡ consumer_offer free items.now d.now }
 {
     if !is_place_held(d.place) {
         return None;
     }
     match d.link {
-        Some(link) if is_consumer(d.taker) && is_within_limits(free, items, link, d.taker) => {
+        Some(link)
+            if is_consumer(d.taker) && is_within_limits(free, unsettled, items, link, d.taker) => {
             Some(Ranked {
                 rank: link as u64,
                 next: deliver_of(link, d),
@@ -279,14 +345,16 @@ fn sooner_of(a: Option<Ranked>, b: Option<Ranked>) -> Option<Ranked>
 fn sooner_consumer(
     best: Option<Ranked>,
     free: bool,
+    unsettled: u64,
     items: &[Delivery],
     d: &Delivery,
 ) -> Option<Ranked>
+    requires { unsettled ≡ count_by is_unsettled items.now }
     ensures { result ≡ sooner rank_of best (consumer_offer free items.now d.now) }
 {
     match (best, d.link) {
         (Some(best), Some(link)) if best.rank <= link as u64 => Some(best),
-        _ => sooner_of(best, offer_to_consumer(free, items, d)),
+        _ => sooner_of(best, offer_to_consumer(free, unsettled, items, d)),
     }
 }
 
@@ -302,25 +370,100 @@ fn first_get(items: &[Delivery]) -> Option<Ranked>
     best
 }
 
-/// The deliver that is due: of the consumer whose link has the least number.
+fn is_least(low: u32, best: Option<Ranked>) -> bool
+    ensures { result ≡ is_least low best }
+{
+    match best {
+        Some(best) => best.rank <= low as u64,
+        None => false,
+    }
+}
+
+/// The deliver of the rest that is due: of the consumer whose link has the least number.
+/// None is below `low`.
 #[tactic(auto, using(crate::proofs::Least::sooner_none, crate::proofs::Least::sooner_more))]
-fn first_consumer(free: bool, items: &[Delivery]) -> Option<Ranked>
-    ensures { result ≡ soonest rank_of (consumer_offer free items.now) items.now }
+fn first_consumer(
+    free: bool,
+    unsettled: u64,
+    items: &[Delivery],
+    rest: &[Delivery],
+    low: u32,
+) -> Option<Ranked>
+    requires count { unsettled ≡ count_by is_unsettled items.now }
+    requires low { AllByRecursion (IsLinkFrom low) rest.now }
+    ensures { result ≡ soonest rank_of (consumer_offer free items.now) rest.now }
 {
     let mut best = None;
-    for d in items {
-        best = sooner_consumer(best, free, items, d);
+    for d in rest {
+        best = sooner_consumer(best, free, unsettled, items, d);
+        if is_least(low, best) {
+            return best;
+        }
     }
     best
 }
 
-/// The deliver or get-ok that is due: a get's before a consumer's.
-pub fn first_deliver(global: u16, items: &[Delivery]) -> Option<NextDeliver>
+/// No content of one before `from` is needed.
+fn get_from(items: &[Delivery], from: usize) -> Option<Ranked>
+    requires { AllFrom needs_content from items.now }
+    ensures { result ≡ soonest rank_of get_offer items.now }
+{
+    first_get(&items[from..])
+}
+
+/// So many wait for their get-oks, and no content of one before `from` is needed.
+fn get_of(waiting: u64, items: &[Delivery], from: usize) -> Option<Ranked>
+    requires ahead { AllFrom needs_content from items.now }
+    requires count { waiting ≡ count_by is_waiting items.now }
+    ensures { result ≡ soonest rank_of get_offer items.now }
+{
+    if waiting == 0 {
+        None
+    } else {
+        get_from(items, from)
+    }
+}
+
+/// No content of one before `from` is needed.
+fn consumer_from(
+    free: bool,
+    unsettled: u64,
+    items: &[Delivery],
+    from: usize,
+    low: u32,
+) -> Option<Ranked>
+    requires ahead { AllFrom needs_content from items.now }
+    requires low { AllByRecursion (IsLinkFrom low) items.now }
+    requires count { unsettled ≡ count_by is_unsettled items.now }
+    ensures { result ≡ soonest rank_of (consumer_offer free items.now) items.now }
+{
+    first_consumer(free, unsettled, items, &items[from..], low)
+}
+
+/// The deliver or get-ok that is due: a get's before a consumer's. No content of one before `from`
+/// is needed, and no number of a link is below `low`.
+pub fn first_deliver(
+    global: u16,
+    counts: Counts,
+    items: &[Delivery],
+    from: usize,
+    low: u32,
+) -> Option<NextDeliver>
+    requires ahead { AllFrom needs_content from items.now }
+    requires low { AllByRecursion (IsLinkFrom low) items.now }
+    requires counts { counts ≡ counts_of items.now }
     ensures { result ≡ next_deliver_of global items.now }
 {
-    let first = match first_get(items) {
+    let unsettled = counts.unsettled;
+    let first = match get_of(counts.waiting, items, from) {
         Some(first) => Some(first),
-        None => first_consumer(has_room_of_all(global, items), items),
+        None => consumer_from(
+            has_room_of_all(global, unsettled),
+            unsettled,
+            items,
+            from,
+            low,
+        ),
     };
     match first {
         Some(first) => Some(first.next),
@@ -334,18 +477,72 @@ fn has_content_of(d: &Delivery, id: u32) -> bool
     d.id == id && (is_place_held(d.place) || d.writing)
 }
 
-/// The delivery with this delivery-id whose content is needed.
-pub fn first_with_content(items: &[Delivery], id: u32) -> Option<&Delivery>
+fn find_with_content(items: &[Delivery], id: u32) -> Option<&Delivery>
     ensures { option_copied result ≡ find (has_content id) items.now }
 {
     items.iter().find(|d| has_content_of(d, id))
 }
 
-/// A delivery is covered by this tag.
-pub fn any_covered(items: &[Delivery], tag: u64, multiple: bool) -> bool
-    ensures { result ≡ list_any (is_covered tag multiple) items.now }
+/// The delivery with this delivery-id whose content is needed; none stands before `from`.
+pub fn first_with_content(items: &[Delivery], from: usize, id: u32) -> Option<&Delivery>
+    requires { AllFrom needs_content from items.now }
+    ensures { option_copied result ≡ find (has_content id) items.now }
 {
-    items.iter().any(|d| is_delivery_covered(d, tag, multiple))
+    find_with_content(&items[from..], id)
+}
+
+fn is_content_needed(d: &Delivery) -> bool
+    ensures { result ≡ needs_content d.now }
+{
+    is_place_held(d.place) || d.writing
+}
+
+fn first_needing(items: &[Delivery]) -> Option<usize>
+    ensures { result ≡ position needs_content items.now }
+{
+    items.iter().position(is_content_needed)
+}
+
+/// The place of what was found so far behind `from`, or else the end.
+fn place_at(from: usize, found: Option<usize>, end: usize) -> usize
+    requires { IfSome found (λ ahead. from + ahead < end) }
+    ensures { result ≡ place_at from end found }
+{
+    match found {
+        Some(ahead) => from + ahead,
+        None => end,
+    }
+}
+
+/// The first place from `from` on whose delivery needs its content, or the end.
+#[tactic(auto, using(crate::proofs::Passing::found_within))]
+pub fn needing_from(items: &[Delivery], from: usize) -> usize
+    requires { from ≤ length items.now }
+    ensures { result ≡ place_from needs_content from items.now }
+{
+    place_at(from, first_needing(&items[from..]), items.len())
+}
+
+fn any_covered(items: &[Delivery], tag: u64) -> bool
+    ensures { result ≡ list_any (is_covered tag false) items.now }
+{
+    items.iter().any(|d| is_delivery_covered(d, tag, false))
+}
+
+fn is_covered_at(items: &[Delivery], place: usize, tag: u64) -> bool
+    ensures { result ≡ is_there (is_covered tag false) (slice_get items.now place) }
+{
+    match items.get(place) {
+        Some(d) => is_delivery_covered(d, tag, false),
+        None => false,
+    }
+}
+
+/// A delivery has this tag, and the client hasn't settled it. It is looked for at `place` first.
+pub fn has_covered(items: &[Delivery], place: usize, tag: u64) -> bool
+    ensures { result ≡ list_any (is_covered tag false) items.now }
+{
+    is_covered_at(items, place, tag) || any_covered(items, tag)
 }
 
 fn is_owing(d: &Delivery) -> bool
@@ -379,20 +576,39 @@ fn any_owing_id(items: &[Delivery], settle: Settle, id: u32) -> bool
     items.iter().any(|d| is_owing_id(d, settle, id))
 }
 
+fn is_owing_id_at(items: &[Delivery], place: usize, settle: Settle, id: u32) -> bool
+    ensures { result ≡ is_there (owes_id settle id) (slice_get items.now place) }
+{
+    match items.get(place) {
+        Some(d) => is_owing_id(d, settle, id),
+        None => false,
+    }
+}
+
+/// This id is owed this state. It is looked for at `place` first.
+fn has_owing_id(items: &[Delivery], place: usize, settle: Settle, id: u32) -> bool
+    ensures { result ≡ list_any (owes_id settle id) items.now }
+{
+    is_owing_id_at(items, place, settle, id) || any_owing_id(items, settle, id)
+}
+
 fn count_owing(items: &[Delivery], settle: Settle) -> usize
     ensures { result ≡ count_by (owes_of settle) items.now }
 {
     items.iter().filter(|d| is_owing_of(d, settle)).count()
 }
 
-/// The last of the consecutive ids from here on that are owed this state.
-fn run_end(items: &[Delivery], settle: Settle, id: u32, most: usize) -> u32
+/// The last of the consecutive ids from here on that are owed this state. Its delivery stands at
+/// `place`, and those of the next ids mostly stand behind it.
+fn run_end(items: &[Delivery], settle: Settle, id: u32, most: usize, place: usize) -> u32
     ensures { result ≡ run_to most settle items.now id }
 {
     let mut last = id;
+    let mut place = place;
     for _ in 0..most {
         let next = last.wrapping_add(1);
-        if !any_owing_id(items, settle, next) {
+        place = place.saturating_add(1);
+        if !has_owing_id(items, place, settle, next) {
             return last;
         }
         last = next;
@@ -400,14 +616,43 @@ fn run_end(items: &[Delivery], settle: Settle, id: u32, most: usize) -> u32
     last
 }
 
-/// The disposition of the run of ids from here on.
-pub fn run_of(items: &[Delivery], settle: Settle, id: u32) -> NextSettle
+/// The disposition of the run of ids from here on; the delivery of the first stands at `place`.
+pub fn run_of(items: &[Delivery], settle: Settle, id: u32, place: usize) -> NextSettle
     ensures { result ≡ run_from settle items.now id }
 {
     NextSettle {
         first: id,
-        last: run_end(items, settle, id, count_owing(items, settle)),
+        last: run_end(items, settle, id, count_owing(items, settle), place),
         settle,
+    }
+}
+
+fn settle_alone(settle: Settle, id: u32) -> NextSettle
+    ensures { result ≡ settle_alone id settle }
+{
+    NextSettle {
+        first: id,
+        last: id,
+        settle,
+    }
+}
+
+fn alone_of(d: &Delivery) -> Option<NextSettle>
+    ensures { result ≡ alone_of d.now }
+{
+    match d.place {
+        Place::Owed(settle) => Some(settle_alone(settle, d.id)),
+        _ => None,
+    }
+}
+
+/// The disposition of the one delivery that is owed one, where it stands at `place`.
+pub fn only_settle(owed: u64, items: &[Delivery], place: usize) -> Option<NextSettle>
+    ensures { result ≡ only_settle owed (slice_get items.now place) }
+{
+    match items.get(place) {
+        Some(d) if owed == 1 => alone_of(d),
+        _ => None,
     }
 }
 
@@ -430,11 +675,18 @@ fn is_held_on(d: &Delivery, link: u32) -> bool
     is_on_link(d.link, link) && is_place_held(d.place)
 }
 
-/// A delivery of this link is held.
-pub fn any_held(items: &[Delivery], link: u32) -> bool
+fn any_held(items: &[Delivery], link: u32) -> bool
     ensures { result ≡ holds link items.now }
 {
     items.iter().any(|d| is_held_on(d, link))
+}
+
+/// A delivery of this link is held. No content of one before `from` is needed.
+pub fn held_from(items: &[Delivery], from: usize, link: u32) -> bool
+    requires { AllFrom needs_content from items.now }
+    ensures { result ≡ holds link items.now }
+{
+    any_held(&items[from..], link)
 }
 
 /// A link for gets on which none waits.

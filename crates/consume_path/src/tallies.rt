@@ -6,7 +6,7 @@ ghost use Rattle.consume_path.specs.declared.tallies.Counts.{Counts};
 ghost use Rattle.consume_path.specs.Kept.{tally_of, no_tally, tally_on, exchanged, counts_of};
 ghost use Rattle.consume_path.specs.Kept.{counts_after, tallied};
 
-use crate::changes::{is_on_link, is_place_owed};
+use crate::changes::{is_on_link, is_place_owed, is_unsettled_one, is_waiting};
 use crate::delivery::Delivery;
 use crate::link_changes::is_delivery_counted;
 use crate::receiving::ReceivingLink;
@@ -24,6 +24,10 @@ pub struct Tally {
     pub writing: bool,
     /// It is owed a disposition.
     pub owed: bool,
+    /// A consumer has it, and hasn't settled it.
+    pub unsettled: bool,
+    /// It waits for its get-ok.
+    pub waiting: bool,
 }
 
 /// Counts over all deliveries.
@@ -35,6 +39,10 @@ pub struct Counts {
     pub writing: u64,
     /// So many are owed a disposition.
     pub owed: u64,
+    /// Consumers have so many, and haven't settled them.
+    pub unsettled: u64,
+    /// So many wait for their get-oks.
+    pub waiting: u64,
 }
 
 /// How many there are, once one of them changed.
@@ -56,6 +64,8 @@ impl Tally {
             line: false,
             writing: false,
             owed: false,
+            unsettled: false,
+            waiting: false,
         }
     }
 
@@ -69,6 +79,8 @@ impl Tally {
             line: d.line.is_some(),
             writing: d.writing,
             owed: is_place_owed(d.place),
+            unsettled: is_unsettled_one(d),
+            waiting: is_waiting(d),
         }
     }
 
@@ -87,6 +99,8 @@ impl Counts {
             lines: 0,
             writing: 0,
             owed: 0,
+            unsettled: 0,
+            waiting: 0,
         }
     }
 
@@ -98,6 +112,8 @@ impl Counts {
             lines: exchange(before.line, after.line, self.lines),
             writing: exchange(before.writing, after.writing, self.writing),
             owed: exchange(before.owed, after.owed, self.owed),
+            unsettled: exchange(before.unsettled, after.unsettled, self.unsettled),
+            waiting: exchange(before.waiting, after.waiting, self.waiting),
         }
     }
 }

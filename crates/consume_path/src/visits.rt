@@ -9,7 +9,7 @@ ghost use Rattle.consume_path.specs.Items.{changed};
 ghost use Rattle.consume_path.specs.Links.{recount};
 ghost use Rattle.consume_path.specs.Kept.{tally_of, counts_of, counts_after, tallied, IsCounted};
 
-use crate::changes::{Change, change_one};
+use crate::changes::{Change, change_one, stays};
 use crate::delivery::Delivery;
 use crate::receiving::ReceivingLink;
 use crate::tallies::{Counts, Tally, tally_links};
@@ -55,7 +55,9 @@ pub fn change_between(
 {
     let mut counts = counts;
     for place in from..to {
-        counts = change_counted(links, &mut items[place], counts, change);
+        if !stays(&items[place], change) {
+            counts = change_counted(links, &mut items[place], counts, change);
+        }
     }
     counts
 }

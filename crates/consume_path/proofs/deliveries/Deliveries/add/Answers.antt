@@ -10,6 +10,7 @@ invariant_of-self-2 c =
     c.in_ok-push.ensures.items
     (c.tally_links.ensures ∙ ap (λ t. map (tallied t c.of-tally.result) before.links.items) c.none.ensures ∙ ap (λ t. map (tallied no_tally t) before.links.items) c.of-tally.ensures)
     (c.exchange-self-inside.ensures ∙ ap (λ t. counts_after t c.of-tally.result before.counts) c.none-2.ensures ∙ ap (λ t. counts_after no_tally t before.counts) c.of-tally.ensures)
+    c.greater-top.ensures.first c.greater-top.ensures.second c.lesser-low.ensures.first c.lesser-low.ensures.second
 
 pub returns-clause-ok : goal.returns-clause-ok
 returns-clause-ok c =

@@ -1,3 +1,5 @@
+use Rattle.consume_path.specs.Kept.{place_from}
+use Rattle.consume_path.specs.Items.{needs_content}
 use Rattle.std.proofs.Common.{◌≡◌, ◌∙◌, ap, arith, length, subst, sym, refl}
 use Rattle.std.specs.List.{slice_get}
 use Rattle.std.specs.Prelude.{◌&&◌, ◌==◌}
@@ -6,7 +8,7 @@ use Rattle.consume_path.specs.declared.changes.Change.TheVariants.{Written}
 use Rattle.consume_path.specs.declared.places.Visit.{Visit}
 use Rattle.consume_path.specs.Items.{changed}
 use Rattle.consume_path.proofs.Passing.{IsBetween}
-use Rattle.consume_path.proofs.Kept.{kept_change, change_view, written_between}
+use Rattle.consume_path.proofs.Kept.{kept_change, kept_front, change_view, written_between}
 use Rattle.consume_path.proofs.deliveries.Deliveries.written.Goals as goal
 
 pub change_between-self-inside-requires : goal.change_between-self-inside-requires
@@ -26,7 +28,7 @@ change_between-self-inside-requires c =
 
 pub invariant_of-self : goal.invariant_of-self
 invariant_of-self c =
-    kept_change c.self.invariant (Written c.args.tag) refl c.change_between-self-inside.ensures.items c.change_between-self-inside.ensures.links c.change_between-self-inside.ensures.counts
+    kept_front (kept_change c.self.invariant (Written c.args.tag) refl c.change_between-self-inside.ensures.items c.change_between-self-inside.ensures.links c.change_between-self-inside.ensures.counts) (c.needing_from-self-inside.ensures ∙ ap (place_from needs_content c.self.inside.front) c.as_slice-2.ensures.value)
 
 pub returns : goal.returns
 returns c =
