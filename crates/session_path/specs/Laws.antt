@@ -249,7 +249,7 @@ AreSettles life (x ∷ h) =
 -- ---- what the deliveries see
 
 -- a link is asked for before the life's closing event alone; a transfer that is told of is at no
--- fault, and its delivery-id has 32 bits (AMQP 1.0 2.8.4)
+-- fault, and its delivery-id has 32 bits (AMQP 1.0 2.8.8)
 abbrev pub IsHeard : PathState → PathEvent → Type 0
 IsHeard s (Consumed queue tag no_ack no_wait) = s.deliveries.closed ≡ false
 IsHeard s (Declared queue no_wait) = s.deliveries.closed ≡ false
