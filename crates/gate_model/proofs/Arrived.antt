@@ -1404,7 +1404,7 @@ module _ (n : ℕ) (less : n < 256) where
 
 -- ---- the deliveries of a life
 
-counted : (ds h : List DeliveryEvent) → list_any comes ds ≡ false → numbers_of (ds ++ h) ≡ numbers_of h
+pub counted : (ds h : List DeliveryEvent) → list_any comes ds ≡ false → numbers_of (ds ++ h) ≡ numbers_of h
 counted [] h e = refl
 counted (d ∷ ds) h e = by (comes d) refl e (counted ds h)
   where
@@ -1420,7 +1420,7 @@ one_none false d e = refl
 two_none : (xs ys : List DeliveryEvent) → list_any comes xs ≡ false → list_any comes ys ≡ false → list_any comes (xs ++ ys) ≡ false
 two_none xs ys e f = list_any-append comes xs ys ∙ ap (λ (b : Bool). b || list_any comes ys) e ∙ f
 
-event_none : (s : PathState) (x : PathEvent) → arrives x ≡ false → list_any comes (delivery_events s x) ≡ false
+pub event_none : (s : PathState) (x : PathEvent) → arrives x ≡ false → list_any comes (delivery_events s x) ≡ false
 event_none s (event.Began handle_max) e = refl
 event_none s (event.Published address payload back) e = refl
 event_none s event.Selected e = refl

@@ -148,11 +148,11 @@ may_return publishes returns backs h n r text p e t = by (slot_at (before h).pat
 -- ---- the fate of one publish
 
 -- so many were taken up; the frames of its return are these, and so many went
-record Returned (h : List PublishEvent) (number count : ℕ) (back : List (List ℕ)) (gone : ℕ) : Type 0 where
-  count_is : numbers_of h ≡ count
-  back_is : (fate_of number h).back ≡ back
-  gone_is : (fate_of number h).returned ≡ gone
-  none : count < number → gone ≡ 0
+pub record Returned (h : List PublishEvent) (number count : ℕ) (back : List (List ℕ)) (gone : ℕ) : Type 0 where
+  pub count_is : numbers_of h ≡ count
+  pub back_is : (fate_of number h).back ≡ back
+  pub gone_is : (fate_of number h).returned ≡ gone
+  pub none : count < number → gone ≡ 0
 
 quiet : {h : List PublishEvent} {number count gone : ℕ} {back : List (List ℕ)} (x : PublishEvent)
     → numbers_of (x ∷ h) ≡ numbers_of h → (fate_of number (x ∷ h)).back ≡ (fate_of number h).back → (fate_of number (x ∷ h)).returned ≡ (fate_of number h).returned
@@ -245,7 +245,7 @@ sends h number count gone k back d t = record {
 
 -- ---- the life in progress
 
-abbrev Backs : Option ℕ → List PathEvent → ℕ → ℕ → List (List ℕ) → ℕ → Type 0
+abbrev pub Backs : Option ℕ → List PathEvent → ℕ → ℕ → List (List ℕ) → ℕ → Type 0
 Backs None es number count back gone = Unit {0}
 Backs (Some life) es number count back gone = Returned (publishes_of life es) number count back gone
 
@@ -323,7 +323,7 @@ want_backs rs limit n life (want.Refuse r) o es number count gone back t = plain
 
 -- ---- steps
 
-abbrev BacksIn : List Step → ℕ → ℕ → Type 0
+abbrev pub BacksIn : List Step → ℕ → ℕ → Type 0
 BacksIn h n number = Backs (path_life h n) (path_events h n) number (publishes_in n h) (back_in n number h) (returned_in n number h)
 
 came_backs : (h : List Step) (n number : ℕ) (u : Unit91) → BacksIn h n number → BacksIn (Came u ∷ h) n number
@@ -384,7 +384,7 @@ goes_back publishes returns backs h (reply.OnChannel n (to_client.Return r)) tex
 goes_back publishes returns backs h u text p d e = tt
 
 -- of this life
-lives_in : (o : Option ℕ) (life : ℕ) (es : List PathEvent) (number count gone : ℕ) (back : List (List ℕ)) → o ≡ Some life → Backs o es number count back gone
+pub lives_in : (o : Option ℕ) (life : ℕ) (es : List PathEvent) (number count gone : ℕ) (back : List (List ℕ)) → o ≡ Some life → Backs o es number count back gone
     → Returned (publishes_of life es) number count back gone
 lives_in o life es number count gone back e t = subst (λ (x : Option ℕ). Backs x es number count back gone) e t
 
@@ -429,7 +429,7 @@ module _ (publishes : PublishesAre) (returns : ReturnsAre) (frames : BacksAre) w
   went : (h : List Step) (u : Reply) (text : List ℕ) → ArePicks (Gave (ToClient u) text ∷ h) → GoesBack h u text
   went h u text p = goes_back publishes returns frames h u text p.1 (goes_as (IsNext (before h)) (before h) u is_next p.0.1) p.0.2
 
-  backs : (n number : ℕ) (h : List Step) → ArePicks h → BacksIn h n number
+  pub backs : (n number : ℕ) (h : List Step) → ArePicks h → BacksIn h n number
   backs n number [] p = tt
   backs n number (Began site i ms ∷ h) p = backs n number h p.1
   backs n number (Moment ms ∷ h) p = quietly h n number (event.LinesWent ∷ []) (refl, tt) (backs n number h p.1)

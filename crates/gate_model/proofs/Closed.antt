@@ -810,7 +810,7 @@ event_closes s event.LifeClosed = refl
 event_closes s event.SessionLost = refl
 event_closes s event.UpLost = refl
 
-closed_is_shut : (life : ℕ) (es : List PathEvent) → is_closed (deliveries_of life es) ≡ are_shut es
+pub closed_is_shut : (life : ℕ) (es : List PathEvent) → is_closed (deliveries_of life es) ≡ are_shut es
 closed_is_shut life [] = refl
 closed_is_shut life (x ∷ es) =
     closed_both (delivery_events (after_events life es) x) (deliveries_of life es)

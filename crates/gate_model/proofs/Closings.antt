@@ -82,7 +82,7 @@ closes_if : (b : Bool) (p q : Peers) → is_closing p.client ≡ true → is_clo
 closes_if true p q e f = e
 closes_if false p q e f = f
 
-closes_on : (s : Step) (h : List Step) → ArePicks (s ∷ h) → is_closing (connection h) ≡ true → is_closing (connection (s ∷ h)) ≡ true
+pub closes_on : (s : Step) (h : List Step) → ArePicks (s ∷ h) → is_closing (connection h) ≡ true → is_closing (connection (s ∷ h)) ≡ true
 closes_on (Began site n ms) h p e = absurd (clash _ e (ap (λ (x : List Step). is_closing (connection x)) p.0))
 closes_on (Moment ms) h p e = limit_closes (is_limit_reached (connection h) (accepted_in h) ms) (connection h) e
 closes_on (Fed Client) h p e = e
@@ -109,14 +109,14 @@ closes_on OutOfMemory h p e = close_closes (connection h).phase
 
 -- ---- before the closing event nothing is told
 
-unclosed : (s : Step) (h : List Step) → ArePicks (s ∷ h) → is_closing (connection (s ∷ h)) ≡ false → is_closing (connection h) ≡ false
+pub unclosed : (s : Step) (h : List Step) → ArePicks (s ∷ h) → is_closing (connection (s ∷ h)) ≡ false → is_closing (connection h) ≡ false
 unclosed s h p e = by (is_closing (connection h)) refl
   where
     by : (b : Bool) → is_closing (connection h) ≡ b → b ≡ false
     by true f = absurd (clash _ (closes_on s h p f) e)
     by false f = refl
 
-remembers : (h : List Step) → ArePicks h → is_closing (connection h) ≡ false → ran_out_in h ≡ false
+pub remembers : (h : List Step) → ArePicks h → is_closing (connection h) ≡ false → ran_out_in h ≡ false
 remembers h p e = by (ran_out_in h) refl
   where
     by : (b : Bool) → ran_out_in h ≡ b → b ≡ false

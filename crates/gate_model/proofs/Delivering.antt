@@ -481,6 +481,10 @@ module _ (within : Within) (received : ReceivedAre) where
   fits n (LinesTold ∷ h) p = quietly h n _ (event.LinesWent ∷ []) refl (tt, tt) (fits n h p.1)
   fits n (OutOfMemory ∷ h) p = quietly h n _ (event.LifeClosed ∷ []) refl (tt, tt) (fits n h p.1)
 
+  -- where a life is in progress, the connection has the limit that was agreed to
+  pub limit_agreed : (h : List Step) (n life : ℕ) → ArePicks h → path_life h n ≡ Some life → limit_in h ≡ (connection h).limits.frame_max
+  limit_agreed h n life p e = (subst (λ (o : Option ℕ). FitsAt o (limit_in h) (max_of (peers h)) (path_events h n)) e (fits n h p)).0
+
   -- ---- what is due on a channel
 
   in_life : (h : List Step) (n life : ℕ) → path_life h n ≡ Some life → FitsIn h n → AreGood (limit_in h) (path_events h n)

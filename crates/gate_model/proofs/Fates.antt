@@ -85,6 +85,10 @@ lived h n s p e = by (path_life h n) refl (sym e ∙ path_is h n p least)
     by None g f = absurd cc
     by (Some life) g f = record { life = life; lives = g; is = (let same : s ≡ after_events life (path_events h n) = cc in same); below = least }
 
+-- the path of a channel with a life
+pub path_of : (h : List Step) (n life : ℕ) → ArePicks h → n ≤ CHANNEL_MAX → path_life h n ≡ Some life → path_at (before h).paths n ≡ after_events life (path_events h n)
+path_of h n life p below e = ap or_no_path (path_is h n p below ∙ ap (option_map (λ (l : ℕ). after_events l (path_events h n))) e)
+
 -- ---- confirms
 
 abbrev pub IsNext : State → ℕ → ChannelUnit → Type 0

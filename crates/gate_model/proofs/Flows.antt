@@ -76,7 +76,6 @@ use Rattle.gate_model.specs.Once.{wanted_in, went_in}
 use Rattle.gate_model.specs.Paths.{attached_as, closed_path, closed_paths, credit_of, fault_in}
 use Rattle.gate_model.specs.Paths.{heard_as, is_not_found}
 use Rattle.gate_model.specs.Paths.{is_outcome, outcome_by, outcome_in}
-use Rattle.gate_model.specs.Paths.{link_flowed, transferred}
 use Rattle.gate_model.specs.Paths.{lost_path, name_in, no_paths, or_no_path, part_in, path_at}
 use Rattle.gate_model.specs.Paths.{slot_at, text_of}
 use Rattle.gate_model.specs.Paths.{told_paths, transferred_by, with_path}

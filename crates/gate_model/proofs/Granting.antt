@@ -1,5 +1,5 @@
 -- The flow that is due on a path is of a link of its session; that of a receiving one states a lawful credit.
-use Rattle.std.proofs.Common.{◌≡◌, ℕ, zero, suc, ◌+◌, ◌==◌, ◌&&◌, ◌||◌, nat_lt, not, cond, Bool, true}
+use Rattle.std.proofs.Common.{◌≡◌, ℕ, zero, suc, ◌+◌, ◌&&◌, ◌||◌, nat_lt, not, cond, Bool, true}
 use Rattle.std.proofs.Common.{false, if◌then◌else◌, List, [], ◌∷◌, Option, None, Some, option_map, refl, sym}
 use Rattle.std.proofs.Common.{ap, ◌∙◌, subst, arith}
 use Rattle.std.specs.List.{AllByRecursion}
@@ -19,14 +19,14 @@ use Rattle.consume_path.specs.declared.receiving.NextGrant.{NextGrant}
 use Rattle.consume_path.specs.declared.receiving.ReceivingLink.{ReceivingLink}
 use Rattle.session_path.specs.Due.{due_in, flow_due, grant_due, next_flow}
 use Rattle.session_path.specs.Events.{PathEvent, after_events, deliveries_of}
-use Rattle.session_path.specs.Links.{AreTied, LinksState, has_number, is_parting}
+use Rattle.session_path.specs.Links.{has_number, is_parting}
 use Rattle.session_path.specs.Path.{PathState, flow_of, grant_in, granting_on, is_grant_next}
 use Rattle.session_path.specs.Path.{may_drain, owes_flow}
 use Rattle.session_path.specs.declared.path.FlowDue.{FlowDue}
 use Rattle.session_path.specs.declared.path.PathLink.{PathLink}
 use Rattle.session_path.proofs.Ties.{eq_of, eq_to, found_number, found_passes}
 use Rattle.gate_model.specs.Settles.{IsGranted}
-use Rattle.gate_model.proofs.Receivers.{AreUnowed, IsUnowed, LinksAre, are_unowed}
+use Rattle.gate_model.proofs.Receivers.{IsUnowed, LinksAre, are_unowed}
 
 -- ---- the laws below
 

@@ -1,11 +1,15 @@
--- Each delivery of a life had its disposition before the gateway's end of its session.
+-- Each delivery of a life had its disposition before the gateway's end of its session, and each of a link before its detach of that.
 use Rattle.std.proofs.Common.{◌≡◌, ℕ, zero, suc, ◌+◌, ◌<◌, ◌≤◌, ◌⊎◌, inl, inr, ◌&&◌, ◌||◌, not, Bool, true, false}
 use Rattle.std.proofs.Common.{if◌then◌else◌, List, [], ◌∷◌, ◌++◌, length, map, Option, None, Some}
-use Rattle.std.proofs.Common.{option_map, refl, sym, ap, ◌∙◌, subst, arith, ◌==◌, nat_lt}
+use Rattle.std.proofs.Common.{is_some, option_map, refl, sym, ap, ◌∙◌, subst, arith, ◌==◌, nat_lt}
 use Rattle.std.specs.Prelude.{IfSome, count_by, filter, find}
+use Rattle.open_items.specs.Numbers.{least}
+use Rattle.open_items.proofs.Counted.{least_is}
+use Rattle.open_items.proofs.Filtered.{all_find}
 use Rattle.consume_path.specs.Deliveries.{DeliveryEvent, DeliveryState, open_after}
 use Rattle.consume_path.specs.Journal.{IsTaken, fate_of, is_closed, is_uncovered, numbers_of}
-use Rattle.consume_path.specs.Laws.{are_covered}
+use Rattle.consume_path.specs.Items.{is_on}
+use Rattle.consume_path.specs.Laws.{are_covered, lacks_settle}
 use Rattle.consume_path.specs.Offers.{holds, is_all_covered, is_over, next_settle_of}
 use Rattle.consume_path.specs.declared.delivery.NextSettle.{NextSettle}
 use Rattle.gate_outside.specs.declared.ports.End.TheVariants.{Up}
@@ -24,10 +28,7 @@ use Rattle.performatives_10.specs.declared.condition.Condition.{Condition}
 use Rattle.publish_path.specs.Offers.{is_pending}
 use Rattle.session_path.specs.Due.{next_detach, next_dispose}
 use Rattle.session_path.specs.Events.{PathEvent, after_events, deliveries_of}
-use Rattle.session_path.specs.Links.{AreTied, handle_of, has_number, is_stage_failed, is_stage_left}
-use Rattle.session_path.specs.declared.path.Stage.{Stage}
-use Rattle.session_path.specs.declared.path.Stage.TheVariants.{Asked, Failed, Given, Left, Open}
-use Rattle.session_path.specs.declared.path.Stage.TheVariants.{Refused, Wanted}
+use Rattle.session_path.specs.Links.{handle_of, has_number, is_to_part}
 use Rattle.session_path.specs.Links.{is_stage_open, is_wanting, lower, lowest}
 use Rattle.session_path.specs.Path.{IsThere, PathState, given_of, is_idle, is_resting, lower_of, parts}
 use Rattle.session_path.specs.declared.path.PathLink.{PathLink}
@@ -36,7 +37,7 @@ use Rattle.gate_model.specs.Due.{may_idle, other_rows}
 use Rattle.gate_model.specs.Due.{begins, carried_rows, close_behind, detaches, disposals, dispose_row}
 use Rattle.gate_model.specs.Due.{ends, is_end, is_end_due, is_lingered, none_left, pick, row_on, rows_in}
 use Rattle.gate_model.specs.Due.{session_rows, settlings, unless_out, up_rows}
-use Rattle.gate_model.specs.Folds.{connection, container}
+use Rattle.gate_model.specs.Folds.{connection}
 use Rattle.gate_model.specs.Lives.{each, is_begun, is_carried, is_ended, life_at, session_in}
 use Rattle.gate_model.specs.Paths.{or_no_path, path_at, slot_at}
 use Rattle.gate_model.specs.Picks.{ArePicks}
@@ -52,11 +53,15 @@ use Rattle.gate_model.specs.declared.outgoing.UpUnit.{UpUnit}
 use Rattle.gate_model.specs.declared.outgoing.UpUnit.TheVariants as up
 use Rattle.gate_model.proofs.Arrived.{none_asked, none_ended}
 use Rattle.gate_model.proofs.Closed.{closed_path_is}
+use Rattle.gate_model.proofs.Detaching.{DetachGoes, MayDetach, may_detach}
 use Rattle.gate_model.proofs.Fates.{IsLived, lived}
-use Rattle.gate_model.proofs.Firsts.{FirstIs, OfSession, both_are, each_is, goes_up_as, when_up_is}
+use Rattle.gate_model.proofs.Firsts.{FirstIs, both_are, each_is, when_up_is}
 use Rattle.gate_model.proofs.Known.{Known, conn_is, container_is, known, memory_is}
+use Rattle.gate_model.proofs.Leaving.{CoveredAre, IsSafe, safe_is}
 use Rattle.gate_model.proofs.Lives.{lives_all}
 use Rattle.gate_model.proofs.Publishing.{path_is}
+use Rattle.gate_model.proofs.Parted.{Covers}
+use Rattle.gate_model.proofs.Receivers.{LinksAre}
 use Rattle.gate_model.proofs.Reports.{DeliveriesAre}
 use Rattle.gate_model.proofs.Said.{shuts_in}
 
@@ -200,12 +205,9 @@ each_none f m (l ∷ ls) (suc n) less e =
     let next : (m + 1) + n ≡ m + suc n = omega arith in
     subst (λ (k : ℕ). f k (life_at ls n) ≡ []) next (each_none f (m + 1) ls n (omega (arith, less)) (right_none (f m l) _ e))
 
-none_due : (w : State) (n : ℕ) → n < length w.lives → session_rows w ≡ [] → is_carried (session_in w.up.container n) ≡ true → next_dispose (path_at w.paths n) ≡ None
-none_due w n less e carried = by (next_dispose (path_at w.paths n)) row
+none_due : (w : State) (n : ℕ) → n < length w.lives → disposals w ≡ [] → is_carried (session_in w.up.container n) ≡ true → next_dispose (path_at w.paths n) ≡ None
+none_due w n less rows carried = by (next_dispose (path_at w.paths n)) row
   where
-    rows : disposals w ≡ []
-    rows = left_none (disposals w) _ (right_none (unless_out w.out_of_memory (carried_rows w)) _ e)
-
     row : dispose_row w.up.container w.paths n (life_at w.lives n) ≡ []
     row = let same : 0 + n ≡ n = omega arith in subst (λ (k : ℕ). dispose_row w.up.container w.paths k (life_at w.lives n) ≡ []) same (each_none (dispose_row w.up.container w.paths) 0 w.lives n less rows)
 
@@ -268,6 +270,9 @@ returned arrives released h n p goes life k lives taken = by (is_open (connectio
     kn : Known h
     kn = known h p
 
+    none : disposals w ≡ []
+    none = left_none (disposals w) _ (right_none (unless_out w.out_of_memory (carried_rows w)) _ goes.none)
+
     less : n < 256
     less = subst (λ (m : ℕ). n < m) (lives_all h p) goes.below
 
@@ -285,7 +290,7 @@ returned arrives released h n p goes life k lives taken = by (is_open (connectio
     covered : is_carried (session_in w.up.container n) ≡ true → is_open (connection h) n ≡ false → is_uncovered (fate_of k es) ≡ false
     covered c shut =
         released life es (closed_path_is h n life p most lives shut)
-        (ap next_settle_of (sym list_is) ∙ none_due w n goes.below goes.none c) k taken
+        (ap next_settle_of (sym list_is) ∙ none_due w n goes.below none c) k taken
 
     waiting : is_asked (session_in w.up.container n) ≡ true → is_uncovered (fate_of k es) ≡ false
     waiting e = absurd (none_taken es k (none_asked h n life p less (ap (λ (o : Option Upstream). is_asked (session_in o n)) (sym (container_is kn)) ∙ e)) taken)
@@ -320,12 +325,6 @@ returned arrives released h n p goes life k lives taken = by (is_open (connectio
     by false e = shut_by e _ _ _ refl refl goes.due
 
 -- ---- detaches
-
-abbrev pub CoveredAre : Type 0
-CoveredAre = (life link : ℕ) (h : List DeliveryEvent) → is_all_covered link (open_after life h) ≡ are_covered link h
-
-abbrev pub TiedAre : Type 0
-TiedAre = (life : ℕ) (h : List PathEvent) → AreTied (after_events life h).links.sending (after_events life h).links.links (after_events life h).links.handles
 
 -- the link whose detach is due is to part, or is idle
 abbrev Goes : PathState → PathLink → Type 0
@@ -381,9 +380,9 @@ some_same e = cc
 life_same : {m n : ℕ} → Some m ≡ Some n → m ≡ n
 life_same e = cc
 
--- each delivery of an open one had its disposition
-goes_covers : (s : PathState) (x : PathLink) → Goes s x → (x.receives && is_stage_open x.stage) ≡ true → is_all_covered x.link s.deliveries.list ≡ true
-goes_covers s x g e = by x.receives x.stage refl refl e g
+-- it is to part, or each delivery of it had its disposition
+goes_covers : (s : PathState) (x : PathLink) → Goes s x → x.receives ≡ true → (is_to_part x ≡ true) ⊎ (is_all_covered x.link s.deliveries.list ≡ true)
+goes_covers s x g e = by x.receives (is_to_part x) (is_stage_open x.stage) e g
   where
     d : DeliveryState
     d = s.deliveries
@@ -396,87 +395,101 @@ goes_covers s x g e = by x.receives x.stage refl refl e g
     first_of true b f = refl
     first_of false b f = absurd cc
 
-    by : (r : Bool) (q : Stage) → x.receives ≡ r → x.stage ≡ q → (r && is_stage_open q) ≡ true
-        → (((((is_stage_left q || is_stage_failed q) && not (r && holds x.link d.list)) || ((r && is_stage_open q) && is_over x.link d)) ≡ true)
-        ⊎ ((is_stage_open q && (if r then is_resting d s.oks x.link else (count_by (is_pending (Some x.link)) s.publishes.list == 0))) ≡ true))
-        → is_all_covered x.link s.deliveries.list ≡ true
-    by true (Open h) f k o (inl y) = second _ _ y
-    by true (Open h) f k o (inr y) = second _ _ (first_of _ _ y)
-    by true Wanted f k o y = absurd cc
-    by true (Asked h) f k o y = absurd cc
-    by true (Refused h) f k o y = absurd cc
-    by true (Left h) f k o y = absurd cc
-    by true (Given h) f k o y = absurd cc
-    by true (Failed h fault) f k o y = absurd cc
-    by false q f k o y = absurd cc
+    by : (r part up : Bool) → r ≡ true
+        → (((part && not (r && holds x.link d.list)) || ((r && up) && is_over x.link d)) ≡ true)
+        ⊎ ((up && (if r then is_resting d s.oks x.link else (count_by (is_pending (Some x.link)) s.publishes.list == 0))) ≡ true)
+        → (part ≡ true) ⊎ (is_all_covered x.link s.deliveries.list ≡ true)
+    by false part up f y = absurd cc
+    by true true up f y = inl refl
+    by true false true f (inl y) = inr (second _ _ y)
+    by true false true f (inr y) = inr (second _ _ (first_of _ _ y))
+    by true false false f (inl y) = absurd cc
+    by true false false f (inr y) = absurd cc
 
-record IsDetached (w : State) (n link : ℕ) : Type 0 where
-  gone : PathLink
-  due : next_detach (path_at w.paths n) ≡ Some gone
-  is : gone.link ≡ link
+covers_is : (link : ℕ) (ds : List DeliveryEvent) → Covers link ds → are_covered link ds ≡ true
+covers_is link ds c = by (least (λ n. lacks_settle link (fate_of n ds)) (numbers_of ds)) refl
+  where
+    by : (o : Option ℕ) → least (λ n. lacks_settle link (fate_of n ds)) (numbers_of ds) ≡ o → not (is_some o) ≡ true
+    by None e = refl
+    by (Some k) e =
+        let found = least_is (λ n. lacks_settle link (fate_of n ds)) (numbers_of ds) k e in
+        absurd (let wrong : true ≡ false = sym found.2 ∙ c k (found.0, found.1) in cc)
 
-abbrev NextDetach : State → ℕ → SessionUnit → Type 0
-NextDetach w n (unit.Attach a) = Unit {0}
-NextDetach w n (unit.Flow f) = Unit {0}
-NextDetach w n (unit.Transfer t) = Unit {0}
-NextDetach w n (unit.Dispose x) = Unit {0}
-NextDetach w n (unit.Settle x) = Unit {0}
-NextDetach w n (unit.Detach link handle why) = IsDetached w n link
-
-module _ (arrives : DeliveriesAre) (released : ReleasedAre) (covered : CoveredAre) (tied : TiedAre) where
-  returned_on : (h : List Step) (n link : ℕ) → ArePicks h → IsDetached (before h) n link → AreReturnedOn h n link
-  returned_on h n link p d life l lives found whole = by (slot_at (before h).paths n) refl d.due
+module _ (arrives : DeliveriesAre) (released : ReleasedAre) (covered : CoveredAre) (tied : LinksAre) where
+  returned_on : (h : List Step) (n link : ℕ) → ArePicks h → DetachGoes (before h) n link → AreReturnedOn h n link
+  returned_on h n link p d life l lives found receives = by (slot_at (before h).paths n) refl d.due
     where
+      w : State
+      w = before h
+
       es : List PathEvent
       es = path_events h n
+
+      ds : List DeliveryEvent
+      ds = deliveries_of life es
 
       s : PathState
       s = after_events life es
 
-      path_by : next_detach s ≡ Some d.gone → are_covered link (deliveries_of life es) ≡ true
-      path_by f =
+      path_by : n ≤ CHANNEL_MAX → path_at w.paths n ≡ s → next_detach s ≡ Some d.gone → are_covered link ds ≡ true
+      path_by below is f =
           let there = detaching_there s.publishes.list s.deliveries s.oks s.links (tied life es).rising in
           let here = subst (λ (o : Option PathLink). IfSome o (IsThere s.links)) f there in
           let again : find (has_number link) s.links.links ≡ Some d.gone = subst (λ (k : ℕ). find (has_number k) s.links.links ≡ Some d.gone) d.is here.0 in
           let same : l ≡ d.gone = some_same (sym found ∙ again) in
-          let covers : is_all_covered d.gone.link s.deliveries.list ≡ true =
-          goes_covers s d.gone (detaching_goes s d.gone f) (subst (λ (k : PathLink). (k.receives && is_stage_open k.stage) ≡ true) same whole) in
-          sym (covered life link (deliveries_of life es))
-          ∙ ap (λ (x : DeliveryState). is_all_covered link x.list) (sym (arrives life es))
-          ∙ ap (λ (k : ℕ). is_all_covered k s.deliveries.list) (sym d.is) ∙ covers
+          let takes : d.gone.receives ≡ true = subst (λ (k : PathLink). k.receives ≡ true) same receives in
+          parts_by (goes_covers s d.gone (detaching_goes s d.gone f) takes) takes here.0
+        where
+          less : n < length w.lives
+          less = let most : CHANNEL_MAX ≡ 255 = refl in subst (λ (m : ℕ). n < m) (sym (lives_all h p)) (omega (arith, below, most))
 
-      lived_by : (t : PathState) → IsLived h n t → next_detach t ≡ Some d.gone → are_covered link (deliveries_of life es) ≡ true
-      lived_by t v f =
+          -- none is due in a life that closed
+          shut : is_closed ds ≡ true → Covers link ds
+          shut e k t =
+              let settled : is_uncovered (fate_of k ds) ≡ false =
+              released life ds e
+              (ap (λ (x : DeliveryState). next_settle_of x.list) (sym (arrives life es)) ∙ ap next_dispose (sym is) ∙ none_due w n less d.none d.carried) k t in
+              no_more (is_on link (fate_of k ds).link) settled
+            where
+              no_more : (a : Bool) {b : Bool} → b ≡ false → (a && b) ≡ false
+              no_more true f = f
+              no_more false f = refl
+
+          parts_by : (is_to_part d.gone ≡ true) ⊎ (is_all_covered d.gone.link s.deliveries.list ≡ true) → d.gone.receives ≡ true
+              → find (has_number d.gone.link) s.links.links ≡ Some d.gone → are_covered link ds ≡ true
+          parts_by (inr c) takes at =
+              sym (covered life link ds)
+              ∙ ap (λ (x : DeliveryState). is_all_covered link x.list) (sym (arrives life es))
+              ∙ ap (λ (k : ℕ). is_all_covered k s.deliveries.list) (sym d.is) ∙ c
+          parts_by (inl c) takes at = covers_is link ds (covers (safe_is arrives covered tied h n life below p lives))
+            where
+              covers : IsSafe life es → Covers link ds
+              covers (inl e) = shut e
+              covers (inr a) =
+                  let one = (all_find _ (has_number d.gone.link) s.links.links d.gone a at).0 in
+                  subst (λ (k : ℕ). Covers k ds) d.is (one (ap (λ (b : Bool). b && is_to_part d.gone) takes ∙ c))
+
+      lived_by : (t : PathState) → path_at w.paths n ≡ t → IsLived h n t → next_detach t ≡ Some d.gone → are_covered link ds ≡ true
+      lived_by t at v f =
           let same : v.life ≡ life = life_same (sym v.lives ∙ lives) in
-          path_by (ap next_detach (sym (v.is ∙ ap (λ (k : ℕ). after_events k es) same)) ∙ f)
+          let is : t ≡ s = v.is ∙ ap (λ (k : ℕ). after_events k es) same in
+          path_by v.below (at ∙ is) (ap next_detach (sym is) ∙ f)
 
-      by : (o : Option PathState) → slot_at (before h).paths n ≡ o → next_detach (or_no_path o) ≡ Some d.gone → are_covered link (deliveries_of life es) ≡ true
+      by : (o : Option PathState) → slot_at (before h).paths n ≡ o → next_detach (or_no_path o) ≡ Some d.gone → are_covered link ds ≡ true
       by None g f = absurd cc
-      by (Some t) g f = lived_by t (lived h n t p g) f
+      by (Some t) g f = lived_by t (ap or_no_path g) (lived h n t p g) f
 
-  may_part : (h : List Step) (u : UpUnit) → ArePicks h → OfSession (NextDetach (before h)) u → pick (before h) Up ≡ Some (ToUp u) → MayPart h u
-  may_part h (up.End n why) p d e = returned arrives released h n p (end_goes (before h) n why e)
-  may_part h (up.OnSession n (unit.Detach link handle why)) p d e = returned_on h n link p d
-  may_part h (up.OnSession n (unit.Attach a)) p d e = tt
-  may_part h (up.OnSession n (unit.Flow f)) p d e = tt
-  may_part h (up.OnSession n (unit.Transfer t)) p d e = tt
-  may_part h (up.OnSession n (unit.Dispose x)) p d e = tt
-  may_part h (up.OnSession n (unit.Settle x)) p d e = tt
-  may_part h u p d e = tt
-
-  part_is : (h : List Step) (u : UpUnit) → ArePicks h → pick (before h) Up ≡ Some (ToUp u) → MayPart h u
-  part_is h u p e =
-      may_part h u p
-      (goes_up_as (NextDetach (before h)) (before h) u (record {
-        attach = λ n a f. tt;
-        flow = λ n x f. tt;
-        transfer = λ n x f. tt;
-        dispose = λ n x f. tt;
-        settle = λ n x f. tt;
-        detach = λ n x f. record { gone = x; due = f; is = refl };
-      }) e) e
+  part_by : (h : List Step) (u : UpUnit) → ArePicks h → MayDetach (before h) u → pick (before h) Up ≡ Some (ToUp u) → MayPart h u
+  part_by h (up.End n why) p d e = returned arrives released h n p (end_goes (before h) n why e)
+  part_by h (up.OnSession n (unit.Detach link handle why)) p d e = returned_on h n link p d
+  part_by h (up.OnSession n (unit.Attach a)) p d e = tt
+  part_by h (up.OnSession n (unit.Flow f)) p d e = tt
+  part_by h (up.OnSession n (unit.Transfer t)) p d e = tt
+  part_by h (up.OnSession n (unit.Dispose x)) p d e = tt
+  part_by h (up.OnSession n (unit.Settle x)) p d e = tt
+  part_by h u p d e = tt
 
   pub releases_are : (h : List Step) → ArePicks h → Releases h
   releases_are [] p = tt
-  releases_are (Gave (ToUp u) text ∷ h) p = (part_is h u p.1 p.0.1, releases_are h p.1)
+  releases_are (Gave (ToUp u) text ∷ h) p = (part_by h u p.1 (may_detach (before h) u p.0.1) p.0.1, releases_are h p.1)
   releases_are (s ∷ h) p = releases_are h p.1

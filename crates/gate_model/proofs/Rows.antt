@@ -1,5 +1,5 @@
 -- The first of rows of lives, and of lists put together.
-use Rattle.std.proofs.Common.{◌≡◌, ℕ, ◌+◌, List, [], ◌∷◌, ◌++◌, Option, Some, arith, suc, zero}
+use Rattle.std.proofs.Common.{◌≡◌, ℕ, ◌+◌, ◌<◌, length, List, [], ◌∷◌, ◌++◌, Option, Some, arith, suc, zero}
 use Rattle.std.proofs.Common.{refl, sym, ap, ◌∙◌}
 use Rattle.gate_model.specs.declared.life.Life.{Life}
 use Rattle.gate_model.specs.Lives.{each, life_at}
@@ -53,3 +53,24 @@ pub first_at : {A : Type 0} (P : A → Type 0) (f : ℕ → Life → List A) (ls
     → ((k : ℕ) (v : A) → first (f k (life_at ls k)) ≡ Some v → P v) → first (each f 0 ls) ≡ Some u → P u
 first_at {A = A} P f ls u is e =
     first_from P f 0 ls u (λ k v g. is k v (ap (λ (m : ℕ). first (f m (life_at ls k))) (let same : k ≡ 0 + k = omega arith in same) ∙ g)) e
+
+-- ---- rows without any
+
+pub left_none : {A : Type 0} (us vs : List A) → us ++ vs ≡ [] → us ≡ []
+left_none [] vs e = refl
+left_none (u ∷ us) vs e = absurd cc
+
+pub right_none : {A : Type 0} (us vs : List A) → us ++ vs ≡ [] → vs ≡ []
+right_none [] vs e = e
+right_none (u ∷ us) vs e = absurd cc
+
+row_from : {A : Type 0} (f : ℕ → Life → List A) (n k : ℕ) (ls : List Life) → k < length ls → each f n ls ≡ [] → f (n + k) (life_at ls k) ≡ []
+row_from f n k [] less e = absurd (omega (arith, less))
+row_from f n zero (l ∷ ls) less e = ap (λ (m : ℕ). f m l) (let same : n + zero ≡ n = omega arith in same) ∙ left_none (f n l) _ e
+row_from f n (suc k) (l ∷ ls) less e =
+    ap (λ (m : ℕ). f m (life_at ls k)) (let same : n + suc k ≡ (n + 1) + k = omega arith in same)
+    ∙ row_from f (n + 1) k ls (let so : k < length ls = omega (arith, less) in so) (right_none (f n l) _ e)
+
+-- where a row has none, no channel has one in it
+pub row_none : {A : Type 0} (f : ℕ → Life → List A) (k : ℕ) (ls : List Life) → k < length ls → each f 0 ls ≡ [] → f k (life_at ls k) ≡ []
+row_none f k ls less e = ap (λ (m : ℕ). f m (life_at ls k)) (let same : k ≡ 0 + k = omega arith in same) ∙ row_from f 0 k ls less e

@@ -9,7 +9,7 @@ use Rattle.consume_path.specs.Laws.{AreCalls, AreFresh, IsLawfulSettle}
 use Rattle.consume_path.specs.Offers.{next_settle_of}
 use Rattle.consume_path.specs.declared.delivery.NextSettle.{NextSettle}
 use Rattle.session_path.specs.Due.{next_dispose, next_flow}
-use Rattle.session_path.specs.Events.{PathEvent, after_events, deliveries_of}
+use Rattle.session_path.specs.Events.{PathEvent, deliveries_of}
 use Rattle.session_path.specs.Laws.{AreHeard}
 use Rattle.session_path.specs.Path.{PathState}
 use Rattle.session_path.specs.declared.path.FlowDue.{FlowDue}
@@ -39,7 +39,7 @@ use Rattle.gate_model.specs.declared.outgoing.UpUnit.TheVariants as up
 use Rattle.gate_model.proofs.Fates.{IsLived, lived}
 use Rattle.gate_model.proofs.Firsts.{OfSession, SessionUnits, goes_up_as}
 use Rattle.gate_model.proofs.Granting.{CountsAre, CreditsAre, DeliveriesAre, flow_is}
-use Rattle.gate_model.proofs.Heard.{OpenGoesOn, are_heard, is_kept}
+use Rattle.gate_model.proofs.Heard.{ClosedAre, OpenGoesOn, are_heard, is_kept}
 use Rattle.gate_model.proofs.Known.{known, side_is}
 use Rattle.gate_model.proofs.Receivers.{LinksAre}
 
@@ -53,9 +53,6 @@ IdsAre = (life : ℕ) (h : List DeliveryEvent) → AreCalls life h → AreFresh 
 
 abbrev pub SettlesAre : Type 0
 SettlesAre = (life : ℕ) (h : List DeliveryEvent) → AreFresh h → IfSome (next_settle_of (open_after life h)) (IsLawfulSettle h)
-
-abbrev pub ClosedAre : Type 0
-ClosedAre = (life : ℕ) (h : List DeliveryEvent) → (deliveries_after life h).closed ≡ is_closed h
 
 -- until the upstream end is lost, the life of a channel that is open isn't closed
 goes_on : (h : List Step) (n life : ℕ) → ArePicks h → n ≤ CHANNEL_MAX → path_life h n ≡ Some life → is_kept (side_in h) ≡ true → is_open (connection h) n ≡ true

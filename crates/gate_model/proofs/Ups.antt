@@ -57,7 +57,7 @@ use Rattle.machine_10.specs.State.{session_at}
 use Rattle.machine_10.specs.declared.state.Session.{Session}
 use Rattle.machine_10.specs.declared.state.Session.TheVariants as session
 use Rattle.gate_model.specs.Upstream.{UpState, begun, channel_max_in, closing_with, container_by}
-use Rattle.gate_model.specs.Upstream.{container_given, ended_in, first, heard_up, is_idle_due}
+use Rattle.gate_model.specs.Upstream.{container_given, ended_in, first, heard_up}
 use Rattle.gate_model.specs.Upstream.{meaning_by, no_end, nothing_due, opening_rows, when_up}
 use Rattle.gate_model.specs.Upstream.{with_begun, with_whole, without_up}
 use Rattle.gate_model.proofs.Connections.{clash, only_given, phase_only}

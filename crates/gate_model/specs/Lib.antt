@@ -1,10 +1,12 @@
 pub mod Answers
 pub mod Asked
+pub mod Contents
 pub mod Delivers
 pub mod Due
 pub mod Folds
 pub mod Frames
 pub mod Lives
+pub mod Oks
 pub mod Once
 pub mod Order
 pub mod Paths
@@ -14,6 +16,7 @@ pub mod Queue
 pub mod Releases
 pub mod Reports
 pub mod Requests
+pub mod Rests
 pub mod Returns
 pub mod Session
 pub mod Settles

@@ -1,10 +1,10 @@
 -- What is settled before a link or a session goes: told by the events of the life in progress, over
 -- the fates of its deliveries, which know no state.
-use Rattle.std.specs.Prelude.{◌≡◌, ℕ, true, false, ◌&&◌, List, [], ◌∷◌, Some, find}
+use Rattle.std.specs.Prelude.{◌≡◌, ℕ, true, false, List, [], ◌∷◌, Some, find}
 use Rattle.consume_path.specs.Journal.{IsTaken, fate_of, is_uncovered}
 use Rattle.consume_path.specs.Laws.{are_covered}
 use Rattle.session_path.specs.Events.{after_events, deliveries_of}
-use Rattle.session_path.specs.Links.{has_number, is_stage_open}
+use Rattle.session_path.specs.Links.{has_number}
 use Rattle.session_path.specs.declared.path.PathLink.{PathLink}
 use Rattle.gate_model.specs.Publishing.{path_events, path_life}
 use Rattle.gate_model.specs.State.{Gave, Step}
@@ -22,14 +22,14 @@ AreReturned h n =
     → IsTaken (deliveries_of life (path_events h n)) k
     → is_uncovered (fate_of k (deliveries_of life (path_events h n))) ≡ false
 
--- each one of a receiving link had that, where both ends attached the link, the container didn't
--- detach it and none of its transfers was at fault: its consumer is cancelled, its queue was found,
--- or it is given up (AMQP 1.0 2.6.6, 2.7.6)
+-- each one of a receiving link had that: its consumer is cancelled, its queue was found, it is
+-- given up, the container detached it, or one of its transfers was at fault (AMQP 1.0 2.6.5, 2.6.6,
+-- 2.7.6)
 abbrev pub AreReturnedOn : List Step → ℕ → ℕ → Type 0
 AreReturnedOn h n link =
     (life : ℕ) (l : PathLink) → path_life h n ≡ Some life
     → find (has_number link) (after_events life (path_events h n)).links.links ≡ Some l
-    → (l.receives && is_stage_open l.stage) ≡ true
+    → l.receives ≡ true
     → are_covered link (deliveries_of life (path_events h n)) ≡ true
 
 -- before the gateway's end of a session, and before its detach of a link

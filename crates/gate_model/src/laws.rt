@@ -8,11 +8,13 @@ ghost use Rattle.machine_091.specs.declared.limits.TheConstants.{CHANNEL_MAX};
 ghost use Rattle.session_path.specs.Events.{after_events};
 ghost use Rattle.gate_model.specs.declared.reply.Reply.{Reply};
 ghost use Rattle.gate_model.specs.Answers.{AreAnswered};
+ghost use Rattle.gate_model.specs.Contents.{AreImages, StandTogether, Writes};
 ghost use Rattle.gate_model.specs.Delivers.{Delivers};
 ghost use Rattle.gate_model.specs.Asked.{AreCalledFor, GoesWhenDue, ShutsUpAtOnce};
-ghost use Rattle.gate_model.specs.Frames.{FitsClients};
+ghost use Rattle.gate_model.specs.Frames.{AreGiven, FitsClients, FitsContainers};
 ghost use Rattle.gate_model.specs.Folds.{connection, container, moment_in, number_in, ran_out_in};
 ghost use Rattle.gate_model.specs.Folds.{side_in};
+ghost use Rattle.gate_model.specs.Oks.{AnswersInOrder};
 ghost use Rattle.gate_model.specs.Once.{AnswersOnce};
 ghost use Rattle.gate_model.specs.Order.{TakesInOrder};
 ghost use Rattle.gate_model.specs.Paths.{slot_at};
@@ -20,10 +22,12 @@ ghost use Rattle.gate_model.specs.Picks.{ArePicks};
 ghost use Rattle.gate_model.specs.Due.{takes_memory_back};
 ghost use Rattle.gate_model.specs.Publishing.{ArePieces, Confirms, EndWhole, Returns, Transfers};
 ghost use Rattle.gate_model.specs.Publishing.{path_events, path_life};
+ghost use Rattle.gate_model.specs.Setup.{IsInForm, SetupText};
 ghost use Rattle.gate_model.specs.Silence.{SilentAtOnce, SilentWhenDue};
 ghost use Rattle.gate_model.specs.Spelling.{spell_reply};
 ghost use Rattle.gate_model.specs.Releases.{Releases};
 ghost use Rattle.gate_model.specs.Reports.{lines_owed};
+ghost use Rattle.gate_model.specs.Rests.{ServesClients, SuppliesContainers};
 ghost use Rattle.gate_model.specs.Settles.{Grants, Settles};
 ghost use Rattle.gate_model.specs.State.{Step, before, owed_lines};
 ghost use Rattle.gate_model.specs.Times.{BeatsAtOnce, BeatsWhenDue, LateCloses, ShutsAtOnce};
@@ -38,7 +42,8 @@ use machine_091::connection_laws;
 use property_map::received_lawfully;
 use publish_path::{confirms_lawfully, lines_lawfully, payloads_lawfully, returns_lawfully};
 use session_path::{
-    calls_lawfully, deliveries_lawfully, links_lawfully, names_lawfully, publishes_lawfully,
+    answers_lawfully, calls_lawfully, deliveries_lawfully, links_lawfully, names_lawfully,
+    publishes_lawfully,
 };
 
 /// The state knows both connections, how far the upstream end is, the last moment, whether the pair
@@ -84,13 +89,56 @@ pub fn returns_are_lawful()
 
 /// Each deliver that goes to a client is of a message of which none went and which nothing settled,
 /// in the order of its link. Where its consumer acknowledges, the unsettled deliveries are with it
-/// within the consumer's prefetch and within that of all consumers.
+/// within the consumer's prefetch and within that of all consumers. Its method names the consumer,
+/// and where the message was published.
 pub fn delivers_are_lawful()
     ensures { (h : List Step) → ArePicks h → Delivers h }
 {
     deliveries_lawfully();
     delivers_lawfully();
     numbers_lawfully();
+    calls_lawfully();
+    ids_lawfully();
+}
+
+/// Each frame of a content that goes to a client is the next one of those of the delivery whose
+/// deliver or get-ok went last on its channel, while the channel's life goes on.
+pub fn contents_are_written()
+    ensures { (h : List Step) → ArePicks h → Writes h }
+{
+    deliveries_lawfully();
+    delivers_lawfully();
+    numbers_lawfully();
+    calls_lawfully();
+    ids_lawfully();
+}
+
+/// Each whole delivery of a life that goes on carries the image of its message: of the payloads of
+/// its transfers, joined in order, for the queue of its link, in frames that its client takes.
+pub fn deliveries_are_images()
+    ensures { (h : List Step) → ArePicks h → AreImages h }
+{
+    connection_laws();
+    received_lawfully();
+    deliveries_lawfully();
+    numbers_lawfully();
+    calls_lawfully();
+    receivers_lawfully();
+}
+
+/// While a content is begun nothing but its frames goes to the client: those of a delivery while
+/// its life goes on, and those of a return while the connection isn't closing and the pair has
+/// memory.
+pub fn contents_stand_together()
+    ensures { (h : List Step) → ArePicks h → StandTogether h }
+{
+    publishes_lawfully();
+    returns_lawfully();
+    deliveries_lawfully();
+    delivers_lawfully();
+    numbers_lawfully();
+    calls_lawfully();
+    ids_lawfully();
 }
 
 /// Each disposition of role receiver that goes to a container covers deliveries of the channel's
@@ -122,8 +170,8 @@ pub fn grants_are_lawful()
 }
 
 /// Before an end of the gateway goes each whole delivery of the channel's life that didn't come
-/// settled had its disposition; and before its detach of a receiving link that both ends attached,
-/// that the container didn't detach and that isn't at fault, each one of that link.
+/// settled had its disposition; and before its detach of a receiving link each one of that link,
+/// also where the container detached it or a transfer on it was at fault.
 pub fn releases_are_lawful()
     ensures { (h : List Step) → ArePicks h → Releases h }
 {
@@ -166,6 +214,29 @@ pub fn lines_are_lawful()
     delivery_lines_lawfully();
 }
 
+/// Where nothing goes to the client, each channel that is open has nothing owed: no publish that
+/// waits for its confirm has an outcome, none is to go back, no content is begun, no delivery to a
+/// consumer may go, and each request whose answer is due was answered, but for one that waits for
+/// its get-ok. Where nothing goes to the container before the gateway's close, each session that is
+/// begun has nothing owed: no disposition is due, no link is to be detached, and while the pair has
+/// memory no publish may be transferred, no credit is to be stated, and no link to be attached.
+pub fn owed_units_go()
+    ensures clients { (h : List Step) → ArePicks h → ServesClients h }
+    ensures containers { (h : List Step) → ArePicks h → SuppliesContainers h }
+{
+    connection_laws();
+    publishes_lawfully();
+    confirms_lawfully();
+    returns_lawfully();
+    payloads_lawfully();
+    deliveries_lawfully();
+    delivers_lawfully();
+    numbers_lawfully();
+    calls_lawfully();
+    ids_lawfully();
+    settles_lawfully();
+}
+
 /// What was sent to a client, without heartbeats, and what is due to it are the replies to its
 /// units and to what happened upstream, in their order: to the protocol header connection.start, to
 /// bytes that begin no header the gateway's own, to connection.start-ok connection.tune, to the
@@ -195,6 +266,15 @@ pub fn replies_wait()
 pub fn units_keep_their_order()
     ensures { (h : List Step) → ArePicks h → TakesInOrder h }
 {}
+
+/// The answers to a channel's requests go in the order of the requests, each once: those that went in
+/// the life in progress and those that are due are those that became due.
+pub fn requests_are_answered()
+    ensures { (h : List Step) → ArePicks h → AnswersInOrder h }
+{
+    connection_laws();
+    answers_lawfully();
+}
 
 /// On each channel no more channel.open-oks went than channel.opens were taken up, and the same of
 /// channel.flow and its flow-ok, and of channel.close and its close-ok.
@@ -253,6 +333,15 @@ pub fn frames_fit_clients()
     names_lawfully();
     received_lawfully();
 }
+
+/// No frame that goes to a container passes the container's limit when its first byte is sent: 512
+/// bytes until an open of it that is neither refused nor passed over, and from then on the lesser
+/// of 65,536 and the max-frame-size that this stated. The set-up is in form, and what the client
+/// sent is bytes.
+pub fn frames_fit_containers()
+    ensures { (s : SetupText) (h : List Step) → IsInForm s → ArePicks h → AreGiven h
+        → FitsContainers s h }
+{}
 
 /// No unit to a client has over 512 bytes, an eighth of the least frame-max, and each has some; but
 /// for basic.deliver and get-ok, the answers of the classes basic and queue, and the frames of

@@ -16,10 +16,12 @@ mod timers;
 pub use channel::{AttachOut, ChannelUnit, LinkFlow, SessionUnit, TransferOut};
 pub use laws::{
     channels_are_answered_once, clients_are_answered, confirms_are_lawful, containers_are_asked,
-    containers_are_left, delivers_are_lawful, frames_fit_clients, grants_are_lawful,
-    lines_are_lawful, paths_are_known, payloads_are_whole, releases_are_lawful, replies_wait,
-    returns_are_lawful, settles_are_lawful, silent_ends_are_given_up, states_are_known,
-    times_are_kept, transfers_are_lawful, units_are_short, units_keep_their_order,
+    containers_are_left, contents_are_written, contents_stand_together, deliveries_are_images,
+    delivers_are_lawful, frames_fit_clients, frames_fit_containers, grants_are_lawful,
+    lines_are_lawful, owed_units_go, paths_are_known, payloads_are_whole, releases_are_lawful,
+    replies_wait, requests_are_answered, returns_are_lawful, settles_are_lawful,
+    silent_ends_are_given_up, states_are_known, times_are_kept, transfers_are_lawful,
+    units_are_short, units_keep_their_order,
 };
 pub use life::{Life, SessionState};
 pub use limits::{HANDLE_MAX, HELD_BYTES, HELD_PUBLISHES, QUEUE_BYTES, QUEUE_UNITS};
