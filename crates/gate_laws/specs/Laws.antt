@@ -11,16 +11,19 @@ use Rattle.gate_turn_laws.specs.Lines.{told_lines}
 use Rattle.gate_turn_laws.specs.Log.{IsPlain, IsWholeRun}
 use Rattle.gate_turn_laws.specs.Quiet.{IdlesAtRest, IdlesInSilence}
 use Rattle.gate_model.specs.Asked.{AreCalledFor, GoesWhenDue}
-use Rattle.gate_model.specs.Frames.{FitsClients}
+use Rattle.gate_model.specs.Frames.{AreGiven, FitsClients, FitsContainers}
+use Rattle.gate_model.specs.Oks.{AnswersInOrder}
 use Rattle.gate_model.specs.Once.{AnswersOnce}
 use Rattle.gate_model.specs.Order.{TakesInOrder}
 use Rattle.gate_model.specs.Picks.{ArePicks}
+use Rattle.gate_model.specs.Contents.{AreImages, StandTogether, Writes}
 use Rattle.gate_model.specs.Delivers.{Delivers}
 use Rattle.gate_model.specs.Publishing.{ArePieces, Confirms, EndWhole, Returns, Transfers}
 use Rattle.gate_model.specs.Releases.{Releases}
 use Rattle.gate_model.specs.Reports.{lines_owed}
+use Rattle.gate_model.specs.Rests.{ServesClients, SuppliesContainers}
 use Rattle.gate_model.specs.Settles.{Grants, Settles}
-use Rattle.gate_model.specs.Setup.{SetupText}
+use Rattle.gate_model.specs.Setup.{IsInForm, SetupText}
 use Rattle.gate_model.specs.State.{owed_lines}
 use Rattle.gate_model.specs.Waiting.{ChannelsEndWhenSettled, EndsWhenSettled, OpensWhenOpened}
 use Rattle.gate_pair.specs.Answers.{IsAnswered}
@@ -37,9 +40,10 @@ pub record IsLawfulPair (s : SetupText) (h : List Entry) : Type 0 where
   -- each end took what it was sent, and its client what answers it and tells what happened upstream
   pub answers : IsAnswered s h
   -- a client's units are taken up in the order of their channel, and each request on one is
-  -- answered at most once
+  -- answered at most once, in that order
   pub order : TakesInOrder (steps_of s h)
   pub once : AnswersOnce (steps_of s h)
+  pub requests : AnswersInOrder (steps_of s h)
   -- each confirm covers publishes with the outcome that it tells, accepted ones by an ack; frames
   -- of returns are those of mandatory publishes that no queue took; frames of transfers go within
   -- credit and window, in order, and carry each byte of an image once
@@ -50,6 +54,11 @@ pub record IsLawfulPair (s : SetupText) (h : List Entry) : Type 0 where
   pub wholes : EndWhole (steps_of s h)
   -- each deliver is the next of its link, within the prefetch of its consumer and of all
   pub delivers : Delivers (steps_of s h)
+  -- it carries the image of its message; the frames of its content are those of that, each once, in
+  -- order; and they stand together
+  pub images : AreImages (steps_of s h)
+  pub contents : Writes (steps_of s h)
+  pub together : StandTogether (steps_of s h)
   -- each disposition covers deliveries that are owed its state; each credit is within a quota; and
   -- none is left that lacks a disposition where a session or a link of it is given up
   pub settles : Settles (steps_of s h)
@@ -58,6 +67,9 @@ pub record IsLawfulPair (s : SetupText) (h : List Entry) : Type 0 where
   -- the report is owed the lines of the publishes that were lost before they had an outcome, and of
   -- the deliveries that were lost or left
   pub lines : owed_lines (state_of s h) ≡ lines_owed (steps_of s h)
+  -- where nothing goes to an end, nothing is owed to it
+  pub served : ServesClients (steps_of s h)
+  pub supplied : SuppliesContainers (steps_of s h)
   -- a client is told of the end of its connection or a channel, and of the connection's begin, once
   -- the container is through
   pub ends : EndsWhenSettled (steps_of s h)
@@ -66,8 +78,10 @@ pub record IsLawfulPair (s : SetupText) (h : List Entry) : Type 0 where
   -- the container is sent what was called for, and a close where that may go
   pub called : AreCalledFor (steps_of s h)
   pub goes : GoesWhenDue (steps_of s h)
-  -- no frame that goes to the client passes its limit
+  -- no frame that goes to the client passes its limit; nor one to the container, where what the
+  -- client sent is bytes
   pub frames : FitsClients (steps_of s h)
+  pub frames_up : IsInForm s → AreGiven (steps_of s h) → FitsContainers s (steps_of s h)
   -- heartbeats and empty frames go, and each end is shut, where time or another cause makes that
   -- due
   pub times : KeepsTimes s h

@@ -6,16 +6,19 @@
 
 ghost use Rattle.std.specs.Prelude.{◌≡◌, ℕ, false, Option, Some, List};
 ghost use Rattle.gate_model.specs.Asked.{AreCalledFor, GoesWhenDue};
-ghost use Rattle.gate_model.specs.Frames.{FitsClients};
+ghost use Rattle.gate_model.specs.Frames.{AreGiven, FitsClients, FitsContainers};
+ghost use Rattle.gate_model.specs.Oks.{AnswersInOrder};
 ghost use Rattle.gate_model.specs.Once.{AnswersOnce};
 ghost use Rattle.gate_model.specs.Order.{TakesInOrder};
 ghost use Rattle.gate_model.specs.Picks.{ArePicks};
+ghost use Rattle.gate_model.specs.Contents.{AreImages, StandTogether, Writes};
 ghost use Rattle.gate_model.specs.Delivers.{Delivers};
 ghost use Rattle.gate_model.specs.Publishing.{ArePieces, Confirms, EndWhole, Returns, Transfers};
 ghost use Rattle.gate_model.specs.Releases.{Releases};
 ghost use Rattle.gate_model.specs.Reports.{lines_owed};
+ghost use Rattle.gate_model.specs.Rests.{ServesClients, SuppliesContainers};
 ghost use Rattle.gate_model.specs.Settles.{Grants, Settles};
-ghost use Rattle.gate_model.specs.Setup.{SetupText};
+ghost use Rattle.gate_model.specs.Setup.{IsInForm, SetupText};
 ghost use Rattle.gate_model.specs.State.{owed_lines};
 ghost use Rattle.gate_model.specs.Waiting.{ChannelsEndWhenSettled, EndsWhenSettled};
 ghost use Rattle.gate_model.specs.Waiting.{OpensWhenOpened};
@@ -74,6 +77,32 @@ pub fn units_keep_their_order()
     gate_model::units_keep_their_order();
 }
 
+/// The answers to a channel's requests go in the order of the requests, each once: those that went
+/// in the life in progress and those that are due are those that became due.
+pub fn requests_are_answered()
+    ensures { (s : SetupText) (c : Limits) (m : History) → Follows (pair_words s) c m → (p : ℕ)
+        → AnswersInOrder (steps_of s (journal p m)) }
+{
+    entries_are_lawful();
+    gate_model::requests_are_answered();
+}
+
+/// Where nothing goes to a client, each channel that is open has nothing owed: no publish that
+/// waits for its confirm has an outcome, none is to go back, no content is begun, no delivery to a
+/// consumer may go, and each request whose answer is due was answered, but for one that waits for
+/// its get-ok. Where nothing goes to a container before the gateway's close, each session that is
+/// begun has nothing owed: no disposition is due, no link is to be detached, and while the pair has
+/// memory no publish may be transferred, no credit is to be stated, and no link to be attached.
+pub fn owed_units_go()
+    ensures clients { (s : SetupText) (c : Limits) (m : History) → Follows (pair_words s) c m
+        → (p : ℕ) → ServesClients (steps_of s (journal p m)) }
+    ensures containers { (s : SetupText) (c : Limits) (m : History) → Follows (pair_words s) c m
+        → (p : ℕ) → SuppliesContainers (steps_of s (journal p m)) }
+{
+    entries_are_lawful();
+    gate_model::owed_units_go();
+}
+
 /// On each channel no more channel.open-oks went than channel.opens were taken up, and the same of
 /// channel.flow and its flow-ok, and of channel.close and its close-ok.
 pub fn channels_are_answered_once()
@@ -114,7 +143,8 @@ pub fn publishes_are_lawful()
 
 /// Each deliver that goes to a client is of a message of which none went and which nothing settled,
 /// in the order of its link. Where its consumer acknowledges, the unsettled deliveries are with it
-/// within the consumer's prefetch and within that of all consumers.
+/// within the consumer's prefetch and within that of all consumers. Its method names the consumer,
+/// and where the message was published.
 pub fn delivers_are_lawful()
     ensures { (s : SetupText) (c : Limits) (m : History) → Follows (pair_words s) c m → (p : ℕ)
         → Delivers (steps_of s (journal p m)) }
@@ -123,11 +153,30 @@ pub fn delivers_are_lawful()
     gate_model::delivers_are_lawful();
 }
 
+/// Each whole delivery of a life that goes on carries the image of its message: of the payloads of
+/// its transfers, joined in order. Each frame of a content that goes to a client is the next one of
+/// those of the delivery whose deliver or get-ok went last on its channel. While a content is begun
+/// nothing but its frames goes to the client: those of a delivery while its life goes on, and those
+/// of a return while the connection isn't closing and the pair has memory.
+pub fn contents_are_lawful()
+    ensures images { (s : SetupText) (c : Limits) (m : History) → Follows (pair_words s) c m
+        → (p : ℕ) → AreImages (steps_of s (journal p m)) }
+    ensures written { (s : SetupText) (c : Limits) (m : History) → Follows (pair_words s) c m
+        → (p : ℕ) → Writes (steps_of s (journal p m)) }
+    ensures together { (s : SetupText) (c : Limits) (m : History) → Follows (pair_words s) c m
+        → (p : ℕ) → StandTogether (steps_of s (journal p m)) }
+{
+    entries_are_lawful();
+    gate_model::deliveries_are_images();
+    gate_model::contents_are_written();
+    gate_model::contents_stand_together();
+}
+
 /// Each disposition of role receiver that goes to a container covers deliveries that are owed its
 /// state, and no other that lacks one. Each flow of a receiving link states a credit that is, with
 /// what counts on the link, within a consumer's quota. Before an end of the gateway goes each whole
 /// delivery of the channel's life that didn't come settled had its disposition; before its detach
-/// of a receiving link that is open at both ends, each one of that link.
+/// of a receiving link, each one of that link.
 pub fn deliveries_are_settled()
     ensures settles { (s : SetupText) (c : Limits) (m : History) → Follows (pair_words s) c m
         → (p : ℕ)
@@ -201,6 +250,18 @@ pub fn frames_fit_clients()
     gate_pair::frames_fit_clients();
 }
 
+/// No frame that goes to a container passes its limit when its first byte is sent: 512 bytes until
+/// an open of it that is neither refused nor passed over, and from then on the lesser of 65,536 and
+/// the max-frame-size that this stated. The set-up is in form, and what the client sent is bytes.
+pub fn frames_fit_containers()
+    ensures { (s : SetupText) (c : Limits) (m : History) → Follows (pair_words s) c m → (p : ℕ)
+        → IsInForm s → AreGiven (steps_of s (journal p m))
+        → FitsContainers s (steps_of s (journal p m)) }
+{
+    entries_are_lawful();
+    gate_model::frames_fit_containers();
+}
+
 /// A heartbeat goes next to the client exactly where one may, and an empty frame to the container.
 /// Each end is to be shut exactly for one of its causes, those of `ShutAt` and of `ShutUpAt`. Among
 /// them is that no connection.open came within 10,000 ms of the accept, and that the closing event
@@ -249,13 +310,17 @@ pub fn runs_are_lawful()
     clients_are_answered();
     units_keep_their_order();
     channels_are_answered_once();
+    requests_are_answered();
     publishes_are_lawful();
     delivers_are_lawful();
+    contents_are_lawful();
     deliveries_are_settled();
     lines_are_lawful();
+    owed_units_go();
     replies_wait();
     containers_are_asked();
     frames_fit_clients();
+    frames_fit_containers();
     times_are_kept();
     silent_ends_are_given_up();
     idle_is_at_rest();

@@ -1,0 +1,7 @@
+use Rattle.gate_laws.proofs.owed_units_go.Goals as goal
+
+pub returns : goal.returns
+returns c = record {
+  clients = λ s l m f p. c.owed_units_go.ensures.clients _ (c.entries_are_lawful.ensures.picks s l m f p);
+  containers = λ s l m f p. c.owed_units_go.ensures.containers _ (c.entries_are_lawful.ensures.picks s l m f p);
+}
