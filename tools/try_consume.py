@@ -2,7 +2,7 @@
 """Kills consumers behind the gateway, and counts what their container keeps, over loopback.
 
     python3 tools/try_consume.py --container 'COMMAND' [--gateway 'COMMAND'] [--kills COUNT] [--messages COUNT]
-                                 [--prefetch COUNT] [--workers COUNT] [--seed SEED]
+                                 [--prefetch COUNT] [--workers COUNT] [--seed SEED] [--client NAME,NAME..]
 
 It starts the container as `COMMAND --port P` and the gateway as `COMMAND serve ..` on a free port; the gateway is
 crates/amqp_gate/out/amqp_gate if no command names another. It publishes MESSAGES with confirms, each with its number as its
@@ -11,7 +11,8 @@ place, until KILLS were. Then one more takes what is left.
 
 Every message must be settled once: by a consumer that told so, or by the last one. One whose consumer told that the
 gateway had read its ack must not come again; one that was got and not told of may come again or not. What doesn't
-hold is printed, and the status is 1. pika is needed. No part of the build runs this.
+hold is printed, and the status is 1. The consumers are by `pika`, and in turn by `amqp` and `go` where --client names
+them. pika is needed. No part of the build runs this.
 """
 
 import argparse
@@ -25,7 +26,7 @@ import time
 
 import pika
 
-from try_container import BUILT, CLIENTS, end, free_port, wait_for
+from try_container import BUILT, CLIENTS, GO_PATH, end, free_port, wait_for
 
 QUEUE = "kills"
 
@@ -43,22 +44,36 @@ def publish(port, count):
     connection.close()
 
 
-def worker(port, prefetch, folder, number):
+def program(name, port, prefetch, folder):
+    """What runs a consumer by a library."""
+    if name == "pika":
+        return [sys.executable, os.path.join(CLIENTS, "consume_pika.py"), str(port), QUEUE, str(prefetch)]
+    if name == "amqp":
+        return [sys.executable, os.path.join(CLIENTS, "trip_amqp.py"), str(port), "work", QUEUE, str(prefetch)]
+    built = os.path.join(folder, "trip")
+    if not os.path.exists(built):
+        settings = {**os.environ, "GOPATH": GO_PATH, "GO111MODULE": "off", "GOCACHE": "/tmp/go-cache"}
+        subprocess.run(["go", "build", "-o", built, os.path.join(CLIENTS, "trip.go")], check=True, env=settings)
+    return [built, str(port), "work", QUEUE, str(prefetch)]
+
+
+def worker(port, options, folder, number):
     """A consumer, with a log of its own."""
-    command = [sys.executable, os.path.join(CLIENTS, "consume_pika.py"), str(port), QUEUE, str(prefetch)]
+    names = options.client.split(",")
+    command = program(names[number % len(names)], port, options.prefetch, folder)
     with open(os.path.join(folder, f"log{number}"), "w") as log:
         return subprocess.Popen(command, stdout=log, stderr=subprocess.DEVNULL)
 
 
 def kill_workers(port, options, folder):
     """Kills workers one after another, each at a random moment."""
-    workers = [worker(port, options.prefetch, folder, number) for number in range(options.workers)]
+    workers = [worker(port, options, folder, number) for number in range(options.workers)]
     for kill in range(options.kills):
         time.sleep(random.uniform(0.0, options.pause))
         place = random.randrange(len(workers))
         workers[place].kill()
         workers[place].wait()
-        workers[place] = worker(port, options.prefetch, folder, options.workers + kill)
+        workers[place] = worker(port, options, folder, options.workers + kill)
     for one in workers:
         one.kill()
         one.wait()
@@ -70,8 +85,10 @@ def told(folder):
         if name.startswith("log"):
             with open(os.path.join(folder, name)) as log:
                 for line in log.read().split("\n")[:-1]:
-                    word, number = line.split()
-                    yield word, int(number)
+                    if line.startswith(("got ", "settled ")):
+                        yield line.split()[0], int(line.split()[1])
+                    else:
+                        print(f"{name}: {line}")
 
 
 def drain(port, quiet):
@@ -114,6 +131,7 @@ def main():
     parser.add_argument("--pause", type=float, default=0.5)
     parser.add_argument("--seed", type=int, default=1)
     parser.add_argument("--wait", type=int, default=60)
+    parser.add_argument("--client", default="pika")
     options = parser.parse_args()
     random.seed(options.seed)
     with tempfile.TemporaryDirectory() as folder:

@@ -3,7 +3,7 @@
 
     python3 tools/try_container.py --container 'COMMAND' | --upstream ADDRESS [--gateway 'COMMAND'] [--client NAME,NAME..]
                                    [--channels COUNT] [--hold SECONDS] [--heartbeat SECONDS] [--wait SECONDS] [--end-container]
-                                   [--words 'WORD ..']
+                                   [--unknown ADDRESS] [--words 'WORD ..']
 
 It starts the container as `COMMAND --port P`, unless one listens at an address already, and the gateway as `COMMAND serve ..` on
 a free port, with as many pairs as there are connections and with a capture. The gateway is crates/amqp_gate/out/amqp_gate, as `rt
@@ -11,6 +11,7 @@ run` leaves it there, if no command names another, and has `--wait` seconds to l
 Then come these connections of each client, one after another:
 
 - one that opens channels, closes them, opens one more, holds it, closes it, and closes;
+- with `--unknown`, one that publishes a mandatory message with a confirm to that address, and then consumes from it;
 - one that asks for another virtual host, and one that sends another password;
 - one that ends without a close while a channel is open;
 - with `--end-container`, one of each that has a channel open while the container is ended.
@@ -128,6 +129,17 @@ class PikaClient:
     def close_channel(self):
         self.channels.pop().close()
 
+    def publish(self, key):
+        channel, returned = self.channels[-1], []
+        channel.add_on_return_callback(lambda _, method, *rest: returned.append((method.reply_code, method.reply_text)))
+        channel.confirm_delivery()
+        channel.basic_publish("", key, b"mandatory", mandatory=True)
+        return f"acked, returned {returned}"
+
+    def consume(self, queue):
+        for _ in self.channels[-1].consume(queue, inactivity_timeout=5):
+            break
+
     def hold(self, seconds):
         self.connection.process_data_events(time_limit=seconds)
 
@@ -152,6 +164,7 @@ class AmqpClient:
             virtual_host=vhost,
             heartbeat=heartbeat or 0,
             connect_timeout=20,
+            confirm_publish=True,
         )
         self.connection.connect()
 
@@ -167,6 +180,18 @@ class AmqpClient:
 
     def close_channel(self):
         self.channels.pop().close()
+
+    def publish(self, key):
+        import amqp
+
+        channel = self.channels[-1]
+        channel.events["basic_return"].add(lambda *told: print(f"    returned: {told[:4]}"))
+        channel.basic_publish(amqp.Message("mandatory"), routing_key=key, mandatory=True)
+        return "acked"
+
+    def consume(self, queue):
+        self.channels[-1].basic_consume(queue)
+        self.connection.drain_events(timeout=5)
 
     def hold(self, seconds):
         until = time.monotonic() + seconds
@@ -201,11 +226,25 @@ class KombuClient(AmqpClient):
             heartbeat=heartbeat,
             connect_timeout=20,
             transport="pyamqp",
+            transport_options={"confirm_publish": True},
         )
         self.connection = self.outer.connect()
 
     def open_channel(self):
         self.channels.append(self.outer.channel())
+
+    def publish(self, key):
+        import kombu
+
+        told = lambda *words: print(f"    returned: {words[0]!r}")
+        kombu.Producer(self.channels[-1], on_return=told).publish("mandatory", routing_key=key, mandatory=True)
+        return "acked"
+
+    def consume(self, queue):
+        import kombu
+
+        with kombu.Consumer(self.channels[-1], kombu.Queue(queue, no_declare=True), callbacks=[print]):
+            self.outer.drain_events(timeout=5)
 
     def hold(self, seconds):
         until = time.monotonic() + seconds
@@ -263,6 +302,12 @@ class ProgramClient:
 
     def close_channel(self):
         self.ask("close-channel")
+
+    def publish(self, key):
+        return self.ask(f"publish {key}")
+
+    def consume(self, queue):
+        return self.ask(f"consume {queue}")
 
     def hold(self, seconds):
         self.ask(f"hold {seconds}")
@@ -329,7 +374,7 @@ class Trial:
         begin = time.monotonic()
         try:
             answer = act()
-            said = answer.says() if hasattr(answer, "says") else "done"
+            said = answer.says() if hasattr(answer, "says") else answer or "done"
         except Exception as error:  # whatever the library raises is what is to be seen
             answer, said = None, met(error)
         print(f"  {self.name} {title}: {said} ({time.monotonic() - begin:.3f} s)", flush=True)
@@ -356,6 +401,8 @@ class Trial:
             self.held(client, self.options.hold)
             self.step("closes it", client.close_channel)
             self.step("closes", client.close)
+        if self.options.unknown:
+            self.meets_unknown(self.options.unknown)
         print(f"{self.name}, for another virtual host", flush=True)
         self.opened(vhost="other")
         print(f"{self.name}, with another password", flush=True)
@@ -367,6 +414,18 @@ class Trial:
         if client:
             self.channels(client, 1)
             self.step("ends", client.drop)
+
+
+    def meets_unknown(self, address):
+        """What a client is told of an address that the container doesn't know."""
+        print(f"{self.name}, which publishes to {address} and consumes from it", flush=True)
+        client = self.opened()
+        if client:
+            self.channels(client, 1)
+            self.step("publishes", lambda: client.publish(address))
+            self.channels(client, 1)
+            self.step("consumes", lambda: client.consume(address))
+            self.step("closes", client.close)
 
 
 def wait_for_end(trial, client, kill):
@@ -427,6 +486,7 @@ def main():
     parser.add_argument("--heartbeat", type=int, default=0)
     parser.add_argument("--wait", type=int, default=180)
     parser.add_argument("--end-container", action="store_true")
+    parser.add_argument("--unknown")
     parser.add_argument("--words", default="")
     options = parser.parse_args()
     if (options.container is None) == (options.upstream is None):
@@ -438,7 +498,7 @@ def main():
     with tempfile.TemporaryDirectory() as folder:
         at = lambda name: os.path.join(folder, name)
         found = installed(options.client.split(","), folder)
-        count = (5 if options.end_container else 4) * len(found)
+        count = (4 + bool(options.unknown) + options.end_container) * len(found)
         if not found:
             sys.exit("no client is installed")
         with open(at("container"), "w") as said, open(at("report"), "w") as out, open(at("errors"), "w") as errors:

@@ -30,6 +30,20 @@ public class Client {
             + ", frames to " + connection.getFrameMax() + ", heartbeat " + connection.getHeartbeat();
     }
 
+    static String publish(String key) throws Exception {
+        Channel channel = channels.peek();
+        StringBuffer told = new StringBuffer();
+        channel.addReturnListener((code, text, exchange, to, properties, body) -> told.append(", returned " + code + " " + text));
+        channel.confirmSelect();
+        channel.basicPublish("", key, true, null, "mandatory".getBytes());
+        return "confirmed " + channel.waitForConfirms(5000) + told;
+    }
+
+    static String consume(String queue) throws Exception {
+        channels.peek().basicConsume(queue, (tag, delivery) -> { }, tag -> { });
+        return "done";
+    }
+
     static String hold(String seconds) throws Exception {
         if (ended.await((long) (1000 * Double.parseDouble(seconds)), TimeUnit.MILLISECONDS)) {
             throw connection.getCloseReason();
@@ -47,6 +61,10 @@ public class Client {
             case "close-channel":
                 channels.pop().close();
                 return "done";
+            case "publish":
+                return publish(words[1]);
+            case "consume":
+                return consume(words[1]);
             case "hold":
                 return hold(words[1]);
             case "close":

@@ -82,6 +82,31 @@ static double now(void) {
   return at.tv_sec + at.tv_nsec / 1e9;
 }
 
+// Publishes a mandatory message with a confirm, and tells what comes of it.
+static void publish(const char *key) {
+  amqp_confirm_select(connection, channels);
+  if (!say_reply(amqp_get_rpc_reply(connection), NULL)) return;
+  amqp_basic_publish(connection, channels, amqp_empty_bytes, amqp_cstring_bytes(key), 1, 0, NULL, amqp_cstring_bytes("mandatory"));
+  struct timeval most = {5, 0};
+  amqp_frame_t frame;
+  while (amqp_simple_wait_frame_noblock(connection, &frame, &most) == AMQP_STATUS_OK) {
+    if (frame.frame_type != AMQP_FRAME_METHOD) continue;
+    if (frame.payload.method.id == AMQP_BASIC_RETURN_METHOD) {
+      amqp_basic_return_t *said = frame.payload.method.decoded;
+      printf("returned %u %.*s, ", said->reply_code, (int)said->reply_text.len, (char *)said->reply_text.bytes);
+    } else {
+      puts(frame.payload.method.id == AMQP_BASIC_ACK_METHOD ? "acked" : "nacked");
+      return;
+    }
+  }
+  puts("nothing more");
+}
+
+static void consume(const char *queue) {
+  amqp_basic_consume(connection, channels, amqp_cstring_bytes(queue), amqp_empty_bytes, 0, 0, 0, amqp_empty_table);
+  say_reply(amqp_get_rpc_reply(connection), "done");
+}
+
 // Takes what comes until the time is over. The library sends heartbeats meanwhile.
 static void hold(double seconds) {
   double until = now() + seconds;
@@ -120,6 +145,10 @@ static void act(const char *line) {
     say_reply(amqp_get_rpc_reply(connection), "done");
   } else if (strcmp(line, "close-channel\n") == 0) {
     say_reply(amqp_channel_close(connection, channels--, AMQP_REPLY_SUCCESS), "done");
+  } else if (sscanf(line, "publish %255s", vhost) == 1) {
+    publish(vhost);
+  } else if (sscanf(line, "consume %255s", vhost) == 1) {
+    consume(vhost);
   } else if (sscanf(line, "hold %lf", &seconds) == 1) {
     hold(seconds);
   } else if (strcmp(line, "close\n") == 0) {

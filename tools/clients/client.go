@@ -3,6 +3,7 @@ package main
 
 import (
 	"bufio"
+	"context"
 	"fmt"
 	"os"
 	"strconv"
@@ -48,6 +49,40 @@ func closeChannel() (string, error) {
 	return "done", channel.Close()
 }
 
+func publish(key string) (string, error) {
+	channel := channels[len(channels)-1]
+	returns := channel.NotifyReturn(make(chan amqp.Return, 1))
+	confirms := channel.NotifyPublish(make(chan amqp.Confirmation, 1))
+	if err := channel.Confirm(false); err != nil {
+		return "", err
+	}
+	message := amqp.Publishing{Body: []byte("mandatory")}
+	if err := channel.PublishWithContext(context.Background(), "", key, true, false, message); err != nil {
+		return "", err
+	}
+	confirm := <-confirms
+	select {
+	case back := <-returns:
+		return fmt.Sprintf("confirm %+v, returned %d %q to %q", confirm, back.ReplyCode, back.ReplyText, back.RoutingKey), nil
+	default:
+		return fmt.Sprintf("confirm %+v, none returned", confirm), nil
+	}
+}
+
+func consume(queue string) (string, error) {
+	channel := channels[len(channels)-1]
+	problems := channel.NotifyClose(make(chan *amqp.Error, 1))
+	if _, err := channel.Consume(queue, "", false, false, false, false, nil); err != nil {
+		return "", err
+	}
+	select {
+	case problem := <-problems:
+		return "", problem
+	case <-time.After(5 * time.Second):
+		return "done", nil
+	}
+}
+
 func hold(seconds string) (string, error) {
 	count, err := strconv.ParseFloat(seconds, 64)
 	if err != nil {
@@ -72,6 +107,10 @@ func do(words []string) (string, error) {
 		return openChannel()
 	case "close-channel":
 		return closeChannel()
+	case "publish":
+		return publish(words[1])
+	case "consume":
+		return consume(words[1])
 	case "hold":
 		return hold(words[1])
 	case "close":

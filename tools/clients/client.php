@@ -4,6 +4,7 @@ require_once 'PhpAmqpLib/autoload.php';
 
 use PhpAmqpLib\Connection\AMQPStreamConnection;
 use PhpAmqpLib\Exception\AMQPTimeoutException;
+use PhpAmqpLib\Message\AMQPMessage;
 
 $connection = null;
 $channels = [];
@@ -17,6 +18,29 @@ function connect($words)
     );
     $properties = $connection->getServerProperties();
     return sprintf("open: '%s', heartbeat %d", $properties['product'][1], $connection->getHeartbeat());
+}
+
+function publish($key)
+{
+    global $channels;
+    $channel = end($channels);
+    $told = [];
+    $channel->set_return_listener(function ($code, $text) use (&$told) { $told[] = "returned $code $text"; });
+    $channel->set_ack_handler(function () use (&$told) { $told[] = 'ack'; });
+    $channel->set_nack_handler(function () use (&$told) { $told[] = 'nack'; });
+    $channel->confirm_select();
+    $channel->basic_publish(new AMQPMessage('mandatory'), '', $key, true);
+    $channel->wait_for_pending_acks_returns(5);
+    return implode(', ', $told);
+}
+
+function consume($queue)
+{
+    global $channels;
+    $channel = end($channels);
+    $channel->basic_consume($queue);
+    $channel->wait(null, false, 5);
+    return 'done';
 }
 
 function hold($seconds)
@@ -45,6 +69,10 @@ function act($words)
         case 'close-channel':
             array_pop($channels)->close();
             return 'done';
+        case 'publish':
+            return publish($words[1]);
+        case 'consume':
+            return consume($words[1]);
         case 'hold':
             return hold($words[1]);
         case 'close':

@@ -17,11 +17,27 @@ def connect(port, vhost, password, heartbeat)
     "heartbeat #{$connection.heartbeat}"
 end
 
+def publish(key)
+  channel, told = $channels.last, []
+  channel.confirm_select
+  exchange = channel.default_exchange
+  exchange.on_return { |info, _, _| told << "returned #{info.reply_code} #{info.reply_text}" }
+  exchange.publish("mandatory", routing_key: key, mandatory: true)
+  "confirmed #{channel.wait_for_confirms}, nacked #{channel.nacked_set.to_a}, #{told}"
+end
+
+def consume(queue)
+  Bunny::Queue.new($channels.last, queue, no_declare: true).subscribe { }
+  "done"
+end
+
 def act(words)
   case words[0]
   when "connect" then return connect(*words[1..])
   when "channel" then $channels << $connection.create_channel
   when "close-channel" then $channels.pop.close
+  when "publish" then return publish(words[1])
+  when "consume" then return consume(words[1])
   when "hold" then sleep words[1].to_f
   when "close" then $connection.close
   else raise "no such command"

@@ -36,6 +36,14 @@ class Client:
             f"frames to {agreed.frame_max}, heartbeat {agreed.heartbeat}"
         )
 
+    async def publish(self, key):
+        exchange = self.channels[-1].default_exchange
+        return repr(await exchange.publish(aio_pika.Message(b"mandatory"), key, mandatory=True, timeout=5))
+
+    async def consume(self, name):
+        queue = await self.channels[-1].get_queue(name, ensure=False)
+        await queue.consume(lambda message: None, timeout=5)
+
     async def hold(self, seconds):
         try:
             await asyncio.wait_for(self.closed.wait(), float(seconds))
@@ -51,6 +59,10 @@ class Client:
             self.channels.append(await asyncio.wait_for(self.connection.channel(), 20))
         elif word == "close-channel":
             await asyncio.wait_for(self.channels.pop().close(), 20)
+        elif word == "publish":
+            return await self.publish(*words)
+        elif word == "consume":
+            await self.consume(*words)
         elif word == "hold":
             await self.hold(*words)
         elif word == "close":
