@@ -6,12 +6,14 @@ use Rattle.std.specs.List.{AllByRecursion, slice_get}
 use Rattle.std.proofs.Math.Bool.{and-false, or-false}
 use Rattle.std.proofs.lemmas.Grind.{common_steps}
 use Rattle.std.proofs.lemmas.Bool.Decides.{nat_tests}
+use Rattle.std.proofs.lemmas.List.Recursion.{is_count_by}
 use Rattle.std.proofs.lemmas.List.Sums.{count_by-le-length, sum_by_push}
 use Rattle.links_10.specs.Recv.{recounted, after_attach, after_peer_flow, after_grant, after_cancel}
 use Rattle.links_10.specs.Recv.{after_arrival}
 use Rattle.links_10.specs.declared.recv.Receiving.{Receiving}
 use Rattle.open_items.proofs.Filtered.{all_map, all_filter, all_weaker, all_push, count_by-filter}
 use Rattle.open_items.proofs.Numbered.{Rising, rising_push}
+use Rattle.open_items.specs.declared.lost.LostKind.{LostKind}
 use Rattle.consume_path.specs.declared.changes.Change.{Change}
 use Rattle.consume_path.specs.declared.changes.Change.TheVariants.{Delivered, Written, Answered}
 use Rattle.consume_path.specs.declared.changes.Change.TheVariants.{Cancelled as GoesBack, Closed}
@@ -44,7 +46,7 @@ use Rattle.consume_path.specs.Kept.{place_from}
 use Rattle.consume_path.specs.Kept.{is_owing, is_waiting, has_line, is_writing, tally_of, no_tally, exchanged, counts_of}
 use Rattle.consume_path.specs.Kept.{counts_after, tallied, taken_counted, came_counted, IsCounted}
 use Rattle.consume_path.specs.Kept.{IsTrim, IsUpTo, IsLinkFrom, IsKept, counted_anew}
-use Rattle.consume_path.specs.Offers.{added, settle_from, next_settle_of, is_unsettled}
+use Rattle.consume_path.specs.Offers.{added, settle_from, next_settle_of, is_unsettled, lines_of}
 use Rattle.consume_path.proofs.Passing.{none_counted, numbered_once, rising_map, rising_filter}
 use Rattle.consume_path.proofs.Passing.{IsBetween, visit_between, count_fewer, count_open}
 use Rattle.consume_path.proofs.Passing.{from_start, from_on, from_map, from_push}
@@ -513,6 +515,23 @@ none_owed {links} {items} {counts} {n} {m} {f} {u} {w} k none = settle_seen item
     each (d ∷ ds) a = rw a.0 (each ds a.1)
 
 -- lines
+
+-- a line is owed of so many
+pub lines_counted : (life : ℕ) (ds : List Delivery) → length (lines_of life (filter is_open ds)) ≡ count_by has_line ds
+lines_counted life = is_count_by (λ ds. length (lines_of life (filter is_open ds))) has_line refl (λ d ds. each d ds (is_open d) d.line refl)
+  where
+    each : (d : Delivery) (ds : List Delivery) (b : Bool) (o : Option LostKind)
+        → (is_held d.place || is_out d.place || owes d.place || d.writing || d.at_risk || is_some o) ≡ b
+        → length (lines_of life (cond b (record d { line = o } ∷ filter is_open ds) (filter is_open ds)))
+        ≡ cond (is_some o) (1 + length (lines_of life (filter is_open ds))) (length (lines_of life (filter is_open ds)))
+    each d ds true None e = refl
+    each d ds false None e = refl
+    each d ds true (Some kind) e = omega arith
+    each d ds false (Some kind) e = absurd (closed (is_held d.place || is_out d.place || owes d.place || d.writing || d.at_risk) e)
+      where
+        closed : (a : Bool) → (a || true) ≡ false → ⊥
+        closed true e = absurd (cc)
+        closed false e = absurd (cc)
 
 -- where no line is owed, none is reported
 none_reported : {links : List ReceivingLink} {items : List Delivery} {counts : Counts} {n m f u w : ℕ} → IsKept links items counts n m f u w → counts.lines ≡ 0 → filter is_open (map (changed Reported) (filter is_open items)) ≡ filter is_open items

@@ -1,7 +1,7 @@
 //! The deliveries of a life of a channel: each call is one event, or a question on what is due.
 
 ghost use Rattle.std.specs.Prelude.{ℕ, List, ◌≡◌, ◌+◌, ◌<◌, ◌^◌, ◌==◌, ◌&&◌, [], filter, not, true};
-ghost use Rattle.std.specs.Prelude.{false, length, is_some, OnOk, OnErr, IfOk, IfSome};
+ghost use Rattle.std.specs.Prelude.{false, length, is_some, nat_lt, OnOk, OnErr, IfOk, IfSome};
 ghost use Rattle.std.specs.Prelude.{IsSome, IsNone, option_copied, None, Some, map};
 ghost use Rattle.std.specs.List.{list_any};
 ghost use Rattle.std.specs.Option.{option_map, option_or};
@@ -24,7 +24,7 @@ ghost use Rattle.consume_path.specs.Offers.{is_open_id, fault_in, fault_at, arri
 ghost use Rattle.consume_path.specs.Offers.{arriving_in, payload_in, next_deliver_of, content_of};
 ghost use Rattle.consume_path.specs.Offers.{ending_in, added, arrived_whole, ended_on};
 ghost use Rattle.consume_path.specs.Offers.{is_known, next_settle_of, is_all_covered};
-ghost use Rattle.consume_path.specs.Offers.{is_over};
+ghost use Rattle.consume_path.specs.Offers.{is_over, lines_of};
 ghost use Rattle.consume_path.specs.Offers.{next_grant_of, is_drained, serves_gets, takes_get};
 ghost use Rattle.consume_path.specs.Offers.{awaits_get, is_getting, holds, is_at_rest};
 
@@ -871,6 +871,13 @@ impl Deliveries {
         ensures { filter is_open result.now ≡ self.now.list }
     {
         self.items.as_slice()
+    }
+
+    /// The report is owed a line.
+    pub fn owes_lines(&self) -> bool
+        ensures { result ≡ nat_lt 0 (length (lines_of self.now.life self.now.list)) }
+    {
+        self.counts.lines > 0
     }
 
     /// The lines that the report was owed were reported.

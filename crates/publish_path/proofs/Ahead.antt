@@ -3,12 +3,13 @@
 use Rattle.std.proofs.Common.{◌≡◌, ◌∙◌, ℕ, ◌+◌, ◌-◌, ◌≤◌, ◌<◌, List, [], ◌∷◌, Bool, true, false}
 use Rattle.std.proofs.Common.{refl, sym, ap, subst, arith, Option, Some, None, cond, map, take, drop}
 use Rattle.std.proofs.Common.{length, get_or}
-use Rattle.std.specs.Prelude.{filter, find, ◌==◌, ◌&&◌, not, is_some, IsSome, nat_lt}
+use Rattle.std.specs.Prelude.{filter, find, ◌==◌, ◌&&◌, ◌||◌, count_by, not, is_some, IsSome, nat_lt}
 use Rattle.std.specs.List.{AllByRecursion, list_any, position_or_len}
 use Rattle.std.specs.Option.{option_map, option_or}
 use Rattle.std.proofs.lemmas.Grind.{common_steps}
 use Rattle.std.proofs.lemmas.Bool.Decides.{nat_tests}
 use Rattle.std.proofs.lemmas.List.{length-drop, get_or-drop}
+use Rattle.std.proofs.lemmas.List.Recursion.{is_count_by}
 use Rattle.std.proofs.lemmas.List.Sums.{passes_at_first, prefix_len-le-length}
 use Rattle.std.proofs.Math.ListN.{drop_of_length-le}
 use Rattle.open_items.proofs.Filtered.{all_filter}
@@ -20,11 +21,13 @@ use Rattle.publish_path.specs.declared.publish.NextReturn.{NextReturn}
 use Rattle.publish_path.specs.declared.publish.Outcome.{Outcome}
 use Rattle.publish_path.specs.declared.counts.Counts.{Counts}
 use Rattle.publish_path.specs.declared.send_links.SendingLink.{SendingLink}
-use Rattle.publish_path.specs.Publishes.{is_open, is_begun, is_sending, is_told, told, takes, framed}
+use Rattle.open_items.specs.Numbers.{has_any}
+use Rattle.open_items.specs.declared.lost.LostKind.{LostKind}
+use Rattle.publish_path.specs.Publishes.{is_open, is_begun, is_sending, is_settled, is_told, told, takes, framed}
 use Rattle.publish_path.specs.Publishes.{takes_return, owes_return, returned, confirmed, reported}
 use Rattle.publish_path.specs.Publishes.{new_publish}
 use Rattle.publish_path.specs.Offers.{can_begin, frame_of, next_frame_of, waits_on, is_unanswered}
-use Rattle.publish_path.specs.Offers.{alone, next_confirm_of, goes_on_returning, waits_return}
+use Rattle.publish_path.specs.Offers.{lines_of, alone, next_confirm_of, goes_on_returning, waits_return}
 use Rattle.publish_path.specs.Offers.{return_of, next_return_of, is_ready}
 use Rattle.publish_path.specs.Searches.{found_confirm}
 use Rattle.publish_path.specs.Kept.{number_of, Climbs, AllFrom, is_unsent, is_unsettled, owes, has_line}
@@ -247,6 +250,23 @@ confirm_between c high from to items seen a climbs same e =
         over m n e = grind (arith, nat_tests)
 
 -- lines
+
+-- a line is owed of so many
+pub lines_counted : (life : ℕ) (ps : List Publish) → length (lines_of life (filter is_open ps)) ≡ count_by has_line ps
+lines_counted life = is_count_by (λ ps. length (lines_of life (filter is_open ps))) has_line refl (λ p ps. each p ps (is_open p) p.line refl)
+  where
+    each : (p : Publish) (ps : List Publish) (b : Bool) (o : Option LostKind)
+        → (is_sending p.place || not (is_settled p.answer) || is_some o || has_any p.back) ≡ b
+        → length (lines_of life (cond b (record p { line = o } ∷ filter is_open ps) (filter is_open ps)))
+        ≡ cond (is_some o) (1 + length (lines_of life (filter is_open ps))) (length (lines_of life (filter is_open ps)))
+    each p ps true None e = refl
+    each p ps false None e = refl
+    each p ps true (Some kind) e = omega arith
+    each p ps false (Some kind) e = absurd (closed (is_sending p.place || not (is_settled p.answer)) (has_any p.back) e)
+      where
+        closed : (a c : Bool) → (a || true || c) ≡ false → ⊥
+        closed true c e = absurd (cc)
+        closed false c e = absurd (cc)
 
 -- where no line is owed, none is reported
 pub none_reported : (counts : Counts) (items : List Publish) → counts ≡ counts_of items → counts.lines ≡ 0 → filter is_open (map reported (filter is_open items)) ≡ filter is_open items

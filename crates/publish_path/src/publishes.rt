@@ -1,7 +1,7 @@
 //! The publishes of a life of a channel: each call is one event, or a question on what is due.
 
 ghost use Rattle.std.specs.Prelude.{◌≡◌, ◌+◌, ◌-◌, ◌%◌, ◌<◌, ◌≤◌, ◌^◌, ◌↔◌, ◌&&◌, ◌||◌, not};
-ghost use Rattle.std.specs.Prelude.{[], filter, count_by, drop};
+ghost use Rattle.std.specs.Prelude.{[], filter, count_by, drop, nat_lt};
 ghost use Rattle.std.specs.Prelude.{length, true, false, if◌then◌else◌, ◌==◌, OnOk, OnErr, IfOk};
 ghost use Rattle.std.specs.Prelude.{IfSome, IsSome, IsNone, Some, None, option_copied, find};
 ghost use Rattle.std.specs.List.{list_any};
@@ -14,7 +14,7 @@ ghost use Rattle.publish_path.specs.Kept.{after_frame, end_at};
 ghost use Rattle.publish_path.specs.Offers.{frame_of, next_frame_of, links_after, rest_of};
 ghost use Rattle.publish_path.specs.Offers.{frame_sent, next_confirm_of, held_count};
 ghost use Rattle.publish_path.specs.Offers.{held_bytes, waits_on, is_pending, next_return_of};
-ghost use Rattle.publish_path.specs.Offers.{return_of, return_frame_of};
+ghost use Rattle.publish_path.specs.Offers.{return_of, return_frame_of, lines_of};
 
 use crate::changes::{Change, compact};
 use crate::counts::Counts;
@@ -468,6 +468,13 @@ impl Publishes {
         ensures { filter is_open result.now ≡ self.now.list }
     {
         self.items.as_slice()
+    }
+
+    /// The report is owed a line.
+    pub fn owes_lines(&self) -> bool
+        ensures { result ≡ nat_lt 0 (length (lines_of self.now.life self.now.list)) }
+    {
+        self.counts.lines > 0
     }
 
     /// The lines that the report was owed were reported.

@@ -7,7 +7,6 @@ use Rattle.open_items.proofs.Filtered.{all_find}
 use Rattle.link_table.specs.Table.{free_of, named_by}
 use Rattle.publish_path.specs.Links.{link_to}
 use Rattle.publish_path.specs.declared.publish.Publish.{Publish}
-use Rattle.consume_path.specs.Deliveries.{DeliveryState}
 use Rattle.consume_path.specs.Offers.{next_settle_of}
 use Rattle.consume_path.specs.declared.receiving.TransferFault.{TransferFault}
 use Rattle.session_path.specs.declared.path.AttachFault.TheVariants.{NotAsked, HandleInUse}
@@ -204,9 +203,10 @@ waiting_attached name a s t = by (find (is_asked_as a.name a.role) s.links) refl
     true_and false = omega arith
 
     by : (o : Option PathLink) → find (is_asked_as a.name a.role) s.links ≡ o → (used : Bool)
-        → one ((a.name == name) && not (is_some (cond (not (is_some o)) (Some NotAsked) (cond used (Some HandleInUse) None))))
-        + waiting name (attached_as (cond (is_some (cond (not (is_some o)) (Some NotAsked) (cond used (Some HandleInUse) None))) None o) a.peer a.there s).links ≤ waiting name s.links
-    by None e used = none (a.name == name) (waiting name s.links)
+        → one ((a.name == name) && not (is_some (cond used (Some HandleInUse) (cond (is_some o) None (Some NotAsked)))))
+        + waiting name (attached_as (cond (is_some (cond used (Some HandleInUse) (cond (is_some o) None (Some NotAsked)))) None o) a.peer a.there s).links ≤ waiting name s.links
+    by None e true = none (a.name == name) (waiting name s.links)
+    by None e false = none (a.name == name) (waiting name s.links)
     by (Some l) e true = none (a.name == name) (waiting name s.links)
     by (Some l) e false =
         let p : waiting name (put (answered a.there l) s.links) + one (is_asked_at name l) ≡ waiting name s.links + 0 = waiting_put name 0 (is_asked_as a.name a.role) s.links l (answered a.there l) t.rising e refl ∙ ap (λ b. waiting name s.links + one b) (answer l a.there) in

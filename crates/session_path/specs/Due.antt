@@ -1,7 +1,7 @@
 -- What a session and what it carries make due, to the container and to the client.
 use Rattle.std.specs.Prelude.{ℕ, Bool, true, false, not, ◌==◌, ◌&&◌, ◌||◌, ◌+◌, ◌^◌, ◌++◌, nat_lt}
 use Rattle.std.specs.Prelude.{if◌then◌else◌, List, []}
-use Rattle.std.specs.Prelude.{◌∷◌, find, count_by, length, slice_get, Option, Some, None, is_some}
+use Rattle.std.specs.Prelude.{find, count_by, length, slice_get, Option, Some, None, is_some}
 use Rattle.std.specs.List.{list_any}
 use Rattle.consume_path.specs.Deliveries.{DeliveryState}
 use Rattle.consume_path.specs.Links.{count_in as count_at, link_of as receiving_link}

@@ -275,13 +275,16 @@ attached_as (Some l) peer there s = record {
   handles = after_attached (handle_of l.stage) peer s.handles;
 }
 
--- an attach under a name that no attach of the gateway asks for, and one with a handle of the
+-- what is wrong with an attach that no attach of the gateway asks for: first a handle of the
 -- container that names another link
+abbrev pub fault_unasked : ℕ → LinksState → AttachFault
+fault_unasked peer s = if is_some (named_by s.handles peer) then HandleInUse else NotAsked
+
 abbrev pub attach_fault : ℕ → Bool → ℕ → LinksState → Option AttachFault
 attach_fault name role peer s =
-    if not (is_some (find (is_asked_as name role) s.links)) then Some NotAsked
-    else if is_some (named_by s.handles peer) then Some HandleInUse
-    else None
+    if is_some (named_by s.handles peer) then Some HandleInUse
+    else if is_some (find (is_asked_as name role) s.links) then None
+    else Some NotAsked
 
 -- the link that an attach answers; none where it is at fault
 abbrev pub asked_by : AttachHeard → LinksState → Option PathLink

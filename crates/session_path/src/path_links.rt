@@ -17,7 +17,7 @@ ghost use Rattle.session_path.specs.Due.{attach_of, count_in, due_in, flow_due};
 ghost use Rattle.session_path.specs.Links.{handle_at, attached_if, drained_if, free_number};
 ghost use Rattle.session_path.specs.Links.{linked_to, with_link_to, with_wanted, told_on, no_links};
 ghost use Rattle.session_path.specs.Links.{with_receiver, without_receivers, limited, all_lost};
-ghost use Rattle.session_path.specs.Links.{link_asked, attach_fault, asked_by, attached, is_wanted};
+ghost use Rattle.session_path.specs.Links.{link_asked, attach_fault, fault_unasked, asked_by, attached, is_wanted};
 ghost use Rattle.session_path.specs.Links.{has_number, is_left, is_stage_open, gone_on};
 ghost use Rattle.session_path.specs.Links.{is_stage_failed};
 ghost use Rattle.session_path.specs.Links.{named, link_flowed, link_detached, link_failed};
@@ -313,12 +313,23 @@ impl PathLinks {
     pub fn attach_fault(&self, name: u64, role: bool, peer: u32) -> Option<AttachFault>
         ensures { result ≡ attach_fault name role peer self.now }
     {
-        if first_asked_as(self.links.as_slice(), name, role).is_none() {
-            Some(AttachFault::NotAsked)
-        } else if self.handles.of_peer(peer).is_some() {
+        if self.handles.of_peer(peer).is_some() {
             Some(AttachFault::HandleInUse)
-        } else {
+        } else if first_asked_as(self.links.as_slice(), name, role).is_some() {
             None
+        } else {
+            Some(AttachFault::NotAsked)
+        }
+    }
+
+    /// Why an attach that no attach of the gateway asks for can't be taken.
+    pub fn fault_unasked(&self, peer: u32) -> AttachFault
+        ensures { result ≡ fault_unasked peer self.now }
+    {
+        if self.handles.of_peer(peer).is_some() {
+            AttachFault::HandleInUse
+        } else {
+            AttachFault::NotAsked
         }
     }
 

@@ -2,10 +2,11 @@
 
 ghost use Rattle.std.specs.Prelude.{◌≡◌, ◌≤◌, ◌+◌, ◌<◌, ◌↔◌, [], length, filter, find, Some, None};
 ghost use Rattle.std.specs.Prelude.{IsSome, IsNone, IfSome, OnOk, OnErr, IfOk, option_copied, true};
+ghost use Rattle.std.specs.Prelude.{nat_lt};
 ghost use Rattle.consume_path.specs.Offers.{is_drained};
 ghost use Rattle.publish_path.specs.Offers.{next_frame_of, rest_of};
 ghost use Rattle.publish_path.specs.Publishes.{is_open};
-ghost use Rattle.session_path.specs.Links.{handle_at, attach_fault, named};
+ghost use Rattle.session_path.specs.Links.{handle_at, attach_fault, fault_unasked, named};
 ghost use Rattle.session_path.specs.Path.{PathState, opened, began, closed, lost, end_lost, owed};
 ghost use Rattle.session_path.specs.Path.{published, selected, attach_came, flow_came, detach_came};
 ghost use Rattle.session_path.specs.Path.{outcome_came, last_or, attach_sent, link_flow_sent};
@@ -20,7 +21,7 @@ ghost use Rattle.session_path.specs.Due.{next_settle};
 ghost use Rattle.session_path.specs.Path.{first_of};
 ghost use Rattle.session_path.specs.Due.{next_detach, next_confirm, next_ok, is_done, grant_due};
 ghost use Rattle.session_path.specs.Due.{next_return, return_frame};
-ghost use Rattle.session_path.specs.Due.{address_at, held, held_size_of};
+ghost use Rattle.session_path.specs.Due.{address_at, held, held_size_of, lines};
 
 mod consuming;
 
@@ -356,6 +357,14 @@ impl SessionPath {
         self.links.attach_fault(name, role, peer)
     }
 
+    /// Why an attach with this handle of the container can't be taken, whose name is that of no
+    /// link.
+    pub fn fault_unasked(&self, peer: u32) -> AttachFault
+        ensures { result ≡ fault_unasked peer self.now.links }
+    {
+        self.links.fault_unasked(peer)
+    }
+
     /// The handle of a link, by its number; 0 where it has none.
     pub fn handle_of(&self, link: u32) -> u32
         ensures { result ≡ handle_at link self.now.links.links }
@@ -531,6 +540,13 @@ impl SessionPath {
         ensures { filter is_open result.now ≡ self.now.publishes.list }
     {
         self.publishes.items()
+    }
+
+    /// The report is owed a line.
+    pub fn owes_lines(&self) -> bool
+        ensures { result ≡ nat_lt 0 (length (lines self.now)) }
+    {
+        self.publishes.owes_lines() || self.deliveries.owes_lines()
     }
 
     /// The lines that the report was owed were reported.
