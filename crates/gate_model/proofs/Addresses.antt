@@ -1,6 +1,6 @@
 -- The addresses of links are short: those that clients name are, and those that exchanges stand for.
-use Rattle.std.proofs.Common.{◌≡◌, ℕ, ◌≤◌, ◌==◌, ◌&&◌, not, Bool, true, false, if◌then◌else◌, cond, List, [], ◌∷◌, ◌++◌}
-use Rattle.std.proofs.Common.{length, map, filter, find, Option, None, Some, is_some, refl, sym, subst, arith}
+use Rattle.std.proofs.Common.{◌≡◌, ℕ, ◌≤◌, ◌==◌, ◌&&◌, not, Bool, true, false, if◌then◌else◌, List, [], ◌∷◌, ◌++◌}
+use Rattle.std.proofs.Common.{length, map, find, Option, None, Some, is_some, refl, sym, subst, arith}
 use Rattle.std.specs.List.{AllByRecursion}
 use Rattle.publish_path.specs.Links.{address_in, address_of as address_on, asked_link, begun_on as begun_by, drained, flowed, has_number, link_of}
 use Rattle.publish_path.specs.Links.{link_to, now_attached}
@@ -15,7 +15,8 @@ use Rattle.session_path.specs.Due.{address_at}
 use Rattle.session_path.specs.Events as event
 use Rattle.session_path.specs.Events.{PathEvent, after_event, after_events}
 use Rattle.session_path.specs.Links.{LinksState, asked_by, asked_on, attached, attached_as, detached_on, failed_by, failed_on, flowed_on}
-use Rattle.session_path.specs.Links.{free_number, given_on, gone_on, is_left, is_stage_whole, is_wanted, linked_to, named, parted, put, told_on, with_link_to}
+use Rattle.session_path.specs.Links.{free_number, given_on, gone_on, is_left, is_stage_whole, is_wanted, linked_to, named, parted, put, told_on}
+use Rattle.session_path.specs.Links.{with_link_to}
 use Rattle.session_path.specs.Path.{PathState, begun_if, begun_on, detaching_of, dropped, disposed_by, dropped_by, flow_of, flowed_by, get_link}
 use Rattle.session_path.specs.Path.{got_on, grant_in, granted_by}
 use Rattle.session_path.specs.Path.{is_grant_next, is_source_of, link_flow_sent, queue_or, receiver_in, source_in, source_of, taking, transferred_on}
@@ -23,25 +24,10 @@ use Rattle.session_path.specs.declared.path.AttachDue.{AttachDue}
 use Rattle.session_path.specs.declared.path.AttachHeard.{AttachHeard}
 use Rattle.session_path.specs.declared.path.PathLink.{PathLink}
 use Rattle.session_path.specs.declared.path.Source.{Source}
-use Rattle.gate_model.proofs.Consumers.{IfThere, all_both}
+use Rattle.gate_model.proofs.Basics.{all_both}
+use Rattle.gate_model.proofs.Consumers.{IfThere, all_found, all_left}
 
 -- ---- of all of a list
-
-all_left : {A : Type 0} (P : A → Type 0) (t : A → Bool) (xs : List A) → AllByRecursion P xs → AllByRecursion P (filter t xs)
-all_left P t [] a = tt
-all_left P t (x ∷ xs) a = by (t x) (all_left P t xs a.1)
-  where
-    by : (b : Bool) → AllByRecursion P (filter t xs) → AllByRecursion P (cond b (x ∷ filter t xs) (filter t xs))
-    by true rest = (a.0, rest)
-    by false rest = rest
-
-pub all_found : {A : Type 0} (P : A → Type 0) (t : A → Bool) (xs : List A) → AllByRecursion P xs → IfThere P (find t xs)
-all_found P t [] a = tt
-all_found P t (x ∷ xs) a = by (t x) (all_found P t xs a.1)
-  where
-    by : (b : Bool) → IfThere P (find t xs) → IfThere P (cond b (Some x) (find t xs))
-    by true rest = a.0
-    by false rest = rest
 
 -- ---- what a channel has
 

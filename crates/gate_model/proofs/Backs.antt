@@ -4,9 +4,6 @@ use Rattle.std.proofs.Common.{false, if◌then◌else◌, List, [], ◌∷◌, �
 use Rattle.std.proofs.Common.{Some, option_map, refl, sym, ap, ◌∙◌, subst, arith}
 use Rattle.std.specs.Option.{option_or}
 use Rattle.std.proofs.lemmas.Bool.Decides.{nat_tests}
-use Rattle.gate_outside.specs.declared.ports.End.TheVariants.{Client, Up}
-use Rattle.gate_outside.specs.declared.ports.Linked.TheVariants as link
-use Rattle.gate_relay.specs.declared.loss.Loss.TheVariants as loss
 use Rattle.machine_091.specs.declared.unit.Unit91.{Unit91}
 use Rattle.machine_091.specs.declared.unit.Want91.{Want91}
 use Rattle.machine_091.specs.declared.unit.Want91.TheVariants as want
@@ -14,13 +11,10 @@ use Rattle.methods_091.specs.declared.method.Method91.{Method91}
 use Rattle.methods_091.specs.declared.method.Method91.TheVariants as method
 use Rattle.open_items.specs.Numbers.{first, least}
 use Rattle.property_map.specs.Spelling.{image_text}
-use Rattle.publish_path.specs.Journal.{Fate, IsTaken, confirms_of, fate_of, is_to_return, new_fate}
-use Rattle.publish_path.specs.Journal.{numbers_of}
-use Rattle.publish_path.specs.Laws.{is_returning, is_to_begin, return_at, return_by}
-use Rattle.publish_path.specs.Laws.{return_frame_by}
+use Rattle.publish_path.specs.Journal.{Fate, IsTaken, confirms_of, fate_of, is_to_return, new_fate, numbers_of}
+use Rattle.publish_path.specs.Laws.{is_returning, is_to_begin, return_at, return_by, return_frame_by}
 use Rattle.publish_path.specs.Offers.{next_return_of, return_frame_of}
-use Rattle.publish_path.specs.Publishes.{ConfirmSent, LinesTold, LinkGone, OutcomeCame}
-use Rattle.publish_path.specs.Publishes.{PublishEvent, PublishState, ReturnSent, TakenUp}
+use Rattle.publish_path.specs.Publishes.{ConfirmSent, LinesTold, LinkGone, OutcomeCame, PublishEvent, PublishState, ReturnSent, TakenUp}
 use Rattle.publish_path.specs.Publishes.{next_number}
 use Rattle.publish_path.specs.Publishes.{after_events as publishes_after, open_after}
 use Rattle.publish_path.specs.declared.publish.NextReturn.{NextReturn}
@@ -40,31 +34,20 @@ use Rattle.gate_model.specs.declared.reply.Reply.{Reply}
 use Rattle.gate_model.specs.declared.reply.Reply.TheVariants as reply
 use Rattle.gate_model.specs.declared.setup.Route.{Route}
 use Rattle.gate_model.specs.Due.{carries_back, or_no_bytes}
-use Rattle.gate_model.specs.Folds.{connection, going_in, paths_in, peers, ran_out_in, routes_in}
+use Rattle.gate_model.specs.Folds.{connection, paths_in, peers, ran_out_in, routes_in}
 use Rattle.gate_model.specs.Once.{is_channel_open, is_method_on}
 use Rattle.gate_model.specs.Paths.{or_no_path, path_at, slot_at}
 use Rattle.gate_model.specs.Picks.{ArePicks}
-use Rattle.gate_model.specs.Publishing.{MayGoBack, MayReturn, Returns, back_by, back_in}
-use Rattle.gate_model.specs.Publishing.{back_wanted}
-use Rattle.gate_model.specs.Publishing.{losing, losing_up, method_events, one_more, path_events}
-use Rattle.gate_model.specs.Publishing.{refusal_events}
-use Rattle.gate_model.specs.Publishing.{told_event}
-use Rattle.gate_model.specs.Publishing.{path_life, publishes_in, reply_events, returned_by}
+use Rattle.gate_model.specs.Publishing.{MayGoBack, MayReturn, Returns, back_by, back_in, back_wanted, method_events, one_more, path_events}
+use Rattle.gate_model.specs.Publishing.{refusal_events, step_events, path_life, publishes_in, reply_events, returned_by}
 use Rattle.gate_model.specs.Publishing.{returned_in, text_wanted, up_events, want_events}
 use Rattle.gate_model.specs.Requests.{address_of, message_of}
 use Rattle.gate_model.specs.Returns.{back_of}
-use Rattle.machine_091.specs.State.{is_open}
-use Rattle.gate_model.specs.State.{is_later}
-use Rattle.gate_model.specs.State.{Began, Came, Fed, Gave, Heard, Joined, LinesTold, Lost, Moment}
-use Rattle.gate_model.specs.State.{OutOfMemory}
-use Rattle.gate_model.specs.State.{Queued, Silent, Step, TakenUp, Whole, before, conn_step, want_in}
+use Rattle.gate_model.specs.State.{is_later, Came, Gave, LinesTold, Step, TakenUp, before, conn_step, want_in}
+use Rattle.gate_model.proofs.Basics.{and_left, and_right}
 use Rattle.gate_model.proofs.Fates.{IsLived, IsNext, PublishesAre, is_next, least_passes, lived}
 use Rattle.gate_model.proofs.Firsts.{OfChannel, goes_as}
-use Rattle.gate_model.proofs.Wholes.{ArePlain, both_plain, closed_plain, fallen_plain}
-use Rattle.gate_model.proofs.Wholes.{heard_plain_in, if_plain}
-use Rattle.gate_model.proofs.Wholes.{is_plain, is_return, lost_plain, method_plain, refusal_plain}
-use Rattle.gate_model.proofs.Wholes.{told_plain}
-use Rattle.gate_model.proofs.Wholes.{whole_plain}
+use Rattle.gate_model.proofs.Wholes.{ArePlain, is_plain, is_return, method_plain, refusal_plain, step_plain, told_plain, up_plain}
 
 -- ---- the laws of the publishes
 
@@ -81,10 +64,6 @@ record IsToReturn (h : List PublishEvent) (n : ℕ) : Type 0 where
   taken : IsTaken h n
   goes : is_to_return (fate_of n h) ≡ true
 
-both_left : (a b : Bool) → (a && b) ≡ true → a ≡ true
-both_left true b e = refl
-both_left false b e = absurd cc
-
 due_goes : (h : List PublishEvent) (t : Fate → Bool) (k : ℕ) → ((f : Fate) → t f ≡ true → is_to_return f ≡ true)
     → least (λ n. t (fate_of n h)) (numbers_of h) ≡ Some k → IsToReturn h k
 due_goes h t k is e =
@@ -94,7 +73,7 @@ due_goes h t k is e =
 to_return : (h : List PublishEvent) (r : NextReturn) → return_by h ≡ Some r → IsToReturn h r.publish
 to_return h r e =
     by (least (λ n. is_returning (fate_of n h)) (numbers_of h)) (least (λ n. is_to_begin (fate_of n h)) (numbers_of h))
-    (λ k. due_goes h is_returning k (λ f. both_left (is_to_return f) _)) (λ k. due_goes h is_to_begin k (λ f. both_left (is_to_return f) _)) e
+    (λ k. due_goes h is_returning k (λ f. and_left (is_to_return f) _)) (λ k. due_goes h is_to_begin k (λ f. and_left (is_to_return f) _)) e
   where
     by : (a b : Option ℕ) → ((k : ℕ) → a ≡ Some k → IsToReturn h k) → ((k : ℕ) → b ≡ Some k → IsToReturn h k)
         → option_or (option_map (return_at false) a) (option_map (return_at true) b) ≡ Some r → IsToReturn h r.publish
@@ -133,12 +112,8 @@ may_return publishes returns backs h n r text p e t = by (slot_at (before h).pat
         framed : (x : Fate) → is_to_return x ≡ true → text ≡ or_no_bytes (return_frame_by x) → first (drop x.returned x.back) ≡ Some text
         framed x goes same = going (is_to_return x) goes same
           where
-            more : (a b : Bool) → (a && b) ≡ true → b ≡ true
-            more true b e = e
-            more false b e = absurd cc
-
             going : (b : Bool) → b ≡ true → text ≡ or_no_bytes (if b then first (drop x.returned x.back) else None) → first (drop x.returned x.back) ≡ Some text
-            going true e f = some_left x.returned x.back (more x.returns _ goes) ∙ ap Some (sym f)
+            going true e f = some_left x.returned x.back (and_right x.returns _ goes) ∙ ap Some (sym f)
             going false e f = absurd cc
 
     by : (o : Option PathState) → slot_at (before h).paths n ≡ o → next_return (or_no_path o) ≡ Some r → text ≡ or_no_bytes (return_frame r.publish (or_no_path o)) → IsBack h n r text
@@ -166,37 +141,16 @@ loses b (Some l) t = quiet (LinkGone (Some l.link) b) refl refl refl t
 
 plain : (life : ℕ) (es : List PathEvent) {number count gone : ℕ} {back : List (List ℕ)} (x : PathEvent) → is_plain x ≡ true
     → Returned (publishes_of life es) number count back gone → Returned (publishes_of life (x ∷ es)) number count back gone
-plain life es (event.Began handle_max) e t = t
 plain life es (event.Published address payload back) e t = absurd cc
-plain life es event.Selected e t = t
-plain life es (event.Owed ok) e t = t
-plain life es (event.Consumed address tag no_ack no_wait) e t = t
-plain life es (event.CancelCame tag no_wait) e t = t
-plain life es (event.Declared queue no_wait) e t = t
-plain life es (event.GetAsked queue no_ack) e t = t
-plain life es (event.AnswerCame tag multiple settle) e t = t
-plain life es (event.AttachCame attach) e t = t
-plain life es (event.FlowCame peer count credit drain echo) e t = t
-plain life es (event.DetachCame peer not_found) e t = loses not_found (sender_in (named peer (after_events life es).links)) t
-plain life es (event.TransferCame peer part payload image again) e t = t
-plain life es (event.LinkFailed peer fault) e t = t
-plain life es (event.DispositionCame first last outcome settled) e t = quiet (OutcomeCame first _ outcome) refl refl refl t
-plain life es (event.AttachSent name) e t = t
-plain life es event.LinkFlowSent e t = t
 plain life es (event.TransferSent frame count) e t = absurd cc
-plain life es (event.SettleSent settling) e t = t
-plain life es event.DisposeSent e t = t
-plain life es event.DetachSent e t = t
-plain life es (event.ConfirmWent confirm) e t = quiet (ConfirmSent confirm) refl refl refl t
 plain life es (event.ReturnWent number) e t = absurd cc
-plain life es (event.DeliverSent due) e t = t
-plain life es event.ContentSent e t = t
-plain life es (event.ContentWhole tag) e t = t
-plain life es (event.OkSent ok) e t = t
+plain life es (event.DetachCame peer not_found) e t = loses not_found (sender_in (named peer (after_events life es).links)) t
+plain life es (event.DispositionCame first last outcome settled) e t = quiet (OutcomeCame first _ outcome) refl refl refl t
+plain life es (event.ConfirmWent confirm) e t = quiet (ConfirmSent confirm) refl refl refl t
 plain life es event.LinesWent e t = quiet LinesTold refl refl refl t
-plain life es event.LifeClosed e t = t
 plain life es event.SessionLost e t = quiet (LinkGone None false) refl refl refl t
 plain life es event.UpLost e t = quiet (LinkGone None false) refl refl refl t
+plain life es x e t = t
 
 takes : {h : List PublishEvent} {number count gone : ℕ} {old : List (List ℕ)} (k : ℕ) (confirm : Bool) (text : List ℕ) (back : List (List ℕ)) → Returned h number count old gone
     → Returned (TakenUp k confirm text back ∷ h) number (count + 1) (if number == count + 1 then back else old) gone
@@ -277,32 +231,10 @@ method_backs : (b : Bool) (m : Method91) (life : ℕ) (o : Option ℕ) (es : Lis
     → BacksBy (b && is_channel_open m) life (if b then method_events m else []) None None o es number count back gone
 method_backs false m life o es number count gone back t = t
 method_backs true method.ChannelOpen life o es number count gone back t = fresh number
-method_backs true (method.ChannelFlow active) life o es number count gone back t = calls (method.ChannelFlow active) o es number count gone back t
-method_backs true (method.ExchangeDeclare name kind passive durable deletes internal no_wait arguments) life o es number count gone back t =
-    calls (method.ExchangeDeclare name kind passive durable deletes internal no_wait arguments) o es number count gone back t
-method_backs true (method.ConfirmSelect no_wait) life o es number count gone back t = calls (method.ConfirmSelect no_wait) o es number count gone back t
-method_backs true (method.BasicConsume queue tag no_local no_ack exclusive no_wait arguments) life o es number count gone back t =
-    calls (method.BasicConsume queue tag no_local no_ack exclusive no_wait arguments) o es number count gone back t
-method_backs true (method.BasicGet queue no_ack) life o es number count gone back t = calls (method.BasicGet queue no_ack) o es number count gone back t
-method_backs true (method.BasicCancel tag no_wait) life o es number count gone back t = calls (method.BasicCancel tag no_wait) o es number count gone back t
-method_backs true (method.QueueDeclare queue passive durable exclusive deletes no_wait arguments) life o es number count gone back t =
-    calls (method.QueueDeclare queue passive durable exclusive deletes no_wait arguments) o es number count gone back t
-method_backs true (method.BasicQos size most global) life o es number count gone back t = calls (method.BasicQos size most global) o es number count gone back t
-method_backs true (method.BasicAck tag multiple) life o es number count gone back t = calls (method.BasicAck tag multiple) o es number count gone back t
-method_backs true (method.BasicReject tag requeue) life o es number count gone back t = calls (method.BasicReject tag requeue) o es number count gone back t
-method_backs true (method.BasicNack tag multiple requeue) life o es number count gone back t = calls (method.BasicNack tag multiple requeue) o es number count gone back t
-method_backs true (method.BasicRecover requeue) life o es number count gone back t = calls (method.BasicRecover requeue) o es number count gone back t
-method_backs true (method.BasicRecoverAsync requeue) life o es number count gone back t = calls (method.BasicRecoverAsync requeue) o es number count gone back t
-method_backs true (method.ChannelClose code text class id) life o es number count gone back t = calls (method.ChannelClose code text class id) o es number count gone back t
-method_backs true m life o es number count gone back t = t
+method_backs true m life o es number count gone back t = calls m o es number count gone back t
 
 want_backs : (rs : List Route) (limit n life : ℕ) (x : Want91) (o : Option ℕ) (es : List PathEvent) (number count gone : ℕ) (back : List (List ℕ)) → Backs o es number count back gone
     → BacksBy (is_method_on is_channel_open n x) life (want_events rs limit n x) (text_wanted n x) (back_wanted limit n x) o es number count back gone
-want_backs rs limit n life want.Nothing o es number count gone back t = t
-want_backs rs limit n life want.Start o es number count gone back t = t
-want_backs rs limit n life (want.Login mechanism response) o es number count gone back t = t
-want_backs rs limit n life want.Tuned o es number count gone back t = t
-want_backs rs limit n life want.OpenUp o es number count gone back t = t
 want_backs rs limit n life (want.Method k m) o es number count gone back t = method_backs (k == n) m life o es number count gone back t
 want_backs rs limit n life (want.Publish k m c) o es number count gone back t = by (k == n)
   where
@@ -316,10 +248,9 @@ want_backs rs limit n life (want.Publish k m c) o es number count gone back t = 
         (if b then Some new else None) o es number count back gone
     by true = taken_backs o es number count gone back (address_of rs (message_of m c)) text new t
     by false = t
-want_backs rs limit n life (want.ChannelCloseOk k) o es number count gone back t = t
 want_backs rs limit n life want.Close o es number count gone back t = plain_backs o (event.LifeClosed ∷ []) es number count gone back (refl, tt) t
-want_backs rs limit n life want.CloseOk o es number count gone back t = t
 want_backs rs limit n life (want.Refuse r) o es number count gone back t = plain_backs o (refusal_events n r) es number count gone back (refusal_plain n r) t
+want_backs rs limit n life x o es number count gone back t = t
 
 -- ---- steps
 
@@ -353,21 +284,12 @@ up_backs h n number (up.OnSession k (unit.Transfer t)) joins = by (path_life h n
     by None b x = tt
     by (Some life) true x = quiet _ refl refl refl x
     by (Some life) false x = x
-up_backs h n number (up.OnSession k (unit.Attach a)) joins = quietly h n number _ (if_plain (k == n) (event.AttachSent a.name ∷ []) [] (refl, tt) tt) joins
-up_backs h n number (up.OnSession k (unit.Flow f)) joins = quietly h n number _ (if_plain (k == n) (event.LinkFlowSent ∷ []) [] (refl, tt) tt) joins
-up_backs h n number (up.OnSession k (unit.Dispose x)) joins = quietly h n number _ (if_plain (k == n) (event.DisposeSent ∷ []) [] (refl, tt) tt) joins
-up_backs h n number (up.OnSession k (unit.Settle x)) joins = quietly h n number _ (if_plain (k == n) (event.SettleSent x ∷ []) [] (refl, tt) tt) joins
-up_backs h n number (up.OnSession k (unit.Detach l handle why)) joins = quietly h n number _ (if_plain (k == n) (event.DetachSent ∷ []) [] (refl, tt) tt) joins
-up_backs h n number (up.End k why) joins = quietly h n number _ (if_plain (not (is_open (connection h) k) && k == n) losing (event.LinesWent ∷ []) (refl, (refl, tt)) (refl, tt)) joins
-up_backs h n number u joins = joins
+up_backs h n number u joins = quietly h n number (up_events (is_later (connection h) u) n u) (up_plain n h u (λ k t e. cc)) joins
 
 -- a unit to the client
 AreDue : List Step → ChannelUnit → ℕ → List ℕ → Type 0
-AreDue h (to_client.Ok x) n text = Unit {0}
-AreDue h (to_client.Deliver d) n text = Unit {0}
-AreDue h (to_client.Content c) n text = Unit {0}
-AreDue h (to_client.Confirm c) n text = Unit {0}
 AreDue h (to_client.Return r) n text = IsBack h n r text
+AreDue h x n text = Unit {0}
 
 abbrev GoesBack : List Step → Reply → List ℕ → Type 0
 GoesBack h (reply.OnChannel n u) text = AreDue h u n text
@@ -390,15 +312,11 @@ lives_in o life es number count gone back e t = subst (λ (x : Option ℕ). Back
 
 told_backs : (h : List Step) (n number k : ℕ) (u : ChannelUnit) → is_return u ≡ false → BacksIn h n number
     → Backs (path_life h n) (reply_events n (reply.OnChannel k u) ++ path_events h n) number (publishes_in n h) (back_in n number h) (returned_in n number h)
-told_backs h n number k u e t = quietly h n number _ (if_plain (k == n) (told_event u ∷ []) [] (told_plain u e, tt) tt) t
+told_backs h n number k u e t = quietly h n number (reply_events n (reply.OnChannel k u)) (told_plain n k u e) t
 
 reply_backs : (h : List Step) (n number : ℕ) (u : Reply) (text : List ℕ) → GoesBack h u text → BacksIn h n number
     → Backs (path_life h n) (reply_events n u ++ path_events h n) number (publishes_in n h) (back_in n number h) (returned_by n number (Gave (ToClient u) text) (returned_in n number h))
 unfolding AreDue
-reply_backs h n number (reply.OnChannel k (to_client.Ok x)) text m t = told_backs h n number k (to_client.Ok x) refl t
-reply_backs h n number (reply.OnChannel k (to_client.Deliver d)) text m t = told_backs h n number k (to_client.Deliver d) refl t
-reply_backs h n number (reply.OnChannel k (to_client.Content c)) text m t = told_backs h n number k (to_client.Content c) refl t
-reply_backs h n number (reply.OnChannel k (to_client.Confirm c)) text m t = told_backs h n number k (to_client.Confirm c) refl t
 reply_backs h n number (reply.OnChannel k (to_client.Return r)) text m t = by (k == n) refl
   where
     by : (b : Bool) → (k == n) ≡ b
@@ -412,18 +330,8 @@ reply_backs h n number (reply.OnChannel k (to_client.Return r)) text m t = by (k
         (sends (publishes_of d.life (path_events h n)) number _ _ r.publish _ (to_return _ r d.due)
         (lives_in (path_life h n) d.life (path_events h n) number _ _ _ d.lives t))
     by false e = t
-reply_backs h n number reply.Protocol text m t = t
-reply_backs h n number reply.Start text m t = t
-reply_backs h n number reply.Tune text m t = t
-reply_backs h n number reply.OpenOk text m t = t
-reply_backs h n number reply.CloseOk text m t = t
-reply_backs h n number (reply.Close r) text m t = t
-reply_backs h n number reply.NoMemory text m t = t
-reply_backs h n number reply.Heartbeat text m t = t
-reply_backs h n number (reply.ChannelOpenOk k) text m t = t
-reply_backs h n number (reply.ChannelCloseOk k) text m t = t
-reply_backs h n number (reply.CrossedOk k) text m t = t
-reply_backs h n number (reply.ChannelClose k r) text m t = t
+reply_backs h n number (reply.OnChannel k u) text m t = told_backs h n number k u refl t
+reply_backs h n number u text m t = t
 
 module _ (publishes : PublishesAre) (returns : ReturnsAre) (frames : BacksAre) where
   went : (h : List Step) (u : Reply) (text : List ℕ) → ArePicks (Gave (ToClient u) text ∷ h) → GoesBack h u text
@@ -431,28 +339,10 @@ module _ (publishes : PublishesAre) (returns : ReturnsAre) (frames : BacksAre) w
 
   pub backs : (n number : ℕ) (h : List Step) → ArePicks h → BacksIn h n number
   backs n number [] p = tt
-  backs n number (Began site i ms ∷ h) p = backs n number h p.1
-  backs n number (Moment ms ∷ h) p = quietly h n number (event.LinesWent ∷ []) (refl, tt) (backs n number h p.1)
-  backs n number (Fed Client ∷ h) p = quietly h n number (event.LinesWent ∷ []) (refl, tt) (backs n number h p.1)
-  backs n number (Fed Up ∷ h) p = quietly h n number (event.LinesWent ∷ []) (refl, tt) (backs n number h p.1)
-  backs n number (Silent Client ∷ h) p = quietly h n number (event.LifeClosed ∷ []) (refl, tt) (backs n number h p.1)
-  backs n number (Silent Up ∷ h) p = quietly h n number _ (lost_plain _) (backs n number h p.1)
-  backs n number (Queued u ∷ h) p = backs n number h p.1
   backs n number (Came u ∷ h) p = came_backs h n number u (backs n number h p.1)
-  backs n number (TakenUp ∷ h) p = quietly h n number _ (closed_plain _) (backs n number h p.1)
-  backs n number (Heard u ∷ h) p = quietly h n number _ (heard_plain_in h n u) (backs n number h p.1)
-  backs n number (Joined link.Ok ∷ h) p = quietly h n number (event.LinesWent ∷ []) (refl, tt) (backs n number h p.1)
-  backs n number (Joined link.Failed ∷ h) p = quietly h n number _ (both_plain _ (event.LinesWent ∷ []) (lost_plain _) (refl, tt)) (backs n number h p.1)
-  backs n number (Lost Client how ∷ h) p = backs n number h p.1
-  backs n number (Lost Up loss.Ended ∷ h) p = quietly h n number _ (fallen_plain _) (backs n number h p.1)
-  backs n number (Lost Up loss.Failed ∷ h) p = quietly h n number _ (fallen_plain _) (backs n number h p.1)
-  backs n number (Lost Up loss.Shut ∷ h) p = quietly h n number losing_up (refl, (refl, tt)) (backs n number h p.1)
   backs n number (Gave (ToClient u) text ∷ h) p = reply_backs h n number u text (went h u text p) (backs n number h p.1)
   backs n number (Gave (ToUp u) text ∷ h) p = up_backs h n number u (backs n number h p.1)
-  backs n number (Whole Client ∷ h) p = quietly h n number _ (whole_plain n (going_in h)) (backs n number h p.1)
-  backs n number (Whole Up ∷ h) p = backs n number h p.1
-  backs n number (LinesTold ∷ h) p = quietly h n number (event.LinesWent ∷ []) (refl, tt) (backs n number h p.1)
-  backs n number (OutOfMemory ∷ h) p = quietly h n number (event.LifeClosed ∷ []) (refl, tt) (backs n number h p.1)
+  backs n number (s ∷ h) p = quietly h n number (step_events n h s) (step_plain n h s refl) (backs n number h p.1)
 
   -- ---- the frames that go
 

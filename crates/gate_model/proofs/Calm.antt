@@ -5,11 +5,10 @@ use Rattle.std.proofs.lemmas.Bool.Decides.{nat_tests}
 use Rattle.std.specs.List.{AllByRecursion}
 use Rattle.std.specs.Option.{option_or}
 use Rattle.consume_path.specs.Deliveries as on
-use Rattle.consume_path.specs.Deliveries.{DeliveryEvent, DeliveryState}
-use Rattle.consume_path.specs.Journal.{Fate, IsTaken, arrives, caused, closes, fate_of, first_cause, is_closed, is_pending, new_fate, numbers_of, passes}
-use Rattle.consume_path.specs.Journal.{tags_of, waits}
-use Rattle.consume_path.specs.Links.{consumer_link}
-use Rattle.consume_path.specs.Offers.{is_drained, next_settle_of}
+use Rattle.consume_path.specs.Deliveries.{DeliveryEvent}
+use Rattle.consume_path.specs.Journal.{Fate, IsTaken, arrives, caused, closes, fate_of, first_cause, is_closed, is_pending, new_fate, numbers_of}
+use Rattle.consume_path.specs.Journal.{passes, tags_of, waits}
+use Rattle.consume_path.specs.Offers.{next_settle_of}
 use Rattle.consume_path.specs.declared.delivery.Content.{Content}
 use Rattle.consume_path.specs.declared.delivery.NextSettle.{NextSettle}
 use Rattle.consume_path.specs.declared.delivery.Settle.{Settle}
@@ -19,20 +18,15 @@ use Rattle.consume_path.specs.Items.{is_no_ack, is_on}
 use Rattle.consume_path.specs.declared.receiving.NextGrant.{NextGrant}
 use Rattle.consume_path.specs.declared.receiving.Part.{Part}
 use Rattle.session_path.specs.Events as event
-use Rattle.session_path.specs.Events.{PathEvent, after_event, arrivals, begins, cancels, counts, delivery_events, disposes, drops, echoes, empties, flows}
-use Rattle.session_path.specs.Events.{gets, globals, grants, prefetches, transfers}
+use Rattle.session_path.specs.Events.{PathEvent, after_event, delivery_events}
 use Rattle.session_path.specs.Links.{asked_by, named}
-use Rattle.session_path.specs.Path.{PathState, begun_if, begun_on, detaching_of, disposed_by, dropped, dropped_by, first_of, flowed_by, get_link, got_on}
-use Rattle.session_path.specs.Path.{grant_in, granted_by}
-use Rattle.session_path.specs.Path.{flow_in, is_grant_next, is_last, queue_or, receiver_in, taking, transferred, transferred_on}
+use Rattle.session_path.specs.Path.{PathState, begun_if, begun_on, detaching_of, disposed_by, dropped, dropped_by, flowed_by, get_link, got_on}
+use Rattle.session_path.specs.Path.{grant_in, granted_by, is_grant_next, queue_or, receiver_in, taking, transferred_on}
 use Rattle.session_path.specs.declared.path.AttachHeard.{AttachHeard}
 use Rattle.session_path.specs.declared.path.PathLink.{PathLink}
 use Rattle.session_path.specs.declared.path.PathOk.{PathOk}
-use Rattle.session_path.specs.declared.path.PathOk.TheVariants as ok
-use Rattle.gate_model.specs.Publishing.{given_event}
-use Rattle.gate_model.specs.declared.channel.SessionUnit.{SessionUnit}
-use Rattle.gate_model.specs.declared.channel.SessionUnit.TheVariants as unit
-use Rattle.gate_model.proofs.Quiet.{OfKinds}
+use Rattle.gate_model.proofs.Brought.{OfEvent, event_all, is_mild}
+use Rattle.gate_model.proofs.Quiet.{is_told}
 
 -- ---- delivery events
 
@@ -44,10 +38,6 @@ is_other x = true
 
 abbrev pub AreOther : List DeliveryEvent → Type 0
 AreOther ys = AllByRecursion (λ y. is_other y ≡ true) ys
-
-pub both_other : (xs ys : List DeliveryEvent) → AreOther xs → AreOther ys → AreOther (xs ++ ys)
-both_other [] ys p q = q
-both_other (x ∷ xs) ys p q = (p.0, both_other xs ys p.1 q)
 
 pub other_closed : (ys ds : List DeliveryEvent) → AreOther ys → is_closed (ys ++ ds) ≡ is_closed ds
 other_closed [] ds p = refl
@@ -210,165 +200,98 @@ if_same : (b : Bool) (t u s : PathState) → t.writing ≡ s.writing → u.writi
 if_same true t u s e f = e
 if_same false t u s e f = f
 
-if_other : (b : Bool) (y : DeliveryEvent) → is_other y ≡ true → AreOther (if b then y ∷ [] else [])
-if_other true y e = (e, tt)
-if_other false y e = tt
+others : (s : PathState) (x : PathEvent) → OfEvent (λ (d : DeliveryEvent). is_other d ≡ true) s x → AreOther (delivery_events s x)
+others = event_all (λ (d : DeliveryEvent). is_other d ≡ true) mild
+  where
+    mild : (d : DeliveryEvent) → is_mild d ≡ true → is_other d ≡ true
+    mild (on.Written tag) e = absurd cc
+    mild on.Closed e = absurd cc
+    mild d e = refl
 
-prefetches_other : (x : PathOk) → AreOther (prefetches x)
-prefetches_other (ok.Qos count true) = tt
-prefetches_other (ok.Qos count false) = (refl, tt)
-prefetches_other x = tt
-
-globals_other : (o : Option PathOk) → AreOther (globals o)
-globals_other (Some (ok.Qos count true)) = (refl, tt)
-globals_other (Some (ok.Qos count false)) = tt
-globals_other (Some x) = tt
-globals_other None = tt
+still : (s : PathState) (x : PathEvent) → (after_event x s).writing ≡ s.writing → OfEvent (λ (d : DeliveryEvent). is_other d ≡ true) s x → Calm s x
+still s x e o = Still e (others s x o)
 
 pub owed_calm : (x : PathOk) (s : PathState) → Calm s (event.Owed x)
-owed_calm x s = Still refl (prefetches_other x)
+owed_calm x s = still s (event.Owed x) refl tt
 
 pub told_calm : (x : PathOk) (s : PathState) → Calm s (event.OkSent x)
-told_calm x s = Still refl (globals_other (first_of s.oks))
-
-cancel_calm : (tag : List ℕ) (no_wait : Bool) (s : PathState) → Calm s (event.CancelCame tag no_wait)
-cancel_calm tag no_wait s = Still refl (by (consumer_link tag s.deliveries.links))
-  where
-    by : (o : Option ℕ) → AreOther (cancels o)
-    by None = tt
-    by (Some link) = (refl, tt)
+told_calm x s = still s (event.OkSent x) refl tt
 
 got_calm : (queue : List ℕ) (no_ack : Bool) (s : PathState) → Calm s (event.GetAsked queue no_ack)
-got_calm queue no_ack s = Still (stay (get_link (queue_or s.queue queue) s)) (by (get_link (queue_or s.queue queue) s))
+got_calm queue no_ack s = still s (event.GetAsked queue no_ack) (stay (get_link (queue_or s.queue queue) s)) refl
   where
     stay : (o : Option PathLink) → (got_on o (queue_or s.queue queue) no_ack s).writing ≡ s.writing
     stay None = refl
     stay (Some l) = refl
 
-    by : (o : Option PathLink) → AreOther (gets o no_ack s)
-    by None = (refl, (refl, tt))
-    by (Some l) = (refl, tt)
-
 attach_calm : (a : AttachHeard) (s : PathState) → Calm s (event.AttachCame a)
-attach_calm a s = Still (stay (asked_by a s.links) _ refl) (by (asked_by a s.links))
+attach_calm a s = still s (event.AttachCame a) (stay (asked_by a s.links) _ refl) tt
   where
     stay : (o : Option PathLink) (t : PathState) → t.writing ≡ s.writing → (begun_if o a t).writing ≡ s.writing
     stay None t e = e
     stay (Some l) t e = if_same (l.receives && a.there) (begun_on l.link a.count t) t s e e
 
-    by : (o : Option PathLink) → AreOther (begins o a)
-    by None = tt
-    by (Some l) = if_other (l.receives && a.there) (on.LinkAttached l.link a.count) refl
-
-empties_other : (link : ℕ) (d : DeliveryState) → AreOther (empties link d)
-empties_other link d = if_other (is_drained link d.links) (on.Emptied link) refl
-
 flow_calm : (peer : ℕ) (count : Option ℕ) (credit : ℕ) (drain echo : Bool) (s : PathState) → Calm s (event.FlowCame peer count credit drain echo)
-flow_calm peer count credit drain echo s = Still (stay (receiver_in (named peer s.links))) (by (receiver_in (named peer s.links)))
+flow_calm peer count credit drain echo s = still s (event.FlowCame peer count credit drain echo) (stay (receiver_in (named peer s.links))) tt
   where
     stay : (o : Option PathLink) → (flowed_by o peer count credit drain echo s).writing ≡ s.writing
     stay None = refl
     stay (Some l) = refl
 
-    counted : (o : Option ℕ) (link : ℕ) → AreOther (counts o link)
-    counted None link = tt
-    counted (Some c) link = (refl, tt)
-
-    echoed : (b : Bool) (link : ℕ) → AreOther (echoes b link)
-    echoed true link = (refl, tt)
-    echoed false link = tt
-
-    by : (o : Option PathLink) → AreOther (flows o count echo s.deliveries)
-    by None = tt
-    by (Some l) =
-        both_other (empties l.link (flow_in l.link count echo s.deliveries)) (echoes echo l.link ++ counts count l.link) (empties_other l.link (flow_in l.link count echo s.deliveries))
-        (both_other (echoes echo l.link) (counts count l.link) (echoed echo l.link) (counted count l.link))
-
 transfer_calm : (peer : ℕ) (part : Part) (payload : List ℕ) (image : Option Content) (again : Bool) (s : PathState)
     → Calm s (event.TransferCame peer part payload image again)
-transfer_calm peer part payload image again s = Still (stay (taking peer s)) (by (taking peer s))
+transfer_calm peer part payload image again s =
+    still s (event.TransferCame peer part payload image again) (stay (taking peer s)) (λ link d. refl)
   where
     stay : (o : Option PathLink) → (transferred_on o part payload image again s).writing ≡ s.writing
     stay None = refl
     stay (Some l) = refl
 
-    whole : (b : Bool) (link : ℕ) (d : DeliveryState) → AreOther (arrivals b link image again d)
-    whole true link d = (refl, tt)
-    whole false link d = tt
-
-    by : (o : Option PathLink) → AreOther (transfers o part payload image again s.deliveries)
-    by None = tt
-    by (Some l) =
-        let d : DeliveryState = on.after_event (on.TransferCame l.link part payload) s.deliveries in
-        let e : DeliveryState = transferred l.link part payload image again s.deliveries in
-        both_other (empties l.link e) (arrivals (is_last part) l.link image again d ++ on.TransferCame l.link part payload ∷ []) (empties_other l.link e)
-        (both_other (arrivals (is_last part) l.link image again d) (on.TransferCame l.link part payload ∷ []) (whole (is_last part) l.link d) (refl, tt))
-
 flow_sent_calm : (s : PathState) → Calm s event.LinkFlowSent
-flow_sent_calm s = Still (if_same (is_grant_next s) (granted_by (grant_in s) s) _ s (stay (grant_in s)) refl) (all (is_grant_next s) (grant_in s))
+flow_sent_calm s = still s event.LinkFlowSent (if_same (is_grant_next s) (granted_by (grant_in s) s) _ s (stay (grant_in s)) refl) tt
   where
     stay : (o : Option NextGrant) → (granted_by o s).writing ≡ s.writing
     stay None = refl
     stay (Some g) = refl
 
-    all : (b : Bool) (o : Option NextGrant) → AreOther (if b then grants o else [])
-    all true None = tt
-    all true (Some g) = (refl, tt)
-    all false o = tt
-
 dispose_calm : (s : PathState) → Calm s event.DisposeSent
-dispose_calm s = Still (stay (next_settle_of s.deliveries.list)) (by (next_settle_of s.deliveries.list))
+dispose_calm s = still s event.DisposeSent (stay (next_settle_of s.deliveries.list)) tt
   where
     stay : (o : Option NextSettle) → (disposed_by o s).writing ≡ s.writing
     stay None = refl
     stay (Some x) = refl
 
-    by : (o : Option NextSettle) → AreOther (disposes o)
-    by None = tt
-    by (Some x) = (refl, tt)
-
 detach_calm : (s : PathState) → Calm s event.DetachSent
-detach_calm s = Still (stay (detaching_of s) _ refl) (by (detaching_of s))
+detach_calm s = still s event.DetachSent (stay (detaching_of s) _ refl) tt
   where
     stay : (o : Option PathLink) (t : PathState) → t.writing ≡ s.writing → (dropped_by o t).writing ≡ s.writing
     stay None t e = e
     stay (Some l) t e = if_same l.receives (dropped l.link t) t s e e
 
-    by : (o : Option PathLink) → AreOther (drops o)
-    by None = tt
-    by (Some l) = if_other l.receives (on.LinkDropped l.link) refl
-
-given_calm : (u : SessionUnit) (s : PathState) → Calm s (given_event u)
-given_calm (unit.Attach a) s = Still refl tt
-given_calm (unit.Flow f) s = flow_sent_calm s
-given_calm (unit.Transfer t) s = Still refl tt
-given_calm (unit.Dispose x) s = dispose_calm s
-given_calm (unit.Settle x) s = Still refl tt
-given_calm (unit.Detach link handle why) s = detach_calm s
-
 abbrev pub IsCalm : PathEvent → Type 0
 IsCalm x = (s : PathState) → Calm s x
 
-pub kinds : OfKinds IsCalm
-kinds = record {
-  began = λ most s. Still refl tt;
-  published = λ address payload back s. Still refl tt;
-  selected = λ s. Still refl tt;
-  owed = owed_calm;
-  consumed = λ address tag no_ack no_wait s. Still refl (refl, tt);
-  cancelled = cancel_calm;
-  declared = λ queue no_wait s. Still refl (refl, tt);
-  got = got_calm;
-  answered = λ tag multiple settle s. Still refl (refl, tt);
-  attached = attach_calm;
-  flowed = flow_calm;
-  detached = λ peer not_found s. Still refl tt;
-  transferred = transfer_calm;
-  failed = λ peer fault s. Still refl tt;
-  settled = λ first last outcome settled s. Still refl tt;
-  given = given_calm;
-  told = λ s. Still refl (refl, tt);
-  closed = λ s. Shuts refl (λ ds. refl);
-  lost = λ s. Shuts refl (λ ds. refl);
-  fell = λ s. Shuts refl (λ ds. refl);
-}
+pub each_calm : (x : PathEvent) → is_told x ≡ false → IsCalm x
+each_calm (event.Owed x) e = owed_calm x
+each_calm (event.Consumed address tag no_ack no_wait) e = λ s. Still refl (refl, tt)
+each_calm (event.CancelCame tag no_wait) e = λ s. still s (event.CancelCame tag no_wait) refl tt
+each_calm (event.Declared queue no_wait) e = λ s. Still refl (refl, tt)
+each_calm (event.GetAsked queue no_ack) e = got_calm queue no_ack
+each_calm (event.AnswerCame tag multiple settle) e = λ s. Still refl (refl, tt)
+each_calm (event.AttachCame a) e = attach_calm a
+each_calm (event.FlowCame peer count credit drain echo) e = flow_calm peer count credit drain echo
+each_calm (event.TransferCame peer part payload image again) e = transfer_calm peer part payload image again
+each_calm event.LinkFlowSent e = flow_sent_calm
+each_calm event.DisposeSent e = dispose_calm
+each_calm event.DetachSent e = detach_calm
+each_calm event.LinesWent e = λ s. Still refl (refl, tt)
+each_calm event.LifeClosed e = λ s. Shuts refl (λ ds. refl)
+each_calm event.SessionLost e = λ s. Shuts refl (λ ds. refl)
+each_calm event.UpLost e = λ s. Shuts refl (λ ds. refl)
+each_calm (event.ConfirmWent c) e = absurd cc
+each_calm (event.ReturnWent number) e = absurd cc
+each_calm (event.DeliverSent d) e = absurd cc
+each_calm event.ContentSent e = absurd cc
+each_calm (event.ContentWhole tag) e = absurd cc
+each_calm (event.OkSent x) e = absurd cc
+each_calm x e = λ s. Still refl tt

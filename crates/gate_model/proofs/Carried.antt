@@ -1,8 +1,7 @@
 -- What each step makes of the session of a channel, in the state and in the fold.
 use Rattle.property_map.specs.declared.told.Told.{Told}
 use Rattle.std.proofs.Common.{◌≡◌, ◌≢◌, ◌⊎◌, ℕ, zero, suc, ◌==◌, ◌<◌, Bool, true, false}
-use Rattle.std.proofs.Common.{if◌then◌else◌, List, [], ◌∷◌, Option, Some, length, arith, inl, inr}
-use Rattle.std.proofs.Common.{refl, sym, ap, ◌∙◌, subst}
+use Rattle.std.proofs.Common.{if◌then◌else◌, List, [], ◌∷◌, Option, Some, length, arith, inl, inr, refl, sym, ap, ◌∙◌, subst}
 use Rattle.machine_091.specs.State.{is_closing, is_opening}
 use Rattle.machine_091.specs.declared.unit.Unit91.{Unit91}
 use Rattle.machine_091.specs.declared.unit.Want91.{Want91}
@@ -21,21 +20,15 @@ use Rattle.gate_model.specs.declared.outgoing.UpUnit.{UpUnit}
 use Rattle.gate_model.specs.declared.outgoing.UpUnit.TheVariants as up
 use Rattle.gate_model.specs.declared.reply.Reply.{Reply}
 use Rattle.gate_model.specs.declared.reply.Reply.TheVariants as reply
-use Rattle.gate_model.specs.Folds.{Peers, carried_on, carried_sent, peers_by, peers_came, peers_heard}
-use Rattle.gate_model.specs.Folds.{peers_left}
-use Rattle.gate_model.specs.Folds.{scope_in}
-use Rattle.gate_model.specs.Lives.{failed_life, life_at, lives_by, method_life, with_life, reason_of}
-use Rattle.gate_model.specs.Lives.{with_state, is_of_channel}
+use Rattle.gate_model.specs.Folds.{Peers, carried_on, carried_sent, peers_by, peers_came, peers_heard, peers_left, scope_in}
+use Rattle.gate_model.specs.Lives.{failed_life, life_at, lives_by, method_life, with_life, reason_of, with_state, is_of_channel}
 use Rattle.gate_model.specs.Session.{carried_by, flow_sent}
 use Rattle.gate_model.specs.Requests.{client_step, client_told}
-use Rattle.gate_model.specs.State.{State, came}
-use Rattle.gate_model.specs.State.{carried, dequeued, fail, failed, heard, left, runs, windowed}
-use Rattle.gate_model.specs.State.{with_meaning, without_begin, without_life}
+use Rattle.gate_model.specs.State.{State, came, carried, dequeued, fail, failed, heard, left, runs, windowed}
+use Rattle.gate_model.specs.State.{with_meaning, without_begin, without_life, session_by}
 use Rattle.gate_model.specs.Upstream.{container_by, heard_up, meaning_by}
-use Rattle.gate_model.proofs.Places.{Beyond, Elsewhere, Here, SetAt, isnt, itself, same_or_not}
-use Rattle.gate_model.proofs.Places.{set_at}
+use Rattle.gate_model.proofs.Places.{Beyond, Elsewhere, Here, SetAt, isnt, itself, same_or_not, set_at}
 use Rattle.gate_model.proofs.Sessions.{only_scoped, session_cases}
-use Rattle.gate_model.specs.State.{session_by}
 
 -- the session of the channel of a number
 abbrev pub at : ℕ → List Life → SessionState
@@ -84,50 +77,29 @@ method_keeps ms (method.ChannelClose code text class id) l = refl
 method_keeps ms m l = refl
 
 pub want_keeps : (n ms : ℕ) (told : Option Told) (x : Want91) (ls : List Life) → at n (lives_by ms told x ls) ≡ at n ls
-want_keeps n ms told want.Nothing ls = refl
-want_keeps n ms told want.Start ls = refl
-want_keeps n ms told (want.Login m r) ls = refl
-want_keeps n ms told want.Tuned ls = refl
-want_keeps n ms told want.OpenUp ls = refl
 want_keeps n ms told (want.Method k m) ls = keeps_at n k ls _ (method_keeps ms m (life_at ls k))
-want_keeps n ms told (want.Publish k m x) ls = refl
 want_keeps n ms told (want.ChannelCloseOk k) ls = keeps_at n k ls _ refl
-want_keeps n ms told want.Close ls = refl
-want_keeps n ms told want.CloseOk ls = refl
 want_keeps n ms told (want.Refuse r) ls = by (is_of_channel r)
   where
     by : (b : Bool) → (life_at (if b then with_life r.channel (failed_life false ms (reason_of told r) (Some (condition_of r.code)) (life_at ls r.channel)) ls else ls) n).session
         ≡ (life_at ls n).session
     by true = keeps_at n r.channel ls _ refl
     by false = refl
+want_keeps n ms told x ls = refl
 
 pub given_keeps : (n : ℕ) (u : Reply) (ls : List Life) → at n (without_life u ls) ≡ at n ls
-given_keeps n reply.Protocol ls = refl
-given_keeps n reply.Start ls = refl
-given_keeps n reply.Tune ls = refl
-given_keeps n reply.OpenOk ls = refl
-given_keeps n reply.CloseOk ls = refl
-given_keeps n (reply.Close r) ls = refl
-given_keeps n reply.NoMemory ls = refl
-given_keeps n reply.Heartbeat ls = refl
 given_keeps n (reply.ChannelOpenOk k) ls = keeps_at n k ls _ refl
-given_keeps n (reply.OnChannel k u) ls = refl
 given_keeps n (reply.ChannelCloseOk k) ls = keeps_at n k ls _ refl
 given_keeps n (reply.CrossedOk k) ls = keeps_at n k ls _ refl
 given_keeps n (reply.ChannelClose k r) ls = keeps_at n k ls _ refl
+given_keeps n x ls = refl
 
 -- ---- what units of the container, and units to it, make of it
 
 -- a session after a unit of the container
 abbrev pub carried_heard : ℕ → Meaning → SessionState → SessionState
-carried_heard n ten.Nothing s = s
-carried_heard n ten.Init s = s
-carried_heard n ten.AmqpHeader s = s
-carried_heard n ten.Opened s = s
 carried_heard n (ten.OfSession g p payload) s = if g == n then carried_by p s else s
-carried_heard n (ten.Closed e) s = s
-carried_heard n ten.Refused s = s
-carried_heard n (ten.Violation why) s = s
+carried_heard n x s = s
 
 pub fail_same : (n code : ℕ) (why : Option Condition) (w : State) → at n (fail code why w).lives ≡ at n w.lives
 fail_same n code why w = by (is_closing w.conn)
@@ -188,16 +160,11 @@ sent_at_same f n k ls = by (same_or_not k n)
     by (inr d) = ap (λ (b : Bool). if b then f (at k ls) else at n ls) (isnt k n d) ∙ ap (λ (b : Bool). if b then f (at n ls) else at n ls) (sym (isnt k n d))
 
 pub sent_makes : (n : ℕ) (u : UpUnit) (ls : List Life) → n < length ls → at n (without_begin u ls) ≡ carried_sent u (λ (m : ℕ). at m ls) n
-sent_makes n up.SaslHeader ls lt = refl
-sent_makes n up.SaslInit ls lt = refl
-sent_makes n up.AmqpHeader ls lt = refl
-sent_makes n up.Open ls lt = refl
-sent_makes n (up.Close why) ls lt = refl
-sent_makes n up.Empty ls lt = refl
 sent_makes n (up.Flow k i o) ls lt = state_at n k ls (flow_sent (at k ls)) lt ∙ sent_at_same flow_sent n k ls
 sent_makes n (up.OnSession k u) ls lt = state_at n k ls (session_by u (at k ls)) lt ∙ sent_at_same (session_by u) n k ls
 sent_makes n (up.Begin k) ls lt = keeps_at n k ls _ refl
 sent_makes n (up.End k why) ls lt = keeps_at n k ls _ refl
+sent_makes n x ls lt = refl
 
 -- ---- all steps
 
@@ -222,15 +189,9 @@ left_keeps n w false = refl
 -- ---- the same in the fold
 
 pub peers_heard_same : (n : ℕ) (m : Meaning) (p : Peers) → (peers_by m p).carried n ≡ carried_heard n m (p.carried n)
-peers_heard_same n ten.Nothing p = refl
-peers_heard_same n ten.Init p = refl
-peers_heard_same n ten.AmqpHeader p = refl
-peers_heard_same n ten.Opened p = refl
 peers_heard_same n (ten.OfSession g q payload) p =
     ap (λ (x : Peers). x.carried n) (only_scoped (scope_in p g q payload) g q payload (record p { carried = carried_on g q p.carried }))
-peers_heard_same n (ten.Closed e) p = refl
-peers_heard_same n ten.Refused p = refl
-peers_heard_same n (ten.Violation why) p = refl
+peers_heard_same n x p = refl
 
 pub fold_came : (b : Bool) (p : Peers) (u : Unit91) → (if b then p else peers_came p u).carried ≡ p.carried
 fold_came true p u = refl
@@ -247,13 +208,6 @@ fold_heard n false p u = peers_heard_same n (meaning_by p.container u) (record p
 
 -- the sessions that are the same before a unit of the gateway are the same after it
 pub sent_same : (n : ℕ) (u : UpUnit) (f g : ℕ → SessionState) → f n ≡ g n → carried_sent u f n ≡ carried_sent u g n
-sent_same n up.SaslHeader f g e = e
-sent_same n up.SaslInit f g e = e
-sent_same n up.AmqpHeader f g e = e
-sent_same n up.Open f g e = e
-sent_same n (up.Close why) f g e = e
-sent_same n up.Empty f g e = e
 sent_same n (up.Flow k i o) f g e = ap (λ (s : SessionState). if k == n then flow_sent s else s) e
 sent_same n (up.OnSession k u) f g e = ap (λ (s : SessionState). if k == n then session_by u s else s) e
-sent_same n (up.Begin k) f g e = e
-sent_same n (up.End k why) f g e = e
+sent_same n x f g e = e

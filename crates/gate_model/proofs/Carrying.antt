@@ -1,12 +1,12 @@
 -- The session of a channel is what the steps say of it.
-use Rattle.std.proofs.Common.{◌≡◌, ◌⊎◌, ℕ, zero, suc, ◌<◌, ◌≤◌, true, List, [], ◌∷◌, length, arith}
-use Rattle.std.proofs.Common.{inl, inr, refl, sym, ap, ◌∙◌, subst}
+use Rattle.std.proofs.Common.{◌≡◌, ◌⊎◌, ℕ, zero, suc, ◌<◌, ◌≤◌, true, List, [], ◌∷◌, length, arith, inl, inr, refl, sym, ap, ◌∙◌, subst}
 use Rattle.gate_model.specs.declared.life.Life.{Life}
 use Rattle.gate_model.specs.Folds.{carrying}
 use Rattle.gate_model.specs.Lives.{life_at, no_life}
 use Rattle.gate_model.specs.Picks.{ArePicks}
 use Rattle.gate_model.specs.Session.{is_flow_owed, no_session}
 use Rattle.gate_model.specs.State.{Step, before}
+use Rattle.gate_model.proofs.Basics.{below_or_not}
 use Rattle.gate_model.proofs.Carried.{at}
 use Rattle.gate_model.proofs.Known.{known}
 use Rattle.gate_model.proofs.Lives.{lives_all}
@@ -22,11 +22,6 @@ beyond zero (l ∷ ls) le = absurd (some le)
     some : length (l ∷ ls) ≤ 0 → ⊥
     some x = omega (arith, x)
 beyond (suc n) (l ∷ ls) le = beyond n ls (omega (arith, le))
-
-below_or_not : (n m : ℕ) → (n < m) ⊎ (m ≤ n)
-below_or_not n zero = inr (omega arith)
-below_or_not zero (suc m) = inl (omega arith)
-below_or_not (suc n) (suc m) = elim (below_or_not n m) [ inl x ↦ inl (omega (arith, x)) | inr x ↦ inr (omega (arith, x)) ]
 
 pub carries : (h : List Step) → ArePicks h → (n : ℕ) → is_flow_owed (life_at (before h).lives n).session ≡ true → (life_at (before h).lives n).session ≡ carrying n h
 carries h p n owed = by (below_or_not n 256)

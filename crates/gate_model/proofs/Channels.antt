@@ -21,8 +21,7 @@ use Rattle.methods_091.specs.View.{kind_of}
 use Rattle.methods_091.specs.declared.method.Method91.{Method91}
 use Rattle.session_path.specs.Path.{PathState}
 use Rattle.gate_model.specs.Paths.{path_at}
-use Rattle.gate_model.specs.Requests.{client_step, message_of, method_fault, publish_fault}
-use Rattle.gate_model.specs.Requests.{refusal_of_want, refused_by, refused_for}
+use Rattle.gate_model.specs.Requests.{client_step, message_of, method_fault, publish_fault, refusal_of_want, refused_by, refused_for}
 use Rattle.gate_model.specs.State.{conn_given}
 use Rattle.gate_model.specs.declared.reply.Reply.{Reply}
 use Rattle.gate_model.specs.declared.reply.Reply.TheVariants as reply
@@ -56,17 +55,7 @@ given_open n (reply.ChannelClose k r) c = by (channel_at c k) refl
     by channel.Open e = same_open n c
     by channel.Closing e = shut_open n k c channel.Told (ap is_open_channel e) refl
     by channel.Told e = same_open n c
-given_open n reply.Protocol c = same_open n c
-given_open n reply.Start c = same_open n c
-given_open n reply.Tune c = same_open n c
-given_open n reply.OpenOk c = same_open n c
-given_open n reply.CloseOk c = same_open n c
-given_open n (reply.Close r) c = same_open n c
-given_open n reply.NoMemory c = same_open n c
-given_open n reply.Heartbeat c = same_open n c
-given_open n (reply.ChannelOpenOk k) c = same_open n c
-given_open n (reply.OnChannel k u) c = same_open n c
-given_open n (reply.CrossedOk k) c = same_open n c
+given_open n x c = same_open n c
 
 -- ---- and where the gateway refuses it
 

@@ -1,22 +1,17 @@
 -- The life of a channel is closed where the channel isn't open in its connection.
 use Rattle.std.proofs.Common.{◌≡◌, ℕ, ◌+◌, ◌==◌, ◌<◌, ◌≤◌, ◌&&◌, ◌||◌, not, Bool, true, false}
-use Rattle.std.proofs.Common.{if◌then◌else◌, List, [], ◌∷◌, ◌++◌, length, Option, None, Some, refl}
-use Rattle.std.proofs.Common.{sym, ap, ◌∙◌, subst, arith}
+use Rattle.std.proofs.Common.{if◌then◌else◌, List, [], ◌∷◌, ◌++◌, length, Option, None, Some, refl, sym, ap, ◌∙◌, subst, arith}
 use Rattle.std.proofs.lemmas.Bool.Decides.{nat_tests}
 use Rattle.std.proofs.lemmas.List.Folds.{list_any-append}
-use Rattle.std.specs.List.{list_any}
+use Rattle.std.specs.List.{list_any, AllByRecursion}
 use Rattle.std.specs.Prelude.{is_some}
 use Rattle.close_translate.specs.Conditions.{code_by}
 use Rattle.close_translate.specs.declared.codes.TheConstants.{PRECONDITION_FAILED}
 use Rattle.close_translate.specs.declared.conditions.Scope.{Scope}
 use Rattle.close_translate.specs.declared.conditions.Scope.TheVariants as scope
-use Rattle.consume_path.specs.Deliveries.{DeliveryEvent, DeliveryState}
+use Rattle.consume_path.specs.Deliveries.{DeliveryEvent}
 use Rattle.consume_path.specs.Deliveries as on
 use Rattle.consume_path.specs.Journal.{closes, is_closed}
-use Rattle.consume_path.specs.Links.{consumer_link}
-use Rattle.consume_path.specs.Offers.{is_drained, next_settle_of}
-use Rattle.consume_path.specs.declared.delivery.NextSettle.{NextSettle}
-use Rattle.consume_path.specs.declared.receiving.NextGrant.{NextGrant}
 use Rattle.consume_path.specs.declared.receiving.TransferFault.{TransferFault}
 use Rattle.gate_outside.specs.declared.ports.End.TheVariants.{Client, Up}
 use Rattle.gate_outside.specs.declared.ports.Linked.TheVariants as link
@@ -44,39 +39,27 @@ use Rattle.machine_10.specs.declared.unit.Unit10.{Unit10}
 use Rattle.methods_091.specs.declared.method.Method91.{Method91}
 use Rattle.methods_091.specs.declared.method.Method91.TheVariants as method
 use Rattle.session_path.specs.Events as event
-use Rattle.session_path.specs.Events.{PathEvent, after_events, arrivals, begins, cancels, counts}
-use Rattle.session_path.specs.Events.{deliveries_of, delivery_events, disposes, drops, echoes}
-use Rattle.session_path.specs.Events.{empties, flows, gets, globals, grants, prefetches, transfers}
-use Rattle.session_path.specs.Links.{asked_by, named}
-use Rattle.session_path.specs.Path.{PathState, closes_at as closes_channel, detaching_of, first_of}
-use Rattle.session_path.specs.Path.{get_link, grant_in, is_grant_next, is_last, queue_or}
-use Rattle.session_path.specs.Path.{arrival_on, flow_in, receiver_in, taking, transferred}
-use Rattle.session_path.specs.declared.path.PathLink.{PathLink}
-use Rattle.session_path.specs.declared.path.PathOk.{PathOk}
+use Rattle.session_path.specs.Events.{PathEvent, after_events, deliveries_of, delivery_events}
+use Rattle.session_path.specs.Path.{PathState, closes_at as closes_channel}
 use Rattle.session_path.specs.declared.path.PathOk.TheVariants as ok
 use Rattle.gate_model.specs.Folds.{Peers, accepted_in, connection, container, going_in, leaving_in}
-use Rattle.gate_model.specs.Folds.{opened_by, paths_in, peers, peers_by, peers_came, peers_heard}
+use Rattle.gate_model.specs.Folds.{opened_by, paths_in, peers, peers_by, peers_came, peers_heard, ended_on, peers_closed, side_in}
 use Rattle.gate_model.specs.Due.{is_connect_due}
-use Rattle.gate_model.specs.Folds.{ended_on, peers_closed, side_in}
 use Rattle.gate_model.specs.Folds.{carried_on, peers_left, peers_scoped, ran_out_in, routes_in, scope_in}
 use Rattle.gate_model.specs.Lives.{is_of_channel}
 use Rattle.gate_model.specs.Once.{is_channel_open, is_method_on}
-use Rattle.gate_model.specs.Paths.{closed_path, fault_in, is_outcome, lost_path, name_in, part_in}
-use Rattle.gate_model.specs.Paths.{path_at, text_of, with_path}
+use Rattle.gate_model.specs.Paths.{closed_path, fault_in, is_outcome, lost_path, name_in, part_in, path_at, text_of, with_path}
 use Rattle.gate_model.specs.Picks.{ArePicks}
-use Rattle.gate_model.specs.Publishing.{attach_events, given_event, losing, owed_unless}
-use Rattle.gate_model.specs.Publishing.{transfer_event}
+use Rattle.gate_model.specs.Publishing.{attach_events, given_event, losing, owed_unless, transfer_event}
 use Rattle.gate_model.specs.Publishing.{closed_if, closing, ending, failing, heard_events, losing_up}
 use Rattle.gate_model.specs.Publishing.{lost_if, meaning_events, method_events, opens_channel}
-use Rattle.gate_model.specs.Publishing.{path_events, path_life, refusal_events, reply_events}
-use Rattle.gate_model.specs.Publishing.{session_events, told_event, up_events}
+use Rattle.gate_model.specs.Publishing.{path_events, path_life, refusal_events, reply_events, session_events, told_event, up_events}
 use Rattle.gate_model.specs.Publishing.{want_events, wrote_events}
 use Rattle.gate_model.specs.Requests.{client_step}
 use Rattle.gate_model.specs.Session.{is_of_session}
-use Rattle.gate_model.specs.State.{Began, Came, Fed, Gave, Heard, Joined, LinesTold, Lost, Moment}
-use Rattle.gate_model.specs.State.{OutOfMemory, Queued, Silent, Step, TakenUp, Whole, before, close}
-use Rattle.gate_model.specs.State.{close_if, closing_code, conn_given, conn_step, is_limit_reached}
-use Rattle.gate_model.specs.State.{is_later, path_heard, want_in}
+use Rattle.gate_model.specs.State.{Began, Came, Fed, Gave, Heard, Joined, Lost, Moment}
+use Rattle.gate_model.specs.State.{OutOfMemory, Silent, Step, TakenUp, Whole, before, close}
+use Rattle.gate_model.specs.State.{close_if, closing_code, conn_given, conn_step, is_limit_reached, is_later, path_heard, want_in}
 use Rattle.gate_model.specs.Upstream.{channel_max_in, condition_in, container_by, meaning_by}
 use Rattle.gate_model.specs.declared.channel.ChannelUnit.{ChannelUnit}
 use Rattle.gate_model.specs.declared.channel.ChannelUnit.TheVariants as to_client
@@ -89,14 +72,13 @@ use Rattle.gate_model.specs.declared.reply.Reply.{Reply}
 use Rattle.gate_model.specs.declared.reply.Reply.TheVariants as reply
 use Rattle.gate_model.specs.declared.setup.Route.{Route}
 use Rattle.machine_091.proofs.ChannelSteps.{Opens, closing_long, closing_opens, method_opens, opens_by}
+use Rattle.gate_model.proofs.Basics.{and_right, or_right, or_true}
+use Rattle.gate_model.proofs.Brought.{OfEvent, event_all, is_mild}
 use Rattle.gate_model.proofs.Channels.{client_opens, given_open}
-use Rattle.gate_model.proofs.Connections.{clash, close_closes, close_same, only_given, opening_phase}
-use Rattle.gate_model.proofs.Connections.{phase_only}
+use Rattle.gate_model.proofs.Connections.{clash, close_closes, close_same, only_given, opening_phase, phase_only}
 use Rattle.gate_model.proofs.Known.{known, side_is}
-use Rattle.gate_model.proofs.Outcomes.{OnlyChannels, only_closing}
-use Rattle.gate_model.proofs.Outcomes.{Outcome, Greets, Parts, LogsIn, Tunes, Asks, Passes, Refuses}
-use Rattle.gate_model.proofs.Outcomes.{Declines, Drops, Parting, Calls, Asking, Publishes, Fills}
-use Rattle.gate_model.proofs.Outcomes.{Frees, Closes, Answers, Ignores, outcome}
+use Rattle.gate_model.proofs.Outcomes.{OnlyChannels, only_closing, Outcome, Greets, LogsIn, Tunes, Asks, Passes}
+use Rattle.gate_model.proofs.Outcomes.{Declines, Drops, Calls, Asking, Publishes, Fills, Frees, Ignores, outcome}
 
 -- ---- events that close a life
 
@@ -129,22 +111,10 @@ record Fits (n : ℕ) (c : Connection) (there shut ended : Bool) : Type 0 where
   late : there ≡ true → is_late c.phase ≡ true
   is : there ≡ true → shut ≡ (not (is_open c n) || ended)
 
-or_true : (a : Bool) → true ≡ (a || true)
-or_true true = refl
-or_true false = refl
-
-or_false : (a : Bool) → (a || false) ≡ a
-or_false true = refl
-or_false false = refl
-
 off : (p : Phase91) → is_closing_phase p ≡ true → is_running p ≡ false
-off phase.Header e = absurd cc
-off phase.Start e = absurd cc
-off phase.Tune e = absurd cc
-off phase.Open e = absurd cc
-off phase.Running e = absurd cc
 off phase.Closing e = refl
 off phase.Closed e = refl
+off x e = absurd cc
 
 pub none_open : (n : ℕ) (c : Connection) → is_closing c ≡ true → is_open c n ≡ false
 none_open n c e = ap (λ (b : Bool). b && is_open_channel (channel_at c n)) (off c.phase e)
@@ -157,10 +127,6 @@ closes_all n d there ended long e = record {
   late = λ t. or_right (is_running d.phase) (is_closing_phase d.phase) e;
   is = λ t. ap (λ (b : Bool). not b || ended) (sym (none_open n d e));
 }
-  where
-    or_right : (a b : Bool) → b ≡ true → (a || b) ≡ true
-    or_right true b e = refl
-    or_right false b e = e
 
 -- it was closing already
 closed_again : (n : ℕ) (c : Connection) (there shut ended : Bool) → is_closing c ≡ true → Fits n c there shut ended → Fits n (close c) there shut ended
@@ -375,13 +341,10 @@ keeps_closing : (c d : Connection) → is_closing d ≡ true → KeepsOn c d
 keeps_closing c d e = record { late = λ l. late d.phase e; runs = λ f r. absurd (clash _ r (off d.phase e)) }
   where
     late : (p : Phase91) → is_closing_phase p ≡ true → is_late p ≡ true
-    late phase.Header e = absurd cc
-    late phase.Start e = absurd cc
-    late phase.Tune e = absurd cc
-    late phase.Open e = absurd cc
     late phase.Running e = refl
     late phase.Closing e = refl
     late phase.Closed e = refl
+    late x e = absurd cc
 
 -- it was in its opening
 keeps_early : (c d : Connection) → is_late c.phase ≡ false → is_running d.phase ≡ false → KeepsOn c d
@@ -392,23 +355,19 @@ unit_keeps rs ps c u = by (client_step rs ps c u) (outcome rs ps c u)
   where
     by : (x : machine.Step) → Outcome c u x → KeepsOn c x.0
     by _ (Greets e) = keeps_early c _ (ap is_late e) refl
-    by _ (Parts e) = keeps_closing c _ refl
     by _ (LogsIn m r e) = keeps_early c _ (ap is_late e) refl
     by _ (Tunes l e) = keeps_early c _ (ap is_late e) refl
     by _ (Asks e) = record { late = λ l. l; runs = λ f r. refl }
     by _ Passes = keeps_on c c refl refl
-    by _ (Refuses r a f e g) = keeps_closing c _ refl
     by _ (Declines r d o e g) = keeps_closing c _ (close_closes d.phase)
     by _ (Drops r d o e g) = keeps_only c d o
-    by _ (Parting e) = keeps_closing c _ refl
     by _ (Calls n s m e) = keeps_on c _ refl refl
     by _ (Asking n m e) = keeps_on c c refl refl
     by _ (Publishes n m x e) = keeps_on c _ refl refl
     by _ (Fills n i e) = keeps_on c _ refl refl
     by _ (Frees n e) = keeps_on c _ refl refl
-    by _ (Closes e) = keeps_closing c _ refl
-    by _ (Answers e) = keeps_closing c _ refl
     by _ (Ignores e) = keeps_on c _ refl refl
+    by _ x = keeps_closing c _ refl
 
 -- what it wants that is no channel.open closes the life where the channel is open no more
 same_or : (b shut : Bool) → (if b then true else shut) ≡ (b || shut)
@@ -454,17 +413,10 @@ refusal_closes n r is ended = by (is_of_channel r) (r.channel == n)
 
 want_closes : (rs : List Route) (limit n : ℕ) (x : Want91) (is ended : Bool) → is_method_on is_channel_open n x ≡ false
     → (are_shut (want_events rs limit n x) || (not is || ended)) ≡ (not (opens_by n x is) || ended)
-want_closes rs limit n want.Nothing is ended e = refl
-want_closes rs limit n want.Start is ended e = refl
-want_closes rs limit n (want.Login mechanism response) is ended e = refl
-want_closes rs limit n want.Tuned is ended e = refl
-want_closes rs limit n want.OpenUp is ended e = refl
 want_closes rs limit n (want.Method k m) is ended e = method_closes (k == n) m is ended e
 want_closes rs limit n (want.Publish k m c) is ended e = ap (λ (b : Bool). b || (not is || ended)) (quiet_if (k == n) (event.Published _ _ _ ∷ []) refl)
-want_closes rs limit n (want.ChannelCloseOk k) is ended e = refl
-want_closes rs limit n want.Close is ended e = refl
-want_closes rs limit n want.CloseOk is ended e = refl
 want_closes rs limit n (want.Refuse r) is ended e = refusal_closes n r is ended
+want_closes rs limit n x is ended e = refl
 
 -- a channel.open opens its channel
 method_begins : (b : Bool) (m : Method91) (is : Bool) → (b && is_channel_open m) ≡ true → (if b then method_opens m is else is) ≡ true
@@ -473,17 +425,8 @@ method_begins true m is e = absurd cc
 method_begins false m is e = absurd cc
 
 pub want_begins : (n : ℕ) (x : Want91) (is : Bool) → is_method_on is_channel_open n x ≡ true → opens_by n x is ≡ true
-want_begins n want.Nothing is e = absurd cc
-want_begins n want.Start is e = absurd cc
-want_begins n (want.Login mechanism response) is e = absurd cc
-want_begins n want.Tuned is e = absurd cc
-want_begins n want.OpenUp is e = absurd cc
 want_begins n (want.Method k m) is e = method_begins (k == n) m is e
-want_begins n (want.Publish k m c) is e = absurd cc
-want_begins n (want.ChannelCloseOk k) is e = absurd cc
-want_begins n want.Close is e = absurd cc
-want_begins n want.CloseOk is e = absurd cc
-want_begins n (want.Refuse r) is e = absurd cc
+want_begins n x is e = absurd cc
 
 -- ---- all steps
 
@@ -572,25 +515,11 @@ taken_fits n h f = by (not (ran_out_in h) && leaving_in h)
 
 told_quiet : (u : ChannelUnit) → shuts (told_event u) ≡ false
 told_quiet (to_client.Ok x) = refl
-told_quiet (to_client.Deliver d) = refl
-told_quiet (to_client.Content c) = refl
-told_quiet (to_client.Confirm c) = refl
-told_quiet (to_client.Return r) = refl
+told_quiet x = refl
 
 reply_quiet : (n : ℕ) (u : Reply) → are_shut (reply_events n u) ≡ false
 reply_quiet n (reply.OnChannel k u) = quiet_if (k == n) (told_event u ∷ []) (ap (λ (b : Bool). b || false) (told_quiet u))
-reply_quiet n reply.Protocol = refl
-reply_quiet n reply.Start = refl
-reply_quiet n reply.Tune = refl
-reply_quiet n reply.OpenOk = refl
-reply_quiet n reply.CloseOk = refl
-reply_quiet n (reply.Close r) = refl
-reply_quiet n reply.NoMemory = refl
-reply_quiet n reply.Heartbeat = refl
-reply_quiet n (reply.ChannelOpenOk k) = refl
-reply_quiet n (reply.ChannelCloseOk k) = refl
-reply_quiet n (reply.CrossedOk k) = refl
-reply_quiet n (reply.ChannelClose k r) = refl
+reply_quiet n x = refl
 
 given_fits : (n : ℕ) (u : Reply) (c : Connection) (there shut ended : Bool) → n < 256 → Fits n c there shut ended
     → Fits n (conn_given u c) there (are_shut (reply_events n u) || shut) ended
@@ -610,11 +539,7 @@ wrote_quiet n o = refl
 
 given_quiet : (u : SessionUnit) → shuts (given_event u) ≡ false
 given_quiet (unit.Attach a) = refl
-given_quiet (unit.Flow f) = refl
-given_quiet (unit.Transfer t) = refl
-given_quiet (unit.Dispose x) = refl
-given_quiet (unit.Settle x) = refl
-given_quiet (unit.Detach k handle why) = refl
+given_quiet x = refl
 
 -- the life is closed whatever its channel is
 ended_now : (n : ℕ) (c : Connection) (there shut : Bool) (ended : Bool) → Fits n c there shut ended → Fits n c there true true
@@ -637,14 +562,7 @@ up_fits n (up.End k why) c there shut ended f = by (is_open c k) (k == n) refl r
           late = f.late;
           is = λ t. ap (λ (x : Bool). not x || ended) (sym (subst (λ (m : ℕ). is_open c m ≡ false) same e));
         }
-up_fits n up.SaslHeader c there shut ended f = f
-up_fits n up.SaslInit c there shut ended f = f
-up_fits n up.AmqpHeader c there shut ended f = f
-up_fits n up.Open c there shut ended f = f
-up_fits n (up.Close why) c there shut ended f = f
-up_fits n up.Empty c there shut ended f = f
-up_fits n (up.Flow k i o) c there shut ended f = f
-up_fits n (up.Begin k) c there shut ended f = f
+up_fits n x c there shut ended f = f
 
 new_fits : (n : ℕ) (vhost : List ℕ) → Fits n (new_connection vhost) false false false
 unfolding no_channels
@@ -660,17 +578,13 @@ fits n (Began site number ms ∷ h) less p = subst (λ (x : List Step). FitsAfte
 fits n (Moment ms ∷ h) less p =
     limits n (is_limit_reached (connection h) (accepted_in h) ms) (connection h) _ _ _ (early (connection h).asked _) (fits n h less p.1)
 fits n (Fed Client ∷ h) less p = fits n h less p.1
-fits n (Fed Up ∷ h) less p = fits n h less p.1
 fits n (Silent Client ∷ h) less p = closes_all n (after_ended (connection h)) _ _ (fits n h less p.1).long refl
 fits n (Silent Up ∷ h) less p = on_top n _ _ _ (failing (connection h)) (path_events h n) (fails n (connection h) _ _ _ (fits n h less p.1))
-fits n (Queued u ∷ h) less p = fits n h less p.1
 fits n (Came u ∷ h) less p = came_fits n u h less (fits n h less p.1)
 fits n (TakenUp ∷ h) less p = taken_fits n h (fits n h less p.1)
 fits n (Heard u ∷ h) less p = heard_fits n u h less (fits n h less p.1)
-fits n (Joined link.Ok ∷ h) less p = fits n h less p.1
 fits n (Joined link.Failed ∷ h) less p =
     on_top n _ _ _ (failing (connection h) ++ event.LinesWent ∷ []) (path_events h n) (misses n (connection h) _ _ _ (fits n h less p.1))
-fits n (Lost Client how ∷ h) less p = fits n h less p.1
 fits n (Lost Up loss.Ended ∷ h) less p = on_top n _ _ _ (failing (connection h) ++ losing_up) (path_events h n) (falls n (connection h) _ _ _ (fits n h less p.1))
 fits n (Lost Up loss.Failed ∷ h) less p = on_top n _ _ _ (failing (connection h) ++ losing_up) (path_events h n) (falls n (connection h) _ _ _ (fits n h less p.1))
 fits n (Lost Up loss.Shut ∷ h) less p = ended_now n (connection h) _ _ _ (fits n h less p.1)
@@ -679,9 +593,8 @@ fits n (Gave (ToClient u) text ∷ h) less p =
 fits n (Gave (ToUp u) text ∷ h) less p = on_top n _ _ _ (up_events (is_later (connection h) u) n u) (path_events h n) (up_fits n u (connection h) _ _ _ (fits n h less p.1))
 fits n (Whole Client ∷ h) less p =
     on_top n _ _ _ (wrote_events n (going_in h)) (path_events h n) (same_again n _ _ _ _ _ (wrote_quiet n (going_in h)) (fits n h less p.1))
-fits n (Whole Up ∷ h) less p = fits n h less p.1
-fits n (LinesTold ∷ h) less p = fits n h less p.1
 fits n (OutOfMemory ∷ h) less p = closes_all n (close (connection h)) _ _ (fits n h less p.1).long (close_closes (connection h).phase)
+fits n (s ∷ h) less p = fits n h less p.1
 
 -- a connection with a channel that was opened runs, or closes
 pub late_is : (n : ℕ) (h : List Step) → n < 256 → ArePicks h → is_some (path_life h n) ≡ true → is_late (connection h).phase ≡ true
@@ -700,115 +613,31 @@ closed_both (x ∷ xs) ys = ap (λ (b : Bool). closes x || b) (closed_both xs ys
     by true b c = refl
     by false b c = refl
 
-one_open : (b : Bool) (x : DeliveryEvent) → closes x ≡ false → is_closed (if b then x ∷ [] else []) ≡ false
-one_open true x e = ap (λ (c : Bool). c || false) e
-one_open false x e = refl
-
-both_open : (xs ys : List DeliveryEvent) → is_closed xs ≡ false → is_closed ys ≡ false → is_closed (xs ++ ys) ≡ false
-both_open xs ys e f = closed_both xs ys ∙ ap (λ (b : Bool). b || is_closed ys) e ∙ f
-
 event_closes : (s : PathState) (x : PathEvent) → is_closed (delivery_events s x) ≡ shuts x
-event_closes s (event.Began handle_max) = refl
-event_closes s (event.Published address payload back) = refl
-event_closes s event.Selected = refl
-event_closes s (event.Owed x) = by x
-  where
-    by : (x : PathOk) → is_closed (prefetches x) ≡ false
-    by ok.Flow = refl
-    by ok.Declare = refl
-    by ok.Select = refl
-    by (ok.Consume link) = refl
-    by (ok.Qos count true) = refl
-    by (ok.Qos count false) = refl
-    by ok.Cancel = refl
-    by ok.Queue = refl
-    by ok.Get = refl
-    by (ok.Empty own) = refl
-    by ok.Recover = refl
-event_closes s (event.Consumed address tag no_ack no_wait) = refl
-event_closes s (event.CancelCame tag no_wait) = by (consumer_link tag s.deliveries.links)
-  where
-    by : (o : Option ℕ) → is_closed (cancels o) ≡ false
-    by None = refl
-    by (Some k) = refl
-event_closes s (event.Declared queue no_wait) = refl
-event_closes s (event.GetAsked queue no_ack) = by (get_link (queue_or s.queue queue) s)
-  where
-    by : (o : Option PathLink) → is_closed (gets o no_ack s) ≡ false
-    by None = refl
-    by (Some l) = refl
-event_closes s (event.AnswerCame tag multiple settle) = refl
-event_closes s (event.AttachCame attach) = by (asked_by attach s.links)
-  where
-    by : (o : Option PathLink) → is_closed (begins o attach) ≡ false
-    by None = refl
-    by (Some l) = one_open (l.receives && attach.there) (on.LinkAttached l.link attach.count) refl
-event_closes s (event.FlowCame peer count credit drain echo) = by (receiver_in (named peer s.links)) count
-  where
-    counted : (o : Option ℕ) (k : ℕ) → is_closed (counts o k) ≡ false
-    counted None k = refl
-    counted (Some c) k = refl
-
-    by : (o : Option PathLink) (count : Option ℕ) → is_closed (flows o count echo s.deliveries) ≡ false
-    by None count = refl
-    by (Some l) count =
-        both_open (empties l.link (flow_in l.link count echo s.deliveries)) (echoes echo l.link ++ counts count l.link) (one_open (is_drained l.link _) (on.Emptied l.link) refl)
-        (both_open (echoes echo l.link) (counts count l.link) (one_open echo (on.LinkEchoed l.link) refl) (counted count l.link))
-event_closes s (event.DetachCame peer not_found) = refl
-event_closes s (event.TransferCame peer piece payload image again) = by (taking peer s)
-  where
-    by : (o : Option PathLink) → is_closed (transfers o piece payload image again s.deliveries) ≡ false
-    by None = refl
-    by (Some l) =
-        let d : DeliveryState = on.after_event (on.TransferCame l.link piece payload) s.deliveries in
-        both_open (empties l.link (transferred l.link piece payload image again s.deliveries)) _ (one_open (is_drained l.link _) (on.Emptied l.link) refl)
-        (both_open (arrivals (is_last piece) l.link image again d) (on.TransferCame l.link piece payload ∷ [])
-        (one_open (is_last piece) (arrival_on l.link image again d) refl) refl)
-event_closes s (event.LinkFailed peer fault) = refl
-event_closes s (event.DispositionCame first last outcome settled) = refl
-event_closes s (event.AttachSent name) = refl
-event_closes s event.LinkFlowSent = by (is_grant_next s) (grant_in s)
-  where
-    by : (b : Bool) (o : Option NextGrant) → is_closed (if b then grants o else []) ≡ false
-    by true None = refl
-    by true (Some g) = refl
-    by false o = refl
-event_closes s (event.TransferSent frame count) = refl
-event_closes s (event.SettleSent settling) = refl
-event_closes s event.DisposeSent = by (next_settle_of s.deliveries.list)
-  where
-    by : (o : Option NextSettle) → is_closed (disposes o) ≡ false
-    by None = refl
-    by (Some x) = refl
-event_closes s event.DetachSent = by (detaching_of s)
-  where
-    by : (o : Option PathLink) → is_closed (drops o) ≡ false
-    by None = refl
-    by (Some l) = one_open l.receives (on.LinkDropped l.link) refl
-event_closes s (event.ConfirmWent confirm) = refl
-event_closes s (event.ReturnWent number) = refl
-event_closes s (event.DeliverSent due) = refl
-event_closes s event.ContentSent = refl
-event_closes s (event.ContentWhole tag) = refl
-event_closes s (event.OkSent x) = by (first_of s.oks)
-  where
-    by : (o : Option PathOk) → is_closed (globals o) ≡ false
-    by None = refl
-    by (Some ok.Flow) = refl
-    by (Some ok.Declare) = refl
-    by (Some ok.Select) = refl
-    by (Some (ok.Consume link)) = refl
-    by (Some (ok.Qos count true)) = refl
-    by (Some (ok.Qos count false)) = refl
-    by (Some ok.Cancel) = refl
-    by (Some ok.Queue) = refl
-    by (Some ok.Get) = refl
-    by (Some (ok.Empty own)) = refl
-    by (Some ok.Recover) = refl
-event_closes s event.LinesWent = refl
 event_closes s event.LifeClosed = refl
 event_closes s event.SessionLost = refl
 event_closes s event.UpLost = refl
+event_closes s x = none (delivery_events s x) (event_all (λ (d : DeliveryEvent). closes d ≡ false) mild s x (others x refl))
+  where
+    none : (ds : List DeliveryEvent) → AllByRecursion (λ (d : DeliveryEvent). closes d ≡ false) ds → is_closed ds ≡ false
+    none [] a = refl
+    none (d ∷ ds) a = ap (λ (b : Bool). b || is_closed ds) a.0 ∙ none ds a.1
+
+    mild : (d : DeliveryEvent) → is_mild d ≡ true → closes d ≡ false
+    mild on.Closed f = absurd cc
+    mild on.EndLost f = absurd cc
+    mild d f = refl
+
+    others : (x : PathEvent) → shuts x ≡ false → OfEvent (λ (d : DeliveryEvent). closes d ≡ false) s x
+    others (event.Consumed address tag no_ack no_wait) f = refl
+    others (event.Declared queue no_wait) f = refl
+    others (event.GetAsked queue no_ack) f = refl
+    others (event.TransferCame peer part payload image again) f = λ link d. refl
+    others (event.ContentWhole tag) f = refl
+    others event.LifeClosed f = absurd cc
+    others event.SessionLost f = absurd cc
+    others event.UpLost f = absurd cc
+    others x f = tt
 
 pub closed_is_shut : (life : ℕ) (es : List PathEvent) → is_closed (deliveries_of life es) ≡ are_shut es
 closed_is_shut life [] = refl
@@ -844,35 +673,21 @@ pub record IsGone (x : Side) : Type 0 where
 pub cut_goes : (n : ℕ) (h : List Step) → ArePicks h → was_cut n h ≡ true → IsGone (side_in h)
 cut_goes n [] p e = absurd cc
 cut_goes n (Began site number ms ∷ h) p e = absurd (clash _ e (ap (was_cut n) p.0))
-cut_goes n (Moment ms ∷ h) p e = cut_goes n h p.1 e
-cut_goes n (Fed end ∷ h) p e = cut_goes n h p.1 e
 cut_goes n (Silent Client ∷ h) p e = cut_goes n h p.1 e
-cut_goes n (Silent Up ∷ h) p e = cut_goes n h p.1 e
-cut_goes n (Queued u ∷ h) p e = cut_goes n h p.1 e
 cut_goes n (Came u ∷ h) p e = cut_goes n h p.1 (by (opens_channel n h (Came u)) e)
   where
     by : (b : Bool) → (if b then false else was_cut n h) ≡ true → was_cut n h ≡ true
     by true f = absurd cc
     by false f = f
-cut_goes n (TakenUp ∷ h) p e = cut_goes n h p.1 e
-cut_goes n (Heard u ∷ h) p e = cut_goes n h p.1 e
-cut_goes n (Joined link.Ok ∷ h) p e = absurd (clash _ (both_right _ (is_absent (side_in h)) (asked ∙ p.0)) (cut_goes n h p.1 e).there)
+cut_goes n (Joined link.Ok ∷ h) p e = absurd (clash _ (and_right _ (is_absent (side_in h)) (asked ∙ p.0)) (cut_goes n h p.1 e).there)
   where
-    both_right : (a b : Bool) → (a && b) ≡ true → b ≡ true
-    both_right true b f = f
-    both_right false b f = absurd cc
-
     asked : (is_opening (before h).conn && is_absent (side_in h)) ≡ is_connect_due (before h)
     asked = ap (λ (x : Side). is_opening (before h).conn && is_absent x) (sym (side_is (known h p.1)))
 cut_goes n (Joined link.Failed ∷ h) p e = record { unread = refl; there = refl }
-cut_goes n (Lost Client how ∷ h) p e = cut_goes n h p.1 e
 cut_goes n (Lost Up loss.Ended ∷ h) p e = record { unread = refl; there = refl }
 cut_goes n (Lost Up loss.Failed ∷ h) p e = record { unread = refl; there = refl }
 cut_goes n (Lost Up loss.Shut ∷ h) p e = record { unread = refl; there = refl }
-cut_goes n (Gave u text ∷ h) p e = cut_goes n h p.1 e
-cut_goes n (Whole end ∷ h) p e = cut_goes n h p.1 e
-cut_goes n (LinesTold ∷ h) p e = cut_goes n h p.1 e
-cut_goes n (OutOfMemory ∷ h) p e = cut_goes n h p.1 e
+cut_goes n (s ∷ h) p e = cut_goes n h p.1 e
 
 -- none was shut that is still read
 pub uncut_is : (h : List Step) (n : ℕ) → ArePicks h → is_readable (side_in h) ≡ true → was_cut n h ≡ false

@@ -1,7 +1,6 @@
 -- The error of the gateway's close to a container: what the first closing event says.
 use Rattle.std.proofs.Common.{Bool, List, None, Option, Some, [], ap, false, if◌then◌else◌, inl}
-use Rattle.std.proofs.Common.{inr, not, refl, subst, sym, true, ℕ, ◌&&◌, ◌++◌, ◌==◌, ◌||◌, ◌∙◌, ◌∷◌}
-use Rattle.std.proofs.Common.{◌≡◌, ◌⊎◌}
+use Rattle.std.proofs.Common.{inr, not, refl, subst, sym, true, ℕ, ◌&&◌, ◌++◌, ◌==◌, ◌||◌, ◌∙◌, ◌∷◌, ◌≡◌, ◌⊎◌}
 use Rattle.std.specs.List.{list_any}
 use Rattle.std.proofs.lemmas.List.Folds.{list_any-append}
 use Rattle.gate_outside.specs.declared.ports.End.TheVariants.{Client, Up}
@@ -16,7 +15,7 @@ use Rattle.machine_091.specs.declared.state.Connection.{Connection}
 use Rattle.machine_091.specs.declared.unit.Unit91.{Unit91}
 use Rattle.machine_10.specs.Transitions as ten
 use Rattle.machine_10.specs.Transitions.{Meaning}
-use Rattle.machine_10.specs.declared.state.Upstream.{Upstream, Upstream}
+use Rattle.machine_10.specs.declared.state.Upstream.{Upstream}
 use Rattle.machine_10.specs.declared.unit.Unit10.{Unit10}
 use Rattle.performatives_10.specs.declared.condition.Condition.{Condition}
 use Rattle.performatives_10.specs.declared.condition.Condition.TheVariants.{ResourceLimitExceeded}
@@ -30,29 +29,21 @@ use Rattle.gate_model.specs.declared.outgoing.UpUnit.{UpUnit}
 use Rattle.gate_model.specs.Asked.{closing_condition, condition_at, condition_told, is_up_close}
 use Rattle.gate_model.specs.Folds.{Peers, accepted_in, closes_connection, connection, container}
 use Rattle.gate_model.specs.Folds.{leaving_in, paths_in, peers, peers_by, peers_came, peers_heard}
-use Rattle.gate_model.specs.Folds.{carried_on, peers_left, peers_scoped, ran_out_in, routes_in, scope_in}
-use Rattle.gate_model.specs.Folds.{sent_up}
+use Rattle.gate_model.specs.Folds.{carried_on, peers_left, peers_scoped, ran_out_in, routes_in, scope_in, sent_up}
 use Rattle.gate_model.specs.Picks.{ArePicks}
 use Rattle.gate_model.specs.Requests.{client_step}
-use Rattle.gate_model.specs.State.{Began, Came, Fed, Gave, Heard, Joined, LinesTold, Lost, Moment}
-use Rattle.gate_model.specs.State.{OutOfMemory}
+use Rattle.gate_model.specs.State.{Began, Came, Fed, Gave, Heard, Joined, LinesTold, Lost, Moment, OutOfMemory}
 use Rattle.gate_model.specs.State.{Queued, Silent, State, Step, TakenUp, Whole, before, paths_lost}
 use Rattle.gate_model.specs.State.{begun_session, came, carried, close_if, closed_for, closing_code}
 use Rattle.gate_model.specs.State.{closing_error, condition_by, conn_step, dequeued, fail}
-use Rattle.gate_model.specs.State.{failed, heard, is_limit_reached, left, life_failed}
-use Rattle.gate_model.specs.State.{runs, with_meaning, link_scope, scoped, windowed}
-use Rattle.gate_model.specs.Upstream.{UpState, channel_max_in, container_by, heard_up, lost_by}
-use Rattle.gate_model.specs.Upstream.{meaning_by, shut_by}
+use Rattle.gate_model.specs.State.{failed, heard, is_limit_reached, left, life_failed, runs, with_meaning, link_scope, scoped, windowed}
+use Rattle.gate_model.specs.Upstream.{UpState, channel_max_in, container_by, heard_up, lost_by, meaning_by, shut_by}
 use Rattle.close_translate.specs.declared.conditions.Scope.TheVariants as scope
-use Rattle.gate_model.proofs.Connections.{clash, close_closes, closing_only, only_given}
-use Rattle.gate_model.proofs.Connections.{opening_early, step_closes}
-use Rattle.gate_model.proofs.Outcomes.{only_closing}
+use Rattle.gate_model.proofs.Basics.{or_one}
+use Rattle.gate_model.proofs.Connections.{clash, close_closes, closing_only, only_given, opening_early, step_closes}
+use Rattle.gate_model.proofs.Outcomes.{only_closing, Outcome, Refuses, Declines, Drops, outcome}
 use Rattle.gate_model.proofs.Sessions.{conn_cases, peers_at, session_on}
-use Rattle.gate_model.proofs.Known.{Known, closing_is, conn_is, container_is, keep_is, known}
-use Rattle.gate_model.proofs.Known.{Knows, knows, memory_is, paths_are, routes_are}
-use Rattle.gate_model.proofs.Outcomes.{Outcome, Greets, Parts, LogsIn, Tunes, Asks, Passes, Refuses}
-use Rattle.gate_model.proofs.Outcomes.{Declines, Drops, Parting, Calls, Asking, Publishes, Fills}
-use Rattle.gate_model.proofs.Outcomes.{Frees, Closes, Answers, Ignores, outcome}
+use Rattle.gate_model.proofs.Known.{Known, closing_is, conn_is, container_is, keep_is, known, Knows, knows, memory_is, paths_are, routes_are}
 use Rattle.gate_model.proofs.Said.{shuts_in}
 use Rattle.gate_model.proofs.Ups.{Picked, goes_up, is_a_close}
 use Rattle.gate_model.specs.declared.setup.Route.{Route}
@@ -128,30 +119,12 @@ unit_told : (rs : List Route) (ps : List (Option PathState)) (c : Connection) (u
 unit_told rs ps c u = by (client_step rs ps c u) (outcome rs ps c u)
   where
     by : (x : machine.Step) → Outcome c u x → is_closing (x.0) ≡ false → condition_by x.1 ≡ None
-    by _ (Greets e) k = refl
-    by _ (Parts e) k = refl
-    by _ (LogsIn m r e) k = refl
-    by _ (Tunes l e) k = refl
-    by _ (Asks e) k = refl
-    by _ Passes k = refl
     by _ (Refuses r a f e g) k = absurd cc
     by _ (Declines r d o e g) k = let closes = close_closes d.phase in absurd cc
     by _ (Drops r d o e g) k = rw g refl
-    by _ (Parting e) k = refl
-    by _ (Calls n s m e) k = refl
-    by _ (Asking n m e) k = refl
-    by _ (Publishes n m x e) k = refl
-    by _ (Fills n i e) k = refl
-    by _ (Frees n e) k = refl
-    by _ (Closes e) k = refl
-    by _ (Answers e) k = refl
-    by _ (Ignores e) k = refl
+    by _ x k = refl
 
 meaning_told : (m : Meaning) (x : Peers) → is_closing (peers_by m x).client ≡ false → condition_told x m ≡ None
-meaning_told ten.Nothing x e = refl
-meaning_told ten.Init x e = refl
-meaning_told ten.AmqpHeader x e = refl
-meaning_told ten.Opened x e = refl
 meaning_told (ten.OfSession g q payload) x e = by (scope_in x g q payload) e
   where
     why : Condition
@@ -164,30 +137,21 @@ meaning_told (ten.OfSession g q payload) x e = by (scope_in x g q payload) e
     by None e = refl
     by (Some scope.Connection) e = absurd (clash _ (close_closes x.client.phase) e)
     by (Some scope.Channel) e = refl
-meaning_told (ten.Closed t) x e = refl
-meaning_told ten.Refused x e = refl
 meaning_told (ten.Violation why) x e = absurd (clash _ (close_closes x.client.phase) e)
+meaning_told y x e = refl
 
 step_told : (s : Step) (h : List Step) → ran_out_in h ≡ false → is_closing (connection (s ∷ h)) ≡ false → condition_at s h ≡ None
-step_told (Began site n ms) h m e = refl
-step_told (Moment ms) h m e = refl
 step_told (Fed Client) h m e = refl
 step_told (Fed Up) h m e = refl
 step_told (Silent Client) h m e = refl
 step_told (Silent Up) h m e = absurd (clash _ (close_closes (connection h).phase) e)
-step_told (Queued u) h m e = refl
 step_told (Came u) h m e =
     unit_told (routes_in h) (paths_in h) (connection h) u (subst (λ (b : Bool). is_closing (if b then peers h else peers_came (peers h) u).client ≡ false) m e)
-step_told TakenUp h m e = refl
 step_told (Heard u) h m e =
     meaning_told (meaning_by (container h) u) (record (peers h) { container = container_by (container h) u })
     (subst (λ (b : Bool). is_closing (if b then peers h else peers_heard (peers h) u).client ≡ false) m e)
-step_told (Joined answer) h m e = refl
-step_told (Lost end how) h m e = refl
-step_told (Gave u text) h m e = refl
-step_told (Whole end) h m e = refl
-step_told LinesTold h m e = refl
 step_told OutOfMemory h m e = absurd (clash _ (close_closes (connection h).phase) e)
+step_told x h m e = refl
 
 none_told : (h : List Step) → ArePicks h → is_closing (connection h) ≡ false → closing_condition h ≡ None
 none_told [] p e = refl
@@ -284,13 +248,7 @@ same_told m p q e f =
   where
     by : (m : Meaning) → condition_told (record p { paths = q.paths; carried = q.carried }) m ≡ condition_told q m
     by ten.Nothing = refl
-    by ten.Init = refl
-    by ten.AmqpHeader = refl
-    by ten.Opened = refl
-    by (ten.OfSession g r payload) = refl
-    by (ten.Closed x) = refl
-    by ten.Refused = refl
-    by (ten.Violation why) = refl
+    by x = refl
 
 conditions_heard : (w : State) (u : Unit10) (m : Bool) (p : Peers) (b : Option Condition) → Knows p.carried (meaning_by w.up.container u) w.lives w.paths
     → w.conn ≡ p.client → w.up.container ≡ p.container → w.paths ≡ p.paths → w.up.condition ≡ b
@@ -329,9 +287,7 @@ pub condition_is : (h : List Step) → ArePicks h → (before h).up.condition �
 condition_is [] p = refl
 condition_is (Began site n ms ∷ h) p =
     subst (λ (x : List Step). (before (Began site n ms ∷ x)).up.condition ≡ closing_condition (Began site n ms ∷ x)) (sym p.0) refl
-condition_is (Moment ms ∷ h) p = quiet _ _ _ (condition_is h p.1) (none_told h p.1)
 condition_is (Fed Client ∷ h) p = quiet _ _ _ (condition_is h p.1) (none_told h p.1)
-condition_is (Fed Up ∷ h) p = quiet _ _ _ (condition_is h p.1) (none_told h p.1)
 condition_is (Silent Client ∷ h) p =
     let k : Known h = known h p.1 in
     conditions_taken (before h) true (connection h) (closing_condition h) (conn_is k) (condition_is h p.1) (none_told h p.1)
@@ -351,25 +307,19 @@ condition_is (Heard u ∷ h) p =
     ap (λ (m : Bool). (if m then before h else heard (before h) u).up.condition) (memory_is k)
     ∙ conditions_heard (before h) u (ran_out_in h) (peers h) (closing_condition h) (knows h u k) (conn_is k) (container_is k) (paths_are k) (condition_is h p.1)
     (none_told h p.1) (shuts_in k)
-condition_is (Joined link.Ok ∷ h) p = quiet _ _ _ (condition_is h p.1) (none_told h p.1)
 condition_is (Joined link.Failed ∷ h) p =
     conditions_failed (record (before h) { paths = told_paths (before h).paths }) (shut_by (before h).up) (connection h) (closing_condition h) (conn_is (known h p.1)) (condition_is h p.1)
 condition_is (Lost Client loss.Ended ∷ h) p = quiet _ _ _ (condition_is h p.1) (none_told h p.1)
-condition_is (Lost Client loss.Failed ∷ h) p = quiet _ _ _ (condition_is h p.1) (none_told h p.1)
-condition_is (Lost Client loss.Shut ∷ h) p = quiet _ _ _ (condition_is h p.1) (none_told h p.1)
 condition_is (Lost Up loss.Ended ∷ h) p =
     conditions_failed (record (before h) { paths = paths_lost (before h).paths }) (lost_by side.Ended (before h).up) (connection h) (closing_condition h) (conn_is (known h p.1)) (condition_is h p.1)
 condition_is (Lost Up loss.Failed ∷ h) p =
     conditions_failed (record (before h) { paths = paths_lost (before h).paths }) (lost_by side.Failed (before h).up) (connection h) (closing_condition h) (conn_is (known h p.1)) (condition_is h p.1)
-condition_is (Lost Up loss.Shut ∷ h) p = quiet _ _ _ (condition_is h p.1) (none_told h p.1)
 condition_is (Gave (ToClient u) text ∷ h) p = quiet _ _ _ (condition_is h p.1) (none_told h p.1)
-condition_is (Gave (ToUp u) text ∷ h) p = quiet _ _ _ (condition_is h p.1) (none_told h p.1)
 condition_is (Whole Client ∷ h) p = quiet _ _ _ (condition_is h p.1) (none_told h p.1)
-condition_is (Whole Up ∷ h) p = quiet _ _ _ (condition_is h p.1) (none_told h p.1)
-condition_is (LinesTold ∷ h) p = quiet _ _ _ (condition_is h p.1) (none_told h p.1)
 condition_is (OutOfMemory ∷ h) p =
     ap (λ (s : UpState). s.condition) (closing_is (is_closing (before h).conn) _ (before h).up)
     ∙ told (before h) (connection h) (closing_condition h) _ (conn_is (known h p.1)) (condition_is h p.1)
+condition_is (s ∷ h) p = quiet _ _ _ (condition_is h p.1) (none_told h p.1)
 
 -- ---- the gateway's close goes to a connection that is closing
 
@@ -383,10 +333,6 @@ closing_now h b p e = sym (ap is_closing (conn_is k)) ∙ by (before h).out_of_m
     by : (m : Bool) → (before h).out_of_memory ≡ m → is_closing (before h).conn ≡ (m || is_closing (before h).conn)
     by true f = k.sound.shuts f
     by false f = refl
-
-or_one : (b : Bool) → (b || false) ≡ b
-or_one true = refl
-or_one false = refl
 
 closes_by : (h : List Step) (u : UpUnit) → ArePicks h → Picked ((before h).out_of_memory || is_closing (before h).conn) (before h) u
     → (list_any is_up_close (sent_up h) ≡ true → is_closing (connection h) ≡ true) → (list_any is_up_close (sent_up h) || is_up_close u) ≡ true

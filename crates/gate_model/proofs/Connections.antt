@@ -4,14 +4,12 @@ use Rattle.std.proofs.Common.{List, None, Some, refl, sym, ap, ◌∙◌, subst,
 use Rattle.std.specs.Prelude.{is_some}
 use Rattle.std.proofs.lemmas.Bool.Decides.{nat_tests}
 use Rattle.machine_091.specs.Calls.{after_closed, after_ended, after_opened, after_told}
-use Rattle.machine_091.specs.Calls.{closing_contents, closing_phase, freed_channel, opened_phase}
-use Rattle.machine_091.specs.Calls.{told_channel}
+use Rattle.machine_091.specs.Calls.{closing_contents, closing_phase, freed_channel, opened_phase, told_channel}
 use Rattle.machine_091.specs.declared.state.Channel91.{Channel91}
 use Rattle.machine_091.specs.declared.state.Channel91.TheVariants as channel
 use Rattle.gate_model.specs.declared.reply.Reply.{Reply}
 use Rattle.gate_model.specs.declared.reply.Reply.TheVariants as reply
-use Rattle.machine_091.specs.State.{awaits, channel_at, is_closing, is_closing_phase, is_open_phase}
-use Rattle.machine_091.specs.State.{is_opening}
+use Rattle.machine_091.specs.State.{awaits, channel_at, is_closing, is_closing_phase, is_open_phase, is_opening}
 use Rattle.machine_091.specs.Transitions.{stream_after}
 use Rattle.machine_091.specs.Transitions as machine
 use Rattle.machine_091.specs.declared.state.Connection.{Connection}
@@ -24,14 +22,11 @@ use Rattle.machine_091.specs.declared.unit.Unit91.TheVariants as unit
 use Rattle.gate_model.specs.declared.timers.TheConstants.{HANDSHAKE_LIMIT}
 use Rattle.gate_model.specs.Picks.{MayComeAs}
 use Rattle.gate_model.specs.Requests.{client_step}
-use Rattle.gate_model.specs.State.{close, close_if, closes_at, conn_given, conn_step, has_left}
-use Rattle.gate_model.specs.State.{is_limit_reached}
+use Rattle.gate_model.specs.State.{close, close_if, closes_at, conn_given, conn_step, has_left, is_limit_reached}
 use Rattle.session_path.specs.Path.{PathState}
 use Rattle.gate_model.specs.declared.setup.Route.{Route}
-use Rattle.gate_model.proofs.Outcomes.{OnlyChannels, none_differ, one_differs}
-use Rattle.gate_model.proofs.Outcomes.{Outcome, Greets, Parts, LogsIn, Tunes, Asks, Passes, Refuses}
-use Rattle.gate_model.proofs.Outcomes.{Declines, Drops, Parting, Calls, Asking, Publishes, Fills}
-use Rattle.gate_model.proofs.Outcomes.{Frees, Closes, Answers, Ignores, outcome}
+use Rattle.gate_model.proofs.Outcomes.{OnlyChannels, none_differ, one_differs, Outcome, Greets, Parts, LogsIn, Tunes, Asks, Refuses}
+use Rattle.gate_model.proofs.Outcomes.{Declines, Drops, Parting, Closes, Answers, Ignores, outcome}
 
 -- ---- phases
 
@@ -43,12 +38,7 @@ clash b is isnt = absurd cc
 
 pub close_closes : (p : Phase91) → is_closing_phase (closing_phase p) ≡ true
 close_closes phase.Header = refl
-close_closes phase.Start = refl
-close_closes phase.Tune = refl
-close_closes phase.Open = refl
-close_closes phase.Running = refl
-close_closes phase.Closing = refl
-close_closes phase.Closed = refl
+close_closes x = refl
 
 -- a connection that is closing stays as it is
 pub close_same : (c : Connection) → is_closing c ≡ true → close c ≡ c
@@ -56,13 +46,9 @@ close_same c = by c.phase
   where
     by : (p : Phase91) → is_closing_phase p ≡ true
         → record c { phase = closing_phase p; contents = closing_contents p c.contents } ≡ record c { phase = p }
-    by phase.Header e = absurd cc
-    by phase.Start e = absurd cc
-    by phase.Tune e = absurd cc
-    by phase.Open e = absurd cc
-    by phase.Running e = absurd cc
     by phase.Closing e = refl
     by phase.Closed e = refl
+    by x e = absurd cc
 
 -- ---- the container opened
 
@@ -70,13 +56,8 @@ pub opening_phase : (c : Connection) → is_opening c ≡ true → c.phase ≡ p
 opening_phase c = by c.phase c.asked
   where
     by : (p : Phase91) (b : Bool) → (is_open_phase p && b) ≡ true → p ≡ phase.Open
-    by phase.Header b e = absurd cc
-    by phase.Start b e = absurd cc
-    by phase.Tune b e = absurd cc
     by phase.Open b e = refl
-    by phase.Running b e = absurd cc
-    by phase.Closing b e = absurd cc
-    by phase.Closed b e = absurd cc
+    by x b e = absurd cc
 
 pub opening_early : (c : Connection) → is_opening c ≡ true → is_closing c ≡ true → ⊥
 opening_early c e k = other_phase c.phase phase.Open (opening_phase c e) refl k
@@ -85,14 +66,10 @@ pub opened_runs : (most : ℕ) (c : Connection) → is_opening c ≡ true → (a
 opened_runs most c = by c.phase c.asked
   where
     by : (p : Phase91) (b : Bool) → (is_open_phase p && b) ≡ true → opened_phase b p ≡ phase.Running
-    by phase.Header b e = absurd cc
-    by phase.Start b e = absurd cc
-    by phase.Tune b e = absurd cc
     by phase.Open true e = refl
     by phase.Open false e = absurd cc
     by phase.Running b e = refl
-    by phase.Closing b e = absurd cc
-    by phase.Closed b e = absurd cc
+    by x b e = absurd cc
 
 -- ---- channels
 
@@ -116,19 +93,9 @@ only_closed n c = by (channel_at c n)
 
 -- so it is where a unit went to the client
 pub only_given : (u : Reply) (c : Connection) → OnlyChannels c (conn_given u c)
-only_given reply.Protocol c = none_differ c
-only_given reply.Start c = none_differ c
-only_given reply.Tune c = none_differ c
-only_given reply.OpenOk c = none_differ c
-only_given reply.CloseOk c = none_differ c
-only_given (reply.Close r) c = none_differ c
-only_given reply.NoMemory c = none_differ c
-only_given reply.Heartbeat c = none_differ c
-only_given (reply.ChannelOpenOk n) c = none_differ c
-only_given (reply.OnChannel n u) c = none_differ c
 only_given (reply.ChannelCloseOk n) c = only_closed n c
-only_given (reply.CrossedOk n) c = none_differ c
 only_given (reply.ChannelClose n r) c = only_told n c
+only_given x c = none_differ c
 
 pub phase_only : {c d : Connection} → OnlyChannels c d → d.phase ≡ c.phase
 phase_only o = ap (λ (x : Connection). x.phase) o.same
@@ -158,67 +125,34 @@ step_closes rs ps c u k = by (client_step rs ps c u) (outcome rs ps c u)
     by _ (Parts e) = refl
     by _ (LogsIn m r e) = absurd (other_phase c.phase phase.Start e refl k)
     by _ (Tunes l e) = absurd (other_phase c.phase phase.Tune e refl k)
-    by _ (Asks e) = k
-    by _ Passes = k
     by _ (Refuses r a f e g) = refl
     by _ (Declines r d o e g) = close_closes d.phase
     by _ (Drops r d o e g) = closing_only o ∙ k
     by _ (Parting e) = refl
-    by _ (Calls n s m e) = k
-    by _ (Asking n m e) = k
-    by _ (Publishes n m x e) = k
-    by _ (Fills n i e) = k
-    by _ (Frees n e) = k
     by _ (Closes e) = refl
     by _ (Answers e) = refl
-    by _ (Ignores e) = k
+    by _ x = k
 
 -- a closing connection isn't asked to open any more
 pub step_asked : (rs : List Route) (ps : List (Option PathState)) (c : Connection) (u : Unit91) → is_closing c ≡ true → (conn_step rs ps c u).asked ≡ c.asked
 step_asked rs ps c u k = by (client_step rs ps c u) (outcome rs ps c u)
   where
     by : (x : machine.Step) → Outcome c u x → (Next x).asked ≡ c.asked
-    by _ (Greets e) = refl
-    by _ (Parts e) = refl
-    by _ (LogsIn m r e) = refl
-    by _ (Tunes l e) = refl
     by _ (Asks e) = absurd (other_phase c.phase phase.Open e refl k)
-    by _ Passes = refl
     by _ (Refuses r a f e g) = absurd (clash (is_closing c) k e)
     by _ (Declines r d o e g) = asked_only o
     by _ (Drops r d o e g) = asked_only o
-    by _ (Parting e) = refl
-    by _ (Calls n s m e) = refl
-    by _ (Asking n m e) = refl
-    by _ (Publishes n m x e) = refl
-    by _ (Fills n i e) = refl
-    by _ (Frees n e) = refl
-    by _ (Closes e) = refl
-    by _ (Answers e) = refl
-    by _ (Ignores e) = refl
+    by _ x = refl
 
 pub step_stays_asked : (rs : List Route) (ps : List (Option PathState)) (c : Connection) (u : Unit91) → c.asked ≡ true → (conn_step rs ps c u).asked ≡ true
 step_stays_asked rs ps c u k = by (client_step rs ps c u) (outcome rs ps c u)
   where
     by : (x : machine.Step) → Outcome c u x → (Next x).asked ≡ true
-    by _ (Greets e) = k
-    by _ (Parts e) = k
-    by _ (LogsIn m r e) = k
-    by _ (Tunes l e) = k
     by _ (Asks e) = refl
-    by _ Passes = k
     by _ (Refuses r a f e g) = f k
     by _ (Declines r d o e g) = asked_only o ∙ k
     by _ (Drops r d o e g) = asked_only o ∙ k
-    by _ (Parting e) = k
-    by _ (Calls n s m e) = k
-    by _ (Asking n m e) = k
-    by _ (Publishes n m x e) = k
-    by _ (Fills n i e) = k
-    by _ (Frees n e) = k
-    by _ (Closes e) = k
-    by _ (Answers e) = k
-    by _ (Ignores e) = k
+    by _ x = k
 
 stays_here : (u : Unit91) (s : Stream91) → has_left (stream_after u s) ≡ true → has_left s ≡ true
 stays_here unit.Protocol stream.Header e = absurd cc
@@ -237,34 +171,20 @@ step_here rs ps c u = by (client_step rs ps c u) (outcome rs ps c u)
     by : (x : machine.Step) → Outcome c u x → has_left (Next x).stream ≡ true → has_left c.stream ≡ true
     by _ (Greets e) k = absurd cc
     by _ (Parts e) k = absurd cc
-    by _ (LogsIn m r e) k = k
-    by _ (Tunes l e) k = k
-    by _ (Asks e) k = k
-    by _ Passes k = k
     by _ (Refuses r a f e g) k = stays_here u c.stream k
     by _ (Declines r d o e g) k = sym (ap has_left (stream_only o)) ∙ k
     by _ (Drops r d o e g) k = sym (ap has_left (stream_only o)) ∙ k
-    by _ (Parting e) k = k
-    by _ (Calls n s m e) k = k
-    by _ (Asking n m e) k = k
-    by _ (Publishes n m x e) k = k
-    by _ (Fills n i e) k = k
-    by _ (Frees n e) k = k
-    by _ (Closes e) k = k
     by _ (Answers e) k = absurd cc
     by _ (Ignores e) k = stays_here u c.stream k
+    by _ x k = k
 
 -- nothing is awaited of an end that ended
 pub none_comes : (c : Connection) (u : Unit91) → has_left c.stream ≡ true → MayComeAs (awaits c) u → ⊥
 none_comes c u = by c.stream
   where
     by : (s : Stream91) → has_left s ≡ true → MayComeAs (awaits (record c { stream = s })) u → ⊥
-    by stream.Header e m = absurd cc
-    by stream.Frames e m = absurd cc
-    by stream.Foreign e m = absurd cc
-    by stream.Bad e m = absurd cc
-    by stream.Answered e m = absurd cc
     by stream.Ended e m = m
+    by x e m = absurd cc
 
 -- ---- closing events
 

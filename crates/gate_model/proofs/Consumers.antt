@@ -1,7 +1,6 @@
 -- The tags of consumers are short, and what goes to a client of deliveries fits it: of each channel whose life is in progress, by its events.
 use Rattle.std.proofs.Common.{◌≡◌, ℕ, zero, suc, ◌+◌, ◌==◌, ◌≤◌, ◌&&◌, not, Bool, true, false}
-use Rattle.std.proofs.Common.{if◌then◌else◌, cond, List, [], ◌∷◌, ◌++◌, filter, find, length, map}
-use Rattle.std.proofs.Common.{codes, decimal, Option, None}
+use Rattle.std.proofs.Common.{if◌then◌else◌, cond, List, [], ◌∷◌, ◌++◌, filter, find, length, map, codes, decimal, Option, None}
 use Rattle.std.proofs.Common.{Some, refl, sym, subst, arith}
 use Rattle.std.proofs.lemmas.List.{length-append}
 use Rattle.std.specs.Fmt.{digit_glyph, digits, digits_onto}
@@ -13,37 +12,25 @@ use Rattle.consume_path.specs.Deliveries.{DeliveryEvent, DeliveryState}
 use Rattle.consume_path.specs.Items as items
 use Rattle.consume_path.specs.Items.{needs_content, new_delivery, trimmed}
 use Rattle.consume_path.specs.Links as links
-use Rattle.consume_path.specs.Links.{consumer_link, has_number, link_of, new_link, recount, tag_in}
-use Rattle.consume_path.specs.Offers.{content_in, content_of as content_at, has_content, is_drained}
+use Rattle.consume_path.specs.Links.{has_number, link_of, new_link, recount, tag_in}
+use Rattle.consume_path.specs.Offers.{content_in, content_of as content_at, has_content}
 use Rattle.consume_path.specs.declared.delivery.Arriving.{Arriving}
 use Rattle.consume_path.specs.declared.delivery.Content.{Content}
 use Rattle.consume_path.specs.declared.delivery.Delivery.{Delivery}
-use Rattle.consume_path.specs.declared.delivery.NextSettle.{NextSettle}
-use Rattle.consume_path.specs.declared.receiving.NextGrant.{NextGrant}
-use Rattle.consume_path.specs.declared.receiving.Part.{Part}
 use Rattle.consume_path.specs.declared.receiving.ReceivingLink.{ReceivingLink}
 use Rattle.consume_path.specs.declared.receiving.RecvKind.{RecvKind}
 use Rattle.consume_path.specs.declared.receiving.RecvKind.TheVariants as kind
 use Rattle.session_path.specs.Due.{next_name, or_no_name}
 use Rattle.session_path.specs.Events as event
-use Rattle.session_path.specs.Events.{PathEvent, after_events, arrivals, begins, cancels}
-use Rattle.session_path.specs.Events.{deliveries_of, delivery_events}
-use Rattle.session_path.specs.Events.{counts, disposes, drops, echoes, empties, flows, gets}
-use Rattle.session_path.specs.Events.{globals, grants, prefetches, transfers}
+use Rattle.session_path.specs.Events.{PathEvent, after_events, deliveries_of, delivery_events, gets}
 use Rattle.session_path.specs.Laws.{IsBackOf, begun_names, named_by, names_owed, queue_in}
-use Rattle.session_path.specs.Path.{declares_in, is_answered}
+use Rattle.session_path.specs.Path.{declares_in, is_answered, PathState, first_of, free_from, numbered_tag, tag_for}
 use Rattle.session_path.specs.declared.path.Awaited.{Awaited}
-use Rattle.session_path.specs.Path.{PathState, first_of, free_from, grant_in, is_grant_next}
-use Rattle.session_path.specs.Path.{is_last, numbered_tag}
-use Rattle.session_path.specs.Path.{detaching_of, flow_in, get_link, queue_or, receiver_in}
-use Rattle.session_path.specs.Path.{transferred}
-use Rattle.session_path.specs.Path.{tag_for, taking}
-use Rattle.session_path.specs.Links.{asked_by, named}
+use Rattle.session_path.specs.Links.{asked_by}
 use Rattle.session_path.specs.declared.path.AttachHeard.{AttachHeard}
 use Rattle.session_path.specs.declared.path.PathLink.{PathLink}
-use Rattle.session_path.specs.declared.path.PathOk.{PathOk}
-use Rattle.session_path.specs.declared.path.PathOk.TheVariants as ok
-use Rattle.consume_path.specs.Offers.{next_settle_of}
+use Rattle.gate_model.proofs.Basics.{all_both}
+use Rattle.gate_model.proofs.Brought.{OfEvent, event_all, is_mild}
 use Rattle.gate_model.proofs.Fitting.{AreFit, fit_more}
 use Rattle.gate_model.proofs.Reports.{DeliveriesAre}
 
@@ -53,17 +40,13 @@ all_mapped : {A B : Type 0} (P : A → Type 0) (Q : B → Type 0) (f : A → B) 
 all_mapped P Q f [] is a = tt
 all_mapped P Q f (x ∷ xs) is a = (is x a.0, all_mapped P Q f xs is a.1)
 
-all_left : {A : Type 0} (P : A → Type 0) (t : A → Bool) (xs : List A) → AllByRecursion P xs → AllByRecursion P (filter t xs)
+pub all_left : {A : Type 0} (P : A → Type 0) (t : A → Bool) (xs : List A) → AllByRecursion P xs → AllByRecursion P (filter t xs)
 all_left P t [] a = tt
 all_left P t (x ∷ xs) a = by (t x) (all_left P t xs a.1)
   where
     by : (b : Bool) → AllByRecursion P (filter t xs) → AllByRecursion P (cond b (x ∷ filter t xs) (filter t xs))
     by true rest = (a.0, rest)
     by false rest = rest
-
-pub all_both : {A : Type 0} (P : A → Type 0) (xs ys : List A) → AllByRecursion P xs → AllByRecursion P ys → AllByRecursion P (xs ++ ys)
-all_both P [] ys a b = b
-all_both P (x ∷ xs) ys a b = (a.0, all_both P xs ys a.1 b)
 
 all_changed : {A : Type 0} (P : A → Type 0) (t : A → Bool) (f : A → A) (xs : List A) → ((x : A) → P x → P (f x)) → AllByRecursion P xs
     → AllByRecursion P (links.change_first t f xs)
@@ -79,7 +62,7 @@ abbrev pub IfThere : {A : Type 0} → (A → Type 0) → Option A → Type 0
 IfThere P None = Unit {0}
 IfThere P (Some x) = P x
 
-all_found : {A : Type 0} (P : A → Type 0) (t : A → Bool) (xs : List A) → AllByRecursion P xs → IfThere P (find t xs)
+pub all_found : {A : Type 0} (P : A → Type 0) (t : A → Bool) (xs : List A) → AllByRecursion P xs → IfThere P (find t xs)
 all_found P t [] a = tt
 all_found P t (x ∷ xs) a = by (t x) (all_found P t xs a.1)
   where
@@ -152,25 +135,8 @@ on_links l f s is a = record { links = linked f s.links is a.links; list = a.lis
 -- an event that brings neither a long tag nor a frame past the limit
 abbrev pub IsGoodOn : ℕ → DeliveryEvent → Type 0
 IsGoodOn l (on.LinkAdded link k) = IsShort k
-IsGoodOn l (on.LinkAttached link count) = Unit {0}
-IsGoodOn l (on.LinkFlowed link count) = Unit {0}
-IsGoodOn l (on.LinkEchoed link) = Unit {0}
-IsGoodOn l (on.GetCame link no_ack) = Unit {0}
-IsGoodOn l (on.TransferCame link part payload) = Unit {0}
 IsGoodOn l (on.Arrived arriving content again) = IfFit l content
-IsGoodOn l (on.LinkDropped link) = Unit {0}
-IsGoodOn l (on.Delivered number) = Unit {0}
-IsGoodOn l (on.Written tag) = Unit {0}
-IsGoodOn l (on.Answered tag multiple settle) = Unit {0}
-IsGoodOn l (on.Cancelled link) = Unit {0}
-IsGoodOn l on.Closed = Unit {0}
-IsGoodOn l on.EndLost = Unit {0}
-IsGoodOn l (on.PrefetchSet count) = Unit {0}
-IsGoodOn l (on.GlobalSet count) = Unit {0}
-IsGoodOn l (on.SettleSent settle) = Unit {0}
-IsGoodOn l (on.GrantSent grant) = Unit {0}
-IsGoodOn l (on.Emptied link) = Unit {0}
-IsGoodOn l on.LinesTold = Unit {0}
+IsGoodOn l x = Unit {0}
 
 -- one that arrived, with its content
 abbrev arrived_as : Bool → ℕ → Arriving → Option Content → Bool → Delivery
@@ -241,37 +207,11 @@ good_after l life (x ∷ h) a = stays_good l x (on.after_events life h) a.0 (goo
 
 -- of which each tag that a client asks for is short, and each content that arrives fits
 abbrev pub IsGood : ℕ → PathEvent → Type 0
-IsGood l (event.Began handle_max) = Unit {0}
-IsGood l (event.Published address payload back) = Unit {0}
-IsGood l event.Selected = Unit {0}
-IsGood l (event.Owed ok) = Unit {0}
 IsGood l (event.Consumed address tag no_ack no_wait) = length tag ≤ 255
 IsGood l (event.CancelCame tag no_wait) = length tag ≤ 255
 IsGood l (event.Declared queue no_wait) = length queue ≤ 255
-IsGood l (event.GetAsked queue no_ack) = Unit {0}
-IsGood l (event.AnswerCame tag multiple settle) = Unit {0}
-IsGood l (event.AttachCame attach) = Unit {0}
-IsGood l (event.FlowCame peer count credit drain echo) = Unit {0}
-IsGood l (event.DetachCame peer not_found) = Unit {0}
 IsGood l (event.TransferCame peer part payload image again) = IfFit l image
-IsGood l (event.LinkFailed peer fault) = Unit {0}
-IsGood l (event.DispositionCame first last outcome settled) = Unit {0}
-IsGood l (event.AttachSent name) = Unit {0}
-IsGood l event.LinkFlowSent = Unit {0}
-IsGood l (event.TransferSent frame count) = Unit {0}
-IsGood l (event.SettleSent settling) = Unit {0}
-IsGood l event.DisposeSent = Unit {0}
-IsGood l event.DetachSent = Unit {0}
-IsGood l (event.ConfirmWent confirm) = Unit {0}
-IsGood l (event.ReturnWent number) = Unit {0}
-IsGood l (event.DeliverSent due) = Unit {0}
-IsGood l event.ContentSent = Unit {0}
-IsGood l (event.ContentWhole tag) = Unit {0}
-IsGood l (event.OkSent ok) = Unit {0}
-IsGood l event.LinesWent = Unit {0}
-IsGood l event.LifeClosed = Unit {0}
-IsGood l event.SessionLost = Unit {0}
-IsGood l event.UpLost = Unit {0}
+IsGood l x = Unit {0}
 
 fit_still : (l m : ℕ) (o : Option Content) → l ≤ m → IfFit l o → IfFit m o
 fit_still l m None le f = tt
@@ -297,7 +237,7 @@ digits_few (suc k) base upper n acc = by (n / base == 0) (digits_few k base uppe
     by true e = omega arith
     by false e = omega (arith, e)
 
-decimal_few : (n : ℕ) → length (decimal n) ≤ 64
+pub decimal_few : (n : ℕ) → length (decimal n) ≤ 64
 unfolding digits
 decimal_few n = let few : length (digits_onto 64 10 false n []) ≤ 64 + 0 = digits_few 64 10 false n [] in omega (arith, few)
 
@@ -311,115 +251,21 @@ tag_short : (tag : List ℕ) (ls : List ReceivingLink) → length tag ≤ 255 �
 tag_short [] ls e = numbered_short (free_from (length ls) 1 ls)
 tag_short (c ∷ tag) ls e = e
 
-begins_good : (l : ℕ) (o : Option PathLink) (a : AttachHeard) → AllByRecursion (IsGoodOn l) (begins o a)
-begins_good l None a = tt
-begins_good l (Some k) a = by (k.receives && a.there)
-  where
-    by : (b : Bool) → AllByRecursion (IsGoodOn l) (if b then on.LinkAttached k.link a.count ∷ [] else [])
-    by true = (tt, tt)
-    by false = tt
+mild_good : (l : ℕ) (d : DeliveryEvent) → is_mild d ≡ true → IsGoodOn l d
+mild_good l (on.LinkAdded link k) e = absurd cc
+mild_good l (on.Arrived a content again) e = absurd cc
+mild_good l d e = tt
 
-gets_good : (l : ℕ) (o : Option PathLink) (no_ack : Bool) (s : PathState) → AllByRecursion (IsGoodOn l) (gets o no_ack s)
-gets_good l None no_ack s = (tt, (tt, tt))
-gets_good l (Some k) no_ack s = (tt, tt)
-
-empties_good : (l link : ℕ) (d : DeliveryState) (xs : List DeliveryEvent) → AllByRecursion (IsGoodOn l) xs → AllByRecursion (IsGoodOn l) (empties link d ++ xs)
-empties_good l link d xs a = by (is_drained link d.links)
-  where
-    by : (b : Bool) → AllByRecursion (IsGoodOn l) ((if b then on.Emptied link ∷ [] else []) ++ xs)
-    by true = (tt, a)
-    by false = a
-
-flows_good : (l : ℕ) (o : Option PathLink) (count : Option ℕ) (echo : Bool) (d : DeliveryState) → AllByRecursion (IsGoodOn l) (flows o count echo d)
-flows_good l None count echo d = tt
-flows_good l (Some k) count echo d = empties_good l k.link (flow_in k.link count echo d) (echoes echo k.link ++ counts count k.link) (by count echo)
-  where
-    by : (o : Option ℕ) (b : Bool) → AllByRecursion (IsGoodOn l) (echoes b k.link ++ counts o k.link)
-    by None true = (tt, tt)
-    by None false = tt
-    by (Some n) true = (tt, (tt, tt))
-    by (Some n) false = (tt, tt)
-
-transfers_good : (l : ℕ) (o : Option PathLink) (part : Part) (payload : List ℕ) (image : Option Content) (again : Bool) (d : DeliveryState) → IfFit l image
-    → AllByRecursion (IsGoodOn l) (transfers o part payload image again d)
-transfers_good l None part payload image again d f = tt
-transfers_good l (Some k) part payload image again d f =
-    empties_good l k.link (transferred k.link part payload image again d)
-    (arrivals (is_last part) k.link image again (on.after_event (on.TransferCame k.link part payload) d) ++ on.TransferCame k.link part payload ∷ []) (by (is_last part))
-  where
-    by : (b : Bool) → AllByRecursion (IsGoodOn l)
-        (arrivals b k.link image again (on.after_event (on.TransferCame k.link part payload) d) ++ on.TransferCame k.link part payload ∷ [])
-    by true = (f, (tt, tt))
-    by false = (tt, tt)
-
-grants_good : (l : ℕ) (b : Bool) (o : Option NextGrant) → AllByRecursion (IsGoodOn l) (if b then grants o else [])
-grants_good l true None = tt
-grants_good l true (Some g) = (tt, tt)
-grants_good l false o = tt
-
-disposes_good : (l : ℕ) (o : Option NextSettle) → AllByRecursion (IsGoodOn l) (disposes o)
-disposes_good l None = tt
-disposes_good l (Some x) = (tt, tt)
-
-drops_good : (l : ℕ) (o : Option PathLink) → AllByRecursion (IsGoodOn l) (drops o)
-drops_good l None = tt
-drops_good l (Some k) = by k.receives
-  where
-    by : (b : Bool) → AllByRecursion (IsGoodOn l) (if b then on.LinkDropped k.link ∷ [] else [])
-    by true = (tt, tt)
-    by false = tt
-
-prefetches_good : (l : ℕ) (x : PathOk) → AllByRecursion (IsGoodOn l) (prefetches x)
-prefetches_good l (ok.Qos count true) = tt
-prefetches_good l (ok.Qos count false) = (tt, tt)
-prefetches_good l x = tt
-
-globals_good : (l : ℕ) (o : Option PathOk) → AllByRecursion (IsGoodOn l) (globals o)
-globals_good l (Some (ok.Qos count true)) = (tt, tt)
-globals_good l (Some (ok.Qos count false)) = tt
-globals_good l o = tt
-
-cancels_good : (l : ℕ) (o : Option ℕ) → AllByRecursion (IsGoodOn l) (cancels o)
-cancels_good l None = tt
-cancels_good l (Some link) = (tt, tt)
-
-event_good : (l : ℕ) (s : PathState) (x : PathEvent) → IsGood l x → AllByRecursion (IsGoodOn l) (delivery_events s x)
-event_good l s (event.Began handle_max) g = tt
-event_good l s (event.Published address payload back) g = tt
-event_good l s event.Selected g = tt
-event_good l s (event.Owed x) g = prefetches_good l x
-event_good l s (event.Consumed address tag no_ack no_wait) g = (tag_short tag s.deliveries.links g, tt)
-event_good l s (event.CancelCame tag no_wait) g = cancels_good l (consumer_link tag s.deliveries.links)
-event_good l s (event.Declared queue no_wait) g = (tt, tt)
-event_good l s (event.GetAsked queue no_ack) g = gets_good l (get_link (queue_or s.queue queue) s) no_ack s
-event_good l s (event.AnswerCame tag multiple settle) g = (tt, tt)
-event_good l s (event.AttachCame attach) g = begins_good l (asked_by attach s.links) attach
-event_good l s (event.FlowCame peer count credit drain echo) g = flows_good l (receiver_in (named peer s.links)) count echo s.deliveries
-event_good l s (event.DetachCame peer not_found) g = tt
-event_good l s (event.TransferCame peer part payload image again) g = transfers_good l (taking peer s) part payload image again s.deliveries g
-event_good l s (event.LinkFailed peer fault) g = tt
-event_good l s (event.DispositionCame first last outcome settled) g = tt
-event_good l s (event.AttachSent name) g = tt
-event_good l s event.LinkFlowSent g = grants_good l (is_grant_next s) (grant_in s)
-event_good l s (event.TransferSent frame count) g = tt
-event_good l s (event.SettleSent settling) g = tt
-event_good l s event.DisposeSent g = disposes_good l (next_settle_of s.deliveries.list)
-event_good l s event.DetachSent g = drops_good l (detaching_of s)
-event_good l s (event.ConfirmWent confirm) g = tt
-event_good l s (event.ReturnWent number) g = tt
-event_good l s (event.DeliverSent due) g = (tt, tt)
-event_good l s event.ContentSent g = tt
-event_good l s (event.ContentWhole tag) g = (tt, tt)
-event_good l s (event.OkSent x) g = globals_good l (first_of s.oks)
-event_good l s event.LinesWent g = (tt, tt)
-event_good l s event.LifeClosed g = (tt, tt)
-event_good l s event.SessionLost g = (tt, tt)
-event_good l s event.UpLost g = (tt, (tt, tt))
+others_good : (l : ℕ) (s : PathState) (x : PathEvent) → IsGood l x → OfEvent (IsGoodOn l) s x
+others_good l s (event.Consumed address tag no_ack no_wait) g = tag_short tag s.deliveries.links g
+others_good l s (event.TransferCame peer part payload image again) g = λ link d. g
+others_good l s event.UpLost g = (tt, tt)
+others_good l s x g = tt
 
 events_good : (l life : ℕ) (es : List PathEvent) → AllByRecursion (IsGood l) es → AllByRecursion (IsGoodOn l) (deliveries_of life es)
 events_good l life [] a = tt
 events_good l life (x ∷ es) a =
-    all_both (IsGoodOn l) (delivery_events (after_events life es) x) (deliveries_of life es) (event_good l (after_events life es) x a.0) (events_good l life es a.1)
+    all_both (IsGoodOn l) (delivery_events (after_events life es) x) (deliveries_of life es) (event_all (IsGoodOn l) (mild_good l) (after_events life es) x (others_good l (after_events life es) x a.0)) (events_good l life es a.1)
 
 -- so what a path has of deliveries can go
 pub deliverable : DeliveriesAre → (l life : ℕ) (es : List PathEvent) → AllByRecursion (IsGood l) es → AreDeliverable l (after_events life es).deliveries

@@ -1,30 +1,23 @@
 -- While a content is begun nothing but its frames goes to the client: at most one is begun, over all channels, since one begins only where none goes on.
 use Rattle.std.proofs.Common.{◌≡◌, ℕ, zero, suc, ◌+◌, ◌==◌, ◌<◌, ◌≤◌, nat_lt, not, ◌&&◌, ◌||◌, Bool}
 use Rattle.std.proofs.Common.{true, false, if◌then◌else◌, List, [], ◌∷◌, ◌++◌, length, map, Option}
-use Rattle.std.proofs.Common.{None, Some, is_some, option_map, refl, sym, ap, ◌∙◌, subst, arith}
-use Rattle.std.proofs.Common.{append_assoc}
+use Rattle.std.proofs.Common.{None, Some, is_some, option_map, refl, sym, ap, ◌∙◌, subst, arith, append_assoc}
 use Rattle.std.proofs.lemmas.Bool.Decides.{nat_tests}
 use Rattle.std.specs.Option.{option_or}
-use Rattle.std.specs.Prelude.{IfSome}
-use Rattle.consume_path.specs.Deliveries.{Arrived, DeliveryEvent}
-use Rattle.consume_path.specs.Journal.{IsTaken as IsDelivery, arrives, closes, fate_of as delivery_fate}
-use Rattle.consume_path.specs.Journal.{fate_step as delivery_step, is_closed, numbers_of as deliveries_in}
-use Rattle.consume_path.specs.Journal.{Fate as DeliveryFate, new_fate as new_delivery}
+use Rattle.consume_path.specs.Deliveries.{DeliveryEvent}
+use Rattle.consume_path.specs.Journal.{IsTaken as IsDelivery, is_closed}
 use Rattle.gate_outside.specs.declared.ports.End.TheVariants.{Client}
 use Rattle.machine_091.specs.State.{is_closing, is_open}
 use Rattle.machine_091.specs.declared.limits.TheConstants.{CHANNEL_MAX}
 use Rattle.open_items.proofs.Counted.{least_none}
 use Rattle.open_items.specs.Numbers.{least}
-use Rattle.publish_path.specs.Journal.{Fate, IsTaken, confirms_of, decided, fate_of, is_to_return, new_fate}
-use Rattle.publish_path.specs.Journal.{numbers_of}
+use Rattle.publish_path.specs.Journal.{Fate, IsTaken, confirms_of, decided, fate_of, is_to_return, new_fate, numbers_of}
 use Rattle.publish_path.specs.Laws.{is_returning, is_to_begin, return_at, return_by}
 use Rattle.publish_path.specs.Offers.{next_return_of}
-use Rattle.publish_path.specs.Publishes.{ConfirmSent, FrameSent, LinesTold, LinkGone, OutcomeCame}
-use Rattle.publish_path.specs.Publishes.{PublishEvent, PublishState, ReturnSent, TakenUp, next_number}
+use Rattle.publish_path.specs.Publishes.{LinkGone, OutcomeCame, PublishEvent, PublishState, ReturnSent, TakenUp, next_number}
 use Rattle.publish_path.specs.declared.publish.NextReturn.{NextReturn}
 use Rattle.session_path.specs.Due.{next_content, next_return}
-use Rattle.session_path.specs.Events.{PathEvent, after_events, deliveries_of, delivery_events}
-use Rattle.session_path.specs.Events.{publishes_of}
+use Rattle.session_path.specs.Events.{PathEvent, after_events, deliveries_of, delivery_events, publishes_of}
 use Rattle.session_path.specs.Path.{PathState, frames_in}
 use Rattle.session_path.specs.declared.path.ContentDue.{ContentDue}
 use Rattle.session_path.specs.declared.path.DeliverDue.{DeliverDue}
@@ -45,17 +38,20 @@ use Rattle.gate_model.specs.declared.channel.ChannelUnit.TheVariants as to_clien
 use Rattle.gate_model.specs.declared.outgoing.Outgoing.TheVariants.{ToClient}
 use Rattle.gate_model.specs.declared.reply.Reply.{Reply}
 use Rattle.gate_model.specs.declared.reply.Reply.TheVariants as reply
+use Rattle.gate_model.proofs.Basics.{and_left, and_right}
 use Rattle.gate_model.proofs.Backs.{BacksAre, Returned, ReturnsAre, backs, lives_in}
+use Rattle.gate_model.proofs.Calm.{stays_all, taken_more}
 use Rattle.gate_model.proofs.Closed.{closed_is, none_open, was_cut}
 use Rattle.gate_model.proofs.Closings.{remembers, unclosed}
 use Rattle.gate_model.proofs.Connections.{clash}
 use Rattle.gate_model.proofs.Fates.{IsLived, IsNext, PublishesAre, is_next, least_passes, lived, path_of}
 use Rattle.gate_model.proofs.Firsts.{FirstIs, each_is, goes_as}
+use Rattle.gate_model.proofs.Heard.{events_open}
 use Rattle.gate_model.proofs.Known.{conn_is, known, memory_is}
 use Rattle.gate_model.proofs.Lives.{lives_all}
 use Rattle.gate_model.proofs.Overs.{goes_on as life_goes_on}
 use Rattle.gate_model.proofs.Rows.{Has, HasFirst, HasNone, first_some, has, row_none, same_first}
-use Rattle.gate_model.proofs.Times.{and_left, and_right}
+use Rattle.gate_model.proofs.Said.{in_if, is_first}
 use Rattle.gate_model.proofs.Writing.{content_by}
 
 -- ---- what the state says of the frames that are to go
@@ -88,36 +84,6 @@ grown life (x ∷ xs) es =
     let g = grown life xs es in
     let new : List DeliveryEvent = delivery_events (after_events life (xs ++ es)) x in
     record { on = new ++ g.on; is = ap (λ (ds : List DeliveryEvent). new ++ ds) g.is ∙ sym (append_assoc new g.on (deliveries_of life es)) }
-
-right_false : (a b : Bool) → (a || b) ≡ false → b ≡ false
-right_false true b e = absurd cc
-right_false false b e = e
-
-open_before : (ds es : List DeliveryEvent) → is_closed (ds ++ es) ≡ false → is_closed es ≡ false
-open_before [] es e = e
-open_before (x ∷ ds) es e = open_before ds es (right_false (closes x) _ e)
-
-more_later : (ds es : List DeliveryEvent) → deliveries_in es ≤ deliveries_in (ds ++ es)
-more_later [] es = omega arith
-more_later (x ∷ ds) es = by (arrives x) (more_later ds es)
-  where
-    by : (b : Bool) → deliveries_in es ≤ deliveries_in (ds ++ es) → deliveries_in es ≤ (if b then deliveries_in (ds ++ es) + 1 else deliveries_in (ds ++ es))
-    by true e = omega (arith, e)
-    by false e = e
-
--- the content of one that came is that of its arrival
-content_step : (k : ℕ) (h : List DeliveryEvent) (x : DeliveryEvent) (f : DeliveryFate) → k ≤ deliveries_in h → (delivery_step k h x f).content ≡ f.content
-content_step k h (Arrived a content again) f e = by (k == deliveries_in h + 1) refl
-  where
-    by : (b : Bool) → (k == deliveries_in h + 1) ≡ b → (if b then new_delivery (is_closed h) a content again else f).content ≡ f.content
-    by true g = absurd (let same : k ≡ deliveries_in h + 1 = grind (arith, nat_tests, g) in omega (arith, same, e))
-    by false g = refl
-content_step k h x f e = refl
-
-content_stays : (k : ℕ) (ds es : List DeliveryEvent) → k ≤ deliveries_in es → (delivery_fate k (ds ++ es)).content ≡ (delivery_fate k es).content
-content_stays k [] es e = refl
-content_stays k (x ∷ ds) es e =
-    content_step k (ds ++ es) x (delivery_fate k (ds ++ es)) (let more = more_later ds es in omega (arith, more, e)) ∙ content_stays k ds es e
 
 -- ---- a content begins by a deliver, and goes on
 
@@ -170,9 +136,7 @@ module _ (delivers : DeliversHold) where
       later : (k : ℕ) → IsDelivery (deliveries_of life (path_events h n)) k → IsDelivery (deliveries_of life (step_events n h s ++ path_events h n)) k
       later k t =
           let g = grown life (step_events n h s) (path_events h n) in
-          let more = more_later g.on (deliveries_of life (path_events h n)) in
-          let most : k ≤ deliveries_in (deliveries_of life (path_events h n)) = t.1 in
-          (t.0, subst (λ (ds : List DeliveryEvent). k ≤ deliveries_in ds) (sym g.is) (omega (arith, more, most)))
+          subst (λ (ds : List DeliveryEvent). IsDelivery ds k) (sym g.is) (taken_more g.on (deliveries_of life (path_events h n)) k t)
 
       at : path_life h n ≡ Some life → From n s (begun_in n h) b
           → ((old : Begun) → path_life h n ≡ Some life → begun_in n h ≡ Some old → IsDelivery (deliveries_of life (path_events h n)) old.due.next.number)
@@ -228,9 +192,7 @@ keeps n (TakenUp link confirm payload back ∷ h) = by (n == numbers_of h + 1) (
 keeps n (OutcomeCame begin last outcome ∷ h) = let f = fate_of n h in settles f.outcome f.answered f.returns _ _ _ f.returned (keeps n h)
 keeps n (LinkGone link not_found ∷ h) = let f = fate_of n h in settles f.outcome f.answered f.returns _ _ _ f.returned (keeps n h)
 keeps n (ReturnSent number ∷ h) = let f = fate_of n h in sends (n == number) f.returns _ f.outcome f.returned (keeps n h)
-keeps n (FrameSent number begin part ∷ h) = keeps n h
-keeps n (ConfirmSent c ∷ h) = keeps n h
-keeps n (LinesTold ∷ h) = keeps n h
+keeps n (s ∷ h) = keeps n h
 
 -- no publish has number 0
 none_back : (h : List PublishEvent) → length (fate_of 0 h).back ≡ 0
@@ -348,13 +310,6 @@ first_goes (x ∷ us) u e = let same : x ≡ u = cc in ap Some same
 
 second : (cs ws rs bs : List Reply) (v : Reply) → cs ≡ [] → first ws ≡ Some v → first ((cs ++ (ws ++ rs)) ++ bs) ≡ Some v
 second cs ws rs bs v e f = ap (λ (xs : List Reply). first ((xs ++ (ws ++ rs)) ++ bs)) e ∙ first_some (ws ++ rs) bs v (first_some ws rs v f)
-
-of_if : (b : Bool) (us : List Reply) (u : Reply) → first (if_so b us) ≡ Some u → first us ≡ Some u
-of_if true us u e = e
-of_if false us u e = absurd cc
-
-first_holds : (P : Reply → Type 0) (us : List Reply) (u : Reply) → FirstIs P us → first us ≡ Some u → P u
-first_holds P us u x e = subst (λ (o : Option Reply). IfSome o P) e x
 
 -- a frame of a return that is begun, and one of a content
 record IsBackOn (h : List Step) (u : Reply) : Type 0 where
@@ -538,15 +493,14 @@ module _ (frames : ContentIs) (ends : ClosedEnds) (below : BegunBelow) (delivers
       at l e left (Begins text f) = New (StartsContent n x.begun.due text f)
       at l e left (Went old f same less) =
           let g = grown x.life xs (path_events h n) in
-          let came = taken delivers h n x.life old p.1 l f in
-          let most : k ≤ deliveries_in es = subst (λ (d : DeliverDue). d.next.number ≤ deliveries_in es) same came.1 in
+          let came : IsDelivery es k = subst (λ (d : DeliverDue). IsDelivery es d.next.number) same (taken delivers h n x.life old p.1 l f) in
           let more : x.begun.gone < length (frames_by k es) =
-          subst (λ (o : List (List ℕ)). x.begun.gone < length o) (ap frames_in (content_stays k g.on es most))
+          subst (λ (o : List (List ℕ)). x.begun.gone < length o) (ap frames_in (stays_all g.on es k came).content)
           (subst (λ (ds : List DeliveryEvent). x.begun.gone < length (frames_by k ds)) g.is left) in
           Old (record {
             life = x.life;
             lives = l;
-            goes_on = open_before g.on es (subst (λ (ds : List DeliveryEvent). is_closed ds ≡ false) g.is e);
+            goes_on = events_open x.life xs (path_events h n) e;
             begun = old;
             is = f;
             left = subst (λ (d : DeliverDue). old.gone < length (frames_by d.next.number es)) (sym same) (omega (arith, less, more));
@@ -705,14 +659,14 @@ module _ (frames : ContentIs) (ends : ClosedEnds) (below : BegunBelow) (delivers
       -- a frame of a return
       back : (v : Reply) → first cs ≡ Some v → GoesAs u t
       back v f =
-          let r = first_holds (IsBackOn h) (contents w) v (backs_first h) (of_if (may_return w) (contents w) v f) in
+          let r = is_first (IsBackOn h) (contents w) v (backs_first h) (in_if (may_return w) (contents w) v f) in
           let same : v ≡ u = same_first (first (client_rows w)) v u (first_some (cs ++ (ws ++ _)) _ v (first_some cs _ v f)) picked in
           let is = alone (Back r.channel r.due.publish) t (calm, due_back h r.channel r.due p r.next r.later) x in
           subst (GoesAs u) is (record { due = r.due; is = sym same ∙ r.is; same = refl })
 
       frame : cs ≡ [] → (v : Reply) → first ws ≡ Some v → GoesAs u t
       frame none v f =
-          let c = first_holds (IsFrameOn h) (writings w) v (frames_first h) (of_if (may_answer w) (writings w) v f) in
+          let c = is_first (IsFrameOn h) (writings w) v (frames_first h) (in_if (may_answer w) (writings w) v f) in
           let same : v ≡ u = same_first (first (client_rows w)) v u (second cs ws _ _ v none f) picked in
           let is = alone (Content c.channel) t (due_frame h c.channel c.due p c.next) x in
           subst (GoesAs u) is (record { due = c.due; is = sym same ∙ c.is })

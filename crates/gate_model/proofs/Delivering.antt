@@ -1,17 +1,12 @@
 -- What arrives for a client fits it: on each channel whose life is in progress the tags of consumers are short, and contents are cut by the limit that is agreed to.
-use Rattle.std.proofs.Common.{◌≡◌, ℕ, ◌+◌, ◌-◌, ◌==◌, ◌≤◌, ◌||◌, ◌&&◌, nat_le, not, Bool, true}
-use Rattle.std.proofs.Common.{false, if◌then◌else◌, List, []}
-use Rattle.std.proofs.Common.{◌∷◌, ◌++◌, length, Option, None, Some, option_map, refl, sym, ap, ◌∙◌}
-use Rattle.std.proofs.Common.{subst, arith}
+use Rattle.std.proofs.Common.{◌≡◌, ℕ, ◌+◌, ◌-◌, ◌≤◌, ◌||◌, ◌&&◌, nat_le, not, Bool, true, false, if◌then◌else◌, List, []}
+use Rattle.std.proofs.Common.{◌∷◌, ◌++◌, length, Option, None, Some, option_map, refl, sym, ap, ◌∙◌, subst, arith}
 use Rattle.std.proofs.lemmas.Bool.Decides.{nat_tests}
 use Rattle.std.specs.List.{AllByRecursion}
 use Rattle.std.specs.Prelude.{IfSome}
 use Rattle.close_translate.specs.declared.codes.TheConstants.{NOT_ALLOWED, NOT_FOUND}
-use Rattle.close_translate.specs.declared.conditions.Scope.{Scope}
-use Rattle.close_translate.specs.declared.conditions.Scope.TheVariants as scope
 use Rattle.consume_path.specs.Links.{is_tag_used}
 use Rattle.consume_path.specs.declared.receiving.Part.{Part}
-use Rattle.consume_path.specs.declared.receiving.TransferFault.{TransferFault}
 use Rattle.content_091.specs.Writing.{header_text}
 use Rattle.frames_091.specs.declared.frame.Kind91.TheVariants.{Header}
 use Rattle.gate_outside.specs.declared.ports.End.TheVariants.{Client, Up}
@@ -19,7 +14,7 @@ use Rattle.gate_outside.specs.declared.ports.Linked.TheVariants as link
 use Rattle.gate_relay.specs.declared.loss.Loss.TheVariants as loss
 use Rattle.machine_091.specs.Calls.{after_opened}
 use Rattle.machine_091.specs.Limits.{AreWithin}
-use Rattle.machine_091.specs.State.{is_closing, is_open, is_opening}
+use Rattle.machine_091.specs.State.{is_opening}
 use Rattle.machine_091.specs.Transitions as machine
 use Rattle.machine_091.specs.Transitions.{unit_step}
 use Rattle.machine_091.specs.declared.limits.Limits.{Limits}
@@ -28,11 +23,9 @@ use Rattle.machine_091.specs.declared.state.Connection.{Connection}
 use Rattle.machine_091.specs.declared.unit.Unit91.{Unit91}
 use Rattle.machine_091.specs.declared.unit.Want91.{Want91}
 use Rattle.machine_091.specs.declared.unit.Want91.TheVariants as want
-use Rattle.machine_10.specs.Parts.{Parts as Performative}
-use Rattle.machine_10.specs.Reading.{field, number_at}
+use Rattle.machine_10.specs.Reading.{number_at}
 use Rattle.machine_10.specs.Transitions as ten
 use Rattle.machine_10.specs.Transitions.{Meaning}
-use Rattle.machine_10.specs.declared.unit.Unit10.{Unit10}
 use Rattle.methods_091.specs.declared.method.Method91.{Method91}
 use Rattle.methods_091.specs.declared.method.Method91.TheVariants as method
 use Rattle.property_map.specs.Received.{header_of, received_in}
@@ -40,57 +33,30 @@ use Rattle.property_map.specs.declared.received.Received.{Received}
 use Rattle.session_path.specs.Due.{next_name, joined_at, queue_at}
 use Rattle.session_path.specs.Events as event
 use Rattle.session_path.specs.Events.{PathEvent, after_events}
-use Rattle.session_path.specs.Path.{queue_or}
-use Rattle.session_path.specs.Path.{PathState}
-use Rattle.session_path.specs.declared.path.PathOk.{PathOk}
-use Rattle.session_path.specs.declared.path.PathOk.TheVariants as ok
-use Rattle.types_10.specs.Tree.{Tree}
-use Rattle.gate_model.specs.Folds.{Peers, accepted_in, connection, container, going_in, leaving_in}
-use Rattle.gate_model.specs.Folds.{paths_in, peers, peers_by}
+use Rattle.session_path.specs.Path.{queue_or, PathState}
+use Rattle.gate_model.specs.Folds.{Peers, accepted_in, connection, container, going_in, leaving_in, paths_in, peers, peers_by}
 use Rattle.gate_model.specs.Folds.{peers_came, peers_heard, peers_left, ran_out_in, routes_in}
-use Rattle.gate_model.specs.Folds.{scope_in}
 use Rattle.gate_model.specs.Frames.{limit_after, limit_in}
-use Rattle.gate_model.specs.Lives.{is_of_channel}
 use Rattle.gate_model.specs.Once.{is_channel_open, is_method_on}
-use Rattle.gate_model.specs.Paths.{content_of, fault_in, is_outcome, name_in, or_no_path, part_in}
-use Rattle.gate_model.specs.Paths.{path_at, received_at, slot_at, text_of}
+use Rattle.gate_model.specs.Paths.{content_of, or_no_path, part_in, path_at, received_at, slot_at}
 use Rattle.gate_model.specs.Picks.{ArePicks}
-use Rattle.gate_model.specs.Publishing.{attach_events, closed_if, closing, given_event}
-use Rattle.gate_model.specs.Publishing.{heard_events, lost_if, meaning_events}
-use Rattle.gate_model.specs.Publishing.{method_events, owed_unless, path_events, path_life}
-use Rattle.gate_model.specs.Publishing.{reply_events}
-use Rattle.gate_model.specs.Publishing.{session_events, told_event, transfer_event, up_events}
-use Rattle.gate_model.specs.Publishing.{want_events, wrote_event, wrote_events}
-use Rattle.gate_model.specs.Requests.{client_step, is_queue_name, method_fault, refused_by}
-use Rattle.gate_model.specs.Requests.{refused_for, refusal_of_want}
+use Rattle.gate_model.specs.Publishing.{arrival_event, step_events, method_events, path_events, path_life, told_event, want_events}
+use Rattle.gate_model.specs.Requests.{client_step, is_queue_name, method_fault, refused_by, refused_for, refusal_of_want}
 use Rattle.gate_model.specs.Returns.{header_part}
-use Rattle.gate_model.specs.Session.{is_of_session}
-use Rattle.gate_model.specs.State.{is_later}
-use Rattle.gate_model.specs.State.{Began, Came, Fed, Gave, Heard, Joined, LinesTold, Lost, Moment}
-use Rattle.gate_model.specs.State.{OutOfMemory, Queued, Silent, Step}
-use Rattle.gate_model.specs.State.{TakenUp, Whole, before, close_if, closing_code, is_limit_reached}
+use Rattle.gate_model.specs.State.{is_later, Began, Came, Fed, Gave, Heard, Joined, Lost, Moment, Silent, Step}
+use Rattle.gate_model.specs.State.{TakenUp, Whole, before, close_if, is_limit_reached}
 use Rattle.gate_model.specs.Upstream.{channel_max_in, meaning_by}
 use Rattle.gate_model.specs.declared.channel.ChannelUnit.{ChannelUnit}
 use Rattle.gate_model.specs.declared.channel.ChannelUnit.TheVariants as to_client
-use Rattle.gate_model.specs.declared.channel.SessionUnit.{SessionUnit}
-use Rattle.gate_model.specs.declared.channel.SessionUnit.TheVariants as unit
 use Rattle.gate_model.specs.declared.outgoing.Outgoing.TheVariants.{ToClient, ToUp}
-use Rattle.gate_model.specs.declared.outgoing.UpUnit.{UpUnit}
-use Rattle.gate_model.specs.declared.outgoing.UpUnit.TheVariants as up
-use Rattle.gate_model.specs.declared.reply.Reply.{Reply}
-use Rattle.gate_model.specs.declared.reply.Reply.TheVariants as reply
 use Rattle.gate_model.specs.declared.setup.Route.{Route}
+use Rattle.gate_model.proofs.Basics.{all_both}
 use Rattle.gate_model.proofs.Connections.{limits_only, only_given}
-use Rattle.gate_model.proofs.Consumers.{AreDeliverable, NamesGoBack, IfFit, IsGood, all_both}
-use Rattle.gate_model.proofs.Consumers.{all_still, name_short, deliverable}
+use Rattle.gate_model.proofs.Consumers.{AreDeliverable, NamesGoBack, IfFit, IsGood, all_still, name_short, deliverable}
 use Rattle.gate_model.proofs.Fates.{IsLived, lived}
-use Rattle.gate_model.proofs.Fitting.{Agrees, Within, agrees, cut_fits, frame_long, limit_grows}
-use Rattle.gate_model.proofs.Fitting.{running_tuned}
-use Rattle.gate_model.proofs.Outcomes.{Answers, Asking, Asks, Calls, Closes, Declines, Drops, Fills}
-use Rattle.gate_model.proofs.Outcomes.{Frees, Greets, Ignores}
-use Rattle.gate_model.proofs.Outcomes.{LogsIn, OnlyChannels, Outcome, Parting, Parts, Passes}
-use Rattle.gate_model.proofs.Outcomes.{Publishes, Refuses, Tunes, only_closing}
-use Rattle.gate_model.proofs.Outcomes.{outcome}
+use Rattle.gate_model.proofs.Fitting.{Agrees, Within, agrees, cut_fits, frame_long, limit_grows, running_tuned}
+use Rattle.gate_model.proofs.Quiet.{AllOn, OfQuiet, flat, names, quiet_step, reply_on, up_on, want_on, whole_on}
+use Rattle.gate_model.proofs.Outcomes.{Asking, Calls, Declines, Drops, OnlyChannels, Outcome, Tunes, only_closing, outcome}
 use Rattle.gate_model.proofs.Reports.{DeliveriesAre}
 use Rattle.gate_model.proofs.Sessions.{conn_cases}
 
@@ -116,61 +82,18 @@ content_cut limit n (Some r) le a b c =
 abbrev AreGood : ℕ → List PathEvent → Type 0
 AreGood l es = AllByRecursion (IsGood l) es
 
-transfer_good : ReceivedAre → (o : Option TransferFault) (limit n peer : ℕ) (part : Part) (payload : List ℕ) (s : PathState) → 8 ≤ limit
-    → IsGood limit (transfer_event o limit n peer part payload s)
-transfer_good r None limit n peer part payload s le =
+quiet_good : (l : ℕ) → OfQuiet (λ (b : List PathEvent). IsGood l)
+quiet_good l b (event.Consumed address tag no_ack no_wait) e = absurd cc
+quiet_good l b (event.CancelCame tag no_wait) e = absurd cc
+quiet_good l b (event.Declared queue no_wait) e = absurd cc
+quiet_good l b (event.TransferCame peer part payload image again) e = absurd cc
+quiet_good l b x e = tt
+
+arrival_good : ReceivedAre → (limit n peer : ℕ) (part : Part) (payload : List ℕ) (s : PathState) → 8 ≤ limit
+    → IsGood limit (arrival_event limit n peer part payload s)
+arrival_good r limit n peer part payload s le =
     content_cut limit n (received_at limit peer payload s) le (r.exchange (queue_at peer s) (limit - 8) (joined_at peer payload s))
     (r.key (queue_at peer s) (limit - 8) (joined_at peer payload s)) (r.header (queue_at peer s) (limit - 8) (joined_at peer payload s))
-transfer_good r (Some fault) limit n peer part payload s le = tt
-
-if_good : (l : ℕ) (b : Bool) (xs ys : List PathEvent) → AreGood l xs → AreGood l ys → AreGood l (if b then xs else ys)
-if_good l true xs ys a b = a
-if_good l false xs ys a b = b
-
-lost_good : (l : ℕ) (b : Bool) → AreGood l (lost_if b)
-lost_good l true = (tt, tt)
-lost_good l false = tt
-
-closed_good : (l : ℕ) (b : Bool) → AreGood l (closed_if b)
-closed_good l true = (tt, tt)
-closed_good l false = tt
-
-attach_good : (l : ℕ) (o : Option ℕ) (ts : List Tree) → AreGood l (attach_events o ts)
-attach_good l None ts = tt
-attach_good l (Some name) ts = (tt, tt)
-
-closing_good : (l : ℕ) (o : Option ℕ) (c : Connection) (k : ℕ) → AreGood l (closing o c k)
-closing_good l None c k = tt
-closing_good l (Some code) c k = closed_good l (is_open c k)
-
-heard_good : ReceivedAre → (limit n : ℕ) (q : Performative) (payload : List ℕ) (s : PathState) → 8 ≤ limit → AreGood limit (heard_events limit n q payload s)
-heard_good r limit n q payload s le =
-    if_good limit (q.0 == 17) _ _ (tt, tt)
-    (if_good limit (q.0 == 18) _ _ (attach_good limit (name_in (text_of (field q.1 0))) q.1)
-    (if_good limit (q.0 == 19 && not (is_of_session q.1)) _ _ (tt, tt)
-    (if_good limit (q.0 == 20) _ _ (transfer_good r (fault_in q.1 payload s) limit n (number_at q.1 0) (part_in q.1) payload s le, tt)
-    (if_good limit (q.0 == 21) _ _ (if_good limit (is_outcome q.1) _ _ (tt, tt) tt)
-    (if_good limit (q.0 == 22) _ _ (tt, tt) (if_good limit (q.0 == 23) _ _ (tt, tt) tt))))))
-
-session_good : ReceivedAre → (c : Connection) (o : Option Scope) (n k : ℕ) (q : Performative) (payload : List ℕ) (s : PathState) → 8 ≤ c.limits.frame_max
-    → AreGood c.limits.frame_max (session_events c o n k q payload s)
-session_good r c None n k q payload s le =
-    if_good c.limits.frame_max (k == n) _ _
-    (all_both (IsGood c.limits.frame_max) (if q.0 == 17 then [] else closing (closing_code q payload s) c k) _
-    (if_good c.limits.frame_max (q.0 == 17) _ _ tt (closing_good c.limits.frame_max (closing_code q payload s) c k))
-    (heard_good r c.limits.frame_max k q payload s le)) tt
-session_good r c (Some scope.Connection) n k q payload s le = lost_good _ (not (is_closing c))
-session_good r c (Some scope.Channel) n k q payload s le = if_good _ (k == n) _ _ (lost_good _ (is_open c k)) tt
-
-meaning_good : ReceivedAre → (p : Peers) (n : ℕ) (m : Meaning) → 8 ≤ p.client.limits.frame_max → AreGood p.client.limits.frame_max (meaning_events p n m)
-meaning_good r p n ten.Nothing le = tt
-meaning_good r p n ten.Init le = tt
-meaning_good r p n ten.AmqpHeader le = tt
-meaning_good r p n ten.Opened le = tt
-meaning_good r p n (ten.OfSession k q payload) le = session_good r p.client (scope_in p k q payload) n k q payload (path_at p.paths k) le
-meaning_good r p n (ten.Closed e) le = lost_good _ (not (is_closing p.client))
-meaning_good r p n ten.Refused le = lost_good _ (not (is_closing p.client))
-meaning_good r p n (ten.Violation why) le = lost_good _ (not (is_closing p.client))
 
 -- ---- what a client asks for
 
@@ -182,17 +105,8 @@ IsNamed (method.QueueDeclare queue passive durable exclusive deletes no_wait arg
 IsNamed m = Unit {0}
 
 abbrev NamesAre : Want91 → Type 0
-NamesAre want.Nothing = Unit {0}
-NamesAre want.Start = Unit {0}
-NamesAre (want.Login mechanism response) = Unit {0}
-NamesAre want.Tuned = Unit {0}
-NamesAre want.OpenUp = Unit {0}
 NamesAre (want.Method n m) = IsNamed m
-NamesAre (want.Publish n m c) = Unit {0}
-NamesAre (want.ChannelCloseOk n) = Unit {0}
-NamesAre want.Close = Unit {0}
-NamesAre want.CloseOk = Unit {0}
-NamesAre (want.Refuse r) = Unit {0}
+NamesAre x = Unit {0}
 
 refused_named : (n : ℕ) (m k : Method91) (c : Connection) (o : Option ℕ) → (o ≡ None → IsNamed m) → NamesAre (refused_by (refused_for n k o) (c, want.Method n m)).1
 refused_named n m k c None is = is refl
@@ -222,88 +136,25 @@ published_named n m x None is = is
 published_named n m x (Some code) is = tt
 
 step_named : (rs : List Route) (ps : List (Option PathState)) (x : machine.Step) → NamesAre (refused_by (refusal_of_want rs ps x.1) x).1
-step_named rs ps (c, want.Nothing) = tt
-step_named rs ps (c, want.Start) = tt
-step_named rs ps (c, want.Login mechanism response) = tt
-step_named rs ps (c, want.Tuned) = tt
-step_named rs ps (c, want.OpenUp) = tt
 step_named rs ps (c, want.Method n m) = refused_named n m m c (method_fault rs (path_at ps n) m) (method_named rs (path_at ps n) m)
 step_named rs ps (c, want.Publish n m d) = published_named n m (c, want.Publish n m d) _ tt
-step_named rs ps (c, want.ChannelCloseOk n) = tt
-step_named rs ps (c, want.Close) = tt
-step_named rs ps (c, want.CloseOk) = tt
-step_named rs ps (c, want.Refuse r) = tt
+step_named rs ps (c, x) = tt
 
-owed_good : (l : ℕ) (no_wait : Bool) (x : PathOk) → AreGood l (owed_unless no_wait (event.Owed x))
-owed_good l true x = tt
-owed_good l false x = (tt, tt)
-
-method_good : (l : ℕ) (m : Method91) → IsNamed m → AreGood l (method_events m)
-method_good l (method.ChannelFlow active) e = (tt, tt)
-method_good l (method.ExchangeDeclare name kind passive durable deletes internal no_wait arguments) e = owed_good l no_wait ok.Declare
-method_good l (method.ConfirmSelect no_wait) e = all_both (IsGood l) (owed_unless no_wait (event.Owed ok.Select)) _ (owed_good l no_wait ok.Select) (tt, tt)
-method_good l (method.BasicConsume queue tag no_local no_ack exclusive no_wait arguments) e = (e, tt)
-method_good l (method.BasicGet queue no_ack) e = (tt, tt)
-method_good l (method.BasicCancel tag no_wait) e = (e, tt)
-method_good l (method.QueueDeclare queue passive durable exclusive deletes no_wait arguments) e = (e, tt)
-method_good l (method.BasicQos size count global) e = (tt, tt)
-method_good l (method.BasicAck tag multiple) e = (tt, tt)
-method_good l (method.BasicReject tag requeue) e = (tt, tt)
-method_good l (method.BasicNack tag multiple requeue) e = (tt, tt)
-method_good l (method.BasicRecover requeue) e = (tt, (tt, tt))
-method_good l (method.BasicRecoverAsync requeue) e = (tt, tt)
-method_good l (method.ChannelClose code text class id) e = (tt, tt)
-method_good l m e = tt
+method_good : (l : ℕ) (es : List PathEvent) (m : Method91) → IsNamed m → names m ≡ true → AllOn (λ (b : List PathEvent). IsGood l) es (method_events m)
+method_good l es (method.BasicConsume queue tag no_local no_ack exclusive no_wait arguments) is e = (is, tt)
+method_good l es (method.BasicGet queue no_ack) is e = (tt, tt)
+method_good l es (method.BasicCancel tag no_wait) is e = (is, tt)
+method_good l es (method.QueueDeclare queue passive durable exclusive deletes no_wait arguments) is e = (is, tt)
+method_good l es m is e = absurd cc
 
 want_good : (rs : List Route) (l limit n : ℕ) (x : Want91) → NamesAre x → AreGood l (want_events rs limit n x)
-want_good rs l limit n want.Nothing e = tt
-want_good rs l limit n want.Start e = tt
-want_good rs l limit n (want.Login mechanism response) e = tt
-want_good rs l limit n want.Tuned e = tt
-want_good rs l limit n want.OpenUp e = tt
-want_good rs l limit n (want.Method k m) e = if_good l (k == n) _ _ (method_good l m e) tt
-want_good rs l limit n (want.Publish k m c) e = if_good l (k == n) _ _ (tt, tt) tt
-want_good rs l limit n (want.ChannelCloseOk k) e = tt
-want_good rs l limit n want.Close e = (tt, tt)
-want_good rs l limit n want.CloseOk e = tt
-want_good rs l limit n (want.Refuse r) e = if_good l (is_of_channel r) _ _ (if_good l (r.channel == n) _ _ (tt, tt) tt) (tt, tt)
-
--- ---- what goes
+want_good rs l limit n x is =
+    flat (IsGood l) [] (want_events rs limit n x)
+    (want_on (λ (b : List PathEvent). IsGood l) n [] (quiet_good l) rs limit x (λ m e. method_good l [] m (subst NamesAre e is)) (λ address payload back. tt))
 
 told_good : (l : ℕ) (u : ChannelUnit) → IsGood l (told_event u)
 told_good l (to_client.Ok x) = tt
-told_good l (to_client.Deliver d) = tt
-told_good l (to_client.Content c) = tt
-told_good l (to_client.Confirm c) = tt
-told_good l (to_client.Return r) = tt
-
-reply_good : (l n : ℕ) (u : Reply) → AreGood l (reply_events n u)
-reply_good l n (reply.OnChannel k u) = if_good l (k == n) _ _ (told_good l u, tt) tt
-reply_good l n u = tt
-
-given_good : (l : ℕ) (u : SessionUnit) → IsGood l (given_event u)
-given_good l (unit.Attach a) = tt
-given_good l (unit.Flow f) = tt
-given_good l (unit.Transfer t) = tt
-given_good l (unit.Dispose x) = tt
-given_good l (unit.Settle x) = tt
-given_good l (unit.Detach k handle why) = tt
-
-up_good : (l : ℕ) (later : Bool) (n : ℕ) (u : UpUnit) → AreGood l (up_events later n u)
-up_good l later n (up.OnSession k u) = if_good l (k == n) _ _ (given_good l u, tt) tt
-up_good l later n (up.End k why) = if_good l (not later && k == n) _ _ (tt, (tt, tt)) (tt, tt)
-up_good l later n u = tt
-
-wrote_good : (l : ℕ) (u : ChannelUnit) → AreGood l (wrote_event u)
-wrote_good l (to_client.Ok x) = tt
-wrote_good l (to_client.Deliver d) = tt
-wrote_good l (to_client.Content c) = if_good l c.last _ _ (tt, tt) tt
-wrote_good l (to_client.Confirm c) = tt
-wrote_good l (to_client.Return r) = tt
-
-whole_good : (l n : ℕ) (o : Option Reply) → AreGood l (wrote_events n o)
-whole_good l n (Some (reply.OnChannel k u)) = if_good l (k == n) _ _ (wrote_good l u) tt
-whole_good l n o = tt
+told_good l x = tt
 
 -- ---- the life in progress
 
@@ -326,64 +177,28 @@ max_only o = ap (λ (x : Limits). x.frame_max) (limits_only o)
 
 -- what was agreed to stays so, after a unit of the client too
 stays_agreed : (limit : ℕ) (c : Connection) (u : Unit91) (x : machine.Step) → Outcome c u x → limit ≡ c.limits.frame_max → limit_after limit x.0 x.1 ≡ x.0.limits.frame_max
-stays_agreed limit c u x (Greets e) a = a
-stays_agreed limit c u x (Parts e) a = a
-stays_agreed limit c u x (LogsIn m r e) a = a
 stays_agreed limit c u x (Tunes limits e) a = refl
-stays_agreed limit c u x (Asks e) a = a
-stays_agreed limit c u x Passes a = a
-stays_agreed limit c u x (Refuses r asked k b o) a = a
 stays_agreed limit c u x (Declines r d o run b) a = a ∙ sym (max_only o)
 stays_agreed limit c u x (Drops r d o run b) a = a ∙ sym (max_only o)
-stays_agreed limit c u x (Parting run) a = a
-stays_agreed limit c u x (Calls n s m run) a = a
-stays_agreed limit c u x (Asking n m run) a = a
-stays_agreed limit c u x (Publishes n m d run) a = a
-stays_agreed limit c u x (Fills n i run) a = a
-stays_agreed limit c u x (Frees n run) a = a
-stays_agreed limit c u x (Closes e) a = a
-stays_agreed limit c u x (Answers e) a = a
-stays_agreed limit c u x (Ignores e) a = a
+stays_agreed limit c u x y a = a
 
 -- one was agreed to before a channel opens
 opens_agreed : (limit n : ℕ) (c : Connection) (u : Unit91) (x : machine.Step) → Outcome c u x → Agrees limit c → is_method_on is_channel_open n x.1 ≡ true
     → limit_after limit x.0 x.1 ≡ x.0.limits.frame_max
-opens_agreed limit n c u x (Greets e) a f = absurd cc
-opens_agreed limit n c u x (Parts e) a f = absurd cc
-opens_agreed limit n c u x (LogsIn m r e) a f = absurd cc
-opens_agreed limit n c u x (Tunes limits e) a f = absurd cc
-opens_agreed limit n c u x (Asks e) a f = absurd cc
-opens_agreed limit n c u x Passes a f = absurd cc
-opens_agreed limit n c u x (Refuses r asked k b o) a f = absurd cc
-opens_agreed limit n c u x (Declines r d o run b) a f = absurd cc
-opens_agreed limit n c u x (Drops r d o run b) a f = absurd cc
-opens_agreed limit n c u x (Parting run) a f = absurd cc
 opens_agreed limit n c u x (Calls k s m run) a f = a.tuned (running_tuned c.phase run)
 opens_agreed limit n c u x (Asking k m run) a f = a.tuned (running_tuned c.phase run)
-opens_agreed limit n c u x (Publishes k m d run) a f = absurd cc
-opens_agreed limit n c u x (Fills k i run) a f = absurd cc
-opens_agreed limit n c u x (Frees k run) a f = absurd cc
-opens_agreed limit n c u x (Closes e) a f = absurd cc
-opens_agreed limit n c u x (Answers e) a f = absurd cc
-opens_agreed limit n c u x (Ignores e) a f = absurd cc
+opens_agreed limit n c u x y a f = absurd cc
 
 -- ---- all steps
 
 abbrev max_of : Peers → ℕ
 max_of p = p.client.limits.frame_max
 
-max_if : (b : Bool) (p q : Peers) → max_of p ≡ max_of q → max_of (if b then p else q) ≡ max_of q
-max_if true p q e = e
-max_if false p q e = refl
-
 close_max : (b : Bool) (c : Connection) → (close_if b c).limits.frame_max ≡ c.limits.frame_max
 close_max true c = refl
 close_max false c = refl
 
 meaning_max : (m : Meaning) (x : Peers) → max_of (peers_by m x) ≡ max_of x
-meaning_max ten.Nothing x = refl
-meaning_max ten.Init x = refl
-meaning_max ten.AmqpHeader x = refl
 meaning_max ten.Opened x = by (is_opening x.client)
   where
     by : (b : Bool) → (if b then after_opened (channel_max_in x.container) x.client else x.client).limits.frame_max ≡ max_of x
@@ -391,32 +206,59 @@ meaning_max ten.Opened x = by (is_opening x.client)
     by false = refl
 meaning_max (ten.OfSession g q payload) x =
     conn_cases (λ (d : Connection). d.limits.frame_max ≡ max_of x) g q payload x refl refl (max_only (only_closing g x.client))
-meaning_max (ten.Closed e) x = refl
-meaning_max ten.Refused x = refl
-meaning_max (ten.Violation why) x = refl
+meaning_max y x = refl
 
 abbrev FitsIn : List Step → ℕ → Type 0
 FitsIn h n = FitsAt (path_life h n) (limit_in h) (max_of (peers h)) (path_events h n)
 
-quietly : (h : List Step) (n k : ℕ) (xs : List PathEvent) → k ≡ max_of (peers h) → AreGood (limit_in h) xs → FitsIn h n
-    → FitsAt (path_life h n) (limit_in h) k (xs ++ path_events h n)
-quietly h n k xs e g t = more_fit (path_life h n) (limit_in h) (max_of (peers h)) k xs (path_events h n) e (λ x. g) t
+-- all but the units of the client, and the first step
+abbrev keeps_max : Step → Bool
+keeps_max (Began site number ms) = false
+keeps_max (Came u) = false
+keeps_max s = true
+
+max_stays : (h : List Step) (s : Step) → keeps_max s ≡ true → max_of (peers (s ∷ h)) ≡ max_of (peers h)
+max_stays h (Began site number ms) e = absurd cc
+max_stays h (Came u) e = absurd cc
+max_stays h (Moment ms) e = close_max (is_limit_reached (connection h) (accepted_in h) ms) (connection h)
+max_stays h TakenUp e = by (not (ran_out_in h) && leaving_in h)
+  where
+    by : (b : Bool) → max_of (if b then peers_left (peers h) else peers h) ≡ max_of (peers h)
+    by true = refl
+    by false = refl
+max_stays h (Heard u) e = by (ran_out_in h)
+  where
+    by : (b : Bool) → max_of (if b then peers h else peers_heard (peers h) u) ≡ max_of (peers h)
+    by true = refl
+    by false = meaning_max (meaning_by (container h) u) _
+max_stays h (Fed Client) e = refl
+max_stays h (Silent Client) e = refl
+max_stays h (Joined link.Ok) e = refl
+max_stays h (Lost Client how) e = refl
+max_stays h (Lost Up loss.Ended) e = refl
+max_stays h (Whole Client) e = refl
+max_stays h (Gave (ToClient u) text) e = max_only (only_given u (connection h))
+max_stays h s e = refl
 
 module _ (within : Within) (received : ReceivedAre) where
   least : (h : List Step) → 8 ≤ max_of (peers h)
   least h = let some : FRAME_MIN_SIZE ≤ max_of (peers h) = (within h).frame_min in omega (arith, some)
 
-  heard_fits : (h : List Step) (n : ℕ) (u : Unit10) → FitsIn h n → FitsIn (Heard u ∷ h) n
-  heard_fits h n u t = by (ran_out_in h)
+  step_good : (h : List Step) (n : ℕ) (s : Step) → keeps_max s ≡ true → AreGood (max_of (peers h)) (step_events n h s)
+  step_good h n s e = flat (IsGood l) (path_events h n) (step_events n h s) (by s e)
     where
-      by : (b : Bool) → FitsAt (path_life h n) (limit_in h) (max_of (if b then peers h else peers_heard (peers h) u))
-          ((if b then [] else meaning_events (peers h) n (meaning_by (container h) u)) ++ path_events h n)
-      by true = t
-      by false =
-          more_fit (path_life h n) (limit_in h) (max_of (peers h)) _ (meaning_events (peers h) n (meaning_by (container h) u)) (path_events h n)
-          (meaning_max (meaning_by (container h) u) _)
-          (λ e. subst (λ (l : ℕ). AreGood l (meaning_events (peers h) n (meaning_by (container h) u))) (sym e)
-          (meaning_good received (peers h) n (meaning_by (container h) u) (least h))) t
+      l : ℕ
+      l = max_of (peers h)
+
+      by : (s : Step) → keeps_max s ≡ true → AllOn (λ (b : List PathEvent). IsGood l) (path_events h n) (step_events n h s)
+      by (Began site number ms) e = tt
+      by (Came u) e = absurd cc
+      by (Gave (ToClient u) text) e = reply_on (λ (b : List PathEvent). IsGood l) n h (quiet_good l) u (told_good l)
+      by (Gave (ToUp u) text) e = up_on (λ (b : List PathEvent). IsGood l) n h (quiet_good l) (is_later (connection h) u) u (λ k t is. tt)
+      by (Whole Client) e = whole_on (λ (b : List PathEvent). IsGood l) n h (quiet_good l) (going_in h) (λ tag. tt)
+      by s e =
+          quiet_step (λ (b : List PathEvent). IsGood l) n h (quiet_good l)
+          (λ ts payload f. arrival_good received l n (number_at ts 0) (part_in ts) payload (path_at (paths_in h) n) (least h)) s refl
 
   came_fits : (h : List Step) (n : ℕ) (u : Unit91) → ArePicks h → FitsIn h n → FitsIn (Came u ∷ h) n
   came_fits h n u p t = by (ran_out_in h) (is_method_on is_channel_open n x.1) refl (within (Came u ∷ h))
@@ -443,43 +285,17 @@ module _ (within : Within) (received : ReceivedAre) where
           (limit_grows (limit_in h) (connection h) u x o (agrees h p) w) (stays_agreed (limit_in h) (connection h) u x o)
           (want_good (routes_in h) limit x.0.limits.frame_max n x.1 (step_named (routes_in h) (paths_in h) (unit_step (connection h) u))) t
 
-  taken_fits : (h : List Step) (n : ℕ) → FitsIn h n → FitsIn (TakenUp ∷ h) n
-  taken_fits h n t = by (not (ran_out_in h) && leaving_in h)
-    where
-      by : (b : Bool) → FitsAt (path_life h n) (limit_in h) (max_of (if b then peers_left (peers h) else peers h)) (closed_if b ++ path_events h n)
-      by true = quietly h n _ (event.LifeClosed ∷ []) refl (tt, tt) t
-      by false = t
+  step_fits : (h : List Step) (n : ℕ) (s : Step) → keeps_max s ≡ true → FitsIn h n
+      → FitsAt (path_life h n) (limit_in h) (max_of (peers (s ∷ h))) (step_events n h s ++ path_events h n)
+  step_fits h n s e t =
+      more_fit (path_life h n) (limit_in h) (max_of (peers h)) (max_of (peers (s ∷ h))) (step_events n h s) (path_events h n) (max_stays h s e)
+      (λ f. subst (λ (l : ℕ). AreGood l (step_events n h s)) (sym f) (step_good h n s e)) t
 
   fits : (n : ℕ) (h : List Step) → ArePicks h → FitsIn h n
   fits n [] p = tt
   fits n (Began site i ms ∷ h) p = subst (λ (x : List Step). FitsIn (Began site i ms ∷ x) n) (sym p.0) tt
-  fits n (Moment ms ∷ h) p = quietly h n _ (event.LinesWent ∷ []) (close_max (is_limit_reached (connection h) (accepted_in h) ms) (connection h)) (tt, tt) (fits n h p.1)
-  fits n (Fed Client ∷ h) p = quietly h n _ (event.LinesWent ∷ []) refl (tt, tt) (fits n h p.1)
-  fits n (Fed Up ∷ h) p = quietly h n _ (event.LinesWent ∷ []) refl (tt, tt) (fits n h p.1)
-  fits n (Silent Client ∷ h) p = quietly h n _ (event.LifeClosed ∷ []) refl (tt, tt) (fits n h p.1)
-  fits n (Silent Up ∷ h) p = quietly h n _ _ refl (lost_good _ (not (is_closing (connection h)))) (fits n h p.1)
-  fits n (Queued u ∷ h) p = fits n h p.1
   fits n (Came u ∷ h) p = came_fits h n u p.1 (fits n h p.1)
-  fits n (TakenUp ∷ h) p = taken_fits h n (fits n h p.1)
-  fits n (Heard u ∷ h) p = heard_fits h n u (fits n h p.1)
-  fits n (Joined link.Ok ∷ h) p = quietly h n _ (event.LinesWent ∷ []) refl (tt, tt) (fits n h p.1)
-  fits n (Joined link.Failed ∷ h) p =
-      quietly h n _ (lost_if (not (is_closing (connection h))) ++ event.LinesWent ∷ []) refl
-      (all_both (IsGood (limit_in h)) (lost_if (not (is_closing (connection h)))) _ (lost_good _ (not (is_closing (connection h)))) (tt, tt)) (fits n h p.1)
-  fits n (Lost Client how ∷ h) p = fits n h p.1
-  fits n (Lost Up loss.Ended ∷ h) p =
-      quietly h n _ (lost_if (not (is_closing (connection h))) ++ (event.UpLost ∷ event.LinesWent ∷ [])) refl
-      (all_both (IsGood (limit_in h)) (lost_if (not (is_closing (connection h)))) _ (lost_good _ (not (is_closing (connection h)))) (tt, (tt, tt))) (fits n h p.1)
-  fits n (Lost Up loss.Failed ∷ h) p =
-      quietly h n _ (lost_if (not (is_closing (connection h))) ++ (event.UpLost ∷ event.LinesWent ∷ [])) refl
-      (all_both (IsGood (limit_in h)) (lost_if (not (is_closing (connection h)))) _ (lost_good _ (not (is_closing (connection h)))) (tt, (tt, tt))) (fits n h p.1)
-  fits n (Lost Up loss.Shut ∷ h) p = quietly h n _ (event.UpLost ∷ event.LinesWent ∷ []) refl (tt, (tt, tt)) (fits n h p.1)
-  fits n (Gave (ToClient u) text ∷ h) p = quietly h n _ (reply_events n u) (max_only (only_given u (connection h))) (reply_good _ n u) (fits n h p.1)
-  fits n (Gave (ToUp u) text ∷ h) p = quietly h n _ (up_events (is_later (connection h) u) n u) refl (up_good _ (is_later (connection h) u) n u) (fits n h p.1)
-  fits n (Whole Client ∷ h) p = quietly h n _ (wrote_events n (going_in h)) refl (whole_good _ n (going_in h)) (fits n h p.1)
-  fits n (Whole Up ∷ h) p = fits n h p.1
-  fits n (LinesTold ∷ h) p = quietly h n _ (event.LinesWent ∷ []) refl (tt, tt) (fits n h p.1)
-  fits n (OutOfMemory ∷ h) p = quietly h n _ (event.LifeClosed ∷ []) refl (tt, tt) (fits n h p.1)
+  fits n (s ∷ h) p = step_fits h n s refl (fits n h p.1)
 
   -- where a life is in progress, the connection has the limit that was agreed to
   pub limit_agreed : (h : List Step) (n life : ℕ) → ArePicks h → path_life h n ≡ Some life → limit_in h ≡ (connection h).limits.frame_max

@@ -6,12 +6,11 @@ use Rattle.consume_path.specs.Deliveries.{DeliveryEvent, DeliveryState, open_aft
 use Rattle.consume_path.specs.Deliveries.{after_events as deliveries_after}
 use Rattle.consume_path.specs.Journal.{IsTaken, fate_of, global_of, is_closed, is_written, tags_of}
 use Rattle.consume_path.specs.Laws.{AreFresh, IsLawfulDeliver, needs_content}
-use Rattle.consume_path.specs.Offers.{content_of, next_deliver_of}
+use Rattle.consume_path.specs.Offers.{content_of, next_deliver_of, serves_gets}
 use Rattle.consume_path.specs.declared.delivery.Content.{Content}
 use Rattle.machine_091.specs.declared.limits.TheConstants.{CHANNEL_MAX}
 use Rattle.methods_091.specs.Writing.{method_text}
 use Rattle.consume_path.specs.declared.delivery.NextDeliver.{NextDeliver}
-use Rattle.consume_path.specs.Offers.{serves_gets}
 use Rattle.session_path.specs.Due.{deliver_if, deliver_in, is_get_ok, most_tags, next_deliver, tag_of}
 use Rattle.session_path.specs.Events.{after_events, deliveries_of}
 use Rattle.session_path.specs.Path.{PathState, first_of}

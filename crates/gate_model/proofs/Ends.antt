@@ -1,27 +1,24 @@
 -- What ends a channel waits for its session.
 use Rattle.gate_model.specs.declared.reply.Reason.{Reason}
-use Rattle.std.proofs.Common.{◌≡◌, ℕ, Bool, true, false, ◌&&◌, List, [], ◌∷◌, ◌++◌}
-use Rattle.std.proofs.Common.{Option, None, Some, refl, sym, ap, ◌∙◌, subst}
+use Rattle.std.proofs.Common.{◌≡◌, ℕ, Bool, true, false, ◌&&◌, List, [], ◌∷◌, ◌++◌, Option, None, Some, refl, sym, ap, ◌∙◌, subst}
 use Rattle.machine_10.specs.declared.state.Upstream.{Upstream}
 use Rattle.gate_model.specs.declared.life.Life.{Life}
-use Rattle.gate_model.specs.declared.outgoing.Outgoing.TheVariants.{ToClient, ToUp}
+use Rattle.gate_model.specs.declared.outgoing.Outgoing.TheVariants.{ToClient}
 use Rattle.gate_model.specs.declared.reply.Reply.{Reply}
 use Rattle.gate_model.specs.declared.reply.Reply.TheVariants as reply
 use Rattle.gate_model.specs.Due.{refused_on, when}
 use Rattle.gate_model.specs.Folds.{is_answer}
 use Rattle.gate_model.specs.Lives.{is_done, session_in}
 use Rattle.gate_model.specs.Picks.{ArePicks}
-use Rattle.gate_model.specs.State.{Began, Came, Gave, Heard, Joined, LinesTold, Lost, Moment}
-use Rattle.gate_model.specs.State.{OutOfMemory}
-use Rattle.gate_model.specs.State.{Queued, State, Step, TakenUp, Whole, before, is_channel_settled}
-use Rattle.gate_model.specs.State.{is_settled, Fed, Silent}
+use Rattle.gate_model.specs.State.{Gave, State, Step, before, is_channel_settled, is_settled}
 use Rattle.gate_model.specs.Upstream.{first}
 use Rattle.gate_model.specs.Waiting.{ChannelsEndWhenSettled, NoneThere, OfAll, SettledOn, ended_by}
+use Rattle.gate_model.proofs.Basics.{and_right}
 use Rattle.gate_model.proofs.Known.{container_is, known}
 use Rattle.gate_model.proofs.Rows.{first_each}
 use Rattle.gate_model.proofs.Said.{Beats, InCloses, InOks, InOpen, InOpenOks, IsDue, IsOfChannel}
 use Rattle.gate_model.proofs.Said.{OnChannel, OnOpen, Picked, calm_now, first_due, picked}
-use Rattle.gate_model.proofs.Times.{Either, OnLeft, OnRight, and_right, either}
+use Rattle.gate_model.proofs.Times.{Either, OnLeft, OnRight, either}
 use Rattle.gate_model.proofs.Waits.{settled_in}
 
 -- what it ends, the state knows as settled
@@ -45,12 +42,7 @@ ends_of_connection w reply.OpenOk e = ends_none w reply.OpenOk refl
 ends_of_connection w reply.CloseOk e = ends_none w reply.CloseOk refl
 ends_of_connection w (reply.Close r) e = ends_none w (reply.Close r) refl
 ends_of_connection w reply.NoMemory e = ends_none w reply.NoMemory refl
-ends_of_connection w reply.Heartbeat e = absurd cc
-ends_of_connection w (reply.ChannelOpenOk n) e = absurd cc
-ends_of_connection w (reply.OnChannel n u) e = absurd cc
-ends_of_connection w (reply.ChannelCloseOk n) e = absurd cc
-ends_of_connection w (reply.CrossedOk n) e = absurd cc
-ends_of_connection w (reply.ChannelClose n r) e = absurd cc
+ends_of_connection w x e = absurd cc
 
 -- one that may go, of a row
 ends_when : (w : State) (b : Bool) (u v : Reply) → (b ≡ true → EndsIn w u) → first (when b u) ≡ Some v → EndsIn w v
@@ -91,17 +83,4 @@ pub channels_end_when_settled : (h : List Step) → ArePicks h → ChannelsEndWh
 channels_end_when_settled [] p = tt
 channels_end_when_settled (Gave (ToClient u) text ∷ h) p =
     (λ n e. settled_on h n p.1 (ends_picked h u p.1 (picked (before h) u p.0.1) n e), channels_end_when_settled h p.1)
-channels_end_when_settled (Gave (ToUp u) text ∷ h) p = channels_end_when_settled h p.1
-channels_end_when_settled (Began site n ms ∷ h) p = channels_end_when_settled h p.1
-channels_end_when_settled (Moment ms ∷ h) p = channels_end_when_settled h p.1
-channels_end_when_settled (Fed end ∷ h) p = channels_end_when_settled h p.1
-channels_end_when_settled (Silent end ∷ h) p = channels_end_when_settled h p.1
-channels_end_when_settled (Queued u ∷ h) p = channels_end_when_settled h p.1
-channels_end_when_settled (Came u ∷ h) p = channels_end_when_settled h p.1
-channels_end_when_settled (TakenUp ∷ h) p = channels_end_when_settled h p.1
-channels_end_when_settled (Heard u ∷ h) p = channels_end_when_settled h p.1
-channels_end_when_settled (Joined answer ∷ h) p = channels_end_when_settled h p.1
-channels_end_when_settled (Lost end how ∷ h) p = channels_end_when_settled h p.1
-channels_end_when_settled (Whole end ∷ h) p = channels_end_when_settled h p.1
-channels_end_when_settled (LinesTold ∷ h) p = channels_end_when_settled h p.1
-channels_end_when_settled (OutOfMemory ∷ h) p = channels_end_when_settled h p.1
+channels_end_when_settled (s ∷ h) p = channels_end_when_settled h p.1

@@ -1,22 +1,19 @@
 -- The confirms and the transfers that go are those that the publishes of the life in progress make due.
 use Rattle.std.proofs.Common.{◌≡◌, ℕ, zero, suc, ◌+◌, ◌%◌, ◌^◌, ◌==◌, ◌<◌, ◌≤◌, ◌&&◌, ◌||◌, nat_lt}
 use Rattle.std.proofs.Common.{min, take, cond, Bool, true, false, if◌then◌else◌, List, [], ◌∷◌}
-use Rattle.std.proofs.Common.{length, Option, None, Some, option_map, refl, sym, ap, ◌∙◌, subst}
-use Rattle.std.proofs.Common.{arith}
+use Rattle.std.proofs.Common.{length, Option, None, Some, option_map, refl, sym, ap, ◌∙◌, subst, arith}
 use Rattle.std.proofs.lemmas.Bool.Decides.{nat_tests}
 use Rattle.std.specs.Option.{option_or}
 use Rattle.std.specs.Prelude.{IfSome}
 use Rattle.open_items.specs.Numbers.{first, least, passing_above}
 use Rattle.gate_outside.specs.declared.ports.End.TheVariants.{Up}
 use Rattle.machine_091.specs.declared.limits.TheConstants.{CHANNEL_MAX}
-use Rattle.publish_path.specs.Journal.{Fate, IsTaken, fate_of, goes_on, is_to_go, next_id_of}
-use Rattle.publish_path.specs.Journal.{numbers_of, rest_by, waits}
+use Rattle.publish_path.specs.Journal.{Fate, IsTaken, fate_of, goes_on, is_to_go, next_id_of, numbers_of, rest_by, waits}
 use Rattle.publish_path.specs.Laws.{IsLawfulConfirm, frame_at, frame_by, may_begin}
 use Rattle.publish_path.specs.Offers.{next_confirm_of, next_frame_of, rest_of}
 use Rattle.publish_path.specs.declared.publish.NextFrame.{NextFrame}
 use Rattle.publish_path.specs.declared.send_links.SendingLink.{SendingLink}
-use Rattle.publish_path.specs.Publishes.{ConfirmSent, FrameSent, LinesTold, LinkGone, OutcomeCame, ReturnSent}
-use Rattle.publish_path.specs.Publishes.{PublishEvent, PublishState, TakenUp}
+use Rattle.publish_path.specs.Publishes.{FrameSent, PublishEvent, PublishState}
 use Rattle.publish_path.specs.Publishes.{after_events as publishes_after, open_after}
 use Rattle.publish_path.specs.declared.publish.Confirm.{Confirm}
 use Rattle.session_path.specs.Due.{next_confirm, next_content, next_deliver, next_frame, next_ok, next_return}
@@ -39,8 +36,7 @@ use Rattle.gate_model.specs.Lives.{life_at}
 use Rattle.gate_model.specs.Folds.{paths_in}
 use Rattle.gate_model.specs.Paths.{or_no_path, part_of, path_at, slot_at, transfer_of}
 use Rattle.gate_model.specs.Picks.{ArePicks}
-use Rattle.gate_model.specs.Publishing.{Confirms, MayCarry, MayConfirm, MayTell, MayTransfer}
-use Rattle.gate_model.specs.Publishing.{Transfers, path_events, path_life}
+use Rattle.gate_model.specs.Publishing.{Confirms, MayCarry, MayConfirm, MayTell, MayTransfer, Transfers, path_events, path_life}
 use Rattle.gate_model.specs.State.{Gave, State, Step, before}
 use Rattle.gate_model.proofs.Carrying.{carries_in}
 use Rattle.gate_model.proofs.Firsts.{OfChannel, OfSession, goes_as, goes_up_as, ChannelUnits}
@@ -140,12 +136,8 @@ record IsDue (w : State) (n : ℕ) (t : TransferOut) : Type 0 where
   is : t ≡ transfer_of (frame_max_in w.up.container) (path_at w.paths n) frame
 
 abbrev IsNextFrame : State → ℕ → SessionUnit → Type 0
-IsNextFrame w n (unit.Attach a) = Unit {0}
-IsNextFrame w n (unit.Flow f) = Unit {0}
 IsNextFrame w n (unit.Transfer t) = IsDue w n t
-IsNextFrame w n (unit.Dispose x) = Unit {0}
-IsNextFrame w n (unit.Settle x) = Unit {0}
-IsNextFrame w n (unit.Detach k handle why) = Unit {0}
+IsNextFrame w n x = Unit {0}
 
 -- a frame that is due has room in the window
 record HasRoom (window : ℕ) (s : PathState) (f : NextFrame) : Type 0 where
@@ -220,13 +212,8 @@ to_go links h f e =
 -- delivery-ids count the transfers that began
 next_id_is : (life : ℕ) (h : List PublishEvent) → (publishes_after life h).next_id ≡ next_id_of h
 next_id_is life [] = refl
-next_id_is life (TakenUp link confirm payload back ∷ h) = next_id_is life h
 next_id_is life (FrameSent number first part ∷ h) = ap (λ (id : ℕ). if first then (id + 1) % 2 ^ 32 else id) (next_id_is life h)
-next_id_is life (OutcomeCame first last outcome ∷ h) = next_id_is life h
-next_id_is life (LinkGone link not_found ∷ h) = next_id_is life h
-next_id_is life (ConfirmSent c ∷ h) = next_id_is life h
-next_id_is life (ReturnSent number ∷ h) = next_id_is life h
-next_id_is life (LinesTold ∷ h) = next_id_is life h
+next_id_is life (s ∷ h) = next_id_is life h
 
 cut_more : (room left : ℕ) → nat_lt room left ≡ nat_lt (min room left) left
 cut_more room left = by (nat_lt room left) refl

@@ -2,8 +2,7 @@
 -- links, is the next of its kind.
 use Rattle.gate_model.specs.declared.reply.Reason.{Reason}
 use Rattle.std.proofs.Common.{◌≡◌, ℕ, zero, suc, ◌+◌, not, ◌&&◌, ◌||◌, Bool, true, false}
-use Rattle.std.proofs.Common.{if◌then◌else◌, List, [], ◌∷◌, ◌++◌, Option, None, Some, arith, refl}
-use Rattle.std.proofs.Common.{subst, map}
+use Rattle.std.proofs.Common.{if◌then◌else◌, List, [], ◌∷◌, ◌++◌, Option, None, Some, arith, refl, subst, sym, map}
 use Rattle.std.specs.Prelude.{IfSome}
 use Rattle.gate_outside.specs.declared.ports.End.TheVariants.{Client, Up}
 use Rattle.gate_relay.specs.Sides.{is_readable}
@@ -13,8 +12,7 @@ use Rattle.publish_path.specs.declared.publish.Confirm.{Confirm}
 use Rattle.publish_path.specs.declared.publish.NextReturn.{NextReturn}
 use Rattle.publish_path.specs.declared.publish.NextFrame.{NextFrame}
 use Rattle.consume_path.specs.declared.delivery.NextSettle.{NextSettle}
-use Rattle.session_path.specs.Due.{next_attach, next_confirm, next_content, next_deliver}
-use Rattle.session_path.specs.Due.{next_detach, next_dispose}
+use Rattle.session_path.specs.Due.{next_attach, next_confirm, next_content, next_deliver, next_detach, next_dispose}
 use Rattle.session_path.specs.Due.{next_flow, next_frame, next_ok, next_return, next_settle}
 use Rattle.session_path.specs.declared.path.AttachDue.{AttachDue}
 use Rattle.session_path.specs.declared.path.ContentDue.{ContentDue}
@@ -34,20 +32,16 @@ use Rattle.gate_model.specs.declared.outgoing.UpUnit.TheVariants as up
 use Rattle.gate_model.specs.declared.reply.Pending.{Pending}
 use Rattle.gate_model.specs.declared.reply.Reply.{Reply}
 use Rattle.gate_model.specs.declared.reply.Reply.TheVariants as reply
-use Rattle.gate_model.specs.Due.{answers, attaches, begins, carried_rows, channel_closes}
-use Rattle.gate_model.specs.Due.{channel_oks, contents, content_on}
-use Rattle.gate_model.specs.Due.{consume_ok_on, consume_oks, deliver_on, delivers, detach_out}
-use Rattle.gate_model.specs.Due.{disposals, is_consume_ok}
-use Rattle.gate_model.specs.Due.{empty_on, get_ok_on, get_on, gets, is_empty_ok, is_plain_ok}
-use Rattle.gate_model.specs.Due.{may_return, return_on, writing_on, writings}
+use Rattle.gate_model.specs.Due.{answers, attaches, begins, carried_rows, channel_closes, channel_oks, contents, content_on}
+use Rattle.gate_model.specs.Due.{consume_ok_on, consume_oks, deliver_on, delivers, detach_out, disposals, is_consume_ok}
+use Rattle.gate_model.specs.Due.{empty_on, get_ok_on, get_on, gets, is_empty_ok, is_plain_ok, may_return, return_on, writing_on, writings}
 use Rattle.gate_model.specs.Due.{client_rows, client_units, close_behind, close_oks, close_oks_on}
 use Rattle.gate_model.specs.Due.{closes, confirm_on, confirms, detaches, ends, frame_max_in, if_so}
 use Rattle.gate_model.specs.Due.{is_beat_due, is_end_due, last_closes, link_flows, may_answer}
 use Rattle.gate_model.specs.Due.{may_confirm, may_end, may_go, may_tell, none_left, ok_on, open_oks}
 use Rattle.gate_model.specs.Due.{openings, path_oks, pick, refused_on, row_on, rows_in}
-use Rattle.gate_model.specs.Due.{session_flows, session_rows, settlings, transfers, unless_out}
-use Rattle.gate_model.specs.Due.{may_idle, other_rows, up_rows, when}
-use Rattle.gate_model.specs.Lives.{each, is_carried, life_at, session_in}
+use Rattle.gate_model.specs.Due.{session_flows, session_rows, settlings, transfers, unless_out, may_idle, other_rows, up_rows, when}
+use Rattle.gate_model.specs.Lives.{each, is_carried, is_free as is_free_session, life_at, session_in}
 use Rattle.gate_model.specs.Paths.{attach_out, flow_out, path_at, transfer_of}
 use Rattle.gate_model.specs.State.{State, is_channel_settled, is_settled}
 use Rattle.gate_model.specs.Upstream.{first, opening_rows, when_up}
@@ -102,63 +96,89 @@ pub record SessionUnits (Q : ℕ → SessionUnit → Type 0) (w : State) : Type 
   pub settle : (n : ℕ) (x : Settling) → next_settle (path_at w.paths n) ≡ Some x → Q n (unit.Settle x)
   pub detach : (n : ℕ) (x : PathLink) → next_detach (path_at w.paths n) ≡ Some x → Q n (detach_out x)
 
-row_is : {A : Type 0} (Q : ℕ → SessionUnit → Type 0) (w : State) (n : ℕ) (o : Option A) (f : A → SessionUnit) → ((x : A) → o ≡ Some x → Q n (f x))
-    → FirstIs (OfSession Q) (row_on w.up.container n o f)
-row_is Q w n None f is = tt
-row_is Q w n (Some x) f is = when_up_is (OfSession Q) (is_carried (session_in w.up.container n)) (up.OnSession n (f x)) (is x refl)
+-- it neither is of a link, nor begins or ends a session
+abbrev pub is_free : UpUnit → Bool
+is_free (up.OnSession n u) = false
+is_free (up.Begin n) = false
+is_free (up.End n why) = false
+is_free u = true
 
-session_is : (Q : ℕ → SessionUnit → Type 0) (w : State) → SessionUnits Q w → FirstIs (OfSession Q) (session_rows w)
-session_is Q w us =
+row_is : {A : Type 0} (P : UpUnit → Type 0) (w : State) (n : ℕ) (o : Option A) (f : A → SessionUnit) → ((x : A) → o ≡ Some x → P (up.OnSession n (f x)))
+    → FirstIs P (row_on w.up.container n o f)
+row_is P w n None f is = tt
+row_is P w n (Some x) f is = when_up_is P (is_carried (session_in w.up.container n)) (up.OnSession n (f x)) (is x refl)
+
+pub session_by : (P : UpUnit → Type 0) (w : State) → SessionUnits (λ n u. P (up.OnSession n u)) w → ((u : UpUnit) → is_free u ≡ true → P u)
+    → FirstIs P (session_rows w)
+session_by P w us free =
     both_are P (unless_out w.out_of_memory (carried_rows w)) _ (by w.out_of_memory)
-    (both_are P (disposals w) _ (each_is P _ w.lives (λ n. row_is Q w n _ _ (us.dispose n)))
-    (both_are P (settlings w) (detaches w) (each_is P _ w.lives (λ n. row_is Q w n _ _ (us.settle n)))
-    (each_is P _ w.lives (λ n. row_is Q w n _ _ (us.detach n)))))
+    (both_are P (disposals w) _ (each_is P _ w.lives (λ n. row_is P w n _ _ (us.dispose n)))
+    (both_are P (settlings w) (detaches w) (each_is P _ w.lives (λ n. row_is P w n _ _ (us.settle n)))
+    (each_is P _ w.lives (λ n. row_is P w n _ _ (us.detach n)))))
   where
-    P : UpUnit → Type 0
-    P = OfSession Q
-
     carried : FirstIs P (carried_rows w)
     carried =
-        both_are P (attaches w) _ (each_is P _ w.lives (λ n. row_is Q w n _ _ (us.attach n)))
-        (both_are P (link_flows w) _ (each_is P _ w.lives (λ n. row_is Q w n _ _ (us.flow n)))
-        (both_are P (session_flows w) (transfers w) (each_is P _ w.lives (λ n. when_up_is P _ _ tt))
-        (each_is P _ w.lives (λ n. row_is Q w n _ _ (us.transfer n)))))
+        both_are P (attaches w) _ (each_is P _ w.lives (λ n. row_is P w n _ _ (us.attach n)))
+        (both_are P (link_flows w) _ (each_is P _ w.lives (λ n. row_is P w n _ _ (us.flow n)))
+        (both_are P (session_flows w) (transfers w) (each_is P _ w.lives (λ n. when_up_is P _ (up.Flow n _ _) (free (up.Flow n _ _) refl)))
+        (each_is P _ w.lives (λ n. row_is P w n _ _ (us.transfer n)))))
 
     by : (b : Bool) → FirstIs P (unless_out b (carried_rows w))
     by true = tt
     by false = carried
 
-up_rows_are : (Q : ℕ → SessionUnit → Type 0) (w : State) → SessionUnits Q w → FirstIs (OfSession Q) (up_rows w)
-up_rows_are Q w us = all (is_readable w.up.side && not w.up.sent.close)
-  where
-    P : UpUnit → Type 0
-    P = OfSession Q
+abbrev pub closes_all : State → Bool
+closes_all w = w.out_of_memory || is_closing w.conn
 
-    last : (closing : Bool) → FirstIs P (ends closing w)
-    last closing = each_is P _ w.lives (λ n. when_up_is P (is_end_due closing w n) _ tt)
+pub record UpRows (P : UpUnit → Type 0) (w : State) : Type 0 where
+  pub free : (u : UpUnit) → is_free u ≡ true → P u
+  pub begin : (n : ℕ) → closes_all w ≡ false → ((life_at w.lives n).begin && is_free_session (session_in w.up.container n)) ≡ true → P (up.Begin n)
+  pub last : (n : ℕ) → is_end_due (closes_all w) w n ≡ true → P (up.End n (life_at w.lives n).why)
+  pub session : FirstIs P (session_rows w)
+
+pub up_rows_by : (P : UpUnit → Type 0) (w : State) → UpRows P w → FirstIs P (up_rows w)
+up_rows_by P w us = all (is_readable w.up.side && not w.up.sent.close)
+  where
+    when_so : (b : Bool) (u : UpUnit) → (b ≡ true → P u) → FirstIs P (when_up b u)
+    when_so true u f = f refl
+    when_so false u f = tt
+
+    ending : (b : Bool) → b ≡ closes_all w → FirstIs P (ends b w)
+    ending b c =
+        each_is P _ w.lives (λ n. when_so (is_end_due b w n) (up.End n (life_at w.lives n).why)
+        (λ e. us.last n (subst (λ (x : Bool). is_end_due x w n ≡ true) c e)))
 
     opening : FirstIs P (opening_rows w.up.pending)
     opening =
-        both_are P _ _ (when_up_is P w.up.pending.sasl_header up.SaslHeader tt)
-        (both_are P _ _ (when_up_is P w.up.pending.init up.SaslInit tt)
-        (both_are P _ _ (when_up_is P w.up.pending.amqp_header up.AmqpHeader tt)
-        (when_up_is P w.up.pending.«open» up.Open tt)))
+        both_are P _ _ (when_up_is P w.up.pending.sasl_header up.SaslHeader (us.free up.SaslHeader refl))
+        (both_are P _ _ (when_up_is P w.up.pending.init up.SaslInit (us.free up.SaslInit refl))
+        (both_are P _ _ (when_up_is P w.up.pending.amqp_header up.AmqpHeader (us.free up.AmqpHeader refl))
+        (when_up_is P w.up.pending.«open» up.Open (us.free up.Open refl))))
 
-    others : (closing : Bool) → FirstIs P (other_rows closing w)
-    others true =
-        both_are P (session_rows w) _ (session_is Q w us)
-        (both_are P (ends true w) (close_behind w) (last true) (when_up_is P (none_left w && w.up.sent.«open») _ tt))
-    others false =
+    others : (b : Bool) → b ≡ closes_all w → FirstIs P (other_rows b w)
+    others true c =
+        both_are P (session_rows w) _ us.session
+        (both_are P (ends true w) (close_behind w) (ending true c)
+        (when_up_is P (none_left w && w.up.sent.«open») (up.Close w.up.condition) (us.free (up.Close w.up.condition) refl)))
+    others false c =
         both_are P (opening_rows w.up.pending) _ opening
-        (both_are P (begins w) _ (each_is P _ w.lives (λ n. when_up_is P _ _ tt))
-        (both_are P (session_rows w) (ends false w) (session_is Q w us) (last false)))
+        (both_are P (begins w) _ (each_is P _ w.lives (λ n. when_so _ (up.Begin n) (us.begin n (sym c))))
+        (both_are P (session_rows w) (ends false w) us.session (ending false c)))
 
-    rows : (closing : Bool) → FirstIs P (rows_in closing w)
-    rows closing = both_are P (other_rows closing w) _ (others closing) (when_up_is P (may_idle w) up.Empty tt)
+    rows : FirstIs P (rows_in (closes_all w) w)
+    rows = both_are P (other_rows (closes_all w) w) _ (others (closes_all w) refl) (when_up_is P (may_idle w) up.Empty (us.free up.Empty refl))
 
-    all : (b : Bool) → FirstIs P (if b then rows_in (w.out_of_memory || is_closing w.conn) w else [])
-    all true = rows (w.out_of_memory || is_closing w.conn)
+    all : (b : Bool) → FirstIs P (if b then rows_in (closes_all w) w else [])
+    all true = rows
     all false = tt
+
+up_rows_are : (Q : ℕ → SessionUnit → Type 0) (w : State) → SessionUnits Q w → FirstIs (OfSession Q) (up_rows w)
+up_rows_are Q w us =
+    up_rows_by (OfSession Q) w (record { free = free; begin = λ n c e. tt; last = λ n e. tt; session = session_by (OfSession Q) w us free })
+  where
+    free : (u : UpUnit) → is_free u ≡ true → OfSession Q u
+    free (up.OnSession n u) e = absurd cc
+    free u e = tt
 
 -- ---- to the client
 
@@ -280,11 +300,11 @@ client_rows_are Q w us =
 
 -- ---- the unit that goes
 
-of_up : (P : UpUnit → Type 0) (us : List UpUnit) (u : UpUnit) → FirstIs P us → first (map ToUp us) ≡ Some (ToUp u) → P u
+pub of_up : (P : UpUnit → Type 0) (us : List UpUnit) (u : UpUnit) → FirstIs P us → first (map ToUp us) ≡ Some (ToUp u) → P u
 of_up P [] u p e = absurd cc
 of_up P (x ∷ us) u p e = let same : x ≡ u = cc in subst P same p
 
-of_client : (P : Reply → Type 0) (us : List Reply) (u : Reply) → FirstIs P us → first (map ToClient us) ≡ Some (ToClient u) → P u
+pub of_client : (P : Reply → Type 0) (us : List Reply) (u : Reply) → FirstIs P us → first (map ToClient us) ≡ Some (ToClient u) → P u
 of_client P [] u p e = absurd cc
 of_client P (x ∷ us) u p e = let same : x ≡ u = cc in subst P same p
 

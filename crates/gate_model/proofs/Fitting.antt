@@ -1,7 +1,6 @@
 -- The frames of returns fit their clients: a frame-max is agreed to once, before anything is published, and the frames are cut by it.
 use Rattle.std.proofs.Common.{◌≡◌, ℕ, zero, suc, ◌+◌, ◌-◌, ◌==◌, ◌≤◌, ◌&&◌, Bool, true, false}
-use Rattle.std.proofs.Common.{if◌then◌else◌, List, [], ◌∷◌, take, drop, length, map, Option, None}
-use Rattle.std.proofs.Common.{Some, refl, sym, ap, ◌∙◌, subst, arith}
+use Rattle.std.proofs.Common.{if◌then◌else◌, List, [], ◌∷◌, take, drop, length, map, Option, None, Some, refl, sym, ap, ◌∙◌, subst, arith}
 use Rattle.std.proofs.lemmas.Bool.Decides.{nat_tests}
 use Rattle.std.proofs.lemmas.List.{length-append, length-take}
 use Rattle.gate_outside.specs.declared.ports.End.TheVariants.{Client, Up}
@@ -25,25 +24,20 @@ use Rattle.machine_10.specs.Transitions.{Meaning}
 use Rattle.methods_091.specs.declared.method.Method91.{Method91}
 use Rattle.open_items.specs.Numbers.{first}
 use Rattle.property_map.specs.declared.message.Message091.{Message091}
-use Rattle.gate_model.specs.declared.outgoing.Outgoing.TheVariants.{ToClient, ToUp}
-use Rattle.gate_model.specs.Folds.{Peers, accepted_in, connection, peers, peers_by, peers_came}
-use Rattle.gate_model.specs.Folds.{paths_in, peers_heard, ran_out_in, routes_in}
+use Rattle.gate_model.specs.declared.outgoing.Outgoing.TheVariants.{ToClient}
+use Rattle.gate_model.specs.Folds.{Peers, accepted_in, connection, peers, peers_by, peers_came, paths_in, peers_heard, ran_out_in, routes_in}
 use Rattle.gate_model.specs.Frames.{limit_after, limit_in}
 use Rattle.gate_model.specs.Picks.{ArePicks}
 use Rattle.gate_model.specs.Publishing.{back_by, back_in, back_wanted, opens_channel, publishes_in}
 use Rattle.gate_model.specs.Requests.{client_step, message_of}
 use Rattle.gate_model.specs.Returns.{back_of, body_parts, cut_in, frame_with, header_part, is_mandatory, is_within}
 use Rattle.gate_model.specs.Returns.{method_part, return_parts}
-use Rattle.gate_model.specs.State.{Began, Came, Fed, Gave, Heard, Joined, LinesTold, Lost, Moment}
-use Rattle.gate_model.specs.State.{OutOfMemory}
-use Rattle.gate_model.specs.State.{Queued, Silent, Step, TakenUp, Whole, close, close_if}
-use Rattle.gate_model.specs.State.{is_limit_reached}
+use Rattle.gate_model.specs.State.{Began, Came, Fed, Gave, Heard, Joined, Lost, Moment, OutOfMemory}
+use Rattle.gate_model.specs.State.{Silent, Step, TakenUp, Whole, close, close_if, is_limit_reached}
 use Rattle.gate_model.specs.Upstream.{channel_max_in, meaning_by}
 use Rattle.gate_model.proofs.Connections.{limits_only, only_given, opened_runs, opening_phase, phase_only}
-use Rattle.gate_model.proofs.Outcomes.{OnlyChannels, only_closing}
-use Rattle.gate_model.proofs.Outcomes.{Outcome, Greets, Parts, LogsIn, Tunes, Asks, Passes, Refuses}
-use Rattle.gate_model.proofs.Outcomes.{Declines, Drops, Parting, Calls, Asking, Publishes, Fills}
-use Rattle.gate_model.proofs.Outcomes.{Frees, Closes, Answers, Ignores, outcome}
+use Rattle.gate_model.proofs.Outcomes.{OnlyChannels, only_closing, Outcome, Greets, Parts, LogsIn, Tunes, Passes, Refuses}
+use Rattle.gate_model.proofs.Outcomes.{Declines, Drops, Parting, Asking, Publishes, Closes, Answers, outcome}
 use Rattle.gate_model.proofs.Sessions.{conn_cases}
 
 -- ---- frames within a limit
@@ -96,19 +90,12 @@ pub is_early : Phase91 → Bool
 is_early phase.Header = true
 is_early phase.Start = true
 is_early phase.Tune = true
-is_early phase.Open = false
-is_early phase.Running = false
-is_early phase.Closing = false
-is_early phase.Closed = false
+is_early x = false
 
 pub is_tuned : Phase91 → Bool
-is_tuned phase.Header = false
-is_tuned phase.Start = false
-is_tuned phase.Tune = false
 is_tuned phase.Open = true
 is_tuned phase.Running = true
-is_tuned phase.Closing = false
-is_tuned phase.Closed = false
+is_tuned x = false
 
 -- none was yet, or it is that of the connection
 pub record Agrees (limit : ℕ) (c : Connection) : Type 0 where
@@ -137,22 +124,12 @@ closes limit c a = by c.phase refl
   where
     by : (p : Phase91) → c.phase ≡ p → Agrees limit (record (close c) { phase = closing_phase p })
     by phase.Header e = done limit _ refl refl
-    by phase.Start e = done limit _ refl refl
-    by phase.Tune e = done limit _ refl refl
-    by phase.Open e = done limit _ refl refl
-    by phase.Running e = done limit _ refl refl
-    by phase.Closing e = done limit _ refl refl
-    by phase.Closed e = done limit _ refl refl
+    by x e = done limit _ refl refl
 
 pub running_tuned : (p : Phase91) → is_running p ≡ true → is_tuned p ≡ true
 unfolding is_tuned
-running_tuned phase.Header e = absurd cc
-running_tuned phase.Start e = absurd cc
-running_tuned phase.Tune e = absurd cc
-running_tuned phase.Open e = absurd cc
 running_tuned phase.Running e = refl
-running_tuned phase.Closing e = absurd cc
-running_tuned phase.Closed e = absurd cc
+running_tuned x e = absurd cc
 
 -- ---- a unit of the client
 
@@ -162,45 +139,24 @@ unit_agrees limit c u x (Greets e) a = record { early = λ f. a.early (ap is_ear
 unit_agrees limit c u x (Parts e) a = done limit _ refl refl
 unit_agrees limit c u x (LogsIn m r e) a = record { early = λ f. a.early (ap is_early e); tuned = λ f. absurd cc }
 unit_agrees limit c u x (Tunes limits e) a = record { early = λ f. absurd cc; tuned = λ f. refl }
-unit_agrees limit c u x (Asks e) a = record { early = a.early; tuned = a.tuned }
 unit_agrees limit c u x Passes a = a
 unit_agrees limit c u x (Refuses r asked k b o) a = done limit _ refl refl
 unit_agrees limit c u x (Declines r d o run b) a = closes limit d (only_same limit c d o a)
 unit_agrees limit c u x (Drops r d o run b) a = only_same limit c d o a
 unit_agrees limit c u x (Parting run) a = done limit _ refl refl
-unit_agrees limit c u x (Calls n s m run) a = record { early = a.early; tuned = a.tuned }
 unit_agrees limit c u x (Asking n m run) a = a
-unit_agrees limit c u x (Publishes n m d run) a = record { early = a.early; tuned = a.tuned }
-unit_agrees limit c u x (Fills n i run) a = record { early = a.early; tuned = a.tuned }
-unit_agrees limit c u x (Frees n run) a = record { early = a.early; tuned = a.tuned }
 unit_agrees limit c u x (Closes e) a = done limit _ refl refl
 unit_agrees limit c u x (Answers e) a = done limit _ refl refl
-unit_agrees limit c u x (Ignores e) a = record { early = a.early; tuned = a.tuned }
+unit_agrees limit c u x y a = record { early = a.early; tuned = a.tuned }
 
 -- the limit falls by none
 pub limit_grows : (limit : ℕ) (c : Connection) (u : Unit91) (x : machine.Step) → Outcome c u x → Agrees limit c → AreWithin x.0.limits → limit ≤ limit_after limit x.0 x.1
 unfolding is_early is_tuned
-limit_grows limit c u x (Greets e) a w = omega arith
-limit_grows limit c u x (Parts e) a w = omega arith
-limit_grows limit c u x (LogsIn m r e) a w = omega arith
 limit_grows limit c u x (Tunes limits e) a w =
     let least : limit ≡ FRAME_MIN_SIZE = a.early (ap is_early e) in
     let some : FRAME_MIN_SIZE ≤ limits.frame_max = w.frame_min in
     omega (arith, least, some)
-limit_grows limit c u x (Asks e) a w = omega arith
-limit_grows limit c u x Passes a w = omega arith
-limit_grows limit c u x (Refuses r asked k b o) a w = omega arith
-limit_grows limit c u x (Declines r d o run b) a w = omega arith
-limit_grows limit c u x (Drops r d o run b) a w = omega arith
-limit_grows limit c u x (Parting run) a w = omega arith
-limit_grows limit c u x (Calls n s m run) a w = omega arith
-limit_grows limit c u x (Asking n m run) a w = omega arith
-limit_grows limit c u x (Publishes n m d run) a w = omega arith
-limit_grows limit c u x (Fills n i run) a w = omega arith
-limit_grows limit c u x (Frees n run) a w = omega arith
-limit_grows limit c u x (Closes e) a w = omega arith
-limit_grows limit c u x (Answers e) a w = omega arith
-limit_grows limit c u x (Ignores e) a w = omega arith
+limit_grows limit c u x y a w = omega arith
 
 -- the frames of a publish that is taken up are within it
 abbrev AreNewFit : ℕ → Option (List (List ℕ)) → Type 0
@@ -209,18 +165,6 @@ AreNewFit l (Some back) = AreFit l back
 
 new_fit : (limit n : ℕ) (c : Connection) (u : Unit91) (x : machine.Step) → Outcome c u x → Agrees limit c → AreWithin x.0.limits
     → AreNewFit (limit_after limit x.0 x.1) (back_wanted x.0.limits.frame_max n x.1)
-new_fit limit n c u x (Greets e) a w = tt
-new_fit limit n c u x (Parts e) a w = tt
-new_fit limit n c u x (LogsIn m r e) a w = tt
-new_fit limit n c u x (Tunes limits e) a w = tt
-new_fit limit n c u x (Asks e) a w = tt
-new_fit limit n c u x Passes a w = tt
-new_fit limit n c u x (Refuses r asked k b o) a w = tt
-new_fit limit n c u x (Declines r d o run b) a w = tt
-new_fit limit n c u x (Drops r d o run b) a w = tt
-new_fit limit n c u x (Parting run) a w = tt
-new_fit limit n c u x (Calls k s m run) a w = tt
-new_fit limit n c u x (Asking k m run) a w = tt
 new_fit limit n c u x (Publishes k m d run) a w = by (k == n)
   where
     same : limit ≡ c.limits.frame_max
@@ -232,11 +176,7 @@ new_fit limit n c u x (Publishes k m d run) a w = by (k == n)
     by : (b : Bool) → AreNewFit limit (if b then Some (back_of c.limits.frame_max k m (message_of m d)) else None)
     by true = subst (λ (l : ℕ). AreFit l (back_of c.limits.frame_max k m (message_of m d))) (sym same) (back_fits c.limits.frame_max k m (message_of m d) least)
     by false = tt
-new_fit limit n c u x (Fills k i run) a w = tt
-new_fit limit n c u x (Frees k run) a w = tt
-new_fit limit n c u x (Closes e) a w = tt
-new_fit limit n c u x (Answers e) a w = tt
-new_fit limit n c u x (Ignores e) a w = tt
+new_fit limit n c u x y a w = tt
 
 -- ---- all steps
 
@@ -292,26 +232,19 @@ agrees [] p = record { early = λ e. refl; tuned = λ e. absurd cc }
 agrees (Began site n ms ∷ h) p = record { early = λ e. ap limit_in p.0; tuned = λ e. absurd cc }
 agrees (Moment ms ∷ h) p = close_agrees (limit_in h) (is_limit_reached (connection h) (accepted_in h) ms) (connection h) (agrees h p.1)
 agrees (Fed Client ∷ h) p = agrees h p.1
-agrees (Fed Up ∷ h) p = agrees h p.1
 agrees (Silent Client ∷ h) p = ended_agrees (limit_in h) (connection h)
 agrees (Silent Up ∷ h) p = closes (limit_in h) (connection h) (agrees h p.1)
-agrees (Queued u ∷ h) p = agrees h p.1
 agrees (Came u ∷ h) p = came_agrees h u (agrees h p.1)
 agrees (TakenUp ∷ h) p = agrees_if (limit_in h) _ _ (peers h) (ended_agrees (limit_in h) (connection h)) (agrees h p.1)
 agrees (Heard u ∷ h) p =
     agrees_if (limit_in h) (ran_out_in h) (peers h) (peers_heard (peers h) u) (agrees h p.1) (meaning_agrees (limit_in h) (meaning_by (peers h).container u) _ (agrees h p.1))
-agrees (Joined link.Ok ∷ h) p = agrees h p.1
 agrees (Joined link.Failed ∷ h) p = closes (limit_in h) (connection h) (agrees h p.1)
-agrees (Lost Client how ∷ h) p = agrees h p.1
 agrees (Lost Up loss.Ended ∷ h) p = closes (limit_in h) (connection h) (agrees h p.1)
 agrees (Lost Up loss.Failed ∷ h) p = closes (limit_in h) (connection h) (agrees h p.1)
-agrees (Lost Up loss.Shut ∷ h) p = agrees h p.1
 agrees (Gave (ToClient u) text ∷ h) p = only_same (limit_in h) (connection h) _ (only_given u (connection h)) (agrees h p.1)
-agrees (Gave (ToUp u) text ∷ h) p = agrees h p.1
 agrees (Whole Client ∷ h) p = agrees h p.1
-agrees (Whole Up ∷ h) p = agrees h p.1
-agrees (LinesTold ∷ h) p = agrees h p.1
 agrees (OutOfMemory ∷ h) p = closes (limit_in h) (connection h) (agrees h p.1)
+agrees (s ∷ h) p = agrees h p.1
 
 -- ---- so are all that were taken up
 
@@ -344,18 +277,6 @@ came_fits within h u n number p old = by (ran_out_in h) (opens_channel n h (Came
 
 pub backs_fit : Within → (n number : ℕ) (h : List Step) → ArePicks h → AreFit (limit_in h) (back_in n number h)
 backs_fit within n number [] p = tt
-backs_fit within n number (Began site i ms ∷ h) p = backs_fit within n number h p.1
-backs_fit within n number (Moment ms ∷ h) p = backs_fit within n number h p.1
-backs_fit within n number (Fed end ∷ h) p = backs_fit within n number h p.1
-backs_fit within n number (Silent end ∷ h) p = backs_fit within n number h p.1
-backs_fit within n number (Queued u ∷ h) p = backs_fit within n number h p.1
 backs_fit within n number (Came u ∷ h) p = came_fits within h u n number p.1 (backs_fit within n number h p.1)
-backs_fit within n number (TakenUp ∷ h) p = backs_fit within n number h p.1
-backs_fit within n number (Heard u ∷ h) p = backs_fit within n number h p.1
-backs_fit within n number (Joined answer ∷ h) p = backs_fit within n number h p.1
-backs_fit within n number (Lost end how ∷ h) p = backs_fit within n number h p.1
 backs_fit within n number (Gave (ToClient u) text ∷ h) p = backs_fit within n number h p.1
-backs_fit within n number (Gave (ToUp u) text ∷ h) p = backs_fit within n number h p.1
-backs_fit within n number (Whole end ∷ h) p = backs_fit within n number h p.1
-backs_fit within n number (LinesTold ∷ h) p = backs_fit within n number h p.1
-backs_fit within n number (OutOfMemory ∷ h) p = backs_fit within n number h p.1
+backs_fit within n number (s ∷ h) p = backs_fit within n number h p.1

@@ -19,7 +19,6 @@ use Rattle.machine_091.proofs.StepLaws.{logins_named}
 use Rattle.machine_10.specs.Calls as calls
 use Rattle.machine_10.specs.State.{session_at}
 use Rattle.machine_10.specs.Transitions as ten
-use Rattle.machine_10.specs.Transitions.{Meaning}
 use Rattle.machine_10.specs.declared.limits.TheConstants.{FRAME_MAX, FRAME_MIN_SIZE}
 use Rattle.machine_10.specs.declared.state.Session.{Session}
 use Rattle.machine_10.specs.declared.state.Session.TheVariants as session
@@ -32,8 +31,8 @@ use Rattle.session_path.specs.Due.{address_at}
 use Rattle.session_path.specs.Links.{handle_at}
 use Rattle.session_path.specs.Path.{PathState}
 use Rattle.session_path.specs.declared.path.AttachDue.{AttachDue}
-use Rattle.gate_model.specs.Folds.{Peers, connection, container, container_kept, leaving_in, paths_in, peers, peers_by, peers_came}
-use Rattle.gate_model.specs.Folds.{carried_on, peers_heard, peers_left, ran_out_in, routes_in, scope_in}
+use Rattle.gate_model.specs.Folds.{Peers, connection, container, container_kept, leaving_in, paths_in, peers, peers_came}
+use Rattle.gate_model.specs.Folds.{peers_heard, peers_left, ran_out_in, routes_in}
 use Rattle.gate_model.specs.Frames.{AreGiven, FitsContainers, context_in, limit_heard, limit_of, limit_up_in}
 use Rattle.gate_model.specs.Due.{carries_up, frame_max_in}
 use Rattle.gate_model.specs.Paths.{part_of, path_at, transfer_of}
@@ -41,13 +40,12 @@ use Rattle.gate_model.specs.Picks.{ArePicks}
 use Rattle.gate_model.specs.Setup.{IsInForm, SetupText}
 use Rattle.gate_model.specs.Spelling.{spell_on, spell_up}
 use Rattle.gate_model.specs.Requests.{client_step, refusal_of_want, refused_by}
-use Rattle.gate_model.specs.State.{Began, Came, Fed, Gave, Heard, Joined, LinesTold, Lost, Moment, OutOfMemory}
-use Rattle.gate_model.specs.State.{Queued, Silent, State, Step, TakenUp, Whole, before}
+use Rattle.gate_model.specs.State.{Began, Came, Gave, Heard, Joined, Lost, Silent, State, Step, TakenUp, Whole, before}
 use Rattle.gate_model.specs.Upstream.{container_by, container_given, ended_in, meaning_by, response_of, sessions_given}
 use Rattle.gate_model.specs.declared.channel.SessionUnit.{SessionUnit}
 use Rattle.gate_model.specs.declared.channel.SessionUnit.TheVariants as unit
 use Rattle.gate_model.specs.declared.channel.TransferOut.{TransferOut}
-use Rattle.gate_model.specs.declared.outgoing.Outgoing.TheVariants.{ToClient, ToUp}
+use Rattle.gate_model.specs.declared.outgoing.Outgoing.TheVariants.{ToUp}
 use Rattle.gate_model.specs.declared.outgoing.UpUnit.{UpUnit}
 use Rattle.gate_model.specs.declared.outgoing.UpUnit.TheVariants as up
 use Rattle.gate_model.specs.declared.setup.Route.{Route}
@@ -55,9 +53,8 @@ use Rattle.gate_model.proofs.Cuts.{cut_fits}
 use Rattle.gate_model.proofs.Firsts.{OfSession, SessionUnits, goes_up_as}
 use Rattle.gate_model.proofs.Known.{container_is, known}
 use Rattle.gate_model.proofs.Outcomes.{Outcome, LogsIn, outcome}
-use Rattle.gate_model.proofs.Sessions.{only_scoped}
 use Rattle.gate_model.proofs.SmallUp.{IfBriefLogin, IsBrief, spelled_few}
-use Rattle.gate_model.proofs.Ups.{early, is_early}
+use Rattle.gate_model.proofs.Ups.{early, is_early, kept_container}
 
 -- ---- what is known of a container
 
@@ -183,11 +180,6 @@ known_by : (limit : ℕ) (b : Bool) (p q : Peers) → IfKnown limit p.container 
 known_by limit true p q a e = a
 known_by limit false p q a e = e
 
-kept_container : (m : Meaning) (x : Peers) → (peers_by m x).container ≡ x.container
-kept_container (ten.OfSession g q payload) x =
-    ap (λ (y : Peers). y.container) (only_scoped (scope_in x g q payload) g q payload (record x { carried = carried_on g q x.carried }))
-kept_container m x = refl
-
 heard_step : (h : List Step) (u : Unit10) → IfKnown (limit_up_in h) (container h) → IfKnown (limit_up_in (Heard u ∷ h)) (container (Heard u ∷ h))
 heard_step h u k = by (ran_out_in h)
   where
@@ -199,11 +191,7 @@ heard_step h u k = by (ran_out_in h)
 pub known_up : (h : List Step) → ArePicks h → IfKnown (limit_up_in h) (container h)
 known_up [] p = refl
 known_up (Began site n ms ∷ h) p = ap limit_up_in p.0
-known_up (Moment ms ∷ h) p = known_up h p.1
-known_up (Fed end ∷ h) p = known_up h p.1
 known_up (Silent Client ∷ h) p = known_up h p.1
-known_up (Silent Up ∷ h) p = known_up h p.1
-known_up (Queued u ∷ h) p = known_up h p.1
 known_up (Came u ∷ h) p =
     known_by (limit_up_in h) (ran_out_in h) (peers h) (peers_came (peers h) u) (known_up h p.1)
     (came_known (limit_up_in h) (container h) (connection h) u _ (outcome (routes_in h) (paths_in h) (connection h) u) (early h)
@@ -211,27 +199,17 @@ known_up (Came u ∷ h) p =
 known_up (TakenUp ∷ h) p = known_by (limit_up_in h) (not (ran_out_in h) && leaving_in h) (peers_left (peers h)) (peers h) (known_up h p.1) (known_up h p.1)
 known_up (Heard u ∷ h) p = heard_step h u (known_up h p.1)
 known_up (Joined link.Ok ∷ h) p = known_up h p.1
-known_up (Joined link.Failed ∷ h) p = known_up h p.1
-known_up (Lost Client how ∷ h) p = known_up h p.1
 known_up (Lost Up loss.Ended ∷ h) p = ended_if (limit_up_in h) (container h) (known_up h p.1)
 known_up (Lost Up loss.Failed ∷ h) p = ended_if (limit_up_in h) (container h) (known_up h p.1)
-known_up (Lost Up loss.Shut ∷ h) p = known_up h p.1
-known_up (Gave (ToClient u) text ∷ h) p = known_up h p.1
 known_up (Gave (ToUp u) text ∷ h) p = given_if (limit_up_in h) u (container h) (known_up h p.1)
 known_up (Whole Client ∷ h) p = known_up h p.1
-known_up (Whole Up ∷ h) p = known_up h p.1
-known_up (LinesTold ∷ h) p = known_up h p.1
-known_up (OutOfMemory ∷ h) p = known_up h p.1
+known_up (s ∷ h) p = known_up h p.1
 
 -- ---- what goes
 
 abbrev IsCut : State → ℕ → SessionUnit → Type 0
-IsCut w n (unit.Attach a) = Unit {0}
-IsCut w n (unit.Flow f) = Unit {0}
 IsCut w n (unit.Transfer t) = (f : NextFrame) × (t ≡ transfer_of (frame_max_in w.up.container) (path_at w.paths n) f)
-IsCut w n (unit.Dispose x) = Unit {0}
-IsCut w n (unit.Settle x) = Unit {0}
-IsCut w n (unit.Detach k handle why) = Unit {0}
+IsCut w n x = Unit {0}
 
 is_cut : (w : State) → SessionUnits (IsCut w) w
 is_cut w = record {

@@ -1,8 +1,7 @@
 -- Each channel.flow is answered at most once (AMQP 0-9-1 1.5.2.3): what is due of its answers is what the path of its channel owes.
 use Rattle.gate_model.specs.Returns.{back_of}
 use Rattle.std.proofs.Common.{◌≡◌, ℕ, zero, suc, ◌+◌, ◌==◌, ◌≤◌, Bool, true, false, ◌&&◌}
-use Rattle.std.proofs.Common.{if◌then◌else◌, List, [], ◌∷◌, ◌++◌, Option, None, Some, arith, refl}
-use Rattle.std.proofs.Common.{sym, ap, subst, append-nil, not}
+use Rattle.std.proofs.Common.{if◌then◌else◌, List, [], ◌∷◌, ◌++◌, Option, None, Some, arith, refl, sym, ap, subst, append-nil, not}
 use Rattle.std.specs.Prelude.{drop, map, slice_set}
 use Rattle.std.specs.Option.{option_map}
 use Rattle.std.proofs.lemmas.Bool.Decides.{nat_tests}
@@ -32,16 +31,11 @@ use Rattle.consume_path.specs.declared.receiving.NextGrant.{NextGrant}
 use Rattle.consume_path.specs.declared.receiving.Part.{Part}
 use Rattle.consume_path.specs.declared.receiving.TransferFault.{TransferFault}
 use Rattle.session_path.specs.Links.{asked_by, attached, named, parted}
-use Rattle.session_path.specs.Path.{PathState, begun_if, content_whole, detach_came, disposed_by}
-use Rattle.session_path.specs.Path.{dropped_by, end_lost}
-use Rattle.session_path.specs.Path.{detaching_of, dropped, flow_in, flowed_by, get_link, got}
-use Rattle.session_path.specs.Path.{got_on, grant_in, is_served, outcome_came}
-use Rattle.session_path.specs.Path.{queue_or, transferred as transferred_in}
-use Rattle.session_path.specs.Path.{granted_by, is_answered, is_grant_next, lines_told, ok_sent}
-use Rattle.session_path.specs.Path.{owed, published, receiver_in}
-use Rattle.session_path.specs.Path.{answer_on, declares_in, names_by}
-use Rattle.session_path.specs.Path.{cancelled, first_of, selected, still_awaited, taking}
-use Rattle.session_path.specs.Path.{transferred_on, with_deliveries}
+use Rattle.session_path.specs.Path.{PathState, begun_if, content_whole, detach_came, disposed_by, dropped_by, end_lost}
+use Rattle.session_path.specs.Path.{detaching_of, dropped, flow_in, flowed_by, get_link, got, got_on, grant_in, is_served, outcome_came}
+use Rattle.session_path.specs.Path.{queue_or, transferred as transferred_in, granted_by, is_answered, is_grant_next, lines_told, ok_sent}
+use Rattle.session_path.specs.Path.{owed, published, receiver_in, answer_on, declares_in, names_by}
+use Rattle.session_path.specs.Path.{cancelled, first_of, selected, still_awaited, taking, transferred_on, with_deliveries}
 use Rattle.session_path.specs.declared.path.AttachHeard.{AttachHeard}
 use Rattle.session_path.specs.declared.path.PathLink.{PathLink}
 use Rattle.types_10.specs.Tree.{Tree}
@@ -52,6 +46,7 @@ use Rattle.gate_relay.specs.declared.sides.Side.TheVariants as side
 use Rattle.gate_model.specs.Requests.{message_of, address_of}
 use Rattle.property_map.specs.Spelling.{image_text}
 use Rattle.gate_model.specs.Picks.{ArePicks}
+use Rattle.gate_model.proofs.Basics.{less_both}
 use Rattle.gate_model.proofs.Firsts.{OfChannel, goes_as}
 use Rattle.gate_model.proofs.Known.{conn_is, known, memory_is, paths_are, routes_are}
 use Rattle.gate_model.proofs.Slots.{map_slot, none_there, set_elsewhere}
@@ -71,23 +66,15 @@ use Rattle.gate_model.specs.declared.reply.Reply.TheVariants as reply
 use Rattle.gate_model.specs.Folds.{connection, paths_in, ran_out_in}
 use Rattle.gate_model.specs.Lives.{is_of_channel}
 use Rattle.gate_model.specs.Session.{is_of_session, is_true}
-use Rattle.gate_model.specs.Once.{is_channel_flow, is_flow_ok, is_flow_ok_on, is_method_on, one_if}
-use Rattle.gate_model.specs.Once.{wanted_in, went_in}
-use Rattle.gate_model.specs.Paths.{attached_as, closed_path, closed_paths, credit_of, fault_in}
-use Rattle.gate_model.specs.Paths.{heard_as, is_not_found}
-use Rattle.gate_model.specs.Paths.{is_outcome, outcome_by, outcome_in}
-use Rattle.gate_model.specs.Paths.{lost_path, name_in, no_paths, or_no_path, part_in, path_at}
-use Rattle.gate_model.specs.Paths.{slot_at, text_of}
-use Rattle.gate_model.specs.Paths.{told_paths, transferred_by, with_path}
-use Rattle.gate_model.specs.State.{is_later}
-use Rattle.gate_model.specs.State.{Began, Came, Fed, Gave, Heard, Joined, LinesTold, Lost, Moment}
-use Rattle.gate_model.specs.State.{OutOfMemory, conn_step}
+use Rattle.gate_model.specs.Once.{is_channel_flow, is_flow_ok, is_flow_ok_on, is_method_on, one_if, wanted_in, went_in}
+use Rattle.gate_model.specs.Paths.{attached_as, closed_path, closed_paths, credit_of, fault_in, heard_as, is_not_found}
+use Rattle.gate_model.specs.Paths.{is_outcome, outcome_by, outcome_in, lost_path, name_in, no_paths, or_no_path, part_in, path_at}
+use Rattle.gate_model.specs.Paths.{slot_at, text_of, told_paths, transferred_by, with_path}
+use Rattle.gate_model.specs.State.{is_later, Came, Fed, Gave, Heard, Joined, LinesTold, Lost, Moment, OutOfMemory, conn_step}
 use Rattle.gate_model.specs.State.{Queued, Silent, State, Step, TakenUp, Whole, answered_if, before}
 use Rattle.gate_model.specs.State.{came, carried, left, lost_up, runs, windowed, dequeued, fail}
-use Rattle.gate_model.specs.State.{failed, heard, path_by, path_given, path_heard, path_told}
-use Rattle.gate_model.specs.State.{path_wrote}
-use Rattle.gate_model.specs.State.{paths_by, paths_given, paths_given_up, paths_with, paths_wrote}
-use Rattle.gate_model.specs.State.{refused_paths, with_meaning}
+use Rattle.gate_model.specs.State.{failed, heard, path_by, path_given, path_heard, path_told, path_wrote}
+use Rattle.gate_model.specs.State.{paths_by, paths_given, paths_given_up, paths_with, paths_wrote, refused_paths, with_meaning}
 use Rattle.gate_model.specs.State.{recovered, want_in, paths_lost}
 use Rattle.gate_model.specs.declared.setup.Route.{Route}
 
@@ -109,15 +96,7 @@ flows_in (ok.Recover ∷ os) = flows_in os
 -- each is a flow-ok, or none
 flows_first : (x : PathOk) (os : List PathOk) → flows_in (x ∷ os) ≡ flows_in os + one_if (is_flow_ok (to_client.Ok x))
 flows_first ok.Flow os = refl
-flows_first ok.Declare os = omega arith
-flows_first ok.Select os = omega arith
-flows_first (ok.Consume l) os = omega arith
-flows_first (ok.Qos count global) os = omega arith
-flows_first ok.Cancel os = omega arith
-flows_first ok.Queue os = omega arith
-flows_first ok.Get os = omega arith
-flows_first (ok.Empty link) os = omega arith
-flows_first ok.Recover os = omega arith
+flows_first x os = omega arith
 
 flows_more : (os : List PathOk) (x : PathOk) → flows_in (os ++ x ∷ []) ≡ flows_in os + flows_in (x ∷ [])
 flows_more [] x = omega arith
@@ -194,9 +173,6 @@ ended_adds s = omega arith
 lines_add : AddsNone lines_told
 unfolding AddsNone
 lines_add s = omega arith
-
-less_both : (a b c : ℕ) → a ≤ b → b ≤ c → a ≤ c
-less_both a b c e f = omega (arith, e, f)
 
 -- all change
 each_less : (n : ℕ) (ps : List (Option PathState)) (f : PathState → PathState) → AddsNone f → flows_due n (map (option_map f) ps) ≤ flows_due n ps
@@ -376,17 +352,10 @@ unfolding AddsNone
 given_adds u s = same_oks (path_given u s) s (given_keeps u s)
 
 up_less : (later : Bool) (n : ℕ) (u : UpUnit) (ps : List (Option PathState)) → flows_due n (paths_given_up later u ps) ≤ flows_due n ps
-up_less later n up.SaslHeader ps = omega arith
-up_less later n up.SaslInit ps = omega arith
-up_less later n up.AmqpHeader ps = omega arith
-up_less later n up.Open ps = omega arith
-up_less later n (up.Close why) ps = omega arith
-up_less later n up.Empty ps = omega arith
 up_less later n (up.OnSession k u) ps = with_less n k ps (path_given u) (given_adds u)
-up_less later n (up.Flow k i o) ps = omega arith
-up_less later n (up.Begin k) ps = omega arith
 up_less true n (up.End k why) ps = reported_less n ps
 up_less false n (up.End k why) ps = less_both _ _ _ (with_less n k (told_paths ps) lost_path lost_adds) (reported_less n ps)
+up_less later n x ps = omega arith
 
 -- ---- a request
 
@@ -441,18 +410,12 @@ refused_less n r ps = by (is_of_channel r)
     by false = closed_less n ps
 
 wanted_more : (rs : List Route) (limit n life : ℕ) (x : Want91) (ps : List (Option PathState)) → flows_due n (paths_by rs limit life x ps) ≤ flows_due n ps + one_if (is_method_on is_channel_flow n x)
-wanted_more rs limit n life want.Nothing ps = omega arith
-wanted_more rs limit n life want.Start ps = omega arith
-wanted_more rs limit n life (want.Login m r) ps = omega arith
-wanted_more rs limit n life want.Tuned ps = omega arith
-wanted_more rs limit n life want.OpenUp ps = omega arith
 wanted_more rs limit n life (want.Method k m) ps = one_or (k == n) (is_channel_flow m) _ _ (method_more n k (life + 1) m ps)
 wanted_more rs limit n life (want.Publish k m c) ps =
     let less = with_less n k ps (published (address_of rs (message_of m c)) (image_text (message_of m c)) (back_of limit k m (message_of m c))) (published_adds _ _ _) in omega (arith, less)
-wanted_more rs limit n life (want.ChannelCloseOk k) ps = omega arith
 wanted_more rs limit n life want.Close ps = let less = closed_less n ps in omega (arith, less)
-wanted_more rs limit n life want.CloseOk ps = omega arith
 wanted_more rs limit n life (want.Refuse r) ps = let less = refused_less n r ps in omega (arith, less)
+wanted_more rs limit n life x ps = omega arith
 
 came_more : (n : ℕ) (w : State) (u : Unit91) (b : Bool) (total went : ℕ) → went + flows_due n w.paths ≤ total
     → went + flows_due n (if b then w else came (dequeued w) u).paths ≤ (if b then total else total + one_if (is_method_on is_channel_flow n (want_in w.routes w.paths w.conn u)))
@@ -466,10 +429,7 @@ came_more n w u false total went e =
 -- the one that goes to a client on a channel is the first that its path owes
 abbrev IsFirstOk : PathState → ChannelUnit → Type 0
 IsFirstOk s (to_client.Ok x) = next_ok s ≡ Some x
-IsFirstOk s (to_client.Deliver d) = Unit {0}
-IsFirstOk s (to_client.Content c) = Unit {0}
-IsFirstOk s (to_client.Confirm c) = Unit {0}
-IsFirstOk s (to_client.Return r) = Unit {0}
+IsFirstOk s x = Unit {0}
 
 abbrev IsFirstOn : List (Option PathState) → ℕ → ChannelUnit → Type 0
 IsFirstOn ps n u = IsFirstOk (path_at ps n) u
@@ -507,15 +467,6 @@ told_less (Some s) (to_client.Confirm c) f = omega arith
 told_less (Some s) (to_client.Return r) f = omega arith
 
 given_less : (n : ℕ) (u : Reply) (ps : List (Option PathState)) → OfChannel (IsFirstOn ps) u → flows_due n (paths_given u ps) + one_if (is_flow_ok_on n u) ≤ flows_due n ps
-given_less n reply.Protocol ps o = omega arith
-given_less n reply.Start ps o = omega arith
-given_less n reply.Tune ps o = omega arith
-given_less n reply.OpenOk ps o = omega arith
-given_less n reply.CloseOk ps o = omega arith
-given_less n (reply.Close r) ps o = omega arith
-given_less n reply.NoMemory ps o = omega arith
-given_less n reply.Heartbeat ps o = omega arith
-given_less n (reply.ChannelOpenOk k) ps o = omega arith
 given_less n (reply.OnChannel k u) ps o = by (k == n) refl
   where
     told : owed_in (option_map (path_told u) (slot_at ps k)) + one_if (is_flow_ok u) ≤ owed_in (slot_at ps k)
@@ -528,18 +479,13 @@ given_less n (reply.OnChannel k u) ps o = by (k == n) refl
         let here : flows_due k (with_path k (path_told u) ps) + one_if (is_flow_ok u) ≤ flows_due k ps = omega (arith, set, told) in
         subst (λ (m : ℕ). flows_due m (with_path k (path_told u) ps) + one_if (is_flow_ok u) ≤ flows_due m ps) same here
     by false e = let same : flows_due n (with_path k (path_told u) ps) ≡ flows_due n ps = ap owed_in (set_elsewhere ps k n _ e) in omega (arith, same)
-given_less n (reply.ChannelCloseOk k) ps o = omega arith
-given_less n (reply.CrossedOk k) ps o = omega arith
-given_less n (reply.ChannelClose k r) ps o = omega arith
+given_less n x ps o = omega arith
 
 -- the last byte of a unit to the client went
 wrote_adds : (u : ChannelUnit) → AddsNone (path_wrote u)
 unfolding AddsNone
-wrote_adds (to_client.Ok x) s = omega arith
-wrote_adds (to_client.Deliver d) s = omega arith
 wrote_adds (to_client.Content c) s = oks_if c.last s (content_whole c.tag s) s (omega arith) (omega arith)
-wrote_adds (to_client.Confirm c) s = omega arith
-wrote_adds (to_client.Return r) s = omega arith
+wrote_adds x s = omega arith
 
 wrote_less : (n : ℕ) (o : Option Reply) (ps : List (Option PathState)) → flows_due n (paths_wrote o ps) ≤ flows_due n ps
 wrote_less n (Some (reply.OnChannel k u)) ps = with_less n k ps (path_wrote u) (wrote_adds u)
@@ -547,7 +493,7 @@ wrote_less n o ps = omega arith
 
 -- ---- all steps
 
-keeps : (went a b total : ℕ) → b ≤ a → went + a ≤ total → went + b ≤ total
+pub keeps : (went a b total : ℕ) → b ≤ a → went + a ≤ total → went + b ≤ total
 keeps went a b total less e = omega (arith, less, e)
 
 queued_less : (n : ℕ) (w : State) (us : List Unit91) → flows_due n (if w.out_of_memory then w else record w { queue = us }).paths ≤ flows_due n w.paths
@@ -586,7 +532,6 @@ came_counts n u h p e =
 
 counts : (n : ℕ) (h : List Step) → ArePicks h → flows_went n h + flows_due n (before h).paths ≤ flows_asked n h
 counts n [] p = none_due n
-counts n (Began site i ms ∷ h) p = counts n h p.1
 counts n (Moment ms ∷ h) p = keeps _ _ _ _ (reported_less n (before h).paths) (counts n h p.1)
 counts n (Fed Client ∷ h) p = keeps _ _ _ _ (reported_less n (before h).paths) (counts n h p.1)
 counts n (Fed Up ∷ h) p = keeps _ _ _ _ (reported_less n (before h).paths) (counts n h p.1)
@@ -599,8 +544,6 @@ counts n (Heard u ∷ h) p = keeps _ _ _ _ (heard_less n (before h) u) (counts n
 counts n (Joined link.Ok ∷ h) p = keeps _ _ _ _ (reported_less n (before h).paths) (counts n h p.1)
 counts n (Joined link.Failed ∷ h) p = keeps _ _ _ _ (less_both _ _ _ (fail_less n _ None _) (reported_less n (before h).paths)) (counts n h p.1)
 counts n (Lost Client loss.Ended ∷ h) p = counts n h p.1
-counts n (Lost Client loss.Failed ∷ h) p = counts n h p.1
-counts n (Lost Client loss.Shut ∷ h) p = counts n h p.1
 counts n (Lost Up loss.Ended ∷ h) p = keeps _ _ _ _ (lost_up_less n side.Ended (before h)) (counts n h p.1)
 counts n (Lost Up loss.Failed ∷ h) p = keeps _ _ _ _ (lost_up_less n side.Failed (before h)) (counts n h p.1)
 counts n (Lost Up loss.Shut ∷ h) p = keeps _ _ _ _ (all_lost_less n (before h).paths) (counts n h p.1)
@@ -616,9 +559,9 @@ counts n (Gave (ToClient u) text ∷ h) p =
     omega (arith, less, old)
 counts n (Gave (ToUp u) text ∷ h) p = keeps _ _ _ _ (up_less (is_later (before h).conn u) n u (before h).paths) (counts n h p.1)
 counts n (Whole Client ∷ h) p = keeps _ _ _ _ (wrote_less n (before h).in_progress (before h).paths) (counts n h p.1)
-counts n (Whole Up ∷ h) p = counts n h p.1
 counts n (LinesTold ∷ h) p = keeps _ _ _ _ (reported_less n (before h).paths) (counts n h p.1)
 counts n (OutOfMemory ∷ h) p = keeps _ _ _ _ (closed_less n (before h).paths) (counts n h p.1)
+counts n (s ∷ h) p = counts n h p.1
 
 pub flows_once : (n : ℕ) (h : List Step) → ArePicks h → went_in (is_flow_ok_on n) h ≤ wanted_in (is_method_on is_channel_flow n) h
 flows_once n h p = let all = counts n h p in omega (arith, all)

@@ -1,6 +1,5 @@
 -- What goes to a client fits it: each unit is short, and no frame-max that is agreed to is less than 4,096.
-use Rattle.std.proofs.Common.{Bool, List, Option, Some, [], arith, false, if◌then◌else◌, length}
-use Rattle.std.proofs.Common.{refl, subst, sym}
+use Rattle.std.proofs.Common.{Bool, List, Option, Some, [], arith, false, if◌then◌else◌, length, refl, subst, sym}
 use Rattle.std.proofs.Common.{true, ℕ, zero, suc, ◌∷◌, ◌≡◌, ◌≤◌, None}
 use Rattle.std.proofs.lemmas.List.{length-append}
 use Rattle.std.specs.Prelude.{slice_get}
@@ -9,11 +8,8 @@ use Rattle.consume_path.specs.declared.delivery.Content.{Content}
 use Rattle.frames_091.specs.Frames.{frame_text}
 use Rattle.frames_091.specs.declared.frame.Kind91.TheVariants.{Method}
 use Rattle.methods_091.specs.Writing.{method_text}
-use Rattle.methods_091.specs.declared.method.Method91.TheVariants.{BasicCancelOk, BasicConsumeOk}
-use Rattle.methods_091.specs.declared.method.Method91.TheVariants.{BasicDeliver, BasicQosOk}
-use Rattle.methods_091.specs.declared.method.Method91.TheVariants.{BasicGetOk, BasicGetEmpty}
-use Rattle.methods_091.specs.declared.method.Method91.TheVariants.{QueueDeclareOk}
-use Rattle.methods_091.specs.declared.method.Method91.TheVariants.{BasicRecoverOk}
+use Rattle.methods_091.specs.declared.method.Method91.TheVariants.{BasicCancelOk, BasicConsumeOk, BasicDeliver, BasicQosOk}
+use Rattle.methods_091.specs.declared.method.Method91.TheVariants.{BasicGetOk, BasicGetEmpty, QueueDeclareOk, BasicRecoverOk}
 use Rattle.session_path.specs.Due.{next_name, frame_on, tag_of}
 use Rattle.session_path.specs.declared.path.DeliverDue.{DeliverDue}
 use Rattle.session_path.specs.declared.path.PathOk.{PathOk}
@@ -26,11 +22,10 @@ use Rattle.machine_091.specs.declared.state.Connection.{Connection}
 use Rattle.machine_091.specs.declared.unit.Unit91.{Unit91}
 use Rattle.machine_091.specs.declared.unit.Want91.{Want91}
 use Rattle.machine_091.specs.declared.unit.Want91.TheVariants as want
-use Rattle.gate_model.specs.Folds.{Peers, accepted_in, connection, peers, peers_by, peers_came}
-use Rattle.gate_model.specs.Folds.{paths_in, peers_heard, ran_out_in, routes_in}
+use Rattle.gate_model.specs.Folds.{Peers, accepted_in, connection, peers, peers_by, peers_came, paths_in, peers_heard, ran_out_in, routes_in}
 use Rattle.session_path.specs.Path.{PathState, frames_in, frames_of}
 use Rattle.gate_model.specs.Upstream.{meaning_by, channel_max_in}
-use Rattle.gate_model.specs.declared.outgoing.Outgoing.TheVariants.{ToClient, ToUp}
+use Rattle.gate_model.specs.declared.outgoing.Outgoing.TheVariants.{ToClient}
 use Rattle.machine_091.specs.Calls.{after_opened, after_closing}
 use Rattle.machine_091.specs.State.{is_opening, new_connection}
 use Rattle.machine_10.specs.Transitions as ten
@@ -43,24 +38,20 @@ use Rattle.machine_091.specs.Transitions.{unit_step}
 use Rattle.machine_091.specs.Transitions as machine
 use Rattle.machine_091.specs.declared.unit.Refusal.{Refusal}
 use Rattle.gate_model.specs.Requests.{client_step, refusal_of_want, refused_by}
-use Rattle.gate_model.specs.State.{Began, Came, Gave, Heard, Joined, LinesTold, Lost, Moment}
-use Rattle.gate_model.specs.State.{OutOfMemory}
-use Rattle.gate_model.specs.State.{Queued, Step, TakenUp, Whole, close_if, conn_step}
-use Rattle.gate_model.specs.State.{before, is_limit_reached, Fed, Silent}
+use Rattle.gate_model.specs.State.{Began, Came, Gave, Heard, Joined, Lost, Moment}
+use Rattle.gate_model.specs.State.{Step, TakenUp, Whole, close_if, conn_step, before, is_limit_reached, Fed, Silent}
 use Rattle.close_translate.specs.declared.conditions.Scope.TheVariants as scope
 use Rattle.gate_model.proofs.Connections.{limits_only, only_given}
 use Rattle.gate_model.proofs.Outcomes.{OnlyChannels, only_closing}
 use Rattle.gate_model.proofs.Sessions.{conn_cases}
-use Rattle.gate_model.proofs.Consumers.{AreDeliverable, NamesGoBack, IfFit, consumer_short}
-use Rattle.gate_model.proofs.Consumers.{content_fits}
+use Rattle.gate_model.proofs.Consumers.{AreDeliverable, NamesGoBack, IfFit, consumer_short, content_fits}
 use Rattle.gate_model.proofs.Delivering.{ReceivedAre, name_at, deliverable_at}
 use Rattle.gate_model.proofs.Fitting.{AreFit, backs_fit, fit_first, frame_long}
 use Rattle.gate_model.proofs.Reports.{DeliveriesAre}
 use Rattle.gate_model.proofs.Spelled.{spelled_small}
 use Rattle.gate_model.specs.Picks.{ArePicks}
 use Rattle.gate_model.specs.Publishing.{MayGoBack, Returns, back_in, returned_in}
-use Rattle.gate_model.specs.Due.{carries_back, carries_ok, carries_told, deliver_as, deliver_method}
-use Rattle.gate_model.specs.Due.{or_no_bytes, deliver_from}
+use Rattle.gate_model.specs.Due.{carries_back, carries_ok, carries_told, deliver_as, deliver_method, or_no_bytes, deliver_from}
 use Rattle.gate_model.specs.Paths.{path_at}
 use Rattle.gate_model.specs.Spelling.{channel_text, spell_reply}
 use Rattle.gate_model.specs.declared.channel.ChannelUnit.{ChannelUnit}
@@ -97,9 +88,6 @@ within_close true c m = m
 within_close false c m = m
 
 within_meaning : (m : Meaning) (x : Peers) → AreWithin x.client.limits → AreWithin (peers_by m x).client.limits
-within_meaning ten.Nothing x m = m
-within_meaning ten.Init x m = m
-within_meaning ten.AmqpHeader x m = m
 within_meaning ten.Opened x m = by (is_opening x.client)
   where
     by : (b : Bool) → AreWithin (if b then after_opened (channel_max_in x.container) x.client else x.client).limits
@@ -107,9 +95,7 @@ within_meaning ten.Opened x m = by (is_opening x.client)
     by false = m
 within_meaning (ten.OfSession g q payload) x m =
     conn_cases (λ (d : Connection). AreWithin d.limits) g q payload x m m (within_only (only_closing g x.client) m)
-within_meaning (ten.Closed e) x m = m
-within_meaning ten.Refused x m = m
-within_meaning (ten.Violation why) x m = m
+within_meaning y x m = m
 
 within_new : (vhost : List ℕ) → AreWithin (new_connection vhost).limits
 within_new vhost = record { frame_min = omega arith; frame_max = omega arith; channel_min = omega arith; channel_max = omega arith }
@@ -119,26 +105,16 @@ within l [] = within_new []
 within l (Began site n ms ∷ h) = within_new site.vhost
 within l (Moment ms ∷ h) = within_close (is_limit_reached (connection h) (accepted_in h) ms) (connection h) (within l h)
 within l (Fed Client ∷ h) = within l h
-within l (Fed Up ∷ h) = within l h
 within l (Silent Client ∷ h) = within l h
-within l (Silent Up ∷ h) = within l h
-within l (Queued u ∷ h) = within l h
 within l (Came u ∷ h) = within_if (ran_out_in h) (peers h) (peers_came (peers h) u) (within l h) (within_step l (routes_in h) (paths_in h) (connection h) u (within l h))
 within l (TakenUp ∷ h) = within_if _ _ (peers h) (within l h) (within l h)
 within l (Heard u ∷ h) =
     within_if (ran_out_in h) (peers h) (peers_heard (peers h) u) (within l h) (within_meaning (meaning_by (peers h).container u) _ (within l h))
 within l (Joined link.Ok ∷ h) = within l h
-within l (Joined link.Failed ∷ h) = within l h
-within l (Lost Client how ∷ h) = within l h
 within l (Lost Up loss.Ended ∷ h) = within l h
-within l (Lost Up loss.Failed ∷ h) = within l h
-within l (Lost Up loss.Shut ∷ h) = within l h
 within l (Gave (ToClient u) text ∷ h) = within_only (only_given u (connection h)) (within l h)
-within l (Gave (ToUp u) text ∷ h) = within l h
 within l (Whole Client ∷ h) = within l h
-within l (Whole Up ∷ h) = within l h
-within l (LinesTold ∷ h) = within l h
-within l (OutOfMemory ∷ h) = within l h
+within l (s ∷ h) = within l h
 
 after_least : (limit : ℕ) (c : Connection) (w : Want91) → FRAME_MIN_SIZE ≤ limit → AreWithin c.limits → FRAME_MIN_SIZE ≤ limit_after limit c w
 after_least limit c want.Tuned old new = new.frame_min

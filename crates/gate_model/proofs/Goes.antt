@@ -1,8 +1,7 @@
 -- What goes to a container, and when its end is shut, is what the folds say.
 use Rattle.std.proofs.Common.{suc, zero, Bool, List, None, Option, Some, [], ap, append_assoc, arith, false}
-use Rattle.std.proofs.Common.{if◌then◌else◌, inl, inr, length, nat_le, not, refl, subst, suc, sym}
-use Rattle.std.proofs.Common.{true, ℕ, ◌&&◌, ◌++◌, ◌+◌, ◌-◌, ◌/◌, ◌<◌, ◌==◌, ◌||◌, ◌∙◌, ◌∷◌, ◌≡◌}
-use Rattle.std.proofs.Common.{◌≤◌}
+use Rattle.std.proofs.Common.{if◌then◌else◌, inl, inr, length, nat_le, not, refl, subst, sym}
+use Rattle.std.proofs.Common.{true, ℕ, ◌&&◌, ◌++◌, ◌+◌, ◌-◌, ◌/◌, ◌<◌, ◌==◌, ◌||◌, ◌∙◌, ◌∷◌, ◌≡◌, ◌≤◌}
 use Rattle.std.specs.List.{list_any}
 use Rattle.std.proofs.lemmas.Bool.Decides.{nat_tests}
 use Rattle.std.proofs.lemmas.List.Elements.{filter-append}
@@ -15,7 +14,7 @@ use Rattle.machine_10.specs.declared.state.Upstream.{Upstream}
 use Rattle.gate_model.specs.declared.channel.SessionUnit.{SessionUnit}
 use Rattle.gate_model.specs.declared.life.SessionState.{SessionState}
 use Rattle.gate_model.specs.Session.{is_flow_owed}
-use Rattle.gate_model.specs.declared.outgoing.Outgoing.TheVariants.{ToClient, ToUp}
+use Rattle.gate_model.specs.declared.outgoing.Outgoing.TheVariants.{ToUp}
 use Rattle.gate_model.specs.declared.outgoing.UpUnit.{UpUnit}
 use Rattle.gate_model.specs.declared.outgoing.UpUnit.TheVariants as up
 use Rattle.gate_model.specs.declared.timers.TheConstants.{CLOSING_LIMIT}
@@ -27,32 +26,24 @@ use Rattle.gate_model.specs.Due.{begins, ends, flows_on, has_ended, has_failed, 
 use Rattle.gate_model.specs.Due.{is_lingered, is_overdue, is_shut_due, none_left, pick, rows_in}
 use Rattle.gate_model.specs.Due.{session_flows, session_rows, carried_rows, row_on, attaches}
 use Rattle.gate_model.specs.Due.{disposals, may_idle, unless_out, link_flows, settlings}
-use Rattle.gate_model.specs.Lives.{any_life, each, is_begun, is_carried, is_ended, is_free, life_at}
-use Rattle.gate_model.specs.Lives.{session_in}
+use Rattle.gate_model.specs.Lives.{any_life, each, is_begun, is_carried, is_ended, is_free, life_at, session_in}
 use Rattle.gate_model.specs.declared.life.Life.{Life}
 use Rattle.machine_091.specs.declared.state.Connection.{Connection}
-use Rattle.gate_model.specs.Folds.{carrying, closed_in, connection, container, moment_in, sent_up}
-use Rattle.gate_model.specs.Folds.{sent_up_at, side_in}
+use Rattle.gate_model.specs.Folds.{carrying, closed_in, connection, container, moment_in, sent_up, sent_up_at, side_in}
 use Rattle.gate_model.specs.Picks.{ArePicks}
-use Rattle.gate_model.specs.State.{Began, Came, Gave, Heard, Joined, LinesTold, Lost, Moment}
-use Rattle.gate_model.specs.State.{OutOfMemory}
-use Rattle.gate_model.specs.State.{Queued, State, Step, TakenUp, Whole, before, Fed, Silent}
+use Rattle.gate_model.specs.State.{Gave, State, Step, before}
 use Rattle.gate_model.specs.Upstream.{first, has_closed, has_gone_bad, idle_in, is_bad_stream}
-use Rattle.gate_model.specs.Upstream.{is_closed_stream, is_idle_by, is_idle_due, opening_rows}
-use Rattle.gate_model.specs.Upstream.{stream_in, when_up}
-use Rattle.gate_model.proofs.Rows.{first_at}
+use Rattle.gate_model.specs.Upstream.{is_closed_stream, is_idle_by, is_idle_due, opening_rows, stream_in, when_up}
+use Rattle.gate_model.proofs.Basics.{and_both, and_left, and_right, left_false, not_true, or_left, or_right, right_false}
+use Rattle.gate_model.proofs.Rows.{first_at, first_each}
 use Rattle.gate_model.proofs.Carrying.{carries}
 use Rattle.gate_model.proofs.Closings.{closes_sent, closing_now, condition_is}
 use Rattle.gate_model.proofs.Connections.{clash}
-use Rattle.gate_model.proofs.Known.{Known, closed_is, conn_is, container_is, known, memory_is}
-use Rattle.gate_model.proofs.Known.{moment_is, side_is}
+use Rattle.gate_model.proofs.Known.{Known, closed_is, conn_is, container_is, known, memory_is, moment_is, side_is}
 use Rattle.gate_model.proofs.Lives.{lives_all}
 use Rattle.gate_model.proofs.Openings.{is_opening_first, no_empty, openings_due}
-use Rattle.gate_model.proofs.Rows.{first_each}
-use Rattle.gate_model.proofs.Times.{Either, OnLeft, OnRight, and_both, and_left, and_right, either}
-use Rattle.gate_model.proofs.Times.{in_left, in_right}
-use Rattle.gate_model.proofs.Ups.{GoesUp, Picked, Begins, Closing, Ends, Flows, Linked, Opening}
-use Rattle.gate_model.proofs.Ups.{Telling, UpSays, goes_up, up_says}
+use Rattle.gate_model.proofs.Times.{Either, OnLeft, OnRight, either, overdue_is}
+use Rattle.gate_model.proofs.Ups.{GoesUp, Picked, Begins, Closing, Ends, Flows, Linked, Opening, Telling, UpSays, goes_up, up_says}
 
 -- ---- the opening
 
@@ -160,10 +151,6 @@ tells_by idle ms last e =
     let some : 0 < idle = some_idle idle (and_left (not (idle == 0)) _ e) in
     record { stated = some; quiet = long_quiet ((idle + 1) / 2) ms last (half_some idle some) (and_right (not (idle == 0)) _ e) }
 
-not_true : (b : Bool) → not b ≡ true → b ≡ false
-not_true true e = absurd cc
-not_true false e = refl
-
 may_tell : (h : List Step) → ArePicks h → may_idle (before h) ≡ true → MayTell h
 may_tell h p m =
     let x : Known h = known h p in
@@ -184,12 +171,7 @@ opening_goes h up.SaslHeader e k = k
 opening_goes h up.SaslInit e k = k
 opening_goes h up.AmqpHeader e k = k
 opening_goes h up.Open e k = k
-opening_goes h (up.Close c) e k = absurd cc
-opening_goes h up.Empty e k = absurd cc
-opening_goes h (up.OnSession n u) e k = absurd cc
-opening_goes h (up.Flow n i o) e k = absurd cc
-opening_goes h (up.Begin n) e k = absurd cc
-opening_goes h (up.End n why) e k = absurd cc
+opening_goes h x e k = absurd cc
 
 -- ---- sessions
 
@@ -234,14 +216,6 @@ may_flow h u p e = first_at (MayGo h) (flows_on (before h).up.container) (before
             subst (MayGo h) at (here n (carries h p n owed) (and_left _ _ f) owed)
         by false f e = absurd cc
 
-or_left : (a b : Bool) → (a || b) ≡ false → a ≡ false
-or_left true b e = absurd cc
-or_left false b e = refl
-
-or_right : (a b : Bool) → (a || b) ≡ false → b ≡ false
-or_right true b e = absurd cc
-or_right false b e = e
-
 -- what makes an end due, the folds say
 may_end : (h : List Step) (n : ℕ) (closing : Bool) → ArePicks h → ((before h).out_of_memory || is_closing (before h).conn) ≡ closing
     → is_end_due closing (before h) n ≡ true → MayEnd h n
@@ -279,9 +253,9 @@ none_any t n [] k lt e = absurd (none lt)
   where
     none : k < 0 → ⊥
     none x = omega (arith, x)
-none_any t n (l ∷ ls) zero lt e = (l, ap (λ (m : ℕ). t m l) (omega arith) ∙ or_left (t n l) (any_life t (n + 1) ls) e)
+none_any t n (l ∷ ls) zero lt e = (l, ap (λ (m : ℕ). t m l) (omega arith) ∙ left_false (t n l) (any_life t (n + 1) ls) e)
 none_any t n (l ∷ ls) (suc k) lt e =
-    let rest : (m : Life) × (t ((n + 1) + k) m ≡ false) = none_any t (n + 1) ls k (omega (arith, lt)) (or_right (t n l) (any_life t (n + 1) ls) e) in
+    let rest : (m : Life) × (t ((n + 1) + k) m ≡ false) = none_any t (n + 1) ls k (omega (arith, lt)) (right_false (t n l) (any_life t (n + 1) ls) e) in
     (rest.0, ap (λ (m : ℕ). t m rest.0) (omega arith) ∙ rest.1)
 
 no_session_left : (w : State) (n : ℕ) → n < length w.lives → none_left w ≡ true
@@ -320,47 +294,23 @@ goes h u p e =
 pub goes_when_due : (h : List Step) → ArePicks h → GoesWhenDue h
 goes_when_due [] p = tt
 goes_when_due (Gave (ToUp u) text ∷ h) p = (goes h u p.1 p.0.1, goes_when_due h p.1)
-goes_when_due (Gave (ToClient u) text ∷ h) p = goes_when_due h p.1
-goes_when_due (Began site n ms ∷ h) p = goes_when_due h p.1
-goes_when_due (Moment ms ∷ h) p = goes_when_due h p.1
-goes_when_due (Fed end ∷ h) p = goes_when_due h p.1
-goes_when_due (Silent end ∷ h) p = goes_when_due h p.1
-goes_when_due (Queued u ∷ h) p = goes_when_due h p.1
-goes_when_due (Came u ∷ h) p = goes_when_due h p.1
-goes_when_due (TakenUp ∷ h) p = goes_when_due h p.1
-goes_when_due (Heard u ∷ h) p = goes_when_due h p.1
-goes_when_due (Joined answer ∷ h) p = goes_when_due h p.1
-goes_when_due (Lost end how ∷ h) p = goes_when_due h p.1
-goes_when_due (Whole end ∷ h) p = goes_when_due h p.1
-goes_when_due (LinesTold ∷ h) p = goes_when_due h p.1
-goes_when_due (OutOfMemory ∷ h) p = goes_when_due h p.1
+goes_when_due (s ∷ h) p = goes_when_due h p.1
 
 -- ---- shutting
 
 failed_by : (s : Side) → has_failed s ≡ true → s ≡ side.Failed
-failed_by side.Absent e = absurd cc
-failed_by side.Open e = absurd cc
-failed_by side.Ended e = absurd cc
 failed_by side.Failed e = refl
-failed_by side.Gone e = absurd cc
+failed_by x e = absurd cc
 
 ended_by : (s : Side) → has_ended s ≡ true → s ≡ side.Ended
-ended_by side.Absent e = absurd cc
-ended_by side.Open e = absurd cc
 ended_by side.Ended e = refl
-ended_by side.Failed e = absurd cc
-ended_by side.Gone e = absurd cc
+ended_by x e = absurd cc
 
 overdue_by : (h : List Step) (o : Option ℕ) (ms : ℕ) → o ≡ closed_in h → ms ≡ moment_in h → is_overdue o ms ≡ true → ShutUpFor h
 overdue_by h None ms e m x = absurd cc
 overdue_by h (Some at) ms e m x =
     let long : at + CLOSING_LIMIT ≤ ms = grind (arith, nat_tests) in
     Overdue at (sym e) (subst (λ (n : ℕ). at + CLOSING_LIMIT ≤ n) m long)
-
-overdue_is : (h : List Step) (at : ℕ) (o : Option ℕ) (ms : ℕ) → o ≡ closed_in h → ms ≡ moment_in h → closed_in h ≡ Some at → at + CLOSING_LIMIT ≤ moment_in h → is_overdue o ms ≡ true
-overdue_is h at o ms e m f le =
-    let long : nat_le CLOSING_LIMIT (ms - at) ≡ true = grind (arith, nat_tests, m, le) in
-    ap (λ (x : Option ℕ). is_overdue x ms) (e ∙ f) ∙ long
 
 shut_up_for : (h : List Step) → ArePicks h → is_shut_due (before h) Up ≡ true → ShutUpFor h
 shut_up_for h p e = one (either _ _ e)
@@ -415,22 +365,22 @@ shut_up_now h p f = by f
     s = up_says h p
 
     behind : ((w.up.sent.whole_close && (has_closed w.up || (has_gone_bad w.up || w.out_of_memory))) || (is_closing w.conn && not w.up.sent.«open»)) ≡ true → is_shut_due w Up ≡ true
-    behind e = in_right (has_failed w.up.side) _ (in_right (has_ended w.up.side) _ (in_right (is_overdue w.closed_at w.moment) _ e))
+    behind e = or_right (has_failed w.up.side) _ (or_right (has_ended w.up.side) _ (or_right (is_overdue w.closed_at w.moment) _ e))
 
     closed : list_any is_up_close (sent_up_whole h) ≡ true → (has_closed w.up || (has_gone_bad w.up || w.out_of_memory)) ≡ true → is_shut_due w Up ≡ true
-    closed e f = behind (in_left _ _ (and_both w.up.sent.whole_close _ (s.whole_is ∙ e) f))
+    closed e f = behind (or_left _ _ (and_both w.up.sent.whole_close _ (s.whole_is ∙ e) f))
 
     by : ShutUpFor h → is_shut_due w Up ≡ true
-    by (Failed e) = in_left _ _ (ap has_failed (side_is k ∙ e))
-    by (Ended e) = in_right (has_failed w.up.side) _ (in_left _ _ (ap has_ended (side_is k ∙ e)))
+    by (Failed e) = or_left _ _ (ap has_failed (side_is k ∙ e))
+    by (Ended e) = or_right (has_failed w.up.side) _ (or_left _ _ (ap has_ended (side_is k ∙ e)))
     by (Overdue at e le) =
-        in_right (has_failed w.up.side) _ (in_right (has_ended w.up.side) _ (in_left _ _ (overdue_is h at w.closed_at w.moment (closed_is k) (moment_is k) e le)))
-    by (Closed e f) = closed e (in_left _ _ (ap (λ (o : Option Upstream). is_closed_stream (stream_in o)) (container_is k) ∙ f))
+        or_right (has_failed w.up.side) _ (or_right (has_ended w.up.side) _ (or_left _ _ (overdue_is h at w.closed_at w.moment (closed_is k) (moment_is k) e le)))
+    by (Closed e f) = closed e (or_left _ _ (ap (λ (o : Option Upstream). is_closed_stream (stream_in o)) (container_is k) ∙ f))
     by (ClosedBad e f) =
-        closed e (in_right (has_closed w.up) _ (in_left _ _ (ap (λ (o : Option Upstream). is_bad_stream (stream_in o)) (container_is k) ∙ f)))
-    by (ClosedLast e f) = closed e (in_right (has_closed w.up) _ (in_right (has_gone_bad w.up) _ (memory_is k ∙ f)))
+        closed e (or_right (has_closed w.up) _ (or_left _ _ (ap (λ (o : Option Upstream). is_bad_stream (stream_in o)) (container_is k) ∙ f)))
+    by (ClosedLast e f) = closed e (or_right (has_closed w.up) _ (or_right (has_gone_bad w.up) _ (memory_is k ∙ f)))
     by (Unopened e f) =
-        behind (in_right (w.up.sent.whole_close && (has_closed w.up || (has_gone_bad w.up || w.out_of_memory))) _
+        behind (or_right (w.up.sent.whole_close && (has_closed w.up || (has_gone_bad w.up || w.out_of_memory))) _
         (and_both (is_closing w.conn) _ (ap is_closing (conn_is k) ∙ e) (ap not (s.open_is ∙ f))))
 
 pub shuts_up_at_once : (h : List Step) → ArePicks h → ShutsUpAtOnce h

@@ -1,7 +1,6 @@
 -- The flow that is due on a path is of a link of its session; that of a receiving one states a lawful credit.
 use Rattle.std.proofs.Common.{◌≡◌, ℕ, zero, suc, ◌+◌, ◌&&◌, ◌||◌, nat_lt, not, cond, Bool, true}
-use Rattle.std.proofs.Common.{false, if◌then◌else◌, List, [], ◌∷◌, Option, None, Some, option_map, refl, sym}
-use Rattle.std.proofs.Common.{ap, ◌∙◌, subst, arith}
+use Rattle.std.proofs.Common.{false, if◌then◌else◌, List, [], ◌∷◌, Option, None, Some, option_map, refl, sym, ap, ◌∙◌, subst, arith}
 use Rattle.std.specs.List.{AllByRecursion}
 use Rattle.std.specs.Option.{option_or}
 use Rattle.std.specs.Prelude.{IfSome, find}
@@ -12,16 +11,14 @@ use Rattle.consume_path.specs.Deliveries.{DeliveryEvent, DeliveryState}
 use Rattle.consume_path.specs.Deliveries.{after_events as deliveries_after}
 use Rattle.consume_path.specs.Laws.{AreCalls, IsCounted, IsLawfulCredit, IsLawfulGrant}
 use Rattle.consume_path.specs.Links.{has_number as is_number, is_to_ask, link_of}
-use Rattle.consume_path.specs.Offers.{echo_credit, flow_if, flow_of as offer_of, grant_as, grant_link}
-use Rattle.consume_path.specs.Offers.{next_grant_of, sooner}
+use Rattle.consume_path.specs.Offers.{echo_credit, flow_if, flow_of as offer_of, grant_as, grant_link, next_grant_of, sooner}
 use Rattle.consume_path.specs.declared.receiving.Cause.TheVariants.{Echo, Get as Asks, Refill, Stop}
 use Rattle.consume_path.specs.declared.receiving.NextGrant.{NextGrant}
 use Rattle.consume_path.specs.declared.receiving.ReceivingLink.{ReceivingLink}
 use Rattle.session_path.specs.Due.{due_in, flow_due, grant_due, next_flow}
 use Rattle.session_path.specs.Events.{PathEvent, after_events, deliveries_of}
 use Rattle.session_path.specs.Links.{has_number, is_parting}
-use Rattle.session_path.specs.Path.{PathState, flow_of, grant_in, granting_on, is_grant_next}
-use Rattle.session_path.specs.Path.{may_drain, owes_flow}
+use Rattle.session_path.specs.Path.{PathState, flow_of, grant_in, granting_on, is_grant_next, may_drain, owes_flow}
 use Rattle.session_path.specs.declared.path.FlowDue.{FlowDue}
 use Rattle.session_path.specs.declared.path.PathLink.{PathLink}
 use Rattle.session_path.proofs.Ties.{eq_of, eq_to, found_number, found_passes}
@@ -42,9 +39,9 @@ CountsAre = (life : ℕ) (h : List DeliveryEvent) → AllByRecursion (IsCounted 
 
 -- ---- a grant is of a link that is there
 
-record IsThere (links : List ReceivingLink) (number : ℕ) : Type 0 where
-  link : ReceivingLink
-  is : link_of links number ≡ Some link
+pub record IsThere (links : List ReceivingLink) (number : ℕ) : Type 0 where
+  pub link : ReceivingLink
+  pub is : link_of links number ≡ Some link
 
 offer_if : (b : Bool) (x : ReceivingLink) (a g : NextGrant) → a.link ≡ x.link → flow_if b a ≡ Some g → g.link ≡ x.link
 offer_if false x a g e f = absurd cc
@@ -73,7 +70,7 @@ later x links number t = by (is_number number x) refl
 here : (x : ReceivingLink) (links : List ReceivingLink) (number : ℕ) → number ≡ x.link → IsThere (x ∷ links) number
 here x links number e = record { link = x; is = ap (λ (c : Bool). cond c (Some x) (link_of links number)) (eq_to x.link number (sym e)) }
 
-grant_there : (closed : Bool) (links : List ReceivingLink) (g : NextGrant) → next_grant_of closed links ≡ Some g → IsThere links g.link
+pub grant_there : (closed : Bool) (links : List ReceivingLink) (g : NextGrant) → next_grant_of closed links ≡ Some g → IsThere links g.link
 grant_there closed [] g e = absurd cc
 grant_there closed (x ∷ links) g e = by (offer_of closed x) (next_grant_of closed links) (offer_is closed x g) (grant_there closed links g) e
   where
@@ -106,7 +103,7 @@ granted_by credits counts life es g calls e =
     }
 
 -- a link that is owed none
-owes_none : (list : List Publish) (sending : List SendingLink) (l : PathLink) → l.echoes + l.drains ≡ 0 → owes_flow list sending l ≡ true → ⊥
+pub owes_none : (list : List Publish) (sending : List SendingLink) (l : PathLink) → l.echoes + l.drains ≡ 0 → owes_flow list sending l ≡ true → ⊥
 owes_none list sending l e f = by (is_parting l) (may_drain list sending l) l.echoes l.drains e f
   where
     by : (b m : Bool) (k d : ℕ) → k + d ≡ 0 → (not b && (nat_lt 0 k || (nat_lt 0 d && m))) ≡ true → ⊥

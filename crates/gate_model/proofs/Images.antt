@@ -40,16 +40,15 @@ use Rattle.gate_model.specs.Publishing.{arrival_event, opens_channel, path_event
 use Rattle.gate_model.specs.Requests.{client_step, refusal_of_want, refused_by}
 use Rattle.gate_model.specs.State.{Came, Step, want_in}
 use Rattle.gate_model.specs.declared.setup.Route.{Route}
-use Rattle.gate_model.proofs.Arrived.{arrives, counted, event_none}
+use Rattle.gate_model.proofs.Arrived.{counted, event_none}
+use Rattle.gate_model.proofs.Moves.{arrives}
 use Rattle.gate_model.proofs.Closed.{is_late, late_is}
 use Rattle.gate_model.proofs.Connections.{clash}
 use Rattle.gate_model.proofs.Delivering.{ReceivedAre, limit_agreed}
 use Rattle.gate_model.proofs.Fitting.{Within}
 use Rattle.gate_model.proofs.Granting.{DeliveriesAre}
-use Rattle.gate_model.proofs.Heard.{AllHold, ClosedAre, all_hold, open_heard}
-use Rattle.gate_model.proofs.Outcomes.{Answers, Asking, Asks, Calls, Closes, Declines, Drops, Fills, Frees, Greets, Ignores}
-use Rattle.gate_model.proofs.Outcomes.{LogsIn, Outcome, Parting, Parts, Passes, Publishes, Refuses, Tunes, outcome}
-use Rattle.gate_model.proofs.Plain.{IsPlain, asks}
+use Rattle.gate_model.proofs.Heard.{AllHold, ClosedAre, IsPlain, all_hold, asks, open_heard}
+use Rattle.gate_model.proofs.Outcomes.{Outcome, Tunes, outcome}
 use Rattle.gate_model.proofs.Settles.{CallsAre}
 
 -- ---- the laws below
@@ -66,7 +65,7 @@ IsSeen limit n s (event.TransferCame peer part payload image again) =
 IsSeen limit n s x = Unit {0}
 
 seen_plain : (limit n : ℕ) (s : PathState) (x : PathEvent) → IsPlain x → IsSeen limit n s x
-seen_plain limit n s (event.TransferCame peer part payload image again) e = absurd cc
+seen_plain limit n s (event.TransferCame peer part payload image again) e = absurd e
 seen_plain limit n s x e = tt
 
 seen_asked : (limit n : ℕ) (s : PathState) (x : PathEvent) → asks x ≡ true → IsSeen limit n s x
@@ -79,24 +78,8 @@ seen_at limit m n peer part payload s e = subst (λ (i : ℕ). IsSeen limit n s 
 -- ---- the limit of a client stays as it is while a life is in progress
 
 same_limit : (limit : ℕ) (c : Connection) (u : Unit91) (x : machine.Step) → Outcome c u x → is_late c.phase ≡ true → limit_after limit x.0 x.1 ≡ limit
-same_limit limit c u _ (Greets e) l = refl
-same_limit limit c u _ (Parts e) l = refl
-same_limit limit c u _ (LogsIn m r e) l = refl
 same_limit limit c u _ (Tunes limits e) l = let early : is_late c.phase ≡ false = ap is_late e in absurd (clash (is_late c.phase) l early)
-same_limit limit c u _ (Asks e) l = refl
-same_limit limit c u _ Passes l = refl
-same_limit limit c u _ (Refuses r asked k b o) l = refl
-same_limit limit c u _ (Declines r d o run b) l = refl
-same_limit limit c u _ (Drops r d o run b) l = refl
-same_limit limit c u _ (Parting run) l = refl
-same_limit limit c u _ (Calls n s m run) l = refl
-same_limit limit c u _ (Asking n m run) l = refl
-same_limit limit c u _ (Publishes n m d run) l = refl
-same_limit limit c u _ (Fills n i run) l = refl
-same_limit limit c u _ (Frees n run) l = refl
-same_limit limit c u _ (Closes e) l = refl
-same_limit limit c u _ (Answers e) l = refl
-same_limit limit c u _ (Ignores e) l = refl
+same_limit limit c u _ x l = refl
 
 came_limit : (h : List Step) (u : Unit91) → is_late (connection h).phase ≡ true → limit_in (Came u ∷ h) ≡ limit_in h
 came_limit h u late = by (ran_out_in h)

@@ -1,7 +1,6 @@
 -- The state knows what the folds say of both connections, of the upstream end, of the moments and of the pair's memory.
 use Rattle.std.proofs.Common.{◌+◌, ◌≡◌, ℕ, ◌-◌, ◌≤◌, nat_le, Bool, true, false, not, ◌&&◌, ◌||◌}
-use Rattle.std.proofs.Common.{if◌then◌else◌, List, [], ◌∷◌, ◌++◌, Option, None, Some, refl, sym, ap}
-use Rattle.std.proofs.Common.{◌∙◌, ◌<◌, length, subst, arith}
+use Rattle.std.proofs.Common.{if◌then◌else◌, List, [], ◌∷◌, ◌++◌, Option, None, Some, refl, sym, ap, ◌∙◌, ◌<◌, length, subst, arith}
 use Rattle.std.specs.Prelude.{is_some}
 use Rattle.gate_outside.specs.declared.ports.End.TheVariants.{Client, Up}
 use Rattle.gate_outside.specs.declared.ports.Linked.TheVariants as link
@@ -33,27 +32,22 @@ use Rattle.gate_model.specs.Picks.{ArePicks}
 use Rattle.close_translate.specs.declared.conditions.Scope.TheVariants as scope
 use Rattle.machine_10.specs.Parts.{Parts}
 use Rattle.gate_model.specs.Requests.{client_step}
-use Rattle.gate_model.specs.State.{is_later}
-use Rattle.gate_model.specs.State.{Began, Came, Fed, Gave, Heard, Joined, LinesTold, Lost, Moment}
-use Rattle.gate_model.specs.State.{OutOfMemory}
+use Rattle.gate_model.specs.State.{is_later, Began, Came, Fed, Gave, Heard, Joined, LinesTold, Lost, Moment, OutOfMemory}
 use Rattle.gate_model.specs.State.{Queued, Silent, State, Step, TakenUp, Whole, before, came, close}
 use Rattle.gate_model.specs.State.{close_if, closes_at, conn_given, conn_step, dequeued, fail}
 use Rattle.gate_model.specs.State.{failed, has_left, heard, is_limit_reached, keep_login, left}
 use Rattle.gate_model.specs.State.{lives_opened, new_state, path_heard, paths_by, paths_given}
-use Rattle.gate_model.specs.State.{link_scope, paths_given_up, paths_lost, paths_wrote, ran_out, runs, told}
-use Rattle.gate_model.specs.State.{want_in}
+use Rattle.gate_model.specs.State.{link_scope, paths_given_up, paths_lost, paths_wrote, ran_out, runs, told, want_in}
 use Rattle.gate_model.specs.State.{windowed, with_meaning, with_session}
-use Rattle.gate_model.specs.Upstream.{UpState, channel_max_of, closing_with, container_given}
-use Rattle.gate_model.specs.Upstream.{heard_up, meaning_by}
+use Rattle.gate_model.specs.Upstream.{UpState, channel_max_of, closing_with, container_given, heard_up, meaning_by}
+use Rattle.gate_model.proofs.Basics.{or_false}
 use Rattle.gate_model.proofs.Connections.{asked_if, clash, close_closes, close_same, closes_again}
 use Rattle.gate_model.proofs.Connections.{closes_some, closing_only, ended_if, implied, late_later}
-use Rattle.gate_model.proofs.Connections.{late_step, only_given, opened_runs, opening_early}
-use Rattle.gate_model.proofs.Connections.{step_closes, step_here, stream_if}
+use Rattle.gate_model.proofs.Connections.{late_step, only_given, opened_runs, opening_early, step_closes, step_here, stream_if}
 use Rattle.gate_model.proofs.Outcomes.{OnlyChannels, only_closing}
 use Rattle.gate_model.proofs.Queues.{none_left, none_next}
 use Rattle.gate_model.proofs.Carried.{at, came_keeps, carried_heard, fail_same, fold_came, fold_heard}
-use Rattle.gate_model.proofs.Carried.{fold_taken, given_keeps, heard_makes, left_keeps, sent_makes}
-use Rattle.gate_model.proofs.Carried.{sent_same}
+use Rattle.gate_model.proofs.Carried.{fold_taken, given_keeps, heard_makes, left_keeps, sent_makes, sent_same}
 use Rattle.gate_model.proofs.Lives.{lives_all}
 use Rattle.gate_model.proofs.Numbers.{many_paths, same_scope}
 use Rattle.gate_model.proofs.Places.{new_at}
@@ -63,8 +57,7 @@ use Rattle.gate_model.specs.declared.life.SessionState.{SessionState}
 use Rattle.gate_model.specs.declared.reply.Reply.{Reply}
 use Rattle.gate_model.specs.Due.{can_leave}
 use Rattle.session_path.specs.Path.{PathState}
-use Rattle.gate_model.specs.Paths.{closed_path, closed_paths, lost_path, path_at, told_paths}
-use Rattle.gate_model.specs.Paths.{with_path}
+use Rattle.gate_model.specs.Paths.{closed_path, closed_paths, lost_path, path_at, told_paths, with_path}
 use Rattle.gate_model.specs.Setup.{SiteText}
 use Rattle.gate_model.specs.declared.setup.Route.{Route}
 
@@ -228,16 +221,7 @@ closing_is false why s = refl
 
 pub keep_is : (x : Want91) (s : UpState) → keep_login x s ≡ record s { container = container_kept s.container x }
 keep_is want.Nothing s = refl
-keep_is want.Start s = refl
-keep_is (want.Login m r) s = refl
-keep_is want.Tuned s = refl
-keep_is want.OpenUp s = refl
-keep_is (want.Method n m) s = refl
-keep_is (want.Publish n m c) s = refl
-keep_is (want.ChannelCloseOk n) s = refl
-keep_is want.Close s = refl
-keep_is want.CloseOk s = refl
-keep_is (want.Refuse r) s = refl
+keep_is x s = refl
 
 abbrev seen_came : (ℕ → SessionState) → Seen → Unit91 → Seen
 seen_came f x u = with_peers x (if x.memory then peers_of f x else peers_came (peers_of f x) u)
@@ -421,10 +405,6 @@ sound_new site n ms = record {
   closing = λ x. absurd (clash false x refl);
   shuts = λ x. absurd (clash false x refl);
 }
-
-or_false : (x : Bool) → x ≡ (x || false)
-or_false true = refl
-or_false false = refl
 
 sound_told : (w : State) (ms : ℕ) (l : Bool) → w.moment ≤ ms → SoundIn w l → SoundIn (told w ms) l
 sound_told w ms l le s =
@@ -611,14 +591,8 @@ knows h u k = by (meaning_by (before h).up.container u)
     long = subst (λ (ps : List (Option PathState)). length ps ≡ 256) (sym (paths_are k)) (many_paths h)
 
     by : (m : Meaning) → Knows (fold h) m (before h).lives (before h).paths
-    by ten.Nothing = tt
-    by ten.Init = tt
-    by ten.AmqpHeader = tt
-    by ten.Opened = tt
     by (ten.OfSession g q payload) = same_scope (before h).paths g q payload (fold h g) _ long (λ lt. sym (k.carries g lt))
-    by (ten.Closed x) = tt
-    by ten.Refused = tt
-    by (ten.Violation why) = tt
+    by x = tt
 
 carries_heard : (h : List Step) (u : Unit10) → ArePicks h → Known h → (n : ℕ) → n < 256
     → at n (if (before h).out_of_memory then before h else heard (before h) u).lives ≡ (peers (Heard u ∷ h)).carried n

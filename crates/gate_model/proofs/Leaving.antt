@@ -55,6 +55,7 @@ use Rattle.gate_model.specs.declared.outgoing.UpUnit.TheVariants as up
 use Rattle.gate_model.specs.declared.reply.Reply.{Reply}
 use Rattle.gate_model.specs.declared.reply.Reply.TheVariants as reply
 use Rattle.gate_model.specs.declared.setup.Route.{Route}
+use Rattle.gate_model.proofs.Basics.{or_right}
 use Rattle.gate_model.proofs.Closed.{closed_path_is}
 use Rattle.gate_model.proofs.Parted.{AreParted, Covers, Fits, parted_after}
 use Rattle.gate_model.proofs.Publishing.{tells}
@@ -117,10 +118,7 @@ want_still rs limit n x = tt
 
 told_still : (u : ChannelUnit) → is_still (told_event u) ≡ true
 told_still (to_client.Ok x) = refl
-told_still (to_client.Deliver d) = refl
-told_still (to_client.Content c) = refl
-told_still (to_client.Confirm c) = refl
-told_still (to_client.Return r) = refl
+told_still x = refl
 
 reply_still : (n : ℕ) (u : Reply) → AreStill (reply_events n u)
 reply_still n (reply.OnChannel k u) = if_still (k == n) _ _ (told_still u, tt) tt
@@ -136,11 +134,7 @@ wrote_still n o = tt
 
 given_still : (u : SessionUnit) → is_still (given_event u) ≡ true
 given_still (unit.Attach a) = refl
-given_still (unit.Flow f) = refl
-given_still (unit.Transfer t) = refl
-given_still (unit.Dispose x) = refl
-given_still (unit.Settle x) = refl
-given_still (unit.Detach k handle why) = refl
+given_still x = refl
 
 up_still : (later : Bool) (n : ℕ) (u : UpUnit) → AreStill (up_events later n u)
 up_still later n (up.OnSession k u) = if_still (k == n) _ _ (given_still u, tt) tt
@@ -151,11 +145,7 @@ up_still later n u = tt
 
 closed_more : (xs ys : List DeliveryEvent) → is_closed ys ≡ true → is_closed (xs ++ ys) ≡ true
 closed_more [] ys e = e
-closed_more (x ∷ xs) ys e = either (closes x) _ (closed_more xs ys e)
-  where
-    either : (a b : Bool) → b ≡ true → (a || b) ≡ true
-    either true b f = refl
-    either false b f = f
+closed_more (x ∷ xs) ys e = or_right (closes x) _ (closed_more xs ys e)
 
 closed_since : (life : ℕ) (xs es : List PathEvent) → is_closed (deliveries_of life es) ≡ true → is_closed (deliveries_of life (xs ++ es)) ≡ true
 closed_since life [] es e = e
@@ -165,7 +155,7 @@ closed_since life (x ∷ xs) es e = closed_more (delivery_events (after_events l
 abbrev pub CoveredAre : Type 0
 CoveredAre = (life link : ℕ) (h : List DeliveryEvent) → is_all_covered link (open_after life h) ≡ are_covered link h
 
-covers_all : (link : ℕ) (ds : List DeliveryEvent) → are_covered link ds ≡ true → Covers link ds
+pub covers_all : (link : ℕ) (ds : List DeliveryEvent) → are_covered link ds ≡ true → Covers link ds
 covers_all link ds e k t = least_none (λ n. lacks_settle link (fate_of n ds)) (numbers_of ds) (none _ e) k t.0 t.1
   where
     none : (o : Option ℕ) → not (is_some o) ≡ true → o ≡ None
@@ -322,15 +312,12 @@ module _ (arrives : DeliveriesAre) (covered : CoveredAre) (tied : LinksAre) (lif
     there = ap or_no_path ((tells n h p).slot below) ∙ ap (λ (o : Option ℕ). or_no_path (option_map (λ (j : ℕ). after_events j es) o)) l
 
     meaning_on : (m : Meaning) → On (meaning_events (peers h) n m)
-    meaning_on ten.Nothing = safe
-    meaning_on ten.Init = safe
-    meaning_on ten.AmqpHeader = safe
-    meaning_on ten.Opened = safe
     meaning_on (ten.OfSession j q payload) =
         session_on (scope_in (peers h) j q payload) j q payload (path_at (paths_in h) j) (λ e. ap (path_at (paths_in h)) e ∙ there)
     meaning_on (ten.Closed e) = quiet _ (lost_still (not (is_closing (connection h))))
     meaning_on ten.Refused = quiet _ (lost_still (not (is_closing (connection h))))
     meaning_on (ten.Violation why) = quiet _ (lost_still (not (is_closing (connection h))))
+    meaning_on x = safe
 
     heard_on : (b : Bool) (m : Meaning) → On (if b then [] else meaning_events (peers h) n m)
     heard_on true m = safe

@@ -1,7 +1,6 @@
 -- There are 256 lives.
 use Rattle.property_map.specs.declared.told.Told.{Told}
-use Rattle.std.proofs.Common.{◌≡◌, ℕ, zero, suc, Bool, true, false, if◌then◌else◌, List, [], ◌∷◌}
-use Rattle.std.proofs.Common.{Option, Some, refl, ap, ◌∙◌, length}
+use Rattle.std.proofs.Common.{◌≡◌, ℕ, zero, suc, Bool, true, false, if◌then◌else◌, List, [], ◌∷◌, Option, Some, refl, ap, ◌∙◌, length}
 use Rattle.gate_outside.specs.declared.ports.End.TheVariants.{Client, Up}
 use Rattle.gate_outside.specs.declared.ports.Linked.TheVariants as link
 use Rattle.gate_relay.specs.declared.loss.Loss.TheVariants as loss
@@ -20,19 +19,15 @@ use Rattle.gate_model.specs.declared.outgoing.UpUnit.{UpUnit}
 use Rattle.gate_model.specs.declared.outgoing.UpUnit.TheVariants as up
 use Rattle.gate_model.specs.declared.reply.Reply.{Reply}
 use Rattle.gate_model.specs.declared.reply.Reply.TheVariants as reply
-use Rattle.gate_model.specs.Lives.{failed_life, lives_by, no_lives, with_life, life_at, reason_of}
-use Rattle.gate_model.specs.Lives.{is_of_channel}
+use Rattle.gate_model.specs.Lives.{failed_life, lives_by, no_lives, with_life, life_at, reason_of, is_of_channel}
 use Rattle.gate_model.specs.Picks.{ArePicks}
 use Rattle.gate_model.specs.Requests.{client_step, client_told}
-use Rattle.gate_model.specs.State.{Began, Came, Fed, Gave, Heard, Joined, LinesTold, Lost, Moment}
-use Rattle.gate_model.specs.State.{OutOfMemory}
-use Rattle.gate_model.specs.State.{Queued, Silent, State, Step, TakenUp, Whole, before, came}
-use Rattle.gate_model.specs.State.{carried, dequeued, fail, failed, heard, left, runs, windowed}
-use Rattle.gate_model.specs.State.{with_meaning, without_begin, without_life}
+use Rattle.gate_model.specs.State.{Came, Fed, Gave, Heard, Joined, Lost, Queued, Silent, State, Step, TakenUp, Whole, before, came}
+use Rattle.gate_model.specs.State.{carried, dequeued, fail, failed, heard, left, runs, windowed, with_meaning, without_begin, without_life}
 use Rattle.gate_model.specs.Upstream.{heard_up, meaning_by}
 use Rattle.gate_model.proofs.Sessions.{session_cases}
 
-set_all : (ls : List Life) (n : ℕ) (l : Life) → length (with_life n l ls) ≡ length ls
+pub set_all : (ls : List Life) (n : ℕ) (l : Life) → length (with_life n l ls) ≡ length ls
 set_all [] n l = refl
 set_all (x ∷ ls) zero l = refl
 set_all (x ∷ ls) (suc n) l = ap suc (set_all ls n l)
@@ -48,21 +43,14 @@ unfolding no_lives
 new_all = refl
 
 want_all : (ms : ℕ) (told : Option Told) (x : Want91) (ls : List Life) → All ls → All (lives_by ms told x ls)
-want_all ms told want.Nothing ls e = e
-want_all ms told want.Start ls e = e
-want_all ms told (want.Login m r) ls e = e
-want_all ms told want.Tuned ls e = e
-want_all ms told want.OpenUp ls e = e
 want_all ms told (want.Method n m) ls e = after_set ls n _ e
-want_all ms told (want.Publish n m x) ls e = e
 want_all ms told (want.ChannelCloseOk n) ls e = after_set ls n _ e
-want_all ms told want.Close ls e = e
-want_all ms told want.CloseOk ls e = e
 want_all ms told (want.Refuse r) ls e = by (is_of_channel r)
   where
     by : (b : Bool) → All (if b then with_life r.channel (failed_life false ms (reason_of told r) (Some (condition_of r.code)) (life_at ls r.channel)) ls else ls)
     by true = after_set ls r.channel _ e
     by false = e
+want_all ms told x ls e = e
 
 fail_all : (code : ℕ) (why : Option Condition) (w : State) → All w.lives → All (fail code why w).lives
 fail_all code why w e = by (is_closing w.conn)
@@ -95,31 +83,18 @@ meaning_all ten.Refused w e = fail_all _ _ w e
 meaning_all (ten.Violation c) w e = fail_all _ _ w e
 
 given_all : (u : Reply) (ls : List Life) → All ls → All (without_life u ls)
-given_all reply.Protocol ls e = e
-given_all reply.Start ls e = e
-given_all reply.Tune ls e = e
-given_all reply.OpenOk ls e = e
-given_all reply.CloseOk ls e = e
-given_all (reply.Close r) ls e = e
-given_all reply.NoMemory ls e = e
-given_all reply.Heartbeat ls e = e
 given_all (reply.ChannelOpenOk n) ls e = after_set ls n _ e
-given_all (reply.OnChannel n u) ls e = e
 given_all (reply.ChannelCloseOk n) ls e = after_set ls n _ e
 given_all (reply.CrossedOk n) ls e = after_set ls n _ e
 given_all (reply.ChannelClose n r) ls e = after_set ls n _ e
+given_all x ls e = e
 
 begun_all : (u : UpUnit) (ls : List Life) → All ls → All (without_begin u ls)
-begun_all up.SaslHeader ls e = e
-begun_all up.SaslInit ls e = e
-begun_all up.AmqpHeader ls e = e
-begun_all up.Open ls e = e
-begun_all (up.Close why) ls e = e
-begun_all up.Empty ls e = e
 begun_all (up.OnSession n u) ls e = after_set ls n _ e
 begun_all (up.Flow n i o) ls e = after_set ls n _ e
 begun_all (up.Begin n) ls e = after_set ls n _ e
 begun_all (up.End n why) ls e = after_set ls n _ e
+begun_all x ls e = e
 
 came_all : (w : State) (u : Unit91) → All w.lives → All (if w.out_of_memory then w else came (dequeued w) u).lives
 came_all w u e = by w.out_of_memory
@@ -148,27 +123,17 @@ left_all w false e = e
 
 pub lives_all : (h : List Step) → ArePicks h → length (before h).lives ≡ 256
 lives_all [] p = new_all
-lives_all (Began site n ms ∷ h) p = lives_all h p.1
-lives_all (Moment ms ∷ h) p = lives_all h p.1
 lives_all (Fed Client ∷ h) p = lives_all h p.1
-lives_all (Fed Up ∷ h) p = lives_all h p.1
-lives_all (Silent Client ∷ h) p = lives_all h p.1
 lives_all (Silent Up ∷ h) p = fail_all _ _ _ (lives_all h p.1)
 lives_all (Queued u ∷ h) p = queued_all (before h) _ (lives_all h p.1)
 lives_all (Came u ∷ h) p = came_all (before h) u (lives_all h p.1)
 lives_all (TakenUp ∷ h) p = left_all (before h) _ (lives_all h p.1)
 lives_all (Heard u ∷ h) p = heard_all (before h) u (lives_all h p.1)
-lives_all (Joined link.Ok ∷ h) p = lives_all h p.1
 lives_all (Joined link.Failed ∷ h) p = fail_all _ _ _ (lives_all h p.1)
 lives_all (Lost Client loss.Ended ∷ h) p = lives_all h p.1
-lives_all (Lost Client loss.Failed ∷ h) p = lives_all h p.1
-lives_all (Lost Client loss.Shut ∷ h) p = lives_all h p.1
 lives_all (Lost Up loss.Ended ∷ h) p = fail_all _ _ _ (lives_all h p.1)
 lives_all (Lost Up loss.Failed ∷ h) p = fail_all _ _ _ (lives_all h p.1)
-lives_all (Lost Up loss.Shut ∷ h) p = lives_all h p.1
 lives_all (Gave (ToClient u) text ∷ h) p = given_all u (before h).lives (lives_all h p.1)
 lives_all (Gave (ToUp u) text ∷ h) p = begun_all u (before h).lives (lives_all h p.1)
 lives_all (Whole Client ∷ h) p = lives_all h p.1
-lives_all (Whole Up ∷ h) p = lives_all h p.1
-lives_all (LinesTold ∷ h) p = lives_all h p.1
-lives_all (OutOfMemory ∷ h) p = lives_all h p.1
+lives_all (s ∷ h) p = lives_all h p.1

@@ -39,13 +39,14 @@ use Rattle.gate_model.specs.Frames.{AreGiven}
 use Rattle.gate_model.specs.Lives.{is_of_channel}
 use Rattle.gate_model.specs.Paths.{fault_in, is_outcome, name_in, or_no_path, part_in, path_at, slot_at, text_of}
 use Rattle.gate_model.specs.Picks.{ArePicks}
-use Rattle.gate_model.specs.Publishing.{attach_events, closed_if, closing, given_event, heard_events, lost_if, meaning_events, method_events, opens_channel}
+use Rattle.gate_model.specs.Publishing.{attach_events, closed_if, closing, given_event, heard_events, lost_if, meaning_events, method_events}
+use Rattle.gate_model.specs.Publishing.{opens_channel}
 use Rattle.gate_model.specs.Publishing.{owed_unless, path_events, reply_events, session_events, step_events, told_event, transfer_event, up_events}
 use Rattle.gate_model.specs.Publishing.{want_events, wrote_event, wrote_events}
 use Rattle.gate_model.specs.Requests.{address_of, message_of, refusal_of_want, refused_by}
 use Rattle.gate_model.specs.Session.{is_of_session}
 use Rattle.gate_model.specs.Setup.{IsRoute, is_named, route_to}
-use Rattle.gate_model.specs.State.{Began, Came, Fed, Gave, Heard, Joined, LinesTold, Lost, Moment, OutOfMemory, Queued, Silent, Step, TakenUp, Whole}
+use Rattle.gate_model.specs.State.{Began, Came, Gave, Heard, Joined, Lost, Queued, Silent, Step, TakenUp, Whole}
 use Rattle.gate_model.specs.State.{before, closing_code, conn_step, is_later}
 use Rattle.gate_model.specs.Upstream.{meaning_by}
 use Rattle.gate_model.specs.declared.channel.ChannelUnit.{ChannelUnit}
@@ -58,8 +59,9 @@ use Rattle.gate_model.specs.declared.outgoing.UpUnit.TheVariants as up
 use Rattle.gate_model.specs.declared.reply.Reply.{Reply}
 use Rattle.gate_model.specs.declared.reply.Reply.TheVariants as reply
 use Rattle.gate_model.specs.declared.setup.Route.{Route}
-use Rattle.gate_model.proofs.Addresses.{IsShort, address_short, all_found}
-use Rattle.gate_model.proofs.Consumers.{IfThere, all_both}
+use Rattle.gate_model.proofs.Basics.{all_both}
+use Rattle.gate_model.proofs.Consumers.{IfThere, all_found}
+use Rattle.gate_model.proofs.Addresses.{IsShort, address_short}
 use Rattle.gate_model.proofs.Fates.{IsLived, lived}
 use Rattle.gate_model.proofs.Sessions.{only_scoped}
 use Rattle.gate_model.proofs.Strings.{NamesShort, WantsShort, unit_short}
@@ -206,10 +208,7 @@ meaning_short o n m = tt
 
 told_short : (u : ChannelUnit) → IsShort (told_event u)
 told_short (to_client.Ok x) = tt
-told_short (to_client.Deliver d) = tt
-told_short (to_client.Content c) = tt
-told_short (to_client.Confirm c) = tt
-told_short (to_client.Return r) = tt
+told_short x = tt
 
 reply_short : (n : ℕ) (u : Reply) → AllShort (reply_events n u)
 reply_short n (reply.OnChannel j u) = if_short (j == n) _ _ (told_short u, tt) tt
@@ -217,11 +216,7 @@ reply_short n u = tt
 
 given_short : (u : SessionUnit) → IsShort (given_event u)
 given_short (unit.Attach a) = tt
-given_short (unit.Flow f) = tt
-given_short (unit.Transfer t) = tt
-given_short (unit.Dispose x) = tt
-given_short (unit.Settle x) = tt
-given_short (unit.Detach k handle why) = tt
+given_short x = tt
 
 up_short : (later : Bool) (n : ℕ) (u : UpUnit) → AllShort (up_events later n u)
 up_short later n (up.OnSession j u) = if_short (j == n) _ _ (given_short u, tt) tt
@@ -243,8 +238,6 @@ failing_short h xs s = both_short (lost_if (not (is_closing (connection h)))) xs
 
 step_short : (n : ℕ) (h : List Step) (s : Step) → AreGiven (s ∷ h) → AllShort (step_events n h s)
 step_short n h (Began site number ms) r = tt
-step_short n h (Moment ms) r = (tt, tt)
-step_short n h (Fed end) r = (tt, tt)
 step_short n h (Silent Client) r = (tt, tt)
 step_short n h (Silent Up) r = lost_short (not (is_closing (connection h)))
 step_short n h (Queued u) r = tt
@@ -264,8 +257,7 @@ step_short n h (Gave (ToClient u) text) r = reply_short n u
 step_short n h (Gave (ToUp u) text) r = up_short (is_later (connection h) u) n u
 step_short n h (Whole Client) r = whole_short n (going_in h)
 step_short n h (Whole Up) r = tt
-step_short n h LinesTold r = (tt, tt)
-step_short n h OutOfMemory r = (tt, tt)
+step_short n h x r = (tt, tt)
 
 short_before : (s : Step) (h : List Step) → AreGiven (s ∷ h) → AreGiven h
 short_before (Began site n ms) h r = r.1

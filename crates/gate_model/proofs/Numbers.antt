@@ -17,8 +17,7 @@ use Rattle.machine_10.specs.Transitions.{Meaning}
 use Rattle.methods_091.specs.declared.method.Method91.{Method91}
 use Rattle.methods_091.specs.declared.method.Method91.TheVariants as method
 use Rattle.performatives_10.specs.declared.condition.Condition.{Condition}
-use Rattle.performatives_10.specs.declared.condition.Condition.TheVariants.{UnattachedHandle}
-use Rattle.performatives_10.specs.declared.condition.Condition.TheVariants.{WindowViolation}
+use Rattle.performatives_10.specs.declared.condition.Condition.TheVariants.{UnattachedHandle, WindowViolation}
 use Rattle.session_path.specs.Links.{named}
 use Rattle.session_path.specs.Path.{PathState, opened}
 use Rattle.gate_model.specs.declared.life.SessionState.{SessionState}
@@ -29,21 +28,18 @@ use Rattle.gate_model.specs.declared.reply.Reply.{Reply}
 use Rattle.gate_model.specs.declared.reply.Reply.TheVariants as reply
 use Rattle.gate_model.specs.declared.setup.Route.{Route}
 use Rattle.gate_model.specs.Folds.{Peers, carried_on, ended_on, leaving_in, paths_failed, paths_in}
-use Rattle.gate_model.specs.Folds.{peers, peers_by, peers_came, peers_closed, peers_heard, peers_left}
-use Rattle.gate_model.specs.Folds.{peers_scoped, ran_out_in, scope_in}
+use Rattle.gate_model.specs.Folds.{peers, peers_by, peers_came, peers_closed, peers_heard, peers_left, peers_scoped, ran_out_in, scope_in}
 use Rattle.gate_model.specs.Lives.{is_of_channel}
 use Rattle.gate_model.specs.Paths.{attach_fault_by, closed_path, closed_paths, fault_in, field_error, is_receiver}
-use Rattle.gate_model.specs.Paths.{lost_path, or_no_path, path_at, slot_at}
-use Rattle.gate_model.specs.Paths.{with_path}
+use Rattle.gate_model.specs.Paths.{lost_path, or_no_path, path_at, slot_at, with_path}
 use Rattle.gate_model.specs.Session.{has_room, is_of_session}
 use Rattle.gate_model.specs.Folds.{connection}
-use Rattle.gate_model.specs.State.{is_later}
-use Rattle.gate_model.specs.State.{Began, Came, Fed, Gave, Heard, Joined, LinesTold, Lost, Moment}
-use Rattle.gate_model.specs.State.{OutOfMemory}
+use Rattle.gate_model.specs.State.{is_later, Began, Came, Fed, Gave, Heard, Joined, Lost, OutOfMemory}
 use Rattle.gate_model.specs.State.{Queued, Silent, Step, TakenUp, Whole, attach_scope, closing_code}
 use Rattle.gate_model.specs.State.{link_scope, path_heard, paths_by, paths_given, paths_given_up}
 use Rattle.gate_model.specs.State.{paths_with, paths_wrote, transfer_scope, unattached}
 use Rattle.gate_model.specs.Upstream.{container_by, meaning_by}
+use Rattle.gate_model.proofs.Basics.{below_or_not}
 use Rattle.gate_model.proofs.Slots.{map_long, none_long, set_long}
 use Rattle.std.specs.Prelude.{is_some}
 
@@ -63,21 +59,15 @@ method_many life n method.ChannelOpen ps e = set_long ps n _ ∙ e
 method_many life n m ps e = set_long ps n _ ∙ e
 
 want_many : (rs : List Route) (limit life : ℕ) (x : Want91) (ps : List (Option PathState)) → Long ps → Long (paths_by rs limit life x ps)
-want_many rs limit life want.Nothing ps e = e
-want_many rs limit life want.Start ps e = e
-want_many rs limit life (want.Login m r) ps e = e
-want_many rs limit life want.Tuned ps e = e
-want_many rs limit life want.OpenUp ps e = e
 want_many rs limit life (want.Method n m) ps e = method_many (life + 1) n m ps e
 want_many rs limit life (want.Publish n m c) ps e = with_many n _ ps e
-want_many rs limit life (want.ChannelCloseOk n) ps e = e
 want_many rs limit life want.Close ps e = each_many closed_path ps e
-want_many rs limit life want.CloseOk ps e = e
 want_many rs limit life (want.Refuse r) ps e = by (is_of_channel r)
   where
     by : (b : Bool) → Long (if b then with_path r.channel closed_path ps else closed_paths ps)
     by true = with_many r.channel closed_path ps e
     by false = each_many closed_path ps e
+want_many rs limit life x ps e = e
 
 failed_many : (b : Bool) (ps : List (Option PathState)) → Long ps → Long (paths_failed b ps)
 failed_many true ps e = e
@@ -104,14 +94,11 @@ scoped_many (Some scope.Connection) n q payload p e = failed_many (is_closing p.
 scoped_many (Some scope.Channel) n q payload p e = ended_many (is_open p.client n) n lost_path p e
 
 meaning_many : (m : Meaning) (p : Peers) → Long p.paths → Long (peers_by m p).paths
-meaning_many ten.Nothing p e = e
-meaning_many ten.Init p e = e
-meaning_many ten.AmqpHeader p e = e
-meaning_many ten.Opened p e = e
 meaning_many (ten.OfSession g q payload) p e = scoped_many (scope_in p g q payload) g q payload (record p { carried = carried_on g q p.carried }) e
 meaning_many (ten.Closed x) p e = failed_many (is_closing p.client) p.paths e
 meaning_many ten.Refused p e = failed_many (is_closing p.client) p.paths e
 meaning_many (ten.Violation why) p e = failed_many (is_closing p.client) p.paths e
+meaning_many x p e = e
 
 reply_many : (u : Reply) (ps : List (Option PathState)) → Long ps → Long (paths_given u ps)
 reply_many (reply.OnChannel n u) ps e = with_many n _ ps e
@@ -134,9 +121,7 @@ many_if false p x e f = f
 pub many_paths : (h : List Step) → length (paths_in h) ≡ 256
 many_paths [] = none_long
 many_paths (Began site n ms ∷ h) = none_long
-many_paths (Moment ms ∷ h) = each_many _ (paths_in h) (many_paths h)
 many_paths (Fed Client ∷ h) = each_many _ (paths_in h) (many_paths h)
-many_paths (Fed Up ∷ h) = each_many _ (paths_in h) (many_paths h)
 many_paths (Silent Client ∷ h) = each_many closed_path (paths_in h) (many_paths h)
 many_paths (Silent Up ∷ h) = failed_many _ (paths_in h) (many_paths h)
 many_paths (Queued u ∷ h) = many_paths h
@@ -146,7 +131,6 @@ many_paths (TakenUp ∷ h) =
 many_paths (Heard u ∷ h) =
     many_if (ran_out_in h) (peers h) (peers_heard (peers h) u) (many_paths h)
     (meaning_many (meaning_by (peers h).container u) (record (peers h) { container = container_by (peers h).container u }) (many_paths h))
-many_paths (Joined link.Ok ∷ h) = each_many _ (paths_in h) (many_paths h)
 many_paths (Joined link.Failed ∷ h) = failed_many _ _ (each_many _ (paths_in h) (many_paths h))
 many_paths (Lost Client how ∷ h) = many_paths h
 many_paths (Lost Up loss.Ended ∷ h) = failed_many _ _ (each_many _ _ (each_many _ (paths_in h) (many_paths h)))
@@ -156,8 +140,8 @@ many_paths (Gave (ToClient u) text ∷ h) = reply_many u (paths_in h) (many_path
 many_paths (Gave (ToUp u) text ∷ h) = up_many (is_later (connection h) u) u (paths_in h) (many_paths h)
 many_paths (Whole Client ∷ h) = wrote_many _ (paths_in h) (many_paths h)
 many_paths (Whole Up ∷ h) = many_paths h
-many_paths (LinesTold ∷ h) = each_many _ (paths_in h) (many_paths h)
 many_paths (OutOfMemory ∷ h) = each_many closed_path (paths_in h) (many_paths h)
+many_paths (s ∷ h) = each_many _ (paths_in h) (many_paths h)
 
 -- ---- what a performative closes, where its channel has no path
 
@@ -189,11 +173,6 @@ none_beyond (p ∷ ps) zero le = absurd (some le)
     some : length (p ∷ ps) ≤ 0 → ⊥
     some x = omega (arith, x)
 none_beyond (p ∷ ps) (suc n) le = none_beyond ps n (omega (arith, le))
-
-below_or_not : (n m : ℕ) → (n < m) ⊎ (m ≤ n)
-below_or_not n zero = inr (omega arith)
-below_or_not zero (suc m) = inl (omega arith)
-below_or_not (suc n) (suc m) = elim (below_or_not n m) [ inl x ↦ inl (omega (arith, x)) | inr x ↦ inr (omega (arith, x)) ]
 
 -- both sessions of a channel close the same, where there is no such channel or they are one
 pub same_scope : (ps : List (Option PathState)) (n : ℕ) (q : Parts) (payload : List ℕ) (x y : SessionState) → length ps ≡ 256 → (n < 256 → x ≡ y)

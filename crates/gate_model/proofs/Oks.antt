@@ -1,6 +1,6 @@
 -- The answers that go on a channel are those that are due, in their order.
-use Rattle.std.proofs.Common.{◌≡◌, ℕ, ◌+◌, ◌==◌, nat_lt, Bool, true, false, if◌then◌else◌, List, [], ◌∷◌, ◌++◌, Option, None, Some, refl, sym, ap, ◌∙◌}
-use Rattle.std.proofs.Common.{arith, append_assoc}
+use Rattle.std.proofs.Common.{◌≡◌, ℕ, ◌+◌, ◌==◌, nat_lt, Bool, true, false, if◌then◌else◌, List, [], ◌∷◌, ◌++◌, Option, None, Some, refl, sym, ap}
+use Rattle.std.proofs.Common.{◌∙◌, arith, append_assoc}
 use Rattle.std.proofs.lemmas.Bool.Decides.{nat_tests}
 use Rattle.std.specs.List.{AllByRecursion}
 use Rattle.consume_path.specs.Offers.{next_deliver_of, serves_gets}
@@ -18,18 +18,16 @@ use Rattle.gate_model.specs.Folds.{going_in, peers}
 use Rattle.gate_model.specs.Oks.{AnswersInOrder}
 use Rattle.gate_model.specs.Paths.{path_at}
 use Rattle.gate_model.specs.Picks.{ArePicks}
-use Rattle.gate_model.specs.Publishing.{given_event, opens_channel, path_events, path_life, step_events, told_event, wrote_event, wrote_events}
+use Rattle.gate_model.specs.Publishing.{opens_channel, path_events, path_life, step_events, told_event, wrote_event, wrote_events}
 use Rattle.gate_model.specs.State.{Gave, Step, Whole, before}
 use Rattle.gate_model.specs.declared.channel.ChannelUnit.{ChannelUnit}
 use Rattle.gate_model.specs.declared.channel.ChannelUnit.TheVariants as to_client
-use Rattle.gate_model.specs.declared.channel.SessionUnit.{SessionUnit}
-use Rattle.gate_model.specs.declared.channel.SessionUnit.TheVariants as unit
 use Rattle.gate_model.specs.declared.outgoing.Outgoing.TheVariants.{ToClient}
 use Rattle.gate_model.specs.declared.reply.Reply.{Reply}
 use Rattle.gate_model.specs.declared.reply.Reply.TheVariants as reply
 use Rattle.gate_model.proofs.Fates.{IsNext, is_next, path_of}
 use Rattle.gate_model.proofs.Firsts.{OfChannel, goes_as}
-use Rattle.gate_model.proofs.Quiet.{OfKinds, is_apart, step_all}
+use Rattle.gate_model.proofs.Quiet.{is_apart, is_told, step_all}
 use Rattle.gate_model.proofs.Rests.{LivesBelow}
 
 -- what session_path says of the answers of a life
@@ -79,37 +77,10 @@ deliver_first s d e = by d.get refl
 abbrev IsNone : PathEvent → Type 0
 IsNone x = answers x ≡ []
 
-given_none : (u : SessionUnit) → IsNone (given_event u)
-given_none (unit.Attach a) = refl
-given_none (unit.Flow f) = refl
-given_none (unit.Transfer t) = refl
-given_none (unit.Dispose x) = refl
-given_none (unit.Settle x) = refl
-given_none (unit.Detach link handle why) = refl
-
-kinds : OfKinds IsNone
-kinds = record {
-  began = λ most. refl;
-  published = λ address payload back. refl;
-  selected = refl;
-  owed = λ x. refl;
-  consumed = λ address tag no_ack no_wait. refl;
-  cancelled = λ tag no_wait. refl;
-  declared = λ queue no_wait. refl;
-  got = λ queue no_ack. refl;
-  answered = λ tag multiple settle. refl;
-  attached = λ a. refl;
-  flowed = λ peer count credit drain echo. refl;
-  detached = λ peer not_found. refl;
-  transferred = λ peer part payload image again. refl;
-  failed = λ peer fault. refl;
-  settled = λ first last outcome settled. refl;
-  given = given_none;
-  told = refl;
-  closed = refl;
-  lost = refl;
-  fell = refl;
-}
+each_none : (x : PathEvent) → is_told x ≡ false → IsNone x
+each_none (event.OkSent x) e = absurd cc
+each_none (event.DeliverSent d) e = absurd cc
+each_none x e = refl
 
 module _ (law : AnswersAre) (below : LivesBelow) where
   more : (life : ℕ) (es : List PathEvent) (x : PathEvent) → AreFirst (answers x) (after_events life es).oks → AreAnswers life es → AreAnswers life (x ∷ es)
@@ -131,7 +102,7 @@ module _ (law : AnswersAre) (below : LivesBelow) where
       by : (b : Bool) → (if b then Some ((peers h).opened + 1) else path_life h n) ≡ Some life
           → AreAnswers life (if b then [] else step_events n h s ++ path_events h n)
       by true f = tt
-      by false f = quietly life (path_events h n) (step_events n h s) (step_all IsNone kinds n h s e) (old life f)
+      by false f = quietly life (path_events h n) (step_events n h s) (step_all IsNone each_none n h s e) (old life f)
 
   told : (n : ℕ) (h : List Step) (k : ℕ) (u : ChannelUnit) → ArePicks h → AnswersIn n h
       → ((life : ℕ) → path_life h n ≡ Some life → k ≡ n → AreFirst (answers (told_event u)) (after_events life (path_events h n)).oks)

@@ -2,8 +2,7 @@
 use Rattle.gate_model.specs.declared.reply.Reason.{Reason}
 use Rattle.property_map.specs.declared.told.Told.{Told}
 use Rattle.std.proofs.Common.{◌≡◌, ◌≢◌, ℕ, ◌+◌, ◌==◌, ◌≤◌, Bool, true, false, ◌&&◌}
-use Rattle.std.proofs.Common.{◌||◌, if◌then◌else◌, List, [], ◌∷◌, ◌++◌, Option, None, Some}
-use Rattle.std.proofs.Common.{arith, refl, sym, ap, ◌∙◌, subst}
+use Rattle.std.proofs.Common.{◌||◌, if◌then◌else◌, List, [], ◌∷◌, ◌++◌, Option, None, Some, arith, refl, sym, ap, ◌∙◌, subst}
 use Rattle.gate_outside.specs.declared.ports.End.TheVariants.{Client, Up}
 use Rattle.gate_outside.specs.declared.ports.Linked.TheVariants as link
 use Rattle.gate_relay.specs.declared.loss.Loss.TheVariants as loss
@@ -27,26 +26,23 @@ use Rattle.gate_model.specs.declared.outgoing.UpUnit.{UpUnit}
 use Rattle.gate_model.specs.declared.outgoing.UpUnit.TheVariants as up
 use Rattle.gate_model.specs.declared.channel.ChannelUnit.{ChannelUnit}
 use Rattle.gate_model.specs.Paths.{closed_path}
-use Rattle.gate_model.proofs.Flows.{flows_once}
+use Rattle.gate_model.proofs.Basics.{and_left, less_both}
+use Rattle.gate_model.proofs.Flows.{flows_once, keeps}
 use Rattle.gate_model.specs.declared.reply.Reply.{Reply}
 use Rattle.gate_model.specs.declared.reply.Reply.TheVariants as reply
-use Rattle.gate_model.specs.Due.{close_oks_on}
-use Rattle.gate_model.specs.Due.{refused_on, when}
+use Rattle.gate_model.specs.Due.{close_oks_on, refused_on, when}
 use Rattle.gate_model.specs.Folds.{is_answer, ran_out_in, connection, paths_in}
 use Rattle.gate_model.specs.Lives.{refusal_on, begun_life, failed_life, freed_life, life_at, reason_of}
-use Rattle.gate_model.specs.Lives.{lives_by, method_life, no_life, no_lives, with_life}
-use Rattle.gate_model.specs.Lives.{is_of_channel}
+use Rattle.gate_model.specs.Lives.{lives_by, method_life, no_life, no_lives, with_life, is_of_channel}
 use Rattle.gate_model.specs.Once.{AnswersOnce, is_channel_close, is_channel_open, is_close_ok_on}
 use Rattle.gate_model.specs.Once.{is_method_on, is_open_ok_on, one_if, wanted_in, went_in}
 use Rattle.gate_model.specs.Picks.{ArePicks}
 use Rattle.gate_model.specs.Requests.{client_step, client_told}
 use Rattle.gate_model.specs.State as sent
-use Rattle.gate_model.specs.State.{Began, Came, Gave, Heard, Joined, LinesTold, Lost, Moment}
-use Rattle.gate_model.specs.State.{OutOfMemory}
+use Rattle.gate_model.specs.State.{Began, Came, Gave, Heard, Joined, LinesTold, Lost, Moment, OutOfMemory}
 use Rattle.gate_model.specs.State.{Queued, State, Step, TakenUp, Whole, before, came, carried}
 use Rattle.gate_model.specs.State.{dequeued, fail, failed, heard, is_channel_settled, is_settled}
-use Rattle.gate_model.specs.State.{left, life_failed, runs, windowed, with_meaning}
-use Rattle.gate_model.specs.State.{without_begin, without_life, Fed, Silent}
+use Rattle.gate_model.specs.State.{left, life_failed, runs, windowed, with_meaning, without_begin, without_life, Fed, Silent}
 use Rattle.gate_model.specs.Upstream.{first, heard_up, meaning_by}
 use Rattle.session_path.specs.Path.{PathState}
 use Rattle.gate_model.proofs.Known.{conn_is, known, memory_is, paths_are, routes_are}
@@ -55,40 +51,21 @@ use Rattle.gate_model.proofs.Rows.{first_at}
 use Rattle.gate_model.proofs.Said.{Beats, InCloses, InOks, InOpen, InOpenOks, IsDue, IsOfChannel}
 use Rattle.gate_model.proofs.Said.{OnChannel, OnOpen, Picked, calm_now, first_due, picked}
 use Rattle.gate_model.proofs.Sessions.{session_cases}
-use Rattle.gate_model.proofs.Times.{and_left}
 use Rattle.gate_model.specs.declared.setup.Route.{Route}
 
 -- ---- what goes is due
 
 abbrev IsOwed : List Life → Reply → Type 0
-IsOwed ls reply.Protocol = Unit {0}
-IsOwed ls reply.Start = Unit {0}
-IsOwed ls reply.Tune = Unit {0}
-IsOwed ls reply.OpenOk = Unit {0}
-IsOwed ls reply.CloseOk = Unit {0}
-IsOwed ls (reply.Close r) = Unit {0}
-IsOwed ls reply.NoMemory = Unit {0}
-IsOwed ls reply.Heartbeat = Unit {0}
 IsOwed ls (reply.ChannelOpenOk k) = (life_at ls k).open_ok ≡ true
-IsOwed ls (reply.OnChannel k u) = Unit {0}
 IsOwed ls (reply.ChannelCloseOk k) = (life_at ls k).close_ok ≡ true
 IsOwed ls (reply.CrossedOk k) = (life_at ls k).crossed_ok ≡ true
-IsOwed ls (reply.ChannelClose k r) = Unit {0}
+IsOwed ls x = Unit {0}
 
 owed_answer : (ls : List Life) (u : Reply) → is_answer u ≡ true → IsOwed ls u
-owed_answer ls reply.Protocol e = tt
-owed_answer ls reply.Start e = tt
-owed_answer ls reply.Tune e = tt
-owed_answer ls reply.OpenOk e = tt
-owed_answer ls reply.CloseOk e = tt
-owed_answer ls (reply.Close r) e = tt
-owed_answer ls reply.NoMemory e = tt
-owed_answer ls reply.Heartbeat e = tt
 owed_answer ls (reply.ChannelOpenOk k) e = absurd cc
-owed_answer ls (reply.OnChannel k u) e = tt
 owed_answer ls (reply.ChannelCloseOk k) e = absurd cc
 owed_answer ls (reply.CrossedOk k) e = absurd cc
-owed_answer ls (reply.ChannelClose k r) e = tt
+owed_answer ls x e = tt
 
 owed_when : (ls : List Life) (b : Bool) (u v : Reply) → (b ≡ true → IsOwed ls u) → first (when b u) ≡ Some v → IsOwed ls v
 owed_when ls true u v f e = let here : u ≡ v = cc in subst (IsOwed ls) here (f refl)
@@ -176,9 +153,6 @@ fail_less v n code why w = by (is_closing w.conn)
     by : (b : Bool) → Value v n (if b then w else failed code why w) ≤ Value v n w
     by true = omega arith
     by false = omega arith
-
-less_both : (a b c : ℕ) → a ≤ b → b ≤ c → a ≤ c
-less_both a b c e f = omega (arith, e, f)
 
 meaning_less : {n : ℕ} {v : Life → ℕ} {asks : Want91 → Bool} {answers : Reply → Bool} → Counts n v asks answers → (m : Meaning) (w : State) → Value v n (with_meaning m w) ≤ Value v n w
 meaning_less c ten.Nothing w = omega arith
@@ -331,9 +305,6 @@ given_less {n} {v} {asks} {answers} c (reply.ChannelClose k r) ls o =
 
 -- ---- all steps
 
-keeps : (went a b total : ℕ) → b ≤ a → went + a ≤ total → went + b ≤ total
-keeps went a b total less e = omega (arith, less, e)
-
 queued_less : (v : Life → ℕ) (n : ℕ) (w : State) (us : List Unit91) → Value v n (if w.out_of_memory then w else record w { queue = us }) ≤ Value v n w
 queued_less v n w us = by w.out_of_memory
   where
@@ -398,34 +369,18 @@ answered_at_most c h p = let all = counts c h p in omega (arith, all)
 -- ---- the three kinds
 
 no_answer_open : (n : ℕ) (u : Reply) → is_answer u ≡ true → is_open_ok_on n u ≡ false
-no_answer_open n reply.Protocol e = refl
-no_answer_open n reply.Start e = refl
-no_answer_open n reply.Tune e = refl
-no_answer_open n reply.OpenOk e = refl
-no_answer_open n reply.CloseOk e = refl
-no_answer_open n (reply.Close r) e = refl
-no_answer_open n reply.NoMemory e = refl
-no_answer_open n reply.Heartbeat e = refl
 no_answer_open n (reply.ChannelOpenOk m) e = absurd cc
-no_answer_open n (reply.OnChannel m u) e = refl
 no_answer_open n (reply.ChannelCloseOk m) e = absurd cc
 no_answer_open n (reply.CrossedOk m) e = absurd cc
 no_answer_open n (reply.ChannelClose m r) e = absurd cc
+no_answer_open n x e = refl
 
 no_answer_close : (n : ℕ) (u : Reply) → is_answer u ≡ true → is_close_ok_on n u ≡ false
-no_answer_close n reply.Protocol e = refl
-no_answer_close n reply.Start e = refl
-no_answer_close n reply.Tune e = refl
-no_answer_close n reply.OpenOk e = refl
-no_answer_close n reply.CloseOk e = refl
-no_answer_close n (reply.Close r) e = refl
-no_answer_close n reply.NoMemory e = refl
-no_answer_close n reply.Heartbeat e = refl
 no_answer_close n (reply.ChannelOpenOk m) e = absurd cc
-no_answer_close n (reply.OnChannel m u) e = refl
 no_answer_close n (reply.ChannelCloseOk m) e = absurd cc
 no_answer_close n (reply.CrossedOk m) e = absurd cc
 no_answer_close n (reply.ChannelClose m r) e = absurd cc
+no_answer_close n x e = refl
 
 -- channel.open and its open-ok
 abbrev opens_of : Life → ℕ
@@ -527,3 +482,76 @@ answers_once h p = record {
   flows = λ n. flows_once n h p;
   closes = λ n. answered_at_most (closes n) h p;
 }
+
+-- ---- a channel.open-ok that is due
+
+-- what is due of a life that is over
+abbrev over_of : Life → ℕ
+over_of l = if l.over then opens_of l else 0
+
+over_less : (b : Bool) (m k : ℕ) → m ≤ k → (if b then m else 0) ≤ (if b then k else 0)
+over_less true m k e = e
+over_less false m k e = omega arith
+
+over_asked : (ms : ℕ) (m : Method91) (l : Life) → over_of (method_life ms m l) ≤ over_of l + 0
+over_asked ms method.ChannelOpen l = omega arith
+over_asked ms (method.ChannelClose code text class id) l = omega arith
+over_asked ms m l = omega arith
+
+over_gone : (a b : Bool) → (if a then one_if b + one_if false else 0) + 0 ≤ (if a then one_if b + one_if true else 0)
+over_gone true b = omega arith
+over_gone false b = omega arith
+
+none_over : (n : ℕ) → Counts n over_of (λ x. false) (λ u. false)
+none_over n = record {
+  none = refl;
+  asked = over_asked;
+  freed = λ l. omega arith;
+  begun = λ l. over_less l.over _ _ (opened_or l.open_ok l.waits);
+  failed = λ by_peer ms r why l. omega arith;
+  carries = λ s l. omega arith;
+  begins = λ l. omega arith;
+  ends = λ l. omega arith;
+  opened = λ l e. let less = over_less l.over (opens_of (record l { open_ok = false })) (opens_of l) (omega arith) in omega (arith, less);
+  closed = λ l e. omega arith;
+  crossed = λ l e. omega arith;
+  told = λ r l. omega arith;
+  of_connection = λ u e. refl;
+  beats = refl;
+  of_paths = λ k u. refl;
+  elsewhere_open = λ k d. refl;
+  elsewhere_close = λ k d. refl;
+  elsewhere_crossed = λ k d. refl;
+  elsewhere_told = λ k r d. refl;
+}
+
+none_wanted : (h : List Step) → wanted_in (λ x. false) h ≡ 0
+none_wanted [] = refl
+none_wanted (Came u ∷ h) = by (ran_out_in h) (none_wanted h)
+  where
+    by : (b : Bool) → wanted_in (λ x. false) h ≡ 0 → (if b then wanted_in (λ x. false) h else wanted_in (λ x. false) h + 0) ≡ 0
+    by true e = e
+    by false e = omega (arith, e)
+none_wanted (s ∷ h) = none_wanted h
+
+-- its life goes on, and its channel was opened
+pub record IsOpening (h : List Step) (n : ℕ) : Type 0 where
+  pub goes : (life_at (before h).lives n).over ≡ false
+  pub asked : 1 ≤ wanted_in (is_method_on is_channel_open n) h
+
+pub is_opening_ok : (h : List Step) (n : ℕ) → ArePicks h → (life_at (before h).lives n).open_ok ≡ true → IsOpening h n
+is_opening_ok h n p e = record { goes = by (life_at (before h).lives n).over refl; asked = (let all = counts (opens n) h p in omega (arith, one, all)) }
+  where
+    l : Life
+    l = life_at (before h).lives n
+
+    one : one_if l.open_ok ≡ 1
+    one = ap one_if e
+
+    by : (b : Bool) → l.over ≡ b → b ≡ false
+    by true f =
+        let all = counts (none_over n) h p in
+        let none = none_wanted h in
+        let is : over_of l ≡ opens_of l = ap (λ (b : Bool). if b then opens_of l else 0) f in
+        absurd (omega (arith, one, all, none, is))
+    by false f = refl

@@ -1,7 +1,6 @@
 -- The units of the opening to a container: what calls for them, and how they go.
 use Rattle.std.proofs.Common.{◌≡◌, Bool, true, false, not, ◌&&◌, ◌||◌, if◌then◌else◌, List, [], ◌∷◌}
-use Rattle.std.proofs.Common.{◌++◌, Option, None, Some, append_assoc, append-nil, refl, sym, ap}
-use Rattle.std.proofs.Common.{◌∙◌, subst}
+use Rattle.std.proofs.Common.{◌++◌, Option, None, Some, append_assoc, append-nil, refl, sym, ap, ◌∙◌, subst}
 use Rattle.std.specs.Prelude.{filter}
 use Rattle.std.proofs.lemmas.List.Elements.{filter-append}
 use Rattle.frames_10.specs.declared.frame.Kind10.{Kind10}
@@ -18,8 +17,8 @@ use Rattle.gate_model.specs.declared.outgoing.UpPending.{UpPending}
 use Rattle.gate_model.specs.declared.outgoing.UpUnit.{UpUnit}
 use Rattle.gate_model.specs.declared.outgoing.UpUnit.TheVariants as up
 use Rattle.gate_model.specs.Asked.{called_by, called_from, is_opening_unit, openings_of}
-use Rattle.gate_model.specs.Upstream.{container_by, first, is_open_phase, opening_rows, opens}
-use Rattle.gate_model.specs.Upstream.{when_up, without_up}
+use Rattle.gate_model.specs.Upstream.{container_by, first, is_open_phase, opening_rows, opens, when_up, without_up}
+use Rattle.gate_model.proofs.Basics.{or_one}
 use Rattle.gate_model.proofs.Connections.{clash}
 
 -- ---- phases
@@ -27,32 +26,20 @@ use Rattle.gate_model.proofs.Connections.{clash}
 abbrev before_init : Phase10 → Bool
 before_init phase.SaslHeader = true
 before_init phase.Mechanisms = true
-before_init phase.Outcome = false
-before_init phase.AmqpHeader = false
-before_init phase.Open = false
-before_init phase.Running = false
-before_init phase.Closing = false
-before_init phase.Closed = false
+before_init x = false
 
 abbrev before_amqp : Phase10 → Bool
 before_amqp phase.SaslHeader = true
 before_amqp phase.Mechanisms = true
 before_amqp phase.Outcome = true
-before_amqp phase.AmqpHeader = false
-before_amqp phase.Open = false
-before_amqp phase.Running = false
-before_amqp phase.Closing = false
-before_amqp phase.Closed = false
+before_amqp x = false
 
 abbrev before_open : Phase10 → Bool
-before_open phase.SaslHeader = true
-before_open phase.Mechanisms = true
-before_open phase.Outcome = true
-before_open phase.AmqpHeader = true
 before_open phase.Open = false
 before_open phase.Running = false
 before_open phase.Closing = false
 before_open phase.Closed = false
+before_open x = true
 
 -- no phase is earlier than the one before
 record Falls (p q : Phase10) : Type 0 where
@@ -66,24 +53,14 @@ falls_same p = record { init = λ e. e; amqp = λ e. e; own = λ e. e }
 -- ---- what a unit of the container calls for
 
 abbrev calls : Meaning → Bool
-calls ten.Nothing = false
 calls ten.Init = true
 calls ten.AmqpHeader = true
-calls ten.Opened = false
-calls (ten.OfSession g p payload) = false
-calls (ten.Closed e) = false
-calls ten.Refused = false
-calls (ten.Violation why) = false
+calls x = false
 
 calls_not : (m : Meaning) (p : UpPending) → calls m ≡ false → called_by m p ≡ p
-calls_not ten.Nothing p e = refl
 calls_not ten.Init p e = absurd cc
 calls_not ten.AmqpHeader p e = absurd cc
-calls_not ten.Opened p e = refl
-calls_not (ten.OfSession g n payload) p e = refl
-calls_not (ten.Closed x) p e = refl
-calls_not ten.Refused p e = refl
-calls_not (ten.Violation why) p e = refl
+calls_not x p e = refl
 
 data Effect (c : Upstream) : ten.Step → Type 0 where
   Quiet : (x : Upstream) (m : Meaning) → calls m ≡ false → opens c x ≡ false → Falls c.phase x.phase → Effect c (x, m)
@@ -114,23 +91,11 @@ falls_running p = record { init = λ e. absurd cc; amqp = λ e. absurd cc; own =
 
 sasl_phase : (p : Phase10) → awaits_header kind.Sasl p ≡ true → p ≡ phase.SaslHeader
 sasl_phase phase.SaslHeader e = refl
-sasl_phase phase.Mechanisms e = absurd cc
-sasl_phase phase.Outcome e = absurd cc
-sasl_phase phase.AmqpHeader e = absurd cc
-sasl_phase phase.Open e = absurd cc
-sasl_phase phase.Running e = absurd cc
-sasl_phase phase.Closing e = absurd cc
-sasl_phase phase.Closed e = absurd cc
+sasl_phase x e = absurd cc
 
 amqp_phase : (p : Phase10) → awaits_header kind.Amqp p ≡ true → p ≡ phase.AmqpHeader
-amqp_phase phase.SaslHeader e = absurd cc
-amqp_phase phase.Mechanisms e = absurd cc
-amqp_phase phase.Outcome e = absurd cc
 amqp_phase phase.AmqpHeader e = refl
-amqp_phase phase.Open e = absurd cc
-amqp_phase phase.Running e = absurd cc
-amqp_phase phase.Closing e = absurd cc
-amqp_phase phase.Closed e = absurd cc
+amqp_phase x e = absurd cc
 
 greeted : (c x : Upstream) (k : Kind10) → awaits_header k c.phase ≡ true → x.phase ≡ phase_after k → Effect c (x, ten.Nothing)
 greeted c x kind.Sasl e f =
@@ -195,16 +160,12 @@ one_more went old all new more u same e f =
 abbrev with_open : Bool → UpPending → UpPending
 with_open b p = record p { «open» = p.«open» || b }
 
-or_false : (b : Bool) → (b || false) ≡ b
-or_false true = refl
-or_false false = refl
-
 or_true : (b : Bool) → (b || true) ≡ true
 or_true true = refl
 or_true false = refl
 
 unopened : (b : Bool) (p : UpPending) → b ≡ false → with_open b p ≡ p
-unopened b p e = ap (λ (x : Bool). with_open x p) e ∙ ap (λ (x : Bool). record p { «open» = x }) (or_false p.«open»)
+unopened b p e = ap (λ (x : Bool). with_open x p) e ∙ ap (λ (x : Bool). record p { «open» = x }) (or_one p.«open»)
 
 opened : (b : Bool) (p : UpPending) → b ≡ true → with_open b p ≡ record p { «open» = true }
 opened b p e = ap (λ (x : Bool). with_open x p) e ∙ ap (λ (x : Bool). record p { «open» = x }) (or_true p.«open»)
@@ -216,21 +177,14 @@ login_amqp : (p : Phase10) → is_login_phase p ≡ true → before_amqp p ≡ t
 login_amqp phase.SaslHeader e = refl
 login_amqp phase.Mechanisms e = refl
 login_amqp phase.Outcome e = refl
-login_amqp phase.AmqpHeader e = absurd cc
-login_amqp phase.Open e = absurd cc
-login_amqp phase.Running e = absurd cc
-login_amqp phase.Closing e = absurd cc
-login_amqp phase.Closed e = absurd cc
+login_amqp x e = absurd cc
 
 login_open : (p : Phase10) → is_login_phase p ≡ true → before_open p ≡ true
-login_open phase.SaslHeader e = refl
-login_open phase.Mechanisms e = refl
-login_open phase.Outcome e = refl
-login_open phase.AmqpHeader e = refl
 login_open phase.Open e = absurd cc
 login_open phase.Running e = absurd cc
 login_open phase.Closing e = absurd cc
 login_open phase.Closed e = absurd cc
+login_open x e = refl
 
 -- pending and called for change alike
 ups_like : (p q p' q' : UpPending) (at : Phase10) (went : List UpUnit) → p' ≡ p → q' ≡ q → Ups p q at went → Ups p' q' at went
@@ -337,40 +291,16 @@ pub is_opening_first : (p : UpPending) (u : UpUnit) → first (opening_rows p) �
 is_opening_first p u e = (leads p u e).opening
 
 no_init : (u : UpUnit) (p : UpPending) → p.init ≡ false → (without_up u p).init ≡ false
-no_init up.SaslHeader p e = e
 no_init up.SaslInit p e = refl
-no_init up.AmqpHeader p e = e
-no_init up.Open p e = e
-no_init (up.Close c) p e = e
-no_init up.Empty p e = e
-no_init (up.OnSession n u) p e = e
-no_init (up.Flow n i o) p e = e
-no_init (up.Begin n) p e = e
-no_init (up.End n why) p e = e
+no_init x p e = e
 
 no_amqp : (u : UpUnit) (p : UpPending) → p.amqp_header ≡ false → (without_up u p).amqp_header ≡ false
-no_amqp up.SaslHeader p e = e
-no_amqp up.SaslInit p e = e
 no_amqp up.AmqpHeader p e = refl
-no_amqp up.Open p e = e
-no_amqp (up.Close c) p e = e
-no_amqp up.Empty p e = e
-no_amqp (up.OnSession n u) p e = e
-no_amqp (up.Flow n i o) p e = e
-no_amqp (up.Begin n) p e = e
-no_amqp (up.End n why) p e = e
+no_amqp x p e = e
 
 no_open : (u : UpUnit) (p : UpPending) → p.«open» ≡ false → (without_up u p).«open» ≡ false
-no_open up.SaslHeader p e = e
-no_open up.SaslInit p e = e
-no_open up.AmqpHeader p e = e
 no_open up.Open p e = refl
-no_open (up.Close c) p e = e
-no_open up.Empty p e = e
-no_open (up.OnSession n u) p e = e
-no_open (up.Flow n i o) p e = e
-no_open (up.Begin n) p e = e
-no_open (up.End n why) p e = e
+no_open x p e = e
 
 up_to_without : (at : Phase10) (u : UpUnit) (p : UpPending) → UpTo at p → UpTo at (without_up u p)
 up_to_without at u p s = record {
@@ -403,16 +333,13 @@ ups_other p q at went u e s = by u e (openings_next went u false e ∙ append-ni
     kept u f = record { same = ap (λ (x : List UpUnit). x ++ opening_rows p) f ∙ s.same; mine = s.mine; theirs = s.theirs }
 
     by : (u : UpUnit) → is_opening_unit u ≡ false → openings_of (went ++ u ∷ []) ≡ openings_of went → Ups (without_up u p) q at (went ++ u ∷ [])
-    by up.SaslHeader e f = absurd cc
-    by up.SaslInit e f = absurd cc
-    by up.AmqpHeader e f = absurd cc
-    by up.Open e f = absurd cc
     by (up.Close c) e f = kept (up.Close c) f
     by up.Empty e f = kept up.Empty f
     by (up.OnSession n u) e f = kept (up.OnSession n u) f
     by (up.Flow n i o) e f = kept (up.Flow n i o) f
     by (up.Begin n) e f = kept (up.Begin n) f
     by (up.End n why) e f = kept (up.End n why) f
+    by x e f = absurd cc
 
 -- ---- units of the opening among those that are due
 

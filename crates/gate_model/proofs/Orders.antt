@@ -1,8 +1,7 @@
 -- The units of each channel are taken up in their order.
 use Rattle.std.proofs.Common.{◌≡◌, ℕ, ◌+◌, ◌==◌, Bool, true, false, not, ◌&&◌, ◌||◌, if◌then◌else◌}
 use Rattle.std.proofs.Common.{List, [], ◌∷◌, ◌++◌, length, length-append, take, take_at, Option}
-use Rattle.std.proofs.Common.{None, Some, append_assoc, append-nil, arith, refl, sym, ap, ◌∙◌}
-use Rattle.std.proofs.Common.{subst}
+use Rattle.std.proofs.Common.{None, Some, append_assoc, append-nil, arith, refl, sym, ap, ◌∙◌, subst}
 use Rattle.std.proofs.lemmas.List.Elements.{filter-append}
 use Rattle.std.proofs.lemmas.Bool.Decides.{nat_tests}
 use Rattle.std.specs.Prelude.{slice_get}
@@ -11,19 +10,17 @@ use Rattle.machine_091.specs.declared.unit.Unit91.{Unit91}
 use Rattle.gate_outside.specs.declared.ports.End.TheVariants.{Client, Up}
 use Rattle.gate_outside.specs.declared.ports.Linked.TheVariants as link
 use Rattle.gate_relay.specs.declared.loss.Loss.TheVariants as loss
-use Rattle.gate_model.specs.declared.outgoing.Outgoing.TheVariants.{ToClient, ToUp}
+use Rattle.gate_model.specs.declared.outgoing.Outgoing.TheVariants.{ToClient}
 use Rattle.gate_model.specs.Folds.{ran_out_in}
 use Rattle.gate_model.specs.Order.{TakesInOrder, came_in, is_of, on_channel, taken_in}
 use Rattle.gate_model.specs.Picks.{ArePicks}
 use Rattle.gate_model.specs.Queue.{Waits, can_take, channel_of, holds, is_empty, place_from}
 use Rattle.gate_model.specs.Queue.{removed, unit_at, waits_for_all, without_at, place_in}
-use Rattle.gate_model.specs.State.{State, Step, Began, Moment, Queued, Came, TakenUp, Heard, Joined}
-use Rattle.gate_model.specs.State.{LinesTold, Lost, Gave, Whole, OutOfMemory, before, came}
-use Rattle.gate_model.specs.State.{dequeued, left}
-use Rattle.gate_model.specs.State.{next_unit, place, waits, Fed, Silent}
+use Rattle.gate_model.specs.State.{State, Step, Began, Queued, Came, TakenUp, Heard, Joined}
+use Rattle.gate_model.specs.State.{Lost, Gave, Whole, OutOfMemory, before, came, dequeued, left, next_unit, place, waits, Fed, Silent}
+use Rattle.gate_model.proofs.Basics.{and_left, and_right, not_true}
 use Rattle.gate_model.proofs.Known.{known, memory_is}
 use Rattle.gate_model.proofs.Queues.{empty_is, rests_fail, rests_heard}
-use Rattle.gate_model.proofs.Times.{and_left, and_right}
 use Rattle.gate_model.specs.Paths.{is_laden}
 
 -- ---- the unit that is taken up
@@ -92,15 +89,11 @@ none_of n (v ∷ us) e = none_behind n v us (none_of n us) (channel_of v == 0) (
 none_before : (q : Waits) (front : List Unit91) (u : Unit91) → can_take q front u ≡ true → on_channel (channel_of u) front ≡ []
 none_before q front u e = by (waits_for_all u) e
   where
-    free : (c : Bool) → not c ≡ true → c ≡ false
-    free false e = refl
-    free true e = absurd cc
-
     by : (b : Bool)
         → (if b then is_empty front && not q.some else (not q.opening && not (q.channel (channel_of u))) && not (list_any (holds (channel_of u)) front)) ≡ true
         → on_channel (channel_of u) front ≡ []
     by true e = ap (on_channel (channel_of u)) (empty_is front (and_left (is_empty front) _ e))
-    by false e = none_of (channel_of u) front (free _ (and_right (not q.opening && not (q.channel (channel_of u))) _ e))
+    by false e = none_of (channel_of u) front (not_true _ (and_right (not q.opening && not (q.channel (channel_of u))) _ e))
 
 its_channel : (m n : ℕ) → (m == n) ≡ true → m ≡ n
 its_channel m n e = grind (arith, nat_tests)
@@ -171,9 +164,7 @@ taken_queue false w = refl
 pub takes_in_order : (h : List Step) → ArePicks h → TakesInOrder h
 takes_in_order [] p n e = refl
 takes_in_order (Began site k ms ∷ h) p n e = same_queue n h _ _ refl (takes_in_order h p.1 n e)
-takes_in_order (Moment ms ∷ h) p n e = takes_in_order h p.1 n e
 takes_in_order (Fed Client ∷ h) p n e = takes_in_order h p.1 n e
-takes_in_order (Fed Up ∷ h) p n e = takes_in_order h p.1 n e
 takes_in_order (Silent Client ∷ h) p n e = passed_in n h (before h).queue (takes_in_order h p.1 n e)
 takes_in_order (Silent Up ∷ h) p n e = same_queue n h _ _ (rests_fail _ _ _).queue (takes_in_order h p.1 n e)
 takes_in_order (Queued u ∷ h) p n e = queued_in n h u (before h) (with_memory h p.1 e) (takes_in_order h p.1 n e)
@@ -182,17 +173,11 @@ takes_in_order (Came u ∷ h) p n e =
     ∙ ap (λ (x : List Unit91). on_channel n (taken_in h ++ u ∷ []) ++ on_channel n x) (sym (came_queue (before h) u (with_memory h p.1 e)))
 takes_in_order (TakenUp ∷ h) p n e = same_queue n h _ _ (taken_queue _ (before h)) (takes_in_order h p.1 n e)
 takes_in_order (Heard u ∷ h) p n e = same_queue n h _ _ (rests_heard (before h) u).queue (takes_in_order h p.1 n e)
-takes_in_order (Joined link.Ok ∷ h) p n e = takes_in_order h p.1 n e
 takes_in_order (Joined link.Failed ∷ h) p n e = same_queue n h _ _ (rests_fail _ None _).queue (takes_in_order h p.1 n e)
 takes_in_order (Lost Client loss.Ended ∷ h) p n e = takes_in_order h p.1 n e
-takes_in_order (Lost Client loss.Failed ∷ h) p n e = takes_in_order h p.1 n e
-takes_in_order (Lost Client loss.Shut ∷ h) p n e = takes_in_order h p.1 n e
 takes_in_order (Lost Up loss.Ended ∷ h) p n e = same_queue n h _ _ (rests_fail _ None _).queue (takes_in_order h p.1 n e)
 takes_in_order (Lost Up loss.Failed ∷ h) p n e = same_queue n h _ _ (rests_fail _ None _).queue (takes_in_order h p.1 n e)
-takes_in_order (Lost Up loss.Shut ∷ h) p n e = takes_in_order h p.1 n e
 takes_in_order (Gave (ToClient u) text ∷ h) p n e = takes_in_order h p.1 n e
-takes_in_order (Gave (ToUp u) text ∷ h) p n e = takes_in_order h p.1 n e
 takes_in_order (Whole Client ∷ h) p n e = takes_in_order h p.1 n e
-takes_in_order (Whole Up ∷ h) p n e = takes_in_order h p.1 n e
-takes_in_order (LinesTold ∷ h) p n e = takes_in_order h p.1 n e
 takes_in_order (OutOfMemory ∷ h) p n e = absurd cc
+takes_in_order (s ∷ h) p n e = takes_in_order h p.1 n e

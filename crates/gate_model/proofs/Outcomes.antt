@@ -9,8 +9,7 @@ use Rattle.frames_091.specs.declared.frame.Kind91.{Kind91}
 use Rattle.frames_091.specs.declared.frame.Kind91.TheVariants as frame
 use Rattle.machine_091.specs.Contents.{no_contents}
 use Rattle.machine_091.specs.Refusals.{channel_of, refusal_by, refusal_of, refusal_with}
-use Rattle.machine_091.specs.State.{channel_at, is_closing, is_open_phase, is_running, with_channel}
-use Rattle.machine_091.specs.State.{with_content}
+use Rattle.machine_091.specs.State.{channel_at, is_closing, is_open_phase, is_running, with_channel, with_content}
 use Rattle.machine_091.specs.Transitions.{asked_by, stream_after, with_stream}
 use Rattle.machine_091.specs.Transitions as machine
 use Rattle.machine_091.specs.declared.contents.Incoming.{Incoming}
@@ -33,8 +32,7 @@ use Rattle.methods_091.specs.Rows.{class_of, id_of}
 use Rattle.methods_091.specs.View.{kind_of}
 use Rattle.session_path.specs.Path.{PathState}
 use Rattle.gate_model.specs.Paths.{path_at}
-use Rattle.gate_model.specs.Requests.{client_step, message_of, method_fault}
-use Rattle.gate_model.specs.Requests.{publish_fault, refusal_of_want, refused_by, refused_for}
+use Rattle.gate_model.specs.Requests.{client_step, message_of, method_fault, publish_fault, refusal_of_want, refused_by, refused_for}
 use Rattle.gate_model.specs.declared.setup.Route.{Route}
 use Rattle.gate_model.specs.State.{close}
 
@@ -124,9 +122,7 @@ of_unit code (unit.Frame f) = by f.kind
   where
     by : (k : Kind91) → is_of_channel (refusal_by k code f.payload) ≡ false
     by frame.Method = refl
-    by frame.Header = refl
-    by frame.Body = refl
-    by frame.Heartbeat = refl
+    by x = refl
 
 -- so is what its refusals of requests make of it
 abbrev Told : (rs : List Route) (ps : List (Option PathState)) (c : Connection) (u : Unit91) → machine.Step → Type 0

@@ -1,8 +1,7 @@
 -- The life of a channel that is open goes on.
 use Rattle.property_map.specs.declared.told.Told.{Told}
 use Rattle.std.proofs.Common.{◌≡◌, ℕ, zero, suc, ◌==◌, ◌<◌, ◌≤◌, ◌&&◌, Bool, true, false, if◌then◌else◌}
-use Rattle.std.proofs.Common.{List, [], ◌∷◌, ◌++◌, length, Option, Some, is_some, refl, sym, ap, ◌∙◌, subst}
-use Rattle.std.proofs.Common.{arith, ◌+◌, not}
+use Rattle.std.proofs.Common.{List, [], ◌∷◌, ◌++◌, length, Option, Some, is_some, refl, sym, ap, ◌∙◌, subst, arith, ◌+◌, not}
 use Rattle.std.specs.Prelude.{slice_get, slice_set}
 use Rattle.close_translate.specs.Conditions.{condition_of}
 use Rattle.close_translate.specs.declared.conditions.Scope.TheVariants as scope
@@ -33,7 +32,7 @@ use Rattle.gate_model.specs.Once.{is_channel_open, is_method_on}
 use Rattle.gate_model.specs.Picks.{ArePicks}
 use Rattle.gate_model.specs.Publishing.{path_life}
 use Rattle.gate_model.specs.Requests.{client_step, client_told}
-use Rattle.gate_model.specs.State.{Began, Came, Fed, Gave, Heard, Joined, LinesTold, Lost, Moment}
+use Rattle.gate_model.specs.State.{Began, Came, Fed, Gave, Heard, Joined, Lost, Moment}
 use Rattle.gate_model.specs.State.{OutOfMemory, Queued, Silent, State, Step, TakenUp, Whole, before, came}
 use Rattle.gate_model.specs.State.{carried, close, close_if, dequeued, fail, failed, heard, is_limit_reached, left}
 use Rattle.gate_model.specs.State.{runs, want_in, windowed, with_meaning, without_begin, without_life}
@@ -91,11 +90,11 @@ free_here (x ∷ cs) zero = refl
 free_here (x ∷ cs) (suc n) = free_here cs n
 
 -- a channel that is freed wasn't open
-abbrev Freed : ℕ → Bool → Want91 → Type 0
+abbrev pub Freed : ℕ → Bool → Want91 → Type 0
 Freed n is (want.ChannelCloseOk k) = k ≡ n → is ≡ false
 Freed n is x = Unit {0}
 
-freed : (n : ℕ) (c : Connection) (u : Unit91) (x : machine.Step) → n < length c.channels → Outcome c u x → Opens n c x → Freed n (is_open c n) x.1
+pub freed : (n : ℕ) (c : Connection) (u : Unit91) (x : machine.Step) → n < length c.channels → Outcome c u x → Opens n c x → Freed n (is_open c n) x.1
 freed n c u _ less (Frees k e) o = λ same.
     sym (o.is less) ∙ ap (λ (m : ℕ). is_running c.phase && is_open_channel (or_free (slice_get (slice_set c.channels m channel.Free) n))) same
     ∙ no_open (is_running c.phase) _ (free_here c.channels n)
@@ -108,11 +107,6 @@ method_shuts ms m l is f e = f e
 
 want_shuts : (n ms : ℕ) (told : Option Told) (x : Want91) (ls : List Life) (is : Bool) → Freed n is x → ((life_at ls n).over ≡ true → is ≡ false)
     → (life_at (lives_by ms told x ls) n).over ≡ true → opens_by n x is ≡ false
-want_shuts n ms told want.Nothing ls is g f e = f e
-want_shuts n ms told want.Start ls is g f e = f e
-want_shuts n ms told (want.Login a b) ls is g f e = f e
-want_shuts n ms told want.Tuned ls is g f e = f e
-want_shuts n ms told want.OpenUp ls is g f e = f e
 want_shuts n ms told (want.Method k m) ls is g f e = by (set_at ls k n (method_life ms m (life_at ls k)))
   where
     by : SetAt ls k n (method_life ms m (life_at ls k)) → (if k == n then method_opens m is else is) ≡ false
@@ -121,7 +115,6 @@ want_shuts n ms told (want.Method k m) ls is g f e = by (set_at ls k n (method_l
         ∙ method_shuts ms m (life_at ls k) is (λ x. f (sym (ap (λ (j : ℕ). (life_at ls j).over) s) ∙ x)) (sym (ap (λ (y : Life). y.over) i) ∙ e)
     by (Elsewhere d i) = ap (λ (b : Bool). if b then method_opens m is else is) (isnt k n d) ∙ f (sym (ap (λ (y : Life). y.over) i) ∙ e)
     by (Beyond s i j) = absurd (clash _ e (ap (λ (y : Life). y.over) j))
-want_shuts n ms told (want.Publish k m x) ls is g f e = f e
 want_shuts n ms told (want.ChannelCloseOk k) ls is g f e = by (freed_life (life_at ls k)) (set_at ls k n (freed_life (life_at ls k))) e
   where
     by : (l : Life) → SetAt ls k n l → (life_at (with_life k l ls) n).over ≡ true → is ≡ false
@@ -129,7 +122,6 @@ want_shuts n ms told (want.ChannelCloseOk k) ls is g f e = by (freed_life (life_
     by l (Elsewhere d i) x = f (sym (ap (λ (y : Life). y.over) i) ∙ x)
     by l (Beyond s i j) x = absurd (clash _ x (ap (λ (y : Life). y.over) j))
 want_shuts n ms told want.Close ls is g f e = refl
-want_shuts n ms told want.CloseOk ls is g f e = f e
 want_shuts n ms told (want.Refuse r) ls is g f e = by (is_of_channel r) e
   where
     new : Life
@@ -139,6 +131,7 @@ want_shuts n ms told (want.Refuse r) ls is g f e = by (is_of_channel r) e
         → (if b then (if r.channel == n then false else is) else false) ≡ false
     by true x = closes_at n r.channel ls new is f x
     by false x = refl
+want_shuts n ms told x ls is g f e = f e
 
 -- one that is opened begins anew
 method_opens_life : (ms : ℕ) (b : Bool) (m : Method91) (l : Life) → (b && is_channel_open m) ≡ true → (method_life ms m l).over ≡ false
@@ -237,7 +230,7 @@ begun_over n u ls = refl
 abbrev ShutIn : ℕ → List Step → Type 0
 ShutIn n h = is_some (path_life h n) ≡ true → Shut n (before h).lives (before h).conn
 
-inside : (n : ℕ) (h : List Step) → n < 256 → ArePicks h → n < length (before h).conn.channels
+pub inside : (n : ℕ) (h : List Step) → n < 256 → ArePicks h → n < length (before h).conn.channels
 inside n h less p = subst (λ (c : Connection). n < length c.channels) (sym (conn_is (known h p))) (subst (λ (m : ℕ). n < m) (sym (long_is n h less p)) less)
 
 came_in : (n : ℕ) (u : Unit91) (h : List Step) → n < 256 → ArePicks h → ShutIn n h → ShutIn n (Came u ∷ h)
@@ -278,7 +271,6 @@ shut n (Moment ms ∷ h) less p there = by (is_limit_reached (before h).conn (be
     by true f = λ e. none_open n (close (before h).conn) (close_closes (before h).conn.phase)
     by false f = f
 shut n (Fed Client ∷ h) less p there = shut n h less p.1 there
-shut n (Fed Up ∷ h) less p there = shut n h less p.1 there
 shut n (Silent Client ∷ h) less p there = λ e. none_open n (after_ended (before h).conn) refl
 shut n (Silent Up ∷ h) less p there = fail_shuts n _ _ _ (shut n h less p.1 there)
 shut n (Queued u ∷ h) less p there = by (before h).out_of_memory (shut n h less p.1 there)
@@ -298,21 +290,16 @@ shut n (TakenUp ∷ h) less p there = by (not (before h).out_of_memory && (befor
 shut n (Heard u ∷ h) less p there =
     heard_shuts n (before h) u (inside n h less p.1) (ap (λ (c : Connection). is_late c.phase) (conn_is (known h p.1)) ∙ late_is n h less p.1 there)
     (shut n h less p.1 there)
-shut n (Joined link.Ok ∷ h) less p there = shut n h less p.1 there
 shut n (Joined link.Failed ∷ h) less p there = fail_shuts n _ _ _ (shut n h less p.1 there)
 shut n (Lost Client loss.Ended ∷ h) less p there = shut n h less p.1 there
-shut n (Lost Client loss.Failed ∷ h) less p there = shut n h less p.1 there
-shut n (Lost Client loss.Shut ∷ h) less p there = shut n h less p.1 there
 shut n (Lost Up loss.Ended ∷ h) less p there = fail_shuts n _ _ _ (shut n h less p.1 there)
 shut n (Lost Up loss.Failed ∷ h) less p there = fail_shuts n _ _ _ (shut n h less p.1 there)
-shut n (Lost Up loss.Shut ∷ h) less p there = shut n h less p.1 there
 shut n (Gave (ToClient u) text ∷ h) less p there = λ e.
     (given_open n u (before h).conn).is (inside n h less p.1) ∙ shut n h less p.1 there (sym (given_over n u (before h).lives) ∙ e)
 shut n (Gave (ToUp u) text ∷ h) less p there = λ e. shut n h less p.1 there (sym (begun_over n u (before h).lives) ∙ e)
 shut n (Whole Client ∷ h) less p there = shut n h less p.1 there
-shut n (Whole Up ∷ h) less p there = shut n h less p.1 there
-shut n (LinesTold ∷ h) less p there = shut n h less p.1 there
 shut n (OutOfMemory ∷ h) less p there = λ e. none_open n (close (before h).conn) (close_closes (before h).conn.phase)
+shut n (s ∷ h) less p there = shut n h less p.1 there
 
 -- an open channel with a life goes on
 pub goes_on : (h : List Step) (n : ℕ) → ArePicks h → n ≤ CHANNEL_MAX → is_some (path_life h n) ≡ true → is_open (connection h) n ≡ true

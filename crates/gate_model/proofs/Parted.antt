@@ -25,17 +25,19 @@ use Rattle.session_path.specs.Links.{flowed_on, free_number, given_by, given_on,
 use Rattle.session_path.specs.Links.{is_stage_failed, is_stage_left, is_stage_whole, is_to_part, is_wanted, left_by, link_asked, link_detached}
 use Rattle.session_path.specs.Links.{link_flowed, linked_to, named, parted, put, put_for, told_by, told_on, told_once, wanted_link, with_link_to}
 use Rattle.session_path.specs.Links.{with_receiver}
-use Rattle.session_path.specs.Path.{PathState, detaching_of, flow_of, get_link, is_grant_next, is_last, owes_flow, queue_or, receiver_in, taking, taking_in}
-use Rattle.session_path.specs.Path.{transferred}
+use Rattle.session_path.specs.Path.{PathState, detaching_of, flow_of, get_link, is_grant_next, is_last, owes_flow, queue_or, receiver_in, taking}
+use Rattle.session_path.specs.Path.{taking_in, transferred}
 use Rattle.session_path.specs.declared.path.AttachHeard.{AttachHeard}
 use Rattle.session_path.specs.declared.path.PathLink.{PathLink}
 use Rattle.session_path.specs.declared.path.Stage.{Stage}
-use Rattle.session_path.specs.declared.path.Stage.TheVariants.{Asked, Failed, Given, Left, Open, Refused, Wanted}
+use Rattle.session_path.specs.declared.path.Stage.TheVariants.{Wanted}
 use Rattle.session_path.proofs.SameLinks.{attach_same, disposed_same, dropped_same, flow_sent_same, flowed_if, flowed_same, got_links, got_same}
 use Rattle.session_path.proofs.SameLinks.{transfer_same}
 use Rattle.session_path.proofs.Ties.{dropped, unique}
 use Rattle.session_path.proofs.Wanted.{all_insert}
-use Rattle.gate_model.proofs.Arrived.{arrives, event_none}
+use Rattle.gate_model.proofs.Basics.{and_left, and_right, left_false, right_false}
+use Rattle.gate_model.proofs.Arrived.{event_none}
+use Rattle.gate_model.proofs.Moves.{arrives}
 use Rattle.gate_model.proofs.Receivers.{LinksAre}
 
 -- ---- deliveries of a link
@@ -97,15 +99,7 @@ covers_one link y ds off c k t = c k t
 
 pub covers_more : (link : ℕ) (ys ds : List DeliveryEvent) → AreOff link ys → Covers link ds → Covers link (ys ++ ds)
 covers_more link [] ds off c = c
-covers_more link (y ∷ ys) ds off c = covers_one link y (ys ++ ds) (left _ _ off) (covers_more link ys ds (right _ _ off) c)
-  where
-    left : (a b : Bool) → (a || b) ≡ false → a ≡ false
-    left true b e = absurd cc
-    left false b e = refl
-
-    right : (a b : Bool) → (a || b) ≡ false → b ≡ false
-    right true b e = absurd cc
-    right false b e = e
+covers_more link (y ∷ ys) ds off c = covers_one link y (ys ++ ds) (left_false _ _ off) (covers_more link ys ds (right_false _ _ off) c)
 
 -- none comes at all
 none_off : (link : ℕ) (ys : List DeliveryEvent) → list_any comes ys ≡ false → AreOff link ys
@@ -167,17 +161,9 @@ module _ (C : ℕ → Type 0) where
   abbrev AreFine : LinksState → Type 0
   AreFine s = AllByRecursion Fine s.links
 
-  second : (a b : Bool) → (a && b) ≡ true → b ≡ true
-  second true b e = e
-  second false b e = absurd cc
-
-  first : (a b : Bool) → (a && b) ≡ true → a ≡ true
-  first true b e = refl
-  first false b e = absurd cc
-
   -- one that isn't to part
   free : (l : PathLink) → is_to_part l ≡ false → Fine l
-  free l e f = absurd (let wrong : true ≡ false = sym (second l.receives (is_to_part l) f) ∙ e in cc)
+  free l e f = absurd (let wrong : true ≡ false = sym (and_right l.receives (is_to_part l) f) ∙ e in cc)
 
   put_fine : (x : PathLink) (ls : List PathLink) → Fine x → AllByRecursion Fine ls → AllByRecursion Fine (put x ls)
   put_fine x ls new old = all_map (put_for x) Fine Fine (λ k h. one k (k.link == x.link) h) ls old
@@ -232,7 +218,7 @@ module _ (C : ℕ → Type 0) where
         where
           either : (b : Bool) → is_given l ≡ b → AllByRecursion Fine (cond b (dropped l.link s.links) (put (left_by l) s.links))
           either true f = all_filter _ Fine s.links a
-          either false f = put_fine (left_by l) s.links (λ x. fits l e (first l.receives (is_to_part (left_by l)) x) f) a
+          either false f = put_fine (left_by l) s.links (λ x. fits l e (and_left l.receives (is_to_part (left_by l)) x) f) a
 
   asks : (name : ℕ) (s : LinksState) → AreFine s → AreFine (link_asked name s)
   asks name s a = by (find is_wanted s.links) _
@@ -313,16 +299,7 @@ others_take peer s l r e = by _ e
   where
     never : (q : Stage) → is_stage_whole q ≡ true → (is_stage_left q || is_stage_failed q) ≡ true → ⊥
     never Wanted e f = absurd cc
-    never (Asked h) e f = absurd cc
-    never (Open h) e f = absurd cc
-    never (Refused h) e f = absurd cc
-    never (Left h) e f = absurd cc
-    never (Given h) e f = absurd cc
-    never (Failed h fault) e f = absurd cc
-
-    right : (a b : Bool) → (a && b) ≡ true → b ≡ true
-    right true b e = e
-    right false b e = absurd cc
+    never x e f = absurd cc
 
     apart : (k : PathLink) → is_stage_whole l.stage ≡ true → ((k.link == l.link) ≡ true → k ≡ l) → (k.receives && is_to_part k) ≡ true
         → (l.link == k.link) ≡ false
@@ -331,7 +308,7 @@ others_take peer s l r e = by _ e
         at : (b : Bool) → (l.link == k.link) ≡ b → b ≡ false
         at true e =
             let here : (k.link == l.link) ≡ true = grind (arith, nat_tests, e) in
-            absurd (never l.stage whole (subst (λ (z : PathLink). is_to_part z ≡ true) (same here) (right k.receives (is_to_part k) part)))
+            absurd (never l.stage whole (subst (λ (z : PathLink). is_to_part z ≡ true) (same here) (and_right k.receives (is_to_part k) part)))
         at false e = refl
 
     one : (h : ℕ) (o : Option PathLink) → find (is_at h) s.links ≡ o → taking_in o ≡ Some l
@@ -343,7 +320,7 @@ others_take peer s l r e = by _ e
             → AllByRecursion (λ z. (z.receives && is_to_part z) ≡ true → (l.link == z.link) ≡ false) s.links
         pick true g e =
             let same : k ≡ l = cc in
-            let whole : is_stage_whole l.stage ≡ true = subst (λ (z : PathLink). is_stage_whole z.stage ≡ true) same (right k.receives _ g) in
+            let whole : is_stage_whole l.stage ≡ true = subst (λ (z : PathLink). is_stage_whole z.stage ≡ true) same (and_right k.receives _ g) in
             all_weaker _ _ (λ z u. apart z whole u) s.links (unique (is_at h) s.links l r (f ∙ ap Some same))
         pick false g e = absurd cc
 

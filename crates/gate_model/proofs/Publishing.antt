@@ -41,41 +41,27 @@ use Rattle.gate_model.specs.declared.reply.Reply.{Reply}
 use Rattle.gate_model.specs.declared.reply.Reply.TheVariants as reply
 use Rattle.gate_model.specs.Folds.{Peers, container, ended_on, leaving_in, paths_failed}
 use Rattle.gate_model.specs.Folds.{paths_in, peers, peers_by, peers_came, peers_failed, peers_heard}
-use Rattle.gate_model.specs.Folds.{carried_on, going_in, peers_closed, peers_left, peers_lost}
-use Rattle.gate_model.specs.Folds.{peers_scoped}
+use Rattle.gate_model.specs.Folds.{carried_on, going_in, peers_closed, peers_left, peers_lost, peers_scoped}
 use Rattle.gate_model.specs.Folds.{connection, peers_told, ran_out_in, routes_in, scope_in}
 use Rattle.gate_model.specs.Once.{is_channel_open, is_method_on}
-use Rattle.gate_model.specs.Paths.{attached_as, closed_path, closed_paths, fault_in, is_outcome}
-use Rattle.gate_model.specs.Paths.{lost_path, name_in}
-use Rattle.gate_model.specs.Paths.{no_paths, or_no_path, part_in, path_at, set_path, slot_at}
-use Rattle.gate_model.specs.Paths.{text_of, transferred_by}
-use Rattle.gate_model.specs.Paths.{told_paths, with_path}
+use Rattle.gate_model.specs.Paths.{attached_as, closed_path, closed_paths, fault_in, is_outcome, lost_path, name_in}
+use Rattle.gate_model.specs.Paths.{no_paths, or_no_path, part_in, path_at, set_path, slot_at, text_of, transferred_by, told_paths, with_path}
 use Rattle.gate_model.specs.Picks.{ArePicks}
-use Rattle.gate_model.specs.Publishing.{attach_events, closed_if, closing, failing, given_event}
-use Rattle.gate_model.specs.Publishing.{heard_events}
-use Rattle.gate_model.specs.Publishing.{losing, losing_up, lost_if, meaning_events, method_events}
-use Rattle.gate_model.specs.Publishing.{owed_unless}
-use Rattle.gate_model.specs.Publishing.{path_events, path_life, refusal_events, reply_events}
-use Rattle.gate_model.specs.Publishing.{session_events}
-use Rattle.gate_model.specs.Publishing.{step_events, told_event, transfer_event, up_events}
-use Rattle.gate_model.specs.Publishing.{want_events}
-use Rattle.gate_model.specs.Publishing.{wrote_event, wrote_events}
+use Rattle.gate_model.specs.Publishing.{attach_events, closed_if, closing, failing, given_event, heard_events}
+use Rattle.gate_model.specs.Publishing.{losing, losing_up, lost_if, meaning_events, method_events, owed_unless}
+use Rattle.gate_model.specs.Publishing.{path_events, path_life, refusal_events, reply_events, session_events}
+use Rattle.gate_model.specs.Publishing.{step_events, told_event, transfer_event, up_events, want_events, wrote_event, wrote_events}
 use Rattle.gate_model.specs.Requests.{message_of, address_of}
 use Rattle.gate_model.specs.Returns.{back_of}
 use Rattle.gate_model.specs.Lives.{is_of_channel}
 use Rattle.gate_model.specs.Session.{is_of_session}
-use Rattle.gate_model.specs.State.{is_later}
-use Rattle.gate_model.specs.State.{Began, Came, Fed, Gave, Heard, Joined, LinesTold, Lost, Moment}
-use Rattle.gate_model.specs.State.{OutOfMemory}
-use Rattle.gate_model.specs.State.{Queued, Silent, Step, TakenUp, Whole, answered_if, before}
-use Rattle.gate_model.specs.State.{closing_code, conn_step}
+use Rattle.gate_model.specs.State.{is_later, Began, Came, Fed, Gave, Heard, Joined, Lost, OutOfMemory}
+use Rattle.gate_model.specs.State.{Queued, Silent, Step, TakenUp, Whole, answered_if, before, closing_code, conn_step}
 use Rattle.gate_model.specs.State.{path_by, path_given, path_heard, path_told, path_wrote, paths_by}
-use Rattle.gate_model.specs.State.{paths_given, paths_given_up, paths_lost, paths_with, paths_wrote}
-use Rattle.gate_model.specs.State.{refused_paths, want_in}
+use Rattle.gate_model.specs.State.{paths_given, paths_given_up, paths_lost, paths_with, paths_wrote, refused_paths, want_in}
 use Rattle.gate_model.specs.Upstream.{container_by, meaning_by}
 use Rattle.gate_model.proofs.Known.{known, paths_are}
-use Rattle.gate_model.proofs.Slots.{map_long, map_slot, none_long, none_there, set_elsewhere}
-use Rattle.gate_model.proofs.Slots.{set_here, set_long, with_here}
+use Rattle.gate_model.proofs.Slots.{map_long, map_slot, none_long, none_there, set_elsewhere, set_here, set_long, with_here}
 use Rattle.gate_model.specs.declared.setup.Route.{Route}
 
 -- ---- events on top of others
@@ -242,14 +228,11 @@ session_is n k q payload p (Some scope.Connection) = fails n p
 session_is n k q payload p (Some scope.Channel) = ends n k p (is_open p.client k)
 
 meaning_is : (n : ℕ) (m : Meaning) (p : Peers) → Goes n p.paths (meaning_events p n m) (peers_by m p).paths
-meaning_is n ten.Nothing p = stays n p.paths
-meaning_is n ten.Init p = stays n p.paths
-meaning_is n ten.AmqpHeader p = stays n p.paths
-meaning_is n ten.Opened p = stays n p.paths
 meaning_is n (ten.OfSession k q payload) p = session_is n k q payload (record p { carried = carried_on k q p.carried }) (scope_in p k q payload)
 meaning_is n (ten.Closed e) p = fails n p
 meaning_is n ten.Refused p = fails n p
 meaning_is n (ten.Violation why) p = fails n p
+meaning_is n x p = stays n p.paths
 
 heard_goes : (n : ℕ) (h : List Step) (u : Unit10) → Goes n (paths_in h) (step_events n h (Heard u)) (paths_in (Heard u ∷ h))
 heard_goes n h u = by (ran_out_in h)
@@ -263,44 +246,18 @@ heard_goes n h u = by (ran_out_in h)
 
 told_is : (u : ChannelUnit) (s : PathState) → path_told u s ≡ after_event (told_event u) s
 told_is (to_client.Ok x) s = refl
-told_is (to_client.Deliver d) s = refl
-told_is (to_client.Content c) s = refl
-told_is (to_client.Confirm c) s = refl
-told_is (to_client.Return r) s = refl
+told_is x s = refl
 
 reply_is : (n : ℕ) (u : Reply) (ps : List (Option PathState)) → Goes n ps (reply_events n u) (paths_given u ps)
-reply_is n reply.Protocol ps = stays n ps
-reply_is n reply.Start ps = stays n ps
-reply_is n reply.Tune ps = stays n ps
-reply_is n reply.OpenOk ps = stays n ps
-reply_is n reply.CloseOk ps = stays n ps
-reply_is n (reply.Close r) ps = stays n ps
-reply_is n reply.NoMemory ps = stays n ps
-reply_is n reply.Heartbeat ps = stays n ps
-reply_is n (reply.ChannelOpenOk k) ps = stays n ps
 reply_is n (reply.OnChannel k u) ps = changes n k ps (path_told u) (told_event u ∷ []) (told_is u)
-reply_is n (reply.ChannelCloseOk k) ps = stays n ps
-reply_is n (reply.CrossedOk k) ps = stays n ps
-reply_is n (reply.ChannelClose k r) ps = stays n ps
+reply_is n x ps = stays n ps
 
 given_is : (u : SessionUnit) (s : PathState) → path_given u s ≡ after_event (given_event u) s
 given_is (unit.Attach a) s = refl
-given_is (unit.Flow f) s = refl
-given_is (unit.Transfer t) s = refl
-given_is (unit.Dispose x) s = refl
-given_is (unit.Settle x) s = refl
-given_is (unit.Detach k handle why) s = refl
+given_is x s = refl
 
 up_is : (later : Bool) (n : ℕ) (u : UpUnit) (ps : List (Option PathState)) → Goes n ps (up_events later n u) (paths_given_up later u ps)
-up_is later n up.SaslHeader ps = stays n ps
-up_is later n up.SaslInit ps = stays n ps
-up_is later n up.AmqpHeader ps = stays n ps
-up_is later n up.Open ps = stays n ps
-up_is later n (up.Close why) ps = stays n ps
-up_is later n up.Empty ps = stays n ps
 up_is later n (up.OnSession k u) ps = changes n k ps (path_given u) (given_event u ∷ []) (given_is u)
-up_is later n (up.Flow k i o) ps = stays n ps
-up_is later n (up.Begin k) ps = stays n ps
 up_is true n (up.End k why) ps = each_told n ps
 up_is false n (up.End k why) ps =
     subst (λ (xs : List PathEvent). Goes n ps xs (with_path k lost_path (told_paths ps))) (by (k == n))
@@ -309,14 +266,12 @@ up_is false n (up.End k why) ps =
     by : (b : Bool) → (if b then event.SessionLost ∷ [] else []) ++ event.LinesWent ∷ [] ≡ (if b then losing else event.LinesWent ∷ [])
     by true = refl
     by false = refl
+up_is later n x ps = stays n ps
 
 -- the last byte of a unit to the client went
 wrote_is : (u : ChannelUnit) (s : PathState) → path_wrote u s ≡ after_all (wrote_event u) s
-wrote_is (to_client.Ok x) s = refl
-wrote_is (to_client.Deliver d) s = refl
 wrote_is (to_client.Content c) s = if_is c.last (event.ContentWhole c.tag ∷ []) [] _ _ s refl refl
-wrote_is (to_client.Confirm c) s = refl
-wrote_is (to_client.Return r) s = refl
+wrote_is x s = refl
 
 wrote_goes : (n : ℕ) (o : Option Reply) (ps : List (Option PathState)) → Goes n ps (wrote_events n o) (paths_wrote o ps)
 wrote_goes n (Some (reply.OnChannel k u)) ps = changes n k ps (path_wrote u) (wrote_event u) (wrote_is u)
@@ -416,17 +371,11 @@ refused_goes n r ps = by (is_of_channel r)
 
 want_tells : (rs : List Route) (limit n life : ℕ) (x : Want91) (ps : List (Option PathState)) (o : Option ℕ) (es : List PathEvent) → Tells ps n o es
     → TellsBy (paths_by rs limit life x ps) n (is_method_on is_channel_open n x) (life + 1) o (want_events rs limit n x) es
-want_tells rs limit n life want.Nothing ps o es t = t
-want_tells rs limit n life want.Start ps o es t = t
-want_tells rs limit n life (want.Login mechanism response) ps o es t = t
-want_tells rs limit n life want.Tuned ps o es t = t
-want_tells rs limit n life want.OpenUp ps o es t = t
 want_tells rs limit n life (want.Method k m) ps o es t = method_tells n k (life + 1) m ps o es t
 want_tells rs limit n life (want.Publish k m c) ps o es t = goes_on t (changes n k ps (published (address_of rs (message_of m c)) (image_text (message_of m c)) (back_of limit k m (message_of m c))) _ (λ s. refl))
-want_tells rs limit n life (want.ChannelCloseOk k) ps o es t = t
 want_tells rs limit n life want.Close ps o es t = goes_on t (each_closed n ps)
-want_tells rs limit n life want.CloseOk ps o es t = t
 want_tells rs limit n life (want.Refuse r) ps o es t = goes_on t (refused_goes n r ps)
+want_tells rs limit n life x ps o es t = t
 
 -- ---- all steps
 
@@ -461,16 +410,13 @@ pub tells : (n : ℕ) (h : List Step) → ArePicks h → TellsIn h n
 tells n [] p = tells_new n
 tells n (Began site number ms ∷ h) p =
     subst (λ (x : List Step). TellsIn (Began site number ms ∷ x) n) (sym p.0) (tells_new n)
-tells n (Moment ms ∷ h) p = goes_on (tells n h p.1) (each_told n (paths_in h))
 tells n (Fed Client ∷ h) p = goes_on (tells n h p.1) (each_told n (paths_in h))
-tells n (Fed Up ∷ h) p = goes_on (tells n h p.1) (each_told n (paths_in h))
 tells n (Silent Client ∷ h) p = goes_on (tells n h p.1) (each_closed n (paths_in h))
 tells n (Silent Up ∷ h) p = goes_on (tells n h p.1) (fails n (peers h))
 tells n (Queued u ∷ h) p = tells n h p.1
 tells n (Came u ∷ h) p = came_tells n u h (tells n h p.1)
 tells n (TakenUp ∷ h) p = taken_tells n h (tells n h p.1)
 tells n (Heard u ∷ h) p = goes_on (tells n h p.1) (heard_goes n h u)
-tells n (Joined link.Ok ∷ h) p = goes_on (tells n h p.1) (each_told n (paths_in h))
 tells n (Joined link.Failed ∷ h) p = goes_on (tells n h p.1) (misses n (peers h))
 tells n (Lost Client how ∷ h) p = tells n h p.1
 tells n (Lost Up loss.Ended ∷ h) p = goes_on (tells n h p.1) (falls n (peers h))
@@ -480,8 +426,8 @@ tells n (Gave (ToClient u) text ∷ h) p = goes_on (tells n h p.1) (reply_is n u
 tells n (Gave (ToUp u) text ∷ h) p = goes_on (tells n h p.1) (up_is (is_later (connection h) u) n u (paths_in h))
 tells n (Whole Client ∷ h) p = goes_on (tells n h p.1) (wrote_goes n (going_in h) (paths_in h))
 tells n (Whole Up ∷ h) p = tells n h p.1
-tells n (LinesTold ∷ h) p = goes_on (tells n h p.1) (each_told n (paths_in h))
 tells n (OutOfMemory ∷ h) p = goes_on (tells n h p.1) (each_closed n (paths_in h))
+tells n (s ∷ h) p = goes_on (tells n h p.1) (each_told n (paths_in h))
 
 pub path_is : (h : List Step) (n : ℕ) → ArePicks h → n ≤ CHANNEL_MAX
     → slot_at (before h).paths n ≡ option_map (λ (life : ℕ). after_events life (path_events h n)) (path_life h n)

@@ -12,12 +12,11 @@ use Rattle.machine_10.specs.Transitions.{Meaning}
 use Rattle.machine_10.specs.declared.unit.Unit10.{Unit10}
 use Rattle.performatives_10.specs.declared.condition.Condition.{Condition}
 use Rattle.close_translate.specs.declared.codes.TheConstants.{INTERNAL_ERROR}
-use Rattle.gate_model.specs.declared.outgoing.Outgoing.TheVariants.{ToClient, ToUp}
+use Rattle.gate_model.specs.declared.outgoing.Outgoing.TheVariants.{ToClient}
 use Rattle.gate_model.specs.Due.{can_leave}
 use Rattle.gate_model.specs.Picks.{ArePicks, MayComeAs}
 use Rattle.gate_model.specs.Queue.{is_empty, place_in, unit_at}
-use Rattle.gate_model.specs.State.{Began, Came, Fed, Gave, Heard, Joined, LinesTold, Lost, Moment}
-use Rattle.gate_model.specs.State.{OutOfMemory}
+use Rattle.gate_model.specs.State.{Began, Came, Fed, Gave, Heard, Joined, Lost, Moment, OutOfMemory}
 use Rattle.gate_model.specs.State.{Queued, Silent, State, Step, TakenUp, Whole, before, came}
 use Rattle.gate_model.specs.State.{dequeued, fail, failed, has_left, heard, left, next_unit, runs}
 use Rattle.gate_model.specs.State.{waits, windowed, with_meaning, with_session}
@@ -133,7 +132,6 @@ none_left [] p = λ e. refl
 none_left (Began site n ms ∷ h) p = subst (λ (x : List Step). NoneLeft (before (Began site n ms ∷ x))) (sym p.0) (λ e. refl)
 none_left (Moment ms ∷ h) p = none_after (before h) (before (Moment ms ∷ h)) (record { stream = stream_if _ (before h).conn; queue = refl }) (none_left h p.1)
 none_left (Fed Client ∷ h) p = none_left h p.1
-none_left (Fed Up ∷ h) p = none_left h p.1
 none_left (Silent Client ∷ h) p = λ e. refl
 none_left (Silent Up ∷ h) p =
     let r = rests_fail _ _ _ in none_after (before h) (before (Silent Up ∷ h)) (record { stream = r.stream; queue = r.queue }) (none_left h p.1)
@@ -141,21 +139,15 @@ none_left (Queued u ∷ h) p = none_queued (before h) u p.0.0 (none_left h p.1)
 none_left (Came u ∷ h) p = none_came (before h) u p.0 (none_left h p.1)
 none_left (TakenUp ∷ h) p = none_taken (before h) (leaves_empty (before h) p.0)
 none_left (Heard u ∷ h) p = none_after (before h) (before (Heard u ∷ h)) (rests_heard (before h) u) (none_left h p.1)
-none_left (Joined link.Ok ∷ h) p = none_left h p.1
 none_left (Joined link.Failed ∷ h) p =
     let r = rests_fail _ None _ in none_after (before h) (before (Joined link.Failed ∷ h)) (record { stream = r.stream; queue = r.queue }) (none_left h p.1)
 none_left (Lost Client loss.Ended ∷ h) p = none_left h p.1
-none_left (Lost Client loss.Failed ∷ h) p = none_left h p.1
-none_left (Lost Client loss.Shut ∷ h) p = none_left h p.1
 none_left (Lost Up loss.Ended ∷ h) p =
     let r = rests_fail _ None _ in none_after (before h) (before (Lost Up loss.Ended ∷ h)) (record { stream = r.stream; queue = r.queue }) (none_left h p.1)
 none_left (Lost Up loss.Failed ∷ h) p =
     let r = rests_fail _ None _ in none_after (before h) (before (Lost Up loss.Failed ∷ h)) (record { stream = r.stream; queue = r.queue }) (none_left h p.1)
-none_left (Lost Up loss.Shut ∷ h) p = none_left h p.1
 none_left (Gave (ToClient u) text ∷ h) p =
     none_after (before h) (before (Gave (ToClient u) text ∷ h)) (record { stream = stream_only (only_given u (before h).conn); queue = refl }) (none_left h p.1)
-none_left (Gave (ToUp u) text ∷ h) p = none_left h p.1
 none_left (Whole Client ∷ h) p = none_left h p.1
-none_left (Whole Up ∷ h) p = none_left h p.1
-none_left (LinesTold ∷ h) p = none_left h p.1
 none_left (OutOfMemory ∷ h) p = λ e. refl
+none_left (s ∷ h) p = none_left h p.1

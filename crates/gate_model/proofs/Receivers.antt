@@ -1,6 +1,5 @@
 -- On a receiving link no flow is owed but those that its deliveries ask for.
-use Rattle.std.proofs.Common.{◌≡◌, ℕ, ◌+◌, ◌-◌, List, [], ◌∷◌, Bool, true, false, Option, Some, None}
-use Rattle.std.proofs.Common.{refl, sym, subst, arith, cond}
+use Rattle.std.proofs.Common.{◌≡◌, ℕ, ◌+◌, ◌-◌, List, [], ◌∷◌, Bool, true, false, Option, Some, None, refl, sym, subst, arith, cond}
 use Rattle.std.specs.Prelude.{◌==◌, ◌&&◌, find, is_some, IfSome}
 use Rattle.std.specs.List.{AllByRecursion}
 use Rattle.open_items.proofs.Filtered.{all_filter, all_find, all_map}
@@ -16,16 +15,14 @@ use Rattle.session_path.specs.Links.{failed_by, failed_on, flowed_on, free_numbe
 use Rattle.session_path.specs.Links.{given_on, gone_on, has_number, is_asked_as, is_at, is_given}
 use Rattle.session_path.specs.Links.{is_left, is_stage_whole, is_wanted, left_by, link_asked}
 use Rattle.session_path.specs.Links.{link_detached, link_failed, link_flowed, linked_to, named}
-use Rattle.session_path.specs.Links.{parted, put, put_for, told_by, told_on, told_once, wanted_link}
-use Rattle.session_path.specs.Links.{with_link_to, with_receiver}
+use Rattle.session_path.specs.Links.{parted, put, put_for, told_by, told_on, told_once, wanted_link, with_link_to, with_receiver}
 use Rattle.session_path.specs.Path.{IsThere, PathState, detaching_of, flow_of, get_link}
 use Rattle.session_path.specs.Path.{is_grant_next, owes_flow, queue_or, receiver_in, taking}
 use Rattle.session_path.specs.Events as event
 use Rattle.session_path.specs.Events.{PathEvent, after_event, after_events}
 use Rattle.session_path.proofs.Idle.{detaching_there}
 use Rattle.session_path.proofs.SameLinks.{attach_same, disposed_same, dropped_same, flow_sent_same}
-use Rattle.session_path.proofs.SameLinks.{flowed_if, flowed_same, got_links, got_same}
-use Rattle.session_path.proofs.SameLinks.{transfer_same}
+use Rattle.session_path.proofs.SameLinks.{flowed_if, flowed_same, got_links, got_same, transfer_same}
 use Rattle.session_path.proofs.Ties.{dropped}
 use Rattle.session_path.proofs.Wanted.{all_insert}
 

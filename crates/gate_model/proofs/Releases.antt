@@ -14,8 +14,7 @@ use Rattle.consume_path.specs.Offers.{holds, is_all_covered, is_over, next_settl
 use Rattle.consume_path.specs.declared.delivery.NextSettle.{NextSettle}
 use Rattle.gate_outside.specs.declared.ports.End.TheVariants.{Up}
 use Rattle.gate_relay.specs.Sides.{is_readable}
-use Rattle.machine_091.specs.State.{channel_at, is_closing, is_closing_phase, is_open}
-use Rattle.machine_091.specs.State.{is_open_channel, is_running}
+use Rattle.machine_091.specs.State.{channel_at, is_closing, is_closing_phase, is_open, is_open_channel, is_running}
 use Rattle.machine_091.specs.declared.limits.TheConstants.{CHANNEL_MAX}
 use Rattle.machine_091.specs.declared.state.Connection.{Connection}
 use Rattle.machine_091.specs.declared.state.Phase91.{Phase91}
@@ -28,13 +27,11 @@ use Rattle.performatives_10.specs.declared.condition.Condition.{Condition}
 use Rattle.publish_path.specs.Offers.{is_pending}
 use Rattle.session_path.specs.Due.{next_detach, next_dispose}
 use Rattle.session_path.specs.Events.{PathEvent, after_events, deliveries_of}
-use Rattle.session_path.specs.Links.{handle_of, has_number, is_to_part}
-use Rattle.session_path.specs.Links.{is_stage_open, is_wanting, lower, lowest}
+use Rattle.session_path.specs.Links.{handle_of, has_number, is_to_part, is_stage_open, is_wanting, lower, lowest}
 use Rattle.session_path.specs.Path.{IsThere, PathState, given_of, is_idle, is_resting, lower_of, parts}
 use Rattle.session_path.specs.declared.path.PathLink.{PathLink}
 use Rattle.session_path.proofs.Idle.{detaching_there}
-use Rattle.gate_model.specs.Due.{may_idle, other_rows}
-use Rattle.gate_model.specs.Due.{begins, carried_rows, close_behind, detaches, disposals, dispose_row}
+use Rattle.gate_model.specs.Due.{may_idle, other_rows, begins, carried_rows, close_behind, detaches, disposals, dispose_row}
 use Rattle.gate_model.specs.Due.{ends, is_end, is_end_due, is_lingered, none_left, pick, row_on, rows_in}
 use Rattle.gate_model.specs.Due.{session_rows, settlings, unless_out, up_rows}
 use Rattle.gate_model.specs.Folds.{connection}
@@ -63,6 +60,7 @@ use Rattle.gate_model.proofs.Publishing.{path_is}
 use Rattle.gate_model.proofs.Parted.{Covers}
 use Rattle.gate_model.proofs.Receivers.{LinksAre}
 use Rattle.gate_model.proofs.Reports.{DeliveriesAre}
+use Rattle.gate_model.proofs.Rows.{left_none, right_none}
 use Rattle.gate_model.proofs.Said.{shuts_in}
 
 -- ---- an end goes where its session's rows are empty
@@ -190,14 +188,6 @@ end_goes w n why e = at (is_readable w.up.side) (w.up.sent.close) refl (unmap (u
 
 -- ---- no disposition is due
 
-left_none : {A : Type 0} (us vs : List A) → us ++ vs ≡ [] → us ≡ []
-left_none [] vs e = refl
-left_none (u ∷ us) vs e = absurd cc
-
-right_none : {A : Type 0} (us vs : List A) → us ++ vs ≡ [] → vs ≡ []
-right_none [] vs e = e
-right_none (u ∷ us) vs e = absurd cc
-
 each_none : {A : Type 0} (f : ℕ → Life → List A) (m : ℕ) (ls : List Life) (n : ℕ) → n < length ls → each f m ls ≡ [] → f (m + n) (life_at ls n) ≡ []
 each_none f m [] n less e = absurd (omega (arith, less))
 each_none f m (l ∷ ls) zero less e = let here : m ≡ m + zero = omega arith in subst (λ (k : ℕ). f k l ≡ []) here (left_none (f m l) _ e)
@@ -232,12 +222,8 @@ begun_is (session.Leaving m) e = absurd cc
 begun_is (session.Ended m) e = inl refl
 
 ended_is : (s : Session) → is_ended s ≡ true → is_carried s ≡ true
-ended_is session.Free e = absurd cc
-ended_is session.Asked e = absurd cc
-ended_is session.Left e = absurd cc
-ended_is (session.Open m) e = absurd cc
-ended_is (session.Leaving m) e = absurd cc
 ended_is (session.Ended m) e = refl
+ended_is x e = absurd cc
 
 none_taken : (es : List DeliveryEvent) (k : ℕ) → numbers_of es ≡ 0 → IsTaken es k → ⊥
 none_taken es k none t = let a : 1 ≤ k = t.0 in let b : k ≤ numbers_of es = t.1 in omega (arith, a, b, none)
@@ -246,13 +232,8 @@ runs_on : (c : Connection) (n : ℕ) → is_open c n ≡ true → is_closing c �
 runs_on c n = by c.phase
   where
     by : (p : Phase91) → (is_running p && is_open_channel (channel_at c n)) ≡ true → is_closing_phase p ≡ false
-    by phase.Header e = absurd cc
-    by phase.Start e = absurd cc
-    by phase.Tune e = absurd cc
-    by phase.Open e = absurd cc
     by phase.Running e = refl
-    by phase.Closing e = absurd cc
-    by phase.Closed e = absurd cc
+    by x e = absurd cc
 
 calm : (a b : Bool) → (a ≡ true → b ≡ true) → b ≡ false → (a || b) ≡ false
 calm true b f e = let wrong : true ≡ false = sym (f refl) ∙ e in absurd cc
@@ -327,7 +308,7 @@ returned arrives released h n p goes life k lives taken = by (is_open (connectio
 -- ---- detaches
 
 -- the link whose detach is due is to part, or is idle
-abbrev Goes : PathState → PathLink → Type 0
+abbrev pub Goes : PathState → PathLink → Type 0
 Goes s x = (parts s.deliveries x ≡ true) ⊎ (is_idle s.publishes.list s.deliveries s.oks x ≡ true)
 
 found_goes : (t : PathLink → Bool) (ls : List PathLink) (x : PathLink) → find t ls ≡ Some x → t x ≡ true
@@ -355,7 +336,7 @@ lowest_goes t (l ∷ ls) x e = by (t l) refl e (lowest_goes t ls)
     by true f g more = pick (lowest (filter t ls)) more f g
     by false f g more = more x g
 
-detaching_goes : (s : PathState) (x : PathLink) → next_detach s ≡ Some x → Goes s x
+pub detaching_goes : (s : PathState) (x : PathLink) → next_detach s ≡ Some x → Goes s x
 detaching_goes s x e =
     either (find (parts s.deliveries) s.links.links) (given_of s.publishes.list s.deliveries s.oks s.links)
     (λ k f. inl (found_goes (parts s.deliveries) s.links.links k f)) (λ k f. inr (given (is_wanting s.links) k f)) e
@@ -374,10 +355,10 @@ detaching_goes s x e =
         at true e = g x e
         at false e = f x e
 
-some_same : {x y : PathLink} → Some x ≡ Some y → x ≡ y
+pub some_same : {x y : PathLink} → Some x ≡ Some y → x ≡ y
 some_same e = cc
 
-life_same : {m n : ℕ} → Some m ≡ Some n → m ≡ n
+pub life_same : {m n : ℕ} → Some m ≡ Some n → m ≡ n
 life_same e = cc
 
 -- it is to part, or each delivery of it had its disposition

@@ -23,20 +23,20 @@ use Rattle.publish_path.specs.Offers.{next_confirm_of, next_frame_of, next_retur
 use Rattle.publish_path.specs.Publishes.{PublishEvent, PublishState, open_after as publishes_open}
 use Rattle.publish_path.specs.declared.publish.Confirm.{Confirm}
 use Rattle.publish_path.specs.declared.publish.NextReturn.{NextReturn}
-use Rattle.session_path.specs.Due.{deliver_if, deliver_in, most_tags, next_attach, next_confirm, next_content, next_deliver, next_detach, next_dispose}
-use Rattle.session_path.specs.Due.{next_flow, next_frame, next_ok, next_return, next_settle}
+use Rattle.session_path.specs.Due.{deliver_if, deliver_in, most_tags, next_attach, next_confirm, next_content, next_deliver, next_detach}
+use Rattle.session_path.specs.Due.{next_dispose, next_flow, next_frame, next_ok, next_return, next_settle}
 use Rattle.session_path.specs.Events.{PathEvent, after_events, deliveries_of, publishes_of}
 use Rattle.session_path.specs.Path.{PathState}
 use Rattle.session_path.specs.declared.path.ContentDue.{ContentDue}
 use Rattle.session_path.specs.declared.path.DeliverDue.{DeliverDue}
 use Rattle.session_path.specs.declared.path.PathOk.{PathOk}
 use Rattle.session_path.specs.declared.path.PathOk.TheVariants as ok
-use Rattle.gate_model.specs.Due.{answers, carried_rows, client_rows, client_units, confirm_on, confirms, confirms_on, consume_oks, consume_oks_on, content_on}
-use Rattle.gate_model.specs.Due.{contents}
-use Rattle.gate_model.specs.Due.{contents_on, deliver_on, delivers, delivers_on, disposals, channel_closes, channel_oks, close_oks, consume_ok_on, empty_on}
-use Rattle.gate_model.specs.Due.{get_ok_on, get_on, last_closes, gets, gets_on, if_so, is_consume_ok, is_empty_ok, is_plain_ok}
-use Rattle.gate_model.specs.Due.{may_answer, may_confirm, may_end, may_go, may_return, may_tell, ok_on, oks_on, open_oks, openings, other_rows, path_oks}
-use Rattle.gate_model.specs.Due.{pick, return_on, row_on, rows_in, session_rows, unless_out, up_rows, when}
+use Rattle.gate_model.specs.Due.{answers, carried_rows, client_rows, client_units, confirm_on, confirms, confirms_on, consume_oks, consume_oks_on}
+use Rattle.gate_model.specs.Due.{content_on, contents}
+use Rattle.gate_model.specs.Due.{contents_on, deliver_on, delivers, delivers_on, disposals, channel_closes, channel_oks, close_oks, consume_ok_on}
+use Rattle.gate_model.specs.Due.{empty_on, get_ok_on, get_on, last_closes, gets, gets_on, if_so, is_consume_ok, is_empty_ok, is_plain_ok}
+use Rattle.gate_model.specs.Due.{may_answer, may_confirm, may_end, may_go, may_return, may_tell, ok_on, oks_on, open_oks, openings, other_rows}
+use Rattle.gate_model.specs.Due.{path_oks, pick, return_on, row_on, rows_in, session_rows, unless_out, up_rows, when}
 use Rattle.gate_model.specs.Due.{attaches, begins, detaches, ends, link_flows, session_flows, settlings, transfers, writing_on, writings, writings_on}
 use Rattle.gate_model.specs.Folds.{carrying, connection, container, ran_out_in}
 use Rattle.gate_model.specs.Lives.{each, is_carried, life_at, session_in}
@@ -136,15 +136,7 @@ no_deliver n (Some d) e f = absurd (both d.get (when_none d.get _ e) (when_none 
 -- an answer that isn't a get's goes in its row
 only_get : (x : PathOk) → is_plain_ok x ≡ false → is_consume_ok x ≡ false → is_empty_ok x ≡ false → x ≡ ok.Get
 only_get ok.Get e f g = refl
-only_get ok.Flow e f g = absurd cc
-only_get ok.Declare e f g = absurd cc
-only_get ok.Select e f g = absurd cc
-only_get (ok.Consume link) e f g = absurd cc
-only_get (ok.Qos count global) e f g = absurd cc
-only_get ok.Cancel e f g = absurd cc
-only_get ok.Queue e f g = absurd cc
-only_get (ok.Empty link) e f g = absurd cc
-only_get ok.Recover e f g = absurd cc
+only_get x e f g = absurd cc
 
 -- the rows of the connection's opening, and those behind the answers
 abbrev opening : List Step → Pending
@@ -279,11 +271,7 @@ all_back ps most e k t r = by (is_to_return (fate_of k ps)) refl
         let some : n ≤ 0 = grind (arith, nat_tests, i) in
         let not : (n == 0) ≡ false = j in
         let zero : n ≡ 0 = omega (arith, some) in
-        let is : (n == 0) ≡ true = grind (arith, nat_tests, zero) in by_both (n == 0) is not
-      where
-        by_both : (b : Bool) → b ≡ true → b ≡ false → ⊥
-        by_both true x y = cc
-        by_both false x y = cc
+        let is : (n == 0) ≡ true = grind (arith, nat_tests, zero) in clash (n == 0) is not
     none false n g i j = cc
 
     by : (b : Bool) → is_to_return f ≡ b → f.returned ≡ length f.back

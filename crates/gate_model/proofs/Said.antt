@@ -4,15 +4,12 @@ use Rattle.gate_model.specs.declared.reply.Reason.{Reason}
 use Rattle.session_path.specs.Due.{next_confirm, next_content, next_deliver, next_ok, next_return}
 use Rattle.session_path.specs.declared.path.ContentDue.{ContentDue}
 use Rattle.session_path.specs.declared.path.DeliverDue.{DeliverDue}
-use Rattle.gate_model.specs.Due.{answers, consume_ok_on, consume_oks, deliver_on, delivers}
-use Rattle.gate_model.specs.Due.{is_consume_ok}
-use Rattle.gate_model.specs.Due.{empty_on, get_ok_on, gets, is_empty_ok, is_plain_ok}
-use Rattle.gate_model.specs.Due.{writing_on, writings}
+use Rattle.gate_model.specs.Due.{answers, consume_ok_on, consume_oks, deliver_on, delivers, is_consume_ok}
+use Rattle.gate_model.specs.Due.{empty_on, get_ok_on, gets, is_empty_ok, is_plain_ok, writing_on, writings}
 use Rattle.gate_model.specs.declared.life.SessionState.{SessionState}
 use Rattle.gate_model.proofs.Firsts.{FirstIs, both_are, each_is, when_is}
 use Rattle.std.proofs.Common.{◌⊎◌, inl, inr, Bool, List, None, Option, Some, [], ap, append-nil}
-use Rattle.std.proofs.Common.{append_assoc, false, if◌then◌else◌, not, refl, subst, sym, true, ℕ}
-use Rattle.std.proofs.Common.{◌&&◌, ◌++◌, ◌||◌, ◌∙◌, ◌∷◌, ◌≡◌, ◌==◌}
+use Rattle.std.proofs.Common.{append_assoc, false, if◌then◌else◌, not, refl, subst, sym, true, ℕ, ◌&&◌, ◌++◌, ◌||◌, ◌∙◌, ◌∷◌, ◌≡◌, ◌==◌}
 use Rattle.std.specs.Prelude.{filter, map}
 use Rattle.std.proofs.lemmas.List.Elements.{filter-append}
 use Rattle.gate_outside.specs.declared.ports.End.TheVariants.{Client, Up}
@@ -20,33 +17,25 @@ use Rattle.gate_outside.specs.declared.ports.Linked.TheVariants as link
 use Rattle.gate_relay.specs.declared.loss.Loss.TheVariants as loss
 use Rattle.close_translate.specs.declared.codes.TheConstants.{CONNECTION_FORCED, INTERNAL_ERROR}
 use Rattle.performatives_10.specs.declared.condition.Condition.{Condition}
-use Rattle.machine_091.specs.Calls.{after_ended, after_opened, closing_phase, after_closing}
-use Rattle.machine_091.specs.State.{is_closing, is_closing_phase, is_open, is_opening, is_running}
-use Rattle.machine_091.specs.Transitions.{stream_after}
-use Rattle.machine_091.specs.Transitions as machine
+use Rattle.machine_091.specs.Calls.{after_ended, after_opened, after_closing}
+use Rattle.machine_091.specs.State.{is_closing, is_open, is_opening}
 use Rattle.machine_091.specs.declared.state.Connection.{Connection}
 use Rattle.machine_091.specs.declared.state.Phase91.{Phase91}
 use Rattle.machine_091.specs.declared.state.Phase91.TheVariants as phase
-use Rattle.machine_091.specs.declared.state.Stream91.{Stream91}
-use Rattle.machine_091.specs.declared.state.Stream91.TheVariants as stream
 use Rattle.machine_091.specs.declared.unit.Refusal.{Refusal}
 use Rattle.machine_091.specs.declared.unit.Unit91.{Unit91}
-use Rattle.machine_091.specs.declared.unit.Unit91.TheVariants as unit
-use Rattle.machine_091.specs.declared.unit.Want91.{Want91}
-use Rattle.machine_091.specs.declared.unit.Want91.TheVariants as want
 use Rattle.performatives_10.specs.declared.condition.Condition.TheVariants.{ResourceLimitExceeded}
 use Rattle.close_translate.specs.declared.conditions.Scope.{Scope}
 use Rattle.machine_10.specs.Parts as container
 use Rattle.publish_path.specs.declared.publish.NextReturn.{NextReturn}
 use Rattle.gate_model.specs.Paths.{closed_path, lost_path, path_at, with_path}
 use Rattle.gate_model.specs.declared.life.Life.{Life}
-use Rattle.gate_model.specs.Lives.{is_of_channel, life_at}
+use Rattle.gate_model.specs.Lives.{life_at}
 use Rattle.close_translate.specs.declared.conditions.Scope.TheVariants as scope
 use Rattle.gate_model.specs.declared.reply.Pending.{Pending}
 use Rattle.gate_model.specs.declared.reply.Reply.{Reply}
 use Rattle.gate_model.specs.declared.reply.Reply.TheVariants as reply
-use Rattle.gate_model.specs.Answers.{AreAnswered, AreReplies, All, Overtaken, TakenBack, is_close}
-use Rattle.gate_model.specs.Answers.{is_close_ok, last_units}
+use Rattle.gate_model.specs.Answers.{AreAnswered, AreReplies, is_close, is_close_ok, last_units}
 use Rattle.gate_model.specs.Due.{channel_closes, channel_oks, client_units, close_oks, close_oks_on}
 use Rattle.gate_model.specs.Due.{contents, may_return, content_on, return_on, may_confirm}
 use Rattle.gate_model.specs.Due.{closes, confirm_on, confirms, if_so, ok_on, path_oks, is_beat_due}
@@ -55,366 +44,37 @@ use Rattle.gate_model.specs.Due.{openings, pick, refused_on, rows, when, is_awai
 use Rattle.gate_model.specs.Folds.{Peers, answers_of, closes_connection, connection, ended_on}
 use Rattle.gate_model.specs.Folds.{failure_to, is_answer, leaving_in, opened_by, peers, peers_by}
 use Rattle.gate_model.specs.Folds.{peers_came, peers_heard, peers_scoped, peers_session, ran_out_in}
-use Rattle.gate_model.specs.Folds.{replies, replies_to, reply_by, reply_to, sent, sent_since}
+use Rattle.gate_model.specs.Folds.{replies, replies_to, reply_by, sent, sent_since}
 use Rattle.gate_model.specs.Folds.{carried_on, peers_closed, peers_left, scope_in, until_memory}
 use Rattle.gate_model.specs.Picks.{ArePicks}
 use Rattle.gate_model.specs.Requests.{client_step}
-use Rattle.gate_model.specs.State.{Began, Came, Fed, Gave, Heard, Joined, LinesTold, Lost, Moment}
-use Rattle.gate_model.specs.State.{OutOfMemory}
-use Rattle.gate_model.specs.State.{Queued, Silent, State, Step, TakenUp, Whole, before}
-use Rattle.gate_model.specs.State.{begun_session, came, carried, close, close_if, conn_step}
-use Rattle.gate_model.specs.State.{dequeued, fail, failed, failure, has_left, heard}
-use Rattle.gate_model.specs.State.{is_channel_settled, is_foreign, is_limit_reached, is_settled}
+use Rattle.gate_model.specs.State.{Began, Came, Fed, Gave, Heard, Joined, Lost, Moment, OutOfMemory}
+use Rattle.gate_model.specs.State.{Queued, Silent, State, Step, TakenUp, Whole, before, begun_session, came, carried, close, conn_step}
+use Rattle.gate_model.specs.State.{dequeued, fail, failed, failure, has_left, heard, is_channel_settled, is_limit_reached, is_settled}
 use Rattle.gate_model.specs.State.{last_pending, left, life_failed, link_scope, none_pending}
 use Rattle.gate_model.specs.State.{path_heard, runs, turns_foreign, with_header, with_meaning}
-use Rattle.gate_model.specs.State.{with_session, with_want, without, scoped, windowed}
-use Rattle.gate_model.specs.State.{closed_for, closing_code, closing_error}
+use Rattle.gate_model.specs.State.{with_session, with_want, without, scoped, windowed, closed_for, closing_code, closing_error}
 use Rattle.gate_relay.specs.Sides.{is_readable}
-use Rattle.gate_model.specs.Upstream.{channel_max_in, container_by, first, has_closed}
-use Rattle.gate_model.specs.Upstream.{heard_up, meaning_by}
-use Rattle.gate_model.specs.declared.outgoing.Outgoing.TheVariants.{ToClient, ToUp}
+use Rattle.gate_model.specs.Upstream.{channel_max_in, container_by, first, has_closed, heard_up, meaning_by}
+use Rattle.gate_model.specs.declared.outgoing.Outgoing.TheVariants.{ToClient}
 use Rattle.machine_10.specs.Transitions as ten
 use Rattle.machine_10.specs.Transitions.{Meaning}
 use Rattle.machine_10.specs.declared.state.Upstream.{Upstream}
 use Rattle.machine_10.specs.declared.unit.Unit10.{Unit10}
-use Rattle.gate_model.proofs.Connections.{clash, close_same, only_given, opened_runs, opening_early}
-use Rattle.gate_model.proofs.Connections.{opening_phase, phase_only, step_here, stream_only}
+use Rattle.gate_model.proofs.Connections.{clash, close_same, only_given, opened_runs, opening_early, opening_phase, step_here}
 use Rattle.gate_model.proofs.Outcomes.{OnlyChannels, only_closing}
 use Rattle.gate_model.proofs.Queues.{none_left, none_next}
-use Rattle.gate_model.proofs.Rows.{Has, HasNone, HasFirst, first_each, first_none, first_some, has}
-use Rattle.gate_model.proofs.Rows.{same_first}
+use Rattle.gate_model.proofs.Rows.{Has, HasNone, HasFirst, first_each, first_none, first_some, has, same_first}
 use Rattle.gate_model.proofs.Sessions.{peers_like, session_on}
 use Rattle.session_path.specs.Path.{PathState}
 use Rattle.session_path.specs.declared.path.PathOk.{PathOk}
 use Rattle.publish_path.specs.declared.publish.Confirm.{Confirm}
 use Rattle.gate_model.specs.declared.channel.ChannelUnit.{ChannelUnit}
 use Rattle.gate_model.specs.declared.channel.ChannelUnit.TheVariants as told_unit
-use Rattle.gate_model.proofs.Known.{Known, Knows, conn_is, container_is, known, knows, memory_is}
-use Rattle.gate_model.proofs.Known.{paths_are}
-use Rattle.gate_model.proofs.Outcomes.{Outcome, Greets, Parts, LogsIn, Tunes, Asks, Passes, Refuses}
-use Rattle.gate_model.proofs.Outcomes.{Declines, Drops, Parting, Calls, Asking, Publishes, Fills}
-use Rattle.gate_model.proofs.Outcomes.{Frees, Closes, Answers, Ignores, outcome}
+use Rattle.gate_model.proofs.Known.{Known, Knows, conn_is, container_is, known, knows, memory_is, paths_are, routes_are}
 use Rattle.gate_model.specs.declared.setup.Route.{Route}
-use Rattle.gate_model.proofs.Known.{routes_are}
-
--- ---- what is due, by the phase of the connection
-
--- no close-ok and no close is due
-pub record Runs_ (d : Pending) (said all : List Reply) : Type 0 where
-  pub ok : d.close_ok ≡ false
-  pub none : d.close ≡ None
-  pub calm : d.no_memory ≡ false
-  pub same : said ++ rows d ≡ all
-
--- a close of the gateway may be due
-pub record Shuts (d : Pending) (said all : List Reply) : Type 0 where
-  pub ok : d.close_ok ≡ false
-  pub calm : d.no_memory ≡ false
-  pub same : said ++ rows d ≡ all
-
-pub data IsOver (d : Pending) (said all : List Reply) (gone : Bool) : Type 0 where
-  StillCloses : Shuts d said all → IsOver d said all gone
-  ClosesNot : d.close ≡ None → d.no_memory ≡ false → AreReplies all (said ++ rows d) gone → IsOver d said all gone
-
--- what was sent and what is due are all replies; once the connection is closed, but for a close that was taken back
-abbrev pub IsSaid : Phase91 → Pending → List Reply → List Reply → Bool → Type 0
-IsSaid phase.Header d said all gone = (d ≡ none_pending) × (said ≡ all)
-IsSaid phase.Start d said all gone = (d.tune ≡ false) × ((d.open_ok ≡ false) × Runs_ d said all)
-IsSaid phase.Tune d said all gone = (d.open_ok ≡ false) × Runs_ d said all
-IsSaid phase.Open d said all gone = (d.open_ok ≡ false) × Runs_ d said all
-IsSaid phase.Running d said all gone = Runs_ d said all
-IsSaid phase.Closing d said all gone = Shuts d said all
-IsSaid phase.Closed d said all gone = IsOver d said all gone
-
-pub are_replies : (p : Phase91) (d : Pending) (said all : List Reply) (gone : Bool) → IsSaid p d said all gone → AreReplies all (said ++ rows d) gone
-are_replies phase.Header d said all gone s = All (ap (λ (x : Pending). said ++ rows x) s.0 ∙ append-nil said ∙ s.1)
-are_replies phase.Start d said all gone s = All s.1.1.same
-are_replies phase.Tune d said all gone s = All s.1.same
-are_replies phase.Open d said all gone s = All s.1.same
-are_replies phase.Running d said all gone s = All s.same
-are_replies phase.Closing d said all gone s = All s.same
-are_replies phase.Closed d said all gone (StillCloses s) = All s.same
-are_replies phase.Closed d said all gone (ClosesNot n m s) = s
-
-runs_in : (p : Phase91) (d : Pending) (said all : List Reply) (gone : Bool) → is_closing_phase p ≡ false → IsSaid p d said all gone → Runs_ d said all
-runs_in phase.Header d said all gone e s =
-    subst (λ (x : Pending). Runs_ x said all) (sym s.0) (record { ok = refl; none = refl; calm = refl; same = append-nil said ∙ s.1 })
-runs_in phase.Start d said all gone e s = s.1.1
-runs_in phase.Tune d said all gone e s = s.1
-runs_in phase.Open d said all gone e s = s.1
-runs_in phase.Running d said all gone e s = s
-runs_in phase.Closing d said all gone e s = absurd cc
-runs_in phase.Closed d said all gone e s = absurd cc
-
-over_calm : (d : Pending) (said all : List Reply) (gone : Bool) → IsOver d said all gone → d.no_memory ≡ false
-over_calm d said all gone (StillCloses s) = s.calm
-over_calm d said all gone (ClosesNot n m s) = m
-
--- no close for that a pair ran out of memory
-pub calm_in : (p : Phase91) (d : Pending) (said all : List Reply) (gone : Bool) → IsSaid p d said all gone → d.no_memory ≡ false
-calm_in phase.Header d said all gone s = ap (λ (x : Pending). x.no_memory) s.0
-calm_in phase.Start d said all gone s = s.1.1.calm
-calm_in phase.Tune d said all gone s = s.1.calm
-calm_in phase.Open d said all gone s = s.1.calm
-calm_in phase.Running d said all gone s = s.calm
-calm_in phase.Closing d said all gone s = s.calm
-calm_in phase.Closed d said all gone s = over_calm d said all gone s
-
-running_phase : (p : Phase91) → is_running p ≡ true → p ≡ phase.Running
-running_phase phase.Header e = absurd cc
-running_phase phase.Start e = absurd cc
-running_phase phase.Tune e = absurd cc
-running_phase phase.Open e = absurd cc
-running_phase phase.Running e = refl
-running_phase phase.Closing e = absurd cc
-running_phase phase.Closed e = absurd cc
-
-shuts_of : (d : Pending) (said all : List Reply) → Runs_ d said all → Shuts d said all
-shuts_of d said all s = record { ok = s.ok; calm = s.calm; same = s.same }
-
--- ---- a unit makes its replies due
-
--- one reply more behind the others
-one_due : (said all old new : List Reply) (r : Reply) → new ≡ old ++ r ∷ [] → said ++ old ≡ all → said ++ new ≡ all ++ r ∷ []
-one_due said all old new r e same = ap (λ (x : List Reply). said ++ x) e ∙ sym (append_assoc said old (r ∷ [])) ∙ ap (λ (x : List Reply). x ++ r ∷ []) same
-
-tune_due : (d : Pending) → d.tune ≡ false → d.open_ok ≡ false → d.close_ok ≡ false → d.close ≡ None → d.no_memory ≡ false
-    → rows (record d { tune = true }) ≡ rows d ++ reply.Tune ∷ []
-tune_due d t o ok none calm = rw (t, o, ok, none, calm) (simp append_assoc)
-
-open_ok_due : (d : Pending) → d.open_ok ≡ false → d.close_ok ≡ false → d.close ≡ None → d.no_memory ≡ false
-    → rows (record d { open_ok = true }) ≡ rows d ++ reply.OpenOk ∷ []
-open_ok_due d o ok none calm = rw (o, ok, none, calm) (simp append_assoc)
-
-close_due : (d : Pending) (r : Refusal) → d.close ≡ None → d.no_memory ≡ false → rows (record d { close = Some r }) ≡ rows d ++ reply.Close r ∷ []
-close_due d r none calm = rw (none, calm) (simp (append_assoc, append-nil))
-
-close_ok_due : (d : Pending) → d.close_ok ≡ false → d.close ≡ None → d.no_memory ≡ false
-    → rows (record d { close_ok = true; close = None }) ≡ rows d ++ reply.CloseOk ∷ []
-close_ok_due d ok none calm = rw (ok, none, calm) (simp append_assoc)
-
-after_nothing : (p : Phase91) (d : Pending) (said all : List Reply) (gone : Bool) → IsSaid p d said all gone → IsSaid p d said (all ++ []) gone
-after_nothing p d said all gone s = subst (λ (x : List Reply). IsSaid p d said x gone) (sym (append-nil all)) s
-
--- a close that isn't due any more, or none
-no_close_due : (d : Pending) (said all : List Reply) (o : Option Refusal) → d.close ≡ o → Shuts d said all
-    → IsOver (record d { close = None }) said all true
-no_close_due d said all None e s = ClosesNot refl s.calm (All (ap (λ (o : Option Refusal). said ++ rows (record d { close = o })) (sym e) ∙ s.same))
-no_close_due d said all (Some r) e s =
-    let old : Pending = record d { close = None } in
-    let rest : rows d ≡ rows old ++ reply.Close r ∷ [] = rw e (close_due (record d { close = None }) r refl s.calm) in
-    ClosesNot refl s.calm (TakenBack r refl (sym s.same ∙ one_due said (said ++ rows old) (rows old) (rows d) (reply.Close r) rest refl))
-
--- the client closed: a close of which no byte was sent is due no more
-after_close : (d : Pending) (said all : List Reply) (gone : Bool) (o : Option Refusal) → d.close ≡ o → Shuts d said all
-    → AreReplies (all ++ reply.CloseOk ∷ []) (said ++ rows (record d { close_ok = true; close = None })) gone
-after_close d said all gone None e s =
-    All (one_due said all (rows d) (rows (record d { close_ok = true; close = None })) reply.CloseOk (close_ok_due d s.ok e s.calm) s.same)
-after_close d said all gone (Some r) e s =
-    let old : Pending = record d { close = None } in
-    let rest : rows d ≡ rows old ++ reply.Close r ∷ [] = rw e (close_due (record d { close = None }) r refl s.calm) in
-    let all_are : said ++ rows d ≡ (said ++ rows old) ++ reply.Close r ∷ [] = one_due said (said ++ rows old) (rows old) (rows d) (reply.Close r) rest refl in
-    Overtaken (said ++ rows old) r
-    (one_due said (said ++ rows old) (rows old) (rows (record d { close_ok = true; close = None })) reply.CloseOk (close_ok_due old s.ok refl s.calm) refl)
-    (ap (λ (x : List Reply). x ++ reply.CloseOk ∷ []) (sym s.same ∙ all_are) ∙ append_assoc (said ++ rows old) (reply.Close r ∷ []) (reply.CloseOk ∷ []))
-
--- the same of a refused unit
-after_refusal : (d : Pending) (said all : List Reply) (r : Refusal) → Runs_ d said all → Shuts (record d { close = Some r }) said (all ++ reply.Close r ∷ [])
-after_refusal d said all r s = record {
-  ok = s.ok;
-  calm = s.calm;
-  same = one_due said all (rows d) (rows (record d { close = Some r })) (reply.Close r) (close_due d r s.none s.calm) s.same;
-}
-
--- what a refusal of the connection makes due, and one of a channel
-refused_connection : (d : Pending) (said all : List Reply) (gone : Bool) (r : Refusal) → is_of_channel r ≡ false → Runs_ d said all
-    → IsSaid phase.Closing (with_want (want.Refuse r) d) said (all ++ reply_to (want.Refuse r)) gone
-refused_connection d said all gone r g s =
-    subst (λ (b : Bool). IsSaid phase.Closing (if b then d else record d { close = Some r }) said (all ++ (if b then [] else reply.Close r ∷ [])) gone)
-    (sym g) (after_refusal d said all r s)
-
-refused_channel : (p : Phase91) (d : Pending) (said all : List Reply) (gone : Bool) (r : Refusal) → is_of_channel r ≡ true → IsSaid p d said all gone
-    → IsSaid p (with_want (want.Refuse r) d) said (all ++ reply_to (want.Refuse r)) gone
-refused_channel p d said all gone r g s =
-    subst (λ (b : Bool). IsSaid p (if b then d else record d { close = Some r }) said (all ++ (if b then [] else reply.Close r ∷ [])) gone)
-    (sym g) (after_nothing p d said all gone s)
-
--- no header of the gateway becomes due
-no_header : (d : Pending) → with_header false d ≡ d
-no_header d = ap (λ (b : Bool). record d { protocol = b }) (or_false d.protocol)
-  where
-    or_false : (b : Bool) → (b || false) ≡ b
-    or_false true = refl
-    or_false false = refl
-
-abbrev After : Bool → Phase91 → Want91 → Pending → List Reply → List Reply → Bool → Type 0
-After b p w d said all gone = IsSaid p (with_header b (with_want w d)) said (all ++ (when b reply.Protocol ++ reply_to w)) gone
-
-plainly : (b : Bool) (p : Phase91) (w : Want91) (d : Pending) (said all : List Reply) (gone : Bool) → b ≡ false → IsSaid p (with_want w d) said (all ++ reply_to w) gone
-    → After b p w d said all gone
-plainly b p w d said all gone e s =
-    subst (λ (x : Bool). After x p w d said all gone) (sym e)
-    (subst (λ (x : Pending). IsSaid p x said (all ++ reply_to w) gone) (sym (no_header (with_want w d))) s)
-
-never : (s : Stream91) → (is_foreign s && not (is_foreign s)) ≡ false
-never stream.Header = refl
-never stream.Frames = refl
-never stream.Foreign = refl
-never stream.Bad = refl
-never stream.Answered = refl
-never stream.Ended = refl
-
-never_after : (u : Unit91) (s : Stream91) → (is_foreign (stream_after u s) && not (is_foreign s)) ≡ false
-never_after unit.Protocol stream.Header = refl
-never_after unit.Protocol stream.Frames = refl
-never_after unit.Protocol stream.Foreign = refl
-never_after unit.Protocol stream.Bad = refl
-never_after unit.Protocol stream.Answered = refl
-never_after unit.Protocol stream.Ended = refl
-never_after (unit.Frame f) s = never s
-never_after (unit.Bad code) s = refl
-
--- the first bytes were no protocol header
-after_foreign : (b gone : Bool) (said all : List Reply) → said ≡ all → AreReplies (all ++ (when b reply.Protocol ++ [])) (said ++ rows (with_header b none_pending)) gone
-after_foreign true gone said all e = All (ap (λ (x : List Reply). x ++ reply.Protocol ∷ []) e)
-after_foreign false gone said all e = All (ap (λ (x : List Reply). x ++ []) e)
-
-said_in : {p q : Phase91} (d : Pending) (said all : List Reply) (gone : Bool) → p ≡ q → IsSaid p d said all gone → IsSaid q d said all gone
-said_in {p} {q} d said all gone e s = subst (λ (x : Phase91). IsSaid x d said all gone) e s
-
--- a unit was taken up
-said_next : (rs : List Route) (ps : List (Option PathState)) (c : Connection) (u : Unit91) (d : Pending) (said all : List Reply) (gone : Bool) → IsSaid c.phase d said all gone
-    → IsSaid (conn_step rs ps c u).phase (with_header (turns_foreign rs ps c u) (with_want (client_step rs ps c u).1 d)) said (all ++ replies_to rs ps c u) gone
-said_next rs ps c u d said all gone s = by (client_step rs ps c u) (outcome rs ps c u)
-  where
-    same_stream : {x : Connection} → OnlyChannels c x → (is_foreign x.stream && not (is_foreign c.stream)) ≡ false
-    same_stream o = ap (λ (t : Stream91). is_foreign t && not (is_foreign c.stream)) (stream_only o) ∙ never c.stream
-
-    by : (x : machine.Step) → Outcome c u x
-        → After (is_foreign x.0.stream && not (is_foreign c.stream)) (x.0).phase x.1 d said all gone
-    by _ (Greets e) =
-        let t = said_in {q = phase.Header} d said all gone e s in
-        plainly _ phase.Start want.Start d said all gone refl
-        (subst (λ (x : Pending). IsSaid phase.Start (record x { start = true }) said (all ++ reply.Start ∷ []) gone) (sym t.0)
-        (refl, (refl, record { ok = refl; none = refl; calm = refl; same = ap (λ (rs : List Reply). rs ++ reply.Start ∷ []) t.1 })))
-    by _ (Parts e) =
-        let t = said_in {q = phase.Header} d said all gone e s in
-        let b : Bool = not (is_foreign c.stream) in
-        subst (λ (x : Pending). IsOver (with_header b x) said (all ++ (when b reply.Protocol ++ [])) gone) (sym t.0)
-        (ClosesNot refl refl (after_foreign b gone said all t.1))
-    by _ (LogsIn m r e) =
-        let t = said_in {q = phase.Start} d said all gone e s in
-        plainly _ phase.Tune (want.Login m r) d said all gone (never c.stream) (
-          t.1.0,
-          record {
-            ok = t.1.1.ok;
-            none = t.1.1.none;
-            calm = t.1.1.calm;
-            same = one_due said all (rows d) (rows (record d { tune = true })) reply.Tune (tune_due d t.0 t.1.0 t.1.1.ok t.1.1.none t.1.1.calm) t.1.1.same;
-          },
-        )
-    by _ (Tunes l e) =
-        plainly _ phase.Open want.Tuned d said all gone (never c.stream) (after_nothing phase.Open d said all gone (said_in {q = phase.Tune} d said all gone e s))
-    by _ (Asks e) = plainly _ c.phase want.OpenUp d said all gone (never c.stream) (after_nothing c.phase d said all gone s)
-    by _ Passes = plainly _ c.phase want.Nothing d said all gone (never c.stream) (after_nothing c.phase d said all gone s)
-    by _ (Refuses r a f e g) =
-        plainly _ phase.Closing (want.Refuse r) d said all gone (never_after u c.stream)
-        (refused_connection d said all gone r g (runs_in c.phase d said all gone e s))
-    by _ (Declines r x o e g) =
-        plainly _ (closing_phase x.phase) (want.Refuse r) d said all gone (same_stream o)
-        (said_in {p = phase.Closing} _ said _ gone (sym (ap closing_phase (phase_only o ∙ running_phase c.phase e)))
-        (refused_connection d said all gone r g (said_in {q = phase.Running} d said all gone (running_phase c.phase e) s)))
-    by _ (Drops r x o e g) =
-        plainly _ x.phase (want.Refuse r) d said all gone (same_stream o)
-        (said_in _ said _ gone (sym (phase_only o)) (refused_channel c.phase d said all gone r g s))
-    by _ (Parting e) =
-        let t = shuts_of d said all (said_in {q = phase.Running} d said all gone (running_phase c.phase e) s) in
-        plainly _ phase.Closed want.Close d said all gone (never c.stream) (ClosesNot refl t.calm (after_close d said all gone d.close refl t))
-    by _ (Calls n x m e) = plainly _ c.phase (want.Method n m) d said all gone (never c.stream) (after_nothing c.phase d said all gone s)
-    by _ (Asking n m e) = plainly _ c.phase (want.Method n m) d said all gone (never c.stream) (after_nothing c.phase d said all gone s)
-    by _ (Publishes n m x e) = plainly _ c.phase (want.Publish n m x) d said all gone (never c.stream) (after_nothing c.phase d said all gone s)
-    by _ (Fills n i e) = plainly _ c.phase want.Nothing d said all gone (never c.stream) (after_nothing c.phase d said all gone s)
-    by _ (Frees n e) = plainly _ c.phase (want.ChannelCloseOk n) d said all gone (never c.stream) (after_nothing c.phase d said all gone s)
-    by _ (Closes e) =
-        let t = said_in {q = phase.Closing} d said all gone e s in
-        plainly _ phase.Closed want.Close d said all gone (never c.stream) (ClosesNot refl t.calm (after_close d said all gone d.close refl t))
-    by _ (Answers e) = plainly _ phase.Closed want.CloseOk d said all gone refl (after_nothing phase.Closed d said all gone (answered c.phase e s))
-      where
-        answered : (p : Phase91) → is_closing_phase p ≡ true → IsSaid p d said all gone → IsSaid phase.Closed d said all gone
-        answered phase.Header k t = absurd cc
-        answered phase.Start k t = absurd cc
-        answered phase.Tune k t = absurd cc
-        answered phase.Open k t = absurd cc
-        answered phase.Running k t = absurd cc
-        answered phase.Closing k t = StillCloses t
-        answered phase.Closed k t = t
-    by _ (Ignores e) = plainly _ c.phase want.Nothing d said all gone (never_after u c.stream) (after_nothing c.phase d said all gone s)
-
--- ---- closing events that no unit told
-
--- the handshake limit
-said_late : (p : Phase91) (d : Pending) (said all : List Reply) (gone : Bool) → IsSaid p d said all gone → IsSaid (closing_phase p) d said all gone
-said_late phase.Header d said all gone s = subst (λ (x : Pending). Shuts x said all) (sym s.0) (record { ok = refl; calm = refl; same = append-nil said ∙ s.1 })
-said_late phase.Start d said all gone s = shuts_of d said all s.1.1
-said_late phase.Tune d said all gone s = shuts_of d said all s.1
-said_late phase.Open d said all gone s = shuts_of d said all s.1
-said_late phase.Running d said all gone s = shuts_of d said all s
-said_late phase.Closing d said all gone s = s
-said_late phase.Closed d said all gone s = s
-
-pub said_if : (b : Bool) (c : Connection) (d : Pending) (said all : List Reply) → IsSaid c.phase d said all (has_left c.stream)
-    → IsSaid (close_if b c).phase d said all (has_left (close_if b c).stream)
-said_if true c d said all s = said_late c.phase d said all (has_left c.stream) s
-said_if false c d said all s = s
-
--- the client's end was taken up
-left_replies : (all said : List Reply) (gone : Bool) → AreReplies all said gone → AreReplies all said true
-left_replies all said gone (All e) = All e
-left_replies all said gone (Overtaken front r e f) = Overtaken front r e f
-left_replies all said gone (TakenBack r l e) = TakenBack r refl e
-
-said_left : (p : Phase91) (d : Pending) (said all : List Reply) (gone : Bool) → IsSaid p d said all gone → IsOver (record d { close = None }) said all true
-said_left p d said all gone s = by p s
-  where
-    runs : Runs_ d said all → IsOver (record d { close = None }) said all true
-    runs s = no_close_due d said all d.close refl (record { ok = s.ok; calm = s.calm; same = s.same })
-
-    over : IsOver d said all gone → IsOver (record d { close = None }) said all true
-    over (StillCloses s) = no_close_due d said all d.close refl s
-    over (ClosesNot n m s) = ClosesNot refl m (left_replies all _ gone (subst (λ (o : Option Refusal). AreReplies all (said ++ rows (record d { close = o })) gone) n s))
-
-    by : (p : Phase91) → IsSaid p d said all gone → IsOver (record d { close = None }) said all true
-    by phase.Header s = no_close_due d said all d.close refl (subst (λ (x : Pending). Shuts x said all) (sym s.0) (record { ok = refl; calm = refl; same = append-nil said ∙ s.1 }))
-    by phase.Start s = runs s.1.1
-    by phase.Tune s = runs s.1
-    by phase.Open s = runs s.1
-    by phase.Running s = runs s
-    by phase.Closing s = no_close_due d said all d.close refl s
-    by phase.Closed s = over s
-
--- the upstream end fails
-said_fail : (p : Phase91) (d : Pending) (said all : List Reply) (gone : Bool) (r : Refusal) → is_closing_phase p ≡ false → IsSaid p d said all gone
-    → IsSaid (closing_phase p) (record d { close = Some r }) said (all ++ reply.Close r ∷ []) gone
-said_fail p d said all gone r k s = by p k (after_refusal d said all r (runs_in p d said all gone k s))
-  where
-    by : (p : Phase91) → is_closing_phase p ≡ false → Shuts (record d { close = Some r }) said (all ++ reply.Close r ∷ [])
-        → IsSaid (closing_phase p) (record d { close = Some r }) said (all ++ reply.Close r ∷ []) gone
-    by phase.Header k s = s
-    by phase.Start k s = s
-    by phase.Tune k s = s
-    by phase.Open k s = s
-    by phase.Running k s = s
-    by phase.Closing k s = absurd cc
-    by phase.Closed k s = absurd cc
-
--- the container opened
-said_opened : (d : Pending) (said all : List Reply) → d.open_ok ≡ false → Runs_ d said all → Runs_ (record d { open_ok = true }) said (all ++ reply.OpenOk ∷ [])
-said_opened d said all o s = record {
-  ok = s.ok;
-  none = s.none;
-  calm = s.calm;
-  same = one_due said all (rows d) (rows (record d { open_ok = true })) reply.OpenOk (open_ok_due d o s.ok s.none s.calm) s.same;
-}
+use Rattle.gate_model.proofs.Phases.{ClosesNot, IsOver, IsSaid, Runs_, Shuts, StillCloses, are_replies, calm_in, said_in, said_next}
+use Rattle.gate_model.proofs.Phases.{said_fail, said_if, said_left, said_opened}
 
 -- ---- a unit goes
 
@@ -453,79 +113,24 @@ first_due settled d r calm e = by settled d.protocol d.start d.tune d.open_ok d.
     by false false false false false ok close false calm same = absurd cc
 
 no_tune : (r : Reply) (d : Pending) → d.tune ≡ false → (without r d).tune ≡ false
-no_tune reply.Protocol d e = e
-no_tune reply.Start d e = e
 no_tune reply.Tune d e = refl
-no_tune reply.OpenOk d e = e
-no_tune reply.CloseOk d e = e
-no_tune (reply.Close c) d e = e
-no_tune reply.NoMemory d e = e
-no_tune reply.Heartbeat d e = e
-no_tune (reply.ChannelOpenOk n) d e = e
-no_tune (reply.OnChannel n u) d e = e
-no_tune (reply.ChannelCloseOk n) d e = e
-no_tune (reply.CrossedOk n) d e = e
-no_tune (reply.ChannelClose n r) d e = e
+no_tune x d e = e
 
 no_open_ok : (r : Reply) (d : Pending) → d.open_ok ≡ false → (without r d).open_ok ≡ false
-no_open_ok reply.Protocol d e = e
-no_open_ok reply.Start d e = e
-no_open_ok reply.Tune d e = e
 no_open_ok reply.OpenOk d e = refl
-no_open_ok reply.CloseOk d e = e
-no_open_ok (reply.Close c) d e = e
-no_open_ok reply.NoMemory d e = e
-no_open_ok reply.Heartbeat d e = e
-no_open_ok (reply.ChannelOpenOk n) d e = e
-no_open_ok (reply.OnChannel n u) d e = e
-no_open_ok (reply.ChannelCloseOk n) d e = e
-no_open_ok (reply.CrossedOk n) d e = e
-no_open_ok (reply.ChannelClose n r) d e = e
+no_open_ok x d e = e
 
 no_close_ok : (r : Reply) (d : Pending) → d.close_ok ≡ false → (without r d).close_ok ≡ false
-no_close_ok reply.Protocol d e = e
-no_close_ok reply.Start d e = e
-no_close_ok reply.Tune d e = e
-no_close_ok reply.OpenOk d e = e
 no_close_ok reply.CloseOk d e = refl
-no_close_ok (reply.Close c) d e = e
-no_close_ok reply.NoMemory d e = e
-no_close_ok reply.Heartbeat d e = e
-no_close_ok (reply.ChannelOpenOk n) d e = e
-no_close_ok (reply.OnChannel n u) d e = e
-no_close_ok (reply.ChannelCloseOk n) d e = e
-no_close_ok (reply.CrossedOk n) d e = e
-no_close_ok (reply.ChannelClose n r) d e = e
+no_close_ok x d e = e
 
 no_close : (r : Reply) (d : Pending) → d.close ≡ None → (without r d).close ≡ None
-no_close reply.Protocol d e = e
-no_close reply.Start d e = e
-no_close reply.Tune d e = e
-no_close reply.OpenOk d e = e
-no_close reply.CloseOk d e = e
 no_close (reply.Close c) d e = refl
-no_close reply.NoMemory d e = e
-no_close reply.Heartbeat d e = e
-no_close (reply.ChannelOpenOk n) d e = e
-no_close (reply.OnChannel n u) d e = e
-no_close (reply.ChannelCloseOk n) d e = e
-no_close (reply.CrossedOk n) d e = e
-no_close (reply.ChannelClose n r) d e = e
+no_close x d e = e
 
 no_wanting : (r : Reply) (d : Pending) → d.no_memory ≡ false → (without r d).no_memory ≡ false
-no_wanting reply.Protocol d e = e
-no_wanting reply.Start d e = e
-no_wanting reply.Tune d e = e
-no_wanting reply.OpenOk d e = e
-no_wanting reply.CloseOk d e = e
-no_wanting (reply.Close c) d e = e
 no_wanting reply.NoMemory d e = refl
-no_wanting reply.Heartbeat d e = e
-no_wanting (reply.ChannelOpenOk n) d e = e
-no_wanting (reply.OnChannel n u) d e = e
-no_wanting (reply.ChannelCloseOk n) d e = e
-no_wanting (reply.CrossedOk n) d e = e
-no_wanting (reply.ChannelClose n r) d e = e
+no_wanting x d e = e
 
 said_went : (p : Phase91) (d : Pending) (r : Reply) (said all : List Reply) (gone : Bool) → Leads r d → IsSaid p d said all gone
     → IsSaid p (without r d) (said ++ r ∷ []) all gone
@@ -572,7 +177,7 @@ pub data Picked (w : State) (r : Reply) : Type 0 where
   Beats : client_units w ≡ [] → is_beat_due w ≡ true → r ≡ reply.Heartbeat → Picked w r
 
 -- what is first of the units of channels is one of its row
-in_if : (b : Bool) (us : List Reply) (r : Reply) → first (if_so b us) ≡ Some r → first us ≡ Some r
+pub in_if : (b : Bool) (us : List Reply) (r : Reply) → first (if_so b us) ≡ Some r → first us ≡ Some r
 in_if true us r e = e
 in_if false us r e = absurd cc
 
@@ -668,7 +273,7 @@ confirms_open w =
     by n may (Some c) = when_is IsOpen may (reply.OnChannel n (told_unit.Confirm c)) (on_open n (told_unit.Confirm c))
 
 -- the first of a list is what its first is
-is_first : (P : Reply → Type 0) (us : List Reply) (r : Reply) → FirstIs P us → first us ≡ Some r → P r
+pub is_first : (P : Reply → Type 0) (us : List Reply) (r : Reply) → FirstIs P us → first us ≡ Some r → P r
 is_first P [] r p e = absurd cc
 is_first P (x ∷ us) r p e = let same : x ≡ r = cc in subst P same p
 
@@ -882,17 +487,13 @@ keep_close_ok true us e = ap (λ (x : List Reply). reply.CloseOk ∷ x) e
 keep_close_ok false us e = e
 
 last_due : (p : Phase91) (d : Pending) → rows (last_pending p d) ≡ last_units p (rows d)
-last_due phase.Header d = refl
-last_due phase.Start d = refl
-last_due phase.Tune d = refl
-last_due phase.Open d = refl
-last_due phase.Running d = refl
 last_due phase.Closing d =
     sym (skip is_close d.protocol reply.Protocol _ refl ∙ skip is_close d.start reply.Start _ refl ∙ skip is_close d.tune reply.Tune _ refl ∙ skip is_close d.open_ok reply.OpenOk _ refl
     ∙ skip is_close d.close_ok reply.CloseOk _ refl ∙ keep_close d.close (when d.no_memory reply.NoMemory) (skip_last is_close d.no_memory reply.NoMemory refl))
 last_due phase.Closed d =
     sym (skip is_close_ok d.protocol reply.Protocol _ refl ∙ skip is_close_ok d.start reply.Start _ refl ∙ skip is_close_ok d.tune reply.Tune _ refl ∙ skip is_close_ok d.open_ok reply.OpenOk _ refl
     ∙ keep_close_ok d.close_ok _ (skip_closes d.close (when d.no_memory reply.NoMemory) ∙ skip_last is_close_ok d.no_memory reply.NoMemory refl))
+last_due x d = refl
 
 -- ---- all steps
 
@@ -1062,13 +663,7 @@ says_meaning (ten.Violation x) w b p went since all last k r e f shuts s = says_
 -- the container's connection says nothing of the reply
 same_reply : (m : Meaning) (p : Peers) (o : Option Upstream) → reply_by (record p { container = o }) m ≡ reply_by p m
 same_reply ten.Nothing p o = refl
-same_reply ten.Init p o = refl
-same_reply ten.AmqpHeader p o = refl
-same_reply ten.Opened p o = refl
-same_reply (ten.OfSession g q payload) p o = refl
-same_reply (ten.Closed e) p o = refl
-same_reply ten.Refused p o = refl
-same_reply (ten.Violation why) p o = refl
+same_reply x p o = refl
 
 says_heard : (w : State) (u : Unit10) (b : Bool) (p : Peers) (went since all last : List Reply) → Knows p.carried (meaning_by w.up.container u) w.lives w.paths
     → w.routes ≡ p.routes → w.conn ≡ p.client → w.up.container ≡ p.container → w.paths ≡ p.paths
@@ -1108,7 +703,6 @@ says (Moment ms ∷ h) p =
     let s : Says h = says h p.1 in
     record { said = λ m. said_if (is_limit_reached (connection h) _ ms) (connection h) (before h).pending (answers_of (sent h)) (replies h) (s.said m); ending = s.ending }
 says (Fed Client ∷ h) p = says h p.1
-says (Fed Up ∷ h) p = says h p.1
 says (Silent Client ∷ h) p =
     let s : Says h = says h p.1 in
     record {
@@ -1141,20 +735,16 @@ says (Heard u ∷ h) p =
     subst (λ (x : Bool). SaysIn (ran_out_in h) (connection (Heard u ∷ h)).phase (if x then before h else heard (before h) u).pending (sent h) (sent_since h) (replies (Heard u ∷ h)) (has_left (connection (Heard u ∷ h)).stream) (last_of (until_memory h)))
     (sym (memory_is k))
     (says_heard (before h) u (ran_out_in h) (peers h) (sent h) (sent_since h) (replies h) (last_of (until_memory h)) (knows h u k) (routes_are k) (conn_is k) (container_is k) (paths_are k) (shuts_in k) (says h p.1))
-says (Joined link.Ok ∷ h) p = says h p.1
 says (Joined link.Failed ∷ h) p =
     let k : Known h = known h p.1 in
     says_fail _ CONNECTION_FORCED None (ran_out_in h) (connection h) (sent h) (sent_since h) (replies h) (last_of (until_memory h)) (conn_is k) (shuts_in k) (says h p.1)
 says (Lost Client loss.Ended ∷ h) p = says h p.1
-says (Lost Client loss.Failed ∷ h) p = says h p.1
-says (Lost Client loss.Shut ∷ h) p = says h p.1
 says (Lost Up loss.Ended ∷ h) p =
     let k : Known h = known h p.1 in
     says_fail _ CONNECTION_FORCED None (ran_out_in h) (connection h) (sent h) (sent_since h) (replies h) (last_of (until_memory h)) (conn_is k) (shuts_in k) (says h p.1)
 says (Lost Up loss.Failed ∷ h) p =
     let k : Known h = known h p.1 in
     says_fail _ CONNECTION_FORCED None (ran_out_in h) (connection h) (sent h) (sent_since h) (replies h) (last_of (until_memory h)) (conn_is k) (shuts_in k) (says h p.1)
-says (Lost Up loss.Shut ∷ h) p = says h p.1
 says (Gave (ToClient u) text ∷ h) p =
     let s : Says h = says h p.1 in
     let it : Picked (before h) u = picked (before h) u p.0.1 in
@@ -1163,13 +753,11 @@ says (Gave (ToClient u) text ∷ h) p =
           (said_picked (connection h).phase (before h) u (sent h) (replies h) (has_left (connection h).stream) it (s.said m));
       ending = λ m. picked_same (before h) u (sent_since h) (memory_is (known h p.1) ∙ m) it ∙ s.ending m;
     }
-says (Gave (ToUp u) text ∷ h) p = says h p.1
 says (Whole Client ∷ h) p = says h p.1
-says (Whole Up ∷ h) p = says h p.1
-says (LinesTold ∷ h) p = says h p.1
 says (OutOfMemory ∷ h) p =
     let k : Known h = known h p.1 in
     record { said = λ m. absurd (clash true refl m); ending = λ m. last_due (before h).conn.phase (before h).pending ∙ ap (λ (c : Connection). last_units c.phase (rows (before h).pending)) (conn_is k) }
+says (s ∷ h) p = says h p.1
 
 -- no close for that a pair ran out of memory is due before it did
 pub calm_now : (h : List Step) → ArePicks h → is_settled (before h) ≡ false → (before h).pending.no_memory ≡ false

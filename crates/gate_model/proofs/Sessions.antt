@@ -1,6 +1,5 @@
 -- What a unit of a session may do.
-use Rattle.std.proofs.Common.{ℕ, ◌==◌, ◌≡◌, Bool, true, false, if◌then◌else◌, Option, None, Some, List}
-use Rattle.std.proofs.Common.{refl, subst, sym}
+use Rattle.std.proofs.Common.{ℕ, ◌==◌, ◌≡◌, Bool, true, false, if◌then◌else◌, Option, None, Some, List, refl, subst, sym}
 use Rattle.close_translate.specs.declared.codes.TheConstants.{INTERNAL_ERROR, PRECONDITION_FAILED}
 use Rattle.close_translate.specs.declared.conditions.Scope.{Scope}
 use Rattle.close_translate.specs.declared.conditions.Scope.TheVariants as scope
@@ -11,8 +10,7 @@ use Rattle.machine_10.specs.Parts.{Parts}
 use Rattle.machine_10.specs.declared.state.Upstream.{Upstream}
 use Rattle.performatives_10.specs.declared.condition.Condition.{Condition}
 use Rattle.gate_model.specs.declared.life.SessionState.{SessionState}
-use Rattle.gate_model.specs.Folds.{Peers, carried_on, ended_on, peers_closed, peers_failed}
-use Rattle.gate_model.specs.Folds.{peers_met, peers_scoped, peers_session, scope_in}
+use Rattle.gate_model.specs.Folds.{Peers, carried_on, ended_on, peers_closed, peers_failed, peers_met, peers_scoped, peers_session, scope_in}
 use Rattle.gate_model.specs.Lives.{life_at, refusal_on}
 use Rattle.gate_model.specs.Paths.{closed_path, lost_path, path_at, with_path}
 use Rattle.session_path.specs.Path.{PathState}

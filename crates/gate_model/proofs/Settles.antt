@@ -104,12 +104,9 @@ record IsFlowDue (w : State) (n : ℕ) (f : LinkFlow) : Type 0 where
   is : f ≡ flow_out (life_at w.lives n).session due
 
 abbrev IsNextUp : State → ℕ → SessionUnit → Type 0
-IsNextUp w n (unit.Attach a) = Unit {0}
 IsNextUp w n (unit.Flow f) = IsFlowDue w n f
-IsNextUp w n (unit.Transfer t) = Unit {0}
 IsNextUp w n (unit.Dispose x) = next_dispose (path_at w.paths n) ≡ Some x
-IsNextUp w n (unit.Settle x) = Unit {0}
-IsNextUp w n (unit.Detach link handle why) = Unit {0}
+IsNextUp w n x = Unit {0}
 
 is_next_up : (w : State) → SessionUnits (IsNextUp w) w
 is_next_up w = record {

@@ -1,7 +1,6 @@
 -- An end is given up exactly where the folds say so.
 use Rattle.std.proofs.Common.{◌≡◌, ◌∙◌, ℕ, ◌+◌, ◌-◌, ◌*◌, ◌==◌, ◌<◌, ◌≤◌, nat_le, Bool, true, false}
-use Rattle.std.proofs.Common.{not, ◌&&◌, ◌||◌, if◌then◌else◌, List, [], ◌∷◌, Option, None, Some}
-use Rattle.std.proofs.Common.{refl, sym, ap, subst, arith}
+use Rattle.std.proofs.Common.{not, ◌&&◌, ◌||◌, if◌then◌else◌, List, [], ◌∷◌, Option, None, Some, refl, sym, ap, subst, arith}
 use Rattle.std.proofs.lemmas.Bool.Decides.{nat_tests}
 use Rattle.gate_outside.specs.declared.ports.End.TheVariants.{Client, Up}
 use Rattle.gate_outside.specs.declared.ports.Linked.TheVariants as link
@@ -13,24 +12,20 @@ use Rattle.machine_091.specs.declared.unit.Unit91.{Unit91}
 use Rattle.machine_10.specs.Transitions as ten
 use Rattle.machine_10.specs.Transitions.{Meaning}
 use Rattle.performatives_10.specs.declared.condition.Condition.{Condition}
-use Rattle.gate_model.specs.declared.outgoing.Outgoing.TheVariants.{ToClient, ToUp}
+use Rattle.gate_model.specs.declared.outgoing.Outgoing.TheVariants.{ToClient}
 use Rattle.gate_model.specs.declared.timers.TheConstants.{SILENCE_PER_SECOND, UP_SILENCE}
 use Rattle.gate_model.specs.Due.{is_awaiting, is_silent, is_silent_by}
-use Rattle.gate_model.specs.Folds.{connection, given_up_in, gone_in, moment_in, ran_out_in}
-use Rattle.gate_model.specs.Folds.{up_fed_at}
+use Rattle.gate_model.specs.Folds.{connection, given_up_in, gone_in, moment_in, ran_out_in, up_fed_at}
 use Rattle.gate_model.specs.Picks.{ArePicks}
 use Rattle.gate_model.specs.Silence.{fed_in, MayGiveUp, MayGiveUpUp, SilentAtOnce, SilentWhenDue}
-use Rattle.gate_model.specs.State.{Began, Came, Fed, Gave, Heard, Joined, LinesTold, Lost, Moment}
-use Rattle.gate_model.specs.State.{OutOfMemory}
+use Rattle.gate_model.specs.State.{Began, Came, Fed, Gave, Heard, Joined, Lost, Moment}
 use Rattle.gate_model.specs.State.{Queued, Silent, State, Step, TakenUp, Whole, before, came}
-use Rattle.gate_model.specs.State.{dequeued, fail, failed, fed_by, heard, is_held, left, runs, told}
-use Rattle.gate_model.specs.State.{windowed, with_meaning}
+use Rattle.gate_model.specs.State.{dequeued, fail, failed, fed_by, heard, is_held, left, runs, told, windowed, with_meaning}
 use Rattle.gate_model.specs.Upstream.{heard_up, meaning_by}
+use Rattle.gate_model.proofs.Basics.{and_both, and_left, and_right, not_true}
 use Rattle.gate_model.proofs.Connections.{clash}
-use Rattle.gate_model.proofs.Known.{Known, conn_is, known, memory_is, moment_is, side_is, silent_is}
-use Rattle.gate_model.proofs.Known.{up_fed_is}
+use Rattle.gate_model.proofs.Known.{Known, conn_is, known, memory_is, moment_is, side_is, silent_is, up_fed_is}
 use Rattle.gate_model.proofs.Sessions.{session_cases}
-use Rattle.gate_model.proofs.Times.{and_both, and_left, and_right}
 
 -- ---- what the state keeps of the client's end
 
@@ -111,7 +106,6 @@ end_is (Began site n ms ∷ h) p = ap (λ (x : End). record x { fed = ms }) (end
 end_is (Moment ms ∷ h) p = end_told (before h) ms (end_in h) (end_is h p.1)
 end_is (Fed Client ∷ h) p =
     ap (λ (x : End). record x { fed = (before h).moment }) (end_is h p.1) ∙ ap (λ (n : ℕ). record (end_in h) { fed = n }) (moment_is (known h p.1))
-end_is (Fed Up ∷ h) p = end_is h p.1
 end_is (Silent Client ∷ h) p = ap (λ (x : End). record x { given = true }) (end_is h p.1)
 end_is (Silent Up ∷ h) p = end_fail _ _ _ ∙ end_is h p.1
 end_is (Queued u ∷ h) p = end_if (before h).out_of_memory (before h) _ refl ∙ end_is h p.1
@@ -123,20 +117,13 @@ end_is (TakenUp ∷ h) p = end_left _ (before h) ∙ end_is h p.1
 end_is (Heard u ∷ h) p =
     let w : State = before h in
     end_if w.out_of_memory w (heard w u) (end_meaning (meaning_by w.up.container u) (record w { up = heard_up u w.up })) ∙ end_is h p.1
-end_is (Joined link.Ok ∷ h) p = end_is h p.1
 end_is (Joined link.Failed ∷ h) p = end_fail _ None _ ∙ end_is h p.1
-end_is (Lost Client loss.Ended ∷ h) p = end_is h p.1
-end_is (Lost Client loss.Failed ∷ h) p = end_is h p.1
 end_is (Lost Client loss.Shut ∷ h) p = ap (λ (x : End). record x { gone = true }) (end_is h p.1)
 end_is (Lost Up loss.Ended ∷ h) p = end_fail _ None _ ∙ end_is h p.1
 end_is (Lost Up loss.Failed ∷ h) p = end_fail _ None _ ∙ end_is h p.1
-end_is (Lost Up loss.Shut ∷ h) p = end_is h p.1
 end_is (Gave (ToClient u) text ∷ h) p = end_is h p.1
-end_is (Gave (ToUp u) text ∷ h) p = end_is h p.1
 end_is (Whole Client ∷ h) p = end_is h p.1
-end_is (Whole Up ∷ h) p = end_is h p.1
-end_is (LinesTold ∷ h) p = end_is h p.1
-end_is (OutOfMemory ∷ h) p = end_is h p.1
+end_is (s ∷ h) p = end_is h p.1
 
 pub fed_is : (h : List Step) → ArePicks h → (before h).fed_at ≡ fed_in h
 fed_is h p = ap (λ (x : End). x.fed) (end_is h p)
@@ -232,10 +219,6 @@ client_is h p m =
     and_both (is_awaiting w Client) _ m.read
     (and_both (none_against w.given_up w.gone w.leaving w.out_of_memory) _ (free_is _ _ _ _ free) (long_is _ _ _ long))
 
-isnt : (a : Bool) → not a ≡ true → a ≡ false
-isnt true e = absurd cc
-isnt false e = refl
-
 is_not : (a : Bool) → a ≡ false → not a ≡ true
 is_not true e = absurd cc
 is_not false e = refl
@@ -253,7 +236,7 @@ up_by h p e =
     let rest : (not w.up.silent && nat_le UP_SILENCE (w.moment - w.up.fed_at)) ≡ true = and_right (is_readable w.up.side) _ e in
     record {
       readable = ap is_readable (sym (side_is k)) ∙ and_left (is_readable w.up.side) _ e;
-      once = sym (silent_is k) ∙ isnt w.up.silent (and_left (not w.up.silent) _ rest);
+      once = sym (silent_is k) ∙ not_true w.up.silent (and_left (not w.up.silent) _ rest);
       quiet = subst (λ (n : ℕ). n + UP_SILENCE ≤ moment_in h) (up_fed_is k)
           (subst (λ (n : ℕ). w.up.fed_at + UP_SILENCE ≤ n) (moment_is k) (up_passed w.moment w.up.fed_at (and_right (not w.up.silent) _ rest)));
     }
@@ -274,16 +257,4 @@ pub silent_when_due : (h : List Step) → ArePicks h → SilentWhenDue h
 silent_when_due [] p = tt
 silent_when_due (Silent Client ∷ h) p = (client_by h p.1 p.0, silent_when_due h p.1)
 silent_when_due (Silent Up ∷ h) p = (up_by h p.1 p.0, silent_when_due h p.1)
-silent_when_due (Began site n ms ∷ h) p = silent_when_due h p.1
-silent_when_due (Moment ms ∷ h) p = silent_when_due h p.1
-silent_when_due (Fed end ∷ h) p = silent_when_due h p.1
-silent_when_due (Queued u ∷ h) p = silent_when_due h p.1
-silent_when_due (Came u ∷ h) p = silent_when_due h p.1
-silent_when_due (TakenUp ∷ h) p = silent_when_due h p.1
-silent_when_due (Heard u ∷ h) p = silent_when_due h p.1
-silent_when_due (Joined answer ∷ h) p = silent_when_due h p.1
-silent_when_due (Lost end how ∷ h) p = silent_when_due h p.1
-silent_when_due (Gave u text ∷ h) p = silent_when_due h p.1
-silent_when_due (Whole end ∷ h) p = silent_when_due h p.1
-silent_when_due (LinesTold ∷ h) p = silent_when_due h p.1
-silent_when_due (OutOfMemory ∷ h) p = silent_when_due h p.1
+silent_when_due (s ∷ h) p = silent_when_due h p.1

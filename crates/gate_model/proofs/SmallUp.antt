@@ -1,8 +1,7 @@
 -- The units to a container that aren't transfers have at most 512 bytes, where the names that they carry are short.
-use Rattle.std.proofs.Common.{ℕ, ◌+◌, ◌≤◌, ◌==◌, Bool, true, false, if◌then◌else◌, List, [], ◌∷◌, ◌++◌, length, Option, None, Some, codes, decimal, arith}
+use Rattle.std.proofs.Common.{ℕ, ◌≤◌, Bool, true, false, List, [], ◌∷◌, ◌++◌, length, Option, None, Some, codes, decimal, arith}
 use Rattle.std.specs.Prelude.{IfSome}
-use Rattle.std.proofs.Common.{◌/◌, ◌%◌, length-append, suc, zero}
-use Rattle.std.specs.Fmt.{digit_glyph, digits, digits_onto}
+use Rattle.std.proofs.Common.{length-append}
 use Rattle.consume_path.specs.Offers.{most_bytes}
 use Rattle.frames_10.specs.declared.frame.Kind10.TheVariants.{Amqp, Sasl}
 use Rattle.performatives_10.specs.Closing.{end_text, ending_of, error_by, error_of, last_of, settle_text, settling, state_of}
@@ -30,24 +29,11 @@ use Rattle.gate_model.specs.declared.timers.TheConstants.{IDLE_STATED}
 use Rattle.machine_091.specs.declared.limits.TheConstants.{CHANNEL_MAX}
 use Rattle.machine_10.specs.declared.limits.TheConstants.{FRAME_MAX, WINDOW}
 use Rattle.machine_10.specs.declared.state.Upstream.{Upstream}
+use Rattle.gate_model.proofs.Consumers.{decimal_few}
 use Rattle.gate_model.proofs.Widths.{binary_few, boolean_few, composite_few, condition_few, frame_few, frame_long}
 use Rattle.gate_model.proofs.Widths.{maybe_few, string_few, symbol_few, ubyte_few, uint_few, ulong_few, ushort_few}
 
 -- ---- names
-
-digits_few : (k base : ℕ) (upper : Bool) (n : ℕ) (acc : List ℕ) → length (digits_onto k base upper n acc) ≤ k + length acc
-digits_few zero base upper n acc = omega arith
-digits_few (suc k) base upper n acc = by (n / base == 0) (digits_few k base upper (n / base) (digit_glyph upper (n % base) ∷ acc))
-  where
-    by : (b : Bool) → length (digits_onto k base upper (n / base) (digit_glyph upper (n % base) ∷ acc)) ≤ k + length (digit_glyph upper (n % base) ∷ acc)
-        → length (if b then digit_glyph upper (n % base) ∷ acc else digits_onto k base upper (n / base) (digit_glyph upper (n % base) ∷ acc))
-        ≤ suc k + length acc
-    by true e = omega arith
-    by false e = omega (arith, e)
-
-decimal_few : (n : ℕ) → length (decimal n) ≤ 64
-unfolding digits
-decimal_few n = let few : length (digits_onto 64 10 false n []) ≤ 64 + 0 = digits_few 64 10 false n [] in omega (arith, few)
 
 name_few : (n : ℕ) → length (link_name n) ≤ 66
 name_few n = omega (arith, length-append (codes "l-") (decimal n), decimal_few n)
@@ -158,11 +144,8 @@ attach_few n a text short = by a.receives
 -- what is short of what a unit carries: the address of an attach; of transfers it says nothing
 abbrev pub IsBriefOn : SessionUnit → List ℕ → Type 0
 IsBriefOn (unit.Attach a) text = length text ≤ 255
-IsBriefOn (unit.Flow f) text = Unit {0}
 IsBriefOn (unit.Transfer t) text = ⊥
-IsBriefOn (unit.Dispose x) text = Unit {0}
-IsBriefOn (unit.Settle x) text = Unit {0}
-IsBriefOn (unit.Detach k handle why) text = Unit {0}
+IsBriefOn x text = Unit {0}
 
 on_few : (n : ℕ) (u : SessionUnit) (text : List ℕ) → IsBriefOn u text → length (spell_on n u text) ≤ 512
 on_few n (unit.Attach a) text short = attach_few n a text short

@@ -1,9 +1,7 @@
 -- The bytes of a unit to a client are some, and few.
 use Rattle.property_map.specs.declared.told.Told.{Told}
 use Rattle.gate_model.specs.declared.reply.Reason.{Reason}
-use Rattle.std.proofs.Common.{◌≡◌, Bool, List, arith, codes, false, if◌then◌else◌, length, ℕ, ◌<◌}
-use Rattle.std.proofs.Common.{◌≤◌, Option, None, Some, ◌∷◌}
-use Rattle.std.proofs.Common.{true}
+use Rattle.std.proofs.Common.{◌≡◌, Bool, List, arith, codes, false, if◌then◌else◌, length, ℕ, ◌<◌, ◌≤◌, Option, None, Some, ◌∷◌, true}
 use Rattle.std.proofs.lemmas.List.{length-append}
 use Rattle.close_translate.specs.Codes.{name_of}
 use Rattle.frames_091.specs.Frames.{frame_text}
@@ -46,19 +44,12 @@ spelled_some reply.Protocol text e = omega arith
 spelled_some reply.Start text e = start_some
 spelled_some reply.Tune text e = tune_some
 spelled_some reply.OpenOk text e = open_ok_some
-spelled_some reply.CloseOk text e = frame_some _
-spelled_some (reply.Close r) text e = frame_some _
-spelled_some reply.NoMemory text e = frame_some _
-spelled_some reply.Heartbeat text e = frame_some _
-spelled_some (reply.ChannelOpenOk n) text e = frame_some _
 spelled_some (reply.OnChannel n (unit.Ok x)) text e = frame_some _
 spelled_some (reply.OnChannel n (unit.Deliver d)) text e = absurd cc
 spelled_some (reply.OnChannel n (unit.Content c)) text e = absurd cc
 spelled_some (reply.OnChannel n (unit.Confirm c)) text e = frame_some _
 spelled_some (reply.OnChannel n (unit.Return r)) text e = absurd cc
-spelled_some (reply.ChannelCloseOk n) text e = frame_some _
-spelled_some (reply.CrossedOk n) text e = frame_some _
-spelled_some (reply.ChannelClose n r) text e = frame_some _
+spelled_some x text e = frame_some _
 
 close_small : (code : ℕ) (text : List ℕ) (class method : ℕ) → length text ≤ 255 → length (close_text code text class method) ≤ 512
 unfolding frame_text
@@ -71,36 +62,11 @@ name_small code = grind arith
 -- so have the names of faults and of parts of a message
 fault_small : (f : FaultName) → length (fault_text f) ≤ 16
 fault_small name.NotUtf8 = omega arith
-fault_small name.NotAscii = omega arith
-fault_small name.Expiration = omega arith
-fault_small name.DeliveryMode = omega arith
-fault_small name.Time = omega arith
-fault_small name.Reserved = omega arith
-fault_small name.Repeated = omega arith
-fault_small name.Depth = omega arith
-fault_small name.TooLong = omega arith
-fault_small name.BodyKind = omega arith
-fault_small name.ValueKind = omega arith
+fault_small x = omega arith
 
 part_small : (p : PropName) → length (part_text p) ≤ 16
 part_small part.Exchange = omega arith
-part_small part.RoutingKey = omega arith
-part_small part.ContentType = omega arith
-part_small part.ContentEncoding = omega arith
-part_small part.Headers = omega arith
-part_small part.DeliveryMode = omega arith
-part_small part.Priority = omega arith
-part_small part.CorrelationId = omega arith
-part_small part.ReplyTo = omega arith
-part_small part.Expiration = omega arith
-part_small part.MessageId = omega arith
-part_small part.Timestamp = omega arith
-part_small part.Kind = omega arith
-part_small part.UserId = omega arith
-part_small part.AppId = omega arith
-part_small part.ClusterId = omega arith
-part_small part.Header = omega arith
-part_small part.Body = omega arith
+part_small x = omega arith
 
 reason_small : (r : Reason) → length (reason_text r) ≤ 255
 reason_small r = by r.told

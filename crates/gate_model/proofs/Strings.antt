@@ -1,6 +1,6 @@
 -- The names that a client's units hold are short strings: routing keys, and names of queues.
-use Rattle.std.proofs.Common.{◌≡◌, ℕ, ◌≤◌, ◌==◌, ◌&&◌, not, eqb, Bool, true, false, cond, if◌then◌else◌, List, [], ◌∷◌, length, Option, None, Some, Ok, Err}
-use Rattle.std.proofs.Common.{refl, sym, ap, ◌∙◌, subst, arith}
+use Rattle.std.proofs.Common.{◌≡◌, ℕ, ◌≤◌, ◌==◌, ◌&&◌, not, eqb, Bool, true, false, cond, if◌then◌else◌, List, [], ◌∷◌, length, Option, None, Some}
+use Rattle.std.proofs.Common.{Ok, Err, refl, sym, ap, ◌∙◌, subst, arith}
 use Rattle.std.proofs.lemmas.Bool.{eqb-true}
 use Rattle.content_091.specs.declared.assembly.Content.{Content}
 use Rattle.content_091.specs.declared.assembly.Step.TheVariants as content_step
@@ -13,14 +13,13 @@ use Rattle.close_translate.specs.declared.conditions.Scope.TheVariants as scope
 use Rattle.machine_091.specs.Calls.{after_opened}
 use Rattle.machine_091.specs.Contents.{Taking, begun, taken}
 use Rattle.machine_091.specs.Ids.{is_of_kind}
-use Rattle.machine_091.specs.Methods.{ack_of, cancel_of, close_of, consume_of, declare_of, flow_of, get_of, nack_of, publish_of, qos_of, queue_declare_of}
-use Rattle.machine_091.specs.Methods.{recover_async_of, recover_of, reject_of, select_of, text_at}
+use Rattle.machine_091.specs.Methods.{ack_of, cancel_of, close_of, consume_of, declare_of, flow_of, get_of, nack_of, publish_of, qos_of}
+use Rattle.machine_091.specs.Methods.{queue_declare_of, recover_async_of, recover_of, reject_of, select_of, text_at}
 use Rattle.machine_091.specs.Refusals.{unit_ruling}
 use Rattle.machine_091.specs.State.{channel_at, content_at, is_opening, is_running, with_channel, with_content}
 use Rattle.machine_091.specs.Transitions as machine
 use Rattle.machine_091.specs.Transitions.{channel_effect, closed_by, closed_step, content_effect, frame_effect, header_step, is_unit_of}
-use Rattle.machine_091.specs.Transitions.{method_effect}
-use Rattle.machine_091.specs.Transitions.{opening_effect, ordered_step, ruled_step, running_effect, step_in, unit_step, with_stream}
+use Rattle.machine_091.specs.Transitions.{method_effect, opening_effect, ruled_step, step_in, unit_step, with_stream}
 use Rattle.machine_091.specs.Writable.{AreBytes, CanPutBack, CanPutContents}
 use Rattle.machine_091.specs.declared.contents.Incoming.{Incoming}
 use Rattle.machine_091.specs.declared.state.Channel91.TheVariants as channel
@@ -57,10 +56,10 @@ use Rattle.gate_model.specs.Folds.{Peers, accepted_in, connection, container, le
 use Rattle.gate_model.specs.Folds.{peers_left, ran_out_in, routes_in}
 use Rattle.gate_model.specs.Frames.{AreGiven}
 use Rattle.gate_model.specs.Requests.{message_of, refusal_of_want, refused_by}
-use Rattle.gate_model.specs.State.{Began, Came, Fed, Gave, Heard, Joined, LinesTold, Lost, Moment, OutOfMemory, Queued, Silent, Step, TakenUp, Whole}
+use Rattle.gate_model.specs.State.{Began, Came, Gave, Heard, Joined, Lost, Moment, OutOfMemory, Silent, Step, TakenUp, Whole}
 use Rattle.gate_model.specs.State.{close_if, is_limit_reached}
 use Rattle.gate_model.specs.Upstream.{channel_max_in, meaning_by}
-use Rattle.gate_model.specs.declared.outgoing.Outgoing.TheVariants.{ToClient, ToUp}
+use Rattle.gate_model.specs.declared.outgoing.Outgoing.TheVariants.{ToClient}
 use Rattle.gate_model.specs.declared.reply.Reply.TheVariants as reply
 use Rattle.gate_model.proofs.Sessions.{conn_cases}
 
@@ -133,12 +132,7 @@ module _ (P : machine.Step → Type 0) (other : (d : Connection) (x : Want91) �
 
   opening_step : (c : Connection) (args : List Arg) (p : Phase91) → P (opening_effect c args p)
   opening_step c args phase.Header = other _ _ refl
-  opening_step c args phase.Start = other _ _ refl
-  opening_step c args phase.Tune = other _ _ refl
-  opening_step c args phase.Open = other _ _ refl
-  opening_step c args phase.Running = other _ _ refl
-  opening_step c args phase.Closing = other _ _ refl
-  opening_step c args phase.Closed = other _ _ refl
+  opening_step c args x = other _ _ refl
 
   method_step : (c : Connection) (n : ℕ) (bytes : List ℕ) (r : Read) → IsBytes bytes → method_in bytes ≡ r → P (method_effect c n r)
   method_step c n bytes (Err e) fits read = other _ _ refl
@@ -181,12 +175,9 @@ module _ (P : machine.Step → Type 0) (other : (d : Connection) (x : Want91) �
     where
       by : (p : Phase91) → P (step_in p c u)
       by phase.Header = header c u
-      by phase.Start = ruled c u (unit_ruling c u) fits
-      by phase.Tune = ruled c u (unit_ruling c u) fits
-      by phase.Open = ruled c u (unit_ruling c u) fits
-      by phase.Running = ruled c u (unit_ruling c u) fits
       by phase.Closing = pick (is_unit_of (10, 50) u) (λ e. other (record c { phase = phase.Closed }) want.Close refl) (closed c u)
       by phase.Closed = closed c u
+      by x = ruled c u (unit_ruling c u) fits
 
 abbrev GetShort : Want91 → Type 0
 GetShort (want.Method n (method.BasicGet queue no_ack)) = length queue ≤ 255
@@ -256,10 +247,8 @@ puts : (h : List Step) → AreGiven h → CanPutContents (connection h)
 puts [] r = new_puts []
 puts (Began site n ms ∷ h) r = new_puts site.vhost
 puts (Moment ms ∷ h) r = close_puts (is_limit_reached (connection h) (accepted_in h) ms) (connection h) (puts h r)
-puts (Fed end ∷ h) r = puts h r
 puts (Silent Client ∷ h) r = ended_puts (connection h)
 puts (Silent Up ∷ h) r = closing_puts scope.Connection 0 (connection h) (puts h r)
-puts (Queued u ∷ h) r = puts h r
 puts (Came u ∷ h) r =
     puts_if (ran_out_in h) (peers h) (peers_came (peers h) u) (puts h r.1)
     (refused_puts (unit_step (connection h) u) (refusal_of_want (routes_in h) (paths_in h) (unit_step (connection h) u).1)
@@ -267,20 +256,14 @@ puts (Came u ∷ h) r =
 puts (TakenUp ∷ h) r = puts_if (not (ran_out_in h) && leaving_in h) (peers_left (peers h)) (peers h) (ended_puts (connection h)) (puts h r)
 puts (Heard u ∷ h) r =
     puts_if (ran_out_in h) (peers h) (peers_heard (peers h) u) (puts h r) (meaning_puts (meaning_by (container h) u) _ (puts h r))
-puts (Joined link.Ok ∷ h) r = puts h r
 puts (Joined link.Failed ∷ h) r = closing_puts scope.Connection 0 (connection h) (puts h r)
-puts (Lost Client how ∷ h) r = puts h r
 puts (Lost Up loss.Ended ∷ h) r = closing_puts scope.Connection 0 (connection h) (puts h r)
 puts (Lost Up loss.Failed ∷ h) r = closing_puts scope.Connection 0 (connection h) (puts h r)
-puts (Lost Up loss.Shut ∷ h) r = puts h r
 puts (Gave (ToClient (reply.ChannelCloseOk n)) text ∷ h) r = freed_puts n (connection h) (puts h r)
 puts (Gave (ToClient (reply.ChannelClose n x)) text ∷ h) r = told_puts n (connection h) (puts h r)
-puts (Gave (ToClient u) text ∷ h) r = puts h r
-puts (Gave (ToUp u) text ∷ h) r = puts h r
 puts (Whole Client ∷ h) r = puts h r
-puts (Whole Up ∷ h) r = puts h r
-puts (LinesTold ∷ h) r = puts h r
 puts (OutOfMemory ∷ h) r = closing_puts scope.Connection 0 (connection h) (puts h r)
+puts (s ∷ h) r = puts h r
 
 pub unit_short : (h : List Step) (u : Unit91) → AreGiven h → AreBytes u → WantsShort (unit_step (connection h) u).1
 unit_short h u r fits = wants_short (unit_step (connection h) u).1 (step_puts (connection h) u fits (puts h r)).1 (step_get (connection h) u fits)

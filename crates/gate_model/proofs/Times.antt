@@ -20,32 +20,24 @@ use Rattle.machine_091.specs.declared.state.Stream91.TheVariants as stream
 use Rattle.gate_model.specs.declared.reply.Reply.{Reply}
 use Rattle.gate_model.specs.declared.reply.Reply.TheVariants as reply
 use Rattle.gate_model.specs.declared.reply.SentLast.{SentLast}
-use Rattle.gate_model.specs.declared.timers.TheConstants.{BEAT_PER_SECOND, CLOSING_LIMIT}
-use Rattle.gate_model.specs.declared.timers.TheConstants.{HANDSHAKE_LIMIT}
+use Rattle.gate_model.specs.declared.timers.TheConstants.{BEAT_PER_SECOND, CLOSING_LIMIT, HANDSHAKE_LIMIT}
 use Rattle.gate_model.specs.Answers.{is_close_ok}
-use Rattle.gate_model.specs.Due.{is_bad, is_beat_by, is_beat_due, is_busy, is_overdue, is_shut_due}
-use Rattle.gate_model.specs.Due.{is_unheard, pick, when}
+use Rattle.gate_model.specs.Due.{is_bad, is_beat_by, is_beat_due, is_busy, is_overdue, is_shut_due, is_unheard, pick, when}
 use Rattle.gate_model.specs.Upstream.{first, heard_up, meaning_by}
-use Rattle.gate_model.specs.declared.outgoing.Outgoing.TheVariants.{ToClient, ToUp}
-use Rattle.gate_model.specs.Folds.{accepted_in, closed_in, connection, failed_in, moment_in, sent}
-use Rattle.gate_model.specs.Folds.{sent_at}
+use Rattle.gate_model.specs.declared.outgoing.Outgoing.TheVariants.{ToClient}
+use Rattle.gate_model.specs.Folds.{accepted_in, closed_in, connection, failed_in, moment_in, sent, sent_at}
 use Rattle.gate_model.specs.Picks.{ArePicks}
-use Rattle.gate_model.specs.State.{Began, Came, Fed, Gave, Heard, Joined, LinesTold, Lost, Moment}
-use Rattle.gate_model.specs.State.{OutOfMemory}
-use Rattle.gate_model.specs.State.{Queued, Silent, State, Step, TakenUp, Whole, before, came}
+use Rattle.gate_model.specs.State.{Began, Came, Fed, Gave, Heard, Joined, Lost, Queued, Silent, State, Step, TakenUp, Whole, before, came}
 use Rattle.gate_model.specs.State.{dequeued, fail, failed, has_left, heard, is_limit_reached}
-use Rattle.gate_model.specs.State.{is_settled, left, new_state, opened, runs, windowed, with_last}
-use Rattle.gate_model.specs.State.{with_meaning}
+use Rattle.gate_model.specs.State.{is_settled, left, new_state, opened, runs, windowed, with_last, with_meaning}
 use Rattle.gate_model.specs.Times.{BeatsAtOnce, BeatsWhenDue, IsLate, LateCloses, MayBeat, ShutFor}
 use Rattle.gate_model.specs.Times.{Failed, Left, Answered, Greeted, Closed, ClosedBad, ClosedLast}
-use Rattle.gate_model.specs.Times.{Unheard, NotOpened, Overdue, ShutsAtOnce, is_any_close}
-use Rattle.gate_model.specs.Times.{is_protocol, sent_whole}
+use Rattle.gate_model.specs.Times.{Unheard, NotOpened, Overdue, ShutsAtOnce, is_any_close, is_protocol, sent_whole}
+use Rattle.gate_model.proofs.Basics.{and_both, and_left, and_right, or_false, or_left, or_one, or_right, or_true}
 use Rattle.gate_model.proofs.Connections.{clash}
-use Rattle.gate_model.proofs.Known.{Known, accepted_is, closed_is, conn_is, known, memory_is}
-use Rattle.gate_model.proofs.Known.{moment_is}
+use Rattle.gate_model.proofs.Known.{Known, accepted_is, closed_is, conn_is, known, memory_is, moment_is}
 use Rattle.gate_model.proofs.Sessions.{session_cases}
-use Rattle.gate_model.proofs.Said.{Beats, IsDue, OnChannel, Picked, calm_now, first_due, of_channel}
-use Rattle.gate_model.proofs.Said.{picked}
+use Rattle.gate_model.proofs.Said.{Beats, IsDue, OnChannel, Picked, calm_now, first_due, of_channel, picked}
 use Rattle.gate_model.specs.Setup.{SiteText}
 
 -- ---- what was sent
@@ -78,62 +70,18 @@ free (Some r) e = absurd cc
 pub all_whole : (h : List Step) → is_busy (before h) Client ≡ false → Sends h → sent h ≡ sent_whole h
 all_whole h e s = s.going_is ∙ ap (λ (o : Option Reply). sent_whole h ++ option_to_list o) (free (before h).in_progress e) ∙ append-nil (sent_whole h)
 
-or_true : (b : Bool) → true ≡ (b || true)
-or_true true = refl
-or_true false = refl
-
-or_false : (b : Bool) → b ≡ (b || false)
-or_false true = refl
-or_false false = refl
-
 is_protocol_after : (u : Reply) (s : SentLast) → (with_last (Some u) s).protocol ≡ (s.protocol || is_protocol u)
 is_protocol_after reply.Protocol s = or_true s.protocol
-is_protocol_after reply.Start s = or_false s.protocol
-is_protocol_after reply.Tune s = or_false s.protocol
-is_protocol_after reply.OpenOk s = or_false s.protocol
-is_protocol_after reply.CloseOk s = or_false s.protocol
-is_protocol_after (reply.Close r) s = or_false s.protocol
-is_protocol_after reply.NoMemory s = or_false s.protocol
-is_protocol_after reply.Heartbeat s = or_false s.protocol
-is_protocol_after (reply.ChannelOpenOk n) s = or_false s.protocol
-is_protocol_after (reply.OnChannel n u) s = or_false s.protocol
-is_protocol_after (reply.ChannelCloseOk n) s = or_false s.protocol
-is_protocol_after (reply.CrossedOk n) s = or_false s.protocol
-is_protocol_after (reply.ChannelClose n r) s = or_false s.protocol
+is_protocol_after x s = or_false s.protocol
 
 is_close_ok_after : (u : Reply) (s : SentLast) → (with_last (Some u) s).close_ok ≡ (s.close_ok || is_close_ok u)
-is_close_ok_after reply.Protocol s = or_false s.close_ok
-is_close_ok_after reply.Start s = or_false s.close_ok
-is_close_ok_after reply.Tune s = or_false s.close_ok
-is_close_ok_after reply.OpenOk s = or_false s.close_ok
 is_close_ok_after reply.CloseOk s = or_true s.close_ok
-is_close_ok_after (reply.Close r) s = or_false s.close_ok
-is_close_ok_after reply.NoMemory s = or_false s.close_ok
-is_close_ok_after reply.Heartbeat s = or_false s.close_ok
-is_close_ok_after (reply.ChannelOpenOk n) s = or_false s.close_ok
-is_close_ok_after (reply.OnChannel n u) s = or_false s.close_ok
-is_close_ok_after (reply.ChannelCloseOk n) s = or_false s.close_ok
-is_close_ok_after (reply.CrossedOk n) s = or_false s.close_ok
-is_close_ok_after (reply.ChannelClose n r) s = or_false s.close_ok
+is_close_ok_after x s = or_false s.close_ok
 
 is_close_after : (u : Reply) (s : SentLast) → (with_last (Some u) s).close ≡ (s.close || is_any_close u)
-is_close_after reply.Protocol s = or_false s.close
-is_close_after reply.Start s = or_false s.close
-is_close_after reply.Tune s = or_false s.close
-is_close_after reply.OpenOk s = or_false s.close
-is_close_after reply.CloseOk s = or_false s.close
 is_close_after (reply.Close r) s = or_true s.close
 is_close_after reply.NoMemory s = or_true s.close
-is_close_after reply.Heartbeat s = or_false s.close
-is_close_after (reply.ChannelOpenOk n) s = or_false s.close
-is_close_after (reply.OnChannel n u) s = or_false s.close
-is_close_after (reply.ChannelCloseOk n) s = or_false s.close
-is_close_after (reply.CrossedOk n) s = or_false s.close
-is_close_after (reply.ChannelClose n r) s = or_false s.close
-
-or_one : (b : Bool) → (b || false) ≡ b
-or_one true = refl
-or_one false = refl
+is_close_after x s = or_false s.close
 
 any_more : (test : Reply → Bool) (whole : List Reply) (u : Reply) (old new : Bool) → old ≡ list_any test whole → new ≡ (old || test u)
     → new ≡ list_any test (whole ++ u ∷ [])
@@ -201,10 +149,7 @@ part_meaning (ten.Violation c) w = part_fail _ (Some c) w
 pub sends : (h : List Step) → ArePicks h → Sends h
 sends [] p = sends_new
 sends (Began site n ms ∷ h) p = subst (λ (x : List Step). Sends (Began site n ms ∷ x)) (sym p.0) (sends_began site n ms)
-sends (Moment ms ∷ h) p = sends h p.1
 sends (Fed Client ∷ h) p = sends h p.1
-sends (Fed Up ∷ h) p = sends h p.1
-sends (Silent Client ∷ h) p = sends h p.1
 sends (Silent Up ∷ h) p = subst (λ (x : Part). SendsIn x (sent h) (sent_whole h) (sent_at h) (failed_in h)) (sym (part_fail _ _ _)) (sends h p.1)
 sends (Queued u ∷ h) p =
     subst (λ (x : Part). SendsIn x (sent h) (sent_whole h) (sent_at h) (failed_in h)) (sym (part_came (before h) (record (before h) { queue = (before h).queue ++ u ∷ [] }) (before h).out_of_memory refl)) (sends h p.1)
@@ -215,16 +160,12 @@ sends (TakenUp ∷ h) p =
 sends (Heard u ∷ h) p =
     subst (λ (x : Part). SendsIn x (sent h) (sent_whole h) (sent_at h) (failed_in h))
     (sym (part_came (before h) (heard (before h) u) (before h).out_of_memory (part_meaning (meaning_by (before h).up.container u) (record (before h) { up = heard_up u (before h).up })))) (sends h p.1)
-sends (Joined link.Ok ∷ h) p = sends h p.1
 sends (Joined link.Failed ∷ h) p = subst (λ (x : Part). SendsIn x (sent h) (sent_whole h) (sent_at h) (failed_in h)) (sym (part_fail _ None _)) (sends h p.1)
 sends (Lost Up loss.Ended ∷ h) p = subst (λ (x : Part). SendsIn x (sent h) (sent_whole h) (sent_at h) (failed_in h)) (sym (part_fail _ None _)) (sends h p.1)
 sends (Lost Up loss.Failed ∷ h) p = subst (λ (x : Part). SendsIn x (sent h) (sent_whole h) (sent_at h) (failed_in h)) (sym (part_fail _ None _)) (sends h p.1)
-sends (Lost Up loss.Shut ∷ h) p = sends h p.1
-sends (Lost Client loss.Ended ∷ h) p = sends h p.1
 sends (Lost Client loss.Failed ∷ h) p =
     let s : Sends h = sends h p.1 in
     record { going_is = s.going_is; protocol_is = s.protocol_is; close_ok_is = s.close_ok_is; close_is = s.close_is; at_is = s.at_is; broken_is = refl }
-sends (Lost Client loss.Shut ∷ h) p = sends h p.1
 sends (Gave (ToClient u) text ∷ h) p =
     let s : Sends h = sends h p.1 in
     record {
@@ -235,28 +176,12 @@ sends (Gave (ToClient u) text ∷ h) p =
       at_is = s.at_is;
       broken_is = s.broken_is;
     }
-sends (Gave (ToUp u) text ∷ h) p = sends h p.1
 sends (Whole Client ∷ h) p =
     sends_whole (before h).in_progress (before h).sent_last (before h).last_sent_at (before h).moment (before h).failed (sent h) (sent_whole h) (sent_at h) (moment_in h) (failed_in h)
     p.0 (moment_is (known h p.1)) (sends h p.1)
-sends (Whole Up ∷ h) p = sends h p.1
-sends (LinesTold ∷ h) p = sends h p.1
-sends (OutOfMemory ∷ h) p = sends h p.1
+sends (s ∷ h) p = sends h p.1
 
 -- ---- heartbeats
-
-pub and_left : (a b : Bool) → (a && b) ≡ true → a ≡ true
-and_left true b e = refl
-and_left false b e = absurd cc
-
-pub and_right : (a b : Bool) → (a && b) ≡ true → b ≡ true
-and_right true b e = e
-and_right false b e = absurd cc
-
-pub and_both : (a b : Bool) → a ≡ true → b ≡ true → (a && b) ≡ true
-and_both true true e f = refl
-and_both true false e f = absurd cc
-and_both false b e f = absurd cc
 
 record Beat (close_ok : Bool) (interval ms last : ℕ) : Type 0 where
   agreed : 0 < interval
@@ -322,37 +247,13 @@ pub beats_at_once : (h : List Step) → ArePicks h → BeatsAtOnce h
 beats_at_once h p f = (may_beat h p f, beats_now h p)
 
 beats_given : (h : List Step) (u : Reply) (text : List ℕ) → ArePicks h → is_busy (before h) Client ≡ false → pick (before h) Client ≡ Some (ToClient u) → BeatsWhenDue h → BeatsWhenDue (Gave (ToClient u) text ∷ h)
-beats_given h reply.Protocol text p f e b = b
-beats_given h reply.Start text p f e b = b
-beats_given h reply.Tune text p f e b = b
-beats_given h reply.OpenOk text p f e b = b
-beats_given h reply.CloseOk text p f e b = b
-beats_given h (reply.Close r) text p f e b = b
-beats_given h reply.NoMemory text p f e b = b
-beats_given h (reply.ChannelOpenOk n) text p f e b = b
-beats_given h (reply.OnChannel n u) text p f e b = b
-beats_given h (reply.ChannelCloseOk n) text p f e b = b
-beats_given h (reply.CrossedOk n) text p f e b = b
-beats_given h (reply.ChannelClose n r) text p f e b = b
 beats_given h reply.Heartbeat text p f e b = (may_beat h p f e, b)
+beats_given h x text p f e b = b
 
 pub beats_when_due : (h : List Step) → ArePicks h → BeatsWhenDue h
 beats_when_due [] p = tt
 beats_when_due (Gave (ToClient u) text ∷ h) p = beats_given h u text p.1 p.0.0 p.0.1 (beats_when_due h p.1)
-beats_when_due (Gave (ToUp u) text ∷ h) p = beats_when_due h p.1
-beats_when_due (Began site n ms ∷ h) p = beats_when_due h p.1
-beats_when_due (Moment ms ∷ h) p = beats_when_due h p.1
-beats_when_due (Fed end ∷ h) p = beats_when_due h p.1
-beats_when_due (Silent end ∷ h) p = beats_when_due h p.1
-beats_when_due (Queued u ∷ h) p = beats_when_due h p.1
-beats_when_due (Came u ∷ h) p = beats_when_due h p.1
-beats_when_due (TakenUp ∷ h) p = beats_when_due h p.1
-beats_when_due (Heard u ∷ h) p = beats_when_due h p.1
-beats_when_due (Joined answer ∷ h) p = beats_when_due h p.1
-beats_when_due (Lost end how ∷ h) p = beats_when_due h p.1
-beats_when_due (Whole end ∷ h) p = beats_when_due h p.1
-beats_when_due (LinesTold ∷ h) p = beats_when_due h p.1
-beats_when_due (OutOfMemory ∷ h) p = beats_when_due h p.1
+beats_when_due (s ∷ h) p = beats_when_due h p.1
 
 -- ---- the limits of a connection
 
@@ -386,34 +287,23 @@ overdue_by h (Some at) ms e m x =
     let long : at + CLOSING_LIMIT ≤ ms = grind (arith, nat_tests) in
     Overdue at (sym e) (subst (λ (n : ℕ). at + CLOSING_LIMIT ≤ n) m long)
 
-overdue_is : (h : List Step) (at : ℕ) (o : Option ℕ) (ms : ℕ) → o ≡ closed_in h → ms ≡ moment_in h → closed_in h ≡ Some at → at + CLOSING_LIMIT ≤ moment_in h → is_overdue o ms ≡ true
+pub overdue_is : (h : List Step) (at : ℕ) (o : Option ℕ) (ms : ℕ) → o ≡ closed_in h → ms ≡ moment_in h → closed_in h ≡ Some at → at + CLOSING_LIMIT ≤ moment_in h → is_overdue o ms ≡ true
 overdue_is h at o ms e m f le =
     let long : nat_le CLOSING_LIMIT (ms - at) ≡ true = grind (arith, nat_tests, m, le) in
     ap (λ (x : Option ℕ). is_overdue x ms) (e ∙ f) ∙ long
 
 over_by : (h : List Step) (s : Stream91) → s ≡ (connection h).stream → is_over_stream s ≡ true → ShutFor h
-over_by h stream.Header e x = absurd cc
-over_by h stream.Frames e x = absurd cc
-over_by h stream.Foreign e x = absurd cc
-over_by h stream.Bad e x = absurd cc
 over_by h stream.Answered e x = Answered (sym e)
 over_by h stream.Ended e x = Left (ap has_left (sym e))
+over_by h y e x = absurd cc
 
 bad_by : (s : Stream91) → is_bad s ≡ true → s ≡ stream.Bad
-bad_by stream.Header x = absurd cc
-bad_by stream.Frames x = absurd cc
-bad_by stream.Foreign x = absurd cc
 bad_by stream.Bad x = refl
-bad_by stream.Answered x = absurd cc
-bad_by stream.Ended x = absurd cc
+bad_by y x = absurd cc
 
 left_over : (s : Stream91) → has_left s ≡ true → is_over_stream s ≡ true
-left_over stream.Header x = absurd cc
-left_over stream.Frames x = absurd cc
-left_over stream.Foreign x = absurd cc
-left_over stream.Bad x = absurd cc
-left_over stream.Answered x = absurd cc
 left_over stream.Ended x = refl
+left_over y x = absurd cc
 
 pub data Either (a b : Bool) : Type 0 where
   OnLeft : a ≡ true → Either a b
@@ -422,14 +312,6 @@ pub data Either (a b : Bool) : Type 0 where
 pub either : (a b : Bool) → (a || b) ≡ true → Either a b
 either true b e = OnLeft refl
 either false b e = OnRight e
-
-pub in_left : (a b : Bool) → a ≡ true → (a || b) ≡ true
-in_left true b e = refl
-in_left false b e = absurd cc
-
-pub in_right : (a b : Bool) → b ≡ true → (a || b) ≡ true
-in_right true b e = refl
-in_right false b e = e
 
 shut_for : (h : List Step) → ArePicks h → is_shut_due (before h) Client ≡ true → ShutFor h
 shut_for h p e = one (either _ _ e)
@@ -492,32 +374,32 @@ shut_now h p f = by f
 
     -- the places behind the first
     at_2 : is_overdue w.closed_at w.moment ≡ true → is_shut_due w Client ≡ true
-    at_2 e = in_right w.failed _ (in_left _ _ e)
+    at_2 e = or_right w.failed _ (or_left _ _ e)
 
     at_3 : w.late ≡ true → is_shut_due w Client ≡ true
-    at_3 e = in_right w.failed _ (in_right (is_overdue w.closed_at w.moment) _ (in_left _ _ e))
+    at_3 e = or_right w.failed _ (or_right (is_overdue w.closed_at w.moment) _ (or_left _ _ e))
 
     at_4 : is_over w.conn ≡ true → is_shut_due w Client ≡ true
-    at_4 e = in_right w.failed _ (in_right (is_overdue w.closed_at w.moment) _ (in_right w.late _ (in_left _ _ e)))
+    at_4 e = or_right w.failed _ (or_right (is_overdue w.closed_at w.moment) _ (or_right w.late _ (or_left _ _ e)))
 
     at_5 : w.sent_last.protocol ≡ true → is_shut_due w Client ≡ true
-    at_5 e = in_right w.failed _ (in_right (is_overdue w.closed_at w.moment) _ (in_right w.late _ (in_right (is_over w.conn) _ (in_left _ _ e))))
+    at_5 e = or_right w.failed _ (or_right (is_overdue w.closed_at w.moment) _ (or_right w.late _ (or_right (is_over w.conn) _ (or_left _ _ e))))
 
     at_6 : w.sent_last.close_ok ≡ true → is_shut_due w Client ≡ true
-    at_6 e = in_right w.failed _ (in_right (is_overdue w.closed_at w.moment) _ (in_right w.late _ (in_right (is_over w.conn) _ (in_right w.sent_last.protocol _ (in_left _ _ e)))))
+    at_6 e = or_right w.failed _ (or_right (is_overdue w.closed_at w.moment) _ (or_right w.late _ (or_right (is_over w.conn) _ (or_right w.sent_last.protocol _ (or_left _ _ e)))))
 
     behind : ((w.sent_last.close && (is_bad w.conn.stream || w.out_of_memory)) || (w.out_of_memory && is_unheard w.conn.stream)) ≡ true → is_shut_due w Client ≡ true
-    behind e = in_right w.failed _ (in_right (is_overdue w.closed_at w.moment) _ (in_right w.late _ (in_right (is_over w.conn) _ (in_right w.sent_last.protocol _ (in_right w.sent_last.close_ok _ e)))))
+    behind e = or_right w.failed _ (or_right (is_overdue w.closed_at w.moment) _ (or_right w.late _ (or_right (is_over w.conn) _ (or_right w.sent_last.protocol _ (or_right w.sent_last.close_ok _ e)))))
 
     by : ShutFor h → is_shut_due w Client ≡ true
-    by (Failed e) = in_left w.failed _ (s.broken_is ∙ e)
+    by (Failed e) = or_left w.failed _ (s.broken_is ∙ e)
     by (Left e) = at_4 (left_over w.conn.stream (ap has_left stream_is ∙ e))
     by (Answered e) = at_4 (ap is_over_stream (stream_is ∙ e))
     by (Greeted e) = at_5 (s.protocol_is ∙ e)
     by (Closed e) = at_6 (s.close_ok_is ∙ e)
-    by (ClosedBad e f) = behind (in_left _ _ (and_both w.sent_last.close _ (s.close_is ∙ e) (in_left _ _ (ap is_bad (stream_is ∙ f)))))
-    by (ClosedLast e f) = behind (in_left _ _ (and_both w.sent_last.close _ (s.close_is ∙ e) (in_right (is_bad w.conn.stream) _ ((memory_is k) ∙ f))))
-    by (Unheard e f) = behind (in_right (w.sent_last.close && (is_bad w.conn.stream || w.out_of_memory)) _ (and_both w.out_of_memory _ ((memory_is k) ∙ e) (ap is_unheard stream_is ∙ f)))
+    by (ClosedBad e f) = behind (or_left _ _ (and_both w.sent_last.close _ (s.close_is ∙ e) (or_left _ _ (ap is_bad (stream_is ∙ f)))))
+    by (ClosedLast e f) = behind (or_left _ _ (and_both w.sent_last.close _ (s.close_is ∙ e) (or_right (is_bad w.conn.stream) _ ((memory_is k) ∙ f))))
+    by (Unheard e f) = behind (or_right (w.sent_last.close && (is_bad w.conn.stream || w.out_of_memory)) _ (and_both w.out_of_memory _ ((memory_is k) ∙ e) (ap is_unheard stream_is ∙ f)))
     by (NotOpened l) = at_3 (late_is h k l)
     by (Overdue at e f) = at_2 (overdue_is h at w.closed_at w.moment (closed_is k) (moment_is k) e f)
 

@@ -1,7 +1,6 @@
 -- What the state knows of the units to a container, by the folds.
 use Rattle.std.proofs.Common.{◌≡◌, ℕ, ◌⊎◌, inl, inr, Bool, true, false, not, ◌&&◌, ◌||◌}
-use Rattle.std.proofs.Common.{if◌then◌else◌, List, [], ◌∷◌, ◌++◌, Option, None, Some, append-nil}
-use Rattle.std.proofs.Common.{refl, sym, ap, ◌∙◌, subst}
+use Rattle.std.proofs.Common.{if◌then◌else◌, List, [], ◌∷◌, ◌++◌, Option, None, Some, append-nil, refl, sym, ap, ◌∙◌, subst}
 use Rattle.std.specs.Prelude.{is_some, map}
 use Rattle.std.specs.List.{list_any}
 use Rattle.std.specs.Option.{option_map, option_to_list}
@@ -32,45 +31,35 @@ use Rattle.gate_model.specs.declared.outgoing.UpPending.{UpPending}
 use Rattle.gate_model.specs.declared.outgoing.UpSent.{UpSent}
 use Rattle.gate_model.specs.declared.outgoing.UpUnit.{UpUnit}
 use Rattle.gate_model.specs.declared.outgoing.UpUnit.TheVariants as up
-use Rattle.gate_model.specs.Asked.{called, called_by, called_from, is_opening_unit, is_up_close}
-use Rattle.gate_model.specs.Asked.{is_up_open, sent_up_whole}
-use Rattle.gate_model.specs.Due.{attaches, begins, carried_rows, close_behind, detaches, disposals}
-use Rattle.gate_model.specs.Due.{ends, may_idle, other_rows}
+use Rattle.gate_model.specs.Asked.{called, called_by, called_from, is_opening_unit, is_up_close, is_up_open, sent_up_whole}
+use Rattle.gate_model.specs.Due.{attaches, begins, carried_rows, close_behind, detaches, disposals, ends, may_idle, other_rows}
 use Rattle.gate_model.specs.Due.{flows_on, is_end_due, link_flows, none_left, pick, row_on, rows_in}
-use Rattle.gate_model.specs.Due.{session_flows, session_rows, settlings, transfers, unless_out}
-use Rattle.gate_model.specs.Due.{up_rows}
+use Rattle.gate_model.specs.Due.{session_flows, session_rows, settlings, transfers, unless_out, up_rows}
 use Rattle.gate_model.specs.Session.{is_flow_owed}
 use Rattle.gate_model.specs.Folds.{Peers, accepted_in, connection, container, container_kept}
 use Rattle.gate_model.specs.Folds.{carried_on, leaving_in, moment_in, peers, peers_by, peers_came}
 use Rattle.gate_model.specs.Folds.{peers_heard, peers_left, ran_out_in, scope_in, sent_up, sent_up_at}
 use Rattle.gate_model.specs.Picks.{ArePicks}
 use Rattle.gate_model.specs.Requests.{client_step}
-use Rattle.gate_model.specs.State.{Began, Came, Fed, Gave, Heard, Joined, LinesTold, Lost, Moment}
-use Rattle.gate_model.specs.State.{OutOfMemory}
+use Rattle.gate_model.specs.State.{Began, Came, Fed, Gave, Heard, Joined, Lost, Moment, OutOfMemory}
 use Rattle.gate_model.specs.State.{Queued, Silent, State, Step, TakenUp, Whole, before, came}
-use Rattle.gate_model.specs.State.{close_if, dequeued, fail, failed, heard, is_limit_reached, left}
-use Rattle.gate_model.specs.State.{runs, windowed, with_meaning, paths_lost}
+use Rattle.gate_model.specs.State.{close_if, dequeued, fail, failed, heard, is_limit_reached, left, runs, windowed, with_meaning, paths_lost}
 use Rattle.gate_model.specs.Lives.{is_carried, is_free, session_in}
 use Rattle.gate_model.specs.declared.life.Life.{Life}
 use Rattle.machine_10.specs.Calls.{asked, left as left_session, may_begin}
 use Rattle.machine_10.specs.State.{session_at}
 use Rattle.machine_10.specs.declared.state.Session.{Session}
 use Rattle.machine_10.specs.declared.state.Session.TheVariants as session
-use Rattle.gate_model.specs.Upstream.{UpState, begun, channel_max_in, closing_with, container_by}
-use Rattle.gate_model.specs.Upstream.{container_given, ended_in, first, heard_up}
-use Rattle.gate_model.specs.Upstream.{meaning_by, no_end, nothing_due, opening_rows, when_up}
-use Rattle.gate_model.specs.Upstream.{with_begun, with_whole, without_up}
+use Rattle.gate_model.specs.Upstream.{UpState, begun, channel_max_in, closing_with, container_by, container_given, ended_in, first, heard_up}
+use Rattle.gate_model.specs.Upstream.{meaning_by, no_end, nothing_due, opening_rows, when_up, with_begun, with_whole, without_up}
+use Rattle.gate_model.proofs.Basics.{and_right, both_true, or_false, or_one, or_true}
 use Rattle.gate_model.proofs.Connections.{clash, only_given, phase_only}
-use Rattle.gate_model.proofs.Outcomes.{only_closing}
+use Rattle.gate_model.proofs.Outcomes.{only_closing, Outcome, Greets, Parts, LogsIn, Tunes, Refuses, Declines, Drops, Parting}
 use Rattle.gate_model.proofs.Rows.{first_each}
 use Rattle.gate_model.proofs.Sessions.{conn_cases, only_scoped, session_cases}
-use Rattle.gate_model.proofs.Known.{Known, conn_is, container_is, keep_is, known, memory_is}
-use Rattle.gate_model.proofs.Known.{moment_is}
-use Rattle.gate_model.proofs.Openings.{UpTo, Ups, is_opening_first, phase_in, up_to_closed}
-use Rattle.gate_model.proofs.Openings.{ups_gone, ups_heard, ups_other}
-use Rattle.gate_model.proofs.Outcomes.{Outcome, Greets, Parts, LogsIn, Tunes, Asks, Passes, Refuses}
-use Rattle.gate_model.proofs.Outcomes.{Declines, Drops, Parting, Calls, Asking, Publishes, Fills}
-use Rattle.gate_model.proofs.Outcomes.{Frees, Closes, Answers, Ignores, outcome}
+use Rattle.gate_model.proofs.Known.{Known, conn_is, container_is, keep_is, known, memory_is, moment_is}
+use Rattle.gate_model.proofs.Openings.{UpTo, Ups, is_opening_first, phase_in, up_to_closed, ups_gone, ups_heard, ups_other}
+use Rattle.gate_model.proofs.Outcomes.{Closes, Answers, outcome}
 use Rattle.gate_model.specs.declared.setup.Route.{Route}
 
 -- ---- before the login there is no container
@@ -78,23 +67,14 @@ use Rattle.gate_model.specs.declared.setup.Route.{Route}
 abbrev pub is_early : Phase91 → Bool
 is_early phase.Header = true
 is_early phase.Start = true
-is_early phase.Tune = false
-is_early phase.Open = false
-is_early phase.Running = false
-is_early phase.Closing = false
-is_early phase.Closed = false
+is_early x = false
 
 abbrev pub Early : Peers → Type 0
 Early p = is_early p.client.phase ≡ true → p.container ≡ None
 
 closing_late : (p : Phase91) → is_early (closing_phase p) ≡ false
 closing_late phase.Header = refl
-closing_late phase.Start = refl
-closing_late phase.Tune = refl
-closing_late phase.Open = refl
-closing_late phase.Running = refl
-closing_late phase.Closing = refl
-closing_late phase.Closed = refl
+closing_late x = refl
 
 early_came : (p : Peers) (u : Unit91) → Early p → Early (peers_came p u)
 early_came p u f = by (client_step p.routes p.paths p.client u) (outcome p.routes p.paths p.client u)
@@ -107,30 +87,20 @@ early_came p u f = by (client_step p.routes p.paths p.client u) (outcome p.route
     by _ (Parts e) k = absurd cc
     by _ (LogsIn m r e) k = absurd cc
     by _ (Tunes l e) k = absurd cc
-    by _ (Asks e) k = f k
-    by _ Passes k = f k
     by _ (Refuses r a f e g) k = absurd cc
     by _ (Declines r d o e g) k = let late = closing_late d.phase in absurd cc
     by _ (Drops r d o e g) k = f (sym (ap is_early (phase_only o)) ∙ k)
     by _ (Parting e) k = absurd cc
-    by _ (Calls n s m e) k = f k
-    by _ (Asking n m e) k = f k
-    by _ (Publishes n m x e) k = f k
-    by _ (Fills n i e) k = f k
-    by _ (Frees n e) k = f k
     by _ (Closes e) k = absurd cc
     by _ (Answers e) k = absurd cc
-    by _ (Ignores e) k = f k
+    by _ x k = f k
 
 early_opened : (asked : Bool) (p : Phase91) → is_early (opened_phase asked p) ≡ true → is_early p ≡ true
 early_opened asked phase.Header e = refl
 early_opened asked phase.Start e = refl
-early_opened asked phase.Tune e = absurd cc
 early_opened true phase.Open e = absurd cc
 early_opened false phase.Open e = absurd cc
-early_opened asked phase.Running e = absurd cc
-early_opened asked phase.Closing e = absurd cc
-early_opened asked phase.Closed e = absurd cc
+early_opened asked x e = absurd cc
 
 early_meaning : (m : Meaning) (x : Peers) → is_early (peers_by m x).client.phase ≡ true → is_early x.client.phase ≡ true
 early_meaning ten.Nothing x e = e
@@ -149,16 +119,10 @@ early_meaning ten.Refused x e = absurd (clash _ e (closing_late x.client.phase))
 early_meaning (ten.Violation why) x e = absurd (clash _ e (closing_late x.client.phase))
 
 -- what a unit of the container means leaves the container
-kept_container : (m : Meaning) (x : Peers) → (peers_by m x).container ≡ x.container
-kept_container ten.Nothing x = refl
-kept_container ten.Init x = refl
-kept_container ten.AmqpHeader x = refl
-kept_container ten.Opened x = refl
+pub kept_container : (m : Meaning) (x : Peers) → (peers_by m x).container ≡ x.container
 kept_container (ten.OfSession g q payload) x =
     ap (λ (y : Peers). y.container) (only_scoped (scope_in x g q payload) g q payload (record x { carried = carried_on g q x.carried }))
-kept_container (ten.Closed t) x = refl
-kept_container ten.Refused x = refl
-kept_container (ten.Violation why) x = refl
+kept_container m x = refl
 
 early_if : (b : Bool) (p q : Peers) → Early p → Early q → Early (if b then p else q)
 early_if true p q f g = f
@@ -173,28 +137,22 @@ early [] e = refl
 early (Began site n ms ∷ h) e = refl
 early (Moment ms ∷ h) e = early h (early_close (is_limit_reached (connection h) (accepted_in h) ms) (connection h) e)
 early (Fed Client ∷ h) e = early h e
-early (Fed Up ∷ h) e = early h e
 early (Silent Client ∷ h) e = absurd cc
 early (Silent Up ∷ h) e = absurd (clash _ e (closing_late (connection h).phase))
-early (Queued u ∷ h) e = early h e
 early (Came u ∷ h) e = early_if (ran_out_in h) (peers h) (peers_came (peers h) u) (early h) (early_came (peers h) u (early h)) e
 early (TakenUp ∷ h) e = early_if (not (ran_out_in h) && leaving_in h) (peers_left (peers h)) (peers h) (λ x. absurd cc) (early h) e
 early (Heard u ∷ h) e =
     early_if (ran_out_in h) (peers h) (peers_heard (peers h) u) (early h)
     (λ x. kept_container (meaning_by (container h) u) (record (peers h) { container = container_by (container h) u })
     ∙ ap (λ (o : Option Upstream). container_by o u) (early h (early_meaning (meaning_by (container h) u) (record (peers h) { container = container_by (container h) u }) x))) e
-early (Joined link.Ok ∷ h) e = early h e
 early (Joined link.Failed ∷ h) e = absurd (clash _ e (closing_late (connection h).phase))
-early (Lost Client how ∷ h) e = early h e
 early (Lost Up loss.Ended ∷ h) e = absurd (clash _ e (closing_late (connection h).phase))
 early (Lost Up loss.Failed ∷ h) e = absurd (clash _ e (closing_late (connection h).phase))
-early (Lost Up loss.Shut ∷ h) e = early h e
 early (Gave (ToClient u) text ∷ h) e = early h (sym (ap is_early (phase_only (only_given u (connection h)))) ∙ e)
 early (Gave (ToUp u) text ∷ h) e = ap (container_given u) (early h e)
 early (Whole Client ∷ h) e = early h e
-early (Whole Up ∷ h) e = early h e
-early (LinesTold ∷ h) e = early h e
 early (OutOfMemory ∷ h) e = absurd (clash _ e (closing_late (connection h).phase))
+early (s ∷ h) e = early h e
 
 -- ---- what counts of the state
 
@@ -235,24 +193,8 @@ kept_phase : (rs : List Route) (ps : List (Option PathState)) (c : Connection) (
 kept_phase rs ps c u o f = by (client_step rs ps c u) (outcome rs ps c u)
   where
     by : (x : machine.Step) → Outcome c u x → phase_in (container_kept o x.1) ≡ phase_in o
-    by _ (Greets e) = refl
-    by _ (Parts e) = refl
     by _ (LogsIn m r e) = sym (ap phase_in (f (ap is_early e)))
-    by _ (Tunes l e) = refl
-    by _ (Asks e) = refl
-    by _ Passes = refl
-    by _ (Refuses r a f e g) = refl
-    by _ (Declines r d o e g) = refl
-    by _ (Drops r d o e g) = refl
-    by _ (Parting e) = refl
-    by _ (Calls n s m e) = refl
-    by _ (Asking n m e) = refl
-    by _ (Publishes n m x e) = refl
-    by _ (Fills n i e) = refl
-    by _ (Frees n e) = refl
-    by _ (Closes e) = refl
-    by _ (Answers e) = refl
-    by _ (Ignores e) = refl
+    by _ x = refl
 
 part_closing : (b : Bool) (why : Option Condition) (s : UpState) → part (closing_with b why s) ≡ part s
 part_closing true why s = refl
@@ -464,11 +406,6 @@ last_is : (b : Bool) (x u : UpUnit) → first (when_up b x) ≡ Some u → (b �
 last_is true x u e = (refl, (let here : x ≡ u = cc in sym here))
 last_is false x u e = absurd cc
 
-both_true : (a b : Bool) → (a && b) ≡ true → (a ≡ true) × (b ≡ true)
-both_true true true e = (refl, refl)
-both_true true false e = absurd cc
-both_true false b e = absurd cc
-
 picked_other : (closing : Bool) (w : State) (u : UpUnit) → first (other_rows closing w) ≡ Some u → Picked closing w u
 picked_other true w u e = by (either (session_rows w) (ends true w ++ close_behind w) u e)
   where
@@ -582,12 +519,7 @@ opening_closes up.SaslHeader e = refl
 opening_closes up.SaslInit e = refl
 opening_closes up.AmqpHeader e = refl
 opening_closes up.Open e = refl
-opening_closes (up.Close c) e = absurd cc
-opening_closes up.Empty e = absurd cc
-opening_closes (up.OnSession n u) e = absurd cc
-opening_closes (up.Flow n i o) e = absurd cc
-opening_closes (up.Begin n) e = absurd cc
-opening_closes (up.End n why) e = absurd cc
+opening_closes x e = absurd cc
 
 -- a close goes to a connection that closes
 pub is_a_close : {closing : Bool} {w : State} {u : UpUnit} → Picked closing w u → (is_up_close u ≡ false) ⊎ (closing ≡ true)
@@ -609,89 +541,29 @@ ups_begun w closing u q at went p x = by (isnt_opening w closing u p)
 
 -- ---- what was sent
 
-or_true : (b : Bool) → true ≡ (b || true)
-or_true true = refl
-or_true false = refl
-
-or_false : (b : Bool) → b ≡ (b || false)
-or_false true = refl
-or_false false = refl
-
-or_one : (b : Bool) → (b || false) ≡ b
-or_one true = refl
-or_one false = refl
-
 open_after : (u : UpUnit) (s : UpSent) → (with_begun u s).«open» ≡ (s.«open» || is_up_open u)
-open_after up.SaslHeader s = or_false s.«open»
-open_after up.SaslInit s = or_false s.«open»
-open_after up.AmqpHeader s = or_false s.«open»
 open_after up.Open s = or_true s.«open»
-open_after (up.Close c) s = or_false s.«open»
-open_after up.Empty s = or_false s.«open»
-open_after (up.OnSession n u) s = or_false s.«open»
-open_after (up.Flow n i o) s = or_false s.«open»
-open_after (up.Begin n) s = or_false s.«open»
-open_after (up.End n why) s = or_false s.«open»
+open_after x s = or_false s.«open»
 
 close_after : (u : UpUnit) (s : UpSent) → (with_begun u s).close ≡ (s.close || is_up_close u)
-close_after up.SaslHeader s = or_false s.close
-close_after up.SaslInit s = or_false s.close
-close_after up.AmqpHeader s = or_false s.close
-close_after up.Open s = or_false s.close
 close_after (up.Close c) s = or_true s.close
-close_after up.Empty s = or_false s.close
-close_after (up.OnSession n u) s = or_false s.close
-close_after (up.Flow n i o) s = or_false s.close
-close_after (up.Begin n) s = or_false s.close
-close_after (up.End n why) s = or_false s.close
+close_after x s = or_false s.close
 
 whole_begun : (u : UpUnit) (s : UpSent) → (with_begun u s).whole_close ≡ s.whole_close
 whole_begun up.SaslHeader s = refl
-whole_begun up.SaslInit s = refl
-whole_begun up.AmqpHeader s = refl
-whole_begun up.Open s = refl
-whole_begun (up.Close c) s = refl
-whole_begun up.Empty s = refl
-whole_begun (up.OnSession n u) s = refl
-whole_begun (up.Flow n i o) s = refl
-whole_begun (up.Begin n) s = refl
-whole_begun (up.End n why) s = refl
+whole_begun x s = refl
 
 whole_after : (u : UpUnit) (s : UpSent) → (with_whole (Some u) s).whole_close ≡ (s.whole_close || is_up_close u)
-whole_after up.SaslHeader s = or_false s.whole_close
-whole_after up.SaslInit s = or_false s.whole_close
-whole_after up.AmqpHeader s = or_false s.whole_close
-whole_after up.Open s = or_false s.whole_close
 whole_after (up.Close c) s = or_true s.whole_close
-whole_after up.Empty s = or_false s.whole_close
-whole_after (up.OnSession n u) s = or_false s.whole_close
-whole_after (up.Flow n i o) s = or_false s.whole_close
-whole_after (up.Begin n) s = or_false s.whole_close
-whole_after (up.End n why) s = or_false s.whole_close
+whole_after x s = or_false s.whole_close
 
 open_whole : (u : UpUnit) (s : UpSent) → (with_whole (Some u) s).«open» ≡ s.«open»
 open_whole up.SaslHeader s = refl
-open_whole up.SaslInit s = refl
-open_whole up.AmqpHeader s = refl
-open_whole up.Open s = refl
-open_whole (up.Close c) s = refl
-open_whole up.Empty s = refl
-open_whole (up.OnSession n u) s = refl
-open_whole (up.Flow n i o) s = refl
-open_whole (up.Begin n) s = refl
-open_whole (up.End n why) s = refl
+open_whole x s = refl
 
 close_whole : (u : UpUnit) (s : UpSent) → (with_whole (Some u) s).close ≡ s.close
 close_whole up.SaslHeader s = refl
-close_whole up.SaslInit s = refl
-close_whole up.AmqpHeader s = refl
-close_whole up.Open s = refl
-close_whole (up.Close c) s = refl
-close_whole up.Empty s = refl
-close_whole (up.OnSession n u) s = refl
-close_whole (up.Flow n i o) s = refl
-close_whole (up.Begin n) s = refl
-close_whole (up.End n why) s = refl
+close_whole x s = refl
 
 any_more : (test : UpUnit → Bool) (went : List UpUnit) (u : UpUnit) (old new : Bool) → old ≡ list_any test went → new ≡ (old || test u)
     → new ≡ list_any test (went ++ u ∷ [])
@@ -728,11 +600,7 @@ phase_given (up.End n why) (Some c) = by (session_at c n)
   where
     by : (x : Session) → (left_session x n c).phase ≡ c.phase
     by session.Free = refl
-    by session.Asked = refl
-    by session.Left = refl
-    by (session.Open m) = refl
-    by (session.Leaving m) = refl
-    by (session.Ended m) = refl
+    by x = refl
 
 up_begun : (w : State) (closing : Bool) (u : UpUnit) (went whole : List UpUnit) (at : ℕ) (q : UpPending)
     → is_some (option_map ToUp w.up.in_progress) ≡ false → GoesUp closing w u → UpSaysIn (part w.up) went whole at q
@@ -749,11 +617,8 @@ up_begun w closing u went whole at q e g k = let s : UpState = w.up in record {
 }
   where
     absent_not : (x : Side) → is_readable x ≡ true → is_absent x ≡ false
-    absent_not side.Absent f = absurd cc
     absent_not side.Open f = refl
-    absent_not side.Ended f = absurd cc
-    absent_not side.Failed f = absurd cc
-    absent_not side.Gone f = absurd cc
+    absent_not x f = absurd cc
 
 -- and its last
 up_whole : (s : Part) (o : Option UpUnit) (went whole : List UpUnit) (at ms ms' : ℕ) (q : UpPending) → s.going ≡ o → is_some (option_map ToUp o) ≡ true → ms ≡ ms'
@@ -791,10 +656,6 @@ up_linked s went whole at ms ms' q e m k = record {
 
 -- ---- all steps
 
-right_of : (a b : Bool) → (a && b) ≡ true → b ≡ true
-right_of true b e = e
-right_of false b e = absurd cc
-
 up_none : UpSaysIn (part no_end) [] [] 0 nothing_due
 up_none = record {
   ups = record { same = refl; mine = record { init = λ x. refl; amqp = λ x. refl; own = λ x. refl }; theirs = record { init = λ x. refl; amqp = λ x. refl; own = λ x. refl } };
@@ -812,9 +673,7 @@ early_now {h} k e = container_is k ∙ early h (ap (λ (c : Connection). is_earl
 pub up_says : (h : List Step) → ArePicks h → UpSays h
 up_says [] p = up_none
 up_says (Began site n ms ∷ h) p = subst (λ (x : List Step). UpSays (Began site n ms ∷ x)) (sym p.0) up_none
-up_says (Moment ms ∷ h) p = up_says h p.1
 up_says (Fed Client ∷ h) p = up_says h p.1
-up_says (Fed Up ∷ h) p = up_says h p.1
 up_says (Silent Client ∷ h) p =
     subst (λ (x : Part). UpSaysIn x (sent_up h) (sent_up_whole h) (sent_up_at h) (called h)) (sym (part_closing (is_closing (before h).conn) None (before h).up)) (up_says h p.1)
 up_says (Silent Up ∷ h) p =
@@ -829,24 +688,20 @@ up_says (Heard u ∷ h) p =
     let k : Known h = known h p.1 in
     up_heard (before h) u (ran_out_in h) (container h) (sent_up h) (sent_up_whole h) (sent_up_at h) (called h) (memory_is k) (container_is k) (up_says h p.1)
 up_says (Joined link.Ok ∷ h) p =
-    up_linked (before h).up (sent_up h) (sent_up_whole h) (sent_up_at h) (before h).moment _ (called h) (right_of (is_opening (before h).conn) _ p.0)
+    up_linked (before h).up (sent_up h) (sent_up_whole h) (sent_up_at h) (before h).moment _ (called h) (and_right (is_opening (before h).conn) _ p.0)
     (moment_is (known h p.1)) (up_says h p.1)
 up_says (Joined link.Failed ∷ h) p =
     subst (λ (x : Part). UpSaysIn x (sent_up h) (sent_up_whole h) (sent_up_at h) (called h)) (sym (part_fail _ None _))
     (up_gone (part (before h).up) (sent_up h) (sent_up_whole h) (sent_up_at h) (called h) (up_says h p.1))
 up_says (Lost Client loss.Ended ∷ h) p = up_says h p.1
-up_says (Lost Client loss.Failed ∷ h) p = up_says h p.1
-up_says (Lost Client loss.Shut ∷ h) p = up_says h p.1
 up_says (Lost Up loss.Ended ∷ h) p = up_lost side.Ended (record (before h) { paths = paths_lost (before h).paths }) _ (sent_up h) (sent_up_whole h) (sent_up_at h) (called h) refl (up_says h p.1)
 up_says (Lost Up loss.Failed ∷ h) p = up_lost side.Failed (record (before h) { paths = paths_lost (before h).paths }) _ (sent_up h) (sent_up_whole h) (sent_up_at h) (called h) refl (up_says h p.1)
 up_says (Lost Up loss.Shut ∷ h) p = up_gone (part (before h).up) (sent_up h) (sent_up_whole h) (sent_up_at h) (called h) (up_says h p.1)
-up_says (Gave (ToClient u) text ∷ h) p = up_says h p.1
 up_says (Gave (ToUp u) text ∷ h) p =
     up_begun (before h) _ u (sent_up h) (sent_up_whole h) (sent_up_at h) (called h) p.0.0 (goes_up (before h) u p.0.1) (up_says h p.1)
-up_says (Whole Client ∷ h) p = up_says h p.1
 up_says (Whole Up ∷ h) p =
     up_whole (part (before h).up) (before h).up.in_progress (sent_up h) (sent_up_whole h) (sent_up_at h) (before h).moment (moment_in h) (called h) refl p.0
     (moment_is (known h p.1)) (up_says h p.1)
-up_says (LinesTold ∷ h) p = up_says h p.1
 up_says (OutOfMemory ∷ h) p =
     subst (λ (x : Part). UpSaysIn x (sent_up h) (sent_up_whole h) (sent_up_at h) (called h)) (sym (part_closing (is_closing (before h).conn) _ (before h).up)) (up_says h p.1)
+up_says (s ∷ h) p = up_says h p.1

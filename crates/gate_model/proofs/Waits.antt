@@ -19,7 +19,7 @@ use Rattle.machine_10.specs.declared.state.Upstream.{Upstream}
 use Rattle.machine_10.specs.declared.unit.Unit10.{Unit10}
 use Rattle.performatives_10.specs.declared.condition.Condition.{Condition}
 use Rattle.gate_model.specs.Lives.{is_of_channel}
-use Rattle.gate_model.specs.declared.outgoing.Outgoing.TheVariants.{ToClient, ToUp}
+use Rattle.gate_model.specs.declared.outgoing.Outgoing.TheVariants.{ToClient}
 use Rattle.gate_model.specs.declared.reply.Pending.{Pending}
 use Rattle.gate_model.specs.declared.reply.Reply.{Reply}
 use Rattle.gate_model.specs.declared.reply.Reply.TheVariants as reply
@@ -27,16 +27,14 @@ use Rattle.gate_model.specs.Due.{may_go, rows}
 use Rattle.gate_model.specs.Folds.{container, is_answer, ran_out_in}
 use Rattle.gate_model.specs.Picks.{ArePicks}
 use Rattle.gate_model.specs.Requests.{client_step}
-use Rattle.gate_model.specs.State.{Began, Came, Fed, Gave, Heard, Joined, LinesTold, Lost, Moment}
-use Rattle.gate_model.specs.State.{OutOfMemory}
+use Rattle.gate_model.specs.State.{Began, Came, Fed, Gave, Heard, Joined, Lost, OutOfMemory}
 use Rattle.gate_model.specs.State.{Queued, Silent, State, Step, TakenUp, Whole, before, came}
 use Rattle.gate_model.specs.State.{dequeued, fail, failed, heard, is_settled, last_pending, left}
-use Rattle.gate_model.specs.State.{turns_foreign, windowed, with_header, with_meaning, with_session}
-use Rattle.gate_model.specs.State.{with_want, without}
-use Rattle.gate_model.specs.Upstream.{first, has_closed, heard_up, is_closed_stream, meaning_by}
-use Rattle.gate_model.specs.Upstream.{stream_in}
+use Rattle.gate_model.specs.State.{turns_foreign, windowed, with_header, with_meaning, with_session, with_want, without}
+use Rattle.gate_model.specs.Upstream.{first, has_closed, heard_up, is_closed_stream, meaning_by, stream_in}
 use Rattle.gate_model.specs.Waiting.{EndsWhenSettled, OpensWhenOpened, Settled, RanOut, NotOpen}
 use Rattle.gate_model.specs.Waiting.{HasClosed, is_ending, is_opened, opened_in, GivenUp}
+use Rattle.gate_model.proofs.Basics.{or_left, or_true}
 use Rattle.gate_model.proofs.Connections.{clash}
 use Rattle.gate_model.proofs.Known.{Known, container_is, known, memory_is, side_is, silent_is}
 use Rattle.gate_model.proofs.Sessions.{session_cases}
@@ -77,19 +75,13 @@ settled_in h k e = by (before h).out_of_memory (is_readable (before h).up.side) 
     by false true false f g k' e = GivenUp (sym (silent_is k) ∙ e)
 
 isnt_ending : (u : Reply) → is_answer u ≡ false → is_ending u ≡ false
-isnt_ending reply.Protocol e = absurd cc
-isnt_ending reply.Start e = absurd cc
-isnt_ending reply.Tune e = absurd cc
-isnt_ending reply.OpenOk e = absurd cc
-isnt_ending reply.CloseOk e = absurd cc
-isnt_ending (reply.Close r) e = absurd cc
-isnt_ending reply.NoMemory e = absurd cc
 isnt_ending reply.Heartbeat e = refl
 isnt_ending (reply.ChannelOpenOk n) e = refl
 isnt_ending (reply.OnChannel n u) e = refl
 isnt_ending (reply.ChannelCloseOk n) e = refl
 isnt_ending (reply.CrossedOk n) e = refl
 isnt_ending (reply.ChannelClose n r) e = refl
+isnt_ending x e = absurd cc
 
 ends_picked : (h : List Step) (u : Reply) → ArePicks h → Picked (before h) u → is_ending u ≡ true → Settled h
 ends_picked h u p (IsDue e) is = settled_in h (known h p) (ends_settled (is_settled (before h)) (before h).pending u (calm_now h p) e is)
@@ -99,39 +91,17 @@ ends_picked h u p (Beats none due same) is = absurd (clash (is_ending u) is (ap 
 pub ends_when_settled : (h : List Step) → ArePicks h → EndsWhenSettled h
 ends_when_settled [] p = tt
 ends_when_settled (Gave (ToClient u) text ∷ h) p = (ends_picked h u p.1 (picked (before h) u p.0.1), ends_when_settled h p.1)
-ends_when_settled (Gave (ToUp u) text ∷ h) p = ends_when_settled h p.1
-ends_when_settled (Began site n ms ∷ h) p = ends_when_settled h p.1
-ends_when_settled (Moment ms ∷ h) p = ends_when_settled h p.1
-ends_when_settled (Fed end ∷ h) p = ends_when_settled h p.1
-ends_when_settled (Silent end ∷ h) p = ends_when_settled h p.1
-ends_when_settled (Queued u ∷ h) p = ends_when_settled h p.1
-ends_when_settled (Came u ∷ h) p = ends_when_settled h p.1
-ends_when_settled (TakenUp ∷ h) p = ends_when_settled h p.1
-ends_when_settled (Heard u ∷ h) p = ends_when_settled h p.1
-ends_when_settled (Joined answer ∷ h) p = ends_when_settled h p.1
-ends_when_settled (Lost end how ∷ h) p = ends_when_settled h p.1
-ends_when_settled (Whole end ∷ h) p = ends_when_settled h p.1
-ends_when_settled (LinesTold ∷ h) p = ends_when_settled h p.1
-ends_when_settled (OutOfMemory ∷ h) p = ends_when_settled h p.1
+ends_when_settled (s ∷ h) p = ends_when_settled h p.1
 
 -- ---- connection.open-ok
 
 open_ok_after : (b : Bool) (w : Want91) (d : Pending) → (with_header b (with_want w d)).open_ok ≡ d.open_ok
-open_ok_after b want.Nothing d = refl
-open_ok_after b want.Start d = refl
-open_ok_after b (want.Login m r) d = refl
-open_ok_after b want.Tuned d = refl
-open_ok_after b want.OpenUp d = refl
-open_ok_after b (want.Method n m) d = refl
-open_ok_after b (want.Publish n m x) d = refl
-open_ok_after b (want.ChannelCloseOk n) d = refl
-open_ok_after b want.Close d = refl
-open_ok_after b want.CloseOk d = refl
 open_ok_after b (want.Refuse r) d = by (is_of_channel r)
   where
     by : (x : Bool) → (with_header b (if x then d else record d { close = Some r })).open_ok ≡ d.open_ok
     by true = refl
     by false = refl
+open_ok_after b x d = refl
 
 open_ok_queued : (w : State) (us : List Unit91) → (if w.out_of_memory then w else record w { queue = us }).pending.open_ok ≡ w.pending.open_ok
 open_ok_queued w us = by w.out_of_memory
@@ -171,19 +141,11 @@ open_ok_session g p payload w = session_cases (λ (v : State). v.pending.open_ok
 open_ok_meaning : (m : Meaning) (w : State) → (with_meaning m w).pending.open_ok ≡ true → (w.pending.open_ok || is_opened m) ≡ true
 open_ok_meaning m w e = by m e
   where
-    or_true : (b : Bool) → (b || true) ≡ true
-    or_true true = refl
-    or_true false = refl
-
-    or_left : (b c : Bool) → b ≡ true → (b || c) ≡ true
-    or_left true c e = refl
-    or_left false c e = absurd cc
-
     by : (m : Meaning) → (with_meaning m w).pending.open_ok ≡ true → (w.pending.open_ok || is_opened m) ≡ true
     by ten.Nothing e = or_left _ _ e
     by ten.Init e = or_left _ _ e
     by ten.AmqpHeader e = or_left _ _ e
-    by ten.Opened e = or_true w.pending.open_ok
+    by ten.Opened e = sym (or_true w.pending.open_ok)
     by (ten.OfSession g p payload) e = or_left _ _ (sym (open_ok_session g p payload w) ∙ e)
     by (ten.Closed x) e = or_left _ _ (sym (open_ok_fail _ None w) ∙ e)
     by ten.Refused e = or_left _ _ (sym (open_ok_fail _ None w) ∙ e)
@@ -209,38 +171,19 @@ open_ok_heard w u b o opened m c f e =
         (open_ok_meaning (meaning_by w.up.container u) (record w { up = heard_up u w.up }) e))
 
 open_ok_gone : (r : Reply) (d : Pending) → (without r d).open_ok ≡ true → d.open_ok ≡ true
-open_ok_gone reply.Protocol d e = e
-open_ok_gone reply.Start d e = e
-open_ok_gone reply.Tune d e = e
 open_ok_gone reply.OpenOk d e = absurd cc
-open_ok_gone reply.CloseOk d e = e
-open_ok_gone (reply.Close r) d e = e
-open_ok_gone reply.NoMemory d e = e
-open_ok_gone reply.Heartbeat d e = e
-open_ok_gone (reply.ChannelOpenOk n) d e = e
-open_ok_gone (reply.OnChannel n u) d e = e
-open_ok_gone (reply.ChannelCloseOk n) d e = e
-open_ok_gone (reply.CrossedOk n) d e = e
-open_ok_gone (reply.ChannelClose n r) d e = e
+open_ok_gone x d e = e
 
 open_ok_last : (p : Phase91) (d : Pending) → (last_pending p d).open_ok ≡ false
 open_ok_last phase.Header d = refl
-open_ok_last phase.Start d = refl
-open_ok_last phase.Tune d = refl
-open_ok_last phase.Open d = refl
-open_ok_last phase.Running d = refl
-open_ok_last phase.Closing d = refl
-open_ok_last phase.Closed d = refl
+open_ok_last x d = refl
 
 -- one that is due was called for by the container's open
 open_ok_opened : (h : List Step) → ArePicks h → (before h).pending.open_ok ≡ true → opened_in h ≡ true
 open_ok_opened [] p e = absurd cc
 open_ok_opened (Began site n ms ∷ h) p e =
     let none : (before (Began site n ms ∷ [])).pending.open_ok ≡ true = subst (λ (x : List Step). (before (Began site n ms ∷ x)).pending.open_ok ≡ true) p.0 e in absurd cc
-open_ok_opened (Moment ms ∷ h) p e = open_ok_opened h p.1 e
 open_ok_opened (Fed Client ∷ h) p e = open_ok_opened h p.1 e
-open_ok_opened (Fed Up ∷ h) p e = open_ok_opened h p.1 e
-open_ok_opened (Silent Client ∷ h) p e = open_ok_opened h p.1 e
 open_ok_opened (Silent Up ∷ h) p e = open_ok_opened h p.1 (sym (open_ok_fail _ _ _) ∙ e)
 open_ok_opened (Queued u ∷ h) p e = open_ok_opened h p.1 (sym (open_ok_queued (before h) _) ∙ e)
 open_ok_opened (Came u ∷ h) p e = open_ok_opened h p.1 (sym (open_ok_came (before h) u) ∙ e)
@@ -248,35 +191,18 @@ open_ok_opened (TakenUp ∷ h) p e = open_ok_opened h p.1 (sym (open_ok_taken (b
 open_ok_opened (Heard u ∷ h) p e =
     let k : Known h = known h p.1 in
     open_ok_heard (before h) u (ran_out_in h) (container h) (opened_in h) (memory_is k) (container_is k) (open_ok_opened h p.1) e
-open_ok_opened (Joined link.Ok ∷ h) p e = open_ok_opened h p.1 e
 open_ok_opened (Joined link.Failed ∷ h) p e = open_ok_opened h p.1 (sym (open_ok_fail _ None _) ∙ e)
 open_ok_opened (Lost Client loss.Ended ∷ h) p e = open_ok_opened h p.1 e
-open_ok_opened (Lost Client loss.Failed ∷ h) p e = open_ok_opened h p.1 e
-open_ok_opened (Lost Client loss.Shut ∷ h) p e = open_ok_opened h p.1 e
 open_ok_opened (Lost Up loss.Ended ∷ h) p e = open_ok_opened h p.1 (sym (open_ok_fail _ None _) ∙ e)
 open_ok_opened (Lost Up loss.Failed ∷ h) p e = open_ok_opened h p.1 (sym (open_ok_fail _ None _) ∙ e)
-open_ok_opened (Lost Up loss.Shut ∷ h) p e = open_ok_opened h p.1 e
 open_ok_opened (Gave (ToClient u) text ∷ h) p e = open_ok_opened h p.1 (open_ok_gone u (before h).pending e)
-open_ok_opened (Gave (ToUp u) text ∷ h) p e = open_ok_opened h p.1 e
 open_ok_opened (Whole Client ∷ h) p e = open_ok_opened h p.1 e
-open_ok_opened (Whole Up ∷ h) p e = open_ok_opened h p.1 e
-open_ok_opened (LinesTold ∷ h) p e = open_ok_opened h p.1 e
 open_ok_opened (OutOfMemory ∷ h) p e = absurd (clash _ e (open_ok_last (before h).conn.phase (before h).pending))
+open_ok_opened (s ∷ h) p e = open_ok_opened h p.1 e
 
 abbrev is_open_ok : Reply → Bool
-is_open_ok reply.Protocol = false
-is_open_ok reply.Start = false
-is_open_ok reply.Tune = false
 is_open_ok reply.OpenOk = true
-is_open_ok reply.CloseOk = false
-is_open_ok (reply.Close r) = false
-is_open_ok reply.NoMemory = false
-is_open_ok reply.Heartbeat = false
-is_open_ok (reply.ChannelOpenOk n) = false
-is_open_ok (reply.OnChannel n u) = false
-is_open_ok (reply.ChannelCloseOk n) = false
-is_open_ok (reply.CrossedOk n) = false
-is_open_ok (reply.ChannelClose n r) = false
+is_open_ok x = false
 
 is_other : (it : Reply) → is_open_ok it ≡ false → Some it ≡ Some reply.OpenOk → ⊥
 is_other it isnt same = let here : it ≡ reply.OpenOk = cc in clash (is_open_ok it) (ap is_open_ok here) isnt
@@ -306,34 +232,10 @@ opens_picked h p (OnChannel o) = absurd (clash true refl (of_channel (before h) 
 opens_picked h p (Beats none due same) = absurd cc
 
 opens_given : (h : List Step) (u : Reply) (text : List ℕ) → ArePicks h → Picked (before h) u → OpensWhenOpened h → OpensWhenOpened (Gave (ToClient u) text ∷ h)
-opens_given h reply.Protocol text p f o = o
-opens_given h reply.Start text p f o = o
-opens_given h reply.Tune text p f o = o
 opens_given h reply.OpenOk text p f o = (opens_picked h p f, o)
-opens_given h reply.CloseOk text p f o = o
-opens_given h (reply.Close r) text p f o = o
-opens_given h reply.NoMemory text p f o = o
-opens_given h reply.Heartbeat text p f o = o
-opens_given h (reply.ChannelOpenOk n) text p f o = o
-opens_given h (reply.OnChannel n u) text p f o = o
-opens_given h (reply.ChannelCloseOk n) text p f o = o
-opens_given h (reply.CrossedOk n) text p f o = o
-opens_given h (reply.ChannelClose n r) text p f o = o
+opens_given h x text p f o = o
 
 pub opens_when_opened : (h : List Step) → ArePicks h → OpensWhenOpened h
 opens_when_opened [] p = tt
 opens_when_opened (Gave (ToClient u) text ∷ h) p = opens_given h u text p.1 (picked (before h) u p.0.1) (opens_when_opened h p.1)
-opens_when_opened (Gave (ToUp u) text ∷ h) p = opens_when_opened h p.1
-opens_when_opened (Began site n ms ∷ h) p = opens_when_opened h p.1
-opens_when_opened (Moment ms ∷ h) p = opens_when_opened h p.1
-opens_when_opened (Fed end ∷ h) p = opens_when_opened h p.1
-opens_when_opened (Silent end ∷ h) p = opens_when_opened h p.1
-opens_when_opened (Queued u ∷ h) p = opens_when_opened h p.1
-opens_when_opened (Came u ∷ h) p = opens_when_opened h p.1
-opens_when_opened (TakenUp ∷ h) p = opens_when_opened h p.1
-opens_when_opened (Heard u ∷ h) p = opens_when_opened h p.1
-opens_when_opened (Joined answer ∷ h) p = opens_when_opened h p.1
-opens_when_opened (Lost end how ∷ h) p = opens_when_opened h p.1
-opens_when_opened (Whole end ∷ h) p = opens_when_opened h p.1
-opens_when_opened (LinesTold ∷ h) p = opens_when_opened h p.1
-opens_when_opened (OutOfMemory ∷ h) p = opens_when_opened h p.1
+opens_when_opened (s ∷ h) p = opens_when_opened h p.1

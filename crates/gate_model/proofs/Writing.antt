@@ -1,13 +1,11 @@
 -- The frames of a content that go are those of the delivery whose deliver went last: the steps say what the state's writing says.
-use Rattle.std.proofs.Common.{◌≡◌, ℕ, zero, suc, ◌+◌, ◌==◌, ◌<◌, ◌≤◌, nat_lt, not, ◌&&◌, ◌||◌, Bool, true, false, if◌then◌else◌, List, [], ◌∷◌, ◌++◌, length}
-use Rattle.std.proofs.Common.{Option, None, Some}
-use Rattle.std.proofs.Common.{refl, sym, ap, ◌∙◌, subst, arith, is_some}
+use Rattle.std.proofs.Common.{◌≡◌, ℕ, zero, suc, ◌+◌, ◌==◌, ◌<◌, ◌≤◌, nat_lt, not, ◌&&◌, ◌||◌, Bool, true, false, if◌then◌else◌, List, [], ◌∷◌, ◌++◌}
+use Rattle.std.proofs.Common.{length, Option, None, Some, refl, sym, ap, ◌∙◌, subst, arith, is_some}
 use Rattle.std.proofs.lemmas.Bool.Decides.{nat_tests}
 use Rattle.std.specs.List.{AllByRecursion}
 use Rattle.std.specs.Prelude.{slice_get}
 use Rattle.consume_path.specs.Deliveries as on
 use Rattle.consume_path.specs.Deliveries.{DeliveryEvent, DeliveryState, open_after}
-use Rattle.consume_path.specs.Deliveries.{after_events as deliveries_after}
 use Rattle.consume_path.specs.Journal.{Fate, IsTaken, fate_of, is_closed, is_pending, tags_of, waits}
 use Rattle.consume_path.specs.Laws.{needs_content}
 use Rattle.consume_path.specs.Offers.{content_of as content_by_id}
@@ -32,9 +30,10 @@ use Rattle.gate_model.specs.declared.channel.ChannelUnit.TheVariants as to_clien
 use Rattle.gate_model.specs.declared.outgoing.Outgoing.TheVariants.{ToClient}
 use Rattle.gate_model.specs.declared.reply.Reply.{Reply}
 use Rattle.gate_model.specs.declared.reply.Reply.TheVariants as reply
-use Rattle.gate_model.proofs.Calm.{AreOther, Calm, IsCalm, Shuts, Stays, Still, kinds, none_written, other_closed, stays_all, taken_more, told_calm}
-use Rattle.gate_model.proofs.Calm.{unfinished_all}
-use Rattle.gate_model.proofs.Calm.{waits_open}
+use Rattle.gate_model.proofs.Basics.{right_false}
+use Rattle.gate_model.proofs.Calm.{AreOther, Calm, IsCalm, Shuts, Stays, Still, each_calm, none_written, other_closed, stays_all, taken_more}
+use Rattle.gate_model.proofs.Calm.{told_calm, unfinished_all, waits_open}
+use Rattle.gate_model.proofs.Connections.{clash}
 use Rattle.gate_model.proofs.Delivers.{ContentsAre, DeliversAre, FreshAre, GlobalsAre, IsDelivered, TagsAre, is_delivered}
 use Rattle.gate_model.proofs.Fates.{IsLived, IsNext, is_next, lived, path_of}
 use Rattle.gate_model.proofs.Firsts.{OfChannel, goes_as}
@@ -86,10 +85,6 @@ record Wrote (n : ℕ) (going : Option Reply) (b : Option Begun) (s : PathState)
 abbrev WroteIn : ℕ → List Step → Type 0
 WroteIn n h = (life : ℕ) → path_life h n ≡ Some life
     → Wrote n (going_in h) (begun_in n h) (after_events life (path_events h n)) (deliveries_of life (path_events h n))
-
-clash : (b : Bool) → b ≡ true → b ≡ false → ⊥
-clash true e f = absurd cc
-clash false e f = absurd cc
 
 -- ---- an event that gives nothing
 
@@ -324,7 +319,7 @@ quiet n h s e w life l = by (opens_channel n h s) l
     by false f =
         subst (λ (g : Option Reply). Wrote n g (begun_at n s (begun_in n h)) (after_events life (xs ++ es)) (deliveries_of life (xs ++ es))) (sym (going_same h s e))
         (subst (λ (b : Option Begun). Wrote n (going_in h) b (after_events life (xs ++ es)) (deliveries_of life (xs ++ es))) (sym (begun_same n s (begun_in n h) e))
-        (calm_all n (going_in h) (begun_in n h) life es xs (step_all IsCalm kinds n h s e) (w life f)))
+        (calm_all n (going_in h) (begun_in n h) life es xs (step_all IsCalm each_calm n h s e) (w life f)))
 
 lives_same : {o : Option ℕ} {a b : ℕ} → o ≡ Some a → o ≡ Some b → a ≡ b
 lives_same {o} {a} {b} e f = by (sym e ∙ f)
@@ -588,11 +583,7 @@ module _ (arrives : DeliveriesAre) (delivers : DeliversAre) (tags : TagsAre) (gl
       ds = deliveries_of life (path_events h n)
 
       none : (gone count : ℕ) → (gone == 0 || nat_lt gone count) ≡ false → nat_lt gone count ≡ false
-      none gone count e = second (gone == 0) _ e
-        where
-          second : (a b : Bool) → (a || b) ≡ false → b ≡ false
-          second true b f = absurd cc
-          second false b f = f
+      none gone count e = right_false (gone == 0) _ e
 
       one : (b : Begun) → (l : Bool) → left_by b ds ≡ l → FoundIn s ds b → s.writing ≡ writing_by b l → next_content s ≡ content_by (Some b) ds
       one b true e found f =

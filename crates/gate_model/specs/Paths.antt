@@ -36,10 +36,9 @@ use Rattle.session_path.specs.Due.{held, held_size_of, lines}
 use Rattle.session_path.specs.Path.{lines_told, outcome_came}
 use Rattle.open_items.specs.declared.lost.LostItem.{LostItem}
 use Rattle.gate_model.specs.declared.limits.TheConstants.{HELD_BYTES, HELD_PUBLISHES}
-use Rattle.session_path.specs.Links.{attach_fault}
+use Rattle.session_path.specs.Links.{attach_fault, fault_unasked}
 use Rattle.session_path.specs.declared.path.AttachDue.{AttachDue}
 use Rattle.session_path.specs.declared.path.AttachFault.{AttachFault}
-use Rattle.session_path.specs.declared.path.AttachFault.TheVariants.{NotAsked}
 use Rattle.session_path.specs.declared.path.FlowDue.{FlowDue}
 use Rattle.types_10.specs.Tree.{Tree, binary, string, described, scalar, ulong}
 use Rattle.gate_model.specs.declared.channel.AttachOut.{AttachOut}
@@ -200,7 +199,7 @@ abbrev pub attach_by : List Tree → PathState → PathState
 attach_by ts s = attached_as (name_in (text_of (field ts 0))) ts s
 
 abbrev pub fault_by : Option ℕ → List Tree → PathState → Option AttachFault
-fault_by None ts s = Some NotAsked
+fault_by None ts s = Some (fault_unasked (number_at ts 1) s.links)
 fault_by (Some name) ts s = attach_fault name (is_true (field ts 2)) (number_at ts 1) s.links
 
 abbrev pub attach_fault_by : List Tree → PathState → Option AttachFault

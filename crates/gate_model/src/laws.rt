@@ -8,15 +8,21 @@ ghost use Rattle.machine_091.specs.declared.limits.TheConstants.{CHANNEL_MAX};
 ghost use Rattle.session_path.specs.Events.{after_events};
 ghost use Rattle.gate_model.specs.declared.reply.Reply.{Reply};
 ghost use Rattle.gate_model.specs.Answers.{AreAnswered};
+ghost use Rattle.gate_model.specs.Behind.{DeliversBehind};
 ghost use Rattle.gate_model.specs.Contents.{AreImages, StandTogether, Writes};
 ghost use Rattle.gate_model.specs.Delivers.{Delivers};
 ghost use Rattle.gate_model.specs.Asked.{AreCalledFor, GoesWhenDue, ShutsUpAtOnce};
+ghost use Rattle.gate_model.specs.Declares.{DeclaresFound};
+ghost use Rattle.gate_model.specs.Linger.{Lingers};
 ghost use Rattle.gate_model.specs.Frames.{AreGiven, FitsClients, FitsContainers};
 ghost use Rattle.gate_model.specs.Folds.{connection, container, moment_in, number_in, ran_out_in};
 ghost use Rattle.gate_model.specs.Folds.{side_in};
+ghost use Rattle.gate_model.specs.Giving.{GivesUpIdle};
+ghost use Rattle.gate_model.specs.Holding.{HoldsFew, TakesWithRoom};
 ghost use Rattle.gate_model.specs.Oks.{AnswersInOrder};
 ghost use Rattle.gate_model.specs.Once.{AnswersOnce};
 ghost use Rattle.gate_model.specs.Order.{TakesInOrder};
+ghost use Rattle.gate_model.specs.Parting.{StopsWhenClosed};
 ghost use Rattle.gate_model.specs.Paths.{slot_at};
 ghost use Rattle.gate_model.specs.Picks.{ArePicks};
 ghost use Rattle.gate_model.specs.Due.{takes_memory_back};
@@ -25,7 +31,10 @@ ghost use Rattle.gate_model.specs.Publishing.{path_events, path_life};
 ghost use Rattle.gate_model.specs.Setup.{IsInForm, SetupText};
 ghost use Rattle.gate_model.specs.Silence.{SilentAtOnce, SilentWhenDue};
 ghost use Rattle.gate_model.specs.Spelling.{spell_reply};
+ghost use Rattle.gate_model.specs.Recovers.{GoBack, GoBeforeLeaving, LeavesOthers};
 ghost use Rattle.gate_model.specs.Releases.{Releases};
+ghost use Rattle.gate_model.specs.Reasons.{ClosesOnce, SaysWhy};
+ghost use Rattle.gate_model.specs.Repeats.{AttachesOnce, EndsOnce, FlowsOnce, SettlesInOrder};
 ghost use Rattle.gate_model.specs.Reports.{lines_owed};
 ghost use Rattle.gate_model.specs.Rests.{ServesClients, SuppliesContainers};
 ghost use Rattle.gate_model.specs.Settles.{Grants, Settles};
@@ -42,8 +51,8 @@ use machine_091::connection_laws;
 use property_map::received_lawfully;
 use publish_path::{confirms_lawfully, lines_lawfully, payloads_lawfully, returns_lawfully};
 use session_path::{
-    answers_lawfully, calls_lawfully, deliveries_lawfully, links_lawfully, names_lawfully,
-    publishes_lawfully,
+    answers_lawfully, attaches_lawfully, calls_lawfully, deliveries_lawfully, flows_lawfully,
+    links_lawfully, names_lawfully, publishes_lawfully, settles_lawfully as settles_answered,
 };
 
 /// The state knows both connections, how far the upstream end is, the last moment, whether the pair
@@ -180,6 +189,21 @@ pub fn releases_are_lawful()
     links_lawfully();
 }
 
+/// A basic.recover, or recover-async, that is taken up makes each delivery go back that its client
+/// has and didn't settle: it is owed `released` from then on, or its disposition said so. No other
+/// delivery is changed by it. That goes before the gateway's end of the session, and before its
+/// detach of the link. By `settles_are_lawful` no disposition of those deliveries says anything
+/// else.
+pub fn recovers_release_all()
+    ensures released { (h : List Step) → GoBack h }
+    ensures others { (h : List Step) → LeavesOthers h }
+    ensures gone { (h : List Step) → ArePicks h → GoBeforeLeaving h }
+{
+    deliveries_lawfully();
+    settles_lawfully();
+    links_lawfully();
+}
+
 /// Each frame of a transfer that goes to a container is that of the publish that is begun, else of
 /// the least number that waits on an attached link with credit; the window of the session has room
 /// for it. It has the delivery-id of the next transfer and the handle of its link, carries the
@@ -199,6 +223,27 @@ pub fn payloads_are_whole()
 {
     publishes_lawfully();
     payloads_lawfully();
+}
+
+/// Nothing of a client is taken up, and its end neither, while its pair holds 256 publishes or
+/// 67,108,864 bytes of their payloads, on all channels together. So it never holds more publishes. A
+/// publish is held until the last frame of its transfer went or its link was lost; a mandatory one
+/// until it has an outcome too.
+pub fn laden_pairs_wait()
+    ensures room { (h : List Step) → ArePicks h → TakesWithRoom h }
+    ensures most { (h : List Step) → ArePicks h → HoldsFew h }
+{
+    publishes_lawfully();
+}
+
+/// Where the gateway detaches a sending link that the container attached and didn't detach, as it
+/// does for its handle alone, each publish that was taken up for it went whole, or its link was
+/// lost, and each has its outcome: none is lost by that detach.
+pub fn idle_links_are_given_up()
+    ensures { (h : List Step) → ArePicks h → GivesUpIdle h }
+{
+    publishes_lawfully();
+    links_lawfully();
 }
 
 /// What the report is owed: of each life in progress, by rising number, the publishes that were
@@ -271,6 +316,15 @@ pub fn units_keep_their_order()
 /// the life in progress and those that are due are those that became due.
 pub fn requests_are_answered()
     ensures { (h : List Step) → ArePicks h → AnswersInOrder h }
+{
+    connection_laws();
+    answers_lawfully();
+}
+
+/// A queue.declare-ok goes only where the container attached the link of its queue.declare, with a
+/// source: more such attaches came in the channel's life than queue.declare-oks went.
+pub fn declarations_find_queues()
+    ensures { (h : List Step) → ArePicks h → DeclaresFound h }
 {
     connection_laws();
     answers_lawfully();
@@ -353,3 +407,66 @@ pub fn units_are_short()
     ensures some { (unit : Reply) (text : List ℕ) → takes_memory_back unit ≡ false
         → 0 < length (spell_reply unit text) }
 {}
+
+/// The gateway's end of a session that the container didn't end goes only once each publish of the
+/// channel's life was sent or lost its link, and has an outcome; once 5,000 ms passed since the
+/// closing event of the channel or of the connection; or once the pair ran out of memory.
+pub fn ends_linger()
+    ensures { (h : List Step) → ArePicks h → Lingers h }
+{
+    connection_laws();
+    publishes_lawfully();
+}
+
+/// Each disposition of role sender that goes to a container answers one of its dispositions that
+/// was the first outcome of some publish, in their order, each once.
+pub fn outcomes_are_answered()
+    ensures { (h : List Step) → ArePicks h → SettlesInOrder h }
+{
+    connection_laws();
+    settles_answered();
+}
+
+/// Each flow of a link that goes to a container is asked for by one of its flows that none answered
+/// yet, an echo or a drain; or it states the credit of a receiving link.
+pub fn flows_are_answered()
+    ensures { (h : List Step) → ArePicks h → FlowsOnce h }
+{
+    links_lawfully();
+    deliveries_lawfully();
+    flows_lawfully();
+}
+
+/// Of the first 2^64 attaches to a container no two have one name, and it attaches a link under each
+/// once at most.
+pub fn attaches_go_once()
+    ensures { (h : List Step) → ArePicks h → AttachesOnce h }
+{
+    attaches_lawfully();
+}
+
+/// No more ends of the session of a number go to a container than begins.
+pub fn sessions_end_once()
+    ensures { (h : List Step) → ArePicks h → EndsOnce h }
+{}
+
+/// No answer, no deliver and no frame of its content goes on a channel that isn't open. A confirm, and
+/// a return that begins, go on one that is, or whose closing event was its container's doing.
+pub fn closed_channels_get_no_answers()
+    ensures { (h : List Step) → ArePicks h → StopsWhenClosed h }
+{}
+
+/// A channel.close that goes has the reason for which its channel was closed last: the refusal of a
+/// unit of its client, with what is told of a message that has no image; or the code of the
+/// container's error, with no ids. No more go on a channel than steps had a reason.
+pub fn closes_say_why()
+    ensures why { (h : List Step) → ArePicks h → SaysWhy h }
+    ensures once { (h : List Step) → ArePicks h → ClosesOnce h }
+{}
+
+/// A basic.deliver goes only where no answer is due on its channel, or the next is a basic.get-ok.
+pub fn delivers_go_behind_answers()
+    ensures { (h : List Step) → ArePicks h → DeliversBehind h }
+{
+    connection_laws();
+}
