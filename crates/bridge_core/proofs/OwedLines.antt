@@ -5,8 +5,8 @@ use Rattle.std.proofs.Common.{◌||◌}
 use Rattle.std.proofs.Common.{List, [], ◌∷◌, ◌++◌, Option, None, Some, refl, sym, ap, subst, arith}
 use Rattle.std.proofs.Common.{append_assoc, append-nil, drop, get_or, length, add-one, is_some}
 use Rattle.std.proofs.Common.{cond}
-use Rattle.std.specs.Prelude.{codes, decimal, filter, if◌then◌else◌}
-use Rattle.std.specs.List.{list_any}
+use Rattle.std.specs.Prelude.{codes, decimal, filter, if◌then◌else◌, nat_lt}
+use Rattle.std.proofs.lemmas.Bool.{lt-ltb}
 use Rattle.std.proofs.Math.Seq.{drop-cons}
 use Rattle.gate_relay.specs.Entries.{is_empty}
 use Rattle.open_items.specs.declared.lost.LostItem.{LostItem}
@@ -22,7 +22,7 @@ use Rattle.session_path.specs.Due.{lines}
 use Rattle.session_path.specs.Path.{PathState}
 use Rattle.gate_model.specs.Paths.{lines_in, lines_of_life, lines_on}
 use Rattle.gate_model.specs.Spelling.{fate_name, line_text, lines_text, what_name}
-use Rattle.bridge_core.specs.Reports.{IsNext, IsNextOwing, has_delivery_line, has_line, owing_on}
+use Rattle.bridge_core.specs.Reports.{IsNext, IsNextOwing, owing_on}
 use Rattle.bridge_core.specs.Reports.{text_of_line}
 
 -- ---- texts
@@ -92,15 +92,6 @@ lines_seen life (p ∷ ps) = by (is_open p) refl (lines_seen life ps)
     by false e more =
         more ∙ sym (ap (λ (o : Option LostKind). with_line (line_of life (record p { line = o })) (lines_of life ps)) (closed_line (is_sending p.place) (not (is_settled p.answer)) (has_any p.back) p.line e))
 
-pub owes_lines : (life : ℕ) (ps : List Publish) → list_any has_line ps ≡ not (is_empty (lines_of life ps))
-owes_lines life [] = refl
-owes_lines life (p ∷ ps) = by p.line (owes_lines life ps)
-  where
-    by : (o : Option LostKind) → list_any has_line ps ≡ not (is_empty (lines_of life ps))
-        → (is_some o || list_any has_line ps) ≡ not (is_empty (with_line (line_of life (record p { line = o })) (lines_of life ps)))
-    by None more = more
-    by (Some kind) more = refl
-
 -- ---- of deliveries
 
 no_line : (b : Bool) (o : Option LostKind) → (b || is_some o) ≡ false → o ≡ None
@@ -117,15 +108,6 @@ deliveries_seen life (d ∷ ds) = by (is_open_delivery d) refl (deliveries_seen 
     by true e more = ap (with_delivery_line (delivery_line life d)) more
     by false e more =
         more ∙ sym (ap (λ (o : Option LostKind). with_delivery_line (delivery_line life (record d { line = o })) (delivery_lines life ds)) (no_line (is_held d.place || is_out d.place || owes d.place || d.writing || d.at_risk) d.line e))
-
-pub owes_deliveries : (life : ℕ) (ds : List Delivery) → list_any has_delivery_line ds ≡ not (is_empty (delivery_lines life ds))
-owes_deliveries life [] = refl
-owes_deliveries life (d ∷ ds) = by d.line (owes_deliveries life ds)
-  where
-    by : (o : Option LostKind) → list_any has_delivery_line ds ≡ not (is_empty (delivery_lines life ds))
-        → (is_some o || list_any has_delivery_line ds) ≡ not (is_empty (with_delivery_line (delivery_line life (record d { line = o })) (delivery_lines life ds)))
-    by None more = more
-    by (Some kind) more = refl
 
 -- ---- of a path
 
@@ -160,26 +142,13 @@ path_front pair s life ps is seen =
     (sym (lines_seen s.publishes.life ps) ∙ ap (lines_of s.publishes.life) seen)
     ∙ sym (text_of_both pair (lines_of s.publishes.life s.publishes.list) (delivery_lines s.deliveries.life s.deliveries.list))
 
--- one or the other is there
-some_of : (xs ys : List LostItem) → (not (is_empty xs) || not (is_empty ys)) ≡ not (is_empty (xs ++ ys))
-some_of [] ys = refl
-some_of (x ∷ xs) ys = refl
-
 -- and its life, where it owes some
-pub life_owing : (o : Option PathState) (s : PathState) (life : ℕ) (ps : List Publish) (ds : List Delivery) → Some s ≡ o → AreOf s ps ds
-    → life ≡ s.publishes.life → (if list_any has_line ps || list_any has_delivery_line ds then Some life else None) ≡ owing_on o
-life_owing o s life ps ds is of own =
-    ap (λ (n : ℕ). if list_any has_line ps || list_any has_delivery_line ds then Some n else None) own
-    ∙ ap (λ (b : Bool). if b || list_any has_delivery_line ds then Some s.publishes.life else None) (owes_lines s.publishes.life ps)
-    ∙ ap (λ (b : Bool). if not (is_empty (lines_of s.publishes.life ps)) || b then Some s.publishes.life else None) (owes_deliveries s.deliveries.life ds)
-    ∙ ap (λ (b : Bool). if b then Some s.publishes.life else None) (some_of (lines_of s.publishes.life ps) (delivery_lines s.deliveries.life ds))
-    ∙ turned (is_empty (lines_of s.publishes.life ps ++ delivery_lines s.deliveries.life ds))
-    ∙ ap (λ (ls : List LostItem). if is_empty ls then None else Some s.publishes.life) (path_lines s ps ds of)
-    ∙ ap owing_on is
+pub life_owing : (s : PathState) (b : Bool) → b ≡ nat_lt 0 (length (lines s)) → (if b then Some s.publishes.life else None) ≡ owing_on (Some s)
+life_owing s b e = ap (λ (b : Bool). if b then Some s.publishes.life else None) e ∙ by (lines s)
   where
-    turned : (b : Bool) → (if not b then Some s.publishes.life else None) ≡ (if b then None else Some s.publishes.life)
-    turned true = refl
-    turned false = refl
+    by : (items : List LostItem) → (if nat_lt 0 (length items) then Some s.publishes.life else None) ≡ (if is_empty items then None else Some s.publishes.life)
+    by [] = refl
+    by (item ∷ items) = ap (λ (c : Bool). if c then Some s.publishes.life else None) (lt-ltb 0 (length (item ∷ items)) (omega arith))
 
 -- ---- of all lives up to one
 

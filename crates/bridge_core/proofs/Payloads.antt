@@ -1,10 +1,11 @@
--- The bytes that units count, and one of them more or less.
-use Rattle.std.proofs.Common.{◌≡◌, ℕ, zero, suc, ◌+◌, ◌<◌, List, [], ◌∷◌, ◌++◌, Some, length, refl}
-use Rattle.std.proofs.Common.{sym, ap, arith}
-use Rattle.std.specs.Prelude.{slice_get, slice_index_or}
-use Rattle.std.specs.List.{remove}
+-- The bytes that units count, whether bad bytes are among them, and one of them more or less.
+use Rattle.std.proofs.Common.{◌≡◌, ◌∙◌, ℕ, zero, suc, ◌+◌, ◌<◌, List, [], ◌∷◌, ◌++◌, Some, length, refl}
+use Rattle.std.proofs.Common.{Bool, true, false, sym, ap, arith}
+use Rattle.std.specs.Prelude.{◌||◌, if◌then◌else◌, slice_get, slice_index_or}
+use Rattle.std.specs.List.{list_any, remove}
+use Rattle.std.proofs.lemmas.List.Folds.{list_any-append}
 use Rattle.machine_091.specs.declared.unit.Unit91.{Unit91}
-use Rattle.gate_model.specs.Queue.{payload_of, payloads, removed}
+use Rattle.gate_model.specs.Queue.{is_bad_unit, payload_of, payloads, removed}
 
 pub payloads_more : (us : List Unit91) (u : Unit91) → payloads (us ++ u ∷ []) ≡ payloads us + payload_of u
 payloads_more [] u = omega arith
@@ -14,6 +15,29 @@ pub payloads_less : (i : ℕ) (us : List Unit91) (u : Unit91) → slice_get us i
 payloads_less i [] u e = absurd cc
 payloads_less zero (v ∷ us) u e = let here : v ≡ u = cc in ap (λ (x : Unit91). payload_of x + payloads us) (sym here)
 payloads_less (suc i) (v ∷ us) u e = omega (arith, payloads_less i us u e)
+
+-- bad bytes are among them, with one more, and without one that isn't bad
+pub bad_more : (us : List Unit91) (u : Unit91) → list_any is_bad_unit (us ++ u ∷ []) ≡ (list_any is_bad_unit us || is_bad_unit u)
+bad_more us u = list_any-append is_bad_unit us (u ∷ []) ∙ ap (λ b. list_any is_bad_unit us || b) (alone (is_bad_unit u))
+  where
+    alone : (b : Bool) → (b || false) ≡ b
+    alone true = refl
+    alone false = refl
+
+bad_stays : (i : ℕ) (us : List Unit91) (u : Unit91) → slice_get us i ≡ Some u → is_bad_unit u ≡ false
+    → list_any is_bad_unit (removed i us) ≡ list_any is_bad_unit us
+bad_stays i [] u e good = absurd cc
+bad_stays zero (v ∷ us) u e good =
+    let here : v ≡ u = cc in ap (λ b. b || list_any is_bad_unit us) (sym (ap is_bad_unit here ∙ good))
+bad_stays (suc i) (v ∷ us) u e good = ap (λ b. is_bad_unit v || b) (bad_stays i us u e good)
+
+pub bad_less : (i : ℕ) (us : List Unit91) (u : Unit91) (bad : Bool) → slice_get us i ≡ Some u → bad ≡ list_any is_bad_unit us
+    → (if is_bad_unit u then list_any is_bad_unit (removed i us) else bad) ≡ list_any is_bad_unit (removed i us)
+bad_less i us u bad here e = by (is_bad_unit u) refl
+  where
+    by : (b : Bool) → is_bad_unit u ≡ b → (if b then list_any is_bad_unit (removed i us) else bad) ≡ list_any is_bad_unit (removed i us)
+    by true is = refl
+    by false is = e ∙ sym (bad_stays i us u here is)
 
 -- the unit at a place, and the others
 pub taken_out : (i : ℕ) (us : List Unit91) → removed i us ≡ remove us i

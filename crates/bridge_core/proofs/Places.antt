@@ -68,6 +68,11 @@ none_while_opening w opening = by (is_laden w.paths)
     by true = refl
     by false = none_opening (waits w) w.queue opening (or_left (is_opening w.conn) _ opening)
 
+-- where all is taken up
+pub none_left : (q : Waits) (us : List Unit91) → is_empty us ≡ true → place_in q us ≡ None
+none_left q [] e = refl
+none_left q (u ∷ us) e = absurd cc
+
 -- while many publishes are held
 pub none_while_laden : (w : State) → is_laden w.paths ≡ true → place w ≡ None
 none_while_laden w laden = ap (λ (b : Bool). if b then None else place_in (waits w) w.queue) laden

@@ -1,8 +1,8 @@
 -- Lists that are as they were from some place on, above all that was ever changed.
 use Rattle.std.proofs.Common.{◌≡◌, ◌∙◌, ℕ, zero, suc, ◌+◌, ◌-◌, ◌≤◌, ◌<◌, List, [], ◌∷◌, Option}
-use Rattle.std.proofs.Common.{None, Result, Ok, Err, refl, sym, ap, subst, arith, drop, get_or}
-use Rattle.std.proofs.Common.{length, map, replicate, take}
-use Rattle.std.proofs.lemmas.List.{drop-drop, drop-map, drop-replicate, drop-set-lt, length-map}
+use Rattle.std.proofs.Common.{None, Some, Result, Ok, Err, refl, sym, ap, subst, arith, drop, get_or}
+use Rattle.std.proofs.Common.{length, map, replicate, take, ◌++◌, append_assoc, append-nil, take-append-drop}
+use Rattle.std.proofs.lemmas.List.{drop-drop, drop-map, drop-replicate, drop-set-lt, length-map, map-append}
 use Rattle.std.proofs.lemmas.List.{length-set, set-get_or}
 use Rattle.std.proofs.lemmas.Option.{slice_get-get_or}
 use Rattle.std.specs.Prelude.{OnErr, OnOk, slice_set}
@@ -10,7 +10,10 @@ use Rattle.std.specs.List.{fold}
 use Rattle.std.specs.Option.{option_map}
 use Rattle.session_path.specs.Path.{PathState}
 use Rattle.gate_model.specs.Paths.{bytes_in, bytes_on, held_in, held_on, no_paths, or_none, slot_at}
-use Rattle.gate_model.specs.Paths.{with_path}
+use Rattle.gate_model.specs.Paths.{lines_of_life, lines_on, with_path}
+use Rattle.gate_relay.specs.Entries.{is_empty}
+use Rattle.open_items.specs.declared.lost.LostItem.{LostItem}
+use Rattle.bridge_core.specs.Reports.{IsNextOwing}
 
 -- then they are from each higher place on
 pub from_higher : {A : Type 0} (t m : ℕ) (xs ys : List A) → t ≤ m → drop t xs ≡ drop t ys → drop m xs ≡ drop m ys
@@ -75,6 +78,20 @@ pub paths_stay : (f : PathState → PathState) (t : ℕ) (ps qs : List (Option P
 paths_stay f t ps qs bounded e =
     subst (AreBounded t) (sym e) (length-map ps (option_map f) ∙ bounded.0, (bounded.1.0, paths_kept f t ps bounded.1.1))
 
+-- what changes below it changes all
+map_below : (f : PathState → PathState) (t : ℕ) (ps : List (Option PathState)) → AreBounded t ps
+    → map (option_map f) (take t ps) ++ drop t ps ≡ map (option_map f) ps
+map_below f t ps bounded =
+    let same : drop t ps ≡ map (option_map f) (drop t ps) = bounded.1.1 ∙ sym (paths_kept f t ps bounded.1.1) ∙ drop-map (option_map f) t ps in
+    ap (λ (qs : List (Option PathState)). map (option_map f) (take t ps) ++ qs) same
+    ∙ sym (map-append (option_map f) (take t ps) (drop t ps)) ∙ ap (map (option_map f)) (take-append-drop t ps)
+
+pub changed_below : (f : PathState → PathState) (t n : ℕ) (ps qs : List (Option PathState)) → AreBounded t ps → n ≡ t
+    → qs ≡ map (option_map f) (take n ps) → qs ++ drop n ps ≡ map (option_map f) ps
+changed_below f t n ps qs bounded same e =
+    ap (λ (rs : List (Option PathState)). rs ++ drop n ps) e
+    ∙ ap (λ (m : ℕ). map (option_map f) (take m ps) ++ drop m ps) same ∙ map_below f t ps bounded
+
 -- what all hold is held below that number
 sum_none : (f : Option PathState → ℕ) (n m : ℕ) → f None ≡ 0 → fold (λ a o. a + f o) n (replicate m None) ≡ n
 sum_none f n zero none = refl
@@ -109,3 +126,31 @@ none_past (suc t) (suc n) m (o ∷ ps) le e = none_past t n m ps (omega (arith, 
 pub no_path : (t n : ℕ) (ps : List (Option PathState)) → t ≤ n → drop t ps ≡ drop t no_paths → slot_at ps n ≡ None
 unfolding Rattle.gate_model.specs.Paths.no_paths
 no_path t n ps le e = none_past t n (256 - t) ps le (e ∙ drop-replicate t 256 None)
+
+-- the lines of lives are of those below it
+lines_none : (life m : ℕ) → lines_of_life life (replicate m None) ≡ []
+lines_none life zero = refl
+lines_none life (suc m) = lines_none life m
+
+lines_both : (life : ℕ) (ps qs : List (Option PathState)) → lines_of_life life (ps ++ qs) ≡ lines_of_life life ps ++ lines_of_life life qs
+lines_both life [] qs = refl
+lines_both life (o ∷ ps) qs =
+    ap (λ (items : List LostItem). lines_on life o ++ items) (lines_both life ps qs) ∙ sym (append_assoc (lines_on life o) (lines_of_life life ps) (lines_of_life life qs))
+
+pub lines_below : (t : ℕ) (ps : List (Option PathState)) → AreBounded t ps → (life : ℕ) → lines_of_life life (take t ps) ≡ lines_of_life life ps
+unfolding Rattle.gate_model.specs.Paths.no_paths
+lines_below t ps bounded life =
+    sym (append-nil (lines_of_life life (take t ps)))
+    ∙ ap (λ (items : List LostItem). lines_of_life life (take t ps) ++ items)
+    (sym (ap (lines_of_life life) (bounded.1.1 ∙ drop-replicate t 256 None) ∙ lines_none life (256 - t)))
+    ∙ sym (lines_both life (take t ps) (drop t ps)) ∙ ap (lines_of_life life) (take-append-drop t ps)
+
+pub owing_below : (above last : ℕ) (ps qs : List (Option PathState)) (o : Option ℕ) → ((life : ℕ) → lines_of_life life ps ≡ lines_of_life life qs)
+    → IsNextOwing above last ps o → IsNextOwing above last qs o
+owing_below above last ps qs None same f = λ n a b. sym (same n) ∙ f n a b
+owing_below above last ps qs (Some life) same f = record {
+  over = f.over;
+  within = f.within;
+  owes = ap is_empty (sym (same life)) ∙ f.owes;
+  first = λ n a b. sym (same n) ∙ f.first n a b;
+}

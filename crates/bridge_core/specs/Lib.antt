@@ -10,3 +10,4 @@ pub mod Met
 pub mod Offers
 pub mod PathChanges
 pub mod Reports
+pub mod Words

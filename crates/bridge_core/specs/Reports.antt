@@ -1,14 +1,11 @@
 -- The lines of the report: what writing a text came to, and which life comes next.
 use Rattle.std.specs.Prelude.{◌≡◌, ℕ, ◌<◌, ◌≤◌, nat_le, nat_lt, Bool, true, false, ◌&&◌}
 use Rattle.std.specs.Prelude.{if◌then◌else◌, List, [], Option, None, Some}
-use Rattle.std.specs.Prelude.{is_some}
 use Rattle.std.specs.Bool.{OnFalse, OnTrue}
 use Rattle.gate_outside.specs.Counts.{Rose}
 use Rattle.gate_outside.specs.Streams.{Appends, AppendsFront}
 use Rattle.gate_relay.specs.Entries.{is_empty}
 use Rattle.open_items.specs.declared.lost.LostItem.{LostItem}
-use Rattle.consume_path.specs.declared.delivery.Delivery.{Delivery}
-use Rattle.publish_path.specs.declared.publish.Publish.{Publish}
 use Rattle.session_path.specs.Due.{lines}
 use Rattle.session_path.specs.Path.{PathState}
 use Rattle.gate_model.specs.Paths.{lines_of_life}
@@ -27,12 +24,6 @@ pub record Writes (done : Bool) (faults risen : ℕ) (old new : Option (List ℕ
 abbrev pub text_of_line : ℕ → Option LostItem → List ℕ
 text_of_line pair None = []
 text_of_line pair (Some item) = line_text pair item
-
-abbrev pub has_line : Publish → Bool
-has_line p = is_some p.line
-
-abbrev pub has_delivery_line : Delivery → Bool
-has_delivery_line d = is_some d.line
 
 -- the life of a channel whose publishes or deliveries owe lines
 abbrev pub owing_on : Option PathState → Option ℕ

@@ -271,6 +271,9 @@ impl Core {
         ensures place { result ≡ place_in (waits self.now) self.now.queue }
         ensures within { IfSome result (λ i. i < length self.now.queue) }
     {
+        if self.queue.is_empty() {
+            return None;
+        }
         let mut held = [false; CHANNELS];
         for i in 0..self.queue.len() {
             if self.can_take(i, &held) {

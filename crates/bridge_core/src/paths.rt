@@ -22,31 +22,32 @@ ghost use Rattle.gate_model.specs.Requests.{declare_fault};
 ghost use Rattle.gate_model.specs.Requests.{get_fault, is_queue_name};
 ghost use Rattle.gate_model.specs.State.{path_wrote};
 ghost use Rattle.bridge_core.specs.PathChanges.{consumed_by, is_deliver, partial_in};
-ghost use Rattle.bridge_core.specs.Reports.{has_delivery_line};
-ghost use Rattle.session_path.specs.Links.{attach_fault, handle_of, named};
+ghost use Rattle.session_path.specs.Links.{attach_fault, fault_unasked, handle_of, named};
 ghost use Rattle.session_path.specs.Path.{cancelled, closes_at, declare_came, got, published};
 ghost use Rattle.session_path.specs.Path.{queue_or};
 ghost use Rattle.session_path.specs.declared.path.AttachFault.TheVariants.{NotAsked};
 ghost use Rattle.gate_model.specs.Due.{carries_of, carries_told};
 ghost use Rattle.gate_model.specs.Paths.{bytes_in, bytes_on, held_in, held_on, is_laden};
+ghost use Rattle.gate_model.specs.Paths.{lines_of_life};
 ghost use Rattle.gate_model.specs.Paths.{lost_path, no_paths, path_at, set_path, slot_at};
 ghost use Rattle.gate_model.specs.Paths.{told_paths, transfer_of, with_path};
 ghost use Rattle.session_path.specs.Path.{lines_told};
 ghost use Rattle.gate_model.specs.State.{path_given, path_told};
 ghost use Rattle.bridge_core.specs.PathChanges.{MayGive, MayTell, path_changed, takes_memory_to};
 ghost use Rattle.bridge_core.specs.declared.lives.TheConstants.{CHANNELS};
-ghost use Rattle.bridge_core.specs.Reports.{IsNextOwing, has_line, is_before, owing_on, sooner};
+ghost use Rattle.bridge_core.specs.declared.paths.PathChange.TheVariants as change;
+ghost use Rattle.bridge_core.specs.Reports.{IsNextOwing, is_before, owing_on, sooner};
 
 use crate::link_frames::is_utf8;
 use crate::lives::CHANNELS;
 use crate::transfers::transfer_of;
 use close_translate::{NOT_ALLOWED, NOT_FOUND, PRECONDITION_FAILED};
-use consume_path::{Content, Delivery, NextSettle, Part, Settle, TransferFault};
+use consume_path::{Content, NextSettle, Part, Settle, TransferFault};
 use gate_model::{ChannelUnit, HELD_BYTES, HELD_PUBLISHES, SessionUnit, TransferOut};
 use methods_091::Method91;
 use open_items::Frames;
 use performatives_10::Condition;
-use publish_path::{Confirm, NextReturn, Outcome, Publish};
+use publish_path::{Confirm, NextReturn, Outcome};
 use session_path::{
     AttachDue, AttachFault, AttachHeard, ContentDue, DeliverDue, FlowDue, LinkFlow, PathOk,
     SessionPath, Settling, Stage,
@@ -145,6 +146,29 @@ pub enum PathChange {
     Lost,
 }
 
+/// confirm.select was taken up, which asks for an answer where `no_wait` is false. Without memory
+/// for it all is as it was.
+fn select(path: &mut SessionPath, no_wait: bool) -> Result<(), Memory>
+    ensures ok { OnOk result (path.new ≡ path_changed (change.Selected no_wait) path.old) }
+    ensures err { OnErr result (path.new ≡ path.old) }
+{
+    if !no_wait {
+        path.owed(PathOk::Select)?;
+    }
+    path.selected();
+    Ok(())
+}
+
+/// basic.recover was taken up. Without memory for its answer all is as it was.
+fn recover(path: &mut SessionPath) -> Result<(), Memory>
+    ensures ok { OnOk result (path.new ≡ path_changed change.Recovered path.old) }
+    ensures err { OnErr result (path.new ≡ path.old) }
+{
+    path.owed(PathOk::Recover)?;
+    path.answer_came(0, true, Settle::Released);
+    Ok(())
+}
+
 impl PathSlot {
     /// Its session, or the connection, is lost.
     fn lose(&mut self)
@@ -197,7 +221,7 @@ impl PathSlot {
         ensures { result ≡ owing_on self.now }
     {
         let path = self.path()?;
-        if owes_line(path.publishes(), path.deliveries()) {
+        if path.owes_lines() {
             Some(path.life())
         } else {
             None
@@ -226,13 +250,7 @@ impl PathSlot {
         };
         match change {
             PathChange::Owed(ok) => path.owed(ok),
-            PathChange::Selected(no_wait) => {
-                if !no_wait {
-                    path.owed(PathOk::Select)?;
-                }
-                path.selected();
-                Ok(())
-            }
+            PathChange::Selected(no_wait) => select(path, no_wait),
             PathChange::Began(handle_max) => {
                 path.began(handle_max);
                 Ok(())
@@ -241,11 +259,7 @@ impl PathSlot {
                 path.answer_came(tag, multiple, settle);
                 Ok(())
             }
-            PathChange::Recovered => {
-                path.owed(PathOk::Recover)?;
-                path.answer_came(0, true, Settle::Released);
-                Ok(())
-            }
+            PathChange::Recovered => recover(path),
             PathChange::Attached(attach) => path.attach_came(attach),
             PathChange::Flowed(peer, flow) => path.flow_came(peer, flow),
             PathChange::Detached(peer, not_found) => {
@@ -410,28 +424,6 @@ impl PathSlot {
     }
 }
 
-/// Some publish owes a line to the report.
-fn owes(publishes: &[Publish]) -> bool
-    ensures { result ≡ list_any has_line publishes.now }
-{
-    publishes.iter().any(|publish| publish.line.is_some())
-}
-
-/// Some delivery does.
-fn owes_of(deliveries: &[Delivery]) -> bool
-    ensures { result ≡ list_any has_delivery_line deliveries.now }
-{
-    deliveries.iter().any(|delivery| delivery.line.is_some())
-}
-
-/// A publish or a delivery of a path does.
-fn owes_line(publishes: &[Publish], deliveries: &[Delivery]) -> bool
-    ensures { result ≡ (list_any has_line publishes.now
-        || list_any has_delivery_line deliveries.now) }
-{
-    owes(publishes) || owes_of(deliveries)
-}
-
 /// A life comes before the next one, if there is one.
 fn is_before(life: u64, next: Option<u64>) -> bool
     ensures { result ≡ is_before life next }
@@ -478,11 +470,11 @@ fn held_in(slots: &[PathSlot]) -> (u64, u64)
     (publishes, bytes)
 }
 
-/// The lines that the report was owed of all were reported.
-fn tell_each(paths: &mut [PathSlot; CHANNELS])
-    ensures { paths.new ≡ told_paths paths.old }
+/// The lines that the report was owed were reported.
+fn tell_each(slots: &mut [PathSlot])
+    ensures { slots.new ≡ told_paths slots.old }
 {
-    for slot in paths.iter_mut() {
+    for slot in slots.iter_mut() {
         slot.lines_told();
     }
 }
@@ -584,6 +576,8 @@ impl Paths {
     fn used(&self) -> &[PathSlot]
         ensures count { held_in result.now ≡ held_in self.now }
         ensures bytes { bytes_in result.now ≡ bytes_in self.now }
+        ensures lines { (life : ℕ)
+            → lines_of_life life result.now ≡ lines_of_life life self.now }
     {
         &self.paths[..usize::from(self.top)]
     }
@@ -621,7 +615,7 @@ impl Paths {
     pub fn lines_told(&mut self)
         ensures { self.new ≡ told_paths self.old }
     {
-        tell_each(&mut self.paths);
+        tell_each(&mut self.paths[..usize::from(self.top)]);
     }
 
     /// The paths of the channels, by their numbers.
@@ -635,7 +629,7 @@ impl Paths {
     pub fn next_owing(&self, above: u64, last: u64) -> Option<u64>
         ensures { IsNextOwing above last self.now result }
     {
-        next_owing(&self.paths, above, last)
+        next_owing(self.used(), above, last)
     }
 
     /// So many publishes are held, or so many bytes of them, that nothing more is taken up.
@@ -1052,6 +1046,16 @@ impl Paths {
         match self.at(channel) {
             None => Some(AttachFault::NotAsked),
             Some(path) => path.attach_fault(name, role, peer),
+        }
+    }
+
+    /// Why an attach of the container whose name is that of no link can't be taken.
+    pub fn fault_unasked(&self, channel: u16, peer: u32) -> AttachFault
+        ensures { result ≡ fault_unasked peer (path_at self.now channel).links }
+    {
+        match self.at(channel) {
+            None => AttachFault::NotAsked,
+            Some(path) => path.fault_unasked(peer),
         }
     }
 

@@ -1,7 +1,7 @@
 //! The units of a client that aren't taken up yet.
 
 ghost use Rattle.std.specs.Prelude.{◌≡◌, ◌<◌, ◌+◌, ◌++◌, ◌∷◌, [], OnOk, OnErr, length};
-ghost use Rattle.std.specs.Prelude.{IfSome, option_copied, slice_get, slice_set, take, true, Some};
+ghost use Rattle.std.specs.Prelude.{IfSome, if◌then◌else◌, option_copied, slice_get, slice_set, take, true, Some};
 ghost use Rattle.std.specs.Bool.{OnFalse, OnTrue};
 ghost use Rattle.std.specs.List.{list_any};
 ghost use Rattle.gate_model.specs.Queue.{holds, is_bad_unit, is_empty, is_full, payload_of};
@@ -22,18 +22,22 @@ use wire_base::Memory;
 pub struct Queue {
     units: VecDeque<Unit91>,
     bytes: usize,
+    /// Bytes with which no unit begins are among them.
+    bad: bool,
 }
 
 impl Model for Queue {
     ghost use Rattle.std.specs.Prelude.{◌≡◌, List};
+    ghost use Rattle.std.specs.List.{list_any};
     ghost use Rattle.machine_091.specs.declared.unit.Unit91.{Unit91};
-    ghost use Rattle.gate_model.specs.Queue.{payloads};
+    ghost use Rattle.gate_model.specs.Queue.{is_bad_unit, payloads};
 
     ghost Value = { List Unit91 };
 
     ghost view = { λ a. a.units.items };
 
-    ghost invariant = { λ a. a.bytes ≡ payloads a.units.items };
+    ghost invariant = { λ a. (a.bytes ≡ payloads a.units.items)
+        × (a.bad ≡ list_any is_bad_unit a.units.items) };
 }
 
 /// The channel that a unit is of: of the connection is what isn't a frame.
@@ -66,6 +70,32 @@ fn payload_of(unit: &Unit91) -> usize
     }
 }
 
+/// Bytes with which no unit begins.
+fn is_bad_unit(unit: &Unit91) -> bool
+    ensures { result ≡ is_bad_unit unit.now }
+{
+    matches!(unit, Unit91::Bad(_))
+}
+
+/// Bytes with which no unit begins are among these.
+fn any_bad(units: &VecDeque<Unit91>) -> bool
+    ensures { result ≡ list_any is_bad_unit units.now.items }
+{
+    units.iter().any(is_bad_unit)
+}
+
+/// Whether bad bytes are among the units that stay, where these were among all, and this unit goes.
+fn bad_without(bad: bool, unit: &Unit91, units: &VecDeque<Unit91>) -> bool
+    ensures { result ≡ (if is_bad_unit unit.now then list_any is_bad_unit units.now.items
+        else bad) }
+{
+    if is_bad_unit(unit) {
+        any_bad(units)
+    } else {
+        bad
+    }
+}
+
 /// A unit of a channel waits for this one.
 fn holds(channel: u16, unit: &Unit91) -> bool
     ensures { result ≡ holds channel unit.now }
@@ -93,11 +123,12 @@ impl Queue {
         Queue {
             units: VecDeque::new(alloc),
             bytes: 0,
+            bad: false,
         }
     }
 
     /// A unit waits behind the others. Without memory all is as it was.
-    #[tactic(auto, using(crate::proofs::Payloads::payloads_more))]
+    #[tactic(auto, using(crate::proofs::Payloads::payloads_more, crate::proofs::Payloads::bad_more))]
     pub fn push(&mut self, unit: Unit91) -> Result<(), Memory>
         ensures ok { OnOk result (self.new ≡ self.old ++ unit ∷ []) }
         ensures err { OnErr result (self.new ≡ self.old) }
@@ -105,9 +136,11 @@ impl Queue {
         let Some(bytes) = self.bytes.checked_add(payload_of(&unit)) else {
             return Err(Memory);
         };
+        let bad = is_bad_unit(&unit);
         match self.units.push_back(unit) {
             Ok(()) => {
                 self.bytes = bytes;
+                self.bad |= bad;
                 Ok(())
             }
             Err(_) => Err(Memory),
@@ -120,6 +153,7 @@ impl Queue {
     {
         self.units.clear();
         self.bytes = 0;
+        self.bad = false;
     }
 
     /// How many units wait.
@@ -154,7 +188,7 @@ impl Queue {
     pub fn has_bad(&self) -> bool
         ensures { result ≡ list_any is_bad_unit self.now }
     {
-        self.units.iter().any(|u| matches!(u, Unit91::Bad(_)))
+        self.bad
     }
 
     /// Whether one of the first units holds those of a channel.
@@ -218,6 +252,7 @@ impl Queue {
             unreachable!()
         };
         self.bytes -= payload_of(&unit);
+        self.bad = bad_without(self.bad, &unit, &self.units);
         unit
     }
 }

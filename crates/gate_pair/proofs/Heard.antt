@@ -47,7 +47,7 @@ use Rattle.gate_model.specs.State.{step}
 use Rattle.gate_model.specs.Upstream.{awaited_of, container_given, ended_in, is_awaited_up}
 use Rattle.gate_model.specs.Upstream.{sessions_given}
 use Rattle.gate_model.proofs.Known.{conn_is, container_is, known}
-use Rattle.gate_model.proofs.Times.{and_right}
+use Rattle.gate_model.proofs.Basics.{and_right}
 use Rattle.gate_pair.specs.Answers.{AreCut, AreHeard, CutsInto, CutsUpInto, Finds, NoneWhole}
 use Rattle.gate_pair.specs.Answers.{heard_bytes}
 use Rattle.gate_pair.specs.Cutting.{Cut, IsWithin, after, as_step, as_unit, behind, cut_all, cut_of}

@@ -35,7 +35,8 @@ use Rattle.gate_model.specs.State.{State, is_held, place}
 use Rattle.gate_model.specs.Upstream.{awaited_of, first, is_awaited_up}
 use Rattle.gate_model.proofs.Known.{Known, conn_is, container_is, known, number_is}
 use Rattle.gate_model.proofs.Silences.{given_is}
-use Rattle.gate_model.proofs.Times.{Either, OnLeft, OnRight, and_left, and_right, either}
+use Rattle.gate_model.proofs.Times.{Either, OnLeft, OnRight, either}
+use Rattle.gate_model.proofs.Basics.{and_left, and_right}
 use Rattle.gate_pair.specs.Lawful.{AreLawful, AtRefusal, AtTheEnd, Attaching, Beginning, Answering}
 use Rattle.gate_pair.specs.Lawful.{Crediting, Delivering, InSpellingBack, Returning, Writing}
 use Rattle.gate_pair.specs.Lawful.{Flowing, InRead, InSpelling, InTakeUp, IsAskedFor, IsAwaited}

@@ -44,7 +44,7 @@ use Rattle.gate_model.specs.State.{step}
 use Rattle.gate_model.specs.Upstream.{awaited_of}
 use Rattle.gate_model.proofs.Known.{container_is, known}
 use Rattle.gate_model.proofs.Known as knows
-use Rattle.gate_model.proofs.Times.{and_left, and_right}
+use Rattle.gate_model.proofs.Basics.{and_left, and_right}
 use Rattle.gate_pair.specs.Cutting.{after, as_step, as_unit, behind, cut_all, cut_of, on_scan}
 use Rattle.gate_pair.specs.Cutting.{read_end, settle, step_scan, unit_scan, up_scan}
 use Rattle.gate_pair.specs.Meaning.{begins, ends, given, leaves, offered, pair_words, spelled_in}

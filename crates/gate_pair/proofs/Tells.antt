@@ -26,7 +26,7 @@ use Rattle.gate_model.proofs.Connections.{clash}
 use Rattle.gate_model.proofs.Known.{Known, conn_is, container_is, known, memory_is, moment_is}
 use Rattle.gate_model.proofs.Known.{side_is}
 use Rattle.gate_model.proofs.Openings.{is_opening_first}
-use Rattle.gate_model.proofs.Times.{and_both}
+use Rattle.gate_model.proofs.Basics.{and_both}
 use Rattle.gate_model.proofs.Ups.{UpSays, up_says}
 use Rattle.gate_pair.proofs.Lacks.{Lacks, begins_lack, both_lack, ends_lack, first_up, rows_lack}
 

@@ -61,46 +61,34 @@ impl Core {
     {
         match unit {
             Reply::ChannelOpenOk(channel) => {
-                let life = self.lives.at(channel);
-                self.lives.set(
-                    channel,
-                    Life {
-                        open_ok: false,
-                        ..life
-                    },
-                );
+                let life = Life {
+                    open_ok: false,
+                    ..self.lives.at(channel)
+                };
+                self.lives.set(channel, life);
             }
             Reply::OnChannel(channel, unit) => self.paths.tell(channel, unit),
             Reply::ChannelCloseOk(channel) => {
-                let life = self.lives.at(channel);
-                self.lives.set(
-                    channel,
-                    Life {
-                        close_ok: false,
-                        ..life
-                    },
-                );
+                let life = Life {
+                    close_ok: false,
+                    ..self.lives.at(channel)
+                };
+                self.lives.set(channel, life);
                 self.conn.closed(channel);
             }
             Reply::CrossedOk(channel) => {
-                let life = self.lives.at(channel);
-                self.lives.set(
-                    channel,
-                    Life {
-                        crossed_ok: false,
-                        ..life
-                    },
-                );
+                let life = Life {
+                    crossed_ok: false,
+                    ..self.lives.at(channel)
+                };
+                self.lives.set(channel, life);
             }
             Reply::ChannelClose(channel, _) => {
-                let life = self.lives.at(channel);
-                self.lives.set(
-                    channel,
-                    Life {
-                        close: None,
-                        ..life
-                    },
-                );
+                let life = Life {
+                    close: None,
+                    ..self.lives.at(channel)
+                };
+                self.lives.set(channel, life);
                 self.conn.told(channel);
             }
             _ => {}

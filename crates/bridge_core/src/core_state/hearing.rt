@@ -196,7 +196,7 @@ impl Core {
             (path_at self.now.paths channel) }
     {
         match link_number(attach.name.as_slice()) {
-            None => Some(AttachFault::NotAsked),
+            None => Some(self.paths.fault_unasked(channel, attach.handle)),
             Some(name) => self
                 .paths
                 .attach_fault(channel, name, attach.role, attach.handle),

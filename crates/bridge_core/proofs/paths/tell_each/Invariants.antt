@@ -3,4 +3,4 @@ use Rattle.gate_model.specs.Paths.{told_paths}
 use Rattle.bridge_core.proofs.paths.tell_each.Given as goal
 
 abbrev pub invariant-loop-slot : goal.invariant-loop-slot
-invariant-loop-slot l = l.paths ≡ told_paths (take l.slot-index l.fn.paths) ++ drop l.slot-index l.fn.paths
+invariant-loop-slot l = l.slots ≡ told_paths (take l.slot-index l.fn.slots) ++ drop l.slot-index l.fn.slots

@@ -4,10 +4,10 @@ use Rattle.std.proofs.Common.{drop, length, refl, subst, sym, take, ℕ}
 use Rattle.std.proofs.lemmas.Bool.{OnFalse_at, OnTrue_at}
 use Rattle.std.specs.Prelude.{IfSome, slice_get}
 use Rattle.machine_091.specs.declared.unit.Unit91.{Unit91}
-use Rattle.gate_model.specs.Queue.{channel_of, place_from}
+use Rattle.gate_model.specs.Queue.{channel_of, is_empty, place_from}
 use Rattle.gate_model.specs.State.{State, waits}
 use Rattle.bridge_core.specs.Held.{AreHeld}
-use Rattle.bridge_core.proofs.Places.{none_behind, none_held, place_here}
+use Rattle.bridge_core.proofs.Places.{none_behind, none_held, none_left, place_here}
 use Rattle.bridge_core.proofs.core_state.Core.first_to_take.Goals as goal
 
 -- from this unit on, by whether it can be taken up
@@ -45,3 +45,9 @@ returns-then-can_take-clause-place c =
     let inside : c.loop-i.i < length w.queue = omega (arith, c.loop-i-test.true, c.len-i-end.ensures, ap length same) in
     sym (c.loop-i.invariant.place ∙ place_here (waits w) w.queue c.loop-i.i c.can_take.result c.can_take.ensures inside
     ∙ ap (from w c.loop-i.i) c.if-can_take.true)
+
+pub returns-then-is_empty-clause-place : goal.returns-then-is_empty-clause-place
+returns-then-is_empty-clause-place c =
+    let w : State = c.args.self.now in
+    let same : c.self.inside.queue ≡ w.queue = ap (λ (x : State). x.queue) c.self.view_is in
+    sym (none_left (waits w) w.queue (ap is_empty (sym same) ∙ sym c.is_empty.ensures ∙ c.if-is_empty.true))

@@ -1,16 +1,15 @@
-use Rattle.std.proofs.Common.{◌∙◌, Bool, Some, None, if◌then◌else◌, ap, refl, sym}
+use Rattle.std.proofs.Common.{◌∙◌, Bool, Some, None, ap, if◌then◌else◌, sym}
 use Rattle.bridge_core.proofs.OwedLines.{life_owing}
+use Rattle.bridge_core.specs.Reports.{owing_on}
 use Rattle.bridge_core.proofs.paths.PathSlot.owing.Goals as goal
 
-pub returns-then-owes_line : goal.returns-then-owes_line
-returns-then-owes_line c =
-    ap (λ (b : Bool). if b then Some c.life.result else None) (sym c.if-owes_line.true ∙ c.owes_line.ensures)
-    ∙ life_owing c.args.self.now c.in_ok-path.path.now c.life.result c.publishes.result.now c.deliveries.result.now c.in_ok-path.ensures
-    (record { publishes = c.publishes.ensures; deliveries = c.deliveries.ensures }) c.life.ensures
+pub returns-then-owes_lines : goal.returns-then-owes_lines
+returns-then-owes_lines c =
+    ap Some c.life.ensures
+    ∙ ap (λ (b : Bool). if b then Some c.in_ok-path.path.now.publishes.life else None) (sym c.if-owes_lines.true)
+    ∙ life_owing c.in_ok-path.path.now c.owes_lines.result c.owes_lines.ensures ∙ ap owing_on c.in_ok-path.ensures
 
-pub returns-else-owes_line : goal.returns-else-owes_line
-returns-else-owes_line c =
-    let life = c.in_ok-path.path.now.publishes.life in
-    ap (λ (b : Bool). if b then Some life else None) (sym c.if-owes_line.false ∙ c.owes_line.ensures)
-    ∙ life_owing c.args.self.now c.in_ok-path.path.now life c.publishes.result.now c.deliveries.result.now c.in_ok-path.ensures
-    (record { publishes = c.publishes.ensures; deliveries = c.deliveries.ensures }) refl
+pub returns-else-owes_lines : goal.returns-else-owes_lines
+returns-else-owes_lines c =
+    ap (λ (b : Bool). if b then Some c.in_ok-path.path.now.publishes.life else None) (sym c.if-owes_lines.false)
+    ∙ life_owing c.in_ok-path.path.now c.owes_lines.result c.owes_lines.ensures ∙ ap owing_on c.in_ok-path.ensures
