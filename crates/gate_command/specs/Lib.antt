@@ -7,3 +7,4 @@ pub mod Recorded
 pub mod Replaying
 pub mod Runs
 pub mod View
+pub mod Words

@@ -3,3 +3,4 @@ pub mod Guards
 pub mod Relayed
 pub mod RelayWords
 pub mod Sides
+pub mod Words

@@ -5,3 +5,4 @@ pub mod Next
 pub mod Report
 pub mod Serving
 pub mod Stages
+pub mod Words

@@ -4,3 +4,4 @@ pub mod Openings
 pub mod Parts
 pub mod Represents
 pub mod Rounds
+pub mod Words
