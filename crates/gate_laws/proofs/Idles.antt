@@ -44,7 +44,7 @@ use Rattle.gate_model.specs.Upstream.{UpState, awaited_of, closing_with, has_clo
 use Rattle.gate_model.proofs.Connections.{clash}
 use Rattle.gate_model.proofs.Known.{closing_is, conn_is, keep_is, known, side_is}
 use Rattle.gate_model.proofs.Queues.{empty_is}
-use Rattle.gate_model.proofs.Times.{and_both, and_left, and_right}
+use Rattle.gate_model.proofs.Basics.{and_both, and_left, and_right}
 use Rattle.gate_model.proofs.Ups.{is_early}
 use Rattle.gate_pair.specs.Cutting as cutting
 use Rattle.gate_pair.specs.Cutting.{after, on_next, settle}

@@ -17,9 +17,18 @@ use Rattle.gate_model.specs.Once.{AnswersOnce}
 use Rattle.gate_model.specs.Order.{TakesInOrder}
 use Rattle.gate_model.specs.Picks.{ArePicks}
 use Rattle.gate_model.specs.Contents.{AreImages, StandTogether, Writes}
+use Rattle.gate_model.specs.Behind.{DeliversBehind}
+use Rattle.gate_model.specs.Declares.{DeclaresFound}
 use Rattle.gate_model.specs.Delivers.{Delivers}
+use Rattle.gate_model.specs.Giving.{GivesUpIdle}
+use Rattle.gate_model.specs.Holding.{HoldsFew, TakesWithRoom}
+use Rattle.gate_model.specs.Linger.{Lingers}
+use Rattle.gate_model.specs.Parting.{StopsWhenClosed}
 use Rattle.gate_model.specs.Publishing.{ArePieces, Confirms, EndWhole, Returns, Transfers}
+use Rattle.gate_model.specs.Reasons.{ClosesOnce, SaysWhy}
+use Rattle.gate_model.specs.Recovers.{GoBack, GoBeforeLeaving, LeavesOthers}
 use Rattle.gate_model.specs.Releases.{Releases}
+use Rattle.gate_model.specs.Repeats.{AttachesOnce, EndsOnce, FlowsOnce, SettlesInOrder}
 use Rattle.gate_model.specs.Reports.{lines_owed}
 use Rattle.gate_model.specs.Rests.{ServesClients, SuppliesContainers}
 use Rattle.gate_model.specs.Settles.{Grants, Settles}
@@ -39,11 +48,16 @@ pub record IsLawfulPair (s : SetupText) (h : List Entry) : Type 0 where
   pub picks : ArePicks (steps_of s h)
   -- each end took what it was sent, and its client what answers it and tells what happened upstream
   pub answers : IsAnswered s h
-  -- a client's units are taken up in the order of their channel, and each request on one is
-  -- answered at most once, in that order
+  -- a client's units are taken up in the order of their channel
   pub order : TakesInOrder (steps_of s h)
+  -- while many publishes are held, nothing of it is
+  pub room : TakesWithRoom (steps_of s h)
+  pub held : HoldsFew (steps_of s h)
+  -- each request on a channel is answered at most once, in its order; a declaration only where its
+  -- queue was found
   pub once : AnswersOnce (steps_of s h)
   pub requests : AnswersInOrder (steps_of s h)
+  pub declared : DeclaresFound (steps_of s h)
   -- each confirm covers publishes with the outcome that it tells, accepted ones by an ack; frames
   -- of returns are those of mandatory publishes that no queue took; frames of transfers go within
   -- credit and window, in order, and carry each byte of an image once
@@ -52,6 +66,8 @@ pub record IsLawfulPair (s : SetupText) (h : List Entry) : Type 0 where
   pub transfers : Transfers (steps_of s h)
   pub pieces : ArePieces (steps_of s h)
   pub wholes : EndWhole (steps_of s h)
+  -- a link that is given up for its handle has no publish without outcome
+  pub given : GivesUpIdle (steps_of s h)
   -- each deliver is the next of its link, within the prefetch of its consumer and of all
   pub delivers : Delivers (steps_of s h)
   -- it carries the image of its message; the frames of its content are those of that, each once, in
@@ -64,6 +80,23 @@ pub record IsLawfulPair (s : SetupText) (h : List Entry) : Type 0 where
   pub settles : Settles (steps_of s h)
   pub grants : Grants (steps_of s h)
   pub releases : Releases (steps_of s h)
+  -- a recover releases what its client has, and nothing else
+  pub recovered : GoBack (steps_of s h)
+  pub unrecovered : LeavesOthers (steps_of s h)
+  pub gone : GoBeforeLeaving (steps_of s h)
+  -- a session's end lingers for what becomes of its publishes, and goes once; so do dispositions of
+  -- role sender, flows and attaches
+  pub lingers : Lingers (steps_of s h)
+  pub ends_once : EndsOnce (steps_of s h)
+  pub outcomes : SettlesInOrder (steps_of s h)
+  pub flows : FlowsOnce (steps_of s h)
+  pub attaches : AttachesOnce (steps_of s h)
+  -- on a channel that is closed no answer and no delivery goes; its close has its reason; and a
+  -- deliver goes behind the answers
+  pub stops : StopsWhenClosed (steps_of s h)
+  pub reasons : SaysWhy (steps_of s h)
+  pub closes_once : ClosesOnce (steps_of s h)
+  pub behind : DeliversBehind (steps_of s h)
   -- the report is owed the lines of the publishes that were lost before they had an outcome, and of
   -- the deliveries that were lost or left
   pub lines : owed_lines (state_of s h) ≡ lines_owed (steps_of s h)

@@ -12,9 +12,18 @@ ghost use Rattle.gate_model.specs.Once.{AnswersOnce};
 ghost use Rattle.gate_model.specs.Order.{TakesInOrder};
 ghost use Rattle.gate_model.specs.Picks.{ArePicks};
 ghost use Rattle.gate_model.specs.Contents.{AreImages, StandTogether, Writes};
+ghost use Rattle.gate_model.specs.Behind.{DeliversBehind};
+ghost use Rattle.gate_model.specs.Declares.{DeclaresFound};
 ghost use Rattle.gate_model.specs.Delivers.{Delivers};
+ghost use Rattle.gate_model.specs.Giving.{GivesUpIdle};
+ghost use Rattle.gate_model.specs.Holding.{HoldsFew, TakesWithRoom};
+ghost use Rattle.gate_model.specs.Linger.{Lingers};
+ghost use Rattle.gate_model.specs.Parting.{StopsWhenClosed};
 ghost use Rattle.gate_model.specs.Publishing.{ArePieces, Confirms, EndWhole, Returns, Transfers};
+ghost use Rattle.gate_model.specs.Reasons.{ClosesOnce, SaysWhy};
+ghost use Rattle.gate_model.specs.Recovers.{GoBack, GoBeforeLeaving, LeavesOthers};
 ghost use Rattle.gate_model.specs.Releases.{Releases};
+ghost use Rattle.gate_model.specs.Repeats.{AttachesOnce, EndsOnce, FlowsOnce, SettlesInOrder};
 ghost use Rattle.gate_model.specs.Reports.{lines_owed};
 ghost use Rattle.gate_model.specs.Rests.{ServesClients, SuppliesContainers};
 ghost use Rattle.gate_model.specs.Settles.{Grants, Settles};
@@ -75,6 +84,18 @@ pub fn units_keep_their_order()
 {
     entries_are_lawful();
     gate_model::units_keep_their_order();
+}
+
+/// Where a unit of a client is taken up, or its end, fewer than 256 publishes of the pair are held,
+/// and fewer than 67,108,864 bytes of their payloads. So at most 256 are held at any time.
+pub fn laden_pairs_wait()
+    ensures room { (s : SetupText) (c : Limits) (m : History) → Follows (pair_words s) c m
+        → (p : ℕ) → TakesWithRoom (steps_of s (journal p m)) }
+    ensures most { (s : SetupText) (c : Limits) (m : History) → Follows (pair_words s) c m
+        → (p : ℕ) → HoldsFew (steps_of s (journal p m)) }
+{
+    entries_are_lawful();
+    gate_model::laden_pairs_wait();
 }
 
 /// The answers to a channel's requests go in the order of the requests, each once: those that went
@@ -194,6 +215,94 @@ pub fn deliveries_are_settled()
     gate_model::releases_are_lawful();
 }
 
+/// A link for publishes that the gateway detaches and the container didn't is one on which each
+/// publish went whole and has its outcome.
+pub fn idle_links_are_given_up()
+    ensures { (s : SetupText) (c : Limits) (m : History) → Follows (pair_words s) c m → (p : ℕ)
+        → GivesUpIdle (steps_of s (journal p m)) }
+{
+    entries_are_lawful();
+    gate_model::idle_links_are_given_up();
+}
+
+/// A basic.recover releases each delivery of its channel that its client has and hasn't settled,
+/// and changes nothing of any other. Its disposition goes before the gateway's end of the session,
+/// and before its detach of the link.
+pub fn recovers_release_all()
+    ensures released { (s : SetupText) (c : Limits) (m : History) → Follows (pair_words s) c m
+        → (p : ℕ) → GoBack (steps_of s (journal p m)) }
+    ensures others { (s : SetupText) (c : Limits) (m : History) → Follows (pair_words s) c m
+        → (p : ℕ) → LeavesOthers (steps_of s (journal p m)) }
+    ensures gone { (s : SetupText) (c : Limits) (m : History) → Follows (pair_words s) c m
+        → (p : ℕ) → GoBeforeLeaving (steps_of s (journal p m)) }
+{
+    entries_are_lawful();
+    gate_model::recovers_release_all();
+}
+
+/// A queue.declare-ok goes only where the container attached the link that its queue.declare asked
+/// for, with a source.
+pub fn declarations_find_queues()
+    ensures { (s : SetupText) (c : Limits) (m : History) → Follows (pair_words s) c m → (p : ℕ)
+        → DeclaresFound (steps_of s (journal p m)) }
+{
+    entries_are_lawful();
+    gate_model::declarations_find_queues();
+}
+
+/// The gateway's end of a session that the container didn't end goes only once each publish of the
+/// channel's life was sent or lost its link, and has an outcome; once 5,000 ms passed since the
+/// closing event of the channel or of the connection; or once the pair ran out of memory. No more
+/// ends of the session of a number go than begins.
+pub fn sessions_end_in_time()
+    ensures lingers { (s : SetupText) (c : Limits) (m : History) → Follows (pair_words s) c m
+        → (p : ℕ) → Lingers (steps_of s (journal p m)) }
+    ensures once { (s : SetupText) (c : Limits) (m : History) → Follows (pair_words s) c m
+        → (p : ℕ) → EndsOnce (steps_of s (journal p m)) }
+{
+    entries_are_lawful();
+    gate_model::ends_linger();
+    gate_model::sessions_end_once();
+}
+
+/// Each disposition of role sender that goes to a container answers one of its own that was the
+/// first outcome of some publish, in order, each once. A flow of a link is asked for by a flow of
+/// the container that none answered yet, or states the credit of a receiving link. Of the first
+/// 2^64 attaches no two have one name.
+pub fn links_are_answered_once()
+    ensures outcomes { (s : SetupText) (c : Limits) (m : History) → Follows (pair_words s) c m
+        → (p : ℕ) → SettlesInOrder (steps_of s (journal p m)) }
+    ensures flows { (s : SetupText) (c : Limits) (m : History) → Follows (pair_words s) c m
+        → (p : ℕ) → FlowsOnce (steps_of s (journal p m)) }
+    ensures attaches { (s : SetupText) (c : Limits) (m : History) → Follows (pair_words s) c m
+        → (p : ℕ) → AttachesOnce (steps_of s (journal p m)) }
+{
+    entries_are_lawful();
+    gate_model::outcomes_are_answered();
+    gate_model::flows_are_answered();
+    gate_model::attaches_go_once();
+}
+
+/// No answer, no deliver and no frame of its content goes on a channel that isn't open. A confirm,
+/// and a return that begins, go on one that is, or whose closing event was its container's doing. A
+/// channel.close has the reason for which its channel was closed, and each reason has one at most.
+/// A deliver goes behind the answers that are due on its channel, but for a basic.get-ok.
+pub fn channels_close_lawfully()
+    ensures stops { (s : SetupText) (c : Limits) (m : History) → Follows (pair_words s) c m
+        → (p : ℕ) → StopsWhenClosed (steps_of s (journal p m)) }
+    ensures why { (s : SetupText) (c : Limits) (m : History) → Follows (pair_words s) c m
+        → (p : ℕ) → SaysWhy (steps_of s (journal p m)) }
+    ensures once { (s : SetupText) (c : Limits) (m : History) → Follows (pair_words s) c m
+        → (p : ℕ) → ClosesOnce (steps_of s (journal p m)) }
+    ensures behind { (s : SetupText) (c : Limits) (m : History) → Follows (pair_words s) c m
+        → (p : ℕ) → DeliversBehind (steps_of s (journal p m)) }
+{
+    entries_are_lawful();
+    gate_model::closed_channels_get_no_answers();
+    gate_model::closes_say_why();
+    gate_model::delivers_go_behind_answers();
+}
+
 /// What the report is owed of a pair: of each life in progress, by rising number, the publishes
 /// that were lost before they had an outcome, and then the deliveries that were lost or left. Of
 /// both those of which no line was reported, by rising number, and what became of each.
@@ -309,12 +418,19 @@ pub fn runs_are_lawful()
     entries_are_lawful();
     clients_are_answered();
     units_keep_their_order();
+    laden_pairs_wait();
     channels_are_answered_once();
     requests_are_answered();
     publishes_are_lawful();
     delivers_are_lawful();
     contents_are_lawful();
     deliveries_are_settled();
+    idle_links_are_given_up();
+    recovers_release_all();
+    declarations_find_queues();
+    sessions_end_in_time();
+    links_are_answered_once();
+    channels_close_lawfully();
     lines_are_lawful();
     owed_units_go();
     replies_wait();
