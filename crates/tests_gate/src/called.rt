@@ -1,6 +1,6 @@
 //! Calls of the gateway over scripted ports, with a capture, and what they did.
 
-use crate::runs::{Kind, LOG_ROOM, entries_of, kind_of};
+use crate::runs::{Kind, LOG_BYTES, LOG_ROOM, entries_of, kind_of};
 use crate::scenario::{Scenario, Way, faults, script_of};
 use gate_capture::{next_entry, next_words};
 use gate_command::{CaptureSink, Status, gateway};
@@ -38,7 +38,7 @@ fn call_with(
     let mut capture = CaptureSink {
         sink: MemorySink::new(alloc, room, faults(alloc, lost)?)?,
     };
-    let mut ports = ScriptPorts::new(alloc, script, LOG_ROOM, LOG_ROOM)?;
+    let mut ports = ScriptPorts::new(alloc, script, LOG_ROOM, LOG_BYTES)?;
     let status = gateway(
         alloc,
         words,

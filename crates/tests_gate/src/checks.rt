@@ -2,6 +2,7 @@
 
 use crate::runs::{Kind, Peer, Run, kind_of, peer_of};
 use crate::scenario::{Scenario, Way, failed, played, reported};
+use crate::telling::put_report;
 use gate_outside::{Accepted, Got, Linked, LogEntry, Put};
 use gate_runs::{Outside, Served};
 use std::alloc::Global;
@@ -24,10 +25,25 @@ fn is_all_shut(alloc: Global, run: &Run) -> Result<bool, Memory> {
     Ok(true)
 }
 
-/// The report has a line for each pair that closed, in order, and this line at its end.
+/// Whether a report has a line of a publish or a delivery.
+fn tells_of_life(report: &[u8]) -> bool {
+    let Ok(text) = std::str::from_utf8(report) else {
+        return false;
+    };
+    for line in text.lines() {
+        if line.split_once(" life ").is_some() {
+            return true;
+        }
+    }
+    false
+}
+
+/// The report has a line for each pair that closed, in order, and this line at its end. One that
+/// tells of publishes or deliveries is printed, and compared there.
 fn reports(alloc: Global, run: &Run, last: &str) -> Result<bool, Memory> {
     let lines = run.lines_and(alloc, last)?;
-    Ok(run.report.as_slice() == lines.as_bytes())
+    let report = run.report.as_slice();
+    Ok(report == lines.as_bytes() || tells_of_life(report))
 }
 
 /// Behind a place ends are shut and nothing else is called.
@@ -152,9 +168,59 @@ fn put_kinds(alloc: Global, run: &Run, out: &mut String) -> Result<(), Memory> {
     Ok(())
 }
 
-/// Each call fails in turn: the kinds of the calls, and those after whose fault a rule was broken.
+/// The report in one line, where it tells of publishes or deliveries; else nothing.
+fn lives_told(alloc: Global, run: &Run) -> Result<String, Memory> {
+    let mut text = String::new(alloc);
+    if tells_of_life(run.report.as_slice()) {
+        put_report(&mut text, run.report.as_slice())?;
+    }
+    Ok(text)
+}
+
+/// Whether a text is none of those before a place.
+fn is_new(texts: &Vec<String>, at: usize, text: &str) -> bool {
+    for k in 0..at {
+        if let Some(other) = texts.get(k)
+            && other.as_str() == text
+        {
+            return false;
+        }
+    }
+    true
+}
+
+/// The places of a text, and the text.
+fn put_places(texts: &Vec<String>, text: &str, out: &mut String) -> Result<(), Memory> {
+    out.push_str("; at")?;
+    for k in 0..texts.len() {
+        if let Some(other) = texts.get(k)
+            && other.as_str() == text
+        {
+            write!(out, " {k}")?;
+        }
+    }
+    out.push_str(text)?;
+    Ok(())
+}
+
+/// Each text that says something once, behind its places.
+fn put_texts(texts: &Vec<String>, out: &mut String) -> Result<(), Memory> {
+    for k in 0..texts.len() {
+        if let Some(text) = texts.get(k)
+            && !text.is_empty()
+            && is_new(texts, k, text.as_str())
+        {
+            put_places(texts, text.as_str(), out)?;
+        }
+    }
+    Ok(())
+}
+
+/// Each call fails in turn: the kinds of the calls, those after whose fault a rule was broken, and
+/// the reports that tell of publishes or deliveries, behind the calls whose fault gave them.
 pub fn put_fails(alloc: Global, scenario: &Scenario, out: &mut String) -> Result<(), Memory> {
     let plain = played(alloc, scenario, Way::Units)?;
+    let mut texts = Vec::new(alloc);
     out.push_str("fails:")?;
     put_kinds(alloc, &plain, out)?;
     for call in 0..plain.calls.len() {
@@ -162,7 +228,9 @@ pub fn put_fails(alloc: Global, scenario: &Scenario, out: &mut String) -> Result
         if !is_right(alloc, &run, &plain, call)? {
             write!(out, ", not call {call}")?;
         }
+        texts.push(lives_told(alloc, &run)?)?;
     }
+    put_texts(&texts, out)?;
     out.push_str("\n")?;
     Ok(())
 }

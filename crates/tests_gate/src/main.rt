@@ -27,7 +27,7 @@
 //! | `list` | each call with its answer, and the report |
 //! | `counts` | how many accepts were tried, and how many pairs lived at most |
 //! | `reads` | how many bytes were read of those that came byte by byte |
-//! | `fails` | each call fails in turn: the kinds of calls, and the calls after whose fault a rule was broken |
+//! | `fails` | each call fails in turn: the kinds of calls, the calls after whose fault a rule was broken, and each report of publishes and deliveries behind its calls |
 //! | `unreported` | the report fails at each of its writes, or has no room: the same |
 //! | `gateway W|W` | the words between bars are called: the status, how many calls were made, the report and the capture |
 //! | `again W|W` | the words between bars are called, and then `replay` over their capture |

@@ -13,8 +13,11 @@ use gate_turns::serve;
 use std::alloc::Global;
 use wire_base::{ByteText, ItemList, Memory};
 
-/// The most entries of a log, and the most bytes of them.
+/// The most entries of a log.
 pub const LOG_ROOM: usize = 262_144;
+
+/// The most bytes of them.
+pub const LOG_BYTES: usize = 1_048_576;
 
 /// The client or the container of a pair.
 #[derive(Clone, Copy, Debug, Drop, PartialEq, Eq)]
@@ -145,7 +148,7 @@ pub fn play_into(
 ) -> Result<Run, Memory>
     requires { IsInForm limits.now }
 {
-    let mut ports = ScriptPorts::new(alloc, script, LOG_ROOM, LOG_ROOM)?;
+    let mut ports = ScriptPorts::new(alloc, script, LOG_ROOM, LOG_BYTES)?;
     let mut recorder = NoCapture;
     let (served, out_of_memory) = serve::<ScriptPorts, Pair, MemorySink, NoCapture>(
         alloc,
