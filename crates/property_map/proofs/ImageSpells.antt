@@ -13,7 +13,8 @@ use Rattle.tables_091.specs.Tree as field
 use Rattle.types_10.specs.Tree.{Tree, scalar, list, mapping, depth, Trees, trees_depth, trees_of}
 use Rattle.types_10.specs.Tree.{Pairs, pairs_depth, pairs_of}
 use Rattle.types_10.specs.Tree as value
-use Rattle.types_10.specs.Writing.{IsProper, IsWritable, EachIsWritable, PairsAreWritable}
+use Rattle.types_10.specs.Writing.{IsProper, IsWritable, EachIsWritable, PairsAreWritable, load}
+use Rattle.types_10.specs.Writing.{each_load, pairs_load}
 use Rattle.types_10.specs.Writing.{HasSpelling}
 use Rattle.sections_10.specs.Fields.{absent, is_absent, maybe, a_boolean, a_ubyte, a_uint}
 use Rattle.sections_10.specs.Fields.{a_timestamp, a_binary, a_string, a_symbol}
@@ -77,15 +78,65 @@ symbol_fits name s = passed IsSymbol s (fault.NotAscii name) (list_all is_ascii 
 
 -- ---- values
 
+-- writable, and without arrays and descriptors
+abbrev mutual
+  IsPlain : Tree → Type 0
+  IsPlain (value.scalar s) = IsProper s
+  IsPlain (value.list ts) = EachIsPlain ts
+  IsPlain (value.mapping ps) = PairsArePlain ps
+  IsPlain (value.array ts) = ⊥
+  IsPlain (value.described d t) = ⊥
+
+  EachIsPlain : Trees → Type 0
+  EachIsPlain value.no_trees = Unit {0}
+  EachIsPlain (value.tree t ts) = IsPlain t × EachIsPlain ts
+
+  PairsArePlain : Pairs → Type 0
+  PairsArePlain value.no_pairs = Unit {0}
+  PairsArePlain (value.pair k t ps) = IsPlain k × IsPlain t × PairsArePlain ps
+
+mutual
+  plain_writable : (t : Tree) → IsPlain t → IsWritable t
+  plain_writable (value.scalar s) h = h
+  plain_writable (value.list ts) h = each_plain_writable ts h
+  plain_writable (value.mapping ps) h = pairs_plain_writable ps h
+  plain_writable (value.array ts) h = absurd h
+  plain_writable (value.described d t) h = absurd h
+
+  each_plain_writable : (ts : Trees) → EachIsPlain ts → EachIsWritable ts
+  each_plain_writable value.no_trees h = tt
+  each_plain_writable (value.tree t ts) h = (plain_writable t h.0, each_plain_writable ts h.1)
+
+  pairs_plain_writable : (ps : Pairs) → PairsArePlain ps → PairsAreWritable ps
+  pairs_plain_writable value.no_pairs h = tt
+  pairs_plain_writable (value.pair k t ps) h = (plain_writable k h.0, plain_writable t h.1, pairs_plain_writable ps h.2)
+
+-- it takes nothing besides its bytes
+mutual
+  plain_load : (t : Tree) → IsPlain t → load t ≡ 0
+  plain_load (value.scalar s) h = omega arith
+  plain_load (value.list ts) h = omega (arith, each_plain_load ts h)
+  plain_load (value.mapping ps) h = omega (arith, pairs_plain_load ps h)
+  plain_load (value.array ts) h = absurd h
+  plain_load (value.described d t) h = absurd h
+
+  each_plain_load : (ts : Trees) → EachIsPlain ts → each_load ts ≡ 0
+  each_plain_load value.no_trees h = refl
+  each_plain_load (value.tree t ts) h = omega (arith, plain_load t h.0, each_plain_load ts h.1)
+
+  pairs_plain_load : (ps : Pairs) → PairsArePlain ps → pairs_load ps ≡ 0
+  pairs_plain_load value.no_pairs h = refl
+  pairs_plain_load (value.pair k t ps) h = omega (arith, plain_load k h.0, plain_load t h.1, pairs_plain_load ps h.2)
+
 -- at most this deep, and writable
 abbrev Fits : ℕ → Tree → Type 0
-Fits n t = (depth t ≤ n) × IsWritable t
+Fits n t = (depth t ≤ n) × IsPlain t
 
 abbrev EachFits : ℕ → Trees → Type 0
-EachFits n ts = (trees_depth ts ≤ n) × EachIsWritable ts
+EachFits n ts = (trees_depth ts ≤ n) × EachIsPlain ts
 
 abbrev PairsFit : ℕ → Pairs → Type 0
-PairsFit n ps = (pairs_depth ps ≤ n) × PairsAreWritable ps
+PairsFit n ps = (pairs_depth ps ≤ n) × PairsArePlain ps
 
 scalar_fits : (s : field.Scalar) → IfOk (scalar_in s) IsProper
 scalar_fits (field.boolean b) = tt
@@ -303,7 +354,7 @@ fields_fit m =
 
 maybe_spells : (code : ℕ) (o : Option Tree) → IfThere (Fits 16) o → length (maybe_text code o) < 2 ^ 32 → IfThere HasSpelling o
 maybe_spells code None h e = tt
-maybe_spells code (Some t) h e = (h.0, h.1, omega (arith, e))
+maybe_spells code (Some t) h e = (h.0, plain_writable t h.1, omega (arith, e), omega (arith, plain_load t h.1))
 
 abbrev Spells : Option Tree → Type 0
 Spells o = IfThere HasSpelling o
@@ -322,7 +373,7 @@ short_is_written m image i e =
     let properties = maybe_spells 115 (Some (image_properties m)) (list_fits (image_fields m) (fields_fit m)) (omega (arith, e, all)) in
     let maps = row_fits (MapsFit 14) table_in table_fits m.props.headers in
     let application = maybe_spells 116 (image_application m.props) (application_fits (row_value (headers_row m.props.headers)) maps) (omega (arith, e, all)) in
-    let bytes : HasSpelling (a_binary m.body) = (omega arith, tt, omega (arith, e, all)) in (
+    let bytes : HasSpelling (a_binary m.body) = (omega arith, tt, omega (arith, e, all), omega arith) in (
       subst Spells (sym (header_is m.props image.header i.header)) header,
       subst Spells (sym (annotations_are m image.annotations i.annotations)) annotations,
       subst Spells (sym (properties_are m image.properties i.properties)) properties,

@@ -75,7 +75,7 @@ short_data s false e h = omega (arith, h, data_length s false e)
 
 -- data has a spelling where its length leaves room for code and length
 pub data_spells : (s : List ℕ) → (length s < 4294967291) ↔ HasSpelling (a_binary s)
-data_spells s = ((λ h. (omega arith, tt, data_short s (ltb (length s) 256) refl h)), λ h. short_data s (ltb (length s) 256) refl h.2)
+data_spells s = ((λ h. (omega arith, tt, data_short s (ltb (length s) 256) refl h, omega arith)), λ h. short_data s (ltb (length s) 256) refl h.2)
 
 -- ---- trimmed lists
 
@@ -246,7 +246,7 @@ pub record IsCode (code : ℕ) : Type 0 where
 code_spells : (code : ℕ) → IsCode code → IsValue (scalar (ulong code)) (83 ∷ code ∷ [])
 code_spells code c =
     let short : length (value_text (scalar (ulong code))) ≡ 2 = ap length c.one in
-    subst (IsValue (scalar (ulong code))) c.one (spells (scalar (ulong code)) c.small (omega arith, tt, omega (arith, short)))
+    subst (IsValue (scalar (ulong code))) c.one (spells (scalar (ulong code)) c.small (omega arith, tt, omega (arith, short), omega arith))
 
 section_stands : (s : Section) (t x : Tree) (bytes before rest : List ℕ) (at : ℕ) → IsCode s.0 → length before ≡ at → bytes ≡ before ++ (section_text s.0 t ++ rest)
     → IsRanged t → HasSpelling t → meaning_in s.1 t ≡ Ok x → IsSectionAt s x bytes at (at + length (section_text s.0 t))

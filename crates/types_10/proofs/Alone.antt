@@ -208,4 +208,4 @@ pub bodies_alone : (d n : ℕ) → IsAlone (IsFirstBody (canonical d) n)
 bodies_alone d n = body_alone d n (level_alone d)
 
 pub canonical_alone : (t : Tree) (a b : List ℕ) → IsCanonical t a → IsCanonical t b → a ≡ b
-canonical_alone = value_alone 16
+canonical_alone t a b h k = value_alone 16 t a b h.0 k.0

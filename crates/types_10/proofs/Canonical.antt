@@ -426,4 +426,4 @@ mutual
   pairs_well d (pair k t ps) h r w = (tree_well d k (omega arith) r.0 w.0, tree_well d t (omega arith) r.1 w.1, pairs_well d ps (omega arith) r.2 w.2)
 
 pub written_is_canonical : (t : Tree) → IsRanged t → HasSpelling t → IsCanonical t (value_text t)
-written_is_canonical t r h = (tree_well 16 t h.0 r h.1).text h.2
+written_is_canonical t r h = ((tree_well 16 t h.0 r h.1).text h.2, h.3)

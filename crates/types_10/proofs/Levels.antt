@@ -10,53 +10,53 @@ use Rattle.types_10.specs.declared.fault.TypeFault.TheVariants as fault
 use Rattle.types_10.specs.declared.kind.Kind.{Kind}
 
 -- contents by whether their depth is 0
-pub contents_is : (d : ℕ) (k : Kind) (at : ℕ) (cut : Fault) (end : ℕ) (bytes : List ℕ)
-    → contents_in d k at cut end bytes ≡ cond (eqb d 0) (flat_in k at cut end bytes) (deep_in (level (d - 1)) k at cut end bytes)
+pub contents_is : (d room : ℕ) (k : Kind) (at : ℕ) (cut : Fault) (end : ℕ) (bytes : List ℕ)
+    → contents_in d room k at cut end bytes ≡ cond (eqb d 0) (flat_in room k at cut end bytes) (deep_in (level (d - 1)) room k at cut end bytes)
 unfolding level
-contents_is zero k at cut end bytes = refl
-contents_is (suc d) k at cut end bytes =
+contents_is zero room k at cut end bytes = refl
+contents_is (suc d) room k at cut end bytes =
     let less : suc d - 1 ≡ d = omega arith in
     let more : eqb (suc d) 0 ≡ false = search (rules, tests) in
     simp (less, more) refl
 
 -- contents of some depth
-pub contents_more : (d : ℕ) (k : Kind) (at : ℕ) (cut : Fault) (end : ℕ) (bytes : List ℕ) → 0 < d
-    → contents_in d k at cut end bytes ≡ deep_in (level (d - 1)) k at cut end bytes
+pub contents_more : (d room : ℕ) (k : Kind) (at : ℕ) (cut : Fault) (end : ℕ) (bytes : List ℕ) → 0 < d
+    → contents_in d room k at cut end bytes ≡ deep_in (level (d - 1)) room k at cut end bytes
 unfolding level
-contents_more zero k at cut end bytes more = absurd (omega arith)
-contents_more (suc d) k at cut end bytes more =
+contents_more zero room k at cut end bytes more = absurd (omega arith)
+contents_more (suc d) room k at cut end bytes more =
     let less : suc d - 1 ≡ d = omega arith in
     rw less refl
 
 -- elements without descriptors, and behind one that is too deep and one that isn't
-pub element_plain : (d : ℕ) (k : Kind) (at : ℕ) (cut : Fault) (end : ℕ) (bytes : List ℕ)
-    → element_in d ([], k) at cut end bytes ≡ contents_in d k at cut end bytes
+pub element_plain : (d room : ℕ) (k : Kind) (at : ℕ) (cut : Fault) (end : ℕ) (bytes : List ℕ)
+    → element_in d room ([], k) at cut end bytes ≡ contents_in d room k at cut end bytes
 unfolding level
-element_plain zero k at cut end bytes = refl
-element_plain (suc d) k at cut end bytes = refl
+element_plain zero room k at cut end bytes = refl
+element_plain (suc d) room k at cut end bytes = refl
 
-pub element_none : (x : Tree) (xs : List Tree) (k : Kind) (at : ℕ) (cut : Fault) (end : ℕ) (bytes : List ℕ)
-    → element_in 0 (x ∷ xs, k) at cut end bytes ≡ Err (fault_at fault.Depth at)
+pub element_none : (room : ℕ) (x : Tree) (xs : List Tree) (k : Kind) (at : ℕ) (cut : Fault) (end : ℕ) (bytes : List ℕ)
+    → element_in 0 room (x ∷ xs, k) at cut end bytes ≡ Err (fault_at fault.Depth at)
 unfolding level
-element_none x xs k at cut end bytes = either (ltb 0 (depth x))
+element_none room x xs k at cut end bytes = either (ltb 0 (depth x))
   where
-    either : (b : Bool) → cond {A = Reads Tree Fault} b (Err (fault_at fault.Depth at)) (Err (fault_at fault.Depth at)) ≡ Err (fault_at fault.Depth at)
+    either : (b : Bool) → cond {A = Reads (Tree × ℕ) Fault} b (Err (fault_at fault.Depth at)) (Err (fault_at fault.Depth at)) ≡ Err (fault_at fault.Depth at)
     either true = refl
     either false = refl
 
-pub element_deep : (d : ℕ) (x : Tree) (xs : List Tree) (k : Kind) (at : ℕ) (cut : Fault) (end : ℕ) (bytes : List ℕ) → 0 < d → leb (depth x) (d - 1) ≡ false
-    → element_in d (x ∷ xs, k) at cut end bytes ≡ Err (fault_at fault.Depth at)
+pub element_deep : (d room : ℕ) (x : Tree) (xs : List Tree) (k : Kind) (at : ℕ) (cut : Fault) (end : ℕ) (bytes : List ℕ) → 0 < d → leb (depth x) (d - 1) ≡ false
+    → element_in d room (x ∷ xs, k) at cut end bytes ≡ Err (fault_at fault.Depth at)
 unfolding level
-element_deep zero x xs k at cut end bytes more deep = absurd (omega arith)
-element_deep (suc d) x xs k at cut end bytes more deep =
+element_deep zero room x xs k at cut end bytes more deep = absurd (omega arith)
+element_deep (suc d) room x xs k at cut end bytes more deep =
     let passes : ltb d (depth x) ≡ true = lt-ltb _ _ (omega (arith, leb-false _ _ deep)) in
     rw passes refl
 
-pub element_more : (d : ℕ) (x : Tree) (xs : List Tree) (k : Kind) (at : ℕ) (cut : Fault) (end : ℕ) (bytes : List ℕ) → 0 < d → leb (depth x) (d - 1) ≡ true
-    → element_in d (x ∷ xs, k) at cut end bytes ≡ made (described x) (element_in (d - 1) (xs, k) at cut end bytes)
+pub element_more : (d room : ℕ) (x : Tree) (xs : List Tree) (k : Kind) (at : ℕ) (cut : Fault) (end : ℕ) (bytes : List ℕ) → 0 < d → leb (depth x) (d - 1) ≡ true
+    → element_in d room (x ∷ xs, k) at cut end bytes ≡ made (λ y. (described x y.0, y.1)) (element_in (d - 1) room (xs, k) at cut end bytes)
 unfolding level
-element_more zero x xs k at cut end bytes more fine = absurd (omega arith)
-element_more (suc d) x xs k at cut end bytes more fine =
+element_more zero room x xs k at cut end bytes more fine = absurd (omega arith)
+element_more (suc d) room x xs k at cut end bytes more fine =
     let less : suc d - 1 ≡ d = omega arith in
     let within : ltb d (depth x) ≡ false = le-ltb _ _ (omega (arith, leb-true _ _ fine)) in
     rw (within, less) refl

@@ -1,7 +1,7 @@
 -- The canonical spelling of a value is what is written of it, where it is shorter than 4 GiB: what is written is no longer.
 use Rattle.std.proofs.Common.{◌≡◌, ◌≢◌, ℕ, zero, suc, ◌+◌, ◌*◌, ◌^◌, ◌<◌, ◌≤◌, Bool, true, false}
-use Rattle.std.proofs.Common.{cond, List, [], ◌∷◌, ◌++◌, length, refl, sym, ap, subst, ◌∙◌}
-use Rattle.std.proofs.Common.{append_assoc, arith, ℤ}
+use Rattle.std.proofs.Common.{List, [], ◌∷◌, ◌++◌, length, refl, sym, ap, subst, ◌∙◌}
+use Rattle.std.proofs.Common.{arith, ℤ}
 use Rattle.std.proofs.lemmas.List.{length-append}
 use Rattle.std.proofs.Math.Nat.{mul-le-mul_left}
 use Rattle.std.specs.Int.{byte_len, to_be_bytes}
@@ -9,33 +9,32 @@ use Rattle.wire_base.specs.Spelling.{text_of, IsNumber, IsPair, IsItems}
 use Rattle.types_10.specs.Tree.{Scalar, Tree, scalar, list, mapping, array, described, depth, Trees}
 use Rattle.types_10.specs.Tree.{no_trees, tree, trees_of, pairs_of}
 use Rattle.types_10.specs.Kinds.{kind_byte, size_width}
-use Rattle.types_10.specs.Grammar.{Elements, Spelled, IsDescriptorOf, IsPlainCode, IsConstructorOf}
+use Rattle.types_10.specs.Grammar.{Elements, IsDescriptorOf}
 use Rattle.types_10.specs.Grammar.{IsSingle, IsFilled, IsThen, IsTimes, IsFlat, IsDeepOf, IsElement}
-use Rattle.types_10.specs.Grammar.{spelled}
-use Rattle.types_10.specs.Canonical.{IsFirstCode, IsFirstConstructor, IsFirstElements, canonical}
+use Rattle.types_10.specs.Canonical.{IsFirstCode, IsFirstElements, canonical}
 use Rattle.types_10.specs.Canonical.{IsCanonicalOf, IsCanonical}
 use Rattle.types_10.specs.Ranges.{IsInRange, IsRanged, EachInTrees, EachInPairs}
-use Rattle.types_10.specs.Writing.{single_kind, text_kind, is_small, descriptors, type_of, is_brief}
-use Rattle.types_10.specs.Writing.{list_kind, map_kind, array_kind, array_body, written}
-use Rattle.types_10.specs.Writing.{written_each, written_pairs, value_text, EachIsAlike, IsWritable}
+use Rattle.types_10.specs.Writing.{single_kind, descriptors}
+use Rattle.types_10.specs.Writing.{array_body, written}
+use Rattle.types_10.specs.Writing.{written_each, written_pairs, value_text, IsWritable}
 use Rattle.types_10.specs.Writing.{HasSpelling}
 use Rattle.types_10.specs.Measures.{single_head, head_len, body_len, bodies_len}
 use Rattle.types_10.proofs.Wider.{single_type, kind_type, scalar_type_is, IsUpTo, IsWider}
-use Rattle.types_10.proofs.Wider.{AreBooleans, same_wider, later_wider, shared_by, booleans_wider}
+use Rattle.types_10.proofs.Wider.{same_wider, later_wider, shared_by, booleans_wider}
 use Rattle.types_10.proofs.Wider.{booleans_first, shared_first, of_list, of_map, of_array}
 use Rattle.types_10.proofs.Written.{IsUnder, IsFor, by_number, by_small, by_length, first_type}
 use Rattle.types_10.proofs.Written.{single_first, single_is, scalar_at, by_type}
-use Rattle.types_10.proofs.Elements.{kind_late, late_plain, constructor_late, element_told}
+use Rattle.types_10.proofs.Elements.{kind_late, constructor_late, element_told}
 use Rattle.types_10.proofs.Elements.{flat_plain, deep_plain}
-use Rattle.types_10.proofs.Types.{list_type, map_type, array_type, EachIsWider, shared_wide}
+use Rattle.types_10.proofs.Types.{EachIsWider}
 use Rattle.types_10.proofs.Held.{IsHeld, by_brief, by_list, list_for, sized_for, body_short}
 use Rattle.types_10.proofs.Measures.{scalar_len, filled_len, whole_len, elements_len}
 use Rattle.types_10.proofs.Alone.{IsFirstBody, bodies_alone, value_alone, pairs_same}
-use Rattle.types_10.proofs.Within.{level_within, canonical_is_spelled}
+use Rattle.types_10.proofs.Form.{level_within}
 use Rattle.types_10.proofs.Depths.{items_depth, level_depth}
-use Rattle.types_10.proofs.Canonical.{tree_list, pair_list, trees_again, pairs_again, list_count}
+use Rattle.types_10.proofs.Canonical.{tree_list, pair_list, pairs_again, list_count}
 use Rattle.types_10.proofs.Canonical.{pair_count, tree_well, each_well, body_is}
-use Rattle.types_10.proofs.Spellable.{element_type, list_again, level_fine, value_fine}
+use Rattle.types_10.proofs.Spellable.{list_again, level_fine, value_fine}
 use Rattle.types_10.proofs.Spellable.{canonical_has_spelling}
 use Rattle.types_10.specs.declared.kind.Kind.{Kind}
 use Rattle.types_10.specs.declared.kind.Kind.TheVariants as kind
@@ -382,5 +381,5 @@ level_known (suc d) = record {
 -- a value whose canonical spelling is shorter than 4 GiB can be written, and that is what is written
 pub spelling_is_written : (t : Tree) (text : List ℕ) → IsRanged t → IsCanonical t text → length text < 2 ^ 32 → HasSpelling t × (value_text t ≡ text)
 spelling_is_written t text r h l =
-    let same : value_text t ≡ text = (level_known 16).whole t text h r l in
+    let same : value_text t ≡ text = (level_known 16).whole t text h.0 r l in
     (canonical_has_spelling t text r h (omega (arith, l, ap length same)), same)

@@ -1,28 +1,27 @@
 -- What has a canonical spelling is as a value must be to be written: its texts are proper, and its arrays are of one type and not too long.
-use Rattle.std.proofs.Common.{◌≡◌, ◌≢◌, ℕ, zero, suc, ◌+◌, ◌*◌, ◌^◌, ◌<◌, ◌≤◌, Bool, true, false}
+use Rattle.std.proofs.Common.{◌≡◌, ◌≢◌, ℕ, zero, suc, ◌+◌, ◌*◌, ◌^◌, ◌<◌, ◌≤◌, true}
 use Rattle.std.proofs.Common.{List, [], ◌∷◌, ◌++◌, length, refl, sym, ap, subst, ◌∙◌, arith}
 use mathlib.Core.Logic.{◌⊎◌, inl, inr}
 use Rattle.std.specs.Bool.{IsTrue}
-use Rattle.std.proofs.lemmas.List.{nil_from_length}
-use Rattle.wire_base.specs.Spelling.{IsMade, IsPair, IsItems}
+use Rattle.wire_base.specs.Spelling.{IsPair, IsItems}
 use Rattle.types_10.specs.Tree.{Scalar, null, boolean, ubyte, byte, ushort, short, uint, int, ulong}
 use Rattle.types_10.specs.Tree.{long, float, double, decimal32, decimal64, decimal128, char}
 use Rattle.types_10.specs.Tree.{timestamp, uuid, binary, string, symbol, Tree, scalar, list}
-use Rattle.types_10.specs.Tree.{mapping, array, described, depth, Trees, no_trees, tree, trees_of}
-use Rattle.types_10.specs.Tree.{trees_depth, pairs_of}
+use Rattle.types_10.specs.Tree.{mapping, array, described, Trees, no_trees, tree, trees_of}
+use Rattle.types_10.specs.Tree.{pairs_of}
 use Rattle.types_10.specs.Kinds.{kind_byte, is_bare, bare_scalar, octet_scalar, wide_scalar}
-use Rattle.types_10.specs.Kinds.{sixteen_scalar, text_scalar, size_width}
-use Rattle.types_10.specs.Grammar.{Elements, Spelled, IsDescriptorOf, IsConstructorOf, IsCoded}
-use Rattle.types_10.specs.Grammar.{IsSingle, IsFlat, IsDeepOf, IsElement, spelled}
+use Rattle.types_10.specs.Kinds.{sixteen_scalar}
+use Rattle.types_10.specs.Grammar.{Elements, Spelled, IsDescriptorOf, IsConstructorOf}
+use Rattle.types_10.specs.Grammar.{IsSingle, IsFlat, IsDeepOf, IsElement}
 use Rattle.types_10.specs.Canonical.{IsFirstCode, IsFirstConstructor, IsFirstElements, canonical}
 use Rattle.types_10.specs.Canonical.{IsCanonicalOf, IsCanonical}
 use Rattle.types_10.specs.Ranges.{IsInRange, IsRanged, EachInTrees, EachInPairs}
-use Rattle.types_10.specs.Writing.{scalar_type, type_of, descriptors, list_kind, array_body}
-use Rattle.types_10.specs.Writing.{written, written_each, written_pairs, value_text, IsProper}
-use Rattle.types_10.specs.Writing.{AreAlike, EachIsAlike, AreOfOneType, IsWritable, EachIsWritable}
+use Rattle.types_10.specs.Writing.{scalar_type, type_of, descriptors, list_kind}
+use Rattle.types_10.specs.Writing.{written, written_each, value_text, IsProper}
+use Rattle.types_10.specs.Writing.{EachIsAlike, AreOfOneType, IsWritable, EachIsWritable}
 use Rattle.types_10.specs.Writing.{PairsAreWritable, HasSpelling}
 use Rattle.types_10.specs.Measures.{head_len, scalar_body, body_len, bodies_len}
-use Rattle.types_10.proofs.Wider.{single_type, kind_type, scalar_type_is, IsWider, of_list}
+use Rattle.types_10.proofs.Wider.{kind_type, scalar_type_is, IsWider}
 use Rattle.types_10.proofs.Written.{first_type, single_first}
 use Rattle.types_10.proofs.Elements.{late_plain, constructor_late, element_told}
 use Rattle.types_10.proofs.Types.{tree_type, tree_late, none_text, EachIsWider, shared_wide}
@@ -30,9 +29,9 @@ use Rattle.types_10.proofs.Types.{list_type}
 use Rattle.types_10.proofs.Held.{list_empty}
 use Rattle.types_10.proofs.Measures.{contents_len}
 use Rattle.types_10.proofs.Alone.{trees_same}
-use Rattle.types_10.proofs.Within.{IsWithin, level_within, canonical_is_spelled}
-use Rattle.types_10.proofs.Depths.{IsShallow, items_depth, level_depth, value_depth}
-use Rattle.types_10.proofs.Canonical.{tree_list, trees_again, list_count, EachIsDescribed}
+use Rattle.types_10.proofs.Form.{level_within, canonical_is_plain}
+use Rattle.types_10.proofs.Depths.{items_depth, level_depth, plain_depth}
+use Rattle.types_10.proofs.Canonical.{tree_list, trees_again, list_count}
 use Rattle.types_10.proofs.Canonical.{each_described, each_well, elements_are}
 use Rattle.types_10.specs.declared.kind.Kind.{Kind}
 use Rattle.types_10.specs.declared.kind.Kind.TheVariants as kind
@@ -378,4 +377,4 @@ level_fine (suc d) = record { content = deep_fine d (level_fine d); element = el
 -- what has a canonical spelling can be written, if what is written of it is shorter than 4 GiB
 pub canonical_has_spelling : (t : Tree) (text : List ℕ) → IsRanged t → IsCanonical t text → length (value_text t) < 2 ^ 32 → HasSpelling t
 canonical_has_spelling t text r h below =
-    (value_depth t text (canonical_is_spelled t text h), value_fine 16 (level_fine 16) t text h r, below)
+    (plain_depth t text (canonical_is_plain t text h.0), value_fine 16 (level_fine 16) t text h.0 r, below, h.1)

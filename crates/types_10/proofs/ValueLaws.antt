@@ -1,31 +1,31 @@
 -- The readers of values against their spellings, by the laws of their parts.
 use Rattle.std.proofs.Common.{◌≡◌, ◌≢◌, ◌↔◌, ℕ, zero, suc, ◌+◌, ◌-◌, ◌*◌, ◌/◌, ◌%◌, ◌<◌, ◌≤◌, Bool}
-use Rattle.std.proofs.Common.{true, false, cond, eqb, ltb, ◌&&◌, List, [], ◌∷◌, ◌++◌, length, take}
+use Rattle.std.proofs.Common.{true, false, cond, eqb, ltb, List, [], ◌∷◌, ◌++◌, length, take}
 use Rattle.std.proofs.Common.{drop, Option, Some, None, Result, Ok, Err, refl, sym, ap, subst, ◌∙◌}
 use Rattle.std.proofs.Common.{append_assoc, arith}
-use Rattle.std.specs.Bool.{IsTrue}
 use Rattle.std.proofs.lemmas.Bool.{eqb-true, ltb-false, le-ltb}
 use Rattle.std.proofs.lemmas.List.{length-append, length-drop, take_at}
 use Rattle.std.specs.Int.{Width, w8, w32, to_be_bytes}
 use Rattle.wire_base.specs.Bytes.{IsBytes}
-use Rattle.wire_base.specs.Spelling.{IsNumber, IsText, IsPair, IsItems, StandsAt}
-use Rattle.wire_base.specs.Reading.{Reads, ◌>>=◌, made, pair_in, times}
+use Rattle.wire_base.specs.Spelling.{IsNumber, IsText, IsMade, StandsAt}
+use Rattle.wire_base.specs.Reading.{Reads, ◌>>=◌, made}
 use Rattle.wire_base.proofs.Bytes.{IsBytes-drop}
 use Rattle.wire_base.proofs.Laws.{IsReader, Finds, IsWide, wide8, wide16, wide32, wide64, bind_is}
-use Rattle.wire_base.proofs.Laws.{ok_is, made_reader, pair_reader, reads_exactly}
-use Rattle.wire_base.proofs.Items.{times_reader}
+use Rattle.wire_base.proofs.Laws.{ok_is, guard_is, made_reader, reads_exactly}
 use Rattle.types_10.specs.Tree.{boolean, char, Tree, scalar, list, mapping, array, described, depth}
 use Rattle.types_10.specs.Tree.{no_trees, trees_of, pairs_of}
-use Rattle.types_10.specs.Kinds.{kind_byte, kind_of, is_bare, is_described, bare_scalar}
+use Rattle.types_10.specs.Kinds.{kind_byte, kind_of, is_described, bare_scalar}
+use Rattle.types_10.specs.Loads.{element_load}
 use Rattle.types_10.specs.Kinds.{octet_scalar, wide_width, wide_scalar, sixteen_scalar, text_scalar}
 use Rattle.types_10.specs.Kinds.{is_text, is_character, size_width}
-use Rattle.types_10.specs.Grammar.{IsSixteen, IsSingle, IsCoded, IsThen, IsTimes, IsItemList}
-use Rattle.types_10.specs.Grammar.{IsPairList, Elements, IsConstructorOf, Spelled, IsElementList}
-use Rattle.types_10.specs.Grammar.{IsFlat, IsDeep, IsElement, spelled, IsValueOf, IsValue}
+use Rattle.types_10.specs.Grammar.{IsSixteen, IsSingle, IsCoded, IsThen, IsNothing, IsRow, IsTwo}
+use Rattle.types_10.specs.Grammar.{IsListIn, IsMapIn, IsFront, Elements, IsConstructorIn, Spellings}
+use Rattle.types_10.specs.Grammar.{IsValueBy, AreElements, IsArrayIn, IsFlatIn, IsDeepIn}
+use Rattle.types_10.specs.Grammar.{IsElementIn, spellings, IsValueIn, IsValue}
 use Rattle.types_10.specs.Reading.{Fault, fault_at, count_in, bytes_in, sixteen_in, text_fault}
 use Rattle.types_10.specs.Reading.{single_in, known_in, coded_in, code_in, Shape, with_descriptor}
 use Rattle.types_10.specs.Reading.{constructor_in, Inside, Contents, value_by, shape_by, items_in}
-use Rattle.types_10.specs.Reading.{entries_in, elements_in, flat_in, deep_in, element_by, level}
+use Rattle.types_10.specs.Reading.{row_in, two_in, entries_in, spent_in, elements_in, flat_in, deep_in, element_by, level}
 use Rattle.types_10.specs.Reading.{value_in, value_at}
 use Rattle.types_10.proofs.ReaderLaws.{size_is, count_reader, bytes_reader, sixteen_reader}
 use Rattle.types_10.proofs.ReaderLaws.{tested_reader, then_reader, filled_reader}
@@ -58,9 +58,9 @@ wide_is wide.Timestamp = wide64
 wide_is wide.Decimal64 = wide64
 
 -- what has no content
-none_reader : {A : Type 0} (a : A) → IsReader {A = A} {F = Fault} (λ b text. (b ≡ a) × (text ≡ [])) (λ end text. Ok (a, text))
+none_reader : {A : Type 0} (a : A) → IsReader {A = A} {F = Fault} (IsNothing a) (λ end text. Ok (a, text))
 none_reader {A} a = record {
-  finds = λ end text x fits e. subst (λ (y : A × List ℕ). Finds (λ b text. (b ≡ a) × (text ≡ [])) text y) (ok_is {F = Fault} (a, text) x e) (record { front = []; spelled = (refl, refl); parts = refl; rest_fits = fits });
+  finds = λ end text x fits e. subst (λ (y : A × List ℕ). Finds (IsNothing a) text y) (ok_is {F = Fault} (a, text) x e) (record { front = []; spelled = (refl, refl); parts = refl; rest_fits = fits });
   again = λ end s front rest h. rw (h.0, h.1) refl;
 }
 
@@ -250,9 +250,30 @@ code_again cut end k rest =
 abbrev pub IsEachReader : {A : Type 0} → (A → List ℕ → Type 0) → (Fault → ℕ → List ℕ → Reads A Fault) → Type 0
 IsEachReader R read = (cut : Fault) → IsReader R (read cut)
 
-pub items_reader : (w : Width) → IsWide w → (R : Tree → List ℕ → Type 0) (read : Fault → ℕ → List ℕ → Reads Tree Fault) → IsEachReader R read → IsEachReader (IsItemList w R) (items_in w read)
-items_reader w wide R read r cut =
-    then_reader (IsNumber w) (λ n. IsTimes R n) (λ end text. count_in cut w text) (λ n end text. times (read cut end) n text) (count_reader cut w wide) (λ n. times_reader R (read cut) (r cut) n)
+-- readers of values, and of rows and pairs of them, within any room
+abbrev pub AreReaders : {A : Type 0} → (ℕ → A × ℕ → List ℕ → Type 0) → (ℕ → ℕ → List ℕ → Reads (A × ℕ) Fault) → Type 0
+AreReaders R read = (room : ℕ) → IsReader (R room) (read room)
+
+pub row_reader : {A : Type 0} (R : ℕ → A × ℕ → List ℕ → Type 0) (read : ℕ → ℕ → List ℕ → Reads (A × ℕ) Fault) → AreReaders R read → (n : ℕ) → AreReaders (IsRow R n) (row_in read n)
+unfolding IsRow row_in
+row_reader R read r zero room = none_reader ([], room)
+row_reader R read r (suc n) room =
+    then_reader (R room) (λ x. IsMade (λ xs. (x.0 ∷ xs.0, xs.1)) (IsRow R n x.1)) (read room) (λ x end text. made (λ xs. (x.0 ∷ xs.0, xs.1)) (row_in read n x.1 end text)) (r room)
+    (λ x. made_reader (λ xs. (x.0 ∷ xs.0, xs.1)) (IsRow R n x.1) (row_in read n x.1) (row_reader R read r n x.1))
+
+pub two_reader : (R : ℕ → Tree × ℕ → List ℕ → Type 0) (read : ℕ → ℕ → List ℕ → Reads (Tree × ℕ) Fault) → AreReaders R read → AreReaders (IsTwo R) (two_in read)
+two_reader R read r room =
+    then_reader (R room) (λ x. IsMade (λ y. ((x.0, y.0), y.1)) (R x.1)) (read room) (λ x end text. made (λ y. ((x.0, y.0), y.1)) (read x.1 end text)) (r room)
+    (λ x. made_reader (λ y. ((x.0, y.0), y.1)) (R x.1) (read x.1) (r x.1))
+
+-- the same, whatever the fault of one that is cut off
+abbrev pub AreEachReader : {A : Type 0} → (ℕ → A × ℕ → List ℕ → Type 0) → (ℕ → Fault → ℕ → List ℕ → Reads (A × ℕ) Fault) → Type 0
+AreEachReader R read = (room : ℕ) (cut : Fault) → IsReader (R room) (read room cut)
+
+pub items_reader : (w : Width) → IsWide w → (R : ℕ → Tree × ℕ → List ℕ → Type 0) (read : ℕ → Fault → ℕ → List ℕ → Reads (Tree × ℕ) Fault) → AreEachReader R read → AreEachReader (IsListIn w R) (items_in w read)
+items_reader w wide R read r room cut =
+    then_reader (IsNumber w) (λ n. IsRow R n room) (λ end text. count_in cut w text) (λ n end text. row_in (λ room. read room cut) n room end text) (count_reader cut w wide)
+    (λ n. row_reader R (λ room. read room cut) (λ room. r room cut) n room)
 
 chosen : {A : Type 0} (b : Bool) (r : Result A Fault) (y : A) (d : Fault) → cond b r (Err d) ≡ Ok y → (b ≡ true) × (r ≡ Ok y)
 chosen true r y d e = (refl, e)
@@ -262,30 +283,25 @@ avoided : {A : Type 0} (b : Bool) (r : Result A Fault) (y : A) (d : Fault) → c
 avoided true r y d e = absurd cc
 avoided false r y d e = (refl, e)
 
-halves_reader : (R : Tree × Tree → List ℕ → Type 0) (read : ℕ → List ℕ → Reads (Tree × Tree) Fault) (cut : Fault) → IsReader R read → (n : ℕ)
-    → IsReader (λ ps text. (n ≡ 2 * length ps) × IsItems R ps text) (λ end text. cond (eqb (n % 2) 0) (times (read end) (n / 2) text) (Err cut))
-halves_reader R read cut r n = record { finds = finds; again = again }
+halves_reader : (R : ℕ → (Tree × Tree) × ℕ → List ℕ → Type 0) (read : ℕ → ℕ → List ℕ → Reads ((Tree × Tree) × ℕ) Fault) (cut : Fault) → AreReaders R read → (n room : ℕ)
+    → IsReader (λ ps text. (n % 2 ≡ 0) × IsRow R (n / 2) room ps text) (λ end text. cond (eqb (n % 2) 0) (row_in read (n / 2) room end text) (Err cut))
+halves_reader R read cut r n room = record { finds = finds; again = again }
   where
-    finds : (end : ℕ) (text : List ℕ) (x : List (Tree × Tree) × List ℕ) → IsBytes text → cond (eqb (n % 2) 0) (times (read end) (n / 2) text) (Err cut) ≡ Ok x → Finds (λ ps text. (n ≡ 2 * length ps) × IsItems R ps text) text x
+    finds : (end : ℕ) (text : List ℕ) (x : (List (Tree × Tree) × ℕ) × List ℕ) → IsBytes text → cond (eqb (n % 2) 0) (row_in read (n / 2) room end text) (Err cut) ≡ Ok x
+        → Finds (λ ps text. (n % 2 ≡ 0) × IsRow R (n / 2) room ps text) text x
     finds end text x fits e =
-        let g = chosen (eqb (n % 2) 0) (times (read end) (n / 2) text) x cut e in
-        let even : n % 2 ≡ 0 = eqb-true _ _ g.0 in
-        let f = (times_reader R read r (n / 2)).finds end text x fits g.1 in
-        let count : length x.0 ≡ n / 2 = f.spelled.0 in
-        record { front = f.front; spelled = (omega arith, f.spelled.1); parts = f.parts; rest_fits = f.rest_fits }
+        let g = chosen (eqb (n % 2) 0) (row_in read (n / 2) room end text) x cut e in
+        let f = (row_reader R read r (n / 2) room).finds end text x fits g.1 in
+        record { front = f.front; spelled = (eqb-true _ _ g.0, f.spelled); parts = f.parts; rest_fits = f.rest_fits }
 
-    again : (end : ℕ) (ps : List (Tree × Tree)) (front rest : List ℕ) → (n ≡ 2 * length ps) × IsItems R ps front → cond (eqb (n % 2) 0) (times (read end) (n / 2) (front ++ rest)) (Err cut) ≡ Ok (ps, rest)
-    again end ps front rest h =
-        let twice : n ≡ 2 * length ps = h.0 in
-        let even : n % 2 ≡ 0 = omega arith in
-        let half : length ps ≡ n / 2 = omega arith in
-        rw even ((times_reader R read r (n / 2)).again end ps front rest (half, h.1))
+    again : (end : ℕ) (ps : List (Tree × Tree) × ℕ) (front rest : List ℕ) → (n % 2 ≡ 0) × IsRow R (n / 2) room ps front → cond (eqb (n % 2) 0) (row_in read (n / 2) room end (front ++ rest)) (Err cut) ≡ Ok (ps, rest)
+    again end ps front rest h = rw h.0 ((row_reader R read r (n / 2) room).again end ps front rest h.1)
 
-pub entries_reader : (w : Width) → IsWide w → (R : Tree → List ℕ → Type 0) (read : Fault → ℕ → List ℕ → Reads Tree Fault) → IsEachReader R read → IsEachReader (IsPairList w R) (entries_in w read)
-entries_reader w wide R read r cut =
-    then_reader (IsNumber w) (λ n ps text. (n ≡ 2 * length ps) × IsItems (IsPair R R) ps text) (λ end text. count_in cut w text)
-    (λ n end text. cond (eqb (n % 2) 0) (times (pair_in (read cut) (read cut) end) (n / 2) text) (Err cut)) (count_reader cut w wide)
-    (λ n. halves_reader (IsPair R R) (pair_in (read cut) (read cut)) cut (pair_reader R R (read cut) (read cut) (r cut) (r cut)) n)
+pub entries_reader : (w : Width) → IsWide w → (R : ℕ → Tree × ℕ → List ℕ → Type 0) (read : ℕ → Fault → ℕ → List ℕ → Reads (Tree × ℕ) Fault) → AreEachReader R read → AreEachReader (IsMapIn w R) (entries_in w read)
+entries_reader w wide R read r room cut =
+    then_reader (IsNumber w) (λ n ps text. (n % 2 ≡ 0) × IsRow (IsTwo R) (n / 2) room ps text) (λ end text. count_in cut w text)
+    (λ n end text. cond (eqb (n % 2) 0) (row_in (two_in (λ room. read room cut)) (n / 2) room end text) (Err cut)) (count_reader cut w wide)
+    (λ n. halves_reader (IsTwo R) (two_in (λ room. read room cut)) cut (two_reader R (λ room. read room cut) (λ room. r room cut)) n room)
 
 -- ---- constructors
 
@@ -293,167 +309,161 @@ pub not_described : (k : Kind) → k ≢ kind.Described → is_described k ≡ f
 not_described kind.Described h = absurd (h refl)
 not_described k h = refl
 
-constructor_found : (R : Tree → List ℕ → Type 0) (read : Fault → ℕ → List ℕ → Reads Tree Fault) → IsEachReader R read → (cut : Fault) (most end : ℕ) (text : List ℕ) (x : Shape × List ℕ) → IsBytes text
-    → constructor_in read most cut end text ≡ Ok x → Finds (IsConstructorOf R) text x
-unfolding constructor_in
-constructor_found R read r cut zero end text x fits e = absurd cc
-constructor_found R read r cut (suc most) end text x fits e =
-    let b = bind_is (code_in cut end text) (λ c. cond (is_described c.0.0) (made with_descriptor (pair_in (read cut) (constructor_in read most cut) end c.1)) (Ok (([], c.0.0), c.1))) x e in
+constructor_found : (R : ℕ → Tree × ℕ → List ℕ → Type 0) (read : ℕ → Fault → ℕ → List ℕ → Reads (Tree × ℕ) Fault) → AreEachReader R read → (cut : Fault) (most room end : ℕ) (text : List ℕ) (x : (Shape × ℕ) × List ℕ) → IsBytes text
+    → constructor_in read most room cut end text ≡ Ok x → Finds (IsConstructorIn R room) text x
+unfolding constructor_in IsFront
+constructor_found R read r cut zero room end text x fits e = absurd cc
+constructor_found R read r cut (suc most) room end text x fits e =
+    let b = bind_is (code_in cut end text) (λ c. cond (is_described c.0.0) (read room cut end c.1 >>= λ d. made (with_descriptor d.0.0) (constructor_in read most d.0.1 cut end d.1)) (Ok ((([], c.0.0), room), c.1))) x e in
     let here = code_found cut end text b.0.0 b.0.1 fits b.1 in
-    step b.0.0.0 b.0.1 here.0 here.1 (constructor_found R read r cut most end) b.2
+    step b.0.0.0 b.0.1 here.0 here.1 (λ room. constructor_found R read r cut most room end) b.2
   where
     step : (k : Kind) (rest : List ℕ) → text ≡ kind_byte k ∷ rest → IsBytes rest
-        → ((more : List ℕ) (x : Shape × List ℕ) → IsBytes more → constructor_in read most cut end more ≡ Ok x → Finds (IsConstructorOf R) more x)
-        → cond (is_described k) (made with_descriptor (pair_in (read cut) (constructor_in read most cut) end rest)) (Ok (([], k), rest)) ≡ Ok x → Finds (IsConstructorOf R) text x
+        → ((room : ℕ) (more : List ℕ) (x : (Shape × ℕ) × List ℕ) → IsBytes more → constructor_in read most room cut end more ≡ Ok x → Finds (IsConstructorIn R room) more x)
+        → cond (is_described k) (read room cut end rest >>= λ d. made (with_descriptor d.0.0) (constructor_in read most d.0.1 cut end d.1)) (Ok ((([], k), room), rest)) ≡ Ok x → Finds (IsConstructorIn R room) text x
     step kind.Described rest parts fits later e =
-        let p = bind_is (pair_in (read cut) (constructor_in read most cut) end rest) (λ p. Ok (with_descriptor p.0, p.1)) x e in
-        let d = bind_is (read cut end rest) (λ d. constructor_in read most cut end d.1 >>= λ s. Ok ((d.0, s.0), s.1)) p.0 p.1 in
-        let s = bind_is (constructor_in read most cut end d.0.1) (λ s. Ok ((d.0.0, s.0), s.1)) p.0 d.2 in
-        let f = (r cut).finds end rest d.0 fits d.1 in
-        let g = later d.0.1 s.0 f.rest_fits s.1 in
+        let d = bind_is (read room cut end rest) (λ d. made (with_descriptor d.0.0) (constructor_in read most d.0.1 cut end d.1)) x e in
+        let s = bind_is (constructor_in read most d.0.0.1 cut end d.0.1) (λ s. Ok (with_descriptor d.0.0.0 s.0, s.1)) x d.2 in
+        let f = (r room cut).finds end rest d.0 fits d.1 in
+        let g = later d.0.0.1 d.0.1 s.0 f.rest_fits s.1 in
         let h = g.spelled in
         let whole = parts ∙ ap (λ (t : List ℕ). 0 ∷ t) (f.parts ∙ ap (λ (t : List ℕ). f.front ++ t) (g.parts ∙ ap (λ (t : List ℕ). t ++ s.0.1) h.4)) in
-        let regrouped : 0 ∷ (f.front ++ ((h.0 ++ h.1) ++ s.0.1)) ≡ (((0 ∷ f.front) ++ h.0) ++ h.1) ++ s.0.1 = simp append_assoc in
-        let same = ok_is {F = Fault} ((d.0.0, s.0.0), s.0.1) p.0 s.2 in
-        subst (λ (y : Shape × List ℕ). Finds (IsConstructorOf R) text y) (ap (λ (p : (Tree × Shape) × List ℕ). (with_descriptor p.0, p.1)) same ∙ ok_is {F = Fault} (with_descriptor p.0.0, p.0.1) x p.2)
+        let regrouped : 0 ∷ (f.front ++ ((h.0 ++ h.1) ++ s.0.1)) ≡ ((0 ∷ (f.front ++ h.0)) ++ h.1) ++ s.0.1 = simp append_assoc in
+        subst (λ (y : (Shape × ℕ) × List ℕ). Finds (IsConstructorIn R room) text y) (ok_is {F = Fault} (with_descriptor d.0.0.0 s.0.0, s.0.1) x s.2)
         (record {
-          front = ((0 ∷ f.front) ++ h.0) ++ h.1;
-          spelled = ((0 ∷ f.front) ++ h.0, h.1, (0 ∷ f.front, h.0, (f.front, f.spelled, refl), h.2, refl), h.3, refl);
+          front = (0 ∷ (f.front ++ h.0)) ++ h.1;
+          spelled = (0 ∷ (f.front ++ h.0), h.1, (d.0.0.1, f.front, h.0, f.spelled, h.2, refl), h.3, refl);
           parts = whole ∙ regrouped;
           rest_fits = g.rest_fits;
         })
     step k rest parts fits later e =
-        subst (λ (y : Shape × List ℕ). Finds (IsConstructorOf R) text y) (ok_is {F = Fault} (([], k), rest) x e)
-        (record { front = kind_byte k ∷ []; spelled = ([], kind_byte k ∷ [], refl, ((λ p. absurd cc), refl), refl); parts = parts; rest_fits = fits })
+        subst (λ (y : (Shape × ℕ) × List ℕ). Finds (IsConstructorIn R room) text y) (ok_is {F = Fault} ((([], k), room), rest) x e)
+        (record { front = kind_byte k ∷ []; spelled = ([], kind_byte k ∷ [], (refl, refl), ((λ p. absurd cc), refl), refl); parts = parts; rest_fits = fits })
 
-constructor_again : (R : Tree → List ℕ → Type 0) (read : Fault → ℕ → List ℕ → Reads Tree Fault) → IsEachReader R read → (cut : Fault) (most end : ℕ) (ds : List Tree) (k : Kind) (text rest : List ℕ)
-    → length text ≤ most → IsConstructorOf R (ds, k) text → constructor_in read most cut end (text ++ rest) ≡ Ok ((ds, k), rest)
-unfolding constructor_in
-constructor_again R read r cut zero end ds k text rest le h = absurd (omega (arith, ap length h.4, length-append h.0 h.1, ap length h.3.1))
-constructor_again R read r cut (suc most) end [] k text rest le h =
-    let whole : text ++ rest ≡ kind_byte k ∷ rest = rw (h.4, h.2, h.3.1) refl in
-    ap (constructor_in read (suc most) cut end) whole ∙ rw (code_again cut end k rest, not_described k h.3.0) refl
-constructor_again R read r cut (suc most) end (d ∷ ds) k text rest le h =
+constructor_again : (R : ℕ → Tree × ℕ → List ℕ → Type 0) (read : ℕ → Fault → ℕ → List ℕ → Reads (Tree × ℕ) Fault) → AreEachReader R read → (cut : Fault) (most room end : ℕ) (ds : List Tree) (k : Kind) (left : ℕ) (text rest : List ℕ)
+    → length text ≤ most → IsConstructorIn R room ((ds, k), left) text → constructor_in read most room cut end (text ++ rest) ≡ Ok (((ds, k), left), rest)
+unfolding constructor_in IsFront
+constructor_again R read r cut zero room end ds k left text rest le h = absurd (omega (arith, ap length h.4, length-append h.0 h.1, ap length h.3.1))
+constructor_again R read r cut (suc most) room end [] k left text rest le h =
+    let whole : text ++ rest ≡ kind_byte k ∷ rest = rw (h.4, h.2.1, h.3.1) refl in
+    ap (constructor_in read (suc most) room cut end) whole ∙ rw (code_again cut end k rest, not_described k h.3.0, h.2.0) refl
+constructor_again R read r cut (suc most) room end (d ∷ ds) k left text rest le h =
     let i = h.2 in
-    let more = i.1 ++ h.1 in
-    let whole : text ++ rest ≡ 0 ∷ (i.2.0 ++ (more ++ rest)) = rw (h.4, i.4, i.2.2) (simp append_assoc) in
-    let less : length more ≤ most = omega (arith, ap length whole, length-append text rest, length-append i.2.0 (more ++ rest), length-append more rest) in
-    let first = code_again cut end kind.Described (i.2.0 ++ (more ++ rest)) in
-    let descriptor = (r cut).again end d i.2.0 (more ++ rest) i.2.1 in
-    let later = constructor_again R read r cut most end ds k more rest less (i.1, h.1, i.3, h.3, refl) in
-    ap (constructor_in read (suc most) cut end) whole ∙ rw (first, descriptor, later) refl
+    let more = i.2 ++ h.1 in
+    let whole : text ++ rest ≡ 0 ∷ (i.1 ++ (more ++ rest)) = rw (h.4, i.5) (simp append_assoc) in
+    let less : length more ≤ most = omega (arith, ap length whole, length-append text rest, length-append i.1 (more ++ rest), length-append more rest) in
+    let first = code_again cut end kind.Described (i.1 ++ (more ++ rest)) in
+    let descriptor = (r room cut).again end (d, i.0) i.1 (more ++ rest) i.3 in
+    let later = constructor_again R read r cut most i.0 end ds k left more rest less (i.2, h.1, i.4, h.3, refl) in
+    ap (constructor_in read (suc most) room cut end) whole ∙ rw (first, descriptor, later) refl
 
 -- a constructor has no more codes than bytes
-pub constructor_reader : (R : Tree → List ℕ → Type 0) (read : Fault → ℕ → List ℕ → Reads Tree Fault) → IsEachReader R read → (cut : Fault)
-    → IsReader (IsConstructorOf R) (λ end text. constructor_in read (length text) cut end text)
-constructor_reader R read r cut = record {
-  finds = λ end text x fits e. constructor_found R read r cut (length text) end text x fits e;
-  again = λ end c front rest h. constructor_again R read r cut (length (front ++ rest)) end c.0 c.1 front rest (omega (arith, length-append front rest)) h;
+pub constructor_reader : (R : ℕ → Tree × ℕ → List ℕ → Type 0) (read : ℕ → Fault → ℕ → List ℕ → Reads (Tree × ℕ) Fault) → AreEachReader R read
+    → AreEachReader (IsConstructorIn R) (λ room cut end text. constructor_in read (length text) room cut end text)
+constructor_reader R read r room cut = record {
+  finds = λ end text x fits e. constructor_found R read r cut (length text) room end text x fits e;
+  again = λ end c front rest h. constructor_again R read r cut (length (front ++ rest)) room end c.0.0 c.0.1 c.1 front rest (omega (arith, length-append front rest)) h;
 }
 
 -- ---- arrays
 
 -- readers of what stands inside a value, against its spellings
-pub record IsInside (s : Spelled) (i : Inside) : Type 0 where
-  pub contents : (k : Kind) (at : ℕ) (cut : Fault) → IsReader (s.content k) (i.contents k at cut)
-  pub element : (c : Shape) (at : ℕ) (cut : Fault) → IsReader (s.element c) (i.element c at cut)
+pub record IsInside (s : Spellings) (i : Inside) : Type 0 where
+  pub contents : (room : ℕ) (k : Kind) (at : ℕ) (cut : Fault) → IsReader (s.content room k) (i.contents room k at cut)
+  pub element : (room : ℕ) (c : Shape) (at : ℕ) (cut : Fault) → IsReader (s.element room c) (i.element room c at cut)
 
-pub values_reader : (s : Spelled) (i : Inside) → IsInside s i → IsEachReader (IsCoded s.content) (value_by i)
-values_reader s i r = coded_reader s.content i.contents r.contents
+pub values_reader : (s : Spellings) (i : Inside) → IsInside s i → AreEachReader (IsValueBy s) (value_by i)
+values_reader s i r room = coded_reader (s.content room) (i.contents room) (r.contents room)
 
-pub few : (b : Bool) (n : ℕ) → (IsTrue b → n ≤ 65536) → (b && ltb 65536 n) ≡ false
-few true n h = le-ltb _ _ (h refl)
-few false n h = refl
+-- so many elements, if there is room for them
+abbrev pub elements_by : Inside → Fault → ℕ → Shape × ℕ → ℕ → List ℕ → Reads (List Tree × ℕ) Fault
+elements_by i cut n c end text =
+    spent_in cut c.1 (n * element_load c.0) >>= λ left. row_in (λ room. i.element room c.0 ((end - length text) - 1) cut) n left end text
 
-pub few_back : (b : Bool) (n : ℕ) → (b && ltb 65536 n) ≡ false → IsTrue b → n ≤ 65536
-few_back true n e h = ltb-false _ _ e
-few_back false n e h = absurd cc
-
-bare_reader : (s : Spelled) (i : Inside) → IsInside s i → (cut : Fault) (n : ℕ) (c : Shape)
-    → IsReader (λ ts text. (IsTrue (is_bare c.1) → n ≤ 65536) × IsTimes (s.element c) n ts text)
-    (λ end text. cond (is_bare c.1 && ltb 65536 n) (Err cut) (times (i.element c ((end - length text) - 1) cut end) n text))
+bare_reader : (s : Spellings) (i : Inside) → IsInside s i → (cut : Fault) (n : ℕ) (c : Shape × ℕ) → IsReader (AreElements s n c) (elements_by i cut n c)
 bare_reader s i r cut n c = record { finds = finds; again = again }
   where
-    finds : (end : ℕ) (text : List ℕ) (x : List Tree × List ℕ) → IsBytes text → cond (is_bare c.1 && ltb 65536 n) (Err cut) (times (i.element c ((end - length text) - 1) cut end) n text) ≡ Ok x
-        → Finds (λ ts text. (IsTrue (is_bare c.1) → n ≤ 65536) × IsTimes (s.element c) n ts text) text x
+    row : (at : ℕ) → IsReader (IsRow (λ room. s.element room c.0) n (c.1 - n * element_load c.0)) (row_in (λ room. i.element room c.0 at cut) n (c.1 - n * element_load c.0))
+    row at = row_reader (λ room. s.element room c.0) (λ room. i.element room c.0 at cut) (λ room. r.element room c.0 at cut) n (c.1 - n * element_load c.0)
+
+    finds : (end : ℕ) (text : List ℕ) (x : (List Tree × ℕ) × List ℕ) → IsBytes text → elements_by i cut n c end text ≡ Ok x → Finds (AreElements s n c) text x
     finds end text x fits e =
         let at = (end - length text) - 1 in
-        let g = avoided (is_bare c.1 && ltb 65536 n) (times (i.element c at cut end) n text) x cut e in
-        let f = (times_reader (s.element c) (i.element c at cut) (r.element c at cut) n).finds end text x fits g.1 in
-        record { front = f.front; spelled = (few_back (is_bare c.1) n g.0, f.spelled); parts = f.parts; rest_fits = f.rest_fits }
+        let b = bind_is (spent_in cut c.1 (n * element_load c.0)) (λ left. row_in (λ room. i.element room c.0 at cut) n left end text) x e in
+        let g = guard_is (ltb c.1 (n * element_load c.0)) cut (c.1 - n * element_load c.0) b.0 b.1 in
+        let f = (row at).finds end text x fits (ap (λ (left : ℕ). row_in (λ room. i.element room c.0 at cut) n left end text) g.1 ∙ b.2) in
+        record { front = f.front; spelled = (ltb-false _ _ g.0, f.spelled); parts = f.parts; rest_fits = f.rest_fits }
 
-    again : (end : ℕ) (ts : List Tree) (front rest : List ℕ) → (IsTrue (is_bare c.1) → n ≤ 65536) × IsTimes (s.element c) n ts front
-        → cond (is_bare c.1 && ltb 65536 n) (Err cut) (times (i.element c ((end - length (front ++ rest)) - 1) cut end) n (front ++ rest)) ≡ Ok (ts, rest)
+    again : (end : ℕ) (ts : List Tree × ℕ) (front rest : List ℕ) → AreElements s n c ts front → elements_by i cut n c end (front ++ rest) ≡ Ok (ts, rest)
     again end ts front rest h =
-        let at = (end - length (front ++ rest)) - 1 in
-        rw (few (is_bare c.1) n h.0) ((times_reader (s.element c) (i.element c at cut) (r.element c at cut) n).again end ts front rest h.1)
+        let room : ltb c.1 (n * element_load c.0) ≡ false = le-ltb _ _ h.0 in
+        rw room ((row ((end - length (front ++ rest)) - 1)).again end ts front rest h.1)
 
-pub elements_reader : (w : Width) → IsWide w → (s : Spelled) (i : Inside) → IsInside s i → IsEachReader (IsElementList w s) (elements_in w i)
-elements_reader w wide s i r cut =
-    let shapes = constructor_reader (IsCoded s.content) (value_by i) (values_reader s i r) cut in
-    then_reader (IsNumber w) (λ n. IsThen (IsConstructorOf (IsCoded s.content)) (λ c ts text. (IsTrue (is_bare c.1) → n ≤ 65536) × IsTimes (s.element c) n ts text)) (λ end text. count_in cut w text)
-    (λ n end text. shape_by i cut end text >>= λ c. cond (is_bare c.0.1 && ltb 65536 n) (Err cut) (times (i.element c.0 ((end - length c.1) - 1) cut end) n c.1)) (count_reader cut w wide)
-    (λ n. then_reader (IsConstructorOf (IsCoded s.content)) (λ c ts text. (IsTrue (is_bare c.1) → n ≤ 65536) × IsTimes (s.element c) n ts text) (shape_by i cut)
-    (λ c end text. cond (is_bare c.1 && ltb 65536 n) (Err cut) (times (i.element c ((end - length text) - 1) cut end) n text)) shapes (bare_reader s i r cut n))
+pub elements_reader : (w : Width) → IsWide w → (s : Spellings) (i : Inside) → IsInside s i → AreEachReader (IsArrayIn w s) (elements_in w i)
+elements_reader w wide s i r room cut =
+    then_reader (IsNumber w) (λ n. IsThen (IsConstructorIn (IsValueBy s) room) (AreElements s n)) (λ end text. count_in cut w text)
+    (λ n end text. shape_by i room cut end text >>= λ c. elements_by i cut n c.0 end c.1) (count_reader cut w wide)
+    (λ n. then_reader (IsConstructorIn (IsValueBy s) room) (AreElements s n) (shape_by i room cut) (elements_by i cut n) (constructor_reader (IsValueBy s) (value_by i) (values_reader s i r) room cut) (bare_reader s i r cut n))
 
 -- ---- contents by depth
 
-flat_reader : (k : Kind) (at : ℕ) (cut : Fault) → IsReader (IsFlat k) (flat_in k at cut)
-flat_reader (kind.Single k) at cut = made_reader scalar (IsSingle k) (single_in k cut) (single_reader k cut)
-flat_reader kind.EmptyList at cut = no_reader (fault_at fault.Depth at)
-flat_reader (kind.List s) at cut = no_reader (fault_at fault.Depth at)
-flat_reader (kind.Map s) at cut = no_reader (fault_at fault.Depth at)
-flat_reader (kind.Array s) at cut = no_reader (fault_at fault.Depth at)
-flat_reader kind.Described at cut = no_reader (fault_at fault.Depth at)
+flat_reader : (room : ℕ) (k : Kind) (at : ℕ) (cut : Fault) → IsReader (IsFlatIn room k) (flat_in room k at cut)
+flat_reader room (kind.Single k) at cut = made_reader (λ s. (scalar s, room)) (IsSingle k) (single_in k cut) (single_reader k cut)
+flat_reader room kind.EmptyList at cut = no_reader (fault_at fault.Depth at)
+flat_reader room (kind.List s) at cut = no_reader (fault_at fault.Depth at)
+flat_reader room (kind.Map s) at cut = no_reader (fault_at fault.Depth at)
+flat_reader room (kind.Array s) at cut = no_reader (fault_at fault.Depth at)
+flat_reader room kind.Described at cut = no_reader (fault_at fault.Depth at)
 
-deep_reader : (s : Spelled) (i : Inside) → IsInside s i → (k : Kind) (at : ℕ) (cut : Fault) → IsReader (IsDeep s k) (deep_in i k at cut)
-deep_reader s i r (kind.Single k) at cut = made_reader scalar (IsSingle k) (single_in k cut) (single_reader k cut)
-deep_reader s i r kind.EmptyList at cut = none_reader (list no_trees)
-deep_reader s i r (kind.List z) at cut =
-    made_reader (λ ts. list (trees_of ts)) _ _ (filled_reader (size_width z) at cut (size_is z) (IsItemList (size_width z) (IsCoded s.content)) (items_in (size_width z) (value_by i))
-    (items_reader (size_width z) (size_is z) (IsCoded s.content) (value_by i) (values_reader s i r)))
-deep_reader s i r (kind.Map z) at cut =
-    made_reader (λ ps. mapping (pairs_of ps)) _ _ (filled_reader (size_width z) at cut (size_is z) (IsPairList (size_width z) (IsCoded s.content)) (entries_in (size_width z) (value_by i))
-    (entries_reader (size_width z) (size_is z) (IsCoded s.content) (value_by i) (values_reader s i r)))
-deep_reader s i r (kind.Array z) at cut =
-    made_reader (λ ts. array (trees_of ts)) _ _ (filled_reader (size_width z) at cut (size_is z) (IsElementList (size_width z) s) (elements_in (size_width z) i)
-    (elements_reader (size_width z) (size_is z) s i r))
-deep_reader s i r kind.Described at cut =
-    made_reader (λ p. described p.0 p.1) _ _ (pair_reader (IsCoded s.content) (IsCoded s.content) (value_by i cut) (value_by i cut) (values_reader s i r cut) (values_reader s i r cut))
+deep_reader : (s : Spellings) (i : Inside) → IsInside s i → (room : ℕ) (k : Kind) (at : ℕ) (cut : Fault) → IsReader (IsDeepIn s room k) (deep_in i room k at cut)
+deep_reader s i r room (kind.Single k) at cut = made_reader (λ s. (scalar s, room)) (IsSingle k) (single_in k cut) (single_reader k cut)
+deep_reader s i r room kind.EmptyList at cut = none_reader (list no_trees, room)
+deep_reader s i r room (kind.List z) at cut =
+    made_reader (λ ts. (list (trees_of ts.0), ts.1)) _ _ (filled_reader (size_width z) at cut (size_is z) (IsListIn (size_width z) (IsValueBy s) room) (items_in (size_width z) (value_by i) room)
+    (items_reader (size_width z) (size_is z) (IsValueBy s) (value_by i) (values_reader s i r) room))
+deep_reader s i r room (kind.Map z) at cut =
+    made_reader (λ ps. (mapping (pairs_of ps.0), ps.1)) _ _ (filled_reader (size_width z) at cut (size_is z) (IsMapIn (size_width z) (IsValueBy s) room) (entries_in (size_width z) (value_by i) room)
+    (entries_reader (size_width z) (size_is z) (IsValueBy s) (value_by i) (values_reader s i r) room))
+deep_reader s i r room (kind.Array z) at cut =
+    made_reader (λ ts. (array (trees_of ts.0), ts.1)) _ _ (filled_reader (size_width z) at cut (size_is z) (IsArrayIn (size_width z) s room) (elements_in (size_width z) i room)
+    (elements_reader (size_width z) (size_is z) s i r room))
+deep_reader s i r room kind.Described at cut =
+    made_reader (λ p. (described p.0.0 p.0.1, p.1)) _ _ (two_reader (IsValueBy s) (λ room. value_by i room cut) (λ room. values_reader s i r room cut) room)
 
 -- an element whose descriptor is no deeper than this
-guarded_reader : (f : Fault) (d : ℕ) (x : Tree) (R : Tree → List ℕ → Type 0) (read : ℕ → List ℕ → Reads Tree Fault) → IsReader R read
+guarded_reader : (f : Fault) (d : ℕ) (x : Tree) (R : Tree × ℕ → List ℕ → Type 0) (read : ℕ → List ℕ → Reads (Tree × ℕ) Fault) → IsReader R read
     → IsReader (λ t text. (depth x ≤ d) × R t text) (λ end text. cond (ltb d (depth x)) (Err f) (read end text))
 guarded_reader f d x R read r = record { finds = finds; again = λ end t front rest h. rw (le-ltb _ _ h.0) (r.again end t front rest h.1) }
   where
-    finds : (end : ℕ) (text : List ℕ) (y : Tree × List ℕ) → IsBytes text → cond (ltb d (depth x)) (Err f) (read end text) ≡ Ok y → Finds (λ t text. (depth x ≤ d) × R t text) text y
+    finds : (end : ℕ) (text : List ℕ) (y : (Tree × ℕ) × List ℕ) → IsBytes text → cond (ltb d (depth x)) (Err f) (read end text) ≡ Ok y → Finds (λ t text. (depth x ≤ d) × R t text) text y
     finds end text y fits e =
         let g = avoided (ltb d (depth x)) (read end text) y f e in
         let found = r.finds end text y fits g.1 in
         record { front = found.front; spelled = (ltb-false _ _ g.0, found.spelled); parts = found.parts; rest_fits = found.rest_fits }
 
-element_reader : (d : ℕ) (C : Kind → Tree → List ℕ → Type 0) (contents : Contents) (More : Elements → Tree → List ℕ → Type 0) (more : Shape → ℕ → Fault → ℕ → List ℕ → Reads Tree Fault)
-    → ((k : Kind) (at : ℕ) (cut : Fault) → IsReader (C k) (contents k at cut)) → ((c : Shape) (at : ℕ) (cut : Fault) → IsReader (More c) (more c at cut))
-    → (c : Shape) (at : ℕ) (cut : Fault) → IsReader (IsElement d C More c) (element_by d contents more c at cut)
-element_reader d C contents More more r m ([], k) at cut = r k at cut
-element_reader d C contents More more r m (x ∷ xs, k) at cut = guarded_reader (fault_at fault.Depth at) d x _ _ (made_reader (described x) (More (xs, k)) (more (xs, k) at cut) (m (xs, k) at cut))
+element_reader : (d : ℕ) (C : ℕ → Kind → Tree × ℕ → List ℕ → Type 0) (contents : Contents) (More : ℕ → Elements → Tree × ℕ → List ℕ → Type 0) (more : ℕ → Shape → ℕ → Fault → ℕ → List ℕ → Reads (Tree × ℕ) Fault)
+    → ((room : ℕ) (k : Kind) (at : ℕ) (cut : Fault) → IsReader (C room k) (contents room k at cut)) → ((room : ℕ) (c : Shape) (at : ℕ) (cut : Fault) → IsReader (More room c) (more room c at cut))
+    → (room : ℕ) (c : Shape) (at : ℕ) (cut : Fault) → IsReader (IsElementIn d C More room c) (element_by d contents more room c at cut)
+element_reader d C contents More more r m room ([], k) at cut = r room k at cut
+element_reader d C contents More more r m room (x ∷ xs, k) at cut =
+    guarded_reader (fault_at fault.Depth at) d x _ _ (made_reader (λ y. (described x y.0, y.1)) (More room (xs, k)) (more room (xs, k) at cut) (m room (xs, k) at cut))
 
-pub level_reader : (d : ℕ) → IsInside (spelled d) (level d)
-unfolding spelled level
+pub level_reader : (d : ℕ) → IsInside (spellings d) (level d)
+unfolding spellings level
 level_reader zero = record {
   contents = flat_reader;
-  element = element_reader 0 IsFlat flat_in (λ c t text. ⊥) (λ c at cut end bytes. Err (fault_at fault.Depth at)) flat_reader (λ c at cut. no_reader (fault_at fault.Depth at));
+  element = element_reader 0 IsFlatIn flat_in (λ room c t text. ⊥) (λ room c at cut end bytes. Err (fault_at fault.Depth at)) flat_reader (λ room c at cut. no_reader (fault_at fault.Depth at));
 }
 level_reader (suc d) =
     let r = level_reader d in
     record {
-      contents = deep_reader (spelled d) (level d) r;
-      element = element_reader d (IsDeep (spelled d)) (deep_in (level d)) (spelled d).element (level d).element (deep_reader (spelled d) (level d) r) r.element;
+      contents = deep_reader (spellings d) (level d) r;
+      element = element_reader d (IsDeepIn (spellings d)) (deep_in (level d)) (spellings d).element (level d).element (deep_reader (spellings d) (level d) r) r.element;
     }
 
 -- a value of at most this depth
-pub value_reader : (d : ℕ) → IsEachReader (IsValueOf d) (value_in d)
-value_reader d = values_reader (spelled d) (level d) (level_reader d)
+pub value_reader : (d : ℕ) → AreEachReader (IsValueIn d) (value_in d)
+value_reader d = values_reader (spellings d) (level d) (level_reader d)
 
 -- ---- the value at an offset
 
@@ -462,15 +472,15 @@ pub read_is_spelled : (bytes : List ℕ) (at : ℕ) (x : Tree × ℕ) → IsByte
 read_is_spelled bytes at x fits e =
     let end = length bytes in
     let cut = fault_at fault.Cut end in
-    let b = bind_is (value_in 16 cut end (drop at bytes)) (λ x. Ok (x.0, end - length x.1)) x e in
-    let f = (value_reader 16 cut).finds end (drop at bytes) b.0 (IsBytes-drop at bytes fits) b.1 in
+    let b = bind_is (value_in 16 65536 cut end (drop at bytes)) (λ x. Ok (x.0.0, end - length x.1)) x e in
+    let f = (value_reader 16 65536 cut).finds end (drop at bytes) b.0 (IsBytes-drop at bytes fits) b.1 in
     let long : length f.front ≡ (end - length b.0.1) - at = omega (arith, ap length f.parts, length-append f.front b.0.1, length-drop at bytes) in
     let front : take ((end - length b.0.1) - at) (drop at bytes) ≡ f.front = ap (take ((end - length b.0.1) - at)) f.parts ∙ take_at f.front b.0.1 ((end - length b.0.1) - at) long in
-    subst (λ (y : Tree × ℕ). (y.1 ≤ end) × IsValue y.0 (take (y.1 - at) (drop at bytes))) (ok_is {F = Fault} (b.0.0, end - length b.0.1) x b.2) (omega arith, rw front f.spelled)
+    subst (λ (y : Tree × ℕ). (y.1 ≤ end) × IsValue y.0 (take (y.1 - at) (drop at bytes))) (ok_is {F = Fault} (b.0.0.0, end - length b.0.1) x b.2) (omega arith, (b.0.0.1, rw front f.spelled))
 
 -- a value takes a byte at least
 value_filled : (t : Tree) (text : List ℕ) → IsValue t text → 0 < length text
-value_filled t text h = omega (arith, ap length h.3)
+value_filled t text h = omega (arith, ap length h.1.3)
 
 -- what is spelled so is read, whatever follows
 pub spelled_is_read : (bytes : List ℕ) (at : ℕ) (t : Tree) (text rest : List ℕ) → IsValue t text → drop at bytes ≡ text ++ rest → value_at bytes at ≡ Ok (t, at + length text)
@@ -479,7 +489,7 @@ spelled_is_read bytes at t text rest h parts =
     let cut = fault_at fault.Cut end in
     let some = value_filled t text h in
     let place : end - length rest ≡ at + length text = omega (arith, ap length parts, length-append text rest, length-drop at bytes) in
-    let read : value_in 16 cut end (drop at bytes) ≡ Ok (t, rest) = ap (value_in 16 cut end) parts ∙ (value_reader 16 cut).again end t text rest h in
+    let read : value_in 16 65536 cut end (drop at bytes) ≡ Ok ((t, h.0), rest) = ap (value_in 16 65536 cut end) parts ∙ (value_reader 16 65536 cut).again end (t, h.0) text rest h.1 in
     rw (read, place) refl
 
 -- a value is read exactly where one stands
@@ -489,6 +499,6 @@ value_is_read = reads_exactly IsValue value_at value_filled read_is_spelled spel
 -- bytes spell at most one value
 pub one_value : (t u : Tree) (text : List ℕ) → IsValue t text → IsValue u text → t ≡ u
 one_value t u text h k =
-    let r = value_reader 16 (fault_at fault.Cut 0) in
-    let same = ok_is {F = Fault} (t, []) (u, []) (sym (r.again 0 t text [] h) ∙ r.again 0 u text [] k) in
-    ap (λ (x : Tree × List ℕ). x.0) same
+    let r = value_reader 16 65536 (fault_at fault.Cut 0) in
+    let same = ok_is {F = Fault} ((t, h.0), []) ((u, k.0), []) (sym (r.again 0 (t, h.0) text [] h.1) ∙ r.again 0 (u, k.0) text [] k.1) in
+    ap (λ (x : (Tree × ℕ) × List ℕ). x.0.0) same

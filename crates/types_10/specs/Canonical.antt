@@ -8,6 +8,7 @@ use Rattle.types_10.specs.Tree.{Tree}
 use Rattle.types_10.specs.Kinds.{kind_byte, is_bare}
 use Rattle.types_10.specs.Grammar.{Spelled, Elements, IsConstructorOf, IsThen, IsTimes, IsFlat}
 use Rattle.types_10.specs.Grammar.{IsDeepOf, IsElement}
+use Rattle.types_10.specs.Writing.{load}
 use Rattle.types_10.specs.declared.kind.Kind.{Kind}
 
 -- a code and a content of that kind, where no kind with an earlier code has a content that spells
@@ -50,6 +51,6 @@ canonical (suc d) = record {
 abbrev pub IsCanonicalOf : ℕ → Tree → List ℕ → Type 0
 IsCanonicalOf d = IsFirstCode (canonical d).content
 
--- the canonical spelling of a value
+-- the canonical spelling of a value whose elements take at most 65,536 besides their bytes
 abbrev pub IsCanonical : Tree → List ℕ → Type 0
-IsCanonical = IsCanonicalOf 16
+IsCanonical t text = IsCanonicalOf 16 t text × (load t ≤ 65536)

@@ -3,15 +3,16 @@
 -- list, a map or an array is exactly that of what stands in it; an array is a constructor and
 -- contents without codes; the depth of a value is at most 16. The descriptors of a constructor add
 -- to the depth of the elements that have them, and to no other.
-use Rattle.std.specs.Prelude.{◌≡◌, ◌≢◌, ℕ, zero, suc, ◌*◌, ◌≤◌, ◌==◌, nat_lt, IsTrue, List, [], ◌∷◌}
-use Rattle.std.specs.Prelude.{◌++◌, length}
+use Rattle.std.specs.Prelude.{◌≡◌, ◌≢◌, ℕ, zero, suc, ◌-◌, ◌*◌, ◌/◌, ◌%◌, ◌≤◌, ◌==◌, nat_lt, IsTrue}
+use Rattle.std.specs.Prelude.{List, [], ◌∷◌, ◌++◌, length}
 use Rattle.std.specs.Int.{Width, w8, w32}
 use Rattle.wire_base.specs.Spelling.{IsNumber, IsText, IsMade, IsPair, IsItems}
 use Rattle.types_10.specs.Tree.{Scalar, boolean, char, Tree, scalar, list, mapping, array}
 use Rattle.types_10.specs.Tree.{described, depth, no_trees, trees_of, pairs_of}
-use Rattle.types_10.specs.Kinds.{kind_byte, is_bare, bare_scalar, octet_scalar, wide_width}
+use Rattle.types_10.specs.Kinds.{kind_byte, bare_scalar, octet_scalar, wide_width}
 use Rattle.types_10.specs.Kinds.{wide_scalar, sixteen_scalar, text_scalar, is_text, is_character}
 use Rattle.types_10.specs.Kinds.{size_width}
+use Rattle.types_10.specs.Loads.{element_load}
 use Rattle.types_10.specs.declared.kind.Kind.{Kind}
 use Rattle.types_10.specs.declared.kind.Kind.TheVariants as kind
 use Rattle.types_10.specs.declared.kind.Single.{Single}
@@ -91,13 +92,6 @@ pub record Spelled : Type 1 where
   pub content : Kind → Tree → List ℕ → Type 0
   pub element : Elements → Tree → List ℕ → Type 0
 
--- the count of the elements, their constructor, and the elements; there are at most 65,536 of those
--- that have no bytes
-abbrev pub IsElementList : Width → Spelled → List Tree → List ℕ → Type 0
-IsElementList w inside =
-    IsThen (IsNumber w) (λ n. IsThen (IsConstructorOf (IsCoded inside.content)) (λ c ts text.
-    (IsTrue (is_bare c.1) → n ≤ 65536) × IsTimes (inside.element c) n ts text))
-
 -- the content of a value that may hold no other
 abbrev pub IsFlat : Kind → Tree → List ℕ → Type 0
 IsFlat (kind.Single k) = IsMade scalar (IsSingle k)
@@ -122,10 +116,6 @@ IsDeepOf IsValue IsElements (kind.Array s) =
 IsDeepOf IsValue IsElements kind.Described =
     IsMade (λ p. described p.0 p.1) (IsPair IsValue IsValue)
 
--- the content of a value that may hold those inside
-abbrev pub IsDeep : Spelled → Kind → Tree → List ℕ → Type 0
-IsDeep inside = IsDeepOf (IsCoded inside.content) (λ w. IsElementList w inside)
-
 -- an element behind its constructor: the descriptor of a described one has at most this depth
 abbrev pub IsElement : ℕ → (Kind → Tree → List ℕ → Type 0) → (Elements → Tree → List ℕ → Type 0)
     → Elements → Tree → List ℕ → Type 0
@@ -133,21 +123,118 @@ IsElement d IsContent Inner ([], k) = IsContent k
 IsElement d IsContent Inner (x ∷ xs, k) =
     λ t text. (depth x ≤ d) × IsMade (described x) (Inner (xs, k)) t text
 
+-- ---- within a room
+
+-- a room is how much elements may still take besides their bytes; a value that is spelled within
+-- a room leaves another
+
+-- what takes no bytes
+abbrev pub IsNothing : {A : Type 0} → A → A → List ℕ → Type 0
+IsNothing a x text = (x ≡ a) × (text ≡ [])
+
+-- so many, one after another, each within the room that those before it leave
+unfoldable pub IsRow : {A : Type 0} → (ℕ → A × ℕ → List ℕ → Type 0) → ℕ → ℕ → List A × ℕ
+    → List ℕ → Type 0
+IsRow R zero room = IsNothing ([], room)
+IsRow R (suc count) room =
+    IsThen (R room) (λ x. IsMade (λ xs. (x.0 ∷ xs.0, xs.1)) (IsRow R count x.1))
+
+-- one value, and then another
+abbrev pub IsTwo : (ℕ → Tree × ℕ → List ℕ → Type 0) → ℕ → (Tree × Tree) × ℕ → List ℕ → Type 0
+IsTwo R room = IsThen (R room) (λ x. IsMade (λ y. ((x.0, y.0), y.1)) (R x.1))
+
+-- the count of the values, and the values
+abbrev pub IsListIn : Width → (ℕ → Tree × ℕ → List ℕ → Type 0) → ℕ → List Tree × ℕ → List ℕ
+    → Type 0
+IsListIn w R room = IsThen (IsNumber w) (λ n. IsRow R n room)
+
+-- the count of keys and values together, which is even, and the pairs of a key and a value
+abbrev pub IsMapIn : Width → (ℕ → Tree × ℕ → List ℕ → Type 0) → ℕ → List (Tree × Tree) × ℕ
+    → List ℕ → Type 0
+IsMapIn w R room =
+    IsThen (IsNumber w) (λ n ps text. (n % 2 ≡ 0) × IsRow (IsTwo R) (n / 2) room ps text)
+
+-- descriptors, each behind the code of described values
+unfoldable pub IsFront : (ℕ → Tree × ℕ → List ℕ → Type 0) → ℕ → List Tree → ℕ → List ℕ → Type 0
+IsFront R room [] left text = (left ≡ room) × (text ≡ [])
+IsFront R room (d ∷ ds) left text =
+    (between : ℕ) × (front : List ℕ) × (back : List ℕ) × R room (d, between) front
+    × IsFront R between ds left back × (text ≡ kind_byte kind.Described ∷ front ++ back)
+
+-- a constructor: the descriptors, and the code of what they describe
+abbrev pub IsConstructorIn : (ℕ → Tree × ℕ → List ℕ → Type 0) → ℕ → Elements × ℕ → List ℕ
+    → Type 0
+IsConstructorIn R room c text =
+    (front : List ℕ) × (back : List ℕ) × IsFront R room c.0.0 c.1 front × IsPlainCode c.0.1 back
+    × (text ≡ front ++ back)
+
+-- what stands inside a value: contents, and elements behind a constructor
+pub record Spellings : Type 1 where
+  pub content : ℕ → Kind → Tree × ℕ → List ℕ → Type 0
+  pub element : ℕ → Elements → Tree × ℕ → List ℕ → Type 0
+
+-- values whose content is spelled so
+abbrev pub IsValueBy : Spellings → ℕ → Tree × ℕ → List ℕ → Type 0
+IsValueBy inside room = IsCoded (inside.content room)
+
+-- so many elements behind a constructor, which have room
+abbrev pub AreElements : Spellings → ℕ → Elements × ℕ → List Tree × ℕ → List ℕ → Type 0
+AreElements inside n c ts text =
+    (n * element_load c.0 ≤ c.1)
+    × IsRow (λ room. inside.element room c.0) n (c.1 - n * element_load c.0) ts text
+
+-- the count of the elements, their constructor, and the elements
+abbrev pub IsArrayIn : Width → Spellings → ℕ → List Tree × ℕ → List ℕ → Type 0
+IsArrayIn w inside room =
+    IsThen (IsNumber w) (λ n. IsThen (IsConstructorIn (IsValueBy inside) room) (AreElements inside n))
+
+-- the content of a value that may hold no other
+abbrev pub IsFlatIn : ℕ → Kind → Tree × ℕ → List ℕ → Type 0
+IsFlatIn room (kind.Single k) = IsMade (λ s. (scalar s, room)) (IsSingle k)
+IsFlatIn room kind.EmptyList = λ t text. ⊥
+IsFlatIn room (kind.List s) = λ t text. ⊥
+IsFlatIn room (kind.Map s) = λ t text. ⊥
+IsFlatIn room (kind.Array s) = λ t text. ⊥
+IsFlatIn room kind.Described = λ t text. ⊥
+
+-- the content of a value that may hold those inside
+abbrev pub IsDeepIn : Spellings → ℕ → Kind → Tree × ℕ → List ℕ → Type 0
+IsDeepIn inside room (kind.Single k) = IsMade (λ s. (scalar s, room)) (IsSingle k)
+IsDeepIn inside room kind.EmptyList = IsNothing (list no_trees, room)
+IsDeepIn inside room (kind.List s) =
+    IsMade (λ ts. (list (trees_of ts.0), ts.1)) (IsFilled (size_width s) (IsListIn
+    (size_width s) (IsValueBy inside) room))
+IsDeepIn inside room (kind.Map s) =
+    IsMade (λ ps. (mapping (pairs_of ps.0), ps.1)) (IsFilled (size_width s) (IsMapIn
+    (size_width s) (IsValueBy inside) room))
+IsDeepIn inside room (kind.Array s) =
+    IsMade (λ ts. (array (trees_of ts.0), ts.1)) (IsFilled (size_width s) (IsArrayIn
+    (size_width s) inside room))
+IsDeepIn inside room kind.Described =
+    IsMade (λ p. (described p.0.0 p.0.1, p.1)) (IsTwo (IsValueBy inside) room)
+
+-- an element behind its constructor: the descriptor of a described one has at most this depth
+abbrev pub IsElementIn : ℕ → (ℕ → Kind → Tree × ℕ → List ℕ → Type 0) → (ℕ → Elements → Tree × ℕ
+    → List ℕ → Type 0) → ℕ → Elements → Tree × ℕ → List ℕ → Type 0
+IsElementIn d IsContent Inner room ([], k) = IsContent room k
+IsElementIn d IsContent Inner room (x ∷ xs, k) =
+    λ t text. (depth x ≤ d) × IsMade (λ y. (described x y.0, y.1)) (Inner room (xs, k)) t text
+
 -- values of at most this depth
-unfoldable pub spelled : ℕ → Spelled
-spelled zero = record {
-  content = IsFlat;
-  element = IsElement 0 IsFlat (λ c t text. ⊥);
+unfoldable pub spellings : ℕ → Spellings
+spellings zero = record {
+  content = IsFlatIn;
+  element = IsElementIn 0 IsFlatIn (λ room c t text. ⊥);
 }
-spelled (suc d) = record {
-  content = IsDeep (spelled d);
-  element = IsElement d (IsDeep (spelled d)) (spelled d).element;
+spellings (suc d) = record {
+  content = IsDeepIn (spellings d);
+  element = IsElementIn d (IsDeepIn (spellings d)) (spellings d).element;
 }
 
--- a value of at most this depth
-abbrev pub IsValueOf : ℕ → Tree → List ℕ → Type 0
-IsValueOf d = IsCoded (spelled d).content
+-- a value of at most this depth within a room, and the room that it leaves
+abbrev pub IsValueIn : ℕ → ℕ → Tree × ℕ → List ℕ → Type 0
+IsValueIn d = IsValueBy (spellings d)
 
--- a value
+-- a value: its depth is at most 16, and its elements take at most 65,536 besides their bytes
 abbrev pub IsValue : Tree → List ℕ → Type 0
-IsValue = IsValueOf 16
+IsValue t text = (left : ℕ) × IsValueIn 16 65536 (t, left) text

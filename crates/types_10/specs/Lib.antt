@@ -3,6 +3,7 @@ pub mod Falls
 pub mod Faults
 pub mod Grammar
 pub mod Kinds
+pub mod Loads
 pub mod Measures
 pub mod Ranges
 pub mod Reading

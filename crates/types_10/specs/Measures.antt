@@ -8,7 +8,8 @@ use Rattle.types_10.specs.Tree.{timestamp, uuid, binary, string, symbol, Tree, s
 use Rattle.types_10.specs.Tree.{mapping, array, described, Trees, no_trees, tree}
 use Rattle.types_10.specs.Kinds.{wide_width, size_width}
 use Rattle.types_10.specs.Writing.{is_brief, written, written_each, written_pairs, array_body}
-use Rattle.types_10.specs.Writing.{value_text}
+use Rattle.types_10.specs.Writing.{value_text, front_load, inner_load, each_load, first_load}
+use Rattle.types_10.specs.Writing.{inner_loads}
 use Rattle.types_10.specs.declared.kind.Kind.{Kind}
 use Rattle.types_10.specs.declared.kind.Kind.TheVariants as kind
 use Rattle.types_10.specs.declared.kind.Single.{Single}
@@ -19,6 +20,8 @@ use Rattle.types_10.specs.View.{value_tree}
 use Rattle.types_10.specs.declared.value.Value10.{Value10}
 use Rattle.types_10.specs.declared.measure.Measure.{Measure}
 use Rattle.types_10.specs.declared.measure.EachMeasure.{EachMeasure}
+use Rattle.types_10.specs.declared.load.Load.{Load}
+use Rattle.types_10.specs.declared.load.EachLoad.{EachLoad}
 
 -- a length as the program has it: no higher than a usize goes
 abbrev pub capped : ℕ → ℕ
@@ -90,6 +93,17 @@ pub record IsEachMeasure (m : EachMeasure) (ts : Trees) : Type 0 where
   pub front : m.front ≡ capped (length (written_each ts).front)
   pub kind : m.kind ≡ (written_each ts).kind
   pub bodies : m.bodies ≡ capped (bodies_len ts)
+
+-- what the program knows of what a value takes besides its bytes
+pub record IsLoad (m : Load) (t : Tree) : Type 0 where
+  pub front : m.front ≡ capped (front_load t)
+  pub inner : m.inner ≡ capped (inner_load t)
+
+-- and of what values together take
+pub record IsEachLoad (m : EachLoad) (ts : Trees) : Type 0 where
+  pub whole : m.whole ≡ capped (each_load ts)
+  pub first : m.first ≡ capped (first_load ts)
+  pub inner : m.inner ≡ capped (inner_loads ts)
 
 -- how wide the size and the count of what a value holds are, where it stands alone
 abbrev pub held_size : ℕ → List ℕ → Size

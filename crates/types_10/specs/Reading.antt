@@ -1,17 +1,18 @@
 -- Reading a value from left to right, with the first fault that is met (AMQP 1.0 1.6).
 -- A reader takes the fault of a value that is cut off, which is another one inside a list, a map or
 -- an array: there such a value disagrees with the size; and the offset at which its bytes end.
-use Rattle.std.specs.Prelude.{ℕ, zero, suc, ◌-◌, ◌/◌, ◌%◌, Bool, ◌==◌, ◌&&◌, nat_lt, if◌then◌else◌}
+use Rattle.std.specs.Prelude.{ℕ, zero, suc, ◌-◌, ◌*◌, ◌/◌, ◌%◌, Bool, ◌==◌, nat_lt, if◌then◌else◌}
 use Rattle.std.specs.Prelude.{List, [], ◌∷◌, length, take, drop, Option, Some, None, Ok, Err}
 use Rattle.std.specs.Prelude.{Result}
 use Rattle.std.specs.Int.{Width, w8, w32}
 use Rattle.wire_base.specs.declared.scan.At.{At}
-use Rattle.wire_base.specs.Reading.{Reads, ◌>>=◌, made, pair_in, number_in, text_in, times}
+use Rattle.wire_base.specs.Reading.{Reads, ◌>>=◌, made, number_in, text_in}
 use Rattle.types_10.specs.Tree.{Scalar, boolean, char, Tree, scalar, list, mapping, array}
 use Rattle.types_10.specs.Tree.{described, depth, no_trees, trees_of, pairs_of}
-use Rattle.types_10.specs.Kinds.{kind_of, is_bare, is_described, bare_scalar, octet_scalar}
+use Rattle.types_10.specs.Kinds.{kind_of, is_described, bare_scalar, octet_scalar}
 use Rattle.types_10.specs.Kinds.{wide_width, wide_scalar, sixteen_scalar, text_scalar, is_text}
 use Rattle.types_10.specs.Kinds.{is_character, size_width}
+use Rattle.types_10.specs.Loads.{element_load}
 use Rattle.types_10.specs.View.{value_tree}
 use Rattle.types_10.specs.declared.value.Value10.{Value10}
 use Rattle.types_10.specs.declared.fault.TypeFault.{TypeFault}
@@ -79,9 +80,9 @@ single_in (single.Text k s) cut end bytes =
 
 -- ---- values by their code
 
--- a reader of contents by their kind, with the offset of the code
+-- a reader of contents within a room, by their kind, with the offset of the code
 abbrev pub Contents : Type 0
-Contents = Kind → ℕ → Fault → ℕ → List ℕ → Reads Tree Fault
+Contents = ℕ → Kind → ℕ → Fault → ℕ → List ℕ → Reads (Tree × ℕ) Fault
 
 -- what a code announces; where it announces nothing, the fault at the code
 abbrev pub known_in : {A : Type 0} → (Kind → ℕ → Fault → ℕ → List ℕ → Reads A Fault)
@@ -106,30 +107,32 @@ abbrev pub Shape : Type 0
 Shape = List Tree × Kind
 
 -- a descriptor, in front of the constructor of what it describes
-abbrev pub with_descriptor : Tree × Shape → Shape
-with_descriptor p = (p.0 ∷ p.1.0, p.1.1)
+abbrev pub with_descriptor : Tree → Shape × ℕ → Shape × ℕ
+with_descriptor d c = ((d ∷ c.0.0, c.0.1), c.1)
 
--- a constructor of at most so many codes, whose descriptors are read so
-unfoldable pub constructor_in : (Fault → ℕ → List ℕ → Reads Tree Fault) → ℕ → Fault → ℕ → List ℕ
-    → Reads Shape Fault
-constructor_in read zero cut end bytes = Err cut
-constructor_in read (suc most) cut end bytes = do
+-- a constructor of at most so many codes, whose descriptors are read so, each within the room that
+-- those before it leave
+unfoldable pub constructor_in : (ℕ → Fault → ℕ → List ℕ → Reads (Tree × ℕ) Fault) → ℕ → ℕ → Fault
+    → ℕ → List ℕ → Reads (Shape × ℕ) Fault
+constructor_in read zero room cut end bytes = Err cut
+constructor_in read (suc most) room cut end bytes = do
   c ← code_in cut end bytes
-  if is_described c.0.0 then made with_descriptor (pair_in (read cut)
-      (constructor_in read most cut) end c.1) else Ok (([], c.0.0), c.1)
+  if is_described c.0.0 then (read room cut end c.1 >>= λ d. made (with_descriptor d.0.0)
+      (constructor_in read most d.0.1 cut end d.1)) else Ok ((([], c.0.0), room), c.1)
 
 -- readers of what stands inside a value: contents, and elements behind a constructor
 pub record Inside : Type 0 where
   pub contents : Contents
-  pub element : Shape → ℕ → Fault → ℕ → List ℕ → Reads Tree Fault
+  pub element : ℕ → Shape → ℕ → Fault → ℕ → List ℕ → Reads (Tree × ℕ) Fault
 
 -- a value whose content is read so
-abbrev pub value_by : Inside → Fault → ℕ → List ℕ → Reads Tree Fault
-value_by inside = coded_in inside.contents
+abbrev pub value_by : Inside → ℕ → Fault → ℕ → List ℕ → Reads (Tree × ℕ) Fault
+value_by inside room = coded_in (inside.contents room)
 
 -- a constructor whose descriptors are such values; it has no more codes than bytes
-abbrev pub shape_by : Inside → Fault → ℕ → List ℕ → Reads Shape Fault
-shape_by inside cut end bytes = constructor_in (value_by inside) (length bytes) cut end bytes
+abbrev pub shape_by : Inside → ℕ → Fault → ℕ → List ℕ → Reads (Shape × ℕ) Fault
+shape_by inside room cut end bytes =
+    constructor_in (value_by inside) (length bytes) room cut end bytes
 
 -- ---- lists, maps and arrays
 
@@ -142,70 +145,92 @@ filled_in w at inner cut end bytes = do
   x ← inner (fault_at fault.Count at) (end - length body.1) body.0
   if length x.1 == 0 then Ok (x.0, body.1) else Err (fault_at fault.Count at)
 
+-- so many, one after another, each within the room that those before it leave
+unfoldable pub row_in : {A : Type 0} → (ℕ → ℕ → List ℕ → Reads (A × ℕ) Fault) → ℕ → ℕ → ℕ → List ℕ
+    → Reads (List A × ℕ) Fault
+row_in read zero room end bytes = Ok (([], room), bytes)
+row_in read (suc count) room end bytes = do
+  x ← read room end bytes
+  made (λ xs. (x.0.0 ∷ xs.0, xs.1)) (row_in read count x.0.1 end x.1)
+
+-- one value, and then another
+abbrev pub two_in : (ℕ → ℕ → List ℕ → Reads (Tree × ℕ) Fault) → ℕ → ℕ → List ℕ
+    → Reads ((Tree × Tree) × ℕ) Fault
+two_in read room end bytes = do
+  x ← read room end bytes
+  made (λ y. ((x.0.0, y.0), y.1)) (read x.0.1 end x.1)
+
 -- a count and so many values
-abbrev pub items_in : Width → (Fault → ℕ → List ℕ → Reads Tree Fault) → Fault → ℕ → List ℕ
-    → Reads (List Tree) Fault
-items_in w read cut end bytes = do
+abbrev pub items_in : Width → (ℕ → Fault → ℕ → List ℕ → Reads (Tree × ℕ) Fault) → ℕ → Fault → ℕ
+    → List ℕ → Reads (List Tree × ℕ) Fault
+items_in w read room cut end bytes = do
   n ← count_in cut w bytes
-  times (read cut end) n.0 n.1
+  row_in (λ room. read room cut) n.0 room end n.1
 
 -- a count of keys and values together, and the pairs of them
-abbrev pub entries_in : Width → (Fault → ℕ → List ℕ → Reads Tree Fault) → Fault → ℕ → List ℕ
-    → Reads (List (Tree × Tree)) Fault
-entries_in w read cut end bytes = do
+abbrev pub entries_in : Width → (ℕ → Fault → ℕ → List ℕ → Reads (Tree × ℕ) Fault) → ℕ → Fault → ℕ
+    → List ℕ → Reads (List (Tree × Tree) × ℕ) Fault
+entries_in w read room cut end bytes = do
   n ← count_in cut w bytes
-  if n.0 % 2 == 0 then times (pair_in (read cut) (read cut) end) (n.0 / 2) n.1 else Err cut
+  if n.0 % 2 == 0 then row_in (two_in (λ room. read room cut)) (n.0 / 2) room end n.1 else Err cut
+
+-- what is left of a room; where more is taken than there is, this fault
+abbrev pub spent_in : Fault → ℕ → ℕ → Result ℕ Fault
+spent_in cut room load = if nat_lt room load then Err cut else Ok (room - load)
 
 -- a count, a constructor, whatever the count is, and so many elements, before which its last code
--- is the last byte; of elements without bytes there are at most 65,536
-abbrev pub elements_in : Width → Inside → Fault → ℕ → List ℕ → Reads (List Tree) Fault
-elements_in w inside cut end bytes = do
+-- is the last byte; they take no more besides their bytes than the room that the constructor leaves
+abbrev pub elements_in : Width → Inside → ℕ → Fault → ℕ → List ℕ → Reads (List Tree × ℕ) Fault
+elements_in w inside room cut end bytes = do
   n ← count_in cut w bytes
-  c ← shape_by inside cut end n.1
-  if is_bare c.0.1 && nat_lt 65536 n.0 then Err cut else times (inside.element c.0
-      ((end - length c.1) - 1) cut end) n.0 c.1
+  c ← shape_by inside room cut end n.1
+  left ← spent_in cut c.0.1 (n.0 * element_load c.0.0)
+  row_in (λ room. inside.element room c.0.0 ((end - length c.1) - 1) cut) n.0 left end c.1
 
 -- ---- contents by depth
 
 -- the content of a value that may hold no other
 abbrev pub flat_in : Contents
-flat_in (kind.Single k) at cut end bytes = made scalar (single_in k cut end bytes)
-flat_in kind.EmptyList at cut end bytes = Err (fault_at fault.Depth at)
-flat_in (kind.List s) at cut end bytes = Err (fault_at fault.Depth at)
-flat_in (kind.Map s) at cut end bytes = Err (fault_at fault.Depth at)
-flat_in (kind.Array s) at cut end bytes = Err (fault_at fault.Depth at)
-flat_in kind.Described at cut end bytes = Err (fault_at fault.Depth at)
+flat_in room (kind.Single k) at cut end bytes =
+    made (λ s. (scalar s, room)) (single_in k cut end bytes)
+flat_in room kind.EmptyList at cut end bytes = Err (fault_at fault.Depth at)
+flat_in room (kind.List s) at cut end bytes = Err (fault_at fault.Depth at)
+flat_in room (kind.Map s) at cut end bytes = Err (fault_at fault.Depth at)
+flat_in room (kind.Array s) at cut end bytes = Err (fault_at fault.Depth at)
+flat_in room kind.Described at cut end bytes = Err (fault_at fault.Depth at)
 
 -- the content of a value that may hold such
 abbrev pub deep_in : Inside → Contents
-deep_in inside (kind.Single k) at cut end bytes = made scalar (single_in k cut end bytes)
-deep_in inside kind.EmptyList at cut end bytes = Ok (list no_trees, bytes)
-deep_in inside (kind.List s) at cut end bytes =
-    made (λ ts. list (trees_of ts)) (filled_in (size_width s) at (items_in (size_width s)
-    (value_by inside)) cut end bytes)
-deep_in inside (kind.Map s) at cut end bytes =
-    made (λ ps. mapping (pairs_of ps)) (filled_in (size_width s) at (entries_in (size_width s)
-    (value_by inside)) cut end bytes)
-deep_in inside (kind.Array s) at cut end bytes =
-    made (λ ts. array (trees_of ts)) (filled_in (size_width s) at (elements_in
-    (size_width s) inside) cut end bytes)
-deep_in inside kind.Described at cut end bytes =
-    made (λ p. described p.0 p.1) (pair_in (value_by inside cut) (value_by inside cut) end bytes)
+deep_in inside room (kind.Single k) at cut end bytes =
+    made (λ s. (scalar s, room)) (single_in k cut end bytes)
+deep_in inside room kind.EmptyList at cut end bytes = Ok ((list no_trees, room), bytes)
+deep_in inside room (kind.List s) at cut end bytes =
+    made (λ ts. (list (trees_of ts.0), ts.1)) (filled_in (size_width s) at (items_in
+    (size_width s) (value_by inside) room) cut end bytes)
+deep_in inside room (kind.Map s) at cut end bytes =
+    made (λ ps. (mapping (pairs_of ps.0), ps.1)) (filled_in (size_width s) at (entries_in
+    (size_width s) (value_by inside) room) cut end bytes)
+deep_in inside room (kind.Array s) at cut end bytes =
+    made (λ ts. (array (trees_of ts.0), ts.1)) (filled_in (size_width s) at (elements_in
+    (size_width s) inside room) cut end bytes)
+deep_in inside room kind.Described at cut end bytes =
+    made (λ p. (described p.0.0 p.0.1, p.1)) (two_in (λ room. value_by inside room cut) room
+    end bytes)
 
 -- an element behind its constructor, whose content is read so; where its descriptor is deeper than
 -- this, a fault at the constructor's last code
-abbrev pub element_by : ℕ → Contents → (Shape → ℕ → Fault → ℕ → List ℕ → Reads Tree Fault)
-    → Shape → ℕ → Fault → ℕ → List ℕ → Reads Tree Fault
-element_by d contents more ([], k) at cut end bytes = contents k at cut end bytes
-element_by d contents more (x ∷ xs, k) at cut end bytes =
-    if nat_lt d (depth x) then Err (fault_at fault.Depth at) else made (described x) (more
-    (xs, k) at cut end bytes)
+abbrev pub element_by : ℕ → Contents → (ℕ → Shape → ℕ → Fault → ℕ → List ℕ
+    → Reads (Tree × ℕ) Fault) → ℕ → Shape → ℕ → Fault → ℕ → List ℕ → Reads (Tree × ℕ) Fault
+element_by d contents more room ([], k) at cut end bytes = contents room k at cut end bytes
+element_by d contents more room (x ∷ xs, k) at cut end bytes =
+    if nat_lt d (depth x) then Err (fault_at fault.Depth at) else made
+    (λ y. (described x y.0, y.1)) (more room (xs, k) at cut end bytes)
 
 -- readers of values of at most this depth
 unfoldable pub level : ℕ → Inside
 level zero = record {
   contents = flat_in;
-  element = element_by 0 flat_in (λ c at cut end bytes. Err (fault_at fault.Depth at));
+  element = element_by 0 flat_in (λ room c at cut end bytes. Err (fault_at fault.Depth at));
 }
 level (suc d) = record {
   contents = deep_in (level d);
@@ -215,22 +240,22 @@ level (suc d) = record {
 abbrev pub contents_in : ℕ → Contents
 contents_in d = (level d).contents
 
-abbrev pub shape_in : ℕ → Fault → ℕ → List ℕ → Reads Shape Fault
+abbrev pub shape_in : ℕ → ℕ → Fault → ℕ → List ℕ → Reads (Shape × ℕ) Fault
 shape_in d = shape_by (level d)
 
-abbrev pub element_in : ℕ → Shape → ℕ → Fault → ℕ → List ℕ → Reads Tree Fault
+abbrev pub element_in : ℕ → ℕ → Shape → ℕ → Fault → ℕ → List ℕ → Reads (Tree × ℕ) Fault
 element_in d = (level d).element
 
--- a value of at most this depth
-abbrev pub value_in : ℕ → Fault → ℕ → List ℕ → Reads Tree Fault
+-- a value of at most this depth, within a room
+abbrev pub value_in : ℕ → ℕ → Fault → ℕ → List ℕ → Reads (Tree × ℕ) Fault
 value_in d = value_by (level d)
 
--- the value that stands at this offset, and the offset behind it; the depth is at most 16, and what
--- is cut off passes the input
+-- the value that stands at this offset, and the offset behind it; the depth is at most 16, elements
+-- take at most 65,536 besides their bytes, and what is cut off passes the input
 abbrev pub value_at : List ℕ → ℕ → Result (Tree × ℕ) Fault
 value_at bytes at = do
-  x ← value_in 16 (fault_at fault.Cut (length bytes)) (length bytes) (drop at bytes)
-  Ok (x.0, length bytes - length x.1)
+  x ← value_in 16 65536 (fault_at fault.Cut (length bytes)) (length bytes) (drop at bytes)
+  Ok (x.0.0, length bytes - length x.1)
 
 -- what was answered of a value, as reading gives it
 abbrev pub seen : Result (Value10 × ℕ) Fault → Result (Tree × ℕ) Fault

@@ -1,7 +1,7 @@
 -- What is written of a value (AMQP 1.0 1.6): a code, and the content of that kind. An element of an
 -- array is a content alone, of the kind that all elements share; what describes it stands once,
 -- before them.
-use Rattle.std.specs.Prelude.{◌≡◌, ℕ, ◌+◌, ◌%◌, ◌<◌, ◌≤◌, ◌^◌, ◌==◌, ◌&&◌, ◌||◌, Bool, nat_lt}
+use Rattle.std.specs.Prelude.{◌≡◌, ℕ, ◌+◌, ◌*◌, ◌%◌, ◌<◌, ◌≤◌, ◌^◌, ◌==◌, ◌&&◌, ◌||◌, Bool, nat_lt}
 use Rattle.std.specs.Prelude.{if◌then◌else◌, IsTrue, List, [], ◌∷◌, ◌++◌, length, ℤ, pos, negsuc}
 use Rattle.std.specs.Int.{Width, w8, w16, w32, w64, to_be_bytes, cast_unsigned}
 use Rattle.std.specs.Int.Signed.{le_z, lt_z}
@@ -12,6 +12,7 @@ use Rattle.types_10.specs.Tree.{timestamp, uuid, binary, string, symbol, Tree, s
 use Rattle.types_10.specs.Tree.{mapping, array, described, Trees, no_trees, tree, Pairs, no_pairs}
 use Rattle.types_10.specs.Tree.{pair, depth}
 use Rattle.types_10.specs.Kinds.{kind_byte, is_bare, is_text, is_character, size_width}
+use Rattle.types_10.specs.Loads.{element_load}
 use Rattle.types_10.specs.declared.kind.Kind.{Kind}
 use Rattle.types_10.specs.declared.kind.Kind.TheVariants as kind
 use Rattle.types_10.specs.declared.kind.Single.{Single}
@@ -261,6 +262,11 @@ descriptors (mapping ps) = []
 descriptors (array ts) = []
 descriptors (described d t) = d ∷ descriptors t
 
+-- those of the first of these values
+abbrev pub first_descriptors : Trees → List Tree
+first_descriptors no_trees = []
+first_descriptors (tree t ts) = descriptors t
+
 -- the type of what a value's descriptors describe: the last code that its row has
 abbrev pub scalar_type : Scalar → ℕ
 scalar_type null = 64
@@ -326,6 +332,47 @@ abbrev mutual
   PairsAreWritable no_pairs = Unit {0}
   PairsAreWritable (pair k t ps) = IsWritable k × IsWritable t × PairsAreWritable ps
 
--- a value that can be written: its depth is at most 16, and it is written in less than 4 GiB
+-- what arrays inside a value take besides the bytes of their elements: those in its descriptors,
+-- and those in what they describe; and of values together, all, those in the first one's
+-- descriptors, and those in what each one's descriptors describe
+abbrev mutual
+  pub front_load : Tree → ℕ
+  front_load (scalar s) = 0
+  front_load (list ts) = 0
+  front_load (mapping ps) = 0
+  front_load (array ts) = 0
+  front_load (described d t) = (front_load d + inner_load d) + front_load t
+
+  pub inner_load : Tree → ℕ
+  inner_load (scalar s) = 0
+  inner_load (list ts) = each_load ts
+  inner_load (mapping ps) = pairs_load ps
+  inner_load (array ts) = (first_load ts + (written_each ts).count * element_load
+      (first_descriptors ts, (written_each ts).kind)) + inner_loads ts
+  inner_load (described d t) = inner_load t
+
+  pub each_load : Trees → ℕ
+  each_load no_trees = 0
+  each_load (tree t ts) = (front_load t + inner_load t) + each_load ts
+
+  pub first_load : Trees → ℕ
+  first_load no_trees = 0
+  first_load (tree t ts) = front_load t
+
+  pub inner_loads : Trees → ℕ
+  inner_loads no_trees = 0
+  inner_loads (tree t ts) = inner_load t + inner_loads ts
+
+  pub pairs_load : Pairs → ℕ
+  pairs_load no_pairs = 0
+  pairs_load (pair k t ps) =
+      (front_load k + inner_load k) + ((front_load t + inner_load t) + pairs_load ps)
+
+abbrev pub load : Tree → ℕ
+load t = front_load t + inner_load t
+
+-- a value that can be written: its depth is at most 16, it is written in less than 4 GiB, and its
+-- elements take at most 65,536 besides their bytes
 abbrev pub HasSpelling : Tree → Type 0
-HasSpelling t = (depth t ≤ 16) × IsWritable t × (length (value_text t) < 2 ^ 32)
+HasSpelling t =
+    (depth t ≤ 16) × IsWritable t × (length (value_text t) < 2 ^ 32) × (load t ≤ 65536)

@@ -13,7 +13,7 @@ pub enum TypeFault {
     NotAscii,
     /// The depth passes 16.
     Depth,
-    /// Count and size disagree, the count of a map is odd, or an array has more than 65,536
-    /// elements without bytes.
+    /// Count and size disagree, the count of a map is odd, or the elements of an array take more
+    /// besides their bytes than those before them leave of 65,536.
     Count,
 }

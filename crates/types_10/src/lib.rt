@@ -5,6 +5,10 @@
 //! has depth 1 if it is empty; other values have depth 0. Values of depth 16 at most are read and
 //! written.
 //!
+//! What the elements of arrays take besides their bytes counts over the whole value: a copy of each
+//! descriptor, or one for an element without bytes and descriptors. Values that take at most 65,536
+//! are read and written.
+//!
 //! Any encoding of 1.6 is read, and the shortest is written. So an array can be read that can't be
 //! written: one of more than 65,536 elements that the shortest encoding leaves without bytes, as
 //! 65,537 zeros behind the code 70, which have none behind 43. Nor can a value be written whose
@@ -16,10 +20,12 @@ mod depth;
 mod fault;
 mod kind;
 mod laws;
+mod load;
 mod measure;
 mod reading;
 mod spelling;
 mod value;
+mod weight;
 mod writing;
 
 pub use fault::TypeFault;

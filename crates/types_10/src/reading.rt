@@ -2,17 +2,19 @@
 //!
 //! Each function takes the bounds of its bytes, and answers its value and the bytes after it.
 
-ghost use Rattle.std.specs.Prelude.{◌≡◌, ℕ, ◌+◌, ◌-◌, ◌≤◌, ◌++◌, List, length, take, drop, map, Ok};
+ghost use Rattle.std.specs.Prelude.{◌≡◌, ℕ, ◌+◌, ◌-◌, ◌*◌, ◌≤◌, ◌++◌, List, length, take, drop, map, Ok};
 ghost use Rattle.std.specs.Prelude.{Err, IfOk, IfErr, IsOkAnd};
 ghost use Rattle.std.specs.Int.{w8, w16, w32, w64};
 ghost use Rattle.std.specs.Char.{is_ascii};
 ghost use Rattle.std.specs.Str.{is_utf8};
 ghost use Rattle.std.specs.List.{list_all};
-ghost use Rattle.wire_base.specs.Reading.{Gives, made, pair_in, times};
+ghost use Rattle.wire_base.specs.Reading.{Gives, made};
 ghost use Rattle.types_10.specs.Tree.{Tree, scalar, depth};
 ghost use Rattle.types_10.specs.Kinds.{bare_scalar, octet_scalar, wide_scalar, wide_width};
 ghost use Rattle.types_10.specs.Kinds.{sixteen_scalar, text_scalar, is_text, is_character};
 ghost use Rattle.types_10.specs.Kinds.{size_width};
+ghost use Rattle.types_10.specs.Loads.{element_load};
+ghost use Rattle.types_10.specs.Measures.{capped};
 ghost use Rattle.types_10.specs.declared.kind.Single.TheVariants.{Text as TextKind};
 ghost use Rattle.types_10.specs.View.{value_tree, pair_trees};
 ghost use Rattle.types_10.specs.Grammar.{IsValue};
@@ -22,14 +24,15 @@ ghost use Rattle.types_10.specs.declared.fault.TypeFault.TheVariants as fault;
 ghost use Rattle.types_10.specs.Reading.{fault_at, code_in, contents_in, shape_in, element_in};
 ghost use Rattle.types_10.specs.Reading.{count_in, bytes_in, sixteen_in, tested, text_fault};
 ghost use Rattle.types_10.specs.Reading.{boolean_in, char_in, single_in, flat_in, deep_in};
-ghost use Rattle.types_10.specs.Reading.{filled_in, items_in, entries_in, elements_in, value_by};
-ghost use Rattle.types_10.specs.Reading.{level, value_in, value_at, seen};
+ghost use Rattle.types_10.specs.Reading.{filled_in, row_in, two_in, items_in, entries_in};
+ghost use Rattle.types_10.specs.Reading.{spent_in, elements_in, level, value_in, value_at, seen};
 
 use crate::copying::copy_value;
 use crate::depth::is_within;
 use crate::fault::TypeFault;
 use crate::kind::{Bare, Kind, Octet, Single, Sixteen, Size, Text, Wide, kind_at};
 use crate::value::{Inner, PairList, Value10, ValueList};
+use crate::weight::{element_load, weights_of};
 use std::alloc::Global;
 use wire_base::{At, ByteText, Memory, Stop, place};
 
@@ -61,8 +64,29 @@ struct Shape {
     kind: Kind,
 }
 
-/// The greatest count of elements without bytes in an array.
-pub(crate) const MOST_BARE: u32 = 65_536;
+impl Shape {
+    /// What an element takes besides its bytes.
+    fn element_load(&self) -> usize
+        ensures { result ≡ capped (element_load (shape_data self.now)) }
+    {
+        element_load(weights_of(&self.descriptors.items), self.kind.is_bare())
+    }
+}
+
+/// What is left of a room behind so many elements.
+fn room_after(room: u32, count: u32, shape: &Shape, cut: Fault) -> Result<u32, Stop<Fault>>
+    ensures { Gives (λ n. n) result
+        (spent_in cut room (count * element_load (shape_data shape.now))) }
+{
+    let load = (count as usize).saturating_mul(shape.element_load());
+    if load > room as usize {
+        return Err(Stop::Fault(cut));
+    }
+    Ok(room - load as u32)
+}
+
+/// The most that the elements inside a value may take besides their bytes.
+pub(crate) const MOST_LOAD: u32 = 65_536;
 
 // ---- numbers and bytes
 
@@ -373,15 +397,19 @@ fn bounds_inside(at: usize, end: usize, rest: &[u8]) -> Bounds
 /// The content of a value that may hold no other.
 fn flat_of(
     alloc: Global,
+    room: u32,
     code: Code,
     bounds: Bounds,
     content: &[u8],
-) -> Result<(Value10, &[u8]), Stop<Fault>>
-    ensures { Gives (λ x. (value_tree x.0, x.1.now)) result
-        (flat_in code.kind code.at bounds.cut bounds.end content.now) }
+) -> Result<((Value10, u32), &[u8]), Stop<Fault>>
+    ensures { Gives (λ x. ((value_tree x.0.0, x.0.1), x.1.now)) result
+        (flat_in room code.kind code.at bounds.cut bounds.end content.now) }
 {
     match code.kind {
-        Kind::Single(kind) => single_of(alloc, kind, bounds, content),
+        Kind::Single(kind) => {
+            let (value, rest) = single_of(alloc, kind, bounds, content)?;
+            Ok(((value, room), rest))
+        }
         Kind::EmptyList | Kind::List(_) | Kind::Map(_) | Kind::Array(_) | Kind::Described => {
             let fault = TypeFault::Depth;
             Err(Stop::Fault(At { fault, at: code.at }))
@@ -394,14 +422,15 @@ fn flat_of(
 fn value_of(
     alloc: Global,
     depth: u8,
+    room: u32,
     bounds: Bounds,
     bytes: &[u8],
-) -> Result<(Value10, &[u8]), Stop<Fault>>
-    ensures { Gives (λ x. (value_tree x.0, x.1.now)) result
-        (value_in depth bounds.cut bounds.end bytes.now) }
+) -> Result<((Value10, u32), &[u8]), Stop<Fault>>
+    ensures { Gives (λ x. ((value_tree x.0.0, x.0.1), x.1.now)) result
+        (value_in depth room bounds.cut bounds.end bytes.now) }
 {
     let (code, content) = code_in(bounds, bytes)?;
-    content_of(alloc, depth, code, bounds, content)
+    content_of(alloc, depth, room, code, bounds, content)
 }
 
 /// The content of a value of at most this depth.
@@ -410,17 +439,18 @@ fn value_of(
 fn content_of(
     alloc: Global,
     depth: u8,
+    room: u32,
     code: Code,
     bounds: Bounds,
     content: &[u8],
-) -> Result<(Value10, &[u8]), Stop<Fault>>
-    ensures { Gives (λ x. (value_tree x.0, x.1.now)) result
-        (contents_in depth code.kind code.at bounds.cut bounds.end content.now) }
+) -> Result<((Value10, u32), &[u8]), Stop<Fault>>
+    ensures { Gives (λ x. ((value_tree x.0.0, x.0.1), x.1.now)) result
+        (contents_in depth room code.kind code.at bounds.cut bounds.end content.now) }
 {
     if depth == 0 {
-        flat_of(alloc, code, bounds, content)
+        flat_of(alloc, room, code, bounds, content)
     } else {
-        deep_of(alloc, depth - 1, code, bounds, content)
+        deep_of(alloc, depth - 1, room, code, bounds, content)
     }
 }
 
@@ -429,34 +459,40 @@ fn content_of(
 fn deep_of(
     alloc: Global,
     depth: u8,
+    room: u32,
     code: Code,
     bounds: Bounds,
     content: &[u8],
-) -> Result<(Value10, &[u8]), Stop<Fault>>
-    ensures { Gives (λ x. (value_tree x.0, x.1.now)) result
-        (deep_in (level depth) code.kind code.at bounds.cut bounds.end content.now) }
+) -> Result<((Value10, u32), &[u8]), Stop<Fault>>
+    ensures { Gives (λ x. ((value_tree x.0.0, x.0.1), x.1.now)) result
+        (deep_in (level depth) room code.kind code.at bounds.cut bounds.end content.now) }
 {
     match code.kind {
-        Kind::Single(kind) => single_of(alloc, kind, bounds, content),
-        Kind::EmptyList => Ok((Value10::List(ValueList::empty(alloc)), content)),
+        Kind::Single(kind) => {
+            let (value, rest) = single_of(alloc, kind, bounds, content)?;
+            Ok(((value, room), rest))
+        }
+        Kind::EmptyList => Ok(((Value10::List(ValueList::empty(alloc)), room), content)),
         Kind::List(size) => {
-            let (list, rest) = list_of(alloc, depth, size, code.at, bounds, content)?;
-            Ok((Value10::List(list), rest))
+            let ((list, room), rest) = list_of(alloc, depth, room, size, code.at, bounds, content)?;
+            Ok(((Value10::List(list), room), rest))
         }
         Kind::Map(size) => {
-            let (map, rest) = map_of(alloc, depth, size, code.at, bounds, content)?;
-            Ok((Value10::Map(map), rest))
+            let ((map, room), rest) = map_of(alloc, depth, room, size, code.at, bounds, content)?;
+            Ok(((Value10::Map(map), room), rest))
         }
         Kind::Array(size) => {
-            let (list, rest) = array_of(alloc, depth, size, code.at, bounds, content)?;
-            Ok((Value10::Array(list), rest))
+            let ((list, room), rest) = array_of(
+                alloc, depth, room, size, code.at, bounds, content,
+            )?;
+            Ok(((Value10::Array(list), room), rest))
         }
         Kind::Described => {
-            let (descriptor, rest) = value_of(alloc, depth, bounds, content)?;
-            let (value, rest) = value_of(alloc, depth, bounds, rest)?;
+            let ((descriptor, room), rest) = value_of(alloc, depth, room, bounds, content)?;
+            let ((value, room), rest) = value_of(alloc, depth, room, bounds, rest)?;
             let descriptor = Inner::new(alloc, descriptor)?;
             let value = Inner::new(alloc, value)?;
-            Ok((Value10::Described(descriptor, value), rest))
+            Ok(((Value10::Described(descriptor, value), room), rest))
         }
     }
 }
@@ -466,23 +502,24 @@ fn deep_of(
 fn list_of(
     alloc: Global,
     depth: u8,
+    room: u32,
     size: Size,
     at: usize,
     bounds: Bounds,
     content: &[u8],
-) -> Result<(ValueList, &[u8]), Stop<Fault>>
-    ensures { Gives (λ x. (x.0, x.1.now)) result
+) -> Result<((ValueList, u32), &[u8]), Stop<Fault>>
+    ensures { Gives (λ x. ((x.0.0, x.0.1), x.1.now)) result
         (filled_in (size_width size) at (items_in (size_width size)
-        (value_in depth)) bounds.cut bounds.end content.now) }
+        (value_in depth) room) bounds.cut bounds.end content.now) }
 {
     let (body, rest) = bytes_in(size, bounds.cut, content)?;
     let inside = bounds_inside(at, bounds.end, rest);
     let (count, items) = count_in(size, inside.cut, body)?;
-    let (list, left) = values_of(alloc, depth, count, inside, items)?;
+    let ((list, room), left) = values_of(alloc, depth, room, count, inside, items)?;
     if !left.is_empty() {
         return Err(Stop::Fault(inside.cut));
     }
-    Ok((list, rest))
+    Ok(((list, room), rest))
 }
 
 /// So many values.
@@ -490,23 +527,26 @@ fn list_of(
 fn values_of(
     alloc: Global,
     depth: u8,
+    room: u32,
     count: u32,
     bounds: Bounds,
     bytes: &[u8],
-) -> Result<(ValueList, &[u8]), Stop<Fault>>
-    ensures { Gives (λ x. (x.0, x.1.now)) result
-        (times (value_in depth bounds.cut bounds.end) count bytes.now) }
+) -> Result<((ValueList, u32), &[u8]), Stop<Fault>>
+    ensures { Gives (λ x. ((x.0.0, x.0.1), x.1.now)) result
+        (row_in (λ room. value_in depth room bounds.cut) count room bounds.end bytes.now) }
 {
     let mut list = ValueList::empty(alloc);
+    let mut spare = room;
     let mut rest = bytes;
     let mut done = 0;
     while done < count {
-        let (value, after) = value_of(alloc, depth, bounds, rest)?;
+        let ((value, left), after) = value_of(alloc, depth, spare, bounds, rest)?;
         list.push(value)?;
+        spare = left;
         rest = after;
         done += 1;
     }
-    Ok((list, rest))
+    Ok(((list, spare), rest))
 }
 
 /// The pairs of a map, behind its size, whose code stands at `at`.
@@ -514,14 +554,15 @@ fn values_of(
 fn map_of(
     alloc: Global,
     depth: u8,
+    room: u32,
     size: Size,
     at: usize,
     bounds: Bounds,
     content: &[u8],
-) -> Result<(PairList, &[u8]), Stop<Fault>>
-    ensures { Gives (λ x. (x.0, x.1.now)) result
+) -> Result<((PairList, u32), &[u8]), Stop<Fault>>
+    ensures { Gives (λ x. ((x.0.0, x.0.1), x.1.now)) result
         (filled_in (size_width size) at (entries_in (size_width size)
-        (value_in depth)) bounds.cut bounds.end content.now) }
+        (value_in depth) room) bounds.cut bounds.end content.now) }
 {
     let (body, rest) = bytes_in(size, bounds.cut, content)?;
     let inside = bounds_inside(at, bounds.end, rest);
@@ -529,11 +570,11 @@ fn map_of(
     if count % 2 != 0 {
         return Err(Stop::Fault(inside.cut));
     }
-    let (list, left) = pairs_of(alloc, depth, count / 2, inside, entries)?;
+    let ((list, room), left) = pairs_of(alloc, depth, room, count / 2, inside, entries)?;
     if !left.is_empty() {
         return Err(Stop::Fault(inside.cut));
     }
-    Ok((list, rest))
+    Ok(((list, room), rest))
 }
 
 /// So many pairs of key and value.
@@ -541,24 +582,27 @@ fn map_of(
 fn pairs_of(
     alloc: Global,
     depth: u8,
+    room: u32,
     count: u32,
     bounds: Bounds,
     bytes: &[u8],
-) -> Result<(PairList, &[u8]), Stop<Fault>>
-    ensures { Gives (λ x. (x.0, x.1.now)) result
-        (times (pair_in (value_in depth bounds.cut)
-        (value_in depth bounds.cut) bounds.end) count bytes.now) }
+) -> Result<((PairList, u32), &[u8]), Stop<Fault>>
+    ensures { Gives (λ x. ((x.0.0, x.0.1), x.1.now)) result
+        (row_in (two_in (λ room. value_in depth room bounds.cut)) count room bounds.end
+        bytes.now) }
 {
     let mut list = PairList::empty(alloc);
+    let mut spare = room;
     let mut rest = bytes;
     let mut done = 0;
     while done < count {
-        let ((key, value), after) = pair_of(alloc, depth, bounds, rest)?;
+        let (((key, value), left), after) = pair_of(alloc, depth, spare, bounds, rest)?;
         list.push((key, value))?;
+        spare = left;
         rest = after;
         done += 1;
     }
-    Ok((list, rest))
+    Ok(((list, spare), rest))
 }
 
 /// A key and its value.
@@ -566,15 +610,16 @@ fn pairs_of(
 fn pair_of(
     alloc: Global,
     depth: u8,
+    room: u32,
     bounds: Bounds,
     bytes: &[u8],
-) -> Result<((Value10, Value10), &[u8]), Stop<Fault>>
-    ensures { Gives (λ x. (pair_trees x.0, x.1.now)) result
-        (pair_in (value_in depth bounds.cut) (value_in depth bounds.cut) bounds.end bytes.now) }
+) -> Result<(((Value10, Value10), u32), &[u8]), Stop<Fault>>
+    ensures { Gives (λ x. ((pair_trees x.0.0, x.0.1), x.1.now)) result
+        (two_in (λ room. value_in depth room bounds.cut) room bounds.end bytes.now) }
 {
-    let (key, rest) = value_of(alloc, depth, bounds, bytes)?;
-    let (value, rest) = value_of(alloc, depth, bounds, rest)?;
-    Ok(((key, value), rest))
+    let ((key, room), rest) = value_of(alloc, depth, room, bounds, bytes)?;
+    let ((value, room), rest) = value_of(alloc, depth, room, bounds, rest)?;
+    Ok((((key, value), room), rest))
 }
 
 /// The elements of an array, behind its size, whose code stands at `at`.
@@ -582,29 +627,30 @@ fn pair_of(
 fn array_of(
     alloc: Global,
     depth: u8,
+    room: u32,
     size: Size,
     at: usize,
     bounds: Bounds,
     content: &[u8],
-) -> Result<(ValueList, &[u8]), Stop<Fault>>
-    ensures { Gives (λ x. (x.0, x.1.now)) result
+) -> Result<((ValueList, u32), &[u8]), Stop<Fault>>
+    ensures { Gives (λ x. ((x.0.0, x.0.1), x.1.now)) result
         (filled_in (size_width size) at (elements_in (size_width size)
-        (level depth)) bounds.cut bounds.end content.now) }
+        (level depth) room) bounds.cut bounds.end content.now) }
 {
     let (body, rest) = bytes_in(size, bounds.cut, content)?;
     let inside = bounds_inside(at, bounds.end, rest);
     let (count, shape) = count_in(size, inside.cut, body)?;
-    let (shape, elements) = shape_of(alloc, depth, inside, shape)?;
-    if shape.kind.is_bare() && count > MOST_BARE {
-        return Err(Stop::Fault(inside.cut));
-    }
+    let ((shape, room), elements) = shape_of(alloc, depth, room, inside, shape)?;
+    let room = room_after(room, count, &shape, inside.cut)?;
     // The last code of the constructor is the byte before the elements.
     let at = place(inside.end, elements).saturating_sub(1);
-    let (list, left) = elements_of(alloc, depth, count, &shape, at, inside, elements)?;
+    let ((list, room), left) = elements_of(
+        alloc, depth, room, count, &shape, at, inside, elements,
+    )?;
     if !left.is_empty() {
         return Err(Stop::Fault(inside.cut));
     }
-    Ok((list, rest))
+    Ok(((list, room), rest))
 }
 
 /// The constructor of an array whose descriptors have at most this depth.
@@ -612,13 +658,15 @@ fn array_of(
 fn shape_of(
     alloc: Global,
     depth: u8,
+    room: u32,
     bounds: Bounds,
     bytes: &[u8],
-) -> Result<(Shape, &[u8]), Stop<Fault>>
-    ensures { Gives (λ x. (shape_data x.0, x.1.now)) result
-        (shape_in depth bounds.cut bounds.end bytes.now) }
+) -> Result<((Shape, u32), &[u8]), Stop<Fault>>
+    ensures { Gives (λ x. ((shape_data x.0.0, x.0.1), x.1.now)) result
+        (shape_in depth room bounds.cut bounds.end bytes.now) }
 {
     let mut descriptors = ValueList::empty(alloc);
+    let mut spare = room;
     let mut rest = bytes;
     // Each code has a byte, so there are no more codes than bytes.
     let mut most = bytes.len();
@@ -626,10 +674,11 @@ fn shape_of(
         let (code, after) = code_in(bounds, rest)?;
         let Kind::Described = code.kind else {
             let kind = code.kind;
-            return Ok((Shape { descriptors, kind }, after));
+            return Ok(((Shape { descriptors, kind }, spare), after));
         };
-        let (descriptor, after) = value_of(alloc, depth, bounds, after)?;
+        let ((descriptor, left), after) = value_of(alloc, depth, spare, bounds, after)?;
         descriptors.push(descriptor)?;
+        spare = left;
         rest = after;
         most -= 1;
     }
@@ -641,25 +690,29 @@ fn shape_of(
 fn elements_of<'a>(
     alloc: Global,
     depth: u8,
+    room: u32,
     count: u32,
     shape: &Shape,
     at: usize,
     bounds: Bounds,
     bytes: &'a [u8],
-) -> Result<(ValueList, &'a [u8]), Stop<Fault>>
-    ensures { Gives (λ x. (x.0, x.1.now)) result
-        (times (element_in depth (shape_data shape.now) at bounds.cut bounds.end) count bytes.now) }
+) -> Result<((ValueList, u32), &'a [u8]), Stop<Fault>>
+    ensures { Gives (λ x. ((x.0.0, x.0.1), x.1.now)) result
+        (row_in (λ room. element_in depth room (shape_data shape.now) at bounds.cut) count room
+        bounds.end bytes.now) }
 {
     let mut list = ValueList::empty(alloc);
+    let mut spare = room;
     let mut rest = bytes;
     let mut done = 0;
     while done < count {
-        let (value, after) = shaped_of(alloc, depth, shape, at, bounds, rest)?;
+        let ((value, left), after) = shaped_of(alloc, depth, spare, shape, at, bounds, rest)?;
         list.push(value)?;
+        spare = left;
         rest = after;
         done += 1;
     }
-    Ok((list, rest))
+    Ok(((list, spare), rest))
 }
 
 /// An element of this constructor, whose last code stands at `at`.
@@ -667,19 +720,21 @@ fn elements_of<'a>(
 fn shaped_of<'a>(
     alloc: Global,
     depth: u8,
+    room: u32,
     shape: &Shape,
     at: usize,
     bounds: Bounds,
     content: &'a [u8],
-) -> Result<(Value10, &'a [u8]), Stop<Fault>>
-    ensures { Gives (λ x. (value_tree x.0, x.1.now)) result
-        (element_in depth (shape_data shape.now) at bounds.cut bounds.end content.now) }
+) -> Result<((Value10, u32), &'a [u8]), Stop<Fault>>
+    ensures { Gives (λ x. ((value_tree x.0.0, x.0.1), x.1.now)) result
+        (element_in depth room (shape_data shape.now) at bounds.cut bounds.end content.now) }
 {
     let descriptors = &shape.descriptors.items;
     let kind = shape.kind;
     element_of(
         alloc,
         depth,
+        room,
         descriptors,
         Code { kind, at },
         bounds,
@@ -692,26 +747,27 @@ fn shaped_of<'a>(
 fn element_of<'a>(
     alloc: Global,
     depth: u8,
+    room: u32,
     descriptors: &[Value10],
     code: Code,
     bounds: Bounds,
     content: &'a [u8],
-) -> Result<(Value10, &'a [u8]), Stop<Fault>>
-    ensures { Gives (λ x. (value_tree x.0, x.1.now)) result
-        (element_in depth
+) -> Result<((Value10, u32), &'a [u8]), Stop<Fault>>
+    ensures { Gives (λ x. ((value_tree x.0.0, x.0.1), x.1.now)) result
+        (element_in depth room
         (map value_tree descriptors.now, code.kind) code.at bounds.cut bounds.end content.now) }
 {
     let Some((descriptor, inner)) = descriptors.split_first() else {
-        return content_of(alloc, depth, code, bounds, content);
+        return content_of(alloc, depth, room, code, bounds, content);
     };
     if depth == 0 || !is_within(descriptor, depth - 1) {
         let fault = TypeFault::Depth;
         return Err(Stop::Fault(At { fault, at: code.at }));
     }
-    let (value, rest) = element_of(alloc, depth - 1, inner, code, bounds, content)?;
+    let ((value, room), rest) = element_of(alloc, depth - 1, room, inner, code, bounds, content)?;
     let descriptor = Inner::new(alloc, copy_value(alloc, descriptor)?)?;
     let value = Inner::new(alloc, value)?;
-    Ok((Value10::Described(descriptor, value), rest))
+    Ok(((Value10::Described(descriptor, value), room), rest))
 }
 
 /// The greatest depth of a value.
@@ -725,7 +781,8 @@ fn value_from(alloc: Global, bytes: &[u8], at: usize) -> Result<(Value10, usize)
     let end = bytes.len();
     let fault = TypeFault::Cut;
     let cut = At { fault, at: end };
-    let (value, rest) = value_of(alloc, MOST_DEPTH, Bounds { cut, end }, left)?;
+    let bounds = Bounds { cut, end };
+    let ((value, _), rest) = value_of(alloc, MOST_DEPTH, MOST_LOAD, bounds, left)?;
     Ok((value, place(end, rest)))
 }
 
@@ -742,6 +799,11 @@ fn value_from(alloc: Global, bytes: &[u8], at: usize) -> Result<(Value10, usize)
 /// `Count` for a wrong count, the fault of its text or those of what it holds in order, and `Count`
 /// for bytes left over. The constructor of an array, descriptors and all, is read before the count
 /// is tested, and its descriptors count in the depth of the elements alone.
+///
+/// Elements take memory that no bytes stand for: each has a copy of its descriptors, which takes as
+/// many as values stand in it, and one more for each 64 bytes of a text; one without bytes and
+/// descriptors takes one. All arrays inside the value together may take 65,536; the array that
+/// passes it is `Count`.
 ///
 /// `Memory` where the allocator has no room.
 pub fn read_value(

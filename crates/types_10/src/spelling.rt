@@ -10,8 +10,9 @@ ghost use Rattle.types_10.specs.Writing.{PairsAreWritable, HasSpelling};
 
 use crate::depth::is_within;
 use crate::kind::Text;
+use crate::load::load_of;
 use crate::measure::{measure_each, measure_value};
-use crate::reading::{MOST_BARE, MOST_DEPTH, is_text};
+use crate::reading::{MOST_DEPTH, MOST_LOAD, is_text};
 use crate::value::Value10;
 
 /// The length that is too long for what is written of a value: 4 GiB.
@@ -182,7 +183,7 @@ fn fits_bare(values: &[Value10]) -> bool
         (map value_tree values.now))).kind)
         → (written_each (trees_of (map value_tree values.now))).count ≤ 65536) }
 {
-    values.len() <= MOST_BARE as usize || !measure_each(values).kind.is_bare()
+    values.len() <= MOST_LOAD as usize || !measure_each(values).kind.is_bare()
 }
 
 /// Whether texts, chars and arrays inside a value are as they must be.
@@ -263,4 +264,5 @@ pub fn has_spelling(value: &Value10) -> bool
     is_within(value, MOST_DEPTH)
         && is_writable(value)
         && measure_value(value).whole_len() < LEAST_TOO_LONG
+        && load_of(value).whole() <= MOST_LOAD as usize
 }

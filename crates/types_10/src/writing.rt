@@ -374,6 +374,10 @@ fn put_contents(out: &mut ByteText, kind: Kind, values: &[Value10]) -> Result<()
 /// empty, described or not. An array with more is read where a longer encoding was sent, as 65,537
 /// zeros behind the code 70, but can't be put.
 ///
+/// And the elements of all arrays inside the value together take at most 65,536 besides their
+/// bytes: each as many as values stand in its descriptors, and one more for each 64 bytes of a text
+/// there, or one where it has neither bytes nor descriptors.
+///
 /// # Errors
 ///
 /// `Memory` where the allocator has no room.

@@ -1,9 +1,8 @@
-use Rattle.std.proofs.Common.{◌≡◌, ◌+◌, ◌-◌, ◌*◌, ◌≤◌}
-use Rattle.wire_base.specs.Reading.{times, pair_in}
-use Rattle.wire_base.proofs.Items.{behind_front}
-use Rattle.types_10.specs.Reading.{value_in, constructor_in, shape_in, element_in}
+use Rattle.std.proofs.Common.{◌≡◌, ℕ, ◌+◌, ◌-◌, ◌*◌, ◌≤◌}
+use Rattle.types_10.specs.Reading.{row_in, two_in, value_in, constructor_in, shape_in, element_in}
 use Rattle.types_10.specs.Shapes.{shape_data}
 use Rattle.types_10.proofs.Constructors.{behind_descriptors}
+use Rattle.types_10.proofs.Rows.{behind_row}
 use Rattle.types_10.proofs.reading.+nested.Given as goal
 
 abbrev pub decreases-content_of : goal.decreases-content_of
@@ -47,22 +46,22 @@ decreases-deep_of l = 8 * l.depth + 5
 
 abbrev pub invariant-values_of-loop-done : goal.invariant-values_of-loop-done
 invariant-values_of-loop-done l =
-    let read = value_in l.depth l.bounds.cut l.bounds.end in
-    (l.done ≤ l.count) × (behind_front l.list (times read (l.count - l.done) l.rest) ≡ times read l.count l.bytes)
+    let read = λ (room : ℕ). value_in l.depth room l.bounds.cut in
+    (l.done ≤ l.count) × (behind_row l.list (row_in read (l.count - l.done) l.spare l.bounds.end l.rest) ≡ row_in read l.count l.room l.bounds.end l.bytes)
 
 abbrev pub invariant-pairs_of-loop-done : goal.invariant-pairs_of-loop-done
 invariant-pairs_of-loop-done l =
-    let read = pair_in (value_in l.depth l.bounds.cut) (value_in l.depth l.bounds.cut) l.bounds.end in
-    (l.done ≤ l.count) × (behind_front l.list (times read (l.count - l.done) l.rest) ≡ times read l.count l.bytes)
+    let read = two_in (λ room. value_in l.depth room l.bounds.cut) in
+    (l.done ≤ l.count) × (behind_row l.list (row_in read (l.count - l.done) l.spare l.bounds.end l.rest) ≡ row_in read l.count l.room l.bounds.end l.bytes)
 
 abbrev pub invariant-shape_of-loop-most : goal.invariant-shape_of-loop-most
 invariant-shape_of-loop-most l =
-    behind_descriptors l.descriptors (constructor_in (value_in l.depth) l.most l.bounds.cut l.bounds.end l.rest) ≡ shape_in l.depth l.bounds.cut l.bounds.end l.bytes
+    behind_descriptors l.descriptors (constructor_in (value_in l.depth) l.most l.spare l.bounds.cut l.bounds.end l.rest) ≡ shape_in l.depth l.room l.bounds.cut l.bounds.end l.bytes
 
 abbrev pub invariant-elements_of-loop-done : goal.invariant-elements_of-loop-done
 invariant-elements_of-loop-done l =
-    let read = element_in l.depth (shape_data l.shape) l.at l.bounds.cut l.bounds.end in
-    (l.done ≤ l.count) × (behind_front l.list (times read (l.count - l.done) l.rest) ≡ times read l.count l.bytes)
+    let read = λ (room : ℕ). element_in l.depth room (shape_data l.shape) l.at l.bounds.cut in
+    (l.done ≤ l.count) × (behind_row l.list (row_in read (l.count - l.done) l.spare l.bounds.end l.rest) ≡ row_in read l.count l.room l.bounds.end l.bytes)
 
 abbrev pub decreases-values_of-loop-done : goal.decreases-values_of-loop-done
 decreases-values_of-loop-done l = l.count - l.done
