@@ -1,4 +1,4 @@
--- A request that asks for a link is passed on where its channel is open.
+-- A request is passed on where its channel is open.
 use Rattle.std.proofs.Common.{◌≡◌, ℕ, ◌==◌, ◌&&◌, eqb, cond, if◌then◌else◌, Bool, true, false, List}
 use Rattle.std.proofs.Common.{[], ◌∷◌, Option, None, Some, Ok, Err, refl, sym, ap, ◌∙◌, subst}
 use Rattle.std.proofs.lemmas.Bool.{eqb-true}
@@ -48,18 +48,28 @@ use Rattle.methods_091.specs.Rows.{Kind, class_of, id_of}
 use Rattle.methods_091.specs.declared.method.Method91.{Method91}
 use Rattle.methods_091.specs.declared.method.Method91.TheVariants as method
 
-abbrev pub asks_link : Method91 → Bool
-asks_link (method.BasicConsume queue tag no_local no_ack exclusive no_wait arguments) = true
-asks_link (method.QueueDeclare queue passive durable exclusive deletes no_wait arguments) = true
-asks_link (method.BasicGet queue no_ack) = true
-asks_link m = false
+-- a method of another class than those of channels and the connection
+abbrev pub is_request : Method91 → Bool
+is_request (method.ExchangeDeclare name kind passive durable deletes internal no_wait arguments) = true
+is_request (method.QueueDeclare queue passive durable exclusive deletes no_wait arguments) = true
+is_request (method.ConfirmSelect no_wait) = true
+is_request (method.BasicConsume queue tag no_local no_ack exclusive no_wait arguments) = true
+is_request (method.BasicGet queue no_ack) = true
+is_request (method.BasicCancel tag no_wait) = true
+is_request (method.BasicQos size count global) = true
+is_request (method.BasicAck tag multiple) = true
+is_request (method.BasicReject tag requeue) = true
+is_request (method.BasicNack tag multiple requeue) = true
+is_request (method.BasicRecover requeue) = true
+is_request (method.BasicRecoverAsync requeue) = true
+is_request m = false
 
 no_clash : (b : Bool) → b ≡ true → b ≡ false → ⊥
 no_clash b e f = cc
 
--- what a unit wants asks for links on open channels alone
+-- requests are passed on for open channels alone
 pub record IsOnTime (c : Connection) (x : machine.Step) : Type 0 where
-  pub holds : (n : ℕ) (m : Method91) → x.1 ≡ want.Method n m → asks_link m ≡ true → is_open c n ≡ true
+  pub holds : (n : ℕ) (m : Method91) → x.1 ≡ want.Method n m → is_request m ≡ true → is_open c n ≡ true
 
 abbrev pub is_method : Want91 → Bool
 is_method want.Nothing = false
@@ -74,12 +84,12 @@ is_method want.Close = false
 is_method want.CloseOk = false
 is_method (want.Refuse r) = false
 
--- what is no method of a channel; a method that asks for none; and one on an open channel
+-- what is no method of a channel; a method that is no request; and one on an open channel
 pub quiet : (c : Connection) (x : machine.Step) → is_method x.1 ≡ false → IsOnTime c x
 quiet c x e = record { holds = λ n m f a. absurd (no_clash (is_method x.1) (ap is_method f) e) }
 
-other : (c d : Connection) (k : ℕ) (m : Method91) → asks_link m ≡ false → IsOnTime c (d, want.Method k m)
-other c d k m e = record { holds = λ n j f a. let same : m ≡ j = cc in absurd (no_clash (asks_link j) a (sym (ap asks_link same) ∙ e)) }
+other : (c d : Connection) (k : ℕ) (m : Method91) → is_request m ≡ false → IsOnTime c (d, want.Method k m)
+other c d k m e = record { holds = λ n j f a. let same : m ≡ j = cc in absurd (no_clash (is_request j) a (sym (ap is_request same) ∙ e)) }
 
 asked : (c : Connection) (k : ℕ) (m : Method91) → is_open c k ≡ true → IsOnTime c (c, want.Method k m)
 asked c k m o = record { holds = λ n j f a. let same : k ≡ n = cc in subst (λ (i : ℕ). is_open c i ≡ true) same o }
@@ -133,18 +143,18 @@ channel_on_time c f k args runs z read none =
     pick c (is_of_kind CHANNEL_OPEN k) (λ e. other c _ n method.ChannelOpen refl)
     (pick c (is_of_kind CHANNEL_CLOSE k) (λ e. other c _ n (close_of args) refl)
     (pick c (is_of_kind CHANNEL_FLOW k) (λ e. other c _ n (flow_of args) refl)
-    (pick c (is_of_kind EXCHANGE_DECLARE k) (λ e. other c _ n (declare_of args) refl)
+    (pick c (is_of_kind EXCHANGE_DECLARE k) (λ e. asked c n (declare_of args) (class_open c f k args 40 runs z read none (kind_class EXCHANGE_DECLARE k e) refl))
     (pick c (is_of_kind QUEUE_DECLARE k) (λ e. asked c n (queue_declare_of args) (class_open c f k args 50 runs z read none (kind_class QUEUE_DECLARE k e) refl))
-    (pick c (is_of_kind CONFIRM_SELECT k) (λ e. other c _ n (select_of args) refl)
+    (pick c (is_of_kind CONFIRM_SELECT k) (λ e. asked c n (select_of args) (class_open c f k args 85 runs z read none (kind_class CONFIRM_SELECT k e) refl))
     (pick c (is_of_kind BASIC_CONSUME k) (λ e. asked c n (consume_of args) (class_open c f k args 60 runs z read none (kind_class BASIC_CONSUME k e) refl))
     (pick c (is_of_kind BASIC_GET k) (λ e. asked c n (get_of args) (class_open c f k args 60 runs z read none (kind_class BASIC_GET k e) refl))
-    (pick c (is_of_kind BASIC_ACK k) (λ e. other c _ n (ack_of args) refl)
-    (pick c (is_of_kind BASIC_REJECT k) (λ e. other c _ n (reject_of args) refl)
-    (pick c (is_of_kind BASIC_NACK k) (λ e. other c _ n (nack_of args) refl)
-    (pick c (is_of_kind BASIC_QOS k) (λ e. other c _ n (qos_of args) refl)
-    (pick c (is_of_kind BASIC_CANCEL k) (λ e. other c _ n (cancel_of args) refl)
-    (pick c (is_of_kind BASIC_RECOVER k) (λ e. other c _ n (recover_of args) refl)
-    (pick c (is_of_kind BASIC_RECOVER_ASYNC k) (λ e. other c _ n (recover_async_of args) refl)
+    (pick c (is_of_kind BASIC_ACK k) (λ e. asked c n (ack_of args) (class_open c f k args 60 runs z read none (kind_class BASIC_ACK k e) refl))
+    (pick c (is_of_kind BASIC_REJECT k) (λ e. asked c n (reject_of args) (class_open c f k args 60 runs z read none (kind_class BASIC_REJECT k e) refl))
+    (pick c (is_of_kind BASIC_NACK k) (λ e. asked c n (nack_of args) (class_open c f k args 60 runs z read none (kind_class BASIC_NACK k e) refl))
+    (pick c (is_of_kind BASIC_QOS k) (λ e. asked c n (qos_of args) (class_open c f k args 60 runs z read none (kind_class BASIC_QOS k e) refl))
+    (pick c (is_of_kind BASIC_CANCEL k) (λ e. asked c n (cancel_of args) (class_open c f k args 60 runs z read none (kind_class BASIC_CANCEL k e) refl))
+    (pick c (is_of_kind BASIC_RECOVER k) (λ e. asked c n (recover_of args) (class_open c f k args 60 runs z read none (kind_class BASIC_RECOVER k e) refl))
+    (pick c (is_of_kind BASIC_RECOVER_ASYNC k) (λ e. asked c n (recover_async_of args) (class_open c f k args 60 runs z read none (kind_class BASIC_RECOVER_ASYNC k e) refl))
     (pick c (is_of_kind BASIC_PUBLISH k) (λ e. quiet c _ refl) (quiet c _ refl))))))))))))))))
   where
     n : ℕ

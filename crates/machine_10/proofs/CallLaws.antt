@@ -214,7 +214,7 @@ sound_call (BeginSent g) c k = sound_begin g c k
 sound_call (EndSent g) c k = sound_end g c k
 sound_call Ended c k = record { frame = k.frame; max = k.max; fresh = λ r f. absurd cc; alone = k.alone }
 
-none_used : (count g : ℕ) → or_free (slice_get (replicate count session.Free) g) ≡ session.Free
+pub none_used : (count g : ℕ) → or_free (slice_get (replicate count session.Free) g) ≡ session.Free
 none_used zero g = refl
 none_used (suc count) zero = refl
 none_used (suc count) (suc g) = none_used count g

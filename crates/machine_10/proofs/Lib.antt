@@ -5,4 +5,5 @@ pub mod ReadCases
 pub mod SessionSteps
 pub mod StepCases
 pub mod StepLaws
+pub mod Tops
 pub mod Within

@@ -1,6 +1,7 @@
 -- The state of a container's connection (AMQP 1.0 2.4, 2.5, 5.3.2): before any unit, what is
 -- awaited of the container, and which sessions there are.
-use Rattle.std.specs.Prelude.{ℕ, Bool, true, false, ◌==◌, List, replicate, slice_get, slice_set}
+use Rattle.std.specs.Prelude.{◌≡◌, ◌≤◌, ℕ, Bool, true, false, ◌==◌, List, replicate, slice_get}
+use Rattle.std.specs.Prelude.{slice_set}
 use Rattle.std.specs.Prelude.{Option, None, Some}
 use Rattle.std.specs.List.{position}
 use Rattle.frames_10.specs.declared.frame.Kind10.TheVariants as kind
@@ -79,6 +80,10 @@ or_free (Some s) = s
 -- the session on one of the gateway's channels
 abbrev pub session_at : Upstream → ℕ → Session
 session_at c g = or_free (slice_get c.sessions g)
+
+-- no session is on a channel from a number on
+abbrev pub AreFreeFrom : ℕ → Upstream → Type 0
+AreFreeFrom top c = (g : ℕ) → top ≤ g → session_at c g ≡ session.Free
 
 -- another session there
 abbrev pub with_session : Upstream → ℕ → Session → Upstream

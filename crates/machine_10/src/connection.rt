@@ -1,11 +1,13 @@
 //! A container's connection: the calls on it.
 
-ghost use Rattle.std.specs.Prelude.{◌≡◌, Ok, IfOk, OnOk, OnErr};
+ghost use Rattle.std.specs.Prelude.{◌≡◌, ◌≤◌, ◌<◌, Ok, IfOk, OnOk, OnErr};
 ghost use Rattle.machine_10.specs.Calls.{after_begin_sent, after_end_sent, after_ended};
 ghost use Rattle.machine_10.specs.State.{new_upstream, awaits, is_running, is_closing, session_at};
+ghost use Rattle.machine_10.specs.State.{AreFreeFrom};
+ghost use Rattle.machine_10.specs.declared.state.TheConstants.{CHANNELS};
 ghost use Rattle.machine_10.specs.Transitions.{meaning_of, unit_step};
 
-use crate::state::{Awaited10, Phase10, Session, Stream10, Upstream};
+use crate::state::{Awaited10, CHANNELS, Phase10, Session, Stream10, Upstream};
 use crate::unit::{Unit10, Want10};
 use std::alloc::Global;
 use std::marker::Model;
@@ -15,14 +17,35 @@ use wire_base::{ByteText, Memory};
 #[derive(Debug, Drop)]
 pub struct Conn10 {
     state: Upstream,
+    /// No session ever began on a channel from this number on: looks at all sessions end there.
+    top: u16,
 }
 
 impl Model for Conn10 {
+    ghost use Rattle.std.specs.Prelude.{◌≤◌};
+    ghost use Rattle.machine_10.specs.State.{AreFreeFrom};
+    ghost use Rattle.machine_10.specs.declared.state.TheConstants.{CHANNELS};
     ghost use Rattle.machine_10.specs.declared.state.Upstream.{Upstream};
 
     ghost Value = { Upstream };
 
     ghost view = { λ c. c.state };
+
+    ghost invariant = { λ c. (c.top ≤ CHANNELS) × AreFreeFrom c.top c.state };
+}
+
+/// A number above a channel, if there is one, and not below this.
+fn top_with(top: u16, channel: u16) -> u16
+    requires { top ≤ CHANNELS }
+    ensures within { result ≤ CHANNELS }
+    ensures above { top ≤ result }
+    ensures channel { channel < CHANNELS → channel < result }
+{
+    if usize::from(channel) < CHANNELS {
+        top.max(channel + 1)
+    } else {
+        top
+    }
 }
 
 impl Conn10 {
@@ -37,6 +60,7 @@ impl Conn10 {
     {
         Ok(Conn10 {
             state: Upstream::new(mechanism, response),
+            top: 0,
         })
     }
 
@@ -61,6 +85,7 @@ impl Conn10 {
         ensures { self.new ≡ after_begin_sent channel self.old }
     {
         self.state.begin_sent(channel);
+        self.top = top_with(self.top, channel);
     }
 
     /// The gateway's end of the session on this channel was sent. The channel is free once the
@@ -118,6 +143,14 @@ impl Conn10 {
         ensures { result ≡ session_at self.now channel }
     {
         self.state.session(channel)
+    }
+
+    /// No session is on a channel from this number on.
+    pub fn top(&self) -> u16
+        ensures within { result ≤ CHANNELS }
+        ensures free { AreFreeFrom result self.now }
+    {
+        self.top
     }
 
     /// The mechanism of the login.

@@ -1,13 +1,17 @@
 //! The state of a container's connection, as a value that contracts see.
 
-ghost use Rattle.std.specs.Prelude.{◌≡◌, ◌<◌, length, IfSome};
+ghost use Rattle.std.specs.Prelude.{◌≡◌, ◌≤◌, ◌<◌, length, IfSome};
 ghost use Rattle.std.specs.List.{position};
 ghost use Rattle.machine_10.specs.State.{new_upstream, carries, session_at, session_of};
 ghost use Rattle.machine_10.specs.State.{with_session, awaits, is_running, is_closing};
+ghost use Rattle.machine_10.specs.declared.state.TheConstants.{CHANNELS};
 
 use crate::limits::{Stated10, unstated};
 use frames_10::Kind10;
 use wire_base::ByteText;
+
+/// The gateway's channels are numbered below this.
+pub const CHANNELS: usize = 256;
 
 /// How far a connection has come (AMQP 1.0 2.4, 5.3.2): which units count.
 #[derive(Clone, Copy, Debug, PartialEq, Eq)]
@@ -87,7 +91,7 @@ pub struct Upstream {
     pub(crate) response: ByteText,
     pub(crate) stated: Stated10,
     /// By the gateway's numbers of their channels.
-    pub(crate) sessions: [Session; 256],
+    pub(crate) sessions: [Session; CHANNELS],
 }
 
 /// Whether the container's frames of a session stand on this channel.
@@ -120,7 +124,7 @@ impl Upstream {
             mechanism,
             response,
             stated: unstated(),
-            sessions: [Session::Free; 256],
+            sessions: [Session::Free; CHANNELS],
         }
     }
 
@@ -134,10 +138,11 @@ impl Upstream {
         }
     }
 
-    /// Sets the session on a channel.
+    /// Sets the session on a channel. There is none above the last.
     #[tactic(auto, using(std::proofs::lemmas::List::set_past))]
     pub(crate) fn set_session(&mut self, number: u16, session: Session)
-        ensures { self.new ≡ with_session self.old number session }
+        ensures session { self.new ≡ with_session self.old number session }
+        ensures beyond { CHANNELS ≤ number → self.new ≡ self.old }
     {
         let at = usize::from(number);
         if at < self.sessions.len() {

@@ -1,7 +1,7 @@
 //! The transitions of a connection: for each phase and unit the state after it and what the unit
 //! wants, and what the other calls change. No other file sets a phase, a stream or a session.
 
-ghost use Rattle.std.specs.Prelude.{◌≡◌, IfOk, OnOk, OnErr};
+ghost use Rattle.std.specs.Prelude.{◌≡◌, ◌≤◌, IfOk, OnOk, OnErr};
 ghost use Rattle.types_10.specs.View.{value_tree};
 ghost use Rattle.machine_10.specs.Calls.{may_begin, after_begin_sent, after_end_sent, after_ended};
 ghost use Rattle.machine_10.specs.Parts.{parts_of};
@@ -18,6 +18,7 @@ ghost use Rattle.machine_10.specs.Transitions.{close_effect};
 ghost use Rattle.machine_10.specs.Transitions.{late_body_step, closed_step, closing_step};
 ghost use Rattle.machine_10.specs.Transitions.{unit_step};
 ghost use Rattle.machine_10.specs.State.{session_of};
+ghost use Rattle.machine_10.specs.declared.state.TheConstants.{CHANNELS};
 ghost use Rattle.machine_10.specs.declared.unit.Act10.TheVariants as act;
 
 use crate::reading::{act_of, closes, offers, read_body};
@@ -103,7 +104,8 @@ impl Upstream {
 
     /// The gateway's begin on this channel was sent.
     pub(crate) fn begin_sent(&mut self, channel: u16)
-        ensures { self.new ≡ after_begin_sent channel self.old }
+        ensures step { self.new ≡ after_begin_sent channel self.old }
+        ensures beyond { CHANNELS ≤ channel → self.new ≡ self.old }
     {
         if self.may_begin(channel) && self.session(channel) == Session::Free {
             self.set_session(channel, Session::Asked);
