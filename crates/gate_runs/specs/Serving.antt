@@ -24,14 +24,16 @@ use Rattle.gate_runs.specs.Next.{point, stage_of, live_pairs, accepted_count, ou
 use Rattle.gate_runs.specs.Next.{finish_of}
 use Rattle.gate_runs.specs.Report.{lines_so_far, report, last_line}
 use Rattle.gate_runs.specs.Stages.{Stage, Reading, Taking, later, writing_at, at_running_out}
+use Rattle.wire_base.specs.Bytes.{IsBytes}
 
 -- ---- what may come
 
--- what ports may answer: pairs are numbered in order, a read fits its room, a write takes of what
--- was offered, no moment falls
+-- what ports may answer: pairs are numbered in order, a read gives bytes and fits its room, a write
+-- takes of what was offered, no moment falls
 abbrev pub Answered : History → LogEntry → Type 0
 Answered m (Accept (accepted.Pair p)) = p ≡ accepted_count m
-Answered m (Read p end room (got.Bytes n) bytes) = (1 ≤ n) × (n ≤ room) × (length bytes ≡ n)
+Answered m (Read p end room (got.Bytes n) bytes) =
+    (1 ≤ n) × (n ≤ room) × (length bytes ≡ n) × IsBytes bytes
 Answered m (Write p end bytes (put.Took n)) = (1 ≤ n) × (n ≤ length bytes)
 Answered m (Now ms) = moment m ≤ ms
 Answered m entry = Unit {0}

@@ -20,6 +20,7 @@ use Rattle.gate_runs.specs.Next.{Done, next}
 use Rattle.gate_runs.specs.Serving.{AtWrite, Follows}
 use Rattle.gate_turn_laws.specs.Log.{run_of}
 use Rattle.gate_turn_laws.specs.Quiet.{IsSteady, WakesNone}
+use Rattle.wire_base.proofs.Bytes.{IsBytes-one}
 
 -- the client's end is read, and seven is offered to it
 abbrev words : RelayWords
@@ -145,7 +146,7 @@ out_follows = (
           (
             refl,
             AtWrite Client (7 ∷ []) joined refl refl,
-            (refl, tt, (refl, tt, (refl, (refl, (omega arith, read_fits, refl), (refl, refl, (refl, omega arith, tt)))))),
+            (refl, tt, (refl, tt, (refl, (refl, (omega arith, read_fits, refl, IsBytes-one 9 (omega arith)), (refl, refl, (refl, omega arith, tt)))))),
           ),
         ),
       ),

@@ -34,6 +34,7 @@ use Rattle.gate_turns.proofs.OneMark.{if_same, if_not_mine}
 use Rattle.gate_turns.proofs.Reaching.{reaches, counted_more}
 use Rattle.gate_turns.proofs.Reporting.{HasLines, KeepsAfter, keeps_both, tells_both}
 use Rattle.gate_turns.proofs.Stages.{at_call, at_run_out}
+use Rattle.wire_base.specs.Bytes.{IsBytes}
 
 -- the marks of a read
 abbrev pub read_marks : Bool → ℕ → End → ℕ → Got → List ℕ → History → History
@@ -174,11 +175,11 @@ read_effect {A} w r end answer bytes cut ran_out told keeps old new tally held h
 
 -- what ports answered to a read
 pub reads_answered : (p : ℕ) (end : End) (answer : Got) (old new : List ℕ) (room : ℕ) → ReadsInto answer old new → length new ≡ length old → length old ≡ room
-    → (m : History) → Answered m (Read p end room answer (got_bytes answer new))
-reads_answered p end (got.Bytes n) old new room into same is_room m = (into.0, rw (sym is_room) into.1, length-take-le n new (rw same into.1))
-reads_answered p end got.NotYet old new room into same is_room m = tt
-reads_answered p end got.Ended old new room into same is_room m = tt
-reads_answered p end got.Failed old new room into same is_room m = tt
+    → IsBytes (got_bytes answer new) → (m : History) → Answered m (Read p end room answer (got_bytes answer new))
+reads_answered p end (got.Bytes n) old new room into same is_room fit m = (into.0, rw (sym is_room) into.1, length-take-le n new (rw same into.1), fit)
+reads_answered p end got.NotYet old new room into same is_room fit m = tt
+reads_answered p end got.Ended old new room into same is_room fit m = tt
+reads_answered p end got.Failed old new room into same is_room fit m = tt
 
 pub read_log : {A : Type 0} (w : RelayWords) (r : A → List Entry → Type 0) (end : End) (answer : Got) (bytes came : List ℕ) (room : ℕ) (ran_out : Bool) (told result : Result (Unit {0}) SinkFault) (keeps : Bool)
     (old new : Live A) (tally tally' : Tally) (held held' : Option (List ℕ)) (kept kept' : Option (List ℕ)) (a b : Option (List LogEntry))

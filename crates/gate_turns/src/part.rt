@@ -17,6 +17,7 @@ ghost use Rattle.gate_turns.specs.Parts.{EndsAre, LookEffect, OfferEffect, PartE
 ghost use Rattle.gate_turns.specs.Parts.{ShutEffect, WriteEffect, got_moved, put_more, put_moved};
 ghost use Rattle.gate_turns.specs.Parts.{state, KeepsEnds, KeepsPorts, CountsFaults, IsReadRoom};
 ghost use Rattle.gate_turns.specs.Represents.{Represents, found_by};
+ghost use Rattle.wire_base.specs.Bytes.{IsBytes};
 
 use crate::accounts::{both, tell, tell_shut};
 use crate::live::{Live, Look};
@@ -31,6 +32,7 @@ use std::alloc::Global;
 fn bytes_of(got: Got, room: &[u8]) -> &[u8]
     requires { ReadsWithin got (length room.now) }
     ensures bytes { result.now ≡ got_bytes got room.now }
+    ensures fit { IsBytes result.now }
 {
     match got {
         Got::Bytes(count) => {
