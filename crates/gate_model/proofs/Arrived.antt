@@ -42,7 +42,7 @@ use Rattle.gate_model.specs.Lives.{is_free, is_of_channel, life_at, lives_by, me
 use Rattle.gate_model.specs.Lives.{is_ended as is_ended_session}
 use Rattle.gate_model.specs.Once.{is_channel_open, is_method_on}
 use Rattle.gate_model.specs.Picks.{ArePicks}
-use Rattle.gate_model.specs.Publishing.{closed_if, failing, losing_up, meaning_events, path_events, path_life, reply_events}
+use Rattle.gate_model.specs.Publishing.{closed_if, failing, losing, losing_up, meaning_events, path_events, path_life, reply_events}
 use Rattle.gate_model.specs.Publishing.{up_events, want_events, wrote_events}
 use Rattle.gate_model.specs.Requests.{client_step, client_told}
 use Rattle.gate_model.specs.State.{Began, Came, Fed, Gave, Heard, Joined, Lost, Moment}
@@ -69,7 +69,7 @@ use Rattle.gate_model.proofs.Places.{Beyond, Elsewhere, Here, SetAt, isnt, new_a
 use Rattle.gate_model.proofs.Said.{shuts_in}
 use Rattle.gate_model.proofs.Moves.{Apart, Moves, NoBegin, There, Waits, arrives, begins_at, both, fail_moves, have_come, keeps_begin}
 use Rattle.gate_model.proofs.Moves.{moved, moves, no_begin, same_eq, shut_moves}
-use Rattle.gate_model.proofs.Comings.{EndHeard, TransferHeard, closed_none, end_shuts, heard_waits, lost_none, meaning_come, meaning_moves, none_both}
+use Rattle.gate_model.proofs.Comings.{EndHeard, TransferHeard, closed_none, end_shuts, heard_waits, meaning_come, meaning_moves}
 use Rattle.gate_model.proofs.Comings.{re_session, reply_none, tells_of, up_none, want_none, wrote_none}
 
 -- ---- a unit of the client
@@ -314,7 +314,7 @@ may_go w u e =
       free = free;
       begin = λ n c g. let b = both_true (begins_at w n) (is_free (session_in w.up.container n)) g in
           record { running = right_false w.out_of_memory (is_closing w.conn) c; due = b.0; free = b.1 };
-      last = λ n g. g;
+      last = λ n less g. g;
       session = session_by (MayGo w) w (record {
         attach = λ n a x. tt;
         flow = λ n f x. tt;
@@ -689,22 +689,22 @@ module _ (n : ℕ) (less : n < 256) where
       steps h (Silent Client) (before (Silent Client ∷ h)) (event.LifeClosed ∷ []) p.1
       (shut_moves n (before h) (before (Silent Client ∷ h)) (closing_session n (is_closing (before h).conn) None (before h).up) refl refl) refl (waits h p.1)
   waits (Silent Up ∷ h) p =
-      steps h (Silent Up) (before (Silent Up ∷ h)) (failing (connection h)) p.1
-      (both refl (moves n (before h) _ refl refl refl) (fail_moves n _ _ _)) (lost_none _) (waits h p.1)
+      steps h (Silent Up) (before (Silent Up ∷ h)) failing p.1
+      (both refl (moves n (before h) _ refl refl refl) (fail_moves n _ _ _)) refl (waits h p.1)
   waits (Queued u ∷ h) p = queued h u (waits h p.1)
   waits (Came u ∷ h) p = came_next h u p.1 (waits h p.1)
   waits (TakenUp ∷ h) p = taken h p (waits h p.1)
   waits (Heard u ∷ h) p = heard_next h u p.1 (waits h p.1)
   waits (Joined link.Failed ∷ h) p =
-      steps h (Joined link.Failed) (before (Joined link.Failed ∷ h)) (failing (connection h) ++ event.LinesWent ∷ []) p.1
-      (both refl (moves n (before h) _ refl refl refl) (fail_moves n _ None _)) (none_both (failing (connection h)) (event.LinesWent ∷ []) (lost_none _) refl) (waits h p.1)
+      steps h (Joined link.Failed) (before (Joined link.Failed ∷ h)) losing p.1
+      (both refl (moves n (before h) _ refl refl refl) (fail_moves n _ None _)) refl (waits h p.1)
   waits (Lost Client loss.Ended ∷ h) p = waits h p.1
   waits (Lost Up loss.Ended ∷ h) p =
-      steps h (Lost Up loss.Ended) (before (Lost Up loss.Ended ∷ h)) (failing (connection h) ++ losing_up) p.1
-      (both refl (moves n (before h) _ (ended_session n (before h).up.container) refl refl) (fail_moves n _ None _)) (none_both (failing (connection h)) losing_up (lost_none _) refl) (waits h p.1)
+      steps h (Lost Up loss.Ended) (before (Lost Up loss.Ended ∷ h)) (failing ++ losing_up) p.1
+      (both refl (moves n (before h) _ (ended_session n (before h).up.container) refl refl) (fail_moves n _ None _)) refl (waits h p.1)
   waits (Lost Up loss.Failed ∷ h) p =
-      steps h (Lost Up loss.Failed) (before (Lost Up loss.Failed ∷ h)) (failing (connection h) ++ losing_up) p.1
-      (both refl (moves n (before h) _ (ended_session n (before h).up.container) refl refl) (fail_moves n _ None _)) (none_both (failing (connection h)) losing_up (lost_none _) refl) (waits h p.1)
+      steps h (Lost Up loss.Failed) (before (Lost Up loss.Failed ∷ h)) (failing ++ losing_up) p.1
+      (both refl (moves n (before h) _ (ended_session n (before h).up.container) refl refl) (fail_moves n _ None _)) refl (waits h p.1)
   waits (Gave (ToClient u) text ∷ h) p =
       steps h (Gave (ToClient u) text) (before (Gave (ToClient u) text ∷ h)) (reply_events n u) p.1 (given_moves n u (before h) (inside_now h p.1)) (reply_none n u) (waits h p.1)
   waits (Gave (ToUp u) text ∷ h) p =

@@ -26,7 +26,7 @@ use Rattle.gate_model.specs.Picks.{ArePicks}
 use Rattle.gate_model.specs.Publishing.{given_event, opens_channel, path_events, step_events, up_events}
 use Rattle.gate_model.specs.Repeats.{AttachesOnce, attaches_as, attaches_by, attaches_in, is_attach_of, went_up}
 use Rattle.gate_model.specs.State.{Came, Gave, Heard, Joined, Lost, Queued, Silent, State, Step, TakenUp, Whole, attached_by, before}
-use Rattle.gate_model.specs.State.{fail, failed, is_later, runs, windowed, with_meaning, Fed}
+use Rattle.gate_model.specs.State.{fail, failed, is_later, runs, sessions_lost, windowed, with_meaning, Fed}
 use Rattle.gate_model.specs.Upstream.{heard_up, meaning_by}
 use Rattle.gate_model.proofs.Firsts.{OfSession, SessionUnits, goes_up_as}
 use Rattle.gate_model.proofs.Givings.{end_all, gives_up, is_given, step_all}
@@ -44,7 +44,7 @@ Counts k w = w.attached ≡ k
 fail_counts : (code : ℕ) (why : Option Condition) (w : State) (k : ℕ) → Counts k w → Counts k (fail code why w)
 fail_counts code why w k e = by (is_closing w.conn)
   where
-    by : (b : Bool) → Counts k (if b then w else failed code why w)
+    by : (b : Bool) → Counts k (if b then sessions_lost w else failed code why w)
     by true = e
     by false = e
 

@@ -24,7 +24,7 @@ use Rattle.gate_model.specs.Folds.{Peers, carried_on, carried_sent, peers_by, pe
 use Rattle.gate_model.specs.Lives.{failed_life, life_at, lives_by, method_life, with_life, reason_of, with_state, is_of_channel}
 use Rattle.gate_model.specs.Session.{carried_by, flow_sent}
 use Rattle.gate_model.specs.Requests.{client_step, client_told}
-use Rattle.gate_model.specs.State.{State, came, carried, dequeued, fail, failed, heard, left, runs, windowed}
+use Rattle.gate_model.specs.State.{State, came, carried, dequeued, fail, failed, heard, left, runs, sessions_lost, windowed}
 use Rattle.gate_model.specs.State.{with_meaning, without_begin, without_life, session_by}
 use Rattle.gate_model.specs.Upstream.{container_by, heard_up, meaning_by}
 use Rattle.gate_model.proofs.Places.{Beyond, Elsewhere, Here, SetAt, isnt, itself, same_or_not, set_at}
@@ -104,7 +104,7 @@ carried_heard n x s = s
 pub fail_same : (n code : ℕ) (why : Option Condition) (w : State) → at n (fail code why w).lives ≡ at n w.lives
 fail_same n code why w = by (is_closing w.conn)
   where
-    by : (b : Bool) → at n (if b then w else failed code why w).lives ≡ at n w.lives
+    by : (b : Bool) → at n (if b then sessions_lost w else failed code why w).lives ≡ at n w.lives
     by true = refl
     by false = refl
 

@@ -132,27 +132,8 @@ closes_all n d there ended long e = record {
 closed_again : (n : ℕ) (c : Connection) (there shut ended : Bool) → is_closing c ≡ true → Fits n c there shut ended → Fits n (close c) there shut ended
 closed_again n c there shut ended e f = subst (λ (d : Connection). Fits n d there shut ended) (sym (close_same c e)) f
 
-fails : (n : ℕ) (c : Connection) (there shut ended : Bool) → Fits n c there shut ended → Fits n (close c) there (are_shut (failing c) || shut) ended
-fails n c there shut ended f = by (is_closing c) refl
-  where
-    by : (b : Bool) → is_closing c ≡ b → Fits n (close c) there (are_shut (lost_if (not b)) || shut) ended
-    by true e = closed_again n c there shut ended e f
-    by false e = closes_all n (close c) there ended f.long (close_closes c.phase)
-
-misses : (n : ℕ) (c : Connection) (there shut ended : Bool) → Fits n c there shut ended
-    → Fits n (close c) there (are_shut (failing c ++ event.LinesWent ∷ []) || shut) ended
-misses n c there shut ended f = by (is_closing c) refl
-  where
-    by : (b : Bool) → is_closing c ≡ b → Fits n (close c) there (are_shut (lost_if (not b) ++ event.LinesWent ∷ []) || shut) ended
-    by true e = closed_again n c there shut ended e f
-    by false e = closes_all n (close c) there ended f.long (close_closes c.phase)
-
-falls : (n : ℕ) (c : Connection) (there shut ended : Bool) → Fits n c there shut ended → Fits n (close c) there (are_shut (failing c ++ losing_up) || shut) ended
-falls n c there shut ended f = by (is_closing c) refl
-  where
-    by : (b : Bool) → is_closing c ≡ b → Fits n (close c) there (are_shut (lost_if (not b) ++ losing_up) || shut) ended
-    by true e = closes_all n (close c) there ended f.long (close_closes c.phase)
-    by false e = closes_all n (close c) there ended f.long (close_closes c.phase)
+fails : (n : ℕ) (c : Connection) (there shut ended : Bool) → Fits n c there shut ended → Fits n (close c) there true ended
+fails n c there shut ended f = closes_all n (close c) there ended f.long (close_closes c.phase)
 
 -- the handshake limit is reached before any channel opens
 limits : (n : ℕ) (b : Bool) (c : Connection) (there shut ended : Bool) → (b ≡ true → c.asked ≡ false) → Fits n c there shut ended
@@ -579,14 +560,14 @@ fits n (Moment ms ∷ h) less p =
     limits n (is_limit_reached (connection h) (accepted_in h) ms) (connection h) _ _ _ (early (connection h).asked _) (fits n h less p.1)
 fits n (Fed Client ∷ h) less p = fits n h less p.1
 fits n (Silent Client ∷ h) less p = closes_all n (after_ended (connection h)) _ _ (fits n h less p.1).long refl
-fits n (Silent Up ∷ h) less p = on_top n _ _ _ (failing (connection h)) (path_events h n) (fails n (connection h) _ _ _ (fits n h less p.1))
+fits n (Silent Up ∷ h) less p = on_top n _ _ _ failing (path_events h n) (fails n (connection h) _ _ _ (fits n h less p.1))
 fits n (Came u ∷ h) less p = came_fits n u h less (fits n h less p.1)
 fits n (TakenUp ∷ h) less p = taken_fits n h (fits n h less p.1)
 fits n (Heard u ∷ h) less p = heard_fits n u h less (fits n h less p.1)
 fits n (Joined link.Failed ∷ h) less p =
-    on_top n _ _ _ (failing (connection h) ++ event.LinesWent ∷ []) (path_events h n) (misses n (connection h) _ _ _ (fits n h less p.1))
-fits n (Lost Up loss.Ended ∷ h) less p = on_top n _ _ _ (failing (connection h) ++ losing_up) (path_events h n) (falls n (connection h) _ _ _ (fits n h less p.1))
-fits n (Lost Up loss.Failed ∷ h) less p = on_top n _ _ _ (failing (connection h) ++ losing_up) (path_events h n) (falls n (connection h) _ _ _ (fits n h less p.1))
+    on_top n _ _ _ losing (path_events h n) (fails n (connection h) _ _ _ (fits n h less p.1))
+fits n (Lost Up loss.Ended ∷ h) less p = on_top n _ _ _ (failing ++ losing_up) (path_events h n) (fails n (connection h) _ _ _ (fits n h less p.1))
+fits n (Lost Up loss.Failed ∷ h) less p = on_top n _ _ _ (failing ++ losing_up) (path_events h n) (fails n (connection h) _ _ _ (fits n h less p.1))
 fits n (Lost Up loss.Shut ∷ h) less p = ended_now n (connection h) _ _ _ (fits n h less p.1)
 fits n (Gave (ToClient u) text ∷ h) less p =
     on_top n _ _ _ (reply_events n u) (path_events h n) (given_fits n u (connection h) _ _ _ less (fits n h less p.1))

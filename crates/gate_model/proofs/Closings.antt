@@ -36,7 +36,7 @@ use Rattle.gate_model.specs.State.{Began, Came, Fed, Gave, Heard, Joined, LinesT
 use Rattle.gate_model.specs.State.{Queued, Silent, State, Step, TakenUp, Whole, before, paths_lost}
 use Rattle.gate_model.specs.State.{begun_session, came, carried, close_if, closed_for, closing_code}
 use Rattle.gate_model.specs.State.{closing_error, condition_by, conn_step, dequeued, fail}
-use Rattle.gate_model.specs.State.{failed, heard, is_limit_reached, left, life_failed, runs, with_meaning, link_scope, scoped, windowed}
+use Rattle.gate_model.specs.State.{failed, heard, is_limit_reached, left, life_failed, runs, sessions_lost, with_meaning, link_scope, scoped, windowed}
 use Rattle.gate_model.specs.Upstream.{UpState, channel_max_in, container_by, heard_up, lost_by, meaning_by, shut_by}
 use Rattle.close_translate.specs.declared.conditions.Scope.TheVariants as scope
 use Rattle.gate_model.proofs.Basics.{or_one}
@@ -180,7 +180,7 @@ told w c b why e f =
 fail_condition : (code : ℕ) (why : Option Condition) (w : State) → (fail code why w).up.condition ≡ (if is_closing w.conn then w.up.condition else why)
 fail_condition code why w = by (is_closing w.conn)
   where
-    by : (b : Bool) → (if b then w else failed code why w).up.condition ≡ (if b then w.up.condition else why)
+    by : (b : Bool) → (if b then sessions_lost w else failed code why w).up.condition ≡ (if b then w.up.condition else why)
     by true = refl
     by false = refl
 

@@ -34,7 +34,7 @@ use Rattle.gate_model.specs.Paths.{closed_path, fault_in, is_outcome, lost_path,
 use Rattle.gate_model.specs.Publishing.{attach_events, closed_if, closing, ending, heard_events, lost_if, meaning_events}
 use Rattle.gate_model.specs.Publishing.{reply_events, session_events, told_event, up_events, want_events, wrote_events}
 use Rattle.gate_model.specs.Session.{is_of_session}
-use Rattle.gate_model.specs.State.{State, begun_session, came, carried, close, closed_for, closing_code, failed}
+use Rattle.gate_model.specs.State.{State, begun_session, came, carried, close, closed_for, closing_code, failed, sessions_lost}
 use Rattle.gate_model.specs.State.{life_failed, link_scope, opened, runs, scoped, windowed, with_meaning, with_session}
 use Rattle.gate_model.specs.Upstream.{condition_in, container_by, meaning_by}
 use Rattle.gate_model.specs.declared.channel.ChannelUnit.{ChannelUnit}
@@ -114,7 +114,7 @@ shut_of n code why v r f less = by (is_open v.conn n) refl
 pub end_shuts : (n : ℕ) (q : Performative) (payload : List ℕ) (w : State) → n < length w.conn.channels → (q.0 == 23) ≡ true → is_open (with_session n q payload w).conn n ≡ false
 end_shuts n q payload w less e = by (link_scope q payload (life_at w.lives n).session (path_at w.paths n))
   where
-    fails : (b : Bool) → is_closing w.conn ≡ b → (why : Option Condition) → is_open (if b then windowed n q w else failed INTERNAL_ERROR why (windowed n q w)).conn n ≡ false
+    fails : (b : Bool) → is_closing w.conn ≡ b → (why : Option Condition) → is_open (if b then sessions_lost (windowed n q w) else failed INTERNAL_ERROR why (windowed n q w)).conn n ≡ false
     fails true c why = none_open n w.conn c
     fails false c why = none_open n (close w.conn) (close_closes w.conn.phase)
 
@@ -270,10 +270,7 @@ pub none_either : (b : Bool) (xs ys : List PathEvent) → have_come xs ≡ false
 none_either true xs ys e f = e
 none_either false xs ys e f = f
 
-pub none_both : (xs ys : List PathEvent) → have_come xs ≡ false → have_come ys ≡ false → have_come (xs ++ ys) ≡ false
-none_both xs ys e f = list_any-append arrives xs ys ∙ ap (λ (b : Bool). b || have_come ys) e ∙ f
-
-pub lost_none : (b : Bool) → have_come (lost_if b) ≡ false
+lost_none : (b : Bool) → have_come (lost_if b) ≡ false
 lost_none true = refl
 lost_none false = refl
 
@@ -296,7 +293,7 @@ heard_come limit n q payload s e =
 
 pub session_come : (n k : ℕ) (c : Connection) (o : Option Scope) (q : Performative) (payload : List ℕ) (s : PathState)
     → have_come (session_events c o n k q payload s) ≡ true → (k ≡ n) × ((q.0 == 20) ≡ true)
-session_come n k c (Some scope.Connection) q payload s e = absurd (clash _ e (lost_none (not (is_closing c))))
+session_come n k c (Some scope.Connection) q payload s e = absurd (clash _ e refl)
 session_come n k c (Some scope.Channel) q payload s e = absurd (clash _ e (none_either (k == n) (ending c k) [] (lost_none (is_open c k)) refl))
 session_come n k c None q payload s e = by (k == n) refl e
   where
@@ -321,9 +318,9 @@ pub meaning_come : (n : ℕ) (m : Meaning) (x : Peers) → have_come (meaning_ev
 meaning_come n (ten.OfSession k q payload) x e =
     let both = session_come n k x.client (scope_in x k q payload) q payload (path_at x.paths k) e in
     record { parts = q; payload = payload; is = ap (λ (i : ℕ). ten.OfSession i q payload) both.0; code = both.1 }
-meaning_come n (ten.Closed t) x e = absurd (clash _ e (lost_none (not (is_closing x.client))))
-meaning_come n ten.Refused x e = absurd (clash _ e (lost_none (not (is_closing x.client))))
-meaning_come n (ten.Violation why) x e = absurd (clash _ e (lost_none (not (is_closing x.client))))
+meaning_come n (ten.Closed t) x e = absurd (clash _ e refl)
+meaning_come n ten.Refused x e = absurd (clash _ e refl)
+meaning_come n (ten.Violation why) x e = absurd (clash _ e refl)
 meaning_come n y x e = absurd cc
 
 abbrev pub NoneComes : PathEvent → Type 0

@@ -2,11 +2,13 @@
 use Rattle.std.proofs.Common.{◌≡◌, ℕ, Bool, true, false, List, [], ◌∷◌, ◌++◌, Option, None, Some, refl}
 use Rattle.gate_outside.specs.declared.ports.End.TheVariants.{Up}
 use Rattle.session_path.specs.Due.{next_attach, next_detach, next_dispose, next_flow, next_frame, next_settle}
+use Rattle.performatives_10.specs.declared.condition.Condition.{Condition}
+use Rattle.session_path.specs.Links.{error_of}
 use Rattle.session_path.specs.declared.path.PathLink.{PathLink}
 use Rattle.gate_model.specs.Due.{attaches, carried_rows, detaches, disposals, link_flows}
 use Rattle.gate_model.specs.Due.{pick, row_on, session_flows, session_rows, settlings, transfers, unless_out, up_rows}
 use Rattle.gate_model.specs.Lives.{is_carried, session_in}
-use Rattle.gate_model.specs.Paths.{path_at}
+use Rattle.gate_model.specs.Paths.{error_for, path_at}
 use Rattle.gate_model.specs.State.{State}
 use Rattle.gate_model.specs.Upstream.{when_up}
 use Rattle.gate_model.specs.declared.channel.SessionUnit.{SessionUnit}
@@ -16,15 +18,16 @@ use Rattle.gate_model.specs.declared.outgoing.UpUnit.{UpUnit}
 use Rattle.gate_model.specs.declared.outgoing.UpUnit.TheVariants as up
 use Rattle.gate_model.proofs.Firsts.{FirstIs, both_are, each_is, is_free, of_up, up_rows_by, when_up_is}
 
-pub record DetachGoes (w : State) (n link : ℕ) : Type 0 where
+pub record DetachGoes (w : State) (n link : ℕ) (why : Option Condition) : Type 0 where
   pub gone : PathLink
   pub due : next_detach (path_at w.paths n) ≡ Some gone
   pub is : gone.link ≡ link
+  pub why_is : why ≡ error_for (error_of gone.stage)
   pub carried : is_carried (session_in w.up.container n) ≡ true
   pub none : disposals w ≡ []
 
 abbrev pub MayDetach : State → UpUnit → Type 0
-MayDetach w (up.OnSession n (unit.Detach link handle why)) = DetachGoes w n link
+MayDetach w (up.OnSession n (unit.Detach link handle why)) = DetachGoes w n link why
 MayDetach w u = Unit {0}
 
 module _ (w : State) where
@@ -50,7 +53,7 @@ module _ (w : State) where
       both_are P (unless_out w.out_of_memory (carried_rows w)) _ (by w.out_of_memory)
       (behind (disposals w) _ (each_is P _ w.lives (λ n. row n (next_dispose (path_at w.paths n)) _ (λ x e c. tt)))
       (λ none. both_are P (settlings w) (detaches w) (each_is P _ w.lives (λ n. row n (next_settle (path_at w.paths n)) _ (λ x e c. tt)))
-      (each_is P _ w.lives (λ n. row n (next_detach (path_at w.paths n)) _ (λ x e c. record { gone = x; due = e; is = refl; carried = c; none = none })))))
+      (each_is P _ w.lives (λ n. row n (next_detach (path_at w.paths n)) _ (λ x e c. record { gone = x; due = e; is = refl; why_is = refl; carried = c; none = none })))))
     where
       carried : FirstIs P (carried_rows w)
       carried =
@@ -70,4 +73,4 @@ module _ (w : State) where
 pub may_detach : (w : State) (u : UpUnit) → pick w Up ≡ Some (ToUp u) → MayDetach w u
 may_detach w u e =
     of_up (MayDetach w) (up_rows w) u
-    (up_rows_by (MayDetach w) w (record { free = free w; begin = λ n c g. tt; last = λ n g. tt; session = session w })) e
+    (up_rows_by (MayDetach w) w (record { free = free w; begin = λ n c g. tt; last = λ n less g. tt; session = session w })) e

@@ -72,7 +72,7 @@ ends_picked h r p (IsDue x) = ends_of_connection (before h) r (first_due (is_set
 ends_picked h r p (OnChannel x) = ends_on (before h) r x
 ends_picked h r p (Beats none due same) = subst (EndsIn (before h)) (sym same) (ends_none (before h) reply.Heartbeat refl)
 
-settled_on : (h : List Step) (n : ℕ) → ArePicks h → is_channel_settled (before h) n ≡ true → SettledOn h n
+pub settled_on : (h : List Step) (n : ℕ) → ArePicks h → is_channel_settled (before h) n ≡ true → SettledOn h n
 settled_on h n p e = by (either _ _ e)
   where
     by : Either (is_settled (before h)) (is_done (session_in (before h).up.container n)) → SettledOn h n

@@ -1,7 +1,7 @@
 -- What holds of the first of each row holds of the unit that goes: one of a channel's answers and confirms, or one of its session's
 -- links, is the next of its kind.
 use Rattle.gate_model.specs.declared.reply.Reason.{Reason}
-use Rattle.std.proofs.Common.{◌≡◌, ℕ, zero, suc, ◌+◌, not, ◌&&◌, ◌||◌, Bool, true, false}
+use Rattle.std.proofs.Common.{◌≡◌, ℕ, zero, suc, ◌+◌, ◌<◌, length, not, ◌&&◌, ◌||◌, Bool, true, false}
 use Rattle.std.proofs.Common.{if◌then◌else◌, List, [], ◌∷◌, ◌++◌, Option, None, Some, arith, refl, subst, sym, map}
 use Rattle.std.specs.Prelude.{IfSome}
 use Rattle.gate_outside.specs.declared.ports.End.TheVariants.{Client, Up}
@@ -55,18 +55,24 @@ pub both_are : {A : Type 0} (P : A → Type 0) (us vs : List A) → FirstIs P us
 both_are P [] vs p q = q
 both_are P (u ∷ us) vs p q = p
 
-each_from : {A : Type 0} (P : A → Type 0) (f : ℕ → Life → List A) (n : ℕ) (ls : List Life) → ((k : ℕ) → FirstIs P (f (n + k) (life_at ls k))) → FirstIs P (each f n ls)
+each_from : {A : Type 0} (P : A → Type 0) (f : ℕ → Life → List A) (n : ℕ) (ls : List Life) → ((k : ℕ) → k < length ls → FirstIs P (f (n + k) (life_at ls k)))
+    → FirstIs P (each f n ls)
 each_from P f n [] is = tt
 each_from P f n (l ∷ ls) is =
     let here : n + zero ≡ n = omega arith in
-    both_are P (f n l) (each f (n + 1) ls) (subst (λ (m : ℕ). FirstIs P (f m l)) here (is zero)) (each_from P f (n + 1) ls later)
+    both_are P (f n l) (each f (n + 1) ls) (subst (λ (m : ℕ). FirstIs P (f m l)) here (is zero (omega arith))) (each_from P f (n + 1) ls later)
   where
-    later : (k : ℕ) → FirstIs P (f ((n + 1) + k) (life_at ls k))
-    later k = let next : n + suc k ≡ (n + 1) + k = omega arith in subst (λ (m : ℕ). FirstIs P (f m (life_at ls k))) next (is (suc k))
+    later : (k : ℕ) → k < length ls → FirstIs P (f ((n + 1) + k) (life_at ls k))
+    later k less =
+        let next : n + suc k ≡ (n + 1) + k = omega arith in
+        subst (λ (m : ℕ). FirstIs P (f m (life_at ls k))) next (is (suc k) (omega (arith, less)))
 
--- by the numbers of channels
+-- by the numbers of channels, of which there are so many
+pub each_in : {A : Type 0} (P : A → Type 0) (f : ℕ → Life → List A) (ls : List Life) → ((n : ℕ) → n < length ls → FirstIs P (f n (life_at ls n))) → FirstIs P (each f 0 ls)
+each_in P f ls is = each_from P f 0 ls (λ k less. let same : k ≡ 0 + k = omega arith in subst (λ (m : ℕ). FirstIs P (f m (life_at ls k))) same (is k less))
+
 pub each_is : {A : Type 0} (P : A → Type 0) (f : ℕ → Life → List A) (ls : List Life) → ((n : ℕ) → FirstIs P (f n (life_at ls n))) → FirstIs P (each f 0 ls)
-each_is P f ls is = each_from P f 0 ls (λ k. let same : k ≡ 0 + k = omega arith in subst (λ (m : ℕ). FirstIs P (f m (life_at ls k))) same (is k))
+each_is P f ls is = each_in P f ls (λ n less. is n)
 
 pub when_up_is : (P : UpUnit → Type 0) (b : Bool) (u : UpUnit) → P u → FirstIs P (when_up b u)
 when_up_is P true u p = p
@@ -133,7 +139,7 @@ closes_all w = w.out_of_memory || is_closing w.conn
 pub record UpRows (P : UpUnit → Type 0) (w : State) : Type 0 where
   pub free : (u : UpUnit) → is_free u ≡ true → P u
   pub begin : (n : ℕ) → closes_all w ≡ false → ((life_at w.lives n).begin && is_free_session (session_in w.up.container n)) ≡ true → P (up.Begin n)
-  pub last : (n : ℕ) → is_end_due (closes_all w) w n ≡ true → P (up.End n (life_at w.lives n).why)
+  pub last : (n : ℕ) → n < length w.lives → is_end_due (closes_all w) w n ≡ true → P (up.End n (life_at w.lives n).why)
   pub session : FirstIs P (session_rows w)
 
 pub up_rows_by : (P : UpUnit → Type 0) (w : State) → UpRows P w → FirstIs P (up_rows w)
@@ -145,8 +151,8 @@ up_rows_by P w us = all (is_readable w.up.side && not w.up.sent.close)
 
     ending : (b : Bool) → b ≡ closes_all w → FirstIs P (ends b w)
     ending b c =
-        each_is P _ w.lives (λ n. when_so (is_end_due b w n) (up.End n (life_at w.lives n).why)
-        (λ e. us.last n (subst (λ (x : Bool). is_end_due x w n ≡ true) c e)))
+        each_in P _ w.lives (λ n less. when_so (is_end_due b w n) (up.End n (life_at w.lives n).why)
+        (λ e. us.last n less (subst (λ (x : Bool). is_end_due x w n ≡ true) c e)))
 
     opening : FirstIs P (opening_rows w.up.pending)
     opening =
@@ -174,7 +180,7 @@ up_rows_by P w us = all (is_readable w.up.side && not w.up.sent.close)
 
 up_rows_are : (Q : ℕ → SessionUnit → Type 0) (w : State) → SessionUnits Q w → FirstIs (OfSession Q) (up_rows w)
 up_rows_are Q w us =
-    up_rows_by (OfSession Q) w (record { free = free; begin = λ n c e. tt; last = λ n e. tt; session = session_by (OfSession Q) w us free })
+    up_rows_by (OfSession Q) w (record { free = free; begin = λ n c e. tt; last = λ n less e. tt; session = session_by (OfSession Q) w us free })
   where
     free : (u : UpUnit) → is_free u ≡ true → OfSession Q u
     free (up.OnSession n u) e = absurd cc

@@ -68,12 +68,12 @@ use Rattle.gate_model.specs.Lives.{is_of_channel}
 use Rattle.gate_model.specs.Session.{is_of_session, is_true}
 use Rattle.gate_model.specs.Once.{is_channel_flow, is_flow_ok, is_flow_ok_on, is_method_on, one_if, wanted_in, went_in}
 use Rattle.gate_model.specs.Paths.{attached_as, closed_path, closed_paths, credit_of, fault_in, heard_as, is_not_found}
-use Rattle.gate_model.specs.Paths.{is_outcome, outcome_by, outcome_in, lost_path, name_in, no_paths, or_no_path, part_in, path_at}
+use Rattle.gate_model.specs.Paths.{is_outcome, outcome_by, outcome_in, lost_path, lost_paths, name_in, no_paths, or_no_path, part_in, path_at}
 use Rattle.gate_model.specs.Paths.{slot_at, text_of, told_paths, transferred_by, with_path}
 use Rattle.gate_model.specs.State.{is_later, Came, Fed, Gave, Heard, Joined, LinesTold, Lost, Moment, OutOfMemory, conn_step}
 use Rattle.gate_model.specs.State.{Queued, Silent, State, Step, TakenUp, Whole, answered_if, before}
 use Rattle.gate_model.specs.State.{came, carried, left, lost_up, runs, windowed, dequeued, fail}
-use Rattle.gate_model.specs.State.{failed, heard, path_by, path_given, path_heard, path_told, path_wrote}
+use Rattle.gate_model.specs.State.{failed, heard, path_by, path_given, path_heard, path_told, path_wrote, sessions_lost}
 use Rattle.gate_model.specs.State.{paths_by, paths_given, paths_given_up, paths_with, paths_wrote, refused_paths, with_meaning}
 use Rattle.gate_model.specs.State.{recovered, want_in, paths_lost}
 use Rattle.gate_model.specs.declared.setup.Route.{Route}
@@ -184,7 +184,7 @@ each_less n ps f less = let all : flows_due n (map (option_map f) ps) ≡ owed_i
     by (Some s) = less s
 
 -- all are lost
-lost_less : (n : ℕ) (ps : List (Option PathState)) → flows_due n (map (option_map lost_path) ps) ≤ flows_due n ps
+lost_less : (n : ℕ) (ps : List (Option PathState)) → flows_due n (lost_paths ps) ≤ flows_due n ps
 lost_less n ps = each_less n ps lost_path lost_adds
 
 -- all close
@@ -201,8 +201,8 @@ all_lost_less n ps = less_both _ _ _ (each_less n (told_paths ps) end_lost ended
 fail_less : (n code : ℕ) (why : Option Condition) (w : State) → flows_due n (fail code why w).paths ≤ flows_due n w.paths
 fail_less n code why w = by (is_closing w.conn)
   where
-    by : (b : Bool) → flows_due n (if b then w else failed code why w).paths ≤ flows_due n w.paths
-    by true = omega arith
+    by : (b : Bool) → flows_due n (if b then sessions_lost w else failed code why w).paths ≤ flows_due n w.paths
+    by true = lost_less n w.paths
     by false = lost_less n w.paths
 
 -- ---- what the container sends

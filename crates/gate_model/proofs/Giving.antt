@@ -5,6 +5,7 @@ use Rattle.std.proofs.lemmas.Bool.Decides.{nat_tests}
 use Rattle.std.specs.Prelude.{IfSome, count_by, find}
 use Rattle.open_items.specs.Numbers.{first, how_many, passing}
 use Rattle.open_items.proofs.Counted.{how_many_passing, least_none}
+use Rattle.performatives_10.specs.declared.condition.Condition.{Condition}
 use Rattle.publish_path.specs.Journal.{Fate, fate_of, is_to_come, is_to_go, is_undecided, numbers_of}
 use Rattle.publish_path.specs.Kept.{number_of}
 use Rattle.publish_path.specs.Offers.{is_pending}
@@ -107,7 +108,7 @@ done_by life link ds none k taken on =
 -- ---- detaches
 
 module _ (publishes : PublishesAre) (tied : LinksAre) where
-  given : (h : List Step) (n link : ℕ) → ArePicks h → DetachGoes (before h) n link → AreDoneOn h n link
+  given : {why : Option Condition} (h : List Step) (n link : ℕ) → ArePicks h → DetachGoes (before h) n link why → AreDoneOn h n link
   given h n link p d life l lives found sends whole = by (slot_at (before h).paths n) refl d.due
     where
       w : State

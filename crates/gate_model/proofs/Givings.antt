@@ -7,7 +7,7 @@ use Rattle.consume_path.specs.declared.receiving.TransferFault.{TransferFault}
 use Rattle.gate_outside.specs.declared.ports.End.TheVariants.{Client, Up}
 use Rattle.gate_outside.specs.declared.ports.Linked.TheVariants as link
 use Rattle.gate_relay.specs.declared.loss.Loss.TheVariants as loss
-use Rattle.machine_091.specs.State.{is_closing, is_open}
+use Rattle.machine_091.specs.State.{is_open}
 use Rattle.machine_091.specs.declared.state.Connection.{Connection}
 use Rattle.machine_091.specs.declared.unit.Want91.{Want91}
 use Rattle.machine_091.specs.declared.unit.Want91.TheVariants as want
@@ -135,14 +135,14 @@ module _ (P : PathEvent → Type 0) (each : (x : PathEvent) → is_given x ≡ f
       if_all (k == n) _ _
       (both (if x.0 == 17 then [] else closing (closing_code x payload s) c k) (heard_events c.limits.frame_max k x payload s)
       (if_all (x.0 == 17) _ _ tt (closing_all (closing_code x payload s) c k)) (heard_all c.limits.frame_max k x payload s)) tt
-  session_all c (Some scope.Connection) n k x payload s = lost_all (not (is_closing c))
+  session_all c (Some scope.Connection) n k x payload s = (each _ refl, tt)
   session_all c (Some scope.Channel) n k x payload s = if_all (k == n) _ _ (lost_all (is_open c k)) tt
 
   meaning_all : (o : Peers) (n : ℕ) (m : Meaning) → All (meaning_events o n m)
   meaning_all o n (ten.OfSession k x payload) = session_all o.client (scope_in o k x payload) n k x payload (path_at o.paths k)
-  meaning_all o n (ten.Closed e) = lost_all (not (is_closing o.client))
-  meaning_all o n ten.Refused = lost_all (not (is_closing o.client))
-  meaning_all o n (ten.Violation why) = lost_all (not (is_closing o.client))
+  meaning_all o n (ten.Closed e) = (each _ refl, tt)
+  meaning_all o n ten.Refused = (each _ refl, tt)
+  meaning_all o n (ten.Violation why) = (each _ refl, tt)
   meaning_all o n x = tt
 
   reply_all : (n : ℕ) (u : Reply) → All (reply_events n u)
@@ -168,16 +168,16 @@ module _ (P : PathEvent → Type 0) (each : (x : PathEvent) → is_given x ≡ f
   step_all n h (Moment ms) e = (each _ refl, tt)
   step_all n h (Fed end) e = (each _ refl, tt)
   step_all n h (Silent Client) e = (each _ refl, tt)
-  step_all n h (Silent Up) e = lost_all (not (is_closing (connection h)))
+  step_all n h (Silent Up) e = (each _ refl, tt)
   step_all n h (Came u) e =
       if_all (ran_out_in h) _ _ tt
       (want_all (routes_in h) (conn_step (routes_in h) (paths_in h) (connection h) u).limits.frame_max n (want_in (routes_in h) (paths_in h) (connection h) u))
   step_all n h TakenUp e = closed_all (not (ran_out_in h) && leaving_in h)
   step_all n h (Heard u) e = if_all (ran_out_in h) _ _ tt (meaning_all (peers h) n (meaning_by (container h) u))
   step_all n h (Joined link.Ok) e = (each _ refl, tt)
-  step_all n h (Joined link.Failed) e = both _ _ (lost_all (not (is_closing (connection h)))) (each _ refl, tt)
-  step_all n h (Lost Up loss.Ended) e = both _ _ (lost_all (not (is_closing (connection h)))) (each _ refl, (each _ refl, tt))
-  step_all n h (Lost Up loss.Failed) e = both _ _ (lost_all (not (is_closing (connection h)))) (each _ refl, (each _ refl, tt))
+  step_all n h (Joined link.Failed) e = (each _ refl, (each _ refl, tt))
+  step_all n h (Lost Up loss.Ended) e = (each _ refl, (each _ refl, (each _ refl, tt)))
+  step_all n h (Lost Up loss.Failed) e = (each _ refl, (each _ refl, (each _ refl, tt)))
   step_all n h (Lost Up loss.Shut) e = (each _ refl, (each _ refl, tt))
   step_all n h (Gave (ToClient u) text) e = reply_all n u
   step_all n h (Gave (ToUp u) text) e = absurd cc

@@ -248,22 +248,21 @@ may_ends h u closing p c e = first_each (MayGo h) _ 0 (before h).lives u one e
         by false f e = absurd cc
 
 -- where none is left that began and has no end, no session is
-none_any : (t : ℕ → Life → Bool) (n : ℕ) (ls : List Life) (k : ℕ) → k < length ls → any_life t n ls ≡ false → (l : Life) × (t (n + k) l ≡ false)
+pub none_any : (t : ℕ → Life → Bool) (n : ℕ) (ls : List Life) (k : ℕ) → k < length ls → any_life t n ls ≡ false → t (n + k) (life_at ls k) ≡ false
 none_any t n [] k lt e = absurd (none lt)
   where
     none : k < 0 → ⊥
     none x = omega (arith, x)
-none_any t n (l ∷ ls) zero lt e = (l, ap (λ (m : ℕ). t m l) (omega arith) ∙ left_false (t n l) (any_life t (n + 1) ls) e)
+none_any t n (l ∷ ls) zero lt e = ap (λ (m : ℕ). t m l) (omega arith) ∙ left_false (t n l) (any_life t (n + 1) ls) e
 none_any t n (l ∷ ls) (suc k) lt e =
-    let rest : (m : Life) × (t ((n + 1) + k) m ≡ false) = none_any t (n + 1) ls k (omega (arith, lt)) (right_false (t n l) (any_life t (n + 1) ls) e) in
-    (rest.0, ap (λ (m : ℕ). t m rest.0) (omega arith) ∙ rest.1)
+    let rest : t ((n + 1) + k) (life_at ls k) ≡ false = none_any t (n + 1) ls k (omega (arith, lt)) (right_false (t n l) (any_life t (n + 1) ls) e) in
+    ap (λ (m : ℕ). t m (life_at ls k)) (omega arith) ∙ rest
 
 no_session_left : (w : State) (n : ℕ) → n < length w.lives → none_left w ≡ true
     → (is_ended (session_in w.up.container n) || is_begun (session_in w.up.container n)) ≡ false
 no_session_left w n lt e =
-    let x : (l : Life) × ((is_ended (session_in w.up.container (0 + n)) || is_begun (session_in w.up.container (0 + n))) ≡ false) =
-    none_any (λ (k : ℕ) (l : Life). is_ended (session_in w.up.container k) || is_begun (session_in w.up.container k)) 0 w.lives n lt (not_true _ e) in
-    ap (λ (k : ℕ). is_ended (session_in w.up.container k) || is_begun (session_in w.up.container k)) (omega arith) ∙ x.1
+    ap (λ (k : ℕ). is_ended (session_in w.up.container k) || is_begun (session_in w.up.container k)) (omega arith)
+    ∙ none_any (λ (k : ℕ) (l : Life). is_ended (session_in w.up.container k) || is_begun (session_in w.up.container k)) 0 w.lives n lt (not_true _ e)
 
 may_go_up : (h : List Step) (u : UpUnit) → ArePicks h → Picked ((before h).out_of_memory || is_closing (before h).conn) (before h) u → MayGo h u
 may_go_up h u p (Closing k n o e) =

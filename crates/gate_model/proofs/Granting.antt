@@ -47,7 +47,7 @@ offer_if : (b : Bool) (x : ReceivingLink) (a g : NextGrant) → a.link ≡ x.lin
 offer_if false x a g e f = absurd cc
 offer_if true x a g e f = let same : a ≡ g = cc in subst (λ (z : NextGrant). z.link ≡ x.link) same e
 
-offer_is : (closed : Bool) (x : ReceivingLink) (g : NextGrant) → offer_of closed x ≡ Some g → g.link ≡ x.link
+pub offer_is : (closed : Bool) (x : ReceivingLink) (g : NextGrant) → offer_of closed x ≡ Some g → g.link ≡ x.link
 offer_is closed x g e = by x.attached _ x.stopping (is_to_ask x.get && not closed) (nat_lt 0 x.echoes) e
   where
     by : (attached : Bool) (refill : Option ℕ) (stops asks echoes : Bool)

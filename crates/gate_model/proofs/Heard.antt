@@ -19,7 +19,7 @@ use Rattle.machine_091.specs.declared.limits.TheConstants.{CHANNEL_MAX}
 use Rattle.machine_091.specs.declared.state.Connection.{Connection}
 use Rattle.machine_091.specs.declared.unit.Refusal.{Refusal}
 use Rattle.machine_091.specs.declared.unit.Unit91.{Unit91}
-use Rattle.machine_091.proofs.Asking.{IsOnTime, asks_link, quiet, unit_on_time}
+use Rattle.machine_091.proofs.Asking.{IsOnTime, is_request, quiet, unit_on_time}
 use Rattle.machine_10.specs.Reading.{field, number_at, number_in}
 use Rattle.methods_091.specs.declared.method.Method91.{Method91}
 use Rattle.methods_091.specs.declared.method.Method91.TheVariants as method
@@ -128,7 +128,7 @@ module _ (Q : PathState → PathEvent → Type 0) (n life : ℕ) (K : List Step 
       → Q (after_events life es) (arrival_event (connection h).limits.frame_max n (number_at ts 0) (part_in ts) payload s)) (sym there)
       (q.arrives h ts payload p l k)
 
-  named_on : (m : Method91) → (asks_link m ≡ true → is_open (connection h) n ≡ true) → names m ≡ true → On (method_events m)
+  named_on : (m : Method91) → (is_request m ≡ true → is_open (connection h) n ≡ true) → names m ≡ true → On (method_events m)
   named_on (method.BasicConsume queue tag no_local no_ack exclusive no_wait arguments) on e =
       (q.asked h (event.Consumed queue tag no_ack no_wait) p l k (on refl) refl, tt)
   named_on (method.BasicGet queue no_ack) on e = (q.asked h (event.GetAsked queue no_ack) p l k (on refl) refl, tt)

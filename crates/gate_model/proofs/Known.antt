@@ -23,7 +23,7 @@ use Rattle.performatives_10.specs.declared.condition.Condition.{Condition}
 use Rattle.performatives_10.specs.declared.condition.Condition.TheVariants.{ResourceLimitExceeded}
 use Rattle.gate_model.specs.declared.outgoing.Outgoing.TheVariants.{ToClient, ToUp}
 use Rattle.gate_model.specs.declared.timers.TheConstants.{HANDSHAKE_LIMIT}
-use Rattle.gate_model.specs.Folds.{Peers, accepted_in, closed_in, connection, paths_failed}
+use Rattle.gate_model.specs.Folds.{Peers, accepted_in, closed_in, connection}
 use Rattle.gate_model.specs.Folds.{paths_in, peers_by, peers_failed, peers_lost, peers_session}
 use Rattle.gate_model.specs.Folds.{container, container_kept, leaving_in, moment_in, number_in}
 use Rattle.gate_model.specs.Folds.{peers, peers_came, peers_heard, ran_out_in, side_in, silent_in}
@@ -35,7 +35,7 @@ use Rattle.gate_model.specs.Requests.{client_step}
 use Rattle.gate_model.specs.State.{is_later, Began, Came, Fed, Gave, Heard, Joined, LinesTold, Lost, Moment, OutOfMemory}
 use Rattle.gate_model.specs.State.{Queued, Silent, State, Step, TakenUp, Whole, before, came, close}
 use Rattle.gate_model.specs.State.{close_if, closes_at, conn_given, conn_step, dequeued, fail}
-use Rattle.gate_model.specs.State.{failed, has_left, heard, is_limit_reached, keep_login, left}
+use Rattle.gate_model.specs.State.{failed, has_left, heard, is_limit_reached, keep_login, left, sessions_lost}
 use Rattle.gate_model.specs.State.{lives_opened, new_state, path_heard, paths_by, paths_given}
 use Rattle.gate_model.specs.State.{link_scope, paths_given_up, paths_lost, paths_wrote, ran_out, runs, told, want_in}
 use Rattle.gate_model.specs.State.{windowed, with_meaning, with_session}
@@ -57,7 +57,7 @@ use Rattle.gate_model.specs.declared.life.SessionState.{SessionState}
 use Rattle.gate_model.specs.declared.reply.Reply.{Reply}
 use Rattle.gate_model.specs.Due.{can_leave}
 use Rattle.session_path.specs.Path.{PathState}
-use Rattle.gate_model.specs.Paths.{closed_path, closed_paths, lost_path, path_at, told_paths, with_path}
+use Rattle.gate_model.specs.Paths.{closed_path, closed_paths, lost_path, lost_paths, path_at, told_paths, with_path}
 use Rattle.gate_model.specs.Setup.{SiteText}
 use Rattle.gate_model.specs.declared.setup.Route.{Route}
 
@@ -273,14 +273,21 @@ taken_is w l f now s = by w.out_of_memory w.leaving l refl refl s.leaves (s.left
     by false false false m e g h = kept w l f s
     by false false true m e g h = absurd (clash _ now e)
 
+-- the paths alone change
+paths_is : (w : State) (l : Bool) (f : ℕ → SessionState) (ps : List (Option PathState)) → SoundIn w l
+    → record (seen w) { paths = ps } ≡ with_peers (seen w) (record (peers_of f (seen w)) { paths = ps })
+paths_is w l f ps s = ap (λ (x : Seen). record x { paths = ps }) (kept w l f s)
+
 fail_is : (code : ℕ) (why : Option Condition) (w : State) (l : Bool) (f : ℕ → SessionState) → SoundIn w l
     → seen (fail code why w) ≡ with_peers (seen w) (peers_failed (peers_at f w))
 fail_is code why w l f s = by (is_closing w.conn) refl
   where
     by : (b : Bool) → is_closing w.conn ≡ b
-        → seen (if b then w else failed code why w) ≡ with_peers (seen w) (record (peers_at f w) { client = close w.conn; paths = paths_failed b w.paths })
-    by true e = kept w l f s ∙ ap (λ (c : Connection). with_peers (seen w) (record (peers_of f (seen w)) { client = c })) (sym (close_same w.conn e))
-    by false e = ap (λ (b : Bool). record (seen w) { conn = close w.conn; paths = paths_failed false w.paths; closed = closes_at w.closed_at b w.moment })
+        → seen (if b then sessions_lost w else failed code why w) ≡ with_peers (seen w) (record (peers_at f w) { client = close w.conn; paths = lost_paths w.paths })
+    by true e =
+        paths_is w l f (lost_paths w.paths) s
+        ∙ ap (λ (c : Connection). with_peers (seen w) (record (peers_of f (seen w)) { client = c; paths = lost_paths w.paths })) (sym (close_same w.conn e))
+    by false e = ap (λ (b : Bool). record (seen w) { conn = close w.conn; paths = lost_paths w.paths; closed = closes_at w.closed_at b w.moment })
         (sym (close_closes w.conn.phase))
 
 -- the channels alone change
@@ -289,11 +296,6 @@ only_is : (w : State) (l : Bool) (f : ℕ → SessionState) (d : Connection) (ps
 only_is w l f d ps s o =
     ap (λ (x : Option ℕ). record (seen w) { conn = d; paths = ps; closed = x })
     (sym (closes_again w.closed_at (is_closing d) w.moment (λ x. s.closing (sym (closing_only o) ∙ x))))
-
--- so do the paths
-paths_is : (w : State) (l : Bool) (f : ℕ → SessionState) (ps : List (Option PathState)) → SoundIn w l
-    → record (seen w) { paths = ps } ≡ with_peers (seen w) (record (peers_of f (seen w)) { paths = ps })
-paths_is w l f ps s = ap (λ (x : Seen). record x { paths = ps }) (kept w l f s)
 
 session_is : (n : ℕ) (q : Parts) (payload : List ℕ) (w : State) (l : Bool) (f : ℕ → SessionState)
     → link_scope q payload (f n) (path_at w.paths n) ≡ link_scope q payload (session_on w n) (path_at w.paths n) → SoundIn w l
@@ -484,8 +486,16 @@ sound_taken w l s = by (not w.out_of_memory && w.leaving)
 sound_fail : (code : ℕ) (why : Option Condition) (w : State) (l : Bool) → SoundIn w l → SoundIn (fail code why w) l
 sound_fail code why w l s = by (is_closing w.conn)
   where
-    by : (b : Bool) → SoundIn (if b then w else failed code why w) l
-    by true = s
+    by : (b : Bool) → SoundIn (if b then sessions_lost w else failed code why w) l
+    by true = record {
+      leaves = s.leaves;
+      left_is = s.left_is;
+      ended = s.ended;
+      late_is = s.late_is;
+      late_closes = s.late_closes;
+      closing = s.closing;
+      shuts = s.shuts;
+    }
     by false = record {
       leaves = s.leaves;
       left_is = s.left_is;

@@ -13,7 +13,7 @@ use Rattle.consume_path.specs.Offers.{is_all_covered}
 use Rattle.gate_outside.specs.declared.ports.End.TheVariants.{Client, Up}
 use Rattle.gate_outside.specs.declared.ports.Linked.TheVariants as link
 use Rattle.gate_relay.specs.declared.loss.Loss.TheVariants as loss
-use Rattle.machine_091.specs.State.{is_closing, is_open}
+use Rattle.machine_091.specs.State.{is_open}
 use Rattle.machine_091.specs.declared.limits.TheConstants.{CHANNEL_MAX}
 use Rattle.machine_091.specs.declared.state.Connection.{Connection}
 use Rattle.machine_091.specs.declared.unit.Want91.{Want91}
@@ -38,7 +38,7 @@ use Rattle.gate_model.specs.Lives.{is_of_channel}
 use Rattle.gate_model.specs.Paths.{fault_in, is_not_found, is_outcome, name_in, or_no_path, part_in, path_at, text_of}
 use Rattle.gate_model.specs.Picks.{ArePicks}
 use Rattle.gate_model.specs.Publishing.{arrival_event, attach_events, closed_if, closing, failing, fine_events, given_event, heard_events}
-use Rattle.gate_model.specs.Publishing.{losing_up, lost_if, meaning_events}
+use Rattle.gate_model.specs.Publishing.{losing, losing_up, lost_if, meaning_events}
 use Rattle.gate_model.specs.Publishing.{method_events, opens_channel, owed_unless, path_events, path_life, reply_events, session_events, step_events}
 use Rattle.gate_model.specs.Publishing.{told_event, transfer_event, up_events, want_events, wrote_event, wrote_events}
 use Rattle.gate_model.specs.Session.{is_of_session}
@@ -305,7 +305,7 @@ module _ (arrives : DeliveriesAre) (covered : CoveredAre) (tied : LinksAre) (lif
             (subst (λ (z : PathState). On (fine_events (connection h) n q payload z)) (sym (same here))
             (fine es safe (connection h) n q payload (closed_path_is h n life p below l)))
         by false e = safe
-    session_on (Some scope.Connection) j q payload t same = quiet _ (lost_still (not (is_closing (connection h))))
+    session_on (Some scope.Connection) j q payload t same = quiet failing (refl, tt)
     session_on (Some scope.Channel) j q payload t same = quiet _ (if_still (j == n) _ _ (lost_still (is_open (connection h) j)) tt)
 
     there : path_at (paths_in h) n ≡ after_events life es
@@ -314,9 +314,9 @@ module _ (arrives : DeliveriesAre) (covered : CoveredAre) (tied : LinksAre) (lif
     meaning_on : (m : Meaning) → On (meaning_events (peers h) n m)
     meaning_on (ten.OfSession j q payload) =
         session_on (scope_in (peers h) j q payload) j q payload (path_at (paths_in h) j) (λ e. ap (path_at (paths_in h)) e ∙ there)
-    meaning_on (ten.Closed e) = quiet _ (lost_still (not (is_closing (connection h))))
-    meaning_on ten.Refused = quiet _ (lost_still (not (is_closing (connection h))))
-    meaning_on (ten.Violation why) = quiet _ (lost_still (not (is_closing (connection h))))
+    meaning_on (ten.Closed e) = quiet failing (refl, tt)
+    meaning_on ten.Refused = quiet failing (refl, tt)
+    meaning_on (ten.Violation why) = quiet failing (refl, tt)
     meaning_on x = safe
 
     heard_on : (b : Bool) (m : Meaning) → On (if b then [] else meaning_events (peers h) n m)
@@ -328,7 +328,7 @@ module _ (arrives : DeliveriesAre) (covered : CoveredAre) (tied : LinksAre) (lif
     step_on (Moment ms) = quiet (event.LinesWent ∷ []) (refl, tt)
     step_on (Fed end) = quiet (event.LinesWent ∷ []) (refl, tt)
     step_on (Silent Client) = quiet (event.LifeClosed ∷ []) (refl, tt)
-    step_on (Silent Up) = quiet _ (lost_still (not (is_closing (connection h))))
+    step_on (Silent Up) = quiet failing (refl, tt)
     step_on (Queued u) = safe
     step_on (Came u) =
         quiet _
@@ -339,10 +339,10 @@ module _ (arrives : DeliveriesAre) (covered : CoveredAre) (tied : LinksAre) (lif
     step_on (Heard u) = heard_on (ran_out_in h) (meaning_by (container h) u)
     step_on (Joined link.Ok) = quiet (event.LinesWent ∷ []) (refl, tt)
     step_on (Joined link.Failed) =
-        quiet _ (both_still (failing (connection h)) (event.LinesWent ∷ []) (lost_still (not (is_closing (connection h)))) (refl, tt))
+        quiet losing (refl, (refl, tt))
     step_on (Lost Client how) = safe
-    step_on (Lost Up loss.Ended) = quiet _ (both_still (failing (connection h)) losing_up (lost_still (not (is_closing (connection h)))) (refl, (refl, tt)))
-    step_on (Lost Up loss.Failed) = quiet _ (both_still (failing (connection h)) losing_up (lost_still (not (is_closing (connection h)))) (refl, (refl, tt)))
+    step_on (Lost Up loss.Ended) = quiet (failing ++ losing_up) (refl, (refl, (refl, tt)))
+    step_on (Lost Up loss.Failed) = quiet (failing ++ losing_up) (refl, (refl, (refl, tt)))
     step_on (Lost Up loss.Shut) = quiet losing_up (refl, (refl, tt))
     step_on (Gave (ToClient u) text) = quiet _ (reply_still n u)
     step_on (Gave (ToUp u) text) = quiet _ (up_still (is_later (connection h) u) n u)

@@ -1,11 +1,11 @@
 -- An end of the gateway goes where the state lingered long enough, and the folds say the same.
 use Rattle.property_map.specs.declared.told.Told.{Told}
 use Rattle.std.proofs.Common.{◌≡◌, ℕ, ◌+◌, ◌-◌, ◌==◌, ◌≤◌, ◌&&◌, ◌||◌, not, nat_le, Bool, true, false, if◌then◌else◌, List, [], ◌∷◌}
-use Rattle.std.proofs.Common.{Option, None, Some, is_some, refl, sym, ap, ◌∙◌, subst, arith, length}
+use Rattle.std.proofs.Common.{Option, None, Some, is_some, refl, sym, ap, ◌∙◌, subst, arith, length, zero, suc, cond}
 use Rattle.std.proofs.lemmas.Bool.Decides.{nat_tests}
 use Rattle.std.specs.Option.{option_or}
 use Rattle.std.specs.Prelude.{count_by}
-use Rattle.open_items.specs.Numbers.{first as first_number, how_many, passing}
+use Rattle.open_items.specs.Numbers.{first as first_number, how_many, passing, passing_above}
 use Rattle.open_items.proofs.Counted.{how_many_passing, least_none}
 use Rattle.close_translate.specs.Conditions.{condition_of}
 use Rattle.gate_outside.specs.declared.ports.End.TheVariants.{Client, Up}
@@ -54,7 +54,7 @@ use Rattle.gate_model.specs.Publishing.{opens_channel, path_events, path_life}
 use Rattle.gate_model.specs.Requests.{client_step, client_told}
 use Rattle.gate_model.specs.State.{Began, Came, Fed, Gave, Heard, Joined, Lost, Moment}
 use Rattle.gate_model.specs.State.{Queued, Silent, State, Step, TakenUp, Whole, before, came, carried, closes_at}
-use Rattle.gate_model.specs.State.{dequeued, fail, failed, heard, left, runs, want_in, windowed, with_meaning, without_begin, without_life}
+use Rattle.gate_model.specs.State.{dequeued, fail, failed, heard, left, runs, sessions_lost, want_in, windowed, with_meaning, without_begin, without_life}
 use Rattle.gate_model.specs.Upstream.{heard_up, meaning_by}
 use Rattle.gate_model.proofs.Arrived.{MayGo, may_go}
 use Rattle.gate_model.proofs.Basics.{and_right, less_both, left_false, right_false}
@@ -129,7 +129,7 @@ ComesIn w v = AllCome w.moment w.lives v.lives
 fail_comes : (code : ℕ) (why : Option Condition) (w : State) (ls : List Life) (ms : ℕ) → AllCome ms ls w.lives → AllCome ms ls (fail code why w).lives
 fail_comes code why w ls ms c = by (is_closing w.conn)
   where
-    by : (b : Bool) → AllCome ms ls (if b then w else failed code why w).lives
+    by : (b : Bool) → AllCome ms ls (if b then sessions_lost w else failed code why w).lives
     by true = c
     by false = c
 
@@ -373,14 +373,12 @@ none_of : (xs : List ℕ) → length xs ≡ 0 → first_number xs ≡ None
 none_of [] e = refl
 none_of (x ∷ xs) e = absurd cc
 
-all_over : (life k : ℕ) (es : List PublishEvent) → count_by (is_pending None) (publishes_after life es).list ≡ 0 → IsTaken es k → IsOver es k
-all_over life k es none taken =
-    let many : count_by (is_pending None) (publishes_after life es).list ≡ how_many (λ n. is_left (fate_of n es)) (numbers_of es) =
+-- the publishes that are left are so many fates
+left_many : (life : ℕ) (es : List PublishEvent)
+    → count_by (is_pending None) (publishes_after life es).list ≡ how_many (λ n. is_left (fate_of n es)) (numbers_of es)
+left_many life es =
     how_many_passing number_of Matches is_to_come (is_pending None) is_left (λ n. fate_of n es) (numbers_of es) (publishes_after life es).list pending left_comes_on
-    (follows life es) in
-    let left : is_left (fate_of k es) ≡ false =
-    least_none (λ n. is_left (fate_of n es)) (numbers_of es) (none_of (passing (λ n. is_left (fate_of n es)) (numbers_of es)) (sym many ∙ none)) k taken.0 taken.1 in
-    record { sent = left_false (is_to_go (fate_of k es)) _ left; decided = right_false (is_to_go (fate_of k es)) _ left }
+    (follows life es)
   where
     on_any : (b : Bool) → (b && true) ≡ b
     on_any true = refl
@@ -390,6 +388,25 @@ all_over life k es none taken =
     pending p f m =
         on_any (is_sending p.place || has_no_outcome p.answer)
         ∙ ap (λ (b : Bool). b || has_no_outcome p.answer) (sending_test p f m) ∙ ap (λ (b : Bool). is_to_go f || b) (undecided_test p f m)
+
+all_over : (life k : ℕ) (es : List PublishEvent) → count_by (is_pending None) (publishes_after life es).list ≡ 0 → IsTaken es k → IsOver es k
+all_over life k es none taken =
+    let left : is_left (fate_of k es) ≡ false =
+    least_none (λ n. is_left (fate_of n es)) (numbers_of es) (none_of (passing (λ n. is_left (fate_of n es)) (numbers_of es)) (sym (left_many life es) ∙ none)) k taken.0 taken.1 in
+    record { sent = left_false (is_to_go (fate_of k es)) _ left; decided = right_false (is_to_go (fate_of k es)) _ left }
+
+-- and where each is over, none is left
+none_passing : (t : ℕ → Bool) (low n : ℕ) → ((k : ℕ) → low + 1 ≤ k → k ≤ low + n → t k ≡ false) → length (passing_above t low n) ≡ 0
+none_passing t low zero f = refl
+none_passing t low (suc n) f =
+    ap (λ (b : Bool). length (cond b ((low + 1) ∷ passing_above t (low + 1) n) (passing_above t (low + 1) n))) (f (low + 1) (omega arith) (omega arith))
+    ∙ none_passing t (low + 1) n (λ k a b. f k (omega (arith, a)) (omega (arith, b)))
+
+pub none_left_over : (life : ℕ) (es : List PublishEvent) → ((k : ℕ) → IsTaken es k → IsOver es k) → count_by (is_pending None) (publishes_after life es).list ≡ 0
+none_left_over life es over = left_many life es ∙ none_passing (λ n. is_left (fate_of n es)) 0 (numbers_of es) (λ k a b. one k (over k (omega (arith, a), omega (arith, b))))
+  where
+    one : (k : ℕ) → IsOver es k → is_left (fate_of k es) ≡ false
+    one k o = ap (λ (b : Bool). b || is_undecided (fate_of k es)) o.sent ∙ o.decided
 
 -- ---- ends
 

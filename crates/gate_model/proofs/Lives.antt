@@ -23,7 +23,7 @@ use Rattle.gate_model.specs.Lives.{failed_life, lives_by, no_lives, with_life, l
 use Rattle.gate_model.specs.Picks.{ArePicks}
 use Rattle.gate_model.specs.Requests.{client_step, client_told}
 use Rattle.gate_model.specs.State.{Came, Fed, Gave, Heard, Joined, Lost, Queued, Silent, State, Step, TakenUp, Whole, before, came}
-use Rattle.gate_model.specs.State.{carried, dequeued, fail, failed, heard, left, runs, windowed, with_meaning, without_begin, without_life}
+use Rattle.gate_model.specs.State.{carried, dequeued, fail, failed, heard, left, runs, sessions_lost, windowed, with_meaning, without_begin, without_life}
 use Rattle.gate_model.specs.Upstream.{heard_up, meaning_by}
 use Rattle.gate_model.proofs.Sessions.{session_cases}
 
@@ -55,7 +55,7 @@ want_all ms told x ls e = e
 fail_all : (code : ℕ) (why : Option Condition) (w : State) → All w.lives → All (fail code why w).lives
 fail_all code why w e = by (is_closing w.conn)
   where
-    by : (b : Bool) → All (if b then w else failed code why w).lives
+    by : (b : Bool) → All (if b then sessions_lost w else failed code why w).lives
     by true = e
     by false = e
 

@@ -17,7 +17,7 @@ use Rattle.session_path.specs.Events as event
 use Rattle.session_path.specs.Events.{PathEvent}
 use Rattle.session_path.specs.Path.{PathState}
 use Rattle.gate_model.specs.Lives.{failed_life, life_at, reason_of, session_in, with_life}
-use Rattle.gate_model.specs.State.{State, fail, failed, life_failed}
+use Rattle.gate_model.specs.State.{State, fail, failed, life_failed, sessions_lost}
 use Rattle.gate_model.specs.declared.life.Life.{Life}
 use Rattle.gate_model.proofs.Basics.{or_left}
 use Rattle.gate_model.proofs.Closed.{is_late, none_open}
@@ -84,8 +84,8 @@ both {n} {w} {v} {u} same a b = record {
 pub fail_moves : (n code : ℕ) (why : Option Condition) (w : State) → Moves n w (fail code why w)
 fail_moves n code why w = by (is_closing w.conn)
   where
-    by : (b : Bool) → Moves n w (if b then w else failed code why w)
-    by true = moves n w w refl refl refl
+    by : (b : Bool) → Moves n w (if b then sessions_lost w else failed code why w)
+    by true = moves n w (sessions_lost w) refl refl refl
     by false = shut_moves n w (failed code why w) refl refl (close_closes w.conn.phase)
 
 pub moved : (n : ℕ) (w v : State) (there : Bool) (xs es : List PathEvent) → (there ≡ true → is_late w.conn.phase ≡ true) → Moves n w v → have_come xs ≡ false

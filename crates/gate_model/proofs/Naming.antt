@@ -11,7 +11,7 @@ use Rattle.consume_path.specs.declared.receiving.Part.{Part}
 use Rattle.gate_outside.specs.declared.ports.End.TheVariants.{Client, Up}
 use Rattle.gate_outside.specs.declared.ports.Linked.TheVariants as link
 use Rattle.gate_relay.specs.declared.loss.Loss.TheVariants as loss
-use Rattle.machine_091.specs.State.{is_closing, is_open}
+use Rattle.machine_091.specs.State.{is_open}
 use Rattle.machine_091.specs.Transitions as machine
 use Rattle.machine_091.specs.Transitions.{unit_step}
 use Rattle.machine_091.specs.declared.state.Connection.{Connection}
@@ -194,14 +194,14 @@ session_short : (c : Connection) (o : Option Scope) (n j : ℕ) (q : Parts) (pay
 session_short c None n j q payload s =
     if_short (j == n) _ _
     (both_short _ _ (if_short (q.0 == 17) _ _ tt (closing_short (closing_code q payload s) c j)) (heard_short c.limits.frame_max j q payload s)) tt
-session_short c (Some scope.Connection) n j q payload s = lost_short (not (is_closing c))
+session_short c (Some scope.Connection) n j q payload s = (tt, tt)
 session_short c (Some scope.Channel) n j q payload s = if_short (j == n) _ _ (lost_short (is_open c j)) tt
 
 meaning_short : (o : Peers) (n : ℕ) (m : Meaning) → AllShort (meaning_events o n m)
 meaning_short o n (ten.OfSession j q payload) = session_short o.client (scope_in o j q payload) n j q payload (path_at o.paths j)
-meaning_short o n (ten.Closed e) = lost_short (not (is_closing o.client))
-meaning_short o n ten.Refused = lost_short (not (is_closing o.client))
-meaning_short o n (ten.Violation why) = lost_short (not (is_closing o.client))
+meaning_short o n (ten.Closed e) = (tt, tt)
+meaning_short o n ten.Refused = (tt, tt)
+meaning_short o n (ten.Violation why) = (tt, tt)
 meaning_short o n m = tt
 
 -- ---- what goes
@@ -233,13 +233,10 @@ whole_short n o = tt
 
 -- ---- all steps
 
-failing_short : (h : List Step) (xs : List PathEvent) → AllShort xs → AllShort (lost_if (not (is_closing (connection h))) ++ xs)
-failing_short h xs s = both_short (lost_if (not (is_closing (connection h)))) xs (lost_short (not (is_closing (connection h)))) s
-
 step_short : (n : ℕ) (h : List Step) (s : Step) → AreGiven (s ∷ h) → AllShort (step_events n h s)
 step_short n h (Began site number ms) r = tt
 step_short n h (Silent Client) r = (tt, tt)
-step_short n h (Silent Up) r = lost_short (not (is_closing (connection h)))
+step_short n h (Silent Up) r = (tt, tt)
 step_short n h (Queued u) r = tt
 step_short n h (Came u) r =
     if_short (ran_out_in h) _ _ tt
@@ -248,10 +245,10 @@ step_short n h (Came u) r =
 step_short n h TakenUp r = closed_short (not (ran_out_in h) && leaving_in h)
 step_short n h (Heard u) r = if_short (ran_out_in h) _ _ tt (meaning_short (peers h) n (meaning_by (container h) u))
 step_short n h (Joined link.Ok) r = (tt, tt)
-step_short n h (Joined link.Failed) r = failing_short h _ (tt, tt)
+step_short n h (Joined link.Failed) r = (tt, (tt, tt))
 step_short n h (Lost Client how) r = tt
-step_short n h (Lost Up loss.Ended) r = failing_short h _ (tt, (tt, tt))
-step_short n h (Lost Up loss.Failed) r = failing_short h _ (tt, (tt, tt))
+step_short n h (Lost Up loss.Ended) r = (tt, (tt, (tt, tt)))
+step_short n h (Lost Up loss.Failed) r = (tt, (tt, (tt, tt)))
 step_short n h (Lost Up loss.Shut) r = (tt, (tt, tt))
 step_short n h (Gave (ToClient u) text) r = reply_short n u
 step_short n h (Gave (ToUp u) text) r = up_short (is_later (connection h) u) n u

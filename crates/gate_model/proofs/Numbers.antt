@@ -7,7 +7,7 @@ use Rattle.gate_outside.specs.declared.ports.Linked.TheVariants as link
 use Rattle.gate_relay.specs.declared.loss.Loss.TheVariants as loss
 use Rattle.close_translate.specs.declared.conditions.Scope.{Scope}
 use Rattle.close_translate.specs.declared.conditions.Scope.TheVariants as scope
-use Rattle.machine_091.specs.State.{is_closing, is_open}
+use Rattle.machine_091.specs.State.{is_open}
 use Rattle.machine_091.specs.declared.unit.Want91.{Want91}
 use Rattle.machine_091.specs.declared.unit.Want91.TheVariants as want
 use Rattle.machine_10.specs.Parts.{Parts}
@@ -27,7 +27,7 @@ use Rattle.gate_model.specs.declared.outgoing.UpUnit.TheVariants as up
 use Rattle.gate_model.specs.declared.reply.Reply.{Reply}
 use Rattle.gate_model.specs.declared.reply.Reply.TheVariants as reply
 use Rattle.gate_model.specs.declared.setup.Route.{Route}
-use Rattle.gate_model.specs.Folds.{Peers, carried_on, ended_on, leaving_in, paths_failed, paths_in}
+use Rattle.gate_model.specs.Folds.{Peers, carried_on, ended_on, leaving_in, paths_in}
 use Rattle.gate_model.specs.Folds.{peers, peers_by, peers_came, peers_closed, peers_heard, peers_left, peers_scoped, ran_out_in, scope_in}
 use Rattle.gate_model.specs.Lives.{is_of_channel}
 use Rattle.gate_model.specs.Paths.{attach_fault_by, closed_path, closed_paths, fault_in, field_error, is_receiver}
@@ -69,10 +69,6 @@ want_many rs limit life (want.Refuse r) ps e = by (is_of_channel r)
     by false = each_many closed_path ps e
 want_many rs limit life x ps e = e
 
-failed_many : (b : Bool) (ps : List (Option PathState)) → Long ps → Long (paths_failed b ps)
-failed_many true ps e = e
-failed_many false ps e = each_many lost_path ps e
-
 ended_many : (b : Bool) (n : ℕ) (f : PathState → PathState) (p : Peers) → Long p.paths → Long (ended_on b n f p).paths
 ended_many true n f p e = with_many n f p.paths e
 ended_many false n f p e = e
@@ -90,14 +86,14 @@ scoped_many None n q payload p e = by (q.0 == 17)
     by : (b : Bool) → Long (if b then heard else peers_closed n (closing_code q payload (path_at p.paths n)) heard).paths
     by true = with_many n _ p.paths e
     by false = closed_many n (closing_code q payload (path_at p.paths n)) heard (with_many n _ p.paths e)
-scoped_many (Some scope.Connection) n q payload p e = failed_many (is_closing p.client) p.paths e
+scoped_many (Some scope.Connection) n q payload p e = each_many lost_path p.paths e
 scoped_many (Some scope.Channel) n q payload p e = ended_many (is_open p.client n) n lost_path p e
 
 meaning_many : (m : Meaning) (p : Peers) → Long p.paths → Long (peers_by m p).paths
 meaning_many (ten.OfSession g q payload) p e = scoped_many (scope_in p g q payload) g q payload (record p { carried = carried_on g q p.carried }) e
-meaning_many (ten.Closed x) p e = failed_many (is_closing p.client) p.paths e
-meaning_many ten.Refused p e = failed_many (is_closing p.client) p.paths e
-meaning_many (ten.Violation why) p e = failed_many (is_closing p.client) p.paths e
+meaning_many (ten.Closed x) p e = each_many lost_path p.paths e
+meaning_many ten.Refused p e = each_many lost_path p.paths e
+meaning_many (ten.Violation why) p e = each_many lost_path p.paths e
 meaning_many x p e = e
 
 reply_many : (u : Reply) (ps : List (Option PathState)) → Long ps → Long (paths_given u ps)
@@ -123,7 +119,7 @@ many_paths [] = none_long
 many_paths (Began site n ms ∷ h) = none_long
 many_paths (Fed Client ∷ h) = each_many _ (paths_in h) (many_paths h)
 many_paths (Silent Client ∷ h) = each_many closed_path (paths_in h) (many_paths h)
-many_paths (Silent Up ∷ h) = failed_many _ (paths_in h) (many_paths h)
+many_paths (Silent Up ∷ h) = each_many _ (paths_in h) (many_paths h)
 many_paths (Queued u ∷ h) = many_paths h
 many_paths (Came u ∷ h) = many_if (ran_out_in h) (peers h) (peers_came (peers h) u) (many_paths h) (want_many _ _ _ _ (paths_in h) (many_paths h))
 many_paths (TakenUp ∷ h) =
@@ -131,10 +127,10 @@ many_paths (TakenUp ∷ h) =
 many_paths (Heard u ∷ h) =
     many_if (ran_out_in h) (peers h) (peers_heard (peers h) u) (many_paths h)
     (meaning_many (meaning_by (peers h).container u) (record (peers h) { container = container_by (peers h).container u }) (many_paths h))
-many_paths (Joined link.Failed ∷ h) = failed_many _ _ (each_many _ (paths_in h) (many_paths h))
+many_paths (Joined link.Failed ∷ h) = each_many _ _ (each_many _ (paths_in h) (many_paths h))
 many_paths (Lost Client how ∷ h) = many_paths h
-many_paths (Lost Up loss.Ended ∷ h) = failed_many _ _ (each_many _ _ (each_many _ (paths_in h) (many_paths h)))
-many_paths (Lost Up loss.Failed ∷ h) = failed_many _ _ (each_many _ _ (each_many _ (paths_in h) (many_paths h)))
+many_paths (Lost Up loss.Ended ∷ h) = each_many _ _ (each_many _ _ (each_many _ (paths_in h) (many_paths h)))
+many_paths (Lost Up loss.Failed ∷ h) = each_many _ _ (each_many _ _ (each_many _ (paths_in h) (many_paths h)))
 many_paths (Lost Up loss.Shut ∷ h) = each_many _ _ (each_many _ (paths_in h) (many_paths h))
 many_paths (Gave (ToClient u) text ∷ h) = reply_many u (paths_in h) (many_paths h)
 many_paths (Gave (ToUp u) text ∷ h) = up_many (is_later (connection h) u) u (paths_in h) (many_paths h)

@@ -41,7 +41,7 @@ use Rattle.gate_model.specs.Requests.{client_step, client_told}
 use Rattle.gate_model.specs.State as sent
 use Rattle.gate_model.specs.State.{Began, Came, Gave, Heard, Joined, LinesTold, Lost, Moment, OutOfMemory}
 use Rattle.gate_model.specs.State.{Queued, State, Step, TakenUp, Whole, before, came, carried}
-use Rattle.gate_model.specs.State.{dequeued, fail, failed, heard, is_channel_settled, is_settled}
+use Rattle.gate_model.specs.State.{dequeued, fail, failed, heard, is_channel_settled, is_settled, sessions_lost}
 use Rattle.gate_model.specs.State.{left, life_failed, runs, windowed, with_meaning, without_begin, without_life, Fed, Silent}
 use Rattle.gate_model.specs.Upstream.{first, heard_up, meaning_by}
 use Rattle.session_path.specs.Path.{PathState}
@@ -150,7 +150,7 @@ rule_less v n k ls f less =
 fail_less : (v : Life → ℕ) (n code : ℕ) (why : Option Condition) (w : State) → Value v n (fail code why w) ≤ Value v n w
 fail_less v n code why w = by (is_closing w.conn)
   where
-    by : (b : Bool) → Value v n (if b then w else failed code why w) ≤ Value v n w
+    by : (b : Bool) → Value v n (if b then sessions_lost w else failed code why w) ≤ Value v n w
     by true = omega arith
     by false = omega arith
 

@@ -26,12 +26,12 @@ use Rattle.gate_model.specs.Paths.{is_laden}
 -- ---- the unit that is taken up
 
 -- it stands in the queue, and can be taken up behind those before it
-record Stands (q : Waits) (us : List Unit91) (i : ℕ) (u : Unit91) : Type 0 where
-  front : List Unit91
-  behind : List Unit91
-  parts : us ≡ front ++ u ∷ behind
-  at : length front ≡ i
-  may : can_take q front u ≡ true
+pub record Stands (q : Waits) (us : List Unit91) (i : ℕ) (u : Unit91) : Type 0 where
+  pub front : List Unit91
+  pub behind : List Unit91
+  pub parts : us ≡ front ++ u ∷ behind
+  pub at : length front ≡ i
+  pub may : can_take q front u ≡ true
 
 there : (front : List Unit91) (u : Unit91) (behind : List Unit91) → slice_get (front ++ u ∷ behind) (length front) ≡ Some u
 there [] u behind = refl
@@ -113,19 +113,22 @@ moved n q taken front behind u may =
         let none : on_channel n front ≡ [] = subst (λ (k : ℕ). on_channel k front ≡ []) (its_channel (channel_of u) n e) (none_before q front u may) in
         ap (λ (x : List Unit91). x ++ u ∷ on_channel n behind) none ∙ ap (λ (x : List Unit91). u ∷ (x ++ on_channel n behind)) (sym none)
 
+pub next_stands : (w : State) (u : Unit91) (i : ℕ) → place w ≡ Some i → unit_at (Some i) w.queue ≡ Some u → Stands (waits w) w.queue i u
+next_stands w u i f e = stands_from (waits w) [] w.queue i u (placed (is_laden w.paths) f) e
+  where
+    placed : (b : Bool) → (if b then None else place_in (waits w) w.queue) ≡ Some i → place_in (waits w) w.queue ≡ Some i
+    placed true g = absurd cc
+    placed false g = g
+
 took : (n : ℕ) (w : State) (taken : List Unit91) (u : Unit91) → next_unit w ≡ Some u
     → on_channel n taken ++ on_channel n w.queue ≡ on_channel n (taken ++ u ∷ []) ++ on_channel n (dequeued w).queue
 took n w taken u e = by (place w) refl e
   where
-    placed : {i : ℕ} (b : Bool) → (if b then None else place_in (waits w) w.queue) ≡ Some i → place_in (waits w) w.queue ≡ Some i
-    placed true g = absurd cc
-    placed false g = g
-
     by : (o : Option ℕ) → place w ≡ o → unit_at o w.queue ≡ Some u
         → on_channel n taken ++ on_channel n w.queue ≡ on_channel n (taken ++ u ∷ []) ++ on_channel n (without_at o w.queue)
     by None f e = absurd cc
     by (Some i) f e =
-        let s : Stands (waits w) w.queue i u = stands_from (waits w) [] w.queue i u (placed (is_laden w.paths) f) e in
+        let s : Stands (waits w) w.queue i u = next_stands w u i f e in
         let without : removed i w.queue ≡ s.front ++ s.behind = ap (λ (k : ℕ). removed k w.queue) (sym s.at) ∙ ap (removed (length s.front)) s.parts ∙ gone s.front u s.behind in
         ap (λ (x : List Unit91). on_channel n taken ++ on_channel n x) s.parts ∙ moved n (waits w) taken s.front s.behind u s.may
         ∙ ap (λ (x : List Unit91). on_channel n (taken ++ u ∷ []) ++ on_channel n x) (sym without)

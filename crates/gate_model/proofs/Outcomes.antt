@@ -115,7 +115,7 @@ pub data Outcome (c : Connection) (u : Unit91) : machine.Step → Type 0 where
   Ignores : is_closing c ≡ true → Outcome c u (with_stream u c, want.Nothing)
 
 -- the order of refusals names a connection for all but what a channel's content is refused for
-of_unit : (code : ℕ) (u : Unit91) → is_of_channel (refusal_of code u) ≡ false
+pub of_unit : (code : ℕ) (u : Unit91) → is_of_channel (refusal_of code u) ≡ false
 of_unit code unit.Protocol = refl
 of_unit code (unit.Bad c) = refl
 of_unit code (unit.Frame f) = by f.kind

@@ -34,7 +34,7 @@ use Rattle.gate_model.specs.Publishing.{path_life}
 use Rattle.gate_model.specs.Requests.{client_step, client_told}
 use Rattle.gate_model.specs.State.{Began, Came, Fed, Gave, Heard, Joined, Lost, Moment}
 use Rattle.gate_model.specs.State.{OutOfMemory, Queued, Silent, State, Step, TakenUp, Whole, before, came}
-use Rattle.gate_model.specs.State.{carried, close, close_if, dequeued, fail, failed, heard, is_limit_reached, left}
+use Rattle.gate_model.specs.State.{carried, close, close_if, dequeued, fail, failed, heard, is_limit_reached, left, sessions_lost}
 use Rattle.gate_model.specs.State.{runs, want_in, windowed, with_meaning, without_begin, without_life}
 use Rattle.gate_model.specs.Upstream.{heard_up, meaning_by}
 use Rattle.gate_model.specs.declared.life.Life.{Life}
@@ -167,7 +167,7 @@ came_shuts n w u less f e =
 fail_shuts : (n code : ℕ) (why : Option Condition) (w : State) → Shut n w.lives w.conn → Shut n (fail code why w).lives (fail code why w).conn
 fail_shuts n code why w f = by (is_closing w.conn)
   where
-    by : (b : Bool) → Shut n (if b then w else failed code why w).lives (if b then w else failed code why w).conn
+    by : (b : Bool) → Shut n (if b then sessions_lost w else failed code why w).lives (if b then sessions_lost w else failed code why w).conn
     by true = f
     by false = λ e. none_open n (close w.conn) (close_closes w.conn.phase)
 

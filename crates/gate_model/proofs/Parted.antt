@@ -15,12 +15,13 @@ use Rattle.consume_path.specs.Offers.{arriving_in, next_settle_of}
 use Rattle.consume_path.specs.declared.delivery.Content.{Content}
 use Rattle.consume_path.specs.declared.receiving.Part.{Part}
 use Rattle.consume_path.specs.declared.receiving.ReceivingLink.{ReceivingLink}
+use Rattle.consume_path.specs.declared.receiving.TransferFault.{TransferFault}
 use Rattle.publish_path.specs.Links.{link_to}
 use Rattle.publish_path.specs.declared.publish.Publish.{Publish}
 use Rattle.session_path.specs.Events as event
 use Rattle.session_path.specs.Events.{PathEvent, after_event, after_events, arrivals, deliveries_of, delivery_events, empties, transfers}
 use Rattle.session_path.specs.Links.{LinksState, Rises, answered, asked_as, asked_by, asked_on, at_handle, attach_fault}
-use Rattle.session_path.specs.Links.{attached, attached_as, detached_on}
+use Rattle.session_path.specs.Links.{attached, attached_as, detached_on, failed_by, failed_on, link_failed}
 use Rattle.session_path.specs.Links.{flowed_on, free_number, given_by, given_on, gone_on, is_asked_as, is_at, is_given, is_left}
 use Rattle.session_path.specs.Links.{is_stage_failed, is_stage_left, is_stage_whole, is_to_part, is_wanted, left_by, link_asked, link_detached}
 use Rattle.session_path.specs.Links.{link_flowed, linked_to, named, parted, put, put_for, told_by, told_on, told_once, wanted_link, with_link_to}
@@ -154,16 +155,21 @@ Fits C s (event.DetachCame peer not_found) = (l : PathLink) → named peer s.lin
 Fits C s (event.LinkFailed peer fault) = ⊥
 Fits C s x = Unit {0}
 
-module _ (C : ℕ → Type 0) where
-  abbrev Fine : PathLink → Type 0
-  Fine l = (l.receives && is_to_part l) ≡ true → C l.link
+-- what is known of each link, whatever was told of it; of one that isn't to part it always is
+pub record IsKept (T : PathLink → Type 0) : Type 0 where
+  pub free : (l : PathLink) → is_to_part l ≡ false → T l
+  pub told : (drain echo : Bool) (l : PathLink) → T l → T (told_by drain echo l)
+  pub once : (l : PathLink) → T l → T (told_once l)
 
+-- and what an event needs that makes one part
+abbrev pub Suits : (PathLink → Type 0) → PathState → PathEvent → Type 0
+Suits T s (event.DetachCame peer not_found) = (l : PathLink) → named peer s.links ≡ Some l → is_given l ≡ false → T (left_by l)
+Suits T s (event.LinkFailed peer fault) = (l : PathLink) → named peer s.links ≡ Some l → T (failed_by fault l)
+Suits T s x = Unit {0}
+
+module _ (Fine : PathLink → Type 0) (kept : IsKept Fine) where
   abbrev AreFine : LinksState → Type 0
   AreFine s = AllByRecursion Fine s.links
-
-  -- one that isn't to part
-  free : (l : PathLink) → is_to_part l ≡ false → Fine l
-  free l e f = absurd (let wrong : true ≡ false = sym (and_right l.receives (is_to_part l) f) ∙ e in cc)
 
   put_fine : (x : PathLink) (ls : List PathLink) → Fine x → AllByRecursion Fine ls → AllByRecursion Fine (put x ls)
   put_fine x ls new old = all_map (put_for x) Fine Fine (λ k h. one k (k.link == x.link) h) ls old
@@ -184,10 +190,10 @@ module _ (C : ℕ → Type 0) where
     where
       by : (b : Bool) → AreFine (cond b s (with_link_to address s))
       by true = a
-      by false = all_insert Fine s.links (free_number s.links) (wanted_link (free_number s.links) false) a (free (wanted_link (free_number s.links) false) refl)
+      by false = all_insert Fine s.links (free_number s.links) (wanted_link (free_number s.links) false) a (kept.free (wanted_link (free_number s.links) false) refl)
 
   received : (s : LinksState) → AreFine s → AreFine (with_receiver s)
-  received s a = all_insert Fine s.links (free_number s.links) (wanted_link (free_number s.links) true) a (free (wanted_link (free_number s.links) true) refl)
+  received s a = all_insert Fine s.links (free_number s.links) (wanted_link (free_number s.links) true) a (kept.free (wanted_link (free_number s.links) true) refl)
 
   attaches : (a : AttachHeard) (s : LinksState) → AreFine s → AreFine (attached a s)
   attaches a s u = by (is_some (attach_fault a.name a.role a.peer s)) (find (is_asked_as a.name a.role) s.links)
@@ -199,16 +205,16 @@ module _ (C : ℕ → Type 0) where
       by : (b : Bool) (o : Option PathLink) → AreFine (attached_as (cond b None o) a.peer a.there s)
       by true o = u
       by false None = u
-      by false (Some l) = put_fine (answered a.there l) s.links (free (answered a.there l) (there a.there l)) u
+      by false (Some l) = put_fine (answered a.there l) s.links (kept.free (answered a.there l) (there a.there l)) u
 
   flowed : (peer : ℕ) (count : Option ℕ) (credit : ℕ) (drain echo : Bool) (s : LinksState) → AreFine s → AreFine (link_flowed peer count credit drain echo s)
   flowed peer count credit drain echo s a = by (named peer s) refl
     where
       by : (o : Option PathLink) → named peer s ≡ o → AreFine (flowed_on o count credit drain echo s)
       by None e = a
-      by (Some l) e = put_fine (told_by drain echo l) s.links (at_fine _ s l a e) a
+      by (Some l) e = put_fine (told_by drain echo l) s.links (kept.told drain echo l (at_fine _ s l a e)) a
 
-  detaches : (peer : ℕ) (s : LinksState) → ((l : PathLink) → named peer s ≡ Some l → l.receives ≡ true → is_given l ≡ false → C l.link) → AreFine s
+  detaches : (peer : ℕ) (s : LinksState) → ((l : PathLink) → named peer s ≡ Some l → is_given l ≡ false → Fine (left_by l)) → AreFine s
       → AreFine (link_detached peer s)
   detaches peer s fits a = by (named peer s) refl
     where
@@ -218,7 +224,19 @@ module _ (C : ℕ → Type 0) where
         where
           either : (b : Bool) → is_given l ≡ b → AllByRecursion Fine (cond b (dropped l.link s.links) (put (left_by l) s.links))
           either true f = all_filter _ Fine s.links a
-          either false f = put_fine (left_by l) s.links (λ x. fits l e (and_left l.receives (is_to_part (left_by l)) x) f) a
+          either false f = put_fine (left_by l) s.links (fits l e f) a
+
+  fails : (peer : ℕ) (fault : TransferFault) (s : LinksState) → ((l : PathLink) → named peer s ≡ Some l → Fine (failed_by fault l)) → AreFine s
+      → AreFine (link_failed peer fault s)
+  fails peer fault s fits a = by (named peer s) refl
+    where
+      by : (o : Option PathLink) → named peer s ≡ o → AreFine (failed_on o fault s)
+      by None e = a
+      by (Some l) e = either (is_stage_whole l.stage && l.receives)
+        where
+          either : (b : Bool) → AreFine (if b then record s { links = put (failed_by fault l) s.links } else s)
+          either true = put_fine (failed_by fault l) s.links (fits l e) a
+          either false = a
 
   asks : (name : ℕ) (s : LinksState) → AreFine s → AreFine (link_asked name s)
   asks name s a = by (find is_wanted s.links) _
@@ -226,14 +244,14 @@ module _ (C : ℕ → Type 0) where
       by : (o : Option PathLink) (f : Option ℕ) → AreFine (asked_on o f name s)
       by None f = a
       by (Some l) None = a
-      by (Some l) (Some h) = put_fine (asked_as h name l) s.links (free (asked_as h name l) refl) a
+      by (Some l) (Some h) = put_fine (asked_as h name l) s.links (kept.free (asked_as h name l) refl) a
 
   told : (list : List Publish) (s : LinksState) → AreFine s → AreFine (told_on (flow_of list s) s)
   told list s a = by (flow_of list s) refl
     where
       by : (o : Option PathLink) → find (owes_flow list s.sending) s.links ≡ o → AreFine (told_on o s)
       by None e = a
-      by (Some l) e = put_fine (told_once l) s.links (found (owes_flow list s.sending) s.links l a e) a
+      by (Some l) e = put_fine (told_once l) s.links (kept.once l (found (owes_flow list s.sending) s.links l a e)) a
 
   parts : (s : LinksState) (o : Option PathLink) → AreFine s → AreFine (parted o s)
   parts s None a = a
@@ -241,7 +259,7 @@ module _ (C : ℕ → Type 0) where
     where
       by : (b : Bool) → AreFine (cond b (gone_on (Some l) s) (given_on (Some l) s))
       by true = all_filter _ Fine s.links a
-      by false = put_fine (given_by l) s.links (free (given_by l) refl) a
+      by false = put_fine (given_by l) s.links (kept.free (given_by l) refl) a
 
   gets : (o : Option PathLink) (s : LinksState) → AreFine s → AreFine (got_links o s)
   gets None s a = received s a
@@ -263,7 +281,7 @@ module _ (C : ℕ → Type 0) where
       by true = a
       by false = told s.publishes.list s.links a
 
-  pub step : (x : PathEvent) (s : PathState) → Fits C s x → AreFine s.links → AreFine (after_event x s).links
+  pub step : (x : PathEvent) (s : PathState) → Suits Fine s x → AreFine s.links → AreFine (after_event x s).links
   step (event.Published address payload back) s f a = linked address s.links a
   step (event.Consumed address tag no_ack no_wait) s f a = received s.links a
   step (event.Declared queue no_wait) s f a = received s.links a
@@ -275,7 +293,7 @@ module _ (C : ℕ → Type 0) where
   step (event.FlowCame peer count credit drain echo) s f a = flow_came peer count credit drain echo s a
   step (event.DetachCame peer not_found) s f a = detaches peer s.links f a
   step (event.TransferCame peer part payload image again) s f a = subst AreFine (sym (transfer_same (taking peer s) part payload image again s)) a
-  step (event.LinkFailed peer fault) s f a = absurd f
+  step (event.LinkFailed peer fault) s f a = fails peer fault s.links f a
   step (event.AttachSent name) s f a = asks name s.links a
   step event.LinkFlowSent s f a = flow_went s a
   step event.DisposeSent s f a = subst AreFine (sym (disposed_same (next_settle_of s.deliveries.list) s)) a
@@ -350,9 +368,23 @@ grown x s ds r a = by x (arrives x) refl
     by x true e = absurd cc
     by x false e = quiet x (event_none s x e)
 
+-- a link that is to part
+parts_kept : (C : ℕ → Type 0) → IsKept (λ l. (l.receives && is_to_part l) ≡ true → C l.link)
+parts_kept C = record {
+  free = λ l e f. absurd (let wrong : true ≡ false = sym (and_right l.receives (is_to_part l) f) ∙ e in cc);
+  told = λ drain echo l t. t;
+  once = λ l t. t;
+}
+
+suits : (C : ℕ → Type 0) (s : PathState) (x : PathEvent) → Fits C s x → Suits (λ l. (l.receives && is_to_part l) ≡ true → C l.link) s x
+suits C s (event.DetachCame peer not_found) f = λ l e g part. f l e (and_left l.receives _ part) g
+suits C s (event.LinkFailed peer fault) f = absurd f
+suits C s x f = tt
+
 pub parted_after : LinksAre → (life : ℕ) (x : PathEvent) (es : List PathEvent)
     → Fits (λ link. Covers link (delivery_events (after_events life es) x ++ deliveries_of life es)) (after_events life es) x
     → AreParted (deliveries_of life es) (after_events life es) → AreParted (deliveries_of life (x ∷ es)) (after_events life (x ∷ es))
 parted_after tied life x es f a =
-    step (λ link. Covers link (deliveries_of life (x ∷ es))) x (after_events life es) f
+    step (λ l. (l.receives && is_to_part l) ≡ true → Covers l.link (deliveries_of life (x ∷ es))) (parts_kept (λ link. Covers link (deliveries_of life (x ∷ es)))) x
+    (after_events life es) (suits (λ link. Covers link (deliveries_of life (x ∷ es))) (after_events life es) x f)
     (grown x (after_events life es) (deliveries_of life es) (tied life es).rising a)

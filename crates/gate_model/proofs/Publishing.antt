@@ -8,7 +8,7 @@ use Rattle.close_translate.specs.declared.conditions.Scope.TheVariants as scope
 use Rattle.gate_outside.specs.declared.ports.End.TheVariants.{Client, Up}
 use Rattle.gate_outside.specs.declared.ports.Linked.TheVariants as link
 use Rattle.gate_relay.specs.declared.loss.Loss.TheVariants as loss
-use Rattle.machine_091.specs.State.{is_closing, is_open}
+use Rattle.machine_091.specs.State.{is_open}
 use Rattle.machine_091.specs.declared.limits.TheConstants.{CHANNEL_MAX}
 use Rattle.consume_path.specs.declared.receiving.Part.{Part}
 use Rattle.consume_path.specs.declared.receiving.TransferFault.{TransferFault}
@@ -39,12 +39,12 @@ use Rattle.gate_model.specs.declared.outgoing.UpUnit.{UpUnit}
 use Rattle.gate_model.specs.declared.outgoing.UpUnit.TheVariants as up
 use Rattle.gate_model.specs.declared.reply.Reply.{Reply}
 use Rattle.gate_model.specs.declared.reply.Reply.TheVariants as reply
-use Rattle.gate_model.specs.Folds.{Peers, container, ended_on, leaving_in, paths_failed}
+use Rattle.gate_model.specs.Folds.{Peers, container, ended_on, leaving_in}
 use Rattle.gate_model.specs.Folds.{paths_in, peers, peers_by, peers_came, peers_failed, peers_heard}
 use Rattle.gate_model.specs.Folds.{carried_on, going_in, peers_closed, peers_left, peers_lost, peers_scoped}
 use Rattle.gate_model.specs.Folds.{connection, peers_told, ran_out_in, routes_in, scope_in}
 use Rattle.gate_model.specs.Once.{is_channel_open, is_method_on}
-use Rattle.gate_model.specs.Paths.{attached_as, closed_path, closed_paths, fault_in, is_outcome, lost_path, name_in}
+use Rattle.gate_model.specs.Paths.{attached_as, closed_path, closed_paths, fault_in, is_outcome, lost_path, lost_paths, name_in}
 use Rattle.gate_model.specs.Paths.{no_paths, or_no_path, part_in, path_at, set_path, slot_at, text_of, transferred_by, told_paths, with_path}
 use Rattle.gate_model.specs.Picks.{ArePicks}
 use Rattle.gate_model.specs.Publishing.{attach_events, closed_if, closing, failing, given_event, heard_events}
@@ -123,7 +123,7 @@ changes : (n k : ℕ) (ps : List (Option PathState)) (f : PathState → PathStat
 changes n k ps f xs e = changes_at n k ps f xs (e (path_at ps k))
 
 -- of all
-each_lost : (n : ℕ) (ps : List (Option PathState)) → Goes n ps (event.SessionLost ∷ []) (map (option_map lost_path) ps)
+each_lost : (n : ℕ) (ps : List (Option PathState)) → Goes n ps (event.SessionLost ∷ []) (lost_paths ps)
 each_lost n ps = record { slot = map_slot ps n lost_path; long = map_long ps lost_path }
 
 each_told : (n : ℕ) (ps : List (Option PathState)) → Goes n ps (event.LinesWent ∷ []) (told_paths ps)
@@ -140,18 +140,14 @@ all_lost n ps = behind (each_told n ps) (each_ended n (told_paths ps))
 
 -- ---- what fails
 
-fails : (n : ℕ) (p : Peers) → Goes n p.paths (failing p.client) (peers_failed p).paths
-fails n p = by (is_closing p.client)
-  where
-    by : (b : Bool) → Goes n p.paths (lost_if (not b)) (paths_failed b p.paths)
-    by true = stays n p.paths
-    by false = each_lost n p.paths
+fails : (n : ℕ) (p : Peers) → Goes n p.paths failing (peers_failed p).paths
+fails n p = each_lost n p.paths
 
-falls : (n : ℕ) (p : Peers) → Goes n p.paths (failing p.client ++ losing_up) (peers_lost p).paths
+falls : (n : ℕ) (p : Peers) → Goes n p.paths (failing ++ losing_up) (peers_lost p).paths
 falls n p = behind (all_lost n p.paths) (fails n (record p { paths = paths_lost p.paths }))
 
 -- there is no way to the container
-misses : (n : ℕ) (p : Peers) → Goes n p.paths (failing p.client ++ event.LinesWent ∷ []) (peers_failed (peers_told p)).paths
+misses : (n : ℕ) (p : Peers) → Goes n p.paths losing (peers_failed (peers_told p)).paths
 misses n p = behind (each_told n p.paths) (fails n (peers_told p))
 
 -- a channel

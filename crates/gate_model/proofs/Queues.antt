@@ -18,7 +18,7 @@ use Rattle.gate_model.specs.Picks.{ArePicks, MayComeAs}
 use Rattle.gate_model.specs.Queue.{is_empty, place_in, unit_at}
 use Rattle.gate_model.specs.State.{Began, Came, Fed, Gave, Heard, Joined, Lost, Moment, OutOfMemory}
 use Rattle.gate_model.specs.State.{Queued, Silent, State, Step, TakenUp, Whole, before, came}
-use Rattle.gate_model.specs.State.{dequeued, fail, failed, has_left, heard, left, next_unit, runs}
+use Rattle.gate_model.specs.State.{dequeued, fail, failed, has_left, heard, left, next_unit, runs, sessions_lost}
 use Rattle.gate_model.specs.State.{waits, windowed, with_meaning, with_session}
 use Rattle.gate_model.specs.Upstream.{heard_up, meaning_by}
 use Rattle.gate_model.proofs.Connections.{none_comes, only_given, step_here, stream_if, stream_only}
@@ -38,8 +38,8 @@ rests w = record { stream = refl; queue = refl }
 pub rests_fail : (code : ℕ) (why : Option Condition) (w : State) → Rests w (fail code why w)
 rests_fail code why w = by (is_closing w.conn)
   where
-    by : (b : Bool) → Rests w (if b then w else failed code why w)
-    by true = rests w
+    by : (b : Bool) → Rests w (if b then sessions_lost w else failed code why w)
+    by true = record { stream = refl; queue = refl }
     by false = record { stream = refl; queue = refl }
 
 rests_session : (n : ℕ) (p : Parts) (payload : List ℕ) (w : State) → Rests w (with_session n p payload w)

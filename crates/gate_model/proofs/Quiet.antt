@@ -9,7 +9,7 @@ use Rattle.consume_path.specs.declared.receiving.TransferFault.{TransferFault}
 use Rattle.gate_outside.specs.declared.ports.End.TheVariants.{Client, Up}
 use Rattle.gate_outside.specs.declared.ports.Linked.TheVariants as link
 use Rattle.gate_relay.specs.declared.loss.Loss.TheVariants as loss
-use Rattle.machine_091.specs.State.{is_closing, is_open}
+use Rattle.machine_091.specs.State.{is_open}
 use Rattle.machine_091.specs.declared.unit.Refusal.{Refusal}
 use Rattle.machine_091.specs.declared.unit.Unit91.{Unit91}
 use Rattle.machine_091.specs.declared.unit.Want91.{Want91}
@@ -29,7 +29,7 @@ use Rattle.gate_model.specs.Declares.{is_declare_ok}
 use Rattle.gate_model.specs.Folds.{connection, container, leaving_in, paths_in, peers, ran_out_in, routes_in, scope_in}
 use Rattle.gate_model.specs.Lives.{is_of_channel}
 use Rattle.gate_model.specs.Paths.{fault_in, is_outcome, name_in, part_in, path_at, text_of}
-use Rattle.gate_model.specs.Publishing.{arrival_event, attach_events, closed_if, closing, fine_events, given_event, heard_events, lost_if}
+use Rattle.gate_model.specs.Publishing.{arrival_event, attach_events, closed_if, closing, failing, fine_events, given_event, heard_events, lost_if}
 use Rattle.gate_model.specs.Publishing.{meaning_events, method_events, owed_unless, path_events, refusal_events, reply_events, session_events}
 use Rattle.gate_model.specs.Publishing.{step_events, told_event, transfer_event, up_events, want_events, wrote_event, wrote_events}
 use Rattle.gate_model.specs.Session.{is_of_session}
@@ -258,14 +258,14 @@ module _ (Q : List PathEvent → PathEvent → Type 0) (n : ℕ) (h : List Step)
             subst (λ (i : ℕ). On (fine_events (connection h) i x payload (path_at (paths_in h) i))) (sym same)
             (quiet_on _ _ (if_quiet (x.0 == 17) _ _ tt (closing_quiet (closing_code x payload (path_at (paths_in h) n)) n h)) (heard_on x payload))
         by false e = tt
-    session_on (Some scope.Connection) j x payload = quiet _ (lost_quiet (not (is_closing (connection h))))
+    session_on (Some scope.Connection) j x payload = quiet failing (refl, tt)
     session_on (Some scope.Channel) j x payload = quiet _ (if_quiet (j == n) _ _ (lost_quiet (is_open (connection h) j)) tt)
 
     meaning_on : (m : Meaning) → On (meaning_events (peers h) n m)
     meaning_on (ten.OfSession j x payload) = session_on (scope_in (peers h) j x payload) j x payload
-    meaning_on (ten.Closed e) = quiet _ (lost_quiet (not (is_closing (connection h))))
-    meaning_on ten.Refused = quiet _ (lost_quiet (not (is_closing (connection h))))
-    meaning_on (ten.Violation why) = quiet _ (lost_quiet (not (is_closing (connection h))))
+    meaning_on (ten.Closed e) = quiet failing (refl, tt)
+    meaning_on ten.Refused = quiet failing (refl, tt)
+    meaning_on (ten.Violation why) = quiet failing (refl, tt)
     meaning_on x = tt
 
     -- a step with quiet events, and transfers of the container
@@ -276,13 +276,13 @@ module _ (Q : List PathEvent → PathEvent → Type 0) (n : ℕ) (h : List Step)
     quiet_step (Moment ms) e = (each _ _ refl, tt)
     quiet_step (Fed end) e = (each _ _ refl, tt)
     quiet_step (Silent Client) e = (each _ _ refl, tt)
-    quiet_step (Silent Up) e = quiet _ (lost_quiet (not (is_closing (connection h))))
+    quiet_step (Silent Up) e = (each _ _ refl, tt)
     quiet_step TakenUp e = quiet _ (closed_quiet (not (ran_out_in h) && leaving_in h))
     quiet_step (Heard u) e = if_on (ran_out_in h) [] _ tt (meaning_on (meaning_by (container h) u))
     quiet_step (Joined link.Ok) e = (each _ _ refl, tt)
-    quiet_step (Joined link.Failed) e = quiet_on _ _ (lost_quiet (not (is_closing (connection h)))) (each _ _ refl, tt)
-    quiet_step (Lost Up loss.Ended) e = quiet_on _ _ (lost_quiet (not (is_closing (connection h)))) (each _ _ refl, (each _ _ refl, tt))
-    quiet_step (Lost Up loss.Failed) e = quiet_on _ _ (lost_quiet (not (is_closing (connection h)))) (each _ _ refl, (each _ _ refl, tt))
+    quiet_step (Joined link.Failed) e = (each _ _ refl, (each _ _ refl, tt))
+    quiet_step (Lost Up loss.Ended) e = (each _ _ refl, (each _ _ refl, (each _ _ refl, tt)))
+    quiet_step (Lost Up loss.Failed) e = (each _ _ refl, (each _ _ refl, (each _ _ refl, tt)))
     quiet_step (Lost Up loss.Shut) e = (each _ _ refl, (each _ _ refl, tt))
     quiet_step LinesTold e = (each _ _ refl, tt)
     quiet_step OutOfMemory e = (each _ _ refl, tt)

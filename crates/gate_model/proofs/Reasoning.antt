@@ -45,7 +45,7 @@ use Rattle.gate_model.specs.Session.{carried_by}
 use Rattle.gate_model.specs.Reasons.{ClosesOnce, MaySay, SaysWhy, is_close_on, reason_at, reason_in, reason_meant, reason_scoped, reason_wanted, reason_with, reasons_in}
 use Rattle.gate_model.specs.Requests.{client_told}
 use Rattle.gate_model.specs.State.{Came, Fed, Gave, Heard, Joined, Lost, Queued, Silent, State, Step, TakenUp, Whole, before, begun_session, came, carried}
-use Rattle.gate_model.specs.State.{closed_for, closing_code, closing_error, dequeued, ending_error, fail, fail_life, failed, heard, left, life_failed, link_scope}
+use Rattle.gate_model.specs.State.{closed_for, closing_code, closing_error, dequeued, ending_error, fail, fail_life, failed, heard, left, life_failed, link_scope, sessions_lost}
 use Rattle.gate_model.specs.State.{is_channel_settled, is_settled, runs, scoped, want_in, windowed, with_meaning, with_session, without_begin, without_life}
 use Rattle.gate_model.specs.Upstream.{first, heard_up, meaning_by}
 use Rattle.gate_model.proofs.Known.{Known, conn_is, container_is, known, memory_is, paths_are, routes_are}
@@ -58,7 +58,7 @@ use Rattle.gate_model.proofs.Sessions.{session_on}
 -- ---- what a step makes of the channel.close that is due
 
 -- one stays due where the step closes nothing, none is, or the one that the step says
-data Says (o : Option Reason) (l m : Life) : Type 0 where
+pub data Says (o : Option Reason) (l m : Life) : Type 0 where
   Stays : o ≡ None → m.close ≡ l.close → Says o l m
   Drops : m.close ≡ None → Says o l m
   Tells : (r : Reason) → o ≡ Some r → m.close ≡ Some r → Says o l m
@@ -112,7 +112,7 @@ SaysIn o n w v = Says o (life_at w.lives n) (life_at v.lives n)
 fail_says : (n code : ℕ) (why : Option Condition) (w v : State) → SaysIn None n w v → SaysIn None n w (fail code why v)
 fail_says n code why w v s = by (is_closing v.conn)
   where
-    by : (b : Bool) → SaysIn None n w (if b then v else failed code why v)
+    by : (b : Bool) → SaysIn None n w (if b then sessions_lost v else failed code why v)
     by true = s
     by false = s
 
@@ -359,7 +359,7 @@ heard_says n u h less p = by (before h).out_of_memory (memory_is k)
         (reason_is ∙ ap (λ (b : Bool). if b then None else reason_meant (peers h) n (meaning_by (container h) u)) e)
         (meaning_says n m v)
 
-step_says : (n : ℕ) (s : Step) (h : List Step) → n < 256 → ArePicks (s ∷ h) → SaysIn (reason_at n h s) n (before h) (before (s ∷ h))
+pub step_says : (n : ℕ) (s : Step) (h : List Step) → n < 256 → ArePicks (s ∷ h) → SaysIn (reason_at n h s) n (before h) (before (s ∷ h))
 step_says n (Fed Client) h less p = same _ _ refl
 step_says n (Silent Up) h less p = fail_says n _ _ (before h) _ (same _ _ refl)
 step_says n (Queued u) h less p = by (before h).out_of_memory
@@ -399,7 +399,7 @@ in_range [] n r e = absurd cc
 in_range (x ∷ ls) zero r e = omega arith
 in_range (x ∷ ls) (suc n) r e = let less : n < length ls = in_range ls n r e in omega (arith, less)
 
-abbrev IsDueClose : List Life → Reply → Type 0
+abbrev pub IsDueClose : List Life → Reply → Type 0
 IsDueClose ls (reply.ChannelClose k r) = (life_at ls k).close ≡ Some r
 IsDueClose ls u = Unit {0}
 
@@ -431,7 +431,7 @@ due_on w r (InCloses e) =
     first_at (IsDueClose w.lives) (λ (n : ℕ) (l : Life). refused_on (is_channel_settled w n) n l.close) w.lives r
     (λ k v f. due_refused w.lives _ k (life_at w.lives k).close v refl f) e
 
-due_picked : (h : List Step) (r : Reply) → ArePicks h → Picked (before h) r → IsDueClose (before h).lives r
+pub due_picked : (h : List Step) (r : Reply) → ArePicks h → Picked (before h) r → IsDueClose (before h).lives r
 due_picked h r p (IsDue x) = due_answer (before h).lives r (first_due (is_settled (before h)) (before h).pending r (calm_now h p) x).answers
 due_picked h r p (OnChannel x) = due_on (before h) r x
 due_picked h r p (Beats none due is) = subst (IsDueClose (before h).lives) (sym is) tt
@@ -466,7 +466,7 @@ counted_on n s h less p e old =
     omega (arith, e, more, old)
 
 -- one that goes is due no more
-close_gone : (n : ℕ) (ls : List Life) → (life_at (with_life n (record (life_at ls n) { close = None }) ls) n).close ≡ None
+pub close_gone : (n : ℕ) (ls : List Life) → (life_at (with_life n (record (life_at ls n) { close = None }) ls) n).close ≡ None
 close_gone n ls = by (set_at ls n n (record (life_at ls n) { close = None }))
   where
     by : SetAt ls n n (record (life_at ls n) { close = None }) → (life_at (with_life n (record (life_at ls n) { close = None }) ls) n).close ≡ None
@@ -475,11 +475,11 @@ close_gone n ls = by (set_at ls n n (record (life_at ls n) { close = None }))
     by (Beyond e f g) = ap (λ (x : Life). x.close) g
 
 -- a unit that is none of channel n, and one that is
-data IsClose (n : ℕ) : Reply → Type 0 where
+pub data IsClose (n : ℕ) : Reply → Type 0 where
   Closes : (r : Reason) → IsClose n (reply.ChannelClose n r)
   Others : (u : Reply) → is_close_on n u ≡ false → IsClose n u
 
-is_close : (n : ℕ) (u : Reply) → IsClose n u
+pub is_close : (n : ℕ) (u : Reply) → IsClose n u
 is_close n (reply.ChannelClose k r) = by (k == n) refl
   where
     by : (b : Bool) → (k == n) ≡ b → IsClose n (reply.ChannelClose k r)

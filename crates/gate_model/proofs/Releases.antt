@@ -397,7 +397,7 @@ covers_is link ds c = by (least (λ n. lacks_settle link (fate_of n ds)) (number
         absurd (let wrong : true ≡ false = sym found.2 ∙ c k (found.0, found.1) in cc)
 
 module _ (arrives : DeliveriesAre) (released : ReleasedAre) (covered : CoveredAre) (tied : LinksAre) where
-  returned_on : (h : List Step) (n link : ℕ) → ArePicks h → DetachGoes (before h) n link → AreReturnedOn h n link
+  returned_on : {why : Option Condition} (h : List Step) (n link : ℕ) → ArePicks h → DetachGoes (before h) n link why → AreReturnedOn h n link
   returned_on h n link p d life l lives found receives = by (slot_at (before h).paths n) refl d.due
     where
       w : State

@@ -2,6 +2,7 @@
 use Rattle.std.proofs.Common.{◌≡◌, ℕ, ◌≤◌, ◌<◌, ◌==◌, nat_lt, not, ◌&&◌, ◌||◌, Bool, true, false, if◌then◌else◌, List, [], ◌∷◌, ◌++◌, length, map}
 use Rattle.std.proofs.Common.{Option, None, Some, is_some, option_map, refl, sym, ap, ◌∙◌, arith}
 use Rattle.std.proofs.lemmas.Bool.Decides.{nat_tests}
+use Rattle.std.specs.List.{list_any}
 use Rattle.std.specs.Option.{option_or}
 use Rattle.consume_path.specs.Deliveries.{DeliveryEvent, DeliveryState, open_after}
 use Rattle.consume_path.specs.Deliveries.{after_events as deliveries_after}
@@ -10,7 +11,7 @@ use Rattle.consume_path.specs.Laws.{deliver_by, first_owed}
 use Rattle.consume_path.specs.Offers.{next_deliver_of, next_settle_of, serves_gets}
 use Rattle.consume_path.specs.declared.delivery.NextDeliver.{NextDeliver}
 use Rattle.consume_path.specs.declared.delivery.NextSettle.{NextSettle}
-use Rattle.gate_outside.specs.declared.ports.End.TheVariants.{Client}
+use Rattle.gate_outside.specs.declared.ports.End.TheVariants.{Client, Up}
 use Rattle.gate_relay.specs.Sides.{is_readable}
 use Rattle.machine_091.specs.State.{is_closing, is_open}
 use Rattle.machine_091.specs.declared.limits.TheConstants.{CHANNEL_MAX}
@@ -31,6 +32,7 @@ use Rattle.session_path.specs.declared.path.ContentDue.{ContentDue}
 use Rattle.session_path.specs.declared.path.DeliverDue.{DeliverDue}
 use Rattle.session_path.specs.declared.path.PathOk.{PathOk}
 use Rattle.session_path.specs.declared.path.PathOk.TheVariants as ok
+use Rattle.gate_model.specs.Asked.{is_up_close}
 use Rattle.gate_model.specs.Due.{answers, carried_rows, client_rows, client_units, confirm_on, confirms, confirms_on, consume_oks, consume_oks_on}
 use Rattle.gate_model.specs.Due.{content_on, contents}
 use Rattle.gate_model.specs.Due.{contents_on, deliver_on, delivers, delivers_on, disposals, channel_closes, channel_oks, close_oks, consume_ok_on}
@@ -38,7 +40,7 @@ use Rattle.gate_model.specs.Due.{empty_on, get_ok_on, get_on, last_closes, gets,
 use Rattle.gate_model.specs.Due.{may_answer, may_confirm, may_end, may_go, may_return, may_tell, ok_on, oks_on, open_oks, openings, other_rows}
 use Rattle.gate_model.specs.Due.{path_oks, pick, return_on, row_on, rows_in, session_rows, unless_out, up_rows, when}
 use Rattle.gate_model.specs.Due.{attaches, begins, detaches, ends, link_flows, session_flows, settlings, transfers, writing_on, writings, writings_on}
-use Rattle.gate_model.specs.Folds.{carrying, connection, container, ran_out_in}
+use Rattle.gate_model.specs.Folds.{carrying, connection, container, ran_out_in, sent_up, side_in}
 use Rattle.gate_model.specs.Lives.{each, is_carried, life_at, session_in}
 use Rattle.gate_model.specs.Paths.{path_at}
 use Rattle.gate_model.specs.Picks.{ArePicks}
@@ -88,7 +90,7 @@ LivesBelow = (h : List Step) (n life : ℕ) → path_life h n ≡ Some life → 
 
 -- ---- lists and options
 
-none_in : {A : Type 0} (f : A → Outgoing) (us : List A) → first (map f us) ≡ None → us ≡ []
+pub none_in : {A : Type 0} (f : A → Outgoing) (us : List A) → first (map f us) ≡ None → us ≡ []
 none_in f [] e = refl
 none_in f (u ∷ us) e = absurd cc
 
@@ -353,7 +355,7 @@ no_row c n (Some x) f on e = absurd (none (sym (ap (λ (b : Bool). when_up b (On
     none g = cc
 
 -- the rows of links and sessions are none where nothing is due
-rows_none : (closing : Bool) (w : State) → rows_in closing w ≡ [] → session_rows w ≡ []
+pub rows_none : (closing : Bool) (w : State) → rows_in closing w ≡ [] → session_rows w ≡ []
 rows_none true w e = left_none (session_rows w) _ (left_none (other_rows true w) _ e)
 rows_none false w e =
     left_none (session_rows w) (ends false w)
@@ -367,6 +369,15 @@ no_window : (window : ℕ) (s : PathState) → 1 ≤ window → next_frame windo
 no_window window s less e =
     let some : (window == 0) ≡ false = grind (arith, nat_tests, less) in
     sym (ap (λ (b : Bool). if b then None else next_frame_of s.links.sending s.publishes.list) some) ∙ e
+
+-- where nothing goes, no row has anything
+pub none_up : (h : List Step) → ArePicks h → pick (before h) Up ≡ None → is_readable (side_in h) ≡ true → list_any is_up_close (sent_up h) ≡ false
+    → rows_in ((before h).out_of_memory || is_closing (before h).conn) (before h) ≡ []
+none_up h p e side sent =
+    sym (ap (λ (b : Bool). if b && not (before h).up.sent.close then rows_in ((before h).out_of_memory || is_closing (before h).conn) (before h) else [])
+    (ap is_readable (side_is (known h p)) ∙ side)
+    ∙ ap (λ (b : Bool). if not b then rows_in ((before h).out_of_memory || is_closing (before h).conn) (before h) else []) ((up_says h p).close_is ∙ sent))
+    ∙ none_in ToUp (up_rows (before h)) e
 
 module _ (publishes : PublishesAre) (framed : FramesAre) (arrives : DeliveriesAre) (firsts : FirstsAre) (below : LivesBelow) where
   supplied : (h : List Step) (n life : ℕ) → ArePicks h → path_life h n ≡ Some life → is_carried (session_in (container h) n) ≡ true
@@ -441,14 +452,4 @@ module _ (publishes : PublishesAre) (framed : FramesAre) (arrives : DeliveriesAr
           by_none (Some i) e = absurd cc
 
   pub supplies : (h : List Step) → ArePicks h → SuppliesContainers h
-  supplies h p e side sent n life l on = supplied h n life p l on (rows_none ((before h).out_of_memory || is_closing (before h).conn) (before h) rows)
-    where
-      unsent : (before h).up.sent.close ≡ false
-      unsent = (up_says h p).close_is ∙ sent
-
-      rows : rows_in ((before h).out_of_memory || is_closing (before h).conn) (before h) ≡ []
-      rows =
-          sym (ap (λ (b : Bool). if b && not (before h).up.sent.close then rows_in ((before h).out_of_memory || is_closing (before h).conn) (before h) else [])
-          (ap is_readable (side_is (known h p)) ∙ side)
-          ∙ ap (λ (b : Bool). if not b then rows_in ((before h).out_of_memory || is_closing (before h).conn) (before h) else []) unsent)
-          ∙ none_in ToUp (up_rows (before h)) e
+  supplies h p e side sent n life l on = supplied h n life p l on (rows_none ((before h).out_of_memory || is_closing (before h).conn) (before h) (none_up h p e side sent))

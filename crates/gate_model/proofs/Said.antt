@@ -50,7 +50,7 @@ use Rattle.gate_model.specs.Picks.{ArePicks}
 use Rattle.gate_model.specs.Requests.{client_step}
 use Rattle.gate_model.specs.State.{Began, Came, Fed, Gave, Heard, Joined, Lost, Moment, OutOfMemory}
 use Rattle.gate_model.specs.State.{Queued, Silent, State, Step, TakenUp, Whole, before, begun_session, came, carried, close, conn_step}
-use Rattle.gate_model.specs.State.{dequeued, fail, failed, failure, has_left, heard, is_channel_settled, is_limit_reached, is_settled}
+use Rattle.gate_model.specs.State.{dequeued, fail, failed, failure, has_left, heard, is_channel_settled, is_limit_reached, is_settled, sessions_lost}
 use Rattle.gate_model.specs.State.{last_pending, left, life_failed, link_scope, none_pending}
 use Rattle.gate_model.specs.State.{path_heard, runs, turns_foreign, with_header, with_meaning}
 use Rattle.gate_model.specs.State.{with_session, with_want, without, scoped, windowed, closed_for, closing_code, closing_error}
@@ -556,11 +556,11 @@ says_fail : (w : State) (code : ℕ) (why : Option Condition) (b : Bool) (c : Co
     → (b ≡ true → is_closing c ≡ true) → SaysIn b c.phase w.pending went since all (has_left c.stream) last
     → SaysIn b (close c).phase (fail code why w).pending went since (all ++ failure_to c code) (has_left c.stream) last
 says_fail w code why b c went since all last e shuts s =
-    subst (λ (x : Connection). SaysIn b (close c).phase (if is_closing x then w else failed code why w).pending went since (all ++ failure_to c code) (has_left c.stream) last) (sym e)
+    subst (λ (x : Connection). SaysIn b (close c).phase (if is_closing x then sessions_lost w else failed code why w).pending went since (all ++ failure_to c code) (has_left c.stream) last) (sym e)
     (by (is_closing c) refl)
   where
     by : (k : Bool) → is_closing c ≡ k
-        → SaysIn b (close c).phase (if k then w else failed code why w).pending went since (all ++ when (not k) (reply.Close (failure code))) (has_left c.stream) last
+        → SaysIn b (close c).phase (if k then sessions_lost w else failed code why w).pending went since (all ++ when (not k) (reply.Close (failure code))) (has_left c.stream) last
     by true k =
         subst (λ (x : Connection). SaysIn b x.phase w.pending went since (all ++ []) (has_left c.stream) last) (sym (close_same c k))
         (says_nothing b c w.pending went since all last s)

@@ -76,7 +76,7 @@ open_goes_on arrives closed h n life p below l kept o =
     ∙ closed life (deliveries_of life (path_events h n)) ∙ goes_on h n life p below l kept o
 
 -- the delivery events of a life are those of calls whose conditions hold
-are_calls : DeliveriesAre → ClosedAre → CallsAre → (h : List Step) (n : ℕ) (s : PathState) → ArePicks h → is_kept (side_in h) ≡ true → (l : IsLived h n s)
+pub are_calls : DeliveriesAre → ClosedAre → CallsAre → (h : List Step) (n : ℕ) (s : PathState) → ArePicks h → is_kept (side_in h) ≡ true → (l : IsLived h n s)
     → AreCalls l.life (deliveries_of l.life (path_events h n))
 are_calls arrives closed calls h n s p kept l =
     calls l.life (path_events h n) (are_heard (open_goes_on arrives closed) h n l.life p l.below kept l.lives)
@@ -93,22 +93,22 @@ goes_up w u e = by w.up.side e
     by side.Failed f = absurd cc
     by side.Gone f = absurd cc
 
-is_there : (h : List Step) (u : UpUnit) → ArePicks h → pick (before h) Up ≡ Some (ToUp u) → is_kept (side_in h) ≡ true
+pub is_there : (h : List Step) (u : UpUnit) → ArePicks h → pick (before h) Up ≡ Some (ToUp u) → is_kept (side_in h) ≡ true
 is_there h u p e = subst (λ (x : Side). is_kept x ≡ true) (side_is (known h p)) (goes_up (before h) u e)
 
 -- ---- what goes next
 
-record IsFlowDue (w : State) (n : ℕ) (f : LinkFlow) : Type 0 where
-  due : FlowDue
-  next : next_flow (path_at w.paths n) ≡ Some due
-  is : f ≡ flow_out (life_at w.lives n).session due
+pub record IsFlowDue (w : State) (n : ℕ) (f : LinkFlow) : Type 0 where
+  pub due : FlowDue
+  pub next : next_flow (path_at w.paths n) ≡ Some due
+  pub is : f ≡ flow_out (life_at w.lives n).session due
 
-abbrev IsNextUp : State → ℕ → SessionUnit → Type 0
+abbrev pub IsNextUp : State → ℕ → SessionUnit → Type 0
 IsNextUp w n (unit.Flow f) = IsFlowDue w n f
 IsNextUp w n (unit.Dispose x) = next_dispose (path_at w.paths n) ≡ Some x
 IsNextUp w n x = Unit {0}
 
-is_next_up : (w : State) → SessionUnits (IsNextUp w) w
+pub is_next_up : (w : State) → SessionUnits (IsNextUp w) w
 is_next_up w = record {
   attach = λ n a e. tt;
   flow = λ n f e. record { due = f; next = e; is = refl };

@@ -20,7 +20,7 @@ use Rattle.gate_model.specs.Picks.{ArePicks}
 use Rattle.gate_model.specs.Silence.{fed_in, MayGiveUp, MayGiveUpUp, SilentAtOnce, SilentWhenDue}
 use Rattle.gate_model.specs.State.{Began, Came, Fed, Gave, Heard, Joined, Lost, Moment}
 use Rattle.gate_model.specs.State.{Queued, Silent, State, Step, TakenUp, Whole, before, came}
-use Rattle.gate_model.specs.State.{dequeued, fail, failed, fed_by, heard, is_held, left, runs, told, windowed, with_meaning}
+use Rattle.gate_model.specs.State.{dequeued, fail, failed, fed_by, heard, is_held, left, runs, sessions_lost, told, windowed, with_meaning}
 use Rattle.gate_model.specs.Upstream.{heard_up, meaning_by}
 use Rattle.gate_model.proofs.Basics.{and_both, and_left, and_right, not_true}
 use Rattle.gate_model.proofs.Connections.{clash}
@@ -43,7 +43,7 @@ end_in h = record { fed = fed_in h; given = given_up_in h; gone = gone_in h }
 end_fail : (code : ℕ) (why : Option Condition) (w : State) → end_of (fail code why w) ≡ end_of w
 end_fail code why w = by (is_closing w.conn)
   where
-    by : (b : Bool) → end_of (if b then w else failed code why w) ≡ end_of w
+    by : (b : Bool) → end_of (if b then sessions_lost w else failed code why w) ≡ end_of w
     by true = refl
     by false = refl
 

@@ -41,7 +41,7 @@ use Rattle.gate_model.specs.Publishing.{opens_channel, path_life}
 use Rattle.gate_model.specs.Requests.{client_step, client_told}
 use Rattle.gate_model.specs.State.{Began, Came, Fed, Gave, Heard, Joined, Lost, Moment}
 use Rattle.gate_model.specs.State.{OutOfMemory, Queued, Silent, State, Step, TakenUp, Whole, before, begun_session, came, carried}
-use Rattle.gate_model.specs.State.{close, close_if, closed_for, closing_code, closing_error, dequeued, ending_error, fail, fail_life, failed, heard, is_limit_reached, left}
+use Rattle.gate_model.specs.State.{close, close_if, closed_for, closing_code, closing_error, dequeued, ending_error, fail, fail_life, failed, heard, is_limit_reached, left, sessions_lost}
 use Rattle.gate_model.specs.State.{life_failed, link_scope, runs, scoped, want_in, windowed, with_meaning, with_session, without_begin, without_life}
 use Rattle.gate_model.specs.Upstream.{heard_up, meaning_by}
 use Rattle.gate_model.proofs.Arrived.{ends_all, unit_shuts}
@@ -157,7 +157,7 @@ one_alike n k ls m a = by (set_at ls k n m)
     by (Beyond e f g) = alike _ _ (g ∙ sym f)
 
 -- one that is set is over, or another one is set
-data Set (n k : ℕ) (ls : List Life) (m : Life) : Type 0 where
+pub data Set (n k : ℕ) (ls : List Life) (m : Life) : Type 0 where
   This : k ≡ n → life_at (with_life k m ls) n ≡ m → Set n k ls m
   Other : (k == n) ≡ false → life_at (with_life k m ls) n ≡ life_at ls n → Set n k ls m
 
@@ -166,7 +166,7 @@ set_life [] n m e = absurd (omega (arith, e))
 set_life (x ∷ ls) zero m e = refl
 set_life (x ∷ ls) (suc n) m e = set_life ls n m (omega (arith, e))
 
-set_in : (n k : ℕ) (ls : List Life) (m : Life) → n < length ls → Set n k ls m
+pub set_in : (n k : ℕ) (ls : List Life) (m : Life) → n < length ls → Set n k ls m
 set_in n k ls m less = by (same_or_not k n)
   where
     apart : k ≢ n → SetAt ls k n m → life_at (with_life k m ls) n ≡ life_at ls n
@@ -178,7 +178,7 @@ set_in n k ls m less = by (same_or_not k n)
     by (inl e) = This e (subst (λ (i : ℕ). life_at (with_life i m ls) n ≡ m) (sym e) (set_life ls n m less))
     by (inr d) = Other (isnt k n d) (apart d (set_at ls k n m))
 
-long : (n : ℕ) (h : List Step) → n < 256 → ArePicks h → n < length (before h).lives
+pub long : (n : ℕ) (h : List Step) → n < 256 → ArePicks h → n < length (before h).lives
 long n h less p = subst (λ (m : ℕ). n < m) (sym (lives_all h p)) less
 
 -- ---- what the client's units make of it
@@ -255,7 +255,7 @@ fail_moves : (n code : ℕ) (why : Option Condition) (w v : State) → is_open v
     → Alike (life_at w.lives n) (life_at v.lives n) → MovesIn true n w (fail code why v)
 fail_moves n code why w v e c q a = by (is_closing v.conn) refl
   where
-    by : (b : Bool) → is_closing v.conn ≡ b → MovesIn true n w (if b then v else failed code why v)
+    by : (b : Bool) → is_closing v.conn ≡ b → MovesIn true n w (if b then sessions_lost v else failed code why v)
     by true f = Stays e q a
     by false f = Falls (sym c ∙ f) (none_open n (close v.conn) (close_closes v.conn.phase)) (close_closes v.conn.phase) refl a
 
@@ -428,7 +428,7 @@ Closes w = w.by_peer ≡ true → is_closing w.conn ≡ true
 fail_closes : (code : ℕ) (why : Option Condition) (w : State) → Closes w → Closes (fail code why w)
 fail_closes code why w c = by (is_closing w.conn)
   where
-    by : (b : Bool) → Closes (if b then w else failed code why w)
+    by : (b : Bool) → Closes (if b then sessions_lost w else failed code why w)
     by true = c
     by false = λ q. close_closes w.conn.phase
 

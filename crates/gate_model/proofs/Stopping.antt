@@ -65,8 +65,8 @@ GoesOn w n (to_client.Return r) = r.first ≡ true → Owed w n
 
 -- channel.open-ok is due, while the connection goes on
 pub record Opens (w : State) (n : ℕ) : Type 0 where
-  may : may_answer w ≡ true
-  due : (life_at w.lives n).open_ok ≡ true
+  pub may : may_answer w ≡ true
+  pub due : (life_at w.lives n).open_ok ≡ true
 
 abbrev pub Goes : State → Reply → Type 0
 Goes w (reply.ChannelOpenOk n) = Opens w n
@@ -290,11 +290,25 @@ in_range [] n e = absurd cc
 in_range (x ∷ ls) zero e = omega arith
 in_range (x ∷ ls) (suc n) e = let less : n < length ls = in_range ls n e in omega (arith, less)
 
-opens_there : (h : List Step) (n : ℕ) → ArePicks h → Opens (before h) n → is_open (connection h) n ≡ true
-opens_there h n p a =
+-- its channel has a life, and is open
+pub record IsThereOpen (h : List Step) (n : ℕ) : Type 0 where
+  pub below : n < 256
+  pub lives : is_some (path_life h n) ≡ true
+  pub opened : is_open (before h).conn n ≡ true
+
+pub there_open : (h : List Step) (n : ℕ) → ArePicks h → Opens (before h) n → IsThereOpen h n
+there_open h n p a =
     let o = is_opening_ok h n p a.due in
     let below : n < 256 = subst (λ (m : ℕ). n < m) (lives_all h p) (in_range (before h).lives n a.due) in
-    open_by h n p ((stands n h below p (opened_there n h o.asked)).goes o.goes (runs_still (before h).out_of_memory (is_closing (before h).conn) a.may))
+    let lives : is_some (path_life h n) ≡ true = opened_there n h o.asked in
+    record {
+      below = below;
+      lives = lives;
+      opened = (stands n h below p lives).goes o.goes (runs_still (before h).out_of_memory (is_closing (before h).conn) a.may);
+    }
+
+opens_there : (h : List Step) (n : ℕ) → ArePicks h → Opens (before h) n → is_open (connection h) n ≡ true
+opens_there h n p a = open_by h n p (there_open h n p a).opened
 
 still_goes : (h : List Step) (u : Reply) → ArePicks h → Goes (before h) u → MayStillGo h u
 still_goes h (reply.ChannelOpenOk n) p e = opens_there h n p e

@@ -28,7 +28,7 @@ use Rattle.gate_model.specs.declared.outgoing.Outgoing.TheVariants.{ToClient}
 use Rattle.gate_model.specs.Folds.{accepted_in, closed_in, connection, failed_in, moment_in, sent, sent_at}
 use Rattle.gate_model.specs.Picks.{ArePicks}
 use Rattle.gate_model.specs.State.{Began, Came, Fed, Gave, Heard, Joined, Lost, Queued, Silent, State, Step, TakenUp, Whole, before, came}
-use Rattle.gate_model.specs.State.{dequeued, fail, failed, has_left, heard, is_limit_reached}
+use Rattle.gate_model.specs.State.{dequeued, fail, failed, has_left, heard, is_limit_reached, sessions_lost}
 use Rattle.gate_model.specs.State.{is_settled, left, new_state, opened, runs, windowed, with_last, with_meaning}
 use Rattle.gate_model.specs.Times.{BeatsAtOnce, BeatsWhenDue, IsLate, LateCloses, MayBeat, ShutFor}
 use Rattle.gate_model.specs.Times.{Failed, Left, Answered, Greeted, Closed, ClosedBad, ClosedLast}
@@ -118,7 +118,7 @@ part_left w v false e = refl
 part_fail : (code : ℕ) (why : Option Condition) (w : State) → part (fail code why w) ≡ part w
 part_fail code why w = by (is_closing w.conn)
   where
-    by : (b : Bool) → part (if b then w else failed code why w) ≡ part w
+    by : (b : Bool) → part (if b then sessions_lost w else failed code why w) ≡ part w
     by true = refl
     by false = refl
 

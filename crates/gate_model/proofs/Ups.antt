@@ -43,7 +43,7 @@ use Rattle.gate_model.specs.Picks.{ArePicks}
 use Rattle.gate_model.specs.Requests.{client_step}
 use Rattle.gate_model.specs.State.{Began, Came, Fed, Gave, Heard, Joined, Lost, Moment, OutOfMemory}
 use Rattle.gate_model.specs.State.{Queued, Silent, State, Step, TakenUp, Whole, before, came}
-use Rattle.gate_model.specs.State.{close_if, dequeued, fail, failed, heard, is_limit_reached, left, runs, windowed, with_meaning, paths_lost}
+use Rattle.gate_model.specs.State.{close_if, dequeued, fail, failed, heard, is_limit_reached, left, runs, sessions_lost, windowed, with_meaning, paths_lost}
 use Rattle.gate_model.specs.Lives.{is_carried, is_free, session_in}
 use Rattle.gate_model.specs.declared.life.Life.{Life}
 use Rattle.machine_10.specs.Calls.{asked, left as left_session, may_begin}
@@ -223,7 +223,7 @@ part_taken w false = refl
 part_fail : (code : ℕ) (why : Option Condition) (w : State) → part (fail code why w).up ≡ part w.up
 part_fail code why w = by (is_closing w.conn)
   where
-    by : (b : Bool) → part (if b then w else failed code why w).up ≡ part w.up
+    by : (b : Bool) → part (if b then sessions_lost w else failed code why w).up ≡ part w.up
     by true = refl
     by false = refl
 

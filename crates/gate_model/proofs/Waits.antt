@@ -29,7 +29,7 @@ use Rattle.gate_model.specs.Picks.{ArePicks}
 use Rattle.gate_model.specs.Requests.{client_step}
 use Rattle.gate_model.specs.State.{Began, Came, Fed, Gave, Heard, Joined, Lost, OutOfMemory}
 use Rattle.gate_model.specs.State.{Queued, Silent, State, Step, TakenUp, Whole, before, came}
-use Rattle.gate_model.specs.State.{dequeued, fail, failed, heard, is_settled, last_pending, left}
+use Rattle.gate_model.specs.State.{dequeued, fail, failed, heard, is_settled, last_pending, left, sessions_lost}
 use Rattle.gate_model.specs.State.{turns_foreign, windowed, with_header, with_meaning, with_session, with_want, without}
 use Rattle.gate_model.specs.Upstream.{first, has_closed, heard_up, is_closed_stream, meaning_by, stream_in}
 use Rattle.gate_model.specs.Waiting.{EndsWhenSettled, OpensWhenOpened, Settled, RanOut, NotOpen}
@@ -124,7 +124,7 @@ open_ok_taken w false = refl
 open_ok_fail : (code : ℕ) (why : Option Condition) (w : State) → (fail code why w).pending.open_ok ≡ w.pending.open_ok
 open_ok_fail code why w = by (is_closing w.conn)
   where
-    by : (b : Bool) → (if b then w else failed code why w).pending.open_ok ≡ w.pending.open_ok
+    by : (b : Bool) → (if b then sessions_lost w else failed code why w).pending.open_ok ≡ w.pending.open_ok
     by true = refl
     by false = refl
 

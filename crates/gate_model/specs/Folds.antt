@@ -2,8 +2,7 @@
 -- connections, the replies to the client, the units that were sent, and moments. The laws speak of
 -- these.
 use Rattle.std.specs.Prelude.{ℕ, ◌==◌, Bool, true, false, not, ◌&&◌, if◌then◌else◌, List, [], ◌∷◌}
-use Rattle.std.specs.Prelude.{◌++◌, ◌+◌, filter, map, Option, None, Some}
-use Rattle.std.specs.Option.{option_map}
+use Rattle.std.specs.Prelude.{◌++◌, ◌+◌, filter, Option, None, Some}
 use Rattle.gate_outside.specs.declared.ports.End.TheVariants.{Client, Up}
 use Rattle.gate_outside.specs.declared.ports.Linked.TheVariants as link
 use Rattle.gate_relay.specs.declared.loss.Loss.TheVariants as loss
@@ -15,8 +14,8 @@ use Rattle.close_translate.specs.declared.codes.TheConstants.{NOT_ALLOWED}
 use Rattle.close_translate.specs.declared.conditions.Scope.{Scope}
 use Rattle.close_translate.specs.declared.conditions.Scope.TheVariants as scope
 use Rattle.session_path.specs.Path.{PathState}
-use Rattle.gate_model.specs.Paths.{closed_path, closed_paths, lost_path, no_paths, path_at}
-use Rattle.gate_model.specs.Paths.{told_paths, with_path}
+use Rattle.gate_model.specs.Paths.{closed_path, closed_paths, lost_path, lost_paths, no_paths}
+use Rattle.gate_model.specs.Paths.{path_at, told_paths, with_path}
 use Rattle.machine_091.specs.Calls.{after_closing, after_ended, after_opened}
 use Rattle.machine_091.specs.State.{new_connection, is_closing, is_open, is_opening}
 use Rattle.machine_091.specs.declared.state.Connection.{Connection}
@@ -143,14 +142,10 @@ pub record Peers : Type 0 where
   -- the session that carries each channel
   pub carried : ℕ → SessionState
 
--- the client's connection closes by the container's doing: the paths are lost then
-abbrev pub paths_failed : Bool → List (Option PathState) → List (Option PathState)
-paths_failed true ps = ps
-paths_failed false ps = map (option_map lost_path) ps
-
+-- the client's connection closes by the container's doing, unless it closes already: the paths are
+-- lost in any case
 abbrev pub peers_failed : Peers → Peers
-peers_failed p =
-    record p { client = close p.client; paths = paths_failed (is_closing p.client) p.paths }
+peers_failed p = record p { client = close p.client; paths = lost_paths p.paths }
 
 -- a channel does, if it is open
 abbrev pub ended_on : Bool → ℕ → (PathState → PathState) → Peers → Peers

@@ -1,10 +1,16 @@
 pub mod Answers
 pub mod Asked
+pub mod Begins
 pub mod Behind
+pub mod Closes
 pub mod Contents
+pub mod Credits
 pub mod Declares
 pub mod Delivers
 pub mod Due
+pub mod Dues
+pub mod Errors
+pub mod Faults
 pub mod Folds
 pub mod Frames
 pub mod Giving
@@ -33,6 +39,7 @@ pub mod Setup
 pub mod Silence
 pub mod Spelling
 pub mod State
+pub mod Takes
 pub mod Times
 pub mod Upstream
 pub mod Waiting

@@ -342,6 +342,9 @@ closed_path s = closed s
 abbrev pub closed_paths : List (Option PathState) → List (Option PathState)
 closed_paths ps = map (option_map closed_path) ps
 
+abbrev pub lost_paths : List (Option PathState) → List (Option PathState)
+lost_paths ps = map (option_map lost_path) ps
+
 -- the error of a detach
 abbrev pub error_for : Option TransferFault → Option Condition
 error_for None = None

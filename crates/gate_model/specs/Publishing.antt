@@ -9,7 +9,7 @@ use Rattle.close_translate.specs.declared.conditions.Scope.TheVariants as scope
 use Rattle.gate_outside.specs.declared.ports.End.TheVariants.{Client, Up}
 use Rattle.gate_outside.specs.declared.ports.Linked.TheVariants as link
 use Rattle.gate_relay.specs.declared.loss.Loss.TheVariants as loss
-use Rattle.machine_091.specs.State.{is_closing, is_open}
+use Rattle.machine_091.specs.State.{is_open}
 use Rattle.machine_091.specs.declared.state.Connection.{Connection}
 use Rattle.machine_091.specs.declared.unit.Want91.{Want91}
 use Rattle.machine_091.specs.declared.unit.Want91.TheVariants as want
@@ -160,10 +160,6 @@ heard_events limit n p payload s =
     else if p.0 == 23 then event.SessionLost ∷ []
     else []
 
-abbrev pub lost_if : Bool → List PathEvent
-lost_if true = event.SessionLost ∷ []
-lost_if false = []
-
 -- the sessions are lost; what the report was owed before was reported
 abbrev pub losing : List PathEvent
 losing = event.SessionLost ∷ event.LinesWent ∷ []
@@ -172,12 +168,16 @@ losing = event.SessionLost ∷ event.LinesWent ∷ []
 abbrev pub losing_up : List PathEvent
 losing_up = event.UpLost ∷ event.LinesWent ∷ []
 
--- where the container is the cause, a connection that isn't closing yet closes, and the sessions
--- are lost
-abbrev pub failing : Connection → List PathEvent
-failing c = lost_if (not (is_closing c))
+-- where the container closes, is at fault or isn't there, the sessions are lost, also those of a
+-- connection that closes already
+abbrev pub failing : List PathEvent
+failing = event.SessionLost ∷ []
 
 -- and so is that of a channel that is open
+abbrev pub lost_if : Bool → List PathEvent
+lost_if true = event.SessionLost ∷ []
+lost_if false = []
+
 abbrev pub ending : Connection → ℕ → List PathEvent
 ending c k = lost_if (is_open c k)
 
@@ -200,7 +200,7 @@ fine_events c k p payload s =
 abbrev pub session_events : Connection → Option Scope → ℕ → ℕ → Parts → List ℕ → PathState
     → List PathEvent
 session_events c None n k p payload s = if k == n then fine_events c k p payload s else []
-session_events c (Some scope.Connection) n k p payload s = failing c
+session_events c (Some scope.Connection) n k p payload s = failing
 session_events c (Some scope.Channel) n k p payload s = if k == n then ending c k else []
 
 abbrev pub meaning_events : Peers → ℕ → Meaning → List PathEvent
@@ -210,9 +210,9 @@ meaning_events o n ten.AmqpHeader = []
 meaning_events o n ten.Opened = []
 meaning_events o n (ten.OfSession k p payload) =
     session_events o.client (scope_in o k p payload) n k p payload (path_at o.paths k)
-meaning_events o n (ten.Closed e) = failing o.client
-meaning_events o n ten.Refused = failing o.client
-meaning_events o n (ten.Violation why) = failing o.client
+meaning_events o n (ten.Closed e) = failing
+meaning_events o n ten.Refused = failing
+meaning_events o n (ten.Violation why) = failing
 
 -- ---- units that went
 
@@ -274,14 +274,13 @@ wrote_events n u = []
 
 -- ---- all steps
 
--- what a step behind h is on channel n. Nothing that comes counts after the pair ran out of memory.
--- A container's end that ended or failed loses the sessions even where the connection closes
+-- what a step behind h is on channel n. Nothing that comes counts after the pair ran out of memory
 abbrev pub step_events : ℕ → List Step → Step → List PathEvent
 step_events n h (Began site number ms) = []
 step_events n h (Moment ms) = event.LinesWent ∷ []
 step_events n h (Fed end) = event.LinesWent ∷ []
 step_events n h (Silent Client) = event.LifeClosed ∷ []
-step_events n h (Silent Up) = failing (connection h)
+step_events n h (Silent Up) = failing
 step_events n h (Queued u) = []
 step_events n h (Came u) =
     if ran_out_in h then []
@@ -294,10 +293,10 @@ step_events n h (Heard u) =
     if ran_out_in h then []
     else meaning_events (peers h) n (meaning_by (container h) u)
 step_events n h (Joined link.Ok) = event.LinesWent ∷ []
-step_events n h (Joined link.Failed) = failing (connection h) ++ event.LinesWent ∷ []
+step_events n h (Joined link.Failed) = losing
 step_events n h (Lost Client how) = []
-step_events n h (Lost Up loss.Ended) = failing (connection h) ++ losing_up
-step_events n h (Lost Up loss.Failed) = failing (connection h) ++ losing_up
+step_events n h (Lost Up loss.Ended) = failing ++ losing_up
+step_events n h (Lost Up loss.Failed) = failing ++ losing_up
 step_events n h (Lost Up loss.Shut) = losing_up
 step_events n h (Gave (ToClient u) text) = reply_events n u
 step_events n h (Gave (ToUp u) text) = up_events (is_later (connection h) u) n u

@@ -87,7 +87,7 @@ use Rattle.gate_model.specs.declared.life.SessionState.{SessionState}
 use Rattle.gate_model.specs.Lives.{is_of_channel}
 use Rattle.gate_model.specs.Paths.{attach_by, attach_fault_by, closed_path, closed_paths, fault_in}
 use Rattle.gate_model.specs.Paths.{is_laden, lines_in, link_flowed}
-use Rattle.gate_model.specs.Paths.{is_not_found, lost_path, told_paths}
+use Rattle.gate_model.specs.Paths.{is_not_found, lost_path, lost_paths, told_paths}
 use Rattle.gate_model.specs.Paths.{no_paths, outcome_by, path_at, set_path}
 use Rattle.gate_model.specs.Paths.{transfer_error, transferred, with_path}
 use Rattle.consume_path.specs.declared.delivery.Settle.{Settle}
@@ -243,9 +243,12 @@ closes_at None false ms = None
 abbrev pub failure : ℕ → Refusal
 failure code = refusal_with code 0 0
 
+-- the sessions of all channels are lost
+abbrev pub sessions_lost : State → State
+sessions_lost w = record w { paths = lost_paths w.paths }
+
 abbrev pub failed : ℕ → Option Condition → State → State
-failed code why w = record w {
-  paths = map (option_map lost_path) w.paths;
+failed code why w = record (sessions_lost w) {
   by_peer = true;
   conn = close w.conn;
   pending = record w.pending { close = Some (failure code) };
@@ -253,9 +256,10 @@ failed code why w = record w {
   closed_at = closes_at w.closed_at true w.moment;
 }
 
--- the upstream end is the cause, unless the connection closes already
+-- the upstream end is the cause, unless the connection closes already: then the sessions alone are
+-- lost, so that no publish waits for an outcome any more (AMQP 1.0 2.4.3, 2.6.12)
 abbrev pub fail : ℕ → Option Condition → State → State
-fail code why w = if is_closing w.conn then w else failed code why w
+fail code why w = if is_closing w.conn then sessions_lost w else failed code why w
 
 -- ---- what holds the client
 

@@ -8,11 +8,16 @@ ghost use Rattle.machine_091.specs.declared.limits.TheConstants.{CHANNEL_MAX};
 ghost use Rattle.session_path.specs.Events.{after_events};
 ghost use Rattle.gate_model.specs.declared.reply.Reply.{Reply};
 ghost use Rattle.gate_model.specs.Answers.{AreAnswered};
+ghost use Rattle.gate_model.specs.Begins.{OpensBehindBegins};
 ghost use Rattle.gate_model.specs.Behind.{DeliversBehind};
+ghost use Rattle.gate_model.specs.Closes.{ClosesALifeOnce};
 ghost use Rattle.gate_model.specs.Contents.{AreImages, StandTogether, Writes};
+ghost use Rattle.gate_model.specs.Credits.{KeepsQuotas, StatesCredit};
 ghost use Rattle.gate_model.specs.Delivers.{Delivers};
 ghost use Rattle.gate_model.specs.Asked.{AreCalledFor, GoesWhenDue, ShutsUpAtOnce};
 ghost use Rattle.gate_model.specs.Declares.{DeclaresFound};
+ghost use Rattle.gate_model.specs.Errors.{StatesErrors};
+ghost use Rattle.gate_model.specs.Faults.{StatesFaults};
 ghost use Rattle.gate_model.specs.Linger.{Lingers};
 ghost use Rattle.gate_model.specs.Frames.{AreGiven, FitsClients, FitsContainers};
 ghost use Rattle.gate_model.specs.Folds.{connection, container, moment_in, number_in, ran_out_in};
@@ -26,6 +31,7 @@ ghost use Rattle.gate_model.specs.Parting.{StopsWhenClosed};
 ghost use Rattle.gate_model.specs.Paths.{slot_at};
 ghost use Rattle.gate_model.specs.Picks.{ArePicks};
 ghost use Rattle.gate_model.specs.Due.{takes_memory_back};
+ghost use Rattle.gate_model.specs.Dues.{EndsContainers};
 ghost use Rattle.gate_model.specs.Publishing.{ArePieces, Confirms, EndWhole, Returns, Transfers};
 ghost use Rattle.gate_model.specs.Publishing.{path_events, path_life};
 ghost use Rattle.gate_model.specs.Setup.{IsInForm, SetupText};
@@ -39,6 +45,7 @@ ghost use Rattle.gate_model.specs.Reports.{lines_owed};
 ghost use Rattle.gate_model.specs.Rests.{ServesClients, SuppliesContainers};
 ghost use Rattle.gate_model.specs.Settles.{Grants, Settles};
 ghost use Rattle.gate_model.specs.State.{Step, before, owed_lines};
+ghost use Rattle.gate_model.specs.Takes.{TakesInTurn};
 ghost use Rattle.gate_model.specs.Times.{BeatsAtOnce, BeatsWhenDue, LateCloses, ShutsAtOnce};
 ghost use Rattle.gate_model.specs.Waiting.{ChannelsEndWhenSettled, EndsWhenSettled};
 ghost use Rattle.gate_model.specs.Waiting.{OpensWhenOpened};
@@ -170,6 +177,38 @@ pub fn settles_are_lawful()
 pub fn grants_are_lawful()
     ensures { (h : List Step) → ArePicks h → Grants h }
 {
+    links_lawfully();
+    deliveries_lawfully();
+    calls_lawfully();
+    receivers_lawfully();
+    counts_lawfully();
+    numbers_lawfully();
+}
+
+/// Each flow of a receiving link that goes to a container states a credit by the kind of its link.
+/// On one for gets it is 1 at most, with drain, and none but while its get waits: since the
+/// basic.get was taken up no transfer came on the link, and no get-empty is due. A consumer's is,
+/// with what is in use, within its quota: the prefetch-count of the last basic.qos for each
+/// consumer before its basic.consume, and 64 where none was, where that was 0, and where it doesn't
+/// acknowledge. On a declaration's link it is none.
+pub fn credits_are_lawful()
+    ensures { (h : List Step) → ArePicks h → StatesCredit h }
+{
+    links_lawfully();
+    deliveries_lawfully();
+    calls_lawfully();
+    receivers_lawfully();
+    counts_lawfully();
+    numbers_lawfully();
+}
+
+/// On each link of a consumer that the container attached what is left of the credit that was
+/// stated last is, with what is in use, within the quota, after each step: until the consumer is
+/// cancelled or the channel's life closes.
+pub fn quotas_are_kept()
+    ensures { (h : List Step) → ArePicks h → KeepsQuotas h }
+{
+    connection_laws();
     links_lawfully();
     deliveries_lawfully();
     calls_lawfully();
@@ -469,4 +508,53 @@ pub fn delivers_go_behind_answers()
     ensures { (h : List Step) → ArePicks h → DeliversBehind h }
 {
     connection_laws();
+}
+
+/// In each life of a channel at most one channel.close of the gateway goes.
+pub fn lives_close_once()
+    ensures { (h : List Step) → ArePicks h → ClosesALifeOnce h }
+{
+    connection_laws();
+}
+
+/// A channel.open-ok goes only where the container's begin of its session came since its
+/// channel.open, and no end behind it.
+pub fn opens_go_behind_begins()
+    ensures { (h : List Step) → ArePicks h → OpensBehindBegins h }
+{}
+
+/// An end of the gateway states the error of what closed its channel last since the end before it: of a
+/// refusal the condition of its code, of a performative at fault that of its fault. One that none of
+/// these closed has none, as where its client or its container closed it.
+pub fn ends_state_errors()
+    ensures { (h : List Step) → ArePicks h → StatesErrors h }
+{}
+
+/// Nothing of a channel is taken up while its request waits: its channel.open for the container's begin,
+/// a queue.declare or a basic.consume for its attach, a basic.get for its message, and its
+/// channel.close for the container's end; nor anything while connection.open waits. What is of channel
+/// 0, and a heartbeat, is taken up as the first of what waits, once no request does.
+pub fn requests_hold_what_follows()
+    ensures { (h : List Step) → ArePicks h → TakesInTurn h }
+{
+    connection_laws();
+}
+
+/// Where nothing goes to the container before the gateway's close, each channel that is open had its
+/// begin, but while the session of that number before it isn't over; no flow of a session is owed; each
+/// end of the container is answered; a session whose channel or connection closes isn't to be ended
+/// yet; and once the connection closes the close waits for a session, or the open didn't go.
+pub fn sessions_get_what_is_due()
+    ensures { (h : List Step) → ArePicks h → EndsContainers h }
+{
+    connection_laws();
+    publishes_lawfully();
+}
+
+/// A detach of the gateway states an error only where a transfer of the container passed a limit of its
+/// link in the life in progress, and then that of the limit.
+pub fn detaches_state_faults()
+    ensures { (h : List Step) → ArePicks h → StatesFaults h }
+{
+    links_lawfully();
 }
