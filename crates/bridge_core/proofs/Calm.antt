@@ -48,7 +48,7 @@ either true v w d e = d
 either false v w d e = e
 
 fail_calm : (code : ℕ) (why : Option Condition) (w : State) → w.out_of_memory ≡ false → (fail code why w).out_of_memory ≡ false
-fail_calm code why w e = either (is_closing w.conn) w _ e e
+fail_calm code why w e = either (is_closing w.conn) _ _ e e
 
 life_calm : (n code : ℕ) (why : Option Condition) (f : PathState → PathState) (w : State) → w.out_of_memory ≡ false → (fail_life n code why f w).out_of_memory ≡ false
 life_calm n code why f w e = either (is_open w.conn n) _ w e e
@@ -74,9 +74,9 @@ meaning_calm means.Init w e = e
 meaning_calm means.AmqpHeader w e = e
 meaning_calm means.Opened w e = either (is_opening w.conn) _ w e e
 meaning_calm (means.OfSession g p payload) w e = session_calm g p payload w e
-meaning_calm (means.Closed t) w e = either (is_closing w.conn) w _ e e
-meaning_calm means.Refused w e = either (is_closing w.conn) w _ e e
-meaning_calm (means.Violation c) w e = either (is_closing w.conn) w _ e e
+meaning_calm (means.Closed t) w e = fail_calm _ _ w e
+meaning_calm means.Refused w e = fail_calm _ _ w e
+meaning_calm (means.Violation c) w e = fail_calm _ _ w e
 
 pub heard_calm : (w : State) (u : Unit10) → w.out_of_memory ≡ false → (step w (Heard u)).out_of_memory ≡ false
 heard_calm w u e =

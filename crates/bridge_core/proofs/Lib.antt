@@ -1,6 +1,7 @@
 pub mod Backs
 pub mod Calm
 pub mod Changes
+pub mod Counts
 pub mod Errors
 pub mod FirstOf
 pub mod Firsts

@@ -92,8 +92,8 @@ pub link_flow_spelled : (f : LinkFlow) → HasSpelling (perf_tree (link_flow_per
 link_flow_spelled f = by f.drain
   where
     by : (d : Bool) → HasSpelling (perf_tree (link_flow_perf (record f { drain = d })))
-    by false = (omega arith, (tt, (tt, (tt, (tt, (tt, (tt, (tt, (tt, tt)))))))), omega (arith, flow_short (record f { drain = false })))
-    by true = (omega arith, (tt, (tt, (tt, (tt, (tt, (tt, (tt, (tt, (tt, (tt, tt)))))))))), omega (arith, flow_short (record f { drain = true })))
+    by false = (omega arith, (tt, (tt, (tt, (tt, (tt, (tt, (tt, (tt, tt)))))))), omega (arith, flow_short (record f { drain = false })), omega arith)
+    by true = (omega arith, (tt, (tt, (tt, (tt, (tt, (tt, (tt, (tt, (tt, (tt, tt)))))))))), omega (arith, flow_short (record f { drain = true })), omega arith)
 
 -- ---- a frame of a transfer, which others follow
 

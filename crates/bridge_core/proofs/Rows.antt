@@ -23,7 +23,8 @@ use Rattle.gate_model.specs.Due.{attach_row, confirms_on, contents_on, detach_ro
 use Rattle.gate_model.specs.Due.{consume_oks_on, delivers_on, dispose_row, link_flow_row}
 use Rattle.gate_model.specs.Due.{gets_on, oks_on, row_on}
 use Rattle.gate_model.specs.Due.{settle_row, transfer_row, writings_on}
-use Rattle.bridge_core.specs.ChannelRows.{begin_row, close_ok_row, close_row, end_row, is_left_on}
+use Rattle.bridge_core.specs.ChannelRows.{AreFreeFrom, begin_row, close_ok_row, close_row, end_row}
+use Rattle.bridge_core.specs.ChannelRows.{is_left_on}
 use Rattle.bridge_core.specs.ChannelRows.{is_waiting_on, open_ok_row}
 use Rattle.bridge_core.specs.declared.channel_rows.Parting.{Parting}
 use Rattle.bridge_core.proofs.Tops.{from_higher, no_path}
@@ -259,6 +260,21 @@ detaches_end c ps i ls e = unused_end (detach_row c ps) ps i ls e (λ n l none. 
 pub ends_more : (p : Parting) (c : Option Upstream) (d : Connection) (ps : List (Option PathState)) (k i : ℕ) (ls : List Life) → i < length ls
     → first (each (end_row p c d ps) k (drop i ls)) ≡ option_or (first (end_row p c d ps k (slice_index_or ls i no_life))) (first (each (end_row p c d ps) (k + 1) (drop (i + 1) ls)))
 ends_more p c d ps k i ls lt = first_more (end_row p c d ps) no_life k i ls lt
+
+-- nor has one without session
+pub ends_end : (p : Parting) (c : Option Upstream) (d : Connection) (ps : List (Option PathState)) (t i : ℕ) (ls : List Life) → t ≤ i → AreFreeFrom t c
+    → first (each (end_row p c d ps) i (drop i ls)) ≡ None
+ends_end p c d ps t i ls above free =
+    ap first (each_unused (end_row p c d ps) i (drop i ls) (λ n l le. rw (free n (omega (arith, above, le))) refl))
+
+any_unused : (t : ℕ → Life → Bool) (k : ℕ) (ls : List Life) → ((n : ℕ) (l : Life) → k ≤ n → t n l ≡ false) → any_life t k ls ≡ false
+any_unused t k [] unused = refl
+any_unused t k (l ∷ ls) unused =
+    ap (λ b. b || any_life t (k + 1) ls) (unused k l (omega arith)) ∙ any_unused t (k + 1) ls (λ n m le. unused n m (omega (arith, le)))
+
+pub left_end : (c : Option Upstream) (t i : ℕ) (ls : List Life) → t ≤ i → AreFreeFrom t c → any_life (is_left_on c) i (drop i ls) ≡ false
+left_end c t i ls above free =
+    any_unused (is_left_on c) i (drop i ls) (λ n l le. rw (free n (omega (arith, above, le))) refl)
 
 pub waits_end : (closing settled : Bool) (c : Option Upstream) (ps : List (Option PathState)) (t m i : ℕ) (ls : List Life) → t ≤ i → m ≤ i
     → drop t ls ≡ drop t no_lives → drop m ps ≡ drop m no_paths → any_life (is_waiting_on closing settled c ps) i (drop i ls) ≡ false

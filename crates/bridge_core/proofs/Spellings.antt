@@ -94,8 +94,8 @@ open_tree_short o id host short =
     )
 
 open_tree_spelled : (o : Option (List ℕ)) (id : List ℕ) → IfSome o IsHost → length id ≤ 111 → IsTrue (is_utf8 id) → HasSpelling (open_tree o id)
-open_tree_spelled None id host short utf8 = (omega arith, (tt, (utf8, (tt, (tt, (tt, (tt, tt)))))), omega (arith, open_tree_short None id host short))
-open_tree_spelled (Some h) id host short utf8 = (omega arith, (tt, (utf8, (host.utf8, (tt, (tt, (tt, tt)))))), omega (arith, open_tree_short (Some h) id host short))
+open_tree_spelled None id host short utf8 = (omega arith, (tt, (utf8, (tt, (tt, (tt, (tt, tt)))))), omega (arith, open_tree_short None id host short), omega arith)
+open_tree_spelled (Some h) id host short utf8 = (omega arith, (tt, (utf8, (host.utf8, (tt, (tt, (tt, tt)))))), omega (arith, open_tree_short (Some h) id host short), omega arith)
 
 pub open_short : (s : SetupText) (n : ℕ) → IsInForm s → n < 2 ^ 32 → length (perf_text (open_of s n)) ≤ 504
 open_short s n i fits =
@@ -141,7 +141,7 @@ init_tree_short m r few short =
     )
 
 init_tree_spelled : (m r : List ℕ) → IsMechanism m → length r ≤ 300 → HasSpelling (init_tree m r)
-init_tree_spelled m r i short = (omega arith, (tt, (i.ascii, (tt, tt))), omega (arith, init_tree_short m r i.short short))
+init_tree_spelled m r i short = (omega arith, (tt, (i.ascii, (tt, tt))), omega (arith, init_tree_short m r i.short short), omega arith)
 
 pub init_short : (c : Upstream) → is_login c.mechanism c.response ≡ true → length (perf_text (init_of c)) ≤ 504
 init_short c e =
@@ -159,7 +159,7 @@ pub begin_short : length (perf_text begin_perf) ≤ 504
 begin_short = omega arith
 
 pub begin_spelled : HasSpelling (perf_tree begin_perf)
-begin_spelled = (omega arith, (tt, (tt, (tt, (tt, (tt, (tt, tt)))))), omega arith)
+begin_spelled = (omega arith, (tt, (tt, (tt, (tt, (tt, (tt, tt)))))), omega arith, omega arith)
 
 -- ---- a flow
 
@@ -189,4 +189,4 @@ pub flow_short : (i o : ℕ) → length (perf_text (flow_perf i o)) ≤ 504
 flow_short i o = subst (λ t. length (value_text t) ≤ 504) (sym (flow_is i o)) (flow_tree_short i o)
 
 pub flow_spelled : (i o : ℕ) → HasSpelling (perf_tree (flow_perf i o))
-flow_spelled i o = subst HasSpelling (sym (flow_is i o)) (omega arith, (tt, (tt, (tt, (tt, (tt, tt))))), omega (arith, flow_tree_short i o))
+flow_spelled i o = subst HasSpelling (sym (flow_is i o)) (omega arith, (tt, (tt, (tt, (tt, (tt, tt))))), omega (arith, flow_tree_short i o), omega arith)

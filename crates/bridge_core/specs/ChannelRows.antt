@@ -1,8 +1,9 @@
 -- What may go on each channel, and which requests wait there, while nothing of the upstream end is
 -- waited for or something is, and while the connection closes or not.
-use Rattle.std.specs.Prelude.{ℕ, Bool, not, ◌&&◌, ◌||◌, List, Option}
+use Rattle.std.specs.Prelude.{◌≡◌, ◌≤◌, ℕ, Bool, not, ◌&&◌, ◌||◌, List, Option}
 use Rattle.machine_091.specs.State.{is_open}
 use Rattle.machine_091.specs.declared.state.Connection.{Connection}
+use Rattle.machine_10.specs.declared.state.Session.TheVariants as session
 use Rattle.machine_10.specs.declared.state.Upstream.{Upstream}
 use Rattle.session_path.specs.Due as path_due
 use Rattle.session_path.specs.Path.{PathState}
@@ -16,6 +17,10 @@ use Rattle.gate_model.specs.Lives.{is_begun, is_done, is_ended, is_free, session
 use Rattle.gate_model.specs.Paths.{path_at}
 use Rattle.gate_model.specs.Upstream.{when_up}
 use Rattle.bridge_core.specs.declared.channel_rows.Parting.{Parting}
+
+-- no session is on a channel from a number on
+abbrev pub AreFreeFrom : ℕ → Option Upstream → Type 0
+AreFreeFrom top c = (n : ℕ) → top ≤ n → session_in c n ≡ session.Free
 
 abbrev pub is_settled_on : Bool → Option Upstream → ℕ → Bool
 is_settled_on settled c n = settled || is_done (session_in c n)

@@ -1,6 +1,6 @@
 //! The first unit of each kind that may go on a channel, by rising numbers.
 
-ghost use Rattle.std.specs.Prelude.{◌≡◌, ◌&&◌};
+ghost use Rattle.std.specs.Prelude.{◌≡◌, ◌≤◌, ◌&&◌};
 ghost use Rattle.gate_model.specs.Due.{attach_row, confirm_on, confirms_on, content_on};
 ghost use Rattle.gate_model.specs.Due.{consume_oks_on, contents_on, delivers_on, dispose_row};
 ghost use Rattle.gate_model.specs.Due.{empty_on, get_ok_on, gets_on, is_consume_ok, is_plain_ok};
@@ -14,9 +14,11 @@ ghost use Rattle.gate_model.specs.Lives.{is_free, no_life, session_in};
 ghost use Rattle.gate_model.specs.Paths.{flow_out, path_at};
 ghost use Rattle.gate_model.specs.Session.{is_flow_owed};
 ghost use Rattle.gate_model.specs.Upstream.{first};
-ghost use Rattle.bridge_core.specs.ChannelRows.{begin_row, close_ok_row, close_row, end_row};
+ghost use Rattle.bridge_core.specs.ChannelRows.{AreFreeFrom, begin_row, close_ok_row, close_row};
+ghost use Rattle.bridge_core.specs.ChannelRows.{end_row};
 ghost use Rattle.bridge_core.specs.ChannelRows.{is_end_due_by, is_left_on, is_lingered_by};
 ghost use Rattle.bridge_core.specs.ChannelRows.{is_settled_on, is_waiting_on, open_ok_row};
+ghost use Rattle.bridge_core.specs.declared.lives.TheConstants.{CHANNELS};
 ghost use Rattle.session_path.specs.Due.{next_confirm, next_deliver, next_ok, next_return};
 
 use crate::lives::{CHANNELS, Lives};
@@ -36,6 +38,17 @@ fn session_of(container: &Option<Conn10>, channel: u16) -> Session
     match container {
         None => Session::Free,
         Some(container) => container.session(channel),
+    }
+}
+
+/// No session is on a channel from this number on.
+fn top_of(container: &Option<Conn10>) -> u16
+    ensures within { result ≤ CHANNELS }
+    ensures free { AreFreeFrom result container.now }
+{
+    match container {
+        None => 0,
+        Some(container) => container.top(),
     }
 }
 
@@ -731,7 +744,7 @@ fn is_end_due(
 }
 
 /// The first end of a session.
-#[tactic(auto, using(crate::proofs::Rows::ends_more))]
+#[tactic(auto, using(crate::proofs::Rows::ends_more, crate::proofs::Rows::ends_end))]
 pub fn first_end(
     lives: &[Life; CHANNELS],
     container: &Option<Conn10>,
@@ -741,7 +754,7 @@ pub fn first_end(
 ) -> Option<UpUnit>
     ensures { result ≡ first (each (end_row parting container.now conn.now paths.now) 0 lives.now) }
 {
-    for i in 0..CHANNELS as u16 {
+    for i in 0..top_of(container) {
         if is_end_due(lives[i as usize], container, conn, paths, parting, i) {
             return Some(UpUnit::End(i, lives[i as usize].why));
         }
@@ -750,11 +763,11 @@ pub fn first_end(
 }
 
 /// A session is left that began and that the gateway didn't end.
-#[tactic(auto, using(crate::proofs::Rows::left_more))]
+#[tactic(auto, using(crate::proofs::Rows::left_more, crate::proofs::Rows::left_end))]
 pub fn any_left(lives: &[Life; CHANNELS], container: &Option<Conn10>) -> bool
     ensures { result ≡ any_life (is_left_on container.now) 0 lives.now }
 {
-    for i in 0..CHANNELS as u16 {
+    for i in 0..top_of(container) {
         if is_ended(container, i) || is_begun(container, i) {
             return true;
         }

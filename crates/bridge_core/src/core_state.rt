@@ -3,7 +3,8 @@
 
 ghost use Rattle.std.specs.Prelude.{◌≡◌, ◌<◌, ◌≤◌, ◌||◌, true, false, OnOk, OnErr};
 ghost use Rattle.std.specs.Bool.{OnFalse, OnTrue};
-ghost use Rattle.std.specs.Prelude.{IfSome, Some, None, is_some, length, slice_get, take};
+ghost use Rattle.std.specs.Prelude.{IfSome, Some, None, [], is_some, length, slice_get, take};
+ghost use Rattle.std.specs.List.{list_any};
 ghost use Rattle.gate_outside.specs.declared.ports.End.TheVariants.{Client, Up};
 ghost use Rattle.gate_model.specs.State.{Moment, Fed, Silent, Queued, TakenUp, Joined};
 ghost use Rattle.gate_model.specs.State.{LinesTold, Lost, Whole, OutOfMemory, new_state, step};
@@ -29,7 +30,8 @@ ghost use Rattle.machine_091.specs.Limits.{AreWithin};
 ghost use Rattle.machine_091.specs.Refusals.{refusal_with};
 ghost use Rattle.machine_091.specs.State.{awaits, is_opening};
 ghost use Rattle.bridge_core.specs.Going.{KeepsGoing};
-ghost use Rattle.bridge_core.specs.Held.{AreHeld};
+ghost use Rattle.bridge_core.specs.Held.{AreHeld, is_free_on, may_go};
+ghost use Rattle.bridge_core.specs.declared.queue.TheConstants.{COUNTS};
 ghost use Rattle.bridge_core.specs.Logins.{IsLoginOf};
 
 mod due;
@@ -264,16 +266,54 @@ impl Core {
         }
     }
 
+    /// The first unit can be taken up, while no connection.open waits.
+    fn can_take_first(&self) -> bool
+        requires { is_opening self.now.conn ≡ false }
+        ensures { IfSome (slice_get self.now.queue 0) (λ u. result
+            ≡ can_take (waits self.now) [] u) }
+    {
+        match self.queue.get(0) {
+            None => false,
+            Some(unit) => {
+                if waits_for_all(unit) {
+                    !self.waits()
+                } else {
+                    !self.waits_on(channel_of(unit))
+                }
+            }
+        }
+    }
+
+    /// Units of a channel aren't taken up yet, and no request of it waits.
+    fn is_free_on(&self, channel: u16) -> bool
+        requires { channel < COUNTS }
+        ensures { result ≡ is_free_on (waits self.now) self.now.queue channel }
+    {
+        self.queue.has(channel) && !self.waits_on(channel)
+    }
+
+    /// Each unit waits for a request of its channel, or for all before it.
+    fn all_wait(&self) -> bool
+        ensures { OnTrue result (list_any (may_go (waits self.now)) self.now.queue ≡ false) }
+    {
+        if self.queue.has(CHANNELS as u16) {
+            return false;
+        }
+        for i in 1..CHANNELS as u16 {
+            if self.is_free_on(i) {
+                return false;
+            }
+        }
+        true
+    }
+
     /// The place of the first unit that can be taken up, while no connection.open waits: in one
     /// pass, in which each unit that can't be holds its channel.
-    fn first_to_take(&self) -> Option<usize>
+    fn look_through(&self) -> Option<usize>
         requires { is_opening self.now.conn ≡ false }
         ensures place { result ≡ place_in (waits self.now) self.now.queue }
         ensures within { IfSome result (λ i. i < length self.now.queue) }
     {
-        if self.queue.is_empty() {
-            return None;
-        }
         let mut held = [false; CHANNELS];
         for i in 0..self.queue.len() {
             if self.can_take(i, &held) {
@@ -284,6 +324,24 @@ impl Core {
             }
         }
         None
+    }
+
+    /// The same, with a look at the first unit, and in a long queue at the channels, before all
+    /// units are looked through.
+    fn first_to_take(&self) -> Option<usize>
+        requires { is_opening self.now.conn ≡ false }
+        ensures place { result ≡ place_in (waits self.now) self.now.queue }
+        ensures within { IfSome result (λ i. i < length self.now.queue) }
+    {
+        if self.queue.is_empty() {
+            None
+        } else if self.can_take_first() {
+            Some(0)
+        } else if CHANNELS < self.queue.len() && self.all_wait() {
+            None
+        } else {
+            self.look_through()
+        }
     }
 
     /// The place of the unit that is taken up next.
@@ -298,13 +356,14 @@ impl Core {
         }
     }
 
-    /// The upstream end fails: the client is told so, unless its connection closes already.
+    /// The upstream end fails: its sessions are lost, and the client is told so, unless its
+    /// connection closes already.
     fn fail(&mut self, code: u16, why: Option<Condition>)
         ensures step { self.new ≡ fail code why self.old }
         ensures kept { KeepsGoing self.old self.new }
     {
+        self.paths.lose_all();
         if !self.conn.is_closing() {
-            self.paths.lose_all();
             self.by_peer = true;
             self.conn.closing(Scope::Connection, 0);
             self.pending.close = Some(refusal_with(code, 0, 0));

@@ -2,11 +2,13 @@
 
 ghost use Rattle.std.specs.Prelude.{◌≡◌, ◌<◌, ◌+◌, ◌++◌, ◌∷◌, [], OnOk, OnErr, length};
 ghost use Rattle.std.specs.Prelude.{IfSome, if◌then◌else◌, option_copied, slice_get, slice_set, take, true, Some};
+ghost use Rattle.std.specs.Prelude.{count_by, nat_lt};
 ghost use Rattle.std.specs.Bool.{OnFalse, OnTrue};
 ghost use Rattle.std.specs.List.{list_any};
 ghost use Rattle.gate_model.specs.Queue.{holds, is_bad_unit, is_empty, is_full, payload_of};
 ghost use Rattle.gate_model.specs.Queue.{removed, waits_for_all, channel_of};
-ghost use Rattle.bridge_core.specs.Held.{AreHeld};
+ghost use Rattle.bridge_core.specs.Held.{AreHeld, is_counted_at, place_of};
+ghost use Rattle.bridge_core.specs.declared.queue.TheConstants.{COUNTS};
 
 use crate::lives::CHANNELS;
 use frames_091::Kind91;
@@ -17,6 +19,9 @@ use std::collections::VecDeque;
 use std::marker::Model;
 use wire_base::Memory;
 
+/// Units are counted for each channel of a client, and for all channels above those at once.
+pub const COUNTS: usize = CHANNELS + 1;
+
 /// The units of a client that aren't taken up yet, in their order.
 #[derive(Drop)]
 pub struct Queue {
@@ -24,6 +29,8 @@ pub struct Queue {
     bytes: usize,
     /// Bytes with which no unit begins are among them.
     bad: bool,
+    /// How many are of each channel.
+    counts: [u32; COUNTS],
 }
 
 impl Model for Queue {
@@ -31,13 +38,14 @@ impl Model for Queue {
     ghost use Rattle.std.specs.List.{list_any};
     ghost use Rattle.machine_091.specs.declared.unit.Unit91.{Unit91};
     ghost use Rattle.gate_model.specs.Queue.{is_bad_unit, payloads};
+    ghost use Rattle.bridge_core.specs.Held.{AreCounted};
 
     ghost Value = { List Unit91 };
 
     ghost view = { λ a. a.units.items };
 
     ghost invariant = { λ a. (a.bytes ≡ payloads a.units.items)
-        × (a.bad ≡ list_any is_bad_unit a.units.items) };
+        × (a.bad ≡ list_any is_bad_unit a.units.items) × AreCounted a.units.items a.counts };
 }
 
 /// The channel that a unit is of: of the connection is what isn't a frame.
@@ -96,6 +104,14 @@ fn bad_without(bad: bool, unit: &Unit91, units: &VecDeque<Unit91>) -> bool
     }
 }
 
+/// The place of a unit's channel among the counts.
+fn place_of(unit: &Unit91) -> usize
+    ensures value { result ≡ place_of unit.now }
+    ensures within { result < COUNTS }
+{
+    usize::from(channel_of(unit)).min(CHANNELS)
+}
+
 /// A unit of a channel waits for this one.
 fn holds(channel: u16, unit: &Unit91) -> bool
     ensures { result ≡ holds channel unit.now }
@@ -124,11 +140,12 @@ impl Queue {
             units: VecDeque::new(alloc),
             bytes: 0,
             bad: false,
+            counts: [0; COUNTS],
         }
     }
 
     /// A unit waits behind the others. Without memory all is as it was.
-    #[tactic(auto, using(crate::proofs::Payloads::payloads_more, crate::proofs::Payloads::bad_more))]
+    #[tactic(auto, using(crate::proofs::Payloads::payloads_more, crate::proofs::Payloads::bad_more, crate::proofs::Counts::counted_more))]
     pub fn push(&mut self, unit: Unit91) -> Result<(), Memory>
         ensures ok { OnOk result (self.new ≡ self.old ++ unit ∷ []) }
         ensures err { OnErr result (self.new ≡ self.old) }
@@ -136,11 +153,16 @@ impl Queue {
         let Some(bytes) = self.bytes.checked_add(payload_of(&unit)) else {
             return Err(Memory);
         };
+        let place = place_of(&unit);
+        let Some(count) = self.counts[place].checked_add(1) else {
+            return Err(Memory);
+        };
         let bad = is_bad_unit(&unit);
         match self.units.push_back(unit) {
             Ok(()) => {
                 self.bytes = bytes;
                 self.bad |= bad;
+                self.counts[place] = count;
                 Ok(())
             }
             Err(_) => Err(Memory),
@@ -154,6 +176,7 @@ impl Queue {
         self.units.clear();
         self.bytes = 0;
         self.bad = false;
+        self.counts = [0; COUNTS];
     }
 
     /// How many units wait.
@@ -189,6 +212,14 @@ impl Queue {
         ensures { result ≡ list_any is_bad_unit self.now }
     {
         self.bad
+    }
+
+    /// Units of a channel wait; the number above those of a client stands for all above.
+    pub fn has(&self, channel: u16) -> bool
+        requires { channel < COUNTS }
+        ensures { result ≡ nat_lt 0 (count_by (is_counted_at channel) self.now) }
+    {
+        0 < self.counts[usize::from(channel)]
     }
 
     /// Whether one of the first units holds those of a channel.
@@ -252,6 +283,7 @@ impl Queue {
             unreachable!()
         };
         self.bytes -= payload_of(&unit);
+        self.counts[place_of(&unit)] -= 1;
         self.bad = bad_without(self.bad, &unit, &self.units);
         unit
     }

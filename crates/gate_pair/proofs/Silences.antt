@@ -22,7 +22,7 @@ use Rattle.gate_model.specs.Queue.{is_bad_unit, is_full}
 use Rattle.gate_model.specs.Setup.{SetupText}
 use Rattle.gate_model.specs.Silence.{SilentAtOnce, SilentWhenDue}
 use Rattle.gate_model.specs.State.{State, Step, Moment, Silent, before, close, close_if}
-use Rattle.gate_model.specs.State.{close_waits, fail, failed, fed_by, is_held, is_limit_reached}
+use Rattle.gate_model.specs.State.{close_waits, fail, failed, fed_by, is_held, is_limit_reached, sessions_lost}
 use Rattle.gate_model.specs.State.{silenced, told}
 use Rattle.gate_model.proofs.Connections.{close_closes, opening_early}
 use Rattle.gate_pair.specs.Meaning.{given_up, pair_words, state_of, steps_of}
@@ -93,7 +93,7 @@ unheld true true false true long f e = f refl
 given_fail : (code : ℕ) (why : Option Condition) (w : State) → (fail code why w).given_up ≡ w.given_up
 given_fail code why w = by (is_closing w.conn)
   where
-    by : (b : Bool) → (if b then w else failed code why w).given_up ≡ w.given_up
+    by : (b : Bool) → (if b then sessions_lost w else failed code why w).given_up ≡ w.given_up
     by true = refl
     by false = refl
 
@@ -103,8 +103,8 @@ UpGone w = record w { up = record w.up { silent = true } }
 none_left : (w : State) → (is_held w ≡ true → is_silent_by w.conn.limits.heartbeat w.moment w.fed_at ≡ false) → is_silent w Client ≡ false → is_silent (silenced w Up) Client ≡ false
 none_left w f e = by (is_closing w.conn)
   where
-    by : (b : Bool) → is_silent (if b then UpGone w else failed CONNECTION_FORCED (Some ResourceLimitExceeded) (UpGone w)) Client ≡ false
-    by true = unheld (is_awaited (awaits w.conn) || w.given_up) (is_held w) (is_held (UpGone w)) (not (w.given_up || (w.gone || (w.leaving || w.out_of_memory)))) _ f e
+    by : (b : Bool) → is_silent (if b then sessions_lost (UpGone w) else failed CONNECTION_FORCED (Some ResourceLimitExceeded) (UpGone w)) Client ≡ false
+    by true = unheld (is_awaited (awaits w.conn) || w.given_up) (is_held w) (is_held (sessions_lost (UpGone w))) (not (w.given_up || (w.gone || (w.leaving || w.out_of_memory)))) _ f e
     by false =
         unheld (is_awaited (awaits w.conn) || w.given_up) (is_held w) (is_held (failed CONNECTION_FORCED (Some ResourceLimitExceeded) (UpGone w)))
         (not (w.given_up || (w.gone || (w.leaving || w.out_of_memory)))) _ f e
@@ -114,7 +114,7 @@ none_left w f e = by (is_closing w.conn)
 up_fail : (code : ℕ) (why : Option Condition) (w : State) → (fail code why w).up.silent ≡ w.up.silent
 up_fail code why w = by (is_closing w.conn)
   where
-    by : (b : Bool) → (if b then w else failed code why w).up.silent ≡ w.up.silent
+    by : (b : Bool) → (if b then sessions_lost w else failed code why w).up.silent ≡ w.up.silent
     by true = refl
     by false = refl
 

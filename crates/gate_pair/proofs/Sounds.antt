@@ -37,7 +37,7 @@ use Rattle.gate_model.specs.Setup.{SetupText}
 use Rattle.gate_model.specs.Spelling.{context_of, init_text, spell_on}
 use Rattle.gate_model.specs.Requests.{client_step}
 use Rattle.gate_model.specs.State as state
-use Rattle.gate_model.specs.State.{State, Step, condition_by, fail, failed, heard, keep_login}
+use Rattle.gate_model.specs.State.{State, Step, condition_by, fail, failed, heard, keep_login, sessions_lost}
 use Rattle.gate_model.specs.State.{lost_up, next_unit, paths_lost, runs, step, windowed}
 use Rattle.gate_model.specs.State.{with_meaning}
 use Rattle.gate_model.specs.Upstream.{UpState, closing_with, container_given, ended_in, first}
@@ -74,7 +74,7 @@ keeping_knows (want.Refuse r) s k = k
 fail_knows : (code : ℕ) (why : Option Condition) (w : State) → KnowsLogin w.up → KnowsLogin (fail code why w).up
 fail_knows code why w k = by (is_closing w.conn)
   where
-    by : (b : Bool) → KnowsLogin (if b then w else failed code why w).up
+    by : (b : Bool) → KnowsLogin (if b then sessions_lost w else failed code why w).up
     by true = k
     by false = k
 
@@ -82,7 +82,7 @@ fail_knows code why w k = by (is_closing w.conn)
 fail_container : (code : ℕ) (why : Option Condition) (w : State) → (fail code why w).up.container ≡ w.up.container
 fail_container code why w = by (is_closing w.conn)
   where
-    by : (b : Bool) → (if b then w else failed code why w).up.container ≡ w.up.container
+    by : (b : Bool) → (if b then sessions_lost w else failed code why w).up.container ≡ w.up.container
     by true = refl
     by false = refl
 

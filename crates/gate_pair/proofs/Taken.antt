@@ -26,7 +26,7 @@ use Rattle.gate_model.specs.Setup.{SetupText}
 use Rattle.gate_model.specs.Requests.{client_step}
 use Rattle.gate_model.specs.State as state
 use Rattle.gate_model.specs.State.{State, Step, Came, Heard, Gave, Joined, TakenUp, before, came}
-use Rattle.gate_model.specs.State.{condition_by, fail, failed, heard, keep_login, left, lost_up}
+use Rattle.gate_model.specs.State.{condition_by, fail, failed, heard, keep_login, left, lost_up, sessions_lost}
 use Rattle.gate_model.specs.State.{next_unit, paths_lost, step, windowed, with_meaning}
 use Rattle.gate_model.specs.Upstream.{UpState, awaited_of, closing_with, heard_up, lost_by}
 use Rattle.gate_model.specs.Upstream.{meaning_by}
@@ -174,7 +174,11 @@ if_second true w v x = x
 if_second false w v x = leaves_all w
 
 pub fail_leaves : (code : ℕ) (why : Option Condition) (w : State) → Leaves w (fail code why w)
-fail_leaves code why w = if_first (is_closing w.conn) w (failed code why w) (record { memory_is = refl; going_is = refl; going_up_is = refl; number_is = refl })
+fail_leaves code why w = by (is_closing w.conn)
+  where
+    by : (b : Bool) → Leaves w (if b then sessions_lost w else failed code why w)
+    by true = record { memory_is = refl; going_is = refl; going_up_is = refl; number_is = refl }
+    by false = record { memory_is = refl; going_is = refl; going_up_is = refl; number_is = refl }
 
 meaning_leaves : (m : Meaning) (w : State) → Leaves w (with_meaning m w)
 meaning_leaves ten.Nothing w = leaves_all w

@@ -2,7 +2,7 @@ use Rattle.std.proofs.Common.{◌≡◌, drop, take}
 use Rattle.gate_model.specs.Queue.{place_from}
 use Rattle.gate_model.specs.State.{waits}
 use Rattle.bridge_core.specs.Held.{AreHeld}
-use Rattle.bridge_core.proofs.core_state.Core.first_to_take.Given as goal
+use Rattle.bridge_core.proofs.core_state.Core.look_through.Given as goal
 
 abbrev pub invariant-loop-i : goal.invariant-loop-i
 invariant-loop-i l = record {
