@@ -1,9 +1,11 @@
 -- Runs of the service, with all their laws.
 use Rattle.std.specs.Prelude.{ℕ, List, Option}
+use Rattle.gate_model.specs.Frames.{FitsContainers}
 use Rattle.gate_model.specs.Setup.{SetupText}
-use Rattle.gate_pair.specs.Meaning.{pair_words}
+use Rattle.gate_pair.specs.Meaning.{pair_words, steps_of}
 use Rattle.gate_runs.specs.declared.limits.Limits.{Limits}
 use Rattle.gate_runs.specs.declared.served.Served.{Served}
+use Rattle.gate_runs.specs.Journal.{journal}
 use Rattle.gate_runs.specs.Marks.{History}
 use Rattle.gate_runs.specs.Serving.{IsServed}
 use Rattle.gate_laws.specs.Laws.{IsLawfulRun}
@@ -14,3 +16,5 @@ pub record IsRunOf (s : SetupText) (c : Limits) (how : Served) (count : ℕ)
     (held held' kept kept' : Option (List ℕ)) (m : History) : Type 0 where
   pub served : IsServed (pair_words s) c how count held held' kept kept' m
   pub lawful : IsLawfulRun s c m
+  -- no frame that went to a container passes its limit
+  pub frames_up : (p : ℕ) → FitsContainers s (steps_of s (journal p m))

@@ -4,6 +4,7 @@ ghost use Rattle.std.specs.Prelude.{◌≡◌, ◌≢◌, ◌≤◌, ◌<◌, �
 ghost use Rattle.gate_outside.specs.Counts.{Rose};
 ghost use Rattle.gate_outside.specs.declared.log.LogEntry.{LogEntry};
 ghost use Rattle.gate_runs.specs.declared.served.Outside.TheVariants as Outside;
+ghost use Rattle.gate_model.specs.Setup.{IsInForm as IsSetup};
 ghost use Rattle.gate_runs.specs.Form.{IsInForm};
 ghost use Rattle.gate_runs.specs.Marks.{HasHistory};
 ghost use Rattle.gate_runs.specs.Next.{pair_limit};
@@ -49,6 +50,13 @@ fn status_of(served: Served) -> Status
     }
 }
 
+/// What all pairs share is in form, by its type.
+fn know_form(setup: &Setup)
+    ensures { IsSetup setup.now }
+{
+    let _name = setup.name();
+}
+
 /// Serves, and records the calls. All laws of a run hold of the calls that were made.
 pub fn serve_lawfully<P: Ports, K: Sink, T: Recorder>(
     alloc: Global,
@@ -82,6 +90,7 @@ pub fn serve_lawfully<P: Ports, K: Sink, T: Recorder>(
         (T.held recorder.old) (T.held recorder.new)) }
 {
     runs_are_lawful();
+    know_form(setup);
     serve::<P, Pair, K, T>(alloc, setup, ports, limits, out, recorder)
 }
 

@@ -3,7 +3,7 @@
 -- with heartbeats each second, or the whole opening with a container; a silent client; and running out of memory. The first is a
 -- whole run that follows.
 -- The bytes are written down here apart from the definitions.
-use Rattle.std.proofs.Common.{◌≡◌, ℕ, List, [], ◌∷◌, ◌++◌, refl, Some, arith}
+use Rattle.std.proofs.Common.{◌≡◌, ◌<◌, ℕ, List, [], ◌∷◌, ◌++◌, refl, Some, arith}
 use Rattle.gate_outside.specs.declared.ports.End.TheVariants.{Client, Up}
 use Rattle.gate_outside.specs.declared.ports.Accepted.TheVariants as accepted
 use Rattle.gate_outside.specs.declared.ports.Got.TheVariants as got
@@ -13,6 +13,9 @@ use Rattle.gate_outside.specs.declared.log.LogEntry.TheVariants.{Accept, Connect
 use Rattle.gate_outside.specs.declared.log.LogEntry.TheVariants.{Now}
 use Rattle.std.specs.Fmt as fmt
 use Rattle.std.specs.Str as str
+use Rattle.std.specs.List.{AllByRecursion}
+use Rattle.wire_base.specs.Bytes.{IsBytes}
+use Rattle.wire_base.proofs.Bytes.{IsBytes-append, IsBytes-one, IsBytes-replicate}
 use Rattle.wire_base.specs.Headers as wire
 use Rattle.wire_base.specs.Reading as reading
 use Rattle.frames_091.specs.Headers as headers
@@ -52,7 +55,7 @@ all_open = 0
 
 -- and what a container's units are read by
 both_open : ℕ
-unfolding scanning_10.scan_of scanning_10.stated_size scanning_10.stated_offset scanning_10.frame_in spelling_10.text_behind trees.level trees.constructor_in reading.times performatives.perf_of performatives.kind_with fields.field_in fields.leaf_in containers.read_at containers.act_of states.no_sessions fmt.digits str.is_utf8 str.chars lib.Utf8.encode
+unfolding scanning_10.scan_of scanning_10.stated_size scanning_10.stated_offset scanning_10.frame_in spelling_10.text_behind trees.level trees.row_in trees.constructor_in reading.times performatives.perf_of performatives.kind_with fields.field_in fields.leaf_in containers.read_at containers.act_of states.no_sessions fmt.digits str.is_utf8 str.chars lib.Utf8.encode
 both_open = 0
 
 -- what all pairs share: the name `gate`, the host `broker` and the virtual host `/`
@@ -118,12 +121,21 @@ unfolding all_open
 then_the_pairs_are_done = refl
 
 -- so the premise of the laws holds of a run
+bytes_of : (text : List ℕ) → AllByRecursion (λ (b : ℕ). b < 256) text → IsBytes text
+bytes_of [] small = IsBytes-replicate 0
+bytes_of (b ∷ text) small = IsBytes-append (b ∷ []) text (IsBytes-one b small.0) (bytes_of text small.1)
+
+misread_bytes : IsBytes (65 ∷ 77 ∷ 81 ∷ 80 ∷ 1 ∷ 1 ∷ 0 ∷ 9 ∷ [])
+misread_bytes =
+    bytes_of (65 ∷ 77 ∷ 81 ∷ 80 ∷ 1 ∷ 1 ∷ 0 ∷ 9 ∷ [])
+    (omega arith, (omega arith, (omega arith, (omega arith, (omega arith, (omega arith, (omega arith, (omega arith, tt))))))))
+
 follows : Follows words one_pair (Finish PairsDone ∷ parted)
 unfolding all_open
 follows = (
   refl,
   refl,
-  (refl, tt, (refl, (omega arith, omega arith), (refl, (omega arith, omega arith, refl), (refl, refl, (refl, omega arith, tt))))),
+  (refl, tt, (refl, (omega arith, omega arith), (refl, (omega arith, omega arith, refl, misread_bytes), (refl, refl, (refl, omega arith, tt))))),
 )
 
 then_nothing : next words one_pair (Finish PairsDone ∷ parted) ≡ Done

@@ -1,3 +1,4 @@
 mod Examples
+pub mod Given
 pub mod Idles
 pub mod Reached

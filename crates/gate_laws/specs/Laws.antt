@@ -11,15 +11,21 @@ use Rattle.gate_turn_laws.specs.Lines.{told_lines}
 use Rattle.gate_turn_laws.specs.Log.{IsPlain, IsWholeRun}
 use Rattle.gate_turn_laws.specs.Quiet.{IdlesAtRest, IdlesInSilence}
 use Rattle.gate_model.specs.Asked.{AreCalledFor, GoesWhenDue}
-use Rattle.gate_model.specs.Frames.{AreGiven, FitsClients, FitsContainers}
+use Rattle.gate_model.specs.Frames.{FitsClients, FitsContainers}
 use Rattle.gate_model.specs.Oks.{AnswersInOrder}
 use Rattle.gate_model.specs.Once.{AnswersOnce}
 use Rattle.gate_model.specs.Order.{TakesInOrder}
 use Rattle.gate_model.specs.Picks.{ArePicks}
 use Rattle.gate_model.specs.Contents.{AreImages, StandTogether, Writes}
+use Rattle.gate_model.specs.Begins.{OpensBehindBegins}
 use Rattle.gate_model.specs.Behind.{DeliversBehind}
+use Rattle.gate_model.specs.Closes.{ClosesALifeOnce}
+use Rattle.gate_model.specs.Credits.{KeepsQuotas, StatesCredit}
 use Rattle.gate_model.specs.Declares.{DeclaresFound}
 use Rattle.gate_model.specs.Delivers.{Delivers}
+use Rattle.gate_model.specs.Dues.{EndsContainers}
+use Rattle.gate_model.specs.Errors.{StatesErrors}
+use Rattle.gate_model.specs.Faults.{StatesFaults}
 use Rattle.gate_model.specs.Giving.{GivesUpIdle}
 use Rattle.gate_model.specs.Holding.{HoldsFew, TakesWithRoom}
 use Rattle.gate_model.specs.Linger.{Lingers}
@@ -34,6 +40,7 @@ use Rattle.gate_model.specs.Rests.{ServesClients, SuppliesContainers}
 use Rattle.gate_model.specs.Settles.{Grants, Settles}
 use Rattle.gate_model.specs.Setup.{IsInForm, SetupText}
 use Rattle.gate_model.specs.State.{owed_lines}
+use Rattle.gate_model.specs.Takes.{TakesInTurn}
 use Rattle.gate_model.specs.Waiting.{ChannelsEndWhenSettled, EndsWhenSettled, OpensWhenOpened}
 use Rattle.gate_pair.specs.Answers.{IsAnswered}
 use Rattle.gate_pair.specs.Lawful.{AreLawful}
@@ -58,6 +65,8 @@ pub record IsLawfulPair (s : SetupText) (h : List Entry) : Type 0 where
   pub once : AnswersOnce (steps_of s h)
   pub requests : AnswersInOrder (steps_of s h)
   pub declared : DeclaresFound (steps_of s h)
+  -- nothing of a channel is taken up while its request waits
+  pub turns : TakesInTurn (steps_of s h)
   -- each confirm covers publishes with the outcome that it tells, accepted ones by an ack; frames
   -- of returns are those of mandatory publishes that no queue took; frames of transfers go within
   -- credit and window, in order, and carry each byte of an image once
@@ -79,23 +88,31 @@ pub record IsLawfulPair (s : SetupText) (h : List Entry) : Type 0 where
   -- none is left that lacks a disposition where a session or a link of it is given up
   pub settles : Settles (steps_of s h)
   pub grants : Grants (steps_of s h)
+  -- a link for gets has its one credit while its get waits, and a consumer's quota is that of the
+  -- last basic.qos before it, which the credit left and what is in use keep to at all times
+  pub credits : StatesCredit (steps_of s h)
+  pub quotas : KeepsQuotas (steps_of s h)
   pub releases : Releases (steps_of s h)
   -- a recover releases what its client has, and nothing else
   pub recovered : GoBack (steps_of s h)
   pub unrecovered : LeavesOthers (steps_of s h)
   pub gone : GoBeforeLeaving (steps_of s h)
-  -- a session's end lingers for what becomes of its publishes, and goes once; so do dispositions of
-  -- role sender, flows and attaches
+  -- a session's end lingers for what becomes of its publishes, states the error of what closed its
+  -- channel, and goes once; so do dispositions of role sender, flows and attaches
   pub lingers : Lingers (steps_of s h)
+  pub errors : StatesErrors (steps_of s h)
   pub ends_once : EndsOnce (steps_of s h)
   pub outcomes : SettlesInOrder (steps_of s h)
   pub flows : FlowsOnce (steps_of s h)
   pub attaches : AttachesOnce (steps_of s h)
-  -- on a channel that is closed no answer and no delivery goes; its close has its reason; and a
-  -- deliver goes behind the answers
+  -- a detach states an error for a transfer that passed that limit alone
+  pub faults : StatesFaults (steps_of s h)
+  -- on a channel that is closed no answer and no delivery goes; its close has its reason, and is the
+  -- only one of its life; and a deliver goes behind the answers
   pub stops : StopsWhenClosed (steps_of s h)
   pub reasons : SaysWhy (steps_of s h)
   pub closes_once : ClosesOnce (steps_of s h)
+  pub life_once : ClosesALifeOnce (steps_of s h)
   pub behind : DeliversBehind (steps_of s h)
   -- the report is owed the lines of the publishes that were lost before they had an outcome, and of
   -- the deliveries that were lost or left
@@ -103,18 +120,19 @@ pub record IsLawfulPair (s : SetupText) (h : List Entry) : Type 0 where
   -- where nothing goes to an end, nothing is owed to it
   pub served : ServesClients (steps_of s h)
   pub supplied : SuppliesContainers (steps_of s h)
-  -- a client is told of the end of its connection or a channel, and of the connection's begin, once
-  -- the container is through
+  pub ended : EndsContainers (steps_of s h)
+  -- a client is told of the end of its connection or a channel, and of the begin of both, once the
+  -- container is through
   pub ends : EndsWhenSettled (steps_of s h)
   pub channels : ChannelsEndWhenSettled (steps_of s h)
   pub opens : OpensWhenOpened (steps_of s h)
+  pub begun : OpensBehindBegins (steps_of s h)
   -- the container is sent what was called for, and a close where that may go
   pub called : AreCalledFor (steps_of s h)
   pub goes : GoesWhenDue (steps_of s h)
-  -- no frame that goes to the client passes its limit; nor one to the container, where what the
-  -- client sent is bytes
+  -- no frame that goes to the client passes its limit; nor one to the container
   pub frames : FitsClients (steps_of s h)
-  pub frames_up : IsInForm s → AreGiven (steps_of s h) → FitsContainers s (steps_of s h)
+  pub frames_up : IsInForm s → FitsContainers s (steps_of s h)
   -- heartbeats and empty frames go, and each end is shut, where time or another cause makes that
   -- due
   pub times : KeepsTimes s h

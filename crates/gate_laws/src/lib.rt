@@ -6,15 +6,21 @@
 
 ghost use Rattle.std.specs.Prelude.{◌≡◌, ℕ, false, Option, Some, List};
 ghost use Rattle.gate_model.specs.Asked.{AreCalledFor, GoesWhenDue};
-ghost use Rattle.gate_model.specs.Frames.{AreGiven, FitsClients, FitsContainers};
+ghost use Rattle.gate_model.specs.Frames.{FitsClients, FitsContainers};
 ghost use Rattle.gate_model.specs.Oks.{AnswersInOrder};
 ghost use Rattle.gate_model.specs.Once.{AnswersOnce};
 ghost use Rattle.gate_model.specs.Order.{TakesInOrder};
 ghost use Rattle.gate_model.specs.Picks.{ArePicks};
 ghost use Rattle.gate_model.specs.Contents.{AreImages, StandTogether, Writes};
+ghost use Rattle.gate_model.specs.Begins.{OpensBehindBegins};
 ghost use Rattle.gate_model.specs.Behind.{DeliversBehind};
+ghost use Rattle.gate_model.specs.Closes.{ClosesALifeOnce};
+ghost use Rattle.gate_model.specs.Credits.{KeepsQuotas, StatesCredit};
 ghost use Rattle.gate_model.specs.Declares.{DeclaresFound};
 ghost use Rattle.gate_model.specs.Delivers.{Delivers};
+ghost use Rattle.gate_model.specs.Dues.{EndsContainers};
+ghost use Rattle.gate_model.specs.Errors.{StatesErrors};
+ghost use Rattle.gate_model.specs.Faults.{StatesFaults};
 ghost use Rattle.gate_model.specs.Giving.{GivesUpIdle};
 ghost use Rattle.gate_model.specs.Holding.{HoldsFew, TakesWithRoom};
 ghost use Rattle.gate_model.specs.Linger.{Lingers};
@@ -29,6 +35,7 @@ ghost use Rattle.gate_model.specs.Rests.{ServesClients, SuppliesContainers};
 ghost use Rattle.gate_model.specs.Settles.{Grants, Settles};
 ghost use Rattle.gate_model.specs.Setup.{IsInForm, SetupText};
 ghost use Rattle.gate_model.specs.State.{owed_lines};
+ghost use Rattle.gate_model.specs.Takes.{TakesInTurn};
 ghost use Rattle.gate_model.specs.Waiting.{ChannelsEndWhenSettled, EndsWhenSettled};
 ghost use Rattle.gate_model.specs.Waiting.{OpensWhenOpened};
 ghost use Rattle.gate_pair.specs.Answers.{IsAnswered};
@@ -108,20 +115,35 @@ pub fn requests_are_answered()
     gate_model::requests_are_answered();
 }
 
+/// Nothing of a channel is taken up while its request waits for the container, nor anything while
+/// connection.open does. What is of channel 0, and a heartbeat, is taken up as the first of what
+/// waits, once no request does.
+pub fn requests_hold_what_follows()
+    ensures { (s : SetupText) (c : Limits) (m : History) → Follows (pair_words s) c m → (p : ℕ)
+        → TakesInTurn (steps_of s (journal p m)) }
+{
+    entries_are_lawful();
+    gate_model::requests_hold_what_follows();
+}
+
 /// Where nothing goes to a client, each channel that is open has nothing owed: no publish that
 /// waits for its confirm has an outcome, none is to go back, no content is begun, no delivery to a
 /// consumer may go, and each request whose answer is due was answered, but for one that waits for
 /// its get-ok. Where nothing goes to a container before the gateway's close, each session that is
 /// begun has nothing owed: no disposition is due, no link is to be detached, and while the pair has
-/// memory no publish may be transferred, no credit is to be stated, and no link to be attached.
+/// memory no publish may be transferred, no credit is to be stated, and no link to be attached. Nor
+/// is a begin, a flow of a session, an end or the close.
 pub fn owed_units_go()
     ensures clients { (s : SetupText) (c : Limits) (m : History) → Follows (pair_words s) c m
         → (p : ℕ) → ServesClients (steps_of s (journal p m)) }
     ensures containers { (s : SetupText) (c : Limits) (m : History) → Follows (pair_words s) c m
         → (p : ℕ) → SuppliesContainers (steps_of s (journal p m)) }
+    ensures sessions { (s : SetupText) (c : Limits) (m : History) → Follows (pair_words s) c m
+        → (p : ℕ) → EndsContainers (steps_of s (journal p m)) }
 {
     entries_are_lawful();
     gate_model::owed_units_go();
+    gate_model::sessions_get_what_is_due();
 }
 
 /// On each channel no more channel.open-oks went than channel.opens were taken up, and the same of
@@ -215,6 +237,21 @@ pub fn deliveries_are_settled()
     gate_model::releases_are_lawful();
 }
 
+/// Each flow of a receiving link states a credit by the kind of its link: 1 at most with drain where
+/// it is for gets, and none but while its get waits; with what is in use within the quota where it
+/// is a consumer's, which its last basic.qos before it says; none where it is a declaration's. And
+/// what is left of a consumer's credit is so within the quota at all times, while its life goes on.
+pub fn quotas_are_kept()
+    ensures stated { (s : SetupText) (c : Limits) (m : History) → Follows (pair_words s) c m
+        → (p : ℕ) → StatesCredit (steps_of s (journal p m)) }
+    ensures kept { (s : SetupText) (c : Limits) (m : History) → Follows (pair_words s) c m
+        → (p : ℕ) → KeepsQuotas (steps_of s (journal p m)) }
+{
+    entries_are_lawful();
+    gate_model::credits_are_lawful();
+    gate_model::quotas_are_kept();
+}
+
 /// A link for publishes that the gateway detaches and the container didn't is one on which each
 /// publish went whole and has its outcome.
 pub fn idle_links_are_given_up()
@@ -253,22 +290,27 @@ pub fn declarations_find_queues()
 /// The gateway's end of a session that the container didn't end goes only once each publish of the
 /// channel's life was sent or lost its link, and has an outcome; once 5,000 ms passed since the
 /// closing event of the channel or of the connection; or once the pair ran out of memory. No more
-/// ends of the session of a number go than begins.
+/// ends of the session of a number go than begins. Each states the error of what closed its
+/// channel.
 pub fn sessions_end_in_time()
     ensures lingers { (s : SetupText) (c : Limits) (m : History) → Follows (pair_words s) c m
         → (p : ℕ) → Lingers (steps_of s (journal p m)) }
     ensures once { (s : SetupText) (c : Limits) (m : History) → Follows (pair_words s) c m
         → (p : ℕ) → EndsOnce (steps_of s (journal p m)) }
+    ensures errors { (s : SetupText) (c : Limits) (m : History) → Follows (pair_words s) c m
+        → (p : ℕ) → StatesErrors (steps_of s (journal p m)) }
 {
     entries_are_lawful();
     gate_model::ends_linger();
     gate_model::sessions_end_once();
+    gate_model::ends_state_errors();
 }
 
 /// Each disposition of role sender that goes to a container answers one of its own that was the
 /// first outcome of some publish, in order, each once. A flow of a link is asked for by a flow of
 /// the container that none answered yet, or states the credit of a receiving link. Of the first
-/// 2^64 attaches no two have one name.
+/// 2^64 attaches no two have one name. A detach states an error only where a transfer passed that
+/// limit of its link.
 pub fn links_are_answered_once()
     ensures outcomes { (s : SetupText) (c : Limits) (m : History) → Follows (pair_words s) c m
         → (p : ℕ) → SettlesInOrder (steps_of s (journal p m)) }
@@ -276,17 +318,20 @@ pub fn links_are_answered_once()
         → (p : ℕ) → FlowsOnce (steps_of s (journal p m)) }
     ensures attaches { (s : SetupText) (c : Limits) (m : History) → Follows (pair_words s) c m
         → (p : ℕ) → AttachesOnce (steps_of s (journal p m)) }
+    ensures faults { (s : SetupText) (c : Limits) (m : History) → Follows (pair_words s) c m
+        → (p : ℕ) → StatesFaults (steps_of s (journal p m)) }
 {
     entries_are_lawful();
     gate_model::outcomes_are_answered();
     gate_model::flows_are_answered();
     gate_model::attaches_go_once();
+    gate_model::detaches_state_faults();
 }
 
 /// No answer, no deliver and no frame of its content goes on a channel that isn't open. A confirm,
 /// and a return that begins, go on one that is, or whose closing event was its container's doing. A
-/// channel.close has the reason for which its channel was closed, and each reason has one at most.
-/// A deliver goes behind the answers that are due on its channel, but for a basic.get-ok.
+/// channel.close has the reason for which its channel was closed, and each reason has one at most,
+/// and so has each life. A deliver goes behind the answers that are due on its channel, but for a basic.get-ok.
 pub fn channels_close_lawfully()
     ensures stops { (s : SetupText) (c : Limits) (m : History) → Follows (pair_words s) c m
         → (p : ℕ) → StopsWhenClosed (steps_of s (journal p m)) }
@@ -294,12 +339,15 @@ pub fn channels_close_lawfully()
         → (p : ℕ) → SaysWhy (steps_of s (journal p m)) }
     ensures once { (s : SetupText) (c : Limits) (m : History) → Follows (pair_words s) c m
         → (p : ℕ) → ClosesOnce (steps_of s (journal p m)) }
+    ensures life { (s : SetupText) (c : Limits) (m : History) → Follows (pair_words s) c m
+        → (p : ℕ) → ClosesALifeOnce (steps_of s (journal p m)) }
     ensures behind { (s : SetupText) (c : Limits) (m : History) → Follows (pair_words s) c m
         → (p : ℕ) → DeliversBehind (steps_of s (journal p m)) }
 {
     entries_are_lawful();
     gate_model::closed_channels_get_no_answers();
     gate_model::closes_say_why();
+    gate_model::lives_close_once();
     gate_model::delivers_go_behind_answers();
 }
 
@@ -318,7 +366,7 @@ pub fn lines_are_lawful()
 /// waited for: the pair ran out of memory, the end isn't open, the container's close came, or it
 /// was given up. connection.open-ok goes only after the container's open. A channel.close of the
 /// gateway or its close-ok goes only where nothing is waited for on its channel: no session began
-/// there, or the container's end came.
+/// there, or the container's end came. A channel.open-ok goes only behind the container's begin.
 pub fn replies_wait()
     ensures ends { (s : SetupText) (c : Limits) (m : History) → Follows (pair_words s) c m → (p : ℕ)
         → EndsWhenSettled (steps_of s (journal p m)) }
@@ -327,9 +375,12 @@ pub fn replies_wait()
     ensures opens { (s : SetupText) (c : Limits) (m : History) → Follows (pair_words s) c m
         → (p : ℕ)
         → OpensWhenOpened (steps_of s (journal p m)) }
+    ensures begun { (s : SetupText) (c : Limits) (m : History) → Follows (pair_words s) c m
+        → (p : ℕ) → OpensBehindBegins (steps_of s (journal p m)) }
 {
     entries_are_lawful();
     gate_model::replies_wait();
+    gate_model::opens_go_behind_begins();
 }
 
 /// The units of the opening that were sent to a container, and those that are due, are those that
@@ -361,11 +412,10 @@ pub fn frames_fit_clients()
 
 /// No frame that goes to a container passes its limit when its first byte is sent: 512 bytes until
 /// an open of it that is neither refused nor passed over, and from then on the lesser of 65,536 and
-/// the max-frame-size that this stated. The set-up is in form, and what the client sent is bytes.
+/// the max-frame-size that this stated. The set-up is in form.
 pub fn frames_fit_containers()
     ensures { (s : SetupText) (c : Limits) (m : History) → Follows (pair_words s) c m → (p : ℕ)
-        → IsInForm s → AreGiven (steps_of s (journal p m))
-        → FitsContainers s (steps_of s (journal p m)) }
+        → IsInForm s → FitsContainers s (steps_of s (journal p m)) }
 {
     entries_are_lawful();
     gate_model::frames_fit_containers();
@@ -421,10 +471,12 @@ pub fn runs_are_lawful()
     laden_pairs_wait();
     channels_are_answered_once();
     requests_are_answered();
+    requests_hold_what_follows();
     publishes_are_lawful();
     delivers_are_lawful();
     contents_are_lawful();
     deliveries_are_settled();
+    quotas_are_kept();
     idle_links_are_given_up();
     recovers_release_all();
     declarations_find_queues();

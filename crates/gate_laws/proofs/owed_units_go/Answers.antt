@@ -4,4 +4,5 @@ pub returns : goal.returns
 returns c = record {
   clients = λ s l m f p. c.owed_units_go.ensures.clients _ (c.entries_are_lawful.ensures.picks s l m f p);
   containers = λ s l m f p. c.owed_units_go.ensures.containers _ (c.entries_are_lawful.ensures.picks s l m f p);
+  sessions = λ s l m f p. c.sessions_get_what_is_due.ensures _ (c.entries_are_lawful.ensures.picks s l m f p);
 }

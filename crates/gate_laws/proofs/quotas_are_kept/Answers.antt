@@ -1,0 +1,4 @@
+use Rattle.gate_laws.proofs.quotas_are_kept.Goals as goal
+
+pub returns-clause-kept : goal.returns-clause-kept
+returns-clause-kept c = λ s l m f p. c.quotas_are_kept.ensures _ (c.entries_are_lawful.ensures.picks s l m f p)
