@@ -1,10 +1,12 @@
 //! Calls of the gateway over scripted ports, with a capture, and what they did.
 
+ghost use Rattle.std.specs.Prelude.{◌≡◌, []};
+
 use crate::runs::{Kind, LOG_BYTES, LOG_ROOM, entries_of, kind_of};
 use crate::scenario::{Scenario, Way, faults, script_of};
 use gate_capture::{next_entry, next_words};
 use gate_command::{CaptureSink, Status, gateway};
-use gate_outside::{Entries, MemorySink, MemorySource, ScriptPorts};
+use gate_outside::{Entries, MemorySink, MemorySource, Ports, ScriptPorts, Sink, Source};
 use std::alloc::Global;
 use tests_support::part;
 use wire_base::{ByteText, ItemList, Memory, Stop};
@@ -19,6 +21,22 @@ pub struct Called {
     pub capture: ByteText,
     /// The calls with their answers, in order.
     pub calls: Entries,
+}
+
+/// Calls the gateway over any ports: what its contract says isn't needed here, and is not worked out
+/// for the ports of a scenario.
+fn status_of<P: Ports, S: Source, K: Sink, C: Sink>(
+    alloc: Global,
+    words: &Vec<String>,
+    ports: &mut P,
+    input: &mut S,
+    out: &mut K,
+    capture: &mut CaptureSink<C>,
+) -> Status
+    requires pairs { P.pairs ports.old ≡ 0 }
+    requires ends { P.ends ports.old ≡ [] }
+{
+    gateway(alloc, words, ports, input, out, capture)
 }
 
 /// Calls the gateway with these bytes as its input. The capture has room for so many bytes, and the
@@ -39,7 +57,7 @@ fn call_with(
         sink: MemorySink::new(alloc, room, faults(alloc, lost)?)?,
     };
     let mut ports = ScriptPorts::new(alloc, script, LOG_ROOM, LOG_BYTES)?;
-    let status = gateway(
+    let status = status_of(
         alloc,
         words,
         &mut ports,

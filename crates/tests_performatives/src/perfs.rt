@@ -1,5 +1,6 @@
 //! Cases of performatives: what is printed of a line.
 
+use crate::frames::{put_frames, put_header};
 use performatives_10::{Perf, has_text, put_perf, put_settled, read_perf};
 use std::alloc::Global;
 use tests_support::{bytes_of, part, put_bytes};
@@ -83,8 +84,11 @@ fn put_settlement(out: &mut String, words: &str) -> Result<bool, Memory> {
 /// A case of performatives; whether it is one.
 pub fn put_line(alloc: Global, out: &mut String, line: &str) -> Result<bool, Memory> {
     let (verb, rest) = line.split_once(' ').unwrap_or((line, ""));
-    if verb == "settled" {
-        return put_settlement(out, rest);
+    match verb {
+        "settled" => return put_settlement(out, rest),
+        "frame" => return put_frames(alloc, out, rest),
+        "header" => return put_header(alloc, out, rest),
+        _ => {}
     }
     let Some(bytes) = bytes_of(alloc, rest)? else {
         return Ok(false);

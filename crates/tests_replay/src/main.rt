@@ -2,8 +2,10 @@
 //! a file; what `replay` says of it is printed behind the name.
 #![tactic(auto)]
 
-use gate_command::{CaptureSink, gateway};
-use gate_outside::{MemorySink, MemorySource, Script, ScriptPorts};
+ghost use Rattle.std.specs.Prelude.{◌≡◌, []};
+
+use gate_command::{CaptureSink, Status, gateway};
+use gate_outside::{MemorySink, MemorySource, Ports, Script, ScriptPorts, Sink, Source};
 use std::alloc::Global;
 use std::io::{BufRead, BufReader};
 use std::{fs, io};
@@ -11,6 +13,21 @@ use wire_base::{ByteText, ItemList, Memory};
 
 /// The most bytes that `replay` says.
 const OUT_ROOM: usize = 1000;
+
+/// Calls the gateway over any ports, so that its contract isn't worked out for those of a replay.
+fn status_of<P: Ports, S: Source, K: Sink, C: Sink>(
+    alloc: Global,
+    words: &Vec<String>,
+    ports: &mut P,
+    input: &mut S,
+    out: &mut K,
+    capture: &mut CaptureSink<C>,
+) -> Status
+    requires pairs { P.pairs ports.old ≡ 0 }
+    requires ends { P.ends ports.old ≡ [] }
+{
+    gateway(alloc, words, ports, input, out, capture)
+}
 
 /// What `replay` says of a capture, and its status.
 fn replayed(alloc: Global, bytes: &[u8]) -> Result<String, Memory> {
@@ -30,7 +47,7 @@ fn replayed(alloc: Global, bytes: &[u8]) -> Result<String, Memory> {
     let mut capture = CaptureSink {
         sink: MemorySink::new(alloc, 0, ItemList::empty(alloc))?,
     };
-    let status = gateway(
+    let status = status_of(
         alloc,
         &words,
         &mut ports,
