@@ -39,8 +39,8 @@ def parts(text):
 
 
 def lines_of(name, pattern):
-    """The groups of each line of a file of the specs that has the pattern."""
-    for line in (SPECS / name).read_text().splitlines():
+    """The groups of each equation of a file of the specs that has the pattern; those behind it go on with blanks."""
+    for line in re.sub(r"\n +", " ", (SPECS / name).read_text()).splitlines():
         if match := pattern.match(line):
             yield match.groups()
 

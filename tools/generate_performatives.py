@@ -8,13 +8,15 @@
 
 From the published definition (Debian's package amqp-specs) come the names, the descriptors, and each field with its type,
 its need and its default: specs/Rows.antt, specs/View.antt, and of the sources the structs, a reader and a writer for each
-row. `rt fmt` lays them out. tools/check_performatives.sh compares. This is no part of the build.
+row. `rt fmt` lays them out. This is no part of the build.
 """
 
 import re
 import sys
 import xml.etree.ElementTree as ElementTree
 from pathlib import Path
+
+from generated import camel, run, snake
 
 CRATE = Path(__file__).resolve().parent.parent / "crates" / "performatives_10"
 DEFINITION = Path("/usr/share/amqp/specs/1-0")
@@ -68,14 +70,6 @@ class Field:
     def __init__(self, name, kind, need, default):
         self.name, self.kind, self.need, self.default = name, kind, need, default
         self.rust = name.replace("-", "_")
-
-
-def camel(name):
-    return "".join(word.capitalize() for word in name.split("-"))
-
-
-def snake(name):
-    return name.replace("-", "_")
 
 
 def roots():
@@ -409,11 +403,6 @@ use wire_base::{{Memory, Stop}};
 """
 
 
-def plain(text):
-    """The text without what the layout changes: blanks, line ends, and commas before a closing bracket."""
-    return re.sub(r",([)}\]])", r"\1", re.sub(r"\s+", "", text))
-
-
 def files_of(types):
     files = {"specs/Rows.antt": rows_file(types), "specs/View.antt": view_file(types),
              "src/performative.rt": performative_file(types)}
@@ -422,29 +411,5 @@ def files_of(types):
     return files
 
 
-def differing(files):
-    """How many files of the crate say something else; each is named."""
-    count = 0
-    for name, text in files.items():
-        if plain((CRATE / name).read_text()) != plain(text):
-            print(f"differs from the definition: {name}")
-            count += 1
-    return count
-
-
-def main():
-    files = files_of(composites())
-    if sys.argv[1:] == ["--check"]:
-        count = differing(files)
-        print(f"{len(files)} files compared, {count} differing")
-        return 1 if count else 0
-    folder = Path(sys.argv[1]) if len(sys.argv) > 1 else CRATE
-    for name, text in files.items():
-        path = folder / name
-        path.parent.mkdir(parents=True, exist_ok=True)
-        path.write_text(text)
-    return 0
-
-
 if __name__ == "__main__":
-    sys.exit(main())
+    sys.exit(run(CRATE, files_of(composites())))

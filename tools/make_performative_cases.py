@@ -399,6 +399,20 @@ class Cases:
         self.told.append(f"{len(data)} | {in_runs(data)}")
 
 
+    def frame(self, limit, data):
+        line = scan(limit, data) + " | cuts"
+        for count in range(len(data)):
+            found = scan(limit, data[:count])
+            if found != "more":
+                line += f", at {count}: {found}"
+        self.asked.append(f"frame {limit} {in_runs(data)}".rstrip())
+        self.told.append(line)
+
+    def header(self, kind, data):
+        self.asked.append(f"header {kind} {digits(data)}".rstrip())
+        self.told.append(header_line(kind, data))
+
+
 # ---- the cases of each performative
 
 
@@ -561,6 +575,79 @@ def settlements(cases):
         cases.settled(channel, first, last)
 
 
+# ---- frames and protocol headers
+
+FRAME_KINDS = {0: "Amqp", 1: "Sasl"}
+
+
+def scan(limit, data):
+    """The first frame of a stream, or what is wrong with it (AMQP 1.0 2.3)."""
+    size = int.from_bytes((data + bytes(4))[:4], "big")
+    if size > limit:
+        return "FrameSize at 0"
+    if len(data) < 4:
+        return "more"
+    if size < 8:
+        return "FrameSize at 0"
+    if len(data) > 4 and not 8 <= 4 * data[4] <= size:
+        return "DataOffset at 4"
+    if len(data) > 5 and data[5] not in FRAME_KINDS:
+        return "FrameType at 5"
+    if len(data) < size:
+        return "more"
+    body, channel = data[4 * data[4]:size], int.from_bytes(data[6:8], "big")
+    again = (8 + len(body)).to_bytes(4, "big") + bytes([2, data[5]]) + data[6:8] + body
+    same = "=" if again == data[:size] else in_runs(again)
+    shown_body = (" " + in_runs(body)) if body else ""
+    return f"{FRAME_KINDS[data[5]]} {channel} |{shown_body} | {size} | {same}"
+
+
+def frames(cases):
+    cases.head("Frames without a body, with one, with an extended header, and with another frame behind it")
+    for data in ["00 00 00 08 02 00 00 00", "00 00 00 08 02 01 00 00", "00 00 00 08 02 00 FF FF",
+                 "00 00 00 0B 02 00 00 01 00 53 45", "00 00 00 0C 03 00 00 01 AA BB CC DD",
+                 "00 00 00 0F 03 01 12 34 AA BB CC DD 00 53 44", "00 00 00 09 02 00 00 02 41 00 00 00 08 02 00 00 00"]:
+        cases.frame(512, bytes.fromhex(data))
+    cases.head("Sizes below 8, offsets below 2 and past the size, and other types; of two faults the first")
+    for data in ["00 00 00 00 02 00 00 00", "00 00 00 07 02 00 00 00", "00 00 00 08 00 00 00 00",
+                 "00 00 00 08 01 00 00 00", "00 00 00 08 03 00 00 00", "00 00 00 0B 03 00 00 00 41 42 43",
+                 "00 00 00 08 FF 00 00 00", "00 00 00 08 02 02 00 00", "00 00 00 08 02 FF 00 00",
+                 "00 00 00 07 01 02 00 00", "00 00 00 08 01 02 00 00"]:
+        cases.frame(512, bytes.fromhex(data))
+    cases.head("Sizes at a limit and past it: told as soon as the bytes that came say so")
+    for limit in (512, 513):
+        cases.frame(limit, frame(3, bytes(limit - 8)))
+        cases.frame(limit, frame(3, bytes(limit - 7))[:12])
+    for data in ["01", "00 01", "00 00 02", "00 00 03", "00 00 02 01", "FF FF FF FF"]:
+        cases.frame(512, bytes.fromhex(data))
+    for data in ["00 01", "00 01 00", "00 01 00 01", "00 01 01", "00 02"]:
+        cases.frame(65536, bytes.fromhex(data))
+    cases.frame(2 ** 32 - 1, bytes.fromhex("FF FF FF FF 02 00 00 00"))
+
+
+HEADERS = {"amqp": b"AMQP\0\1\0\0", "sasl": b"AMQP\3\1\0\0"}
+
+
+def header_line(kind, data):
+    header = HEADERS[kind]
+    for at, byte in enumerate(data[:8]):
+        if byte != header[at]:
+            return f"NotHeader at {at}"
+    return "more" if len(data) < 8 else "whole | 8"
+
+
+def headers(cases):
+    cases.head("Protocol headers: each shorter length, the other kind, other versions, and each byte changed")
+    for kind, header in HEADERS.items():
+        for count in range(9):
+            cases.header(kind, header[:count])
+        cases.header(kind, header + b"\0")
+        for other in [b"AMQP\0\1\0\0", b"AMQP\2\1\0\0", b"AMQP\3\1\0\0", b"AMQP\0\0\x09\1", b"HTTP", b"amqp"]:
+            cases.header(kind, other)
+        for at in range(8):
+            cases.header(kind, header[:at] + bytes([header[at] ^ 0x20]) + header[at + 1:])
+
+
 # ---- what real peers send
 
 
@@ -671,6 +758,8 @@ def main():
     states(cases)
     values(cases)
     settlements(cases)
+    frames(cases)
+    headers(cases)
     peers(cases)
     files = {"stdin": cases.asked, "stdout": cases.told}
     differing = 0

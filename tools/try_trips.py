@@ -3,7 +3,7 @@
 
     python3 tools/try_trips.py --container 'COMMAND' [--gateway 'COMMAND'] [--client NAME,NAME..] [--words 'WORD ..']
                                [--seed SEED] take [--count COUNT] [--how WORD,WORD..] [--prefetch COUNT] [--most BYTES]
-                             | send [--count COUNT] [--most BYTES] [--total BYTES] [--key NAME,NAME..]
+                             | send [--count COUNT] [--most BYTES] [--total BYTES] [--key NAME,NAME..] [--broker PORT]
                              | show [--port PORT]
 
 It starts the container as `COMMAND --port P` and the gateway as `COMMAND serve ..` on a free port; the gateway is
@@ -13,9 +13,11 @@ The clients are `pika`, `amqp`, `go`, `php`, `bunny` and `java`, by the programs
 - take: COUNT messages of 0 to MOST bytes are published, and each client takes them as each word says: it acks each, ten at a time, rejects
   each, sends each back once and then acks it, or consumes without acks (`ack`, `multiple`, `reject`, `requeue`, `none`).
   Each delivery must have its body, and the container must have seen exactly these outcomes, each of its message.
-- send: each client publishes COUNT bodies of 0 to MOST bytes, TOTAL together or so, with confirms. Each must be in the
-  container once with an equal body, where it was acked with the outcome accepted, told before the ack; and where it was
-  nacked with another outcome, or none.
+- send: each client publishes COUNT bodies of 0 to MOST bytes, TOTAL together or so, with confirms, and with twelve properties
+  and four headers that are each message's own. Each must be in the container once with an equal body, properties and headers,
+  where it was acked with the outcome accepted, told before the ack; and where it was nacked with another outcome, or none.
+  With `--broker` COMMAND is tools/watched_broker.py before a broker whose port for AMQP 1.0 is PORT. Each queue is read there behind its
+  publishes, without the gateway.
 - show: each client publishes a message with all fourteen properties, as far as its library knows them, and a header of each
   kind that it can write. Each client shows each of these. With `--port` the same goes through the broker of AMQP 0-9-1 at
   PORT, which must have the queues `trip-WORD-NAME-NAME`, and what differs is printed.
@@ -36,6 +38,8 @@ import tempfile
 import time
 
 from try_container import BUILT, CLIENTS, GO_PATH, JARS, end, free_port, wait_for
+from watched_broker import fetched
+from watched_container import hashed
 
 FINE = {"ack": ["accepted"], "multiple": ["accepted"], "reject": ["rejected"], "requeue": ["released", "accepted"],
         "none": ["accepted"]}
@@ -80,7 +84,7 @@ class Log:
         self.file = open(path)
 
     def lines(self):
-        return [line.split() for line in self.file if line.startswith(("told ", "gave ", "requeued "))]
+        return [line.split() for line in self.file if line.startswith(("told ", "gave ", "requeued ", "outcome "))]
 
 
 class Bodies:
@@ -162,7 +166,24 @@ def sizes_of(options):
     return sizes
 
 
-def judge_send(faults, bodies, said, told):
+def rest_of_number(key, i):
+    """What `rest_of` makes of the properties and headers that each library's program gives message i."""
+    return hashed([
+        i % 2 == 1, 1 + i % 9, (86400000 + i) / 1000, f"m{i}", b"guest".hex(), None, key, "answers", f"c{i}", "text/plain", "utf-8",
+        1700000000.0 + i, {"number": i, "text": f"größe {i}", "even": i % 2 == 0},
+        {"x-opt-091-type": f"t{i}", "x-opt-091-app-id": "shop", "x-opt-091-headers": {"inner": {"number": i}}},
+    ])
+
+
+def told_by_broker(port, key, count, outcomes):
+    """What a broker's queue has, each with its outcome: the n-th publish of a connection has the delivery-id n."""
+    of = {}
+    for _, first, last, word, moment in outcomes:
+        of.update((f"m{i}", (word, moment)) for i in range(int(first), int(last) + 1))
+    return [["told", key, name, hashed, *of.get(name, ("none", "0")), rest] for name, hashed, rest in fetched(port, key, count)]
+
+
+def judge_send(faults, key, bodies, said, told):
     """What a client told of its confirms, and the container of what it took."""
     confirms = {}
     for line in said:
@@ -175,13 +196,15 @@ def judge_send(faults, bodies, said, told):
     taken = collections.defaultdict(list)
     for word, _, *rest in told:
         if word == "told":
-            taken[rest[0]].append((rest[1], rest[2], int(rest[3])))
+            taken[rest[0]].append((rest[1], rest[2], int(rest[3]), rest[4]))
     waits = []
     for name, hashed in bodies.hashes.items():
         found = taken[name]
         word, moment = confirms.get(name, ("none", 0))
         if len(found) != 1 or found[0][0] != hashed:
             faults.note("isn't there once with its body", [(name, word, found)])
+        elif found[0][3] != rest_of_number(key, int(name[1:])):
+            faults.note("has other properties or headers", [name])
         elif word == "ack" and (found[0][1] != "accepted" or moment < found[0][2]):
             faults.note("was acked, and not accepted before", [(name, moment, found)])
         elif word != "ack" and found[0][1] == "accepted":
@@ -204,7 +227,10 @@ def send(options, programs, port, log, folder, faults):
             began = time.monotonic()
             said = programs.run(name, port, "send", key, bodies.sizes, bodies.pool)
             took = time.monotonic() - began
-            print(f"{name} to {key}: {judge_send(faults, bodies, said, log.lines())}; {took:.1f} s", flush=True)
+            told = log.lines()
+            if options.broker:
+                told = told_by_broker(options.broker, key, options.count, told)
+            print(f"{name} to {key}: {judge_send(faults, key, bodies, said, told)}; {took:.1f} s", flush=True)
             faults.tell()
 
 
@@ -265,6 +291,7 @@ def main():
     of_send.add_argument("--most", type=int, default=1 << 20)
     of_send.add_argument("--total", type=int, default=500_000_000)
     of_send.add_argument("--key", default="sent")
+    of_send.add_argument("--broker", type=int)
     of_show.add_argument("--port", type=int)
     options = parser.parse_args()
     global COUNTED

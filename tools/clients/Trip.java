@@ -40,8 +40,12 @@ public class Trip {
         byte[] of(int i) throws Exception;
     }
 
+    interface Properties {
+        BasicProperties of(int i);
+    }
+
     // Publishes with confirms; each is told by its number.
-    static void confirmed(int count, Body body, BasicProperties properties) throws Exception {
+    static void confirmed(int count, Body body, Properties properties) throws Exception {
         TreeMap<Long, Boolean> open = new TreeMap<>();
         channel.confirmSelect();
         channel.addConfirmListener((tag, multiple) -> tell("ack", open, tag, multiple),
@@ -50,8 +54,7 @@ public class Trip {
             synchronized (open) {
                 open.put(channel.getNextPublishSeqNo(), true);
             }
-            BasicProperties own = properties != null ? properties : new BasicProperties.Builder().messageId("m" + i).build();
-            channel.basicPublish("", queue, own, body.of(i));
+            channel.basicPublish("", queue, properties.of(i), body.of(i));
         }
         channel.waitForConfirms(600000);
     }
@@ -68,10 +71,17 @@ public class Trip {
         }
     }
 
+    static BasicProperties numbered(int i) {
+        Map<String, Object> headers = map("number", i, "text", "gr\u00f6\u00dfe " + i, "even", i % 2 == 0, "inner", map("number", i));
+        return new BasicProperties.Builder().contentType("text/plain").contentEncoding("utf-8").headers(headers)
+            .deliveryMode(1 + i % 2).priority(1 + i % 9).correlationId("c" + i).replyTo("answers").expiration("" + (86400000 + i))
+            .messageId("m" + i).timestamp(new Date(1000L * (1700000000 + i))).type("t" + i).userId("guest").appId("shop").build();
+    }
+
     static void send(String sizesFile, String poolFile) throws Exception {
         String[] sizes = Files.readString(Paths.get(sizesFile)).trim().split(" ");
         byte[] pool = Files.readAllBytes(Paths.get(poolFile));
-        confirmed(sizes.length, i -> Arrays.copyOfRange(pool, i, i + Integer.parseInt(sizes[i])), null);
+        confirmed(sizes.length, i -> Arrays.copyOfRange(pool, i, i + Integer.parseInt(sizes[i])), Trip::numbered);
     }
 
     interface Act {
@@ -145,7 +155,7 @@ public class Trip {
             "time", new Date(1709208000000L), "nothing", null, "bytes", new byte[] {0, -128, -1},
             "table", map("a", 1, "b", map("c", "deep")),
             "list", Arrays.asList(1, "two", true, null, Arrays.asList(3), map("d", 4)));
-        confirmed(1, i -> "rich".getBytes(), new BasicProperties.Builder().contentType("text/plain")
+        confirmed(1, i -> "rich".getBytes(), i -> new BasicProperties.Builder().contentType("text/plain")
             .contentEncoding("utf-8").headers(headers).deliveryMode(2).priority(5).correlationId("c-17").replyTo("answers")
             .expiration("600000").messageId("m-17").timestamp(new Date(1700000000000L)).type("order.new").userId("guest")
             .appId("shop").clusterId("west").build());
@@ -153,12 +163,12 @@ public class Trip {
 
     // a kind of headers that py-amqp can't read
     static void rare() throws Exception {
-        confirmed(1, i -> "rare".getBytes(), new BasicProperties.Builder().headers(map("short", (short) -300)).build());
+        confirmed(1, i -> "rare".getBytes(), i -> new BasicProperties.Builder().headers(map("short", (short) -300)).build());
     }
 
     static void decimal() throws Exception {
         confirmed(1, i -> "decimal".getBytes(),
-            new BasicProperties.Builder().headers(map("decimal", new BigDecimal("3.14"))).build());
+            i -> new BasicProperties.Builder().headers(map("decimal", new BigDecimal("3.14"))).build());
     }
 
     static String quoted(String text) {

@@ -41,6 +41,16 @@ func publish(message amqp.Publishing) {
 	check(channel.PublishWithContext(context.Background(), "", queue, false, false, message))
 }
 
+func numbered(i int, body []byte) amqp.Publishing {
+	n := int32(i)
+	headers := amqp.Table{"number": n, "text": fmt.Sprintf("größe %d", i), "even": i%2 == 0, "inner": amqp.Table{"number": n}}
+	return amqp.Publishing{
+		ContentType: "text/plain", ContentEncoding: "utf-8", Headers: headers, DeliveryMode: uint8(1 + i%2), Priority: uint8(1 + i%9),
+		CorrelationId: fmt.Sprintf("c%d", i), ReplyTo: "answers", Expiration: strconv.Itoa(86400000 + i),
+		MessageId: fmt.Sprintf("m%d", i), Timestamp: time.Unix(1700000000+int64(i), 0), Type: fmt.Sprintf("t%d", i),
+		UserId: "guest", AppId: "shop", Body: body}
+}
+
 func send(sizesFile, poolFile string) {
 	text, err := os.ReadFile(sizesFile)
 	check(err)
@@ -65,7 +75,7 @@ func send(sizesFile, poolFile string) {
 		done <- true
 	}()
 	for i, word := range sizes {
-		publish(amqp.Publishing{MessageId: fmt.Sprintf("m%d", i), Body: pool[i : i+number(word)]})
+		publish(numbered(i, pool[i:i+number(word)]))
 	}
 	<-done
 }

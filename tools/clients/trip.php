@@ -39,13 +39,24 @@ function confirmed($messages)
     $channel->wait_for_pending_acks(60);
 }
 
+function numbered($i, $body)
+{
+    $inner = new AMQPTable(['number' => $i]);
+    return new AMQPMessage($body, [
+        'content_type' => 'text/plain', 'content_encoding' => 'utf-8', 'delivery_mode' => 1 + $i % 2, 'priority' => 1 + $i % 9,
+        'correlation_id' => "c$i", 'reply_to' => 'answers', 'expiration' => (string) (86400000 + $i), 'message_id' => "m$i",
+        'timestamp' => 1700000000 + $i, 'type' => "t$i", 'user_id' => 'guest', 'app_id' => 'shop',
+        'application_headers' => new AMQPTable(['number' => $i, 'text' => "größe $i", 'even' => $i % 2 == 0, 'inner' => $inner]),
+    ]);
+}
+
 function send($sizes, $pool)
 {
     $sizes = explode(' ', trim(file_get_contents($sizes)));
     $pool = file_get_contents($pool);
     confirmed((function () use ($sizes, $pool) {
         foreach ($sizes as $i => $size) {
-            yield $i => new AMQPMessage(substr($pool, $i, (int) $size), ['message_id' => "m$i"]);
+            yield $i => numbered($i, substr($pool, $i, (int) $size));
         }
     })());
 }

@@ -40,10 +40,19 @@ def confirmed(channel, messages)
   count.times { puts done.pop }
 end
 
+def numbered(i)
+  {
+    content_type: "text/plain", content_encoding: "utf-8", delivery_mode: 1 + i % 2, priority: 1 + i % 9, correlation_id: "c#{i}",
+    reply_to: "answers", expiration: (86400000 + i).to_s, message_id: "m#{i}", timestamp: 1700000000 + i, type: "t#{i}",
+    user_id: "guest", app_id: "shop",
+    headers: { "number" => i, "text" => "größe #{i}", "even" => i.even?, "inner" => { "number" => i } }
+  }
+end
+
 def send_all(channel, sizes, pool)
   pool = File.binread(pool)
   confirmed(channel, File.read(sizes).split.each_with_index.lazy.map { |size, i|
-    [pool.byteslice(i, size.to_i), { message_id: "m#{i}" }]
+    [pool.byteslice(i, size.to_i), numbered(i)]
   })
 end
 

@@ -16,12 +16,21 @@ connection.connect()
 channel = connection.channel()
 
 
+def numbered(i, body):
+    headers = {"number": i, "text": f"größe {i}", "even": i % 2 == 0, "inner": {"number": i}}
+    return amqp.Message(
+        body, content_type="text/plain", content_encoding="utf-8", application_headers=headers, delivery_mode=1 + i % 2,
+        priority=1 + i % 9, correlation_id=f"c{i}", reply_to="answers", expiration=str(86400000 + i), message_id=f"m{i}",
+        timestamp=1700000000 + i, type=f"t{i}", user_id="guest", app_id="shop",
+    )
+
+
 def send(sizes, pool):
     with open(sizes) as numbers, open(pool, "rb") as source:
         sizes, pool = [int(word) for word in numbers.read().split()], source.read()
     for i, size in enumerate(sizes):
         try:
-            channel.basic_publish(amqp.Message(pool[i : i + size], message_id=f"m{i}"), routing_key=queue)
+            channel.basic_publish(numbered(i, pool[i : i + size]), routing_key=queue)
             word = "ack"
         except amqp.exceptions.MessageNacked:
             word = "nack"

@@ -1,6 +1,6 @@
 """Sends, takes and shows messages by pika, for tools/try_trips.py: a port, and then one of
 
-    send KEY SIZES POOL                 publishes a message for each number in SIZES, with confirms
+    send KEY SIZES POOL                 publishes a message for each number in SIZES, with confirms, and with properties of its own
     take QUEUE HOW COUNT PREFETCH       consumes, and settles each message as HOW says
     rich KEY                            publishes a message with all that the library can write
     rare KEY                            publishes one with kinds of headers that some libraries can't read (go, php, java)
@@ -25,14 +25,23 @@ connection = pika.BlockingConnection(pika.ConnectionParameters("127.0.0.1", int(
 channel = connection.channel()
 
 
+def numbered(i):
+    """The properties of message i, which are those of each library's."""
+    headers = {"number": i, "text": f"größe {i}", "even": i % 2 == 0, "inner": {"number": i}}
+    return pika.BasicProperties(
+        content_type="text/plain", content_encoding="utf-8", headers=headers, delivery_mode=1 + i % 2, priority=1 + i % 9,
+        correlation_id=f"c{i}", reply_to="answers", expiration=str(86400000 + i), message_id=f"m{i}",
+        timestamp=1700000000 + i, type=f"t{i}", user_id="guest", app_id="shop",
+    )
+
+
 def send(sizes, pool):
     with open(sizes) as numbers, open(pool, "rb") as source:
         sizes, pool = [int(word) for word in numbers.read().split()], source.read()
     channel.confirm_delivery()
     for i, size in enumerate(sizes):
-        properties = pika.BasicProperties(message_id=f"m{i}")
         try:
-            channel.basic_publish("", queue, pool[i : i + size], properties)
+            channel.basic_publish("", queue, pool[i : i + size], numbered(i))
             word = "ack"
         except pika.exceptions.NackError:
             word = "nack"
