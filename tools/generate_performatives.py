@@ -218,7 +218,8 @@ def writer_text(name, fields, struct, public):
     rows = f"{snake(name)}_rows"
     return f"""/// What is written of the fields of {name}.
 {'pub(crate) ' if public else ''}fn {snake(name)}_written(alloc: Global, perf: &{struct}) -> Result<Fields, Memory>
-    ensures {{ IfOk result (λ f. f ≡ all_added no_fields (written {rows} ({snake(name)}_fields perf.now))) }}
+    ensures {{ IfOk result (λ f. f ≡ all_added no_fields (written {rows}
+        ({snake(name)}_fields perf.now))) }}
 {{
     let mut fields = Fields::empty(alloc);
 {lines}
@@ -226,7 +227,7 @@ def writer_text(name, fields, struct, public):
 }}"""
 
 
-GENERATED = "This file is written by tools/generate_performatives.py from the published definition of AMQP 1.0."
+GENERATED = "This file is written by tools/generate_performatives.py from the definition of AMQP 1.0."
 
 
 def rows_file(types):
@@ -235,9 +236,9 @@ def rows_file(types):
     blocks = [rows_text(name, types[name][1]) for name in PARTS + perfs]
     codes = [f"row perf.{camel(name)} = ({types[name][0]}, {snake(name)}_rows)" for name in perfs]
     kinds = " ∷ ".join(f"perf.{camel(name)}" for name in perfs)
-    return f"""-- The table of the performatives (AMQP 1.0 2.7, 5.3.3) and of the composite types inside them (2.8.14, 3.4, 3.5): the code of the
--- descriptor, and one line a field, with its need, its type and its default, in the order of the standard.
--- {GENERATED}
+    return f"""-- {GENERATED}
+
+-- The table of the performatives (AMQP 1.0 2.7, 5.3.3) and of the composite types inside them (2.8.14, 3.4, 3.5): the code of the descriptor, and one line a field, with its need, its type and its default, in the order of the standard.
 use Rattle.std.specs.Prelude.{{ℕ, false, List, [], ◌∷◌}}
 use Rattle.types_10.specs.Tree as value
 use Rattle.performatives_10.specs.Fields.{{boolean, ubyte, ushort, uint, ulong, binary, string, symbol, symbols, mapping, address, anything, leaf, error, state, source, target, Row, needs, may, has}}
@@ -266,8 +267,9 @@ def view_file(types):
     error = Field_kept(types["error"][1], ["condition", "description"])
     termini = [view_text(n, types[n][1], STRUCT[n]) for n in ("source", "target")]
     blocks = [view_text(n, types[n][1], camel(n)) for n in perfs]
-    return f"""-- A performative as its kind and its fields in order: null for an absent field.
--- {GENERATED}
+    return f"""-- {GENERATED}
+
+-- A performative as its kind and its fields in order: null for an absent field.
 use Rattle.std.specs.Prelude.{{List, [], ◌∷◌}}
 use Rattle.types_10.specs.Tree.{{Tree}}
 use Rattle.types_10.specs.View.{{value_tree}}
@@ -331,17 +333,16 @@ def performative_file(types):
              struct_text("source", types["source"][1], "Source10"),
              struct_text("target", types["target"][1], "Target10")]
     variants = "\n".join(f"    {camel(n)}({camel(n)})," for n in perfs)
-    return f"""//! The performatives as structs of their fields. An absent field is `None`, or its default where it has one.
+    return f"""//! {GENERATED}
 //!
-//! {GENERATED}
+//! The performatives as structs of their fields. An absent field is `None`, or its default where it has one.
 
 use types_10::Value10;
 use wire_base::ByteText;
 
 {parts[0]}
 
-/// The state of a delivery (AMQP 1.0 3.4). Only the error of a rejection is kept. `Received` is read, and can't be
-/// written as it stands, since its mandatory fields aren't kept.
+/// The state of a delivery (AMQP 1.0 3.4). Only the error of a rejection is kept. `Received` is read, and can't be written as it stands, since its mandatory fields aren't kept.
 #[derive(Debug, Drop)]
 pub enum State {{
     Received,
@@ -379,9 +380,9 @@ def module_file(module, types):
     views = ", ".join(f"{snake(n)}_fields" for n in names)
     structs = ", ".join(sorted([camel(n) for n in names] + ["Perf"]))
     alloc = "use std::alloc::Global;\n"
-    return f"""//! {HEADS[module]}
+    return f"""//! {GENERATED}
 //!
-//! {GENERATED}
+//! {HEADS[module]}
 
 ghost use Rattle.std.specs.Prelude.{{◌≡◌, IfOk}};
 ghost use Rattle.wire_base.specs.Reading.{{Gives}};

@@ -1,7 +1,8 @@
+-- This file is written by tools/generate_performatives.py from the definition of AMQP 1.0.
+
 -- The table of the performatives (AMQP 1.0 2.7, 5.3.3) and of the composite types inside them
 -- (2.8.14, 3.4, 3.5): the code of the descriptor, and one line a field, with its need, its type and
--- its default, in the order of the standard. This file is written by
--- tools/generate_performatives.py from the published definition of AMQP 1.0.
+-- its default, in the order of the standard.
 use Rattle.std.specs.Prelude.{ℕ, false, List, [], ◌∷◌}
 use Rattle.types_10.specs.Tree as value
 use Rattle.performatives_10.specs.Fields.{boolean, ubyte, ushort, uint, ulong, binary, string}
@@ -210,7 +211,9 @@ row perf.SaslOutcome = (68, sasl_outcome_rows)
 -- all kinds
 abbrev pub kinds : List PerfKind
 kinds =
-    perf.Open ∷ perf.Begin ∷ perf.Attach ∷ perf.Flow ∷ perf.Transfer ∷ perf.Disposition ∷ perf.Detach ∷ perf.End ∷ perf.Close ∷ perf.SaslMechanisms ∷ perf.SaslInit ∷ perf.SaslChallenge ∷ perf.SaslResponse ∷ perf.SaslOutcome ∷ []
+    perf.Open ∷ perf.Begin ∷ perf.Attach ∷ perf.Flow ∷ perf.Transfer ∷ perf.Disposition
+    ∷ perf.Detach ∷ perf.End ∷ perf.Close ∷ perf.SaslMechanisms ∷ perf.SaslInit ∷ perf.SaslChallenge
+    ∷ perf.SaslResponse ∷ perf.SaslOutcome ∷ []
 
 -- the codes of the composite types inside performatives
 abbrev pub error_code : ℕ

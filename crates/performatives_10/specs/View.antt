@@ -1,6 +1,6 @@
+-- This file is written by tools/generate_performatives.py from the definition of AMQP 1.0.
+
 -- A performative as its kind and its fields in order: null for an absent field.
--- This file is written by tools/generate_performatives.py from the published definition of AMQP
--- 1.0.
 use Rattle.std.specs.Prelude.{List, [], ◌∷◌}
 use Rattle.types_10.specs.Tree.{Tree}
 use Rattle.types_10.specs.View.{value_tree}

@@ -1,7 +1,6 @@
-//! The performatives of a link (AMQP 1.0 2.7.3 to 2.7.7).
+//! This file is written by tools/generate_performatives.py from the definition of AMQP 1.0.
 //!
-//! This file is written by tools/generate_performatives.py from the published definition of AMQP
-//! 1.0.
+//! The performatives of a link (AMQP 1.0 2.7.3 to 2.7.7).
 
 ghost use Rattle.std.specs.Prelude.{◌≡◌, IfOk};
 ghost use Rattle.wire_base.specs.Reading.{Gives};

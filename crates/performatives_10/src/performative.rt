@@ -1,8 +1,7 @@
+//! This file is written by tools/generate_performatives.py from the definition of AMQP 1.0.
+//!
 //! The performatives as structs of their fields. An absent field is `None`, or its default where it
 //! has one.
-//!
-//! This file is written by tools/generate_performatives.py from the published definition of AMQP
-//! 1.0.
 
 use types_10::Value10;
 use wire_base::ByteText;

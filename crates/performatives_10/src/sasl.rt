@@ -1,7 +1,6 @@
-//! The frames of the SASL layer (AMQP 1.0 5.3.3).
+//! This file is written by tools/generate_performatives.py from the definition of AMQP 1.0.
 //!
-//! This file is written by tools/generate_performatives.py from the published definition of AMQP
-//! 1.0.
+//! The frames of the SASL layer (AMQP 1.0 5.3.3).
 
 ghost use Rattle.std.specs.Prelude.{◌≡◌, IfOk};
 ghost use Rattle.wire_base.specs.Reading.{Gives};

@@ -1,7 +1,6 @@
-//! The performatives of a session (AMQP 1.0 2.7.2, 2.7.8).
+//! This file is written by tools/generate_performatives.py from the definition of AMQP 1.0.
 //!
-//! This file is written by tools/generate_performatives.py from the published definition of AMQP
-//! 1.0.
+//! The performatives of a session (AMQP 1.0 2.7.2, 2.7.8).
 
 ghost use Rattle.std.specs.Prelude.{◌≡◌, IfOk};
 ghost use Rattle.wire_base.specs.Reading.{Gives};
@@ -68,7 +67,8 @@ pub(crate) fn end_of(alloc: Global, fields: &ValueList) -> Result<Perf, Stop<Per
 
 /// What is written of the fields of end.
 pub(crate) fn end_written(alloc: Global, perf: &End) -> Result<Fields, Memory>
-    ensures { IfOk result (λ f. f ≡ all_added no_fields (written end_rows (end_fields perf.now))) }
+    ensures { IfOk result (λ f. f ≡ all_added no_fields (written end_rows
+        (end_fields perf.now))) }
 {
     let mut fields = Fields::empty(alloc);
     fields.maybe_error(alloc, &perf.error)?;
