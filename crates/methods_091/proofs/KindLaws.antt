@@ -5,15 +5,23 @@ use Rattle.std.proofs.lemmas.Bool.{eqb-true}
 use Rattle.std.specs.Prelude.{option_map}
 use Rattle.methods_091.specs.Rows.{class_of, id_of, first_with, kind_with, connection_kinds}
 use Rattle.methods_091.specs.Rows.{channel_kinds, exchange_kinds, queue_kinds, basic_kinds}
-use Rattle.methods_091.specs.Rows.{confirm_kinds, tx_kinds}
+use Rattle.methods_091.specs.Rows.{confirm_kinds, tx_kinds, as_connection, as_channel, as_exchange}
+use Rattle.methods_091.specs.Rows.{as_queue, as_basic, as_confirm, as_tx}
 use Rattle.methods_091.specs.declared.kind.MethodKind.{MethodKind}
 use Rattle.methods_091.specs.declared.kind.MethodKind.TheVariants as class
+use Rattle.methods_091.specs.declared.kind.ConnectionKind.{ConnectionKind}
 use Rattle.methods_091.specs.declared.kind.ConnectionKind.TheVariants as in_connection
+use Rattle.methods_091.specs.declared.kind.ChannelKind.{ChannelKind}
 use Rattle.methods_091.specs.declared.kind.ChannelKind.TheVariants as in_channel
+use Rattle.methods_091.specs.declared.kind.ExchangeKind.{ExchangeKind}
 use Rattle.methods_091.specs.declared.kind.ExchangeKind.TheVariants as in_exchange
+use Rattle.methods_091.specs.declared.kind.QueueKind.{QueueKind}
 use Rattle.methods_091.specs.declared.kind.QueueKind.TheVariants as in_queue
+use Rattle.methods_091.specs.declared.kind.BasicKind.{BasicKind}
 use Rattle.methods_091.specs.declared.kind.BasicKind.TheVariants as in_basic
+use Rattle.methods_091.specs.declared.kind.ConfirmKind.{ConfirmKind}
 use Rattle.methods_091.specs.declared.kind.ConfirmKind.TheVariants as in_confirm
+use Rattle.methods_091.specs.declared.kind.TxKind.{TxKind}
 use Rattle.methods_091.specs.declared.kind.TxKind.TheVariants as in_tx
 
 -- ---- a kind that was found has the ids
@@ -70,64 +78,52 @@ kind_is c id k e =
 
 -- ---- a kind is found by its ids, which have two bytes each
 
-pub kind_known : (k : MethodKind) → (class_of k < 65536) × (id_of k < 65536) × (kind_with (class_of k) (id_of k) ≡ Some k)
-kind_known (class.Connection in_connection.Start) = (omega arith, omega arith, refl)
-kind_known (class.Connection in_connection.StartOk) = (omega arith, omega arith, refl)
-kind_known (class.Connection in_connection.Secure) = (omega arith, omega arith, refl)
-kind_known (class.Connection in_connection.SecureOk) = (omega arith, omega arith, refl)
-kind_known (class.Connection in_connection.Tune) = (omega arith, omega arith, refl)
-kind_known (class.Connection in_connection.TuneOk) = (omega arith, omega arith, refl)
-kind_known (class.Connection in_connection.Open) = (omega arith, omega arith, refl)
-kind_known (class.Connection in_connection.OpenOk) = (omega arith, omega arith, refl)
-kind_known (class.Connection in_connection.Close) = (omega arith, omega arith, refl)
-kind_known (class.Connection in_connection.CloseOk) = (omega arith, omega arith, refl)
-kind_known (class.Channel in_channel.Open) = (omega arith, omega arith, refl)
-kind_known (class.Channel in_channel.OpenOk) = (omega arith, omega arith, refl)
-kind_known (class.Channel in_channel.Flow) = (omega arith, omega arith, refl)
-kind_known (class.Channel in_channel.FlowOk) = (omega arith, omega arith, refl)
-kind_known (class.Channel in_channel.Close) = (omega arith, omega arith, refl)
-kind_known (class.Channel in_channel.CloseOk) = (omega arith, omega arith, refl)
-kind_known (class.Exchange in_exchange.Declare) = (omega arith, omega arith, refl)
-kind_known (class.Exchange in_exchange.DeclareOk) = (omega arith, omega arith, refl)
-kind_known (class.Exchange in_exchange.Delete) = (omega arith, omega arith, refl)
-kind_known (class.Exchange in_exchange.DeleteOk) = (omega arith, omega arith, refl)
-kind_known (class.Queue in_queue.Declare) = (omega arith, omega arith, refl)
-kind_known (class.Queue in_queue.DeclareOk) = (omega arith, omega arith, refl)
-kind_known (class.Queue in_queue.Bind) = (omega arith, omega arith, refl)
-kind_known (class.Queue in_queue.BindOk) = (omega arith, omega arith, refl)
-kind_known (class.Queue in_queue.Purge) = (omega arith, omega arith, refl)
-kind_known (class.Queue in_queue.PurgeOk) = (omega arith, omega arith, refl)
-kind_known (class.Queue in_queue.Delete) = (omega arith, omega arith, refl)
-kind_known (class.Queue in_queue.DeleteOk) = (omega arith, omega arith, refl)
-kind_known (class.Queue in_queue.Unbind) = (omega arith, omega arith, refl)
-kind_known (class.Queue in_queue.UnbindOk) = (omega arith, omega arith, refl)
-kind_known (class.Basic in_basic.Qos) = (omega arith, omega arith, refl)
-kind_known (class.Basic in_basic.QosOk) = (omega arith, omega arith, refl)
-kind_known (class.Basic in_basic.Consume) = (omega arith, omega arith, refl)
-kind_known (class.Basic in_basic.ConsumeOk) = (omega arith, omega arith, refl)
-kind_known (class.Basic in_basic.Cancel) = (omega arith, omega arith, refl)
-kind_known (class.Basic in_basic.CancelOk) = (omega arith, omega arith, refl)
-kind_known (class.Basic in_basic.Publish) = (omega arith, omega arith, refl)
-kind_known (class.Basic in_basic.Return) = (omega arith, omega arith, refl)
-kind_known (class.Basic in_basic.Deliver) = (omega arith, omega arith, refl)
-kind_known (class.Basic in_basic.Get) = (omega arith, omega arith, refl)
-kind_known (class.Basic in_basic.GetOk) = (omega arith, omega arith, refl)
-kind_known (class.Basic in_basic.GetEmpty) = (omega arith, omega arith, refl)
-kind_known (class.Basic in_basic.Ack) = (omega arith, omega arith, refl)
-kind_known (class.Basic in_basic.Reject) = (omega arith, omega arith, refl)
-kind_known (class.Basic in_basic.RecoverAsync) = (omega arith, omega arith, refl)
-kind_known (class.Basic in_basic.Recover) = (omega arith, omega arith, refl)
-kind_known (class.Basic in_basic.RecoverOk) = (omega arith, omega arith, refl)
-kind_known (class.Basic in_basic.Nack) = (omega arith, omega arith, refl)
-kind_known (class.Confirm in_confirm.Select) = (omega arith, omega arith, refl)
-kind_known (class.Confirm in_confirm.SelectOk) = (omega arith, omega arith, refl)
-kind_known (class.Tx in_tx.Select) = (omega arith, omega arith, refl)
-kind_known (class.Tx in_tx.SelectOk) = (omega arith, omega arith, refl)
-kind_known (class.Tx in_tx.Commit) = (omega arith, omega arith, refl)
-kind_known (class.Tx in_tx.CommitOk) = (omega arith, omega arith, refl)
-kind_known (class.Tx in_tx.Rollback) = (omega arith, omega arith, refl)
-kind_known (class.Tx in_tx.RollbackOk) = (omega arith, omega arith, refl)
+abbrev IsKnown : MethodKind → Type 0
+IsKnown k = (class_of k < 65536) × (id_of k < 65536) × (kind_with (class_of k) (id_of k) ≡ Some k)
+
+connection_known : (k : ConnectionKind) → IsKnown (class.Connection k)
+connection_known in_connection.Start = (omega arith, omega arith, refl)
+connection_known k = (omega arith, omega arith, refl)
+
+channel_known : (k : ChannelKind) → IsKnown (class.Channel k)
+channel_known in_channel.Open = (omega arith, omega arith, refl)
+channel_known k = (omega arith, omega arith, refl)
+
+exchange_known : (k : ExchangeKind) → IsKnown (class.Exchange k)
+exchange_known in_exchange.Declare = (omega arith, omega arith, refl)
+exchange_known k = (omega arith, omega arith, refl)
+
+queue_known : (k : QueueKind) → IsKnown (class.Queue k)
+queue_known in_queue.Declare = (omega arith, omega arith, refl)
+queue_known k = (omega arith, omega arith, refl)
+
+basic_known : (k : BasicKind) → IsKnown (class.Basic k)
+basic_known in_basic.Qos = (omega arith, omega arith, refl)
+basic_known k = (omega arith, omega arith, refl)
+
+confirm_known : (k : ConfirmKind) → IsKnown (class.Confirm k)
+confirm_known in_confirm.Select = (omega arith, omega arith, refl)
+confirm_known k = (omega arith, omega arith, refl)
+
+tx_known : (k : TxKind) → IsKnown (class.Tx k)
+tx_known in_tx.Select = (omega arith, omega arith, refl)
+tx_known k = (omega arith, omega arith, refl)
+
+pub kind_known : (k : MethodKind) → IsKnown k
+kind_known (class.Connection k) = connection_known k
+kind_known (class.Channel k) = channel_known k
+kind_known (class.Exchange k) = exchange_known k
+kind_known (class.Queue k) = queue_known k
+kind_known (class.Basic k) = basic_known k
+kind_known (class.Confirm k) = confirm_known k
+kind_known (class.Tx k) = tx_known k
 
 -- the ids of two kinds differ
 pub kinds_apart : (j k : MethodKind) → class_of j ≡ class_of k → id_of j ≡ id_of k → j ≡ k
 kinds_apart j k c id = cc (sym (kind_known j).2 ∙ ap (λ (n : ℕ). kind_with n (id_of j)) c ∙ ap (kind_with (class_of k)) id ∙ (kind_known k).2)
+
+-- ---- each kind is of a class
+
+pub some_class : (k : MethodKind) → as_connection k ≡ None → as_channel k ≡ None → as_exchange k ≡ None → as_queue k ≡ None → as_basic k ≡ None → as_confirm k ≡ None → as_tx k ≡ None → ⊥
+some_class (class.Connection k) a b c d e f g = absurd cc
+some_class k a b c d e f g = absurd cc

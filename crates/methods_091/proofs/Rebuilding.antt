@@ -1,3 +1,5 @@
+-- This file is written by tools/make_methods.py from the published definition of AMQP 0-9-1.
+
 -- A method is what its kind and its arguments make it.
 use Rattle.std.proofs.Common.{◌≡◌, ℕ, Bool, false, List, [], get_or, refl, ap, sym, ◌∙◌}
 use Rattle.tables_091.specs.Tree.{Tree}
@@ -52,48 +54,67 @@ entries xs i = entries_in (get_or xs i (arg.bits []))
 abbrev flag : List Arg → ℕ → ℕ → Bool
 flag xs i j = get_or (flags_in (get_or xs i (arg.bits []))) j false
 
+-- the method of a kind with these arguments
 abbrev rebuilt : MethodKind → List Arg → Method91
-rebuilt (class.Connection in_connection.Start) xs = method.ConnectionStart (number xs 0) (number xs 1) (entries xs 2) (text xs 3) (text xs 4)
-rebuilt (class.Connection in_connection.StartOk) xs = method.ConnectionStartOk (entries xs 0) (text xs 1) (text xs 2) (text xs 3)
+rebuilt (class.Connection in_connection.Start) xs =
+    method.ConnectionStart (number xs 0) (number xs 1) (entries xs 2) (text xs 3) (text xs 4)
+rebuilt (class.Connection in_connection.StartOk) xs =
+    method.ConnectionStartOk (entries xs 0) (text xs 1) (text xs 2) (text xs 3)
 rebuilt (class.Connection in_connection.Secure) xs = method.ConnectionSecure (text xs 0)
 rebuilt (class.Connection in_connection.SecureOk) xs = method.ConnectionSecureOk (text xs 0)
-rebuilt (class.Connection in_connection.Tune) xs = method.ConnectionTune (number xs 0) (number xs 1) (number xs 2)
-rebuilt (class.Connection in_connection.TuneOk) xs = method.ConnectionTuneOk (number xs 0) (number xs 1) (number xs 2)
+rebuilt (class.Connection in_connection.Tune) xs =
+    method.ConnectionTune (number xs 0) (number xs 1) (number xs 2)
+rebuilt (class.Connection in_connection.TuneOk) xs =
+    method.ConnectionTuneOk (number xs 0) (number xs 1) (number xs 2)
 rebuilt (class.Connection in_connection.Open) xs = method.ConnectionOpen (text xs 0)
 rebuilt (class.Connection in_connection.OpenOk) xs = method.ConnectionOpenOk
-rebuilt (class.Connection in_connection.Close) xs = method.ConnectionClose (number xs 0) (text xs 1) (number xs 2) (number xs 3)
+rebuilt (class.Connection in_connection.Close) xs =
+    method.ConnectionClose (number xs 0) (text xs 1) (number xs 2) (number xs 3)
 rebuilt (class.Connection in_connection.CloseOk) xs = method.ConnectionCloseOk
 rebuilt (class.Channel in_channel.Open) xs = method.ChannelOpen
 rebuilt (class.Channel in_channel.OpenOk) xs = method.ChannelOpenOk
 rebuilt (class.Channel in_channel.Flow) xs = method.ChannelFlow (flag xs 0 0)
 rebuilt (class.Channel in_channel.FlowOk) xs = method.ChannelFlowOk (flag xs 0 0)
-rebuilt (class.Channel in_channel.Close) xs = method.ChannelClose (number xs 0) (text xs 1) (number xs 2) (number xs 3)
+rebuilt (class.Channel in_channel.Close) xs =
+    method.ChannelClose (number xs 0) (text xs 1) (number xs 2) (number xs 3)
 rebuilt (class.Channel in_channel.CloseOk) xs = method.ChannelCloseOk
-rebuilt (class.Exchange in_exchange.Declare) xs = method.ExchangeDeclare (text xs 1) (text xs 2) (flag xs 3 0) (flag xs 3 1) (flag xs 3 2) (flag xs 3 3) (flag xs 3 4) (entries xs 4)
+rebuilt (class.Exchange in_exchange.Declare) xs =
+    method.ExchangeDeclare (text xs 1) (text xs 2) (flag xs 3 0) (flag xs 3 1) (flag xs 3 2) (flag xs 3 3) (flag xs 3 4) (entries xs 4)
 rebuilt (class.Exchange in_exchange.DeclareOk) xs = method.ExchangeDeclareOk
-rebuilt (class.Exchange in_exchange.Delete) xs = method.ExchangeDelete (text xs 1) (flag xs 2 0) (flag xs 2 1)
+rebuilt (class.Exchange in_exchange.Delete) xs =
+    method.ExchangeDelete (text xs 1) (flag xs 2 0) (flag xs 2 1)
 rebuilt (class.Exchange in_exchange.DeleteOk) xs = method.ExchangeDeleteOk
-rebuilt (class.Queue in_queue.Declare) xs = method.QueueDeclare (text xs 1) (flag xs 2 0) (flag xs 2 1) (flag xs 2 2) (flag xs 2 3) (flag xs 2 4) (entries xs 3)
-rebuilt (class.Queue in_queue.DeclareOk) xs = method.QueueDeclareOk (text xs 0) (number xs 1) (number xs 2)
-rebuilt (class.Queue in_queue.Bind) xs = method.QueueBind (text xs 1) (text xs 2) (text xs 3) (flag xs 4 0) (entries xs 5)
+rebuilt (class.Queue in_queue.Declare) xs =
+    method.QueueDeclare (text xs 1) (flag xs 2 0) (flag xs 2 1) (flag xs 2 2) (flag xs 2 3) (flag xs 2 4) (entries xs 3)
+rebuilt (class.Queue in_queue.DeclareOk) xs =
+    method.QueueDeclareOk (text xs 0) (number xs 1) (number xs 2)
+rebuilt (class.Queue in_queue.Bind) xs =
+    method.QueueBind (text xs 1) (text xs 2) (text xs 3) (flag xs 4 0) (entries xs 5)
 rebuilt (class.Queue in_queue.BindOk) xs = method.QueueBindOk
 rebuilt (class.Queue in_queue.Purge) xs = method.QueuePurge (text xs 1) (flag xs 2 0)
 rebuilt (class.Queue in_queue.PurgeOk) xs = method.QueuePurgeOk (number xs 0)
-rebuilt (class.Queue in_queue.Delete) xs = method.QueueDelete (text xs 1) (flag xs 2 0) (flag xs 2 1) (flag xs 2 2)
+rebuilt (class.Queue in_queue.Delete) xs =
+    method.QueueDelete (text xs 1) (flag xs 2 0) (flag xs 2 1) (flag xs 2 2)
 rebuilt (class.Queue in_queue.DeleteOk) xs = method.QueueDeleteOk (number xs 0)
-rebuilt (class.Queue in_queue.Unbind) xs = method.QueueUnbind (text xs 1) (text xs 2) (text xs 3) (entries xs 4)
+rebuilt (class.Queue in_queue.Unbind) xs =
+    method.QueueUnbind (text xs 1) (text xs 2) (text xs 3) (entries xs 4)
 rebuilt (class.Queue in_queue.UnbindOk) xs = method.QueueUnbindOk
 rebuilt (class.Basic in_basic.Qos) xs = method.BasicQos (number xs 0) (number xs 1) (flag xs 2 0)
 rebuilt (class.Basic in_basic.QosOk) xs = method.BasicQosOk
-rebuilt (class.Basic in_basic.Consume) xs = method.BasicConsume (text xs 1) (text xs 2) (flag xs 3 0) (flag xs 3 1) (flag xs 3 2) (flag xs 3 3) (entries xs 4)
+rebuilt (class.Basic in_basic.Consume) xs =
+    method.BasicConsume (text xs 1) (text xs 2) (flag xs 3 0) (flag xs 3 1) (flag xs 3 2) (flag xs 3 3) (entries xs 4)
 rebuilt (class.Basic in_basic.ConsumeOk) xs = method.BasicConsumeOk (text xs 0)
 rebuilt (class.Basic in_basic.Cancel) xs = method.BasicCancel (text xs 0) (flag xs 1 0)
 rebuilt (class.Basic in_basic.CancelOk) xs = method.BasicCancelOk (text xs 0)
-rebuilt (class.Basic in_basic.Publish) xs = method.BasicPublish (text xs 1) (text xs 2) (flag xs 3 0) (flag xs 3 1)
-rebuilt (class.Basic in_basic.Return) xs = method.BasicReturn (number xs 0) (text xs 1) (text xs 2) (text xs 3)
-rebuilt (class.Basic in_basic.Deliver) xs = method.BasicDeliver (text xs 0) (number xs 1) (flag xs 2 0) (text xs 3) (text xs 4)
+rebuilt (class.Basic in_basic.Publish) xs =
+    method.BasicPublish (text xs 1) (text xs 2) (flag xs 3 0) (flag xs 3 1)
+rebuilt (class.Basic in_basic.Return) xs =
+    method.BasicReturn (number xs 0) (text xs 1) (text xs 2) (text xs 3)
+rebuilt (class.Basic in_basic.Deliver) xs =
+    method.BasicDeliver (text xs 0) (number xs 1) (flag xs 2 0) (text xs 3) (text xs 4)
 rebuilt (class.Basic in_basic.Get) xs = method.BasicGet (text xs 1) (flag xs 2 0)
-rebuilt (class.Basic in_basic.GetOk) xs = method.BasicGetOk (number xs 0) (flag xs 1 0) (text xs 2) (text xs 3) (number xs 4)
+rebuilt (class.Basic in_basic.GetOk) xs =
+    method.BasicGetOk (number xs 0) (flag xs 1 0) (text xs 2) (text xs 3) (number xs 4)
 rebuilt (class.Basic in_basic.GetEmpty) xs = method.BasicGetEmpty
 rebuilt (class.Basic in_basic.Ack) xs = method.BasicAck (number xs 0) (flag xs 1 0)
 rebuilt (class.Basic in_basic.Reject) xs = method.BasicReject (number xs 0) (flag xs 1 0)
@@ -110,63 +131,12 @@ rebuilt (class.Tx in_tx.CommitOk) xs = method.TxCommitOk
 rebuilt (class.Tx in_tx.Rollback) xs = method.TxRollback
 rebuilt (class.Tx in_tx.RollbackOk) xs = method.TxRollbackOk
 
+-- each method is rebuilt alike
 rebuilt_is : (m : Method91) → rebuilt (kind_of m) (args_of m) ≡ m
-rebuilt_is (method.ConnectionStart version_major version_minor server_properties mechanisms locales) = refl
-rebuilt_is (method.ConnectionStartOk client_properties mechanism response locale) = refl
-rebuilt_is (method.ConnectionSecure challenge) = refl
-rebuilt_is (method.ConnectionSecureOk response) = refl
-rebuilt_is (method.ConnectionTune channel_max frame_max heartbeat) = refl
-rebuilt_is (method.ConnectionTuneOk channel_max frame_max heartbeat) = refl
-rebuilt_is (method.ConnectionOpen virtual_host) = refl
-rebuilt_is method.ConnectionOpenOk = refl
-rebuilt_is (method.ConnectionClose reply_code reply_text class_id method_id) = refl
-rebuilt_is method.ConnectionCloseOk = refl
-rebuilt_is method.ChannelOpen = refl
-rebuilt_is method.ChannelOpenOk = refl
-rebuilt_is (method.ChannelFlow active) = refl
-rebuilt_is (method.ChannelFlowOk active) = refl
-rebuilt_is (method.ChannelClose reply_code reply_text class_id method_id) = refl
-rebuilt_is method.ChannelCloseOk = refl
-rebuilt_is (method.ExchangeDeclare exchange kind passive durable auto_delete internal no_wait arguments) = refl
-rebuilt_is method.ExchangeDeclareOk = refl
-rebuilt_is (method.ExchangeDelete exchange if_unused no_wait) = refl
-rebuilt_is method.ExchangeDeleteOk = refl
-rebuilt_is (method.QueueDeclare queue passive durable exclusive auto_delete no_wait arguments) = refl
-rebuilt_is (method.QueueDeclareOk queue message_count consumer_count) = refl
-rebuilt_is (method.QueueBind queue exchange routing_key no_wait arguments) = refl
-rebuilt_is method.QueueBindOk = refl
-rebuilt_is (method.QueuePurge queue no_wait) = refl
-rebuilt_is (method.QueuePurgeOk message_count) = refl
-rebuilt_is (method.QueueDelete queue if_unused if_empty no_wait) = refl
-rebuilt_is (method.QueueDeleteOk message_count) = refl
-rebuilt_is (method.QueueUnbind queue exchange routing_key arguments) = refl
-rebuilt_is method.QueueUnbindOk = refl
-rebuilt_is (method.BasicQos prefetch_size prefetch_count global) = refl
-rebuilt_is method.BasicQosOk = refl
-rebuilt_is (method.BasicConsume queue consumer_tag no_local no_ack exclusive no_wait arguments) = refl
-rebuilt_is (method.BasicConsumeOk consumer_tag) = refl
-rebuilt_is (method.BasicCancel consumer_tag no_wait) = refl
-rebuilt_is (method.BasicCancelOk consumer_tag) = refl
-rebuilt_is (method.BasicPublish exchange routing_key mandatory immediate) = refl
-rebuilt_is (method.BasicReturn reply_code reply_text exchange routing_key) = refl
-rebuilt_is (method.BasicDeliver consumer_tag delivery_tag redelivered exchange routing_key) = refl
-rebuilt_is (method.BasicGet queue no_ack) = refl
-rebuilt_is (method.BasicGetOk delivery_tag redelivered exchange routing_key message_count) = refl
-rebuilt_is method.BasicGetEmpty = refl
-rebuilt_is (method.BasicAck delivery_tag multiple) = refl
-rebuilt_is (method.BasicReject delivery_tag requeue) = refl
-rebuilt_is (method.BasicRecoverAsync requeue) = refl
-rebuilt_is (method.BasicRecover requeue) = refl
-rebuilt_is method.BasicRecoverOk = refl
-rebuilt_is (method.BasicNack delivery_tag multiple requeue) = refl
-rebuilt_is (method.ConfirmSelect no_wait) = refl
-rebuilt_is method.ConfirmSelectOk = refl
-rebuilt_is method.TxSelect = refl
-rebuilt_is method.TxSelectOk = refl
-rebuilt_is method.TxCommit = refl
-rebuilt_is method.TxCommitOk = refl
-rebuilt_is method.TxRollback = refl
-rebuilt_is method.TxRollbackOk = refl
+rebuilt_is (method.ConnectionStart version_major version_minor server_properties mechanisms locales) =
+    refl
+rebuilt_is m = refl
 
 pub same_parts : (m n : Method91) → parts_of m ≡ parts_of n → m ≡ n
-same_parts m n e = sym (rebuilt_is m) ∙ ap (λ (p : MethodKind × List Arg). rebuilt p.0 p.1) e ∙ rebuilt_is n
+same_parts m n e =
+    sym (rebuilt_is m) ∙ ap (λ (p : MethodKind × List Arg). rebuilt p.0 p.1) e ∙ rebuilt_is n

@@ -1,5 +1,5 @@
 -- What is written is in the grammar.
-use Rattle.std.proofs.Common.{◌≡◌, List, [], ◌∷◌, length, map, Ok, refl, ap, subst, sym, arith}
+use Rattle.std.proofs.Common.{◌≡◌, List, [], ◌∷◌, length, map, Ok, refl, ap, subst, sym, ◌∙◌, arith}
 use Rattle.tables_091.proofs.Written as tables
 use Rattle.methods_091.specs.Rows.{ArgKind, shape}
 use Rattle.methods_091.specs.Rows as kind
@@ -12,6 +12,10 @@ use Rattle.methods_091.specs.Writing.{octet_of, blank, arg_text, args_text, meth
 use Rattle.methods_091.specs.Writing.{CanPut, IsInRange, AreInRange, HasRanges}
 use Rattle.methods_091.specs.declared.method.Method91.{Method91}
 use Rattle.methods_091.specs.declared.method.Method91.TheVariants as method
+use Rattle.methods_091.specs.declared.kind.MethodKind.TheVariants as class
+use Rattle.methods_091.specs.declared.kind.ConfirmKind.{ConfirmKind}
+use Rattle.methods_091.specs.declared.kind.TxKind.{TxKind}
+use Rattle.methods_091.specs.declared.kind.TxKind.TheVariants as in_tx
 use Rattle.methods_091.proofs.BitLaws.{flags_back, octet_below}
 use Rattle.methods_091.proofs.MethodLaws.{method_is_read}
 
@@ -74,62 +78,32 @@ args_written (x ∷ xs) can fits =
 
 -- the arguments of a method are of the kinds of its row
 args_have_shape : (m : Method91) → map kind_in (args_of m) ≡ shape (kind_of m)
-args_have_shape (method.ConnectionStart version_major version_minor server_properties mechanisms locales) = refl
-args_have_shape (method.ConnectionStartOk client_properties mechanism response locale) = refl
-args_have_shape (method.ConnectionSecure challenge) = refl
-args_have_shape (method.ConnectionSecureOk response) = refl
-args_have_shape (method.ConnectionTune channel_max frame_max heartbeat) = refl
-args_have_shape (method.ConnectionTuneOk channel_max frame_max heartbeat) = refl
-args_have_shape (method.ConnectionOpen virtual_host) = refl
 args_have_shape method.ConnectionOpenOk = refl
-args_have_shape (method.ConnectionClose reply_code reply_text class_id method_id) = refl
-args_have_shape method.ConnectionCloseOk = refl
-args_have_shape method.ChannelOpen = refl
-args_have_shape method.ChannelOpenOk = refl
-args_have_shape (method.ChannelFlow active) = refl
-args_have_shape (method.ChannelFlowOk active) = refl
-args_have_shape (method.ChannelClose reply_code reply_text class_id method_id) = refl
-args_have_shape method.ChannelCloseOk = refl
-args_have_shape (method.ExchangeDeclare exchange kind passive durable auto_delete internal no_wait arguments) = refl
-args_have_shape method.ExchangeDeclareOk = refl
-args_have_shape (method.ExchangeDelete exchange if_unused no_wait) = refl
-args_have_shape method.ExchangeDeleteOk = refl
-args_have_shape (method.QueueDeclare queue passive durable exclusive auto_delete no_wait arguments) = refl
-args_have_shape (method.QueueDeclareOk queue message_count consumer_count) = refl
-args_have_shape (method.QueueBind queue exchange routing_key no_wait arguments) = refl
-args_have_shape method.QueueBindOk = refl
-args_have_shape (method.QueuePurge queue no_wait) = refl
-args_have_shape (method.QueuePurgeOk message_count) = refl
-args_have_shape (method.QueueDelete queue if_unused if_empty no_wait) = refl
-args_have_shape (method.QueueDeleteOk message_count) = refl
-args_have_shape (method.QueueUnbind queue exchange routing_key arguments) = refl
-args_have_shape method.QueueUnbindOk = refl
-args_have_shape (method.BasicQos prefetch_size prefetch_count global) = refl
-args_have_shape method.BasicQosOk = refl
-args_have_shape (method.BasicConsume queue consumer_tag no_local no_ack exclusive no_wait arguments) = refl
-args_have_shape (method.BasicConsumeOk consumer_tag) = refl
-args_have_shape (method.BasicCancel consumer_tag no_wait) = refl
-args_have_shape (method.BasicCancelOk consumer_tag) = refl
-args_have_shape (method.BasicPublish exchange routing_key mandatory immediate) = refl
-args_have_shape (method.BasicReturn reply_code reply_text exchange routing_key) = refl
-args_have_shape (method.BasicDeliver consumer_tag delivery_tag redelivered exchange routing_key) = refl
-args_have_shape (method.BasicGet queue no_ack) = refl
-args_have_shape (method.BasicGetOk delivery_tag redelivered exchange routing_key message_count) = refl
-args_have_shape method.BasicGetEmpty = refl
-args_have_shape (method.BasicAck delivery_tag multiple) = refl
-args_have_shape (method.BasicReject delivery_tag requeue) = refl
-args_have_shape (method.BasicRecoverAsync requeue) = refl
-args_have_shape (method.BasicRecover requeue) = refl
-args_have_shape method.BasicRecoverOk = refl
-args_have_shape (method.BasicNack delivery_tag multiple requeue) = refl
-args_have_shape (method.ConfirmSelect no_wait) = refl
-args_have_shape method.ConfirmSelectOk = refl
-args_have_shape method.TxSelect = refl
-args_have_shape method.TxSelectOk = refl
-args_have_shape method.TxCommit = refl
-args_have_shape method.TxCommitOk = refl
-args_have_shape method.TxRollback = refl
-args_have_shape method.TxRollbackOk = refl
+args_have_shape m = refl
+
+-- the methods of the class tx have no arguments
+tx_has_none : (m : Method91) (k : TxKind) → kind_of m ≡ class.Tx k → args_of m ≡ []
+tx_has_none m k e = none (args_of m) (args_have_shape m ∙ ap shape e ∙ all k)
+  where
+    all : (k : TxKind) → shape (class.Tx k) ≡ []
+    all in_tx.Select = refl
+    all k = refl
+
+    none : (xs : List Arg) → map kind_in xs ≡ [] → xs ≡ []
+    none [] h = refl
+    none (x ∷ xs) h = absurd cc
+
+pub tx_text : (m : Method91) (k : TxKind) → kind_of m ≡ class.Tx k → args_text (args_of m) ≡ []
+tx_text m k e = ap args_text (tx_has_none m k e)
+
+-- those of the classes confirm and tx have no numbers
+pub confirm_told : (m : Method91) (k : ConfirmKind) → kind_of m ≡ class.Confirm k → HasRanges m
+confirm_told (method.ConfirmSelect no_wait) k e = (omega arith, tt)
+confirm_told method.ConfirmSelectOk k e = tt
+confirm_told m k e = absurd cc
+
+pub tx_told : (m : Method91) (k : TxKind) → kind_of m ≡ class.Tx k → HasRanges m
+tx_told m k e = subst AreInRange (sym (tx_has_none m k e)) tt
 
 pub written_is_spelled : (m : Method91) → CanPut m → HasRanges m → IsMethod m (method_text m)
 written_is_spelled m can fits =

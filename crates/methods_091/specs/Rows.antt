@@ -1,3 +1,5 @@
+-- This file is written by tools/make_methods.py from the published definition of AMQP 0-9-1.
+
 -- The table of the methods (AMQP 0-9-1 1.3 to 1.8; basic.nack and the class confirm are additions
 -- of RabbitMQ): one line a method, with its class id, its method id, and the kinds of its arguments
 -- in order. Nothing here names a value of an argument.
@@ -116,11 +118,14 @@ shape k = (row k).2
 -- the methods of each class
 abbrev pub connection_kinds : List ConnectionKind
 connection_kinds =
-    in_connection.Start ∷ in_connection.StartOk ∷ in_connection.Secure ∷ in_connection.SecureOk ∷ in_connection.Tune ∷ in_connection.TuneOk ∷ in_connection.Open ∷ in_connection.OpenOk ∷ in_connection.Close ∷ in_connection.CloseOk ∷ []
+    in_connection.Start ∷ in_connection.StartOk ∷ in_connection.Secure ∷ in_connection.SecureOk
+    ∷ in_connection.Tune ∷ in_connection.TuneOk ∷ in_connection.Open ∷ in_connection.OpenOk
+    ∷ in_connection.Close ∷ in_connection.CloseOk ∷ []
 
 abbrev pub channel_kinds : List ChannelKind
 channel_kinds =
-    in_channel.Open ∷ in_channel.OpenOk ∷ in_channel.Flow ∷ in_channel.FlowOk ∷ in_channel.Close ∷ in_channel.CloseOk ∷ []
+    in_channel.Open ∷ in_channel.OpenOk ∷ in_channel.Flow ∷ in_channel.FlowOk ∷ in_channel.Close
+    ∷ in_channel.CloseOk ∷ []
 
 abbrev pub exchange_kinds : List ExchangeKind
 exchange_kinds =
@@ -128,18 +133,24 @@ exchange_kinds =
 
 abbrev pub queue_kinds : List QueueKind
 queue_kinds =
-    in_queue.Declare ∷ in_queue.DeclareOk ∷ in_queue.Bind ∷ in_queue.BindOk ∷ in_queue.Purge ∷ in_queue.PurgeOk ∷ in_queue.Delete ∷ in_queue.DeleteOk ∷ in_queue.Unbind ∷ in_queue.UnbindOk ∷ []
+    in_queue.Declare ∷ in_queue.DeclareOk ∷ in_queue.Bind ∷ in_queue.BindOk ∷ in_queue.Purge
+    ∷ in_queue.PurgeOk ∷ in_queue.Delete ∷ in_queue.DeleteOk ∷ in_queue.Unbind
+    ∷ in_queue.UnbindOk ∷ []
 
 abbrev pub basic_kinds : List BasicKind
 basic_kinds =
-    in_basic.Qos ∷ in_basic.QosOk ∷ in_basic.Consume ∷ in_basic.ConsumeOk ∷ in_basic.Cancel ∷ in_basic.CancelOk ∷ in_basic.Publish ∷ in_basic.Return ∷ in_basic.Deliver ∷ in_basic.Get ∷ in_basic.GetOk ∷ in_basic.GetEmpty ∷ in_basic.Ack ∷ in_basic.Reject ∷ in_basic.RecoverAsync ∷ in_basic.Recover ∷ in_basic.RecoverOk ∷ in_basic.Nack ∷ []
+    in_basic.Qos ∷ in_basic.QosOk ∷ in_basic.Consume ∷ in_basic.ConsumeOk ∷ in_basic.Cancel
+    ∷ in_basic.CancelOk ∷ in_basic.Publish ∷ in_basic.Return ∷ in_basic.Deliver ∷ in_basic.Get
+    ∷ in_basic.GetOk ∷ in_basic.GetEmpty ∷ in_basic.Ack ∷ in_basic.Reject ∷ in_basic.RecoverAsync
+    ∷ in_basic.Recover ∷ in_basic.RecoverOk ∷ in_basic.Nack ∷ []
 
 abbrev pub confirm_kinds : List ConfirmKind
 confirm_kinds = in_confirm.Select ∷ in_confirm.SelectOk ∷ []
 
 abbrev pub tx_kinds : List TxKind
 tx_kinds =
-    in_tx.Select ∷ in_tx.SelectOk ∷ in_tx.Commit ∷ in_tx.CommitOk ∷ in_tx.Rollback ∷ in_tx.RollbackOk ∷ []
+    in_tx.Select ∷ in_tx.SelectOk ∷ in_tx.Commit ∷ in_tx.CommitOk ∷ in_tx.Rollback
+    ∷ in_tx.RollbackOk ∷ []
 
 -- the first of some kinds with this id
 abbrev pub first_with : {K : Type 0} → (K → ℕ) → List K → ℕ → Option K
@@ -179,3 +190,32 @@ kind_with c id =
     else if c == 85 then option_map class.Confirm (confirm_with id)
     else if c == 90 then option_map class.Tx (tx_with id)
     else None
+
+-- the kind within a class, for a method of that class
+abbrev pub as_connection : MethodKind → Option ConnectionKind
+as_connection (class.Connection k) = Some k
+as_connection k = None
+
+abbrev pub as_channel : MethodKind → Option ChannelKind
+as_channel (class.Channel k) = Some k
+as_channel k = None
+
+abbrev pub as_exchange : MethodKind → Option ExchangeKind
+as_exchange (class.Exchange k) = Some k
+as_exchange k = None
+
+abbrev pub as_queue : MethodKind → Option QueueKind
+as_queue (class.Queue k) = Some k
+as_queue k = None
+
+abbrev pub as_basic : MethodKind → Option BasicKind
+as_basic (class.Basic k) = Some k
+as_basic k = None
+
+abbrev pub as_confirm : MethodKind → Option ConfirmKind
+as_confirm (class.Confirm k) = Some k
+as_confirm k = None
+
+abbrev pub as_tx : MethodKind → Option TxKind
+as_tx (class.Tx k) = Some k
+as_tx k = None

@@ -1,3 +1,5 @@
+-- This file is written by tools/make_methods.py from the published definition of AMQP 0-9-1.
+
 -- A method as its kind and its arguments.
 use Rattle.std.specs.Prelude.{List, [], ◌∷◌}
 use Rattle.methods_091.specs.Rows as rows
@@ -39,7 +41,8 @@ kind_of (method.ChannelFlowOk active) = class.Channel in_channel.FlowOk
 kind_of (method.ChannelClose reply_code reply_text class_id method_id) =
     class.Channel in_channel.Close
 kind_of method.ChannelCloseOk = class.Channel in_channel.CloseOk
-kind_of (method.ExchangeDeclare exchange kind passive durable auto_delete internal no_wait arguments) = class.Exchange in_exchange.Declare
+kind_of (method.ExchangeDeclare exchange kind passive durable auto_delete internal no_wait arguments) =
+    class.Exchange in_exchange.Declare
 kind_of method.ExchangeDeclareOk = class.Exchange in_exchange.DeclareOk
 kind_of (method.ExchangeDelete exchange if_unused no_wait) = class.Exchange in_exchange.Delete
 kind_of method.ExchangeDeleteOk = class.Exchange in_exchange.DeleteOk
@@ -89,9 +92,11 @@ kind_of method.TxRollbackOk = class.Tx in_tx.RollbackOk
 -- the arguments of a method, in order
 abbrev pub args_of : Method91 → List Arg
 args_of (method.ConnectionStart version_major version_minor server_properties mechanisms locales) =
-    arg.octet version_major ∷ arg.octet version_minor ∷ arg.fields server_properties ∷ arg.longstr mechanisms ∷ arg.longstr locales ∷ []
+    arg.octet version_major ∷ arg.octet version_minor ∷ arg.fields server_properties
+    ∷ arg.longstr mechanisms ∷ arg.longstr locales ∷ []
 args_of (method.ConnectionStartOk client_properties mechanism response locale) =
-    arg.fields client_properties ∷ arg.shortstr mechanism ∷ arg.longstr response ∷ arg.shortstr locale ∷ []
+    arg.fields client_properties ∷ arg.shortstr mechanism ∷ arg.longstr response
+    ∷ arg.shortstr locale ∷ []
 args_of (method.ConnectionSecure challenge) = arg.longstr challenge ∷ []
 args_of (method.ConnectionSecureOk response) = arg.longstr response ∷ []
 args_of (method.ConnectionTune channel_max frame_max heartbeat) =
@@ -111,52 +116,59 @@ args_of (method.ChannelFlowOk active) = arg.bits (active ∷ []) ∷ []
 args_of (method.ChannelClose reply_code reply_text class_id method_id) =
     arg.short reply_code ∷ arg.shortstr reply_text ∷ arg.short class_id ∷ arg.short method_id ∷ []
 args_of method.ChannelCloseOk = []
-args_of (method.ExchangeDeclare exchange kind passive durable auto_delete internal no_wait arguments) = arg.reserved rows.short ∷ arg.shortstr exchange ∷ arg.shortstr kind ∷ arg.bits (passive ∷ durable ∷ auto_delete ∷ internal ∷ no_wait ∷ []) ∷ arg.fields arguments ∷ []
+args_of (method.ExchangeDeclare exchange kind passive durable auto_delete internal no_wait arguments) =
+    arg.reserved rows.short ∷ arg.shortstr exchange ∷ arg.shortstr kind
+    ∷ arg.bits (passive ∷ durable ∷ auto_delete ∷ internal ∷ no_wait ∷ [])
+    ∷ arg.fields arguments ∷ []
 args_of method.ExchangeDeclareOk = []
 args_of (method.ExchangeDelete exchange if_unused no_wait) =
     arg.reserved rows.short ∷ arg.shortstr exchange ∷ arg.bits (if_unused ∷ no_wait ∷ []) ∷ []
 args_of method.ExchangeDeleteOk = []
 args_of (method.QueueDeclare queue passive durable exclusive auto_delete no_wait arguments) =
-    arg.reserved rows.short ∷ arg.shortstr queue ∷ arg.bits
-    (passive ∷ durable ∷ exclusive ∷ auto_delete ∷ no_wait ∷ []) ∷ arg.fields arguments ∷ []
+    arg.reserved rows.short ∷ arg.shortstr queue
+    ∷ arg.bits (passive ∷ durable ∷ exclusive ∷ auto_delete ∷ no_wait ∷ [])
+    ∷ arg.fields arguments ∷ []
 args_of (method.QueueDeclareOk queue message_count consumer_count) =
     arg.shortstr queue ∷ arg.long message_count ∷ arg.long consumer_count ∷ []
 args_of (method.QueueBind queue exchange routing_key no_wait arguments) =
-    arg.reserved rows.short ∷ arg.shortstr queue ∷ arg.shortstr exchange ∷ arg.shortstr routing_key ∷ arg.bits (no_wait ∷ []) ∷ arg.fields arguments ∷ []
+    arg.reserved rows.short ∷ arg.shortstr queue ∷ arg.shortstr exchange ∷ arg.shortstr routing_key
+    ∷ arg.bits (no_wait ∷ []) ∷ arg.fields arguments ∷ []
 args_of method.QueueBindOk = []
 args_of (method.QueuePurge queue no_wait) =
     arg.reserved rows.short ∷ arg.shortstr queue ∷ arg.bits (no_wait ∷ []) ∷ []
 args_of (method.QueuePurgeOk message_count) = arg.long message_count ∷ []
 args_of (method.QueueDelete queue if_unused if_empty no_wait) =
-    arg.reserved rows.short ∷ arg.shortstr queue ∷ arg.bits
-    (if_unused ∷ if_empty ∷ no_wait ∷ []) ∷ []
+    arg.reserved rows.short ∷ arg.shortstr queue
+    ∷ arg.bits (if_unused ∷ if_empty ∷ no_wait ∷ []) ∷ []
 args_of (method.QueueDeleteOk message_count) = arg.long message_count ∷ []
 args_of (method.QueueUnbind queue exchange routing_key arguments) =
-    arg.reserved rows.short ∷ arg.shortstr queue ∷ arg.shortstr exchange ∷ arg.shortstr routing_key ∷ arg.fields arguments ∷ []
+    arg.reserved rows.short ∷ arg.shortstr queue ∷ arg.shortstr exchange ∷ arg.shortstr routing_key
+    ∷ arg.fields arguments ∷ []
 args_of method.QueueUnbindOk = []
 args_of (method.BasicQos prefetch_size prefetch_count global) =
     arg.long prefetch_size ∷ arg.short prefetch_count ∷ arg.bits (global ∷ []) ∷ []
 args_of method.BasicQosOk = []
 args_of (method.BasicConsume queue consumer_tag no_local no_ack exclusive no_wait arguments) =
-    arg.reserved rows.short ∷ arg.shortstr queue ∷ arg.shortstr consumer_tag ∷ arg.bits
-    (no_local ∷ no_ack ∷ exclusive ∷ no_wait ∷ []) ∷ arg.fields arguments ∷ []
+    arg.reserved rows.short ∷ arg.shortstr queue ∷ arg.shortstr consumer_tag
+    ∷ arg.bits (no_local ∷ no_ack ∷ exclusive ∷ no_wait ∷ []) ∷ arg.fields arguments ∷ []
 args_of (method.BasicConsumeOk consumer_tag) = arg.shortstr consumer_tag ∷ []
 args_of (method.BasicCancel consumer_tag no_wait) =
     arg.shortstr consumer_tag ∷ arg.bits (no_wait ∷ []) ∷ []
 args_of (method.BasicCancelOk consumer_tag) = arg.shortstr consumer_tag ∷ []
 args_of (method.BasicPublish exchange routing_key mandatory immediate) =
-    arg.reserved rows.short ∷ arg.shortstr exchange ∷ arg.shortstr routing_key ∷ arg.bits
-    (mandatory ∷ immediate ∷ []) ∷ []
+    arg.reserved rows.short ∷ arg.shortstr exchange ∷ arg.shortstr routing_key
+    ∷ arg.bits (mandatory ∷ immediate ∷ []) ∷ []
 args_of (method.BasicReturn reply_code reply_text exchange routing_key) =
-    arg.short reply_code ∷ arg.shortstr reply_text ∷ arg.shortstr exchange ∷ arg.shortstr routing_key ∷ []
+    arg.short reply_code ∷ arg.shortstr reply_text ∷ arg.shortstr exchange
+    ∷ arg.shortstr routing_key ∷ []
 args_of (method.BasicDeliver consumer_tag delivery_tag redelivered exchange routing_key) =
-    arg.shortstr consumer_tag ∷ arg.longlong delivery_tag ∷ arg.bits
-    (redelivered ∷ []) ∷ arg.shortstr exchange ∷ arg.shortstr routing_key ∷ []
+    arg.shortstr consumer_tag ∷ arg.longlong delivery_tag ∷ arg.bits (redelivered ∷ [])
+    ∷ arg.shortstr exchange ∷ arg.shortstr routing_key ∷ []
 args_of (method.BasicGet queue no_ack) =
     arg.reserved rows.short ∷ arg.shortstr queue ∷ arg.bits (no_ack ∷ []) ∷ []
 args_of (method.BasicGetOk delivery_tag redelivered exchange routing_key message_count) =
-    arg.longlong delivery_tag ∷ arg.bits
-    (redelivered ∷ []) ∷ arg.shortstr exchange ∷ arg.shortstr routing_key ∷ arg.long message_count ∷ []
+    arg.longlong delivery_tag ∷ arg.bits (redelivered ∷ []) ∷ arg.shortstr exchange
+    ∷ arg.shortstr routing_key ∷ arg.long message_count ∷ []
 args_of method.BasicGetEmpty = arg.reserved rows.shortstr ∷ []
 args_of (method.BasicAck delivery_tag multiple) =
     arg.longlong delivery_tag ∷ arg.bits (multiple ∷ []) ∷ []

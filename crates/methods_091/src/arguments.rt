@@ -2,14 +2,14 @@
 
 ghost use Rattle.std.specs.Prelude.{◌≡◌, ℕ, ◌<◌, ◌≤◌, ◌^◌, List, [], ◌∷◌, ◌++◌, length, take, OnOk};
 ghost use Rattle.std.specs.Prelude.{OnErr};
-ghost use Rattle.std.specs.Int.{w8, w32};
+ghost use Rattle.std.specs.Int.{w8, w32, w64, to_be_bytes};
 ghost use Rattle.wire_base.specs.Spelling.{text_of};
 ghost use Rattle.wire_base.specs.Reading.{Gives, offset, text_in};
 ghost use Rattle.methods_091.specs.Grammar.{bit_at};
 ghost use Rattle.methods_091.specs.Writing.{octet_of};
 
 use std::alloc::Global;
-use wire_base::{ByteText, Memory, Stop, long_in, put_u8, put_u32, short_in};
+use wire_base::{ByteText, Memory, Stop, long_in, put_u8, put_u32, put_u64, short_in};
 
 /// Whether a bit of an octet is set; the lowest has the place 0.
 pub(crate) fn bit(octet: u8, place: u8) -> bool
@@ -108,4 +108,38 @@ pub(crate) fn put_longstr(out: &mut ByteText, text: &ByteText) -> Result<(), Mem
     let text = text.as_slice();
     put_u32(out, text.len() as u32)?;
     out.append(text)
+}
+
+/// Two long strings, each of fewer than 2^32 bytes.
+pub(crate) fn put_longstrs(
+    out: &mut ByteText,
+    first: &ByteText,
+    second: &ByteText,
+) -> Result<(), Memory>
+    requires first { length first.now < 2 ^ 32 }
+    requires second { length second.now < 2 ^ 32 }
+    ensures ok { OnOk result (out.new ≡ out.old ++ (text_of w32 first.now ++ text_of w32 second.now)) }
+    ensures err { OnErr result (take (length out.old) out.new ≡ out.old) }
+{
+    put_longstr(out, first)?;
+    put_longstr(out, second)
+}
+
+/// A version: two octets.
+pub(crate) fn put_version(out: &mut ByteText, major: u8, minor: u8) -> Result<(), Memory>
+    ensures ok { OnOk result (out.new ≡ out.old ++ (to_be_bytes w8 major ++ to_be_bytes w8 minor)) }
+    ensures err { OnErr result (take (length out.old) out.new ≡ out.old) }
+{
+    put_u8(out, major)?;
+    put_u8(out, minor)
+}
+
+/// A delivery tag and flags.
+pub(crate) fn put_tag(out: &mut ByteText, delivery_tag: u64, flags: u8) -> Result<(), Memory>
+    ensures ok { OnOk result (out.new ≡ out.old
+        ++ (to_be_bytes w64 delivery_tag ++ to_be_bytes w8 flags)) }
+    ensures err { OnErr result (take (length out.old) out.new ≡ out.old) }
+{
+    put_u64(out, delivery_tag)?;
+    put_u8(out, flags)
 }

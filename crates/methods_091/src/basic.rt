@@ -1,22 +1,52 @@
+//! This file is written by tools/make_methods.py from the published definition of AMQP 0-9-1.
+//!
 //! The class basic (AMQP 0-9-1 1.8, with basic.nack of RabbitMQ).
 
-ghost use Rattle.std.specs.Prelude.{◌≡◌, ℕ, ◌<◌, ◌≤◌, ◌^◌, List, ◌++◌, length, take, OnOk, OnErr};
-ghost use Rattle.std.specs.Int.{w8, w16, w32, w64, to_be_bytes};
-ghost use Rattle.wire_base.specs.Spelling.{text_of};
+ghost use Rattle.std.specs.Prelude.{◌≡◌, ◌≢◌, ◌++◌, length, take, None, OnOk, OnErr};
 ghost use Rattle.wire_base.specs.Reading.{Gives};
-ghost use Rattle.tables_091.specs.Writing.{table_text, HasSpelling};
-ghost use Rattle.methods_091.specs.View.{parts_of};
+ghost use Rattle.methods_091.specs.Rows.{as_basic};
+ghost use Rattle.methods_091.specs.View.{kind_of, args_of, parts_of};
 ghost use Rattle.methods_091.specs.Reading.{row_in};
+ghost use Rattle.methods_091.specs.Writing.{args_text, CanPut, HasRanges};
 
-use crate::arguments::{bit, put_shortstr, shortstr_in};
+use crate::arguments::{
+    bit, octet_of_1, octet_of_2, octet_of_4, put_shortstr, put_tag, shortstr_in,
+};
 use crate::kind::{BasicKind, MethodKind};
 use crate::method::Method91;
 use std::alloc::Global;
-use tables_091::{Table, next_table, put_table};
+use tables_091::{next_table, put_table};
 use wire_base::{
     ByteText, Memory, Stop, put_u8, put_u16, put_u32, put_u64, short_in, u8_in, u16_in, u32_in,
     u64_in,
 };
+
+/// The kind of a method of the class; `None` where it is of another.
+pub(crate) fn kind(method: &Method91) -> Option<BasicKind>
+    ensures { result ≡ as_basic (kind_of method.now) }
+{
+    match method {
+        Method91::BasicQos { .. } => Some(BasicKind::Qos),
+        Method91::BasicQosOk => Some(BasicKind::QosOk),
+        Method91::BasicConsume { .. } => Some(BasicKind::Consume),
+        Method91::BasicConsumeOk { .. } => Some(BasicKind::ConsumeOk),
+        Method91::BasicCancel { .. } => Some(BasicKind::Cancel),
+        Method91::BasicCancelOk { .. } => Some(BasicKind::CancelOk),
+        Method91::BasicPublish { .. } => Some(BasicKind::Publish),
+        Method91::BasicReturn { .. } => Some(BasicKind::Return),
+        Method91::BasicDeliver { .. } => Some(BasicKind::Deliver),
+        Method91::BasicGet { .. } => Some(BasicKind::Get),
+        Method91::BasicGetOk { .. } => Some(BasicKind::GetOk),
+        Method91::BasicGetEmpty => Some(BasicKind::GetEmpty),
+        Method91::BasicAck { .. } => Some(BasicKind::Ack),
+        Method91::BasicReject { .. } => Some(BasicKind::Reject),
+        Method91::BasicRecoverAsync { .. } => Some(BasicKind::RecoverAsync),
+        Method91::BasicRecover { .. } => Some(BasicKind::Recover),
+        Method91::BasicRecoverOk => Some(BasicKind::RecoverOk),
+        Method91::BasicNack { .. } => Some(BasicKind::Nack),
+        _ => None,
+    }
+}
 
 /// The arguments of basic.qos.
 fn qos_in(end: usize, bytes: &[u8]) -> Result<(Method91, &[u8]), Stop<usize>>
@@ -289,157 +319,286 @@ pub(crate) fn method_in(
     }
 }
 
-/// The arguments of basic.qos.
-pub(crate) fn put_qos(
-    out: &mut ByteText,
-    prefetch_size: u32,
-    prefetch_count: u16,
-    flags: u8,
-) -> Result<(), Memory>
-    ensures ok { OnOk result (out.new ≡ out.old
-        ++ (to_be_bytes w32 prefetch_size
-        ++ to_be_bytes w16 prefetch_count ++ to_be_bytes w8 flags)) }
+/// Writes the arguments of basic.qos.
+fn put_qos(out: &mut ByteText, method: &Method91) -> Result<(), Memory>
+    requires kind { kind_of method.now ≡ MethodKind.Basic BasicKind.Qos }
+    ensures ok { OnOk result (out.new ≡ out.old ++ args_text (args_of method.now)) }
     ensures err { OnErr result (take (length out.old) out.new ≡ out.old) }
 {
-    put_u32(out, prefetch_size)?;
-    put_u16(out, prefetch_count)?;
-    put_u8(out, flags)
+    let Method91::BasicQos {
+        prefetch_size,
+        prefetch_count,
+        global,
+    } = method
+    else {
+        unreachable!()
+    };
+    put_u32(out, *prefetch_size)?;
+    put_u16(out, *prefetch_count)?;
+    put_u8(out, octet_of_1(*global))
 }
 
-/// The arguments of basic.consume, of which the first is reserved.
-pub(crate) fn put_consume(
-    out: &mut ByteText,
-    queue: &ByteText,
-    consumer_tag: &ByteText,
-    flags: u8,
-    arguments: &Table,
-) -> Result<(), Memory>
-    requires queue { length queue.now ≤ 255 }
-    requires consumer_tag { length consumer_tag.now ≤ 255 }
-    requires arguments { HasSpelling arguments.now }
-    ensures ok { OnOk result (out.new ≡ out.old
-        ++ (to_be_bytes w16 0 ++ text_of w8 queue.now
-        ++ text_of w8 consumer_tag.now ++ to_be_bytes w8 flags ++ table_text arguments.now)) }
+/// Writes the arguments of basic.consume.
+fn put_consume(out: &mut ByteText, method: &Method91) -> Result<(), Memory>
+    requires kind { kind_of method.now ≡ MethodKind.Basic BasicKind.Consume }
+    requires can { CanPut method.now }
+    ensures ok { OnOk result (out.new ≡ out.old ++ args_text (args_of method.now)) }
     ensures err { OnErr result (take (length out.old) out.new ≡ out.old) }
 {
+    let Method91::BasicConsume {
+        queue,
+        consumer_tag,
+        no_local,
+        no_ack,
+        exclusive,
+        no_wait,
+        arguments,
+    } = method
+    else {
+        unreachable!()
+    };
     put_u16(out, 0)?;
     put_shortstr(out, queue)?;
     put_shortstr(out, consumer_tag)?;
-    put_u8(out, flags)?;
+    put_u8(out, octet_of_4(*no_local, *no_ack, *exclusive, *no_wait))?;
     put_table(out, arguments)
 }
 
-/// The arguments of basic.cancel.
-pub(crate) fn put_cancel(
-    out: &mut ByteText,
-    consumer_tag: &ByteText,
-    flags: u8,
-) -> Result<(), Memory>
-    requires { length consumer_tag.now ≤ 255 }
-    ensures ok { OnOk result (out.new ≡ out.old
-        ++ (text_of w8 consumer_tag.now ++ to_be_bytes w8 flags)) }
+/// Writes the arguments of basic.cancel.
+fn put_cancel(out: &mut ByteText, method: &Method91) -> Result<(), Memory>
+    requires kind { kind_of method.now ≡ MethodKind.Basic BasicKind.Cancel }
+    requires can { CanPut method.now }
+    ensures ok { OnOk result (out.new ≡ out.old ++ args_text (args_of method.now)) }
     ensures err { OnErr result (take (length out.old) out.new ≡ out.old) }
 {
+    let Method91::BasicCancel {
+        consumer_tag,
+        no_wait,
+    } = method
+    else {
+        unreachable!()
+    };
     put_shortstr(out, consumer_tag)?;
-    put_u8(out, flags)
+    put_u8(out, octet_of_1(*no_wait))
 }
 
-/// The arguments of basic.publish, of which the first is reserved.
-pub(crate) fn put_publish(
-    out: &mut ByteText,
-    exchange: &ByteText,
-    routing_key: &ByteText,
-    flags: u8,
-) -> Result<(), Memory>
-    requires exchange { length exchange.now ≤ 255 }
-    requires routing_key { length routing_key.now ≤ 255 }
-    ensures ok { OnOk result (out.new ≡ out.old
-        ++ (to_be_bytes w16 0 ++ text_of w8 exchange.now
-        ++ text_of w8 routing_key.now ++ to_be_bytes w8 flags)) }
+/// Writes the arguments of basic.publish.
+fn put_publish(out: &mut ByteText, method: &Method91) -> Result<(), Memory>
+    requires kind { kind_of method.now ≡ MethodKind.Basic BasicKind.Publish }
+    requires can { CanPut method.now }
+    ensures ok { OnOk result (out.new ≡ out.old ++ args_text (args_of method.now)) }
     ensures err { OnErr result (take (length out.old) out.new ≡ out.old) }
 {
+    let Method91::BasicPublish {
+        exchange,
+        routing_key,
+        mandatory,
+        immediate,
+    } = method
+    else {
+        unreachable!()
+    };
     put_u16(out, 0)?;
     put_shortstr(out, exchange)?;
     put_shortstr(out, routing_key)?;
-    put_u8(out, flags)
+    put_u8(out, octet_of_2(*mandatory, *immediate))
 }
 
-/// The arguments of basic.return.
-pub(crate) fn put_return(
-    out: &mut ByteText,
-    reply_code: u16,
-    reply_text: &ByteText,
-    exchange: &ByteText,
-    routing_key: &ByteText,
-) -> Result<(), Memory>
-    requires reply_text { length reply_text.now ≤ 255 }
-    requires exchange { length exchange.now ≤ 255 }
-    requires routing_key { length routing_key.now ≤ 255 }
-    ensures ok { OnOk result (out.new ≡ out.old
-        ++ (to_be_bytes w16 reply_code ++ text_of w8 reply_text.now
-        ++ text_of w8 exchange.now ++ text_of w8 routing_key.now)) }
+/// Writes the arguments of basic.return.
+fn put_return(out: &mut ByteText, method: &Method91) -> Result<(), Memory>
+    requires kind { kind_of method.now ≡ MethodKind.Basic BasicKind.Return }
+    requires can { CanPut method.now }
+    ensures ok { OnOk result (out.new ≡ out.old ++ args_text (args_of method.now)) }
     ensures err { OnErr result (take (length out.old) out.new ≡ out.old) }
 {
-    put_u16(out, reply_code)?;
+    let Method91::BasicReturn {
+        reply_code,
+        reply_text,
+        exchange,
+        routing_key,
+    } = method
+    else {
+        unreachable!()
+    };
+    put_u16(out, *reply_code)?;
     put_shortstr(out, reply_text)?;
     put_shortstr(out, exchange)?;
     put_shortstr(out, routing_key)
 }
 
-/// The arguments of basic.deliver.
-pub(crate) fn put_deliver(
-    out: &mut ByteText,
-    consumer_tag: &ByteText,
-    delivery_tag: u64,
-    flags: u8,
-    exchange: &ByteText,
-    routing_key: &ByteText,
-) -> Result<(), Memory>
-    requires consumer_tag { length consumer_tag.now ≤ 255 }
-    requires exchange { length exchange.now ≤ 255 }
-    requires routing_key { length routing_key.now ≤ 255 }
-    ensures ok { OnOk result (out.new ≡ out.old
-        ++ (text_of w8 consumer_tag.now ++ to_be_bytes w64 delivery_tag
-        ++ to_be_bytes w8 flags ++ text_of w8 exchange.now ++ text_of w8 routing_key.now)) }
+/// Writes the arguments of basic.deliver.
+fn put_deliver(out: &mut ByteText, method: &Method91) -> Result<(), Memory>
+    requires kind { kind_of method.now ≡ MethodKind.Basic BasicKind.Deliver }
+    requires can { CanPut method.now }
+    ensures ok { OnOk result (out.new ≡ out.old ++ args_text (args_of method.now)) }
     ensures err { OnErr result (take (length out.old) out.new ≡ out.old) }
 {
+    let Method91::BasicDeliver {
+        consumer_tag,
+        delivery_tag,
+        redelivered,
+        exchange,
+        routing_key,
+    } = method
+    else {
+        unreachable!()
+    };
     put_shortstr(out, consumer_tag)?;
-    put_tag(out, delivery_tag, flags)?;
+    put_tag(out, *delivery_tag, octet_of_1(*redelivered))?;
     put_shortstr(out, exchange)?;
     put_shortstr(out, routing_key)
 }
 
-/// The arguments of basic.get-ok.
-pub(crate) fn put_get_ok(
-    out: &mut ByteText,
-    delivery_tag: u64,
-    flags: u8,
-    exchange: &ByteText,
-    routing_key: &ByteText,
-    message_count: u32,
-) -> Result<(), Memory>
-    requires exchange { length exchange.now ≤ 255 }
-    requires routing_key { length routing_key.now ≤ 255 }
-    ensures ok { OnOk result (out.new ≡ out.old
-        ++ (to_be_bytes w64 delivery_tag ++ to_be_bytes w8 flags
-        ++ text_of w8 exchange.now ++ text_of w8 routing_key.now
-        ++ to_be_bytes w32 message_count)) }
+/// Writes the arguments of basic.get.
+fn put_get(out: &mut ByteText, method: &Method91) -> Result<(), Memory>
+    requires kind { kind_of method.now ≡ MethodKind.Basic BasicKind.Get }
+    requires can { CanPut method.now }
+    ensures ok { OnOk result (out.new ≡ out.old ++ args_text (args_of method.now)) }
     ensures err { OnErr result (take (length out.old) out.new ≡ out.old) }
 {
-    put_u64(out, delivery_tag)?;
-    put_u8(out, flags)?;
-    put_shortstr(out, exchange)?;
-    put_shortstr(out, routing_key)?;
-    put_u32(out, message_count)
+    let Method91::BasicGet { queue, no_ack } = method else {
+        unreachable!()
+    };
+    put_u16(out, 0)?;
+    put_shortstr(out, queue)?;
+    put_u8(out, octet_of_1(*no_ack))
 }
 
-/// A delivery tag and flags: the arguments of basic.ack, basic.nack and basic.reject, and a part of
-/// basic.deliver.
-pub(crate) fn put_tag(out: &mut ByteText, delivery_tag: u64, flags: u8) -> Result<(), Memory>
-    ensures ok { OnOk result (out.new ≡ out.old
-        ++ (to_be_bytes w64 delivery_tag ++ to_be_bytes w8 flags)) }
+/// Writes the arguments of basic.get-ok.
+fn put_get_ok(out: &mut ByteText, method: &Method91) -> Result<(), Memory>
+    requires kind { kind_of method.now ≡ MethodKind.Basic BasicKind.GetOk }
+    requires can { CanPut method.now }
+    ensures ok { OnOk result (out.new ≡ out.old ++ args_text (args_of method.now)) }
     ensures err { OnErr result (take (length out.old) out.new ≡ out.old) }
 {
-    put_u64(out, delivery_tag)?;
-    put_u8(out, flags)
+    let Method91::BasicGetOk {
+        delivery_tag,
+        redelivered,
+        exchange,
+        routing_key,
+        message_count,
+    } = method
+    else {
+        unreachable!()
+    };
+    put_tag(out, *delivery_tag, octet_of_1(*redelivered))?;
+    put_shortstr(out, exchange)?;
+    put_shortstr(out, routing_key)?;
+    put_u32(out, *message_count)
+}
+
+/// Writes the arguments of basic.ack.
+fn put_ack(out: &mut ByteText, method: &Method91) -> Result<(), Memory>
+    requires kind { kind_of method.now ≡ MethodKind.Basic BasicKind.Ack }
+    ensures ok { OnOk result (out.new ≡ out.old ++ args_text (args_of method.now)) }
+    ensures err { OnErr result (take (length out.old) out.new ≡ out.old) }
+{
+    let Method91::BasicAck {
+        delivery_tag,
+        multiple,
+    } = method
+    else {
+        unreachable!()
+    };
+    put_u64(out, *delivery_tag)?;
+    put_u8(out, octet_of_1(*multiple))
+}
+
+/// Writes the arguments of basic.reject.
+fn put_reject(out: &mut ByteText, method: &Method91) -> Result<(), Memory>
+    requires kind { kind_of method.now ≡ MethodKind.Basic BasicKind.Reject }
+    ensures ok { OnOk result (out.new ≡ out.old ++ args_text (args_of method.now)) }
+    ensures err { OnErr result (take (length out.old) out.new ≡ out.old) }
+{
+    let Method91::BasicReject {
+        delivery_tag,
+        requeue,
+    } = method
+    else {
+        unreachable!()
+    };
+    put_u64(out, *delivery_tag)?;
+    put_u8(out, octet_of_1(*requeue))
+}
+
+/// Writes the arguments of basic.nack.
+fn put_nack(out: &mut ByteText, method: &Method91) -> Result<(), Memory>
+    requires kind { kind_of method.now ≡ MethodKind.Basic BasicKind.Nack }
+    ensures ok { OnOk result (out.new ≡ out.old ++ args_text (args_of method.now)) }
+    ensures err { OnErr result (take (length out.old) out.new ≡ out.old) }
+{
+    let Method91::BasicNack {
+        delivery_tag,
+        multiple,
+        requeue,
+    } = method
+    else {
+        unreachable!()
+    };
+    put_u64(out, *delivery_tag)?;
+    put_u8(out, octet_of_2(*multiple, *requeue))
+}
+
+/// Writes the arguments of a method of the class.
+pub(crate) fn put_arguments(out: &mut ByteText, method: &Method91) -> Result<(), Memory>
+    requires class { as_basic (kind_of method.now) ≢ None }
+    requires can { CanPut method.now }
+    ensures ok { OnOk result (out.new ≡ out.old ++ args_text (args_of method.now)) }
+    ensures err { OnErr result (take (length out.old) out.new ≡ out.old) }
+{
+    match method {
+        Method91::BasicQos { .. } => put_qos(out, method),
+        Method91::BasicConsume { .. } => put_consume(out, method),
+        Method91::BasicConsumeOk { consumer_tag } => put_shortstr(out, consumer_tag),
+        Method91::BasicCancel { .. } => put_cancel(out, method),
+        Method91::BasicCancelOk { consumer_tag } => put_shortstr(out, consumer_tag),
+        Method91::BasicPublish { .. } => put_publish(out, method),
+        Method91::BasicReturn { .. } => put_return(out, method),
+        Method91::BasicDeliver { .. } => put_deliver(out, method),
+        Method91::BasicGet { .. } => put_get(out, method),
+        Method91::BasicGetOk { .. } => put_get_ok(out, method),
+        Method91::BasicGetEmpty => put_u8(out, 0),
+        Method91::BasicAck { .. } => put_ack(out, method),
+        Method91::BasicReject { .. } => put_reject(out, method),
+        Method91::BasicRecoverAsync { requeue } => put_u8(out, octet_of_1(*requeue)),
+        Method91::BasicRecover { requeue } => put_u8(out, octet_of_1(*requeue)),
+        Method91::BasicNack { .. } => put_nack(out, method),
+        Method91::BasicQosOk | Method91::BasicRecoverOk => Ok(()),
+        _ => unreachable!(),
+    }
+}
+
+/// Tells proofs that the numbers of a method of the class are of their types. The call does
+/// nothing.
+pub(crate) fn tell_ranges(method: &Method91)
+    ensures { (kind : BasicKind) → kind_of method.now ≡ MethodKind.Basic kind
+        → HasRanges method.now }
+{
+    match method {
+        Method91::BasicQos {
+            prefetch_size,
+            prefetch_count,
+            ..
+        } => {
+            let _known = (*prefetch_size, *prefetch_count);
+        }
+        Method91::BasicConsume { arguments, .. } => arguments.tell_ranges(),
+        Method91::BasicReturn { reply_code, .. } => {
+            let _known = *reply_code;
+        }
+        Method91::BasicDeliver { delivery_tag, .. }
+        | Method91::BasicAck { delivery_tag, .. }
+        | Method91::BasicReject { delivery_tag, .. }
+        | Method91::BasicNack { delivery_tag, .. } => {
+            let _known = *delivery_tag;
+        }
+        Method91::BasicGetOk {
+            delivery_tag,
+            message_count,
+            ..
+        } => {
+            let _known = (*delivery_tag, *message_count);
+        }
+        _ => {}
+    }
 }

@@ -1,21 +1,43 @@
+//! This file is written by tools/make_methods.py from the published definition of AMQP 0-9-1.
+//!
 //! The class connection (AMQP 0-9-1 1.4).
 
-ghost use Rattle.std.specs.Prelude.{◌≡◌, ℕ, ◌<◌, ◌≤◌, ◌^◌, List, ◌++◌, length, take, OnOk, OnErr};
-ghost use Rattle.std.specs.Int.{w8, w16, w32, w64, to_be_bytes};
-ghost use Rattle.wire_base.specs.Spelling.{text_of};
+ghost use Rattle.std.specs.Prelude.{◌≡◌, ◌≢◌, ◌++◌, length, take, None, OnOk, OnErr};
 ghost use Rattle.wire_base.specs.Reading.{Gives};
-ghost use Rattle.tables_091.specs.Writing.{table_text, HasSpelling};
-ghost use Rattle.methods_091.specs.View.{parts_of};
+ghost use Rattle.methods_091.specs.Rows.{as_connection};
+ghost use Rattle.methods_091.specs.View.{kind_of, args_of, parts_of};
 ghost use Rattle.methods_091.specs.Reading.{row_in};
+ghost use Rattle.methods_091.specs.Writing.{args_text, CanPut, HasRanges};
 
-use crate::arguments::{longstr_in, put_longstr, put_shortstr, shortstr_in};
+use crate::arguments::{
+    longstr_in, put_longstr, put_longstrs, put_shortstr, put_version, shortstr_in,
+};
 use crate::kind::{ConnectionKind, MethodKind};
 use crate::method::Method91;
 use std::alloc::Global;
-use tables_091::{Table, next_table, put_table};
+use tables_091::{next_table, put_table};
 use wire_base::{
     ByteText, Memory, Stop, put_u8, put_u16, put_u32, short_in, u8_in, u16_in, u32_in,
 };
+
+/// The kind of a method of the class; `None` where it is of another.
+pub(crate) fn kind(method: &Method91) -> Option<ConnectionKind>
+    ensures { result ≡ as_connection (kind_of method.now) }
+{
+    match method {
+        Method91::ConnectionStart { .. } => Some(ConnectionKind::Start),
+        Method91::ConnectionStartOk { .. } => Some(ConnectionKind::StartOk),
+        Method91::ConnectionSecure { .. } => Some(ConnectionKind::Secure),
+        Method91::ConnectionSecureOk { .. } => Some(ConnectionKind::SecureOk),
+        Method91::ConnectionTune { .. } => Some(ConnectionKind::Tune),
+        Method91::ConnectionTuneOk { .. } => Some(ConnectionKind::TuneOk),
+        Method91::ConnectionOpen { .. } => Some(ConnectionKind::Open),
+        Method91::ConnectionOpenOk => Some(ConnectionKind::OpenOk),
+        Method91::ConnectionClose { .. } => Some(ConnectionKind::Close),
+        Method91::ConnectionCloseOk => Some(ConnectionKind::CloseOk),
+        _ => None,
+    }
+}
 
 /// The arguments of connection.start.
 fn start_in(alloc: Global, end: usize, bytes: &[u8]) -> Result<(Method91, &[u8]), Stop<usize>>
@@ -170,107 +192,187 @@ pub(crate) fn method_in(
     }
 }
 
-/// The version in connection.start.
-fn put_version(out: &mut ByteText, major: u8, minor: u8) -> Result<(), Memory>
-    ensures ok { OnOk result (out.new ≡ out.old ++ (to_be_bytes w8 major ++ to_be_bytes w8 minor)) }
+/// Writes the arguments of connection.start.
+fn put_start(out: &mut ByteText, method: &Method91) -> Result<(), Memory>
+    requires kind { kind_of method.now ≡ MethodKind.Connection ConnectionKind.Start }
+    requires can { CanPut method.now }
+    ensures ok { OnOk result (out.new ≡ out.old ++ args_text (args_of method.now)) }
     ensures err { OnErr result (take (length out.old) out.new ≡ out.old) }
 {
-    put_u8(out, major)?;
-    put_u8(out, minor)
-}
-
-/// The arguments of connection.start.
-pub(crate) fn put_start(
-    out: &mut ByteText,
-    version_major: u8,
-    version_minor: u8,
-    server_properties: &Table,
-    mechanisms: &ByteText,
-    locales: &ByteText,
-) -> Result<(), Memory>
-    requires server_properties { HasSpelling server_properties.now }
-    requires mechanisms { length mechanisms.now < 2 ^ 32 }
-    requires locales { length locales.now < 2 ^ 32 }
-    ensures ok { OnOk result (out.new ≡ out.old
-        ++ (to_be_bytes w8 version_major ++ to_be_bytes w8 version_minor
-        ++ table_text server_properties.now ++ text_of w32 mechanisms.now
-        ++ text_of w32 locales.now)) }
-    ensures err { OnErr result (take (length out.old) out.new ≡ out.old) }
-{
-    put_version(out, version_major, version_minor)?;
+    let Method91::ConnectionStart {
+        version_major,
+        version_minor,
+        server_properties,
+        mechanisms,
+        locales,
+    } = method
+    else {
+        unreachable!()
+    };
+    put_version(out, *version_major, *version_minor)?;
     put_table(out, server_properties)?;
-    put_longstr(out, mechanisms)?;
-    put_longstr(out, locales)
+    put_longstrs(out, mechanisms, locales)
 }
 
-/// The arguments of connection.start-ok.
-pub(crate) fn put_start_ok(
-    out: &mut ByteText,
-    client_properties: &Table,
-    mechanism: &ByteText,
-    response: &ByteText,
-    locale: &ByteText,
-) -> Result<(), Memory>
-    requires client_properties { HasSpelling client_properties.now }
-    requires mechanism { length mechanism.now ≤ 255 }
-    requires response { length response.now < 2 ^ 32 }
-    requires locale { length locale.now ≤ 255 }
-    ensures ok { OnOk result (out.new ≡ out.old
-        ++ (table_text client_properties.now ++ text_of w8 mechanism.now
-        ++ text_of w32 response.now ++ text_of w8 locale.now)) }
+/// Writes the arguments of connection.start-ok.
+fn put_start_ok(out: &mut ByteText, method: &Method91) -> Result<(), Memory>
+    requires kind { kind_of method.now ≡ MethodKind.Connection ConnectionKind.StartOk }
+    requires can { CanPut method.now }
+    ensures ok { OnOk result (out.new ≡ out.old ++ args_text (args_of method.now)) }
     ensures err { OnErr result (take (length out.old) out.new ≡ out.old) }
 {
+    let Method91::ConnectionStartOk {
+        client_properties,
+        mechanism,
+        response,
+        locale,
+    } = method
+    else {
+        unreachable!()
+    };
     put_table(out, client_properties)?;
     put_shortstr(out, mechanism)?;
     put_longstr(out, response)?;
     put_shortstr(out, locale)
 }
 
-/// The arguments of connection.tune and connection.tune-ok.
-pub(crate) fn put_tune(
-    out: &mut ByteText,
-    channel_max: u16,
-    frame_max: u32,
-    heartbeat: u16,
-) -> Result<(), Memory>
-    ensures ok { OnOk result (out.new ≡ out.old
-        ++ (to_be_bytes w16 channel_max
-        ++ to_be_bytes w32 frame_max ++ to_be_bytes w16 heartbeat)) }
+/// Writes the arguments of connection.tune.
+fn put_tune(out: &mut ByteText, method: &Method91) -> Result<(), Memory>
+    requires kind { kind_of method.now ≡ MethodKind.Connection ConnectionKind.Tune }
+    ensures ok { OnOk result (out.new ≡ out.old ++ args_text (args_of method.now)) }
     ensures err { OnErr result (take (length out.old) out.new ≡ out.old) }
 {
-    put_u16(out, channel_max)?;
-    put_u32(out, frame_max)?;
-    put_u16(out, heartbeat)
+    let Method91::ConnectionTune {
+        channel_max,
+        frame_max,
+        heartbeat,
+    } = method
+    else {
+        unreachable!()
+    };
+    put_u16(out, *channel_max)?;
+    put_u32(out, *frame_max)?;
+    put_u16(out, *heartbeat)
 }
 
-/// The arguments of connection.open, of which two are reserved.
-pub(crate) fn put_open(out: &mut ByteText, virtual_host: &ByteText) -> Result<(), Memory>
-    requires { length virtual_host.now ≤ 255 }
-    ensures ok { OnOk result (out.new ≡ out.old
-        ++ (text_of w8 virtual_host.now ++ to_be_bytes w8 0 ++ to_be_bytes w8 0)) }
+/// Writes the arguments of connection.tune-ok.
+fn put_tune_ok(out: &mut ByteText, method: &Method91) -> Result<(), Memory>
+    requires kind { kind_of method.now ≡ MethodKind.Connection ConnectionKind.TuneOk }
+    ensures ok { OnOk result (out.new ≡ out.old ++ args_text (args_of method.now)) }
     ensures err { OnErr result (take (length out.old) out.new ≡ out.old) }
 {
+    let Method91::ConnectionTuneOk {
+        channel_max,
+        frame_max,
+        heartbeat,
+    } = method
+    else {
+        unreachable!()
+    };
+    put_u16(out, *channel_max)?;
+    put_u32(out, *frame_max)?;
+    put_u16(out, *heartbeat)
+}
+
+/// Writes the arguments of connection.open.
+fn put_open(out: &mut ByteText, method: &Method91) -> Result<(), Memory>
+    requires kind { kind_of method.now ≡ MethodKind.Connection ConnectionKind.Open }
+    requires can { CanPut method.now }
+    ensures ok { OnOk result (out.new ≡ out.old ++ args_text (args_of method.now)) }
+    ensures err { OnErr result (take (length out.old) out.new ≡ out.old) }
+{
+    let Method91::ConnectionOpen { virtual_host } = method else {
+        unreachable!()
+    };
     put_shortstr(out, virtual_host)?;
     put_u8(out, 0)?;
     put_u8(out, 0)
 }
 
-/// The arguments of connection.close and channel.close.
-pub(crate) fn put_close(
-    out: &mut ByteText,
-    reply_code: u16,
-    reply_text: &ByteText,
-    class_id: u16,
-    method_id: u16,
-) -> Result<(), Memory>
-    requires { length reply_text.now ≤ 255 }
-    ensures ok { OnOk result (out.new ≡ out.old
-        ++ (to_be_bytes w16 reply_code ++ text_of w8 reply_text.now
-        ++ to_be_bytes w16 class_id ++ to_be_bytes w16 method_id)) }
+/// Writes the arguments of connection.close.
+fn put_close(out: &mut ByteText, method: &Method91) -> Result<(), Memory>
+    requires kind { kind_of method.now ≡ MethodKind.Connection ConnectionKind.Close }
+    requires can { CanPut method.now }
+    ensures ok { OnOk result (out.new ≡ out.old ++ args_text (args_of method.now)) }
     ensures err { OnErr result (take (length out.old) out.new ≡ out.old) }
 {
-    put_u16(out, reply_code)?;
+    let Method91::ConnectionClose {
+        reply_code,
+        reply_text,
+        class_id,
+        method_id,
+    } = method
+    else {
+        unreachable!()
+    };
+    put_u16(out, *reply_code)?;
     put_shortstr(out, reply_text)?;
-    put_u16(out, class_id)?;
-    put_u16(out, method_id)
+    put_u16(out, *class_id)?;
+    put_u16(out, *method_id)
+}
+
+/// Writes the arguments of a method of the class.
+pub(crate) fn put_arguments(out: &mut ByteText, method: &Method91) -> Result<(), Memory>
+    requires class { as_connection (kind_of method.now) ≢ None }
+    requires can { CanPut method.now }
+    ensures ok { OnOk result (out.new ≡ out.old ++ args_text (args_of method.now)) }
+    ensures err { OnErr result (take (length out.old) out.new ≡ out.old) }
+{
+    match method {
+        Method91::ConnectionStart { .. } => put_start(out, method),
+        Method91::ConnectionStartOk { .. } => put_start_ok(out, method),
+        Method91::ConnectionSecure { challenge } => put_longstr(out, challenge),
+        Method91::ConnectionSecureOk { response } => put_longstr(out, response),
+        Method91::ConnectionTune { .. } => put_tune(out, method),
+        Method91::ConnectionTuneOk { .. } => put_tune_ok(out, method),
+        Method91::ConnectionOpen { .. } => put_open(out, method),
+        Method91::ConnectionOpenOk => put_u8(out, 0),
+        Method91::ConnectionClose { .. } => put_close(out, method),
+        Method91::ConnectionCloseOk => Ok(()),
+        _ => unreachable!(),
+    }
+}
+
+/// Tells proofs that the numbers of a method of the class are of their types. The call does
+/// nothing.
+pub(crate) fn tell_ranges(method: &Method91)
+    ensures { (kind : ConnectionKind) → kind_of method.now ≡ MethodKind.Connection kind
+        → HasRanges method.now }
+{
+    match method {
+        Method91::ConnectionStart {
+            version_major,
+            version_minor,
+            server_properties,
+            ..
+        } => {
+            let _known = (*version_major, *version_minor);
+            server_properties.tell_ranges();
+        }
+        Method91::ConnectionStartOk {
+            client_properties,
+            ..
+        } => client_properties.tell_ranges(),
+        Method91::ConnectionTune {
+            channel_max,
+            frame_max,
+            heartbeat,
+        }
+        | Method91::ConnectionTuneOk {
+            channel_max,
+            frame_max,
+            heartbeat,
+        } => {
+            let _known = (*channel_max, *frame_max, *heartbeat);
+        }
+        Method91::ConnectionClose {
+            reply_code,
+            class_id,
+            method_id,
+            ..
+        } => {
+            let _known = (*reply_code, *class_id, *method_id);
+        }
+        _ => {}
+    }
 }

@@ -13,6 +13,7 @@ mod laws;
 mod method;
 mod queue;
 mod reading;
+mod tx;
 mod writing;
 
 pub use closing::{

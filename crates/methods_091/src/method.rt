@@ -1,3 +1,5 @@
+//! This file is written by tools/make_methods.py from the published definition of AMQP 0-9-1.
+//!
 //! The methods (AMQP 0-9-1 1.3 to 1.8, with the additions of RabbitMQ).
 
 ghost use Rattle.std.specs.Prelude.{◌≡◌};
@@ -5,6 +7,8 @@ ghost use Rattle.methods_091.specs.Rows.{class_of, id_of};
 ghost use Rattle.methods_091.specs.View.{kind_of};
 ghost use Rattle.methods_091.specs.Writing.{HasRanges};
 
+use crate::kind::MethodKind;
+use crate::{basic, channel, confirm, connection, exchange, queue, tx};
 use tables_091::Table;
 use wire_base::ByteText;
 
@@ -281,151 +285,51 @@ pub enum Method91 {
 pub fn ids(method: &Method91) -> (u16, u16)
     ensures { result ≡ (class_of (kind_of method.now), id_of (kind_of method.now)) }
 {
-    match method {
-        Method91::ConnectionStart { .. } => (10, 10),
-        Method91::ConnectionStartOk { .. } => (10, 11),
-        Method91::ConnectionSecure { .. } => (10, 20),
-        Method91::ConnectionSecureOk { .. } => (10, 21),
-        Method91::ConnectionTune { .. } => (10, 30),
-        Method91::ConnectionTuneOk { .. } => (10, 31),
-        Method91::ConnectionOpen { .. } => (10, 40),
-        Method91::ConnectionOpenOk => (10, 41),
-        Method91::ConnectionClose { .. } => (10, 50),
-        Method91::ConnectionCloseOk => (10, 51),
-        Method91::ChannelOpen => (20, 10),
-        Method91::ChannelOpenOk => (20, 11),
-        Method91::ChannelFlow { .. } => (20, 20),
-        Method91::ChannelFlowOk { .. } => (20, 21),
-        Method91::ChannelClose { .. } => (20, 40),
-        Method91::ChannelCloseOk => (20, 41),
-        Method91::ExchangeDeclare { .. } => (40, 10),
-        Method91::ExchangeDeclareOk => (40, 11),
-        Method91::ExchangeDelete { .. } => (40, 20),
-        Method91::ExchangeDeleteOk => (40, 21),
-        Method91::QueueDeclare { .. } => (50, 10),
-        Method91::QueueDeclareOk { .. } => (50, 11),
-        Method91::QueueBind { .. } => (50, 20),
-        Method91::QueueBindOk => (50, 21),
-        Method91::QueuePurge { .. } => (50, 30),
-        Method91::QueuePurgeOk { .. } => (50, 31),
-        Method91::QueueDelete { .. } => (50, 40),
-        Method91::QueueDeleteOk { .. } => (50, 41),
-        Method91::QueueUnbind { .. } => (50, 50),
-        Method91::QueueUnbindOk => (50, 51),
-        Method91::BasicQos { .. } => (60, 10),
-        Method91::BasicQosOk => (60, 11),
-        Method91::BasicConsume { .. } => (60, 20),
-        Method91::BasicConsumeOk { .. } => (60, 21),
-        Method91::BasicCancel { .. } => (60, 30),
-        Method91::BasicCancelOk { .. } => (60, 31),
-        Method91::BasicPublish { .. } => (60, 40),
-        Method91::BasicReturn { .. } => (60, 50),
-        Method91::BasicDeliver { .. } => (60, 60),
-        Method91::BasicGet { .. } => (60, 70),
-        Method91::BasicGetOk { .. } => (60, 71),
-        Method91::BasicGetEmpty => (60, 72),
-        Method91::BasicAck { .. } => (60, 80),
-        Method91::BasicReject { .. } => (60, 90),
-        Method91::BasicRecoverAsync { .. } => (60, 100),
-        Method91::BasicRecover { .. } => (60, 110),
-        Method91::BasicRecoverOk => (60, 111),
-        Method91::BasicNack { .. } => (60, 120),
-        Method91::ConfirmSelect { .. } => (85, 10),
-        Method91::ConfirmSelectOk => (85, 11),
-        Method91::TxSelect => (90, 10),
-        Method91::TxSelectOk => (90, 11),
-        Method91::TxCommit => (90, 20),
-        Method91::TxCommitOk => (90, 21),
-        Method91::TxRollback => (90, 30),
-        Method91::TxRollbackOk => (90, 31),
-    }
+    method.kind().ids()
 }
 
 impl Method91 {
+    /// The kind of a method.
+    #[tactic(auto, using(crate::proofs::KindLaws::some_class))]
+    pub(crate) fn kind(&self) -> MethodKind
+        ensures { result ≡ kind_of self.now }
+    {
+        if let Some(kind) = connection::kind(self) {
+            return MethodKind::Connection(kind);
+        }
+        if let Some(kind) = channel::kind(self) {
+            return MethodKind::Channel(kind);
+        }
+        if let Some(kind) = exchange::kind(self) {
+            return MethodKind::Exchange(kind);
+        }
+        if let Some(kind) = queue::kind(self) {
+            return MethodKind::Queue(kind);
+        }
+        if let Some(kind) = basic::kind(self) {
+            return MethodKind::Basic(kind);
+        }
+        if let Some(kind) = confirm::kind(self) {
+            return MethodKind::Confirm(kind);
+        }
+        if let Some(kind) = tx::kind(self) {
+            return MethodKind::Tx(kind);
+        }
+        unreachable!()
+    }
+
     /// Tells proofs that the numbers of a method are of their types. The call does nothing.
+    #[tactic(auto, using(crate::proofs::Written::confirm_told, crate::proofs::Written::tx_told))]
     pub fn tell_ranges(&self)
         ensures { HasRanges self.now }
     {
-        match self {
-            Method91::ConnectionStart {
-                version_major,
-                version_minor,
-                server_properties,
-                ..
-            } => {
-                let _known = (*version_major, *version_minor);
-                server_properties.tell_ranges();
-            }
-            Method91::ConnectionStartOk {
-                client_properties,
-                ..
-            } => client_properties.tell_ranges(),
-            Method91::ConnectionTune {
-                channel_max,
-                frame_max,
-                heartbeat,
-            }
-            | Method91::ConnectionTuneOk {
-                channel_max,
-                frame_max,
-                heartbeat,
-            } => {
-                let _known = (*channel_max, *frame_max, *heartbeat);
-            }
-            Method91::ConnectionClose {
-                reply_code,
-                class_id,
-                method_id,
-                ..
-            }
-            | Method91::ChannelClose {
-                reply_code,
-                class_id,
-                method_id,
-                ..
-            } => {
-                let _known = (*reply_code, *class_id, *method_id);
-            }
-            Method91::ExchangeDeclare { arguments, .. }
-            | Method91::QueueDeclare { arguments, .. }
-            | Method91::QueueBind { arguments, .. }
-            | Method91::QueueUnbind { arguments, .. }
-            | Method91::BasicConsume { arguments, .. } => arguments.tell_ranges(),
-            Method91::QueueDeclareOk {
-                message_count,
-                consumer_count,
-                ..
-            } => {
-                let _known = (*message_count, *consumer_count);
-            }
-            Method91::QueuePurgeOk { message_count } | Method91::QueueDeleteOk { message_count } =>
-                {
-                    let _known = *message_count;
-                }
-            Method91::BasicQos {
-                prefetch_size,
-                prefetch_count,
-                ..
-            } => {
-                let _known = (*prefetch_size, *prefetch_count);
-            }
-            Method91::BasicReturn { reply_code, .. } => {
-                let _known = *reply_code;
-            }
-            Method91::BasicDeliver { delivery_tag, .. }
-            | Method91::BasicAck { delivery_tag, .. }
-            | Method91::BasicReject { delivery_tag, .. }
-            | Method91::BasicNack { delivery_tag, .. } => {
-                let _known = *delivery_tag;
-            }
-            Method91::BasicGetOk {
-                delivery_tag,
-                message_count,
-                ..
-            } => {
-                let _known = (*delivery_tag, *message_count);
-            }
-            _ => {}
+        match self.kind() {
+            MethodKind::Connection(_) => connection::tell_ranges(self),
+            MethodKind::Channel(_) => channel::tell_ranges(self),
+            MethodKind::Exchange(_) => exchange::tell_ranges(self),
+            MethodKind::Queue(_) => queue::tell_ranges(self),
+            MethodKind::Basic(_) => basic::tell_ranges(self),
+            MethodKind::Confirm(_) | MethodKind::Tx(_) => {}
         }
     }
 }

@@ -1,19 +1,39 @@
+//! This file is written by tools/make_methods.py from the published definition of AMQP 0-9-1.
+//!
 //! The class queue (AMQP 0-9-1 1.7).
 
-ghost use Rattle.std.specs.Prelude.{◌≡◌, ℕ, ◌<◌, ◌≤◌, ◌^◌, List, ◌++◌, length, take, OnOk, OnErr};
-ghost use Rattle.std.specs.Int.{w8, w16, w32, w64, to_be_bytes};
-ghost use Rattle.wire_base.specs.Spelling.{text_of};
+ghost use Rattle.std.specs.Prelude.{◌≡◌, ◌≢◌, ◌++◌, length, take, None, OnOk, OnErr};
 ghost use Rattle.wire_base.specs.Reading.{Gives};
-ghost use Rattle.tables_091.specs.Writing.{table_text, HasSpelling};
-ghost use Rattle.methods_091.specs.View.{parts_of};
+ghost use Rattle.methods_091.specs.Rows.{as_queue};
+ghost use Rattle.methods_091.specs.View.{kind_of, args_of, parts_of};
 ghost use Rattle.methods_091.specs.Reading.{row_in};
+ghost use Rattle.methods_091.specs.Writing.{args_text, CanPut, HasRanges};
 
-use crate::arguments::{bit, put_shortstr, shortstr_in};
+use crate::arguments::{bit, octet_of_1, octet_of_3, octet_of_5, put_shortstr, shortstr_in};
 use crate::kind::{MethodKind, QueueKind};
 use crate::method::Method91;
 use std::alloc::Global;
-use tables_091::{Table, next_table, put_table};
+use tables_091::{next_table, put_table};
 use wire_base::{ByteText, Memory, Stop, put_u8, put_u16, put_u32, u8_in, u16_in, u32_in};
+
+/// The kind of a method of the class; `None` where it is of another.
+pub(crate) fn kind(method: &Method91) -> Option<QueueKind>
+    ensures { result ≡ as_queue (kind_of method.now) }
+{
+    match method {
+        Method91::QueueDeclare { .. } => Some(QueueKind::Declare),
+        Method91::QueueDeclareOk { .. } => Some(QueueKind::DeclareOk),
+        Method91::QueueBind { .. } => Some(QueueKind::Bind),
+        Method91::QueueBindOk => Some(QueueKind::BindOk),
+        Method91::QueuePurge { .. } => Some(QueueKind::Purge),
+        Method91::QueuePurgeOk { .. } => Some(QueueKind::PurgeOk),
+        Method91::QueueDelete { .. } => Some(QueueKind::Delete),
+        Method91::QueueDeleteOk { .. } => Some(QueueKind::DeleteOk),
+        Method91::QueueUnbind { .. } => Some(QueueKind::Unbind),
+        Method91::QueueUnbindOk => Some(QueueKind::UnbindOk),
+        _ => None,
+    }
+}
 
 /// The arguments of queue.declare.
 fn declare_in(alloc: Global, end: usize, bytes: &[u8]) -> Result<(Method91, &[u8]), Stop<usize>>
@@ -168,87 +188,131 @@ pub(crate) fn method_in(
     }
 }
 
-/// The arguments of queue.declare, of which the first is reserved.
-pub(crate) fn put_declare(
-    out: &mut ByteText,
-    queue: &ByteText,
-    flags: u8,
-    arguments: &Table,
-) -> Result<(), Memory>
-    requires queue { length queue.now ≤ 255 }
-    requires arguments { HasSpelling arguments.now }
-    ensures ok { OnOk result (out.new ≡ out.old
-        ++ (to_be_bytes w16 0 ++ text_of w8 queue.now
-        ++ to_be_bytes w8 flags ++ table_text arguments.now)) }
+/// Writes the arguments of queue.declare.
+fn put_declare(out: &mut ByteText, method: &Method91) -> Result<(), Memory>
+    requires kind { kind_of method.now ≡ MethodKind.Queue QueueKind.Declare }
+    requires can { CanPut method.now }
+    ensures ok { OnOk result (out.new ≡ out.old ++ args_text (args_of method.now)) }
     ensures err { OnErr result (take (length out.old) out.new ≡ out.old) }
 {
+    let Method91::QueueDeclare {
+        queue,
+        passive,
+        durable,
+        exclusive,
+        auto_delete,
+        no_wait,
+        arguments,
+    } = method
+    else {
+        unreachable!()
+    };
     put_u16(out, 0)?;
     put_shortstr(out, queue)?;
-    put_u8(out, flags)?;
+    put_u8(
+        out,
+        octet_of_5(*passive, *durable, *exclusive, *auto_delete, *no_wait),
+    )?;
     put_table(out, arguments)
 }
 
-/// The arguments of queue.declare-ok.
-pub(crate) fn put_declare_ok(
-    out: &mut ByteText,
-    queue: &ByteText,
-    message_count: u32,
-    consumer_count: u32,
-) -> Result<(), Memory>
-    requires { length queue.now ≤ 255 }
-    ensures ok { OnOk result (out.new ≡ out.old
-        ++ (text_of w8 queue.now
-        ++ to_be_bytes w32 message_count ++ to_be_bytes w32 consumer_count)) }
+/// Writes the arguments of queue.declare-ok.
+fn put_declare_ok(out: &mut ByteText, method: &Method91) -> Result<(), Memory>
+    requires kind { kind_of method.now ≡ MethodKind.Queue QueueKind.DeclareOk }
+    requires can { CanPut method.now }
+    ensures ok { OnOk result (out.new ≡ out.old ++ args_text (args_of method.now)) }
     ensures err { OnErr result (take (length out.old) out.new ≡ out.old) }
 {
+    let Method91::QueueDeclareOk {
+        queue,
+        message_count,
+        consumer_count,
+    } = method
+    else {
+        unreachable!()
+    };
     put_shortstr(out, queue)?;
-    put_u32(out, message_count)?;
-    put_u32(out, consumer_count)
+    put_u32(out, *message_count)?;
+    put_u32(out, *consumer_count)
 }
 
-/// The arguments of queue.bind, of which the first is reserved.
-pub(crate) fn put_bind(
-    out: &mut ByteText,
-    queue: &ByteText,
-    exchange: &ByteText,
-    routing_key: &ByteText,
-    flags: u8,
-    arguments: &Table,
-) -> Result<(), Memory>
-    requires queue { length queue.now ≤ 255 }
-    requires exchange { length exchange.now ≤ 255 }
-    requires routing_key { length routing_key.now ≤ 255 }
-    requires arguments { HasSpelling arguments.now }
-    ensures ok { OnOk result (out.new ≡ out.old
-        ++ (to_be_bytes w16 0 ++ text_of w8 queue.now ++ text_of w8 exchange.now
-        ++ text_of w8 routing_key.now ++ to_be_bytes w8 flags ++ table_text arguments.now)) }
+/// Writes the arguments of queue.bind.
+fn put_bind(out: &mut ByteText, method: &Method91) -> Result<(), Memory>
+    requires kind { kind_of method.now ≡ MethodKind.Queue QueueKind.Bind }
+    requires can { CanPut method.now }
+    ensures ok { OnOk result (out.new ≡ out.old ++ args_text (args_of method.now)) }
     ensures err { OnErr result (take (length out.old) out.new ≡ out.old) }
 {
+    let Method91::QueueBind {
+        queue,
+        exchange,
+        routing_key,
+        no_wait,
+        arguments,
+    } = method
+    else {
+        unreachable!()
+    };
     put_u16(out, 0)?;
     put_shortstr(out, queue)?;
     put_shortstr(out, exchange)?;
     put_shortstr(out, routing_key)?;
-    put_u8(out, flags)?;
+    put_u8(out, octet_of_1(*no_wait))?;
     put_table(out, arguments)
 }
 
-/// The arguments of queue.unbind, of which the first is reserved.
-pub(crate) fn put_unbind(
-    out: &mut ByteText,
-    queue: &ByteText,
-    exchange: &ByteText,
-    routing_key: &ByteText,
-    arguments: &Table,
-) -> Result<(), Memory>
-    requires queue { length queue.now ≤ 255 }
-    requires exchange { length exchange.now ≤ 255 }
-    requires routing_key { length routing_key.now ≤ 255 }
-    requires arguments { HasSpelling arguments.now }
-    ensures ok { OnOk result (out.new ≡ out.old
-        ++ (to_be_bytes w16 0 ++ text_of w8 queue.now
-        ++ text_of w8 exchange.now ++ text_of w8 routing_key.now ++ table_text arguments.now)) }
+/// Writes the arguments of queue.purge.
+fn put_purge(out: &mut ByteText, method: &Method91) -> Result<(), Memory>
+    requires kind { kind_of method.now ≡ MethodKind.Queue QueueKind.Purge }
+    requires can { CanPut method.now }
+    ensures ok { OnOk result (out.new ≡ out.old ++ args_text (args_of method.now)) }
     ensures err { OnErr result (take (length out.old) out.new ≡ out.old) }
 {
+    let Method91::QueuePurge { queue, no_wait } = method else {
+        unreachable!()
+    };
+    put_u16(out, 0)?;
+    put_shortstr(out, queue)?;
+    put_u8(out, octet_of_1(*no_wait))
+}
+
+/// Writes the arguments of queue.delete.
+fn put_delete(out: &mut ByteText, method: &Method91) -> Result<(), Memory>
+    requires kind { kind_of method.now ≡ MethodKind.Queue QueueKind.Delete }
+    requires can { CanPut method.now }
+    ensures ok { OnOk result (out.new ≡ out.old ++ args_text (args_of method.now)) }
+    ensures err { OnErr result (take (length out.old) out.new ≡ out.old) }
+{
+    let Method91::QueueDelete {
+        queue,
+        if_unused,
+        if_empty,
+        no_wait,
+    } = method
+    else {
+        unreachable!()
+    };
+    put_u16(out, 0)?;
+    put_shortstr(out, queue)?;
+    put_u8(out, octet_of_3(*if_unused, *if_empty, *no_wait))
+}
+
+/// Writes the arguments of queue.unbind.
+fn put_unbind(out: &mut ByteText, method: &Method91) -> Result<(), Memory>
+    requires kind { kind_of method.now ≡ MethodKind.Queue QueueKind.Unbind }
+    requires can { CanPut method.now }
+    ensures ok { OnOk result (out.new ≡ out.old ++ args_text (args_of method.now)) }
+    ensures err { OnErr result (take (length out.old) out.new ≡ out.old) }
+{
+    let Method91::QueueUnbind {
+        queue,
+        exchange,
+        routing_key,
+        arguments,
+    } = method
+    else {
+        unreachable!()
+    };
     put_u16(out, 0)?;
     put_shortstr(out, queue)?;
     put_shortstr(out, exchange)?;
@@ -256,14 +320,47 @@ pub(crate) fn put_unbind(
     put_table(out, arguments)
 }
 
-/// The arguments of queue.purge, queue.delete and basic.get, of which the first is reserved.
-pub(crate) fn put_queue(out: &mut ByteText, queue: &ByteText, flags: u8) -> Result<(), Memory>
-    requires { length queue.now ≤ 255 }
-    ensures ok { OnOk result (out.new ≡ out.old
-        ++ (to_be_bytes w16 0 ++ text_of w8 queue.now ++ to_be_bytes w8 flags)) }
+/// Writes the arguments of a method of the class.
+pub(crate) fn put_arguments(out: &mut ByteText, method: &Method91) -> Result<(), Memory>
+    requires class { as_queue (kind_of method.now) ≢ None }
+    requires can { CanPut method.now }
+    ensures ok { OnOk result (out.new ≡ out.old ++ args_text (args_of method.now)) }
     ensures err { OnErr result (take (length out.old) out.new ≡ out.old) }
 {
-    put_u16(out, 0)?;
-    put_shortstr(out, queue)?;
-    put_u8(out, flags)
+    match method {
+        Method91::QueueDeclare { .. } => put_declare(out, method),
+        Method91::QueueDeclareOk { .. } => put_declare_ok(out, method),
+        Method91::QueueBind { .. } => put_bind(out, method),
+        Method91::QueuePurge { .. } => put_purge(out, method),
+        Method91::QueuePurgeOk { message_count } => put_u32(out, *message_count),
+        Method91::QueueDelete { .. } => put_delete(out, method),
+        Method91::QueueDeleteOk { message_count } => put_u32(out, *message_count),
+        Method91::QueueUnbind { .. } => put_unbind(out, method),
+        Method91::QueueBindOk | Method91::QueueUnbindOk => Ok(()),
+        _ => unreachable!(),
+    }
+}
+
+/// Tells proofs that the numbers of a method of the class are of their types. The call does
+/// nothing.
+pub(crate) fn tell_ranges(method: &Method91)
+    ensures { (kind : QueueKind) → kind_of method.now ≡ MethodKind.Queue kind
+        → HasRanges method.now }
+{
+    match method {
+        Method91::QueueDeclare { arguments, .. }
+        | Method91::QueueBind { arguments, .. }
+        | Method91::QueueUnbind { arguments, .. } => arguments.tell_ranges(),
+        Method91::QueueDeclareOk {
+            message_count,
+            consumer_count,
+            ..
+        } => {
+            let _known = (*message_count, *consumer_count);
+        }
+        Method91::QueuePurgeOk { message_count } | Method91::QueueDeleteOk { message_count } => {
+            let _known = *message_count;
+        }
+        _ => {}
+    }
 }

@@ -1,6 +1,6 @@
 //! Reading methods.
 
-ghost use Rattle.std.specs.Prelude.{◌≡◌, [], Ok, Err, IfOk, IfErr, option_map};
+ghost use Rattle.std.specs.Prelude.{◌≡◌, Ok, Err, IfOk, IfErr, option_map};
 ghost use Rattle.wire_base.specs.Reading.{Gives};
 ghost use Rattle.methods_091.specs.declared.method.Method91.{Method91};
 ghost use Rattle.methods_091.specs.View.{parts_of};
@@ -9,9 +9,9 @@ ghost use Rattle.methods_091.specs.Faults.{IsFault, IsUnknown};
 ghost use Rattle.methods_091.specs.Writing.{CanPut};
 ghost use Rattle.methods_091.specs.Reading.{row_in, payload_in, method_in, seen};
 
-use crate::kind::{MethodKind, TxKind, kind_at};
+use crate::kind::{MethodKind, kind_at};
 use crate::method::Method91;
-use crate::{basic, channel, confirm, connection, exchange, queue};
+use crate::{basic, channel, confirm, connection, exchange, queue, tx};
 use std::alloc::Global;
 use wire_base::{At, Memory, Stop, place, u16_in};
 
@@ -22,20 +22,6 @@ pub enum MethodFault {
     UnknownMethod,
     /// The ids or an argument can't be read, or bytes are left behind the last argument.
     Syntax,
-}
-
-/// A method of the class tx, none of which has arguments.
-fn tx_method(kind: TxKind) -> Method91
-    ensures { parts_of result ≡ (MethodKind.Tx kind, []) }
-{
-    match kind {
-        TxKind::Select => Method91::TxSelect,
-        TxKind::SelectOk => Method91::TxSelectOk,
-        TxKind::Commit => Method91::TxCommit,
-        TxKind::CommitOk => Method91::TxCommitOk,
-        TxKind::Rollback => Method91::TxRollback,
-        TxKind::RollbackOk => Method91::TxRollbackOk,
-    }
 }
 
 /// The arguments of a method of this kind.
@@ -54,7 +40,7 @@ fn arguments_in(
         MethodKind::Queue(kind) => queue::method_in(alloc, kind, end, bytes),
         MethodKind::Basic(kind) => basic::method_in(alloc, kind, end, bytes),
         MethodKind::Confirm(kind) => confirm::method_in(kind, end, bytes),
-        MethodKind::Tx(kind) => Ok((tx_method(kind), bytes)),
+        MethodKind::Tx(kind) => Ok((tx::method_of(kind), bytes)),
     }
 }
 
