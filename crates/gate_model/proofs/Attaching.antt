@@ -131,10 +131,10 @@ none_more : (k : ℕ) (b : Bool) → b ≡ false → k + one_if b ≡ k
 none_more k true e = absurd cc
 none_more k false e = omega arith
 
-record Named (h : List Step) : Type 0 where
-  counted : attaches_in h < 2 ^ 64 → (before h).attached ≡ attaches_in h
-  below : (name : ℕ) → attaches_in h ≤ 2 ^ 64 → 1 ≤ attaches_as name h → name < attaches_in h
-  once : (name : ℕ) → attaches_in h ≤ 2 ^ 64 → attaches_as name h ≤ 1
+pub record Named (h : List Step) : Type 0 where
+  pub counted : attaches_in h < 2 ^ 64 → (before h).attached ≡ attaches_in h
+  pub below : (name : ℕ) → attaches_in h ≤ 2 ^ 64 → 1 ≤ attaches_as name h → name < attaches_in h
+  pub once : (name : ℕ) → attaches_in h ≤ 2 ^ 64 → attaches_as name h ≤ 1
 
 -- a step that attaches nothing
 stays : (h k : List Step) → (before k).attached ≡ (before h).attached → attaches_in k ≡ attaches_in h → ((name : ℕ) → attaches_as name k ≡ attaches_as name h)
@@ -191,7 +191,7 @@ given_named h u text is s = by u (is_attach u) is
         stays h (Gave (ToUp u) text ∷ h) (same (before h).attached) (none_more (attaches_in h) _ (none (λ name. true)))
         (λ name. none_more (attaches_as name h) _ (none (λ own. own == name))) s
 
-named : (h : List Step) → ArePicks h → Named h
+pub named : (h : List Step) → ArePicks h → Named h
 named [] p = record { counted = λ less. refl; below = λ name less some. absurd (omega (arith, some)); once = λ name less. omega arith }
 named (Gave (ToUp u) text ∷ h) p = given_named h u text (goes_up_as (IsNamed (before h)) (before h) u (named_is (before h)) p.0.1) (named h p.1)
 named (Gave (ToClient u) text ∷ h) p = stays h (Gave (ToClient u) text ∷ h) refl refl (λ name. refl) (named h p.1)

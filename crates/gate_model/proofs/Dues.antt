@@ -16,8 +16,8 @@ use Rattle.gate_model.specs.Asked.{is_up_open}
 use Rattle.gate_model.specs.Begins.{begun_at}
 use Rattle.gate_model.specs.Due.{attaches, begins, carried_rows, close_behind, ends, flows_on, is_end_due, is_lingered, is_long_ago, link_flows, none_left, other_rows}
 use Rattle.gate_model.specs.Due.{rows_in, session_flows, session_rows, transfers, unless_out}
-use Rattle.gate_model.specs.Dues.{Done, EndsContainers, MustLeave, NoneDue, Overdue, RanOut, begins_session, has_asked}
-use Rattle.gate_model.specs.Folds.{carrying, connection, container, peers, ran_out_in, sent_up}
+use Rattle.gate_model.specs.Dues.{Done, EndsContainers, Late, MustLeave, NoneDue, Overdue, RanOut, begins_session, has_asked}
+use Rattle.gate_model.specs.Folds.{carrying, connection, container, moment_in, peers, ran_out_in, sent_up}
 use Rattle.gate_model.specs.Linger.{AreOver}
 use Rattle.gate_model.specs.Lives.{any_life, is_begun, is_carried, is_ended, is_free, life_at, session_in}
 use Rattle.gate_model.specs.Paths.{path_at}
@@ -44,6 +44,7 @@ use Rattle.gate_model.proofs.Lives.{lives_all}
 use Rattle.gate_model.proofs.Living.{Begins, Closes, Ends, Fails, Frees, LeavesIn, Stays, opened_asks, step_leaves}
 use Rattle.gate_model.proofs.Rests.{LivesBelow, none_up, rows_none}
 use Rattle.gate_model.proofs.Rows.{left_none, right_none, row_none}
+use Rattle.gate_model.proofs.Shutting.{InAll, InLife, Shut, shut_by}
 use Rattle.gate_model.proofs.Ups.{up_says}
 
 -- ---- a channel that is open and didn't ask for its session asks for it
@@ -121,13 +122,14 @@ not_due false false goes lingered e = record { answered = refl; waits = λ f g. 
 record NotLong (out done channel all : Bool) : Type 0 where
   memory : out ≡ false
   left : done ≡ false
+  own : channel ≡ false
   recent : all ≡ false
 
 not_long : (out done channel all : Bool) → (out || (done || (channel || all))) ≡ false → NotLong out done channel all
 not_long true done channel all e = absurd cc
 not_long false true channel all e = absurd cc
 not_long false false true all e = absurd cc
-not_long false false false all e = record { memory = refl; left = refl; recent = e }
+not_long false false false all e = record { memory = refl; left = refl; own = refl; recent = e }
 
 long_ago : (at ms : ℕ) → at + LINGER_LIMIT ≤ ms → nat_le LINGER_LIMIT (ms - at) ≡ true
 long_ago at ms e = grind (arith, nat_tests)
@@ -162,13 +164,20 @@ module _ (publishes : PublishesAre) (below : LivesBelow) where
           ∙ none_left_over life (publishes_of life (path_events h n)) (λ i taken. over life i l taken) in
           grind (arith, nat_tests, none)
 
+      old : (at : ℕ) (o : Option ℕ) → o ≡ Some at → at + LINGER_LIMIT ≤ moment_in h → is_long_ago o (before h).moment ≡ true
+      old at o e less =
+          ap (λ (x : Option ℕ). is_long_ago x (before h).moment) e ∙ long_ago at (before h).moment (subst (λ (ms : ℕ). at + LINGER_LIMIT ≤ ms) (sym (moment_is k)) less)
+
       by : MustLeave h n
           → NotLong (before h).out_of_memory (path_due.is_done (path_at (before h).paths n)) (is_long_ago (life_at (before h).lives n).closed_at (before h).moment)
           (is_long_ago (before h).closed_at (before h).moment) → ⊥
       by (Done over) x = clash _ (done over) x.left
-      by (Overdue at c less) x =
-          clash _ (ap (λ (o : Option ℕ). is_long_ago o (before h).moment) (closed_is k ∙ c)
-          ∙ long_ago at (before h).moment (subst (λ (ms : ℕ). at + LINGER_LIMIT ≤ ms) (sym (moment_is k)) less)) x.recent
+      by (Late at c less) x = own (shut_by n h at (subst (λ (m : ℕ). n < m) (lives_all h p) (has_life h n p (below h n life l))) p (ap is_some l) c)
+        where
+          own : Shut h n at → ⊥
+          own (InLife e) = clash _ (old at (life_at (before h).lives n).closed_at e less) x.own
+          own (InAll early e before_it) = clash _ (old early (before h).closed_at (closed_is k ∙ e) (omega (arith, before_it, less))) x.recent
+      by (Overdue at c less) x = clash _ (old at (before h).closed_at (closed_is k ∙ c) less) x.recent
       by (RanOut out) x = clash _ (memory_is k ∙ out) x.memory
 
   none_due : (h : List Step) (n life : ℕ) → ArePicks h → path_life h n ≡ Some life

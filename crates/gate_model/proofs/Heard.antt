@@ -53,10 +53,10 @@ AllHold Q life [] = Unit {0}
 AllHold Q life (x ∷ es) = Q (after_events life es) x × AllHold Q life es
 
 -- and of those behind es
-abbrev HoldOn : (PathState → PathEvent → Type 0) → ℕ → List PathEvent → List PathEvent → Type 0
+abbrev pub HoldOn : (PathState → PathEvent → Type 0) → ℕ → List PathEvent → List PathEvent → Type 0
 HoldOn Q life es xs = AllOn (λ (b : List PathEvent). Q (after_events life b)) es xs
 
-all_on : (Q : PathState → PathEvent → Type 0) (life : ℕ) (es xs : List PathEvent) → HoldOn Q life es xs → AllHold Q life es → AllHold Q life (xs ++ es)
+pub all_on : (Q : PathState → PathEvent → Type 0) (life : ℕ) (es xs : List PathEvent) → HoldOn Q life es xs → AllHold Q life es → AllHold Q life (xs ++ es)
 all_on Q life es [] a b = b
 all_on Q life es (x ∷ xs) a b = (a.0, all_on Q life es xs a.1 b)
 
@@ -217,7 +217,7 @@ joined_late h p = by (side_in h) (and_right (is_opening (before h).conn) _ p.0) 
     by side.Failed e f = let is : is_absent (before h).up.side ≡ false = ap is_absent f in absurd (clash (is_absent (before h).up.side) e is)
     by side.Gone e f = let is : is_absent (before h).up.side ≡ false = ap is_absent f in absurd (clash (is_absent (before h).up.side) e is)
 
-kept_before : (h : List Step) (s : Step) → ArePicks (s ∷ h) → is_kept (side_in (s ∷ h)) ≡ true → is_kept (side_in h) ≡ true
+pub kept_before : (h : List Step) (s : Step) → ArePicks (s ∷ h) → is_kept (side_in (s ∷ h)) ≡ true → is_kept (side_in h) ≡ true
 kept_before h (Joined link.Ok) p k = joined_late h p
 kept_before h (Joined link.Failed) p k = absurd cc
 kept_before h (Lost Up loss.Ended) p k = absurd cc

@@ -161,14 +161,14 @@ takes_with_room publishes (s ∷ h) p = takes_with_room publishes h p.1
 
 -- ---- events by which no publish is taken up
 
-abbrev is_publish : PathEvent → Bool
+abbrev pub is_publish : PathEvent → Bool
 is_publish (event.Published address payload back) = true
 is_publish x = false
 
-abbrev IsOther : PathEvent → Type 0
+abbrev pub IsOther : PathEvent → Type 0
 IsOther x = is_publish x ≡ false
 
-abbrev AreOther : List PathEvent → Type 0
+abbrev pub AreOther : List PathEvent → Type 0
 AreOther xs = AllByRecursion IsOther xs
 
 quiet_other : OfQuiet (λ (b : List PathEvent). IsOther)
@@ -183,11 +183,11 @@ told_other : (u : ChannelUnit) → IsOther (told_event u)
 told_other (to_client.Ok x) = refl
 told_other x = refl
 
-abbrev is_came : Step → Bool
+abbrev pub is_came : Step → Bool
 is_came (Came u) = true
 is_came s = false
 
-step_other : (n : ℕ) (h : List Step) (s : Step) → is_came s ≡ false → AreOther (step_events n h s)
+pub step_other : (n : ℕ) (h : List Step) (s : Step) → is_came s ≡ false → AreOther (step_events n h s)
 step_other n h (Gave (ToUp u) text) e =
     flat IsOther (path_events h n) (up_events (is_later (connection h) u) n u)
     (up_on (λ (b : List PathEvent). IsOther) n h quiet_other (is_later (connection h) u) u (λ j t is. refl))
@@ -199,7 +199,7 @@ step_other n h (Came u) e = absurd cc
 step_other n h s e =
     flat IsOther (path_events h n) (step_events n h s) (quiet_step (λ (b : List PathEvent). IsOther) n h quiet_other (λ ts payload g. refl) s refl)
 
-abbrev is_publish_want : Want91 → Bool
+abbrev pub is_publish_want : Want91 → Bool
 is_publish_want (want.Publish k m c) = true
 is_publish_want x = false
 
@@ -207,7 +207,7 @@ if_other : (b : Bool) (xs : List PathEvent) → AreOther xs → AreOther (if b t
 if_other true xs a = a
 if_other false xs a = tt
 
-want_other : (rs : List Route) (limit n : ℕ) (x : Want91) → is_publish_want x ≡ false → AreOther (want_events rs limit n x)
+pub want_other : (rs : List Route) (limit n : ℕ) (x : Want91) → is_publish_want x ≡ false → AreOther (want_events rs limit n x)
 want_other rs limit n (want.Publish k m c) e = absurd cc
 want_other rs limit n (want.Method k m) e =
     if_other (k == n) (method_events m)
@@ -216,7 +216,7 @@ want_other rs limit n want.Close e = (refl, tt)
 want_other rs limit n (want.Refuse r) e = flat IsOther [] _ (refusal_on (λ (b : List PathEvent). IsOther) n [] quiet_other r)
 want_other rs limit n x e = tt
 
-none_up : (s : PathState) (x : PathEvent) → IsOther x → NoneTaken (publish_events s x)
+pub none_up : (s : PathState) (x : PathEvent) → IsOther x → NoneTaken (publish_events s x)
 none_up s (event.Published address payload back) e = absurd cc
 none_up s (event.DetachCame peer not_found) e = by (sender_in (named peer s.links))
   where

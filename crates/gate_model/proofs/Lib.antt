@@ -49,6 +49,12 @@ pub mod Images
 pub mod Known
 pub mod Leaving
 pub mod Lingering
+pub mod LinkCredits
+pub mod LinkEvents
+pub mod LinkRoles
+pub mod LinkRooms
+pub mod LinkSends
+pub mod LinkSteps
 pub mod Linking
 pub mod Lives
 pub mod Living
@@ -58,10 +64,12 @@ pub mod Numbers
 pub mod Oks
 pub mod Once
 pub mod Openings
+pub mod Losing
 pub mod Orders
 pub mod Outcomes
 pub mod Overs
 pub mod Parted
+pub mod Passed
 pub mod Phases
 pub mod Places
 pub mod Publishing
@@ -80,9 +88,11 @@ pub mod Rows
 pub mod Said
 pub mod Sessions
 pub mod Settles
+pub mod Shutting
 pub mod Silences
 pub mod Slots
 pub mod SmallUp
+pub mod Sources
 pub mod Spelled
 pub mod Stating
 pub mod Staying

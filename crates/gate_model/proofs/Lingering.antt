@@ -221,7 +221,7 @@ comes (Whole Client) h p = all_same _ _
 comes s h p = all_same _ _
 
 -- a life with one is over
-over_is : (h : List Step) → ArePicks h → (n at : ℕ) → (life_at (before h).lives n).closed_at ≡ Some at → (life_at (before h).lives n).over ≡ true
+pub over_is : (h : List Step) → ArePicks h → (n at : ℕ) → (life_at (before h).lives n).closed_at ≡ Some at → (life_at (before h).lives n).over ≡ true
 over_is [] p n at e = let none : (life_at no_lives n).closed_at ≡ None = ap (λ (l : Life). l.closed_at) (new_at n) in let wrong : None ≡ Some at = sym none ∙ e in absurd cc
 over_is (s ∷ h) p n at e = by (over_is h p.1 n at) (comes s h p n)
   where
@@ -242,7 +242,7 @@ shut_is h n at p below there e = by (is_open (connection h) n) refl
     by true f = absurd (clash _ (over_is h p n at e) (goes_on h n p below there f))
     by false f = refl
 
-rises : (s : Step) (h : List Step) → ArePicks (s ∷ h) → moment_in h ≤ moment_in (s ∷ h)
+pub rises : (s : Step) (h : List Step) → ArePicks (s ∷ h) → moment_in h ≤ moment_in (s ∷ h)
 rises (Began site n ms) h p = let none : moment_in h ≡ 0 = ap moment_in p.0 in omega (arith, none)
 rises (Moment ms) h p = p.0
 rises s h p = omega arith

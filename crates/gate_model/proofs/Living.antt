@@ -145,11 +145,11 @@ method_leaves ms (method.ChannelClose code text class id) l o e = Closes refl re
 method_leaves ms m l o e = Stays refl (same l l refl) refl refl
 
 -- a refusal of channel n finds it open
-abbrev FindsOpen : ℕ → Bool → Want91 → Type 0
+abbrev pub FindsOpen : ℕ → Bool → Want91 → Type 0
 FindsOpen n o (want.Refuse r) = is_of_channel r ≡ true → r.channel ≡ n → o ≡ true
 FindsOpen n o x = Unit {0}
 
-finds_open : (n : ℕ) (c : Connection) (x : Want91) → StandsOpen c x → FindsOpen n (is_open c n) x
+pub finds_open : (n : ℕ) (c : Connection) (x : Want91) → StandsOpen c x → FindsOpen n (is_open c n) x
 finds_open n c (want.Refuse r) s = λ f e. subst (λ (k : ℕ). is_open c k ≡ true) e (s f)
 finds_open n c x s = tt
 
@@ -212,7 +212,7 @@ came_leaves n w u less inside none =
 
 -- ---- the container's
 
-fail_closes : (code : ℕ) (why : Option Condition) (v : State) → is_closing (fail code why v).conn ≡ true
+pub fail_closes : (code : ℕ) (why : Option Condition) (v : State) → is_closing (fail code why v).conn ≡ true
 fail_closes code why v = by (is_closing v.conn) refl
   where
     by : (b : Bool) → is_closing v.conn ≡ b → is_closing (if b then sessions_lost v else failed code why v).conn ≡ true

@@ -70,7 +70,7 @@ goes_on h n life p below l kept o = open_path_is h n life p below l o (by (was_c
     by true f = absurd (none (side_in h) (cut_goes n h p f) kept)
     by false f = refl
 
-open_goes_on : DeliveriesAre → ClosedAre → OpenGoesOn
+pub open_goes_on : DeliveriesAre → ClosedAre → OpenGoesOn
 open_goes_on arrives closed h n life p below l kept o =
     ap (λ (d : DeliveryState). d.closed) (arrives life (path_events h n))
     ∙ closed life (deliveries_of life (path_events h n)) ∙ goes_on h n life p below l kept o

@@ -16,6 +16,7 @@ use Rattle.gate_model.specs.Lives.{is_begun, is_carried, is_ended, is_free, sess
 use Rattle.gate_model.specs.Publishing.{opens_channel, path_life}
 use Rattle.gate_model.specs.Repeats.{is_begin_on}
 use Rattle.gate_model.specs.Session.{is_flow_owed}
+use Rattle.gate_model.specs.Shuts.{closed_on}
 use Rattle.gate_model.specs.State.{Gave, Step, before}
 use Rattle.gate_model.specs.declared.timers.TheConstants.{LINGER_LIMIT}
 
@@ -30,9 +31,10 @@ has_asked n [] = false
 has_asked n (s ∷ h) = if opens_channel n h s then false else begins_session n s || has_asked n h
 
 -- why a session that began is to be ended: all that its channel published was sent and has an outcome,
--- the closing event of the connection is so old, or the pair ran out of memory
+-- the closing event of the channel or of the connection is so old, or the pair ran out of memory
 pub data MustLeave (h : List Step) (n : ℕ) : Type 0 where
   Done : AreOver h n → MustLeave h n
+  Late : (at : ℕ) → closed_on n h ≡ Some at → at + LINGER_LIMIT ≤ moment_in h → MustLeave h n
   Overdue : (at : ℕ) → closed_in h ≡ Some at → at + LINGER_LIMIT ≤ moment_in h → MustLeave h n
   RanOut : ran_out_in h ≡ true → MustLeave h n
 

@@ -16,11 +16,14 @@ pub mod Frames
 pub mod Giving
 pub mod Holding
 pub mod Linger
+pub mod LinkCredits
 pub mod Lives
+pub mod Losses
 pub mod Oks
 pub mod Once
 pub mod Order
 pub mod Parting
+pub mod Passed
 pub mod Paths
 pub mod Picks
 pub mod Publishing
@@ -36,7 +39,9 @@ pub mod Returns
 pub mod Session
 pub mod Settles
 pub mod Setup
+pub mod Shuts
 pub mod Silence
+pub mod Sources
 pub mod Spelling
 pub mod State
 pub mod Takes

@@ -19,15 +19,18 @@ ghost use Rattle.gate_model.specs.Declares.{DeclaresFound};
 ghost use Rattle.gate_model.specs.Errors.{StatesErrors};
 ghost use Rattle.gate_model.specs.Faults.{StatesFaults};
 ghost use Rattle.gate_model.specs.Linger.{Lingers};
+ghost use Rattle.gate_model.specs.LinkCredits.{CreditIsKept};
 ghost use Rattle.gate_model.specs.Frames.{AreGiven, FitsClients, FitsContainers};
 ghost use Rattle.gate_model.specs.Folds.{connection, container, moment_in, number_in, ran_out_in};
 ghost use Rattle.gate_model.specs.Folds.{side_in};
 ghost use Rattle.gate_model.specs.Giving.{GivesUpIdle};
 ghost use Rattle.gate_model.specs.Holding.{HoldsFew, TakesWithRoom};
+ghost use Rattle.gate_model.specs.Losses.{LosesPublishes};
 ghost use Rattle.gate_model.specs.Oks.{AnswersInOrder};
 ghost use Rattle.gate_model.specs.Once.{AnswersOnce};
 ghost use Rattle.gate_model.specs.Order.{TakesInOrder};
 ghost use Rattle.gate_model.specs.Parting.{StopsWhenClosed};
+ghost use Rattle.gate_model.specs.Passed.{StatesPassed};
 ghost use Rattle.gate_model.specs.Paths.{slot_at};
 ghost use Rattle.gate_model.specs.Picks.{ArePicks};
 ghost use Rattle.gate_model.specs.Due.{takes_memory_back};
@@ -44,6 +47,7 @@ ghost use Rattle.gate_model.specs.Repeats.{AttachesOnce, EndsOnce, FlowsOnce, Se
 ghost use Rattle.gate_model.specs.Reports.{lines_owed};
 ghost use Rattle.gate_model.specs.Rests.{ServesClients, SuppliesContainers};
 ghost use Rattle.gate_model.specs.Settles.{Grants, Settles};
+ghost use Rattle.gate_model.specs.Sources.{GetsFromItsQueue};
 ghost use Rattle.gate_model.specs.State.{Step, before, owed_lines};
 ghost use Rattle.gate_model.specs.Takes.{TakesInTurn};
 ghost use Rattle.gate_model.specs.Times.{BeatsAtOnce, BeatsWhenDue, LateCloses, ShutsAtOnce};
@@ -252,6 +256,18 @@ pub fn transfers_are_lawful()
 {
     publishes_lawfully();
     payloads_lawfully();
+}
+
+/// The first frame of a transfer goes to a container only where the steps before it leave the link a
+/// credit of one: its attaches, the container's flows on it, and the gateway's transfers and flows.
+/// The credit is what the container's last flow stated, less the deliveries since its count. It
+/// holds of the first 2^64 attaches, which have names of their own.
+pub fn credit_is_kept()
+    ensures { (h : List Step) → ArePicks h → CreditIsKept h }
+{
+    deliveries_lawfully();
+    calls_lawfully();
+    numbers_lawfully();
 }
 
 /// The frames of the transfer of a publish carry the text of the image of its message, each byte
@@ -543,7 +559,8 @@ pub fn requests_hold_what_follows()
 /// Where nothing goes to the container before the gateway's close, each channel that is open had its
 /// begin, but while the session of that number before it isn't over; no flow of a session is owed; each
 /// end of the container is answered; a session whose channel or connection closes isn't to be ended
-/// yet; and once the connection closes the close waits for a session, or the open didn't go.
+/// yet, and is 5,000 ms after the closing event of either; and once the connection closes the close
+/// waits for a session, or the open didn't go.
 pub fn sessions_get_what_is_due()
     ensures { (h : List Step) → ArePicks h → EndsContainers h }
 {
@@ -552,9 +569,34 @@ pub fn sessions_get_what_is_due()
 }
 
 /// A detach of the gateway states an error only where a transfer of the container passed a limit of its
-/// link in the life in progress, and then that of the limit.
+/// link in the life in progress, and then that of the limit. Where one did, and the container didn't
+/// detach the link since, it states that error.
 pub fn detaches_state_faults()
-    ensures { (h : List Step) → ArePicks h → StatesFaults h }
+    ensures only { (h : List Step) → ArePicks h → StatesFaults h }
+    ensures passed { (h : List Step) → ArePicks h → StatesPassed h }
 {
+    connection_laws();
     links_lawfully();
+}
+
+/// Once the container closed, was at fault, couldn't be reached, was given up or its end was lost, no
+/// publish of a life in progress waits: each went whole or lost its link, and has an outcome or the
+/// confirm that told it.
+pub fn lost_containers_end_publishes()
+    ensures { (h : List Step) → ArePicks h → LosesPublishes h }
+{}
+
+/// Each attach of a receiving link names the queue for which the link was wanted: by a basic.consume, a
+/// queue.declare, or a basic.get for which there was none. The delivery of a basic.get-ok came on a link
+/// to the queue that its basic.get asked for.
+pub fn gets_come_from_their_queues()
+    ensures { (h : List Step) → ArePicks h → GetsFromItsQueue h }
+{
+    connection_laws();
+    links_lawfully();
+    deliveries_lawfully();
+    delivers_lawfully();
+    numbers_lawfully();
+    calls_lawfully();
+    names_lawfully();
 }
