@@ -29,7 +29,10 @@ use Rattle.gate_model.specs.Faults.{StatesFaults}
 use Rattle.gate_model.specs.Giving.{GivesUpIdle}
 use Rattle.gate_model.specs.Holding.{HoldsFew, TakesWithRoom}
 use Rattle.gate_model.specs.Linger.{Lingers}
+use Rattle.gate_model.specs.LinkCredits.{CreditIsKept}
+use Rattle.gate_model.specs.Losses.{LosesPublishes}
 use Rattle.gate_model.specs.Parting.{StopsWhenClosed}
+use Rattle.gate_model.specs.Passed.{StatesPassed}
 use Rattle.gate_model.specs.Publishing.{ArePieces, Confirms, EndWhole, Returns, Transfers}
 use Rattle.gate_model.specs.Reasons.{ClosesOnce, SaysWhy}
 use Rattle.gate_model.specs.Recovers.{GoBack, GoBeforeLeaving, LeavesOthers}
@@ -39,6 +42,7 @@ use Rattle.gate_model.specs.Reports.{lines_owed}
 use Rattle.gate_model.specs.Rests.{ServesClients, SuppliesContainers}
 use Rattle.gate_model.specs.Settles.{Grants, Settles}
 use Rattle.gate_model.specs.Setup.{IsInForm, SetupText}
+use Rattle.gate_model.specs.Sources.{GetsFromItsQueue}
 use Rattle.gate_model.specs.State.{owed_lines}
 use Rattle.gate_model.specs.Takes.{TakesInTurn}
 use Rattle.gate_model.specs.Waiting.{ChannelsEndWhenSettled, EndsWhenSettled, OpensWhenOpened}
@@ -73,6 +77,8 @@ pub record IsLawfulPair (s : SetupText) (h : List Entry) : Type 0 where
   pub confirms : Confirms (steps_of s h)
   pub returns : Returns (steps_of s h)
   pub transfers : Transfers (steps_of s h)
+  -- the credit is what all that went and came on the link leaves of it
+  pub credit : CreditIsKept (steps_of s h)
   pub pieces : ArePieces (steps_of s h)
   pub wholes : EndWhole (steps_of s h)
   -- a link that is given up for its handle has no publish without outcome
@@ -97,16 +103,21 @@ pub record IsLawfulPair (s : SetupText) (h : List Entry) : Type 0 where
   pub recovered : GoBack (steps_of s h)
   pub unrecovered : LeavesOthers (steps_of s h)
   pub gone : GoBeforeLeaving (steps_of s h)
-  -- a session's end lingers for what becomes of its publishes, states the error of what closed its
-  -- channel, and goes once; so do dispositions of role sender, flows and attaches
+  -- a session's end lingers for what becomes of its publishes, which is decided once the container is
+  -- lost, states the error of what closed its channel, and goes once; so do dispositions of role
+  -- sender, flows and attaches
   pub lingers : Lingers (steps_of s h)
+  pub lost : LosesPublishes (steps_of s h)
   pub errors : StatesErrors (steps_of s h)
   pub ends_once : EndsOnce (steps_of s h)
   pub outcomes : SettlesInOrder (steps_of s h)
   pub flows : FlowsOnce (steps_of s h)
   pub attaches : AttachesOnce (steps_of s h)
-  -- a detach states an error for a transfer that passed that limit alone
+  -- a receiving link is attached to the queue that it is for, and a basic.get has its message of that
+  pub sources : GetsFromItsQueue (steps_of s h)
+  -- a detach states an error for a transfer that passed that limit alone, and for each such one
   pub faults : StatesFaults (steps_of s h)
+  pub passed : StatesPassed (steps_of s h)
   -- on a channel that is closed no answer and no delivery goes; its close has its reason, and is the
   -- only one of its life; and a deliver goes behind the answers
   pub stops : StopsWhenClosed (steps_of s h)

@@ -24,7 +24,10 @@ ghost use Rattle.gate_model.specs.Faults.{StatesFaults};
 ghost use Rattle.gate_model.specs.Giving.{GivesUpIdle};
 ghost use Rattle.gate_model.specs.Holding.{HoldsFew, TakesWithRoom};
 ghost use Rattle.gate_model.specs.Linger.{Lingers};
+ghost use Rattle.gate_model.specs.LinkCredits.{CreditIsKept};
+ghost use Rattle.gate_model.specs.Losses.{LosesPublishes};
 ghost use Rattle.gate_model.specs.Parting.{StopsWhenClosed};
+ghost use Rattle.gate_model.specs.Passed.{StatesPassed};
 ghost use Rattle.gate_model.specs.Publishing.{ArePieces, Confirms, EndWhole, Returns, Transfers};
 ghost use Rattle.gate_model.specs.Reasons.{ClosesOnce, SaysWhy};
 ghost use Rattle.gate_model.specs.Recovers.{GoBack, GoBeforeLeaving, LeavesOthers};
@@ -34,6 +37,7 @@ ghost use Rattle.gate_model.specs.Reports.{lines_owed};
 ghost use Rattle.gate_model.specs.Rests.{ServesClients, SuppliesContainers};
 ghost use Rattle.gate_model.specs.Settles.{Grants, Settles};
 ghost use Rattle.gate_model.specs.Setup.{IsInForm, SetupText};
+ghost use Rattle.gate_model.specs.Sources.{GetsFromItsQueue};
 ghost use Rattle.gate_model.specs.State.{owed_lines};
 ghost use Rattle.gate_model.specs.Takes.{TakesInTurn};
 ghost use Rattle.gate_model.specs.Waiting.{ChannelsEndWhenSettled, EndsWhenSettled};
@@ -161,8 +165,9 @@ pub fn channels_are_answered_once()
 /// return that goes to a client is the next one of those of a mandatory publish that the container
 /// released, or whose address it didn't know; its confirm goes after the last. Each frame of a
 /// transfer that goes to a container is that of the publish that is begun, else of the least number
-/// that waits on an attached link with credit, while the window of the session has room; it carries
-/// the first bytes that are left of the payload. So the frames of a publish carry the text of the
+/// that waits on an attached link with credit, while the window of the session has room; the first
+/// one goes only where what went and came on its link leaves that a credit of one; it carries the
+/// first bytes that are left of the payload. So the frames of a publish carry the text of the
 /// image of its message, each byte once and in order, and all of it once one says that no more
 /// follows.
 pub fn publishes_are_lawful()
@@ -172,6 +177,8 @@ pub fn publishes_are_lawful()
         → (p : ℕ) → Returns (steps_of s (journal p m)) }
     ensures transfers { (s : SetupText) (c : Limits) (m : History) → Follows (pair_words s) c m
         → (p : ℕ) → Transfers (steps_of s (journal p m)) }
+    ensures credit { (s : SetupText) (c : Limits) (m : History) → Follows (pair_words s) c m
+        → (p : ℕ) → CreditIsKept (steps_of s (journal p m)) }
     ensures pieces { (s : SetupText) (c : Limits) (m : History) → Follows (pair_words s) c m
         → (p : ℕ) → ArePieces (steps_of s (journal p m)) }
     ensures end { (s : SetupText) (c : Limits) (m : History) → Follows (pair_words s) c m
@@ -181,6 +188,7 @@ pub fn publishes_are_lawful()
     gate_model::confirms_are_lawful();
     gate_model::returns_are_lawful();
     gate_model::transfers_are_lawful();
+    gate_model::credit_is_kept();
     gate_model::payloads_are_whole();
 }
 
@@ -291,7 +299,7 @@ pub fn declarations_find_queues()
 /// channel's life was sent or lost its link, and has an outcome; once 5,000 ms passed since the
 /// closing event of the channel or of the connection; or once the pair ran out of memory. No more
 /// ends of the session of a number go than begins. Each states the error of what closed its
-/// channel.
+/// channel. Once the container is lost each publish was sent or lost its link, and has an outcome.
 pub fn sessions_end_in_time()
     ensures lingers { (s : SetupText) (c : Limits) (m : History) → Follows (pair_words s) c m
         → (p : ℕ) → Lingers (steps_of s (journal p m)) }
@@ -299,18 +307,23 @@ pub fn sessions_end_in_time()
         → (p : ℕ) → EndsOnce (steps_of s (journal p m)) }
     ensures errors { (s : SetupText) (c : Limits) (m : History) → Follows (pair_words s) c m
         → (p : ℕ) → StatesErrors (steps_of s (journal p m)) }
+    ensures lost { (s : SetupText) (c : Limits) (m : History) → Follows (pair_words s) c m
+        → (p : ℕ) → LosesPublishes (steps_of s (journal p m)) }
 {
     entries_are_lawful();
     gate_model::ends_linger();
     gate_model::sessions_end_once();
     gate_model::ends_state_errors();
+    gate_model::lost_containers_end_publishes();
 }
 
 /// Each disposition of role sender that goes to a container answers one of its own that was the
 /// first outcome of some publish, in order, each once. A flow of a link is asked for by a flow of
 /// the container that none answered yet, or states the credit of a receiving link. Of the first
 /// 2^64 attaches no two have one name. A detach states an error only where a transfer passed that
-/// limit of its link.
+/// limit of its link, and states it wherever the container didn't detach the link since. An attach of
+/// a receiving link names the queue that it is for, and a basic.get-ok's delivery came on one to the
+/// queue of its basic.get.
 pub fn links_are_answered_once()
     ensures outcomes { (s : SetupText) (c : Limits) (m : History) → Follows (pair_words s) c m
         → (p : ℕ) → SettlesInOrder (steps_of s (journal p m)) }
@@ -318,13 +331,18 @@ pub fn links_are_answered_once()
         → (p : ℕ) → FlowsOnce (steps_of s (journal p m)) }
     ensures attaches { (s : SetupText) (c : Limits) (m : History) → Follows (pair_words s) c m
         → (p : ℕ) → AttachesOnce (steps_of s (journal p m)) }
+    ensures sources { (s : SetupText) (c : Limits) (m : History) → Follows (pair_words s) c m
+        → (p : ℕ) → GetsFromItsQueue (steps_of s (journal p m)) }
     ensures faults { (s : SetupText) (c : Limits) (m : History) → Follows (pair_words s) c m
         → (p : ℕ) → StatesFaults (steps_of s (journal p m)) }
+    ensures passed { (s : SetupText) (c : Limits) (m : History) → Follows (pair_words s) c m
+        → (p : ℕ) → StatesPassed (steps_of s (journal p m)) }
 {
     entries_are_lawful();
     gate_model::outcomes_are_answered();
     gate_model::flows_are_answered();
     gate_model::attaches_go_once();
+    gate_model::gets_come_from_their_queues();
     gate_model::detaches_state_faults();
 }
 
