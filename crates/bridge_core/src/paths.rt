@@ -848,8 +848,8 @@ impl Paths {
         self.at(channel)?.next_return()
     }
 
-    /// What a unit to the client on a channel carries, but for a deliver: a consumer tag, or a
-    /// frame.
+    /// What a unit to the client on a channel carries, but for a deliver: a name that it gives
+    /// back, or a frame.
     pub fn carried_back(&self, channel: u16, unit: ChannelUnit) -> &[u8]
         requires { is_deliver unit ≡ false }
         ensures { result.now ≡ carries_told (path_at self.now channel) unit }
@@ -858,8 +858,9 @@ impl Paths {
             return &[];
         };
         match unit {
-            ChannelUnit::Ok(PathOk::Consume(link)) => path.consumer_tag(link),
-            ChannelUnit::Ok(PathOk::Cancel | PathOk::Queue) => path.next_name(),
+            ChannelUnit::Ok(PathOk::Consume(_) | PathOk::Cancel | PathOk::Queue) => {
+                path.next_name()
+            }
             ChannelUnit::Content(_) => bytes_of(path.content_frame()),
             ChannelUnit::Return(due) => bytes_of(path.return_frame(due.publish)),
             _ => &[],

@@ -24,7 +24,7 @@ use Rattle.session_path.specs.Due.{next_name, or_no_name}
 use Rattle.session_path.specs.Events as event
 use Rattle.session_path.specs.Events.{PathEvent, after_events, deliveries_of, delivery_events, gets}
 use Rattle.session_path.specs.Laws.{IsBackOf, begun_names, named_by, names_owed, queue_in}
-use Rattle.session_path.specs.Path.{declares_in, is_answered, PathState, first_of, free_from, numbered_tag, tag_for}
+use Rattle.session_path.specs.Path.{is_answered, name_in, PathState, first_of, free_from, numbered_tag, tag_for}
 use Rattle.session_path.specs.declared.path.Awaited.{Awaited}
 use Rattle.session_path.specs.Links.{asked_by}
 use Rattle.session_path.specs.declared.path.AttachHeard.{AttachHeard}
@@ -271,6 +271,20 @@ events_good l life (x ∷ es) a =
 pub deliverable : DeliveriesAre → (l life : ℕ) (es : List PathEvent) → AllByRecursion (IsGood l) es → AreDeliverable l (after_events life es).deliveries
 deliverable arrives l life es a = subst (AreDeliverable l) (sym (arrives life es)) (good_after l life (deliveries_of life es) (events_good l life es a))
 
+-- ---- the tag of a consumer
+
+link_short : (o : Option ReceivingLink) → IfThere HasShort o → length (tag_in o) ≤ 255
+link_short None f = omega arith
+link_short (Some k) f = by k.kind f
+  where
+    by : (x : RecvKind) → IsShort x → length (links.tag_by x) ≤ 255
+    by (kind.Consumer tag no_ack) g = g
+    by kind.Get g = omega arith
+    by kind.Probe g = omega arith
+
+pub consumer_short : (l link : ℕ) (s : DeliveryState) → AreDeliverable l s → length (tag_in (link_of s.links link)) ≤ 255
+consumer_short l link s a = link_short (link_of s.links link) (all_found HasShort (has_number link) s.links a.links)
+
 -- ---- the names that go back
 
 -- with answers that wait to go
@@ -285,26 +299,37 @@ queue_short l [] a = omega arith
 queue_short l (event.Declared queue no_wait ∷ es) a = a.0
 queue_short l (x ∷ es) a = queue_short l es a.1
 
-begun_short : (o : Option PathLink) (a : AttachHeard) (w : Option Awaited) (queue : List ℕ) → IsName queue → AllByRecursion IsName (begun_names o a w queue)
-begun_short None a w queue g = tt
-begun_short (Some k) a w queue g = by (k.receives && a.there) (is_answered k.link w && declares_in w)
+name_in_short : (l : ℕ) (w : Option Awaited) (queue : List ℕ) (d : DeliveryState) → IsName queue → AreDeliverable l d → IsName (name_in w queue d)
+name_in_short l None queue d q a = omega arith
+name_in_short l (Some w) queue d q a = by w.declares
   where
-    by : (b c : Bool) → AllByRecursion IsName (if b then (if c then queue ∷ [] else []) else [])
+    by : (b : Bool) → IsName (if b then queue else tag_in (link_of d.links w.link))
+    by true = q
+    by false = consumer_short l w.link d a
+
+begun_short : (o : Option PathLink) (a : AttachHeard) (w : Option Awaited) (queue : List ℕ) (d : DeliveryState) → IsName (name_in w queue d)
+    → AllByRecursion IsName (begun_names o a w queue d)
+begun_short None a w queue d g = tt
+begun_short (Some k) a w queue d g = by (k.receives && a.there) (is_answered k.link w)
+  where
+    by : (b c : Bool) → AllByRecursion IsName (if b then (if c then name_in w queue d ∷ [] else []) else [])
     by true true = (g, tt)
     by true false = tt
     by false c = tt
 
-event_names : (l : ℕ) (s : PathState) (queue : List ℕ) (x : PathEvent) → IsName queue → IsGood l x → AllByRecursion IsName (named_by s queue x)
-event_names l s queue (event.CancelCame tag true) q g = tt
-event_names l s queue (event.CancelCame tag false) q g = (g, tt)
-event_names l s queue (event.AttachCame a) q g = begun_short (asked_by a s.links) a s.awaited queue q
-event_names l s queue x q g = tt
+event_names : (l : ℕ) (s : PathState) (queue : List ℕ) (x : PathEvent) → IsName queue → AreDeliverable l s.deliveries → IsGood l x
+    → AllByRecursion IsName (named_by s queue x)
+event_names l s queue (event.CancelCame tag true) q d g = tt
+event_names l s queue (event.CancelCame tag false) q d g = (g, tt)
+event_names l s queue (event.AttachCame a) q d g =
+    begun_short (asked_by a s.links) a s.awaited queue s.deliveries (name_in_short l s.awaited queue s.deliveries q d)
+event_names l s queue x q d g = tt
 
-names_short : (l life : ℕ) (es : List PathEvent) → AllByRecursion (IsGood l) es → AllByRecursion IsName (names_owed life es)
-names_short l life [] a = tt
-names_short l life (x ∷ es) a =
-    all_both IsName (names_owed life es) (named_by (after_events life es) (queue_in es) x) (names_short l life es a.1)
-    (event_names l (after_events life es) (queue_in es) x (queue_short l es a.1) a.0)
+names_short : DeliveriesAre → (l life : ℕ) (es : List PathEvent) → AllByRecursion (IsGood l) es → AllByRecursion IsName (names_owed life es)
+names_short arrives l life [] a = tt
+names_short arrives l life (x ∷ es) a =
+    all_both IsName (names_owed life es) (named_by (after_events life es) (queue_in es) x) (names_short arrives l life es a.1)
+    (event_names l (after_events life es) (queue_in es) x (queue_short l es a.1) (deliverable arrives l life es a.1) a.0)
 
 all_behind : {A : Type 0} (P : A → Type 0) (xs ys : List A) → AllByRecursion P (xs ++ ys) → AllByRecursion P ys
 all_behind P [] ys a = a
@@ -314,25 +339,13 @@ first_short : (names : List (List ℕ)) → AllByRecursion IsName names → leng
 first_short [] a = omega arith
 first_short (name ∷ names) a = a.0
 
-pub name_short : NamesGoBack → (l life : ℕ) (es : List PathEvent) → AllByRecursion (IsGood l) es → length (next_name (after_events life es)) ≤ 255
-name_short names l life es a =
+pub name_short : NamesGoBack → DeliveriesAre → (l life : ℕ) (es : List PathEvent) → AllByRecursion (IsGood l) es → length (next_name (after_events life es)) ≤ 255
+name_short names arrives l life es a =
     let back : IsBackOf (after_events life es).names (names_owed life es) = names life es in
     first_short (after_events life es).names
-    (all_behind IsName back.0 (after_events life es).names (subst (AllByRecursion IsName) (sym back.1) (names_short l life es a)))
+    (all_behind IsName back.0 (after_events life es).names (subst (AllByRecursion IsName) (sym back.1) (names_short arrives l life es a)))
 
 -- ---- what goes
-
-link_short : (o : Option ReceivingLink) → IfThere HasShort o → length (tag_in o) ≤ 255
-link_short None f = omega arith
-link_short (Some k) f = by k.kind f
-  where
-    by : (x : RecvKind) → IsShort x → length (links.tag_by x) ≤ 255
-    by (kind.Consumer tag no_ack) g = g
-    by kind.Get g = omega arith
-    by kind.Probe g = omega arith
-
-pub consumer_short : (l link : ℕ) (s : DeliveryState) → AreDeliverable l s → length (tag_in (link_of s.links link)) ≤ 255
-consumer_short l link s a = link_short (link_of s.links link) (all_found HasShort (has_number link) s.links a.links)
 
 found_fits : (l : ℕ) (o : Option Delivery) → IfThere (HasFit l) o → IfFit l (content_in o)
 found_fits l None f = tt

@@ -324,6 +324,6 @@ module _ (within : Within) (received : ReceivedAre) where
       (λ life good. deliverable arrives (limit_in h) life (path_events h n) good)
 
   -- the name that an answer gives back
-  pub name_at : NamesGoBack → (h : List Step) (n : ℕ) → ArePicks h → length (next_name (path_at (before h).paths n)) ≤ 255
-  name_at names h n p =
-      of_path (λ s. length (next_name s) ≤ 255) h n p (omega arith) (λ life good. name_short names (limit_in h) life (path_events h n) good)
+  pub name_at : NamesGoBack → DeliveriesAre → (h : List Step) (n : ℕ) → ArePicks h → length (next_name (path_at (before h).paths n)) ≤ 255
+  name_at names arrives h n p =
+      of_path (λ s. length (next_name s) ≤ 255) h n p (omega arith) (λ life good. name_short names arrives (limit_in h) life (path_events h n) good)

@@ -225,7 +225,7 @@ begun_adds (Some l) a s = by (l.receives && a.there) (is_answered l.link s.await
   where
     by : (b c : Bool) → flows_in (if b then with_deliveries (LinkAttached l.link a.count) (record s {
       oks = s.oks ++ (if c then answer_on l.link (declares_in s.awaited) ∷ [] else []);
-      names = s.names ++ names_by l.link s.awaited s.queue;
+      names = s.names ++ names_by l.link s.awaited s.queue s.deliveries;
       awaited = still_awaited l.link s.awaited;
     }) else s).oks ≤ flows_in s.oks
     by true true =

@@ -197,24 +197,24 @@ written_fits : (l : ℕ) (o : Option Writing) (s : PathState) → AreDeliverable
 written_fits l None s a = omega arith
 written_fits l (Some w) s a = slice_fits l w.gone (frames_of w.id s) (frames_fit l (content_at w.id s.deliveries.list) (content_fits l w.id s.deliveries a))
 
-ok_fits : (l n : ℕ) (x : PathOk) (s : PathState) (text : List ℕ) → FRAME_MIN_SIZE ≤ l → AreDeliverable l s.deliveries → length (next_name s) ≤ 255
+ok_fits : (l n : ℕ) (x : PathOk) (s : PathState) (text : List ℕ) → FRAME_MIN_SIZE ≤ l → length (next_name s) ≤ 255
     → text ≡ carries_ok s x → length (spell_reply (reply.OnChannel n (to_client.Ok x)) text) ≤ l
-ok_fits l n ok.Flow s text le a c e = omega (arith, spelled_small (reply.OnChannel n (to_client.Ok ok.Flow)) text refl, le)
-ok_fits l n ok.Declare s text le a c e = omega (arith, spelled_small (reply.OnChannel n (to_client.Ok ok.Declare)) text refl, le)
-ok_fits l n ok.Select s text le a c e = omega (arith, spelled_small (reply.OnChannel n (to_client.Ok ok.Select)) text refl, le)
-ok_fits l n (ok.Consume k) s text le a c e =
-    let short : length text ≤ 255 = subst (λ (x : List ℕ). length x ≤ 255) (sym e) (consumer_short l k s.deliveries a) in
+ok_fits l n ok.Flow s text le c e = omega (arith, spelled_small (reply.OnChannel n (to_client.Ok ok.Flow)) text refl, le)
+ok_fits l n ok.Declare s text le c e = omega (arith, spelled_small (reply.OnChannel n (to_client.Ok ok.Declare)) text refl, le)
+ok_fits l n ok.Select s text le c e = omega (arith, spelled_small (reply.OnChannel n (to_client.Ok ok.Select)) text refl, le)
+ok_fits l n (ok.Consume k) s text le c e =
+    let short : length text ≤ 255 = subst (λ (x : List ℕ). length x ≤ 255) (sym e) c in
     omega (arith, consume_ok_small n text short, le)
-ok_fits l n (ok.Qos count global) s text le a c e = omega (arith, qos_ok_small n, le)
-ok_fits l n ok.Cancel s text le a c e =
+ok_fits l n (ok.Qos count global) s text le c e = omega (arith, qos_ok_small n, le)
+ok_fits l n ok.Cancel s text le c e =
     let short : length text ≤ 255 = subst (λ (x : List ℕ). length x ≤ 255) (sym e) c in
     omega (arith, cancel_ok_small n text short, le)
-ok_fits l n ok.Queue s text le a c e =
+ok_fits l n ok.Queue s text le c e =
     let short : length text ≤ 255 = subst (λ (x : List ℕ). length x ≤ 255) (sym e) c in
     omega (arith, queue_ok_small n text short, le)
-ok_fits l n ok.Get s text le a c e = omega (arith, none_ok_small n, le)
-ok_fits l n (ok.Empty link) s text le a c e = omega (arith, empty_ok_small n, le)
-ok_fits l n ok.Recover s text le a c e = omega (arith, recover_ok_small n, le)
+ok_fits l n ok.Get s text le c e = omega (arith, none_ok_small n, le)
+ok_fits l n (ok.Empty link) s text le c e = omega (arith, empty_ok_small n, le)
+ok_fits l n ok.Recover s text le c e = omega (arith, recover_ok_small n, le)
 
 -- ---- all that goes
 
@@ -223,8 +223,8 @@ module _ (stay : LimitsStay) (received : ReceivedAre) (arrives : DeliveriesAre) 
   told_fits : (h : List Step) (n : ℕ) (u : ChannelUnit) (text : List ℕ) → ArePicks h → MayGoBack h (reply.OnChannel n u) text
       → text ≡ carries_told (path_at (before h).paths n) u → length (spell_reply (reply.OnChannel n u) text) ≤ limit_in h
   told_fits h n (to_client.Ok x) text p m e =
-      ok_fits (limit_in h) n x (path_at (before h).paths n) text (limit_least stay h) (deliverable_at (within stay) received arrives h n p)
-      (name_at (within stay) received names h n p) e
+      ok_fits (limit_in h) n x (path_at (before h).paths n) text (limit_least stay h)
+      (name_at (within stay) received names arrives h n p) e
   told_fits h n (to_client.Deliver d) text p m e =
       let s : PathState = path_at (before h).paths n in
       let a : AreDeliverable (limit_in h) s.deliveries = deliverable_at (within stay) received arrives h n p in

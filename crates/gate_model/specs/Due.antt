@@ -538,7 +538,7 @@ abbrev pub carries_ok : PathState → PathOk → List ℕ
 carries_ok s ok.Flow = []
 carries_ok s ok.Declare = []
 carries_ok s ok.Select = []
-carries_ok s (ok.Consume link) = tag_of link s
+carries_ok s (ok.Consume link) = next_name s
 carries_ok s (ok.Qos count global) = []
 carries_ok s ok.Cancel = next_name s
 carries_ok s ok.Queue = next_name s

@@ -74,7 +74,7 @@ pub record IsBegun (o : Option PathLink) (a : AttachHeard) (s t : PathState) : T
   pub publishes : t.publishes ≡ s.publishes
   pub settles : t.settles ≡ s.settles
   pub oks : t.oks ≡ s.oks ++ begun_oks o a s.awaited
-  pub names : t.names ≡ s.names ++ begun_names o a s.awaited s.queue
+  pub names : t.names ≡ s.names ++ begun_names o a s.awaited s.queue s.deliveries
   pub queue : t.queue ≡ s.queue
 
 pub begun : (o : Option PathLink) (a : AttachHeard) (s : PathState) → IsBegun o a s (begun_if o a s)
@@ -89,7 +89,7 @@ begun (Some l) a s = record { publishes = by_publishes (l.receives && a.there); 
     by_settles true = refl
     by_settles false = refl
 
-    by_names : (b : Bool) → (cond b (begun_on l.link a.count s) s).names ≡ s.names ++ cond b (names_by l.link s.awaited s.queue) []
+    by_names : (b : Bool) → (cond b (begun_on l.link a.count s) s).names ≡ s.names ++ cond b (names_by l.link s.awaited s.queue s.deliveries) []
     by_names true = refl
     by_names false = nil s.names
 

@@ -61,9 +61,9 @@ go true [] all b = stay [] [] all refl b
 go true (x ∷ xs) all b = (b.0 ++ x ∷ [], assoc b.0 (x ∷ []) xs ∙ (b.1 ∙ sym (nil all)))
 
 begin : (a : AttachHeard) (s : PathState) (queue : List ℕ) (all : Names) → s.queue ≡ queue → IsBackOf s.names all
-    → IsBackOf (after_event (AttachCame a) s).names (all ++ begun_names (asked_by a s.links) a s.awaited queue)
+    → IsBackOf (after_event (AttachCame a) s).names (all ++ begun_names (asked_by a s.links) a s.awaited queue s.deliveries)
 begin a s queue all e b =
-    subst (λ (q : List ℕ). IsBackOf (after_event (AttachCame a) s).names (all ++ begun_names (asked_by a s.links) a s.awaited q)) e
+    subst (λ (q : List ℕ). IsBackOf (after_event (AttachCame a) s).names (all ++ begun_names (asked_by a s.links) a s.awaited q s.deliveries)) e
     (come _ s.names _ all (begun (asked_by a s.links) a (record s { links = attached a s.links })).names b)
 
 step : (x : PathEvent) (s : PathState) (queue : List ℕ) (all : Names) → s.queue ≡ queue → IsBackOf s.names all → IsBackOf (after_event x s).names (all ++ named_by s queue x)

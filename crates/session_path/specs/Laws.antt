@@ -130,20 +130,22 @@ AreAnswers life (x ∷ h) =
     IsFrontOf (oks_sent h ++ answers x) (oks_owed life h) × AreAnswers life h
 
 -- the queue that was declared last, and the names that answers give back, in order: of consumers
--- that are cancelled, and of queues that are there
+-- that begin or are cancelled, and of queues that are there
 abbrev pub queue_in : List PathEvent → List ℕ
 queue_in [] = []
 queue_in (Declared queue no_wait ∷ h) = queue
 queue_in (x ∷ h) = queue_in h
 
-abbrev pub begun_names : Option PathLink → AttachHeard → Option Awaited → List ℕ → List (List ℕ)
-begun_names None a awaited queue = []
-begun_names (Some l) a awaited queue =
-    if l.receives && a.there then names_by l.link awaited queue else []
+abbrev pub begun_names : Option PathLink → AttachHeard → Option Awaited → List ℕ → DeliveryState
+    → List (List ℕ)
+begun_names None a awaited queue d = []
+begun_names (Some l) a awaited queue d =
+    if l.receives && a.there then names_by l.link awaited queue d else []
 
 abbrev pub named_by : PathState → List ℕ → PathEvent → List (List ℕ)
 named_by s queue (CancelCame tag no_wait) = if no_wait then [] else tag ∷ []
-named_by s queue (AttachCame a) = begun_names (asked_by a s.links) a s.awaited queue
+named_by s queue (AttachCame a) =
+    begun_names (asked_by a s.links) a s.awaited queue s.deliveries
 named_by s queue x = []
 
 abbrev pub names_owed : ℕ → List PathEvent → List (List ℕ)

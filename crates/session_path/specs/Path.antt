@@ -21,6 +21,7 @@ use Rattle.consume_path.specs.Deliveries.{LinesTold as DeliveriesTold, no_delive
 use Rattle.consume_path.specs.Deliveries.{Cancelled, GlobalSet, PrefetchSet}
 use Rattle.consume_path.specs.Deliveries as deliveries
 use Rattle.consume_path.specs.Links.{consumer_link, is_tag_used, link_of as receiving_link}
+use Rattle.consume_path.specs.Links.{tag_in}
 use Rattle.consume_path.specs.Offers.{arriving_in, content_of, fault_at, next_grant_of}
 use Rattle.consume_path.specs.Offers.{awaits_get, holds, is_at_rest, is_drained, is_over}
 use Rattle.consume_path.specs.Offers.{next_settle_of}
@@ -297,9 +298,15 @@ abbrev pub oks_by : ℕ → Option Awaited → List PathOk
 oks_by link awaited =
     if is_answered link awaited then answer_on link (declares_in awaited) ∷ [] else []
 
-abbrev pub names_by : ℕ → Option Awaited → List ℕ → List (List ℕ)
-names_by link awaited queue =
-    if is_answered link awaited && declares_in awaited then queue ∷ [] else []
+-- the name that it gives back: the queue that is there, or the consumer's tag (AMQP 0-9-1 1.7.2.2,
+-- 1.8.3.4). The link may be gone before the answer goes, and another have its number
+abbrev pub name_in : Option Awaited → List ℕ → DeliveryState → List ℕ
+name_in None queue d = []
+name_in (Some a) queue d = if a.declares then queue else tag_in (receiving_link d.links a.link)
+
+abbrev pub names_by : ℕ → Option Awaited → List ℕ → DeliveryState → List (List ℕ)
+names_by link awaited queue d =
+    if is_answered link awaited then name_in awaited queue d ∷ [] else []
 
 -- what waits once this link is attached
 abbrev pub still_awaited : ℕ → Option Awaited → Option Awaited
@@ -309,7 +316,7 @@ abbrev pub begun_on : ℕ → ℕ → PathState → PathState
 begun_on link count s =
     with_deliveries (LinkAttached link count) (record s {
       oks = s.oks ++ oks_by link s.awaited;
-      names = s.names ++ names_by link s.awaited s.queue;
+      names = s.names ++ names_by link s.awaited s.queue s.deliveries;
       awaited = still_awaited link s.awaited;
     })
 
@@ -676,7 +683,7 @@ gives_name None = false
 gives_name (Some ok.Flow) = false
 gives_name (Some ok.Declare) = false
 gives_name (Some ok.Select) = false
-gives_name (Some (ok.Consume link)) = false
+gives_name (Some (ok.Consume link)) = true
 gives_name (Some (ok.Qos count global)) = false
 gives_name (Some ok.Cancel) = true
 gives_name (Some ok.Queue) = true

@@ -1,7 +1,7 @@
 //! A session with what it carries: each call is one event, or a question on what is due.
 
 ghost use Rattle.std.specs.Prelude.{◌≡◌, ◌≤◌, ◌+◌, ◌<◌, ◌↔◌, [], length, filter, find, Some, None};
-ghost use Rattle.std.specs.Prelude.{IsSome, IsNone, IfSome, OnOk, OnErr, IfOk, option_copied, true};
+ghost use Rattle.std.specs.Prelude.{IsSome, IsNone, IfSome, OnOk, OnErr, IfOk, option_copied};
 ghost use Rattle.std.specs.Prelude.{nat_lt};
 ghost use Rattle.consume_path.specs.Offers.{is_drained};
 ghost use Rattle.publish_path.specs.Offers.{next_frame_of, rest_of};
@@ -13,7 +13,7 @@ ghost use Rattle.session_path.specs.Path.{outcome_came, last_or, attach_sent, li
 ghost use Rattle.session_path.specs.Path.{transfer_sent, settle_sent, detach_sent, confirm_sent};
 ghost use Rattle.session_path.specs.Path.{ok_sent, lines_told, return_sent, receiver_in};
 ghost use Rattle.session_path.specs.Path.{receiver_flowed, grant_in, granting, is_grant_next};
-ghost use Rattle.session_path.specs.Path.{answer_on, declares_in, is_answered, still_awaited};
+ghost use Rattle.session_path.specs.Path.{answer_on, declares_in, is_answered, name_in, still_awaited};
 ghost use Rattle.session_path.specs.Path.{without_source};
 ghost use Rattle.session_path.specs.Path.{address_in, emptied_in, flow_in, is_source_of, source_of};
 ghost use Rattle.session_path.specs.Due.{next_attach, next_name, next_flow, next_frame};
@@ -301,17 +301,17 @@ impl SessionPath {
         Ok(())
     }
 
-    /// The queue that was declared last, for the answer to the queue.declare that waits; empty
-    /// where none does.
-    fn awaited_queue(&self) -> Result<ByteText, Memory>
-        ensures { declares_in self.now.awaited ≡ true → IfOk result (λ name. name
-            ≡ self.now.queue) }
+    /// The name that the answer to the request that waits gives back: the queue that was declared
+    /// last, or the consumer's tag; empty where none waits.
+    fn awaited_name(&self) -> Result<ByteText, Memory>
+        ensures { IfOk result (λ name. name
+            ≡ name_in self.now.awaited self.now.queue self.now.deliveries) }
     {
         let alloc = *self.sources.allocator();
-        if declares_in(self.awaited) {
-            self.queue.copy(alloc)
-        } else {
-            Ok(ByteText::empty(alloc))
+        match self.awaited {
+            None => Ok(ByteText::empty(alloc)),
+            Some(awaited) if awaited.declares => self.queue.copy(alloc),
+            Some(awaited) => ByteText::copy_of(alloc, self.deliveries.tag_of(awaited.link)),
         }
     }
 
@@ -321,7 +321,7 @@ impl SessionPath {
         ensures ok { OnOk result (self.new ≡ attach_came attach self.old) }
         ensures err { OnErr result (self.new ≡ self.old) }
     {
-        let queue = self.awaited_queue()?;
+        let name = self.awaited_name()?;
         self.oks.try_reserve(1)?;
         self.names.try_reserve(1)?;
         let Some(l) = self.links.attach(attach) else {
@@ -333,9 +333,7 @@ impl SessionPath {
         self.deliveries.link_attached(l.link, attach.count);
         if is_answered(self.awaited, l.link) {
             self.oks.push_back(answer_on(self.awaited, l.link))?;
-            if declares_in(self.awaited) {
-                self.names.push_back(queue)?;
-            }
+            self.names.push_back(name)?;
         }
         self.awaited = still_awaited(self.awaited, l.link);
         Ok(())
@@ -519,7 +517,7 @@ impl SessionPath {
                     global: true,
                 },
             ) => self.deliveries.set_global(count),
-            Some(PathOk::Cancel | PathOk::Queue) => {
+            Some(PathOk::Consume(_) | PathOk::Cancel | PathOk::Queue) => {
                 self.names.pop_front();
             }
             _ => {}
