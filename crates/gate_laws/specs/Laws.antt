@@ -103,8 +103,8 @@ pub record IsLawfulPair (s : SetupText) (h : List Entry) : Type 0 where
   pub recovered : GoBack (steps_of s h)
   pub unrecovered : LeavesOthers (steps_of s h)
   pub gone : GoBeforeLeaving (steps_of s h)
-  -- a session's end lingers for what becomes of its publishes, which is decided once the container is
-  -- lost, states the error of what closed its channel, and goes once; so do dispositions of role
+  -- a session's end lingers for what becomes of its publishes, which is decided once the container
+  -- is lost, states the error of what closed its channel, and goes once; so do dispositions of role
   -- sender, flows and attaches
   pub lingers : Lingers (steps_of s h)
   pub lost : LosesPublishes (steps_of s h)
@@ -113,13 +113,13 @@ pub record IsLawfulPair (s : SetupText) (h : List Entry) : Type 0 where
   pub outcomes : SettlesInOrder (steps_of s h)
   pub flows : FlowsOnce (steps_of s h)
   pub attaches : AttachesOnce (steps_of s h)
-  -- a receiving link is attached to the queue that it is for, and a basic.get has its message of that
+  -- a receiving link is attached to the queue that it is for; a basic.get has its message of its own
   pub sources : GetsFromItsQueue (steps_of s h)
   -- a detach states an error for a transfer that passed that limit alone, and for each such one
   pub faults : StatesFaults (steps_of s h)
   pub passed : StatesPassed (steps_of s h)
-  -- on a channel that is closed no answer and no delivery goes; its close has its reason, and is the
-  -- only one of its life; and a deliver goes behind the answers
+  -- on a channel that is closed no answer and no delivery goes; its close has its reason, and is
+  -- the only one of its life; and a deliver goes behind the answers
   pub stops : StopsWhenClosed (steps_of s h)
   pub reasons : SaysWhy (steps_of s h)
   pub closes_once : ClosesOnce (steps_of s h)

@@ -245,10 +245,11 @@ pub fn deliveries_are_settled()
     gate_model::releases_are_lawful();
 }
 
-/// Each flow of a receiving link states a credit by the kind of its link: 1 at most with drain where
-/// it is for gets, and none but while its get waits; with what is in use within the quota where it
-/// is a consumer's, which its last basic.qos before it says; none where it is a declaration's. And
-/// what is left of a consumer's credit is so within the quota at all times, while its life goes on.
+/// Each flow of a receiving link states a credit by the kind of its link: 1 at most with drain
+/// where it is for gets, and none but while its get waits; with what is in use within the quota
+/// where it is a consumer's, which its last basic.qos before it says; none where it is a
+/// declaration's. And what is left of a consumer's credit is so within the quota at all times,
+/// while its life goes on.
 pub fn quotas_are_kept()
     ensures stated { (s : SetupText) (c : Limits) (m : History) → Follows (pair_words s) c m
         → (p : ℕ) → StatesCredit (steps_of s (journal p m)) }
@@ -321,9 +322,9 @@ pub fn sessions_end_in_time()
 /// first outcome of some publish, in order, each once. A flow of a link is asked for by a flow of
 /// the container that none answered yet, or states the credit of a receiving link. Of the first
 /// 2^64 attaches no two have one name. A detach states an error only where a transfer passed that
-/// limit of its link, and states it wherever the container didn't detach the link since. An attach of
-/// a receiving link names the queue that it is for, and a basic.get-ok's delivery came on one to the
-/// queue of its basic.get.
+/// limit of its link, and states it wherever the container didn't detach the link since. An attach
+/// of a receiving link names the queue that it is for, and a basic.get-ok's delivery came on one to
+/// the queue of its basic.get.
 pub fn links_are_answered_once()
     ensures outcomes { (s : SetupText) (c : Limits) (m : History) → Follows (pair_words s) c m
         → (p : ℕ) → SettlesInOrder (steps_of s (journal p m)) }
@@ -349,7 +350,8 @@ pub fn links_are_answered_once()
 /// No answer, no deliver and no frame of its content goes on a channel that isn't open. A confirm,
 /// and a return that begins, go on one that is, or whose closing event was its container's doing. A
 /// channel.close has the reason for which its channel was closed, and each reason has one at most,
-/// and so has each life. A deliver goes behind the answers that are due on its channel, but for a basic.get-ok.
+/// and so has each life. A deliver goes behind the answers that are due on its channel, but for a
+/// basic.get-ok.
 pub fn channels_close_lawfully()
     ensures stops { (s : SetupText) (c : Limits) (m : History) → Follows (pair_words s) c m
         → (p : ℕ) → StopsWhenClosed (steps_of s (journal p m)) }

@@ -1,5 +1,5 @@
--- Which error a detach of the gateway states, and that it states one: told by the events of the life
--- in progress (AMQP 1.0 2.6.5, 2.7.7, 2.8.14, 2.8.18).
+-- Which error a detach of the gateway states, and that it states one: told by the events of the
+-- life in progress (AMQP 1.0 2.6.5, 2.7.7, 2.8.14, 2.8.18).
 use Rattle.std.specs.Prelude.{◌≡◌, ℕ, Bool, false, if◌then◌else◌, List, [], ◌∷◌, Option, None, Some}
 use Rattle.std.specs.Prelude.{find, is_some}
 use Rattle.consume_path.specs.declared.receiving.TransferFault.{TransferFault}

@@ -23,7 +23,7 @@ use Rattle.gate_model.specs.State.{Gave, Step}
 abbrev pub queue_of : List ℕ → List PathEvent → List ℕ
 queue_of queue es = queue_or (queue_in es) queue
 
--- the link on which a basic.get waits: one for gets from its queue on which none waits, or a new one
+-- the link on which a basic.get waits: one for gets from its queue that none waits on, or a new one
 abbrev pub or_new : Option PathLink → ℕ → ℕ
 or_new None new = new
 or_new (Some l) new = l.link

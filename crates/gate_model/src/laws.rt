@@ -258,10 +258,10 @@ pub fn transfers_are_lawful()
     payloads_lawfully();
 }
 
-/// The first frame of a transfer goes to a container only where the steps before it leave the link a
-/// credit of one: its attaches, the container's flows on it, and the gateway's transfers and flows.
-/// The credit is what the container's last flow stated, less the deliveries since its count. It
-/// holds of the first 2^64 attaches, which have names of their own.
+/// The first frame of a transfer goes to a container only where the steps before it leave the link
+/// a credit of one: its attaches, the container's flows on it, and the gateway's transfers and
+/// flows. The credit is what the container's last flow stated, less the deliveries since its count.
+/// It holds of the first 2^64 attaches, which have names of their own.
 pub fn credit_is_kept()
     ensures { (h : List Step) → ArePicks h → CreditIsKept h }
 {
@@ -281,9 +281,9 @@ pub fn payloads_are_whole()
 }
 
 /// Nothing of a client is taken up, and its end neither, while its pair holds 256 publishes or
-/// 67,108,864 bytes of their payloads, on all channels together. So it never holds more publishes. A
-/// publish is held until the last frame of its transfer went or its link was lost; a mandatory one
-/// until it has an outcome too.
+/// 67,108,864 bytes of their payloads, on all channels together. So it never holds more publishes.
+/// A publish is held until the last frame of its transfer went or its link was lost; a mandatory
+/// one until it has an outcome too.
 pub fn laden_pairs_wait()
     ensures room { (h : List Step) → ArePicks h → TakesWithRoom h }
     ensures most { (h : List Step) → ArePicks h → HoldsFew h }
@@ -367,8 +367,8 @@ pub fn units_keep_their_order()
     ensures { (h : List Step) → ArePicks h → TakesInOrder h }
 {}
 
-/// The answers to a channel's requests go in the order of the requests, each once: those that went in
-/// the life in progress and those that are due are those that became due.
+/// The answers to a channel's requests go in the order of the requests, each once: those that went
+/// in the life in progress and those that are due are those that became due.
 pub fn requests_are_answered()
     ensures { (h : List Step) → ArePicks h → AnswersInOrder h }
 {
@@ -492,8 +492,8 @@ pub fn flows_are_answered()
     flows_lawfully();
 }
 
-/// Of the first 2^64 attaches to a container no two have one name, and it attaches a link under each
-/// once at most.
+/// Of the first 2^64 attaches to a container no two have one name, and it attaches a link under
+/// each once at most.
 pub fn attaches_go_once()
     ensures { (h : List Step) → ArePicks h → AttachesOnce h }
 {
@@ -505,8 +505,8 @@ pub fn sessions_end_once()
     ensures { (h : List Step) → ArePicks h → EndsOnce h }
 {}
 
-/// No answer, no deliver and no frame of its content goes on a channel that isn't open. A confirm, and
-/// a return that begins, go on one that is, or whose closing event was its container's doing.
+/// No answer, no deliver and no frame of its content goes on a channel that isn't open. A confirm,
+/// and a return that begins, go on one that is, or whose closing event was its container's doing.
 pub fn closed_channels_get_no_answers()
     ensures { (h : List Step) → ArePicks h → StopsWhenClosed h }
 {}
@@ -539,28 +539,28 @@ pub fn opens_go_behind_begins()
     ensures { (h : List Step) → ArePicks h → OpensBehindBegins h }
 {}
 
-/// An end of the gateway states the error of what closed its channel last since the end before it: of a
-/// refusal the condition of its code, of a performative at fault that of its fault. One that none of
-/// these closed has none, as where its client or its container closed it.
+/// An end of the gateway states the error of what closed its channel last since the end before it:
+/// of a refusal the condition of its code, of a performative at fault that of its fault. One that
+/// none of these closed has none, as where its client or its container closed it.
 pub fn ends_state_errors()
     ensures { (h : List Step) → ArePicks h → StatesErrors h }
 {}
 
-/// Nothing of a channel is taken up while its request waits: its channel.open for the container's begin,
-/// a queue.declare or a basic.consume for its attach, a basic.get for its message, and its
-/// channel.close for the container's end; nor anything while connection.open waits. What is of channel
-/// 0, and a heartbeat, is taken up as the first of what waits, once no request does.
+/// Nothing of a channel is taken up while its request waits: its channel.open for the container's
+/// begin, a queue.declare or a basic.consume for its attach, a basic.get for its message, and its
+/// channel.close for the container's end; nor anything while connection.open waits. What is of
+/// channel 0, and a heartbeat, is taken up as the first of what waits, once no request does.
 pub fn requests_hold_what_follows()
     ensures { (h : List Step) → ArePicks h → TakesInTurn h }
 {
     connection_laws();
 }
 
-/// Where nothing goes to the container before the gateway's close, each channel that is open had its
-/// begin, but while the session of that number before it isn't over; no flow of a session is owed; each
-/// end of the container is answered; a session whose channel or connection closes isn't to be ended
-/// yet, and is 5,000 ms after the closing event of either; and once the connection closes the close
-/// waits for a session, or the open didn't go.
+/// Where nothing goes to the container before the gateway's close, each channel that is open had
+/// its begin, but while the session of that number before it isn't over; no flow of a session is
+/// owed; each end of the container is answered; a session whose channel or connection closes isn't
+/// to be ended yet, and the closing event of neither is 5,000 ms old; and once the connection
+/// closes the close waits for a session, or the open didn't go.
 pub fn sessions_get_what_is_due()
     ensures { (h : List Step) → ArePicks h → EndsContainers h }
 {
@@ -568,9 +568,9 @@ pub fn sessions_get_what_is_due()
     publishes_lawfully();
 }
 
-/// A detach of the gateway states an error only where a transfer of the container passed a limit of its
-/// link in the life in progress, and then that of the limit. Where one did, and the container didn't
-/// detach the link since, it states that error.
+/// A detach of the gateway states an error only where a transfer of the container passed a limit of
+/// its link in the life in progress, and then that of the limit. Where one did, and the container
+/// didn't detach the link since, it states that error.
 pub fn detaches_state_faults()
     ensures only { (h : List Step) → ArePicks h → StatesFaults h }
     ensures passed { (h : List Step) → ArePicks h → StatesPassed h }
@@ -579,16 +579,16 @@ pub fn detaches_state_faults()
     links_lawfully();
 }
 
-/// Once the container closed, was at fault, couldn't be reached, was given up or its end was lost, no
-/// publish of a life in progress waits: each went whole or lost its link, and has an outcome or the
-/// confirm that told it.
+/// Once the container closed, was at fault, couldn't be reached, was given up or its end was lost,
+/// no publish of a life in progress waits: each went whole or lost its link, and has an outcome or
+/// the confirm that told it.
 pub fn lost_containers_end_publishes()
     ensures { (h : List Step) → ArePicks h → LosesPublishes h }
 {}
 
-/// Each attach of a receiving link names the queue for which the link was wanted: by a basic.consume, a
-/// queue.declare, or a basic.get for which there was none. The delivery of a basic.get-ok came on a link
-/// to the queue that its basic.get asked for.
+/// Each attach of a receiving link names the queue for which the link was wanted: by a
+/// basic.consume, a queue.declare, or a basic.get for which there was none. The delivery of a
+/// basic.get-ok came on a link to the queue that its basic.get asked for.
 pub fn gets_come_from_their_queues()
     ensures { (h : List Step) → ArePicks h → GetsFromItsQueue h }
 {
