@@ -9,6 +9,7 @@ pub mod Flows
 pub mod Goings
 pub mod Handed
 pub mod Heards
+pub mod Joined
 pub mod Lengths
 pub mod LinkFaults
 pub mod LinkSpellings

@@ -19,8 +19,11 @@ use performatives_10::{Attach, Flow, Perf, Source10, Target10, Transfer, put_per
 use std::alloc::Global;
 use wire_base::{ByteText, Memory};
 
+/// The bytes of a frame's header (AMQP 1.0 2.3.1).
+const HEADER: usize = 8;
+
 /// The bytes of a frame behind its header, at most.
-const BODY_MAX: usize = FRAME_MAX as usize - 8;
+const BODY_MAX: usize = FRAME_MAX as usize - HEADER;
 
 /// The bytes of an address, at most: that of a short string (AMQP 0-9-1 4.2.5.3).
 const ADDRESS_MAX: usize = 255;
@@ -226,21 +229,26 @@ fn transfer_of(alloc: Global, transfer: TransferOut) -> Result<Perf, Memory>
     }))
 }
 
-/// The bytes of a frame with a performative and what follows it. `Memory` also if it is longer than
-/// the gateway's frames are, as none of the gateway's is.
-#[tactic(auto, using(crate::proofs::Lengths::frame_len))]
-fn frame_of(alloc: Global, channel: u16, perf: &Perf, payload: &[u8]) -> Result<ByteText, Memory>
-    requires { HasSpelling (perf_tree perf.now) }
-    ensures text { IfOk result (λ text.
-        text ≡ frame_on channel (perf_text perf.now ++ payload.now)) }
+/// The bytes of a frame whose body is a text and then a payload. The payload is copied once, since
+/// it goes behind a frame of the text, whose size then counts both. `Memory` also if the frame is
+/// longer than the gateway's are, as none of the gateway's is.
+#[tactic(auto, using(crate::proofs::Joined::joined))]
+fn frame_behind(
+    alloc: Global,
+    channel: u16,
+    body: ByteText,
+    payload: &[u8],
+) -> Result<ByteText, Memory>
+    ensures text { IfOk result (λ text. text ≡ frame_on channel (body ++ payload.now)) }
     ensures small { IfOk result (λ text. length text ≤ FRAME_MAX) }
 {
-    let mut body = ByteText::empty(alloc);
-    put_perf(alloc, &mut body, perf)?;
-    body.append(payload)?;
-    if body.as_slice().len() > BODY_MAX {
+    let Some(room) = BODY_MAX.checked_sub(body.as_slice().len()) else {
+        return Err(Memory);
+    };
+    if payload.len() > room {
         return Err(Memory);
     }
+    let size = HEADER + body.as_slice().len() + payload.len();
     let mut text = ByteText::empty(alloc);
     put_frame10(
         &mut text,
@@ -250,7 +258,21 @@ fn frame_of(alloc: Global, channel: u16, perf: &Perf, payload: &[u8]) -> Result<
             body,
         },
     )?;
+    text.append(payload)?;
+    text.set_u32(0, size as u32);
     Ok(text)
+}
+
+/// The bytes of a frame with a performative and what follows it.
+fn frame_of(alloc: Global, channel: u16, perf: &Perf, payload: &[u8]) -> Result<ByteText, Memory>
+    requires { HasSpelling (perf_tree perf.now) }
+    ensures text { IfOk result (λ text.
+        text ≡ frame_on channel (perf_text perf.now ++ payload.now)) }
+    ensures small { IfOk result (λ text. length text ≤ FRAME_MAX) }
+{
+    let mut body = ByteText::empty(alloc);
+    put_perf(alloc, &mut body, perf)?;
+    frame_behind(alloc, channel, body, payload)
 }
 
 /// The frame of an attach to this address. `Memory` also if that is longer than a short string or
