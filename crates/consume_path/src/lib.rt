@@ -11,8 +11,6 @@ mod places;
 mod receiving;
 mod searches;
 mod tallies;
-#[cfg(test)]
-mod tests;
 mod visits;
 
 pub use deliveries::Deliveries;

@@ -3,8 +3,6 @@
 
 mod handles;
 mod laws;
-#[cfg(test)]
-mod tests;
 
 pub use handles::{Attachment, HandleState, Handles};
 pub use laws::handle_laws;

@@ -4,8 +4,6 @@
 mod laws;
 mod recv;
 mod send;
-#[cfg(test)]
-mod tests;
 
 pub use laws::{link_laws, recv_link_laws};
 pub use recv::{Granting, RecvLink};

@@ -10,8 +10,6 @@ mod publish;
 mod publishes;
 mod searches;
 mod send_links;
-#[cfg(test)]
-mod tests;
 mod visits;
 
 pub use laws::{confirms_lawfully, lines_lawfully, payloads_lawfully, returns_lawfully};

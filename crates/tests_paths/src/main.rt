@@ -1,0 +1,52 @@
+//! Cases of what is kept of a session's links, publishes and deliveries: reads calls line by line, and prints what they answer.
+//!
+//! | Line | Answer |
+//! |---|---|
+//! | `sender new`, `sender begin`, `sender drain` | a sending link after a call: its delivery-count and its credit |
+//! | `sender credit CREDIT`, `sender flow COUNT CREDIT` | the same after a flow of the container, without a count and with one |
+//! | `receiver quota N` | a receiving link: its delivery-count, its credit, what is left of its limit, and the credit that is due |
+//! | `receiver attached COUNT`, `granted CREDIT`, `arrived`, `recounted N`, `flow COUNT`, `cancel` | the same after a call |
+//! | `handles` | what is answered of the handles of two links, of which one goes |
+//! | `publishes life N`, `deliveries life N` | nothing: a life begins, without links |
+//!
+//! Of `publishes`:
+//!
+//! | Line | Answer |
+//! |---|---|
+//! | `needed LINK BYTES`, `attached LINK`, `flow LINK CREDIT`, `drain LINK`, `remove LINK` | nothing: the link with the address of these bytes is changed |
+//! | `find BYTES`, `can-send LINK` | the link to an address, and whether it may send |
+//! | `plain LINK BYTES`, `confirmed LINK BYTES`, `mandatory LINK BYTES` | the number of a publish that is taken up; a mandatory one is confirmed, and its return has two frames |
+//! | `send N`, `confirm`, `return` | the frame, the confirm or the frame of a return that is due, which is sent; a frame has so many bytes at most |
+//! | `next N` | the frame that is due, where the container takes so many more |
+//! | `accepted FIRST LAST`, `released FIRST LAST`, `refused FIRST LAST` | whether an outcome told of any |
+//! | `lost LINK`, `not-found LINK`, `all-lost`, `told` | nothing: a link is lost, its address isn't known, each is lost, the report's lines were told |
+//! | `held`, `waits LINK`, `unanswered LINK`, `next-id`, `line PLACE`, `has-rest NUMBER` | what is asked |
+//!
+//! Of `deliveries`:
+//!
+//! | Line | Answer |
+//! |---|---|
+//! | `consumer LINK TAG`, `getter LINK`, `flow LINK COUNT`, `echo LINK`, `cancel LINK`, `wait LINK`, `empty LINK` | nothing: a link is attached, or a call on it; `wait` is a get, and `empty` its get-empty |
+//! | `prefetch N`, `global N`, `written TAG`, `close`, `lose`, `tell` | nothing: a call on the life |
+//! | `transfer LINK ID WORDS` | what a transfer comes to; a whole delivery is taken. The words are `more`, `settled` and `no-image` |
+//! | `last LINK ID WORDS` | nothing: the last transfer of a delivery, which is taken at once; `again` says that it was delivered before |
+//! | `grant`, `deliver`, `settle` | the flow, the deliver (its tag and its delivery-id) or the disposition that is due, which is sent |
+//! | `accept TAG`, `reject TAG`, `release TAG`, also with `multiple` | nothing: an answer of the client |
+//! | `knows TAG`, `message ID`, `line PLACE`, `tags`, `is-closed` | what is asked of the life |
+//! | `links`, `has-tag TAG`, `tag-of LINK`, `count LINK`, `payload LINK`, `is-covered LINK`, `is-empty LINK`, `fault LINK ID` | what is asked of the links |
+#![tactic(auto)]
+
+mod cases;
+mod credits;
+mod deliveries;
+mod handles;
+mod publishes;
+mod words;
+
+use cases::PathCases;
+use std::io;
+use tests_support::answer_lines;
+
+fn main(rt: HostRuntime) -> io::Result<()> {
+    answer_lines(&rt, &mut PathCases::new(rt.alloc()))
+}
