@@ -43,6 +43,7 @@ use Rattle.gate_model.specs.Rests.{ServesClients, SuppliesContainers}
 use Rattle.gate_model.specs.Settles.{Grants, Settles}
 use Rattle.gate_model.specs.Setup.{IsInForm, SetupText}
 use Rattle.gate_model.specs.Sources.{GetsFromItsQueue}
+use Rattle.gate_model.specs.Starts.{StartsBehind}
 use Rattle.gate_model.specs.State.{owed_lines}
 use Rattle.gate_model.specs.Takes.{TakesInTurn}
 use Rattle.gate_model.specs.Waiting.{ChannelsEndWhenSettled, EndsWhenSettled, OpensWhenOpened}
@@ -119,12 +120,14 @@ pub record IsLawfulPair (s : SetupText) (h : List Entry) : Type 0 where
   pub faults : StatesFaults (steps_of s h)
   pub passed : StatesPassed (steps_of s h)
   -- on a channel that is closed no answer and no delivery goes; its close has its reason, and is
-  -- the only one of its life; and a deliver goes behind the answers
+  -- the only one of its life; and a deliver goes behind the answers, and names a tag of which its
+  -- client was told
   pub stops : StopsWhenClosed (steps_of s h)
   pub reasons : SaysWhy (steps_of s h)
   pub closes_once : ClosesOnce (steps_of s h)
   pub life_once : ClosesALifeOnce (steps_of s h)
   pub behind : DeliversBehind (steps_of s h)
+  pub started : StartsBehind (steps_of s h)
   -- the report is owed the lines of the publishes that were lost before they had an outcome, and of
   -- the deliveries that were lost or left
   pub lines : owed_lines (state_of s h) ≡ lines_owed (steps_of s h)

@@ -38,6 +38,7 @@ ghost use Rattle.gate_model.specs.Rests.{ServesClients, SuppliesContainers};
 ghost use Rattle.gate_model.specs.Settles.{Grants, Settles};
 ghost use Rattle.gate_model.specs.Setup.{IsInForm, SetupText};
 ghost use Rattle.gate_model.specs.Sources.{GetsFromItsQueue};
+ghost use Rattle.gate_model.specs.Starts.{StartsBehind};
 ghost use Rattle.gate_model.specs.State.{owed_lines};
 ghost use Rattle.gate_model.specs.Takes.{TakesInTurn};
 ghost use Rattle.gate_model.specs.Waiting.{ChannelsEndWhenSettled, EndsWhenSettled};
@@ -351,7 +352,7 @@ pub fn links_are_answered_once()
 /// and a return that begins, go on one that is, or whose closing event was its container's doing. A
 /// channel.close has the reason for which its channel was closed, and each reason has one at most,
 /// and so has each life. A deliver goes behind the answers that are due on its channel, but for a
-/// basic.get-ok.
+/// basic.get-ok; and behind the basic.consume-ok that gave its consumer's tag back.
 pub fn channels_close_lawfully()
     ensures stops { (s : SetupText) (c : Limits) (m : History) → Follows (pair_words s) c m
         → (p : ℕ) → StopsWhenClosed (steps_of s (journal p m)) }
@@ -363,12 +364,15 @@ pub fn channels_close_lawfully()
         → (p : ℕ) → ClosesALifeOnce (steps_of s (journal p m)) }
     ensures behind { (s : SetupText) (c : Limits) (m : History) → Follows (pair_words s) c m
         → (p : ℕ) → DeliversBehind (steps_of s (journal p m)) }
+    ensures started { (s : SetupText) (c : Limits) (m : History) → Follows (pair_words s) c m
+        → (p : ℕ) → StartsBehind (steps_of s (journal p m)) }
 {
     entries_are_lawful();
     gate_model::closed_channels_get_no_answers();
     gate_model::closes_say_why();
     gate_model::lives_close_once();
     gate_model::delivers_go_behind_answers();
+    gate_model::consumers_are_told_first();
 }
 
 /// What the report is owed of a pair: of each life in progress, by rising number, the publishes

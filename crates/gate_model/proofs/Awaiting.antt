@@ -70,7 +70,7 @@ pub record Ready (ds : List DeliveryEvent) (k : ℕ) (l : ReceivingLink) : Type 
   pub calm : l.stopping ≡ false
   pub kept : l.cancelled ≡ false
 
-abbrev IsReady : List DeliveryEvent → ℕ → ReceivingLink → Type 0
+abbrev pub IsReady : List DeliveryEvent → ℕ → ReceivingLink → Type 0
 IsReady ds k l = is_for_gets l.kind ≡ true → Ready ds k l
 
 -- no get waits without a credit
@@ -211,7 +211,7 @@ flow_left count s e = by (nat_lt (left_by count s) s.credit) refl
     by false f = (e, omega arith)
 
 -- a transfer begins within a limit
-within : (part : Part) (size : ℕ) (l : ReceivingLink) (s : DeliveryState) → fault_of part size l s.links s.list ≡ None → is_between l ≡ true → 1 ≤ l.state.limit_left
+pub within : (part : Part) (size : ℕ) (l : ReceivingLink) (s : DeliveryState) → fault_of part size l s.links s.list ≡ None → is_between l ≡ true → 1 ≤ l.state.limit_left
 within part size l s e b = by (names_wrongly part l s.links s.list) (is_between l) (l.state.limit_left == 0) b refl e
   where
     by : (n t z : Bool) → t ≡ true → (l.state.limit_left == 0) ≡ z
@@ -459,7 +459,7 @@ module _ (life : ℕ) (ds : List DeliveryEvent) (k : ℕ) (l : ReceivingLink) wh
       by false i r = record { left = r.left; stands = r.stands; calm = r.calm; kept = r.kept }
 
 -- each link for gets stands so while the life goes on
-ready : (life : ℕ) (ds : List DeliveryEvent) → AreCalls life ds → AreGetCalls life ds → (on.after_events life ds).closed ≡ false → (k : ℕ)
+pub ready : (life : ℕ) (ds : List DeliveryEvent) → AreCalls life ds → AreGetCalls life ds → (on.after_events life ds).closed ≡ false → (k : ℕ)
     → IfSome (link_of (on.after_events life ds).links k) (IsReady ds k)
 ready life [] c g open_yet k = tt
 ready life (x ∷ ds) c g open_yet k =

@@ -62,7 +62,7 @@ tagged tag (Consumer own no_ack) e = refl
 tagged tag Get e = absurd cc
 tagged tag Probe e = absurd cc
 
-consumes : (tag : List ℕ) (links : List ReceivingLink) (link : ℕ) → AreApart links → consumer_link tag links ≡ Some link → in_link (λ l. is_for_gets l.kind) (link_of links link) ≡ false
+pub consumes : (tag : List ℕ) (links : List ReceivingLink) (link : ℕ) → AreApart links → consumer_link tag links ≡ Some link → in_link (λ l. is_for_gets l.kind) (link_of links link) ≡ false
 consumes tag links link a e = by (find (has_tag tag) links) refl e
   where
     by : (o : Option ReceivingLink) → find (has_tag tag) links ≡ o → option_map (λ (l : ReceivingLink). l.link) o ≡ Some link → in_link (λ l. is_for_gets l.kind) (link_of links link) ≡ false

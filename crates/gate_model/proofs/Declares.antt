@@ -32,11 +32,11 @@ use Rattle.gate_model.specs.declared.outgoing.Outgoing.TheVariants.{ToClient, To
 use Rattle.gate_model.specs.declared.reply.Reply.{Reply}
 use Rattle.gate_model.specs.declared.reply.Reply.TheVariants as reply
 use Rattle.gate_model.specs.Folds.{connection}
-use Rattle.gate_model.proofs.Basics.{all_both, not_true}
+use Rattle.gate_model.proofs.Basics.{all_both}
 use Rattle.gate_model.proofs.Fates.{IsLived, IsNext, is_next, lived}
 use Rattle.gate_model.proofs.Firsts.{OfChannel, goes_as}
 use Rattle.gate_model.proofs.Oks.{AnswersAre, answers_in_order}
-use Rattle.gate_model.proofs.Quiet.{OfQuiet, came_on, flat, is_request, named_all, quiet_step, reply_on, up_on, whole_on}
+use Rattle.gate_model.proofs.Quiet.{OfQuiet, came_on, flat, is_asked_ok, is_request, named_all, quiet_step, reply_on, up_on, whole_on}
 use Rattle.gate_model.proofs.Rests.{LivesBelow}
 
 -- ---- no event but an attach makes a queue.declare-ok due
@@ -48,8 +48,12 @@ is_owed_so x = false
 abbrev IsFree : PathEvent → Type 0
 IsFree x = is_owed_so x ≡ false
 
+asked_free : (x : PathOk) → is_asked_ok x ≡ true → is_declare_ok x ≡ false
+asked_free ok.Queue e = absurd cc
+asked_free x e = refl
+
 quiet_free : OfQuiet (λ (b : List PathEvent). IsFree)
-quiet_free b (event.Owed x) e = not_true (is_declare_ok x) e
+quiet_free b (event.Owed x) e = asked_free x e
 quiet_free b x e = refl
 
 request_free : (x : PathEvent) → is_request x ≡ true → IsFree x
@@ -138,12 +142,13 @@ counted life (x ∷ es) a =
 
 -- ---- an answer that goes
 
-first_counts : (x : PathOk) (xs : List PathOk) → first_of xs ≡ Some x → is_declare_ok x ≡ true → 1 ≤ count xs
-first_counts x [] e d = absurd cc
-first_counts x (y ∷ xs) e d =
+pub first_counts : (t : PathOk → Bool) (x : PathOk) (xs : List PathOk) → first_of xs ≡ Some x → t x ≡ true → 1 ≤ count_by t xs
+first_counts t x [] e d = absurd cc
+first_counts t x (y ∷ xs) e d =
     let same : y ≡ x = cc in
-    let one : weight y ≡ 1 = ap weight same ∙ ap (λ (b : Bool). cond b 1 0) d in
-    let all : count (y ∷ xs) ≡ weight y + count xs = sum_by-cons weight y xs in
+    let counts : PathOk → ℕ = λ z. cond (t z) 1 0 in
+    let one : counts y ≡ 1 = ap counts same ∙ ap (λ (b : Bool). cond b 1 0) d in
+    let all : count_by t (y ∷ xs) ≡ counts y + count_by t xs = sum_by-cons counts y xs in
     omega (arith, one, all)
 
 module _ (law : AnswersAre) (below : LivesBelow) where
@@ -154,7 +159,7 @@ module _ (law : AnswersAre) (below : LivesBelow) where
       lived_by s l f =
           let es : List PathEvent = path_events h n in
           let due : List PathOk = (after_events l.life es).oks in
-          let first : 1 ≤ count due = first_counts x due (ap next_ok (sym l.is) ∙ f) d in
+          let first : 1 ≤ count due = first_counts is_declare_ok x due (ap next_ok (sym l.is) ∙ f) d in
           let both : count (oks_sent es) + count due ≡ queues_found l.life es =
           sym (sum_by-append weight (oks_sent es) due)
           ∙ ap count (answers_in_order law below h p n l.life l.lives) ∙ counted l.life es (all_free h n) in

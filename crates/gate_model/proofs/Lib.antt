@@ -38,6 +38,7 @@ pub mod Fitting
 pub mod FittingUp
 pub mod Flows
 pub mod Frames
+pub mod Getting
 pub mod Giving
 pub mod Givings
 pub mod Goes
@@ -72,6 +73,7 @@ pub mod Parted
 pub mod Passed
 pub mod Phases
 pub mod Places
+pub mod Proper
 pub mod Publishing
 pub mod Queues
 pub mod Quiet
@@ -87,6 +89,7 @@ pub mod Rests
 pub mod Rows
 pub mod Said
 pub mod Sessions
+pub mod Serving
 pub mod Settles
 pub mod Shutting
 pub mod Silences
@@ -94,6 +97,8 @@ pub mod Slots
 pub mod SmallUp
 pub mod Sources
 pub mod Spelled
+pub mod Standing
+pub mod Starts
 pub mod Stating
 pub mod Staying
 pub mod Stopping
@@ -101,6 +106,7 @@ pub mod Strings
 pub mod Takes
 pub mod Times
 pub mod Ups
+pub mod Waiters
 pub mod Waits
 pub mod Wholes
 pub mod Widths

@@ -1,5 +1,5 @@
 -- What the gateway sends on links keeps their credit to the fold: attaches, flows, and first frames of transfers.
-use Rattle.std.proofs.Common.{◌≡◌, ◌∙◌, ℕ, ◌+◌, ◌-◌, ◌%◌, ◌^◌, ◌≤◌, Bool, true, false}
+use Rattle.std.proofs.Common.{◌≡◌, ◌∙◌, ℕ, ◌+◌, ◌%◌, ◌^◌, ◌≤◌, Bool, true, false}
 use Rattle.std.proofs.Common.{Option, Some, None, refl, sym, subst, ap, arith, cond, map}
 use Rattle.std.specs.Prelude.{find, is_some, nat_le, position, ◌==◌, ◌&&◌}
 use Rattle.std.specs.Option.{option_map}

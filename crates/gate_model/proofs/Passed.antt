@@ -23,7 +23,7 @@ use Rattle.session_path.specs.Path.{taking_in}
 use Rattle.session_path.specs.declared.path.AttachHeard.{AttachHeard}
 use Rattle.session_path.specs.declared.path.PathLink.{PathLink}
 use Rattle.session_path.specs.declared.path.Stage.{Stage}
-use Rattle.session_path.specs.declared.path.Stage.TheVariants.{Asked, Failed, Given, Wanted}
+use Rattle.session_path.specs.declared.path.Stage.TheVariants.{Asked, Given, Wanted}
 use Rattle.session_path.proofs.Idle.{detaching_there}
 use Rattle.session_path.proofs.SameLinks.{attach_same, disposed_same, dropped_same, flow_sent_same, flowed_if, flowed_same, got_links, got_same}
 use Rattle.session_path.proofs.SameLinks.{transfer_same}

@@ -25,7 +25,6 @@ use Rattle.session_path.specs.Events.{PathEvent}
 use Rattle.session_path.specs.declared.path.PathOk.{PathOk}
 use Rattle.session_path.specs.declared.path.PathOk.TheVariants as ok
 use Rattle.types_10.specs.Tree.{Tree}
-use Rattle.gate_model.specs.Declares.{is_declare_ok}
 use Rattle.gate_model.specs.Folds.{connection, container, leaving_in, paths_in, peers, ran_out_in, routes_in, scope_in}
 use Rattle.gate_model.specs.Lives.{is_of_channel}
 use Rattle.gate_model.specs.Paths.{fault_in, is_outcome, name_in, part_in, path_at, text_of}
@@ -60,9 +59,18 @@ is_told (event.ContentWhole tag) = true
 is_told (event.OkSent x) = true
 is_told x = false
 
--- nor is it a request by a name, a publish, a transfer, or an answer to a queue.declare
+-- an answer that is due once its request is taken up
+abbrev pub is_asked_ok : PathOk → Bool
+is_asked_ok ok.Flow = true
+is_asked_ok ok.Declare = true
+is_asked_ok ok.Select = true
+is_asked_ok (ok.Qos count global) = true
+is_asked_ok ok.Recover = true
+is_asked_ok x = false
+
+-- nor is it a request by a name, a publish, a transfer, or an answer that waits for the container
 abbrev pub is_quiet : PathEvent → Bool
-is_quiet (event.Owed x) = not (is_declare_ok x)
+is_quiet (event.Owed x) = is_asked_ok x
 is_quiet (event.Published address payload back) = false
 is_quiet (event.Consumed address tag no_ack no_wait) = false
 is_quiet (event.CancelCame tag no_wait) = false
@@ -129,9 +137,9 @@ attach_quiet : (o : Option ℕ) (ts : List Tree) → AreQuiet (attach_events o t
 attach_quiet None ts = tt
 attach_quiet (Some name) ts = (refl, tt)
 
-owed_quiet : (no_wait : Bool) (x : PathOk) → is_declare_ok x ≡ false → AreQuiet (owed_unless no_wait (event.Owed x))
+owed_quiet : (no_wait : Bool) (x : PathOk) → is_asked_ok x ≡ true → AreQuiet (owed_unless no_wait (event.Owed x))
 owed_quiet true x e = tt
-owed_quiet false x e = (ap not e, tt)
+owed_quiet false x e = (e, tt)
 
 -- ---- what holds of a step's events
 

@@ -42,7 +42,7 @@ use Rattle.gate_model.specs.Publishing.{opens_channel, path_life}
 use Rattle.gate_model.specs.Requests.{client_step, client_told}
 use Rattle.gate_model.specs.Shuts.{closed_on, frees_channel, is_freed}
 use Rattle.gate_model.specs.State.{Began, Came, Fed, Gave, Heard, Joined, Lost, Moment, OutOfMemory, Queued, Silent, State, Step, TakenUp, Whole}
-use Rattle.gate_model.specs.State.{before, begun_session, came, carried, close, close_if, closed_for, closes_at, closing_code, closing_error, dequeued, ending_error, fail}
+use Rattle.gate_model.specs.State.{before, begun_session, came, carried, close_if, closed_for, closes_at, closing_code, closing_error, dequeued, ending_error, fail}
 use Rattle.gate_model.specs.State.{fail_life, heard, is_limit_reached, left, life_failed, link_scope, runs, scoped, want_in, windowed}
 use Rattle.gate_model.specs.State.{with_meaning, with_session, without_begin, without_life}
 use Rattle.gate_model.specs.Upstream.{heard_up, meaning_by}

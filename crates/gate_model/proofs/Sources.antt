@@ -5,7 +5,7 @@ use Rattle.std.proofs.lemmas.Bool.Decides.{nat_tests}
 use Rattle.std.proofs.lemmas.Slice.Eq.{bytes_eq-Decides}
 use Rattle.std.specs.List.{AllByRecursion}
 use Rattle.std.specs.Option.{option_or}
-use Rattle.std.specs.Prelude.{IfSome, bytes_eq, find, is_some}
+use Rattle.std.specs.Prelude.{IfSome, find, is_some}
 use Rattle.consume_path.specs.Deliveries as on
 use Rattle.consume_path.specs.Deliveries.{DeliveryEvent, DeliveryState}
 use Rattle.consume_path.specs.Journal.{is_closed}
@@ -527,7 +527,7 @@ served s d e f = by (nat_lt s.deliveries.tags most_tags) (next_deliver_of s.deli
     by true None g = absurd cc
     by true (Some next) g = one next (serves_gets next.link s.deliveries.links) (is_get_ok (first_of s.oks)) refl g
 
-gets_kind : (kind : RecvKind) → is_for_gets kind ≡ true → kind ≡ Get
+pub gets_kind : (kind : RecvKind) → is_for_gets kind ≡ true → kind ≡ Get
 gets_kind (Consumer tag no_ack) e = absurd cc
 gets_kind Get e = refl
 gets_kind Probe e = absurd cc

@@ -43,6 +43,7 @@ pub mod Shuts
 pub mod Silence
 pub mod Sources
 pub mod Spelling
+pub mod Starts
 pub mod State
 pub mod Takes
 pub mod Times

@@ -48,6 +48,7 @@ ghost use Rattle.gate_model.specs.Reports.{lines_owed};
 ghost use Rattle.gate_model.specs.Rests.{ServesClients, SuppliesContainers};
 ghost use Rattle.gate_model.specs.Settles.{Grants, Settles};
 ghost use Rattle.gate_model.specs.Sources.{GetsFromItsQueue};
+ghost use Rattle.gate_model.specs.Starts.{StartsBehind};
 ghost use Rattle.gate_model.specs.State.{Step, before, owed_lines};
 ghost use Rattle.gate_model.specs.Takes.{TakesInTurn};
 ghost use Rattle.gate_model.specs.Times.{BeatsAtOnce, BeatsWhenDue, LateCloses, ShutsAtOnce};
@@ -524,6 +525,21 @@ pub fn delivers_go_behind_answers()
     ensures { (h : List Step) → ArePicks h → DeliversBehind h }
 {
     connection_laws();
+}
+
+/// Each basic.deliver names the consumer tag that its basic.consume asked for, or that was made for
+/// it. It goes only where a basic.consume-ok gave that tag back since, unless the basic.consume
+/// wanted none. Each basic.consume-ok carries the name that it gives back.
+pub fn consumers_are_told_first()
+    ensures { (h : List Step) → ArePicks h → StartsBehind h }
+{
+    connection_laws();
+    deliveries_lawfully();
+    calls_lawfully();
+    counts_lawfully();
+    numbers_lawfully();
+    delivers_lawfully();
+    answers_lawfully();
 }
 
 /// In each life of a channel at most one channel.close of the gateway goes.

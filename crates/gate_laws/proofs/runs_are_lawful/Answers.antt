@@ -49,6 +49,7 @@ returns c = λ s l m f. record {
     closes_once = c.channels_close_lawfully.ensures.once s l m f p;
     life_once = c.channels_close_lawfully.ensures.life s l m f p;
     behind = c.channels_close_lawfully.ensures.behind s l m f p;
+    started = c.channels_close_lawfully.ensures.started s l m f p;
     lines = c.lines_are_lawful.ensures s l m f p;
     served = c.owed_units_go.ensures.clients s l m f p;
     supplied = c.owed_units_go.ensures.containers s l m f p;
