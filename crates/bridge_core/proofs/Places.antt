@@ -73,6 +73,13 @@ pub none_left : (q : Waits) (us : List Unit91) → is_empty us ≡ true → plac
 none_left q [] e = refl
 none_left q (u ∷ us) e = absurd cc
 
+pub none_when_empty : (w : State) → is_empty w.queue ≡ true → place w ≡ None
+none_when_empty w none = by (is_laden w.paths)
+  where
+    by : (b : Bool) → (if b then None else place_in (waits w) w.queue) ≡ None
+    by true = refl
+    by false = none_left (waits w) w.queue none
+
 -- while many publishes are held
 pub none_while_laden : (w : State) → is_laden w.paths ≡ true → place w ≡ None
 none_while_laden w laden = ap (λ (b : Bool). if b then None else place_in (waits w) w.queue) laden

@@ -41,9 +41,9 @@ use wire_base::Memory;
 /// offered.
 #[derive(Drop)]
 pub struct Bridge {
-    state: Core,
     client: Slot,
     up: UpSlot,
+    state: Core,
 }
 
 impl Model for Bridge {

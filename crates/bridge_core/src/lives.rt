@@ -46,10 +46,10 @@ pub fn old_life(life: Life) -> Life
 /// What is due on each channel.
 #[derive(Drop)]
 pub struct Lives {
-    lives: [Life; CHANNELS],
-    crowded: bool,
     /// Nothing was ever due on a channel from this number on: looks for what goes next end there.
     top: u16,
+    crowded: bool,
+    lives: [Life; CHANNELS],
 }
 
 impl Model for Lives {

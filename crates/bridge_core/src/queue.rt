@@ -25,12 +25,12 @@ pub const COUNTS: usize = CHANNELS + 1;
 /// The units of a client that aren't taken up yet, in their order.
 #[derive(Drop)]
 pub struct Queue {
+    /// How many are of each channel.
+    counts: [u32; COUNTS],
     units: VecDeque<Unit91>,
     bytes: usize,
     /// Bytes with which no unit begins are among them.
     bad: bool,
-    /// How many are of each channel.
-    counts: [u32; COUNTS],
 }
 
 impl Model for Queue {

@@ -27,14 +27,14 @@ use wire_base::{ByteText, Memory};
 #[derive(Drop)]
 pub struct UpCore {
     side: Side,
-    container: Option<Conn10>,
     pending: UpPending,
-    in_progress: Option<UpUnit>,
     sent: UpSent,
-    condition: Option<Condition>,
-    last_sent_at: u64,
-    fed_at: u64,
     silent: bool,
+    fed_at: u64,
+    last_sent_at: u64,
+    condition: Option<Condition>,
+    container: Option<Conn10>,
+    in_progress: Option<UpUnit>,
 }
 
 impl Model for UpCore {

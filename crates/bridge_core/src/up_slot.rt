@@ -24,10 +24,10 @@ use wire_base::{ByteText, Memory};
 /// attach, of a flow of a link and of a transfer stand in `long`, all others in `room`.
 #[derive(Drop)]
 pub struct UpSlot {
-    chosen: Option<UpUnit>,
     room: [u8; ROOM],
     used: usize,
     long: Option<ByteText>,
+    chosen: Option<UpUnit>,
 }
 
 impl Model for UpSlot {

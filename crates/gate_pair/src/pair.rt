@@ -27,11 +27,11 @@ use wire_base::Memory;
 /// A pair of connections.
 #[derive(Drop)]
 pub struct Pair {
+    /// What happened last may make lines of the report due.
+    telling: bool,
     bridge: Bridge,
     client: Half,
     up: Half,
-    /// What happened last may make lines of the report due.
-    telling: bool,
 }
 
 impl Model for Pair {
