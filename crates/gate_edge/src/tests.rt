@@ -12,10 +12,12 @@ use crate::partings::Parting;
 use crate::standard::{ReaderSource, WriterSink};
 use crate::unsent::Unsent;
 use gate_outside::{Drawn, End, Got, Put, Sink, Source, Sunk};
+use std::alloc::Global;
 use std::io;
 use std::io::{ErrorKind, Read, Write};
 use std::process::Abort;
 use std::test::Fail;
+use wire_base::{ByteText, Memory};
 
 /// What a stream answers once it isn't interrupted any more.
 #[derive(Clone, Copy, Debug)]
@@ -75,30 +77,39 @@ fn stream(interruptions: u32, then: Then) -> Late {
     }
 }
 
+/// What a source over a stream draws, and how many bytes of a buffer of four it fills.
+fn draw(alloc: Global, stream: Late) -> Result<(Drawn, usize), Memory> {
+    let mut source = ReaderSource::new(alloc, stream)?;
+    let mut buf = [1; 4];
+    let drawn = source.read(&mut buf);
+    let filled = buf.iter().filter(|byte| **byte == 7).count();
+    Ok((drawn, filled))
+}
+
 #[test]
 fn a_source_tries_1_000_times_more(rt: HostRuntime) -> Result<(), Fail> {
     for (interruptions, then, want) in [
-        (0, Then::Moves(2), Drawn::Bytes(2)),
-        (0, Then::Moves(9), Drawn::Bytes(4)),
-        (0, Then::Moves(0), Drawn::Ended),
-        (1_000, Then::Moves(2), Drawn::Bytes(2)),
-        (1_001, Then::Moves(2), Drawn::Failed),
-        (0, Then::WouldWait, Drawn::Failed),
-        (0, Then::Fails, Drawn::Failed),
+        (0, Then::Moves(2), (Drawn::Bytes(2), 2)),
+        (0, Then::Moves(9), (Drawn::Bytes(4), 4)),
+        (0, Then::Moves(0), (Drawn::Ended, 0)),
+        (1_000, Then::Moves(2), (Drawn::Bytes(2), 2)),
+        (1_001, Then::Moves(2), (Drawn::Failed, 0)),
+        (0, Then::WouldWait, (Drawn::Failed, 0)),
+        (0, Then::Fails, (Drawn::Failed, 0)),
     ] {
-        let mut source = ReaderSource::new(rt.alloc(), stream(interruptions, then))?;
-        let mut buf = [1; 4];
-        let got = source.read(&mut buf);
+        let got = draw(rt.alloc(), stream(interruptions, then))?;
         assert_eq!(rt; got, want, "after {interruptions} interruptions");
-        let filled = buf.iter().filter(|byte| **byte == 7).count();
-        let count = if let Drawn::Bytes(n) = want { n } else { 0 };
-        assert_eq!(rt; filled, count, "bytes after {interruptions} interruptions");
     }
     Ok(())
 }
 
+/// What a sink over a stream takes of four bytes.
+fn sink_four(stream: Late) -> Sunk {
+    WriterSink::new(stream).write(b"four")
+}
+
 #[test]
-fn a_sink_tries_1_000_times_more(rt: HostRuntime) -> Result<(), Fail> {
+fn a_sink_tries_1_000_times_more(rt: HostRuntime) {
     for (interruptions, then, want) in [
         (0, Then::Moves(2), Sunk::Took(2)),
         (0, Then::Moves(9), Sunk::Took(4)),
@@ -108,43 +119,87 @@ fn a_sink_tries_1_000_times_more(rt: HostRuntime) -> Result<(), Fail> {
         (0, Then::WouldWait, Sunk::Failed),
         (0, Then::Fails, Sunk::Failed),
     ] {
-        let mut sink = WriterSink::new(stream(interruptions, then));
-        let got = sink.write(b"four");
+        let got = sink_four(stream(interruptions, then));
+        assert_eq!(rt; got, want, "after {interruptions} interruptions");
+    }
+}
+
+/// A link over a stream, with room for eight bytes that wait.
+fn link_over(alloc: Global, stream: Late) -> Result<Link<Late>, Memory> {
+    let unsent = Unsent::new(alloc, 8)?;
+    Ok(Link::new(stream, unsent))
+}
+
+/// What a read of up to four bytes is answered.
+fn read(link: &mut Link<Late>) -> Got {
+    let mut piece = [0; 4];
+    let mut buf = [1; 4];
+    link.read(&mut piece, &mut buf)
+}
+
+/// A stream that would have waited has bytes now, and isn't asked before the system says so: what a
+/// read is answered until then.
+fn read_early(link: &mut Link<Late>) -> Got {
+    link.out.writer.then = Then::Moves(3);
+    let early = read(link);
+    link.note(true, false);
+    early
+}
+
+/// What two reads are answered, one before the system says that a stream that would have waited has
+/// bytes, and the last.
+fn reads(alloc: Global, interruptions: u32, then: Then) -> Result<[Option<Got>; 4], Memory> {
+    let mut link = link_over(alloc, stream(interruptions, then))?;
+    let first = read(&mut link);
+    let second = read(&mut link);
+    let early = match then {
+        Then::WouldWait => Some(read_early(&mut link)),
+        Then::Moves(_) | Then::Fails => None,
+    };
+    let last = read(&mut link);
+    Ok([Some(first), Some(second), early, Some(last)])
+}
+
+#[test]
+fn an_end_reads_what_is_there(rt: HostRuntime) -> Result<(), Fail> {
+    let (two, three) = (Some(Got::Bytes(2)), Some(Got::Bytes(3)));
+    let (ended, not_yet, failed) = (Some(Got::Ended), Some(Got::NotYet), Some(Got::Failed));
+    for (interruptions, then, want) in [
+        (0, Then::Moves(2), [two, two, None, two]),
+        (0, Then::Moves(0), [ended, ended, None, ended]),
+        (1, Then::Moves(2), [not_yet, two, None, two]),
+        (0, Then::WouldWait, [not_yet, not_yet, not_yet, three]),
+        (0, Then::Fails, [failed, failed, None, failed]),
+    ] {
+        let got = reads(rt.alloc(), interruptions, then)?;
         assert_eq!(rt; got, want, "after {interruptions} interruptions");
     }
     Ok(())
 }
 
-#[test]
-fn an_end_reads_what_is_there(rt: HostRuntime) -> Result<(), Fail> {
-    for (interruptions, then, first, second, once_ready) in [
-        (
-            0,
-            Then::Moves(2),
-            Got::Bytes(2),
-            Got::Bytes(2),
-            Got::Bytes(2),
-        ),
-        (0, Then::Moves(0), Got::Ended, Got::Ended, Got::Ended),
-        (1, Then::Moves(2), Got::NotYet, Got::Bytes(2), Got::Bytes(2)),
-        (0, Then::WouldWait, Got::NotYet, Got::NotYet, Got::Bytes(3)),
-        (0, Then::Fails, Got::Failed, Got::Failed, Got::Failed),
-    ] {
-        let unsent = Unsent::new(rt.alloc(), 8)?;
-        let mut link = Link::new(stream(interruptions, then), unsent);
-        let mut piece = [0; 4];
-        let mut buf = [1; 4];
-        assert_eq!(rt; link.read(&mut piece, &mut buf), first);
-        assert_eq!(rt; link.read(&mut piece, &mut buf), second);
-        // A stream that would have waited has bytes now, and isn't asked before the system says so.
-        if let Then::WouldWait = then {
-            link.out.writer.then = Then::Moves(3);
-            assert_eq!(rt; link.read(&mut piece, &mut buf), Got::NotYet);
-            link.note(true, false);
-        }
-        assert_eq!(rt; link.read(&mut piece, &mut buf), once_ready);
-    }
-    Ok(())
+/// What came of a write of four bytes, of a flush behind it, and of a write of two more.
+#[derive(Drop)]
+struct Sent {
+    four: Put,
+    left: ByteText,
+    failed: bool,
+    more: Put,
+}
+
+/// Sends four bytes by one flush, and writes two more.
+fn send_four(alloc: Global, stream: Late) -> Result<Sent, Memory> {
+    let mut out = Outgoing::new(stream, Unsent::new(alloc, 6)?);
+    let four = out.write(b"four");
+    out.flush();
+    let left = ByteText::copy_of(alloc, out.unsent.bytes.as_slice())?;
+    let failed = out.failed;
+    let more = out.write(b"go");
+    Ok(Sent {
+        four,
+        left,
+        failed,
+        more,
+    })
 }
 
 #[test]
@@ -157,20 +212,25 @@ fn an_end_sends_in_order(rt: HostRuntime) -> Result<(), Fail> {
         (0, Then::WouldWait, b"four".as_slice(), false),
         (0, Then::Fails, b"".as_slice(), true),
     ] {
-        let unsent = Unsent::new(rt.alloc(), 6)?;
-        let mut out = Outgoing::new(stream(interruptions, then), unsent);
-        assert_eq!(rt; out.write(b"four"), Put::Took(4));
-        out.flush();
+        let sent = send_four(rt.alloc(), stream(interruptions, then))?;
+        assert_eq!(rt; sent.four, Put::Took(4));
         assert_eq!(rt;
-            out.unsent.bytes.as_slice(),
+            sent.left.as_slice(),
             left,
             "after {interruptions} interruptions"
         );
-        assert_eq!(rt; out.failed, failed);
+        assert_eq!(rt; sent.failed, failed);
         let more = if failed { Put::Failed } else { Put::Took(2) };
-        assert_eq!(rt; out.write(b"go"), more);
+        assert_eq!(rt; sent.more, more);
     }
     Ok(())
+}
+
+/// What a write of six bytes is answered where four have room, and one of two more.
+fn overfill(alloc: Global, stream: Late) -> Result<(Put, Put), Memory> {
+    let mut out = Outgoing::new(stream, Unsent::new(alloc, 4)?);
+    let sevens = out.write(b"sevens");
+    Ok((sevens, out.write(b"go")))
 }
 
 #[test]
@@ -181,34 +241,67 @@ fn a_full_buffer_is_sent_first(rt: HostRuntime) -> Result<(), Fail> {
         (Then::WouldWait, Put::NotYet),
         (Then::Fails, Put::Failed),
     ] {
-        let unsent = Unsent::new(rt.alloc(), 4)?;
-        let mut out = Outgoing::new(stream(0, then), unsent);
-        assert_eq!(rt; out.write(b"sevens"), Put::Took(4));
-        assert_eq!(rt; out.write(b"go"), want);
+        let got = overfill(rt.alloc(), stream(0, then))?;
+        assert_eq!(rt; got, (Put::Took(4), want));
     }
     Ok(())
 }
 
-#[test]
-fn the_report_waits_while_there_is_room(rt: HostRuntime) -> Result<(), Fail> {
+/// What a line of 1,024 bytes is answered.
+fn report_line(sink: &mut OutboxSink<Late>) -> Sunk {
     let mut line = [b'-'; 1_024];
     line[1_023] = b'\n';
-    let outbox = Outbox::new(rt.alloc(), stream(0, Then::WouldWait))?;
-    let mut sink = OutboxSink::new(&outbox);
-    for _ in 0..1_024 {
-        assert_eq!(rt; sink.write(&line), Sunk::Took(1_024));
+    sink.write(&line)
+}
+
+/// How many lines are taken whole, up to so many, and what the last is answered.
+fn report(outbox: &Outbox<Late>, lines: u32) -> (u32, Option<Sunk>) {
+    let mut sink = OutboxSink::new(outbox);
+    let mut taken = 0u32;
+    let mut last = None;
+    for _ in 0..lines {
+        let sunk = report_line(&mut sink);
+        taken = taken.saturating_add(u32::from(sunk == Sunk::Took(1_024)));
+        last = Some(sunk);
     }
-    assert_eq!(rt; sink.write(&line), Sunk::Failed);
-    assert_eq!(rt; outbox.finish(&rt), false);
-    let outbox = Outbox::new(rt.alloc(), stream(0, Then::Moves(9)))?;
-    let mut sink = OutboxSink::new(&outbox);
-    assert_eq!(rt; sink.write(&line), Sunk::Took(1_024));
-    assert_eq!(rt; outbox.finish(&rt), true);
-    let outbox = Outbox::new(rt.alloc(), stream(0, Then::Fails))?;
-    let mut sink = OutboxSink::new(&outbox);
-    assert_eq!(rt; sink.write(&line), Sunk::Failed);
-    assert_eq!(rt; outbox.finish(&rt), false);
+    (taken, last)
+}
+
+#[test]
+fn the_report_waits_while_there_is_room(rt: HostRuntime) -> Result<(), Fail> {
+    for (then, lines, want, goes) in [
+        (Then::WouldWait, 1_025, (1_024, Sunk::Failed), false),
+        (Then::Moves(9), 1, (1, Sunk::Took(1_024)), true),
+        (Then::Fails, 1, (0, Sunk::Failed), false),
+    ] {
+        let outbox = Outbox::new(rt.alloc(), stream(0, then))?;
+        let (taken, last) = want;
+        assert_eq!(rt; report(&outbox, lines), (taken, Some(last)));
+        assert_eq!(rt; outbox.finish(&rt), goes);
+    }
     Ok(())
+}
+
+/// Whether an end that was shut is over at a moment, once some of what waits was sent.
+fn is_over(parting: &mut Parting<Late>, moment: u64) -> bool {
+    parting.link.out.flush();
+    parting.is_over(moment)
+}
+
+/// What a write of four bytes is answered at an end that is then shut, and whether that is over at
+/// a moment: at first, once the system says that another end may be written, and once it says so of
+/// this end. A stream that would have waited takes bytes from then on.
+fn part(alloc: Global, stream: Late, moment: u64) -> Result<(Put, [bool; 3]), Memory> {
+    let mut link = link_over(alloc, stream)?;
+    let four = link.out.write(b"four");
+    let mut parting = Parting::new(3, End::Client, link, 5);
+    let first = is_over(&mut parting, moment);
+    parting.link.out.writer.then = Then::Moves(9);
+    parting.note(4, End::Client, true);
+    let other = is_over(&mut parting, moment);
+    parting.note(3, End::Client, true);
+    let noted = is_over(&mut parting, moment);
+    Ok((four, [first, other, noted]))
 }
 
 #[test]
@@ -220,23 +313,10 @@ fn what_was_taken_still_goes(rt: HostRuntime) -> Result<(), Fail> {
         (Then::WouldWait, 1_004, false),
         (Then::WouldWait, 1_005, true),
     ] {
-        let unsent = Unsent::new(rt.alloc(), 8)?;
-        let mut link = Link::new(stream(0, then), unsent);
-        assert_eq!(rt; link.out.write(b"four"), Put::Took(4));
-        let mut parting = Parting::new(3, End::Client, link, 5);
-        parting.link.out.flush();
-        assert_eq!(rt; parting.is_over(moment), over);
         // One that would have waited is asked again once the system says so, of this end.
-        parting.link.out.writer.then = Then::Moves(9);
-        parting.note(4, End::Client, true);
-        parting.link.out.flush();
-        assert_eq!(rt;
-            parting.is_over(moment),
-            over || matches!(then, Then::Moves(_))
-        );
-        parting.note(3, End::Client, true);
-        parting.link.out.flush();
-        assert!(rt; parting.is_over(moment), "all was sent");
+        let other = over || matches!(then, Then::Moves(_));
+        let got = part(rt.alloc(), stream(0, then), moment)?;
+        assert_eq!(rt; got, (Put::Took(4), [over, other, true]), "at {moment}");
     }
     Ok(())
 }
@@ -250,25 +330,49 @@ fn open(all: &mut OpenEnds<Late>, pairs: u32) {
     }
 }
 
+/// Closes a client's end, and takes its link.
+fn close(all: &mut OpenEnds<Late>, pair: u32) -> Option<Link<Late>> {
+    all.close(pair, End::Client)
+}
+
+/// Takes the buffer of a link back; whether there is one.
+fn give_back(all: &mut OpenEnds<Late>, link: Option<Link<Late>>) -> bool {
+    match link {
+        Some(link) => {
+            all.give_back(link.out.unsent);
+            true
+        }
+        None => false,
+    }
+}
+
+/// Where a client's end stands, and that of pair 0, and whether there is room for another.
+fn found(all: &OpenEnds<Late>, pair: u32) -> (Option<usize>, Option<usize>, bool) {
+    let at = all.find(pair, End::Client);
+    (at, all.find(0, End::Client), all.has_room())
+}
+
+/// How many pairs were accepted, and where a client's end stands.
+fn accepted(all: &OpenEnds<Late>, pair: u32) -> (u32, Option<usize>) {
+    (all.pairs, all.find(pair, End::Client))
+}
+
 #[test]
 fn ends_are_found_while_others_come_and_go(rt: HostRuntime) -> Result<(), Fail> {
     let mut all = OpenEnds::new(rt.alloc(), 512)?;
     open(&mut all, 300);
-    assert_eq!(rt; all.pairs, 256);
-    assert_eq!(rt; all.find(256, End::Client), None);
+    assert_eq!(rt; accepted(&all, 256), (256, None));
     // Pair 0 stays while others take the places beside it in the table, and its own.
     for pair in 1..3_000 {
-        let link = all.close(pair, End::Client);
-        assert!(rt; link.is_some(), "pair {pair} was open");
-        if let Some(link) = link {
-            all.give_back(link.out.unsent);
-        }
-        assert_eq!(rt; all.find(pair, End::Client), None);
-        assert_eq!(rt; all.find(0, End::Client), Some(0));
-        assert!(rt; all.has_room(), "beside pair {pair}");
+        let link = close(&mut all, pair);
+        assert!(rt; give_back(&mut all, link), "pair {pair} was open");
+        assert_eq!(rt;
+            found(&all, pair),
+            (None, Some(0), true),
+            "beside pair {pair}"
+        );
         open(&mut all, pair + 256);
-        assert_eq!(rt; all.pairs, pair + 256);
-        assert_eq!(rt; all.find(pair + 255, End::Client), Some(255));
+        assert_eq!(rt; accepted(&all, pair + 255), (pair + 256, Some(255)));
     }
     Ok(())
 }
@@ -296,23 +400,20 @@ fn an_accepted_client_has_room_upstream(rt: HostRuntime) -> Result<(), Fail> {
         link(&mut all, 0),
         "the client's end of pair 0 keeps a buffer"
     );
-    let closed = all.close(0, End::Client);
+    let closed = close(&mut all, 0);
     assert!(rt; closed.is_some(), "pair 0 was open");
     assert!(rt; !all.has_room(), "one buffer is spare");
     assert!(rt;
         link(&mut all, 1),
         "the client's end of pair 1 keeps a buffer"
     );
-    if let Some(closed) = closed {
-        all.give_back(closed.out.unsent);
-    }
+    give_back(&mut all, closed);
     assert!(rt; all.has_room(), "two buffers are spare");
     open(&mut all, 9);
     assert_eq!(rt; all.pairs, 3);
     // One that leaves before its upstream end is opened gives both back.
-    if let Some(closed) = all.close(2, End::Client) {
-        all.give_back(closed.out.unsent);
-    }
+    let closed = close(&mut all, 2);
+    give_back(&mut all, closed);
     assert!(rt; all.has_room(), "both buffers of pair 2 are back");
     Ok(())
 }
