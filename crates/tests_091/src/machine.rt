@@ -114,21 +114,21 @@ fn unit_of(alloc: Global, names: &Names, words: &str) -> Result<Option<Unit91>, 
     }
 }
 
+/// A number behind a word.
+fn put_number(out: &mut String, word: &str, number: u16) -> Result<(), Memory> {
+    write!(out, "{word} {number}")?;
+    Ok(())
+}
+
 /// A refusal by its code, its channel where one closes, and the ids.
 fn put_refusal(out: &mut String, refusal: Refusal) -> Result<(), Memory> {
-    let code = refusal.code;
-    write!(out, "Refuse {code}")?;
+    put_number(out, "Refuse", refusal.code)?;
     match refusal.scope {
         Scope::Connection => {}
-        Scope::Channel => {
-            let channel = refusal.channel;
-            write!(out, " channel {channel}")?;
-        }
+        Scope::Channel => put_number(out, " channel", refusal.channel)?,
     }
-    let class = refusal.class;
-    let method = refusal.method;
-    write!(out, " {class} {method}")?;
-    Ok(())
+    put_number(out, "", refusal.class)?;
+    put_number(out, "", refusal.method)
 }
 
 /// What a unit wants.
