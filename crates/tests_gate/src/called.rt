@@ -1,15 +1,16 @@
 //! Calls of the gateway over scripted ports, with a capture, and what they did.
 
-ghost use Rattle.std.specs.Prelude.{◌≡◌, []};
+ghost use Rattle.std.specs.Prelude.{◌≡◌, [], IfOk};
 
 use crate::runs::{Kind, LOG_BYTES, LOG_ROOM, entries_of, kind_of};
 use crate::scenario::{Scenario, Way, faults, script_of};
+use crate::telling::put_number;
 use gate_capture::{next_entry, next_words};
 use gate_command::{CaptureSink, Status, gateway};
 use gate_outside::{Entries, MemorySink, MemorySource, Ports, ScriptPorts, Sink, Source};
 use std::alloc::Global;
 use tests_support::part;
-use wire_base::{ByteText, ItemList, Memory, Stop};
+use wire_base::{ByteText, Memory, Stop};
 
 /// What the gateway did for some words.
 #[derive(Drop)]
@@ -39,6 +40,43 @@ fn status_of<P: Ports, S: Source, K: Sink, C: Sink>(
     gateway(alloc, words, ports, input, out, capture)
 }
 
+/// A source of these bytes, of which the read fails that the scenario tells.
+fn source_of(alloc: Global, scenario: &Scenario, input: &[u8]) -> Result<MemorySource, Memory> {
+    let input = ByteText::copy_of(alloc, input)?;
+    let fails = faults(alloc, scenario.numbers.unread)?;
+    Ok(MemorySource::new(input, fails))
+}
+
+/// A sink with room for so many bytes, of which the write with this number fails, if one is told.
+fn sink_of(alloc: Global, room: usize, lost: Option<u64>) -> Result<MemorySink, Memory> {
+    MemorySink::new(alloc, room, faults(alloc, lost)?)
+}
+
+/// The ports of a scenario, of which nothing was called.
+fn ports_of(alloc: Global, scenario: &Scenario) -> Result<ScriptPorts, Memory>
+    ensures pairs { IfOk result (λ ports. ⟦<ScriptPorts as Ports>⟧.pairs ports ≡ 0) }
+    ensures ends { IfOk result (λ ports. ⟦<ScriptPorts as Ports>⟧.ends ports ≡ []) }
+{
+    let script = script_of(alloc, scenario, Way::Units, scenario.numbers.fault)?;
+    ScriptPorts::new(alloc, script, LOG_ROOM, LOG_BYTES)
+}
+
+/// What a call did that ended with this status.
+fn called_of(
+    alloc: Global,
+    status: Status,
+    report: &MemorySink,
+    capture: &MemorySink,
+    ports: &ScriptPorts,
+) -> Result<Called, Memory> {
+    Ok(Called {
+        status,
+        report: ByteText::copy_of(alloc, report.held())?,
+        capture: ByteText::copy_of(alloc, capture.held())?,
+        calls: entries_of(alloc, ports.log())?,
+    })
+}
+
 /// Calls the gateway with these bytes as its input. The capture has room for so many bytes, and the
 /// write with this number fails, if one is told.
 fn call_with(
@@ -49,14 +87,12 @@ fn call_with(
     room: usize,
     lost: Option<u64>,
 ) -> Result<Called, Memory> {
-    let input = ByteText::copy_of(alloc, input)?;
-    let mut source = MemorySource::new(input, faults(alloc, scenario.numbers.unread)?);
-    let script = script_of(alloc, scenario, Way::Units, scenario.numbers.fault)?;
-    let mut report = MemorySink::new(alloc, scenario.numbers.report, ItemList::empty(alloc))?;
+    let mut source = source_of(alloc, scenario, input)?;
+    let mut report = sink_of(alloc, scenario.numbers.report, None)?;
     let mut capture = CaptureSink {
-        sink: MemorySink::new(alloc, room, faults(alloc, lost)?)?,
+        sink: sink_of(alloc, room, lost)?,
     };
-    let mut ports = ScriptPorts::new(alloc, script, LOG_ROOM, LOG_BYTES)?;
+    let mut ports = ports_of(alloc, scenario)?;
     let status = status_of(
         alloc,
         words,
@@ -65,12 +101,7 @@ fn call_with(
         &mut report,
         &mut capture,
     );
-    Ok(Called {
-        status,
-        report: ByteText::copy_of(alloc, report.held())?,
-        capture: ByteText::copy_of(alloc, capture.sink.held())?,
-        calls: entries_of(alloc, ports.log())?,
-    })
+    called_of(alloc, status, &report, &capture.sink, &ports)
 }
 
 /// The same with the input of the scenario.
@@ -149,6 +180,35 @@ fn is_front(alloc: Global, call: &Called, whole: &Called) -> Result<bool, Memory
     Ok(is_part && told && call.status == Status::Outside && stops_there(alloc, call)?)
 }
 
+/// Whether a call is as it must be whose capture has room for so many bytes, fewer than it needs.
+fn room_is_right(
+    alloc: Global,
+    scenario: &Scenario,
+    words: &Vec<String>,
+    whole: &Called,
+    room: usize,
+) -> Result<bool, Memory> {
+    let call = call_gateway(alloc, scenario, words, room, None)?;
+    Ok(call.capture.as_slice().len() == room && is_front(alloc, &call, whole)?)
+}
+
+/// Whether there is such a write of the capture, so that the call ends otherwise where it fails,
+/// and whether that call is as it must be.
+fn lost_write(
+    alloc: Global,
+    scenario: &Scenario,
+    words: &Vec<String>,
+    whole: &Called,
+    write: usize,
+) -> Result<(bool, bool), Memory> {
+    let room = scenario.numbers.capture;
+    let call = call_gateway(alloc, scenario, words, room, Some(write as u64))?;
+    if call.status == whole.status {
+        return Ok((false, true));
+    }
+    Ok((true, is_front(alloc, &call, whole)?))
+}
+
 /// The capture fails at each of its writes, and has room for fewer bytes than it needs: how many
 /// bytes and writes it has, and what broke a rule.
 pub fn put_uncaptured(
@@ -160,25 +220,19 @@ pub fn put_uncaptured(
     let whole = call_gateway(alloc, scenario, words, scenario.numbers.capture, None)?;
     let size = whole.capture.as_slice().len();
     let mut writes = 0usize;
-    write!(out, "uncaptured: {size} bytes")?;
+    put_number(out, "uncaptured:", size)?;
+    out.push_str(" bytes")?;
     for k in 0..size {
-        let call = call_gateway(alloc, scenario, words, k, None)?;
-        if call.capture.as_slice().len() != k || !is_front(alloc, &call, &whole)? {
-            write!(out, ", not room {k}")?;
+        if !room_is_right(alloc, scenario, words, &whole, k)? {
+            put_number(out, ", not room", k)?;
         }
-        let call = call_gateway(
-            alloc,
-            scenario,
-            words,
-            scenario.numbers.capture,
-            Some(k as u64),
-        )?;
-        let failed = call.status != whole.status;
-        if failed && (writes != k || !is_front(alloc, &call, &whole)?) {
-            write!(out, ", not write {k}")?;
+        let (is_there, is_right) = lost_write(alloc, scenario, words, &whole, k)?;
+        if !is_right || (is_there && writes != k) {
+            put_number(out, ", not write", k)?;
         }
-        writes = writes.saturating_add(usize::from(failed));
+        writes = writes.saturating_add(usize::from(is_there));
     }
-    write!(out, ", {writes} writes\n")?;
+    put_number(out, ",", writes)?;
+    out.push_str(" writes\n")?;
     Ok(())
 }

@@ -2,7 +2,7 @@
 
 use crate::runs::{Kind, Peer, Run, kind_of, peer_of};
 use crate::scenario::{Scenario, Way, failed, played, reported};
-use crate::telling::put_report;
+use crate::telling::{put_number, put_report};
 use gate_outside::{Accepted, Got, Linked, LogEntry, Put};
 use gate_runs::{Outside, Served};
 use std::alloc::Global;
@@ -196,7 +196,7 @@ fn put_places(texts: &Vec<String>, text: &str, out: &mut String) -> Result<(), M
         if let Some(other) = texts.get(k)
             && other.as_str() == text
         {
-            write!(out, " {k}")?;
+            put_number(out, "", k)?;
         }
     }
     out.push_str(text)?;
@@ -226,7 +226,7 @@ pub fn put_fails(alloc: Global, scenario: &Scenario, out: &mut String) -> Result
     for call in 0..plain.calls.len() {
         let run = failed(alloc, scenario, Way::Units, Some(call as u64))?;
         if !is_right(alloc, &run, &plain, call)? {
-            write!(out, ", not call {call}")?;
+            put_number(out, ", not call", call)?;
         }
         texts.push(lives_told(alloc, &run)?)?;
     }
@@ -285,18 +285,19 @@ fn write_is_right(
 pub fn put_unreported(alloc: Global, scenario: &Scenario, out: &mut String) -> Result<(), Memory> {
     let plain = played(alloc, scenario, Way::Units)?;
     let lines = lines_in(plain.report.as_slice());
-    write!(out, "unreported: {lines} lines")?;
+    put_number(out, "unreported:", lines)?;
+    out.push_str(" lines")?;
     let mut goes_on = true;
     for k in 0..plain.report.as_slice().len() {
         let run = reported(alloc, scenario, usize::MAX, Some(k as u64))?;
         let stopped = run.served != plain.served;
         if !write_is_right(alloc, &run, &plain, k, goes_on)? {
-            write!(out, ", not write {k}")?;
+            put_number(out, ", not write", k)?;
         }
         goes_on = stopped;
         let run = reported(alloc, scenario, k, None)?;
         if run.report.as_slice().len() != k || !is_front(alloc, &run, &plain)? {
-            write!(out, ", not room {k}")?;
+            put_number(out, ", not room", k)?;
         }
     }
     if goes_on {

@@ -100,6 +100,21 @@ fn put_setup(out: &mut String, setup: &Setup) -> Result<(), Memory> {
     put_routes(out, setup.routes())
 }
 
+/// The most pairs.
+fn put_pairs(out: &mut String, pairs: Option<u32>) -> Result<(), Memory> {
+    match pairs {
+        Some(pairs) => write!(out, "serve {pairs} pairs")?,
+        None => out.push_str("serve any pairs")?,
+    }
+    Ok(())
+}
+
+/// The most turns.
+fn put_turns(out: &mut String, turns: u64) -> Result<(), Memory> {
+    write!(out, ", {turns} turns, at")?;
+    Ok(())
+}
+
 /// What words ask for.
 fn put_asked(out: &mut String, asked: &Asked) -> Result<(), Memory> {
     let Asked::Serve {
@@ -112,12 +127,8 @@ fn put_asked(out: &mut String, asked: &Asked) -> Result<(), Memory> {
     else {
         return put_other(out, asked);
     };
-    match limits.pairs {
-        Some(pairs) => write!(out, "serve {pairs} pairs")?,
-        None => out.push_str("serve any pairs")?,
-    }
-    let turns = limits.turns;
-    write!(out, ", {turns} turns, at")?;
+    put_pairs(out, limits.pairs)?;
+    put_turns(out, limits.turns)?;
     put_text(out, listen.as_slice())?;
     put_text_of(out, ", upstream", upstream.as_slice(), "127.0.0.1:5673")?;
     put_setup(out, setup)?;

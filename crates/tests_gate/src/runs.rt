@@ -1,13 +1,16 @@
 //! Runs of the service over scripted ports, and what they did.
 
+ghost use Rattle.std.specs.Prelude.{◌≡◌, []};
 ghost use Rattle.gate_runs.specs.Form.{IsInForm};
 
 use gate_capture::NoCapture;
 use gate_model::Setup;
 use gate_outside::{
-    Accepted, End, Entries, Linked, Log, LogEntry, MemorySink, Put, Script, ScriptPorts,
+    Accepted, End, Entries, Linked, Log, LogEntry, MemorySink, Ports, Put, Script, ScriptPorts,
+    Sink,
 };
 use gate_pair::Pair;
+use gate_relay::Relay;
 use gate_runs::{Limits, Served};
 use gate_turns::serve;
 use std::alloc::Global;
@@ -138,6 +141,22 @@ pub fn entries_of(alloc: Global, log: &Log) -> Result<Entries, Memory> {
     Ok(entries)
 }
 
+/// Serves over any ports, pairs and sinks: what the contract says isn't needed here, and is not
+/// worked out for those of a scenario.
+fn serve_into<P: Ports, R: Relay, K: Sink>(
+    alloc: Global,
+    setup: &R::Setup,
+    ports: &mut P,
+    limits: &Limits,
+    report: &mut K,
+) -> (Served, u32)
+    requires pairs { P.pairs ports.old ≡ 0 }
+    requires ends { P.ends ports.old ≡ [] }
+    requires form { IsInForm limits.now }
+{
+    serve::<P, R, K, NoCapture>(alloc, setup, ports, limits, report, &mut NoCapture)
+}
+
 /// Serves the clients of a script, and reports to a sink.
 pub fn play_into(
     alloc: Global,
@@ -149,14 +168,12 @@ pub fn play_into(
     requires { IsInForm limits.now }
 {
     let mut ports = ScriptPorts::new(alloc, script, LOG_ROOM, LOG_BYTES)?;
-    let mut recorder = NoCapture;
-    let (served, out_of_memory) = serve::<ScriptPorts, Pair, MemorySink, NoCapture>(
+    let (served, out_of_memory) = serve_into::<ScriptPorts, Pair, MemorySink>(
         alloc,
         setup,
         &mut ports,
         limits,
         &mut report,
-        &mut recorder,
     );
     Ok(Run {
         served,

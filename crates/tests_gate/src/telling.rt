@@ -318,6 +318,12 @@ pub fn listing(alloc: Global, names: &Names, run: &Run) -> Result<String, Memory
     Ok(out)
 }
 
+/// A number behind words and a blank.
+pub fn put_number(out: &mut String, words: &str, number: usize) -> Result<(), Memory> {
+    write!(out, "{words} {number}")?;
+    Ok(())
+}
+
 /// How many accepts were tried, how many pairs were accepted, and how many lived at most.
 pub fn put_counts(alloc: Global, run: &Run, out: &mut String) -> Result<(), Memory> {
     let tried = run.places(alloc, Kind::Accept)?.len();
