@@ -2,7 +2,7 @@
 """Lets client libraries send, take and show many messages through the gateway, and compares what each end tells, over loopback.
 
     python3 tools/try_trips.py --container 'COMMAND' [--gateway 'COMMAND'] [--client NAME,NAME..] [--words 'WORD ..']
-                               [--seed SEED] take [--count COUNT] [--how WORD,WORD..] [--prefetch COUNT] [--most BYTES]
+                               [--seed SEED] take [--count COUNT] [--how WORD,WORD..] [--prefetch COUNT] [--most BYTES] [--quorum PORT]
                              | send [--count COUNT] [--most BYTES] [--total BYTES] [--key NAME,NAME..] [--broker PORT]
                              | show [--port PORT]
 
@@ -13,6 +13,8 @@ The clients are `pika`, `amqp`, `go`, `php`, `bunny` and `java`, by the programs
 - take: COUNT messages of 0 to MOST bytes are published, and each client takes them as each word says: it acks each, ten at a time, rejects
   each, sends each back once and then acks it, or consumes without acks (`ack`, `multiple`, `reject`, `requeue`, `none`).
   Each delivery must have its body, and the container must have seen exactly these outcomes, each of its message.
+  With `--quorum` COMMAND is tools/watched_broker.py before a RabbitMQ whose port for AMQP 0-9-1 is PORT. Each queue is declared there
+  as a durable quorum queue, whose address is /amq/queue/NAME. Behind its consumer it must be empty, and is deleted.
 - send: each client publishes COUNT bodies of 0 to MOST bytes, TOTAL together or so, with confirms, and with twelve properties
   and four headers that are each message's own. Each must be in the container once with an equal body, properties and headers,
   where it was acked with the outcome accepted, told before the ack; and where it was nacked with another outcome, or none.
@@ -37,6 +39,7 @@ import sys
 import tempfile
 import time
 
+from quorum_queue import QuorumQueue
 from try_container import BUILT, CLIENTS, GO_PATH, JARS, end, free_port, wait_for
 from watched_broker import fetched
 from watched_container import hashed
@@ -146,6 +149,8 @@ def take(options, programs, port, log, folder, faults):
     for name in options.client.split(","):
         for how in options.how.split(","):
             queue = f"take-{name}-{how}"
+            quorum = QuorumQueue(options.quorum, queue) if options.quorum else None
+            queue = quorum.address if quorum else queue
             acks = sum(line.startswith("ack ") for line in programs.run("go", port, "send", queue, bodies.sizes, bodies.pool))
             faults.note("not published", range(options.count - acks))
             log.lines()
@@ -154,6 +159,9 @@ def take(options, programs, port, log, folder, faults):
             said = programs.run(name, port, "take", queue, how, options.count, prefetch)
             took = time.monotonic() - began
             print(f"{name} {how}: {judge_take(faults, how, bodies, said, log.lines())}; {took:.1f} s", flush=True)
+            if quorum:
+                faults.note("are left in the queue", [f"{queue} {k}" for k in range(quorum.length())])
+                quorum.delete()
             faults.tell()
 
 
@@ -288,6 +296,7 @@ def main():
     of_take.add_argument("--how", default=",".join(FINE))
     of_take.add_argument("--prefetch", type=int, default=50)
     of_take.add_argument("--most", type=int, default=300)
+    of_take.add_argument("--quorum", type=int)
     of_send.add_argument("--most", type=int, default=1 << 20)
     of_send.add_argument("--total", type=int, default=500_000_000)
     of_send.add_argument("--key", default="sent")

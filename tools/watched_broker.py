@@ -27,6 +27,13 @@ from watched_container import body_of, rest_of
 
 TRANSFER, DISPOSITION = b"\0\x53\x14", b"\0\x53\x15"
 STATES = {0x24: "accepted", 0x25: "rejected", 0x26: "released", 0x27: "modified"}
+LINES = threading.Lock()
+
+
+def tell(*words):
+    """A line, whole: several connections tell theirs at once."""
+    with LINES:
+        print(*words, time.time_ns(), flush=True)
 
 
 def frames(buffer):
@@ -60,7 +67,7 @@ def settled(body):
 def from_broker(body, came):
     """What the broker sends: outcomes, and deliveries, which are noted by their ids."""
     if body[:3] == DISPOSITION:
-        print("outcome", *settled(body), time.time_ns(), flush=True)
+        tell("outcome", *settled(body))
     elif body[:3] == TRANSFER:
         fields, payload = read(body)
         message = Message()
@@ -72,7 +79,7 @@ def from_client(body, came):
     if body[:3] == DISPOSITION:
         first, last, word = settled(body)
         for number in range(first, last + 1):
-            print("gave -", came.pop(number, "none none"), word, time.time_ns(), flush=True)
+            tell("gave -", came.pop(number, "none none"), word)
 
 
 def carry(source, sink, watch, came):
