@@ -256,6 +256,26 @@ came_is v w z new u x c d m foreign closing same turns closes at is i met counts
     (ap (λ (e : Connection). (e, x)) at ∙ ap (λ (y : Want91). ((unit_step v.conn u).0, y)) is))
     ∙ ap (λ (t : State). came t u) same
 
+-- a unit that wants nothing changes what is told the container at the close alone
+nothing_met : (closing : Bool) (v : State) (c : Connection)
+    → record v { conn = c; up = closing_with closing None v.up } ≡ applied closing (met.Want want.Nothing None) (record v { conn = c })
+nothing_met closing v c =
+    ap (λ (k : ℕ). at k v.client_closed) none ∙ ap (at (v.opened + 0)) (sym (nothing_more v.client_closed closing))
+  where
+    none : v.opened ≡ v.opened + 0
+    none = omega arith
+
+    at : ℕ → Bool → State
+    at k closed = record v { conn = c; opened = k; up = closing_with closing None v.up; client_closed = closed }
+
+-- the whole step of one
+pub passed_is : (v w new : State) (u : Unit91) (x : Want91) (c : Connection) (foreign closing : Bool) → v ≡ w
+    → foreign ≡ is_foreign v.conn.stream → closing ≡ is_closing v.conn → c ≡ (unit_step v.conn u).0 → x ≡ (unit_step v.conn u).1 → x ≡ want.Nothing
+    → new ≡ counted foreign (record v { conn = c; up = closing_with closing None v.up }) → new ≡ came w u
+passed_is v w new u x c foreign closing same turns closes at is nothing counts =
+    came_is v w (record v { conn = c; up = closing_with closing None v.up }) new u want.Nothing c c (met.Want want.Nothing None) foreign closing
+    same turns closes at (sym nothing ∙ is) (refl, refl, refl) (nothing_met closing v c) counts
+
 -- the units in progress stay
 closing_keeps : (closing : Bool) (why : Option Condition) (s : UpState) → (closing_with closing why s).in_progress ≡ s.in_progress
 closing_keeps true why s = refl

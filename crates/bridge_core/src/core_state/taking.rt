@@ -446,6 +446,19 @@ impl Core {
         self.closed_at = closes_at(self.closed_at, self.conn.is_closing(), self.moment);
     }
 
+    /// A unit that wants nothing, as a heartbeat or a part of a content, changes what counts of each.
+    fn pass(&mut self, closing: bool, foreign: bool, spare: Box<SessionPath>)
+        requires spare { box_value spare ≡ session.opened (self.old.opened + 1) }
+        requires room { self.old.opened < 2 ^ 64 - 1 }
+        ensures { self.new ≡ counted foreign (record self.old {
+          up = closing_with closing None self.old.up;
+        }) }
+    {
+        self.up.set_condition(closing, None);
+        self.spare = Some(spare);
+        self.count(foreign);
+    }
+
     /// This unit, which waits no more, is taken up. Where there is no memory for it the pair is to
     /// run out of memory.
     fn come(&mut self, alloc: Global, unit: Unit91, spare: Box<SessionPath>) -> Result<(), Memory>
@@ -459,11 +472,20 @@ impl Core {
         connection_laws();
         let foreign = is_foreign(&self.conn);
         let closing = self.conn.is_closing();
-        let want = self.conn.take(alloc, unit)?;
-        let met = meet(alloc, &self.routes, &self.paths, &mut self.conn, want)?;
-        self.apply(alloc, closing, met, spare)?;
-        self.count(foreign);
-        Ok(())
+        match self.conn.take(alloc, unit) {
+            // what is wanted is large, so it isn't handed on where it is nothing
+            Ok(Want91::Nothing) => {
+                self.pass(closing, foreign, spare);
+                Ok(())
+            }
+            Ok(want) => {
+                let met = meet(alloc, &self.routes, &self.paths, &mut self.conn, want)?;
+                self.apply(alloc, closing, met, spare)?;
+                self.count(foreign);
+                Ok(())
+            }
+            Err(error) => Err(error),
+        }
     }
 
     /// The path of the channel that is opened next. `Memory` also once 2^64 - 1 channels were
