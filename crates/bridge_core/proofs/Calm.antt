@@ -29,7 +29,7 @@ use Rattle.gate_model.specs.Lives.{is_carried, life_at, session_in}
 use Rattle.gate_model.specs.Paths.{closed_path, path_at}
 use Rattle.gate_model.specs.State.{is_channel_settled, is_settled}
 use Rattle.gate_model.specs.State.{State, Heard, begun_session, carried, closed_for, fail}
-use Rattle.gate_model.specs.State.{fail_life, heard}
+use Rattle.gate_model.specs.State.{fail_life, heard, session_lost}
 use Rattle.gate_model.specs.State.{link_scope, met_session, scoped, step, windowed, with_meaning}
 use Rattle.gate_model.specs.State.{with_session}
 use Rattle.gate_model.specs.Upstream.{first, heard_up, meaning_by}
@@ -63,7 +63,7 @@ met_calm n p code w e = either (p.0 == 17) (begun_session n w) _ e (closed_calm 
 scoped_calm : (o : Option Scope) (n : ℕ) (p : Parts) (payload : List ℕ) (w : State) → w.out_of_memory ≡ false → (scoped o n p payload w).out_of_memory ≡ false
 scoped_calm None n p payload w e = met_calm n p _ (carried n p payload w) e
 scoped_calm (Some scope.Connection) n p payload w e = fail_calm _ _ (windowed n p w) e
-scoped_calm (Some scope.Channel) n p payload w e = life_calm n _ _ _ (windowed n p w) e
+scoped_calm (Some scope.Channel) n p payload w e = life_calm n _ _ _ (session_lost n (windowed n p w)) e
 
 session_calm : (n : ℕ) (p : Parts) (payload : List ℕ) (w : State) → w.out_of_memory ≡ false → (with_session n p payload w).out_of_memory ≡ false
 session_calm n p payload w e = scoped_calm (link_scope p payload (life_at w.lives n).session (path_at w.paths n)) n p payload w e

@@ -29,11 +29,11 @@ use Rattle.gate_model.specs.Upstream.{condition_in}
 use Rattle.performatives_10.specs.Fields.{maybe}
 use Rattle.performatives_10.specs.View.{error_tree}
 use Rattle.gate_model.specs.Paths.{arrived_at, content_of, is_again}
-use Rattle.gate_model.specs.Paths.{lost_path, or_no_path, part_in, path_at}
+use Rattle.gate_model.specs.Paths.{closed_path, or_no_path, part_in, path_at}
 use Rattle.gate_model.specs.Paths.{received_at, slot_at, transfer_error, transferred}
 use Rattle.gate_model.specs.Paths.{transferred_by, with_path}
 use Rattle.gate_model.specs.State.{State, carried, closing_code, fail, fail_life, link_scope}
-use Rattle.gate_model.specs.State.{met_session, or_unattached, path_heard, scoped, transfer_scope}
+use Rattle.gate_model.specs.State.{met_session, or_unattached, path_heard, scoped, session_lost, transfer_scope}
 use Rattle.gate_model.specs.State.{unattached, windowed, with_session}
 use Rattle.gate_model.specs.declared.life.SessionState.{SessionState}
 use Rattle.bridge_core.specs.LinkFaults.{ended_by, fault_in, link_fault, takes_memory_of, unnamed}
@@ -58,7 +58,7 @@ closes_all w n p payload k e = by (link_scope p payload (life_at w.lives n).sess
     by (Some scope.Channel) e = absurd cc
 
 pub ends_session : (w : State) (n : ℕ) (p : Parts) (payload : List ℕ) (k : Condition) → Some (Ends k) ≡ link_fault p payload (life_at w.lives n).session (path_at w.paths n)
-    → fail_life n PRECONDITION_FAILED (Some k) lost_path (windowed n p w) ≡ with_session n p payload w
+    → fail_life n PRECONDITION_FAILED (Some k) closed_path (session_lost n (windowed n p w)) ≡ with_session n p payload w
 ends_session w n p payload k e = by (link_scope p payload (life_at w.lives n).session (path_at w.paths n)) e
   where
     error_in : Option LinkFault → Condition
@@ -67,10 +67,10 @@ ends_session w n p payload k e = by (link_scope p payload (life_at w.lives n).se
     error_in (Some (Ends c)) = c
 
     by : (o : Option Scope) → Some (Ends k) ≡ fault_in o p payload (life_at w.lives n).session (path_at w.paths n)
-        → fail_life n PRECONDITION_FAILED (Some k) lost_path (windowed n p w) ≡ scoped o n p payload w
+        → fail_life n PRECONDITION_FAILED (Some k) closed_path (session_lost n (windowed n p w)) ≡ scoped o n p payload w
     by None e = absurd cc
     by (Some scope.Connection) e = absurd cc
-    by (Some scope.Channel) e = ap (λ (o : Option LinkFault). fail_life n PRECONDITION_FAILED (Some (error_in o)) lost_path (windowed n p w)) e
+    by (Some scope.Channel) e = ap (λ (o : Option LinkFault). fail_life n PRECONDITION_FAILED (Some (error_in o)) closed_path (session_lost n (windowed n p w))) e
 
 pub ends_none : (w : State) (n : ℕ) (p : Parts) (payload : List ℕ) → None ≡ link_fault p payload (life_at w.lives n).session (path_at w.paths n)
     → met_session n p (closing_code p payload (path_at w.paths n)) (carried n p payload w) ≡ with_session n p payload w

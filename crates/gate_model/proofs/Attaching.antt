@@ -61,7 +61,7 @@ meaning_counts (ten.OfSession g p payload) w k e = session_cases (Counts k) g p 
   begins = e;
   stays = e;
   ends = λ code why. e;
-  windows = e;
+  parts = e;
   drops = λ code why. e;
   fails = λ why. fail_counts _ why (windowed g p w) k e;
 })

@@ -125,7 +125,7 @@ session_makes n g p payload w lt =
       begins = keeps_at n g x.lives _ refl ∙ made;
       stays = made;
       ends = λ code why. keeps_at n g x.lives _ refl ∙ made;
-      windows = made;
+      parts = made;
       drops = λ code why. keeps_at n g x.lives _ refl ∙ made;
       fails = λ why. fail_same n _ why (windowed g p w) ∙ made;
     })

@@ -43,7 +43,7 @@ use Rattle.session_path.specs.Events.{PathEvent, after_events, deliveries_of, de
 use Rattle.session_path.specs.Path.{PathState, closes_at as closes_channel}
 use Rattle.session_path.specs.declared.path.PathOk.TheVariants as ok
 use Rattle.gate_model.specs.Folds.{Peers, accepted_in, connection, container, going_in, leaving_in}
-use Rattle.gate_model.specs.Folds.{opened_by, paths_in, peers, peers_by, peers_came, peers_heard, ended_on, peers_closed, side_in}
+use Rattle.gate_model.specs.Folds.{opened_by, paths_in, peers, peers_by, peers_came, peers_heard, ended_on, peers_closed, peers_parted, side_in}
 use Rattle.gate_model.specs.Due.{is_connect_due}
 use Rattle.gate_model.specs.Folds.{carried_on, peers_left, peers_scoped, ran_out_in, routes_in, scope_in}
 use Rattle.gate_model.specs.Lives.{is_of_channel}
@@ -52,7 +52,7 @@ use Rattle.gate_model.specs.Paths.{closed_path, fault_in, is_outcome, lost_path,
 use Rattle.gate_model.specs.Picks.{ArePicks}
 use Rattle.gate_model.specs.Publishing.{attach_events, given_event, losing, owed_unless, transfer_event}
 use Rattle.gate_model.specs.Publishing.{closed_if, closing, ending, failing, heard_events, losing_up}
-use Rattle.gate_model.specs.Publishing.{lost_if, meaning_events, method_events, opens_channel}
+use Rattle.gate_model.specs.Publishing.{meaning_events, method_events, opens_channel}
 use Rattle.gate_model.specs.Publishing.{path_events, path_life, refusal_events, reply_events, session_events, told_event, up_events}
 use Rattle.gate_model.specs.Publishing.{want_events, wrote_events}
 use Rattle.gate_model.specs.Requests.{client_step}
@@ -247,7 +247,7 @@ session_fits : (n k : ℕ) (q : Performative) (payload : List ℕ) (x : Peers) (
     → Fits n (peers_scoped o k q payload x).client there (are_shut (session_events x.client o n k q payload (path_at x.paths k)) || shut) ended
 session_fits n k q payload x (Some scope.Connection) there shut ended less f = fails n x.client there shut ended f
 session_fits n k q payload x (Some scope.Channel) there shut ended less f =
-    part n k x lost_path (ending x.client k) there shut ended less (λ e. ap (λ (b : Bool). are_shut (lost_if b)) e) f
+    part n k (peers_parted k x) closed_path (ending x.client k) there shut ended less (λ e. ap (λ (b : Bool). are_shut (closed_if b ++ event.SessionLost ∷ [])) e) f
 session_fits n k q payload x None there shut ended less f = by (q.0 == 17) refl (closing_code q payload s) refl
   where
     s : PathState

@@ -36,7 +36,7 @@ use Rattle.gate_model.specs.State.{Began, Came, Fed, Gave, Heard, Joined, LinesT
 use Rattle.gate_model.specs.State.{Queued, Silent, State, Step, TakenUp, Whole, before, paths_lost}
 use Rattle.gate_model.specs.State.{begun_session, came, carried, close_if, closed_for, closing_code}
 use Rattle.gate_model.specs.State.{closing_error, condition_by, conn_step, dequeued, fail}
-use Rattle.gate_model.specs.State.{failed, heard, is_limit_reached, left, life_failed, runs, sessions_lost, with_meaning, link_scope, scoped, windowed}
+use Rattle.gate_model.specs.State.{failed, heard, is_limit_reached, left, life_failed, runs, sessions_lost, with_meaning, link_scope, scoped, session_lost, windowed}
 use Rattle.gate_model.specs.Upstream.{UpState, channel_max_in, container_by, heard_up, lost_by, meaning_by, shut_by}
 use Rattle.close_translate.specs.declared.conditions.Scope.TheVariants as scope
 use Rattle.gate_model.proofs.Basics.{or_one}
@@ -220,7 +220,7 @@ meaning_condition (ten.OfSession g p payload) w s c b k e f n =
     by : (o : Option Scope) → (scoped o g p payload w).up.condition ≡ (if is_closing c then b else (if closes_connection o then Some why else None))
     by None = met (p.0 == 17) (closing_code p payload (path_at w.paths g)) ∙ none
     by (Some scope.Connection) = fail_condition _ (Some why) (windowed g p w) ∙ told w c b (Some why) e f
-    by (Some scope.Channel) = either (is_open w.conn g) (windowed g p w) _ _ lost_path refl ∙ none
+    by (Some scope.Channel) = either (is_open w.conn g) (session_lost g (windowed g p w)) _ _ closed_path refl ∙ none
 meaning_condition (ten.Closed x) w s c b k e f n = fail_condition _ None w ∙ told w c b None e f
 meaning_condition ten.Refused w s c b k e f n = fail_condition _ None w ∙ told w c b None e f
 meaning_condition (ten.Violation why) w s c b k e f n = fail_condition _ (Some why) w ∙ told w c b (Some why) e f

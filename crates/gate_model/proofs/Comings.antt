@@ -31,11 +31,11 @@ use Rattle.session_path.specs.Path.{PathState, closes_at as closes_channel}
 use Rattle.gate_model.specs.Folds.{Peers, scope_in}
 use Rattle.gate_model.specs.Lives.{life_at, session_in, with_life}
 use Rattle.gate_model.specs.Paths.{closed_path, fault_in, is_outcome, lost_path, name_in, path_at, text_of}
-use Rattle.gate_model.specs.Publishing.{attach_events, closed_if, closing, ending, heard_events, lost_if, meaning_events}
+use Rattle.gate_model.specs.Publishing.{attach_events, closed_if, closing, ending, heard_events, meaning_events}
 use Rattle.gate_model.specs.Publishing.{reply_events, session_events, told_event, up_events, want_events, wrote_events}
 use Rattle.gate_model.specs.Session.{is_of_session}
 use Rattle.gate_model.specs.State.{State, begun_session, came, carried, close, closed_for, closing_code, failed, sessions_lost}
-use Rattle.gate_model.specs.State.{life_failed, link_scope, opened, runs, scoped, windowed, with_meaning, with_session}
+use Rattle.gate_model.specs.State.{life_failed, link_scope, opened, runs, scoped, session_lost, windowed, with_meaning, with_session}
 use Rattle.gate_model.specs.Upstream.{condition_in, container_by, meaning_by}
 use Rattle.gate_model.specs.declared.channel.ChannelUnit.{ChannelUnit}
 use Rattle.gate_model.specs.declared.channel.ChannelUnit.TheVariants as to_client
@@ -66,12 +66,13 @@ pub session_moves : (n g : ℕ) (q : Performative) (payload : List ℕ) (w : Sta
 session_moves n g q payload w less =
     let kept = set_moves n g w (carried g q payload w) _ refl refl refl refl in
     let quiet = set_moves n g w (windowed g q w) _ refl refl refl refl in
+    let parted = set_moves n g w (session_lost g (windowed g q w)) _ refl refl refl refl in
     session_cases (λ (v : State). Moves n w v) g q payload w (record {
       begins = both refl kept (set_moves n g (carried g q payload w) (begun_session g (carried g q payload w)) _ refl refl refl refl);
       stays = kept;
       ends = λ code why. life_moves n g w (carried g q payload w) _ why closed_path less refl refl kept.begin;
-      windows = quiet;
-      drops = λ code why. life_moves n g w (windowed g q w) _ why lost_path less refl refl quiet.begin;
+      parts = parted;
+      drops = λ code why. life_moves n g w (session_lost g (windowed g q w)) _ why closed_path less refl refl parted.begin;
       fails = λ why. both refl quiet (fail_moves n INTERNAL_ERROR why (windowed g q w));
     })
 
@@ -133,7 +134,7 @@ end_shuts n q payload w less e = by (link_scope q payload (life_at w.lives n).se
     by : (o : Option Scope) → is_open (scoped o n q payload w).conn n ≡ false
     by None = met (q.0 == 17) refl (closing_code q payload (path_at w.paths n)) refl
     by (Some scope.Connection) = fails (is_closing w.conn) refl _
-    by (Some scope.Channel) = shut_of n PRECONDITION_FAILED _ (windowed n q w) _ lost_path less
+    by (Some scope.Channel) = shut_of n PRECONDITION_FAILED _ (session_lost n (windowed n q w)) _ closed_path less
 
 -- what it tells of session n
 pub record TransferHeard (n : ℕ) (m : Meaning) : Type 0 where
@@ -270,13 +271,13 @@ pub none_either : (b : Bool) (xs ys : List PathEvent) → have_come xs ≡ false
 none_either true xs ys e f = e
 none_either false xs ys e f = f
 
-lost_none : (b : Bool) → have_come (lost_if b) ≡ false
-lost_none true = refl
-lost_none false = refl
-
 pub closed_none : (b : Bool) → have_come (closed_if b) ≡ false
 closed_none true = refl
 closed_none false = refl
+
+ending_none : (b : Bool) → have_come (closed_if b ++ event.SessionLost ∷ []) ≡ false
+ending_none true = refl
+ending_none false = refl
 
 pub heard_come : (limit n : ℕ) (q : Performative) (payload : List ℕ) (s : PathState) → have_come (heard_events limit n q payload s) ≡ true → (q.0 == 20) ≡ true
 heard_come limit n q payload s e =
@@ -294,7 +295,7 @@ heard_come limit n q payload s e =
 pub session_come : (n k : ℕ) (c : Connection) (o : Option Scope) (q : Performative) (payload : List ℕ) (s : PathState)
     → have_come (session_events c o n k q payload s) ≡ true → (k ≡ n) × ((q.0 == 20) ≡ true)
 session_come n k c (Some scope.Connection) q payload s e = absurd (clash _ e refl)
-session_come n k c (Some scope.Channel) q payload s e = absurd (clash _ e (none_either (k == n) (ending c k) [] (lost_none (is_open c k)) refl))
+session_come n k c (Some scope.Channel) q payload s e = absurd (clash _ e (none_either (k == n) (ending c k) [] (ending_none (is_open c k)) refl))
 session_come n k c None q payload s e = by (k == n) refl e
   where
     closes : (o : Option ℕ) → have_come (closing o c k) ≡ false

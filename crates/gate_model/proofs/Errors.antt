@@ -41,7 +41,7 @@ use Rattle.gate_model.specs.Repeats.{is_end_on}
 use Rattle.gate_model.specs.Requests.{client_told}
 use Rattle.gate_model.specs.State.{Came, Fed, Gave, Heard, Joined, Lost, Queued, Silent, State, Step, TakenUp, Whole, before, begun_session, came}
 use Rattle.gate_model.specs.State.{carried, closed_for, closing_code, closing_error, dequeued, ending_error, fail, fail_life, heard, left, life_failed}
-use Rattle.gate_model.specs.State.{link_scope, runs, scoped, want_in, windowed, with_meaning, with_session, without_begin, without_life}
+use Rattle.gate_model.specs.State.{link_scope, runs, scoped, session_lost, want_in, windowed, with_meaning, with_session, without_begin, without_life}
 use Rattle.gate_model.specs.Upstream.{heard_up, meaning_by}
 use Rattle.gate_model.proofs.Firsts.{FirstIs, is_free, of_up, session_by, up_rows_by}
 use Rattle.gate_model.proofs.Known.{Known, conn_is, container_is, known, memory_is, paths_are}
@@ -188,7 +188,7 @@ session_on_own n g q payload w inside = by (link_scope q payload (session_on w g
     by None = met (q.0 == 17) (closing_code q payload (path_at w.paths g))
     by (Some scope.Connection) = quiet (fail INTERNAL_ERROR (Some (closing_error q (path_at w.paths g))) d) (fail_tells n INTERNAL_ERROR (Some (closing_error q (path_at w.paths g))) w d kept)
     by (Some scope.Channel) =
-        fail_one n g PRECONDITION_FAILED (Some (ending_error q payload (session_on w g) (path_at w.paths g))) lost_path w d (long_still _) refl kept
+        fail_one n g PRECONDITION_FAILED (Some (ending_error q payload (session_on w g) (path_at w.paths g))) closed_path w (session_lost g d) (long_still _) refl kept
 
 -- what counts is of channel n
 abbrev error_state : State → ℕ → ℕ → Parts → List ℕ → Option (Option Condition)

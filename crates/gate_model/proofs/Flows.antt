@@ -295,8 +295,8 @@ meaning_less n (ten.OfSession g q payload) w =
       begins = kept;
       stays = kept;
       ends = λ code why. less_both _ _ _ (with_less n g (carried g q payload w).paths closed_path closed_adds) kept;
-      windows = omega arith;
-      drops = λ code why. with_less n g w.paths lost_path lost_adds;
+      parts = with_less n g w.paths lost_path lost_adds;
+      drops = λ code why. less_both _ _ _ (with_less n g (with_path g lost_path w.paths) closed_path closed_adds) (with_less n g w.paths lost_path lost_adds);
       fails = λ why. fail_less n _ why (windowed g q w);
     })
   where

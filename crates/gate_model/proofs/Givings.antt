@@ -25,7 +25,7 @@ use Rattle.types_10.specs.Tree.{Tree}
 use Rattle.gate_model.specs.Folds.{Peers, connection, container, going_in, leaving_in, paths_in, peers, ran_out_in, routes_in, scope_in}
 use Rattle.gate_model.specs.Lives.{is_of_channel}
 use Rattle.gate_model.specs.Paths.{fault_in, is_not_found, is_outcome, name_in, outcome_in, part_in, path_at, text_of}
-use Rattle.gate_model.specs.Publishing.{attach_events, closed_if, closing, heard_events, lost_if, meaning_events, method_events}
+use Rattle.gate_model.specs.Publishing.{attach_events, closed_if, closing, ending, heard_events, meaning_events, method_events}
 use Rattle.gate_model.specs.Publishing.{owed_unless, reply_events, session_events, step_events}
 use Rattle.gate_model.specs.Publishing.{told_event, transfer_event, up_events, want_events, wrote_event, wrote_events}
 use Rattle.gate_model.specs.Session.{is_of_session, is_true}
@@ -79,13 +79,12 @@ module _ (P : PathEvent → Type 0) (each : (x : PathEvent) → is_given x ≡ f
   if_all true xs ys p q = p
   if_all false xs ys p q = q
 
-  lost_all : (b : Bool) → All (lost_if b)
-  lost_all true = (each _ refl refl, tt)
-  lost_all false = tt
-
   closed_all : (b : Bool) → All (closed_if b)
   closed_all true = (each _ refl refl, tt)
   closed_all false = tt
+
+  ending_all : (c : Connection) (k : ℕ) → All (ending c k)
+  ending_all c k = both (closed_if (is_open c k)) _ (closed_all (is_open c k)) (each _ refl refl, tt)
 
   pub closing_all : (o : Option ℕ) (c : Connection) (k : ℕ) → All (closing o c k)
   closing_all None c k = tt
@@ -202,7 +201,7 @@ module _ (P : PathEvent → Type 0) (each : (x : PathEvent) → is_given x ≡ f
         (both (if x.0 == 17 then [] else closing (closing_code x payload s) c k) (heard_events c.limits.frame_max k x payload s)
         (if_all (x.0 == 17) _ _ tt (closing_all (closing_code x payload s) c k)) (heard_all c.limits.frame_max k x payload s)) tt
     session_all c (Some scope.Connection) n k x payload s = (each _ refl refl, tt)
-    session_all c (Some scope.Channel) n k x payload s = if_all (k == n) _ _ (lost_all (is_open c k)) tt
+    session_all c (Some scope.Channel) n k x payload s = if_all (k == n) _ _ (ending_all c k) tt
 
     meaning_all : (o : Peers) (n : ℕ) (m : Meaning) → All (meaning_events o n m)
     meaning_all o n (ten.OfSession k x payload) = session_all o.client (scope_in o k x payload) n k x payload (path_at o.paths k)

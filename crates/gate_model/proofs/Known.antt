@@ -307,8 +307,8 @@ session_is n q payload w l f same s =
       begins = paths_is w l g heard s;
       stays = paths_is w l g heard s;
       ends = λ code why. only_is w l g (after_closing scope.Channel n w.conn) (with_path n closed_path heard) s (only_closing n w.conn);
-      windows = kept w l g s;
-      drops = λ code why. only_is w l g (after_closing scope.Channel n w.conn) (with_path n lost_path w.paths) s (only_closing n w.conn);
+      parts = paths_is w l g (with_path n lost_path w.paths) s;
+      drops = λ code why. only_is w l g (after_closing scope.Channel n w.conn) (with_path n closed_path (with_path n lost_path w.paths)) s (only_closing n w.conn);
       fails = λ why. fail_is _ why (windowed n q w) l g s;
     })
 
@@ -513,7 +513,7 @@ sound_session n q payload w l s =
       begins = s;
       stays = s;
       ends = λ code why. ended;
-      windows = s;
+      parts = s;
       drops = λ code why. ended;
       fails = λ why. sound_fail _ why (windowed n q w) l s;
     })

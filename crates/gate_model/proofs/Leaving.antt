@@ -38,7 +38,7 @@ use Rattle.gate_model.specs.Lives.{is_of_channel}
 use Rattle.gate_model.specs.Paths.{fault_in, is_not_found, is_outcome, name_in, or_no_path, part_in, path_at, text_of}
 use Rattle.gate_model.specs.Picks.{ArePicks}
 use Rattle.gate_model.specs.Publishing.{arrival_event, attach_events, closed_if, closing, failing, fine_events, given_event, heard_events}
-use Rattle.gate_model.specs.Publishing.{losing, losing_up, lost_if, meaning_events}
+use Rattle.gate_model.specs.Publishing.{ending, losing, losing_up, meaning_events}
 use Rattle.gate_model.specs.Publishing.{method_events, opens_channel, owed_unless, path_events, path_life, reply_events, session_events, step_events}
 use Rattle.gate_model.specs.Publishing.{told_event, transfer_event, up_events, want_events, wrote_event, wrote_events}
 use Rattle.gate_model.specs.Session.{is_of_session}
@@ -80,13 +80,12 @@ both_still : (xs ys : List PathEvent) → AreStill xs → AreStill ys → AreSti
 both_still [] ys p q = q
 both_still (x ∷ xs) ys p q = (p.0, both_still xs ys p.1 q)
 
-lost_still : (b : Bool) → AreStill (lost_if b)
-lost_still true = (refl, tt)
-lost_still false = tt
-
 closed_still : (b : Bool) → AreStill (closed_if b)
 closed_still true = (refl, tt)
 closed_still false = tt
+
+ending_still : (c : Connection) (j : ℕ) → AreStill (ending c j)
+ending_still c j = both_still (closed_if (is_open c j)) _ (closed_still (is_open c j)) (refl, tt)
 
 owed_still : (b : Bool) (x : PathOk) → AreStill (owed_unless b (event.Owed x))
 owed_still true x = tt
@@ -306,7 +305,7 @@ module _ (arrives : DeliveriesAre) (covered : CoveredAre) (tied : LinksAre) (lif
             (fine es safe (connection h) n q payload (closed_path_is h n life p below l)))
         by false e = safe
     session_on (Some scope.Connection) j q payload t same = quiet failing (refl, tt)
-    session_on (Some scope.Channel) j q payload t same = quiet _ (if_still (j == n) _ _ (lost_still (is_open (connection h) j)) tt)
+    session_on (Some scope.Channel) j q payload t same = quiet _ (if_still (j == n) _ _ (ending_still (connection h) j) tt)
 
     there : path_at (paths_in h) n ≡ after_events life es
     there = ap or_no_path ((tells n h p).slot below) ∙ ap (λ (o : Option ℕ). or_no_path (option_map (λ (j : ℕ). after_events j es) o)) l

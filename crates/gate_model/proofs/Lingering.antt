@@ -150,7 +150,7 @@ meaning_comes (ten.OfSession g p payload) w =
       begins = λ n. chain (kept n) (one_comes (carried g p payload w).lives g _ (Stays refl (λ o. o)) n);
       stays = kept;
       ends = λ code why. ended _ refl refl;
-      windows = kept;
+      parts = kept;
       drops = λ code why. ended _ refl refl;
       fails = λ why. fail_comes _ why (windowed g p w) w.lives w.moment kept;
     })

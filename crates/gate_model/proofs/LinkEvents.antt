@@ -110,14 +110,6 @@ module _ (f : ℕ → Option Credit) where
       subst (AllAgree (folded (Flowed peer count credit ∷ []) f)) (sym (flowed_same (receiver_in (named peer s.links)) peer count credit drain echo s))
       (flow_agree f peer count credit s.links t all drain echo)
 
-  -- one on no link
-  pub flow_missed_agree : (peer : ℕ) (count : Option ℕ) (credit : ℕ) (s : LinksState) → Tied s → named peer s ≡ None → AllAgree f s
-      → AllAgree (folded (Flowed peer count credit ∷ []) f) s
-  flow_missed_agree peer count credit s t none all =
-      subst (AllAgree (folded (Flowed peer count credit ∷ []) f))
-      (ap (λ (o : Option PathLink). flowed_if (receiver_in o) peer count credit false false s) none ∙ ap (λ (o : Option PathLink). flowed_on o count credit false false s) none)
-      (flow_agree f peer count credit s t all false false)
-
   -- ---- what the gateway sends
 
   pub attach_sent_agree : (name : ℕ) (a : AttachDue) (s : PathState) → Tied s.links → next_attach s ≡ Some a → AllAgree f s.links

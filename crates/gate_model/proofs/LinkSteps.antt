@@ -47,7 +47,7 @@ use Rattle.gate_model.specs.LinkCredits.{after_step, answer_step, begun, credit_
 use Rattle.gate_model.specs.Lives.{life_at}
 use Rattle.gate_model.specs.Paths.{attach_fault_by, attach_out, credit_of, fault_by, flow_out, heard_as, name_in, or_no_path, path_at, slot_at, text_of, transfer_error, transfer_of}
 use Rattle.gate_model.specs.Picks.{ArePicks}
-use Rattle.gate_model.specs.Publishing.{attach_events, closing, fine_events, given_event, heard_events, lost_if, meaning_events, opens_channel, path_events}
+use Rattle.gate_model.specs.Publishing.{attach_events, closed_if, closing, ending, fine_events, given_event, heard_events, meaning_events, opens_channel, path_events}
 use Rattle.gate_model.specs.Publishing.{path_life, session_events, step_events, up_events}
 use Rattle.gate_model.specs.Repeats.{attaches_in}
 use Rattle.gate_model.specs.Session.{is_of_session, is_true}
@@ -61,7 +61,7 @@ use Rattle.gate_model.proofs.Givings.{closing_all, ends_all, gives_up, hears, is
 use Rattle.gate_model.proofs.Granting.{DeliveriesAre}
 use Rattle.gate_model.proofs.Heard.{ClosedAre}
 use Rattle.gate_model.proofs.LinkCredits.{AllAgree, AreDistinct}
-use Rattle.gate_model.proofs.LinkEvents.{attach_sent_agree, came_agree, first_sent_agree, flow_came_agree, flow_missed_agree, flow_sent_agree, is_mute}
+use Rattle.gate_model.proofs.LinkEvents.{attach_sent_agree, came_agree, first_sent_agree, flow_came_agree, flow_sent_agree, is_mute}
 use Rattle.gate_model.proofs.LinkEvents.{later_sent_agree, mute_agree, mutes_agree}
 use Rattle.gate_model.proofs.LinkRoles.{grants_receive}
 use Rattle.gate_model.proofs.LinkRooms.{have_room}
@@ -212,17 +212,9 @@ mute x e f = refl
 abbrev IsMute : PathEvent → Type 0
 IsMute x = is_mute x ≡ true
 
-named_none : (o : Option PathLink) → unattached (is_some o) ≡ Some scope.Channel → o ≡ None
-named_none None e = refl
-named_none (Some l) e = absurd cc
-
 no_fault : (o : Option AttachFault) → attach_scope o ≡ None → o ≡ None
 no_fault None e = refl
 no_fault (Some f) e = absurd cc
-
-not_channel : (o : Option AttachFault) → attach_scope o ≡ Some scope.Channel → ⊥
-not_channel None e = cc
-not_channel (Some f) e = cc
 
 apart_codes : (q i j : ℕ) → (q == i) ≡ true → (q == j) ≡ true → (i == j) ≡ false → ⊥
 apart_codes q i j e f g = let same : q ≡ i = grind (arith, nat_tests, e) in let other : q ≡ j = grind (arith, nat_tests, f) in let no : (i == j) ≡ true = grind (arith, nat_tests, same, other) in cc
@@ -299,19 +291,6 @@ module _ (n life : ℕ) (below : n ≤ CHANNEL_MAX) where
               (no_fault (attach_fault_by q.1 s0) (sym (ap (λ (b : Bool). if b then attach_scope (attach_fault_by q.1 s0)
               else if (q.0 == 19) && not (is_of_session q.1) then unattached (is_some (named (number_at q.1 4) s0.links)) else last_scope) e) ∙ fine))
 
-      -- where a flow is of no link, on a channel that isn't open
-      missed : scope_in (peers h) n q payload ≡ Some scope.Channel → Agrees (more n h (heard_step q)) es
-      missed fault = by (q.0 == 18) ((q.0 == 19) && not (is_of_session q.1)) fault
-        where
-          by : (b c : Bool) → (if b then attach_scope (attach_fault_by q.1 s0) else if c then unattached (is_some (named (number_at q.1 4) s0.links)) else last_scope) ≡ Some scope.Channel
-              → Agrees (more n h (if b then answer_step (name_in (text_of (field q.1 0))) (number_at q.1 1) else if c then
-              Flowed (number_at q.1 4) (number_in (field q.1 5)) (credit_of (number_in (field q.1 6))) ∷ [] else [])) es
-          by true c f = absurd (not_channel (attach_fault_by q.1 s0) f)
-          by false true f =
-              flow_missed_agree (credits n h) (number_at q.1 4) (number_in (field q.1 5)) (credit_of (number_in (field q.1 6))) s.links (tied_after life es)
-              (subst (λ (x : PathState). named (number_at q.1 4) x.links ≡ None) there (named_none (named (number_at q.1 4) s0.links) f)) all
-          by false false f = all
-
       session_agrees : (o : Option Scope) → scope_in (peers h) n q payload ≡ o → Agrees (more n h (heard_step q)) (session_events (connection h) o n n q payload (path_at (paths_in h) n) ++ es)
       session_agrees None e = by (n == n) refl
         where
@@ -319,18 +298,18 @@ module _ (n life : ℕ) (below : n ≤ CHANNEL_MAX) where
           by true f = fine_agrees e
           by false f = let yes : (n == n) ≡ true = grind (arith, nat_tests) in absurd cc
       session_agrees (Some scope.Connection) e = λ m. refl
-      session_agrees (Some scope.Channel) e = by (n == n) (is_open (connection h) n)
+      session_agrees (Some scope.Channel) e = by (n == n) refl (is_open (connection h) n)
         where
-          by : (b c : Bool) → Agrees (more n h (heard_step q)) ((if b then lost_if c else []) ++ es)
-          by true true = λ m. refl
-          by true false = missed e
-          by false c = missed e
+          by : (b : Bool) → (n == n) ≡ b → (c : Bool) → Agrees (more n h (heard_step q)) ((if b then closed_if c ++ event.SessionLost ∷ [] else []) ++ es)
+          by true f true = λ m. refl
+          by true f false = λ m. refl
+          by false f c = let yes : (n == n) ≡ true = grind (arith, nat_tests) in absurd cc
 
     -- of another channel
     other_session : (o : Option Scope) (j : ℕ) (q : Parts) (payload : List ℕ) (x : PathState) → (j == n) ≡ false → Agrees (credits n h) (session_events (connection h) o n j q payload x ++ es)
     other_session None j q payload x ne = subst (λ (b : Bool). Agrees (credits n h) ((if b then fine_events (connection h) j q payload x else []) ++ es)) (sym ne) all
     other_session (Some scope.Connection) j q payload x ne = λ m. refl
-    other_session (Some scope.Channel) j q payload x ne = subst (λ (b : Bool). Agrees (credits n h) ((if b then lost_if (is_open (connection h) j) else []) ++ es)) (sym ne) all
+    other_session (Some scope.Channel) j q payload x ne = subst (λ (b : Bool). Agrees (credits n h) ((if b then ending (connection h) j else []) ++ es)) (sym ne) all
 
     abbrev At : Parts → List ℕ → ℕ → Bool → Type 0
     At q payload k b =

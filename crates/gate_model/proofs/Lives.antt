@@ -74,7 +74,7 @@ meaning_all (ten.OfSession g p payload) w e =
       begins = after_set _ g _ kept;
       stays = kept;
       ends = λ code why. after_set _ g _ kept;
-      windows = kept;
+      parts = kept;
       drops = λ code why. after_set _ g _ kept;
       fails = λ why. fail_all _ why (windowed g p w) kept;
     })

@@ -45,7 +45,7 @@ use Rattle.gate_model.specs.Repeats.{is_begin_on}
 use Rattle.gate_model.specs.Requests.{client_step, client_told}
 use Rattle.gate_model.specs.State.{Began, Came, Fed, Gave, Heard, Joined, Lost, Moment, OutOfMemory, Queued, Silent, State, Step, TakenUp, Whole}
 use Rattle.gate_model.specs.State.{before, begun_session, came, carried, close, close_if, closed_for, closing_code, closing_error, dequeued, ending_error, fail}
-use Rattle.gate_model.specs.State.{fail_life, failed, heard, is_limit_reached, left, life_failed, link_scope, runs, scoped, sessions_lost, want_in, windowed}
+use Rattle.gate_model.specs.State.{fail_life, failed, heard, is_limit_reached, left, life_failed, link_scope, runs, scoped, session_lost, sessions_lost, want_in, windowed}
 use Rattle.gate_model.specs.State.{with_meaning, with_session, without_begin, without_life}
 use Rattle.gate_model.specs.Takes.{left_at, left_wanted}
 use Rattle.gate_model.specs.Upstream.{heard_up, meaning_by}
@@ -318,7 +318,7 @@ session_leaves n g q payload w less inside = by (link_scope q payload (life_at w
     by None = met (q.0 == 17) refl
     by (Some scope.Connection) = fail_leaves n INTERNAL_ERROR (Some (closing_error q (path_at w.paths g))) w d x kept
     by (Some scope.Channel) =
-        fail_one n g PRECONDITION_FAILED (Some (ending_error q payload (life_at w.lives g).session (path_at w.paths g))) lost_path w d x less (long_still _) refl kept none
+        fail_one n g PRECONDITION_FAILED (Some (ending_error q payload (life_at w.lives g).session (path_at w.paths g))) closed_path w (session_lost g d) x less (long_still _) refl kept none
 
 meaning_leaves : (n : ℕ) (m : Meaning) (w : State) → n < length w.conn.channels → n < length w.lives → is_late w.conn.phase ≡ true
     → LeavesIn (begun_meant n m) None false n w (with_meaning m w)

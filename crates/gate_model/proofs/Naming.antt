@@ -39,7 +39,7 @@ use Rattle.gate_model.specs.Frames.{AreGiven}
 use Rattle.gate_model.specs.Lives.{is_of_channel}
 use Rattle.gate_model.specs.Paths.{fault_in, is_outcome, name_in, or_no_path, part_in, path_at, slot_at, text_of}
 use Rattle.gate_model.specs.Picks.{ArePicks}
-use Rattle.gate_model.specs.Publishing.{attach_events, closed_if, closing, given_event, heard_events, lost_if, meaning_events, method_events}
+use Rattle.gate_model.specs.Publishing.{attach_events, closed_if, closing, ending, given_event, heard_events, meaning_events, method_events}
 use Rattle.gate_model.specs.Publishing.{opens_channel}
 use Rattle.gate_model.specs.Publishing.{owed_unless, path_events, reply_events, session_events, step_events, told_event, transfer_event, up_events}
 use Rattle.gate_model.specs.Publishing.{want_events, wrote_event, wrote_events}
@@ -160,10 +160,6 @@ refused_short x (Some r) s = tt
 
 -- ---- what the container sends
 
-lost_short : (b : Bool) → AllShort (lost_if b)
-lost_short true = (tt, tt)
-lost_short false = tt
-
 closed_short : (b : Bool) → AllShort (closed_if b)
 closed_short true = (tt, tt)
 closed_short false = tt
@@ -190,12 +186,15 @@ closing_short : (o : Option ℕ) (c : Connection) (j : ℕ) → AllShort (closin
 closing_short None c j = tt
 closing_short (Some code) c j = closed_short (is_open c j)
 
+ending_short : (c : Connection) (j : ℕ) → AllShort (ending c j)
+ending_short c j = both_short (closed_if (is_open c j)) _ (closed_short (is_open c j)) (tt, tt)
+
 session_short : (c : Connection) (o : Option Scope) (n j : ℕ) (q : Parts) (payload : List ℕ) (s : PathState) → AllShort (session_events c o n j q payload s)
 session_short c None n j q payload s =
     if_short (j == n) _ _
     (both_short _ _ (if_short (q.0 == 17) _ _ tt (closing_short (closing_code q payload s) c j)) (heard_short c.limits.frame_max j q payload s)) tt
 session_short c (Some scope.Connection) n j q payload s = (tt, tt)
-session_short c (Some scope.Channel) n j q payload s = if_short (j == n) _ _ (lost_short (is_open c j)) tt
+session_short c (Some scope.Channel) n j q payload s = if_short (j == n) _ _ (ending_short c j) tt
 
 meaning_short : (o : Peers) (n : ℕ) (m : Meaning) → AllShort (meaning_events o n m)
 meaning_short o n (ten.OfSession j q payload) = session_short o.client (scope_in o j q payload) n j q payload (path_at o.paths j)

@@ -27,7 +27,7 @@ use Rattle.gate_model.specs.declared.outgoing.UpUnit.TheVariants as up
 use Rattle.gate_model.specs.declared.reply.Reply.{Reply}
 use Rattle.gate_model.specs.declared.reply.Reply.TheVariants as reply
 use Rattle.gate_model.specs.declared.setup.Route.{Route}
-use Rattle.gate_model.specs.Folds.{Peers, carried_on, ended_on, leaving_in, paths_in}
+use Rattle.gate_model.specs.Folds.{Peers, carried_on, ended_on, leaving_in, paths_in, peers_parted}
 use Rattle.gate_model.specs.Folds.{peers, peers_by, peers_came, peers_closed, peers_heard, peers_left, peers_scoped, ran_out_in, scope_in}
 use Rattle.gate_model.specs.Lives.{is_of_channel}
 use Rattle.gate_model.specs.Paths.{attach_fault_by, closed_path, closed_paths, fault_in, field_error, is_receiver}
@@ -87,7 +87,7 @@ scoped_many None n q payload p e = by (q.0 == 17)
     by true = with_many n _ p.paths e
     by false = closed_many n (closing_code q payload (path_at p.paths n)) heard (with_many n _ p.paths e)
 scoped_many (Some scope.Connection) n q payload p e = each_many lost_path p.paths e
-scoped_many (Some scope.Channel) n q payload p e = ended_many (is_open p.client n) n lost_path p e
+scoped_many (Some scope.Channel) n q payload p e = ended_many (is_open p.client n) n closed_path (peers_parted n p) (with_many n lost_path p.paths e)
 
 meaning_many : (m : Meaning) (p : Peers) → Long p.paths → Long (peers_by m p).paths
 meaning_many (ten.OfSession g q payload) p e = scoped_many (scope_in p g q payload) g q payload (record p { carried = carried_on g q p.carried }) e

@@ -169,7 +169,7 @@ meaning_less {n} {v} c (ten.OfSession g p payload) w =
       begins = less_both _ _ _ (rule_less v n g x.lives begun_life c.begun) kept;
       stays = kept;
       ends = ends;
-      windows = kept;
+      parts = kept;
       drops = ends;
       fails = λ why. less_both _ _ _ (fail_less v n _ why (windowed g p w)) kept;
     })

@@ -192,7 +192,7 @@ meaning_shuts n (ten.OfSession g q payload) w less late f =
       begins = keeps n g (carried g q payload w).lives _ w.conn refl kept;
       stays = kept;
       ends = λ code why. ends n g (carried g q payload w).lives _ w.conn less kept;
-      windows = kept;
+      parts = kept;
       drops = λ code why. ends n g (carried g q payload w).lives _ w.conn less kept;
       fails = λ why. fail_shuts n _ why (windowed g q w) kept;
     })

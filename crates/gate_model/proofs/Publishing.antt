@@ -41,14 +41,14 @@ use Rattle.gate_model.specs.declared.reply.Reply.{Reply}
 use Rattle.gate_model.specs.declared.reply.Reply.TheVariants as reply
 use Rattle.gate_model.specs.Folds.{Peers, container, ended_on, leaving_in}
 use Rattle.gate_model.specs.Folds.{paths_in, peers, peers_by, peers_came, peers_failed, peers_heard}
-use Rattle.gate_model.specs.Folds.{carried_on, going_in, peers_closed, peers_left, peers_lost, peers_scoped}
+use Rattle.gate_model.specs.Folds.{carried_on, going_in, peers_closed, peers_ended, peers_left, peers_lost, peers_parted, peers_scoped}
 use Rattle.gate_model.specs.Folds.{connection, peers_told, ran_out_in, routes_in, scope_in}
 use Rattle.gate_model.specs.Once.{is_channel_open, is_method_on}
 use Rattle.gate_model.specs.Paths.{attached_as, closed_path, closed_paths, fault_in, is_outcome, lost_path, lost_paths, name_in}
 use Rattle.gate_model.specs.Paths.{no_paths, or_no_path, part_in, path_at, set_path, slot_at, text_of, transferred_by, told_paths, with_path}
 use Rattle.gate_model.specs.Picks.{ArePicks}
 use Rattle.gate_model.specs.Publishing.{attach_events, closed_if, closing, failing, given_event, heard_events}
-use Rattle.gate_model.specs.Publishing.{losing, losing_up, lost_if, meaning_events, method_events, owed_unless}
+use Rattle.gate_model.specs.Publishing.{ending, losing, losing_up, meaning_events, method_events, owed_unless}
 use Rattle.gate_model.specs.Publishing.{path_events, path_life, refusal_events, reply_events, session_events}
 use Rattle.gate_model.specs.Publishing.{step_events, told_event, transfer_event, up_events, want_events, wrote_event, wrote_events}
 use Rattle.gate_model.specs.Requests.{message_of, address_of}
@@ -158,10 +158,6 @@ idles n k ps = by (k == n)
     by true = stays n ps
     by false = stays n ps
 
-ends : (n k : ℕ) (p : Peers) (b : Bool) → Goes n p.paths (if k == n then lost_if b else []) (ended_on b k lost_path p).paths
-ends n k p true = changes n k p.paths lost_path (event.SessionLost ∷ []) (λ s. refl)
-ends n k p false = idles n k p.paths
-
 shuts : (n k : ℕ) (p : Peers) (b : Bool) → Goes n p.paths (if k == n then closed_if b else []) (ended_on b k closed_path p).paths
 shuts n k p true = changes n k p.paths closed_path (event.LifeClosed ∷ []) (λ s. refl)
 shuts n k p false = idles n k p.paths
@@ -196,6 +192,11 @@ joins : (b : Bool) (xs ys : List PathEvent) → (if b then ys else []) ++ (if b 
 joins true xs ys = refl
 joins false xs ys = refl
 
+ends : (n k : ℕ) (p : Peers) → Goes n p.paths (if k == n then ending p.client k else []) (peers_ended k closed_path (peers_parted k p)).paths
+ends n k p =
+    subst (λ (xs : List PathEvent). Goes n p.paths xs (peers_ended k closed_path (peers_parted k p)).paths) (joins (k == n) (event.SessionLost ∷ []) (closed_if (is_open p.client k)))
+    (behind (changes n k p.paths lost_path (event.SessionLost ∷ []) (λ s. refl)) (shuts n k (peers_parted k p) (is_open p.client k)))
+
 session_is : (n k : ℕ) (q : Parts) (payload : List ℕ) (p : Peers) (o : Option Scope)
     → Goes n p.paths (session_events p.client o n k q payload (path_at p.paths k)) (peers_scoped o k q payload p).paths
 session_is n k q payload p None =
@@ -221,7 +222,7 @@ session_is n k q payload p None =
     by true code = idles n k heard.paths
     by false code = closes code
 session_is n k q payload p (Some scope.Connection) = fails n p
-session_is n k q payload p (Some scope.Channel) = ends n k p (is_open p.client k)
+session_is n k q payload p (Some scope.Channel) = ends n k p
 
 meaning_is : (n : ℕ) (m : Meaning) (p : Peers) → Goes n p.paths (meaning_events p n m) (peers_by m p).paths
 meaning_is n (ten.OfSession k q payload) p = session_is n k q payload (record p { carried = carried_on k q p.carried }) (scope_in p k q payload)

@@ -48,7 +48,7 @@ rests_session n p payload w =
       begins = record { stream = refl; queue = refl };
       stays = record { stream = refl; queue = refl };
       ends = λ code why. record { stream = stream_only (only_closing n w.conn); queue = refl };
-      windows = record { stream = refl; queue = refl };
+      parts = record { stream = refl; queue = refl };
       drops = λ code why. record { stream = stream_only (only_closing n w.conn); queue = refl };
       fails = λ why. let f : Rests (windowed n p w) (fail INTERNAL_ERROR why (windowed n p w)) = rests_fail _ why (windowed n p w) in
           record { stream = f.stream; queue = f.queue };

@@ -10,6 +10,7 @@ use Rattle.gate_outside.specs.declared.ports.End.TheVariants.{Client, Up}
 use Rattle.gate_outside.specs.declared.ports.Linked.TheVariants as link
 use Rattle.gate_relay.specs.declared.loss.Loss.TheVariants as loss
 use Rattle.machine_091.specs.State.{is_open}
+use Rattle.machine_091.specs.declared.state.Connection.{Connection}
 use Rattle.machine_091.specs.declared.unit.Refusal.{Refusal}
 use Rattle.machine_091.specs.declared.unit.Unit91.{Unit91}
 use Rattle.machine_091.specs.declared.unit.Want91.{Want91}
@@ -28,7 +29,7 @@ use Rattle.types_10.specs.Tree.{Tree}
 use Rattle.gate_model.specs.Folds.{connection, container, leaving_in, paths_in, peers, ran_out_in, routes_in, scope_in}
 use Rattle.gate_model.specs.Lives.{is_of_channel}
 use Rattle.gate_model.specs.Paths.{fault_in, is_outcome, name_in, part_in, path_at, text_of}
-use Rattle.gate_model.specs.Publishing.{arrival_event, attach_events, closed_if, closing, failing, fine_events, given_event, heard_events, lost_if}
+use Rattle.gate_model.specs.Publishing.{arrival_event, attach_events, closed_if, closing, failing, ending, fine_events, given_event, heard_events}
 use Rattle.gate_model.specs.Publishing.{meaning_events, method_events, owed_unless, path_events, refusal_events, reply_events, session_events}
 use Rattle.gate_model.specs.Publishing.{step_events, told_event, transfer_event, up_events, want_events, wrote_event, wrote_events}
 use Rattle.gate_model.specs.Session.{is_of_session}
@@ -121,13 +122,12 @@ if_quiet : (b : Bool) (xs ys : List PathEvent) → AreQuiet xs → AreQuiet ys �
 if_quiet true xs ys p q = p
 if_quiet false xs ys p q = q
 
-lost_quiet : (b : Bool) → AreQuiet (lost_if b)
-lost_quiet true = (refl, tt)
-lost_quiet false = tt
-
 closed_quiet : (b : Bool) → AreQuiet (closed_if b)
 closed_quiet true = (refl, tt)
 closed_quiet false = tt
+
+ending_quiet : (c : Connection) (j : ℕ) → AreQuiet (ending c j)
+ending_quiet c j = both_quiet (closed_if (is_open c j)) _ (closed_quiet (is_open c j)) (refl, tt)
 
 closing_quiet : (o : Option ℕ) (j : ℕ) (h : List Step) → AreQuiet (closing o (connection h) j)
 closing_quiet None j h = tt
@@ -267,7 +267,7 @@ module _ (Q : List PathEvent → PathEvent → Type 0) (n : ℕ) (h : List Step)
             (quiet_on _ _ (if_quiet (x.0 == 17) _ _ tt (closing_quiet (closing_code x payload (path_at (paths_in h) n)) n h)) (heard_on x payload))
         by false e = tt
     session_on (Some scope.Connection) j x payload = quiet failing (refl, tt)
-    session_on (Some scope.Channel) j x payload = quiet _ (if_quiet (j == n) _ _ (lost_quiet (is_open (connection h) j)) tt)
+    session_on (Some scope.Channel) j x payload = quiet _ (if_quiet (j == n) _ _ (ending_quiet (connection h) j) tt)
 
     meaning_on : (m : Meaning) → On (meaning_events (peers h) n m)
     meaning_on (ten.OfSession j x payload) = session_on (scope_in (peers h) j x payload) j x payload

@@ -45,7 +45,7 @@ use Rattle.gate_model.specs.Session.{carried_by}
 use Rattle.gate_model.specs.Reasons.{ClosesOnce, MaySay, SaysWhy, is_close_on, reason_at, reason_in, reason_meant, reason_scoped, reason_wanted, reason_with, reasons_in}
 use Rattle.gate_model.specs.Requests.{client_told}
 use Rattle.gate_model.specs.State.{Came, Fed, Gave, Heard, Joined, Lost, Queued, Silent, State, Step, TakenUp, Whole, before, begun_session, came, carried}
-use Rattle.gate_model.specs.State.{closed_for, closing_code, closing_error, dequeued, ending_error, fail, fail_life, failed, heard, left, life_failed, link_scope, sessions_lost}
+use Rattle.gate_model.specs.State.{closed_for, closing_code, closing_error, dequeued, ending_error, fail, fail_life, failed, heard, left, life_failed, link_scope, session_lost, sessions_lost}
 use Rattle.gate_model.specs.State.{is_channel_settled, is_settled, runs, scoped, want_in, windowed, with_meaning, with_session, without_begin, without_life}
 use Rattle.gate_model.specs.Upstream.{first, heard_up, meaning_by}
 use Rattle.gate_model.proofs.Known.{Known, conn_is, container_is, known, memory_is, paths_are, routes_are}
@@ -205,8 +205,8 @@ session_says n k q payload w = by (k == n) refl
         met false z = closed z
     other e (Some scope.Connection) = fail_says n INTERNAL_ERROR closing_why w d (Stays refl kept)
     other e (Some scope.Channel) =
-        subst (λ (b : Bool). SaysIn (if b && is_open w.conn n then Some (reason_with n PRECONDITION_FAILED) else None) n w (fail_life k PRECONDITION_FAILED ending_why lost_path d)) e
-        (fail_one n k PRECONDITION_FAILED ending_why lost_path w d refl kept)
+        subst (λ (b : Bool). SaysIn (if b && is_open w.conn n then Some (reason_with n PRECONDITION_FAILED) else None) n w (fail_life k PRECONDITION_FAILED ending_why closed_path (session_lost k d))) e
+        (fail_one n k PRECONDITION_FAILED ending_why closed_path w (session_lost k d) refl kept)
 
     -- one on that of this channel
     this : k ≡ n → (o : Option Scope) → SaysIn (if is_open w.conn n then reason_scoped o n q payload (path_at w.paths n) else None) n w (scoped o k q payload w)
@@ -238,8 +238,8 @@ session_says n k q payload w = by (k == n) refl
         at true = fail_says n INTERNAL_ERROR closing_why w d (Stays refl kept)
         at false = fail_says n INTERNAL_ERROR closing_why w d (Stays refl kept)
     this e (Some scope.Channel) =
-        subst (λ (b : Bool). SaysIn (if b && is_open w.conn n then Some (reason_with n PRECONDITION_FAILED) else None) n w (fail_life k PRECONDITION_FAILED ending_why lost_path d))
-        (ap (λ (i : ℕ). i == n) e ∙ itself n) (fail_one n k PRECONDITION_FAILED ending_why lost_path w d refl kept)
+        subst (λ (b : Bool). SaysIn (if b && is_open w.conn n then Some (reason_with n PRECONDITION_FAILED) else None) n w (fail_life k PRECONDITION_FAILED ending_why closed_path (session_lost k d)))
+        (ap (λ (i : ℕ). i == n) e ∙ itself n) (fail_one n k PRECONDITION_FAILED ending_why closed_path w (session_lost k d) refl kept)
 
     by : (b : Bool) → (k == n) ≡ b
         → SaysIn (if b && is_open w.conn n then reason_scoped (link_scope q payload (session_on w n) (path_at w.paths n)) n q payload (path_at w.paths n) else None) n w

@@ -53,7 +53,7 @@ use Rattle.gate_model.specs.State.{Queued, Silent, State, Step, TakenUp, Whole, 
 use Rattle.gate_model.specs.State.{dequeued, fail, failed, failure, has_left, heard, is_channel_settled, is_limit_reached, is_settled, sessions_lost}
 use Rattle.gate_model.specs.State.{last_pending, left, life_failed, link_scope, none_pending}
 use Rattle.gate_model.specs.State.{path_heard, runs, turns_foreign, with_header, with_meaning}
-use Rattle.gate_model.specs.State.{with_session, with_want, without, scoped, windowed, closed_for, closing_code, closing_error}
+use Rattle.gate_model.specs.State.{with_session, with_want, without, scoped, session_lost, windowed, closed_for, closing_code, closing_error}
 use Rattle.gate_relay.specs.Sides.{is_readable}
 use Rattle.gate_model.specs.Upstream.{channel_max_in, container_by, first, has_closed, heard_up, meaning_by}
 use Rattle.gate_model.specs.declared.outgoing.Outgoing.TheVariants.{ToClient}
@@ -619,7 +619,7 @@ says_session g q payload w b o n f went since all last known_ shuts s =
     by : (k : Option Scope) → Goal k (scoped k g q payload w)
     by None = met (q.0 == 17) (closing_code q payload (path_at w.paths g))
     by (Some scope.Connection) = says_fail (windowed g q w) INTERNAL_ERROR (Some (closing_error q (path_at w.paths g))) b w.conn went since all last refl shuts s
-    by (Some scope.Channel) = ended (is_open w.conn g) lost_path w.paths (windowed g q w) _ _ refl
+    by (Some scope.Channel) = ended (is_open w.conn g) closed_path (with_path g lost_path w.paths) (session_lost g (windowed g q w)) _ _ refl
 
 says_meaning : (m : Meaning) (w : State) (b : Bool) (p : Peers) (went since all last : List Reply) → Knows p.carried m w.lives w.paths → w.routes ≡ p.routes → w.conn ≡ p.client
     → w.paths ≡ p.paths → (b ≡ true → is_closing p.client ≡ true) → SaysIn b p.client.phase w.pending went since all (has_left p.client.stream) last

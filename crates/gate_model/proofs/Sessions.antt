@@ -10,13 +10,13 @@ use Rattle.machine_10.specs.Parts.{Parts}
 use Rattle.machine_10.specs.declared.state.Upstream.{Upstream}
 use Rattle.performatives_10.specs.declared.condition.Condition.{Condition}
 use Rattle.gate_model.specs.declared.life.SessionState.{SessionState}
-use Rattle.gate_model.specs.Folds.{Peers, carried_on, ended_on, peers_closed, peers_failed, peers_met, peers_scoped, peers_session, scope_in}
+use Rattle.gate_model.specs.Folds.{Peers, carried_on, ended_on, peers_closed, peers_failed, peers_met, peers_parted, peers_scoped, peers_session, scope_in}
 use Rattle.gate_model.specs.Lives.{life_at, refusal_on}
 use Rattle.gate_model.specs.Paths.{closed_path, lost_path, path_at, with_path}
 use Rattle.session_path.specs.Path.{PathState}
 use Rattle.gate_model.specs.State.{State, begun_session, carried, close, closed_for, closing_code}
 use Rattle.gate_model.specs.State.{closing_error, ending_error, fail, life_failed, link_scope}
-use Rattle.gate_model.specs.State.{met_session, path_heard, scoped, windowed, with_session}
+use Rattle.gate_model.specs.State.{met_session, path_heard, scoped, session_lost, windowed, with_session}
 
 -- the session of the channel of a number
 abbrev pub session_on : State → ℕ → SessionState
@@ -41,15 +41,16 @@ abbrev pub heard_at : ℕ → Parts → List ℕ → Peers → Peers
 heard_at n q payload x =
     record x { paths = with_path n (path_heard x.client.limits.frame_max n q payload) x.paths }
 
--- what holds after each of these: a begin, and what changes but the session and its path; what closes the channel; what is wrong with a link, by its windows
--- alone, or with the channel or the connection closing
+-- what holds after each of these: a begin, and what changes but the session and its path; what closes the channel; what is wrong with a link, by its windows,
+-- with the session lost alone, or the channel closing too, or the connection
 pub record SessionCases (P : Peers → State → Type 0) (n : ℕ) (q : Parts) (payload : List ℕ) (w : State) (x : Peers) : Type 0 where
   pub begins : P (heard_at n q payload x) (begun_session n (carried n q payload w))
   pub stays : P (heard_at n q payload x) (carried n q payload w)
   pub ends : (code : ℕ) (why : Option Condition) → P (ended_on true n closed_path (heard_at n q payload x))
       (life_failed n (refusal_on n code) why closed_path (carried n q payload w))
-  pub windows : P x (windowed n q w)
-  pub drops : (code : ℕ) (why : Option Condition) → P (ended_on true n lost_path x) (life_failed n (refusal_on n code) why lost_path (windowed n q w))
+  pub parts : P (peers_parted n x) (session_lost n (windowed n q w))
+  pub drops : (code : ℕ) (why : Option Condition) → P (ended_on true n closed_path (peers_parted n x))
+      (life_failed n (refusal_on n code) why closed_path (session_lost n (windowed n q w)))
   pub fails : (why : Option Condition) → P (peers_failed x) (fail INTERNAL_ERROR why (windowed n q w))
 
 met_by : (P : Peers → State → Type 0) (n : ℕ) (q : Parts) (payload : List ℕ) (w : State) (c : Option Upstream) (o : ℕ) (f : ℕ → SessionState)
@@ -90,9 +91,10 @@ session_by P n q payload w c o f e cases =
     x : Peers
     x = peers_like c o (carried_on n q f) w
 
-    dropped : (b : Bool) → P (ended_on b n lost_path x) (if b then life_failed n (refusal_on n PRECONDITION_FAILED) why lost_path (windowed n q w) else windowed n q w)
+    dropped : (b : Bool) → P (ended_on b n closed_path (peers_parted n x))
+        (if b then life_failed n (refusal_on n PRECONDITION_FAILED) why closed_path (session_lost n (windowed n q w)) else session_lost n (windowed n q w))
     dropped true = cases.drops PRECONDITION_FAILED why
-    dropped false = cases.windows
+    dropped false = cases.parts
 
     by : (s : Option Scope) → P (peers_scoped s n q payload x) (scoped s n q payload w)
     by None = met_by P n q payload w c o (carried_on n q f) cases
@@ -104,8 +106,8 @@ pub record StateCases (P : State → Type 0) (n : ℕ) (q : Parts) (payload : Li
   pub begins : P (begun_session n (carried n q payload w))
   pub stays : P (carried n q payload w)
   pub ends : (code : ℕ) (why : Option Condition) → P (life_failed n (refusal_on n code) why closed_path (carried n q payload w))
-  pub windows : P (windowed n q w)
-  pub drops : (code : ℕ) (why : Option Condition) → P (life_failed n (refusal_on n code) why lost_path (windowed n q w))
+  pub parts : P (session_lost n (windowed n q w))
+  pub drops : (code : ℕ) (why : Option Condition) → P (life_failed n (refusal_on n code) why closed_path (session_lost n (windowed n q w)))
   pub fails : (why : Option Condition) → P (fail INTERNAL_ERROR why (windowed n q w))
 
 pub session_cases : (P : State → Type 0) (n : ℕ) (q : Parts) (payload : List ℕ) (w : State) → StateCases P n q payload w → P (with_session n q payload w)
@@ -113,7 +115,7 @@ session_cases P n q payload w cases = session_by (λ (x : Peers) (v : State). P 
   begins = cases.begins;
   stays = cases.stays;
   ends = cases.ends;
-  windows = cases.windows;
+  parts = cases.parts;
   drops = cases.drops;
   fails = cases.fails;
 })
@@ -141,7 +143,7 @@ conn_cases P n q payload x stays closes ends = by (scope_in x n q payload)
     by : (o : Option Scope) → P (peers_scoped o n q payload y).client
     by None = met (q.0 == 17) (closing_code q payload (path_at x.paths n)) (with_path n (path_heard x.client.limits.frame_max n q payload) x.paths)
     by (Some scope.Connection) = closes
-    by (Some scope.Channel) = ended lost_path x.paths (is_open x.client n)
+    by (Some scope.Channel) = ended closed_path (with_path n lost_path x.paths) (is_open x.client n)
 
 -- ---- what a unit of the container leaves of both ends
 
@@ -168,4 +170,4 @@ only_scoped None n q payload p = by (q.0 == 17) (closing_code q payload (path_at
     by false None = refl
     by false (Some code) = ended (is_open p.client n)
 only_scoped (Some scope.Connection) n q payload p = refl
-only_scoped (Some scope.Channel) n q payload p = only_ended (is_open p.client n) n lost_path p
+only_scoped (Some scope.Channel) n q payload p = only_ended (is_open p.client n) n closed_path (peers_parted n p)

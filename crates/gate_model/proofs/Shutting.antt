@@ -43,7 +43,7 @@ use Rattle.gate_model.specs.Requests.{client_step, client_told}
 use Rattle.gate_model.specs.Shuts.{closed_on, frees_channel, is_freed}
 use Rattle.gate_model.specs.State.{Began, Came, Fed, Gave, Heard, Joined, Lost, Moment, OutOfMemory, Queued, Silent, State, Step, TakenUp, Whole}
 use Rattle.gate_model.specs.State.{before, begun_session, came, carried, close_if, closed_for, closes_at, closing_code, closing_error, dequeued, ending_error, fail}
-use Rattle.gate_model.specs.State.{fail_life, heard, is_limit_reached, left, life_failed, link_scope, runs, scoped, want_in, windowed}
+use Rattle.gate_model.specs.State.{fail_life, heard, is_limit_reached, left, life_failed, link_scope, runs, scoped, session_lost, want_in, windowed}
 use Rattle.gate_model.specs.State.{with_meaning, with_session, without_begin, without_life}
 use Rattle.gate_model.specs.Upstream.{heard_up, meaning_by}
 use Rattle.gate_model.proofs.Arrived.{ends_all, unit_shuts}
@@ -199,7 +199,7 @@ session_shuts n g q payload w less there = by (link_scope q payload (life_at w.l
     by None = met (q.0 == 17)
     by (Some scope.Connection) = fail_ends w.moment n INTERNAL_ERROR (Some (closing_error q (path_at w.paths g))) w d kept
     by (Some scope.Channel) =
-        fail_one n g PRECONDITION_FAILED (Some (ending_error q payload (life_at w.lives g).session (path_at w.paths g))) lost_path w d less (long_still _) refl refl kept
+        fail_one n g PRECONDITION_FAILED (Some (ending_error q payload (life_at w.lives g).session (path_at w.paths g))) closed_path w (session_lost g d) less (long_still _) refl refl kept
 
 meaning_shuts : (n : ℕ) (m : Meaning) (w : State) → n < length w.conn.channels → n < length w.lives → ShutsIn w.moment n w (with_meaning m w)
 meaning_shuts n ten.Nothing w less there = still _ n w

@@ -60,7 +60,7 @@ end_meaning (ten.OfSession g p payload) w = session_cases (λ (v : State). end_o
   begins = refl;
   stays = refl;
   ends = λ code why. refl;
-  windows = refl;
+  parts = refl;
   drops = λ code why. refl;
   fails = λ why. end_fail _ why (windowed g p w);
 })

@@ -42,7 +42,7 @@ use Rattle.gate_model.specs.Requests.{client_step, client_told}
 use Rattle.gate_model.specs.State.{Began, Came, Fed, Gave, Heard, Joined, Lost, Moment}
 use Rattle.gate_model.specs.State.{OutOfMemory, Queued, Silent, State, Step, TakenUp, Whole, before, begun_session, came, carried}
 use Rattle.gate_model.specs.State.{close, close_if, closed_for, closing_code, closing_error, dequeued, ending_error, fail, fail_life, failed, heard, is_limit_reached, left, sessions_lost}
-use Rattle.gate_model.specs.State.{life_failed, link_scope, runs, scoped, want_in, windowed, with_meaning, with_session, without_begin, without_life}
+use Rattle.gate_model.specs.State.{life_failed, link_scope, runs, scoped, session_lost, want_in, windowed, with_meaning, with_session, without_begin, without_life}
 use Rattle.gate_model.specs.Upstream.{heard_up, meaning_by}
 use Rattle.gate_model.proofs.Arrived.{ends_all, unit_shuts}
 use Rattle.gate_model.proofs.Channels.{client_opens, given_open}
@@ -314,7 +314,7 @@ session_moves n g p payload w less inside = by (link_scope p payload (life_at w.
     by None = met (p.0 == 17) (closing_code p payload (path_at w.paths g))
     by (Some scope.Connection) = fail_moves n INTERNAL_ERROR (Some (closing_error p (path_at w.paths g))) w d refl refl refl same
     by (Some scope.Channel) =
-        fail_one n g PRECONDITION_FAILED (Some (ending_error p payload (life_at w.lives g).session (path_at w.paths g))) lost_path w d less (long _) refl refl same
+        fail_one n g PRECONDITION_FAILED (Some (ending_error p payload (life_at w.lives g).session (path_at w.paths g))) closed_path w (session_lost g d) less (long _) refl refl same
 
 meaning_moves : (n : ℕ) (m : Meaning) (w : State) → n < length w.conn.channels → n < length w.lives → is_late w.conn.phase ≡ true → MovesIn true n w (with_meaning m w)
 meaning_moves n ten.Nothing w less inside late = Stays refl refl (alike _ _ refl)
@@ -445,7 +445,7 @@ meaning_peer (ten.OfSession g p payload) w c = session_cases Closes g p payload 
   begins = c;
   stays = c;
   ends = λ code why q. closing_only (only_closing g w.conn) ∙ c q;
-  windows = c;
+  parts = c;
   drops = λ code why q. closing_only (only_closing g w.conn) ∙ c q;
   fails = λ why. fail_closes _ why (windowed g p w) c;
 })

@@ -243,7 +243,7 @@ part_meaning (ten.OfSession g p payload) w = session_cases (λ (v : State). part
   begins = refl;
   stays = refl;
   ends = λ code why. refl;
-  windows = refl;
+  parts = refl;
   drops = λ code why. refl;
   fails = λ why. part_fail _ why (windowed g p w);
 })

@@ -133,7 +133,7 @@ open_ok_session g p payload w = session_cases (λ (v : State). v.pending.open_ok
   begins = refl;
   stays = refl;
   ends = λ code why. refl;
-  windows = refl;
+  parts = refl;
   drops = λ code why. refl;
   fails = λ why. open_ok_fail _ why (windowed g p w);
 })

@@ -158,6 +158,10 @@ ended_on false n f p = p
 abbrev pub peers_ended : ℕ → (PathState → PathState) → Peers → Peers
 peers_ended n f p = ended_on (is_open p.client n) n f p
 
+-- a session is lost, whether its channel is closing or not
+abbrev pub peers_parted : ℕ → Peers → Peers
+peers_parted n p = record p { paths = with_path n lost_path p.paths }
+
 -- after a unit of a session: what closes the channel, and what is wrong what it says
 abbrev pub peers_closed : ℕ → Option ℕ → Peers → Peers
 peers_closed n None p = p
@@ -172,7 +176,7 @@ peers_scoped None n q payload p =
       paths = with_path n (path_heard p.client.limits.frame_max n q payload) p.paths;
     })
 peers_scoped (Some scope.Connection) n q payload p = peers_failed p
-peers_scoped (Some scope.Channel) n q payload p = peers_ended n lost_path p
+peers_scoped (Some scope.Channel) n q payload p = peers_ended n closed_path (peers_parted n p)
 
 -- the sessions after a performative, by the container's begin, flows and transfers (AMQP 1.0 2.7)
 abbrev pub carried_on : ℕ → Parts → (ℕ → SessionState) → ℕ → SessionState

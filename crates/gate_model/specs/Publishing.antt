@@ -173,18 +173,14 @@ losing_up = event.UpLost ∷ event.LinesWent ∷ []
 abbrev pub failing : List PathEvent
 failing = event.SessionLost ∷ []
 
--- and so is that of a channel that is open
-abbrev pub lost_if : Bool → List PathEvent
-lost_if true = event.SessionLost ∷ []
-lost_if false = []
-
-abbrev pub ending : Connection → ℕ → List PathEvent
-ending c k = lost_if (is_open c k)
-
 -- a channel that is open closes
 abbrev pub closed_if : Bool → List PathEvent
 closed_if true = event.LifeClosed ∷ []
 closed_if false = []
+
+-- where a session is at fault it is lost, also that of a channel that is closing already
+abbrev pub ending : Connection → ℕ → List PathEvent
+ending c k = closed_if (is_open c k) ++ event.SessionLost ∷ []
 
 abbrev pub closing : Option ℕ → Connection → ℕ → List PathEvent
 closing None c k = []

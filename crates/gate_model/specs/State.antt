@@ -497,6 +497,11 @@ abbrev pub fail_life : ℕ → ℕ → Option Condition → (PathState → PathS
 fail_life n code why f w =
     if is_open w.conn n then life_failed n (refusal_on n code) why f w else w
 
+-- its session is lost, also where the channel is closing already: no publish of it waits for an
+-- outcome any more, and nothing that comes on its links counts (AMQP 1.0 2.5.6, 2.6.12)
+abbrev pub session_lost : ℕ → State → State
+session_lost n w = record w { paths = with_path n lost_path w.paths }
+
 -- the session and its links after a performative of the container, by the code of its descriptor
 -- (AMQP 1.0 2.7), on channel n of a client that takes frames of so many bytes
 abbrev pub path_heard : ℕ → ℕ → Parts → List ℕ → PathState → PathState
@@ -593,8 +598,8 @@ scoped (Some scope.Connection) n p payload w =
     fail INTERNAL_ERROR (Some (closing_error p (path_at w.paths n))) (windowed n p w)
 scoped (Some scope.Channel) n p payload w =
     fail_life n PRECONDITION_FAILED
-    (Some (ending_error p payload (life_at w.lives n).session (path_at w.paths n))) lost_path
-    (windowed n p w)
+    (Some (ending_error p payload (life_at w.lives n).session (path_at w.paths n))) closed_path
+    (session_lost n (windowed n p w))
 
 abbrev pub with_session : ℕ → Parts → List ℕ → State → State
 with_session n p payload w =

@@ -4,7 +4,7 @@ ghost use Rattle.std.specs.Prelude.{◌≡◌, ◌<◌, ◌||◌, true, false, O
 ghost use Rattle.std.specs.Prelude.{Some, None, is_some};
 ghost use Rattle.gate_model.specs.State.{Heard};
 ghost use Rattle.gate_model.specs.State.{step};
-ghost use Rattle.gate_model.specs.State.{fail, fail_life, met};
+ghost use Rattle.gate_model.specs.State.{fail, fail_life, met, session_lost};
 ghost use Rattle.gate_model.specs.State.{begun_session, came, met_session};
 ghost use Rattle.gate_model.specs.State.{opened, waits, with_meaning, with_session};
 ghost use Rattle.gate_model.specs.Lives.{life_at, refusal_on};
@@ -20,7 +20,7 @@ ghost use Rattle.bridge_core.specs.Going.{KeepsGoing};
 ghost use Rattle.std.specs.Prelude.{is_some};
 ghost use Rattle.session_path.specs.Links.{named};
 ghost use Rattle.std.specs.Prelude.{ℕ, List, length, if◌then◌else◌};
-ghost use Rattle.gate_model.specs.Paths.{attach_fault_by, closed_path, lost_path, path_at};
+ghost use Rattle.gate_model.specs.Paths.{attach_fault_by, closed_path, path_at};
 ghost use Rattle.gate_model.specs.Paths.{transfer_error, transferred, with_path};
 ghost use Rattle.gate_model.specs.State.{closing_code, path_heard, windowed};
 ghost use Rattle.performatives_10.specs.declared.performative.Perf.TheVariants as perf;
@@ -80,11 +80,17 @@ impl Core {
         }
     }
 
-    /// The container is the cause that a channel closes, unless that is closing already: its
-    /// session is lost, or its life alone closes.
-    fn fail_life(&mut self, channel: u16, code: u16, why: Option<Condition>, lost: bool)
-        ensures step { self.new ≡ fail_life channel code why
-            (if lost then lost_path else closed_path) self.old }
+    /// The session of a channel is lost, whether the channel is closing or not.
+    fn lose_session(&mut self, channel: u16)
+        ensures step { self.new ≡ session_lost channel self.old }
+        ensures kept { KeepsGoing self.old self.new }
+    {
+        self.paths.lose(channel);
+    }
+
+    /// The container is the cause that a channel closes, unless that is closing already.
+    fn fail_life(&mut self, channel: u16, code: u16, why: Option<Condition>)
+        ensures step { self.new ≡ fail_life channel code why closed_path self.old }
         ensures kept { KeepsGoing self.old self.new }
     {
         if self.conn.is_open(channel) {
@@ -101,11 +107,7 @@ impl Core {
                     ..old_life(life)
                 },
             );
-            if lost {
-                self.paths.lose(channel);
-            } else {
-                self.paths.close(channel);
-            }
+            self.paths.close(channel);
         }
     }
 
@@ -241,7 +243,8 @@ impl Core {
             }
             Some(LinkFault::Ends(condition)) => {
                 self.carry(channel, perf);
-                self.fail_life(channel, PRECONDITION_FAILED, Some(condition), true);
+                self.lose_session(channel);
+                self.fail_life(channel, PRECONDITION_FAILED, Some(condition));
             }
             None => {
                 let code = self.closing_code(channel, perf, payload.len());
@@ -351,7 +354,7 @@ impl Core {
     {
         match (perf, code) {
             (Perf::Begin(_), _) => self.begin_session(channel),
-            (_, Some(code)) => self.fail_life(channel, code, None, false),
+            (_, Some(code)) => self.fail_life(channel, code, None),
             (_, None) => {}
         }
     }
