@@ -90,7 +90,7 @@ module _ (P : PathEvent → Type 0) (each : (x : PathEvent) → is_given x ≡ f
   closing_all None c k = tt
   closing_all (Some code) c k = closed_all (is_open c k)
 
-  method_all : (m : Method91) → All (method_events m)
+  pub method_all : (m : Method91) → All (method_events m)
   method_all (method.ExchangeDeclare name kind passive durable deletes internal no_wait arguments) = by no_wait
     where
       by : (b : Bool) → All (owed_unless b (event.Owed ok.Declare))

@@ -78,6 +78,7 @@ pub mod Publishing
 pub mod Queues
 pub mod Quiet
 pub mod Quotas
+pub mod Reaches
 pub mod Reasoning
 pub mod Receivers
 pub mod Recovers
@@ -104,6 +105,7 @@ pub mod Staying
 pub mod Stopping
 pub mod Strings
 pub mod Takes
+pub mod Targets
 pub mod Times
 pub mod Ups
 pub mod Waiters

@@ -65,7 +65,7 @@ module _ {X : Type 0} (p : X → Bool) where
       by false e c f ih = ih
 
   -- what passes is found where it is left in
-  found_filter : (o : X → Bool) (xs : List X) (x : X) → find p xs ≡ Some x → o x ≡ true → find p (filter o xs) ≡ Some x
+  pub found_filter : (o : X → Bool) (xs : List X) (x : X) → find p xs ≡ Some x → o x ≡ true → find p (filter o xs) ≡ Some x
   found_filter o [] x e k = absurd cc
   found_filter o (y ∷ xs) x e k = by (p y) refl (o y) refl (λ h. found_filter o xs x h k) e
     where
@@ -76,7 +76,7 @@ module _ {X : Type 0} (p : X → Bool) where
       by false f true g ih h = ap (λ b. cond b (Some y) (find p (filter o xs))) f ∙ ih h
       by false f false g ih h = ih h
 
-  none_passes : (xs : List X) → find p xs ≡ None → AllByRecursion (λ x. p x ≡ false) xs
+  pub none_passes : (xs : List X) → find p xs ≡ None → AllByRecursion (λ x. p x ≡ false) xs
   none_passes [] e = tt
   none_passes (x ∷ xs) e = by (p x) refl (none_passes xs) e
     where
@@ -300,11 +300,11 @@ agree_as f t o o' p p' e g a = subst (λ (x : Option SendingLink). Agree f t x p
 
 -- ---- a link that is wanted
 
-or_none : (o : Option SendingLink) → option_or o None ≡ o
+pub or_none : (o : Option SendingLink) → option_or o None ≡ o
 or_none None = refl
 or_none (Some x) = refl
 
-pushed : (n : ℕ) (xs : List SendingLink) (x : SendingLink) (b : Bool) → (x.link == n) ≡ b → link_of (xs ++ x ∷ []) n ≡ option_or (link_of xs n) (cond b (Some x) None)
+pub pushed : (n : ℕ) (xs : List SendingLink) (x : SendingLink) (b : Bool) → (x.link == n) ≡ b → link_of (xs ++ x ∷ []) n ≡ option_or (link_of xs n) (cond b (Some x) None)
 pushed n xs x b e = find-append (is_of n) xs (x ∷ []) ∙ ap (λ c. option_or (link_of xs n) (cond c (Some x) None)) e
 
 linked_agree : (f : ℕ → Option Credit) (address : List ℕ) (s : LinksState) → Tied s → AllAgree f s → AllAgree f (with_link_to address s)
@@ -394,10 +394,10 @@ mapped_other n f number same (x ∷ xs) = ap (λ (k : ℕ). cond (k == n) (Some 
 pub mapped_here : (n : ℕ) (f : SendingLink → SendingLink) → ((x : SendingLink) → (f x).link ≡ x.link) → (xs : List SendingLink) → link_of (map f xs) n ≡ option_map f (link_of xs n)
 mapped_here n f number xs = found_map (is_of n) f (λ x. ap (λ (k : ℕ). k == n) (number x)) xs
 
-without_other : (n m : ℕ) (xs : List SendingLink) → (m == n) ≡ false → link_of (without m xs) n ≡ link_of xs n
+pub without_other : (n m : ℕ) (xs : List SendingLink) → (m == n) ≡ false → link_of (without m xs) n ≡ link_of xs n
 without_other n m xs ne = find-filter (λ x. not (is_of m x)) (is_of n) (λ x e. ne_to x.link n (λ same. no_clash (m == n) (eq_to m n (sym (eq_of x.link m (not_false (x.link == m) e)) ∙ same)) ne)) xs
 
-without_here : (n : ℕ) (xs : List SendingLink) → link_of (without n xs) n ≡ None
+pub without_here : (n : ℕ) (xs : List SendingLink) → link_of (without n xs) n ≡ None
 without_here n xs = none_left (is_of n) (λ x. not (is_of n x)) (λ x e. ap not e) xs
 
 -- ---- the container's attach
@@ -413,7 +413,7 @@ found_sender n xs x e = eq_of x.link n (all_find (λ k. Unit {0}) (is_of n) xs x
 abbrev pub AreDistinct : (ℕ → Option Credit) → Type 0
 AreDistinct f = (h k : ℕ) (c d : Credit) → f h ≡ Some c → f k ≡ Some d → c.name ≡ d.name → h ≡ k
 
-stage_asked : (s : Stage) → is_stage_asked s ≡ true → s ≡ stage.Asked (handle_of s)
+pub stage_asked : (s : Stage) → is_stage_asked s ≡ true → s ≡ stage.Asked (handle_of s)
 stage_asked (stage.Asked h) e = refl
 stage_asked stage.Wanted e = absurd cc
 stage_asked (stage.Open h) e = absurd cc
@@ -780,7 +780,7 @@ has_handle (stage.Left k) h e = refl
 has_handle (stage.Given k) h e = refl
 has_handle (stage.Failed k fault) h e = refl
 
-left_handle : (g : Stage) → is_stage_left g ≡ true → handle_in g ≡ Some (handle_of g)
+pub left_handle : (g : Stage) → is_stage_left g ≡ true → handle_in g ≡ Some (handle_of g)
 left_handle stage.Wanted e = absurd cc
 left_handle (stage.Left k) e = refl
 left_handle (stage.Asked k) e = refl
@@ -789,7 +789,7 @@ left_handle (stage.Refused k) e = refl
 left_handle (stage.Given k) e = refl
 left_handle (stage.Failed k fault) e = refl
 
-up_handle : (g : Stage) → (is_stage_open g || is_stage_failed g) ≡ true → handle_in g ≡ Some (handle_of g)
+pub up_handle : (g : Stage) → (is_stage_open g || is_stage_failed g) ≡ true → handle_in g ≡ Some (handle_of g)
 up_handle stage.Wanted e = absurd cc
 up_handle (stage.Left k) e = refl
 up_handle (stage.Asked k) e = refl

@@ -35,7 +35,7 @@ not_free p never state.Free e = absurd (no_clash (p state.Free) e never)
 not_free p never state.Asked e = refl
 not_free p never (state.Attached a) e = refl
 
-held : (t : HandleTable) (g : Stage) (j : ℕ) → stands t g ≡ true → handle_in g ≡ Some j → is_free (state_of t j) ≡ false
+pub held : (t : HandleTable) (g : Stage) (j : ℕ) → stands t g ≡ true → handle_in g ≡ Some j → is_free (state_of t j) ≡ false
 held t stage.Wanted j e has = absurd cc
 held t (stage.Asked k) j e has = subst (λ (m : ℕ). is_free (state_of t m) ≡ false) (some_is k j has) (not_free is_asked refl (state_of t k) e)
 held t (stage.Open k) j e has = subst (λ (m : ℕ). is_free (state_of t m) ≡ false) (some_is k j has) (not_free is_whole refl (state_of t k) e)
@@ -44,7 +44,7 @@ held t (stage.Left k) j e has = subst (λ (m : ℕ). is_free (state_of t m) ≡ 
 held t (stage.Given k) j e has = subst (λ (m : ℕ). is_free (state_of t m) ≡ false) (some_is k j has) (not_free is_given_back refl (state_of t k) e)
 held t (stage.Failed k fault) j e has = subst (λ (m : ℕ). is_free (state_of t m) ≡ false) (some_is k j has) (not_free is_whole refl (state_of t k) e)
 
-free_now : (t : HandleTable) (h : ℕ) → free_of t ≡ Some h → is_free (state_of t h) ≡ true
+pub free_now : (t : HandleTable) (h : ℕ) → free_of t ≡ Some h → is_free (state_of t h) ≡ true
 free_now t h e = by (position is_free t.states) refl e
   where
     up : (m : ℕ) (b : Bool) → cond b (Some m) None ≡ Some h → m ≡ h

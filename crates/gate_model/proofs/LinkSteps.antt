@@ -173,7 +173,7 @@ is_due w = record {
 }
 
 -- the first frame of a transfer goes on a link with credit
-passes : {A : Type 0} (p : A → Bool) (xs : List A) (x : A) → find p xs ≡ Some x → p x ≡ true
+pub passes : {A : Type 0} (p : A → Bool) (xs : List A) (x : A) → find p xs ≡ Some x → p x ≡ true
 passes p [] x e = absurd cc
 passes p (y ∷ ys) x e = by (p y) refl e (passes p ys x)
   where

@@ -62,7 +62,7 @@ no_more false false more here more' f e = absurd cc
 no_more false true true here more' f e = absurd cc
 no_more false true false here more' f e = f refl
 
-less_rest : (here : Bool) (sent part payload : List ℕ) → nat_lt (length sent) (length payload) ≡ false → nat_lt (length (if here then sent ++ part else sent)) (length payload) ≡ false
+pub less_rest : (here : Bool) (sent part payload : List ℕ) → nat_lt (length sent) (length payload) ≡ false → nat_lt (length (if here then sent ++ part else sent)) (length payload) ≡ false
 less_rest true sent part payload e =
     let most : length payload ≤ length sent = grind (arith, nat_tests, e) in
     let more : length (sent ++ part) ≡ length sent + length part = length-append sent part in

@@ -7,6 +7,7 @@ ghost use Rattle.std.specs.Option.{option_map};
 ghost use Rattle.machine_091.specs.declared.limits.TheConstants.{CHANNEL_MAX};
 ghost use Rattle.session_path.specs.Events.{after_events};
 ghost use Rattle.gate_model.specs.declared.reply.Reply.{Reply};
+ghost use Rattle.gate_model.specs.Addresses.{ReachesAddress};
 ghost use Rattle.gate_model.specs.Answers.{AreAnswered};
 ghost use Rattle.gate_model.specs.Begins.{OpensBehindBegins};
 ghost use Rattle.gate_model.specs.Behind.{DeliversBehind};
@@ -269,6 +270,19 @@ pub fn credit_is_kept()
     deliveries_lawfully();
     calls_lawfully();
     numbers_lawfully();
+}
+
+/// Each frame of a transfer that goes to a container goes under a handle that the gateway's last
+/// attach under it, since the channel was opened, tied to the address that its publish asked for.
+/// That is the queue that its key names, or the address that its exchange stands for. No detach of
+/// the gateway gave the handle back since.
+pub fn publishes_reach_their_address()
+    ensures { (h : List Step) → ArePicks h → ReachesAddress h }
+{
+    connection_laws();
+    publishes_lawfully();
+    payloads_lawfully();
+    links_lawfully();
 }
 
 /// The frames of the transfer of a publish carry the text of the image of its message, each byte
