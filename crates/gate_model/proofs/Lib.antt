@@ -89,6 +89,7 @@ pub mod Reports
 pub mod Rests
 pub mod Rows
 pub mod Said
+pub mod Selects
 pub mod Sessions
 pub mod Serving
 pub mod Settles

@@ -37,6 +37,7 @@ pub mod Repeats
 pub mod Requests
 pub mod Rests
 pub mod Returns
+pub mod Selects
 pub mod Session
 pub mod Settles
 pub mod Setup

@@ -47,6 +47,7 @@ ghost use Rattle.gate_model.specs.Reasons.{ClosesOnce, SaysWhy};
 ghost use Rattle.gate_model.specs.Repeats.{AttachesOnce, EndsOnce, FlowsOnce, SettlesInOrder};
 ghost use Rattle.gate_model.specs.Reports.{lines_owed};
 ghost use Rattle.gate_model.specs.Rests.{ServesClients, SuppliesContainers};
+ghost use Rattle.gate_model.specs.Selects.{CountsFromSelect};
 ghost use Rattle.gate_model.specs.Settles.{Grants, Settles};
 ghost use Rattle.gate_model.specs.Sources.{GetsFromItsQueue};
 ghost use Rattle.gate_model.specs.Starts.{StartsBehind};
@@ -97,6 +98,13 @@ pub fn confirms_are_lawful()
     publishes_lawfully();
     confirms_lawfully();
 }
+
+/// Of the publishes of a channel's life those wait for a confirm that were taken up behind its
+/// first confirm.select. The first of them has the confirm number 1, and each further one the next.
+#[tactic(auto, using(crate::proofs::Selects::counts_from_select))]
+pub fn confirms_count_from_select()
+    ensures { (h : List Step) → CountsFromSelect h }
+{}
 
 /// Each frame of a return that goes to a client is one of a publish of the channel's life that is
 /// to go back: that the container released, or whose address it didn't know. It is that of the
