@@ -11,7 +11,8 @@ crates/amqp_gate/out/amqp_gate if no command names another. COMMAND is tools/wat
 The clients are `pika`, `amqp`, `go`, `php`, `bunny` and `java`, by the programs `trip` of tools/clients.
 
 - take: COUNT messages of 0 to MOST bytes are published, and each client takes them as each word says: it acks each, ten at a time, rejects
-  each, sends each back once and then acks it, or consumes without acks (`ack`, `multiple`, `reject`, `requeue`, `none`).
+  each, sends each back once and then acks it, consumes without acks, or gets each and acks it (`ack`, `multiple`, `reject`,
+  `requeue`, `none`, `get`).
   Each delivery must have its body, and the container must have seen exactly these outcomes, each of its message.
   With `--quorum` COMMAND is tools/watched_broker.py before a RabbitMQ whose port for AMQP 0-9-1 is PORT. Each queue is declared there
   as a durable quorum queue, whose address is /amq/queue/NAME. Behind its consumer it must be empty, and is deleted.
@@ -45,7 +46,7 @@ from watched_broker import fetched
 from watched_container import hashed
 
 FINE = {"ack": ["accepted"], "multiple": ["accepted"], "reject": ["rejected"], "requeue": ["released", "accepted"],
-        "none": ["accepted"]}
+        "none": ["accepted"], "get": ["accepted"]}
 
 
 class Programs:
@@ -156,7 +157,8 @@ def take(options, programs, port, log, folder, faults):
             log.lines()
             began = time.monotonic()
             prefetch = 0 if how == "none" else options.prefetch
-            said = programs.run(name, port, "take", queue, how, options.count, prefetch)
+            words = [how, queue] if how == "get" else ["take", queue, how]
+            said = programs.run(name, port, *words, options.count, *[prefetch] * (how != "get"))
             took = time.monotonic() - began
             print(f"{name} {how}: {judge_take(faults, how, bodies, said, log.lines())}; {took:.1f} s", flush=True)
             if quorum:

@@ -4,6 +4,7 @@ import com.rabbitmq.client.Channel;
 import com.rabbitmq.client.Connection;
 import com.rabbitmq.client.ConnectionFactory;
 import com.rabbitmq.client.Delivery;
+import com.rabbitmq.client.GetResponse;
 import com.rabbitmq.client.LongString;
 import java.io.PrintStream;
 import java.io.BufferedOutputStream;
@@ -111,6 +112,20 @@ public class Trip {
             text.append(String.format("%02x", b));
         }
         return text.toString();
+    }
+
+    static void get(int count) throws Exception {
+        MessageDigest hash = MessageDigest.getInstance("SHA-1");
+        for (int i = 0; i < count; i++) {
+            GetResponse got = channel.basicGet(queue, false);
+            if (got == null) {
+                out.println("empty");
+                break;
+            }
+            int redelivered = got.getEnvelope().isRedeliver() ? 1 : 0;
+            out.println(redelivered + " " + got.getProps().getMessageId() + " " + hex(hash.digest(got.getBody())));
+            channel.basicAck(got.getEnvelope().getDeliveryTag(), false);
+        }
     }
 
     static void take(String how, int count, int prefetch) throws Exception {
@@ -242,6 +257,9 @@ public class Trip {
                     break;
                 case "take":
                     take(words[3], Integer.parseInt(words[4]), Integer.parseInt(words[5]));
+                    break;
+                case "get":
+                    get(Integer.parseInt(words[3]));
                     break;
                 case "rich":
                     rich();

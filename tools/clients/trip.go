@@ -106,16 +106,33 @@ func each(noAck bool, act func(amqp.Delivery) bool) {
 	}
 }
 
+func tell(d amqp.Delivery) {
+	hash := sha1.Sum(d.Body)
+	redelivered := 0
+	if d.Redelivered {
+		redelivered = 1
+	}
+	fmt.Fprintln(out, redelivered, d.MessageId, hex.EncodeToString(hash[:]))
+}
+
+func get(count int) {
+	for i := 0; i < count; i++ {
+		d, found, err := channel.Get(queue, false)
+		check(err)
+		if !found {
+			fmt.Fprintln(out, "empty")
+			break
+		}
+		tell(d)
+		check(d.Ack(false))
+	}
+}
+
 func take(how string, count, prefetch int) {
 	seen, settled := map[string]bool{}, 0
 	check(channel.Qos(prefetch, 0, false))
 	each(how == "none", func(d amqp.Delivery) bool {
-		hash := sha1.Sum(d.Body)
-		redelivered := 0
-		if d.Redelivered {
-			redelivered = 1
-		}
-		fmt.Fprintln(out, redelivered, d.MessageId, hex.EncodeToString(hash[:]))
+		tell(d)
 		again := seen[d.MessageId]
 		seen[d.MessageId] = true
 		if how != "requeue" || again {
@@ -244,6 +261,8 @@ func main() {
 		send(words[0], words[1])
 	case "take":
 		take(words[0], number(words[1]), number(words[2]))
+	case "get":
+		get(number(words[0]))
 	case "work":
 		work(number(words[0]))
 	case "rich":

@@ -75,6 +75,27 @@ function drain($done)
     }
 }
 
+function tell($message)
+{
+    $name = $message->get('message_id');
+    echo (int) $message->isRedelivered(), ' ', $name, ' ', sha1($message->body), "\n";
+    return $name;
+}
+
+function get($count)
+{
+    global $channel, $queue;
+    for ($i = 0; $i < $count; $i++) {
+        $message = $channel->basic_get($queue);
+        if (!$message) {
+            echo "empty\n";
+            break;
+        }
+        tell($message);
+        $message->ack();
+    }
+}
+
 function take($how, $count, $prefetch)
 {
     global $channel, $queue;
@@ -82,8 +103,7 @@ function take($how, $count, $prefetch)
     $settled = 0;
     $channel->basic_qos(0, $prefetch, false);
     $act = function ($message) use (&$seen, &$settled, $how, $count) {
-        $name = $message->get('message_id');
-        echo (int) $message->isRedelivered(), ' ', $name, ' ', sha1($message->body), "\n";
+        $name = tell($message);
         $again = isset($seen[$name]);
         $seen[$name] = true;
         $settled += $how != 'requeue' || $again;
@@ -191,6 +211,7 @@ try {
     match ($verb) {
         'send' => send(...$words),
         'take' => take($words[0], (int) $words[1], (int) $words[2]),
+        'get' => get((int) $words[0]),
         'rich' => rich(),
         'rare' => rare(),
         'decimal' => decimal(),

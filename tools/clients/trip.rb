@@ -74,6 +74,18 @@ def each_of(channel, manual_ack)
   consumer.cancel
 end
 
+def get(channel, count)
+  count.times do
+    info, properties, body = channel.basic_get(QUEUE, manual_ack: true)
+    unless info
+      puts "empty"
+      break
+    end
+    puts "#{info.redelivered ? 1 : 0} #{properties[:message_id]} #{Digest::SHA1.hexdigest(body)}"
+    channel.ack(info.delivery_tag)
+  end
+end
+
 def take(channel, how, count, prefetch)
   seen, settled = {}, 0
   channel.prefetch(prefetch)
@@ -140,6 +152,7 @@ begin
   case VERB
   when "send" then send_all(channel, *WORDS)
   when "take" then take(channel, WORDS[0], WORDS[1].to_i, WORDS[2].to_i)
+  when "get" then get(channel, WORDS[0].to_i)
   when "rich" then confirmed(channel, [["rich", PROPERTIES.merge(headers: HEADERS)]])
   when "decimal" then confirmed(channel, [["decimal", { headers: { "decimal" => BigDecimal("314") } }]])
   when "show" then show(channel, WORDS[0].to_i)

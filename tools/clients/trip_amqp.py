@@ -76,6 +76,17 @@ def take(how, count, prefetch):
     channel.basic_cancel(tag)
 
 
+def get(count):
+    for _ in range(count):
+        message = channel.basic_get(queue)
+        if message is None:
+            print("empty")
+            break
+        redelivered, name = int(message.delivery_info["redelivered"]), message.properties["message_id"]
+        print(redelivered, name, hashlib.sha1(body_of(message)).hexdigest())
+        channel.basic_ack(message.delivery_info["delivery_tag"])
+
+
 def work(prefetch):
     """Takes tasks until it is killed, as consume_pika.py does."""
 
@@ -150,7 +161,8 @@ def show(count):
 
 
 verbs = {"send": send, "take": lambda how, *two: take(how, *map(int, two)), "rich": rich, "decimal": decimal_,
-         "show": lambda count: show(int(count)), "work": lambda prefetch: work(int(prefetch))}
+         "show": lambda count: show(int(count)), "work": lambda prefetch: work(int(prefetch)),
+         "get": lambda count: get(int(count))}
 try:
     verbs[verb](*words)
     channel.close()

@@ -2,6 +2,7 @@
 
     send KEY SIZES POOL                 publishes a message for each number in SIZES, with confirms, and with properties of its own
     take QUEUE HOW COUNT PREFETCH       consumes, and settles each message as HOW says
+    get QUEUE COUNT                     gets messages one by one, and acks each
     rich KEY                            publishes a message with all that the library can write
     rare KEY                            publishes one with kinds of headers that some libraries can't read (go, php, java)
     decimal KEY                         publishes a message with a decimal among its headers
@@ -76,6 +77,16 @@ def take(how, count, prefetch):
     channel.cancel()
 
 
+def get(count):
+    for _ in range(count):
+        method, properties, body = channel.basic_get(queue)
+        if method is None:
+            print("empty")
+            break
+        print(int(method.redelivered), properties.message_id, hashlib.sha1(body).hexdigest())
+        channel.basic_ack(method.delivery_tag)
+
+
 PROPERTIES = dict(
     content_type="text/plain", content_encoding="utf-8", delivery_mode=2, priority=5, correlation_id="c-17",
     reply_to="answers", expiration="600000", message_id="m-17", timestamp=1700000000, type="order.new",
@@ -132,7 +143,7 @@ def show(count):
 
 
 verbs = {"send": send, "take": lambda how, *two: take(how, *map(int, two)), "rich": rich, "decimal": decimal_,
-         "show": lambda count: show(int(count))}
+         "show": lambda count: show(int(count)), "get": lambda count: get(int(count))}
 try:
     verbs[verb](*words)
     channel.close()
