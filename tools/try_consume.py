@@ -159,6 +159,7 @@ def run(options, folder):
         kill_workers(port, queue, options, folder)
         if not quorum:
             return list(told(folder)), drain(port, queue, 2.0), None
+        print(f"RabbitMQ counts {quorum.length()} in its queue")
         left = [int(body) for body in quorum.taken()]
         quorum.delete()
         return list(told(folder)), left, accepted(log, options.messages)
