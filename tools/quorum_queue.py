@@ -1,4 +1,4 @@
-"""Durable quorum queues of a RabbitMQ, declared and read straight at its port for AMQP 0-9-1, for try_trips.py and try_consume.py."""
+"""Durable quorum queues of a RabbitMQ, declared and read straight at its port for AMQP 0-9-1, for the scripts beside it."""
 
 import time
 
@@ -8,10 +8,10 @@ import pika
 class QuorumQueue:
     """A queue that is made anew. A client names it behind the gateway by its address."""
 
-    def __init__(self, port, name):
+    def __init__(self, port, name, kind="quorum"):
         self.port, self.name, self.address = port, name, f"/amq/queue/{name}"
         self.delete()
-        self.ask(lambda channel: channel.queue_declare(name, durable=True, arguments={"x-queue-type": "quorum"}))
+        self.ask(lambda channel: channel.queue_declare(name, durable=True, arguments={"x-queue-type": kind}))
 
     def ask(self, what):
         connection = pika.BlockingConnection(pika.ConnectionParameters("127.0.0.1", self.port, heartbeat=0))
