@@ -57,7 +57,7 @@ fn know_form(setup: &Setup)
     let _name = setup.name();
 }
 
-/// Serves, and records the calls. All laws of a run hold of the calls that were made.
+/// Serves, and records the calls. All laws of a run hold at each point of the calls that were made.
 pub fn serve_lawfully<P: Ports, K: Sink, T: Recorder>(
     alloc: Global,
     setup: &Setup,

@@ -1,5 +1,5 @@
 -- All the laws of a run together.
-use Rattle.std.specs.Prelude.{◌≡◌, ℕ, false, List}
+use Rattle.std.specs.Prelude.{◌≡◌, ℕ, false, List, drop}
 use Rattle.gate_relay.specs.Entries.{Entry}
 use Rattle.gate_runs.specs.declared.limits.Limits.{Limits}
 use Rattle.gate_runs.specs.Journal.{journal}
@@ -165,3 +165,7 @@ pub record IsLawfulRun (s : SetupText) (c : Limits) (m : History) : Type 0 where
   -- where no pair ran out of memory and no sink failed, and nothing more comes, the calls alone are
   -- a whole run: each is the next one after those before it, and none comes after the last
   pub alone : IsPlain m → next (pair_words s) c m ≡ Done → IsWholeRun (pair_words s) c (calls m)
+
+-- all of them hold at each point of a run: after all its marks, and before any number of the newest
+abbrev pub IsLawfulThroughout : SetupText → Limits → History → Type 0
+IsLawfulThroughout s c m = (n : ℕ) → IsLawfulRun s c (drop n m)

@@ -53,7 +53,7 @@ ghost use Rattle.gate_runs.specs.Journal.{journal};
 ghost use Rattle.gate_runs.specs.Marks.{History};
 ghost use Rattle.gate_runs.specs.Serving.{Follows};
 ghost use Rattle.gate_turn_laws.specs.Quiet.{IdlesAtRest, IdlesInSilence};
-ghost use Rattle.gate_laws.specs.Laws.{IsLawfulRun};
+ghost use Rattle.gate_laws.specs.Laws.{IsLawfulThroughout};
 
 /// The entries of each pair are lawful: an end is read where it is open and a unit of it is
 /// awaited, or where it is a client's that was given up. What is offered to it is the unit in
@@ -484,10 +484,11 @@ pub fn idle_is_at_rest()
     gate_pair::entries_give_picks();
 }
 
-/// All the laws together: those of each pair, and those of the turns.
+/// All the laws together: those of each pair, and those of the turns. They hold at each point of
+/// a run, not at its end alone, where no end is open any more.
 pub fn runs_are_lawful()
     ensures { (s : SetupText) (c : Limits) (m : History) → Follows (pair_words s) c m
-        → IsLawfulRun s c m }
+        → IsLawfulThroughout s c m }
 {
     entries_are_lawful();
     clients_are_answered();
