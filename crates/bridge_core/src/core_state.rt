@@ -4,7 +4,7 @@
 ghost use Rattle.std.specs.Prelude.{◌≡◌, ◌<◌, ◌≤◌, ◌||◌, true, false, OnOk, OnErr};
 ghost use Rattle.std.specs.Bool.{OnFalse, OnTrue};
 ghost use Rattle.std.specs.Prelude.{IfSome, Some, None, [], is_some, length, slice_get, take};
-ghost use Rattle.std.specs.List.{list_any};
+ghost use Rattle.std.specs.List.{position_or_len};
 ghost use Rattle.gate_outside.specs.declared.ports.End.TheVariants.{Client, Up};
 ghost use Rattle.gate_model.specs.State.{Moment, Fed, Silent, Queued, TakenUp, Joined};
 ghost use Rattle.gate_model.specs.State.{LinesTold, Lost, Whole, OutOfMemory, new_state, step};
@@ -30,8 +30,9 @@ ghost use Rattle.machine_091.specs.Limits.{AreWithin};
 ghost use Rattle.machine_091.specs.Refusals.{refusal_with};
 ghost use Rattle.machine_091.specs.State.{awaits, is_opening};
 ghost use Rattle.bridge_core.specs.Going.{KeepsGoing};
-ghost use Rattle.bridge_core.specs.Held.{AreHeld, is_free_on, may_go};
-ghost use Rattle.bridge_core.specs.declared.queue.TheConstants.{COUNTS};
+ghost use Rattle.bridge_core.specs.Held.{AreHeld, FrontWaits, IsFree, NoneBefore, NoneOn};
+ghost use Rattle.bridge_core.specs.Held.{is_counted_at};
+ghost use Rattle.bridge_core.specs.declared.lives.TheConstants.{CHANNELS};
 ghost use Rattle.bridge_core.specs.Logins.{IsLoginOf};
 
 mod due;
@@ -286,27 +287,80 @@ impl Core {
         }
     }
 
-    /// Units of a channel aren't taken up yet, and no request of it waits.
-    fn is_free_on(&self, channel: u16) -> bool
-        requires { channel < COUNTS }
-        ensures { result ≡ is_free_on (waits self.now) self.now.queue channel }
+    /// The place of a channel's first unit, where that waits neither for all before it nor for a
+    /// request of the channel.
+    fn first_on(&self, channel: u16) -> Option<usize>
+        requires { channel < CHANNELS }
+        ensures none { FrontWaits (waits self.now) self.now.queue → result ≡ None
+            → NoneOn (waits self.now) self.now.queue channel (length self.now.queue) }
+        ensures free { IfSome result (λ i. IfSome (slice_get self.now.queue i)
+            (IsFree (waits self.now) self.now.queue channel i)) }
+        ensures within { IfSome result (λ i. i < length self.now.queue) }
     {
-        self.queue.has(channel) && !self.waits_on(channel)
+        if !self.queue.has(channel) || self.waits_on(channel) {
+            return None;
+        }
+        let place = self.queue.first(channel);
+        match self.queue.get(place) {
+            Some(unit) if !waits_for_all(unit) => Some(place),
+            _ => None,
+        }
     }
 
-    /// Each unit waits for a request of its channel, or for all before it.
-    fn all_wait(&self) -> bool
-        ensures { OnTrue result (list_any (may_go (waits self.now)) self.now.queue ≡ false) }
+    /// The place of the first unit that can be taken up, while no connection.open waits and the
+    /// first of all can't be: it is the first of its channel, and none of channel 0 stands before.
+    fn first_of_channels(&self) -> Option<usize>
+        requires running { is_opening self.now.conn ≡ false }
+        requires front { FrontWaits (waits self.now) self.now.queue }
+        ensures place { result ≡ place_in (waits self.now) self.now.queue }
+        ensures within { IfSome result (λ i. i < length self.now.queue) }
     {
-        if self.queue.has(CHANNELS as u16) {
-            return false;
-        }
+        let end = self.queue.first(0);
+        let mut first = end;
         for i in 1..CHANNELS as u16 {
-            if self.is_free_on(i) {
-                return false;
+            if let Some(place) = self.first_on(i) {
+                first = first.min(place);
             }
         }
-        true
+        if let Some(place) = self.above_before(first) {
+            self.first_above(place)
+        } else if first < end {
+            Some(first)
+        } else {
+            None
+        }
+    }
+
+    /// The place of the first unit of a channel above those of a client, where it stands before
+    /// this place, and one of these can be taken up.
+    fn above_before(&self, place: usize) -> Option<usize>
+        ensures none { FrontWaits (waits self.now) self.now.queue → result ≡ None
+            → NoneOn (waits self.now) self.now.queue CHANNELS place }
+        ensures above { IfSome result
+            (λ i. i ≡ position_or_len (is_counted_at CHANNELS) self.now.queue) }
+        ensures before { IfSome result (λ i. i < place) }
+    {
+        if self.queue.is_above_held() {
+            return None;
+        }
+        let above = self.queue.first(CHANNELS as u16);
+        if above < place { Some(above) } else { None }
+    }
+
+    /// The same, where the first unit of a channel above those of a client comes before these. It
+    /// waits for no request, so it can be taken up, but for a heartbeat.
+    fn first_above(&self, place: usize) -> Option<usize>
+        requires running { is_opening self.now.conn ≡ false }
+        requires above { place ≡ position_or_len (is_counted_at CHANNELS) self.now.queue }
+        requires all { place ≤ position_or_len (is_counted_at 0) self.now.queue }
+        requires none { NoneBefore (waits self.now) self.now.queue 257 place }
+        ensures place { result ≡ place_in (waits self.now) self.now.queue }
+        ensures within { IfSome result (λ i. i < length self.now.queue) }
+    {
+        match self.queue.get(place) {
+            Some(unit) if !waits_for_all(unit) && !self.waits_on(channel_of(unit)) => Some(place),
+            _ => self.look_through(),
+        }
     }
 
     /// The place of the first unit that can be taken up, while no connection.open waits: in one
@@ -328,8 +382,8 @@ impl Core {
         None
     }
 
-    /// The same, with a look at the first unit, and in a long queue at the channels, before all
-    /// units are looked through.
+    /// The same, with a look at the first unit before, and in a long queue at the channels' first
+    /// ones instead of all units.
     fn first_to_take(&self) -> Option<usize>
         requires { is_opening self.now.conn ≡ false }
         ensures place { result ≡ place_in (waits self.now) self.now.queue }
@@ -339,8 +393,8 @@ impl Core {
             None
         } else if self.can_take_first() {
             Some(0)
-        } else if CHANNELS < self.queue.len() && self.all_wait() {
-            None
+        } else if CHANNELS < self.queue.len() {
+            self.first_of_channels()
         } else {
             self.look_through()
         }

@@ -1,13 +1,16 @@
 //! The units of a client that aren't taken up yet.
 
-ghost use Rattle.std.specs.Prelude.{◌≡◌, ◌<◌, ◌+◌, ◌++◌, ◌∷◌, [], OnOk, OnErr, length};
+ghost use Rattle.std.specs.Prelude.{◌≡◌, ◌<◌, ◌≤◌, ◌+◌, ◌^◌, ◌++◌, ◌∷◌, [], OnOk, OnErr};
+ghost use Rattle.std.specs.Prelude.{drop, length, map};
 ghost use Rattle.std.specs.Prelude.{IfSome, if◌then◌else◌, option_copied, slice_get, slice_set, take, true, Some};
 ghost use Rattle.std.specs.Prelude.{count_by, nat_lt};
 ghost use Rattle.std.specs.Bool.{OnFalse, OnTrue};
-ghost use Rattle.std.specs.List.{list_any};
+ghost use Rattle.std.specs.List.{list_any, position_or_len};
 ghost use Rattle.gate_model.specs.Queue.{holds, is_bad_unit, is_empty, is_full, payload_of};
 ghost use Rattle.gate_model.specs.Queue.{removed, waits_for_all, channel_of};
-ghost use Rattle.bridge_core.specs.Held.{AreHeld, is_counted_at, place_of};
+ghost use Rattle.bridge_core.specs.Held.{AreAboveHeld, HasOn};
+ghost use Rattle.bridge_core.specs.Held.{AreHeld, firsts_after, gone_after, is_counted_at, moved_up};
+ghost use Rattle.bridge_core.specs.Held.{place_of};
 ghost use Rattle.bridge_core.specs.declared.queue.TheConstants.{COUNTS};
 
 use crate::lives::CHANNELS;
@@ -27,6 +30,12 @@ pub const COUNTS: usize = CHANNELS + 1;
 pub struct Queue {
     /// How many are of each channel.
     counts: [u32; COUNTS],
+    /// The place of the first unit of each channel that has some, counted from the first unit ever.
+    firsts: [usize; COUNTS],
+    /// How many went from the front.
+    gone: usize,
+    /// None on a channel above those of a client can be taken up behind the front.
+    above_held: bool,
     units: VecDeque<Unit91>,
     bytes: usize,
     /// Bytes with which no unit begins are among them.
@@ -38,14 +47,17 @@ impl Model for Queue {
     ghost use Rattle.std.specs.List.{list_any};
     ghost use Rattle.machine_091.specs.declared.unit.Unit91.{Unit91};
     ghost use Rattle.gate_model.specs.Queue.{is_bad_unit, payloads};
-    ghost use Rattle.bridge_core.specs.Held.{AreCounted};
+    ghost use Rattle.std.specs.Prelude.{true};
+    ghost use Rattle.bridge_core.specs.Held.{AreAboveHeld, AreCounted, AreFirst};
 
     ghost Value = { List Unit91 };
 
     ghost view = { λ a. a.units.items };
 
     ghost invariant = { λ a. (a.bytes ≡ payloads a.units.items)
-        × (a.bad ≡ list_any is_bad_unit a.units.items) × AreCounted a.units.items a.counts };
+        × (a.bad ≡ list_any is_bad_unit a.units.items) × AreCounted a.units.items a.counts
+        × AreFirst a.units.items a.gone a.firsts
+        × (a.above_held ≡ true → AreAboveHeld a.units.items) };
 }
 
 /// The channel that a unit is of: of the connection is what isn't a frame.
@@ -131,6 +143,50 @@ fn mark(held: &mut [bool; CHANNELS], channel: u16)
     }
 }
 
+/// A unit stands behind this place, and so one place before, once the one there went.
+fn moved_up(at: usize, first: usize) -> usize
+    ensures { result ≡ moved_up at first }
+{
+    if at < first { first - 1 } else { first }
+}
+
+/// The unit at a place went, which isn't the front.
+fn close_up(firsts: &mut [usize; COUNTS], at: usize)
+    ensures { firsts.new ≡ map (moved_up at) firsts.old }
+{
+    for first in firsts.iter_mut() {
+        *first = moved_up(at, *first);
+    }
+}
+
+/// The unit at a place went: the first units behind it move up, and how many went from the front.
+fn went(firsts: &mut [usize; COUNTS], gone: usize, place: usize) -> usize
+    requires { gone + place + 1 < 2 ^ 64 }
+    ensures gone { result ≡ gone_after place gone }
+    ensures firsts { firsts.new ≡ firsts_after place gone firsts.old }
+{
+    if place == 0 {
+        gone + 1
+    } else {
+        close_up(firsts, gone + place);
+        gone
+    }
+}
+
+/// The place of the first unit of a channel from a place on, or how many units wait.
+fn next_from(units: &VecDeque<Unit91>, place: usize, of: usize) -> usize
+    requires { place ≤ length units.now.items }
+    ensures { result ≡ place + position_or_len (is_counted_at of) (drop place units.now.items) }
+{
+    for i in place..units.len() {
+        match units.get(i) {
+            Some(unit) if place_of(unit) == of => return i,
+            _ => {}
+        }
+    }
+    units.len()
+}
+
 impl Queue {
     /// All is taken up.
     pub fn new(alloc: Global) -> Queue
@@ -141,6 +197,9 @@ impl Queue {
             bytes: 0,
             bad: false,
             counts: [0; COUNTS],
+            firsts: [0; COUNTS],
+            gone: 0,
+            above_held: true,
         }
     }
 
@@ -157,12 +216,20 @@ impl Queue {
         let Some(count) = self.counts[place].checked_add(1) else {
             return Err(Memory);
         };
+        let Some(end) = self.gone.checked_add(self.units.len() + 1) else {
+            return Err(Memory);
+        };
         let bad = is_bad_unit(&unit);
+        let above_held = self.stays_held(&unit);
         match self.units.push_back(unit) {
             Ok(()) => {
                 self.bytes = bytes;
                 self.bad |= bad;
                 self.counts[place] = count;
+                self.above_held = above_held;
+                if count == 1 {
+                    self.firsts[place] = end - 1;
+                }
                 Ok(())
             }
             Err(_) => Err(Memory),
@@ -177,6 +244,8 @@ impl Queue {
         self.bytes = 0;
         self.bad = false;
         self.counts = [0; COUNTS];
+        self.gone = 0;
+        self.above_held = true;
     }
 
     /// How many units wait.
@@ -222,6 +291,26 @@ impl Queue {
         0 < self.counts[usize::from(channel)]
     }
 
+    /// The place of a channel's first unit, or how many units wait; the number above those of a
+    /// client stands for all above.
+    pub fn first(&self, channel: u16) -> usize
+        requires { channel < COUNTS }
+        ensures { result ≡ position_or_len (is_counted_at channel) self.now }
+    {
+        if self.has(channel) {
+            self.firsts[usize::from(channel)] - self.gone
+        } else {
+            self.len()
+        }
+    }
+
+    /// None on a channel above those of a client can be taken up behind the front.
+    pub fn is_above_held(&self) -> bool
+        ensures { result ≡ true → AreAboveHeld self.now }
+    {
+        self.above_held
+    }
+
     /// Whether one of the first units holds those of a channel.
     fn holds_before(&self, place: usize, channel: u16) -> bool
         requires { place < length self.now }
@@ -256,6 +345,28 @@ impl Queue {
         }
     }
 
+    /// A unit of a channel above those of a client waits.
+    fn has_above(&self, channel: u16) -> bool
+        ensures { OnTrue result (HasOn self.now channel) }
+    {
+        for i in self.first(CHANNELS as u16)..self.units.len() {
+            if self.channel_at(i) == channel {
+                return true;
+            }
+        }
+        false
+    }
+
+    /// None on such a channel can be taken up once this unit waits too.
+    fn stays_held(&self, unit: &Unit91) -> bool
+        ensures { result ≡ true → AreAboveHeld (self.now ++ unit.now ∷ []) }
+    {
+        if !self.above_held {
+            return false;
+        }
+        place_of(unit) < CHANNELS || waits_for_all(unit) || self.has_above(channel_of(unit))
+    }
+
     /// The unit at a place holds its channel. `false` is for one of channel 0, which holds all.
     #[tactic(auto, using(crate::proofs::Places::hold_more))]
     pub fn hold(&self, place: usize, held: &mut [bool; CHANNELS]) -> bool
@@ -283,8 +394,15 @@ impl Queue {
             unreachable!()
         };
         self.bytes -= payload_of(&unit);
-        self.counts[place_of(&unit)] -= 1;
+        let of = place_of(&unit);
+        self.counts[of] -= 1;
         self.bad = bad_without(self.bad, &unit, &self.units);
+        let was_first = self.firsts[of] == self.gone + place;
+        self.gone = went(&mut self.firsts, self.gone, place);
+        self.above_held &= of < CHANNELS;
+        if was_first && 0 < self.counts[of] {
+            self.firsts[of] = self.gone + next_from(&self.units, place, of);
+        }
         unit
     }
 }
