@@ -16,6 +16,8 @@ It starts the program on free ports of 127.0.0.1, ends each by its process id, a
 - bursts: the time that each of many heartbeats takes which a client sends in one stream, up to the answer to the channel.flow behind
   them, as the median of the bursts of 5 seconds; and how late heartbeats come meanwhile to 250 other clients, which have one due each
   half second;
+- waits: the processor time that one read takes in which frames of a channel wait for the container's begin, and others pass on another
+  channel behind them, as the median of 5;
 - output: whether a standard output that nobody reads stalls clients, and that its lines come once it is read;
 - ends: what is reported of a client that resets its connection, what one gets that sent much more than was read before it was
   refused, and what is told where no container listens;
@@ -34,6 +36,7 @@ import resource
 import select
 import selectors
 import shutil
+import signal
 import socket
 import struct
 import subprocess
@@ -78,6 +81,10 @@ CHANNEL_OPEN = method(20, 10, short(b""), 1)
 CHANNEL_OPEN_OK = method(20, 11, long(b""), 1)
 FLOW = method(20, 20, b"\1", 1)
 FLOW_OK = method(20, 21, b"\1", 1)
+# One that wants no answer; and on a channel whose begin the container doesn't answer.
+SELECT = method(85, 10, b"\1", 1)
+WAITING_OPEN = method(20, 10, short(b""), 2)
+WAITING_BODY = struct.pack(">BHI", 3, 2, 0) + b"\xce"
 
 
 def frame10(kind, body):
@@ -108,7 +115,9 @@ def contained(unit):
         return SASL + MECHANISMS
     if unit == AMQP:
         return AMQP
-    return ANSWERS.get(unit[10], b"") if len(unit) > 10 else b""
+    if len(unit) <= 10 or unit[10] == 0x11 and unit[6:8] != b"\0\1":
+        return b""
+    return ANSWERS.get(unit[10], b"")
 
 
 def contain(stream):
@@ -524,6 +533,47 @@ def bursts(program, others=250, seconds=5):
         stream.close()
 
 
+def scheduled_seconds(pid):
+    with open(f"/proc/{pid}/schedstat") as file:
+        return int(file.read().split()[0]) / 1e9
+
+
+def one_read(program, container, data):
+    """The processor time until the answer to the channel.flow at the end of these bytes, which the gateway gets in one read."""
+    with Gateway(program, container=container) as gateway:
+        pid = gateway.process.pid
+        stream = gateway.opened()
+        if stream is None:
+            raise SystemExit("no connection was opened")
+        stream.settimeout(60)
+        stream.sendall(CHANNEL_OPEN)
+        if receive(stream, len(CHANNEL_OPEN_OK)) != CHANNEL_OPEN_OK:
+            raise SystemExit("no channel was opened")
+        stream.sendall(WAITING_OPEN)
+        time.sleep(0.1)
+        os.kill(pid, signal.SIGSTOP)
+        stream.sendall(data)
+        time.sleep(0.1)
+        begun = scheduled_seconds(pid)
+        os.kill(pid, signal.SIGCONT)
+        got = receive(stream, len(FLOW_OK))
+        took = scheduled_seconds(pid) - begun
+        stream.close()
+        return took if got == FLOW_OK else None
+
+
+def waits(program):
+    with Peer("contain") as container:
+        for count, passing in ((0, 2_500), (100, 100), (1_200, 1_200), (2_500, 2_500), (4_000, 2_500), (6_000, 1_200)):
+            data = WAITING_BODY * count + SELECT * passing + FLOW
+            took = [one_read(program, container, data) for _ in range(5)]
+            if None in took:
+                print(f"{passing:,} frames behind {count:,} that wait: no answer")
+                return
+            median = sorted(took)[2]
+            print(f"{passing:,} frames behind {count:,} that wait: {median * 1e3:.2f} ms, {median / passing * 1e6:.2f} us a frame")
+
+
 def unread_output(program, clients=6000):
     """More report lines than a pipe holds, and a reader that comes late."""
     reader, writer = os.pipe()
@@ -619,6 +669,7 @@ MEASURES = {
     "writes": [writes],
     "descriptors": [few_descriptors, opened_with_few_descriptors, falling_limit],
     "bursts": [bursts],
+    "waits": [waits],
     "output": [unread_output],
     "ends": [reset, refused_late, without_container],
     "addresses": [addresses],
