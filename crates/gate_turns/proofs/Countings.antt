@@ -16,7 +16,7 @@ how_many_set {A} is_out live at b new lt here =
 
 -- one that did not run out
 pub how_many_told : {A : Type 0} (is_out : A → Bool) (live : List (Live A)) (at : ℕ) (b new : Live A) → at < length live
-    → is_out new.relay ≡ is_out (get_or live at b).relay → how_many_can is_out (set live at new) ≡ how_many_can is_out live
+    → is_out new.relay.value ≡ is_out (get_or live at b).relay.value → how_many_can is_out (set live at new) ≡ how_many_can is_out live
 how_many_told {A} is_out live at b new lt same =
     let alike : can_run_out is_out new ≡ can_run_out is_out (get_or live at b) = rw same refl in
     omega (arith, sum_by-set (can_run_out is_out) live at new b lt, alike)

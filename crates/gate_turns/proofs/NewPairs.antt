@@ -8,7 +8,6 @@ use Rattle.gate_outside.specs.declared.ports.End.{End}
 use Rattle.gate_outside.specs.declared.ports.End.TheVariants.{Client, Up}
 use Rattle.gate_outside.specs.Ends.{is_open, is_end, closed, same_end}
 use Rattle.gate_relay.specs.declared.sides.Side.TheVariants as side
-use Rattle.gate_relay.specs.declared.sides.Sides.{Sides}
 use Rattle.gate_relay.specs.Entries.{Entry, Began}
 use Rattle.gate_relay.specs.Sides.{has_end, is_open_side, new_sides, side_of, with_side}
 use Rattle.gate_runs.specs.Next.{without}
@@ -23,16 +22,16 @@ use Rattle.gate_turns.proofs.OneMark.{is_same, is_other}
 
 -- ---- a pair that lives
 
-pub admits : {A : Type 0} (r : A → List Entry → Type 0) (result : Result (Unit {0}) Memory) (a : A) (s : Sides) (p ms : ℕ) (old new : Service A)
-    → OnOk result (new.live.items ≡ old.live.items ++ (record { number = p; sides = s; relay = a }) ∷ []) → s ≡ new_sides → r a (Began p ms ∷ [])
+pub admits : {A : Type 0} (r : A → List Entry → Type 0) (result : Result (Unit {0}) Memory) (pair : Live A) (p ms : ℕ) (old new : Service A)
+    → OnOk result (new.live.items ≡ old.live.items ++ pair ∷ []) → pair.number ≡ p → pair.sides ≡ new_sides → r pair.relay.value (Began p ms ∷ [])
     → OnOk result (Admitted r p ms old new)
-admits {A} r (Ok done) a s p ms old new ok is begins = record {
-  pair = record { number = p; sides = s; relay = a };
+admits {A} r (Ok done) pair p ms old new ok numbered is begins = record {
+  pair = pair;
   live = ok;
-  number = refl;
+  number = numbered;
   represents = record { relay = begins; sides = is };
 }
-admits {A} r (Err memory) a s p ms old new ok is begins = tt
+admits {A} r (Err memory) pair p ms old new ok numbered is begins = tt
 
 -- the pair was counted before
 pub admits_counted : {A : Type 0} (r : A → List Entry → Type 0) (result : Result (Unit {0}) Memory) (p ms : ℕ) (old mid new : Service A) → mid.live.items ≡ old.live.items

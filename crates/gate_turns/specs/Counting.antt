@@ -6,7 +6,7 @@ use Rattle.gate_turns.specs.declared.tally.Tally.{Tally}
 
 -- 1 for a pair that can run out of memory yet, and 0 for one that did
 abbrev pub can_run_out : {A : Type 0} → (A → Bool) → Live A → ℕ
-can_run_out is_out b = if is_out b.relay then 0 else 1
+can_run_out is_out b = if is_out b.relay.value then 0 else 1
 
 -- how many of these pairs can
 abbrev pub how_many_can : {A : Type 0} → (A → Bool) → List (Live A) → ℕ

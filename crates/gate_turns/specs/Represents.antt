@@ -13,7 +13,7 @@ use Rattle.gate_turns.specs.declared.live.Live.{Live}
 
 pub record Represents {A : Type 0} (r : A → List Entry → Type 0) (b : Live A)
     (h : List Entry) : Type 0 where
-  pub relay : r b.relay h
+  pub relay : r b.relay.value h
   pub sides : b.sides ≡ sides h
 
 -- the pair ran out of memory within the newest entry, or not

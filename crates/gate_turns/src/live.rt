@@ -16,7 +16,8 @@ pub struct Live<R> {
     /// Pairs are numbered in the order of their accepts.
     pub number: u32,
     pub sides: Sides,
-    pub relay: R,
+    /// In a box, so that the list of the live pairs is short to go through and to shift.
+    pub relay: Box<R>,
 }
 
 /// What was found for a write.
@@ -41,7 +42,8 @@ impl<R: Relay> Live<R> {
     pub fn tell(&mut self, moment: u64)
         ensures number { self.new.number ≡ self.old.number }
         ensures sides { self.new.sides ≡ self.old.sides }
-        ensures memory { R.out_of_memory self.new.relay ≡ R.out_of_memory self.old.relay }
+        ensures memory { R.out_of_memory self.new.relay.value
+            ≡ R.out_of_memory self.old.relay.value }
         ensures entry { (s : R.Setup) (h : List Entry) → Represents (R.represents s) self.old h
             → Represents (R.represents s) self.new (Moment moment ∷ h) }
     {
@@ -52,7 +54,8 @@ impl<R: Relay> Live<R> {
     pub fn finish(&mut self)
         ensures number { self.new.number ≡ self.old.number }
         ensures sides { self.new.sides ≡ self.old.sides }
-        ensures memory { R.out_of_memory self.new.relay ≡ R.out_of_memory self.old.relay }
+        ensures memory { R.out_of_memory self.new.relay.value
+            ≡ R.out_of_memory self.old.relay.value }
         ensures entry { (s : R.Setup) (h : List Entry) → Represents (R.represents s) self.old h
             → Represents (R.represents s) self.new (Over ∷ h) }
     {
@@ -62,7 +65,7 @@ impl<R: Relay> Live<R> {
     /// An end is to be read.
     pub fn is_read(&self, end: End) -> bool
         ensures side { result ≡ true → is_readable (side_of end self.now.sides) ≡ true }
-        ensures memory { result ≡ true → R.out_of_memory self.now.relay ≡ false }
+        ensures memory { result ≡ true → R.out_of_memory self.now.relay.value ≡ false }
         ensures word { (s : R.Setup) (h : List Entry) → Represents (R.represents s) self.now h
             → result ≡ reads (R.words s) end h }
     {
@@ -72,7 +75,7 @@ impl<R: Relay> Live<R> {
 
     /// What came is to be taken up.
     pub fn takes_up(&self) -> bool
-        ensures memory { result ≡ true → R.out_of_memory self.now.relay ≡ false }
+        ensures memory { result ≡ true → R.out_of_memory self.now.relay.value ≡ false }
         ensures word { (s : R.Setup) (h : List Entry) → Represents (R.represents s) self.now h
             → result ≡ takes_up (R.words s) h }
     {
@@ -102,7 +105,8 @@ impl<R: Relay> Live<R> {
     pub fn lose(&mut self, end: End, how: Loss)
         ensures number { self.new.number ≡ self.old.number }
         ensures sides { self.new.sides ≡ with_side end (side_lost how) self.old.sides }
-        ensures memory { R.out_of_memory self.new.relay ≡ R.out_of_memory self.old.relay }
+        ensures memory { R.out_of_memory self.new.relay.value
+            ≡ R.out_of_memory self.old.relay.value }
         ensures entry { (s : R.Setup) (h : List Entry) → Represents (R.represents s) self.old h
             → Represents (R.represents s) self.new (Lost end how ∷ h) }
     {
@@ -114,7 +118,8 @@ impl<R: Relay> Live<R> {
     pub fn link(&mut self, answer: Linked)
         ensures number { self.new.number ≡ self.old.number }
         ensures sides { self.new.sides ≡ with_side End.Up (side_linked answer) self.old.sides }
-        ensures memory { R.out_of_memory self.new.relay ≡ R.out_of_memory self.old.relay }
+        ensures memory { R.out_of_memory self.new.relay.value
+            ≡ R.out_of_memory self.old.relay.value }
         ensures entry { (s : R.Setup) (h : List Entry) → Represents (R.represents s) self.old h
             → Represents (R.represents s) self.new (Joined answer ∷ h) }
     {
@@ -132,10 +137,10 @@ impl<R: Relay> Live<R> {
         got: Got,
         bytes: &[u8],
     ) -> bool
-        requires { R.out_of_memory self.old.relay ≡ false }
+        requires { R.out_of_memory self.old.relay.value ≡ false }
         ensures number { self.new.number ≡ self.old.number }
         ensures sides { self.new.sides ≡ sides_read end got self.old.sides }
-        ensures memory { R.out_of_memory self.new.relay ≡ result }
+        ensures memory { R.out_of_memory self.new.relay.value ≡ result }
         ensures came { result ≡ true → has_come got ≡ true }
         ensures entry { (cut : ℕ) × ((h : List Entry) → Represents
             (R.represents setup.now) self.old h
@@ -164,10 +169,10 @@ impl<R: Relay> Live<R> {
 
     /// What came is taken up, as far as it can be; whether the pair ran out of memory in that.
     pub fn settle(&mut self, alloc: Global, setup: &R::Setup) -> bool
-        requires { R.out_of_memory self.old.relay ≡ false }
+        requires { R.out_of_memory self.old.relay.value ≡ false }
         ensures number { self.new.number ≡ self.old.number }
         ensures sides { self.new.sides ≡ self.old.sides }
-        ensures memory { R.out_of_memory self.new.relay ≡ result }
+        ensures memory { R.out_of_memory self.new.relay.value ≡ result }
         ensures entry { (cut : ℕ) × ((h : List Entry) → Represents
             (R.represents setup.now) self.old h
             → Represents (R.represents setup.now) self.new (with_cut result cut (Settled ∷ h))) }
@@ -182,12 +187,12 @@ impl<R: Relay> Live<R> {
     pub fn look(&mut self, alloc: Global, setup: &R::Setup, end: End) -> Look
         ensures number { self.new.number ≡ self.old.number }
         ensures sides { self.new.sides ≡ self.old.sides }
-        ensures first { result.ran_out ≡ true → R.out_of_memory self.old.relay ≡ false }
-        ensures met { result.ran_out ≡ true → R.out_of_memory self.new.relay ≡ true }
-        ensures memory { result.ran_out ≡ false → R.out_of_memory self.new.relay
-            ≡ R.out_of_memory self.old.relay }
+        ensures first { result.ran_out ≡ true → R.out_of_memory self.old.relay.value ≡ false }
+        ensures met { result.ran_out ≡ true → R.out_of_memory self.new.relay.value ≡ true }
+        ensures memory { result.ran_out ≡ false → R.out_of_memory self.new.relay.value
+            ≡ R.out_of_memory self.old.relay.value }
         ensures side { result.ready ≡ true → is_writable (side_of end self.old.sides) ≡ true }
-        ensures ready { result.ready ≡ true → is_some (R.ready self.new.relay end) ≡ true }
+        ensures ready { result.ready ≡ true → is_some (R.ready self.new.relay.value end) ≡ true }
         ensures calm { result.ran_out ≡ true → (h : List Entry)
             → Represents (R.represents setup.now) self.old h
             → is_out_of_memory h ≡ false }
@@ -199,7 +204,7 @@ impl<R: Relay> Live<R> {
             → (R.words setup.now).takes_memory end h ≡ true }
         ensures found { (h : List Entry) → Represents (R.represents setup.now) self.old h
             → offers (R.words setup.now) end (with_cut result.ran_out 0 h)
-            ≡ found_by result.ready (R.ready self.new.relay end) }
+            ≡ found_by result.ready (R.ready self.new.relay.value end) }
         ensures entry { (h : List Entry) → Represents (R.represents setup.now) self.old h
             → Represents (R.represents setup.now) self.new (with_cut result.ran_out 0 h) }
     {
@@ -226,13 +231,14 @@ impl<R: Relay> Live<R> {
     /// Looks again, after the pair ran out of memory.
     fn look_again(&mut self, alloc: Global, setup: &R::Setup, end: End) -> bool
         requires writable { is_writable (side_of end self.old.sides) ≡ true }
-        requires memory { R.out_of_memory self.old.relay ≡ true }
+        requires memory { R.out_of_memory self.old.relay.value ≡ true }
         ensures number { self.new.number ≡ self.old.number }
         ensures sides { self.new.sides ≡ self.old.sides }
-        ensures memory { R.out_of_memory self.new.relay ≡ true }
-        ensures ready { result ≡ true → is_some (R.ready self.new.relay end) ≡ true }
+        ensures memory { R.out_of_memory self.new.relay.value ≡ true }
+        ensures ready { result ≡ true → is_some (R.ready self.new.relay.value end) ≡ true }
         ensures found { (h : List Entry) → Represents (R.represents setup.now) self.old h
-            → offers (R.words setup.now) end h ≡ found_by result (R.ready self.new.relay end) }
+            → offers (R.words setup.now) end h
+            ≡ found_by result (R.ready self.new.relay.value end) }
         ensures entry { (h : List Entry) → Represents (R.represents setup.now) self.old h
             → Represents (R.represents setup.now) self.new h }
     {
@@ -244,14 +250,15 @@ impl<R: Relay> Live<R> {
 
     /// A write of what was found was answered so.
     pub fn wrote(&mut self, end: End, put: Put)
-        requires ready { is_some (R.ready self.old.relay end) ≡ true }
-        requires within { IfSome (R.ready self.old.relay end) (λ bytes. TakesSome put
+        requires ready { is_some (R.ready self.old.relay.value end) ≡ true }
+        requires within { IfSome (R.ready self.old.relay.value end) (λ bytes. TakesSome put
             (length bytes)) }
         ensures number { self.new.number ≡ self.old.number }
         ensures sides { self.new.sides ≡ sides_wrote end put self.old.sides }
-        ensures memory { R.out_of_memory self.new.relay ≡ R.out_of_memory self.old.relay }
+        ensures memory { R.out_of_memory self.new.relay.value
+            ≡ R.out_of_memory self.old.relay.value }
         ensures entry { (s : R.Setup) (h : List Entry) (bytes : List ℕ)
-            → R.ready self.old.relay end ≡ Some bytes
+            → R.ready self.old.relay.value end ≡ Some bytes
             → Represents (R.represents s) self.old h → Represents (R.represents s) self.new
             (write_entry end bytes put ∷ h) }
     {

@@ -63,7 +63,7 @@ fn read_end<P: Ports, R: Relay, K: Sink, T: Recorder>(
     room: &mut [u8],
 ) -> Result<(), SinkFault>
     requires readable { is_readable (side_of end live.old.sides) ≡ true }
-    requires memory { R.out_of_memory live.old.relay ≡ false }
+    requires memory { R.out_of_memory live.old.relay.value ≡ false }
     requires open { EndsAre live.old.number live.old.sides (P.ends ports.old) }
     requires due { (h : List Entry) → Represents (R.represents setup.now) live.old h
         → reads (R.words setup.now) end h ≡ true }
@@ -277,7 +277,7 @@ fn write_ready<P: Ports, R: Relay, K: Sink, T: Recorder>(
     live: &mut Live<R>,
     end: End,
 ) -> (bool, Result<(), SinkFault>)
-    requires ready { is_some (R.ready live.old.relay end) ≡ true }
+    requires ready { is_some (R.ready live.old.relay.value end) ≡ true }
     requires writable { is_writable (side_of end live.old.sides) ≡ true }
     requires open { EndsAre live.old.number live.old.sides (P.ends ports.old) }
     ensures ends { KeepsEnds live.old live.new (P.ends ports.old) (P.ends ports.new) }
@@ -287,7 +287,7 @@ fn write_ready<P: Ports, R: Relay, K: Sink, T: Recorder>(
     ensures tape { CountsFaults T.faults (result.1 ≡ Err SinkFault.Capture)
         recorder.old recorder.new }
     ensures count { CountsOnce R.out_of_memory live.old live.new tally.old tally.new }
-    ensures log { (s : R.Setup) (bytes : List ℕ) → R.ready live.old.relay end
+    ensures log { (s : R.Setup) (bytes : List ℕ) → R.ready live.old.relay.value end
         ≡ Some bytes → Extends (P.log ports.old) (P.log ports.new)
         (OfferEffect (R.words s) (R.represents s) end bytes result.0 result.1
         (state live.old tally.old (K.held report.old) (T.held recorder.old))
@@ -319,13 +319,13 @@ fn look_for<R: Relay, K: Sink>(
     ensures number { live.new.number ≡ live.old.number }
     ensures sides { live.new.sides ≡ live.old.sides }
     ensures side { result.0.ready ≡ true → is_writable (side_of end live.old.sides) ≡ true }
-    ensures ready { result.0.ready ≡ true → is_some (R.ready live.new.relay end) ≡ true }
+    ensures ready { result.0.ready ≡ true → is_some (R.ready live.new.relay.value end) ≡ true }
     ensures out { CountsFaults K.faults (result.1 ≡ Err SinkFault.Out) report.old report.new }
     ensures never { result.1 ≢ Err SinkFault.Capture }
     ensures count { CountsOnce R.out_of_memory live.old live.new tally.old tally.new }
     ensures log { (log : Option (List LogEntry)) (kept : Option (List ℕ)) → Extends log log
         (LookEffect (R.words setup.now) (R.represents setup.now) end result.0.ran_out
-        (found_by result.0.ready (R.ready live.new.relay end)) result.1
+        (found_by result.0.ready (R.ready live.new.relay.value end)) result.1
         (state live.old tally.old (K.held report.old) kept)
         (state live.new tally.new (K.held report.new) kept)) }
 {

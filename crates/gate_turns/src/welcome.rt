@@ -131,13 +131,14 @@ fn admit<R: Relay>(
         (R.represents setup.now) number moment service.old service.new) }
     ensures err { OnErr result (service.new.live.items ≡ service.old.live.items) }
 {
-    match R::new(alloc, setup, number, moment) {
+    let relay = R::new(alloc, setup, number, moment)?;
+    match Box::new(alloc, relay) {
         Ok(relay) => service.admit(Live {
             number,
             sides: Sides::new(),
             relay,
         }),
-        Err(Memory) => Err(Memory),
+        Err(_) => Err(Memory),
     }
 }
 
