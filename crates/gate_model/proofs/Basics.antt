@@ -18,6 +18,10 @@ and_both true true e f = refl
 and_both true false e f = absurd cc
 and_both false b e f = absurd cc
 
+pub and_none : (a b : Bool) → b ≡ false → (a && b) ≡ false
+and_none true b e = e
+and_none false b e = refl
+
 pub both_true : (a b : Bool) → (a && b) ≡ true → (a ≡ true) × (b ≡ true)
 both_true true true e = (refl, refl)
 both_true true false e = absurd cc

@@ -44,7 +44,7 @@ behind life (x ∷ xs) ds c = behind life xs ds c.1
 -- ---- a consumer that is cancelled
 
 -- a link that is found is that of its number
-own : (p : ReceivingLink → Bool) (links : List ReceivingLink) (x : ReceivingLink) → AreApart links → find p links ≡ Some x → (link_of links x.link ≡ Some x) × (p x ≡ true)
+pub own : (p : ReceivingLink → Bool) (links : List ReceivingLink) (x : ReceivingLink) → AreApart links → find p links ≡ Some x → (link_of links x.link ≡ Some x) × (p x ≡ true)
 own p [] x a e = absurd cc
 own p (y ∷ ys) x a e = by (p y) refl e (λ f. own p ys x a.1 f)
   where

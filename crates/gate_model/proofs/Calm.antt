@@ -71,7 +71,7 @@ tagged_waits : (p : Bool) (o : Option ℕ) (t : ℕ) → o ≡ Some t → (p && 
 tagged_waits true o t e = ap (λ (x : Option ℕ). not (is_some x)) e
 tagged_waits false o t e = refl
 
-not_new : (h : List DeliveryEvent) (n : ℕ) → IsTaken h n → (n == numbers_of h + 1) ≡ false
+pub not_new : (h : List DeliveryEvent) (n : ℕ) → IsTaken h n → (n == numbers_of h + 1) ≡ false
 not_new h n t = let le : n ≤ numbers_of h = t.1 in let more : n < numbers_of h + 1 = omega (arith, le) in grind (arith, nat_tests, more)
 
 stays : (h : List DeliveryEvent) (x : DeliveryEvent) (n : ℕ) → IsTaken h n → Stays (fate_of n h) (fate_of n (x ∷ h))

@@ -181,7 +181,7 @@ not_found p (x ∷ xs) e = by (p x) (not_found p xs) e
     by true old f = absurd cc
     by false old f = old f
 
-arriving_link : (k : ℕ) (o : Option ReceivingLink) → (arriving_in k o).link ≡ k
+pub arriving_link : (k : ℕ) (o : Option ReceivingLink) → (arriving_in k o).link ≡ k
 arriving_link k None = refl
 arriving_link k (Some l) = refl
 
@@ -211,17 +211,18 @@ partial_is (Some l) ps j e = ap bytes_in j ∙ joined_bytes ps
 
 -- ---- what an event of deliveries leaves
 
--- they carry the same
-record Alike (f g : Fate) : Type 0 where
-  content : f.content ≡ g.content
-  again : f.again ≡ g.again
+-- they carry the same, and are taken as the same
+pub record Alike (f g : Fate) : Type 0 where
+  pub content : f.content ≡ g.content
+  pub again : f.again ≡ g.again
+  pub taker : f.taker ≡ g.taker
 
 step_leaves : (n : ℕ) (h : List DeliveryEvent) (x : DeliveryEvent) (f : Fate) → comes x ≡ false → Alike (fate_step n h x f) f
 step_leaves n h (on.Arrived a content again) f e = absurd cc
-step_leaves n h x f e = record { content = refl; again = refl }
+step_leaves n h x f e = record { content = refl; again = refl; taker = refl }
 
-all_leave : (n : ℕ) (xs ds : List DeliveryEvent) → list_any comes xs ≡ false → Alike (fate_of n (xs ++ ds)) (fate_of n ds)
-all_leave n [] ds e = record { content = refl; again = refl }
+pub all_leave : (n : ℕ) (xs ds : List DeliveryEvent) → list_any comes xs ≡ false → Alike (fate_of n (xs ++ ds)) (fate_of n ds)
+all_leave n [] ds e = record { content = refl; again = refl; taker = refl }
 all_leave n (x ∷ xs) ds e = by (comes x) refl e (all_leave n xs ds)
   where
     by : (b : Bool) → comes x ≡ b → (b || list_any comes xs) ≡ false → (list_any comes xs ≡ false → Alike (fate_of n (xs ++ ds)) (fate_of n ds))
@@ -230,7 +231,7 @@ all_leave n (x ∷ xs) ds e = by (comes x) refl e (all_leave n xs ds)
     by false f g old =
         let last = step_leaves n (xs ++ ds) x (fate_of n (xs ++ ds)) f in
         let first = old g in
-        record { content = last.content ∙ first.content; again = last.again ∙ first.again }
+        record { content = last.content ∙ first.content; again = last.again ∙ first.again; taker = last.taker ∙ first.taker }
 
 alike_image : (limit n : ℕ) (m : Option Message) (f g : Fate) → Alike f g → IsImage limit n m g → IsImage limit n m f
 alike_image limit n m f g a i = record { content = a.content ∙ i.content; again = a.again ∙ i.again }

@@ -105,6 +105,7 @@ pub mod Stating
 pub mod Staying
 pub mod Stopping
 pub mod Strings
+pub mod Takers
 pub mod Takes
 pub mod Targets
 pub mod Times

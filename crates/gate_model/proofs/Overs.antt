@@ -44,6 +44,7 @@ use Rattle.gate_model.specs.declared.outgoing.UpUnit.TheVariants as up
 use Rattle.gate_model.specs.declared.reply.Reply.{Reply}
 use Rattle.gate_model.specs.declared.reply.Reply.TheVariants as reply
 use Rattle.gate_model.specs.declared.setup.Route.{Route}
+use Rattle.gate_model.proofs.Basics.{and_none}
 use Rattle.gate_model.proofs.Channels.{client_opens, given_open}
 use Rattle.gate_model.proofs.Closed.{is_late, late_is, long_is, none_open}
 use Rattle.gate_model.proofs.Connections.{clash, close_closes, opening_phase}
@@ -80,10 +81,6 @@ closes_at n k ls l is f x = by (set_at ls k n l)
 
 -- ---- what the client's units make of it
 
-no_open : (a b : Bool) → b ≡ false → (a && b) ≡ false
-no_open true b e = e
-no_open false b e = refl
-
 free_here : (cs : List Channel91) (n : ℕ) → is_open_channel (or_free (slice_get (slice_set cs n channel.Free) n)) ≡ false
 free_here [] n = refl
 free_here (x ∷ cs) zero = refl
@@ -97,7 +94,7 @@ Freed n is x = Unit {0}
 pub freed : (n : ℕ) (c : Connection) (u : Unit91) (x : machine.Step) → n < length c.channels → Outcome c u x → Opens n c x → Freed n (is_open c n) x.1
 freed n c u _ less (Frees k e) o = λ same.
     sym (o.is less) ∙ ap (λ (m : ℕ). is_running c.phase && is_open_channel (or_free (slice_get (slice_set c.channels m channel.Free) n))) same
-    ∙ no_open (is_running c.phase) _ (free_here c.channels n)
+    ∙ and_none (is_running c.phase) _ (free_here c.channels n)
 freed n c u _ less o i = tt
 
 method_shuts : (ms : ℕ) (m : Method91) (l : Life) (is : Bool) → (l.over ≡ true → is ≡ false) → (method_life ms m l).over ≡ true → method_opens m is ≡ false

@@ -50,7 +50,7 @@ quota_of k [] = 0
 quota_of k (on.LinkAdded link kind ∷ ds) = added_quota kind (link == k) (prefetch_of ds) (quota_of k ds)
 quota_of k (x ∷ ds) = quota_of k ds
 
-prefetch_is : (life : ℕ) (ds : List DeliveryEvent) → (on.after_events life ds).prefetch ≡ prefetch_of ds
+pub prefetch_is : (life : ℕ) (ds : List DeliveryEvent) → (on.after_events life ds).prefetch ≡ prefetch_of ds
 prefetch_is life [] = refl
 prefetch_is life (on.PrefetchSet count ∷ ds) = refl
 prefetch_is life (x ∷ ds) = prefetch_is life ds

@@ -360,11 +360,11 @@ found_takes p ls l e is = any_found p (takes_one l.link) ls l e (takes_itself l 
 -- ---- the kind of a link
 
 -- it adds no link
-abbrev adds : DeliveryEvent → Bool
+abbrev pub adds : DeliveryEvent → Bool
 adds (on.LinkAdded link kind) = true
 adds y = false
 
-kind_back : (k : ℕ) (kind : RecvKind) (ys ds : List DeliveryEvent) → AllByRecursion (λ y. adds y ≡ false) ys → kind_in k (ys ++ ds) ≡ Some kind → kind_in k ds ≡ Some kind
+pub kind_back : (k : ℕ) (kind : RecvKind) (ys ds : List DeliveryEvent) → AllByRecursion (λ y. adds y ≡ false) ys → kind_in k (ys ++ ds) ≡ Some kind → kind_in k ds ≡ Some kind
 kind_back k kind [] ds a e = e
 kind_back k kind (y ∷ ys) ds a e = kind_back k kind ys ds a.1 (by y a.0 e)
   where
@@ -381,7 +381,7 @@ mild : (d : DeliveryEvent) → is_mild d ≡ true → adds d ≡ false
 mild (on.LinkAdded link kind) e = absurd cc
 mild d e = refl
 
-unadded : (s : PathState) (x : PathEvent) → OfEvent (λ (d : DeliveryEvent). adds d ≡ false) s x → AllByRecursion (λ y. adds y ≡ false) (delivery_events s x)
+pub unadded : (s : PathState) (x : PathEvent) → OfEvent (λ (d : DeliveryEvent). adds d ≡ false) s x → AllByRecursion (λ y. adds y ≡ false) (delivery_events s x)
 unadded = event_all (λ (d : DeliveryEvent). adds d ≡ false) mild
 
 -- ---- gets

@@ -47,6 +47,7 @@ pub mod Sources
 pub mod Spelling
 pub mod Starts
 pub mod State
+pub mod Takers
 pub mod Takes
 pub mod Times
 pub mod Upstream

@@ -52,6 +52,7 @@ ghost use Rattle.gate_model.specs.Settles.{Grants, Settles};
 ghost use Rattle.gate_model.specs.Sources.{GetsFromItsQueue};
 ghost use Rattle.gate_model.specs.Starts.{StartsBehind};
 ghost use Rattle.gate_model.specs.State.{Step, before, owed_lines};
+ghost use Rattle.gate_model.specs.Takers.{TakesAsAsked};
 ghost use Rattle.gate_model.specs.Takes.{TakesInTurn};
 ghost use Rattle.gate_model.specs.Times.{BeatsAtOnce, BeatsWhenDue, LateCloses, ShutsAtOnce};
 ghost use Rattle.gate_model.specs.Waiting.{ChannelsEndWhenSettled, EndsWhenSettled};
@@ -634,6 +635,23 @@ pub fn gets_come_from_their_queues()
     links_lawfully();
     deliveries_lawfully();
     delivers_lawfully();
+    numbers_lawfully();
+    calls_lawfully();
+    names_lawfully();
+}
+
+/// While its life goes on, each delivery that a client is to have is taken as the last request on
+/// its link said when its last transfer came. A consumer has it where that was the basic.consume
+/// for which the link was wanted, and a get where it was a basic.get. It waits for an
+/// acknowledgement unless that request said no-ack. Where a consumer acknowledges, the
+/// prefetch-count of the last basic.qos for each consumer before its basic.consume limits it, if
+/// that isn't 0; and no other is limited. A delivery is for nobody only where that was no
+/// basic.consume, or where a basic.cancel of its consumer came since.
+pub fn deliveries_are_taken_as_asked()
+    ensures { (h : List Step) → ArePicks h → TakesAsAsked h }
+{
+    connection_laws();
+    deliveries_lawfully();
     numbers_lawfully();
     calls_lawfully();
     names_lawfully();
