@@ -45,6 +45,7 @@ use Rattle.gate_model.specs.Setup.{IsInForm, SetupText}
 use Rattle.gate_model.specs.Sources.{GetsFromItsQueue}
 use Rattle.gate_model.specs.Starts.{StartsBehind}
 use Rattle.gate_model.specs.State.{owed_lines}
+use Rattle.gate_model.specs.Takers.{TakesAsAsked}
 use Rattle.gate_model.specs.Takes.{TakesInTurn}
 use Rattle.gate_model.specs.Waiting.{ChannelsEndWhenSettled, EndsWhenSettled, OpensWhenOpened}
 use Rattle.gate_pair.specs.Answers.{IsAnswered}
@@ -100,6 +101,9 @@ pub record IsLawfulPair (s : SetupText) (h : List Entry) : Type 0 where
   pub credits : StatesCredit (steps_of s h)
   pub quotas : KeepsQuotas (steps_of s h)
   pub releases : Releases (steps_of s h)
+  -- whether a delivery waits for an acknowledgement, and which prefetch limits it, is what the
+  -- request of its link said; a consumer has what comes on its link until its cancel
+  pub taken : TakesAsAsked (steps_of s h)
   -- a recover releases what its client has, and nothing else
   pub recovered : GoBack (steps_of s h)
   pub unrecovered : LeavesOthers (steps_of s h)

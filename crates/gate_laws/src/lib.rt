@@ -40,6 +40,7 @@ ghost use Rattle.gate_model.specs.Setup.{IsInForm, SetupText};
 ghost use Rattle.gate_model.specs.Sources.{GetsFromItsQueue};
 ghost use Rattle.gate_model.specs.Starts.{StartsBehind};
 ghost use Rattle.gate_model.specs.State.{owed_lines};
+ghost use Rattle.gate_model.specs.Takers.{TakesAsAsked};
 ghost use Rattle.gate_model.specs.Takes.{TakesInTurn};
 ghost use Rattle.gate_model.specs.Waiting.{ChannelsEndWhenSettled, EndsWhenSettled};
 ghost use Rattle.gate_model.specs.Waiting.{OpensWhenOpened};
@@ -228,7 +229,8 @@ pub fn contents_are_lawful()
 /// state, and no other that lacks one. Each flow of a receiving link states a credit that is, with
 /// what counts on the link, within a consumer's quota. Before an end of the gateway goes each whole
 /// delivery of the channel's life that didn't come settled had its disposition; before its detach
-/// of a receiving link, each one of that link.
+/// of a receiving link, each one of that link. Whether a delivery waits for an acknowledgement, and
+/// which prefetch limits it, is what the basic.consume or basic.get of its link said.
 pub fn deliveries_are_settled()
     ensures settles { (s : SetupText) (c : Limits) (m : History) → Follows (pair_words s) c m
         → (p : ℕ)
@@ -239,11 +241,14 @@ pub fn deliveries_are_settled()
     ensures releases { (s : SetupText) (c : Limits) (m : History) → Follows (pair_words s) c m
         → (p : ℕ)
         → Releases (steps_of s (journal p m)) }
+    ensures taken { (s : SetupText) (c : Limits) (m : History) → Follows (pair_words s) c m
+        → (p : ℕ) → TakesAsAsked (steps_of s (journal p m)) }
 {
     entries_are_lawful();
     gate_model::settles_are_lawful();
     gate_model::grants_are_lawful();
     gate_model::releases_are_lawful();
+    gate_model::deliveries_are_taken_as_asked();
 }
 
 /// Each flow of a receiving link states a credit by the kind of its link: 1 at most with drain

@@ -41,6 +41,7 @@ returns c = λ s l m f n. at s l (drop n m) (follows_to (pair_words s) l m n f)
         credits = c.quotas_are_kept.ensures.stated s l m f p;
         quotas = c.quotas_are_kept.ensures.kept s l m f p;
         releases = c.deliveries_are_settled.ensures.releases s l m f p;
+        taken = c.deliveries_are_settled.ensures.taken s l m f p;
         recovered = c.recovers_release_all.ensures.released s l m f p;
         unrecovered = c.recovers_release_all.ensures.others s l m f p;
         gone = c.recovers_release_all.ensures.gone s l m f p;
