@@ -184,7 +184,7 @@ least_goes h t k is e =
     let l = least_above (λ n. t (fate_of n h)) 0 (numbers_of h) k e in
     record { taken = (omega (arith, l.above), omega (arith, l.below)); goes = is (fate_of k h) l.passes }
 
-on_goes : (f : Fate) → goes_on f ≡ true → is_to_go f ≡ true
+pub on_goes : (f : Fate) → goes_on f ≡ true → is_to_go f ≡ true
 on_goes f e = by (waits f) (goes_on f) e
   where
     by : (a b : Bool) → b ≡ true → (a || b) ≡ true

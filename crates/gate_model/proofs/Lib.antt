@@ -37,12 +37,14 @@ pub mod Firsts
 pub mod Fitting
 pub mod FittingUp
 pub mod Flows
+pub mod Framed
 pub mod Frames
 pub mod Getting
 pub mod Giving
 pub mod Givings
 pub mod Goes
 pub mod Granting
+pub mod Handles
 pub mod Heard
 pub mod Held
 pub mod Holding
@@ -52,10 +54,12 @@ pub mod Leaving
 pub mod Lingering
 pub mod LinkCredits
 pub mod LinkEvents
+pub mod LinkHandles
 pub mod LinkRoles
 pub mod LinkRooms
 pub mod LinkSends
 pub mod LinkSteps
+pub mod LinkUps
 pub mod Linking
 pub mod Lives
 pub mod Living
@@ -81,6 +85,7 @@ pub mod Quotas
 pub mod Reaches
 pub mod Reasoning
 pub mod Receivers
+pub mod Records
 pub mod Recovers
 pub mod Reflowing
 pub mod Refusing

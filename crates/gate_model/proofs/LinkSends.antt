@@ -1,5 +1,5 @@
 -- What the gateway sends on links keeps their credit to the fold: attaches, flows, and first frames of transfers.
-use Rattle.std.proofs.Common.{◌≡◌, ◌∙◌, ℕ, ◌+◌, ◌%◌, ◌^◌, ◌≤◌, Bool, true, false}
+use Rattle.std.proofs.Common.{◌≡◌, ◌∙◌, ℕ, ◌+◌, ◌%◌, ◌^◌, ◌≤◌, ◌<◌, length, Bool, true, false}
 use Rattle.std.proofs.Common.{Option, Some, None, refl, sym, subst, ap, arith, cond, map}
 use Rattle.std.specs.Prelude.{find, is_some, nat_le, position, ◌==◌, ◌&&◌}
 use Rattle.std.specs.Option.{option_map}
@@ -44,16 +44,19 @@ held t (stage.Left k) j e has = subst (λ (m : ℕ). is_free (state_of t m) ≡ 
 held t (stage.Given k) j e has = subst (λ (m : ℕ). is_free (state_of t m) ≡ false) (some_is k j has) (not_free is_given_back refl (state_of t k) e)
 held t (stage.Failed k fault) j e has = subst (λ (m : ℕ). is_free (state_of t m) ≡ false) (some_is k j has) (not_free is_whole refl (state_of t k) e)
 
-pub free_now : (t : HandleTable) (h : ℕ) → free_of t ≡ Some h → is_free (state_of t h) ≡ true
-free_now t h e = by (position is_free t.states) refl e
+pub free_at : (t : HandleTable) (h : ℕ) → free_of t ≡ Some h → (h < length t.states) × (is_free (state_of t h) ≡ true)
+free_at t h e = by (position is_free t.states) refl e
   where
     up : (m : ℕ) (b : Bool) → cond b (Some m) None ≡ Some h → m ≡ h
     up m true f = some_is m h f
     up m false f = absurd cc
 
-    by : (o : Option ℕ) → position is_free t.states ≡ o → up_to t.most o ≡ Some h → is_free (state_of t h) ≡ true
+    by : (o : Option ℕ) → position is_free t.states ≡ o → up_to t.most o ≡ Some h → (h < length t.states) × (is_free (state_of t h) ≡ true)
     by None is f = absurd cc
-    by (Some m) is f = subst (λ (k : ℕ). is_free (state_of t k) ≡ true) (up m (nat_le m t.most) f) (position-Some is_free t.states m state.Free is).1
+    by (Some m) is f =
+        let same : m ≡ h = up m (nat_le m t.most) f in
+        let found = position-Some is_free t.states m state.Free is in
+        (subst (λ (k : ℕ). k < length t.states) same found.0, subst (λ (k : ℕ). is_free (state_of t k) ≡ true) same found.1)
 
 asks_none : (peer : ℕ) → is_named peer state.Asked ≡ true → ⊥
 asks_none peer e = cc
@@ -77,7 +80,7 @@ module _ (f : ℕ → Option Credit) (s : LinksState) (l : PathLink) (h name : �
   apart_now : (n : ℕ) (k : PathLink) → find (has_number n) s.links ≡ Some k → (j : ℕ) → handle_in k.stage ≡ Some j → (h == j) ≡ false
   apart_now n k is j has =
       let off : is_free (state_of s.handles j) ≡ false = held s.handles k.stage j (all_find (λ x. stands s.handles x.stage ≡ true) (has_number n) s.links k t.standing is).0 has in
-      ne_to h j (λ same. no_clash (is_free (state_of s.handles j)) (subst (λ (m : ℕ). is_free (state_of s.handles m) ≡ true) same (free_now s.handles h free)) off)
+      ne_to h j (λ same. no_clash (is_free (state_of s.handles j)) (subst (λ (m : ℕ). is_free (state_of s.handles m) ≡ true) same (free_at s.handles h free).1) off)
 
   agree_asked : (o : Option SendingLink) → Agree f s.handles o (Some l) → Agree asked_fold asked_table o (Some (asked_as h name l))
   agree_asked None i = (ap (λ (b : Bool). cond b (Some (new_credit l.link name)) (f h)) (eq_to h h refl), tt)

@@ -21,10 +21,10 @@ use Rattle.publish_path.specs.Publishes.{is_begun, is_waiting}
 use Rattle.publish_path.specs.declared.publish.NextFrame.{NextFrame}
 use Rattle.publish_path.specs.declared.publish.Publish.{Publish}
 use Rattle.publish_path.specs.declared.send_links.SendingLink.{SendingLink}
-use Rattle.session_path.specs.Due.{next_attach, next_flow, next_frame}
+use Rattle.session_path.specs.Due.{next_attach, next_detach, next_flow, next_frame}
 use Rattle.session_path.specs.Events as event
 use Rattle.session_path.specs.Events.{PathEvent, after_events}
-use Rattle.session_path.specs.Links.{handle_at, has_number, named}
+use Rattle.session_path.specs.Links.{handle_at, handle_of, has_number, named}
 use Rattle.session_path.specs.Path.{PathState, granting}
 use Rattle.session_path.specs.declared.path.AttachDue.{AttachDue}
 use Rattle.session_path.specs.declared.path.AttachFault.{AttachFault}
@@ -154,22 +154,23 @@ distinct f most a h k c d e g same = a.apart h k c.name (ap name_of e) (ap name_
 
 -- ---- what goes
 
-abbrev IsDue : State → ℕ → SessionUnit → Type 0
+abbrev pub IsDue : State → ℕ → SessionUnit → Type 0
 IsDue w n (unit.Attach a) = (d : AttachDue) × (next_attach (path_at w.paths n) ≡ Some d) × (a ≡ attach_out w.attached d)
 IsDue w n (unit.Flow f) = (d : FlowDue) × (next_flow (path_at w.paths n) ≡ Some d) × (f ≡ flow_out (life_at w.lives n).session d)
 IsDue w n (unit.Transfer t) =
     (d : NextFrame) × (next_frame (life_at w.lives n).session.windows.window (path_at w.paths n) ≡ Some d)
     × (t ≡ transfer_of (frame_max_in w.up.container) (path_at w.paths n) d)
+IsDue w n (unit.Detach link handle why) = (d : PathLink) × (next_detach (path_at w.paths n) ≡ Some d) × ((link ≡ d.link) × (handle ≡ handle_of d.stage))
 IsDue w n x = Unit {0}
 
-is_due : (w : State) → SessionUnits (IsDue w) w
+pub is_due : (w : State) → SessionUnits (IsDue w) w
 is_due w = record {
   attach = λ n a e. (a, e, refl);
   flow = λ n f e. (f, e, refl);
   transfer = λ n f e. (f, e, refl);
   dispose = λ n x e. tt;
   settle = λ n x e. tt;
-  detach = λ n x e. tt;
+  detach = λ n x e. (x, e, (refl, refl));
 }
 
 -- the first frame of a transfer goes on a link with credit

@@ -76,7 +76,7 @@ between : (p : Option Partial) → p ≡ None → not (is_some p) ≡ true
 between p e = ap (λ (o : Option Partial). not (is_some o)) e
 
 -- a flow that goes is of one that is attached
-flows_attached : (closed : Bool) (l : ReceivingLink) (g : NextGrant) → flow_of closed l ≡ Some g → l.attached ≡ true
+pub flows_attached : (closed : Bool) (l : ReceivingLink) (g : NextGrant) → flow_of closed l ≡ Some g → l.attached ≡ true
 flows_attached closed l g e = by l.attached e
   where
     by : (b : Bool) → flow_of closed (record l { attached = b }) ≡ Some g → b ≡ true

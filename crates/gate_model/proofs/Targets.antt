@@ -42,7 +42,7 @@ use Rattle.gate_model.specs.Giving.{AreDone}
 use Rattle.gate_model.proofs.Fates.{IsToGo, least_passes, to_go}
 use Rattle.gate_model.proofs.LinkCredits.{apart, found_filter, inserted_here, inserted_other, left_handle, mapped_here, mapped_other, none_passes, or_none}
 use Rattle.gate_model.proofs.LinkCredits.{placed_here, placed_other, pushed, stage_asked, up_handle, without_here, without_other}
-use Rattle.gate_model.proofs.LinkSends.{free_now, held}
+use Rattle.gate_model.proofs.LinkSends.{free_at, held}
 use Rattle.gate_model.proofs.LinkSteps.{passes}
 use Rattle.gate_model.proofs.Losing.{less_rest}
 
@@ -763,7 +763,7 @@ asked f a c s l hand name ds t found free h = record { keeps = keeps; single = h
     alone : (n : ℕ) (k : PathLink) → find (has_number n) s.links.links ≡ Some k → (j : ℕ) → handle_in k.stage ≡ Some j → (hand == j) ≡ false
     alone n k is j has =
         let off : is_free (state_of s.links.handles j) ≡ false = held s.links.handles k.stage j (all_find (λ x. stands s.links.handles x.stage ≡ true) (has_number n) s.links.links k t.standing is).0 has in
-        ne_to hand j (λ same. no_clash (is_free (state_of s.links.handles j)) (subst (λ (m : ℕ). is_free (state_of s.links.handles m) ≡ true) same (free_now s.links.handles hand free)) off)
+        ne_to hand j (λ same. no_clash (is_free (state_of s.links.handles j)) (subst (λ (m : ℕ). is_free (state_of s.links.handles m) ≡ true) same (free_at s.links.handles hand free).1) off)
 
     here : (o : Option SendingLink) → link_of s.links.sending l.link ≡ o → At f o (Some l) → At g o (Some (asked_as hand name l))
     here None e x = tt

@@ -15,6 +15,7 @@ pub mod Faults
 pub mod Folds
 pub mod Frames
 pub mod Giving
+pub mod Handles
 pub mod Holding
 pub mod Linger
 pub mod LinkCredits
@@ -29,6 +30,7 @@ pub mod Paths
 pub mod Picks
 pub mod Publishing
 pub mod Queue
+pub mod Records
 pub mod Recovers
 pub mod Reasons
 pub mod Releases

@@ -25,6 +25,7 @@ ghost use Rattle.gate_model.specs.Frames.{AreGiven, FitsClients, FitsContainers}
 ghost use Rattle.gate_model.specs.Folds.{connection, container, moment_in, number_in, ran_out_in};
 ghost use Rattle.gate_model.specs.Folds.{side_in};
 ghost use Rattle.gate_model.specs.Giving.{GivesUpIdle};
+ghost use Rattle.gate_model.specs.Handles.{NamesItsHandles};
 ghost use Rattle.gate_model.specs.Holding.{HoldsFew, TakesWithRoom};
 ghost use Rattle.gate_model.specs.Losses.{LosesPublishes};
 ghost use Rattle.gate_model.specs.Oks.{AnswersInOrder};
@@ -41,6 +42,7 @@ ghost use Rattle.gate_model.specs.Publishing.{path_events, path_life};
 ghost use Rattle.gate_model.specs.Setup.{IsInForm, SetupText};
 ghost use Rattle.gate_model.specs.Silence.{SilentAtOnce, SilentWhenDue};
 ghost use Rattle.gate_model.specs.Spelling.{spell_reply};
+ghost use Rattle.gate_model.specs.Records.{Records};
 ghost use Rattle.gate_model.specs.Recovers.{GoBack, GoBeforeLeaving, LeavesOthers};
 ghost use Rattle.gate_model.specs.Releases.{Releases};
 ghost use Rattle.gate_model.specs.Reasons.{ClosesOnce, SaysWhy};
@@ -655,4 +657,31 @@ pub fn deliveries_are_taken_as_asked()
     numbers_lawfully();
     calls_lawfully();
     names_lawfully();
+}
+
+/// What is recorded of the deliveries of a channel's life where a unit of its links goes is what
+/// went: of a disposition of role receiver its state and its delivery-ids, of a flow of a receiving
+/// link the credit that it states there, and of a detach of one its link. By that their fates are
+/// those of what was sent.
+pub fn units_are_recorded()
+    ensures { (h : List Step) → ArePicks h → Records h }
+{
+    links_lawfully();
+    deliveries_lawfully();
+    calls_lawfully();
+    numbers_lawfully();
+}
+
+/// A flow, a transfer and a detach of a link go under the handle of the gateway's last attach of
+/// that link in the channel's life. No attach goes under a handle that a link of the session has:
+/// it has its handle from its attach to the gateway's detach.
+pub fn handles_are_links()
+    ensures { (h : List Step) → ArePicks h → NamesItsHandles h }
+{
+    publishes_lawfully();
+    payloads_lawfully();
+    links_lawfully();
+    deliveries_lawfully();
+    calls_lawfully();
+    numbers_lawfully();
 }
