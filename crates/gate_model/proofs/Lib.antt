@@ -46,6 +46,7 @@ pub mod Goes
 pub mod Granting
 pub mod Handles
 pub mod Heard
+pub mod Hears
 pub mod Held
 pub mod Holding
 pub mod Images
@@ -55,8 +56,10 @@ pub mod Lingering
 pub mod LinkCredits
 pub mod LinkEvents
 pub mod LinkHandles
+pub mod LinkHears
 pub mod LinkRoles
 pub mod LinkRooms
+pub mod LinkRules
 pub mod LinkSends
 pub mod LinkSteps
 pub mod LinkUps

@@ -132,11 +132,11 @@ pub record IsNamed (t : HandleTable) (peer h : ℕ) : Type 0 where
   pub here : is_named peer (state_of t h) ≡ true
   pub only : (k : ℕ) → is_named peer (state_of t k) ≡ true → k ≡ h
 
-free_unnamed : (peer : ℕ) (s : HandleState) → s ≡ state.Free → is_named peer s ≡ true → ⊥
+pub free_unnamed : (peer : ℕ) (s : HandleState) → s ≡ state.Free → is_named peer s ≡ true → ⊥
 free_unnamed peer s e f = let no : is_named peer state.Free ≡ true = ap (is_named peer) (sym e) ∙ f in cc
 
 -- what is written is there, or nothing is
-written : (t : HandleTable) (h : ℕ) (st : HandleState) → (state_of (with_state h st t) h ≡ st) ⊎ (state_of (with_state h st t) h ≡ state.Free)
+pub written : (t : HandleTable) (h : ℕ) (st : HandleState) → (state_of (with_state h st t) h ≡ st) ⊎ (state_of (with_state h st t) h ≡ state.Free)
 written t h st = elim (cases_lt h (length t.states)) [
   | inl lt ↦ inl (get_or-set_same t.states h st state.Free lt)
   | inr le ↦ inr (let long : length (with_state h st t).states ≡ length t.states = length-set t.states h st in get_or_past (with_state h st t).states h state.Free (omega arith))
@@ -160,7 +160,7 @@ named_stays t k st peer h ne less n = record { here = ap (is_named peer) (state_
             at (subst (λ (i : ℕ). (state_of (with_state k st t) i ≡ st) ⊎ (state_of (with_state k st t) i ≡ state.Free)) same (written t k st)) same
         by false e = n.only j (ap (is_named peer) (sym (state_other t k j st e)) ∙ is)
 
-none_named : (t : HandleTable) (peer : ℕ) → named_by t peer ≡ None → (k : ℕ) → is_named peer (state_of t k) ≡ true → ⊥
+pub none_named : (t : HandleTable) (peer : ℕ) → named_by t peer ≡ None → (k : ℕ) → is_named peer (state_of t k) ≡ true → ⊥
 none_named t peer none k is = elim (cases_lt k (length t.states)) [
   | inl lt ↦ elim (cases_lt (position_or_len (is_named peer) t.states) (length t.states)) [
     | inl within ↦ let some : named_by t peer ≡ Some (position_or_len (is_named peer) t.states) = ap (λ b. cond b (Some (position_or_len (is_named peer) t.states)) None) (less _ _ within) in cc
@@ -578,7 +578,7 @@ module _ (f : ℕ → Option Credit) (a : AttachHeard) (s : LinksState) (l : Pat
 
 -- ---- the container's flow
 
-is_at_handle : (h : ℕ) (g : Stage) → is_stage_at h g ≡ true → handle_in g ≡ Some h
+pub is_at_handle : (h : ℕ) (g : Stage) → is_stage_at h g ≡ true → handle_in g ≡ Some h
 is_at_handle h stage.Wanted e = absurd cc
 is_at_handle h (stage.Asked k) e = absurd cc
 is_at_handle h (stage.Open k) e = ap Some (eq_of k h e)
@@ -798,7 +798,7 @@ up_handle (stage.Refused k) e = refl
 up_handle (stage.Given k) e = refl
 up_handle (stage.Failed k fault) e = refl
 
-sent_named : (s : HandleState) (peer : ℕ) → is_named peer (with_sent s) ≡ true → is_named peer s ≡ true
+pub sent_named : (s : HandleState) (peer : ℕ) → is_named peer (with_sent s) ≡ true → is_named peer s ≡ true
 sent_named state.Free peer is = is
 sent_named state.Asked peer is = is
 sent_named (state.Attached a) peer is = by a.detach_read is
@@ -807,7 +807,7 @@ sent_named (state.Attached a) peer is = by a.detach_read is
     by true is = absurd cc
     by false is = is
 
-read_named : (s : HandleState) (peer : ℕ) → is_named peer (with_read s) ≡ true → is_named peer s ≡ true
+pub read_named : (s : HandleState) (peer : ℕ) → is_named peer (with_read s) ≡ true → is_named peer s ≡ true
 read_named state.Free peer is = is
 read_named state.Asked peer is = is
 read_named (state.Attached a) peer is = by a.detach_sent is

@@ -1,5 +1,5 @@
 -- What an event of a path leaves of the credit of its links, by the fold.
-use Rattle.std.proofs.Common.{◌≡◌, ◌∙◌, ℕ, ◌+◌, ◌%◌, ◌^◌, List, [], ◌∷◌, ◌++◌, Bool, true, false}
+use Rattle.std.proofs.Common.{◌≡◌, ◌∙◌, ℕ, List, [], ◌∷◌, ◌++◌, Bool, true, false}
 use Rattle.std.proofs.Common.{if◌then◌else◌, Option, Some, None, refl, sym, subst, ap, cond, map}
 use Rattle.std.specs.Prelude.{find, is_some, IfSome}
 use Rattle.std.specs.List.{AllByRecursion}
@@ -26,10 +26,11 @@ use Rattle.session_path.proofs.SameLinks.{attach_same, disposed_same, dropped_sa
 use Rattle.session_path.proofs.SameLinks.{flowed_if, flowed_same, got_links, got_same, transfer_same}
 use Rattle.session_path.proofs.Tied.{Tied, tied_after}
 use Rattle.session_path.proofs.Ties.{found_passes}
-use Rattle.gate_model.specs.LinkCredits.{Answered, Asked, Begun, Credit, Flowed, LinkStep, Told, after_step}
+use Rattle.gate_model.specs.LinkCredits.{Answered, Asked, Begun, Credit, Flowed, LinkStep, Told, after_step, credit_by}
 use Rattle.gate_model.proofs.Granting.{owes_none}
 use Rattle.gate_model.proofs.LinkCredits.{AllAgree, AreDistinct, agree_on, attached_agree, flow_agree, link_detached_agree, link_failed_agree}
 use Rattle.gate_model.proofs.LinkCredits.{linked_to_agree, parted_agree, received_agree, without_agree}
+use Rattle.gate_model.proofs.LinkRules.{Rules, count_of, is_mute}
 use Rattle.gate_model.proofs.LinkSends.{asked_agree, begun_agree, grant_agree, told_agree}
 
 -- ---- the fold
@@ -40,14 +41,6 @@ folded [] f = f
 folded (x ∷ xs) f = λ k. after_step k x (folded xs f k)
 
 -- ---- events that the fold doesn't see
-
-abbrev pub is_mute : PathEvent → Bool
-is_mute (event.AttachCame attach) = false
-is_mute (event.FlowCame peer count credit drain echo) = false
-is_mute (event.AttachSent name) = false
-is_mute event.LinkFlowSent = false
-is_mute (event.TransferSent frame count) = false
-is_mute x = true
 
 module _ (f : ℕ → Option Credit) where
   limited_agree : (most : ℕ) (s : LinksState) → AllAgree f s → AllAgree f (limited most s)
@@ -127,10 +120,6 @@ module _ (f : ℕ → Option Credit) where
           (subst (λ (k : ℕ). AllAgree (folded (Asked l.link k name ∷ []) f) (asked_on (Some l) (Some h) name s.links)) handle
           (asked_agree f s.links l h name t all e g))
 
-  -- the delivery-count that a flow states
-  abbrev pub count_of : FlowDue → ℕ
-  count_of d = if d.drains then (d.count + d.credit) % 2 ^ 32 else d.count
-
   abbrev After : FlowDue → LinksState → Type 0
   After d z = AllAgree (folded (Told d.link d.handle (count_of d) ∷ []) f) z
 
@@ -176,3 +165,17 @@ module _ (f : ℕ → Option Credit) where
   pub later_sent_agree : (frame : NextFrame) (count : ℕ) (s : PathState) → frame.first ≡ false → AllAgree f s.links → AllAgree f (after_event (event.TransferSent frame count) s).links
   later_sent_agree frame count s e all =
       subst (λ (b : Bool). AllAgree f (record s.links { sending = if b then map (begun_on frame.link) s.links.sending else s.links.sending })) (sym e) all
+
+-- ---- all of them
+
+pub credit_rules : Rules (λ xs s. AllAgree (λ k. credit_by k xs) s)
+credit_rules = record {
+  none = λ xs t n. refl;
+  mute = λ xs x s m t all. mute_agree (λ k. credit_by k xs) x s m t all;
+  came = λ xs a s t distinct fine all. came_agree (λ k. credit_by k xs) a s t distinct fine all;
+  flow_came = λ xs peer count credit drain echo s t all. flow_came_agree (λ k. credit_by k xs) peer count credit drain echo s t all;
+  attach_sent = λ xs name a s t new due all. attach_sent_agree (λ k. credit_by k xs) name a s t due all;
+  flow_sent = λ xs d s t fresh receives due all. flow_sent_agree (λ k. credit_by k xs) d s t fresh receives due all;
+  first_sent = λ xs frame count s t e can all. first_sent_agree (λ k. credit_by k xs) frame count s t e can all;
+  later_sent = λ xs frame count s e all. later_sent_agree (λ k. credit_by k xs) frame count s e all;
+}

@@ -24,7 +24,9 @@ use Rattle.publish_path.specs.declared.send_links.SendingLink.{SendingLink}
 use Rattle.session_path.specs.Due.{next_attach, next_detach, next_flow, next_frame}
 use Rattle.session_path.specs.Events as event
 use Rattle.session_path.specs.Events.{PathEvent, after_events}
-use Rattle.session_path.specs.Links.{handle_at, handle_of, has_number, named}
+use Rattle.session_path.proofs.Ties.{ne_to}
+use Rattle.link_table.specs.Table.{new_table}
+use Rattle.session_path.specs.Links.{LinksState, handle_at, handle_of, has_number, named}
 use Rattle.session_path.specs.Path.{PathState, granting}
 use Rattle.session_path.specs.declared.path.AttachDue.{AttachDue}
 use Rattle.session_path.specs.declared.path.AttachFault.{AttachFault}
@@ -42,6 +44,7 @@ use Rattle.gate_model.specs.declared.outgoing.UpUnit.{UpUnit}
 use Rattle.gate_model.specs.declared.outgoing.UpUnit.TheVariants as up
 use Rattle.gate_model.specs.Due.{frame_max_in}
 use Rattle.gate_model.specs.Folds.{connection, container, paths_in, peers, ran_out_in, scope_in}
+use Rattle.gate_model.specs.Hears.{asked_as}
 use Rattle.gate_model.specs.LinkCredits.{Answered, Asked, Begun, Credit, CreditIsKept, Flowed, HasCredit, LinkStep, MayBegin, Told}
 use Rattle.gate_model.specs.LinkCredits.{after_step, answer_step, begun, credit_by, given_step, heard_step, link_step, link_steps, meaning_step, new_credit, told, up_step}
 use Rattle.gate_model.specs.Lives.{life_at}
@@ -61,8 +64,8 @@ use Rattle.gate_model.proofs.Givings.{closing_all, ends_all, gives_up, hears, is
 use Rattle.gate_model.proofs.Granting.{DeliveriesAre}
 use Rattle.gate_model.proofs.Heard.{ClosedAre}
 use Rattle.gate_model.proofs.LinkCredits.{AllAgree, AreDistinct}
-use Rattle.gate_model.proofs.LinkEvents.{attach_sent_agree, came_agree, first_sent_agree, flow_came_agree, flow_sent_agree, is_mute}
-use Rattle.gate_model.proofs.LinkEvents.{later_sent_agree, mute_agree, mutes_agree}
+use Rattle.gate_model.proofs.LinkEvents.{credit_rules}
+use Rattle.gate_model.proofs.LinkRules.{IsNewName, Rules, all_mute, is_mute}
 use Rattle.gate_model.proofs.LinkRoles.{grants_receive}
 use Rattle.gate_model.proofs.LinkRooms.{have_room}
 use Rattle.gate_model.proofs.LinkSends.{credit_there}
@@ -224,12 +227,12 @@ first_is : (a b : Bool) → (a && b) ≡ true → a ≡ true
 first_is true b e = refl
 first_is false b e = e
 
-module _ (n life : ℕ) (below : n ≤ CHANNEL_MAX) where
-  -- what the fold says of the links after these events
-  abbrev Agrees : (ℕ → Option Credit) → List PathEvent → Type 0
-  Agrees f es = AllAgree f (after_events life es).links
+module _ (P : List LinkStep → LinksState → Type 0) (r : Rules P) (n life : ℕ) (below : n ≤ CHANNEL_MAX) where
+  -- what the steps say of the links after these events
+  abbrev Agrees : List LinkStep → List PathEvent → Type 0
+  Agrees xs es = P xs (after_events life es).links
 
-  module _ (h : List Step) (p : ArePicks h) (lives : path_life h n ≡ Some life) (all : Agrees (credits n h) (path_events h n)) where
+  module _ (h : List Step) (p : ArePicks h) (lives : path_life h n ≡ Some life) (all : Agrees (link_steps n h) (path_events h n)) where
     abbrev es : List PathEvent
     es = path_events h n
 
@@ -252,28 +255,28 @@ module _ (n life : ℕ) (below : n ≤ CHANNEL_MAX) where
           else if q.0 == 22 then unattached (is_some (named (number_at q.1 0) s0.links))
           else None
 
-      attach_agrees : (o : Option ℕ) → name_in (text_of (field q.1 0)) ≡ o → fault_by o q.1 s ≡ None → Agrees (more n h (answer_step o (number_at q.1 1))) (attach_events o q.1 ++ es)
+      attach_agrees : (o : Option ℕ) → name_in (text_of (field q.1 0)) ≡ o → fault_by o q.1 s ≡ None → Agrees ((answer_step o (number_at q.1 1)) ++ link_steps n h) (attach_events o q.1 ++ es)
       attach_agrees None e fine = all
-      attach_agrees (Some name) e fine = came_agree (credits n h) (heard_as q.1 name) s (tied_after life es) names fine all
+      attach_agrees (Some name) e fine = r.came (link_steps n h) (heard_as q.1 name) s (tied_after life es) names fine all
 
       heard_by : (a b c : Bool) → (q.0 == 17) ≡ a → (q.0 == 18) ≡ b → ((q.0 == 19) && not (is_of_session q.1)) ≡ c → (b ≡ true → attach_fault_by q.1 s ≡ None)
           → (rest : List PathEvent) → AllByRecursion IsMute rest
-          → Agrees (more n h (if b then answer_step (name_in (text_of (field q.1 0))) (number_at q.1 1) else if c then
-          Flowed (number_at q.1 4) (number_in (field q.1 5)) (credit_of (number_in (field q.1 6))) ∷ [] else []))
+          → Agrees ((if b then answer_step (name_in (text_of (field q.1 0))) (number_at q.1 1) else if c then
+          Flowed (number_at q.1 4) (number_in (field q.1 5)) (credit_of (number_in (field q.1 6))) ∷ [] else []) ++ link_steps n h)
           ((if a then event.Began (number_at q.1 4) ∷ [] else if b then attach_events (name_in (text_of (field q.1 0))) q.1 else if c then
           event.FlowCame (number_at q.1 4) (number_in (field q.1 5)) (credit_of (number_in (field q.1 6))) (is_true (field q.1 8)) (is_true (field q.1 9)) ∷ [] else rest) ++ es)
       heard_by true true c e f g fine rest m = absurd (apart_codes q.0 17 18 e f refl)
       heard_by true false true e f g fine rest m = absurd (apart_codes q.0 17 19 e (first_is (q.0 == 19) _ g) refl)
-      heard_by true false false e f g fine rest m = mute_agree (credits n h) (event.Began (number_at q.1 4)) s refl (tied_after life es) all
+      heard_by true false false e f g fine rest m = r.mute (link_steps n h) (event.Began (number_at q.1 4)) s refl (tied_after life es) all
       heard_by false true c e f g fine rest m = attach_agrees (name_in (text_of (field q.1 0))) refl (fine refl)
-      heard_by false false true e f g fine rest m = flow_came_agree (credits n h) _ _ _ _ _ s (tied_after life es) all
-      heard_by false false false e f g fine rest m = mutes_agree (credits n h) life rest es m all
+      heard_by false false true e f g fine rest m = r.flow_came (link_steps n h) _ _ _ _ _ s (tied_after life es) all
+      heard_by false false false e f g fine rest m = all_mute P r life (link_steps n h) rest es m all
 
       -- where nothing is at fault
-      fine_agrees : scope_in (peers h) n q payload ≡ None → Agrees (more n h (heard_step q)) (fine_events (connection h) n q payload (path_at (paths_in h) n) ++ es)
+      fine_agrees : scope_in (peers h) n q payload ≡ None → Agrees ((heard_step q) ++ link_steps n h) (fine_events (connection h) n q payload (path_at (paths_in h) n) ++ es)
       fine_agrees fine =
-          subst (λ (xs : List PathEvent). Agrees (more n h (heard_step q)) xs) (sym (append_assoc closes (heard_events lim n q payload s0) es))
-          (mutes_agree (more n h (heard_step q)) life closes (heard_events lim n q payload s0 ++ es) (closes_mute (q.0 == 17))
+          subst (λ (xs : List PathEvent). Agrees ((heard_step q) ++ link_steps n h) xs) (sym (append_assoc closes (heard_events lim n q payload s0) es))
+          (all_mute P r life (heard_step q ++ link_steps n h) closes (heard_events lim n q payload s0 ++ es) (closes_mute (q.0 == 17))
           (heard_by (q.0 == 17) (q.0 == 18) ((q.0 == 19) && not (is_of_session q.1)) refl refl refl no_attach_fault _ (rest_all IsMute mute lim n q payload s0)))
         where
           lim : ℕ
@@ -292,31 +295,31 @@ module _ (n life : ℕ) (below : n ≤ CHANNEL_MAX) where
               (no_fault (attach_fault_by q.1 s0) (sym (ap (λ (b : Bool). if b then attach_scope (attach_fault_by q.1 s0)
               else if (q.0 == 19) && not (is_of_session q.1) then unattached (is_some (named (number_at q.1 4) s0.links)) else last_scope) e) ∙ fine))
 
-      session_agrees : (o : Option Scope) → scope_in (peers h) n q payload ≡ o → Agrees (more n h (heard_step q)) (session_events (connection h) o n n q payload (path_at (paths_in h) n) ++ es)
+      session_agrees : (o : Option Scope) → scope_in (peers h) n q payload ≡ o → Agrees ((heard_step q) ++ link_steps n h) (session_events (connection h) o n n q payload (path_at (paths_in h) n) ++ es)
       session_agrees None e = by (n == n) refl
         where
-          by : (b : Bool) → (n == n) ≡ b → Agrees (more n h (heard_step q)) ((if b then fine_events (connection h) n q payload (path_at (paths_in h) n) else []) ++ es)
+          by : (b : Bool) → (n == n) ≡ b → Agrees ((heard_step q) ++ link_steps n h) ((if b then fine_events (connection h) n q payload (path_at (paths_in h) n) else []) ++ es)
           by true f = fine_agrees e
           by false f = let yes : (n == n) ≡ true = grind (arith, nat_tests) in absurd cc
-      session_agrees (Some scope.Connection) e = λ m. refl
+      session_agrees (Some scope.Connection) e = r.none _ s.links.handles
       session_agrees (Some scope.Channel) e = by (n == n) refl (is_open (connection h) n)
         where
-          by : (b : Bool) → (n == n) ≡ b → (c : Bool) → Agrees (more n h (heard_step q)) ((if b then closed_if c ++ event.SessionLost ∷ [] else []) ++ es)
-          by true f true = λ m. refl
-          by true f false = λ m. refl
+          by : (b : Bool) → (n == n) ≡ b → (c : Bool) → Agrees ((heard_step q) ++ link_steps n h) ((if b then closed_if c ++ event.SessionLost ∷ [] else []) ++ es)
+          by true f true = r.none _ s.links.handles
+          by true f false = r.none _ s.links.handles
           by false f c = let yes : (n == n) ≡ true = grind (arith, nat_tests) in absurd cc
 
     -- of another channel
-    other_session : (o : Option Scope) (j : ℕ) (q : Parts) (payload : List ℕ) (x : PathState) → (j == n) ≡ false → Agrees (credits n h) (session_events (connection h) o n j q payload x ++ es)
-    other_session None j q payload x ne = subst (λ (b : Bool). Agrees (credits n h) ((if b then fine_events (connection h) j q payload x else []) ++ es)) (sym ne) all
-    other_session (Some scope.Connection) j q payload x ne = λ m. refl
-    other_session (Some scope.Channel) j q payload x ne = subst (λ (b : Bool). Agrees (credits n h) ((if b then ending (connection h) j else []) ++ es)) (sym ne) all
+    other_session : (o : Option Scope) (j : ℕ) (q : Parts) (payload : List ℕ) (x : PathState) → (j == n) ≡ false → Agrees (link_steps n h) (session_events (connection h) o n j q payload x ++ es)
+    other_session None j q payload x ne = subst (λ (b : Bool). Agrees (link_steps n h) ((if b then fine_events (connection h) j q payload x else []) ++ es)) (sym ne) all
+    other_session (Some scope.Connection) j q payload x ne = r.none _ s.links.handles
+    other_session (Some scope.Channel) j q payload x ne = subst (λ (b : Bool). Agrees (link_steps n h) ((if b then ending (connection h) j else []) ++ es)) (sym ne) all
 
     abbrev At : Parts → List ℕ → ℕ → Bool → Type 0
     At q payload k b =
-        Agrees (more n h (if b then heard_step q else [])) (session_events (connection h) (scope_in (peers h) k q payload) n k q payload (path_at (paths_in h) k) ++ es)
+        Agrees ((if b then heard_step q else []) ++ link_steps n h) (session_events (connection h) (scope_in (peers h) k q payload) n k q payload (path_at (paths_in h) k) ++ es)
 
-    meaning_agrees : AreDistinct (credits n h) → (m : Meaning) → Agrees (more n h (meaning_step n m)) (meaning_events (peers h) n m ++ es)
+    meaning_agrees : AreDistinct (credits n h) → (m : Meaning) → Agrees ((meaning_step n m) ++ link_steps n h) (meaning_events (peers h) n m ++ es)
     meaning_agrees names (ten.OfSession j q payload) = by (j == n) refl
       where
         by : (b : Bool) → (j == n) ≡ b → At q payload j b
@@ -324,34 +327,39 @@ module _ (n life : ℕ) (below : n ≤ CHANNEL_MAX) where
             let same : j ≡ n = grind (arith, nat_tests, e) in
             subst (λ (k : ℕ). At q payload k true) (sym same) (session_agrees names q payload (scope_in (peers h) n q payload) refl)
         by false e = other_session (scope_in (peers h) j q payload) j q payload (path_at (paths_in h) j) e
-    meaning_agrees names (ten.Closed e) = λ m. refl
-    meaning_agrees names ten.Refused = λ m. refl
-    meaning_agrees names (ten.Violation why) = λ m. refl
+    meaning_agrees names (ten.Closed e) = r.none _ s.links.handles
+    meaning_agrees names ten.Refused = r.none _ s.links.handles
+    meaning_agrees names (ten.Violation why) = r.none _ s.links.handles
     meaning_agrees names x = all
 
-    heard_agrees : AreDistinct (credits n h) → (u : Unit10) → Agrees (credits n (Heard u ∷ h)) (path_events (Heard u ∷ h) n)
+    heard_agrees : AreDistinct (credits n h) → (u : Unit10) → Agrees (link_steps n (Heard u ∷ h)) (path_events (Heard u ∷ h) n)
     heard_agrees names u = by (ran_out_in h)
       where
-        by : (b : Bool) → Agrees (more n h (if b then [] else meaning_step n (meaning_by (container h) u))) ((if b then [] else meaning_events (peers h) n (meaning_by (container h) u)) ++ es)
+        by : (b : Bool) → Agrees ((if b then [] else meaning_step n (meaning_by (container h) u)) ++ link_steps n h) ((if b then [] else meaning_events (peers h) n (meaning_by (container h) u)) ++ es)
         by true = all
         by false = meaning_agrees names (meaning_by (container h) u)
 
     -- ---- the gateway's
 
-    module _ (receives : (l k : PathLink) → granting s ≡ Some l → find (has_number l.link) s.links.links ≡ Some k → k.receives ≡ true) where
+    module _ (new : attaches_in h < 2 ^ 64 → IsNewName (before h).attached (link_steps n h)) (receives : (l k : PathLink) → granting s ≡ Some l → find (has_number l.link) s.links.links ≡ Some k → k.receives ≡ true) where
       now : path_at (before h).paths n ≡ s
       now = path_of h n life p below lives
 
-      unit_agrees : (u : SessionUnit) → IsDue (before h) n u → Agrees (more n h (given_step u)) (given_event u ∷ es)
-      unit_agrees (unit.Attach a) d =
-          subst (λ (x : AttachOut). Agrees (more n h (given_step (unit.Attach x))) (event.AttachSent x.name ∷ es)) (sym d.2)
-          (attach_sent_agree (credits n h) (before h).attached d.0 s (tied_after life es) (ap next_attach (sym now) ∙ d.1) all)
-      unit_agrees (unit.Flow f) d =
-          subst (λ (x : LinkFlow). Agrees (more n h (given_step (unit.Flow x))) (event.LinkFlowSent ∷ es)) (sym d.2)
-          (flow_sent_agree (credits n h) d.0 s (tied_after life es) (fresh_after life es) receives (ap next_flow (sym now) ∙ d.1) all)
-      unit_agrees (unit.Transfer t) d =
-          subst (λ (x : TransferOut). Agrees (more n h (given_step (unit.Transfer x))) (event.TransferSent x.frame x.bytes ∷ es)) (sym d.2)
-          (subst (λ (x : PathState). Agrees (more n h (if d.0.first then Begun (handle_at d.0.link x.links.links) ∷ [] else []))
+      -- fewer attaches went before one
+      abbrev IsShort : SessionUnit → Type 0
+      IsShort (unit.Attach a) = attaches_in h < 2 ^ 64
+      IsShort u = Unit {0}
+
+      unit_agrees : (u : SessionUnit) → IsShort u → IsDue (before h) n u → Agrees ((given_step u) ++ link_steps n h) (given_event u ∷ es)
+      unit_agrees (unit.Attach a) less d =
+          subst (λ (x : AttachOut). Agrees ((given_step (unit.Attach x)) ++ link_steps n h) (event.AttachSent x.name ∷ es)) (sym d.2)
+          (r.attach_sent (link_steps n h) (before h).attached d.0 s (tied_after life es) (new less) (ap next_attach (sym now) ∙ d.1) all)
+      unit_agrees (unit.Flow f) less d =
+          subst (λ (x : LinkFlow). Agrees ((given_step (unit.Flow x)) ++ link_steps n h) (event.LinkFlowSent ∷ es)) (sym d.2)
+          (r.flow_sent (link_steps n h) d.0 s (tied_after life es) (fresh_after life es) receives (ap next_flow (sym now) ∙ d.1) all)
+      unit_agrees (unit.Transfer t) less d =
+          subst (λ (x : TransferOut). Agrees ((given_step (unit.Transfer x)) ++ link_steps n h) (event.TransferSent x.frame x.bytes ∷ es)) (sym d.2)
+          (subst (λ (x : PathState). Agrees ((if d.0.first then Begun (handle_at d.0.link x.links.links) ∷ [] else []) ++ link_steps n h)
           (event.TransferSent d.0 (transfer_of (frame_max_in (before h).up.container) (path_at (before h).paths n) d.0).bytes ∷ es)) (sym now) (sent d.0.first refl))
         where
           window : ℕ
@@ -360,30 +368,34 @@ module _ (n life : ℕ) (below : n ≤ CHANNEL_MAX) where
           bytes : ℕ
           bytes = (transfer_of (frame_max_in (before h).up.container) (path_at (before h).paths n) d.0).bytes
 
-          sent : (b : Bool) → d.0.first ≡ b → Agrees (more n h (if b then Begun (handle_at d.0.link s.links.links) ∷ [] else [])) (event.TransferSent d.0 bytes ∷ es)
-          sent true e = first_sent_agree (credits n h) d.0 bytes s (tied_after life es) e (frame_can window s d.0 (ap (next_frame window) (sym now) ∙ d.1) e) all
-          sent false e = later_sent_agree (credits n h) d.0 bytes s e all
-      unit_agrees (unit.Dispose x) d = mute_agree (credits n h) event.DisposeSent s refl (tied_after life es) all
-      unit_agrees (unit.Settle x) d = mute_agree (credits n h) (event.SettleSent x) s refl (tied_after life es) all
-      unit_agrees (unit.Detach link handle why) d = mute_agree (credits n h) event.DetachSent s refl (tied_after life es) all
+          sent : (b : Bool) → d.0.first ≡ b → Agrees ((if b then Begun (handle_at d.0.link s.links.links) ∷ [] else []) ++ link_steps n h) (event.TransferSent d.0 bytes ∷ es)
+          sent true e = r.first_sent (link_steps n h) d.0 bytes s (tied_after life es) e (frame_can window s d.0 (ap (next_frame window) (sym now) ∙ d.1) e) all
+          sent false e = r.later_sent (link_steps n h) d.0 bytes s e all
+      unit_agrees (unit.Dispose x) less d = r.mute (link_steps n h) event.DisposeSent s refl (tied_after life es) all
+      unit_agrees (unit.Settle x) less d = r.mute (link_steps n h) (event.SettleSent x) s refl (tied_after life es) all
+      unit_agrees (unit.Detach link handle why) less d = r.mute (link_steps n h) event.DetachSent s refl (tied_after life es) all
 
-      up_agrees : (later : Bool) (u : UpUnit) → OfSession (IsDue (before h)) u → Agrees (more n h (up_step n u)) (up_events later n u ++ es)
-      up_agrees later (up.OnSession k u) d = by (k == n) refl
+      up_agrees : (later : Bool) (u : UpUnit) (text : List ℕ) → attaches_in (Gave (ToUp u) text ∷ h) ≤ 2 ^ 64 → OfSession (IsDue (before h)) u → Agrees ((up_step n u) ++ link_steps n h) (up_events later n u ++ es)
+      up_agrees later (up.OnSession k u) text less d = by (k == n) refl
         where
-          by : (b : Bool) → (k == n) ≡ b → Agrees (more n h (if b then given_step u else [])) ((if b then given_event u ∷ [] else []) ++ es)
-          by true e = let same : k ≡ n = grind (arith, nat_tests, e) in unit_agrees u (subst (λ (i : ℕ). IsDue (before h) i u) same d)
+          short : (u : SessionUnit) → attaches_in (Gave (ToUp (up.OnSession k u)) text ∷ h) ≤ 2 ^ 64 → IsShort u
+          short (unit.Attach a) l = omega (arith, l)
+          short u l = tt
+
+          by : (b : Bool) → (k == n) ≡ b → Agrees ((if b then given_step u else []) ++ link_steps n h) ((if b then given_event u ∷ [] else []) ++ es)
+          by true e = let same : k ≡ n = grind (arith, nat_tests, e) in unit_agrees u (short u less) (subst (λ (i : ℕ). IsDue (before h) i u) same d)
           by false e = all
-      up_agrees later (up.End k why) d = mutes_agree (credits n h) life (up_events later n (up.End k why)) es (ends_all IsMute mute later n k why) all
-      up_agrees later u d = all
+      up_agrees later (up.End k why) text less d = all_mute P r life (link_steps n h) (up_events later n (up.End k why)) es (ends_all IsMute mute later n k why) all
+      up_agrees later u text less d = all
 
   -- a step of the client, or of no unit
   other_agrees : (step : Step) (h : List Step) → gives_up step ≡ false → hears step ≡ false
-      → (path_life h n ≡ Some life → Agrees (credits n h) (path_events h n)) → path_life (step ∷ h) n ≡ Some life → Agrees (credits n h) (path_events (step ∷ h) n)
+      → (path_life h n ≡ Some life → Agrees (link_steps n h) (path_events h n)) → path_life (step ∷ h) n ≡ Some life → Agrees (link_steps n h) (path_events (step ∷ h) n)
   other_agrees step h e f old = by (opens_channel n h step)
     where
-      by : (b : Bool) → (if b then Some ((peers h).opened + 1) else path_life h n) ≡ Some life → Agrees (credits n h) (if b then [] else step_events n h step ++ path_events h n)
-      by true l = λ m. refl
-      by false l = mutes_agree (credits n h) life (step_events n h step) (path_events h n) (other_all IsMute mute n h step e f) (old l)
+      by : (b : Bool) → (if b then Some ((peers h).opened + 1) else path_life h n) ≡ Some life → Agrees (link_steps n h) (if b then [] else step_events n h step ++ path_events h n)
+      by true l = r.none _ (new_table 255)
+      by false l = all_mute P r life (link_steps n h) (step_events n h step) (path_events h n) (other_all IsMute mute n h step e f) (old l)
 
 -- ---- the names of all steps
 
@@ -454,20 +466,80 @@ names_are n (s ∷ h) p less = names_on (credits n h) _ (attaches_in h) _ (omega
 
 -- ---- all steps
 
+-- the names of the attaches are below their count
+asks_none : (m : ℕ) (xs ys : List LinkStep) → AllByRecursion (λ x. asks x ≡ false) xs → asked_as m (xs ++ ys) ≡ asked_as m ys
+asks_none m [] ys a = refl
+asks_none m (Asked link handle name ∷ xs) ys a = absurd (let no : true ≡ false = a.0 in cc)
+asks_none m (Answered name peer ∷ xs) ys a = asks_none m xs ys a.1
+asks_none m (Flowed peer count credit ∷ xs) ys a = asks_none m xs ys a.1
+asks_none m (Begun handle ∷ xs) ys a = asks_none m xs ys a.1
+asks_none m (Told link handle count ∷ xs) ys a = asks_none m xs ys a.1
+
+abbrev AreBelow : List LinkStep → ℕ → Type 0
+AreBelow xs most = (m link : ℕ) → asked_as m xs ≡ Some link → m < most
+
+below_more : (xs ys : List LinkStep) (most up : ℕ) → most ≤ up → AllByRecursion (λ x. asks x ≡ false) xs → AreBelow ys most → AreBelow (xs ++ ys) up
+below_more xs ys most up le a old = λ m link e. let less : m < most = old m link (sym (asks_none m xs ys a) ∙ e) in omega (arith, less, le)
+
+given_below : (n : ℕ) (h : List Step) (u : UpUnit) (text : List ℕ) → ArePicks h → OfSession (IsDue (before h)) u → attaches_in (Gave (ToUp u) text ∷ h) ≤ 2 ^ 64
+    → (attaches_in h ≤ 2 ^ 64 → AreBelow (link_steps n h) (attaches_in h)) → AreBelow (link_steps n (Gave (ToUp u) text ∷ h)) (attaches_in (Gave (ToUp u) text ∷ h))
+given_below n h (up.OnSession k (unit.Attach a)) text p d less old = by (k == n)
+  where
+    before_less : attaches_in h < 2 ^ 64
+    before_less = omega (arith, less)
+
+    name : a.name ≡ attaches_in h
+    name = ap (λ (x : AttachOut). x.name) d.2 ∙ (named_by_steps h p).counted before_less
+
+    earlier : AreBelow (link_steps n h) (attaches_in h)
+    earlier = old (omega (arith, less))
+
+    asked : (m link : ℕ) (b : Bool) → (a.name == m) ≡ b → (if b then Some a.link else asked_as m (link_steps n h)) ≡ Some link → m < attaches_in h + 1
+    asked m link true e f = let same : a.name ≡ m = grind (arith, nat_tests, e) in omega (arith, same, name)
+    asked m link false e f = let under : m < attaches_in h = earlier m link f in omega (arith, under)
+
+    by : (b : Bool) → AreBelow ((if b then Asked a.link a.handle a.name ∷ [] else []) ++ link_steps n h) (attaches_in h + 1)
+    by true = λ m link e. asked m link (a.name == m) refl e
+    by false = λ m link e. let under : m < attaches_in h = earlier m link e in omega (arith, under)
+given_below n h (up.OnSession k (unit.Flow f)) text p d less old = below_more _ (link_steps n h) (attaches_in h) _ (omega arith) (none_asks (k == n) _ (refl, tt)) (old (omega (arith, less)))
+given_below n h (up.OnSession k (unit.Transfer t)) text p d less old =
+    below_more _ (link_steps n h) (attaches_in h) _ (omega arith) (none_asks (k == n) _ (frame_asks t.frame.first t.handle)) (old (omega (arith, less)))
+given_below n h (up.OnSession k (unit.Dispose x)) text p d less old = below_more _ (link_steps n h) (attaches_in h) _ (omega arith) (none_asks (k == n) _ tt) (old (omega (arith, less)))
+given_below n h (up.OnSession k (unit.Settle x)) text p d less old = below_more _ (link_steps n h) (attaches_in h) _ (omega arith) (none_asks (k == n) _ tt) (old (omega (arith, less)))
+given_below n h (up.OnSession k (unit.Detach link handle why)) text p d less old =
+    below_more _ (link_steps n h) (attaches_in h) _ (omega arith) (none_asks (k == n) _ tt) (old (omega (arith, less)))
+given_below n h u text p d less old = below_more [] (link_steps n h) (attaches_in h) _ (omega arith) tt (old (omega (arith, less)))
+
+asked_below : (n : ℕ) (h : List Step) → ArePicks h → attaches_in h ≤ 2 ^ 64 → AreBelow (link_steps n h) (attaches_in h)
+asked_below n [] p less = λ m link e. absurd cc
+asked_below n (Gave (ToUp u) text ∷ h) p less = given_below n h u text p.1 (goes_up_as (IsDue (before h)) (before h) u (is_due (before h)) p.0.1) less (asked_below n h p.1)
+asked_below n (Heard u ∷ h) p less = below_more _ (link_steps n h) (attaches_in h) _ (omega arith) (heard_asks n h u) (asked_below n h p.1 less)
+asked_below n (s ∷ h) p less = asked_below n h p.1 less
+
+new_name : (n : ℕ) (h : List Step) → ArePicks h → attaches_in h < 2 ^ 64 → IsNewName (before h).attached (link_steps n h)
+new_name n h p less = λ m link e.
+    let under : m < attaches_in h = asked_below n h p (omega (arith, less)) m link e in
+    let is : (before h).attached ≡ attaches_in h = (named_by_steps h p).counted less in
+    ne_to (before h).attached m (λ same. omega (arith, same, under, is))
+
 less_before : (h : List Step) (u : UpUnit) (text : List ℕ) → attaches_in (Gave (ToUp u) text ∷ h) ≤ 2 ^ 64 → attaches_in h ≤ 2 ^ 64
 less_before h u text less = omega (arith, less)
 
 module _ (arrives : DeliveriesAre) (closed : ClosedAre) (calls : CallsAre) where
+  pub agree_by : (P : List LinkStep → LinksState → Type 0) → Rules P → (n : ℕ) → n ≤ CHANNEL_MAX → (h : List Step) → ArePicks h → attaches_in h ≤ 2 ^ 64 → (life : ℕ) → path_life h n ≡ Some life
+      → P (link_steps n h) (after_events life (path_events h n)).links
+  agree_by P r n below [] p less life l = absurd cc
+  agree_by P r n below (Gave (ToUp u) text ∷ h) p less life l =
+      up_agrees P r n life below h p.1 l (agree_by P r n below h p.1 (less_before h u text less) life l) (new_name n h p.1)
+      (grants_receive arrives life (path_events h n) (have_room arrives closed calls n life below h p.1 l (is_there h u p.1 p.0.1)))
+      (is_later (connection h) u) u text less (goes_up_as (IsDue (before h)) (before h) u (is_due (before h)) p.0.1)
+  agree_by P r n below (Heard u ∷ h) p less life l =
+      heard_agrees P r n life below h p.1 l (agree_by P r n below h p.1 less life l) (distinct (credits n h) (attaches_in h) (names_are n h p.1 less)) u
+  agree_by P r n below (s ∷ h) p less life l = other_agrees P r n life below s h refl refl (agree_by P r n below h p.1 less life) l
+
   agrees : (n : ℕ) → n ≤ CHANNEL_MAX → (h : List Step) → ArePicks h → attaches_in h ≤ 2 ^ 64 → (life : ℕ) → path_life h n ≡ Some life
       → AllAgree (credits n h) (after_events life (path_events h n)).links
-  agrees n below [] p less life l = absurd cc
-  agrees n below (Gave (ToUp u) text ∷ h) p less life l =
-      up_agrees n life below h p.1 l (agrees n below h p.1 (less_before h u text less) life l)
-      (grants_receive arrives life (path_events h n) (have_room arrives closed calls n life below h p.1 l (is_there h u p.1 p.0.1)))
-      (is_later (connection h) u) u (goes_up_as (IsDue (before h)) (before h) u (is_due (before h)) p.0.1)
-  agrees n below (Heard u ∷ h) p less life l =
-      heard_agrees n life below h p.1 l (agrees n below h p.1 less life l) (distinct (credits n h) (attaches_in h) (names_are n h p.1 less)) u
-  agrees n below (s ∷ h) p less life l = other_agrees n life below s h refl refl (agrees n below h p.1 less life) l
+  agrees = agree_by (λ xs s. AllAgree (λ k. credit_by k xs) s) credit_rules
 
   begins : (h : List Step) (n : ℕ) (t : TransferOut) → ArePicks h → IsDue (before h) n (unit.Transfer t) → t.frame.first ≡ true → attaches_in h ≤ 2 ^ 64 → HasCredit (link_steps n h) t.handle
   begins h n t p d first less = by (slot_at (before h).paths n) refl d.1 d.2

@@ -16,6 +16,7 @@ pub mod Folds
 pub mod Frames
 pub mod Giving
 pub mod Handles
+pub mod Hears
 pub mod Holding
 pub mod Linger
 pub mod LinkCredits

@@ -26,6 +26,7 @@ ghost use Rattle.gate_model.specs.Folds.{connection, container, moment_in, numbe
 ghost use Rattle.gate_model.specs.Folds.{side_in};
 ghost use Rattle.gate_model.specs.Giving.{GivesUpIdle};
 ghost use Rattle.gate_model.specs.Handles.{NamesItsHandles};
+ghost use Rattle.gate_model.specs.Hears.{HearsLinks};
 ghost use Rattle.gate_model.specs.Holding.{HoldsFew, TakesWithRoom};
 ghost use Rattle.gate_model.specs.Losses.{LosesPublishes};
 ghost use Rattle.gate_model.specs.Oks.{AnswersInOrder};
@@ -681,6 +682,18 @@ pub fn handles_are_links()
     publishes_lawfully();
     payloads_lawfully();
     links_lawfully();
+    deliveries_lawfully();
+    calls_lawfully();
+    numbers_lawfully();
+}
+
+/// What the container sends under a handle of its own counts on the link that its last attach with
+/// that handle answered: the link of the gateway's last attach under the name that it stated. It is
+/// so of the first 2^64 attaches, which have names of their own.
+pub fn containers_name_their_links()
+    ensures { (h : List Step) → ArePicks h → HearsLinks h }
+{
+    connection_laws();
     deliveries_lawfully();
     calls_lawfully();
     numbers_lawfully();
