@@ -35,10 +35,11 @@ use Rattle.session_path.specs.declared.path.Stage.{Stage}
 use Rattle.session_path.specs.declared.path.Stage.TheVariants as stage
 use Rattle.session_path.proofs.SameLinks.{attach_same, disposed_same, flow_sent_same, flowed_if, flowed_same, got_links, got_same, transfer_same}
 use Rattle.session_path.proofs.Tied.{Tied, tied_after}
-use Rattle.session_path.proofs.Ties.{and_left, dropped, eq_of, eq_to, found_number, found_passes, gone_is, ne_to, no_clash, not_false}
+use Rattle.session_path.proofs.Ties.{and_left, and_right, dropped, eq_of, eq_to, found_number, found_passes, gone_is, ne_to, no_clash, not_false}
 use Rattle.session_path.proofs.Wanted.{absent, free_none, link_to_new}
 use Rattle.gate_model.specs.Addresses.{target_of}
 use Rattle.gate_model.specs.Giving.{AreDone}
+use Rattle.gate_model.proofs.Basics.{or_one}
 use Rattle.gate_model.proofs.Fates.{IsToGo, least_passes, to_go}
 use Rattle.gate_model.proofs.LinkCredits.{apart, found_filter, inserted_here, inserted_other, left_handle, mapped_here, mapped_other, none_passes, or_none}
 use Rattle.gate_model.proofs.LinkCredits.{placed_here, placed_other, pushed, stage_asked, up_handle, without_here, without_other}
@@ -303,11 +304,7 @@ framed_go a xs ys ds number first part stays ready all k taken go =
 
     begun : (b : Bool) → (k == number) ≡ b → (f.begun || b) ≡ true → old.link.attached ≡ true
     begun true e g = now (subst (λ (i : ℕ). ((fate_of i ds).begun ≡ true) ⊎ (can_send (link_of xs (fate_of i ds).link) ≡ true)) (sym (eq_of k number e)) ready)
-    begun false e g = old.attached (right f.begun g)
-      where
-        right : (c : Bool) → (c || false) ≡ true → c ≡ true
-        right true e = refl
-        right false e = e
+    begun false e g = old.attached (sym (or_one f.begun) ∙ g)
 
 -- ---- the frame that goes
 
@@ -326,10 +323,6 @@ sends xs ds frame e = by _ refl _ refl e
         by false true r i = refl
         by false false r i = absurd cc
 
-    right : (b c : Bool) → (b && c) ≡ true → c ≡ true
-    right true c i = i
-    right false c i = absurd cc
-
     by : (p : Option ℕ) → least (λ n. goes_on (fate_of n ds)) (numbers_of ds) ≡ p → (q : Option ℕ) → least (λ n. may_begin xs (fate_of n ds)) (numbers_of ds) ≡ q
         → option_or (option_map (frame_at false ds) p) (option_map (frame_at true ds) q) ≡ Some frame → Sends xs ds frame
     by (Some k) i q j g =
@@ -337,7 +330,7 @@ sends xs ds frame e = by _ refl _ refl e
         subst (Sends xs ds) same (record { link = refl; ready = inl (begun (fate_of k ds) (least_passes (λ n. goes_on (fate_of n ds)) (numbers_of ds) k i).2) })
     by None i (Some k) j g =
         let same : frame_at true ds k ≡ frame = cc in
-        subst (Sends xs ds) same (record { link = refl; ready = inr (right _ _ (least_passes (λ n. may_begin xs (fate_of n ds)) (numbers_of ds) k j).2) })
+        subst (Sends xs ds) same (record { link = refl; ready = inr (and_right _ _ (least_passes (λ n. may_begin xs (fate_of n ds)) (numbers_of ds) k j).2) })
     by None i None j g = absurd cc
 
 -- ---- both, after some events
@@ -466,10 +459,6 @@ module _ (f a : Names) (c : ℕ) (ds : List PublishEvent) where
   fails : (peer : ℕ) (fault : TransferFault) (s : LinksState) → Tied s → On s → On (failed_on (named peer s) fault s)
   fails peer fault s t h = by (named peer s) refl
     where
-      right : (b c : Bool) → (b && c) ≡ true → c ≡ true
-      right true c i = i
-      right false c i = absurd cc
-
       one : (l : PathLink) → l.receives ≡ true → (o : Option SendingLink) → At f o (Some l) → At f o (Some (failed_by fault l))
       one l role None x = tt
       one l role (Some y) x = absurd (no_clash l.receives role x.0)
@@ -477,7 +466,7 @@ module _ (f a : Names) (c : ℕ) (ds : List PublishEvent) where
       if_so : (l : PathLink) → named peer s ≡ Some l → (b : Bool) → (is_stage_whole l.stage && l.receives) ≡ b → On (cond b (record s { links = put (failed_by fault l) s.links }) s)
       if_so l e false g = h
       if_so l e true g =
-          as_sent s (record s { links = put (failed_by fault l) s.links }) refl (placed f s l (failed_by fault l) (named_there peer s l t e) refl (one l (right _ _ g))) h
+          as_sent s (record s { links = put (failed_by fault l) s.links }) refl (placed f s l (failed_by fault l) (named_there peer s l t e) refl (one l (and_right _ _ g))) h
 
       by : (o : Option PathLink) → named peer s ≡ o → On (failed_on o fault s)
       by None e = h
