@@ -11,7 +11,6 @@ use Rattle.gate_turn_laws.specs.Lines.{told_lines}
 use Rattle.gate_turn_laws.specs.Log.{IsPlain, IsWholeRun}
 use Rattle.gate_turn_laws.specs.Quiet.{IdlesAtRest, IdlesInSilence}
 use Rattle.gate_model.specs.Asked.{AreCalledFor, GoesWhenDue}
-use Rattle.gate_model.specs.Addresses.{ReachesAddress}
 use Rattle.gate_model.specs.Frames.{FitsClients, FitsContainers}
 use Rattle.gate_model.specs.Oks.{AnswersInOrder}
 use Rattle.gate_model.specs.Once.{AnswersOnce}
@@ -28,7 +27,6 @@ use Rattle.gate_model.specs.Dues.{EndsContainers}
 use Rattle.gate_model.specs.Errors.{StatesErrors}
 use Rattle.gate_model.specs.Faults.{StatesFaults}
 use Rattle.gate_model.specs.Giving.{GivesUpIdle}
-use Rattle.gate_model.specs.Handles.{NamesItsHandles}
 use Rattle.gate_model.specs.Holding.{HoldsFew, TakesWithRoom}
 use Rattle.gate_model.specs.Linger.{Lingers}
 use Rattle.gate_model.specs.LinkCredits.{CreditIsKept}
@@ -37,13 +35,11 @@ use Rattle.gate_model.specs.Parting.{StopsWhenClosed}
 use Rattle.gate_model.specs.Passed.{StatesPassed}
 use Rattle.gate_model.specs.Publishing.{ArePieces, Confirms, EndWhole, Returns, Transfers}
 use Rattle.gate_model.specs.Reasons.{ClosesOnce, SaysWhy}
-use Rattle.gate_model.specs.Records.{Records}
 use Rattle.gate_model.specs.Recovers.{GoBack, GoBeforeLeaving, LeavesOthers}
 use Rattle.gate_model.specs.Releases.{Releases}
 use Rattle.gate_model.specs.Repeats.{AttachesOnce, EndsOnce, FlowsOnce, SettlesInOrder}
 use Rattle.gate_model.specs.Reports.{lines_owed}
 use Rattle.gate_model.specs.Rests.{ServesClients, SuppliesContainers}
-use Rattle.gate_model.specs.Selects.{CountsFromSelect}
 use Rattle.gate_model.specs.Settles.{Grants, Settles}
 use Rattle.gate_model.specs.Setup.{IsInForm, SetupText}
 use Rattle.gate_model.specs.Sources.{GetsFromItsQueue}
@@ -77,19 +73,16 @@ pub record IsLawfulPair (s : SetupText) (h : List Entry) : Type 0 where
   pub declared : DeclaresFound (steps_of s h)
   -- nothing of a channel is taken up while its request waits
   pub turns : TakesInTurn (steps_of s h)
-  -- each confirm covers publishes with the outcome that it tells, accepted ones by an ack, and its
-  -- number counts from the first confirm.select; frames of returns are those of mandatory publishes
-  -- that no queue took; frames of transfers go within credit and window, in order, carry each byte
-  -- of an image once, and go to the address of their publish
+  -- each confirm covers publishes with the outcome that it tells, accepted ones by an ack; frames
+  -- of returns are those of mandatory publishes that no queue took; frames of transfers go within
+  -- credit and window, in order, and carry each byte of an image once
   pub confirms : Confirms (steps_of s h)
-  pub numbered : CountsFromSelect (steps_of s h)
   pub returns : Returns (steps_of s h)
   pub transfers : Transfers (steps_of s h)
   -- the credit is what all that went and came on the link leaves of it
   pub credit : CreditIsKept (steps_of s h)
   pub pieces : ArePieces (steps_of s h)
   pub wholes : EndWhole (steps_of s h)
-  pub reached : ReachesAddress (steps_of s h)
   -- a link that is given up for its handle has no publish without outcome
   pub given : GivesUpIdle (steps_of s h)
   -- each deliver is the next of its link, within the prefetch of its consumer and of all
@@ -125,10 +118,6 @@ pub record IsLawfulPair (s : SetupText) (h : List Entry) : Type 0 where
   pub outcomes : SettlesInOrder (steps_of s h)
   pub flows : FlowsOnce (steps_of s h)
   pub attaches : AttachesOnce (steps_of s h)
-  -- each unit of a link goes under its handle, which no other link has; and what is recorded of
-  -- its deliveries is what went
-  pub handles : NamesItsHandles (steps_of s h)
-  pub records : Records (steps_of s h)
   -- a receiving link is attached to the queue that it is for; a basic.get has its message of its own
   pub sources : GetsFromItsQueue (steps_of s h)
   -- a detach states an error for a transfer that passed that limit alone, and for each such one

@@ -5,7 +5,6 @@
 #![tactic(auto)]
 
 ghost use Rattle.std.specs.Prelude.{◌≡◌, ℕ, false, Option, Some, List};
-ghost use Rattle.gate_model.specs.Addresses.{ReachesAddress};
 ghost use Rattle.gate_model.specs.Asked.{AreCalledFor, GoesWhenDue};
 ghost use Rattle.gate_model.specs.Frames.{FitsClients, FitsContainers};
 ghost use Rattle.gate_model.specs.Oks.{AnswersInOrder};
@@ -23,7 +22,6 @@ ghost use Rattle.gate_model.specs.Dues.{EndsContainers};
 ghost use Rattle.gate_model.specs.Errors.{StatesErrors};
 ghost use Rattle.gate_model.specs.Faults.{StatesFaults};
 ghost use Rattle.gate_model.specs.Giving.{GivesUpIdle};
-ghost use Rattle.gate_model.specs.Handles.{NamesItsHandles};
 ghost use Rattle.gate_model.specs.Holding.{HoldsFew, TakesWithRoom};
 ghost use Rattle.gate_model.specs.Linger.{Lingers};
 ghost use Rattle.gate_model.specs.LinkCredits.{CreditIsKept};
@@ -32,13 +30,11 @@ ghost use Rattle.gate_model.specs.Parting.{StopsWhenClosed};
 ghost use Rattle.gate_model.specs.Passed.{StatesPassed};
 ghost use Rattle.gate_model.specs.Publishing.{ArePieces, Confirms, EndWhole, Returns, Transfers};
 ghost use Rattle.gate_model.specs.Reasons.{ClosesOnce, SaysWhy};
-ghost use Rattle.gate_model.specs.Records.{Records};
 ghost use Rattle.gate_model.specs.Recovers.{GoBack, GoBeforeLeaving, LeavesOthers};
 ghost use Rattle.gate_model.specs.Releases.{Releases};
 ghost use Rattle.gate_model.specs.Repeats.{AttachesOnce, EndsOnce, FlowsOnce, SettlesInOrder};
 ghost use Rattle.gate_model.specs.Reports.{lines_owed};
 ghost use Rattle.gate_model.specs.Rests.{ServesClients, SuppliesContainers};
-ghost use Rattle.gate_model.specs.Selects.{CountsFromSelect};
 ghost use Rattle.gate_model.specs.Settles.{Grants, Settles};
 ghost use Rattle.gate_model.specs.Setup.{IsInForm, SetupText};
 ghost use Rattle.gate_model.specs.Sources.{GetsFromItsQueue};
@@ -175,8 +171,7 @@ pub fn channels_are_answered_once()
 /// one goes only where what went and came on its link leaves that a credit of one; it carries the
 /// first bytes that are left of the payload. So the frames of a publish carry the text of the
 /// image of its message, each byte once and in order, and all of it once one says that no more
-/// follows. They go under a handle that an attach of the gateway tied to the address that the
-/// publish asked for. Confirm numbers count from the first confirm.select of a channel's life.
+/// follows.
 pub fn publishes_are_lawful()
     ensures confirms { (s : SetupText) (c : Limits) (m : History) → Follows (pair_words s) c m
         → (p : ℕ) → Confirms (steps_of s (journal p m)) }
@@ -190,10 +185,6 @@ pub fn publishes_are_lawful()
         → (p : ℕ) → ArePieces (steps_of s (journal p m)) }
     ensures end { (s : SetupText) (c : Limits) (m : History) → Follows (pair_words s) c m
         → (p : ℕ) → EndWhole (steps_of s (journal p m)) }
-    ensures reached { (s : SetupText) (c : Limits) (m : History) → Follows (pair_words s) c m
-        → (p : ℕ) → ReachesAddress (steps_of s (journal p m)) }
-    ensures numbers { (s : SetupText) (c : Limits) (m : History) → Follows (pair_words s) c m
-        → (p : ℕ) → CountsFromSelect (steps_of s (journal p m)) }
 {
     entries_are_lawful();
     gate_model::confirms_are_lawful();
@@ -201,8 +192,6 @@ pub fn publishes_are_lawful()
     gate_model::transfers_are_lawful();
     gate_model::credit_is_kept();
     gate_model::payloads_are_whole();
-    gate_model::publishes_reach_their_address();
-    gate_model::confirms_count_from_select();
 }
 
 /// Each deliver that goes to a client is of a message of which none went and which nothing settled,
@@ -341,8 +330,7 @@ pub fn sessions_end_in_time()
 /// 2^64 attaches no two have one name. A detach states an error only where a transfer passed that
 /// limit of its link, and states it wherever the container didn't detach the link since. An attach
 /// of a receiving link names the queue that it is for, and a basic.get-ok's delivery came on one to
-/// the queue of its basic.get. A flow, a transfer and a detach go under the handle of their link,
-/// and no attach under one that a link has. What is recorded of the deliveries is what went.
+/// the queue of its basic.get.
 pub fn links_are_answered_once()
     ensures outcomes { (s : SetupText) (c : Limits) (m : History) → Follows (pair_words s) c m
         → (p : ℕ) → SettlesInOrder (steps_of s (journal p m)) }
@@ -350,10 +338,6 @@ pub fn links_are_answered_once()
         → (p : ℕ) → FlowsOnce (steps_of s (journal p m)) }
     ensures attaches { (s : SetupText) (c : Limits) (m : History) → Follows (pair_words s) c m
         → (p : ℕ) → AttachesOnce (steps_of s (journal p m)) }
-    ensures handles { (s : SetupText) (c : Limits) (m : History) → Follows (pair_words s) c m
-        → (p : ℕ) → NamesItsHandles (steps_of s (journal p m)) }
-    ensures records { (s : SetupText) (c : Limits) (m : History) → Follows (pair_words s) c m
-        → (p : ℕ) → Records (steps_of s (journal p m)) }
     ensures sources { (s : SetupText) (c : Limits) (m : History) → Follows (pair_words s) c m
         → (p : ℕ) → GetsFromItsQueue (steps_of s (journal p m)) }
     ensures faults { (s : SetupText) (c : Limits) (m : History) → Follows (pair_words s) c m
@@ -365,8 +349,6 @@ pub fn links_are_answered_once()
     gate_model::outcomes_are_answered();
     gate_model::flows_are_answered();
     gate_model::attaches_go_once();
-    gate_model::handles_are_links();
-    gate_model::units_are_recorded();
     gate_model::gets_come_from_their_queues();
     gate_model::detaches_state_faults();
 }
