@@ -10,6 +10,7 @@ use Rattle.gate_turn_laws.specs.Laws.{KeepsTurns}
 use Rattle.gate_turn_laws.specs.Lines.{told_lines}
 use Rattle.gate_turn_laws.specs.Log.{IsPlain, IsWholeRun}
 use Rattle.gate_turn_laws.specs.Quiet.{IdlesAtRest, IdlesInSilence}
+use Rattle.gate_model.specs.Addresses.{ReachesAddress}
 use Rattle.gate_model.specs.Asked.{AreCalledFor, GoesWhenDue}
 use Rattle.gate_model.specs.Frames.{FitsClients, FitsContainers}
 use Rattle.gate_model.specs.Oks.{AnswersInOrder}
@@ -27,6 +28,8 @@ use Rattle.gate_model.specs.Dues.{EndsContainers}
 use Rattle.gate_model.specs.Errors.{StatesErrors}
 use Rattle.gate_model.specs.Faults.{StatesFaults}
 use Rattle.gate_model.specs.Giving.{GivesUpIdle}
+use Rattle.gate_model.specs.Handles.{NamesItsHandles}
+use Rattle.gate_model.specs.Hears.{HearsLinks}
 use Rattle.gate_model.specs.Holding.{HoldsFew, TakesWithRoom}
 use Rattle.gate_model.specs.Linger.{Lingers}
 use Rattle.gate_model.specs.LinkCredits.{CreditIsKept}
@@ -35,11 +38,13 @@ use Rattle.gate_model.specs.Parting.{StopsWhenClosed}
 use Rattle.gate_model.specs.Passed.{StatesPassed}
 use Rattle.gate_model.specs.Publishing.{ArePieces, Confirms, EndWhole, Returns, Transfers}
 use Rattle.gate_model.specs.Reasons.{ClosesOnce, SaysWhy}
+use Rattle.gate_model.specs.Records.{Records}
 use Rattle.gate_model.specs.Recovers.{GoBack, GoBeforeLeaving, LeavesOthers}
 use Rattle.gate_model.specs.Releases.{Releases}
 use Rattle.gate_model.specs.Repeats.{AttachesOnce, EndsOnce, FlowsOnce, SettlesInOrder}
 use Rattle.gate_model.specs.Reports.{lines_owed}
 use Rattle.gate_model.specs.Rests.{ServesClients, SuppliesContainers}
+use Rattle.gate_model.specs.Selects.{CountsFromSelect}
 use Rattle.gate_model.specs.Settles.{Grants, Settles}
 use Rattle.gate_model.specs.Setup.{IsInForm, SetupText}
 use Rattle.gate_model.specs.Sources.{GetsFromItsQueue}
@@ -81,6 +86,10 @@ pub record IsLawfulPair (s : SetupText) (h : List Entry) : Type 0 where
   pub transfers : Transfers (steps_of s h)
   -- the credit is what all that went and came on the link leaves of it
   pub credit : CreditIsKept (steps_of s h)
+  -- each frame goes under a handle that is tied to the address that its publish asked for; which
+  -- publishes wait for a confirm, and its number, is said by the first confirm.select
+  pub reaches : ReachesAddress (steps_of s h)
+  pub numbers : CountsFromSelect (steps_of s h)
   pub pieces : ArePieces (steps_of s h)
   pub wholes : EndWhole (steps_of s h)
   -- a link that is given up for its handle has no publish without outcome
@@ -118,6 +127,11 @@ pub record IsLawfulPair (s : SetupText) (h : List Entry) : Type 0 where
   pub outcomes : SettlesInOrder (steps_of s h)
   pub flows : FlowsOnce (steps_of s h)
   pub attaches : AttachesOnce (steps_of s h)
+  -- what goes on a link goes under its handle, and what comes under a handle of the container
+  -- counts on the link that it names; and what is recorded of its deliveries is what went
+  pub handles : NamesItsHandles (steps_of s h)
+  pub heard : HearsLinks (steps_of s h)
+  pub recorded : Records (steps_of s h)
   -- a receiving link is attached to the queue that it is for; a basic.get has its message of its own
   pub sources : GetsFromItsQueue (steps_of s h)
   -- a detach states an error for a transfer that passed that limit alone, and for each such one

@@ -5,6 +5,7 @@
 #![tactic(auto)]
 
 ghost use Rattle.std.specs.Prelude.{◌≡◌, ℕ, false, Option, Some, List};
+ghost use Rattle.gate_model.specs.Addresses.{ReachesAddress};
 ghost use Rattle.gate_model.specs.Asked.{AreCalledFor, GoesWhenDue};
 ghost use Rattle.gate_model.specs.Frames.{FitsClients, FitsContainers};
 ghost use Rattle.gate_model.specs.Oks.{AnswersInOrder};
@@ -22,6 +23,8 @@ ghost use Rattle.gate_model.specs.Dues.{EndsContainers};
 ghost use Rattle.gate_model.specs.Errors.{StatesErrors};
 ghost use Rattle.gate_model.specs.Faults.{StatesFaults};
 ghost use Rattle.gate_model.specs.Giving.{GivesUpIdle};
+ghost use Rattle.gate_model.specs.Handles.{NamesItsHandles};
+ghost use Rattle.gate_model.specs.Hears.{HearsLinks};
 ghost use Rattle.gate_model.specs.Holding.{HoldsFew, TakesWithRoom};
 ghost use Rattle.gate_model.specs.Linger.{Lingers};
 ghost use Rattle.gate_model.specs.LinkCredits.{CreditIsKept};
@@ -30,11 +33,13 @@ ghost use Rattle.gate_model.specs.Parting.{StopsWhenClosed};
 ghost use Rattle.gate_model.specs.Passed.{StatesPassed};
 ghost use Rattle.gate_model.specs.Publishing.{ArePieces, Confirms, EndWhole, Returns, Transfers};
 ghost use Rattle.gate_model.specs.Reasons.{ClosesOnce, SaysWhy};
+ghost use Rattle.gate_model.specs.Records.{Records};
 ghost use Rattle.gate_model.specs.Recovers.{GoBack, GoBeforeLeaving, LeavesOthers};
 ghost use Rattle.gate_model.specs.Releases.{Releases};
 ghost use Rattle.gate_model.specs.Repeats.{AttachesOnce, EndsOnce, FlowsOnce, SettlesInOrder};
 ghost use Rattle.gate_model.specs.Reports.{lines_owed};
 ghost use Rattle.gate_model.specs.Rests.{ServesClients, SuppliesContainers};
+ghost use Rattle.gate_model.specs.Selects.{CountsFromSelect};
 ghost use Rattle.gate_model.specs.Settles.{Grants, Settles};
 ghost use Rattle.gate_model.specs.Setup.{IsInForm, SetupText};
 ghost use Rattle.gate_model.specs.Sources.{GetsFromItsQueue};
@@ -192,6 +197,21 @@ pub fn publishes_are_lawful()
     gate_model::transfers_are_lawful();
     gate_model::credit_is_kept();
     gate_model::payloads_are_whole();
+}
+
+/// Each frame of a transfer that goes to a container goes under a handle that the gateway's last
+/// attach under it, since the channel was opened, tied to the address that its publish asked for.
+/// No detach of the gateway gave the handle back since. The publishes of a channel's life that wait
+/// for a confirm are those behind its first confirm.select, numbered from 1.
+pub fn publishes_reach_their_address()
+    ensures reaches { (s : SetupText) (c : Limits) (m : History) → Follows (pair_words s) c m
+        → (p : ℕ) → ReachesAddress (steps_of s (journal p m)) }
+    ensures numbers { (s : SetupText) (c : Limits) (m : History) → Follows (pair_words s) c m
+        → (p : ℕ) → CountsFromSelect (steps_of s (journal p m)) }
+{
+    entries_are_lawful();
+    gate_model::publishes_reach_their_address();
+    gate_model::confirms_count_from_select();
 }
 
 /// Each deliver that goes to a client is of a message of which none went and which nothing settled,
@@ -353,6 +373,24 @@ pub fn links_are_answered_once()
     gate_model::detaches_state_faults();
 }
 
+/// A flow, a transfer and a detach of a link go under the handle of the gateway's last attach of
+/// it, and no attach under a handle that a link of its session has. What the container sends under
+/// a handle of its own counts on the link that its last attach with that answered. What is recorded
+/// of the deliveries of a life where a disposition, a flow or a detach goes is what went.
+pub fn units_name_their_links()
+    ensures handles { (s : SetupText) (c : Limits) (m : History) → Follows (pair_words s) c m
+        → (p : ℕ) → NamesItsHandles (steps_of s (journal p m)) }
+    ensures heard { (s : SetupText) (c : Limits) (m : History) → Follows (pair_words s) c m
+        → (p : ℕ) → HearsLinks (steps_of s (journal p m)) }
+    ensures recorded { (s : SetupText) (c : Limits) (m : History) → Follows (pair_words s) c m
+        → (p : ℕ) → Records (steps_of s (journal p m)) }
+{
+    entries_are_lawful();
+    gate_model::handles_are_links();
+    gate_model::containers_name_their_links();
+    gate_model::units_are_recorded();
+}
+
 /// No answer, no deliver and no frame of its content goes on a channel that isn't open. A confirm,
 /// and a return that begins, go on one that is, or whose closing event was its container's doing. A
 /// channel.close has the reason for which its channel was closed, and each reason has one at most,
@@ -503,6 +541,7 @@ pub fn runs_are_lawful()
     requests_are_answered();
     requests_hold_what_follows();
     publishes_are_lawful();
+    publishes_reach_their_address();
     delivers_are_lawful();
     contents_are_lawful();
     deliveries_are_settled();
@@ -512,6 +551,7 @@ pub fn runs_are_lawful()
     declarations_find_queues();
     sessions_end_in_time();
     links_are_answered_once();
+    units_name_their_links();
     channels_close_lawfully();
     lines_are_lawful();
     owed_units_go();
