@@ -720,7 +720,7 @@ fn is_begun(container: &Option<Conn10>, channel: u16) -> bool
 }
 
 /// The container's end came, and the gateway's didn't go.
-fn is_ended(container: &Option<Conn10>, channel: u16) -> bool
+pub fn is_ended(container: &Option<Conn10>, channel: u16) -> bool
     ensures { result ≡ is_ended (session_in container.now channel) }
 {
     matches!(session_of(container, channel), Session::Ended(_))

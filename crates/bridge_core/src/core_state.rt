@@ -8,11 +8,12 @@ ghost use Rattle.std.specs.List.{position_or_len};
 ghost use Rattle.gate_outside.specs.declared.ports.End.TheVariants.{Client, Up};
 ghost use Rattle.gate_model.specs.State.{Moment, Fed, Silent, Queued, TakenUp, Joined};
 ghost use Rattle.gate_model.specs.State.{LinesTold, Lost, Whole, OutOfMemory, new_state, step};
+ghost use Rattle.gate_model.specs.Lives.{life_at};
 ghost use Rattle.gate_model.specs.State.{none_pending, is_foreign, closes_at, close_if};
 ghost use Rattle.gate_model.specs.State.{is_limit_reached, has_left, last_pending};
 ghost use Rattle.gate_model.specs.State.{with_last, fail, is_settled, lost_up};
 ghost use Rattle.gate_model.specs.State.{came};
-ghost use Rattle.gate_model.specs.State.{close_waits, paths_lost};
+ghost use Rattle.gate_model.specs.State.{close_waits, leaves_end, paths_lost};
 ghost use Rattle.gate_model.specs.State.{opened, place, waits};
 ghost use Rattle.gate_model.specs.State.{fed_by, is_held, left, owed_lines};
 ghost use Rattle.gate_model.specs.Spelling.{lines_text};
@@ -40,8 +41,8 @@ mod going;
 mod hearing;
 mod taking;
 
-use crate::channel_rows::{any_waits, is_waiting_on};
-use crate::lives::{CHANNELS, Lives};
+use crate::channel_rows::{any_waits, is_ended, is_waiting_on};
+use crate::lives::{CHANNELS, Lives, is_clear};
 use crate::moments::{closes_at, fed_by, is_overdue};
 use crate::paths::Paths;
 use crate::queue::{Queue, channel_of, waits_for_all};
@@ -640,7 +641,17 @@ impl Core {
             )
     }
 
-    /// A request of a channel does.
+    /// The container ended the session of a channel that may be opened again, and the gateway's end
+    /// is still to go.
+    fn leaves_end(&self, channel: u16) -> bool
+        ensures { result ≡ leaves_end self.now channel (life_at self.now.lives channel) }
+    {
+        !self.conn.is_closing()
+            && is_clear(self.lives.at(channel))
+            && is_ended(self.up.container(), channel)
+    }
+
+    /// A request of a channel does, or the gateway's end of its session.
     fn waits_on(&self, channel: u16) -> bool
         ensures { result ≡ (waits self.now).channel channel }
     {
@@ -651,7 +662,7 @@ impl Core {
             &self.paths,
             channel,
             self.lives.at(channel),
-        )
+        ) || self.leaves_end(channel)
     }
 
     /// Whether a unit to an end is between its first byte and its last.

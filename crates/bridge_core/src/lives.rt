@@ -1,7 +1,7 @@
 //! The channels of a client: what is due on each.
 
 ghost use Rattle.std.specs.Prelude.{◌≡◌, ◌≤◌, drop, false, length};
-ghost use Rattle.gate_model.specs.Lives.{life_at, no_life, no_lives, old_life, with_life};
+ghost use Rattle.gate_model.specs.Lives.{is_clear, life_at, no_life, no_lives, old_life, with_life};
 ghost use Rattle.bridge_core.specs.Flows.{FlowsFit};
 
 use crate::sessions::no_session;
@@ -26,6 +26,7 @@ pub fn no_life() -> Life
         close_ok: false,
         crossed_ok: false,
         close: None,
+        told: false,
         why: None,
         session: no_session(),
     }
@@ -41,6 +42,13 @@ pub fn old_life(life: Life) -> Life
         session: life.session,
         ..no_life()
     }
+}
+
+/// Nothing that ends it is due to the client or awaited of it.
+pub fn is_clear(life: Life) -> bool
+    ensures { result ≡ is_clear life }
+{
+    !life.told && !life.close_ok && life.close.is_none()
 }
 
 /// What is due on each channel.

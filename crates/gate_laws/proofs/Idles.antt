@@ -39,7 +39,7 @@ use Rattle.gate_model.specs.Requests.{client_step}
 use Rattle.gate_model.specs.State.{State, Step, Came, Joined, LinesTold, TakenUp, before, came}
 use Rattle.gate_model.specs.State.{close_waits}
 use Rattle.gate_model.specs.State.{condition_by, dequeued, is_channel_settled, is_held, is_settled}
-use Rattle.gate_model.specs.State.{keep_login, left, life_waits, next_unit, place, step, waits}
+use Rattle.gate_model.specs.State.{keep_login, leaves_end, left, life_waits, next_unit, place, step, waits}
 use Rattle.gate_model.specs.Upstream.{UpState, awaited_of, closing_with, has_closed, is_awaited_up}
 use Rattle.gate_model.proofs.Connections.{clash}
 use Rattle.gate_model.proofs.Known.{closing_is, conn_is, keep_is, known, side_is}
@@ -284,7 +284,8 @@ waits_more w =
       opening = λ x. x;
       some = either_of opening (close_waits w || lives) opening _ (λ x. x)
           (either_of (close_waits w) lives (close_waits (joined w)) _ (close_more w) (any_more (life_waits w) (life_waits (joined w)) 0 w.lives (life_more w)));
-      channel = λ n. life_more w n (life_at w.lives n);
+      channel = λ n. let l : Life = life_at w.lives n in
+          either_of (life_waits w n l) (leaves_end w n l) (life_waits (joined w) n l) (leaves_end (joined w) n l) (life_more w n l) (λ x. x);
     }
 
 client_linked : (w : State) → is_awaiting (joined w) Client ≡ true → is_awaiting w Client ≡ true

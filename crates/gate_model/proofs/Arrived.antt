@@ -1,4 +1,4 @@
--- Nothing arrived in a life whose session the container didn't begin, or ended before it began anew.
+-- Nothing arrived in a life whose session the container didn't begin; and no channel is open whose session it ended.
 use Rattle.std.proofs.Common.{◌≡◌, ℕ, ◌+◌, ◌==◌, ◌<◌, ◌⊎◌, inl, inr, ◌&&◌, ◌||◌, not, Bool, true, false}
 use Rattle.std.proofs.Common.{if◌then◌else◌, List, [], ◌∷◌, ◌++◌, length, Option, None, Some}
 use Rattle.std.proofs.Common.{refl, sym, ap, ◌∙◌, subst, zero, suc, replicate}
@@ -48,7 +48,7 @@ use Rattle.gate_model.specs.Requests.{client_step, client_told}
 use Rattle.gate_model.specs.State.{Began, Came, Fed, Gave, Heard, Joined, Lost, Moment}
 use Rattle.gate_model.specs.State.{OutOfMemory, Queued, Silent, State, Step, TakenUp, Whole, before, came, close_if}
 use Rattle.gate_model.specs.State.{conn_given, conn_step, dequeued, gave, heard, is_later, is_limit_reached, keep_login, left}
-use Rattle.gate_model.specs.State.{want_in, with_meaning, without_life, condition_by}
+use Rattle.gate_model.specs.State.{next_unit, want_in, with_meaning, without_life, condition_by}
 use Rattle.gate_model.specs.Upstream.{sessions_given, UpState, closing_with, container_by, container_given, ended_in, heard_up, meaning_by}
 use Rattle.gate_model.specs.declared.life.Life.{Life}
 use Rattle.gate_model.specs.declared.outgoing.Outgoing.TheVariants.{ToClient, ToUp}
@@ -60,15 +60,16 @@ use Rattle.gate_model.specs.declared.setup.Route.{Route}
 use Rattle.gate_model.proofs.Basics.{both_true, none_any, or_left, right_false}
 use Rattle.gate_model.proofs.Channels.{client_opens, given_open}
 use Rattle.gate_model.proofs.Brought.{OfEvent, event_all, is_mild}
+use Rattle.gate_model.proofs.Clear.{open_lives, opens_unended, want_is}
 use Rattle.gate_model.proofs.Closed.{is_late, late_is, long_is, want_begins}
 use Rattle.gate_model.proofs.Connections.{clash, close_closes, closing_only, only_given, step_closes}
 use Rattle.gate_model.proofs.Firsts.{is_free as is_free_unit, of_up, session_by, up_rows_by}
-use Rattle.gate_model.proofs.Known.{Known, conn_is, container_is, known, memory_is, paths_are, routes_are}
+use Rattle.gate_model.proofs.Known.{Known, conn_is, container_is, known, memory_is}
 use Rattle.gate_model.proofs.Outcomes.{Outcome, LogsIn, Refuses, Declines, Drops, Parting, Closes, outcome}
 use Rattle.gate_model.proofs.Places.{Beyond, Elsewhere, Here, SetAt, isnt, new_at, set_at}
 use Rattle.gate_model.proofs.Said.{shuts_in}
 use Rattle.gate_model.proofs.Moves.{Apart, Moves, NoBegin, There, Waits, arrives, begins_at, both, fail_moves, have_come, keeps_begin}
-use Rattle.gate_model.proofs.Moves.{moved, moves, no_begin, same_eq, shut_moves}
+use Rattle.gate_model.proofs.Moves.{moved, moves, no_begin, same_eq, shut_moves, stays_shut}
 use Rattle.gate_model.proofs.Comings.{EndHeard, TransferHeard, closed_none, end_shuts, heard_waits, meaning_come, meaning_moves}
 use Rattle.gate_model.proofs.Comings.{re_session, reply_none, tells_of, up_none, want_none, wrote_none}
 
@@ -207,14 +208,19 @@ login_kept n false why want.CloseOk s = inl refl
 login_kept n true why (want.Refuse r) s = inl refl
 login_kept n false why (want.Refuse r) s = inl refl
 
+ended_in_state : (s : Session) → is_ended s ≡ true → is_ended_session s ≡ true
+ended_in_state (session.Ended m) e = refl
+ended_in_state x e = absurd cc
+
 came_waits : (n : ℕ) (w : State) (u : Unit91) (there : Bool) (xs es : List PathEvent) → n < length w.conn.channels → have_come xs ≡ false
     → Waits n w.conn w.up.container (begins_at w n) there (have_come es)
+    → (is_method_on is_channel_open n (want_in w.routes w.paths w.conn u) ≡ true → is_ended_session (session_in w.up.container n) ≡ false)
     → (o : Bool) → is_method_on is_channel_open n (want_in w.routes w.paths w.conn u) ≡ o
     → Waits n (came (dequeued w) u).conn (came (dequeued w) u).up.container (begins_at (came (dequeued w) u) n) (if o then true else there)
     (have_come (if o then [] else xs ++ es))
-came_waits n w u there xs es less quiet f true e = record {
+came_waits n w u there xs es less quiet f left true e = record {
   asked = λ a. refl;
-  ended = λ a b c. refl;
+  ended = λ a t. absurd (unended (login_kept n (is_closing w.conn) (condition_by x) x w.up) a);
   begins = λ a b c. refl;
   opens = λ b. or_right (is_closing d) (is ∙ want_begins n x (is_open w.conn n) e);
 }
@@ -225,13 +231,18 @@ came_waits n w u there xs es less quiet f true e = record {
     d : Connection
     d = conn_step w.routes w.paths w.conn u
 
+    -- a channel is opened where the container's end doesn't wait for the gateway's
+    unended : Kept n x w.up (came (dequeued w) u).up → is_ended (session_in (came (dequeued w) u).up.container n) ≡ true → ⊥
+    unended (inl s) a = clash _ (ended_in_state _ (ap is_ended (sym s) ∙ a)) (left e)
+    unended (inr s) a = clash _ a (ap is_ended s.0)
+
     is : is_open d n ≡ opens_by n x (is_open w.conn n)
     is = (client_opens n w.routes w.paths w.conn u).is less
 
     or_right : (a : Bool) {b : Bool} → b ≡ true → (a || b) ≡ true
     or_right true g = refl
     or_right false g = g
-came_waits n w u there xs es less quiet f false e =
+came_waits n w u there xs es less quiet f left false e =
     subst (λ (b : Bool). Waits n d v.up.container (begins_at v n) there b) (sym (list_any-append arrives xs es ∙ ap (λ (b : Bool). b || have_come es) quiet))
     (by (login_kept n (is_closing w.conn) (condition_by x) x w.up))
   where
@@ -276,13 +287,13 @@ came_waits n w u there xs es less quiet f false e =
     by : Kept n x w.up v.up → Waits n d v.up.container (begins_at v n) there (have_come es)
     by (inl s) = record {
       asked = λ a. f.asked (ap is_asked (sym s) ∙ a);
-      ended = λ a b t. f.ended (ap is_ended (sym s) ∙ a) (still_by n x (is_open w.conn n) e (sym is ∙ b)) t;
+      ended = λ a t. stays_shut (is_open d n) refl (λ b. still_by n x (is_open w.conn n) e (sym is ∙ b)) (f.ended (ap is_ended (sym s) ∙ a) t);
       begins = λ c b l. f.begins (unclosed c) (due b).was (ap is_live (sym s) ∙ l);
       opens = opens;
     }
     by (inr s) = record {
       asked = λ a. absurd (clash _ a (ap is_asked s.0));
-      ended = λ a b t. absurd (clash _ a (ap is_ended s.0));
+      ended = λ a t. absurd (clash _ a (ap is_ended s.0));
       begins = λ c b l. fresh c b;
       opens = opens;
     }
@@ -405,7 +416,7 @@ gave_waits n w u there xs es memory go quiet f =
         → (begins_at (gave w (ToUp x)) n ≡ true → begins_at w n ≡ true) → After x
     same x s b = record {
       asked = λ e. f.asked (ap is_asked (sym s) ∙ e);
-      ended = λ e o t. f.ended (ap is_ended (sym s) ∙ e) o t;
+      ended = λ e t. f.ended (ap is_ended (sym s) ∙ e) t;
       begins = λ c e l. f.begins c (b e) (ap is_live (sym s) ∙ l);
       opens = λ e. f.opens (b e);
     }
@@ -443,7 +454,7 @@ gave_waits n w u there xs es memory go quiet f =
         at (inr s) = record {
           asked = λ e. f.begins g.running (subst (λ (m : ℕ). begins_at w m ≡ true) s.0 g.due)
               (subst (λ (m : ℕ). is_live (session_in w.up.container m) ≡ false) s.0 (live_not_free _ (free_is _ g.free)));
-          ended = λ e o t. absurd (clash _ e (ap is_ended s.1));
+          ended = λ e t. absurd (clash _ e (ap is_ended s.1));
           begins = λ c e x. absurd (none s.0 e);
           opens = λ e. absurd (none s.0 e);
         }
@@ -479,7 +490,7 @@ gave_waits n w u there xs es memory go quiet f =
         at (inl s) = same (up.End k why) s was
         at (inr s) = record {
           asked = λ e. absurd (clash _ e s.1.asked);
-          ended = λ e o t. absurd (clash _ e s.1.ended);
+          ended = λ e t. absurd (clash _ e s.1.ended);
           begins = λ c e l. f.begins c (was e) (was_live s.0 c (was e) _ refl);
           opens = λ e. f.opens (was e);
         }
@@ -529,7 +540,7 @@ WaitsAfter n h = Waits n (before h).conn (before h).up.container (begins_at (bef
 new_waits : (n : ℕ) (vhost : List ℕ) → Waits n (new_connection vhost) None (life_at no_lives n).begin false false
 new_waits n vhost = record {
   asked = λ e. refl;
-  ended = λ e o t. refl;
+  ended = λ e t. refl;
   begins = λ c b l. refl;
   opens = λ b. absurd (clash _ b (ap (λ (l : Life). l.begin) (new_at n)));
 }
@@ -560,8 +571,8 @@ module _ (n : ℕ) (less : n < 256) where
       → Waits n v.conn v.up.container (begins_at v n) (is_some (path_life h n)) (have_come (xs ++ path_events h n))
   steps h s v xs p m quiet f = moved n (before h) v (is_some (path_life h n)) xs (path_events h n) (late_now h p) m quiet f
 
-  came_next : (h : List Step) (u : Unit91) → ArePicks h → WaitsAfter n h → WaitsAfter n (Came u ∷ h)
-  came_next h u p f = by (before h).out_of_memory refl
+  came_next : (h : List Step) (u : Unit91) → ArePicks h → next_unit (before h) ≡ Some u → WaitsAfter n h → WaitsAfter n (Came u ∷ h)
+  came_next h u p next f = by (before h).out_of_memory refl
     where
       k : Known h
       k = known h p
@@ -573,10 +584,7 @@ module _ (n : ℕ) (less : n < 256) where
       x = want_in (routes_in h) (paths_in h) (connection h) u
 
       same : want_in w.routes w.paths w.conn u ≡ x
-      same =
-          ap (λ (r : List Route). want_in r w.paths w.conn u) (routes_are k)
-          ∙ ap (λ (ps : List (Option PathState)). want_in (routes_in h) ps w.conn u) (paths_are k)
-          ∙ ap (λ (c : Connection). want_in (routes_in h) (paths_in h) c u) (conn_is k)
+      same = want_is h u p
 
       events : List PathEvent
       events = want_events (routes_in h) (conn_step (routes_in h) (paths_in h) (connection h) u).limits.frame_max n x
@@ -590,10 +598,10 @@ module _ (n : ℕ) (less : n < 256) where
           → Waits n (came_on w u).conn (came_on w u).up.container (begins_at (came_on w u) n)
           (is_some (if o then Some ((peers h).opened + 1) else path_life h n)) (have_come (if o then [] else events ++ path_events h n))
       unit true e =
-          came_waits n w u (is_some (path_life h n)) events (path_events h n) (inside_now h p) (want_none (routes_in h) _ n x) f true
+          came_waits n w u (is_some (path_life h n)) events (path_events h n) (inside_now h p) (want_none (routes_in h) _ n x) f (opens_unended h u n less p next) true
           (ap (is_method_on is_channel_open n) same ∙ e)
       unit false e =
-          came_waits n w u (is_some (path_life h n)) events (path_events h n) (inside_now h p) (want_none (routes_in h) _ n x) f false
+          came_waits n w u (is_some (path_life h n)) events (path_events h n) (inside_now h p) (want_none (routes_in h) _ n x) f (opens_unended h u n less p next) false
           (ap (is_method_on is_channel_open n) same ∙ e)
 
       by : (b : Bool) → w.out_of_memory ≡ b → WaitsAfter n (Came u ∷ h)
@@ -692,7 +700,7 @@ module _ (n : ℕ) (less : n < 256) where
       steps h (Silent Up) (before (Silent Up ∷ h)) failing p.1
       (both refl (moves n (before h) _ refl refl refl) (fail_moves n _ _ _)) refl (waits h p.1)
   waits (Queued u ∷ h) p = queued h u (waits h p.1)
-  waits (Came u ∷ h) p = came_next h u p.1 (waits h p.1)
+  waits (Came u ∷ h) p = came_next h u p.1 p.0 (waits h p.1)
   waits (TakenUp ∷ h) p = taken h p (waits h p.1)
   waits (Heard u ∷ h) p = heard_next h u p.1 (waits h p.1)
   waits (Joined link.Failed ∷ h) p =
@@ -766,10 +774,15 @@ none_asked h n life p less e =
     none_came life (path_events h n)
     ((waits n less h p).asked (ap (λ (o : Option Upstream). is_asked (session_in o n)) (container_is (known h p)) ∙ e))
 
--- nor where the container ended the session and the channel is open still, or anew
-pub none_ended : (h : List Step) (n life : ℕ) → ArePicks h → n < 256 → path_life h n ≡ Some life → is_ended_session (session_in (container h) n) ≡ true
-    → is_open (connection h) n ≡ true → numbers_of (deliveries_of life (path_events h n)) ≡ 0
-none_ended h n life p less lives e o =
-    none_came life (path_events h n)
-    ((waits n less h p).ended (ended_as _ (ap (λ (x : Option Upstream). is_ended_session (session_in x n)) (container_is (known h p)) ∙ e))
-    (ap (λ (c : Connection). is_open c n) (conn_is (known h p)) ∙ o) (ap is_some lives))
+-- a channel isn't open whose session the container ended, before the gateway's end went
+pub ended_shut : (h : List Step) (n : ℕ) → ArePicks h → n < 256 → is_ended_session (session_in (container h) n) ≡ true → is_open (connection h) n ≡ false
+ended_shut h n p less e =
+    stays_shut (is_open (connection h) n) refl (λ o. ap (λ (c : Connection). is_open c n) (conn_is (known h p)) ∙ o)
+    (by (is_some (path_life h n)) refl)
+  where
+    by : (b : Bool) → is_some (path_life h n) ≡ b → is_open (before h).conn n ≡ false
+    by true t =
+        (waits n less h p).ended (ended_as _ (ap (λ (x : Option Upstream). is_ended_session (session_in x n)) (container_is (known h p)) ∙ e)) t
+    by false t =
+        stays_shut (is_open (before h).conn n) refl
+        (λ o. open_lives h n less p (sym (ap (λ (c : Connection). is_open c n) (conn_is (known h p))) ∙ o)) t

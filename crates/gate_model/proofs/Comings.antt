@@ -48,7 +48,7 @@ use Rattle.gate_model.proofs.Closed.{is_late, none_open}
 use Rattle.gate_model.proofs.Connections.{clash, close_closes, opening_early, opening_phase}
 use Rattle.gate_model.proofs.Quiet.{AllOn, OfQuiet, flat, is_request, named_all, reply_on, up_on, want_on, whole_on}
 use Rattle.gate_model.proofs.Sessions.{session_cases}
-use Rattle.gate_model.proofs.Moves.{Moves, Waits, arrives, begins_at, both, fail_moves, have_come, keeps_begin, life_moves, moves, same_eq}
+use Rattle.gate_model.proofs.Moves.{Moves, Waits, arrives, begins_at, both, fail_moves, have_come, keeps_begin, life_moves, moves, same_eq, stays_shut}
 
 -- ---- a unit of the container
 
@@ -234,20 +234,20 @@ heard_waits n w v m o p there xs es late k begin closing still opens came shuts 
         let live : is_live (session_in p n) ≡ true = stays_live n o p m k (came e) in
         record {
           asked = λ x. absurd (live_asked (session_in p n) live x);
-          ended = λ x y t. absurd (live_ended (session_in p n) live x);
+          ended = λ x t. absurd (live_ended (session_in p n) live x);
           begins = λ c b l. absurd (clash _ live l);
           opens = now;
         }
     by false e = record {
       asked = λ x. f.asked (k.asked x);
-      ended = λ x y t. at (k.ended x) y t;
+      ended = λ x t. at (k.ended x) t;
       begins = λ c b l. waits c b l (is_live (session_in o n)) refl;
       opens = now;
     }
       where
-        at : (is_ended (session_in o n) ≡ true) ⊎ EndHeard n m → is_open v.conn n ≡ true → there ≡ true → have_come es ≡ false
-        at (inl x) y t = f.ended x (still (late t) y) t
-        at (inr x) y t = absurd (clash _ y (shuts x))
+        at : (is_ended (session_in o n) ≡ true) ⊎ EndHeard n m → there ≡ true → is_open v.conn n ≡ false
+        at (inl x) t = stays_shut (is_open v.conn n) refl (still (late t)) (f.ended x t)
+        at (inr x) t = shuts x
 
         ends : is_open v.conn n ≡ true → (is_ended (session_in o n) ≡ true) ⊎ EndHeard n m → is_live (session_in o n) ≡ true → ⊥
         ends y (inl x) l = live_ended (session_in o n) l x

@@ -46,7 +46,8 @@ use Rattle.gate_model.specs.Upstream.{heard_up, meaning_by}
 use Rattle.gate_model.proofs.Firsts.{FirstIs, is_free, of_up, session_by, up_rows_by}
 use Rattle.gate_model.proofs.Known.{Known, conn_is, container_is, known, memory_is, paths_are}
 use Rattle.gate_model.proofs.Lives.{lives_all, set_all}
-use Rattle.gate_model.proofs.Living.{fail_lives, want_is}
+use Rattle.gate_model.proofs.Clear.{want_is}
+use Rattle.gate_model.proofs.Living.{fail_lives}
 use Rattle.gate_model.proofs.Places.{Beyond, Elsewhere, Here, SetAt, isnt, itself, new_at, set_at}
 use Rattle.gate_model.proofs.Sessions.{session_on}
 use Rattle.gate_model.proofs.Staying.{Other, Set, This, long, set_in}

@@ -13,6 +13,7 @@ pub mod Calm
 pub mod Carried
 pub mod Carrying
 pub mod Channels
+pub mod Clear
 pub mod Closed
 pub mod Closes
 pub mod Closings
@@ -117,6 +118,7 @@ pub mod Takers
 pub mod Takes
 pub mod Targets
 pub mod Times
+pub mod Turning
 pub mod Ups
 pub mod Waiters
 pub mod Waits

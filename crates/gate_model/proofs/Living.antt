@@ -32,7 +32,6 @@ use Rattle.gate_model.specs.declared.outgoing.UpUnit.{UpUnit}
 use Rattle.gate_model.specs.declared.outgoing.UpUnit.TheVariants as up
 use Rattle.gate_model.specs.declared.reply.Reply.{Reply}
 use Rattle.gate_model.specs.declared.reply.Reply.TheVariants as reply
-use Rattle.gate_model.specs.declared.setup.Route.{Route}
 use Rattle.gate_model.specs.Begins.{begun_at, begun_by, begun_meant}
 use Rattle.gate_model.specs.Dues.{begins_session}
 use Rattle.gate_model.specs.Folds.{connection, container, paths_in, ran_out_in, routes_in}
@@ -50,9 +49,10 @@ use Rattle.gate_model.specs.State.{with_meaning, with_session, without_begin, wi
 use Rattle.gate_model.specs.Takes.{left_at, left_wanted}
 use Rattle.gate_model.specs.Upstream.{heard_up, meaning_by}
 use Rattle.gate_model.proofs.Channels.{client_opens, given_open}
+use Rattle.gate_model.proofs.Clear.{want_is}
 use Rattle.gate_model.proofs.Closed.{is_late, late_is, none_open}
 use Rattle.gate_model.proofs.Connections.{clash, close_closes, opening_phase}
-use Rattle.gate_model.proofs.Known.{Known, conn_is, container_is, known, memory_is, paths_are, routes_are}
+use Rattle.gate_model.proofs.Known.{Known, conn_is, container_is, known, memory_is}
 use Rattle.gate_model.proofs.Lives.{set_all}
 use Rattle.gate_model.proofs.Outcomes.{outcome}
 use Rattle.gate_model.proofs.Overs.{Freed, freed, inside}
@@ -363,16 +363,6 @@ begun_left n u ls = same _ _ refl
 
 still : (n : ℕ) (w : State) → LeavesIn None None false n w w
 still n w = Stays refl (same _ _ refl) refl refl
-
--- what a unit of the client wants, by the state and by the folds
-pub want_is : (h : List Step) (u : Unit91) → ArePicks h → want_in (before h).routes (before h).paths (before h).conn u ≡ want_in (routes_in h) (paths_in h) (connection h) u
-want_is h u p =
-    ap (λ (rs : List Route). want_in rs (before h).paths (before h).conn u) (routes_are k)
-    ∙ ap (λ (ps : List (Option PathState)). want_in (routes_in h) ps (before h).conn u) (paths_are k)
-    ∙ ap (λ (c : Connection). want_in (routes_in h) (paths_in h) c u) (conn_is k)
-  where
-    k : Known h
-    k = known h p
 
 came_step : (n : ℕ) (u : Unit91) (h : List Step) → n < 256 → ArePicks h → opens_channel n h (Came u) ≡ false
     → LeavesIn None (left_at n h (Came u)) false n (before h) (before (Came u ∷ h))

@@ -37,11 +37,11 @@ have_come es = list_any arrives es
 abbrev pub begins_at : State → ℕ → Bool
 begins_at w n = (life_at w.lives n).begin
 
--- while a begin is due, or wasn't answered, nothing came; nor where the container ended the session and the channel was opened anew. A begin is due
--- on an open channel alone
+-- while a begin is due, or wasn't answered, nothing came. No channel is open while the gateway's end is to answer the container's. A begin is due on an
+-- open channel alone
 pub record Waits (n : ℕ) (c : Connection) (o : Option Upstream) (begin there come : Bool) : Type 0 where
   pub asked : is_asked (session_in o n) ≡ true → come ≡ false
-  pub ended : is_ended (session_in o n) ≡ true → is_open c n ≡ true → there ≡ true → come ≡ false
+  pub ended : is_ended (session_in o n) ≡ true → there ≡ true → is_open c n ≡ false
   pub begins : is_closing c ≡ false → begin ≡ true → is_live (session_in o n) ≡ false → come ≡ false
   pub opens : begin ≡ true → (is_closing c || is_open c n) ≡ true
 
@@ -88,6 +88,11 @@ fail_moves n code why w = by (is_closing w.conn)
     by true = moves n w (sessions_lost w) refl refl refl
     by false = shut_moves n w (failed code why w) refl refl (close_closes w.conn.phase)
 
+-- what is open was so
+pub stays_shut : (b : Bool) {x y : Bool} → x ≡ b → (x ≡ true → y ≡ true) → y ≡ false → x ≡ false
+stays_shut true e f g = absurd (clash _ (f e) g)
+stays_shut false e f g = e
+
 pub moved : (n : ℕ) (w v : State) (there : Bool) (xs es : List PathEvent) → (there ≡ true → is_late w.conn.phase ≡ true) → Moves n w v → have_come xs ≡ false
     → Waits n w.conn w.up.container (begins_at w n) there (have_come es) → Waits n v.conn v.up.container (begins_at v n) there (have_come (xs ++ es))
 moved n w v there xs es late m quiet f =
@@ -95,7 +100,7 @@ moved n w v there xs es late m quiet f =
     (sym (list_any-append arrives xs es ∙ ap (λ (b : Bool). b || have_come es) quiet))
     (record {
       asked = λ e. f.asked (ap is_asked (sym m.session) ∙ e);
-      ended = λ e o t. f.ended (ap is_ended (sym m.session) ∙ e) (m.still (late t) o) t;
+      ended = λ e t. stays_shut (is_open v.conn n) refl (m.still (late t)) (f.ended (ap is_ended (sym m.session) ∙ e) t);
       begins = λ c b l. f.begins (m.closing c) (m.begin b) (ap is_live (sym m.session) ∙ l);
       opens = λ b. m.opens b (f.opens (m.begin b));
     })

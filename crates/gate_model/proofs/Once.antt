@@ -55,7 +55,7 @@ use Rattle.gate_model.specs.declared.setup.Route.{Route}
 
 -- ---- what goes is due
 
-abbrev IsOwed : List Life → Reply → Type 0
+abbrev pub IsOwed : List Life → Reply → Type 0
 IsOwed ls (reply.ChannelOpenOk k) = (life_at ls k).open_ok ≡ true
 IsOwed ls (reply.ChannelCloseOk k) = (life_at ls k).close_ok ≡ true
 IsOwed ls (reply.CrossedOk k) = (life_at ls k).crossed_ok ≡ true
@@ -93,7 +93,7 @@ owed_on w r (InCloses e) =
     first_at (IsOwed w.lives) (λ (n : ℕ) (l : Life). refused_on (is_channel_settled w n) n l.close) w.lives r
     (λ k v f. owed_refused w.lives _ k (life_at w.lives k).close v f) e
 
-owed_picked : (h : List Step) (r : Reply) → ArePicks h → Picked (before h) r → IsOwed (before h).lives r
+pub owed_picked : (h : List Step) (r : Reply) → ArePicks h → Picked (before h) r → IsOwed (before h).lives r
 owed_picked h r p (IsDue x) = owed_answer (before h).lives r (first_due (is_settled (before h)) (before h).pending r (calm_now h p) x).answers
 owed_picked h r p (OnChannel x) = owed_on (before h) r x
 owed_picked h r p (Beats none due same) = subst (IsOwed (before h).lives) (sym same) tt
@@ -113,7 +113,7 @@ record Counts (n : ℕ) (v : Life → ℕ) (asks : Want91 → Bool) (answers : R
   opened : (l : Life) → l.open_ok ≡ true → v (record l { open_ok = false }) + one_if (answers (reply.ChannelOpenOk n)) ≤ v l
   closed : (l : Life) → l.close_ok ≡ true → v (record l { close_ok = false }) + one_if (answers (reply.ChannelCloseOk n)) ≤ v l
   crossed : (l : Life) → l.crossed_ok ≡ true → v (record l { crossed_ok = false }) + one_if (answers (reply.CrossedOk n)) ≤ v l
-  told : (r : Reason) (l : Life) → v (record l { close = None }) + one_if (answers (reply.ChannelClose n r)) ≤ v l
+  told : (r : Reason) (l : Life) → v (record l { close = None; told = true }) + one_if (answers (reply.ChannelClose n r)) ≤ v l
   of_connection : (u : Reply) → is_answer u ≡ true → answers u ≡ false
   beats : answers reply.Heartbeat ≡ false
   of_paths : (k : ℕ) (u : ChannelUnit) → answers (reply.OnChannel k u) ≡ false
@@ -299,8 +299,8 @@ given_less {n} {v} {asks} {answers} c (reply.CrossedOk k) ls o =
     (c.crossed (life_at ls n)) o)
     (c.elsewhere_crossed k)
 given_less {n} {v} {asks} {answers} c (reply.ChannelClose k r) ls o =
-    set_given v n k ls (record (life_at ls k) { close = None }) (answers (reply.ChannelClose k r)) c.none
-    (λ e. subst (λ (i : ℕ). v (record (life_at ls i) { close = None }) + one_if (answers (reply.ChannelClose i r)) ≤ v (life_at ls n)) (sym e) (c.told r (life_at ls n)))
+    set_given v n k ls (record (life_at ls k) { close = None; told = true }) (answers (reply.ChannelClose k r)) c.none
+    (λ e. subst (λ (i : ℕ). v (record (life_at ls i) { close = None; told = true }) + one_if (answers (reply.ChannelClose i r)) ≤ v (life_at ls n)) (sym e) (c.told r (life_at ls n)))
     (c.elsewhere_told k r)
 
 -- ---- all steps

@@ -288,7 +288,7 @@ given_says : (n : ℕ) (u : Reply) (ls : List Life) → Says None (life_at ls n)
 given_says n (reply.ChannelOpenOk k) ls = keeps_close n k ls _ refl
 given_says n (reply.ChannelCloseOk k) ls = keeps_close n k ls _ refl
 given_says n (reply.CrossedOk k) ls = keeps_close n k ls _ refl
-given_says n (reply.ChannelClose k r) ls = one_says None n k ls (record (life_at ls k) { close = None }) (λ e. Drops refl) (λ d. refl)
+given_says n (reply.ChannelClose k r) ls = one_says None n k ls (record (life_at ls k) { close = None; told = true }) (λ e. Drops refl) (λ d. refl)
 given_says n u ls = same _ _ refl
 
 begun_says : (n : ℕ) (u : UpUnit) (ls : List Life) → Says None (life_at ls n) (life_at (without_begin u ls) n)
@@ -466,10 +466,10 @@ counted_on n s h less p e old =
     omega (arith, e, more, old)
 
 -- one that goes is due no more
-pub close_gone : (n : ℕ) (ls : List Life) → (life_at (with_life n (record (life_at ls n) { close = None }) ls) n).close ≡ None
-close_gone n ls = by (set_at ls n n (record (life_at ls n) { close = None }))
+pub close_gone : (n : ℕ) (ls : List Life) → (life_at (with_life n (record (life_at ls n) { close = None; told = true }) ls) n).close ≡ None
+close_gone n ls = by (set_at ls n n (record (life_at ls n) { close = None; told = true }))
   where
-    by : SetAt ls n n (record (life_at ls n) { close = None }) → (life_at (with_life n (record (life_at ls n) { close = None }) ls) n).close ≡ None
+    by : SetAt ls n n (record (life_at ls n) { close = None; told = true }) → (life_at (with_life n (record (life_at ls n) { close = None; told = true }) ls) n).close ≡ None
     by (Here e f) = ap (λ (x : Life). x.close) f
     by (Elsewhere d f) = absurd (d refl)
     by (Beyond e f g) = ap (λ (x : Life). x.close) g

@@ -179,7 +179,7 @@ go_back h n k life l r = (all_go h n k life l r).due
 -- ---- before a session or a link goes
 
 part_back : (h : List Step) (u : UpUnit) → MayPart h u → MayLeave h u
-part_back h (up.End n why) r = λ life k l is. let g = all_go h n k life l is in r life k l (g.positive, g.taken)
+part_back h (up.End n why) r = λ life k l is. let g = all_go h n k life l is in r.returned life k l (g.positive, g.taken)
 part_back h (up.OnSession n (unit.Detach link handle why)) r = λ life k l lives found receives here is.
     let g = all_go h n k life lives is in
     second _ _ here (covers_all link (deliveries_of life (path_events h n)) (r life l lives found receives) k (g.positive, g.taken))

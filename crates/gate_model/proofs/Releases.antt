@@ -39,7 +39,7 @@ use Rattle.gate_model.specs.Lives.{each, is_begun, is_carried, is_ended, life_at
 use Rattle.gate_model.specs.Paths.{or_no_path, path_at, slot_at}
 use Rattle.gate_model.specs.Picks.{ArePicks}
 use Rattle.gate_model.specs.Publishing.{path_events}
-use Rattle.gate_model.specs.Releases.{AreReturned, AreReturnedOn, MayPart, Releases}
+use Rattle.gate_model.specs.Releases.{AreReturned, AreReturnedOn, MayEnd, MayPart, Releases}
 use Rattle.gate_model.specs.State.{Gave, State, Step, before}
 use Rattle.gate_model.specs.Upstream.{first, opening_rows, when_up}
 use Rattle.gate_model.specs.declared.channel.SessionUnit.{SessionUnit}
@@ -48,8 +48,9 @@ use Rattle.gate_model.specs.declared.life.Life.{Life}
 use Rattle.gate_model.specs.declared.outgoing.Outgoing.TheVariants.{ToUp}
 use Rattle.gate_model.specs.declared.outgoing.UpUnit.{UpUnit}
 use Rattle.gate_model.specs.declared.outgoing.UpUnit.TheVariants as up
-use Rattle.gate_model.proofs.Arrived.{none_asked, none_ended}
+use Rattle.gate_model.proofs.Arrived.{ended_shut, none_asked}
 use Rattle.gate_model.proofs.Closed.{closed_path_is}
+use Rattle.gate_model.proofs.Connections.{clash}
 use Rattle.gate_model.proofs.Detaching.{DetachGoes, MayDetach, may_detach}
 use Rattle.gate_model.proofs.Fates.{IsLived, lived}
 use Rattle.gate_model.proofs.Firsts.{FirstIs, both_are, each_is, when_up_is}
@@ -239,8 +240,43 @@ calm : (a b : Bool) → (a ≡ true → b ≡ true) → b ≡ false → (a || b)
 calm true b f e = let wrong : true ≡ false = sym (f refl) ∙ e in absurd cc
 calm false b f e = e
 
-returned : DeliveriesAre → ReleasedAre → (h : List Step) (n : ℕ) → ArePicks h → EndGoes (before h) n → AreReturned h n
-returned arrives released h n p goes life k lives taken = by (is_open (connection h) n) refl
+-- the channel of a session that ends isn't open
+shut_at : (h : List Step) (n : ℕ) → ArePicks h → n < 256 → EndGoes (before h) n → is_open (connection h) n ≡ false
+shut_at h n p less goes = by (is_open (connection h) n) refl
+  where
+    w : State
+    w = before h
+
+    kn : Known h
+    kn = known h p
+
+    conn_at : is_open w.conn n ≡ is_open (connection h) n
+    conn_at = ap (λ (c : Connection). is_open c n) (conn_is kn)
+
+    -- while it is open nothing closes
+    still : is_open (connection h) n ≡ true → goes.closing ≡ false
+    still e = goes.is ∙ calm w.out_of_memory (is_closing w.conn) (λ m. ap is_closing (conn_is kn) ∙ shuts_in kn (sym (memory_is kn) ∙ m)) (runs_on w.conn n (conn_at ∙ e))
+
+    wrong : (b c o l : Bool) → c ≡ false → o ≡ true → (b && ((c || not o) && l)) ≡ true → ⊥
+    wrong true true o l x y z = absurd cc
+    wrong true false true l x y z = absurd cc
+    wrong true false false l x y z = absurd cc
+    wrong false c o l x y z = absurd cc
+
+    open_by : is_open (connection h) n ≡ true → (a b : Bool) → is_ended (session_in w.up.container n) ≡ a
+        → (a || (b && ((goes.closing || not (is_open w.conn n)) && is_lingered w n))) ≡ true → ⊥
+    open_by e true b f d = clash _ e (ended_shut h n p less (ap (λ (o : Option Upstream). is_ended (session_in o n)) (sym (container_is kn)) ∙ f))
+    open_by e false b f d = wrong b (goes.closing) (is_open w.conn n) (is_lingered w n) (still e) (conn_at ∙ e) d
+
+    by : (b : Bool) → is_open (connection h) n ≡ b → b ≡ false
+    by true e = absurd (open_by e _ _ refl goes.due)
+    by false e = refl
+
+below : (h : List Step) (n : ℕ) → ArePicks h → EndGoes (before h) n → n < 256
+below h n p goes = subst (λ (m : ℕ). n < m) (lives_all h p) goes.below
+
+returned : DeliveriesAre → ReleasedAre → (h : List Step) (n : ℕ) → ArePicks h → EndGoes (before h) n → is_open (connection h) n ≡ false → AreReturned h n
+returned arrives released h n p goes shut life k lives taken = by _ _ _ refl refl goes.due
   where
     w : State
     w = before h
@@ -255,55 +291,38 @@ returned arrives released h n p goes life k lives taken = by (is_open (connectio
     none = left_none (disposals w) _ (right_none (unless_out w.out_of_memory (carried_rows w)) _ goes.none)
 
     less : n < 256
-    less = subst (λ (m : ℕ). n < m) (lives_all h p) goes.below
+    less = below h n p goes
 
     most : n ≤ CHANNEL_MAX
     most = let is : CHANNEL_MAX ≡ 255 = refl in omega (arith, less, is)
-
-    conn_at : is_open w.conn n ≡ is_open (connection h) n
-    conn_at = ap (λ (c : Connection). is_open c n) (conn_is kn)
 
     list_is : (path_at w.paths n).deliveries.list ≡ open_after life es
     list_is =
         ap (λ (o : Option PathState). (or_no_path o).deliveries.list) (path_is h n p most ∙ ap (option_map (λ (l : ℕ). after_events l (path_events h n))) lives)
         ∙ ap (λ (d : DeliveryState). d.list) (arrives life (path_events h n))
 
-    covered : is_carried (session_in w.up.container n) ≡ true → is_open (connection h) n ≡ false → is_uncovered (fate_of k es) ≡ false
-    covered c shut =
+    covered : is_carried (session_in w.up.container n) ≡ true → is_uncovered (fate_of k es) ≡ false
+    covered c =
         released life es (closed_path_is h n life p most lives shut)
         (ap next_settle_of (sym list_is) ∙ none_due w n goes.below none c) k taken
 
     waiting : is_asked (session_in w.up.container n) ≡ true → is_uncovered (fate_of k es) ≡ false
     waiting e = absurd (none_taken es k (none_asked h n life p less (ap (λ (o : Option Upstream). is_asked (session_in o n)) (sym (container_is kn)) ∙ e)) taken)
 
-    shut_by : is_open (connection h) n ≡ false → (a b x : Bool) → is_ended (session_in w.up.container n) ≡ a → is_begun (session_in w.up.container n) ≡ b
+    by : (a b x : Bool) → is_ended (session_in w.up.container n) ≡ a → is_begun (session_in w.up.container n) ≡ b
         → (a || (b && x)) ≡ true → is_uncovered (fate_of k es) ≡ false
-    shut_by shut true b x f g d = covered (ended_is (session_in w.up.container n) f) shut
-    shut_by shut false true x f g d = begun (begun_is (session_in w.up.container n) g)
+    by true b x f g d = covered (ended_is (session_in w.up.container n) f)
+    by false true x f g d = begun (begun_is (session_in w.up.container n) g)
       where
         begun : (is_carried (session_in w.up.container n) ≡ true) ⊎ (is_asked (session_in w.up.container n) ≡ true) → is_uncovered (fate_of k es) ≡ false
-        begun (inl c) = covered c shut
+        begun (inl c) = covered c
         begun (inr c) = waiting c
-    shut_by shut false false x f g d = absurd cc
+    by false false x f g d = absurd cc
 
-    -- while the channel is open nothing closes
-    still : is_open (connection h) n ≡ true → goes.closing ≡ false
-    still e = goes.is ∙ calm w.out_of_memory (is_closing w.conn) (λ m. ap is_closing (conn_is kn) ∙ shuts_in kn (sym (memory_is kn) ∙ m)) (runs_on w.conn n (conn_at ∙ e))
-
-    open_by : is_open (connection h) n ≡ true → (a b : Bool) → is_ended (session_in w.up.container n) ≡ a
-        → (a || (b && ((goes.closing || not (is_open w.conn n)) && is_lingered w n))) ≡ true → is_uncovered (fate_of k es) ≡ false
-    open_by e true b f d = absurd (none_taken es k (none_ended h n life p less lives (ap (λ (o : Option Upstream). is_ended (session_in o n)) (sym (container_is kn)) ∙ f) e) taken)
-    open_by e false b f d = absurd (wrong b (goes.closing) (is_open w.conn n) (is_lingered w n) (still e) (conn_at ∙ e) d)
-      where
-        wrong : (b c o l : Bool) → c ≡ false → o ≡ true → (b && ((c || not o) && l)) ≡ true → ⊥
-        wrong true true o l x y z = absurd cc
-        wrong true false true l x y z = absurd cc
-        wrong true false false l x y z = absurd cc
-        wrong false c o l x y z = absurd cc
-
-    by : (b : Bool) → is_open (connection h) n ≡ b → is_uncovered (fate_of k es) ≡ false
-    by true e = open_by e _ _ refl goes.due
-    by false e = shut_by e _ _ _ refl refl goes.due
+may_end : DeliveriesAre → ReleasedAre → (h : List Step) (n : ℕ) → ArePicks h → EndGoes (before h) n → MayEnd h n
+may_end arrives released h n p goes =
+    let shut : is_open (connection h) n ≡ false = shut_at h n p (below h n p goes) goes in
+    record { shut = shut; returned = returned arrives released h n p goes shut }
 
 -- ---- detaches
 
@@ -461,7 +480,7 @@ module _ (arrives : DeliveriesAre) (released : ReleasedAre) (covered : CoveredAr
       by (Some t) g f = lived_by t (ap or_no_path g) (lived h n t p g) f
 
   part_by : (h : List Step) (u : UpUnit) → ArePicks h → MayDetach (before h) u → pick (before h) Up ≡ Some (ToUp u) → MayPart h u
-  part_by h (up.End n why) p d e = returned arrives released h n p (end_goes (before h) n why e)
+  part_by h (up.End n why) p d e = may_end arrives released h n p (end_goes (before h) n why e)
   part_by h (up.OnSession n (unit.Detach link handle why)) p d e = returned_on h n link p d
   part_by h (up.OnSession n (unit.Attach a)) p d e = tt
   part_by h (up.OnSession n (unit.Flow f)) p d e = tt

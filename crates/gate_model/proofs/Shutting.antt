@@ -48,10 +48,11 @@ use Rattle.gate_model.specs.State.{with_meaning, with_session, without_begin, wi
 use Rattle.gate_model.specs.Upstream.{heard_up, meaning_by}
 use Rattle.gate_model.proofs.Arrived.{ends_all, unit_shuts}
 use Rattle.gate_model.proofs.Channels.{client_opens, given_open}
+use Rattle.gate_model.proofs.Clear.{want_is}
 use Rattle.gate_model.proofs.Connections.{clash, close_closes, opening_phase}
 use Rattle.gate_model.proofs.Known.{conn_is, known, memory_is, moment_is}
 use Rattle.gate_model.proofs.Lingering.{over_is, rises}
-use Rattle.gate_model.proofs.Living.{FindsOpen, fail_closes, fail_lives, finds_open, step_leaves, want_is, was_open}
+use Rattle.gate_model.proofs.Living.{FindsOpen, fail_closes, fail_lives, finds_open, step_leaves, was_open}
 use Rattle.gate_model.proofs.Lives.{set_all}
 use Rattle.gate_model.proofs.Overs.{goes_on, inside}
 use Rattle.gate_model.proofs.Places.{Beyond, Elsewhere, Here, SetAt, itself, set_at}

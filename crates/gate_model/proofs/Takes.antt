@@ -145,7 +145,8 @@ may_take within h u i p s = by (waits_for_all u) refl s.may
         let free : (not (waits (before h)).opening && not ((waits (before h)).channel (channel_of u))) ≡ true = and_left _ _ f in
         record {
           opened = open_is (not_true _ (and_left (not (waits (before h)).opening) _ free));
-          own = λ life c l. none_waits within h (channel_of u) life p c l (not_true _ (and_right (not (waits (before h)).opening) _ free));
+          own = λ life c l. none_waits within h (channel_of u) life p c l
+              (left_false (life_waits (before h) (channel_of u) (life_at (before h).lives (channel_of u))) _ (not_true _ (and_right (not (waits (before h)).opening) _ free)));
           all = λ g. absurd (clash _ g e);
           first = λ g. absurd (clash _ g e);
         }

@@ -1,7 +1,7 @@
 -- The lives of channels: what is due on each channel of a client, which a session of the container
 -- of the same number carries (AMQP 0-9-1 1.5; AMQP 1.0 2.5).
 use Rattle.std.specs.Prelude.{Bool, List, None, Option, Some, [], false, if◌then◌else◌, not}
-use Rattle.std.specs.Prelude.{replicate, slice_get, slice_set, true, ℕ, ◌++◌, ◌+◌}
+use Rattle.std.specs.Prelude.{is_some, replicate, slice_get, slice_set, true, ℕ, ◌++◌, ◌+◌}
 use Rattle.std.specs.Prelude.{◌||◌, ◌∷◌}
 use Rattle.std.specs.Option.{option_or}
 use Rattle.close_translate.specs.Conditions.{condition_of}
@@ -45,6 +45,7 @@ no_life = record {
   close_ok = false;
   crossed_ok = false;
   close = None;
+  told = false;
   why = None;
   session = no_session;
 }
@@ -70,6 +71,7 @@ closed_life ms l =
       closed_at = option_or l.closed_at (Some ms);
       by_peer = l.by_peer;
       close_ok = true;
+      told = l.told;
     }
 
 -- it is at fault, or the container is: channel.close is due, and what is owed for publishes where
@@ -86,6 +88,11 @@ failed_life by_peer ms r why l = record (old_life l) {
 -- the client answered channel.close: its own, that crossed the gateway's, is still to be answered
 abbrev pub freed_life : Life → Life
 freed_life l = record (old_life l) { over = true; crossed_ok = l.crossed_ok || l.close_ok }
+
+-- nothing that ends it is due to the client or awaited of it: its channel is open, or it may be
+-- opened again
+abbrev pub is_clear : Life → Bool
+is_clear l = not (l.told || (l.close_ok || is_some l.close))
 
 -- ---- all lives, by the numbers of channels
 

@@ -3,9 +3,11 @@
 use Rattle.std.specs.Prelude.{◌≡◌, ℕ, true, false, List, [], ◌∷◌, Some, find}
 use Rattle.consume_path.specs.Journal.{IsTaken, fate_of, is_uncovered}
 use Rattle.consume_path.specs.Laws.{are_covered}
+use Rattle.machine_091.specs.State.{is_open}
 use Rattle.session_path.specs.Events.{after_events, deliveries_of}
 use Rattle.session_path.specs.Links.{has_number}
 use Rattle.session_path.specs.declared.path.PathLink.{PathLink}
+use Rattle.gate_model.specs.Folds.{connection}
 use Rattle.gate_model.specs.Publishing.{path_events, path_life}
 use Rattle.gate_model.specs.State.{Gave, Step}
 use Rattle.gate_model.specs.declared.channel.SessionUnit.TheVariants as unit
@@ -32,9 +34,15 @@ AreReturnedOn h n link =
     → l.receives ≡ true
     → are_covered link (deliveries_of life (path_events h n)) ≡ true
 
--- before the gateway's end of a session, and before its detach of a link
+-- before the gateway's end of a session, whose channel isn't open, nor open again: so the life in
+-- progress is the one that the session carried (AMQP 1.0 2.5.4, 2.5.5)
+pub record MayEnd (h : List Step) (n : ℕ) : Type 0 where
+  pub shut : is_open (connection h) n ≡ false
+  pub returned : AreReturned h n
+
+-- before that, and before the gateway's detach of a link
 abbrev pub MayPart : List Step → UpUnit → Type 0
-MayPart h (up.End n why) = AreReturned h n
+MayPart h (up.End n why) = MayEnd h n
 MayPart h (up.OnSession n (unit.Detach link handle why)) = AreReturnedOn h n link
 MayPart h u = Unit {0}
 

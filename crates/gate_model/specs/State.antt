@@ -58,7 +58,7 @@ use Rattle.gate_model.specs.declared.setup.Route.{Route}
 use Rattle.open_items.specs.declared.lost.LostItem.{LostItem}
 use Rattle.gate_model.specs.declared.outgoing.UpUnit.{UpUnit}
 use Rattle.gate_model.specs.declared.outgoing.UpUnit.TheVariants as up
-use Rattle.gate_model.specs.Lives.{any_life, begun_life, failed_life, is_done, is_of_channel}
+use Rattle.gate_model.specs.Lives.{any_life, begun_life, failed_life, is_clear, is_done, is_ended}
 use Rattle.gate_model.specs.Lives.{life_at, lives_by}
 use Rattle.gate_model.specs.Lives.{no_lives, reason_of, refusal_on, session_in, with_life}
 use Rattle.gate_model.specs.Lives.{with_state}
@@ -634,11 +634,18 @@ life_waits w n l =
     && (l.waits || (is_waiting (path_at w.paths n)
     || (l.awaits_end && not (is_channel_settled w n))))
 
+-- the container ended the session of a life whose channel may be opened again, and the gateway's
+-- end didn't go yet, nor the dispositions before it (AMQP 1.0 2.5.5, 2.7.6)
+abbrev pub leaves_end : State → ℕ → Life → Bool
+leaves_end w n l =
+    not (is_closing w.conn) && (is_clear l && is_ended (session_in w.up.container n))
+
+-- a channel is opened again once that went
 abbrev pub waits : State → Waits
 waits w = record {
   opening = is_opening w.conn;
   some = is_opening w.conn || (close_waits w || any_life (life_waits w) 0 w.lives);
-  channel = λ n. life_waits w n (life_at w.lives n);
+  channel = λ n. life_waits w n (life_at w.lives n) || leaves_end w n (life_at w.lives n);
 }
 
 -- ---- taking up
@@ -799,7 +806,8 @@ without_life (reply.OnChannel n u) ls = ls
 without_life (reply.ChannelCloseOk n) ls =
     with_life n (record (life_at ls n) { close_ok = false }) ls
 without_life (reply.CrossedOk n) ls = with_life n (record (life_at ls n) { crossed_ok = false }) ls
-without_life (reply.ChannelClose n r) ls = with_life n (record (life_at ls n) { close = None }) ls
+without_life (reply.ChannelClose n r) ls =
+    with_life n (record (life_at ls n) { close = None; told = true }) ls
 
 -- and what it makes of the connection: the gateway's channel.close-ok ends a life, and its
 -- channel.close awaits an answer
@@ -839,8 +847,7 @@ path_given (unit.Dispose x) s = dispose_sent s
 path_given (unit.Settle x) s = settle_sent s
 path_given (unit.Detach link handle why) s = detach_sent s
 
--- an end that goes once its channel is open again is that of the life before, whose path was lost
--- with the container's end
+-- an end would leave the path of a channel that is open; but none goes then (`MayEnd`, Releases)
 abbrev pub is_later : Connection → UpUnit → Bool
 is_later c (up.End n why) = is_open c n
 is_later c u = false

@@ -235,9 +235,10 @@ pub fn quotas_are_kept()
     numbers_lawfully();
 }
 
-/// Before an end of the gateway goes each whole delivery of the channel's life that didn't come
-/// settled had its disposition; and before its detach of a receiving link each one of that link,
-/// also where the container detached it or a transfer on it was at fault.
+/// Where an end of the gateway goes the channel isn't open, nor open again, and each whole delivery
+/// of its life that didn't come settled had its disposition; and before its detach of a receiving
+/// link each one of that link had, also where the container detached it or a transfer on it was at
+/// fault.
 pub fn releases_are_lawful()
     ensures { (h : List Step) → ArePicks h → Releases h }
 {

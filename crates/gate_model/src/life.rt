@@ -39,6 +39,8 @@ pub struct Life {
     pub crossed_ok: bool,
     /// channel.close is due for this reason, at the same point.
     pub close: Option<Reason>,
+    /// channel.close was sent, and the client's channel.close-ok is awaited.
+    pub told: bool,
     /// The error of the gateway's end.
     pub why: Option<Condition>,
     /// The session of the same number.

@@ -86,6 +86,7 @@ impl Core {
             Reply::ChannelClose(channel, _) => {
                 let life = Life {
                     close: None,
+                    told: true,
                     ..self.lives.at(channel)
                 };
                 self.lives.set(channel, life);

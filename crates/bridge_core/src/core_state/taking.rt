@@ -49,12 +49,14 @@ fn closed_life(life: Life, moment: u64) -> Life
 {
     let closed_at = life.closed_at.or(Some(moment));
     let by_peer = life.by_peer;
+    let told = life.told;
     Life {
         awaits_end: !life.over,
         over: true,
         closed_at,
         by_peer,
         close_ok: true,
+        told,
         ..old_life(life)
     }
 }
