@@ -42,7 +42,7 @@ use Rattle.gate_model.specs.Folds.{connection, paths_in, peers, ran_out_in, rout
 use Rattle.gate_model.specs.Lives.{begun_life, failed_life, is_clear, is_ended, is_of_channel, life_at, lives_by, method_life, no_life, no_lives}
 use Rattle.gate_model.specs.Lives.{reason_of, refusal_on, session_in, with_life}
 use Rattle.gate_model.specs.Once.{is_channel_open, is_method_on}
-use Rattle.gate_model.specs.Paths.{closed_path, lost_path, path_at}
+use Rattle.gate_model.specs.Paths.{closed_path, path_at}
 use Rattle.gate_model.specs.Picks.{ArePicks}
 use Rattle.gate_model.specs.Publishing.{path_life}
 use Rattle.gate_model.specs.Queue.{channel_of, holds, is_empty, unit_at, waits_for_all}
@@ -50,7 +50,7 @@ use Rattle.gate_model.specs.Requests.{client_told}
 use Rattle.gate_model.specs.State.{Began, Came, Fed, Gave, Heard, Joined, Lost, Moment, Queued, Silent, State, Step, TakenUp, Whole}
 use Rattle.gate_model.specs.State.{before, begun_session, came, carried, close, close_if, closed_for, closing_code, closing_error, conn_given, dequeued, ending_error}
 use Rattle.gate_model.specs.State.{fail, fail_life, failed, is_limit_reached, left, life_failed, life_waits, link_scope, next_unit, place, runs, scoped}
-use Rattle.gate_model.specs.State.{sessions_lost, waits, want_in, windowed, with_meaning, with_session, without_begin, without_life}
+use Rattle.gate_model.specs.State.{session_lost, sessions_lost, waits, want_in, windowed, with_meaning, with_session, without_begin, without_life}
 use Rattle.gate_model.specs.Upstream.{heard_up, meaning_by}
 use Rattle.gate_model.proofs.Basics.{and_left, and_right, not_true, right_false}
 use Rattle.gate_model.proofs.Known.{Known, conn_is, known, memory_is, paths_are, routes_are}
@@ -238,7 +238,7 @@ session_fits b n g q payload w less f = by (link_scope q payload (life_at w.live
     by None = met (q.0 == 17)
     by (Some scope.Connection) = fail_fits b n INTERNAL_ERROR (Some (closing_error q (path_at w.paths g))) (windowed g q w) kept
     by (Some scope.Channel) =
-        fail_one b n g PRECONDITION_FAILED (Some (ending_error q payload (life_at w.lives g).session (path_at w.paths g))) lost_path (windowed g q w) less kept
+        fail_one b n g PRECONDITION_FAILED (Some (ending_error q payload (life_at w.lives g).session (path_at w.paths g))) closed_path (session_lost g (windowed g q w)) less kept
 
 meaning_fits : (b : Bool) (n : ℕ) (m : Meaning) (w : State) → n < length w.conn.channels → FitsIn b n w → FitsIn b n (with_meaning m w)
 meaning_fits b n ten.Nothing w less f = f
