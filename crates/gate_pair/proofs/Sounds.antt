@@ -99,7 +99,7 @@ meaning_container (ten.OfSession g p payload) w = session_cases (λ (v : State).
   begins = refl;
   stays = refl;
   ends = λ code why. refl;
-  windows = refl;
+  parts = refl;
   drops = λ code why. refl;
   fails = λ why. fail_container _ why (windowed g p w);
 })

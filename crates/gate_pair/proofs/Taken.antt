@@ -190,7 +190,7 @@ meaning_leaves (ten.OfSession g p payload) w =
       begins = record { memory_is = refl; going_is = refl; going_up_is = refl; number_is = refl };
       stays = record { memory_is = refl; going_is = refl; going_up_is = refl; number_is = refl };
       ends = λ code why. record { memory_is = refl; going_is = refl; going_up_is = refl; number_is = refl };
-      windows = record { memory_is = refl; going_is = refl; going_up_is = refl; number_is = refl };
+      parts = record { memory_is = refl; going_is = refl; going_up_is = refl; number_is = refl };
       drops = λ code why. record { memory_is = refl; going_is = refl; going_up_is = refl; number_is = refl };
       fails = λ why.
           let f : Leaves (windowed g p w) (fail INTERNAL_ERROR why (windowed g p w)) = fail_leaves _ why (windowed g p w) in
