@@ -2,7 +2,7 @@
 
 ghost use Rattle.std.specs.Prelude.{◌≡◌, [], IfOk};
 
-use crate::runs::{Kind, LOG_BYTES, LOG_ROOM, entries_of, kind_of};
+use crate::runs::{Kind, LOG_ROOM, entries_of, kind_of};
 use crate::scenario::{Scenario, Way, faults, script_of};
 use crate::telling::put_number;
 use gate_capture::{next_entry, next_words};
@@ -58,7 +58,7 @@ fn ports_of(alloc: Global, scenario: &Scenario) -> Result<ScriptPorts, Memory>
     ensures ends { IfOk result (λ ports. ⟦<ScriptPorts as Ports>⟧.ends ports ≡ []) }
 {
     let script = script_of(alloc, scenario, Way::Units, scenario.numbers.fault)?;
-    ScriptPorts::new(alloc, script, LOG_ROOM, LOG_BYTES)
+    ScriptPorts::new(alloc, script, LOG_ROOM, scenario.numbers.log)
 }
 
 /// What a call did that ended with this status.

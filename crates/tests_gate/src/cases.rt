@@ -33,6 +33,7 @@ fn set_number(scenario: &mut Scenario, name: &str, number: u32) -> bool {
         "step" => scenario.numbers.step = u64::from(number),
         "limit" => scenario.numbers.limit = number,
         "turns" => scenario.numbers.turns = u16::try_from(number).unwrap_or(u16::MAX),
+        "log" => scenario.numbers.log = number as usize,
         "report" => scenario.numbers.report = number as usize,
         "capture" => scenario.numbers.capture = number as usize,
         "lost" => scenario.numbers.lost = Some(u64::from(number)),

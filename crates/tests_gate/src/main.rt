@@ -11,6 +11,7 @@
 //! | `setup W|W` | the words between bars, behind `serve`, say what the pairs share: the gateway's name, the hosts and the exchanges |
 //! | `pairs N`, `idles N`, `step N` | how many clients come (1), how often `idle` answers (9), the milliseconds of a turn (1) |
 //! | `limit N`, `turns N`, `report N` | the pairs asked for (1; 0 for no limit), the turns (20,000), the bytes that the report may have |
+//! | `log N` | the bytes that the log of the calls may have (1,048,576), from which the answer is told |
 //! | `fault N` | call N of the run fails |
 //! | `capture N`, `lost N` | the bytes that the capture may have, and the one of its writes that fails |
 //! | `input ..`, `unread N` | bytes of the input, and the one of its reads that fails |

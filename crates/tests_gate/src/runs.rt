@@ -19,7 +19,7 @@ use wire_base::{ByteText, ItemList, Memory};
 /// The most entries of a log.
 pub const LOG_ROOM: usize = 262_144;
 
-/// The most bytes of them.
+/// The most bytes of them, where a scenario doesn't say otherwise.
 pub const LOG_BYTES: usize = 1_048_576;
 
 /// The client or the container of a pair.
@@ -157,17 +157,19 @@ fn serve_into<P: Ports, R: Relay, K: Sink>(
     serve::<P, R, K, NoCapture>(alloc, setup, ports, limits, report, &mut NoCapture)
 }
 
-/// Serves the clients of a script, and reports to a sink.
+/// Serves the clients of a script, and reports to a sink. The log of the calls has at most so many
+/// bytes.
 pub fn play_into(
     alloc: Global,
     setup: &Setup,
     script: Script,
     limits: &Limits,
+    log: usize,
     mut report: MemorySink,
 ) -> Result<Run, Memory>
     requires { IsInForm limits.now }
 {
-    let mut ports = ScriptPorts::new(alloc, script, LOG_ROOM, LOG_BYTES)?;
+    let mut ports = ScriptPorts::new(alloc, script, LOG_ROOM, log)?;
     let (served, out_of_memory) = serve_into::<ScriptPorts, Pair, MemorySink>(
         alloc,
         setup,

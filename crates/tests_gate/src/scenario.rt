@@ -2,7 +2,7 @@
 
 ghost use Rattle.gate_runs.specs.Form.{IsInForm};
 
-use crate::runs::{Peer, Run, play_into};
+use crate::runs::{LOG_BYTES, Peer, Run, play_into};
 use gate_model::{Routes, Setup};
 use gate_outside::{CallList, End, MemorySink, Piece, Room, Script};
 use gate_runs::Limits;
@@ -50,6 +50,8 @@ pub struct Numbers {
     pub turns: u16,
     /// The most pairs that are asked for; 0 for no limit.
     pub limit: u32,
+    /// The most bytes of the log of the calls.
+    pub log: usize,
     /// The most bytes of the report.
     pub report: usize,
     /// The call that fails, if one does.
@@ -91,6 +93,7 @@ impl Scenario {
                 step: 1,
                 turns: 20_000,
                 limit: 1,
+                log: LOG_BYTES,
                 report: 65_536,
                 fault: None,
                 capture: 65_536,
@@ -250,7 +253,8 @@ pub fn failed(
     let script = script_of(alloc, scenario, way, fault)?;
     let numbers = scenario.numbers;
     let sink = MemorySink::new(alloc, numbers.report, ItemList::empty(alloc))?;
-    play_into(alloc, &scenario.setup, script, &limits_of(numbers), sink)
+    let limits = limits_of(numbers);
+    play_into(alloc, &scenario.setup, script, &limits, numbers.log, sink)
 }
 
 /// A play.
@@ -269,6 +273,7 @@ pub fn reported(
     let script = script_of(alloc, scenario, Way::Units, None)?;
     let room = room.min(scenario.numbers.report);
     let sink = MemorySink::new(alloc, room, faults(alloc, fails)?)?;
-    let limits = limits_of(scenario.numbers);
-    play_into(alloc, &scenario.setup, script, &limits, sink)
+    let numbers = scenario.numbers;
+    let limits = limits_of(numbers);
+    play_into(alloc, &scenario.setup, script, &limits, numbers.log, sink)
 }
