@@ -1,12 +1,12 @@
 -- The constructor of an array, as a loop reads it: the descriptors so far, and the constructor of what they describe.
 use Rattle.std.proofs.Common.{◌≡◌, ◌≢◌, ℕ, suc, ◌-◌, ◌<◌, List, [], ◌∷◌, ◌++◌, Ok, Err, refl, sym}
-use Rattle.std.proofs.Common.{ap, ◌∙◌, append_assoc, arith}
+use Rattle.std.proofs.Common.{Result, ap, ◌∙◌, append_assoc, arith}
 use Rattle.std.proofs.lemmas.List.{append-nil}
 use Rattle.wire_base.specs.declared.stop.Stop.{Stop}
 use Rattle.wire_base.specs.declared.stop.Stop.TheVariants as stop
 use Rattle.wire_base.specs.Reading.{Reads, made, Stops}
 use Rattle.types_10.specs.Tree.{Tree}
-use Rattle.types_10.specs.Reading.{Fault, code_in, Shape, with_descriptor, constructor_in}
+use Rattle.types_10.specs.Reading.{Fault, IsTold, code_in, Shape, with_descriptor, constructor_in}
 use Rattle.types_10.proofs.ValueLaws.{not_described}
 use Rattle.types_10.specs.declared.kind.Kind.{Kind}
 use Rattle.types_10.specs.declared.kind.Kind.TheVariants as kind
@@ -30,6 +30,11 @@ unfolding constructor_in
 descriptor_goes_on read ds most left room cut end bytes at after x more rest total turn e h so_far =
     let one : behind_descriptors ds (constructor_in read most room cut end bytes) ≡ behind_descriptors (ds ++ x ∷ []) (constructor_in read left more cut end rest) = rw (turn, e, h) (regroup ds x (constructor_in read left more cut end rest)) in
     sym one ∙ so_far
+
+-- what takes no memory stops at no other fault
+pub told_stops : {Y : Type 0} (f : Stop Fault) (read : Result Y Fault) → IsTold f read → Stops f read
+told_stops stop.Memory read told = tt
+told_stops (stop.Fault f) read told = told
 
 -- the loop ends at a fault of a code, and at one of a descriptor
 pub ends_at_code : (f : Stop Fault) (read : Values) (ds : List Tree) (most room : ℕ) (cut : Fault) (end : ℕ) (bytes : List ℕ) (total : Reads (Shape × ℕ) Fault) → 0 < most

@@ -10,6 +10,7 @@ pub mod Form
 pub mod Held
 pub mod Levels
 pub mod Measures
+pub mod Pasts
 pub mod RangeLaws
 pub mod ReaderLaws
 pub mod Rows

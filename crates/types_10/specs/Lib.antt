@@ -8,6 +8,7 @@ pub mod Measures
 pub mod Ranges
 pub mod Reading
 pub mod Shapes
+pub mod Skipping
 pub mod Tree
 pub mod TreeCode
 pub mod View

@@ -1,12 +1,15 @@
 -- Reading a value from left to right, with the first fault that is met (AMQP 1.0 1.6).
 -- A reader takes the fault of a value that is cut off, which is another one inside a list, a map or
 -- an array: there such a value disagrees with the size; and the offset at which its bytes end.
-use Rattle.std.specs.Prelude.{ℕ, zero, suc, ◌-◌, ◌*◌, ◌/◌, ◌%◌, Bool, ◌==◌, nat_lt, if◌then◌else◌}
+use Rattle.std.specs.Prelude.{◌≡◌, ℕ, zero, suc, ◌-◌, ◌*◌, ◌/◌, ◌%◌, Bool, ◌==◌, nat_lt, if◌then◌else◌}
 use Rattle.std.specs.Prelude.{List, [], ◌∷◌, length, take, drop, Option, Some, None, Ok, Err}
 use Rattle.std.specs.Prelude.{Result}
 use Rattle.std.specs.Int.{Width, w8, w32}
 use Rattle.wire_base.specs.declared.scan.At.{At}
-use Rattle.wire_base.specs.Reading.{Reads, ◌>>=◌, made, number_in, text_in}
+use Rattle.wire_base.specs.declared.stop.Stop.{Stop}
+use Rattle.wire_base.specs.declared.stop.Stop.TheVariants as stop
+use Rattle.wire_base.specs.Reading.{Reads, ◌>>=◌, made, number_in}
+use Rattle.wire_base.specs.Reading as wire
 use Rattle.types_10.specs.Tree.{Scalar, boolean, char, Tree, scalar, list, mapping, array}
 use Rattle.types_10.specs.Tree.{described, depth, no_trees, trees_of, pairs_of}
 use Rattle.types_10.specs.Kinds.{kind_of, is_described, bare_scalar, octet_scalar}
@@ -23,6 +26,7 @@ use Rattle.types_10.specs.declared.kind.Single.{Single}
 use Rattle.types_10.specs.declared.kind.Single.TheVariants as single
 use Rattle.types_10.specs.declared.kind.Text.{Text}
 use Rattle.types_10.specs.declared.kind.Text.TheVariants as text
+use Rattle.types_10.specs.declared.kind.Size.{Size}
 
 -- a fault, and where it is
 abbrev pub Fault : Type 0
@@ -31,6 +35,16 @@ Fault = At TypeFault
 abbrev pub fault_at : TypeFault → ℕ → Fault
 fault_at f at = record { fault = f; at = at }
 
+-- why a function stopped that takes no memory is the fault that reading gives
+abbrev pub IsTold : {Y : Type 0} → Stop Fault → Result Y Fault → Type 0
+IsTold stop.Memory read = ⊥
+IsTold (stop.Fault fault) read = read ≡ Err fault
+
+-- what a function that takes no memory returned, seen by view, is what reading gives
+abbrev pub Tells : {X Y : Type 0} → (X → Y) → Result X (Stop Fault) → Result Y Fault → Type 0
+Tells view (Ok x) read = read ≡ Ok (view x)
+Tells view (Err e) read = IsTold e read
+
 -- ---- numbers and bytes
 
 -- a number, bytes behind their length, and sixteen bytes; where they are cut off, this fault
@@ -38,7 +52,7 @@ abbrev pub count_in : Fault → Width → List ℕ → Reads ℕ Fault
 count_in cut w bytes = number_in (λ at. cut) w 0 bytes
 
 abbrev pub bytes_in : Fault → Width → List ℕ → Reads (List ℕ) Fault
-bytes_in cut w bytes = text_in (λ at. cut) w 0 bytes
+bytes_in cut w bytes = wire.text_in (λ at. cut) w 0 bytes
 
 abbrev pub sixteen_in : Fault → List ℕ → Reads (List ℕ) Fault
 sixteen_in cut bytes =
@@ -55,6 +69,11 @@ abbrev pub text_fault : Text → List ℕ → ℕ → Fault
 text_fault text.Binary s after = fault_at fault.NotUtf8 (after - length s)
 text_fault text.String s after = fault_at fault.NotUtf8 (after - length s)
 text_fault text.Symbol s after = fault_at fault.NotAscii (after - length s)
+
+-- bytes behind their length, which are a text of this kind
+abbrev pub text_in : Text → Size → Fault → ℕ → List ℕ → Reads (List ℕ) Fault
+text_in kind size cut end bytes =
+    tested (is_text kind) (text_fault kind) end (bytes_in cut (size_width size) bytes)
 
 -- ---- values that hold no other
 
@@ -76,7 +95,7 @@ single_in (single.Wide k) cut end bytes = made (wide_scalar k) (count_in cut (wi
 single_in single.Char cut end bytes = char_in cut end bytes
 single_in (single.Sixteen k) cut end bytes = made (sixteen_scalar k) (sixteen_in cut bytes)
 single_in (single.Text k s) cut end bytes =
-    made (text_scalar k) (tested (is_text k) (text_fault k) end (bytes_in cut (size_width s) bytes))
+    made (text_scalar k) (text_in k s cut end bytes)
 
 -- ---- values by their code
 

@@ -21,8 +21,8 @@ ghost use Rattle.types_10.specs.Grammar.{IsValue};
 ghost use Rattle.types_10.specs.Faults.{IsFaultAt};
 ghost use Rattle.types_10.specs.Shapes.{shape_data};
 ghost use Rattle.types_10.specs.declared.fault.TypeFault.TheVariants as fault;
-ghost use Rattle.types_10.specs.Reading.{fault_at, code_in, contents_in, shape_in, element_in};
-ghost use Rattle.types_10.specs.Reading.{count_in, bytes_in, sixteen_in, tested, text_fault};
+ghost use Rattle.types_10.specs.Reading.{Tells, fault_at, code_in, contents_in, shape_in, element_in};
+ghost use Rattle.types_10.specs.Reading.{count_in, bytes_in, sixteen_in, tested, text_fault, text_in};
 ghost use Rattle.types_10.specs.Reading.{boolean_in, char_in, single_in, flat_in, deep_in};
 ghost use Rattle.types_10.specs.Reading.{filled_in, row_in, two_in, items_in, entries_in};
 ghost use Rattle.types_10.specs.Reading.{spent_in, elements_in, level, value_in, value_at, seen};
@@ -36,24 +36,24 @@ use crate::weight::{element_load, weights_of};
 use std::alloc::Global;
 use wire_base::{At, ByteText, Memory, Stop, place};
 
-type Fault = At<TypeFault>;
+pub(crate) type Fault = At<TypeFault>;
 
 /// What holds the bytes that are read.
 #[derive(Clone, Copy)]
-struct Bounds {
+pub(crate) struct Bounds {
     /// The fault of a value that is cut off: `Cut` in the input itself, and inside a list, a map or
     /// an array that a value disagrees with its size.
-    cut: Fault,
+    pub(crate) cut: Fault,
     /// The offset at which the bytes end.
-    end: usize,
+    pub(crate) end: usize,
 }
 
 /// A format code.
 #[derive(Clone, Copy)]
-struct Code {
-    kind: Kind,
+pub(crate) struct Code {
+    pub(crate) kind: Kind,
     /// The offset of the code.
-    at: usize,
+    pub(crate) at: usize,
 }
 
 /// The constructor of an array: the descriptors of its elements, the outermost first, and the kind
@@ -73,12 +73,12 @@ impl Shape {
     }
 }
 
-/// What is left of a room behind so many elements.
-fn room_after(room: u32, count: u32, shape: &Shape, cut: Fault) -> Result<u32, Stop<Fault>>
-    ensures { Gives (λ n. n) result
-        (spent_in cut room (count * element_load (shape_data shape.now))) }
+/// What is left of a room behind so many elements, of which each takes this.
+pub(crate) fn room_after(room: u32, count: u32, each: usize, cut: Fault) -> Result<u32, Stop<Fault>>
+    ensures { (load : ℕ) → each ≡ capped load → Tells (λ n. n) result
+        (spent_in cut room (count * load)) }
 {
-    let load = (count as usize).saturating_mul(shape.element_load());
+    let load = (count as usize).saturating_mul(each);
     if load > room as usize {
         return Err(Stop::Fault(cut));
     }
@@ -91,7 +91,7 @@ pub(crate) const MOST_LOAD: u32 = 65_536;
 // ---- numbers and bytes
 
 fn octet_in(cut: Fault, bytes: &[u8]) -> Result<(u8, &[u8]), Stop<Fault>>
-    ensures { Gives (λ x. (x.0, x.1.now)) result (count_in cut w8 bytes.now) }
+    ensures { Tells (λ x. (x.0, x.1.now)) result (count_in cut w8 bytes.now) }
 {
     let Some((first, rest)) = bytes.split_first() else {
         return Err(Stop::Fault(cut));
@@ -100,7 +100,7 @@ fn octet_in(cut: Fault, bytes: &[u8]) -> Result<(u8, &[u8]), Stop<Fault>>
 }
 
 fn short_in(cut: Fault, bytes: &[u8]) -> Result<(u16, &[u8]), Stop<Fault>>
-    ensures { Gives (λ x. (x.0, x.1.now)) result (count_in cut w16 bytes.now) }
+    ensures { Tells (λ x. (x.0, x.1.now)) result (count_in cut w16 bytes.now) }
 {
     let Some((front, rest)) = bytes.split_first_chunk::<2>() else {
         return Err(Stop::Fault(cut));
@@ -109,7 +109,7 @@ fn short_in(cut: Fault, bytes: &[u8]) -> Result<(u16, &[u8]), Stop<Fault>>
 }
 
 fn long_in(cut: Fault, bytes: &[u8]) -> Result<(u32, &[u8]), Stop<Fault>>
-    ensures { Gives (λ x. (x.0, x.1.now)) result (count_in cut w32 bytes.now) }
+    ensures { Tells (λ x. (x.0, x.1.now)) result (count_in cut w32 bytes.now) }
 {
     let Some((front, rest)) = bytes.split_first_chunk::<4>() else {
         return Err(Stop::Fault(cut));
@@ -118,7 +118,7 @@ fn long_in(cut: Fault, bytes: &[u8]) -> Result<(u32, &[u8]), Stop<Fault>>
 }
 
 fn longlong_in(cut: Fault, bytes: &[u8]) -> Result<(u64, &[u8]), Stop<Fault>>
-    ensures { Gives (λ x. (x.0, x.1.now)) result (count_in cut w64 bytes.now) }
+    ensures { Tells (λ x. (x.0, x.1.now)) result (count_in cut w64 bytes.now) }
 {
     let Some((front, rest)) = bytes.split_first_chunk::<8>() else {
         return Err(Stop::Fault(cut));
@@ -127,7 +127,7 @@ fn longlong_in(cut: Fault, bytes: &[u8]) -> Result<(u64, &[u8]), Stop<Fault>>
 }
 
 fn sixteen_in(cut: Fault, bytes: &[u8]) -> Result<([u8; 16], &[u8]), Stop<Fault>>
-    ensures { Gives (λ x. (x.0, x.1.now)) result (sixteen_in cut bytes.now) }
+    ensures { Tells (λ x. (x.0, x.1.now)) result (sixteen_in cut bytes.now) }
 {
     let Some((front, rest)) = bytes.split_first_chunk::<16>() else {
         return Err(Stop::Fault(cut));
@@ -136,8 +136,8 @@ fn sixteen_in(cut: Fault, bytes: &[u8]) -> Result<([u8; 16], &[u8]), Stop<Fault>
 }
 
 /// A length, a size or a count.
-fn count_in(size: Size, cut: Fault, bytes: &[u8]) -> Result<(u32, &[u8]), Stop<Fault>>
-    ensures { Gives (λ x. (x.0, x.1.now)) result (count_in cut (size_width size) bytes.now) }
+pub(crate) fn count_in(size: Size, cut: Fault, bytes: &[u8]) -> Result<(u32, &[u8]), Stop<Fault>>
+    ensures { Tells (λ x. (x.0, x.1.now)) result (count_in cut (size_width size) bytes.now) }
 {
     match size {
         Size::Short => {
@@ -150,8 +150,8 @@ fn count_in(size: Size, cut: Fault, bytes: &[u8]) -> Result<(u32, &[u8]), Stop<F
 
 /// A length, and so many bytes.
 #[tactic(auto, unfolding(wire_base::specs::Reading::text_in))]
-fn bytes_in(size: Size, cut: Fault, bytes: &[u8]) -> Result<(&[u8], &[u8]), Stop<Fault>>
-    ensures { Gives (λ x. (x.0.now, x.1.now)) result (bytes_in cut (size_width size) bytes.now) }
+pub(crate) fn bytes_in(size: Size, cut: Fault, bytes: &[u8]) -> Result<(&[u8], &[u8]), Stop<Fault>>
+    ensures { Tells (λ x. (x.0.now, x.1.now)) result (bytes_in cut (size_width size) bytes.now) }
 {
     let (length, rest) = count_in(size, cut, bytes)?;
     let length = length as usize;
@@ -212,8 +212,8 @@ fn bare_of(kind: Bare) -> Value10
     }
 }
 
-fn boolean_of(bounds: Bounds, content: &[u8]) -> Result<(Value10, &[u8]), Stop<Fault>>
-    ensures { Gives (λ x. (value_tree x.0, x.1.now)) result
+pub(crate) fn boolean_of(bounds: Bounds, content: &[u8]) -> Result<(Value10, &[u8]), Stop<Fault>>
+    ensures { Tells (λ x. (value_tree x.0, x.1.now)) result
         (made scalar (boolean_in bounds.cut bounds.end content.now)) }
 {
     let (n, rest) = octet_in(bounds.cut, content)?;
@@ -225,8 +225,8 @@ fn boolean_of(bounds: Bounds, content: &[u8]) -> Result<(Value10, &[u8]), Stop<F
     Ok((Value10::Boolean(n == 1), rest))
 }
 
-fn char_of(bounds: Bounds, content: &[u8]) -> Result<(Value10, &[u8]), Stop<Fault>>
-    ensures { Gives (λ x. (value_tree x.0, x.1.now)) result
+pub(crate) fn char_of(bounds: Bounds, content: &[u8]) -> Result<(Value10, &[u8]), Stop<Fault>>
+    ensures { Tells (λ x. (value_tree x.0, x.1.now)) result
         (made scalar (char_in bounds.cut bounds.end content.now)) }
 {
     let (n, rest) = long_in(bounds.cut, content)?;
@@ -239,8 +239,12 @@ fn char_of(bounds: Bounds, content: &[u8]) -> Result<(Value10, &[u8]), Stop<Faul
 }
 
 /// A number of one byte.
-fn octet_of(kind: Octet, cut: Fault, content: &[u8]) -> Result<(Value10, &[u8]), Stop<Fault>>
-    ensures { Gives (λ x. (value_tree x.0, x.1.now)) result
+pub(crate) fn octet_of(
+    kind: Octet,
+    cut: Fault,
+    content: &[u8],
+) -> Result<(Value10, &[u8]), Stop<Fault>>
+    ensures { Tells (λ x. (value_tree x.0, x.1.now)) result
         (made scalar (made (octet_scalar kind) (count_in cut w8 content.now))) }
 {
     let (n, rest) = octet_in(cut, content)?;
@@ -256,8 +260,12 @@ fn octet_of(kind: Octet, cut: Fault, content: &[u8]) -> Result<(Value10, &[u8]),
 }
 
 /// A number of two, four or eight bytes.
-fn wide_of(kind: Wide, cut: Fault, content: &[u8]) -> Result<(Value10, &[u8]), Stop<Fault>>
-    ensures { Gives (λ x. (value_tree x.0, x.1.now)) result
+pub(crate) fn wide_of(
+    kind: Wide,
+    cut: Fault,
+    content: &[u8],
+) -> Result<(Value10, &[u8]), Stop<Fault>>
+    ensures { Tells (λ x. (value_tree x.0, x.1.now)) result
         (made scalar (made (wide_scalar kind) (count_in cut (wide_width kind) content.now))) }
 {
     match kind {
@@ -308,8 +316,12 @@ fn wide_of(kind: Wide, cut: Fault, content: &[u8]) -> Result<(Value10, &[u8]), S
     }
 }
 
-fn sixteen_of(kind: Sixteen, cut: Fault, content: &[u8]) -> Result<(Value10, &[u8]), Stop<Fault>>
-    ensures { Gives (λ x. (value_tree x.0, x.1.now)) result
+pub(crate) fn sixteen_of(
+    kind: Sixteen,
+    cut: Fault,
+    content: &[u8],
+) -> Result<(Value10, &[u8]), Stop<Fault>>
+    ensures { Tells (λ x. (value_tree x.0, x.1.now)) result
         (made scalar (made (sixteen_scalar kind) (sixteen_in cut content.now))) }
 {
     let (bytes, rest) = sixteen_in(cut, content)?;
@@ -321,6 +333,22 @@ fn sixteen_of(kind: Sixteen, cut: Fault, content: &[u8]) -> Result<(Value10, &[u
 }
 
 /// Bytes behind a length, which are a text of this kind.
+pub(crate) fn text_in(
+    kind: Text,
+    size: Size,
+    bounds: Bounds,
+    content: &[u8],
+) -> Result<(&[u8], &[u8]), Stop<Fault>>
+    ensures { Tells (λ x. (x.0.now, x.1.now)) result
+        (text_in kind size bounds.cut bounds.end content.now) }
+{
+    let (text, rest) = bytes_in(size, bounds.cut, content)?;
+    if !is_text(kind, text) {
+        return Err(Stop::Fault(text_fault(kind, text, place(bounds.end, rest))));
+    }
+    Ok((text, rest))
+}
+
 fn text_of(
     alloc: Global,
     kind: Text,
@@ -331,10 +359,7 @@ fn text_of(
     ensures { Gives (λ x. (value_tree x.0, x.1.now)) result
         (made scalar (single_in (TextKind kind size) bounds.cut bounds.end content.now)) }
 {
-    let (text, rest) = bytes_in(size, bounds.cut, content)?;
-    if !is_text(kind, text) {
-        return Err(Stop::Fault(text_fault(kind, text, place(bounds.end, rest))));
-    }
+    let (text, rest) = text_in(kind, size, bounds, content)?;
     let text = ByteText::copy_of(alloc, text)?;
     let value = match kind {
         Text::Binary => Value10::Binary(text),
@@ -368,8 +393,8 @@ fn single_of(
 // ---- values by their code
 
 /// A format code.
-fn code_in(bounds: Bounds, bytes: &[u8]) -> Result<(Code, &[u8]), Stop<Fault>>
-    ensures { Gives (λ x. ((x.0.kind, x.0.at), x.1.now)) result
+pub(crate) fn code_in(bounds: Bounds, bytes: &[u8]) -> Result<(Code, &[u8]), Stop<Fault>>
+    ensures { Tells (λ x. ((x.0.kind, x.0.at), x.1.now)) result
         (code_in bounds.cut bounds.end bytes.now) }
 {
     let at = place(bounds.end, bytes);
@@ -383,7 +408,7 @@ fn code_in(bounds: Bounds, bytes: &[u8]) -> Result<(Code, &[u8]), Stop<Fault>>
 
 /// The bounds of what stands inside a value whose code stands at `at`: up to the bytes that follow,
 /// and what is cut off there disagrees with the size.
-fn bounds_inside(at: usize, end: usize, rest: &[u8]) -> Bounds
+pub(crate) fn bounds_inside(at: usize, end: usize, rest: &[u8]) -> Bounds
     ensures { result ≡ record { cut = fault_at fault.Count at; end = end - length rest.now } }
 {
     let cut = At {
@@ -641,7 +666,7 @@ fn array_of(
     let inside = bounds_inside(at, bounds.end, rest);
     let (count, shape) = count_in(size, inside.cut, body)?;
     let ((shape, room), elements) = shape_of(alloc, depth, room, inside, shape)?;
-    let room = room_after(room, count, &shape, inside.cut)?;
+    let room = room_after(room, count, shape.element_load(), inside.cut)?;
     // The last code of the constructor is the byte before the elements.
     let at = place(inside.end, elements).saturating_sub(1);
     let ((list, room), left) = elements_of(

@@ -3,6 +3,7 @@ use Rattle.std.proofs.lemmas.List.{nil_from_length}
 use Rattle.std.proofs.lemmas.Result.{err_from_is_err_and}
 use Rattle.wire_base.specs.Reading.{Stops}
 use Rattle.types_10.specs.Kinds.{size_width}
+use Rattle.types_10.specs.Loads.{element_load}
 use Rattle.types_10.specs.View.{value_tree}
 use Rattle.types_10.specs.Reading.{row_in, two_in, value_in, shape_in, element_in}
 use Rattle.types_10.specs.Reading.{items_in, entries_in, elements_in, level}
@@ -10,7 +11,7 @@ use Rattle.types_10.specs.Shapes.{shape_data}
 use Rattle.types_10.proofs.Levels.{contents_more, element_plain, element_none, element_deep}
 use Rattle.types_10.proofs.Levels.{element_more}
 use Rattle.types_10.proofs.Constructors.{descriptor_goes_on, ends_at_code, ends_at_descriptor}
-use Rattle.types_10.proofs.Constructors.{done_at_code, ends_without_code}
+use Rattle.types_10.proofs.Constructors.{done_at_code, ends_without_code, told_stops}
 use Rattle.types_10.proofs.Filled.{filled_ends, filled_over, filled_done, items_counted}
 use Rattle.types_10.proofs.Filled.{entries_counted, elements_counted}
 use Rattle.types_10.proofs.Rows.{row_goes_on, row_ends, row_done}
@@ -106,7 +107,7 @@ element_of-returns t c =
 pub shape_of-returns-in_err-code : goal.shape_of-returns-in_err-code
 shape_of-returns-in_err-code t c =
     let p = err_from_is_err_and c.from_residual.result c.from_residual.ensures.1 in
-    rw (p.1, p.2) (ends_at_code c.in_err-code.field-0.0 (value_in c.args.depth) c.loop-most.descriptors c.loop-most.most c.loop-most.spare c.args.bounds.cut c.args.bounds.end c.loop-most.rest.now (shape_in c.args.depth c.args.room c.args.bounds.cut c.args.bounds.end c.args.bytes.now) (omega arith) c.in_err-code.ensures c.loop-most.invariant)
+    rw (p.1, p.2) (ends_at_code c.in_err-code.field-0.0 (value_in c.args.depth) c.loop-most.descriptors c.loop-most.most c.loop-most.spare c.args.bounds.cut c.args.bounds.end c.loop-most.rest.now (shape_in c.args.depth c.args.room c.args.bounds.cut c.args.bounds.end c.args.bytes.now) (omega arith) (told_stops c.in_err-code.field-0.0 _ c.in_err-code.ensures) c.loop-most.invariant)
 
 pub shape_of-returns-in_default : goal.shape_of-returns-in_default
 shape_of-returns-in_default t c =
@@ -184,7 +185,7 @@ array_of-returns-in_err-list t c =
     let w = size_width c.args.size in
     let inside = c.bounds_inside-inside.result in
     let inner = elements_in w (level c.args.depth) c.args.room in
-    let row = elements_counted w (level c.args.depth) c.args.room inside.cut inside.end c.in_ok-body.body.now c.in_ok-count.count c.in_ok-count.shape.now (shape_data c.in_ok-shape.shape) c.in_ok-shape.room c.in_ok-shape.elements.now c.in_ok-room.room c.saturating_sub-at.result c.in_ok-count.ensures c.in_ok-shape.ensures c.in_ok-room.ensures (omega arith) in
+    let row = elements_counted w (level c.args.depth) c.args.room inside.cut inside.end c.in_ok-body.body.now c.in_ok-count.count c.in_ok-count.shape.now (shape_data c.in_ok-shape.shape) c.in_ok-shape.room c.in_ok-shape.elements.now c.in_ok-room.room c.saturating_sub-at.result c.in_ok-count.ensures c.in_ok-shape.ensures (c.in_ok-room.ensures (element_load (shape_data c.in_ok-shape.shape)) c.element_load.ensures) (omega arith) in
     rw (p.1, p.2) (filled_ends c.in_err-list.field-0.0 w c.args.at inner c.args.bounds.cut c.args.bounds.end c.args.content.now c.in_ok-body.body.now c.in_ok-body.rest.now inside c.in_ok-body.ensures c.bounds_inside-inside.ensures (subst (Stops c.in_err-list.field-0.0) (sym row) c.in_err-list.ensures))
 
 pub array_of-returns-then-not-is_empty : goal.array_of-returns-then-not-is_empty
@@ -192,7 +193,7 @@ array_of-returns-then-not-is_empty t c =
     let w = size_width c.args.size in
     let inside = c.bounds_inside-inside.result in
     let inner = elements_in w (level c.args.depth) c.args.room in
-    let row = elements_counted w (level c.args.depth) c.args.room inside.cut inside.end c.in_ok-body.body.now c.in_ok-count.count c.in_ok-count.shape.now (shape_data c.in_ok-shape.shape) c.in_ok-shape.room c.in_ok-shape.elements.now c.in_ok-room.room c.saturating_sub-at.result c.in_ok-count.ensures c.in_ok-shape.ensures c.in_ok-room.ensures (omega arith) in
+    let row = elements_counted w (level c.args.depth) c.args.room inside.cut inside.end c.in_ok-body.body.now c.in_ok-count.count c.in_ok-count.shape.now (shape_data c.in_ok-shape.shape) c.in_ok-shape.room c.in_ok-shape.elements.now c.in_ok-room.room c.saturating_sub-at.result c.in_ok-count.ensures c.in_ok-shape.ensures (c.in_ok-room.ensures (element_load (shape_data c.in_ok-shape.shape)) c.element_load.ensures) (omega arith) in
     filled_over w c.args.at inner c.args.bounds.cut c.args.bounds.end c.args.content.now c.in_ok-body.body.now c.in_ok-body.rest.now inside (c.in_ok-list.list, c.in_ok-list.room) c.in_ok-list.left.now c.in_ok-body.ensures c.bounds_inside-inside.ensures (row ∙ c.in_ok-list.ensures) (cc (c.is_empty.ensures, c.if-not-is_empty.true))
 
 pub array_of-returns : goal.array_of-returns
@@ -200,5 +201,5 @@ array_of-returns t c =
     let w = size_width c.args.size in
     let inside = c.bounds_inside-inside.result in
     let inner = elements_in w (level c.args.depth) c.args.room in
-    let row = elements_counted w (level c.args.depth) c.args.room inside.cut inside.end c.in_ok-body.body.now c.in_ok-count.count c.in_ok-count.shape.now (shape_data c.in_ok-shape.shape) c.in_ok-shape.room c.in_ok-shape.elements.now c.in_ok-room.room c.saturating_sub-at.result c.in_ok-count.ensures c.in_ok-shape.ensures c.in_ok-room.ensures (omega arith) in
+    let row = elements_counted w (level c.args.depth) c.args.room inside.cut inside.end c.in_ok-body.body.now c.in_ok-count.count c.in_ok-count.shape.now (shape_data c.in_ok-shape.shape) c.in_ok-shape.room c.in_ok-shape.elements.now c.in_ok-room.room c.saturating_sub-at.result c.in_ok-count.ensures c.in_ok-shape.ensures (c.in_ok-room.ensures (element_load (shape_data c.in_ok-shape.shape)) c.element_load.ensures) (omega arith) in
     filled_done w c.args.at inner c.args.bounds.cut c.args.bounds.end c.args.content.now c.in_ok-body.body.now c.in_ok-body.rest.now inside (c.in_ok-list.list, c.in_ok-list.room) c.in_ok-list.left.now c.in_ok-body.ensures c.bounds_inside-inside.ensures (row ∙ c.in_ok-list.ensures) (cc (c.is_empty.ensures, c.if-not-is_empty.false))
