@@ -1,14 +1,14 @@
 -- Values that are read past: what is known of them, as loops come to know it.
 use Rattle.std.proofs.Common.{◌≡◌, ◌≢◌, ℕ, zero, suc, ◌+◌, ◌-◌, ◌*◌, ◌/◌, ◌%◌, ◌^◌, ◌<◌, ◌≤◌, max, Bool, true, false, eqb, leb}
-use Rattle.std.proofs.Common.{List, [], ◌∷◌, ◌++◌, length, Result, Ok, Err, refl, sym, ap, subst, ◌∙◌, arith}
+use Rattle.std.proofs.Common.{List, [], ◌∷◌, ◌++◌, length, Result, Ok, Err, refl, sym, ap, ◌∙◌, arith}
 use Rattle.std.proofs.lemmas.Bool.{le-leb, leb-true}
 use Rattle.std.specs.Int.{Width}
 use Rattle.wire_base.specs.declared.stop.Stop.{Stop}
 use Rattle.wire_base.specs.declared.stop.Stop.TheVariants as stop
 use Rattle.wire_base.specs.Reading.{Reads, ◌>>=◌, made}
 use Rattle.wire_base.proofs.Laws.{ok_is}
-use Rattle.types_10.specs.Tree.{Tree, list, mapping, array, described, depth, list_depth, trees_of, pairs_of, pairs_depth_of}
-use Rattle.types_10.specs.Loads.{weight, weights, pairs_weight, copies}
+use Rattle.types_10.specs.Tree.{Tree, described, depth, list_depth, trees_of}
+use Rattle.types_10.specs.Loads.{weight, weights, copies}
 use Rattle.types_10.specs.Measures.{capped}
 use Rattle.types_10.specs.Reading.{Fault, IsTold, fault_at, count_in, bytes_in, code_in, row_in, two_in, filled_in, entries_in, Shape}
 use Rattle.types_10.specs.Reading.{constructor_in, contents_in, element_in}
@@ -24,7 +24,6 @@ use Rattle.types_10.specs.declared.kind.Kind.TheVariants as kind
 use Rattle.types_10.specs.declared.reading.Bounds.{Bounds}
 use Rattle.types_10.specs.declared.skipping.Extent.{Extent}
 use Rattle.types_10.specs.declared.skipping.Front.{Front}
-use Rattle.types_10.specs.declared.skipping.Outline.{Outline}
 
 -- ---- what was made of what was read
 

@@ -1,4 +1,4 @@
-use Rattle.std.proofs.Common.{◌≡◌, ℕ, ◌+◌, length, ap, sym, ◌∙◌, arith}
+use Rattle.std.proofs.Common.{◌+◌, length, ap, sym, ◌∙◌, arith}
 use Rattle.wire_base.proofs.Laws.{ok_is}
 use Rattle.types_10.specs.Reading.{Fault, value_at}
 use Rattle.types_10.specs.Skipping.{end_of}
