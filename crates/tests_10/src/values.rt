@@ -4,23 +4,38 @@ use crate::building::built;
 use crate::notation::put_notation;
 use std::alloc::Global;
 use tests_support::{bytes_of, part, put_bytes};
-use types_10::{Value10, has_spelling, put_value, read_value};
-use wire_base::{ByteText, Memory};
+use types_10::{TypeFault, Value10, has_spelling, put_value, read_value, skip_value};
+use wire_base::{At, ByteText, Memory};
+
+/// What `skip_value` answers, where that isn't what `read_value` does.
+fn put_skipped(
+    out: &mut String,
+    skipped: Result<usize, At<TypeFault>>,
+    read: Result<usize, At<TypeFault>>,
+) -> Result<(), Memory> {
+    if skipped != read {
+        write!(out, " | skipped: {skipped:?}")?;
+    }
+    Ok(())
+}
 
 /// The value at an offset and the offset after it, or the fault and its place. Places are told so
-/// much less.
+/// much less. It is also told where the value is skipped otherwise.
 fn read_text(alloc: Global, bytes: &[u8], from: usize, less: usize) -> Result<String, Memory> {
     let mut out = String::new(alloc);
+    let skipped = skip_value(bytes, from);
     match read_value(alloc, bytes, from)? {
         Ok((value, after)) => {
             put_notation(alloc, &mut out, 17, &value)?;
-            let after = after.saturating_sub(less);
-            write!(out, " | {after}")?;
+            let told = after.saturating_sub(less);
+            write!(out, " | {told}")?;
+            put_skipped(&mut out, skipped, Ok(after))?;
         }
         Err(found) => {
             let fault = found.fault;
             let at = found.at.saturating_sub(less);
             write!(out, "{fault:?} {at}")?;
+            put_skipped(&mut out, skipped, Err(found))?;
         }
     }
     Ok(out)

@@ -17,6 +17,7 @@ pub mod Rows
 pub mod Shortest
 pub mod Slices
 pub mod Spellable
+pub mod Spellings
 pub mod Texts
 pub mod Types
 pub mod ValueLaws

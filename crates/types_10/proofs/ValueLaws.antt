@@ -214,7 +214,7 @@ coded_reader {A} R read r cut = record { finds = finds; again = again }
         ∙ rw (octets.again end (kind_byte k) (kind_byte k ∷ []) (h.1 ++ rest) ((kind_known k).0, octet_text (kind_byte k) (kind_known k).0), (kind_known k).1) ((r k (end - length (kind_byte k ∷ (h.1 ++ rest))) cut).again end t h.1 rest h.2)
 
 -- what a code announces, once the code is read
-coded_from : {A : Type 0} (read : Kind → ℕ → Fault → ℕ → List ℕ → Reads A Fault) (cut : Fault) (end : ℕ) (bytes : List ℕ) (k : Kind) (at : ℕ) (rest : List ℕ)
+pub coded_from : {A : Type 0} (read : Kind → ℕ → Fault → ℕ → List ℕ → Reads A Fault) (cut : Fault) (end : ℕ) (bytes : List ℕ) (k : Kind) (at : ℕ) (rest : List ℕ)
     → code_in cut end bytes ≡ Ok ((k, at), rest) → coded_in read cut end bytes ≡ read k at cut end rest
 coded_from {A} read cut end bytes k at rest e = step (count_in cut w8 bytes) e
   where

@@ -9,6 +9,7 @@ pub mod Ranges
 pub mod Reading
 pub mod Shapes
 pub mod Skipping
+pub mod Spelled
 pub mod Tree
 pub mod TreeCode
 pub mod View

@@ -370,7 +370,7 @@ fn text_of(
 }
 
 /// A value that holds no other.
-fn single_of(
+pub(crate) fn single_of(
     alloc: Global,
     kind: Single,
     bounds: Bounds,
@@ -444,7 +444,7 @@ fn flat_of(
 
 /// A value of at most this depth.
 #[cycle(nested)]
-fn value_of(
+pub(crate) fn value_of(
     alloc: Global,
     depth: u8,
     room: u32,
@@ -795,6 +795,26 @@ fn element_of<'a>(
     Ok(((Value10::Described(descriptor, value), room), rest))
 }
 
+/// The bounds of an input.
+pub(crate) fn bounds_of(bytes: &[u8]) -> Bounds
+    ensures { result ≡ record {
+      cut = fault_at fault.Cut (length bytes.now);
+      end = length bytes.now;
+    } }
+{
+    let end = bytes.len();
+    let fault = TypeFault::Cut;
+    let cut = At { fault, at: end };
+    Bounds { cut, end }
+}
+
+/// The bytes from an offset on.
+pub(crate) fn left_at(bytes: &[u8], at: usize) -> &[u8]
+    ensures { result.now ≡ drop at bytes.now }
+{
+    bytes.get(at..).unwrap_or(&[])
+}
+
 /// The greatest depth of a value.
 pub(crate) const MOST_DEPTH: u8 = 16;
 
@@ -802,13 +822,10 @@ pub(crate) const MOST_DEPTH: u8 = 16;
 fn value_from(alloc: Global, bytes: &[u8], at: usize) -> Result<(Value10, usize), Stop<Fault>>
     ensures { Gives (λ x. (value_tree x.0, x.1)) result (value_at bytes.now at) }
 {
-    let left = bytes.get(at..).unwrap_or(&[]);
-    let end = bytes.len();
-    let fault = TypeFault::Cut;
-    let cut = At { fault, at: end };
-    let bounds = Bounds { cut, end };
+    let bounds = bounds_of(bytes);
+    let left = left_at(bytes, at);
     let ((value, _), rest) = value_of(alloc, MOST_DEPTH, MOST_LOAD, bounds, left)?;
-    Ok((value, place(end, rest)))
+    Ok((value, place(bounds.end, rest)))
 }
 
 /// The value that stands at `at` (AMQP 1.0 1.6), and the offset after it; offsets are in bytes from

@@ -24,8 +24,8 @@ ghost use Rattle.types_10.specs.Skipping.{end_of};
 use crate::fault::TypeFault;
 use crate::kind::{Kind, Single, Size};
 use crate::reading::{
-    Bounds, Code, Fault, MOST_DEPTH, MOST_LOAD, boolean_of, bounds_inside, bytes_in, char_of,
-    code_in, count_in, octet_of, room_after, sixteen_of, text_in, wide_of,
+    Bounds, Code, Fault, MOST_DEPTH, MOST_LOAD, boolean_of, bounds_inside, bounds_of, bytes_in,
+    char_of, code_in, count_in, left_at, octet_of, room_after, sixteen_of, text_in, wide_of,
 };
 use crate::value::Value10;
 use crate::weight::{element_load, weight_of};
@@ -33,7 +33,7 @@ use wire_base::{At, Stop, place};
 
 /// What is known of a value that was read past, or of values together.
 #[derive(Clone, Copy)]
-struct Extent {
+pub(crate) struct Extent {
     /// What a copy takes.
     weight: usize,
     /// How deep it is.
@@ -42,20 +42,20 @@ struct Extent {
 
 /// What is known of the descriptors of a constructor.
 #[derive(Clone, Copy)]
-struct Front {
+pub(crate) struct Front {
     /// What copies of them take.
     copies: usize,
     /// How many there are.
-    count: usize,
+    pub(crate) count: usize,
     /// How deep they make a value that holds no other.
     depth: usize,
 }
 
 /// What is known of the constructor of an array.
 #[derive(Clone, Copy)]
-struct Outline {
-    front: Front,
-    kind: Kind,
+pub(crate) struct Outline {
+    pub(crate) front: Front,
+    pub(crate) kind: Kind,
 }
 
 impl Extent {
@@ -202,7 +202,7 @@ fn flat_past(
 
 /// A value of at most this depth.
 #[cycle(past)]
-fn value_past(
+pub(crate) fn value_past(
     depth: u8,
     room: u32,
     bounds: Bounds,
@@ -377,7 +377,7 @@ fn array_past(
 
 /// The constructor of an array whose descriptors have at most this depth.
 #[cycle(past)]
-fn shape_past(
+pub(crate) fn shape_past(
     depth: u8,
     room: u32,
     bounds: Bounds,
@@ -465,13 +465,9 @@ fn element_past(
 fn end_from(bytes: &[u8], at: usize) -> Result<usize, Stop<Fault>>
     ensures { Tells (λ after. after) result (end_of (value_at bytes.now at)) }
 {
-    let left = bytes.get(at..).unwrap_or(&[]);
-    let end = bytes.len();
-    let fault = TypeFault::Cut;
-    let cut = At { fault, at: end };
-    let bounds = Bounds { cut, end };
-    let (_, rest) = value_past(MOST_DEPTH, MOST_LOAD, bounds, left)?;
-    Ok(place(end, rest))
+    let bounds = bounds_of(bytes);
+    let (_, rest) = value_past(MOST_DEPTH, MOST_LOAD, bounds, left_at(bytes, at))?;
+    Ok(place(bounds.end, rest))
 }
 
 /// The offset after the value that stands at `at` (AMQP 1.0 1.6), as `read_value` tells it. No value
